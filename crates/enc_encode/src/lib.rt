@@ -1,0 +1,2 @@
+//! The encoders.
+#![tactic(auto)]

@@ -1,0 +1,2 @@
+//! Index files.
+#![tactic(auto)]

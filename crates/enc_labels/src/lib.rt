@@ -1,0 +1,2 @@
+//! Labels of encodings.
+#![tactic(auto)]

@@ -1,0 +1,2 @@
+//! The single-byte and the Japanese decoders.
+#![tactic(auto)]

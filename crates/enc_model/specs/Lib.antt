@@ -1,0 +1,11 @@
+pub mod Stream
+pub mod Index
+pub mod Utf8
+pub mod Utf16
+pub mod Japanese
+pub mod Encode
+pub mod Decode
+pub mod Sink
+pub mod Transcode
+pub mod Indexes
+pub mod Prefix

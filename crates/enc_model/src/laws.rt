@@ -1,0 +1,42 @@
+//! The laws of the definitions, each as the contract of a function that does nothing.
+
+ghost use Rattle.std.specs.Prelude.{◌≡◌, ◌++◌, ◌∷◌, [], List, ℕ, Bool, true, false, Option, Some, None};
+ghost use Rattle.enc_model.specs.declared.Encoding.{Encoding};
+ghost use Rattle.enc_model.specs.declared.Mode.{Mode};
+ghost use Rattle.enc_model.specs.Stream.{PutsBack};
+ghost use Rattle.enc_model.specs.Index.{Index};
+ghost use Rattle.enc_model.specs.Utf8.{utf8};
+ghost use Rattle.enc_model.specs.Utf16.{utf16};
+ghost use Rattle.enc_model.specs.Japanese.{single, shift_jis, euc_jp, iso2022};
+ghost use Rattle.enc_model.specs.Encode.{Tables, Coded, behind, coded, encoder};
+ghost use Rattle.enc_model.specs.Decode.{Decoding, decoding, behind_run, decoded, advance, conclude};
+ghost use Rattle.enc_model.specs.Transcode.{Transcoder, IsAt, stepped, added, so_far};
+
+/// A byte's answer, and then what it restores, put back in front.
+pub fn restored_in_front()
+    ensures utf8 { PutsBack utf8 }
+    ensures utf16 { (big : Bool) → PutsBack (utf16 big) }
+    ensures single { (index : Index) → PutsBack (single index) }
+    ensures shift_jis { (jis0208 : Index) → PutsBack (shift_jis jis0208) }
+    ensures euc_jp { (jis0208 jis0212 : Index) → PutsBack (euc_jp jis0208 jis0212) }
+    ensures iso2022 { (jis0208 : Index) → PutsBack (iso2022 jis0208) }
+{}
+
+/// The steps over b ++ c are the steps over b, and then over c from the end state.
+pub fn in_any_cut()
+    ensures { (t : Tables) (ended : Bool) (s : Decoding) (b c : List ℕ) →
+        decoding t ended s (b ++ c) ≡ behind_run (decoding t false s b).text (decoding t ended (decoding t false s b).state c) }
+{}
+
+/// Decoding with a BOM goes on from where it stands.
+pub fn with_a_bom()
+    ensures more { (t : Tables) (e : Encoding) (b c : List ℕ) → advance t e (decoded t e b false) c ≡ decoded t e (b ++ c) false }
+    ensures end { (t : Tables) (e : Encoding) (b : List ℕ) → conclude t e (decoded t e b false) ≡ decoded t e b true }
+{}
+
+/// From where a transcoder stands, the text grows by what a piece adds, and the next state is where all bytes end.
+pub fn text_grows()
+    ensures text { (t : Tables) (s : Transcoder) (b c : List ℕ) → IsAt t s b → (so_far t s (b ++ c)).bytes ≡ (so_far t s b).bytes ++ (added t s c).bytes }
+    ensures fault { (t : Tables) (s : Transcoder) (b c : List ℕ) → IsAt t s b → (so_far t s (b ++ c)).fault ≡ (added t s c).fault }
+    ensures next { (t : Tables) (s : Transcoder) (b c : List ℕ) → IsAt t s b → (added t s c).fault ≡ None → IsAt t (stepped t s c) (b ++ c) }
+{}

@@ -1,0 +1,2 @@
+//! A decoder and an encoder as one value.
+#![tactic(auto)]

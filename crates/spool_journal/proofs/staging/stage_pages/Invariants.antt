@@ -1,0 +1,15 @@
+use Rattle.std.proofs.Common.{◌≡◌, ◌≤◌, ℕ, length}
+use Rattle.spool_disk.specs.Views.{Lasts}
+use Rattle.spool_journal.specs.Phases.{Idle, IsBefore, Staging, Copied}
+use Rattle.spool_journal.proofs.staging.stage_pages.Given as goal
+
+abbrev pub invariant-loop-i : goal.invariant-loop-i
+invariant-loop-i g l = record {
+  size : g.D.Disk.size l.disk ≡ g.D.Disk.size l.fn.disk;
+  honest : g.D.Disk.honest l.fn.disk → g.D.Disk.honest l.disk;
+  back : g.D.Disk.honest l.disk → g.D.Disk.honest l.fn.disk;
+  counts : g.D.Disk.failures l.disk ≡ g.D.Disk.failures l.fn.disk;
+  staging : g.D.Disk.honest l.fn.disk → (j : ℕ) → length l.items ≤ j → Staging j (g.D.Disk.seen l.fn.disk) (g.D.Disk.loose l.fn.disk) (g.D.Disk.seen l.disk) (g.D.Disk.loose l.disk);
+  copied : g.D.Disk.honest l.fn.disk → Copied l.items (g.D.Disk.seen l.disk) l.i;
+  lasts : g.D.Disk.honest l.fn.disk → (j : ℕ) → length l.items ≤ j → Idle j (g.D.Disk.seen l.fn.disk) (g.D.Disk.loose l.fn.disk) → Lasts g.D.Disk l.fn.disk l.disk (IsBefore j (g.D.Disk.seen l.fn.disk) (g.D.Disk.loose l.fn.disk));
+}

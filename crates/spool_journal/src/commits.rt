@@ -1,0 +1,72 @@
+// A commit: all given pages or none.
+ghost use Rattle.std.specs.Prelude.{◌≡◌, ◌⊎◌, ◌≤◌, ◌<◌, ◌*◌, ◌+◌, ◌↔◌, ℕ, List, length, IsErr, IsOk, OnOk};
+ghost use Rattle.spool_disk.specs.Disk.{Counts};
+ghost use Rattle.spool_disk.specs.Views.{Lasts};
+ghost use Rattle.spool_journal.specs.Image.{journal_pages, all_pages, replayed, laid, page_number, InArea, Ascends};
+ghost use Rattle.spool_journal.specs.Phases.{Idle, IsBefore, ReadsAs, Matches, Placing, Upto, Settled};
+
+use crate::places::{close_gate, open_gate, place_pages};
+use crate::staging::stage;
+use crate::syncs::sync_places;
+use crate::{Layout, PAGE, Pages};
+use spool_disk::{Disk, DiskFault};
+
+// Puts the journal's pages into their places, and closes the gate.
+fn finish<D: Disk>(disk: &mut D, items: &[(u32, [u8; PAGE])]) -> Result<(), DiskFault>
+    requires gate { 8192 ≤ D.size disk.old }
+    requires room { (k : ℕ) → k < length items.now → 4096 * (page_number items.now k + 1) ≤ D.size disk.old }
+    ensures size { D.size disk.new ≡ D.size disk.old }
+    ensures honest { D.honest disk.old ↔ D.honest disk.new }
+    ensures counts { Counts (IsErr result) (D.failures disk.old) (D.failures disk.new) }
+    ensures settled { D.honest disk.old → (j : ℕ) (opened : ℕ → ℕ) → Matches items.now opened → Placing j opened (D.seen disk.old) (D.loose disk.old) → Upto opened (D.seen disk.old) 0 → OnOk result (Settled j (replayed opened) (D.seen disk.new) (D.loose disk.new)) }
+    ensures lasts { D.honest disk.old → (j : ℕ) → j ≤ 385 → (opened : ℕ → ℕ) → Matches items.now opened → Placing j opened (D.seen disk.old) (D.loose disk.old) → Upto opened (D.seen disk.old) 0 → Lasts D.Disk disk.old disk.new (λ image. ReadsAs j image (replayed opened)) }
+{
+    place_pages(disk, items)?;
+    sync_places(disk)?;
+    close_gate(disk)
+}
+
+// Changes these pages, at least one.
+fn commit_items<D: Disk>(
+    disk: &mut D,
+    journal: u32,
+    items: &[(u32, [u8; PAGE])],
+) -> Result<(), DiskFault>
+    requires bound { journal ≤ 385 }
+    requires some { 1 ≤ length items.now }
+    requires few { length items.now ≤ 385 }
+    requires staged { 4096 * (3 + length items.now) ≤ D.size disk.old }
+    requires room { (k : ℕ) → k < length items.now → 4096 * (page_number items.now k + 1) ≤ D.size disk.old }
+    ensures size { D.size disk.new ≡ D.size disk.old }
+    ensures honest { D.honest disk.old ↔ D.honest disk.new }
+    ensures counts { Counts (IsErr result) (D.failures disk.old) (D.failures disk.new) }
+    ensures done { D.honest disk.old → Idle journal (D.seen disk.old) (D.loose disk.old) → InArea journal items.now → Ascends items.now → OnOk result (Settled journal (laid items.now (D.seen disk.old)) (D.seen disk.new) (D.loose disk.new)) }
+    ensures lasts { D.honest disk.old → Idle journal (D.seen disk.old) (D.loose disk.old) → InArea journal items.now → Ascends items.now → Lasts D.Disk disk.old disk.new (λ image. IsBefore journal (D.seen disk.old) (D.loose disk.old) image ⊎ ReadsAs journal image (laid items.now (D.seen disk.old))) }
+{
+    stage(disk, items)?;
+    open_gate(disk)?;
+    finish(disk, items)
+}
+
+/// Changes the given pages, all or none. Of no pages it calls no disk.
+pub fn commit<D: Disk>(disk: &mut D, layout: &Layout, pages: &Pages) -> Result<(), DiskFault>
+    requires room { 4096 * all_pages layout.now ≤ D.size disk.old }
+    requires area { InArea (journal_pages layout.now) pages.now }
+    ensures size { D.size disk.new ≡ D.size disk.old }
+    ensures honest { D.honest disk.old ↔ D.honest disk.new }
+    ensures counts { Counts (IsErr result) (D.failures disk.old) (D.failures disk.new) }
+    ensures nothing { length pages.now ≡ 0 → (disk.new ≡ disk.old) × IsOk result }
+
+    // Outside gate and journal every image then has exactly these pages changed, and all that a read gave.
+    ensures done { D.honest disk.old → Idle (journal_pages layout.now) (D.seen disk.old) (D.loose disk.old) → 1 ≤ length pages.now → OnOk result (Settled (journal_pages layout.now) (laid pages.now (D.seen disk.old)) (D.seen disk.new) (D.loose disk.new)) }
+
+    // A crash during it leaves all old pages, or all new ones with all that a read gave.
+    ensures lasts { D.honest disk.old → Idle (journal_pages layout.now) (D.seen disk.old) (D.loose disk.old)
+        → Lasts D.Disk disk.old disk.new (λ image. IsBefore (journal_pages layout.now) (D.seen disk.old) (D.loose disk.old) image ⊎ ReadsAs (journal_pages layout.now) image (laid pages.now (D.seen disk.old))) }
+{
+    let items = pages.items();
+    if items.is_empty() {
+        return Ok(());
+    }
+    commit_items(disk, layout.journal(), items)
+}

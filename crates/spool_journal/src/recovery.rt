@@ -1,0 +1,197 @@
+// What a crash left is made whole again. A recovery may crash too.
+ghost use Rattle.std.specs.Prelude.{◌≡◌, ◌⊎◌, ◌≤◌, ◌<◌, ◌*◌, ◌+◌, ◌↔◌, ℕ, length, IsErr, IfOk, OnOk, ◌==◌, true, false, Err};
+ghost use Rattle.spool_disk.specs.Disk.{IsImage, Counts};
+ghost use Rattle.spool_disk.specs.Views.{Lasts};
+ghost use Rattle.spool_journal.specs.Image.{journal_pages, all_pages, replayed, overlaid, word, byte_of, content, count, number, InForm};
+ghost use Rattle.spool_journal.specs.Phases.{ReadsAs, Still, Placing, Upto, Settled, HeadOf};
+
+use crate::places::{close_gate, place};
+use crate::syncs::sync_places;
+use crate::{Layout, PAGE};
+use spool_disk::{Disk, DiskFault};
+
+/// Why a disk was not made whole.
+#[derive(Clone, Copy, Debug, PartialEq, Eq)]
+pub enum RecoverError {
+    Fault,
+    Damaged,
+}
+
+// What a read gives stands firm after it.
+fn settle<D: Disk>(disk: &mut D) -> Result<(), DiskFault>
+    ensures size { D.size disk.new ≡ D.size disk.old }
+    ensures honest { D.honest disk.old ↔ D.honest disk.new }
+    ensures counts { Counts (IsErr result) (D.failures disk.old) (D.failures disk.new) }
+    ensures still { D.honest disk.old → OnOk result (Still (D.seen disk.old) (D.seen disk.new) (D.loose disk.new)) }
+    ensures lasts { D.honest disk.old → Lasts D.Disk disk.old disk.new (IsImage (D.seen disk.old) (D.loose disk.old)) }
+{
+    disk.sync()
+}
+
+// Whether the gate is open.
+fn is_open<D: Disk>(disk: &mut D) -> Result<bool, DiskFault>
+    requires { 8192 ≤ D.size disk.old }
+    ensures size { D.size disk.new ≡ D.size disk.old }
+    ensures honest { D.honest disk.old ↔ D.honest disk.new }
+    ensures counts { Counts (IsErr result) (D.failures disk.old) (D.failures disk.new) }
+    ensures still { D.honest disk.old → (bytes : ℕ → ℕ) → Still bytes (D.seen disk.old) (D.loose disk.old) → Still bytes (D.seen disk.new) (D.loose disk.new) }
+    ensures open { D.honest disk.old → (bytes : ℕ → ℕ) → Still bytes (D.seen disk.old) (D.loose disk.old) → IfOk result (λ shown. shown ≡ (bytes 4096 == 165)) }
+    ensures lasts { D.honest disk.old → (bytes : ℕ → ℕ) → Still bytes (D.seen disk.old) (D.loose disk.old) → Lasts D.Disk disk.old disk.new (λ image. (p : ℕ) → image p ≡ bytes p) }
+{
+    let mut gate = [0];
+    disk.read(4096, &mut gate)?;
+    Ok(gate[0] == 165)
+}
+
+// Reads the journal head.
+fn read_head<D: Disk>(disk: &mut D, head: &mut [u8; PAGE]) -> Result<(), DiskFault>
+    requires { 12288 ≤ D.size disk.old }
+    ensures size { D.size disk.new ≡ D.size disk.old }
+    ensures honest { D.honest disk.old ↔ D.honest disk.new }
+    ensures counts { Counts (IsErr result) (D.failures disk.old) (D.failures disk.new) }
+    ensures still { D.honest disk.old → (bytes : ℕ → ℕ) → Still bytes (D.seen disk.old) (D.loose disk.old) → Still bytes (D.seen disk.new) (D.loose disk.new) }
+    ensures head { D.honest disk.old → (bytes : ℕ → ℕ) → Still bytes (D.seen disk.old) (D.loose disk.old) → OnOk result (HeadOf bytes head.new) }
+    ensures lasts { D.honest disk.old → (bytes : ℕ → ℕ) → Still bytes (D.seen disk.old) (D.loose disk.old) → Lasts D.Disk disk.old disk.new (λ image. (p : ℕ) → image p ≡ bytes p) }
+{
+    disk.read(8192, head)
+}
+
+// The number in four bytes.
+#[tactic(auto, unfolding(crate::specs::Image::word))]
+fn get_word(head: &[u8; PAGE], at: usize) -> u32
+    requires { at + 4 ≤ 4096 }
+    ensures { result ≡ word (byte_of head.now) at }
+{
+    head[at] as u32 * 16777216
+        + head[at + 1] as u32 * 65536
+        + head[at + 2] as u32 * 256
+        + head[at + 3] as u32
+}
+
+// Whether the head of a journal is in form.
+fn is_in_form(head: &[u8; PAGE], journal: u32) -> bool
+    requires { journal ≤ 385 }
+    ensures yes { result ≡ true → InForm journal (word (byte_of head.now) 0) (λ k. word (byte_of head.now) (4 + 4 * k)) }
+    ensures no { result ≡ false → InForm journal (word (byte_of head.now) 0) (λ k. word (byte_of head.now) (4 + 4 * k)) → ⊥ }
+{
+    let count = get_word(head, 0);
+    if count == 0 || count > journal {
+        return false;
+    }
+    let mut least = 25 + journal;
+    for k in 0..count as usize {
+        let number = get_word(head, 4 + 4 * k);
+        if number < least || number >= 25 + 2 * journal {
+            return false;
+        }
+        least = number + 1;
+    }
+    true
+}
+
+// Copies a journal page to its place.
+fn copy_page<D: Disk>(disk: &mut D, from: u32, to: u32) -> Result<(), DiskFault>
+    requires from { 4096 * (from + 1) ≤ D.size disk.old }
+    requires to { 4096 * (to + 1) ≤ D.size disk.old }
+    ensures size { D.size disk.new ≡ D.size disk.old }
+    ensures honest { D.honest disk.old ↔ D.honest disk.new }
+    ensures counts { Counts (IsErr result) (D.failures disk.old) (D.failures disk.new) }
+    ensures placing { D.honest disk.old → (j i : ℕ) (opened : ℕ → ℕ) → Placing j opened (D.seen disk.old) (D.loose disk.old) → i < count opened → number opened i ≡ to → Placing j opened (D.seen disk.new) (D.loose disk.new) }
+    ensures upto { D.honest disk.old → (j i : ℕ) (opened : ℕ → ℕ) → Placing j opened (D.seen disk.old) (D.loose disk.old) → Upto opened (D.seen disk.old) i → i < count opened → number opened i ≡ to → from ≡ 3 + i → OnOk result (Upto opened (D.seen disk.new) (i + 1)) }
+    ensures lasts { D.honest disk.old → (j i : ℕ) → j ≤ 385 → (opened : ℕ → ℕ) → Placing j opened (D.seen disk.old) (D.loose disk.old) → i < count opened → number opened i ≡ to → Lasts D.Disk disk.old disk.new (λ image. ReadsAs j image (replayed opened)) }
+{
+    let mut bytes = [0; PAGE];
+    disk.read(4096 * from as u64, &mut bytes)?;
+    place(disk, to, &bytes)
+}
+
+// Copies every journal page to its place.
+fn replay<D: Disk>(disk: &mut D, head: &[u8; PAGE], journal: u32) -> Result<(), DiskFault>
+    requires few { journal ≤ 385 }
+    requires form { InForm journal (word (byte_of head.now) 0) (λ k. word (byte_of head.now) (4 + 4 * k)) }
+    requires room { 4096 * (25 + 2 * journal) ≤ D.size disk.old }
+    ensures size { D.size disk.new ≡ D.size disk.old }
+    ensures honest { D.honest disk.old ↔ D.honest disk.new }
+    ensures counts { Counts (IsErr result) (D.failures disk.old) (D.failures disk.new) }
+    ensures placing { D.honest disk.old → (opened : ℕ → ℕ) → HeadOf opened head.now → Placing journal opened (D.seen disk.old) (D.loose disk.old) → Placing journal opened (D.seen disk.new) (D.loose disk.new) }
+    ensures upto { D.honest disk.old → (opened : ℕ → ℕ) → HeadOf opened head.now → Placing journal opened (D.seen disk.old) (D.loose disk.old) → Upto opened (D.seen disk.old) 0 → OnOk result (Upto opened (D.seen disk.new) (count opened)) }
+    ensures lasts { D.honest disk.old → (opened : ℕ → ℕ) → HeadOf opened head.now → Placing journal opened (D.seen disk.old) (D.loose disk.old) → Lasts D.Disk disk.old disk.new (λ image. ReadsAs journal image (replayed opened)) }
+{
+    let count = get_word(head, 0);
+    for k in 0..count {
+        let number = get_word(head, 4 + 4 * k as usize);
+        copy_page(disk, 3 + k, number)?;
+    }
+    Ok(())
+}
+
+// Replays the journal behind the open gate, and closes it.
+fn replay_all<D: Disk>(disk: &mut D, head: &[u8; PAGE], journal: u32) -> Result<(), DiskFault>
+    requires few { journal ≤ 385 }
+    requires form { InForm journal (word (byte_of head.now) 0) (λ k. word (byte_of head.now) (4 + 4 * k)) }
+    requires room { 4096 * (25 + 2 * journal) ≤ D.size disk.old }
+    ensures size { D.size disk.new ≡ D.size disk.old }
+    ensures honest { D.honest disk.old ↔ D.honest disk.new }
+    ensures counts { Counts (IsErr result) (D.failures disk.old) (D.failures disk.new) }
+    ensures settled { D.honest disk.old → (bytes : ℕ → ℕ) → HeadOf bytes head.now → Still bytes (D.seen disk.old) (D.loose disk.old) → bytes 4096 ≡ 165 → OnOk result (Settled journal (replayed bytes) (D.seen disk.new) (D.loose disk.new)) }
+    ensures lasts { D.honest disk.old → (bytes : ℕ → ℕ) → HeadOf bytes head.now → Still bytes (D.seen disk.old) (D.loose disk.old) → bytes 4096 ≡ 165 → Lasts D.Disk disk.old disk.new (λ image. ReadsAs journal image (replayed bytes)) }
+{
+    replay(disk, head, journal)?;
+    sync_places(disk)?;
+    close_gate(disk)
+}
+
+// Replays the journal that an open gate shows.
+fn mend<D: Disk>(disk: &mut D, journal: u32) -> Result<(), RecoverError>
+    requires few { journal ≤ 385 }
+    requires room { 4096 * (25 + 2 * journal) ≤ D.size disk.old }
+    requires page { 12288 ≤ D.size disk.old }
+    ensures size { D.size disk.new ≡ D.size disk.old }
+    ensures honest { D.honest disk.old ↔ D.honest disk.new }
+    ensures counts { Counts (result ≡ Err RecoverError.Fault) (D.failures disk.old) (D.failures disk.new) }
+    ensures settled { D.honest disk.old → (bytes : ℕ → ℕ) → Still bytes (D.seen disk.old) (D.loose disk.old) → bytes 4096 ≡ 165 → OnOk result (Settled journal (replayed bytes) (D.seen disk.new) (D.loose disk.new)) }
+    ensures form { D.honest disk.old → (bytes : ℕ → ℕ) → Still bytes (D.seen disk.old) (D.loose disk.old) → OnOk result (InForm journal (count bytes) (number bytes)) }
+    ensures damaged { D.honest disk.old → (bytes : ℕ → ℕ) → Still bytes (D.seen disk.old) (D.loose disk.old) → result ≡ Err RecoverError.Damaged → InForm journal (count bytes) (number bytes) → ⊥ }
+    ensures lasts { D.honest disk.old → (bytes : ℕ → ℕ) → Still bytes (D.seen disk.old) (D.loose disk.old) → bytes 4096 ≡ 165 → Lasts D.Disk disk.old disk.new (λ image. ((p : ℕ) → image p ≡ bytes p) ⊎ ReadsAs journal image (replayed bytes)) }
+{
+    let mut head = [0; PAGE];
+    match read_head(disk, &mut head) {
+        Err(DiskFault) => return Err(RecoverError::Fault),
+        Ok(()) => {}
+    }
+    if !is_in_form(&head, journal) {
+        return Err(RecoverError::Damaged);
+    }
+    match replay_all(disk, &head, journal) {
+        Err(DiskFault) => Err(RecoverError::Fault),
+        Ok(()) => Ok(()),
+    }
+}
+
+/// Closes the gate over the metadata that a plain reading gives.
+pub fn recover<D: Disk>(disk: &mut D, layout: &Layout) -> Result<(), RecoverError>
+    requires { 4096 * all_pages layout.now ≤ D.size disk.old }
+    ensures size { D.size disk.new ≡ D.size disk.old }
+    ensures honest { D.honest disk.old ↔ D.honest disk.new }
+    ensures counts { Counts (result ≡ Err RecoverError.Fault) (D.failures disk.old) (D.failures disk.new) }
+
+    // Every image then is, outside gate and journal, what a plain reading gave.
+    ensures settled { D.honest disk.old → OnOk result (Settled (journal_pages layout.now) (overlaid (D.seen disk.old)) (D.seen disk.new) (D.loose disk.new)) }
+
+    // It refuses exactly a journal head behind an open gate that is out of form.
+    ensures form { D.honest disk.old → OnOk result (D.seen disk.old 4096 ≡ 165 → InForm (journal_pages layout.now) (count (D.seen disk.old)) (number (D.seen disk.old))) }
+    ensures damaged { D.honest disk.old → result ≡ Err RecoverError.Damaged → (D.seen disk.old 4096 ≡ 165) × (InForm (journal_pages layout.now) (count (D.seen disk.old)) (number (D.seen disk.old)) → ⊥) }
+
+    // A crash during it leaves what it might have left before, or what reads the same.
+    ensures lasts { D.honest disk.old → Lasts D.Disk disk.old disk.new (λ image. IsImage (D.seen disk.old) (D.loose disk.old) image ⊎ ReadsAs (journal_pages layout.now) image (overlaid (D.seen disk.old))) }
+{
+    match settle(disk) {
+        Err(DiskFault) => return Err(RecoverError::Fault),
+        Ok(()) => {}
+    }
+    match is_open(disk) {
+        Err(DiskFault) => Err(RecoverError::Fault),
+        Ok(false) => Ok(()),
+        Ok(true) => mend(disk, layout.journal()),
+    }
+}

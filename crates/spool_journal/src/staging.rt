@@ -1,0 +1,85 @@
+// The journal is written while the gate is closed.
+ghost use Rattle.std.specs.Prelude.{◌≡◌, ◌⊎◌, ◌≤◌, ◌<◌, ◌*◌, ◌+◌, ◌↔◌, ℕ, List, length, IsErr, OnOk};
+ghost use Rattle.spool_disk.specs.Disk.{Counts, Apart};
+ghost use Rattle.spool_disk.specs.Views.{Lasts};
+ghost use Rattle.spool_journal.specs.Image.{word, byte_of, page_number, InArea, Ascends};
+ghost use Rattle.spool_journal.specs.Phases.{Idle, IsBefore, Staging, Copied, Ready};
+
+use crate::PAGE;
+use spool_disk::{Disk, DiskFault};
+
+// Writes each page's bytes to its journal page.
+fn stage_pages<D: Disk>(disk: &mut D, items: &[(u32, [u8; PAGE])]) -> Result<(), DiskFault>
+    requires few { length items.now ≤ 385 }
+    requires room { 4096 * (3 + length items.now) ≤ D.size disk.old }
+    ensures size { D.size disk.new ≡ D.size disk.old }
+    ensures honest { D.honest disk.old ↔ D.honest disk.new }
+    ensures counts { Counts (IsErr result) (D.failures disk.old) (D.failures disk.new) }
+    ensures staging { D.honest disk.old → (j : ℕ) → length items.now ≤ j → Staging j (D.seen disk.old) (D.loose disk.old) (D.seen disk.new) (D.loose disk.new) }
+    ensures copied { D.honest disk.old → OnOk result (Copied items.now (D.seen disk.new) (length items.now)) }
+    ensures lasts { D.honest disk.old → (j : ℕ) → length items.now ≤ j → Idle j (D.seen disk.old) (D.loose disk.old) → Lasts D.Disk disk.old disk.new (IsBefore j (D.seen disk.old) (D.loose disk.old)) }
+{
+    for i in 0..items.len() {
+        disk.write_at(4096 * (3 + i as u64), &items[i].1)?;
+    }
+    Ok(())
+}
+
+// Puts a number in four bytes.
+#[tactic(auto, unfolding(crate::specs::Image::word))]
+fn put_word(head: &mut [u8; PAGE], at: usize, value: u32)
+    requires { at + 4 ≤ 4096 }
+    ensures word { word (byte_of head.new) at ≡ value }
+    ensures others { (other : ℕ) → Apart other 4 at 4 → word (byte_of head.new) other ≡ word (byte_of head.old) other }
+{
+    head[at] = (value / 16777216) as u8;
+    head[at + 1] = (value / 65536 % 256) as u8;
+    head[at + 2] = (value / 256 % 256) as u8;
+    head[at + 3] = (value % 256) as u8;
+}
+
+// The journal head for these pages.
+fn head_of(items: &[(u32, [u8; PAGE])]) -> [u8; PAGE]
+    requires { length items.now ≤ 385 }
+    ensures count { word (byte_of result) 0 ≡ length items.now }
+    ensures numbers { (k : ℕ) → k < length items.now → word (byte_of result) (4 + 4 * k) ≡ page_number items.now k }
+{
+    let mut head = [0; PAGE];
+    put_word(&mut head, 0, items.len() as u32);
+    for i in 0..items.len() {
+        put_word(&mut head, 4 + 4 * i, items[i].0);
+    }
+    head
+}
+
+// Writes the journal head, and syncs.
+fn write_head<D: Disk>(disk: &mut D, head: &[u8; PAGE]) -> Result<(), DiskFault>
+    requires { 12288 ≤ D.size disk.old }
+    ensures size { D.size disk.new ≡ D.size disk.old }
+    ensures honest { D.honest disk.old ↔ D.honest disk.new }
+    ensures counts { Counts (IsErr result) (D.failures disk.old) (D.failures disk.new) }
+    ensures staging { D.honest disk.old → OnOk result ((j : ℕ) → Staging j (D.seen disk.old) (D.loose disk.old) (D.seen disk.new) (D.loose disk.new)) }
+    ensures firm { D.honest disk.old → OnOk result ((p : ℕ) → D.loose disk.new p → ⊥) }
+    ensures head { D.honest disk.old → OnOk result ((i : ℕ) → i < 4096 → D.seen disk.new (8192 + i) ≡ byte_of head.now i) }
+    ensures kept { D.honest disk.old → OnOk result ((p : ℕ) → 12288 ≤ p → D.seen disk.new p ≡ D.seen disk.old p) }
+    ensures lasts { D.honest disk.old → (j : ℕ) → Idle j (D.seen disk.old) (D.loose disk.old) → Lasts D.Disk disk.old disk.new (IsBefore j (D.seen disk.old) (D.loose disk.old)) }
+{
+    disk.write_at(8192, head)?;
+    disk.sync()
+}
+
+/// Writes the pages and the head of the journal, and syncs.
+pub(crate) fn stage<D: Disk>(disk: &mut D, items: &[(u32, [u8; PAGE])]) -> Result<(), DiskFault>
+    requires some { 1 ≤ length items.now }
+    requires few { length items.now ≤ 385 }
+    requires room { 4096 * (3 + length items.now) ≤ D.size disk.old }
+    ensures size { D.size disk.new ≡ D.size disk.old }
+    ensures honest { D.honest disk.old ↔ D.honest disk.new }
+    ensures counts { Counts (IsErr result) (D.failures disk.old) (D.failures disk.new) }
+    ensures ready { D.honest disk.old → (j : ℕ) → length items.now ≤ j → InArea j items.now → Ascends items.now → OnOk result (Ready j items.now (D.seen disk.old) (D.seen disk.new) (D.loose disk.new)) }
+    ensures lasts { D.honest disk.old → (j : ℕ) → length items.now ≤ j → Idle j (D.seen disk.old) (D.loose disk.old) → Lasts D.Disk disk.old disk.new (IsBefore j (D.seen disk.old) (D.loose disk.old)) }
+{
+    stage_pages(disk, items)?;
+    let head = head_of(items);
+    write_head(disk, &head)
+}

@@ -1,0 +1,74 @@
+-- The request head that some bytes are, as a function.
+use Rattle.std.specs.Prelude.{ℕ, ◌-◌, Bool, ◌&&◌, List, [], ◌∷◌, length, nat_lt, nat_le, bytes_eq, if◌then◌else◌, ◌==◌, Option, Some, None, get_or}
+use Rattle.std.specs.List.{list_all}
+use Rattle.std.specs.Str.{is_utf8}
+use Rattle.httparse.specs.Grammar.{LineEnd, crlf, lf, is_token, is_uri_byte, is_value_byte, Field, RequestHead, print_request}
+use Rattle.tus_request.specs.Lines.{lines, is_empty_line}
+
+-- what stands in front of a byte, and behind it
+abbrev pub before : ℕ → List ℕ → List ℕ
+before mark [] = []
+before mark (b ∷ bytes) = if b == mark then [] else b ∷ before mark bytes
+
+abbrev pub behind : ℕ → List ℕ → List ℕ
+behind mark [] = []
+behind mark (b ∷ bytes) = if b == mark then bytes else behind mark bytes
+
+-- a line without its end, and its end
+abbrev pub text_of : List ℕ → List ℕ
+text_of [] = []
+text_of (b ∷ line) = if is_empty_line (b ∷ line) then [] else b ∷ text_of line
+
+abbrev pub end_of : List ℕ → LineEnd
+end_of [] = lf
+end_of (b ∷ line) = if is_empty_line (b ∷ line) then (if b == 13 then crlf else lf) else end_of line
+
+-- a field, from its line
+abbrev pub field_of : List ℕ → Field
+field_of line = record { name = before 58 line; raw = text_of (behind 58 line); end = end_of line }
+
+-- the field lines, and the end of the empty line behind them
+abbrev pub fields_of : List (List ℕ) → List Field
+fields_of [] = []
+fields_of (line ∷ rest) = if is_empty_line line then [] else field_of line ∷ fields_of rest
+
+abbrev pub last_of : List (List ℕ) → LineEnd
+last_of [] = lf
+last_of (line ∷ rest) = if is_empty_line line then end_of line else last_of rest
+
+-- what the lines would be as a head
+abbrev pub blank_of : List (List ℕ) → List LineEnd
+blank_of [] = []
+blank_of (line ∷ rest) = if is_empty_line line then end_of line ∷ blank_of rest else []
+
+abbrev pub filled : List (List ℕ) → List (List ℕ)
+filled [] = []
+filled (line ∷ rest) = if is_empty_line line then filled rest else line ∷ rest
+
+abbrev pub head_with : List LineEnd → List (List ℕ) → RequestHead
+head_with blank [] = record { blank = blank; method = []; target = []; minor = 0; line_end = lf; fields = []; last = lf }
+head_with blank (line ∷ rest) = record {
+  blank = blank;
+  method = before 32 line;
+  target = before 32 (behind 32 line);
+  minor = get_or (behind 32 (behind 32 line)) 7 48 - 48;
+  line_end = end_of line;
+  fields = fields_of rest;
+  last = last_of rest;
+}
+
+abbrev pub guess : List ℕ → RequestHead
+guess head = head_with (blank_of (lines head)) (filled (lines head))
+
+-- each part is of its class
+abbrev pub is_field : Field → Bool
+is_field f = is_token f.name && list_all is_value_byte f.raw
+
+abbrev pub is_request_head : RequestHead → Bool
+is_request_head h =
+    is_token h.method && nat_lt 0 (length h.target) && list_all is_uri_byte h.target && is_utf8 h.target
+    && nat_le h.minor 1 && list_all is_field h.fields
+
+-- the request head that the bytes are, if they are one: a guess that is printed and compared
+abbrev pub request_of : List ℕ → Option RequestHead
+request_of head = if is_request_head (guess head) && bytes_eq head (print_request (guess head)) then Some (guess head) else None

@@ -1,0 +1,113 @@
+-- The bytes of the replies.
+use Rattle.std.specs.Prelude.{ℕ, Bool, List, [], ◌∷◌, ◌++◌, if◌then◌else◌, Option, Some, None, codes}
+use Rattle.std.specs.Fmt.{decimal}
+use Rattle.enc_model.specs.declared.Encoding.{Encoding}
+use Rattle.enc_model.specs.declared.Encoding.TheVariants as e
+use Rattle.tus_request.specs.declared.faults.Fault.{Fault}
+use Rattle.tus_request.specs.declared.faults.Fault.TheVariants.{Unencodable, NoSuch, Offset, TooLong, Slots, TooLarge, Full, HeadTooLong, Coding, TusVersion, NoRoute, BadMethod, MediaType}
+use Rattle.tus_request.specs.Faults.{fault_number}
+
+abbrev pub crlf : List ℕ
+crlf = 13 ∷ 10 ∷ []
+
+abbrev pub header : List ℕ → List ℕ → List ℕ
+header name value = name ++ (codes ": " ++ (value ++ crlf))
+
+abbrev pub length_line : Option ℕ → List ℕ
+length_line None = []
+length_line (Some n) = header (codes "Content-Length") (decimal n)
+
+abbrev pub close_line : Bool → List ℕ
+close_line closes = if closes then header (codes "Connection") (codes "close") else []
+
+abbrev pub metadata_line : List ℕ → List ℕ
+metadata_line [] = []
+metadata_line (b ∷ bytes) = header (codes "Upload-Metadata") (b ∷ bytes)
+
+-- the status line, the two headers of each reply, its own lines, the length, the close, and an empty line
+abbrev pub reply : List ℕ → List ℕ → Option ℕ → Bool → List ℕ
+reply status lines body_length closes =
+    codes "HTTP/1.1 " ++ (status ++ (crlf ++ (header (codes "Tus-Resumable") (codes "1.0.0")
+    ++ (header (codes "Cache-Control") (codes "no-store")
+    ++ (lines ++ (length_line body_length ++ (close_line closes ++ crlf)))))))
+
+-- a body's length, which a reply to a request line of HEAD leaves out
+abbrev pub unless_bare : Bool → ℕ → Option ℕ
+unless_bare bare n = if bare then None else Some n
+
+abbrev pub reply_options : Bool → List ℕ
+reply_options closes =
+    reply (codes "204 No Content")
+    (header (codes "Tus-Version") (codes "1.0.0") ++ (header (codes "Tus-Extension") (codes "creation") ++ header (codes "Tus-Max-Size") (codes "1073741824")))
+    None closes
+
+abbrev pub reply_created : ℕ → Bool → Bool → List ℕ
+reply_created number bare closes =
+    reply (codes "201 Created") (header (codes "Location") (codes "/files/" ++ decimal number)) (unless_bare bare 0) closes
+
+abbrev pub reply_head : ℕ → ℕ → List ℕ → Bool → Bool → List ℕ
+reply_head offset declared metadata bare closes =
+    reply (codes "200 OK")
+    (header (codes "Upload-Offset") (decimal offset) ++ (header (codes "Upload-Length") (decimal declared) ++ metadata_line metadata))
+    (unless_bare bare 0) closes
+
+abbrev pub reply_patched : ℕ → Bool → List ℕ
+reply_patched offset closes = reply (codes "204 No Content") (header (codes "Upload-Offset") (decimal offset)) None closes
+
+abbrev pub name_of : Encoding → List ℕ
+name_of e.Utf8 = codes "UTF-8"
+name_of e.Utf16Be = codes "UTF-16BE"
+name_of e.Utf16Le = codes "UTF-16LE"
+name_of e.ShiftJis = codes "Shift_JIS"
+name_of e.EucJp = codes "EUC-JP"
+name_of e.Iso2022Jp = codes "ISO-2022-JP"
+name_of e.Ibm866 = codes "IBM866"
+name_of e.Iso8859X2 = codes "ISO-8859-2"
+name_of e.Iso8859X5 = codes "ISO-8859-5"
+name_of e.Iso8859X15 = codes "ISO-8859-15"
+name_of e.Koi8R = codes "KOI8-R"
+name_of e.Macintosh = codes "macintosh"
+name_of e.Windows1250 = codes "windows-1250"
+name_of e.Windows1251 = codes "windows-1251"
+name_of e.Windows1252 = codes "windows-1252"
+name_of e.Windows1253 = codes "windows-1253"
+name_of e.Windows1254 = codes "windows-1254"
+name_of e.Windows1255 = codes "windows-1255"
+name_of e.Windows1256 = codes "windows-1256"
+name_of e.Windows1257 = codes "windows-1257"
+name_of e.Windows1258 = codes "windows-1258"
+
+abbrev pub reply_text : Encoding → ℕ → Bool → Bool → List ℕ
+reply_text to length bare closes =
+    reply (codes "200 OK") (header (codes "Content-Type") (codes "text/plain; charset=" ++ name_of to)) (unless_bare bare length) closes
+
+abbrev pub reply_continue : List ℕ
+reply_continue = codes "HTTP/1.1 100 Continue" ++ (crlf ++ crlf)
+
+abbrev pub status_of : Fault → List ℕ
+status_of Unencodable = codes "422 Unprocessable Entity"
+status_of NoSuch = codes "404 Not Found"
+status_of Offset = codes "409 Conflict"
+status_of TooLong = codes "413 Payload Too Large"
+status_of Slots = codes "507 Insufficient Storage"
+status_of TooLarge = codes "413 Payload Too Large"
+status_of Full = codes "507 Insufficient Storage"
+status_of HeadTooLong = codes "431 Request Header Fields Too Large"
+status_of Coding = codes "501 Not Implemented"
+status_of TusVersion = codes "412 Precondition Failed"
+status_of NoRoute = codes "404 Not Found"
+status_of BadMethod = codes "405 Method Not Allowed"
+status_of MediaType = codes "415 Unsupported Media Type"
+status_of _ = codes "400 Bad Request"
+
+abbrev pub refusal_line : Fault → List ℕ
+refusal_line f = header (codes "X-Refusal") (decimal (fault_number f))
+
+abbrev pub refusal_lines : Fault → Bool → List ℕ
+refusal_lines TusVersion on_files = header (codes "Tus-Version") (codes "1.0.0") ++ refusal_line TusVersion
+refusal_lines BadMethod on_files =
+    header (codes "Allow") (if on_files then codes "OPTIONS, POST" else codes "OPTIONS, HEAD, PATCH, GET") ++ refusal_line BadMethod
+refusal_lines f on_files = refusal_line f
+
+abbrev pub reply_refused : Fault → Bool → Bool → Bool → List ℕ
+reply_refused f on_files bare closes = reply (status_of f) (refusal_lines f on_files) (unless_bare bare 0) closes

@@ -1,0 +1,108 @@
+-- The history: what a list of events makes of the uploads and the connections.
+use Rattle.std.specs.Prelude.{ℕ, Bool, true, false, List, [], ◌∷◌, nat_lt, ◌==◌, if◌then◌else◌, Option, Some, None}
+use Rattle.tus_request.specs.declared.faults.Fault.{Fault}
+use Rattle.tus_request.specs.declared.faults.Fault.TheVariants.{NoMemory, DiskFault, TooMany, Closed}
+use Rattle.upload_rules.specs.Store.{Store}
+use Rattle.upload_rules.specs.World.{World, at_rest}
+use Rattle.tus_session.specs.Turns.{Conn, Turn, fresh, is_pending, came_turn, more_turn, ended_world, left_world}
+
+pub data Event : Type 0 where
+  Opened : ℕ → Event
+  Came : ℕ → List ℕ → Event
+  More : ℕ → Event
+  Ended : ℕ → Event
+
+pub data Mark : Type 0 where
+  Served OutOfMemory Failed : Mark
+
+abbrev pub Marked : Type 0
+Marked = Event × Mark
+
+-- what the call answers: the bytes given, how many were taken, whether it closed and whether more is to be given; nothing; or a refusal
+pub data Outcome : Type 0 where
+  Gave : List ℕ → ℕ → Bool → Bool → Outcome
+  Done : Outcome
+  Refused : Fault → Outcome
+
+-- the world, and the open connections
+pub record State : Type 0 where
+  pub world : World
+  pub conns : ℕ → Option Conn
+
+pub record Step : Type 0 where
+  pub state : State
+  pub outcome : Outcome
+
+abbrev pub with_conn : (ℕ → Option Conn) → ℕ → Option Conn → ℕ → Option Conn
+with_conn conns c conn k = if k == c then conn else conns k
+
+abbrev pub put : State → World → ℕ → Option Conn → State
+put st w c conn = record { world = w; conns = with_conn st.conns c conn }
+
+abbrev pub kept : State → Fault → Step
+kept st f = record { state = st; outcome = Refused f }
+
+abbrev pub has_text : Option Conn → Bool
+has_text None = false
+has_text (Some k) = is_pending k.pending
+
+abbrev pub is_closed : Option Conn → Bool
+is_closed None = true
+is_closed (Some k) = false
+
+abbrev pub turned : State → ℕ → Turn → Step
+turned st c t = record { state = put st t.world c t.conn; outcome = Gave t.bytes t.taken (is_closed t.conn) (has_text t.conn) }
+
+abbrev pub opened_at : State → ℕ → Option Conn → Step
+opened_at st c (Some k) = kept st TooMany
+opened_at st c None =
+    if nat_lt c 16 then record { state = put st st.world c (Some fresh); outcome = Done } else kept st TooMany
+
+abbrev pub came_at : State → ℕ → List ℕ → Option Conn → Step
+came_at st c piece None = kept st Closed
+came_at st c piece (Some k) = turned st c (came_turn st.world k piece)
+
+abbrev pub more_at : State → ℕ → Option Conn → Step
+more_at st c None = kept st Closed
+more_at st c (Some k) = turned st c (more_turn st.world k)
+
+abbrev pub ended_at : State → ℕ → Option Conn → Step
+ended_at st c None = kept st Closed
+ended_at st c (Some k) = record { state = put st (ended_world st.world k) c None; outcome = Done }
+
+-- an event that is served
+abbrev pub served : State → Event → Step
+served st (Opened c) = opened_at st c (st.conns c)
+served st (Came c piece) = came_at st c piece (st.conns c)
+served st (More c) = more_at st c (st.conns c)
+served st (Ended c) = ended_at st c (st.conns c)
+
+-- an event that is refused for memory makes no change, closes its connection and leaves all others
+abbrev pub lost_at : State → ℕ → Option Conn → Step
+lost_at st c None = kept st Closed
+lost_at st c (Some k) = record { state = put st (left_world st.world k.draft) c None; outcome = Refused NoMemory }
+
+abbrev pub conn_in : Event → ℕ
+conn_in (Opened c) = c
+conn_in (Came c piece) = c
+conn_in (More c) = c
+conn_in (Ended c) = c
+
+-- THE STEP
+unfoldable pub step : State → Event → Mark → Step
+step st e Served = served st e
+step st e OutOfMemory = lost_at st (conn_in e) (st.conns (conn_in e))
+step st e Failed = kept st DiskFault
+
+abbrev pub beginning : Store → Option ℕ → State
+beginning m blocks = record { world = at_rest m blocks; conns = λ c. None }
+
+-- THE HISTORY of the events, the latest first
+abbrev pub history : State → List Marked → State
+history st [] = st
+history st (e ∷ past) = (step (history st past) e.0 e.1).state
+
+-- what each event gave, the events in their order
+abbrev pub outcomes : State → List Marked → List Outcome
+outcomes st [] = []
+outcomes st (e ∷ events) = let t = step st e.0 e.1 in t.outcome ∷ outcomes t.state events

@@ -1,0 +1,102 @@
+-- What the calls make of a world, and why they are refused.
+use Rattle.std.specs.Prelude.{ℕ, ◌+◌, ◌^◌, Bool, true, false, List, [], ◌∷◌, ◌++◌, length, nat_lt, nat_le, ◌==◌, if◌then◌else◌, Option, Some, None}
+use Rattle.tus_request.specs.declared.faults.Fault.{Fault}
+use Rattle.tus_request.specs.declared.faults.Fault.TheVariants.{TooLarge, Slots, NoSuch, Offset, TooLong, Unencodable, Full}
+use Rattle.tus_request.specs.Requests.{New}
+use Rattle.upload_rules.specs.Store.{Upload, Store, find, replaced, without, upload_of, created_store, appended_store}
+use Rattle.upload_rules.specs.World.{Patch, World, is_there, free_number, completes, patch_text}
+use Rattle.upload_rules.specs.Room.{is_short}
+
+-- the first of two refusals
+abbrev pub or_else : Option Fault → Option Fault → Option Fault
+or_else None other = other
+or_else (Some f) other = Some f
+
+abbrev pub refuse_if : Bool → Fault → Option Fault
+refuse_if holds f = if holds then Some f else None
+
+-- CREATE
+
+abbrev pub create_refusal : World → New → Option Fault
+create_refusal w new =
+    if nat_lt 1073741824 new.declared then Some TooLarge
+    else if nat_le 512 (length w.store.uploads) then Some Slots
+    else refuse_if (nat_le (10 ^ 18) w.store.next) Slots
+
+abbrev pub created : World → New → World
+created w new = record w { store = created_store w.store new }
+
+-- BEGIN (with deferred lengths: TooLarge and LengthSet stand between Offset and TooLong)
+
+abbrev pub begin_refusal_at : ℕ → ℕ → Option Upload → Option Fault
+begin_refusal_at offset count None = Some NoSuch
+begin_refusal_at offset count (Some u) =
+    if length u.accepted == offset then refuse_if (nat_lt u.declared (offset + count)) TooLong else Some Offset
+
+abbrev pub begin_refusal : World → ℕ → ℕ → ℕ → Option Fault
+begin_refusal w number offset count = begin_refusal_at offset count (upload_of w.store number)
+
+abbrev pub first_patch : ℕ → ℕ → Upload → Patch
+first_patch number count u = record { number = number; began = u; count = count; body = []; short = false }
+
+abbrev pub begun_at : World → ℕ → ℕ → Option Upload → World
+begun_at w number count None = w
+begun_at w number count (Some u) = record w { patches = (free_number w, first_patch number count u) ∷ w.patches }
+
+-- a patch is open under the least free draft number
+abbrev pub begun : World → ℕ → ℕ → World
+begun w number count = begun_at w number count (upload_of w.store number)
+
+-- APPEND
+
+-- the body with a piece more. From here on it may be short of room
+abbrev pub longer : World → ℕ → Patch → List ℕ → Patch
+longer w d p piece = let q = record p { body = p.body ++ piece } in record q { short = is_short w d q false }
+
+abbrev pub appended_at : World → ℕ → List ℕ → Option Patch → World
+appended_at w d piece None = w
+appended_at w d piece (Some p) = record w { patches = replaced d (longer w d p piece) w.patches }
+
+abbrev pub appended : World → ℕ → List ℕ → World
+appended w d piece = appended_at w d piece (find d w.patches)
+
+-- COMMIT
+
+abbrev pub is_empty : List ℕ → Bool
+is_empty [] = true
+is_empty (b ∷ bytes) = false
+
+-- the text has no value with the body, or no room. An empty body has neither fault
+abbrev pub text_refusal : World → ℕ → Patch → Option Fault
+text_refusal w d p =
+    if is_empty p.body then None
+    else if is_there (patch_text w.store.indexes p (completes p)).fault then Some Unencodable
+    else refuse_if (is_short w d p (completes p)) Full
+
+abbrev pub offset_refusal : Patch → Option Upload → Option Fault
+offset_refusal p None = Some NoSuch
+offset_refusal p (Some u) = refuse_if (if length u.accepted == length p.began.accepted then false else true) Offset
+
+-- (with deferred lengths: LengthSet and TooLong stand between Offset and Unencodable, and an empty body that declares is no empty body)
+-- the first that holds of NoSuch, Offset, Unencodable and Full
+unfoldable pub commit_refusal : World → ℕ → Patch → Option Fault
+commit_refusal w d p = or_else (offset_refusal p (upload_of w.store p.number)) (text_refusal w d p)
+
+abbrev pub dropped : World → ℕ → World
+dropped w d = record w { patches = without d w.patches }
+
+-- the body is at the upload's end. An empty body changes nothing
+abbrev pub committed_store : Store → Patch → Store
+committed_store m p = if is_empty p.body then m else appended_store m p.number p.body
+
+abbrev pub committed : World → ℕ → Patch → World
+committed w d p = record w { store = committed_store w.store p; patches = without d w.patches }
+
+-- the new offset
+abbrev pub reached : Patch → ℕ
+reached p = length p.began.accepted + length p.body
+
+-- what `commit` makes of the world, refused or not: the patch is spent
+abbrev pub spent : World → ℕ → Patch → Option Fault → World
+spent w d p None = committed w d p
+spent w d p (Some f) = dropped w d

@@ -1,0 +1,76 @@
+-- The uploads model: what each upload is, and its text.
+use Rattle.std.specs.Prelude.{ℕ, ◌+◌, Bool, List, [], ◌∷◌, ◌++◌, length, ◌==◌, if◌then◌else◌, Option, Some, None}
+use Rattle.enc_model.specs.declared.Encoding.{Encoding}
+use Rattle.enc_model.specs.declared.Mode.{Mode}
+use Rattle.enc_model.specs.Encode.{Tables, Coded}
+use Rattle.enc_model.specs.Decode.{text}
+use Rattle.tus_request.specs.Requests.{New}
+
+-- the index set: the tables, and which encodings it offers
+pub record IndexSet : Type 0 where
+  pub tables : Tables
+  pub offers : Encoding → Bool
+
+-- (with deferred lengths: `declared` may be unknown, and such an upload is never complete)
+pub record Upload : Type 0 where
+  pub from : Encoding
+  pub to : Encoding
+  pub mode : Mode
+  pub declared : ℕ
+  pub metadata : List ℕ
+  pub accepted : List ℕ
+
+-- the uploads by ascending numbers, the next number, and the index set
+pub record Store : Type 0 where
+  pub uploads : List (ℕ × Upload)
+  pub next : ℕ
+  pub indexes : IndexSet
+
+abbrev pub find : {A : Type 0} → ℕ → List (ℕ × A) → Option A
+find n [] = None
+find n (entry ∷ entries) = if entry.0 == n then Some entry.1 else find n entries
+
+abbrev pub upload_of : Store → ℕ → Option Upload
+upload_of m n = find n m.uploads
+
+-- with another value at a number that is there
+abbrev pub replaced : {A : Type 0} → ℕ → A → List (ℕ × A) → List (ℕ × A)
+replaced n x [] = []
+replaced n x (entry ∷ entries) = if entry.0 == n then (n, x) ∷ entries else entry ∷ replaced n x entries
+
+abbrev pub without : {A : Type 0} → ℕ → List (ℕ × A) → List (ℕ × A)
+without n [] = []
+without n (entry ∷ entries) = if entry.0 == n then entries else entry ∷ without n entries
+
+-- complete: the accepted bytes are as many as were declared
+abbrev pub is_complete : Upload → Bool
+is_complete u = length u.accepted == u.declared
+
+abbrev pub with_bytes : Upload → List ℕ → Upload
+with_bytes u bytes = record u { accepted = u.accepted ++ bytes }
+
+-- what the text is with these further bytes, the end among them or not: its bytes, or the first code point that has no code
+abbrev pub text_with : IndexSet → Upload → List ℕ → Bool → Coded
+text_with x u bytes done = text x.tables u.from u.to u.mode (u.accepted ++ bytes) done
+
+-- the text of an upload
+unfoldable pub text_of : IndexSet → Upload → List ℕ
+text_of x u = (text_with x u [] (is_complete u)).bytes
+
+-- CHANGES
+
+abbrev pub new_upload : New → Upload
+new_upload new = record { from = new.from; to = new.to; mode = new.mode; declared = new.declared; metadata = new.metadata; accepted = [] }
+
+-- `create`: the next number, with no accepted bytes
+abbrev pub created_store : Store → New → Store
+created_store m new = record m { uploads = m.uploads ++ (m.next, new_upload new) ∷ []; next = m.next + 1 }
+
+-- (with terminations: `deleted_store`, by `without`; with deferred lengths: `declared_store`)
+-- `append`: bytes at the end of an upload
+abbrev pub appended_to : Store → ℕ → List ℕ → Option Upload → Store
+appended_to m n bytes None = m
+appended_to m n bytes (Some u) = record m { uploads = replaced n (with_bytes u bytes) m.uploads }
+
+abbrev pub appended_store : Store → ℕ → List ℕ → Store
+appended_store m n bytes = appended_to m n bytes (upload_of m n)
