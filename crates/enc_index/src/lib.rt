@@ -1,2 +1,17 @@
-//! Index files.
+//! Index files: the code points at the pointers of an encoding's index, and the least pointers of code points.
 #![tactic(auto)]
+
+mod area;
+mod file;
+mod index;
+mod kind;
+mod set;
+mod table;
+#[cfg(test)]
+mod tests;
+mod usable;
+
+pub use area::AREA_SIZE;
+pub use index::Index;
+pub use kind::{AreaError, Kind, ReadError};
+pub use set::IndexSet;

@@ -1,4 +1,4 @@
--- The worked rows, by computation.
+-- Worked examples, by computation: the review of the definitions.
 use Rattle.std.proofs.Common.{◌≡◌, true, false, [], ◌∷◌, refl, Some}
 use Rattle.enc_model.specs.declared.Encoding.{Encoding}
 use Rattle.enc_model.specs.declared.Encoding.TheVariants.{Utf8, Utf16Be, Utf16Le, ShiftJis, EucJp, Iso2022Jp, Windows1252}
@@ -22,150 +22,150 @@ singles _ = []
 abbrev rows : Tables
 rows = record { jis0208 = jis0208; jis0212 = (1410, 0x4E02) ∷ []; katakana = (0, 0x3002) ∷ []; single = singles }
 
-row3a : (text rows Utf8 Utf8 Html (0xEF ∷ []) false).bytes ≡ []
+bom_begun : (text rows Utf8 Utf8 Html (0xEF ∷ []) false).bytes ≡ []
 unfolding steps steps_within code pointer_where utf8 utf16 single shift_jis euc_jp iso2022 coded coded_within single_encoder encode shift_jis_encoder euc_jp_encoder iso2022_encoder decoding decoded decode text
-row3a = refl
+bom_begun = refl
 
-row3b : (text rows Utf8 Utf8 Html (0xEF ∷ 0xBB ∷ []) false).bytes ≡ []
+bom_held : (text rows Utf8 Utf8 Html (0xEF ∷ 0xBB ∷ []) false).bytes ≡ []
 unfolding steps steps_within code pointer_where utf8 utf16 single shift_jis euc_jp iso2022 coded coded_within single_encoder encode shift_jis_encoder euc_jp_encoder iso2022_encoder decoding decoded decode text
-row3b = refl
+bom_held = refl
 
-row3c : (text rows Utf8 Utf8 Html (0xEF ∷ 0xBB ∷ 0xBF ∷ 0x41 ∷ []) true).bytes ≡ (0x41 ∷ [])
+bom_split : (text rows Utf8 Utf8 Html (0xEF ∷ 0xBB ∷ 0xBF ∷ 0x41 ∷ []) true).bytes ≡ (0x41 ∷ [])
 unfolding steps steps_within code pointer_where utf8 utf16 single shift_jis euc_jp iso2022 coded coded_within single_encoder encode shift_jis_encoder euc_jp_encoder iso2022_encoder decoding decoded decode text
-row3c = refl
+bom_split = refl
 
-row4a : (text rows Utf8 Utf8 Html (0xF0 ∷ 0x90 ∷ []) false).bytes ≡ []
+four_bytes_begun : (text rows Utf8 Utf8 Html (0xF0 ∷ 0x90 ∷ []) false).bytes ≡ []
 unfolding steps steps_within code pointer_where utf8 utf16 single shift_jis euc_jp iso2022 coded coded_within single_encoder encode shift_jis_encoder euc_jp_encoder iso2022_encoder decoding decoded decode text
-row4a = refl
+four_bytes_begun = refl
 
-row4b : (text rows Utf8 Utf8 Html (0xF0 ∷ 0x90 ∷ 0x80 ∷ []) true).bytes ≡ (0xEF ∷ 0xBF ∷ 0xBD ∷ [])
+four_bytes_cut_off : (text rows Utf8 Utf8 Html (0xF0 ∷ 0x90 ∷ 0x80 ∷ []) true).bytes ≡ (0xEF ∷ 0xBF ∷ 0xBD ∷ [])
 unfolding steps steps_within code pointer_where utf8 utf16 single shift_jis euc_jp iso2022 coded coded_within single_encoder encode shift_jis_encoder euc_jp_encoder iso2022_encoder decoding decoded decode text
-row4b = refl
+four_bytes_cut_off = refl
 
-row5 : (text rows Utf8 Utf8 Html (0xE0 ∷ 0x80 ∷ 0x41 ∷ []) true).bytes ≡ (0xEF ∷ 0xBF ∷ 0xBD ∷ 0xEF ∷ 0xBF ∷ 0xBD ∷ 0x41 ∷ [])
+overlong_by_subparts : (text rows Utf8 Utf8 Html (0xE0 ∷ 0x80 ∷ 0x41 ∷ []) true).bytes ≡ (0xEF ∷ 0xBF ∷ 0xBD ∷ 0xEF ∷ 0xBF ∷ 0xBD ∷ 0x41 ∷ [])
 unfolding steps steps_within code pointer_where utf8 utf16 single shift_jis euc_jp iso2022 coded coded_within single_encoder encode shift_jis_encoder euc_jp_encoder iso2022_encoder decoding decoded decode text
-row5 = refl
+overlong_by_subparts = refl
 
-row6a : (text rows Utf16Le Utf8 Html (0x3D ∷ 0xD8 ∷ []) false).bytes ≡ []
+lead_unit_held : (text rows Utf16Le Utf8 Html (0x3D ∷ 0xD8 ∷ []) false).bytes ≡ []
 unfolding steps steps_within code pointer_where utf8 utf16 single shift_jis euc_jp iso2022 coded coded_within single_encoder encode shift_jis_encoder euc_jp_encoder iso2022_encoder decoding decoded decode text
-row6a = refl
+lead_unit_held = refl
 
-row6b : (text rows Utf16Le Utf8 Html (0x3D ∷ 0xD8 ∷ 0x00 ∷ []) false).bytes ≡ []
+pair_cut_inside : (text rows Utf16Le Utf8 Html (0x3D ∷ 0xD8 ∷ 0x00 ∷ []) false).bytes ≡ []
 unfolding steps steps_within code pointer_where utf8 utf16 single shift_jis euc_jp iso2022 coded coded_within single_encoder encode shift_jis_encoder euc_jp_encoder iso2022_encoder decoding decoded decode text
-row6b = refl
+pair_cut_inside = refl
 
-row6c : (text rows Utf16Le Utf8 Html (0x3D ∷ 0xD8 ∷ 0x00 ∷ 0xDE ∷ []) true).bytes ≡ (0xF0 ∷ 0x9F ∷ 0x98 ∷ 0x80 ∷ [])
+pair_whole : (text rows Utf16Le Utf8 Html (0x3D ∷ 0xD8 ∷ 0x00 ∷ 0xDE ∷ []) true).bytes ≡ (0xF0 ∷ 0x9F ∷ 0x98 ∷ 0x80 ∷ [])
 unfolding steps steps_within code pointer_where utf8 utf16 single shift_jis euc_jp iso2022 coded coded_within single_encoder encode shift_jis_encoder euc_jp_encoder iso2022_encoder decoding decoded decode text
-row6c = refl
+pair_whole = refl
 
-row7 : (text rows Utf16Be Utf8 Html (0xD8 ∷ 0x00 ∷ 0x41 ∷ []) true).bytes ≡ (0xEF ∷ 0xBF ∷ 0xBD ∷ [])
+lead_unit_at_the_end : (text rows Utf16Be Utf8 Html (0xD8 ∷ 0x00 ∷ 0x41 ∷ []) true).bytes ≡ (0xEF ∷ 0xBF ∷ 0xBD ∷ [])
 unfolding steps steps_within code pointer_where utf8 utf16 single shift_jis euc_jp iso2022 coded coded_within single_encoder encode shift_jis_encoder euc_jp_encoder iso2022_encoder decoding decoded decode text
-row7 = refl
+lead_unit_at_the_end = refl
 
-row8 : (text rows Utf16Le Utf8 Html (0x3D ∷ 0xD8 ∷ 0x41 ∷ 0x00 ∷ []) true).bytes ≡ (0xEF ∷ 0xBF ∷ 0xBD ∷ 0x41 ∷ [])
+lead_unit_alone : (text rows Utf16Le Utf8 Html (0x3D ∷ 0xD8 ∷ 0x41 ∷ 0x00 ∷ []) true).bytes ≡ (0xEF ∷ 0xBF ∷ 0xBD ∷ 0x41 ∷ [])
 unfolding steps steps_within code pointer_where utf8 utf16 single shift_jis euc_jp iso2022 coded coded_within single_encoder encode shift_jis_encoder euc_jp_encoder iso2022_encoder decoding decoded decode text
-row8 = refl
+lead_unit_alone = refl
 
-row9a : (text rows ShiftJis Utf8 Html (0x82 ∷ []) false).bytes ≡ []
+shift_jis_lead_held : (text rows ShiftJis Utf8 Html (0x82 ∷ []) false).bytes ≡ []
 unfolding steps steps_within code pointer_where utf8 utf16 single shift_jis euc_jp iso2022 coded coded_within single_encoder encode shift_jis_encoder euc_jp_encoder iso2022_encoder decoding decoded decode text
-row9a = refl
+shift_jis_lead_held = refl
 
-row9b : (text rows ShiftJis Utf8 Html (0x82 ∷ 0xA0 ∷ []) false).bytes ≡ (0xE3 ∷ 0x81 ∷ 0x82 ∷ [])
+shift_jis_two_bytes : (text rows ShiftJis Utf8 Html (0x82 ∷ 0xA0 ∷ []) false).bytes ≡ (0xE3 ∷ 0x81 ∷ 0x82 ∷ [])
 unfolding steps steps_within code pointer_where utf8 utf16 single shift_jis euc_jp iso2022 coded coded_within single_encoder encode shift_jis_encoder euc_jp_encoder iso2022_encoder decoding decoded decode text
-row9b = refl
+shift_jis_two_bytes = refl
 
-row9c : (text rows ShiftJis Utf8 Html (0x82 ∷ 0xA0 ∷ 0x82 ∷ 0x20 ∷ []) true).bytes ≡ (0xE3 ∷ 0x81 ∷ 0x82 ∷ 0xEF ∷ 0xBF ∷ 0xBD ∷ 0x20 ∷ [])
+ascii_behind_a_bad_lead : (text rows ShiftJis Utf8 Html (0x82 ∷ 0xA0 ∷ 0x82 ∷ 0x20 ∷ []) true).bytes ≡ (0xE3 ∷ 0x81 ∷ 0x82 ∷ 0xEF ∷ 0xBF ∷ 0xBD ∷ 0x20 ∷ [])
 unfolding steps steps_within code pointer_where utf8 utf16 single shift_jis euc_jp iso2022 coded coded_within single_encoder encode shift_jis_encoder euc_jp_encoder iso2022_encoder decoding decoded decode text
-row9c = refl
+ascii_behind_a_bad_lead = refl
 
-row10 : (text rows ShiftJis Utf8 Html (0xF0 ∷ 0x40 ∷ []) true).bytes ≡ (0xEE ∷ 0x80 ∷ 0x80 ∷ [])
+user_defined : (text rows ShiftJis Utf8 Html (0xF0 ∷ 0x40 ∷ []) true).bytes ≡ (0xEE ∷ 0x80 ∷ 0x80 ∷ [])
 unfolding steps steps_within code pointer_where utf8 utf16 single shift_jis euc_jp iso2022 coded coded_within single_encoder encode shift_jis_encoder euc_jp_encoder iso2022_encoder decoding decoded decode text
-row10 = refl
+user_defined = refl
 
-row11a : (text rows EucJp Utf8 Html (0x8F ∷ 0xB0 ∷ []) false).bytes ≡ []
+euc_jp_three_begun : (text rows EucJp Utf8 Html (0x8F ∷ 0xB0 ∷ []) false).bytes ≡ []
 unfolding steps steps_within code pointer_where utf8 utf16 single shift_jis euc_jp iso2022 coded coded_within single_encoder encode shift_jis_encoder euc_jp_encoder iso2022_encoder decoding decoded decode text
-row11a = refl
+euc_jp_three_begun = refl
 
-row11b : (text rows EucJp Utf8 Html (0x8F ∷ 0xB0 ∷ 0xA1 ∷ []) true).bytes ≡ (0xE4 ∷ 0xB8 ∷ 0x82 ∷ [])
+euc_jp_three_bytes : (text rows EucJp Utf8 Html (0x8F ∷ 0xB0 ∷ 0xA1 ∷ []) true).bytes ≡ (0xE4 ∷ 0xB8 ∷ 0x82 ∷ [])
 unfolding steps steps_within code pointer_where utf8 utf16 single shift_jis euc_jp iso2022 coded coded_within single_encoder encode shift_jis_encoder euc_jp_encoder iso2022_encoder decoding decoded decode text
-row11b = refl
+euc_jp_three_bytes = refl
 
-row11c : (text rows EucJp Utf8 Html (0xB0 ∷ 0xA1 ∷ []) true).bytes ≡ (0xE4 ∷ 0xBA ∷ 0x9C ∷ [])
+euc_jp_two_bytes : (text rows EucJp Utf8 Html (0xB0 ∷ 0xA1 ∷ []) true).bytes ≡ (0xE4 ∷ 0xBA ∷ 0x9C ∷ [])
 unfolding steps steps_within code pointer_where utf8 utf16 single shift_jis euc_jp iso2022 coded coded_within single_encoder encode shift_jis_encoder euc_jp_encoder iso2022_encoder decoding decoded decode text
-row11c = refl
+euc_jp_two_bytes = refl
 
-row11d : (text rows EucJp Utf8 Html (0x8E ∷ 0xB1 ∷ []) true).bytes ≡ (0xEF ∷ 0xBD ∷ 0xB1 ∷ [])
+euc_jp_half_width : (text rows EucJp Utf8 Html (0x8E ∷ 0xB1 ∷ []) true).bytes ≡ (0xEF ∷ 0xBD ∷ 0xB1 ∷ [])
 unfolding steps steps_within code pointer_where utf8 utf16 single shift_jis euc_jp iso2022 coded coded_within single_encoder encode shift_jis_encoder euc_jp_encoder iso2022_encoder decoding decoded decode text
-row11d = refl
+euc_jp_half_width = refl
 
-row12a : (text rows Iso2022Jp Utf8 Html (0x1B ∷ 0x24 ∷ []) false).bytes ≡ []
+escape_cut : (text rows Iso2022Jp Utf8 Html (0x1B ∷ 0x24 ∷ []) false).bytes ≡ []
 unfolding steps steps_within code pointer_where utf8 utf16 single shift_jis euc_jp iso2022 coded coded_within single_encoder encode shift_jis_encoder euc_jp_encoder iso2022_encoder decoding decoded decode text
-row12a = refl
+escape_cut = refl
 
-row12b : (text rows Iso2022Jp Utf8 Html (0x1B ∷ 0x24 ∷ 0x42 ∷ 0x24 ∷ 0x22 ∷ []) false).bytes ≡ (0xE3 ∷ 0x81 ∷ 0x82 ∷ [])
+escape_to_jis : (text rows Iso2022Jp Utf8 Html (0x1B ∷ 0x24 ∷ 0x42 ∷ 0x24 ∷ 0x22 ∷ []) false).bytes ≡ (0xE3 ∷ 0x81 ∷ 0x82 ∷ [])
 unfolding steps steps_within code pointer_where utf8 utf16 single shift_jis euc_jp iso2022 coded coded_within single_encoder encode shift_jis_encoder euc_jp_encoder iso2022_encoder decoding decoded decode text
-row12b = refl
+escape_to_jis = refl
 
-row12c : (text rows Iso2022Jp Utf8 Html (0x1B ∷ 0x24 ∷ 0x42 ∷ 0x24 ∷ 0x22 ∷ 0x1B ∷ 0x28 ∷ 0x42 ∷ 0x1B ∷ 0x28 ∷ 0x42 ∷ 0x41 ∷ []) true).bytes ≡ (0xE3 ∷ 0x81 ∷ 0x82 ∷ 0xEF ∷ 0xBF ∷ 0xBD ∷ 0x41 ∷ [])
+two_escapes_in_a_row : (text rows Iso2022Jp Utf8 Html (0x1B ∷ 0x24 ∷ 0x42 ∷ 0x24 ∷ 0x22 ∷ 0x1B ∷ 0x28 ∷ 0x42 ∷ 0x1B ∷ 0x28 ∷ 0x42 ∷ 0x41 ∷ []) true).bytes ≡ (0xE3 ∷ 0x81 ∷ 0x82 ∷ 0xEF ∷ 0xBF ∷ 0xBD ∷ 0x41 ∷ [])
 unfolding steps steps_within code pointer_where utf8 utf16 single shift_jis euc_jp iso2022 coded coded_within single_encoder encode shift_jis_encoder euc_jp_encoder iso2022_encoder decoding decoded decode text
-row12c = refl
+two_escapes_in_a_row = refl
 
-row13 : (text rows Iso2022Jp Utf8 Html (0x1B ∷ 0x24 ∷ []) true).bytes ≡ (0xEF ∷ 0xBF ∷ 0xBD ∷ 0x24 ∷ [])
+escape_cut_off : (text rows Iso2022Jp Utf8 Html (0x1B ∷ 0x24 ∷ []) true).bytes ≡ (0xEF ∷ 0xBF ∷ 0xBD ∷ 0x24 ∷ [])
 unfolding steps steps_within code pointer_where utf8 utf16 single shift_jis euc_jp iso2022 coded coded_within single_encoder encode shift_jis_encoder euc_jp_encoder iso2022_encoder decoding decoded decode text
-row13 = refl
+escape_cut_off = refl
 
-row14a : (text rows Utf8 Iso2022Jp Html (0xE3 ∷ 0x81 ∷ 0x82 ∷ []) false).bytes ≡ (0x1B ∷ 0x24 ∷ 0x42 ∷ 0x24 ∷ 0x22 ∷ [])
+to_jis_unclosed : (text rows Utf8 Iso2022Jp Html (0xE3 ∷ 0x81 ∷ 0x82 ∷ []) false).bytes ≡ (0x1B ∷ 0x24 ∷ 0x42 ∷ 0x24 ∷ 0x22 ∷ [])
 unfolding steps steps_within code pointer_where utf8 utf16 single shift_jis euc_jp iso2022 coded coded_within single_encoder encode shift_jis_encoder euc_jp_encoder iso2022_encoder decoding decoded decode text
-row14a = refl
+to_jis_unclosed = refl
 
-row14b : (text rows Utf8 Iso2022Jp Html (0xE3 ∷ 0x81 ∷ 0x82 ∷ 0xF0 ∷ 0x9F ∷ 0x98 ∷ 0x80 ∷ []) true).bytes ≡ (0x1B ∷ 0x24 ∷ 0x42 ∷ 0x24 ∷ 0x22 ∷ 0x1B ∷ 0x28 ∷ 0x42 ∷ 0x26 ∷ 0x23 ∷ 0x31 ∷ 0x32 ∷ 0x38 ∷ 0x35 ∷ 0x31 ∷ 0x32 ∷ 0x3B ∷ [])
+to_jis_with_a_reference : (text rows Utf8 Iso2022Jp Html (0xE3 ∷ 0x81 ∷ 0x82 ∷ 0xF0 ∷ 0x9F ∷ 0x98 ∷ 0x80 ∷ []) true).bytes ≡ (0x1B ∷ 0x24 ∷ 0x42 ∷ 0x24 ∷ 0x22 ∷ 0x1B ∷ 0x28 ∷ 0x42 ∷ 0x26 ∷ 0x23 ∷ 0x31 ∷ 0x32 ∷ 0x38 ∷ 0x35 ∷ 0x31 ∷ 0x32 ∷ 0x3B ∷ [])
 unfolding steps steps_within code pointer_where utf8 utf16 single shift_jis euc_jp iso2022 coded coded_within single_encoder encode shift_jis_encoder euc_jp_encoder iso2022_encoder decoding decoded decode text digits
-row14b = refl
+to_jis_with_a_reference = refl
 
-row14c : (text rows Utf8 Iso2022Jp Html (0xE3 ∷ 0x81 ∷ 0x82 ∷ []) true).bytes ≡ (0x1B ∷ 0x24 ∷ 0x42 ∷ 0x24 ∷ 0x22 ∷ 0x1B ∷ 0x28 ∷ 0x42 ∷ [])
+to_jis_closed : (text rows Utf8 Iso2022Jp Html (0xE3 ∷ 0x81 ∷ 0x82 ∷ []) true).bytes ≡ (0x1B ∷ 0x24 ∷ 0x42 ∷ 0x24 ∷ 0x22 ∷ 0x1B ∷ 0x28 ∷ 0x42 ∷ [])
 unfolding steps steps_within code pointer_where utf8 utf16 single shift_jis euc_jp iso2022 coded coded_within single_encoder encode shift_jis_encoder euc_jp_encoder iso2022_encoder decoding decoded decode text
-row14c = refl
+to_jis_closed = refl
 
-row27a : (text rows Utf8 ShiftJis Html (0xE2 ∷ 0x88 ∷ 0x92 ∷ []) true).bytes ≡ (0x81 ∷ 0x7C ∷ [])
+minus_to_shift_jis : (text rows Utf8 ShiftJis Html (0xE2 ∷ 0x88 ∷ 0x92 ∷ []) true).bytes ≡ (0x81 ∷ 0x7C ∷ [])
 unfolding steps steps_within code pointer_where utf8 utf16 single shift_jis euc_jp iso2022 coded coded_within single_encoder encode shift_jis_encoder euc_jp_encoder iso2022_encoder decoding decoded decode text
-row27a = refl
+minus_to_shift_jis = refl
 
-row27b : (text rows Utf8 EucJp Html (0xE2 ∷ 0x88 ∷ 0x92 ∷ []) true).bytes ≡ (0xA1 ∷ 0xDD ∷ [])
+minus_to_euc_jp : (text rows Utf8 EucJp Html (0xE2 ∷ 0x88 ∷ 0x92 ∷ []) true).bytes ≡ (0xA1 ∷ 0xDD ∷ [])
 unfolding steps steps_within code pointer_where utf8 utf16 single shift_jis euc_jp iso2022 coded coded_within single_encoder encode shift_jis_encoder euc_jp_encoder iso2022_encoder decoding decoded decode text
-row27b = refl
+minus_to_euc_jp = refl
 
-row27c : (text rows Utf8 Iso2022Jp Html (0xE2 ∷ 0x88 ∷ 0x92 ∷ []) true).bytes ≡ (0x1B ∷ 0x24 ∷ 0x42 ∷ 0x21 ∷ 0x5D ∷ 0x1B ∷ 0x28 ∷ 0x42 ∷ [])
+minus_to_iso2022 : (text rows Utf8 Iso2022Jp Html (0xE2 ∷ 0x88 ∷ 0x92 ∷ []) true).bytes ≡ (0x1B ∷ 0x24 ∷ 0x42 ∷ 0x21 ∷ 0x5D ∷ 0x1B ∷ 0x28 ∷ 0x42 ∷ [])
 unfolding steps steps_within code pointer_where utf8 utf16 single shift_jis euc_jp iso2022 coded coded_within single_encoder encode shift_jis_encoder euc_jp_encoder iso2022_encoder decoding decoded decode text
-row27c = refl
+minus_to_iso2022 = refl
 
-row28a : (text rows Utf8 ShiftJis Html (0xE7 ∷ 0xBA ∷ 0x8A ∷ []) true).bytes ≡ (0xFA ∷ 0x5C ∷ [])
+excluded_range_to_shift_jis : (text rows Utf8 ShiftJis Html (0xE7 ∷ 0xBA ∷ 0x8A ∷ []) true).bytes ≡ (0xFA ∷ 0x5C ∷ [])
 unfolding steps steps_within code pointer_where utf8 utf16 single shift_jis euc_jp iso2022 coded coded_within single_encoder encode shift_jis_encoder euc_jp_encoder iso2022_encoder decoding decoded decode text
-row28a = refl
+excluded_range_to_shift_jis = refl
 
-row28b : (text rows Utf8 EucJp Html (0xE7 ∷ 0xBA ∷ 0x8A ∷ []) true).bytes ≡ (0xF9 ∷ 0xA1 ∷ [])
+excluded_range_to_euc_jp : (text rows Utf8 EucJp Html (0xE7 ∷ 0xBA ∷ 0x8A ∷ []) true).bytes ≡ (0xF9 ∷ 0xA1 ∷ [])
 unfolding steps steps_within code pointer_where utf8 utf16 single shift_jis euc_jp iso2022 coded coded_within single_encoder encode shift_jis_encoder euc_jp_encoder iso2022_encoder decoding decoded decode text
-row28b = refl
+excluded_range_to_euc_jp = refl
 
-row28c : (text rows Utf8 Iso2022Jp Html (0xE7 ∷ 0xBA ∷ 0x8A ∷ []) true).bytes ≡ (0x1B ∷ 0x24 ∷ 0x42 ∷ 0x79 ∷ 0x21 ∷ 0x1B ∷ 0x28 ∷ 0x42 ∷ [])
+excluded_range_to_iso2022 : (text rows Utf8 Iso2022Jp Html (0xE7 ∷ 0xBA ∷ 0x8A ∷ []) true).bytes ≡ (0x1B ∷ 0x24 ∷ 0x42 ∷ 0x79 ∷ 0x21 ∷ 0x1B ∷ 0x28 ∷ 0x42 ∷ [])
 unfolding steps steps_within code pointer_where utf8 utf16 single shift_jis euc_jp iso2022 coded coded_within single_encoder encode shift_jis_encoder euc_jp_encoder iso2022_encoder decoding decoded decode text
-row28c = refl
+excluded_range_to_iso2022 = refl
 
-row28d : (text rows Utf8 ShiftJis Html (0xEF ∷ 0xBD ∷ 0xA1 ∷ []) true).bytes ≡ (0xA1 ∷ [])
+katakana_to_shift_jis : (text rows Utf8 ShiftJis Html (0xEF ∷ 0xBD ∷ 0xA1 ∷ []) true).bytes ≡ (0xA1 ∷ [])
 unfolding steps steps_within code pointer_where utf8 utf16 single shift_jis euc_jp iso2022 coded coded_within single_encoder encode shift_jis_encoder euc_jp_encoder iso2022_encoder decoding decoded decode text
-row28d = refl
+katakana_to_shift_jis = refl
 
-row28e : (text rows Utf8 EucJp Html (0xEF ∷ 0xBD ∷ 0xA1 ∷ []) true).bytes ≡ (0x8E ∷ 0xA1 ∷ [])
+katakana_to_euc_jp : (text rows Utf8 EucJp Html (0xEF ∷ 0xBD ∷ 0xA1 ∷ []) true).bytes ≡ (0x8E ∷ 0xA1 ∷ [])
 unfolding steps steps_within code pointer_where utf8 utf16 single shift_jis euc_jp iso2022 coded coded_within single_encoder encode shift_jis_encoder euc_jp_encoder iso2022_encoder decoding decoded decode text
-row28e = refl
+katakana_to_euc_jp = refl
 
-row28f : (text rows Utf8 Iso2022Jp Html (0xEF ∷ 0xBD ∷ 0xA1 ∷ []) true).bytes ≡ (0x1B ∷ 0x24 ∷ 0x42 ∷ 0x21 ∷ 0x23 ∷ 0x1B ∷ 0x28 ∷ 0x42 ∷ [])
+katakana_to_iso2022 : (text rows Utf8 Iso2022Jp Html (0xEF ∷ 0xBD ∷ 0xA1 ∷ []) true).bytes ≡ (0x1B ∷ 0x24 ∷ 0x42 ∷ 0x21 ∷ 0x23 ∷ 0x1B ∷ 0x28 ∷ 0x42 ∷ [])
 unfolding steps steps_within code pointer_where utf8 utf16 single shift_jis euc_jp iso2022 coded coded_within single_encoder encode shift_jis_encoder euc_jp_encoder iso2022_encoder decoding decoded decode text
-row28f = refl
+katakana_to_iso2022 = refl
 
-row29 : (text rows ShiftJis Utf8 Html (0xFE ∷ 0xFF ∷ 0x00 ∷ 0x41 ∷ []) true).bytes ≡ (0x41 ∷ [])
+bom_overrides_the_label : (text rows ShiftJis Utf8 Html (0xFE ∷ 0xFF ∷ 0x00 ∷ 0x41 ∷ []) true).bytes ≡ (0x41 ∷ [])
 unfolding steps steps_within code pointer_where utf8 utf16 single shift_jis euc_jp iso2022 coded coded_within single_encoder encode shift_jis_encoder euc_jp_encoder iso2022_encoder decoding decoded decode text
-row29 = refl
+bom_overrides_the_label = refl
 
-row15 : (text rows Utf8 Windows1252 Fatal (0xE3 ∷ 0x81 ∷ 0x82 ∷ []) false).fault ≡ Some 0x3042
+fatal_refusal : (text rows Utf8 Windows1252 Fatal (0xE3 ∷ 0x81 ∷ 0x82 ∷ []) false).fault ≡ Some 0x3042
 unfolding steps steps_within code pointer_where utf8 utf16 single shift_jis euc_jp iso2022 coded coded_within single_encoder encode shift_jis_encoder euc_jp_encoder iso2022_encoder decoding decoded decode text
-row15 = refl
+fatal_refusal = refl

@@ -1,20 +1,47 @@
 -- The index set: the index files that the operator gave, and which encodings they make usable.
-use Rattle.std.specs.Prelude.{ℕ, Bool, true, false, ◌&&◌, [], Option, Some, None}
+use Rattle.std.specs.Prelude.{ℕ, Bool, true, false, ◌&&◌, List, [], Option, Some, None, replicate, slice_index_or}
 use Rattle.enc_model.specs.declared.Encoding.{Encoding}
 use Rattle.enc_model.specs.declared.Encoding.TheVariants as encodings
 use Rattle.enc_model.specs.Index.{Index}
 use Rattle.enc_model.specs.Encode.{Tables}
 
--- an index for each file that was set; `single` is asked for the single-byte encodings alone
+-- an index for each file that was set; `single` has a place for each of the fifteen single-byte encodings, in their order
 pub record IndexSet : Type 0 where
   pub jis0208 : Option Index
   pub jis0212 : Option Index
   pub katakana : Option Index
-  pub single : Encoding → Option Index
+  pub single : List (Option Index)
 
 -- no file was set
 abbrev pub no_indexes : IndexSet
-no_indexes = record { jis0208 = None; jis0212 = None; katakana = None; single = λ e. None }
+no_indexes = record { jis0208 = None; jis0212 = None; katakana = None; single = replicate 15 None }
+
+-- the place of a single-byte encoding among the fifteen
+abbrev pub place_of : Encoding → Option ℕ
+place_of encodings.Ibm866 = Some 0
+place_of encodings.Iso8859X2 = Some 1
+place_of encodings.Iso8859X5 = Some 2
+place_of encodings.Iso8859X15 = Some 3
+place_of encodings.Koi8R = Some 4
+place_of encodings.Macintosh = Some 5
+place_of encodings.Windows1250 = Some 6
+place_of encodings.Windows1251 = Some 7
+place_of encodings.Windows1252 = Some 8
+place_of encodings.Windows1253 = Some 9
+place_of encodings.Windows1254 = Some 10
+place_of encodings.Windows1255 = Some 11
+place_of encodings.Windows1256 = Some 12
+place_of encodings.Windows1257 = Some 13
+place_of encodings.Windows1258 = Some 14
+place_of e = None
+
+abbrev pub at_place : List (Option Index) → Option ℕ → Option Index
+at_place single None = None
+at_place single (Some p) = slice_index_or single p None
+
+-- the index of a single-byte encoding, where its file was set
+abbrev pub single_of : IndexSet → Encoding → Option Index
+single_of x e = at_place x.single (place_of e)
 
 abbrev pub is_set : Option Index → Bool
 is_set None = false
@@ -30,7 +57,7 @@ tables x = record {
   jis0208 = pairs_of x.jis0208;
   jis0212 = pairs_of x.jis0212;
   katakana = pairs_of x.katakana;
-  single = λ e. pairs_of (x.single e);
+  single = λ e. pairs_of (single_of x e);
 }
 
 -- UTF-8 and UTF-16 always; a single-byte encoding where its file was set; Shift_JIS needs jis0208, EUC-JP jis0208 and jis0212,
@@ -42,4 +69,4 @@ offers x encodings.Utf16Le = true
 offers x encodings.ShiftJis = is_set x.jis0208
 offers x encodings.EucJp = is_set x.jis0208 && is_set x.jis0212
 offers x encodings.Iso2022Jp = is_set x.jis0208 && is_set x.katakana
-offers x e = is_set (x.single e)
+offers x e = is_set (single_of x e)

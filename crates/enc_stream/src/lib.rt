@@ -1,2 +1,15 @@
 //! A decoder and an encoder as one value.
 #![tactic(auto)]
+
+mod decoder;
+mod error;
+mod sniff;
+mod stage;
+mod transcoder;
+mod written;
+
+pub use error::TranscodeError;
+pub use transcoder::Transcoder;
+
+#[cfg(test)]
+mod tests;

@@ -1,5 +1,5 @@
 -- What stays known over the calls of a disk.
-use Rattle.std.proofs.Common.{◌≡◌, ℕ, List, length, inl, inr, refl, ◌∙◌, arith, ⊎_elim, Result, Ok, Err, IsOk, IsErr, OnOk, subst}
+use Rattle.std.proofs.Common.{◌≡◌, ℕ, List, length, inl, inr, refl, ◌∙◌, arith, ⊎_elim, Result, Ok, Err, IsOk, IsErr, OnOk, subst, sym}
 use Rattle.std.proofs.lemmas.Bool.{cases_lt}
 use Rattle.spool_disk.specs.Disk.{span, In, IsImage, Elapses, Writes, Syncs, Keeps, Firm, Apart, Reads, Counts}
 use Rattle.spool_disk.specs.Views.{Lasts}
@@ -93,3 +93,12 @@ reads_firm {seen = seen} {seen' = seen'} {at = at} {xs = xs} gives syncs done = 
   reads = span_same seen' seen at (length xs) (λ p here. syncs.same done p) ∙ gives.reads;
   firm = λ p here. syncs.firm done p;
 }
+
+pub reads_keeps : {seen seen' : ℕ → ℕ} {loose loose' : ℕ → Type 0} {at : ℕ} {xs : List ℕ} → Reads seen at xs → Keeps seen seen' loose loose' → Reads seen' at xs
+reads_keeps {seen = seen} {seen' = seen'} {at = at} {xs = xs} gives keeps = record {
+  reads = span_same seen' seen at (length xs) (λ p here. keeps.same p) ∙ gives.reads;
+}
+
+-- a read of as many bytes gives them
+pub read_is : {seen : ℕ → ℕ} {at n : ℕ} {xs buf : List ℕ} → Reads seen at xs → buf ≡ span seen at n → length xs ≡ n → buf ≡ xs
+read_is {seen = seen} {at = at} {xs = xs} {buf = buf} gives is size = subst (λ (k : ℕ). buf ≡ span seen at k) (sym size) is ∙ gives.reads

@@ -1,76 +1,75 @@
 // A disk in memory.
-ghost use Rattle.std.specs.Prelude.{◌≡◌, ◌≤◌, ◌<◌, ◌+◌, ℕ, length, get_or, IfOk};
+ghost use Rattle.std.specs.Prelude.{◌≡◌, ◌≤◌, ◌<◌, ◌+◌, ℕ, length, get_or, true, false, IfOk};
+ghost use Rattle.spool_disk.specs.Crash.{left_by};
 ghost use Rattle.spool_disk.specs.Disk.{In, IsImage};
 
-use crate::{Disk, DiskFault};
+use crate::{Crash, Disk, DiskFault};
 use std::alloc::{AllocError, Global};
 
-/// What a crash makes of the bytes that were written since the last sync.
-#[derive(Clone, Copy, Debug)]
-pub enum Crash {
-    Old,
-    New,
-    Torn(u8),
-}
-
+/// A disk in memory, which never fails, and of which a crash is made by a call.
 #[derive(Drop)]
 pub struct MemoryDisk {
     synced: Vec<u8>,
     written: Vec<u8>,
-    // 1 where the byte was written since the last sync
-    marks: Vec<u8>,
+    // where a byte was written since the last sync
+    unsynced: Vec<bool>,
     ghost same: { length synced.items ≡ length written.items },
-    ghost marked: { length marks.items ≡ length written.items },
+    ghost marked: { length unsynced.items ≡ length written.items },
 }
 
 impl MemoryDisk {
-    ghost use Rattle.spool_disk.specs.Memory.{bytes_of, loose_of};
+    ghost use Rattle.spool_disk.specs.Memory.{size_of, bytes_of, synced_of, loose_of};
 
-    /// Zeros, all of them synced.
+    /// So many zeros, all of them synced. Its calls take no memory later.
     pub fn new(alloc: Global, len: usize) -> Result<Self, AllocError>
-        ensures size { IfOk result (λ disk. length disk.written.items ≡ len) }
+        ensures size { IfOk result (λ disk. size_of disk ≡ len) }
         ensures zeros { IfOk result (λ disk. (p : ℕ) → bytes_of disk p ≡ 0) }
+        ensures synced { IfOk result (λ disk. (p : ℕ) → synced_of disk p ≡ 0) }
         ensures firm { IfOk result (λ disk. (p : ℕ) → loose_of disk p → ⊥) }
     {
         let synced = vec![in alloc; 0; len]?;
         let written = vec![in alloc; 0; len]?;
-        let marks = vec![in alloc; 0; len]?;
+        let unsynced = vec![in alloc; false; len]?;
         Ok(MemoryDisk {
             synced,
             written,
-            marks,
+            unsynced,
         })
     }
 
-    /// What is there after a crash: one of the images, all of it synced.
+    /// What a crash of this kind leaves: one of the disk's images, with all of it synced.
     pub fn crash(self, kind: Crash) -> Self
+        ensures size { size_of result ≡ size_of self }
         ensures image { IsImage (bytes_of self) (loose_of self) (bytes_of result) }
+        ensures left { (p : ℕ) → loose_of self p → bytes_of result p ≡ left_by kind (synced_of self p) (bytes_of self p) }
+        ensures synced { (p : ℕ) → synced_of result p ≡ bytes_of result p }
         ensures firm { (p : ℕ) → loose_of result p → ⊥ }
     {
         let MemoryDisk {
             mut synced,
             mut written,
-            mut marks,
+            mut unsynced,
         } = self;
-        tear(&mut written, &synced, &marks, kind);
+        tear(&mut written, &synced, &unsynced, kind);
         synced.copy_from_slice(&written);
-        wipe(&mut marks);
+        wipe(&mut unsynced);
         MemoryDisk {
             synced,
             written,
-            marks,
+            unsynced,
         }
     }
 }
 
 // The marked bytes become what the crash makes of them.
-fn tear(written: &mut [u8], synced: &[u8], marks: &[u8], kind: Crash)
+fn tear(written: &mut [u8], synced: &[u8], unsynced: &[bool], kind: Crash)
     requires same { length synced.now ≡ length written.old }
-    requires marked { length marks.now ≡ length written.old }
-    ensures { (p : ℕ) → (get_or marks.now p 0 ≡ 1 → ⊥) → get_or written.new p 0 ≡ get_or written.old p 0 }
+    requires marked { length unsynced.now ≡ length written.old }
+    ensures kept { (p : ℕ) → (get_or unsynced.now p false ≡ true → ⊥) → get_or written.new p 0 ≡ get_or written.old p 0 }
+    ensures left { (p : ℕ) → get_or unsynced.now p false ≡ true → get_or written.new p 0 ≡ left_by kind (get_or synced.now p 0) (get_or written.old p 0) }
 {
     for i in 0..written.len() {
-        if marks[i] == 1 {
+        if unsynced[i] {
             match kind {
                 Crash::Old => written[i] = synced[i],
                 Crash::New => {}
@@ -80,12 +79,12 @@ fn tear(written: &mut [u8], synced: &[u8], marks: &[u8], kind: Crash)
     }
 }
 
-// Puts 0 everywhere.
-fn wipe(marks: &mut [u8])
-    ensures { (p : ℕ) → get_or marks.new p 0 ≡ 0 }
+// No place is marked any more.
+fn wipe(marks: &mut [bool])
+    ensures { (p : ℕ) → get_or marks.new p false ≡ false }
 {
     for mark in marks.iter_mut() {
-        *mark = 0;
+        *mark = false;
     }
 }
 
@@ -100,21 +99,21 @@ fn put(into: &mut [u8], at: usize, bytes: &[u8])
     }
 }
 
-// Marks n bytes from a place on.
-fn mark(marks: &mut [u8], at: usize, n: usize)
+// Marks n places from one on.
+fn mark(marks: &mut [bool], at: usize, n: usize)
     requires { at + n ≤ length marks.old }
-    ensures outside { (p : ℕ) → (In at n p → ⊥) → get_or marks.new p 0 ≡ get_or marks.old p 0 }
-    ensures all { (k : ℕ) → k < n → get_or marks.new (at + k) 0 ≡ 1 }
+    ensures outside { (p : ℕ) → (In at n p → ⊥) → get_or marks.new p false ≡ get_or marks.old p false }
+    ensures all { (k : ℕ) → k < n → get_or marks.new (at + k) false ≡ true }
 {
     for i in 0..n {
-        marks[at + i] = 1;
+        marks[at + i] = true;
     }
 }
 
 impl Disk for MemoryDisk {
-    ghost use Rattle.spool_disk.specs.Memory.{bytes_of, loose_of};
+    ghost use Rattle.spool_disk.specs.Memory.{size_of, bytes_of, loose_of};
 
-    ghost size = { λ d. length d.written.items };
+    ghost size = { size_of };
 
     ghost honest = { λ d. Unit {0} };
 
@@ -146,13 +145,13 @@ impl Disk for MemoryDisk {
     fn write_at(&mut self, at: u64, bytes: &[u8]) -> Result<(), DiskFault> {
         let at = at as usize;
         put(&mut self.written, at, bytes);
-        mark(&mut self.marks, at, bytes.len());
+        mark(&mut self.unsynced, at, bytes.len());
         Ok(())
     }
 
     fn sync(&mut self) -> Result<(), DiskFault> {
         self.synced.copy_from_slice(&self.written);
-        wipe(&mut self.marks);
+        wipe(&mut self.unsynced);
         Ok(())
     }
 }

@@ -3,7 +3,7 @@ use Rattle.std.proofs.Common.{◌≡◌, ◌⊎◌, inl, inr, ℕ, suc, ◌+◌,
 use Rattle.std.proofs.lemmas.Bool.{cases_eq}
 use Rattle.spool_disk.specs.Disk.{span, In, IsImage, Writes, Syncs}
 use Rattle.spool_journal.specs.Image.{byte_of, count, number, content, over, replayed, overlaid, laid, InJournal, Outside, InForm, page_number, page_byte}
-use Rattle.spool_journal.specs.Phases.{ReadsAs, IsBefore, Ready, Opened, Hit, Placing, Upto, Placed, Settled}
+use Rattle.spool_journal.specs.Phases.{Idle, ReadsAs, IsBefore, Ready, Opened, Hit, Placing, Upto, Placed, Settled}
 use Rattle.spool_journal.proofs.Over.{over_hit, over_pass, over_none, over_same, yes, no}
 use Rattle.spool_journal.proofs.Steps.{span_at, word_same, form_same}
 
@@ -229,3 +229,7 @@ settled_more same s = record { firm = s.firm; closed = s.closed; same = λ p out
 -- where nothing was loose before the gate opened, the images before it are older images too
 pub ready_before : {j : ℕ} {was image : ℕ → ℕ} {risk free : ℕ → Type 0} → ((p : ℕ) → free p → ⊥) → IsBefore j was free image → IsBefore j was risk image
 ready_before none before = record { closed = before.closed; same = λ p outside _. before.same p outside (none p) }
+
+-- where all is settled, the gate is closed and the metadata is what a read gives
+pub settled_idle : {j : ℕ} {bytes seen : ℕ → ℕ} {loose : ℕ → Type 0} → Settled j bytes seen loose → Idle j seen loose
+settled_idle settled = record { gate = settled.firm 4096; closed = settled.closed; area = λ p inside. settled.firm p }

@@ -48,7 +48,8 @@ fn commit_items<D: Disk>(
     finish(disk, items)
 }
 
-/// Changes the given pages, all or none. Of no pages it calls no disk.
+/// Changes the given pages, all or none, and syncs what was written before. The gate is closed, and the metadata is synced, as Ok of
+/// `recover` and of `commit` leave it. Of no pages it makes no call of the disk, and so makes nothing durable. It takes no memory.
 pub fn commit<D: Disk>(disk: &mut D, layout: &Layout, pages: &Pages) -> Result<(), DiskFault>
     requires room { 4096 * all_pages layout.now ≤ D.size disk.old }
     requires area { InArea (journal_pages layout.now) pages.now }
@@ -59,6 +60,9 @@ pub fn commit<D: Disk>(disk: &mut D, layout: &Layout, pages: &Pages) -> Result<(
 
     // Outside gate and journal every image then has exactly these pages changed, and all that a read gave.
     ensures done { D.honest disk.old → Idle (journal_pages layout.now) (D.seen disk.old) (D.loose disk.old) → 1 ≤ length pages.now → OnOk result (Settled (journal_pages layout.now) (laid pages.now (D.seen disk.old)) (D.seen disk.new) (D.loose disk.new)) }
+
+    // And so it may be called again.
+    ensures idle { D.honest disk.old → Idle (journal_pages layout.now) (D.seen disk.old) (D.loose disk.old) → OnOk result (Idle (journal_pages layout.now) (D.seen disk.new) (D.loose disk.new)) }
 
     // A crash during it leaves all old pages, or all new ones with all that a read gave.
     ensures lasts { D.honest disk.old → Idle (journal_pages layout.now) (D.seen disk.old) (D.loose disk.old)

@@ -3,19 +3,12 @@ ghost use Rattle.std.specs.Prelude.{◌≡◌, ◌⊎◌, ◌≤◌, ◌<◌, �
 ghost use Rattle.spool_disk.specs.Disk.{IsImage, Counts};
 ghost use Rattle.spool_disk.specs.Views.{Lasts};
 ghost use Rattle.spool_journal.specs.Image.{journal_pages, all_pages, replayed, overlaid, word, byte_of, content, count, number, InForm};
-ghost use Rattle.spool_journal.specs.Phases.{ReadsAs, Still, Placing, Upto, Settled, HeadOf};
+ghost use Rattle.spool_journal.specs.Phases.{Idle, ReadsAs, Still, Placing, Upto, Settled, HeadOf};
 
 use crate::places::{close_gate, place};
 use crate::syncs::sync_places;
-use crate::{Layout, PAGE};
+use crate::{Layout, PAGE, RecoverError};
 use spool_disk::{Disk, DiskFault};
-
-/// Why a disk was not made whole.
-#[derive(Clone, Copy, Debug, PartialEq, Eq)]
-pub enum RecoverError {
-    Fault,
-    Damaged,
-}
 
 // What a read gives stands firm after it.
 fn settle<D: Disk>(disk: &mut D) -> Result<(), DiskFault>
@@ -148,35 +141,35 @@ fn mend<D: Disk>(disk: &mut D, journal: u32) -> Result<(), RecoverError>
     requires page { 12288 ≤ D.size disk.old }
     ensures size { D.size disk.new ≡ D.size disk.old }
     ensures honest { D.honest disk.old ↔ D.honest disk.new }
-    ensures counts { Counts (result ≡ Err RecoverError.Fault) (D.failures disk.old) (D.failures disk.new) }
+    ensures counts { Counts (result ≡ Err RecoverError.DiskFault) (D.failures disk.old) (D.failures disk.new) }
     ensures settled { D.honest disk.old → (bytes : ℕ → ℕ) → Still bytes (D.seen disk.old) (D.loose disk.old) → bytes 4096 ≡ 165 → OnOk result (Settled journal (replayed bytes) (D.seen disk.new) (D.loose disk.new)) }
     ensures form { D.honest disk.old → (bytes : ℕ → ℕ) → Still bytes (D.seen disk.old) (D.loose disk.old) → OnOk result (InForm journal (count bytes) (number bytes)) }
     ensures damaged { D.honest disk.old → (bytes : ℕ → ℕ) → Still bytes (D.seen disk.old) (D.loose disk.old) → result ≡ Err RecoverError.Damaged → InForm journal (count bytes) (number bytes) → ⊥ }
     ensures lasts { D.honest disk.old → (bytes : ℕ → ℕ) → Still bytes (D.seen disk.old) (D.loose disk.old) → bytes 4096 ≡ 165 → Lasts D.Disk disk.old disk.new (λ image. ((p : ℕ) → image p ≡ bytes p) ⊎ ReadsAs journal image (replayed bytes)) }
 {
     let mut head = [0; PAGE];
-    match read_head(disk, &mut head) {
-        Err(DiskFault) => return Err(RecoverError::Fault),
-        Ok(()) => {}
-    }
+    read_head(disk, &mut head)?;
     if !is_in_form(&head, journal) {
         return Err(RecoverError::Damaged);
     }
-    match replay_all(disk, &head, journal) {
-        Err(DiskFault) => Err(RecoverError::Fault),
-        Ok(()) => Ok(()),
-    }
+    replay_all(disk, &head, journal)?;
+    Ok(())
 }
 
-/// Closes the gate over the metadata that a plain reading gives.
+/// Makes whole what a crash left: where the gate is open, it puts the journal's pages into their places, syncs, and closes
+/// the gate. `Damaged` where the gate is open and the journal head has a count that is not 1 to J, or page numbers that do not
+/// ascend or lie outside the metadata; then no byte was written. It takes no memory, and may be tried again after a fault.
 pub fn recover<D: Disk>(disk: &mut D, layout: &Layout) -> Result<(), RecoverError>
     requires { 4096 * all_pages layout.now ≤ D.size disk.old }
     ensures size { D.size disk.new ≡ D.size disk.old }
     ensures honest { D.honest disk.old ↔ D.honest disk.new }
-    ensures counts { Counts (result ≡ Err RecoverError.Fault) (D.failures disk.old) (D.failures disk.new) }
+    ensures counts { Counts (result ≡ Err RecoverError.DiskFault) (D.failures disk.old) (D.failures disk.new) }
 
     // Every image then is, outside gate and journal, what a plain reading gave.
     ensures settled { D.honest disk.old → OnOk result (Settled (journal_pages layout.now) (overlaid (D.seen disk.old)) (D.seen disk.new) (D.loose disk.new)) }
+
+    // And so a commit may be made.
+    ensures idle { D.honest disk.old → OnOk result (Idle (journal_pages layout.now) (D.seen disk.new) (D.loose disk.new)) }
 
     // It refuses exactly a journal head behind an open gate that is out of form.
     ensures form { D.honest disk.old → OnOk result (D.seen disk.old 4096 ≡ 165 → InForm (journal_pages layout.now) (count (D.seen disk.old)) (number (D.seen disk.old))) }
@@ -185,13 +178,10 @@ pub fn recover<D: Disk>(disk: &mut D, layout: &Layout) -> Result<(), RecoverErro
     // A crash during it leaves what it might have left before, or what reads the same.
     ensures lasts { D.honest disk.old → Lasts D.Disk disk.old disk.new (λ image. IsImage (D.seen disk.old) (D.loose disk.old) image ⊎ ReadsAs (journal_pages layout.now) image (overlaid (D.seen disk.old))) }
 {
-    match settle(disk) {
-        Err(DiskFault) => return Err(RecoverError::Fault),
-        Ok(()) => {}
-    }
-    match is_open(disk) {
-        Err(DiskFault) => Err(RecoverError::Fault),
-        Ok(false) => Ok(()),
-        Ok(true) => mend(disk, layout.journal()),
+    settle(disk)?;
+    if is_open(disk)? {
+        mend(disk, layout.journal())
+    } else {
+        Ok(())
     }
 }

@@ -1,6 +1,6 @@
 // A block's bytes are written.
-ghost use Rattle.std.specs.Prelude.{◌≡◌, ◌≤◌, ◌*◌, ◌+◌, ◌↔◌, ℕ, length, IsErr};
-ghost use Rattle.spool_disk.specs.Disk.{Counts, IsImage};
+ghost use Rattle.std.specs.Prelude.{◌≡◌, ◌≤◌, ◌*◌, ◌+◌, ◌↔◌, ℕ, length, IsErr, IsOk};
+ghost use Rattle.spool_disk.specs.Disk.{Counts, IsImage, Writes};
 ghost use Rattle.spool_disk.specs.Views.{Lasts};
 ghost use Rattle.spool_journal.specs.Image.{journal_pages, all_pages};
 ghost use Rattle.spool_journal.specs.Phases.{Idle};
@@ -9,7 +9,7 @@ ghost use Rattle.spool_journal.specs.Texts.{aside, Frame};
 use crate::Layout;
 use spool_disk::{Disk, DiskFault};
 
-/// Writes bytes into a text block.
+/// Writes bytes into a text block, from an offset on, and does not sync.
 pub fn write_block<D: Disk>(
     disk: &mut D,
     layout: &Layout,
@@ -23,6 +23,7 @@ pub fn write_block<D: Disk>(
     ensures size { D.size disk.new ≡ D.size disk.old }
     ensures honest { D.honest disk.old ↔ D.honest disk.new }
     ensures counts { Counts (IsErr result) (D.failures disk.old) (D.failures disk.new) }
+    ensures writes { D.honest disk.old → Writes (4096 * (25 + 2 * journal_pages layout.now + block) + offset) bytes.now (IsOk result) (D.seen disk.old) (D.seen disk.new) (D.loose disk.old) (D.loose disk.new) }
     ensures idle { D.honest disk.old → Idle (journal_pages layout.now) (D.seen disk.old) (D.loose disk.old) → Idle (journal_pages layout.now) (D.seen disk.new) (D.loose disk.new) }
 
     // But for the block, every image is one from before.

@@ -1,13 +1,12 @@
 -- The answer for a stream's front doesn't depend on what follows.
-use Rattle.std.proofs.Common.{◌≡◌, ℕ, ◌+◌, ◌-◌, ◌<◌, ◌≤◌, Bool, true, false, List, [], ◌∷◌, ◌++◌, length, take, drop, refl, sym, ◌∙◌, ap, subst, arith, Option, Some, None, option_map, nat_lt, if◌then◌else◌, ◌==◌, zero, suc, append_assoc}
+use Rattle.std.proofs.Common.{◌≡◌, ℕ, ◌+◌, ◌-◌, ◌<◌, ◌≤◌, Bool, true, false, List, [], ◌∷◌, ◌++◌, length, take, drop, refl, sym, ◌∙◌, ap, subst, arith, Option, Some, None, option_map, nat_lt, if◌then◌else◌, ◌==◌, zero, suc}
 use Rattle.std.proofs.lemmas.List.{length-append, length-take-le, take-append-le, take-append-drop, take_all}
-use Rattle.std.proofs.lemmas.Bool.{ltb-false, le-ltb, ltb-true}
+use Rattle.std.proofs.lemmas.Bool.{ltb-false, le-ltb}
 use Rattle.enc_model.specs.declared.Encoding.{Encoding}
 use Rattle.tus_request.specs.Lines.{lines, onto_first, is_empty_line, up_to_empty, head_lines, bytes_in, Extent, extent_of, head_extent}
 use Rattle.tus_request.specs.declared.faults.Fault.TheVariants.{HeadTooLong}
 use Rattle.tus_request.specs.Requests.{Verdict}
-use Rattle.tus_request.specs.Checks.{judged, no_head}
-use Rattle.tus_request.specs.Reading.{request_of}
+use Rattle.tus_request.specs.Checks.{no_head}
 use Rattle.tus_request.specs.Answers.{Answer, More, Judged, answer_with, whole_answer, answer_of}
 use Rattle.tus_request.specs.Steady.{IsSteady}
 
@@ -20,7 +19,7 @@ abbrev Lines : Type 0
 Lines = List (List ℕ)
 
 feed_more : (b : ℕ) (c : Bool) (ls xs ms : Lines) → ms ≡ ls ++ xs
-  → (ys : Lines) × ((if c then (b ∷ []) ∷ ms else onto_first b ms) ≡ (if c then (b ∷ []) ∷ ls else onto_first b ls) ++ ys)
+    → (ys : Lines) × ((if c then (b ∷ []) ∷ ms else onto_first b ms) ≡ (if c then (b ∷ []) ∷ ls else onto_first b ls) ++ ys)
 feed_more b true ls xs ms e = (xs, ap (λ m. (b ∷ []) ∷ m) e)
 feed_more b false [] xs ms e = (onto_first b xs, ap (onto_first b) e)
 feed_more b false (l ∷ ls) xs ms e = (xs, ap (onto_first b) e)
@@ -34,8 +33,8 @@ kept f None p h y e = absurd (cc)
 kept f (Some x) p h y e = ap (option_map f) (h x refl) ∙ e
 
 up_case : (line : List ℕ) (c : Bool) (o p : Option Lines) → ((x : Lines) → o ≡ Some x → p ≡ Some x) → (hs : Lines)
-  → (if c then Some (line ∷ []) else option_map (λ more. line ∷ more) o) ≡ Some hs
-  → (if c then Some (line ∷ []) else option_map (λ more. line ∷ more) p) ≡ Some hs
+    → (if c then Some (line ∷ []) else option_map (λ more. line ∷ more) o) ≡ Some hs
+    → (if c then Some (line ∷ []) else option_map (λ more. line ∷ more) p) ≡ Some hs
 up_case line true o p h hs e = e
 up_case line false o p h hs e = kept (λ more. line ∷ more) o p h hs e
 
@@ -44,7 +43,7 @@ up_keeps [] xs hs e = absurd (cc)
 up_keeps (line ∷ ls) xs hs e = up_case line (is_empty_line line) (up_to_empty ls) (up_to_empty (ls ++ xs)) (λ x h. up_keeps ls xs x h) hs e
 
 either_case : (c : Bool) (a b a' b' : Option Lines) → ((x : Lines) → a ≡ Some x → a' ≡ Some x) → ((x : Lines) → b ≡ Some x → b' ≡ Some x)
-  → (x : Lines) → (if c then a else b) ≡ Some x → (if c then a' else b') ≡ Some x
+    → (x : Lines) → (if c then a else b) ≡ Some x → (if c then a' else b') ≡ Some x
 either_case true a b a' b' f g x e = f x e
 either_case false a b a' b' f g x e = g x e
 
@@ -54,7 +53,7 @@ head_keeps (line ∷ ls) xs hs e =
     kept (λ more. line ∷ more) (if is_empty_line line then head_lines ls else up_to_empty ls)
     (if is_empty_line line then head_lines (ls ++ xs) else up_to_empty (ls ++ xs))
     (either_case (is_empty_line line) (head_lines ls) (up_to_empty ls) (head_lines (ls ++ xs)) (up_to_empty (ls ++ xs))
-      (λ x h. head_keeps ls xs x h) (λ x h. up_keeps ls xs x h)) hs e
+    (λ x h. head_keeps ls xs x h) (λ x h. up_keeps ls xs x h)) hs e
 
 extent_kept : (o p : Option Lines) → ((x : Lines) → o ≡ Some x → p ≡ Some x) → (e : Extent) → option_map extent_of o ≡ Some e → option_map extent_of p ≡ Some e
 extent_kept None p h e q = absurd (cc)
@@ -78,7 +77,7 @@ empty_has (b ∷ line) e = omega arith
 
 -- what a line and the lines behind it give
 joined_fine : (line : List ℕ) (ls : Lines) (o : Option Lines) → ((x : Lines) → o ≡ Some x → Fine ls x) → (hs : Lines)
-  → option_map (λ more. line ∷ more) o ≡ Some hs → Fine (line ∷ ls) hs
+    → option_map (λ more. line ∷ more) o ≡ Some hs → Fine (line ∷ ls) hs
 joined_fine line ls None h hs e = absurd (cc)
 joined_fine line ls (Some x) h hs e =
     let f = h x refl in
@@ -86,7 +85,7 @@ joined_fine line ls (Some x) h hs e =
     subst (λ y. Fine (line ∷ ls) y) (some_eq (line ∷ x) hs e) g
 
 up_fine_case : (line : List ℕ) (ls : Lines) (c : Bool) → is_empty_line line ≡ c → (o : Option Lines) → ((x : Lines) → o ≡ Some x → Fine ls x) → (hs : Lines)
-  → (if c then Some (line ∷ []) else option_map (λ more. line ∷ more) o) ≡ Some hs → Fine (line ∷ ls) hs
+    → (if c then Some (line ∷ []) else option_map (λ more. line ∷ more) o) ≡ Some hs → Fine (line ∷ ls) hs
 up_fine_case line ls true t o h hs e =
     let n = empty_has line t in
     let g : Fine (line ∷ ls) (line ∷ []) = record { bound = omega arith; some = omega arith } in
@@ -98,7 +97,7 @@ up_fine [] hs e = absurd (cc)
 up_fine (line ∷ ls) hs e = up_fine_case line ls (is_empty_line line) refl (up_to_empty ls) (λ x h. up_fine ls x h) hs e
 
 either_fine : (c : Bool) (ls : Lines) (a b : Option Lines) → ((x : Lines) → a ≡ Some x → Fine ls x) → ((x : Lines) → b ≡ Some x → Fine ls x)
-  → (x : Lines) → (if c then a else b) ≡ Some x → Fine ls x
+    → (x : Lines) → (if c then a else b) ≡ Some x → Fine ls x
 either_fine true ls a b f g x e = f x e
 either_fine false ls a b f g x e = g x e
 
@@ -154,10 +153,10 @@ cons_eq l m ls ms e = (ap (first_of l) e, ap rest_of e)
 
 -- with a byte in front
 front_case : (b : ℕ) (c : Bool) (s hs xs ls : Lines) (l : List ℕ) (k : ℕ → Lines)
-  → (b == 10) ≡ c
-  → (if c then (b ∷ []) ∷ ls else onto_first b ls) ≡ (l ∷ hs) ++ xs
-  → ((gs ys : Lines) → ls ≡ gs ++ ys → k (bytes_in gs) ≡ gs)
-  → (if c then (b ∷ []) ∷ k (length l - 1 + bytes_in hs) else onto_first b (k (length l - 1 + bytes_in hs))) ≡ l ∷ hs
+    → (b == 10) ≡ c
+    → (if c then (b ∷ []) ∷ ls else onto_first b ls) ≡ (l ∷ hs) ++ xs
+    → ((gs ys : Lines) → ls ≡ gs ++ ys → k (bytes_in gs) ≡ gs)
+    → (if c then (b ∷ []) ∷ k (length l - 1 + bytes_in hs) else onto_first b (k (length l - 1 + bytes_in hs))) ≡ l ∷ hs
 front_case b true s hs xs ls l k t e h =
     let p = cons_eq (b ∷ []) l ls (hs ++ xs) e in
     let n : 1 ≡ length l = ap length p.0 in
@@ -190,17 +189,21 @@ abbrev IsOwn : (Lines → Option Lines) → Lines → Lines → Type 0
 IsOwn f ls hs = (xs : Lines) × ((ls ≡ hs ++ xs) × (f hs ≡ Some hs))
 
 up_own_case : (line : List ℕ) (ls : Lines) (c : Bool) → is_empty_line line ≡ c → (o : Option Lines) → ((x : Lines) → o ≡ Some x → IsOwn up_to_empty ls x) → (hs : Lines)
-  → (if c then Some (line ∷ []) else option_map (λ more. line ∷ more) o) ≡ Some hs → IsOwn up_to_empty (line ∷ ls) hs
+    → (if c then Some (line ∷ []) else option_map (λ more. line ∷ more) o) ≡ Some hs → IsOwn up_to_empty (line ∷ ls) hs
 up_own_case line ls true t o h hs e =
     let g : IsOwn up_to_empty (line ∷ ls) (line ∷ []) =
-        (ls, (refl, ap (λ b. if b then Some (line ∷ []) else option_map (λ more. line ∷ more) (up_to_empty [])) t)) in
+    (ls, (refl, ap (λ b. if b then Some (line ∷ []) else option_map (λ more. line ∷ more) (up_to_empty [])) t)) in
     subst (λ y. IsOwn up_to_empty (line ∷ ls) y) (some_eq (line ∷ []) hs e) g
 up_own_case line ls false t None h hs e = absurd (cc)
 up_own_case line ls false t (Some x) h hs e =
     let r = h x refl in
-    let g : IsOwn up_to_empty (line ∷ ls) (line ∷ x) =
-        (r.0, (ap (λ y. line ∷ y) r.1.0,
-          ap (λ b. if b then Some (line ∷ []) else option_map (λ more. line ∷ more) (up_to_empty x)) t ∙ ap (option_map (λ more. line ∷ more)) r.1.1)) in
+    let g : IsOwn up_to_empty (line ∷ ls) (line ∷ x) = (
+      r.0,
+      (
+        ap (λ y. line ∷ y) r.1.0,
+        ap (λ b. if b then Some (line ∷ []) else option_map (λ more. line ∷ more) (up_to_empty x)) t ∙ ap (option_map (λ more. line ∷ more)) r.1.1,
+      ),
+    ) in
     subst (λ y. IsOwn up_to_empty (line ∷ ls) y) (some_eq (line ∷ x) hs e) g
 
 up_own : (ls hs : Lines) → up_to_empty ls ≡ Some hs → IsOwn up_to_empty ls hs
@@ -208,21 +211,29 @@ up_own [] hs e = absurd (cc)
 up_own (line ∷ ls) hs e = up_own_case line ls (is_empty_line line) refl (up_to_empty ls) (λ x h. up_own ls x h) hs e
 
 head_own_case : (line : List ℕ) (ls : Lines) (c : Bool) → is_empty_line line ≡ c → (o p : Option Lines)
-  → ((x : Lines) → o ≡ Some x → IsOwn head_lines ls x) → ((x : Lines) → p ≡ Some x → IsOwn up_to_empty ls x) → (hs : Lines)
-  → option_map (λ more. line ∷ more) (if c then o else p) ≡ Some hs → IsOwn head_lines (line ∷ ls) hs
+    → ((x : Lines) → o ≡ Some x → IsOwn head_lines ls x) → ((x : Lines) → p ≡ Some x → IsOwn up_to_empty ls x) → (hs : Lines)
+    → option_map (λ more. line ∷ more) (if c then o else p) ≡ Some hs → IsOwn head_lines (line ∷ ls) hs
 head_own_case line ls true t None p f g hs e = absurd (cc)
 head_own_case line ls true t (Some x) p f g hs e =
     let r = f x refl in
-    let k : IsOwn head_lines (line ∷ ls) (line ∷ x) =
-        (r.0, (ap (λ y. line ∷ y) r.1.0,
-          ap (λ b. option_map (λ more. line ∷ more) (if b then head_lines x else up_to_empty x)) t ∙ ap (option_map (λ more. line ∷ more)) r.1.1)) in
+    let k : IsOwn head_lines (line ∷ ls) (line ∷ x) = (
+      r.0,
+      (
+        ap (λ y. line ∷ y) r.1.0,
+        ap (λ b. option_map (λ more. line ∷ more) (if b then head_lines x else up_to_empty x)) t ∙ ap (option_map (λ more. line ∷ more)) r.1.1,
+      ),
+    ) in
     subst (λ y. IsOwn head_lines (line ∷ ls) y) (some_eq (line ∷ x) hs e) k
 head_own_case line ls false t o None f g hs e = absurd (cc)
 head_own_case line ls false t o (Some x) f g hs e =
     let r = g x refl in
-    let k : IsOwn head_lines (line ∷ ls) (line ∷ x) =
-        (r.0, (ap (λ y. line ∷ y) r.1.0,
-          ap (λ b. option_map (λ more. line ∷ more) (if b then head_lines x else up_to_empty x)) t ∙ ap (option_map (λ more. line ∷ more)) r.1.1)) in
+    let k : IsOwn head_lines (line ∷ ls) (line ∷ x) = (
+      r.0,
+      (
+        ap (λ y. line ∷ y) r.1.0,
+        ap (λ b. option_map (λ more. line ∷ more) (if b then head_lines x else up_to_empty x)) t ∙ ap (option_map (λ more. line ∷ more)) r.1.1,
+      ),
+    ) in
     subst (λ y. IsOwn head_lines (line ∷ ls) y) (some_eq (line ∷ x) hs e) k
 
 head_own : (ls hs : Lines) → head_lines ls ≡ Some hs → IsOwn head_lines ls hs
@@ -231,12 +242,12 @@ head_own (line ∷ ls) hs e =
     head_own_case line ls (is_empty_line line) refl (head_lines ls) (up_to_empty ls) (λ x h. head_own ls x h) (λ x h. up_own ls x h) hs e
 
 extent_own_case : (s : List ℕ) (o : Option Lines) → ((x : Lines) → o ≡ Some x → IsOwn head_lines (lines s) x) → (e : Extent)
-  → option_map extent_of o ≡ Some e → head_extent (take e.len s) ≡ Some e
+    → option_map extent_of o ≡ Some e → head_extent (take e.len s) ≡ Some e
 extent_own_case s None h e q = absurd (cc)
 extent_own_case s (Some x) h e q =
     let r = h x refl in
     let k : head_extent (take (bytes_in x) s) ≡ Some (extent_of x) =
-        ap (λ y. option_map extent_of (head_lines y)) (first_lines s x r.0 r.1.0) ∙ ap (option_map extent_of) r.1.1 in
+    ap (λ y. option_map extent_of (head_lines y)) (first_lines s x r.0 r.1.0) ∙ ap (option_map extent_of) r.1.1 in
     subst (λ y. head_extent (take y.len s) ≡ Some y) (some_eq (extent_of x) e q) k
 
 pub extent_own : (s : List ℕ) (e : Extent) → head_extent s ≡ Some e → head_extent (take e.len s) ≡ Some e
@@ -273,7 +284,7 @@ taken_is a n v e = ap taken_in e
 
 module _ (offers : Encoding → Bool) where
   none_bounds : (s : List ℕ) (n : ℕ) (v : Verdict) (b : Bool) → nat_lt (length s) 8192 ≡ b
-    → (if b then More else Judged 8192 (no_head HeadTooLong)) ≡ Judged n v → Bounds s n
+      → (if b then More else Judged 8192 (no_head HeadTooLong)) ≡ Judged n v → Bounds s n
   unfolding taken_in
   none_bounds s n v true t e = absurd (cc)
   none_bounds s n v false t e =
@@ -282,7 +293,7 @@ module _ (offers : Encoding → Bool) where
       record { some = omega arith; within = omega arith }
 
   some_bounds : (s : List ℕ) (n : ℕ) (v : Verdict) (e : Extent) → Fits s e → (b : Bool)
-    → (if b then Judged e.len (no_head HeadTooLong) else whole_answer offers (take e.len s)) ≡ Judged n v → Bounds s n
+      → (if b then Judged e.len (no_head HeadTooLong) else whole_answer offers (take e.len s)) ≡ Judged n v → Bounds s n
   unfolding taken_in
   some_bounds s n v e fits true q =
       let a = fits.bound in
@@ -297,7 +308,7 @@ module _ (offers : Encoding → Bool) where
       record { some = omega arith; within = omega arith }
 
   bounds_case : (s : List ℕ) (n : ℕ) (v : Verdict) (o : Option Extent) → ((e : Extent) → o ≡ Some e → Fits s e)
-    → answer_with offers s o ≡ Judged n v → Bounds s n
+      → answer_with offers s o ≡ Judged n v → Bounds s n
   bounds_case s n v None fits q = none_bounds s n v (nat_lt (length s) 8192) refl q
   bounds_case s n v (Some e) fits q = some_bounds s n v e (fits e refl) (nat_lt 65 e.texts) q
 
@@ -314,8 +325,8 @@ module _ (offers : Encoding → Bool) where
   bounds s n v q = bounds_case s n v (head_extent (take 8192 s)) (λ e h. front_fits s e h) q
 
   none_keeps : (s more : List ℕ) (n : ℕ) (v : Verdict) → head_extent (take 8192 s) ≡ None → (b : Bool) → nat_lt (length s) 8192 ≡ b
-    → (if b then More else Judged 8192 (no_head HeadTooLong)) ≡ Judged n v
-    → answer_with offers (s ++ more) (head_extent (take 8192 (s ++ more))) ≡ Judged n v
+      → (if b then More else Judged 8192 (no_head HeadTooLong)) ≡ Judged n v
+      → answer_with offers (s ++ more) (head_extent (take 8192 (s ++ more))) ≡ Judged n v
   none_keeps s more n v h true t e = absurd (cc)
   none_keeps s more n v h false t e =
       let long : 8192 ≤ length s = ltb-false (length s) 8192 t in
@@ -324,7 +335,7 @@ module _ (offers : Encoding → Bool) where
       ∙ (ap (λ b. if b then More else Judged 8192 (no_head HeadTooLong)) (le-ltb (length (s ++ more)) 8192 (omega arith)) ∙ e)
 
   keeps_case : (s more : List ℕ) (n : ℕ) (v : Verdict) (o : Option Extent) → head_extent (take 8192 s) ≡ o → answer_with offers s o ≡ Judged n v
-    → answer_with offers (s ++ more) (head_extent (take 8192 (s ++ more))) ≡ Judged n v
+      → answer_with offers (s ++ more) (head_extent (take 8192 (s ++ more))) ≡ Judged n v
   keeps_case s more n v None h q = none_keeps s more n v h (nat_lt (length s) 8192) refl q
   keeps_case s more n v (Some e) h q =
       let x = take_more 8192 s more in
@@ -337,7 +348,7 @@ module _ (offers : Encoding → Bool) where
   keeps s more n v q = keeps_case s more n v (head_extent (take 8192 s)) refl q
 
   none_own : (s : List ℕ) (n : ℕ) (v : Verdict) → head_extent (take 8192 s) ≡ None → (b : Bool) → nat_lt (length s) 8192 ≡ b
-    → (if b then More else Judged 8192 (no_head HeadTooLong)) ≡ Judged n v → answer_of offers (take n s) ≡ Judged n v
+      → (if b then More else Judged 8192 (no_head HeadTooLong)) ≡ Judged n v → answer_of offers (take n s) ≡ Judged n v
   unfolding answer_of taken_in
   none_own s n v h true t e = absurd (cc)
   none_own s n v h false t e =
@@ -346,18 +357,18 @@ module _ (offers : Encoding → Bool) where
       let l : length (take 8192 s) ≡ 8192 = length-take-le 8192 s long in
       let f : take 8192 (take 8192 s) ≡ take 8192 s = take_all 8192 (take 8192 s) (omega arith) in
       let g : answer_of offers (take 8192 s) ≡ Judged n v =
-          ap (answer_with offers (take 8192 s)) (ap head_extent f ∙ h)
-          ∙ (ap (λ b. if b then More else Judged 8192 (no_head HeadTooLong)) (le-ltb (length (take 8192 s)) 8192 (omega arith)) ∙ e) in
+      ap (answer_with offers (take 8192 s)) (ap head_extent f ∙ h)
+      ∙ (ap (λ b. if b then More else Judged 8192 (no_head HeadTooLong)) (le-ltb (length (take 8192 s)) 8192 (omega arith)) ∙ e) in
       subst (λ m. answer_of offers (take m s) ≡ Judged n v) k g
 
   some_taken : (s : List ℕ) (n : ℕ) (v : Verdict) (e : Extent) → e.len ≤ length s → (b : Bool)
-    → (if b then Judged e.len (no_head HeadTooLong) else whole_answer offers (take e.len s)) ≡ Judged n v → e.len ≡ n
+      → (if b then Judged e.len (no_head HeadTooLong) else whole_answer offers (take e.len s)) ≡ Judged n v → e.len ≡ n
   unfolding taken_in
   some_taken s n v e within true q = taken_is (Judged e.len (no_head HeadTooLong)) n v q
   some_taken s n v e within false q = sym (length-take-le e.len s within) ∙ taken_is (whole_answer offers (take e.len s)) n v q
 
   own_case : (s : List ℕ) (n : ℕ) (v : Verdict) (o : Option Extent) → head_extent (take 8192 s) ≡ o → answer_with offers s o ≡ Judged n v
-    → answer_of offers (take n s) ≡ Judged n v
+      → answer_of offers (take n s) ≡ Judged n v
   unfolding answer_of
   own_case s n v None h q = none_own s n v h (nat_lt (length s) 8192) refl q
   own_case s n v (Some e) h q =
@@ -369,11 +380,11 @@ module _ (offers : Encoding → Bool) where
       let l : length (take e.len s) ≡ e.len = length-take-le e.len s within in
       let a : take 8192 (take e.len s) ≡ take e.len s = take_all 8192 (take e.len s) (omega arith) in
       let b : take e.len s ≡ take e.len (take 8192 s) =
-          ap (take e.len) (sym (take-append-drop 8192 s)) ∙ take-append-le e.len (take 8192 s) (drop 8192 s) inside in
+      ap (take e.len) (sym (take-append-drop 8192 s)) ∙ take-append-le e.len (take 8192 s) (drop 8192 s) inside in
       let c : take e.len (take e.len s) ≡ take e.len s = take_all e.len (take e.len s) (omega arith) in
       let g : answer_of offers (take e.len s) ≡ Judged n v =
-          ap (answer_with offers (take e.len s)) (ap head_extent (a ∙ b) ∙ extent_own (take 8192 s) e h)
-          ∙ (ap (λ y. if nat_lt 65 e.texts then Judged e.len (no_head HeadTooLong) else whole_answer offers y) c ∙ q) in
+      ap (answer_with offers (take e.len s)) (ap head_extent (a ∙ b) ∙ extent_own (take 8192 s) e h)
+      ∙ (ap (λ y. if nat_lt 65 e.texts then Judged e.len (no_head HeadTooLong) else whole_answer offers y) c ∙ q) in
       subst (λ m. answer_of offers (take m s) ≡ Judged n v) (some_taken s n v e within (nat_lt 65 e.texts) q) g
 
   opened : (s : List ℕ) (n : ℕ) (v : Verdict) → answer_of offers s ≡ Judged n v → answer_with offers s (head_extent (take 8192 s)) ≡ Judged n v

@@ -1,48 +1,25 @@
 -- The checks of a head, in their order.
-use Rattle.std.specs.Prelude.{ℕ, Bool, true, false, not, ◌&&◌, ◌||◌, List, [], ◌∷◌, map, codes, bytes_eq, nat_lt, ◌==◌, if◌then◌else◌, Option, Some, None, option_map}
+use Rattle.std.specs.Prelude.{ℕ, Bool, true, false, not, ◌&&◌, ◌||◌, List, [], ◌∷◌, map, codes, bytes_eq, nat_lt, ◌==◌, if◌then◌else◌, Option, Some, None}
 use Rattle.std.specs.List.{list_any}
-use Rattle.std.specs.Char.{to_ascii_lowercase}
 use Rattle.httparse.specs.Grammar.{RequestHead}
 use Rattle.httparse.specs.Spans.{name_and_value}
 use Rattle.enc_model.specs.declared.Encoding.{Encoding}
-use Rattle.enc_model.specs.declared.Mode.{Mode}
-use Rattle.tus_request.specs.Number.{number_of, upload_number}
+use Rattle.tus_request.specs.Number.{number_of}
 use Rattle.tus_request.specs.Reading.{before}
 use Rattle.tus_request.specs.Fields.{values_in}
+use Rattle.tus_request.specs.Texts.{any_case, lists_word}
+use Rattle.tus_request.specs.Methods.{verb_of}
+use Rattle.tus_request.specs.Places.{place_of, is_files}
+use Rattle.tus_request.specs.declared.methods.Verb.{Verb}
+use Rattle.tus_request.specs.declared.methods.Verb.TheVariants as verb
+use Rattle.tus_request.specs.declared.places.Place.{Place}
+use Rattle.tus_request.specs.declared.places.Place.TheVariants as place
 use Rattle.tus_request.specs.declared.faults.Fault.{Fault}
 use Rattle.tus_request.specs.declared.faults.Fault.TheVariants.{Malformed, Coding, BadLength, TusVersion, NoRoute, BadMethod, MediaType, BadHeader, BadMetadata, BadLabel}
-use Rattle.tus_request.specs.Metadata.{Pair, split, trimmed, metadata_of, setting, encoding_of, output_of, mode_of}
+use Rattle.tus_request.specs.Metadata.{KeyValue, metadata_of, Choice, choice_of}
 use Rattle.tus_request.specs.Requests.{Action, Options, Create, Head, Get, Patch, Verdict, Asks, Refuses}
 
 -- WHAT THE CHECKS READ
-
-pub data Place : Type 0 where
-  Files : Place
-  Upload : ℕ → Place
-
--- what follows the prefix, if the text begins with it
-abbrev pub after : List ℕ → List ℕ → Option (List ℕ)
-after [] text = Some text
-after (p ∷ prefix) [] = None
-after (p ∷ prefix) (b ∷ text) = if p == b then after prefix text else None
-
-abbrev pub upload_at : Option (List ℕ) → Option Place
-upload_at None = None
-upload_at (Some part) = option_map Upload (upload_number part)
-
--- `/files`, or `/files/` and an upload's number
-abbrev pub place_of : List ℕ → Option Place
-place_of path = if bytes_eq path (codes "/files") then Some Files else upload_at (after (codes "/files/") path)
-
-abbrev pub is_files : Option Place → Bool
-is_files (Some Files) = true
-is_files _ = false
-
-abbrev pub lowered : List ℕ → List ℕ
-lowered = map to_ascii_lowercase
-
-abbrev pub any_case : List ℕ → List ℕ → Bool
-any_case word text = bytes_eq (lowered text) word
 
 abbrev pub is_given : List (List ℕ) → Bool
 is_given [] = false
@@ -54,47 +31,71 @@ first_or (value ∷ values) other = value
 
 -- the one value
 abbrev pub only : List (List ℕ) → Option (List ℕ)
+only [] = None
 only (value ∷ []) = Some value
-only _ = None
+only (value ∷ other ∷ values) = None
 
+abbrev pub number_when : Option (List ℕ) → Option ℕ
+number_when None = None
+number_when (Some value) = number_of value
+
+-- the number that the one value writes
 abbrev pub number_in : List (List ℕ) → Option ℕ
-number_in (value ∷ []) = number_of value
-number_in _ = None
+number_in values = number_when (only values)
 
 -- the body's length: none means 0
 abbrev pub length_in : List (List ℕ) → Option ℕ
 length_in [] = Some 0
 length_in (value ∷ values) = number_in (value ∷ values)
 
--- a value that is a list has the word, in any case
-abbrev pub lists : List ℕ → List (List ℕ) → Bool
-lists word values = list_any (λ value. list_any (λ part. any_case word (trimmed (λ c. c == 32 || c == 9) part)) (split 44 value)) values
+-- the one value is a word
+abbrev pub is_word_when : List ℕ → Option (List ℕ) → Bool
+is_word_when word None = false
+is_word_when word (Some value) = bytes_eq value word
 
--- the request line and the fields, and what they say
-pub record Asking : Type 0 where
+-- a request line
+pub record Line : Type 0 where
   pub method : List ℕ
+  pub target : List ℕ
+  pub minor : ℕ
+
+-- what a request line and the fields say; the fields as the values of each name, which is in lower case
+pub record Asking : Type 0 where
+  pub verb : Verb
   pub place : Option Place
-  pub fields : List (List ℕ × List ℕ)
+  pub given : List ℕ → List (List ℕ)
   pub length : ℕ
   pub bare : Bool
   pub expects : Bool
   pub closes : Bool
 
-abbrev pub given : Asking → List ℕ → List (List ℕ)
-given x name = values_in x.fields name
+-- the path is the target up to the first `?`
+abbrev pub line_place : Line → Option Place
+line_place line = place_of (before 63 line.target)
 
-abbrev pub asking : RequestHead → List (List ℕ × List ℕ) → ℕ → Asking
-asking h fields length = record {
-  method = first_or (values_in fields (codes "x-http-method-override")) h.method;
-  place = place_of (before 63 h.target);
-  fields = fields;
+abbrev pub is_bare : Line → Bool
+is_bare line = bytes_eq line.method (codes "HEAD")
+
+-- 100 Continue is asked for (RFC 9110, section 10.1.1)
+abbrev pub is_expecting : ℕ → ℕ → List (List ℕ) → Bool
+is_expecting minor length values = minor == 1 && (nat_lt 0 length && list_any (any_case (codes "100-continue")) values)
+
+-- the connection closes (RFC 9112, section 9.3)
+abbrev pub is_closing : ℕ → List (List ℕ) → Bool
+is_closing minor values = minor == 0 || list_any (lists_word (codes "close")) values
+
+abbrev pub asking : Line → (List ℕ → List (List ℕ)) → ℕ → Asking
+asking line given length = record {
+  verb = verb_of (first_or (given (codes "x-http-method-override")) line.method);
+  place = line_place line;
+  given = given;
   length = length;
-  bare = bytes_eq h.method (codes "HEAD");
-  expects = h.minor == 1 && nat_lt 0 length && list_any (any_case (codes "100-continue")) (values_in fields (codes "expect"));
-  closes = h.minor == 0 || lists (codes "close") (values_in fields (codes "connection"));
+  bare = is_bare line;
+  expects = is_expecting line.minor length (given (codes "expect"));
+  closes = is_closing line.minor (given (codes "connection"));
 }
 
--- THE CHECKS
+-- THE CHECKS (tus 1.0.0, "Core Protocol" and "Creation"), from the last to the first
 
 -- A request that is refused by a check of its fields. One that asked for 100 Continue is answered with a close.
 abbrev pub refused : Asking → Fault → Verdict
@@ -106,88 +107,107 @@ passed x action = Asks (record { action = action; length = x.length; bare = x.ba
 abbrev pub passed_patch : Asking → ℕ → ℕ → Verdict
 passed_patch x number offset = Asks (record { action = Patch number offset; length = x.length; bare = x.bare; expects = x.expects; closes = x.closes })
 
--- the media type, up to a semicolon
-abbrev pub is_patch_media : List (List ℕ) → Bool
-is_patch_media (value ∷ []) = any_case (codes "application/offset+octet-stream") (before 59 value)
-is_patch_media _ = false
+-- the media type of an append, up to a semicolon
+abbrev pub is_patch_media : Option (List ℕ) → Bool
+is_patch_media None = false
+is_patch_media (Some value) = any_case (codes "application/offset+octet-stream") (before 59 value)
 
+-- an append names one offset
 abbrev pub at_offset : Asking → ℕ → Option ℕ → Verdict
 at_offset x number None = refused x BadHeader
 at_offset x number (Some offset) = passed_patch x number offset
 
+-- and before that, its media type
 abbrev pub patch_checked : Asking → ℕ → Verdict
 patch_checked x number =
-    if is_patch_media (given x (codes "content-type")) then at_offset x number (number_in (given x (codes "upload-offset")))
+    if is_patch_media (only (x.given (codes "content-type"))) then at_offset x number (number_in (x.given (codes "upload-offset")))
     else refused x MediaType
 
--- the labels and the mode, and what the index set offers
-abbrev pub with_labels : (Encoding → Bool) → Asking → ℕ → List ℕ → Option Encoding → Option Encoding → Option Mode → Verdict
-with_labels offers x declared metadata (Some from) (Some to) (Some mode) =
-    if offers from && offers (output_of to)
-    then passed x (Create (record { declared = declared; from = from; to = output_of to; mode = mode; metadata = metadata }))
+-- the encodings and the mode are known, and the index set offers the encodings
+abbrev pub with_choice : (Encoding → Bool) → Asking → ℕ → List ℕ → Option Choice → Verdict
+with_choice offers x declared metadata None = refused x BadLabel
+with_choice offers x declared metadata (Some c) =
+    if offers c.from && offers c.to
+    then passed x (Create (record { declared = declared; from = c.from; to = c.to; mode = c.mode; metadata = metadata }))
     else refused x BadLabel
-with_labels offers x declared metadata _ _ _ = refused x BadLabel
 
-abbrev pub with_pairs : (Encoding → Bool) → Asking → ℕ → List ℕ → Option (List Pair) → Verdict
+-- and before that, the metadata is of its form
+abbrev pub with_pairs : (Encoding → Bool) → Asking → ℕ → List ℕ → Option (List KeyValue) → Verdict
 with_pairs offers x declared metadata None = refused x BadMetadata
-with_pairs offers x declared metadata (Some pairs) =
-    with_labels offers x declared metadata (encoding_of (setting (codes "from") (codes "utf-8") pairs))
-    (encoding_of (setting (codes "to") (codes "utf-8") pairs)) (mode_of (setting (codes "mode") (codes "html") pairs))
+with_pairs offers x declared metadata (Some pairs) = with_choice offers x declared metadata (choice_of pairs)
 
+-- and comes at most once
 abbrev pub with_metadata : (Encoding → Bool) → Asking → ℕ → List (List ℕ) → Verdict
-with_metadata offers x declared [] = with_pairs offers x declared [] (Some [])
+with_metadata offers x declared [] = with_pairs offers x declared [] (metadata_of [])
 with_metadata offers x declared (value ∷ []) = with_pairs offers x declared value (metadata_of value)
 with_metadata offers x declared (value ∷ other ∷ values) = refused x BadHeader
 
+-- an upload names one length
 abbrev pub with_declared : (Encoding → Bool) → Asking → Option ℕ → Verdict
 with_declared offers x None = refused x BadHeader
-with_declared offers x (Some declared) = with_metadata offers x declared (given x (codes "upload-metadata"))
+with_declared offers x (Some declared) = with_metadata offers x declared (x.given (codes "upload-metadata"))
 
+-- and a POST has no body
 abbrev pub post_checked : (Encoding → Bool) → Asking → Verdict
 post_checked offers x =
-    if nat_lt 0 x.length then refused x BadHeader else with_declared offers x (number_in (given x (codes "upload-length")))
+    if nat_lt 0 x.length then refused x BadHeader else with_declared offers x (number_in (x.given (codes "upload-length")))
 
+-- what is asked of all the uploads
+abbrev pub on_all : (Encoding → Bool) → Asking → Verb → Verdict
+on_all offers x verb.Options = passed x Options
+on_all offers x verb.Post = post_checked offers x
+on_all offers x verb.Head = refused x BadMethod
+on_all offers x verb.Patch = refused x BadMethod
+on_all offers x verb.Get = refused x BadMethod
+on_all offers x verb.Other = refused x BadMethod
+
+-- what is asked of one
+abbrev pub on_upload : Asking → ℕ → Verb → Verdict
+on_upload x n verb.Options = passed x Options
+on_upload x n verb.Post = refused x BadMethod
+on_upload x n verb.Head = passed x (Head n)
+on_upload x n verb.Patch = patch_checked x n
+on_upload x n verb.Get = passed x (Get n)
+on_upload x n verb.Other = refused x BadMethod
+
+-- the path names something
 abbrev pub on_place : (Encoding → Bool) → Asking → Option Place → Verdict
 on_place offers x None = refused x NoRoute
-on_place offers x (Some Files) =
-    if bytes_eq x.method (codes "OPTIONS") then passed x Options
-    else if bytes_eq x.method (codes "POST") then post_checked offers x
-    else refused x BadMethod
-on_place offers x (Some (Upload n)) =
-    if bytes_eq x.method (codes "OPTIONS") then passed x Options
-    else if bytes_eq x.method (codes "HEAD") then passed x (Head n)
-    else if bytes_eq x.method (codes "PATCH") then patch_checked x n
-    else if bytes_eq x.method (codes "GET") then passed x (Get n)
-    else refused x BadMethod
+on_place offers x (Some place.Files) = on_all offers x x.verb
+on_place offers x (Some (place.Upload n)) = on_upload x n x.verb
 
--- the one value is the word
-abbrev pub is_only : List ℕ → List (List ℕ) → Bool
-is_only word (value ∷ []) = bytes_eq value word
-is_only word _ = false
+-- the version of the protocol is there; OPTIONS and GET need none
+abbrev pub needs_version : Verb → Bool
+needs_version verb.Options = false
+needs_version verb.Get = false
+needs_version v = true
 
--- OPTIONS and GET need no version
 abbrev pub lacks_version : Asking → Bool
-lacks_version x =
-    not (bytes_eq x.method (codes "OPTIONS") || bytes_eq x.method (codes "GET") || is_only (codes "1.0.0") (given x (codes "tus-resumable")))
+lacks_version x = needs_version x.verb && not (is_word_when (codes "1.0.0") (only (x.given (codes "tus-resumable"))))
 
 abbrev pub decided : (Encoding → Bool) → Asking → Verdict
 decided offers x = if lacks_version x then refused x TusVersion else on_place offers x x.place
 
 -- a request whose body has no known end
-abbrev pub cut_off : RequestHead → Fault → Verdict
-cut_off h f = Refuses (record { fault = f; length = 0; on_files = is_files (place_of (before 63 h.target)); bare = bytes_eq h.method (codes "HEAD"); closes = true })
+abbrev pub cut_off : Line → Fault → Verdict
+cut_off line f = Refuses (record { fault = f; length = 0; on_files = is_files (line_place line); bare = is_bare line; closes = true })
 
-abbrev pub measured : (Encoding → Bool) → RequestHead → List (List ℕ × List ℕ) → Option ℕ → Verdict
-measured offers h fields None = cut_off h BadLength
-measured offers h fields (Some length) = decided offers (asking h fields length)
+-- the length of the body is known
+abbrev pub measured : (Encoding → Bool) → Line → (List ℕ → List (List ℕ)) → Option ℕ → Verdict
+measured offers line given None = cut_off line BadLength
+measured offers line given (Some length) = decided offers (asking line given length)
 
-abbrev pub checked : (Encoding → Bool) → RequestHead → List (List ℕ × List ℕ) → Verdict
-checked offers h fields =
-    if is_given (values_in fields (codes "transfer-encoding")) then cut_off h Coding
-    else measured offers h fields (length_in (values_in fields (codes "content-length")))
+-- the body has no transfer coding
+abbrev pub checked : (Encoding → Bool) → Line → (List ℕ → List (List ℕ)) → Verdict
+checked offers line given =
+    if is_given (given (codes "transfer-encoding")) then cut_off line Coding
+    else measured offers line given (length_in (given (codes "content-length")))
+
+abbrev pub line_of : RequestHead → Line
+line_of h = record { method = h.method; target = h.target; minor = h.minor }
 
 abbrev pub verdict_on : (Encoding → Bool) → RequestHead → Verdict
-verdict_on offers h = checked offers h (map name_and_value h.fields)
+verdict_on offers h = checked offers (line_of h) (values_in (map name_and_value h.fields))
 
 -- no head stands there
 abbrev pub no_head : Fault → Verdict

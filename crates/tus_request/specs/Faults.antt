@@ -1,11 +1,9 @@
 -- The refusals, with their numbers.
 use Rattle.std.specs.Prelude.{ℕ}
 use Rattle.tus_request.specs.declared.faults.Fault.{Fault}
-use Rattle.tus_request.specs.declared.faults.Fault.TheVariants.{NoMemory, DiskFault, Unencodable, NoSuch, Offset, TooLong, Slots, TooLarge, Full, Malformed, HeadTooLong, Coding, BadLength, TusVersion, NoRoute, BadMethod, MediaType, BadHeader, BadMetadata, BadLabel, TooMany, Closed}
+use Rattle.tus_request.specs.declared.faults.Fault.TheVariants.{Unencodable, NoSuch, Offset, TooLong, Slots, TooLarge, Full, Malformed, HeadTooLong, Coding, BadLength, TusVersion, NoRoute, BadMethod, MediaType, BadHeader, BadMetadata, BadLabel}
 
 abbrev pub fault_number : Fault → ℕ
-fault_number NoMemory = 0
-fault_number DiskFault = 1
 fault_number Unencodable = 6
 fault_number NoSuch = 8
 fault_number Offset = 9
@@ -24,5 +22,3 @@ fault_number MediaType = 25
 fault_number BadHeader = 26
 fault_number BadMetadata = 27
 fault_number BadLabel = 28
-fault_number TooMany = 29
-fault_number Closed = 30

@@ -1,30 +1,17 @@
--- The metadata of an upload.
-use Rattle.std.specs.Prelude.{ℕ, Bool, false, ◌&&◌, ◌||◌, List, [], ◌∷◌, map, length, reverse, codes, bytes_eq, nat_le, ◌==◌, if◌then◌else◌, Option, Some, None, option_map}
+-- The metadata of an upload (tus 1.0.0, "Upload-Metadata").
+use Rattle.std.specs.Prelude.{ℕ, Bool, false, ◌&&◌, ◌||◌, List, [], ◌∷◌, ◌++◌, map, length, codes, bytes_eq, nat_le, if◌then◌else◌, Option, Some, None, option_map}
 use Rattle.std.specs.List.{list_all}
-use Rattle.std.specs.Char.{to_ascii_lowercase}
 use Rattle.enc_model.specs.declared.Encoding.{Encoding}
-use Rattle.enc_model.specs.declared.Encoding.TheVariants as encodings
 use Rattle.enc_model.specs.declared.Mode.{Mode}
 use Rattle.enc_model.specs.declared.Mode.TheVariants.{Html, Fatal}
-use Rattle.tus_request.specs.Lines.{onto_first}
+use Rattle.enc_labels.specs.Labels.{encoding_of, output_of}
 use Rattle.tus_request.specs.Reading.{before, behind}
+use Rattle.tus_request.specs.Texts.{parts, trimmed}
 use Rattle.tus_request.specs.Value.{value_of}
 
--- the parts between the marks
-abbrev pub split : ℕ → List ℕ → List (List ℕ)
-split mark [] = [] ∷ []
-split mark (b ∷ bytes) = if b == mark then [] ∷ split mark bytes else onto_first b (split mark bytes)
-
--- without the bytes at both ends that a test lets go
-abbrev pub skipped : (ℕ → Bool) → List ℕ → List ℕ
-skipped goes [] = []
-skipped goes (b ∷ bytes) = if goes b then skipped goes bytes else b ∷ bytes
-
-abbrev pub trimmed : (ℕ → Bool) → List ℕ → List ℕ
-trimmed goes bytes = reverse (skipped goes (reverse (skipped goes bytes)))
-
-abbrev pub Pair : Type 0
-Pair = List ℕ × List ℕ
+-- a key and its value
+abbrev pub KeyValue : Type 0
+KeyValue = List ℕ × List ℕ
 
 -- a value is empty or the Base64 of some bytes
 abbrev pub pair_value : List ℕ → Option (List ℕ)
@@ -32,55 +19,63 @@ pair_value [] = Some []
 pair_value (b ∷ text) = value_of (b ∷ text)
 
 -- a key, or a key, one space and a value. The key isn't empty
-abbrev pub pair_with : List ℕ → List ℕ → Option Pair
+abbrev pub pair_with : List ℕ → List ℕ → Option KeyValue
 pair_with [] text = None
 pair_with (k ∷ key) text = option_map (λ value. (k ∷ key, value)) (pair_value text)
 
-abbrev pub pair_of : List ℕ → Option Pair
+abbrev pub pair_of : List ℕ → Option KeyValue
 pair_of part = pair_with (before 32 part) (behind 32 part)
 
-abbrev pub has_key : List ℕ → List Pair → Bool
+abbrev pub has_key : List ℕ → List KeyValue → Bool
 has_key key [] = false
-has_key key (pair ∷ pairs) = bytes_eq key pair.0 || has_key key pairs
+has_key key (pair ∷ pairs) = bytes_eq pair.0 key || has_key key pairs
 
--- a key comes once
-abbrev pub with_pair : Option Pair → Option (List Pair) → Option (List Pair)
-with_pair None pairs = None
-with_pair (Some pair) None = None
-with_pair (Some pair) (Some pairs) = if has_key pair.0 pairs then None else Some (pair ∷ pairs)
+-- one pair more, whose key no pair before it has
+abbrev pub with_pair : List KeyValue → Option KeyValue → Option (List KeyValue)
+with_pair pairs None = None
+with_pair pairs (Some pair) = if has_key pair.0 pairs then None else Some (pairs ++ pair ∷ [])
 
-abbrev pub pairs_of : List (List ℕ) → Option (List Pair)
-pairs_of [] = Some []
-pairs_of (part ∷ parts) = with_pair (pair_of part) (pairs_of parts)
+-- the pairs before, and those that the parts write
+abbrev pub pairs_from : Option (List KeyValue) → List (List ℕ) → Option (List KeyValue)
+pairs_from None rest = None
+pairs_from (Some pairs) [] = Some pairs
+pairs_from (Some pairs) (part ∷ rest) = pairs_from (with_pair pairs (pair_of part)) rest
 
--- at most 1,536 bytes of 20..7E; empty is none
-abbrev pub metadata_of : List ℕ → Option (List Pair)
+abbrev pub is_plain : ℕ → Bool
+is_plain b = nat_le 32 b && nat_le b 126
+
+-- at most 1,536 bytes of 20..7E
+abbrev pub is_metadata : List ℕ → Bool
+is_metadata bytes = nat_le (length bytes) 1536 && list_all is_plain bytes
+
+-- empty is none. Spaces round a pair don't count
+abbrev pub metadata_of : List ℕ → Option (List KeyValue)
 metadata_of [] = Some []
 metadata_of (b ∷ bytes) =
-    if nat_le (length (b ∷ bytes)) 1536 && list_all (λ c. nat_le 32 c && nat_le c 126) (b ∷ bytes)
-    then pairs_of (map (trimmed (λ c. c == 32)) (split 44 (b ∷ bytes))) else None
+    if is_metadata (b ∷ bytes) then pairs_from (Some []) (map (trimmed (32 ∷ [])) (parts (b ∷ bytes))) else None
 
 -- the value of a key, or a default
-abbrev pub setting : List ℕ → List ℕ → List Pair → List ℕ
+abbrev pub setting : List ℕ → List ℕ → List KeyValue → List ℕ
 setting key other [] = other
-setting key other (pair ∷ pairs) = if bytes_eq key pair.0 then pair.1 else setting key other pairs
-
--- A STAND-IN: some labels (the whole table is the crate of the labels')
-abbrev pub encoding_with : List ℕ → Option Encoding
-encoding_with label =
-    if bytes_eq label (codes "utf-8") then Some encodings.Utf8
-    else if bytes_eq label (codes "shift_jis") then Some encodings.ShiftJis
-    else if bytes_eq label (codes "windows-1252") then Some encodings.Windows1252
-    else if bytes_eq label (codes "utf-16le") then Some encodings.Utf16Le
-    else None
-
-abbrev pub encoding_of : List ℕ → Option Encoding
-encoding_of label = encoding_with (map to_ascii_lowercase (trimmed (λ c. c == 9 || c == 10 || c == 12 || c == 13 || c == 32) label))
-
-abbrev pub output_of : Encoding → Encoding
-output_of encodings.Utf16Be = encodings.Utf8
-output_of encodings.Utf16Le = encodings.Utf8
-output_of e = e
+setting key other (pair ∷ pairs) = if bytes_eq pair.0 key then pair.1 else setting key other pairs
 
 abbrev pub mode_of : List ℕ → Option Mode
 mode_of name = if bytes_eq name (codes "html") then Some Html else if bytes_eq name (codes "fatal") then Some Fatal else None
+
+-- the encoding of the bytes, that of the text, and what becomes of characters that the latter hasn't
+pub record Choice : Type 0 where
+  pub from : Encoding
+  pub to : Encoding
+  pub mode : Mode
+
+abbrev pub choice_with : Option Encoding → Option Encoding → Option Mode → Option Choice
+choice_with None to mode = None
+choice_with (Some from) None mode = None
+choice_with (Some from) (Some to) None = None
+choice_with (Some from) (Some to) (Some mode) = Some (record { from = from; to = output_of to; mode = mode })
+
+-- what the keys `from`, `to` and `mode` ask for, if there is such; other keys don't count
+abbrev pub choice_of : List KeyValue → Option Choice
+choice_of pairs =
+    choice_with (encoding_of (setting (codes "from") (codes "utf-8") pairs)) (encoding_of (setting (codes "to") (codes "utf-8") pairs))
+    (mode_of (setting (codes "mode") (codes "html") pairs))

@@ -2,7 +2,7 @@
 use Rattle.std.specs.Prelude.{ℕ, Bool, List, [], ◌∷◌, ◌++◌, if◌then◌else◌, Option, Some, None, codes}
 use Rattle.std.specs.Fmt.{decimal}
 use Rattle.enc_model.specs.declared.Encoding.{Encoding}
-use Rattle.enc_model.specs.declared.Encoding.TheVariants as e
+use Rattle.enc_labels.specs.Labels.{name_of}
 use Rattle.tus_request.specs.declared.faults.Fault.{Fault}
 use Rattle.tus_request.specs.declared.faults.Fault.TheVariants.{Unencodable, NoSuch, Offset, TooLong, Slots, TooLarge, Full, HeadTooLong, Coding, TusVersion, NoRoute, BadMethod, MediaType}
 use Rattle.tus_request.specs.Faults.{fault_number}
@@ -35,11 +35,12 @@ reply status lines body_length closes =
 abbrev pub unless_bare : Bool → ℕ → Option ℕ
 unless_bare bare n = if bare then None else Some n
 
+abbrev pub options_lines : List ℕ
+options_lines =
+    header (codes "Tus-Version") (codes "1.0.0") ++ (header (codes "Tus-Extension") (codes "creation") ++ header (codes "Tus-Max-Size") (codes "1073741824"))
+
 abbrev pub reply_options : Bool → List ℕ
-reply_options closes =
-    reply (codes "204 No Content")
-    (header (codes "Tus-Version") (codes "1.0.0") ++ (header (codes "Tus-Extension") (codes "creation") ++ header (codes "Tus-Max-Size") (codes "1073741824")))
-    None closes
+reply_options closes = reply (codes "204 No Content") options_lines None closes
 
 abbrev pub reply_created : ℕ → Bool → Bool → List ℕ
 reply_created number bare closes =
@@ -53,29 +54,6 @@ reply_head offset declared metadata bare closes =
 
 abbrev pub reply_patched : ℕ → Bool → List ℕ
 reply_patched offset closes = reply (codes "204 No Content") (header (codes "Upload-Offset") (decimal offset)) None closes
-
-abbrev pub name_of : Encoding → List ℕ
-name_of e.Utf8 = codes "UTF-8"
-name_of e.Utf16Be = codes "UTF-16BE"
-name_of e.Utf16Le = codes "UTF-16LE"
-name_of e.ShiftJis = codes "Shift_JIS"
-name_of e.EucJp = codes "EUC-JP"
-name_of e.Iso2022Jp = codes "ISO-2022-JP"
-name_of e.Ibm866 = codes "IBM866"
-name_of e.Iso8859X2 = codes "ISO-8859-2"
-name_of e.Iso8859X5 = codes "ISO-8859-5"
-name_of e.Iso8859X15 = codes "ISO-8859-15"
-name_of e.Koi8R = codes "KOI8-R"
-name_of e.Macintosh = codes "macintosh"
-name_of e.Windows1250 = codes "windows-1250"
-name_of e.Windows1251 = codes "windows-1251"
-name_of e.Windows1252 = codes "windows-1252"
-name_of e.Windows1253 = codes "windows-1253"
-name_of e.Windows1254 = codes "windows-1254"
-name_of e.Windows1255 = codes "windows-1255"
-name_of e.Windows1256 = codes "windows-1256"
-name_of e.Windows1257 = codes "windows-1257"
-name_of e.Windows1258 = codes "windows-1258"
 
 abbrev pub reply_text : Encoding → ℕ → Bool → Bool → List ℕ
 reply_text to length bare closes =
@@ -103,11 +81,14 @@ status_of _ = codes "400 Bad Request"
 abbrev pub refusal_line : Fault → List ℕ
 refusal_line f = header (codes "X-Refusal") (decimal (fault_number f))
 
+-- the line in front of a refusal's number, where it has one
+abbrev pub refusal_lead : Fault → Bool → List ℕ
+refusal_lead TusVersion on_files = header (codes "Tus-Version") (codes "1.0.0")
+refusal_lead BadMethod on_files = header (codes "Allow") (if on_files then codes "OPTIONS, POST" else codes "OPTIONS, HEAD, PATCH, GET")
+refusal_lead f on_files = []
+
 abbrev pub refusal_lines : Fault → Bool → List ℕ
-refusal_lines TusVersion on_files = header (codes "Tus-Version") (codes "1.0.0") ++ refusal_line TusVersion
-refusal_lines BadMethod on_files =
-    header (codes "Allow") (if on_files then codes "OPTIONS, POST" else codes "OPTIONS, HEAD, PATCH, GET") ++ refusal_line BadMethod
-refusal_lines f on_files = refusal_line f
+refusal_lines f on_files = refusal_lead f on_files ++ refusal_line f
 
 abbrev pub reply_refused : Fault → Bool → Bool → Bool → List ℕ
 reply_refused f on_files bare closes = reply (status_of f) (refusal_lines f on_files) (unless_bare bare 0) closes

@@ -4,22 +4,25 @@ use Rattle.enc_model.specs.declared.Encoding.{Encoding}
 use Rattle.enc_model.specs.declared.Mode.{Mode}
 use Rattle.tus_request.specs.declared.faults.Fault.{Fault}
 
--- the fields of an upload to be made
-pub record New : Type 0 where
+-- an upload to be made: how many bytes it will have, the encoding of these and of the text, what becomes of characters that
+-- the latter hasn't, and the metadata as given
+pub record Creation : Type 0 where
   pub declared : ℕ
   pub from : Encoding
   pub to : Encoding
   pub mode : Mode
   pub metadata : List ℕ
 
--- (with terminations: Delete number; with deferred lengths: an optional length in New and in Patch)
+-- what a request asks for; of an upload by its number, and a PATCH with the offset that it names
 pub data Action : Type 0 where
   Options : Action
-  Create : New → Action
+  Create : Creation → Action
   Head : ℕ → Action
   Get : ℕ → Action
   Patch : ℕ → ℕ → Action
 
+-- a request that passed its checks: the bytes of its body, whether the request line says HEAD, whether it is a PATCH that
+-- awaits 100 Continue, and whether the connection closes behind the reply, whatever it is
 pub record Request : Type 0 where
   pub action : Action
   pub length : ℕ
@@ -27,6 +30,7 @@ pub record Request : Type 0 where
   pub expects : Bool
   pub closes : Bool
 
+-- a request that is refused: why, the bytes of its body, whether its path is `/files`, and the same two as above
 pub record Refusal : Type 0 where
   pub fault : Fault
   pub length : ℕ

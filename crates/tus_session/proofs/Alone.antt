@@ -2,9 +2,11 @@
 use Rattle.std.proofs.Common.{ℕ, [], ◌++◌, ◌-◌, ◌≡◌, Bool, true, false, List, Option, Some, None, length, take, refl, ◌∙◌, ap, sym, append-nil, if◌then◌else◌, option_map}
 use Rattle.tus_request.proofs.Fronts.{steady}
 use Rattle.tus_request.specs.Steady.{IsSteady}
+use Rattle.enc_model.specs.Indexes.{offers}
 use Rattle.upload_rules.specs.World.{World}
 use Rattle.tus_session.specs.Streams.{Moments, moments, taken}
-use Rattle.tus_session.specs.Turns.{Conn, Giving, Acted, Turn, is_pending, at_head, body_step, turn_of, came_at, came_on, reader, came_turn}
+use Rattle.tus_action.specs.Acts.{Giving, Acted, is_pending}
+use Rattle.tus_session.specs.Turns.{Conn, Turn, at_head, body_step, turn_of, came_at, came_on, reader, came_turn}
 use Rattle.tus_session.proofs.Cuts.{left, moments_alone, taken_alone}
 
 abbrev pub with_stream : List ℕ → Conn → Conn
@@ -51,4 +53,4 @@ on_again w k piece steady None =
 pub came_alone : (w : World) (k : Conn) (piece : List ℕ)
   → came_turn w k piece ≡ restreamed k.stream piece (came_turn w (with_stream (left (reader w) k.stream) k) piece)
 unfolding came_turn
-came_alone w k piece = on_again w k piece (steady w.store.indexes.offers) k.pending
+came_alone w k piece = on_again w k piece (steady (offers w.store.indexes)) k.pending

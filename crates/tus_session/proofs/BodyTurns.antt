@@ -4,6 +4,7 @@ use Rattle.std.proofs.lemmas.List.{length-take-le, take_all}
 use Rattle.tus_request.proofs.Fronts.{steady}
 use Rattle.tus_request.specs.Requests.{body_length}
 use Rattle.tus_request.specs.Steady.{IsSteady}
+use Rattle.enc_model.specs.Indexes.{offers}
 use Rattle.upload_rules.specs.World.{World}
 use Rattle.tus_session.specs.Streams.{Asked, InBody, cut, Moments, moments, taken}
 use Rattle.tus_session.specs.Turns.{Conn, Turn, at_head, body_step, turn_of, came_at, came_on, reader, came_turn}
@@ -26,7 +27,7 @@ module _ (w : World) (k : Conn) (asked : Asked) (rest : (cut (reader w) k.stream
   unfolding came_turn
   part_turn piece idle few =
       let answer = reader w in
-      let s : IsSteady answer = steady w.store.indexes.offers in
+      let s : IsSteady answer = steady (offers w.store.indexes) in
       let u = left answer k.stream in
       let b = left_body answer s k.stream asked rest in
       let only : cut answer u ≡ only_body asked = left_alone answer s k.stream ∙ ap (λ x. record { whole = []; rest = x }) rest in
@@ -45,7 +46,7 @@ module _ (w : World) (k : Conn) (asked : Asked) (rest : (cut (reader w) k.stream
   unfolding came_turn
   rest_turn piece idle enough wants =
       let answer = reader w in
-      let s : IsSteady answer = steady w.store.indexes.offers in
+      let s : IsSteady answer = steady (offers w.store.indexes) in
       let u = left answer k.stream in
       let c = body_length asked.verdict - length asked.body in
       let q = take c piece in

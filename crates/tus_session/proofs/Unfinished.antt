@@ -54,7 +54,7 @@ left_body answer steady s r e =
     answer_case answer u r (answer u) refl (sym f ∙ cut_steps answer steady u)
 
 -- the cut with more of the body
-cut_more : (answer : Reader) → IsSteady answer → (u q : List ℕ) (n : ℕ) (r : Asked) → IsBody answer u n r
+pub cut_more : (answer : Reader) → IsSteady answer → (u q : List ℕ) (n : ℕ) (r : Asked) → IsBody answer u n r
   → cut answer (u ++ q) ≡ behind_head (cut answer) r.head r.verdict (r.body ++ q) (nat_lt (length (r.body ++ q)) (body_length r.verdict))
 cut_more answer steady u q n r is =
     let v = r.verdict in
@@ -92,7 +92,7 @@ empty_answer answer steady (Judged n v) e =
     let within : n ≤ 0 = steady.within [] n v e in
     absurd (omega arith)
 
-empty_cut : (answer : Reader) → IsSteady answer → cut answer [] ≡ record { whole = []; rest = InHead [] }
+pub empty_cut : (answer : Reader) → IsSteady answer → cut answer [] ≡ record { whole = []; rest = InHead [] }
 empty_cut answer steady = cut_steps answer steady [] ∙ ap (by_answer (cut answer) []) (empty_answer answer steady (answer []) refl)
 
 -- its last bytes

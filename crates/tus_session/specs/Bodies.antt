@@ -1,24 +1,58 @@
--- What the end of a body is answered.
-use Rattle.std.specs.Prelude.{◌≡◌, Option, Some, None, Result, Ok, Err}
-use Rattle.tus_request.specs.declared.faults.Fault.{Fault}
-use Rattle.upload_rules.specs.World.{Patch}
-use Rattle.upload_rules.specs.Calls.{reached}
-use Rattle.tus_session.specs.declared.bodies.BodyReply.{BodyReply}
-use Rattle.tus_session.specs.declared.bodies.BodyReply.TheVariants.{Patched, Refused}
-use Rattle.tus_session.specs.declared.bodies.Stop.{Stop}
-use Rattle.tus_session.specs.declared.bodies.Stop.TheVariants.{NoMemory, DiskFault}
+-- What becomes of a patch whose body goes on, or ends.
+use Rattle.std.specs.Prelude.{◌≡◌, ◌++◌, ◌-◌, ◌+◌, ℕ, Bool, false, List, length, Result, Ok, Err, Some, if◌then◌else◌}
+use Rattle.upload_rules.specs.Store.{find}
+use Rattle.upload_rules.specs.World.{World, Patch}
+use Rattle.upload_rules.specs.Calls.{dropped, commit_refusal}
+use Rattle.upload_rules.specs.declared.uploads.Uploads.{Ghosts}
+use Rattle.tus_request.specs.Requests.{Request}
+use Rattle.tus_action.specs.Acts.{Acted, fed, fed_patch, committed_as}
+use Rattle.tus_session.specs.declared.answers.Answer.{Answer}
+use Rattle.tus_session.specs.declared.conns.Patching.{Patching}
+use Rattle.tus_session.specs.declared.conns.Link.{Link}
+use Rattle.tus_session.specs.declared.conns.Task.TheVariants as tasks
+use Rattle.tus_session.specs.declared.conns.Place.{Place}
+use Rattle.tus_session.specs.declared.conns.Place.TheVariants.{Closed, Open}
+use Rattle.tus_session.specs.declared.errors.SessionError.{SessionError}
+use Rattle.tus_session.specs.declared.errors.SessionError.TheVariants.{NoMemory, DiskFault}
 
-abbrev pub reply_by : Option Fault → Patch → BodyReply
-reply_by None p = Patched (reached p)
-reply_by (Some f) p = Refused f
+-- the answer that gives nothing more
+abbrev pub took : ℕ → Bool → Answer
+took n closes = record { taken = n; closes = closes; more = false }
 
--- answered by the rules; or memory was wanting, and the patch is gone; or the device failed, and nothing is said
-abbrev pub EndedAs : Result BodyReply Stop → BodyReply → Type 0 → Type 0 → Type 0
-EndedAs (Ok r) reply done gone = (r ≡ reply) × done
-EndedAs (Err NoMemory) reply done gone = gone
-EndedAs (Err DiskFault) reply done gone = Unit {0}
+-- the patch goes on: the same but for its draft
+pub record GoesOn {U B : Type 0} (u : Ghosts U B) (store : U) (place : Place B) (a : Answer) (k : Link B) (b b' : Patching B) (taken : ℕ) (w : World) (p : Patch) : Type 0 where
+  pub place_is : place ≡ Open (record k { task = tasks.Patch b' })
+  pub answer_is : a ≡ took taken false
+  pub number : u.number_of b'.draft ≡ u.number_of b.draft
+  pub holds : u.holds b'.draft p
+  pub found : find (u.number_of b.draft) w.patches ≡ Some p
+  pub shown : u.stands store w
+  pub reached : b'.reached ≡ b.reached
+  pub bare : b'.bare ≡ b.bare
+  pub closes : b'.closes ≡ b.closes
 
-abbrev pub KeptAs : {T : Type 0} → Result T Stop → (T → Type 0) → Type 0 → Type 0
-KeptAs (Ok t) kept gone = kept t
-KeptAs (Err NoMemory) kept gone = gone
-KeptAs (Err DiskFault) kept gone = Unit {0}
+abbrev pub GoesOnSome : {U B : Type 0} → Ghosts U B → U → Place B → Answer → Link B → Patching B → ℕ → World → Patch → Type 0
+GoesOnSome {U} {B} u store place a k b taken w p = (b' : Patching B) × GoesOn u store place a k b b' taken w p
+
+abbrev pub Parts : {U B : Type 0} → Ghosts U B → U → Place B → Result Answer SessionError → Link B → Patching B → ℕ → World → Patch → World → Type 0
+Parts u store place (Ok a) k b taken w p gone = GoesOnSome u store place a k b taken w p
+Parts u store place (Err NoMemory) k b taken w p gone = u.stands store gone × (place ≡ Closed)
+Parts u store place (Err DiskFault) k b taken w p gone = Unit {0}
+Parts u store place (Err f) k b taken w p gone = ⊥
+
+-- an answer was given, and nothing is open
+pub record Answered {U B : Type 0} (u : Ghosts U B) (store : U) (place : Place B) (a : Answer) (old new : List ℕ) (k : Link B) (taken : ℕ) (m : Acted) : Type 0 where
+  pub shown : u.stands store m.world
+  pub place_is : place ≡ (if m.closes then Closed else Open (record k { task = tasks.Idle }))
+  pub answer_is : a ≡ took taken m.closes
+  pub bytes : new ≡ old ++ m.bytes
+
+abbrev pub Replies : {U B : Type 0} → Ghosts U B → U → Place B → Result Answer SessionError → List ℕ → List ℕ → Link B → ℕ → Acted → World → Type 0
+Replies u store place (Ok a) old new k taken m gone = Answered u store place a old new k taken m
+Replies u store place (Err NoMemory) old new k taken m gone = u.stands store gone × (place ≡ Closed) × (new ≡ old)
+Replies u store place (Err DiskFault) old new k taken m gone = new ≡ old
+Replies u store place (Err f) old new k taken m gone = ⊥
+
+-- the body's end, with the rest of the body
+abbrev pub ended_by : World → ℕ → Patch → List ℕ → Request → Acted
+ended_by w d p piece r = committed_as (fed w d piece) d (fed_patch w d p piece) r (commit_refusal (fed w d piece) d (fed_patch w d p piece))

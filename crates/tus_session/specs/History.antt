@@ -1,10 +1,11 @@
 -- The history: what a list of events makes of the uploads and the connections.
 use Rattle.std.specs.Prelude.{ℕ, Bool, true, false, List, [], ◌∷◌, nat_lt, ◌==◌, if◌then◌else◌, Option, Some, None}
-use Rattle.tus_request.specs.declared.faults.Fault.{Fault}
-use Rattle.tus_request.specs.declared.faults.Fault.TheVariants.{NoMemory, DiskFault, TooMany, Closed}
+use Rattle.tus_session.specs.declared.errors.SessionError.{SessionError}
+use Rattle.tus_session.specs.declared.errors.SessionError.TheVariants.{NoMemory, DiskFault, TooMany, Closed}
 use Rattle.upload_rules.specs.Store.{Store}
 use Rattle.upload_rules.specs.World.{World, at_rest}
-use Rattle.tus_session.specs.Turns.{Conn, Turn, fresh, is_pending, came_turn, more_turn, ended_world, left_world}
+use Rattle.tus_action.specs.Acts.{is_pending}
+use Rattle.tus_session.specs.Turns.{Conn, Turn, fresh, came_turn, more_turn, ended_world, left_world}
 
 pub data Event : Type 0 where
   Opened : ℕ → Event
@@ -22,7 +23,7 @@ Marked = Event × Mark
 pub data Outcome : Type 0 where
   Gave : List ℕ → ℕ → Bool → Bool → Outcome
   Done : Outcome
-  Refused : Fault → Outcome
+  Refused : SessionError → Outcome
 
 -- the world, and the open connections
 pub record State : Type 0 where
@@ -39,7 +40,7 @@ with_conn conns c conn k = if k == c then conn else conns k
 abbrev pub put : State → World → ℕ → Option Conn → State
 put st w c conn = record { world = w; conns = with_conn st.conns c conn }
 
-abbrev pub kept : State → Fault → Step
+abbrev pub kept : State → SessionError → Step
 kept st f = record { state = st; outcome = Refused f }
 
 abbrev pub has_text : Option Conn → Bool

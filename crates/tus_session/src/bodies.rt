@@ -1,66 +1,190 @@
-//! A patch's body, over any store of uploads.
-ghost use Rattle.std.specs.Prelude.{◌≡◌, ◌+◌, ◌≤◌, length, Some};
+// A body under way: what came of it, and its end.
+ghost use Rattle.std.specs.Prelude.{◌≡◌, ◌+◌, ◌-◌, ◌<◌, ◌≤◌, ◌^◌, false, length, take, min, None, Some, IsErrOf, if◌then◌else◌};
 ghost use Rattle.upload_rules.specs.Store.{find};
 ghost use Rattle.upload_rules.specs.World.{World, Patch};
-ghost use Rattle.upload_rules.specs.Calls.{appended, longer, commit_refusal, spent, dropped};
-ghost use Rattle.tus_session.specs.Bodies.{reply_by, EndedAs, KeptAs};
+ghost use Rattle.upload_rules.specs.Calls.{dropped};
+ghost use Rattle.upload_rules.specs.Answers.{Limits, Counts};
+ghost use Rattle.tus_request.specs.Requests.{Request};
+ghost use Rattle.tus_action.specs.Acts.{fed, fed_patch};
+ghost use Rattle.tus_session.specs.Bodies.{Parts, Replies, ended_by, took};
 
-use tus_request::faults::Fault;
+use crate::conns::{Link, Patching, Place, Task};
+use crate::turns::place_of;
+use crate::{Answer, SessionError};
+use std::alloc::Global;
+use tus_action::{Acted, Stop, end_body, feed_body};
 use upload_rules::Uploads;
 
-/// What is said at the end of a body.
-#[derive(Clone, Copy, Debug, PartialEq, Eq)]
-pub enum BodyReply {
-    /// The new offset.
-    Patched(u64),
-    /// Nothing was changed.
-    Refused(Fault),
-}
-
-/// Why a call gives no answer.
-#[derive(Clone, Copy, Debug, PartialEq, Eq)]
-pub enum Stop {
-    NoMemory,
-    DiskFault,
-}
-
-/// The body is there: its patch is committed, or refused and dropped.
-pub fn end_body<U: Uploads>(store: &mut U, draft: U::Draft) -> Result<BodyReply, Stop>
-    ensures answer { (w : World) (p : Patch) → U.stands store.old w → find (U.number_of draft) w.patches ≡ Some p → U.holds draft p
-        → EndedAs result (reply_by (commit_refusal w (U.number_of draft) p) p)
-            (U.stands store.new (spent w (U.number_of draft) p (commit_refusal w (U.number_of draft) p)))
-            (U.stands store.new (dropped w (U.number_of draft))) }
+// A body that is dropped: what came of it is taken.
+pub(crate) fn skip<B>(head: Vec<u8>, left: u64, before: usize, behind: usize, closes: bool) -> (Place<B>, Answer)
+    requires { before + behind < 2 ^ 64 }
+    ensures place { result.0 ≡ (if closes then Place.Closed else Place.Open (record { head = head; left = left - min left behind; task = Task.Idle })) }
+    ensures answer { result.1 ≡ took (before + min left behind) closes }
 {
-    match store.commit(draft) {
-        Ok(offset) => Ok(BodyReply::Patched(offset)),
-        Err(error) => match error {
-            Fault::NoMemory => Err(Stop::NoMemory),
-            Fault::DiskFault => Err(Stop::DiskFault),
-            refusal => Ok(BodyReply::Refused(refusal)),
-        },
+    let count = left.min(behind as u64);
+    let answer = Answer {
+        taken: before + count as usize,
+        closes,
+        more: false,
+    };
+    (place_of(head, left - count, closes), answer)
+}
+
+// More of a patch's body came, but not its end.
+fn go_on<U: Uploads>(
+    store: &mut U,
+    head: Vec<u8>,
+    patch: Patching<U::Draft>,
+    left: u64,
+    before: usize,
+    bytes: &[u8],
+) -> (Place<U::Draft>, Result<Answer, SessionError>)
+    requires few { length bytes.now < left }
+    requires fits { before + length bytes.now < 2 ^ 64 }
+    ensures answer { (w : World) (p : Patch) → U.stands store.old w → find (U.number_of patch.draft) w.patches ≡ Some p → U.holds patch.draft p
+        → length p.body + length bytes.now ≤ p.count
+        → Parts U.Uploads store.new result.0 result.1 (record { head = head; left = left - length bytes.now; task = Task.Idle }) patch (before + length bytes.now)
+            (fed w (U.number_of patch.draft) bytes.now) (fed_patch w (U.number_of patch.draft) p bytes.now) (dropped w (U.number_of patch.draft)) }
+    ensures crash { (w : World) (p : Patch) → U.stands store.old w → find (U.number_of patch.draft) w.patches ≡ Some p → U.holds patch.draft p
+        → Limits (U.moment store.old) (U.moment store.new) (U.left_only store.old) (U.left_only store.new) w.store w.store }
+    ensures counts { Counts (IsErrOf result.1 SessionError.DiskFault) (U.failures store.old) (U.failures store.new) }
+{
+    let Patching {
+        draft,
+        reached,
+        bare,
+        closes,
+    } = patch;
+    match feed_body(store, draft, bytes) {
+        Ok(draft) => {
+            let patch = Patching {
+                draft,
+                reached,
+                bare,
+                closes,
+            };
+            let link = Link {
+                head,
+                left: left - bytes.len() as u64,
+                task: Task::Patch(patch),
+            };
+            let answer = Answer {
+                taken: before + bytes.len(),
+                closes: false,
+                more: false,
+            };
+            (Place::Open(link), Ok(answer))
+        }
+        Err(Stop::NoMemory) => (Place::Closed, Err(SessionError::NoMemory)),
+        Err(Stop::DiskFault) => (Place::Closed, Err(SessionError::DiskFault)),
     }
 }
 
-/// Some of the body came: the draft goes on, or is dropped.
-pub fn feed_body<U: Uploads>(store: &mut U, draft: U::Draft, piece: &[u8]) -> Result<U::Draft, Stop>
-    ensures answer { (w : World) (p : Patch) → U.stands store.old w → find (U.number_of draft) w.patches ≡ Some p → U.holds draft p
-        → length p.body + length piece.now ≤ p.count
-        → KeptAs result
-            (λ kept. (U.number_of kept ≡ U.number_of draft) × U.holds kept (longer w (U.number_of draft) p piece.now)
-                × (find (U.number_of draft) (appended w (U.number_of draft) piece.now).patches ≡ Some (longer w (U.number_of draft) p piece.now))
-                × U.stands store.new (appended w (U.number_of draft) piece.now))
-            (U.stands store.new (dropped w (U.number_of draft))) }
+// The rest of a patch's body came: it is committed, or refused, and answered.
+fn finish<U: Uploads>(
+    alloc: Global,
+    store: &mut U,
+    head: Vec<u8>,
+    patch: Patching<U::Draft>,
+    before: usize,
+    bytes: &[u8],
+    out: &mut Vec<u8>,
+) -> (Place<U::Draft>, Result<Answer, SessionError>)
+    requires { before + length bytes.now < 2 ^ 64 }
+    ensures answer { (w : World) (p : Patch) (r : Request) → U.stands store.old w → find (U.number_of patch.draft) w.patches ≡ Some p → U.holds patch.draft p
+        → length p.body + length bytes.now ≡ p.count → patch.reached ≡ length p.began.accepted + p.count → patch.bare ≡ r.bare → patch.closes ≡ r.closes
+        → Replies U.Uploads store.new result.0 result.1 out.old.items out.new.items (record { head = head; left = 0; task = Task.Idle }) (before + length bytes.now)
+            (ended_by w (U.number_of patch.draft) p bytes.now r) (dropped w (U.number_of patch.draft)) }
+    ensures crash { (w : World) (p : Patch) (r : Request) → U.stands store.old w → find (U.number_of patch.draft) w.patches ≡ Some p → U.holds patch.draft p
+        → length p.body + length bytes.now ≤ p.count
+        → Limits (U.moment store.old) (U.moment store.new) (U.left_only store.old) (U.left_only store.new) w.store
+            (ended_by w (U.number_of patch.draft) p bytes.now r).world.store }
+    ensures counts { Counts (IsErrOf result.1 SessionError.DiskFault) (U.failures store.old) (U.failures store.new) }
 {
-    let mut draft = draft;
-    match store.append(&mut draft, piece) {
-        Ok(()) => Ok(draft),
-        Err(error) => {
-            store.drop_open(draft);
-            match error {
-                Fault::NoMemory => Err(Stop::NoMemory),
-                Fault::DiskFault => Err(Stop::DiskFault),
-                _other => Err(Stop::DiskFault),
-            }
+    let Patching {
+        draft,
+        reached,
+        bare,
+        closes,
+    } = patch;
+    let draft = match feed_body(store, draft, bytes) {
+        Ok(draft) => draft,
+        Err(Stop::NoMemory) => return (Place::Closed, Err(SessionError::NoMemory)),
+        Err(Stop::DiskFault) => return (Place::Closed, Err(SessionError::DiskFault)),
+    };
+    match end_body(alloc, store, draft, reached, bare, closes, out) {
+        Ok(acted) => {
+            let answer = Answer {
+                taken: before + bytes.len(),
+                closes: acted.closes,
+                more: false,
+            };
+            (answered(head, reached, bare, acted), Ok(answer))
         }
+        Err(Stop::NoMemory) => (Place::Closed, Err(SessionError::NoMemory)),
+        Err(Stop::DiskFault) => (Place::Closed, Err(SessionError::DiskFault)),
+    }
+}
+
+// A connection whose patch was answered.
+fn answered<B>(head: Vec<u8>, reached: u64, bare: bool, acted: Acted<B>) -> Place<B>
+    ensures { acted.draft ≡ None → result ≡ (if acted.closes then Place.Closed else Place.Open (record { head = head; left = 0; task = Task.Idle })) }
+{
+    let Acted {
+        draft,
+        giving: _,
+        closes,
+    } = acted;
+    match draft {
+        None => place_of(head, 0, closes),
+        Some(draft) => {
+            let patch = Patching {
+                draft,
+                reached,
+                bare,
+                closes,
+            };
+            Place::Open(Link {
+                head,
+                left: 0,
+                task: Task::Patch(patch),
+            })
+        }
+    }
+}
+
+// What came of a patch's body: it goes on, or it is answered.
+pub(crate) fn body_of<U: Uploads>(
+    alloc: Global,
+    store: &mut U,
+    head: Vec<u8>,
+    patch: Patching<U::Draft>,
+    left: u64,
+    before: usize,
+    bytes: &[u8],
+    out: &mut Vec<u8>,
+) -> (Place<U::Draft>, Result<Answer, SessionError>)
+    requires { before + length bytes.now < 2 ^ 64 }
+    ensures part { length bytes.now < left → (w : World) (p : Patch) → U.stands store.old w → find (U.number_of patch.draft) w.patches ≡ Some p → U.holds patch.draft p
+        → length p.body + length bytes.now ≤ p.count
+        → Parts U.Uploads store.new result.0 result.1 (record { head = head; left = left - length bytes.now; task = Task.Idle }) patch (before + length bytes.now)
+            (fed w (U.number_of patch.draft) bytes.now) (fed_patch w (U.number_of patch.draft) p bytes.now) (dropped w (U.number_of patch.draft)) }
+    ensures part_out { length bytes.now < left → out.new.items ≡ out.old.items }
+    ensures part_crash { length bytes.now < left → (w : World) (p : Patch) → U.stands store.old w → find (U.number_of patch.draft) w.patches ≡ Some p → U.holds patch.draft p
+        → Limits (U.moment store.old) (U.moment store.new) (U.left_only store.old) (U.left_only store.new) w.store w.store }
+    ensures rest { left ≤ length bytes.now → (w : World) (p : Patch) (r : Request) → U.stands store.old w → find (U.number_of patch.draft) w.patches ≡ Some p → U.holds patch.draft p
+        → length p.body + left ≡ p.count → patch.reached ≡ length p.began.accepted + p.count → patch.bare ≡ r.bare → patch.closes ≡ r.closes
+        → Replies U.Uploads store.new result.0 result.1 out.old.items out.new.items (record { head = head; left = 0; task = Task.Idle }) (before + left)
+            (ended_by w (U.number_of patch.draft) p (take left bytes.now) r) (dropped w (U.number_of patch.draft)) }
+    ensures rest_crash { left ≤ length bytes.now → (w : World) (p : Patch) (r : Request) → U.stands store.old w → find (U.number_of patch.draft) w.patches ≡ Some p → U.holds patch.draft p
+        → length p.body + left ≤ p.count
+        → Limits (U.moment store.old) (U.moment store.new) (U.left_only store.old) (U.left_only store.new) w.store
+            (ended_by w (U.number_of patch.draft) p (take left bytes.now) r).world.store }
+    ensures counts { Counts (IsErrOf result.1 SessionError.DiskFault) (U.failures store.old) (U.failures store.new) }
+{
+    if (bytes.len() as u64) < left {
+        go_on(store, head, patch, left, before, bytes)
+    } else {
+        finish(alloc, store, head, patch, before, &bytes[..left as usize], out)
     }
 }

@@ -1,5 +1,5 @@
 -- The same number and offset mean the same accepted bytes.
-use Rattle.std.proofs.Common.{◌≡◌, ℕ, ◌+◌, List, [], ◌∷◌, ◌++◌, length, Option, Some, None, refl, sym, ◌∙◌, ap, arith, append-nil}
+use Rattle.std.proofs.Common.{◌≡◌, ℕ, ◌+◌, List, [], ◌∷◌, ◌++◌, length, Option, Some, None, sym, ◌∙◌, ap, arith, append-nil}
 use Rattle.std.proofs.lemmas.List.{length-append}
 use Rattle.upload_rules.specs.Store.{Upload, upload_of, find, with_bytes}
 use Rattle.upload_rules.specs.World.{Patch, World}
@@ -21,5 +21,5 @@ grew_same p (Some v) u g f e =
 
 -- an open patch whose offset is still the count of accepted bytes began at the upload as it is
 pub same_upload : (w : World) (d : ℕ) (p : Patch) (u : Upload) → IsGrown w → find d w.patches ≡ Some p → upload_of w.store p.number ≡ Some u
-  → length u.accepted ≡ length p.began.accepted → u ≡ p.began
+    → length u.accepted ≡ length p.began.accepted → u ≡ p.began
 same_upload w d p u grown found there e = grew_same p (upload_of w.store p.number) u (grown.each d p found) there e

@@ -1,19 +1,49 @@
 -- How a call answers.
-use Rattle.std.specs.Prelude.{◌≡◌, ℕ, Option, Some, None, Result, Ok, Err}
-use Rattle.tus_request.specs.declared.faults.Fault.{Fault}
-use Rattle.tus_request.specs.declared.faults.Fault.TheVariants.{NoMemory, DiskFault}
-use Rattle.upload_rules.specs.Store.{Upload}
+use Rattle.std.specs.Prelude.{◌≡◌, ◌⊎◌, ◌<◌, ◌≤◌, ◌+◌, ◌^◌, ℕ, List, [], ◌∷◌, Option, Some, None, Result, Ok, Err}
+use Rattle.upload_rules.specs.declared.errors.UploadError.{UploadError}
+use Rattle.upload_rules.specs.declared.errors.UploadError.TheVariants.{NoMemory, DiskFault, Refused}
+use Rattle.upload_rules.specs.declared.errors.UploadRefusal.{UploadRefusal}
+use Rattle.upload_rules.specs.declared.errors.UploadRefusal.TheVariants.{Unencodable, Full}
+use Rattle.upload_rules.specs.Store.{Upload, Store}
 use Rattle.upload_rules.specs.World.{Patch}
 use Rattle.upload_rules.specs.Calls.{first_patch}
 
+-- want of memory and the device's fault may come in place of these; the other refusals are found before either
+abbrev pub IsLate : Option UploadRefusal → Type 0
+IsLate None = Unit {0}
+IsLate (Some Unencodable) = Unit {0}
+IsLate (Some Full) = Unit {0}
+IsLate (Some e) = ⊥
+
 -- The answer is the refusal that the rules give, where they give one. Else the call is done, or memory or the device refused it.
-abbrev pub Answers : {T : Type 0} → Option Fault → Result T Fault → (T → Type 0) → Type 0 → Type 0
+abbrev pub Answers : {T : Type 0} → Option UploadRefusal → Result T UploadError → (T → Type 0) → Type 0 → Type 0
 Answers refusal (Ok t) done same = (refusal ≡ None) × done t
-Answers refusal (Err NoMemory) done same = (refusal ≡ None) × same
-Answers refusal (Err DiskFault) done same = refusal ≡ None
-Answers refusal (Err f) done same = (refusal ≡ Some f) × same
+Answers refusal (Err NoMemory) done same = IsLate refusal × same
+Answers refusal (Err DiskFault) done same = IsLate refusal
+Answers refusal (Err (Refused e)) done same = (refusal ≡ Some e) × same
 
 -- a draft holds the first patch of the upload
 abbrev pub IsBegun : (Patch → Type 0) → ℕ → ℕ → Option Upload → Type 0
 IsBegun holds number count None = Unit {0}
 IsBegun holds number count (Some u) = holds (first_patch number count u)
+
+-- the store is one of these
+abbrev pub Among : Store → List Store → Type 0
+Among m [] = ⊥
+Among m (x ∷ xs) = (m ≡ x) ⊎ Among m xs
+
+-- Whatever stores all images since some moment were limited to, they still are, once the two stores are among them.
+pub record Limits (moment moment' : ℕ) (left_only left_only' : ℕ → List Store → Type 0) (before after : Store) : Type 0 where
+  pub later : moment ≤ moment'
+  pub limits : (t : ℕ) (ms : List Store) → t ≤ moment → left_only t ms → Among before ms → Among after ms → left_only' t ms
+
+-- a call that writes nothing that a text owns: what the images were limited to, they still are
+pub record Quiet (moment moment' : ℕ) (left_only left_only' : ℕ → List Store → Type 0) : Type 0 where
+  pub later : moment ≤ moment'
+  pub keeps : (t : ℕ) (ms : List Store) → t ≤ moment → left_only t ms → left_only' t ms
+
+-- the device's failures are counted, up to the greatest u64
+pub record Counts (failed : Type 0) (before now : ℕ) : Type 0 where
+  pub later : before ≤ now
+  pub counted : failed → (before < now) ⊎ (2 ^ 64 ≤ before + 1)
+  pub nothing_else : before < now → failed

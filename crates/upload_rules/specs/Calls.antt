@@ -1,23 +1,22 @@
 -- What the calls make of a world, and why they are refused.
 use Rattle.std.specs.Prelude.{ℕ, ◌+◌, ◌^◌, Bool, true, false, List, [], ◌∷◌, ◌++◌, length, nat_lt, nat_le, ◌==◌, if◌then◌else◌, Option, Some, None}
-use Rattle.tus_request.specs.declared.faults.Fault.{Fault}
-use Rattle.tus_request.specs.declared.faults.Fault.TheVariants.{TooLarge, Slots, NoSuch, Offset, TooLong, Unencodable, Full}
-use Rattle.tus_request.specs.Requests.{New}
-use Rattle.upload_rules.specs.Store.{Upload, Store, find, replaced, without, upload_of, created_store, appended_store}
+use Rattle.upload_rules.specs.declared.errors.UploadRefusal.{UploadRefusal}
+use Rattle.upload_rules.specs.declared.errors.UploadRefusal.TheVariants.{TooLarge, Slots, NoSuch, Offset, TooLong, Unencodable, Full}
+use Rattle.upload_rules.specs.Store.{New, Upload, Store, find, replaced, without, upload_of, created_store, appended_store}
 use Rattle.upload_rules.specs.World.{Patch, World, is_there, free_number, completes, patch_text}
 use Rattle.upload_rules.specs.Room.{is_short}
 
 -- the first of two refusals
-abbrev pub or_else : Option Fault → Option Fault → Option Fault
+abbrev pub or_else : Option UploadRefusal → Option UploadRefusal → Option UploadRefusal
 or_else None other = other
 or_else (Some f) other = Some f
 
-abbrev pub refuse_if : Bool → Fault → Option Fault
+abbrev pub refuse_if : Bool → UploadRefusal → Option UploadRefusal
 refuse_if holds f = if holds then Some f else None
 
 -- CREATE
 
-abbrev pub create_refusal : World → New → Option Fault
+abbrev pub create_refusal : World → New → Option UploadRefusal
 create_refusal w new =
     if nat_lt 1073741824 new.declared then Some TooLarge
     else if nat_le 512 (length w.store.uploads) then Some Slots
@@ -28,12 +27,12 @@ created w new = record w { store = created_store w.store new }
 
 -- BEGIN (with deferred lengths: TooLarge and LengthSet stand between Offset and TooLong)
 
-abbrev pub begin_refusal_at : ℕ → ℕ → Option Upload → Option Fault
+abbrev pub begin_refusal_at : ℕ → ℕ → Option Upload → Option UploadRefusal
 begin_refusal_at offset count None = Some NoSuch
 begin_refusal_at offset count (Some u) =
     if length u.accepted == offset then refuse_if (nat_lt u.declared (offset + count)) TooLong else Some Offset
 
-abbrev pub begin_refusal : World → ℕ → ℕ → ℕ → Option Fault
+abbrev pub begin_refusal : World → ℕ → ℕ → ℕ → Option UploadRefusal
 begin_refusal w number offset count = begin_refusal_at offset count (upload_of w.store number)
 
 abbrev pub first_patch : ℕ → ℕ → Upload → Patch
@@ -67,19 +66,19 @@ is_empty [] = true
 is_empty (b ∷ bytes) = false
 
 -- the text has no value with the body, or no room. An empty body has neither fault
-abbrev pub text_refusal : World → ℕ → Patch → Option Fault
+abbrev pub text_refusal : World → ℕ → Patch → Option UploadRefusal
 text_refusal w d p =
     if is_empty p.body then None
     else if is_there (patch_text w.store.indexes p (completes p)).fault then Some Unencodable
     else refuse_if (is_short w d p (completes p)) Full
 
-abbrev pub offset_refusal : Patch → Option Upload → Option Fault
+abbrev pub offset_refusal : Patch → Option Upload → Option UploadRefusal
 offset_refusal p None = Some NoSuch
 offset_refusal p (Some u) = refuse_if (if length u.accepted == length p.began.accepted then false else true) Offset
 
 -- (with deferred lengths: LengthSet and TooLong stand between Offset and Unencodable, and an empty body that declares is no empty body)
 -- the first that holds of NoSuch, Offset, Unencodable and Full
-unfoldable pub commit_refusal : World → ℕ → Patch → Option Fault
+unfoldable pub commit_refusal : World → ℕ → Patch → Option UploadRefusal
 commit_refusal w d p = or_else (offset_refusal p (upload_of w.store p.number)) (text_refusal w d p)
 
 abbrev pub dropped : World → ℕ → World
@@ -97,6 +96,17 @@ abbrev pub reached : Patch → ℕ
 reached p = length p.began.accepted + length p.body
 
 -- what `commit` makes of the world, refused or not: the patch is spent
-abbrev pub spent : World → ℕ → Patch → Option Fault → World
+abbrev pub spent : World → ℕ → Patch → Option UploadRefusal → World
 spent w d p None = committed w d p
 spent w d p (Some f) = dropped w d
+
+-- THE STORES THAT A CRASH MAY LEAVE: what a change makes of the store, nothing where it is refused
+abbrev pub outcome : Option UploadRefusal → Store → Store → Store
+outcome None before after = after
+outcome (Some e) before after = before
+
+abbrev pub create_outcome : World → New → Store
+create_outcome w new = outcome (create_refusal w new) w.store (created_store w.store new)
+
+abbrev pub commit_outcome : World → ℕ → Patch → Store
+commit_outcome w d p = outcome (commit_refusal w d p) w.store (committed_store w.store p)

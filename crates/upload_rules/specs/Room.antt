@@ -1,7 +1,8 @@
 -- Room: how many blocks a patch needs, and how many the others leave free.
 use Rattle.std.specs.Prelude.{ℕ, ◌+◌, ◌-◌, ◌/◌, Bool, false, ◌||◌, List, [], ◌∷◌, length, nat_lt, ◌==◌, if◌then◌else◌, Option, Some, None}
 use Rattle.enc_model.specs.Encode.{Coded}
-use Rattle.upload_rules.specs.Store.{Upload, IndexSet, text_of}
+use Rattle.enc_model.specs.Indexes.{IndexSet}
+use Rattle.upload_rules.specs.Store.{Upload, text_of}
 use Rattle.upload_rules.specs.World.{Patch, World, is_there, patch_text}
 
 -- the blocks of a text of so many bytes

@@ -2,14 +2,17 @@
 use Rattle.std.specs.Prelude.{ℕ, ◌+◌, Bool, List, [], ◌∷◌, ◌++◌, length, ◌==◌, if◌then◌else◌, Option, Some, None}
 use Rattle.enc_model.specs.declared.Encoding.{Encoding}
 use Rattle.enc_model.specs.declared.Mode.{Mode}
-use Rattle.enc_model.specs.Encode.{Tables, Coded}
+use Rattle.enc_model.specs.Encode.{Coded}
+use Rattle.enc_model.specs.Indexes.{IndexSet, tables}
 use Rattle.enc_model.specs.Decode.{text}
-use Rattle.tus_request.specs.Requests.{New}
 
--- the index set: the tables, and which encodings it offers
-pub record IndexSet : Type 0 where
-  pub tables : Tables
-  pub offers : Encoding → Bool
+-- the fields of an upload to be made
+pub record New : Type 0 where
+  pub declared : ℕ
+  pub from : Encoding
+  pub to : Encoding
+  pub mode : Mode
+  pub metadata : List ℕ
 
 -- (with deferred lengths: `declared` may be unknown, and such an upload is never complete)
 pub record Upload : Type 0 where
@@ -25,6 +28,10 @@ pub record Store : Type 0 where
   pub uploads : List (ℕ × Upload)
   pub next : ℕ
   pub indexes : IndexSet
+
+-- the uploads of a new store
+abbrev pub no_uploads : IndexSet → Store
+no_uploads x = record { uploads = []; next = 1; indexes = x }
 
 abbrev pub find : {A : Type 0} → ℕ → List (ℕ × A) → Option A
 find n [] = None
@@ -51,7 +58,7 @@ with_bytes u bytes = record u { accepted = u.accepted ++ bytes }
 
 -- what the text is with these further bytes, the end among them or not: its bytes, or the first code point that has no code
 abbrev pub text_with : IndexSet → Upload → List ℕ → Bool → Coded
-text_with x u bytes done = text x.tables u.from u.to u.mode (u.accepted ++ bytes) done
+text_with x u bytes done = text (tables x) u.from u.to u.mode (u.accepted ++ bytes) done
 
 -- the text of an upload
 unfoldable pub text_of : IndexSet → Upload → List ℕ

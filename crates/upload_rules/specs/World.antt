@@ -1,7 +1,8 @@
 -- The uploads and the open patches.
 use Rattle.std.specs.Prelude.{ℕ, zero, suc, ◌+◌, Bool, false, true, List, [], length, ◌==◌, if◌then◌else◌, Option, Some, None}
 use Rattle.enc_model.specs.Encode.{Coded}
-use Rattle.upload_rules.specs.Store.{Upload, Store, IndexSet, find, text_with}
+use Rattle.enc_model.specs.Indexes.{IndexSet}
+use Rattle.upload_rules.specs.Store.{Upload, Store, find, text_with}
 
 -- An open append: of which upload, what the upload was at the patch's head moment, how many bytes the body is to have,
 -- the body so far, and whether it is short of room

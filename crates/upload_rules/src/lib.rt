@@ -1,6 +1,19 @@
-//! Uploads: the trait, each call by the model.
+//! The rules of uploads: what a store of uploads is to its callers, and one in memory.
 #![tactic(auto)]
 
-pub mod uploads;
+mod appends;
+mod errors;
+mod laws;
+mod new_text;
+mod records;
+mod slots;
+mod table;
+#[cfg(test)]
+mod tests;
+mod uploads;
 
-pub use upload_rules::Uploads;
+pub use errors::{UploadError, UploadRefusal};
+pub use laws::{same_offset, text_grows};
+pub use records::{New, Record};
+pub use table::{Table, TableDraft};
+pub use uploads::Uploads;

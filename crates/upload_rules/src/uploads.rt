@@ -1,15 +1,21 @@
 //! Uploads: each call is stated for every world that the store stands for.
-ghost use Rattle.std.specs.Prelude.{◌≡◌, ◌≤◌, ◌+◌, ℕ, List, length, Option, Some, None};
-ghost use Rattle.tus_request.specs.Requests.{New};
-ghost use Rattle.upload_rules.specs.Store.{Upload, upload_of, find};
+// CHANGED: `create` requires `well_formed` (no world in it) and `offered` (for each world) in place of `usable`. A body knows no world,
+// so what it needs for itself (an output encoding, metadata that fits a record) may not hang on one.
+ghost use Rattle.std.specs.Prelude.{◌≡◌, ◌≤◌, ◌+◌, ℕ, List, length, Option, Some, None, IsErrOf, option_copied};
+ghost use Rattle.enc_model.specs.Indexes.{IndexSet as Indexes};
+ghost use Rattle.upload_rules.specs.Store.{Upload, Store, upload_of, find};
 ghost use Rattle.upload_rules.specs.World.{Patch, World, free_number};
-ghost use Rattle.upload_rules.specs.Calls.{begin_refusal, begun, appended, longer, commit_refusal, committed, dropped, reached};
-ghost use Rattle.upload_rules.specs.Answers.{Answers, IsBegun};
+ghost use Rattle.upload_rules.specs.Calls.{create_refusal, created, create_outcome, begin_refusal, begun, appended, longer, commit_refusal, committed, commit_outcome, dropped, reached};
+ghost use Rattle.upload_rules.specs.Answers.{Answers, IsBegun, Among, Limits, Quiet, Counts};
+ghost use Rattle.upload_rules.specs.Records.{TellsOf, with_number, above, IsWellFormed, IsOffered};
+ghost use Rattle.upload_rules.specs.Reading.{no_such, text_at, IsRead};
 
-use tus_request::faults::Fault;
+use crate::{New, Record, UploadError};
+use enc_index::IndexSet;
 
+/// A store of uploads, and appends to them that are under way.
 pub trait Uploads {
-    /// Has to be spent, by `commit` or `drop_open`.
+    /// An append under way: has to be spent, by `commit` or `drop_open`.
     type Draft;
 
     /// The store stands for the world: a relation, since no accepted byte is kept.
@@ -21,30 +27,91 @@ pub trait Uploads {
     /// What the draft itself knows of its patch.
     ghost holds: { Self.Draft → Patch → Type 0 };
 
-    /// Opens a draft under the least number that is free.
-    fn begin(&mut self, number: u64, offset: u64, count: u64) -> Result<Self::Draft, Fault>
+    /// Counts what the device was asked.
+    ghost moment: { Self → ℕ };
+
+    /// What a crash at any moment since that one might have left shows one of these stores.
+    ghost left_only: { Self → ℕ → List Store → Type 0 };
+
+    /// How often the device failed.
+    ghost failures: { Self → ℕ };
+
+    /// The upload of a number.
+    fn record(&self, number: u64) -> Option<&Record>
+        ensures { (w : World) → stands self.now w → TellsOf w.store.indexes (with_number number (upload_of w.store number)) (option_copied result) };
+
+    /// The upload of the least number above this one.
+    fn record_after(&self, number: u64) -> Option<&Record>
+        ensures { (w : World) → stands self.now w → TellsOf w.store.indexes (above number w.store.uploads) (option_copied result) };
+
+    /// The number that the next upload gets.
+    fn next_number(&self) -> u64
+        ensures { (w : World) → stands self.now w → result ≡ w.store.next };
+
+    /// The index files.
+    fn indexes(&self) -> &IndexSet
+        ensures { (w : World) → stands self.now w → result.now ≡ w.store.indexes };
+
+    /// Makes an upload without bytes, and answers its number: refused with `TooLarge`, `Slots`, `NoMemory`, `DiskFault`.
+    fn create(&mut self, new: New) -> Result<u64, UploadError>
+        requires well_formed { IsWellFormed new }
+        requires offered { (w : World) → stands self.old w → IsOffered w.store.indexes new }
+        ensures answer { (w : World) → stands self.old w
+            → Answers (create_refusal w new) result (λ n. (n ≡ w.store.next) × stands self.new (created w new)) (stands self.new w) }
+        ensures crash { (w : World) → stands self.old w
+            → Limits (moment self.old) (moment self.new) (left_only self.old) (left_only self.new) w.store (create_outcome w new) }
+        ensures counts { Counts (IsErrOf result UploadError.DiskFault) (failures self.old) (failures self.new) };
+
+    /// Opens a draft of `count` bytes at an offset, under the least number that is free: refused with `NoSuch`, `Offset`, `TooLong`, `NoMemory`.
+    fn begin(&mut self, number: u64, offset: u64, count: u64) -> Result<Self::Draft, UploadError>
         ensures answer { (w : World) → stands self.old w
             → Answers (begin_refusal w number offset count) result
-                (λ draft. (Self.number_of draft ≡ free_number w) × IsBegun (holds draft) number count (upload_of w.store number) × stands self.new (begun w number count))
-                (stands self.new w) };
+            (λ draft. (Self.number_of draft ≡ free_number w) × IsBegun (holds draft) number count (upload_of w.store number) × stands self.new (begun w number count))
+            (stands self.new w) }
+        ensures no_device { IsErrOf result UploadError.DiskFault → ⊥ }
+        ensures crash { Quiet (moment self.old) (moment self.new) (left_only self.old) (left_only self.new) }
+        ensures counts { failures self.new ≡ failures self.old };
 
-    /// After `NoMemory` or `DiskFault` the draft may only be dropped.
-    fn append(&mut self, draft: &mut Self::Draft, piece: &[u8]) -> Result<(), Fault>
+    /// Adds bytes to a draft, at most its count in all: refused with `NoMemory`, `DiskFault`, after which the draft may only be dropped.
+    /// Text that can't be encoded or stored is kept as the draft's fault.
+    fn append(&mut self, draft: &mut Self::Draft, piece: &[u8]) -> Result<(), UploadError>
         ensures same { Self.number_of draft.new ≡ Self.number_of draft.old }
         ensures answer { (w : World) (p : Patch) → stands self.old w → find (Self.number_of draft.old) w.patches ≡ Some p → holds draft.old p
             → length p.body + length piece.now ≤ p.count
             → Answers None result
-                (λ done. holds draft.new (longer w (Self.number_of draft.old) p piece.now) × stands self.new (appended w (Self.number_of draft.old) piece.now))
-                (stands self.new w) };
+            (λ done. holds draft.new (longer w (Self.number_of draft.old) p piece.now) × stands self.new (appended w (Self.number_of draft.old) piece.now))
+            (stands self.new w) }
+        ensures crash { (w : World) (p : Patch) → stands self.old w → find (Self.number_of draft.old) w.patches ≡ Some p → holds draft.old p
+            → Quiet (moment self.old) (moment self.new) (left_only self.old) (left_only self.new) }
+        ensures counts { Counts (IsErrOf result UploadError.DiskFault) (failures self.old) (failures self.new) };
 
-    /// The new offset. The draft is spent in every case.
-    fn commit(&mut self, draft: Self::Draft) -> Result<u64, Fault>
+    /// Puts a draft's text behind its upload's, and answers the new offset: refused with `NoSuch`, `Offset`, `Unencodable`, `Full`, `NoMemory`, `DiskFault`.
+    /// The draft is spent in every case.
+    fn commit(&mut self, draft: Self::Draft) -> Result<u64, UploadError>
         ensures answer { (w : World) (p : Patch) → stands self.old w → find (Self.number_of draft) w.patches ≡ Some p → holds draft p
             → Answers (commit_refusal w (Self.number_of draft) p) result
-                (λ n. (n ≡ reached p) × stands self.new (committed w (Self.number_of draft) p))
-                (stands self.new (dropped w (Self.number_of draft))) };
+            (λ n. (n ≡ reached p) × stands self.new (committed w (Self.number_of draft) p))
+            (stands self.new (dropped w (Self.number_of draft))) }
+        ensures crash { (w : World) (p : Patch) → stands self.old w → find (Self.number_of draft) w.patches ≡ Some p → holds draft p
+            → Limits (moment self.old) (moment self.new) (left_only self.old) (left_only self.new) w.store (commit_outcome w (Self.number_of draft) p) }
+        ensures counts { Counts (IsErrOf result UploadError.DiskFault) (failures self.old) (failures self.new) };
 
-    /// It serves after a fault too, when the store stands for no world.
+    /// Gives a draft up. It serves after a fault too, when the store stands for no world.
     fn drop_open(&mut self, draft: Self::Draft)
-        ensures stands { (w : World) → stands self.old w → stands self.new (dropped w (Self.number_of draft)) };
+        ensures stands { (w : World) → stands self.old w → stands self.new (dropped w (Self.number_of draft)) }
+        ensures crash { Quiet (moment self.old) (moment self.new) (left_only self.old) (left_only self.new) }
+        ensures counts { failures self.new ≡ failures self.old };
+
+    /// Reads a text's bytes from `at` on, as many as there are and fit: refused with `NoSuch`, `DiskFault`.
+    fn read_text(&mut self, number: u64, at: u64, buf: &mut [u8]) -> Result<usize, UploadError>
+        ensures answer { (w : World) → stands self.old w
+            → Answers (no_such (upload_of w.store number)) result
+            (λ n. IsRead (text_at w.store (upload_of w.store number)) at n buf.old buf.new × stands self.new w)
+            (stands self.new w) }
+        ensures no_memory { IsErrOf result UploadError.NoMemory → ⊥ }
+        ensures crash { Quiet (moment self.old) (moment self.new) (left_only self.old) (left_only self.new) }
+        ensures counts { Counts (IsErrOf result UploadError.DiskFault) (failures self.old) (failures self.new) };
+
+    /// A store that stands for a world is on the device.
+    ghost durable: { (store : Self) (w : World) (ms : List Store) → stands store w → Among w.store ms → left_only store (moment store) ms };
 }

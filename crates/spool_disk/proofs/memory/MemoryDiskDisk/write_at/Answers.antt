@@ -1,4 +1,4 @@
-use Rattle.std.proofs.Common.{◌≡◌, ◌⊎◌, ℕ, ◌+◌, List, get_or, arith, inl, inr, sym, ◌∙◌, ap}
+use Rattle.std.proofs.Common.{◌≡◌, ◌⊎◌, ℕ, ◌+◌, List, Bool, true, false, get_or, arith, inl, inr, sym, ◌∙◌, ap}
 use Rattle.std.proofs.lemmas.List.{with_items_is}
 use Rattle.spool_disk.specs.Disk.{In}
 use Rattle.spool_disk.proofs.Span.{span_is, in_or_out}
@@ -7,18 +7,21 @@ use Rattle.spool_disk.proofs.memory.MemoryDiskDisk.write_at.Goals as goal
 at_p : (new mid : List ℕ) (p : ℕ) → new ≡ mid → get_or new p 0 ≡ get_or mid p 0
 at_p new mid p e = ap (λ (l : List ℕ). get_or l p 0) e
 
-loosens_in : (new mid old : List ℕ) (at n p : ℕ) → ((q : ℕ) → (In at n q → ⊥) → get_or new q 0 ≡ get_or mid q 0) → mid ≡ old → get_or new p 0 ≡ 1 → (get_or old p 0 ≡ 1) ⊎ In at n p
+flag_p : (new mid : List Bool) (p : ℕ) → new ≡ mid → get_or new p false ≡ get_or mid p false
+flag_p new mid p e = ap (λ (l : List Bool). get_or l p false) e
+
+loosens_in : (new mid old : List Bool) (at n p : ℕ) → ((q : ℕ) → (In at n q → ⊥) → get_or new q false ≡ get_or mid q false) → mid ≡ old → get_or new p false ≡ true → (get_or old p false ≡ true) ⊎ In at n p
 loosens_in new mid old at n p outside e is = elim (in_or_out at n p) [
   | inl within ↦ inr within
-  | inr out ↦ inl (sym (outside p out ∙ at_p mid old p e) ∙ is)
+  | inr out ↦ inl (sym (outside p out ∙ flag_p mid old p e) ∙ is)
 ]
 
 pub returns-clause-writes : goal.returns-clause-writes
 returns-clause-writes c _ =
     let bytes = with_items_is c.args.self.now.written c.put.new.into (omega (arith)) in
-    let marks = with_items_is c.args.self.now.marks c.mark.new.marks (omega (arith)) in
+    let marks = with_items_is c.args.self.now.unsynced c.mark.new.marks (omega (arith)) in
     record {
       outside = λ p out. at_p _ _ p bytes ∙ c.put.ensures.outside p out ∙ at_p _ _ p c.deref_mut.ensures.value;
       inside = λ _. span_is _ c.args.at c.args.bytes.now (λ k lt. at_p _ _ (c.args.at + k) bytes ∙ c.put.ensures.inside k lt);
-      loosens = λ p loose. loosens_in _ _ _ c.args.at _ p c.mark.ensures.outside c.deref_mut-2.ensures.value (sym (at_p _ _ p marks) ∙ loose);
+      loosens = λ p loose. loosens_in _ _ _ c.args.at _ p c.mark.ensures.outside c.deref_mut-2.ensures.value (sym (flag_p _ _ p marks) ∙ loose);
     }

@@ -1,0 +1,197 @@
+-- What an encoder gives for one character is written in the end, since its state takes the reference's characters as they are.
+use Rattle.std.proofs.Common.{ℕ, zero, suc, ◌<◌, ◌≤◌, ◌≡◌, true, false, List, [], ◌∷◌, ◌++◌, Option, Some, None, refl, sym, ◌∙◌, ap, arith, append_assoc, append-nil, lit≤, lit<, ◌/◌, ◌%◌, ◌==◌, if◌then◌else◌}
+use Rattle.std.specs.Fmt.{decimal, digits, digits_onto, digit_glyph}
+use Rattle.std.proofs.lemmas.Bool.Decides.{nat_tests}
+use Rattle.std.proofs.lemmas.List.Elements.{All-head, All-tail}
+use Rattle.std.specs.Prelude.{All}
+use Rattle.enc_model.specs.declared.Encoding.{Encoding}
+use Rattle.enc_model.specs.declared.Encoding.TheVariants as encodings
+use Rattle.enc_model.specs.declared.Mode.{Mode}
+use Rattle.enc_model.specs.declared.Mode.TheVariants.{Html, Fatal}
+use Rattle.enc_model.specs.Index.{Index}
+use Rattle.enc_model.specs.Encode.{Shift, InAscii, InRoman, InJis, Written, Wrote, Again, Lacks, Encoder, Coded, behind, reference, coded, joined, all_codes, behind_written, settled, code_within, plain_code, code_of, IsNoAgain, Tables, is_jis, shift_jis_encoder, euc_jp_encoder, iso2022_encoder, single_encoder, utf8_encoder, encoder}
+use Rattle.enc_model.proofs.Coding.{coded_is}
+use Rattle.enc_model.proofs.Steady.{encoder_steady}
+use Rattle.enc_encode.specs.declared.shift.ShiftState.{ShiftState}
+use Rattle.enc_encode.specs.declared.written.Bytes.{Bytes}
+use Rattle.enc_encode.specs.declared.written.Written.{Written as CodeWritten}
+use Rattle.enc_encode.specs.declared.written.Written.TheVariants as code
+use Rattle.enc_encode.specs.Code.{final, written_of}
+
+-- THE CHARACTERS OF A REFERENCE
+
+abbrev ArePlain : List ℕ → Type 0
+ArePlain [] = Unit {0}
+ArePlain (c ∷ cs) = (0x20 ≤ c) × (c < 0x5C) × ArePlain cs
+
+glyph_plain : (n : ℕ) → (0x20 ≤ digit_glyph false (n % 10)) × (digit_glyph false (n % 10) < 0x5C)
+glyph_plain n = grind arith
+
+digits_plain : (k n : ℕ) (acc : List ℕ) → ArePlain acc → ArePlain (digits_onto k 10 false n acc)
+digits_plain zero n acc p = p
+digits_plain (suc k) n acc p =
+    let g = glyph_plain n in
+    let d = digit_glyph false (n % 10) in
+    elim (n / 10 == 0) as (λ v. ArePlain (if v then d ∷ acc else digits_onto k 10 false (n / 10) (d ∷ acc)))
+    [ true ↦ (g.0, g.1, p) | false ↦ digits_plain k (n / 10) (d ∷ acc) (g.0, g.1, p) ]
+
+plain_append : (a b : List ℕ) → ArePlain a → ArePlain b → ArePlain (a ++ b)
+plain_append [] b p q = q
+plain_append (c ∷ a) b p q = (p.0, p.1, plain_append a b p.2 q)
+
+reference_plain : (d : ℕ) → ArePlain (reference d)
+unfolding digits
+reference_plain d = (lit≤ tt, lit< tt, (lit≤ tt, lit< tt, plain_append (decimal d) (0x3B ∷ []) (digits_plain 64 d [] tt) (lit≤ tt, lit< tt, tt)))
+
+-- the encoder writes it as it is from here
+abbrev StandsFor : Encoder → Shift → ℕ → Type 0
+StandsFor f s x = f s x ≡ Wrote (x ∷ []) s
+
+plain_run : (f : Encoder) (s : Shift) → ((x : ℕ) → 0x20 ≤ x → x < 0x5C → StandsFor f s x) → (r : List ℕ) → ArePlain r →
+    all_codes (plain_code f) s r ≡ record { bytes = r; state = s; fault = None }
+plain_run f s each [] p = refl
+plain_run f s each (x ∷ r) p =
+    rw (each x p.0 p.1, plain_run f s each r p.2) refl
+
+-- WHERE AN ENCODER IS AT AN ERROR
+
+abbrev AtLacks : Written → (Shift → Type 0) → Type 0
+AtLacks (Lacks b s d) P = P s
+AtLacks _ P = Unit {0}
+
+-- at an error its state takes plain characters as they are
+abbrev HasPlain : Encoder → Type 0
+HasPlain f = (s : Shift) (c x : ℕ) → 0x20 ≤ x → x < 0x5C → AtLacks (settled f c (f s c)) (λ z. StandsFor f z x)
+
+anywhere : (w : Written) (P : Shift → Type 0) → ((z : Shift) → P z) → AtLacks w P
+anywhere (Wrote b s) P h = tt
+anywhere (Again b s) P h = tt
+anywhere (Lacks b s d) P h = h s
+
+sjis_plain : (i : Index) (z : Shift) (x : ℕ) → 0x20 ≤ x → x < 0x5C → StandsFor (shift_jis_encoder i) z x
+unfolding shift_jis_encoder
+sjis_plain i z x l h = grind (arith, nat_tests)
+
+euc_plain : (i : Index) (z : Shift) (x : ℕ) → 0x20 ≤ x → x < 0x5C → StandsFor (euc_jp_encoder i) z x
+unfolding euc_jp_encoder
+euc_plain i z x l h = grind (arith, nat_tests)
+
+single_plain : (i : Index) (z : Shift) (x : ℕ) → 0x20 ≤ x → x < 0x5C → StandsFor (single_encoder i) z x
+unfolding single_encoder
+single_plain i z x l h = grind (arith, nat_tests)
+
+utf8_plain : (z : Shift) (x : ℕ) → 0x20 ≤ x → x < 0x5C → StandsFor utf8_encoder z x
+utf8_plain z x l h = grind (arith, nat_tests)
+
+iso_plain : (i k : Index) (z : Shift) (x : ℕ) → is_jis z ≡ false → 0x20 ≤ x → x < 0x5C → StandsFor (iso2022_encoder i k) z x
+unfolding iso2022_encoder
+iso_plain i k InAscii x e l h = grind (arith, nat_tests)
+iso_plain i k InRoman x e l h = grind (arith, nat_tests)
+iso_plain i k InJis x e l h = absurd cc
+
+iso_out : (i k : Index) (s : Shift) (c : ℕ) → AtLacks (settled (iso2022_encoder i k) c (iso2022_encoder i k s c)) (λ z. is_jis z ≡ false)
+unfolding iso2022_encoder
+iso_out i k InAscii c = grind (arith, nat_tests)
+iso_out i k InRoman c = grind (arith, nat_tests)
+iso_out i k InJis c = grind (arith, nat_tests)
+
+weaker : (w : Written) (P Q : Shift → Type 0) → ((z : Shift) → P z → Q z) → AtLacks w P → AtLacks w Q
+weaker (Wrote b s) P Q h p = tt
+weaker (Again b s) P Q h p = tt
+weaker (Lacks b s d) P Q h p = h s p
+
+encoder_plain : (t : Tables) (e : Encoding) → HasPlain (encoder t e)
+encoder_plain t encodings.Utf8 s c x l h = tt
+encoder_plain t encodings.Utf16Be s c x l h = tt
+encoder_plain t encodings.Utf16Le s c x l h = tt
+encoder_plain t encodings.ShiftJis s c x l h =
+    let f = shift_jis_encoder t.jis0208 in anywhere (settled f c (f s c)) (λ z. StandsFor f z x) (λ z. sjis_plain t.jis0208 z x l h)
+encoder_plain t encodings.EucJp s c x l h =
+    let f = euc_jp_encoder t.jis0208 in anywhere (settled f c (f s c)) (λ z. StandsFor f z x) (λ z. euc_plain t.jis0208 z x l h)
+encoder_plain t encodings.Iso2022Jp s c x l h =
+    let f = iso2022_encoder t.jis0208 t.katakana in
+    weaker (settled f c (f s c)) (λ z. is_jis z ≡ false) (λ z. StandsFor f z x) (λ z o. iso_plain t.jis0208 t.katakana z x o l h) (iso_out t.jis0208 t.katakana s c)
+encoder_plain t e s c x l h =
+    let f = single_encoder (t.single e) in anywhere (settled f c (f s c)) (λ z. StandsFor f z x) (λ z. single_plain (t.single e) z x l h)
+
+-- THE CODE OF ONE CHARACTER
+
+joined_end : (r : Coded) → joined r (λ next. record { bytes = []; state = next; fault = None }) ≡ r
+joined_end r = go r.fault refl
+  where
+    go : (z : Option ℕ) → r.fault ≡ z → joined r (λ next. record { bytes = []; state = next; fault = None }) ≡ r
+    go None e = rw (e, append-nil) refl
+    go (Some d) e = rw e refl
+
+within_final : (f : Encoder) (mode : Mode) (w : Written) → ((x : ℕ) → 0x20 ≤ x → x < 0x5C → AtLacks w (λ z. StandsFor f z x)) →
+    code_within mode (all_codes (plain_code f)) w ≡ final mode w
+within_final f mode (Wrote b s) p = refl
+within_final f mode (Again b s) p = refl
+within_final f Html (Lacks b s d) p = ap (behind b) (plain_run f s p (reference d) (reference_plain d))
+within_final f Fatal (Lacks b s d) p = refl
+
+pub coded_one : (t : Tables) (e : Encoding) (mode : Mode) (s : Shift) (c : ℕ) →
+    coded (encoder t e) mode s (c ∷ []) ≡ (let f = encoder t e in final mode (settled f c (f s c)))
+coded_one t e mode s c =
+    let f = encoder t e in
+    coded_is f (encoder_steady t e) mode s (c ∷ [])
+    ∙ joined_end (code_of f mode s c)
+    ∙ within_final f mode (settled f c (f s c)) (λ x l h. encoder_plain t e s c x l h)
+
+-- bytes, and then what was written behind them
+pub final_behind : (mode : Mode) (x : List ℕ) (w : Written) → final mode (behind_written x w) ≡ behind x (final mode w)
+final_behind mode x (Wrote b s) = refl
+final_behind mode x (Again b s) = refl
+final_behind Html x (Lacks b s d) = ap (λ z. record { bytes = z; state = s; fault = None }) (append_assoc x b (reference d))
+final_behind Fatal x (Lacks b s d) = refl
+
+settled_once : (f : Encoder) (s : Shift) (c : ℕ) (w : Written) → f s c ≡ w → IsNoAgain w → settled f c (f s c) ≡ w
+settled_once f s c (Wrote b z) e n = rw e refl
+settled_once f s c (Again b z) e n = absurd n
+settled_once f s c (Lacks b z d) e n = rw e refl
+
+module _ (t : Tables) (to : Encoding) (mode : Mode) (s : Shift) (c : ℕ) where
+  -- where it does not ask again
+  pub coded_once : (w : Written) → w ≡ encoder t to s c → IsNoAgain w → coded (encoder t to) mode s (c ∷ []) ≡ final mode w
+  coded_once w e n = coded_one t to mode s c ∙ ap (final mode) (settled_once (encoder t to) s c w (sym e) n)
+
+  -- where it does
+  pub coded_twice : (b : List ℕ) (z : Shift) (w : Written) → Again b z ≡ encoder t to s c → w ≡ encoder t to z c →
+      coded (encoder t to) mode s (c ∷ []) ≡ behind b (final mode w)
+  coded_twice b z w e h =
+      coded_one t to mode s c
+      ∙ ap (λ v. final mode (settled (encoder t to) c v)) (sym e)
+      ∙ final_behind mode b (encoder t to z c)
+      ∙ ap (λ v. behind b (final mode v)) (sym h)
+
+pub not_again : (w : CodeWritten) → ((b : Bytes) (s : ShiftState) → w ≡ code.Again b s → ⊥) → IsNoAgain (written_of w)
+not_again (code.Wrote b s) n = tt
+not_again (code.Again b s) n = n b s refl
+not_again (code.Lacks b s d) n = tt
+
+-- A RUN OF ASCII
+
+ascii_stands : (t : Tables) (e : Encoding) (s : Shift) (x : ℕ) → (e ≡ encodings.Iso2022Jp → ⊥) → x < 128 → StandsFor (encoder t e) s x
+unfolding shift_jis_encoder euc_jp_encoder single_encoder
+ascii_stands t encodings.Utf8 s x n l = grind (arith, nat_tests)
+ascii_stands t encodings.Utf16Be s x n l = grind (arith, nat_tests)
+ascii_stands t encodings.Utf16Le s x n l = grind (arith, nat_tests)
+ascii_stands t encodings.ShiftJis s x n l = grind (arith, nat_tests)
+ascii_stands t encodings.EucJp s x n l = grind (arith, nat_tests)
+ascii_stands t encodings.Iso2022Jp s x n l = absurd (n refl)
+ascii_stands t e s x n l = grind (arith, nat_tests)
+
+own_stands : (f : Encoder) (mode : Mode) (s : Shift) (x : ℕ) → StandsFor f s x → code_of f mode s x ≡ record { bytes = x ∷ []; state = s; fault = None }
+own_stands f mode s x e = rw e refl
+
+ascii_run : (f : Encoder) (mode : Mode) (s : Shift) (xs : List ℕ) → ((x : ℕ) → x < 128 → StandsFor f s x) → All (λ b. b < 128) xs →
+    all_codes (code_of f mode) s xs ≡ record { bytes = xs; state = s; fault = None }
+ascii_run f mode s [] each a = refl
+ascii_run f mode s (x ∷ xs) each a =
+    rw (own_stands f mode s x (each x (All-head (λ b. b < 128) x xs a)), ascii_run f mode s xs each (All-tail (λ b. b < 128) x xs a)) refl
+
+-- outside ISO-2022-JP it stands for itself
+pub ascii_code : (t : Tables) (e : Encoding) (mode : Mode) (s : Shift) (xs : List ℕ) → (e ≡ encodings.Iso2022Jp → ⊥) → All (λ b. b < 128) xs →
+    coded (encoder t e) mode s xs ≡ record { bytes = xs; state = s; fault = None }
+ascii_code t e mode s xs n a =
+    coded_is (encoder t e) (encoder_steady t e) mode s xs ∙ ascii_run (encoder t e) mode s xs (λ x l. ascii_stands t e s x n l) a

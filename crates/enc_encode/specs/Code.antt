@@ -1,0 +1,30 @@
+-- The code's answers for one character as the definitions have them.
+use Rattle.std.specs.Prelude.{ℕ, List, [], ◌++◌, None, Some}
+use Rattle.enc_model.specs.declared.Mode.{Mode}
+use Rattle.enc_model.specs.declared.Mode.TheVariants.{Html, Fatal}
+use Rattle.enc_model.specs.Encode as encode
+use Rattle.enc_encode.specs.declared.written.Bytes.{Bytes}
+use Rattle.enc_encode.specs.declared.written.Bytes.TheVariants.{Zero, One, Two, Three, Four, Five}
+use Rattle.enc_encode.specs.declared.written.Written.{Written}
+use Rattle.enc_encode.specs.declared.written.Written.TheVariants.{Wrote, Again, Lacks}
+use Rattle.enc_encode.specs.State.{shift_of}
+
+abbrev pub bytes_of : Bytes → List ℕ
+bytes_of Zero = []
+bytes_of (One a) = a
+bytes_of (Two a) = a
+bytes_of (Three a) = a
+bytes_of (Four a) = a
+bytes_of (Five a) = a
+
+abbrev pub written_of : Written → encode.Written
+written_of (Wrote b s) = encode.Wrote (bytes_of b) (shift_of s)
+written_of (Again b s) = encode.Again (bytes_of b) (shift_of s)
+written_of (Lacks b s c) = encode.Lacks (bytes_of b) (shift_of s) c
+
+-- what is written in the end: the bytes, and for an error the reference or nothing more
+abbrev pub final : Mode → encode.Written → encode.Coded
+final mode (encode.Wrote b s) = record { bytes = b; state = s; fault = None }
+final mode (encode.Again b s) = record { bytes = b; state = s; fault = None }
+final Html (encode.Lacks b s c) = record { bytes = b ++ encode.reference c; state = s; fault = None }
+final Fatal (encode.Lacks b s c) = record { bytes = b; state = s; fault = Some c }

@@ -1,0 +1,6 @@
+pub mod Growth
+pub mod Code
+pub mod State
+pub mod Reasons
+pub mod Sinks
+pub mod SinkLaws

@@ -1,0 +1,139 @@
+//! What each encoder gives for one character.
+
+ghost use Rattle.std.specs.Prelude.{◌≡◌, ◌<◌, IfSome};
+ghost use Rattle.enc_encode.specs.Code.{written_of, bytes_of};
+ghost use Rattle.enc_encode.specs.State.{shift_of};
+ghost use Rattle.enc_model.specs.Encode.{utf8_bytes, minus, shift_jis_pointer, below_8836, encoder, single_encoder, shift_jis_encoder, euc_jp_encoder};
+ghost use Rattle.enc_model.specs.Index.{pointer};
+ghost use Rattle.enc_model.specs.Indexes.{tables};
+
+use crate::iso2022::iso2022_jp;
+use crate::shift::ShiftState;
+use crate::written::{Bytes, Written};
+use enc_index::{IndexSet, Kind};
+use enc_model::Encoding;
+
+/// The bytes of a character in UTF-8.
+fn utf8(c: char) -> Bytes
+    ensures { bytes_of result ≡ utf8_bytes c }
+{
+    let c = c as u32;
+    match c {
+        0..=0x7F => Bytes::One([c as u8]),
+        0x80..=0x7FF => Bytes::Two([(0xC0 + c / 64) as u8, (0x80 + c % 64) as u8]),
+        0x800..=0xFFFF => Bytes::Three([
+            (0xE0 + c / 4096) as u8,
+            (0x80 + c / 64 % 64) as u8,
+            (0x80 + c % 64) as u8,
+        ]),
+        _ => Bytes::Four([
+            (0xF0 + c / 262144) as u8,
+            (0x80 + c / 4096 % 64) as u8,
+            (0x80 + c / 64 % 64) as u8,
+            (0x80 + c % 64) as u8,
+        ]),
+    }
+}
+
+/// The single-byte encoder.
+#[tactic(auto, unfolding(enc_model::specs::Encode::single_encoder))]
+fn single_byte(set: &IndexSet, to: Encoding, shift: ShiftState, c: char) -> Written
+    ensures { written_of result ≡ single_encoder ((tables set.now).single to) (shift_of shift) c }
+{
+    if c < '\u{80}' {
+        return Written::Wrote(Bytes::One([c as u8]), shift);
+    }
+    match set.pointer(Kind::Single(to), c) {
+        Some(pointer) => Written::Wrote(Bytes::One([(pointer + 0x80) as u8]), shift),
+        None => Written::Lacks(Bytes::Zero, shift, c),
+    }
+}
+
+/// The character that the Japanese encoders look up: U+FF0D for the minus sign U+2212.
+pub fn without_minus(c: char) -> char
+    ensures { result ≡ minus c }
+{
+    if c == '\u{2212}' { '\u{FF0D}' } else { c }
+}
+
+/// The two bytes of a pointer in Shift_JIS.
+fn shift_jis_pair(pointer: u32) -> Bytes
+    requires { pointer < 11280 }
+    ensures { bytes_of result ≡ shift_jis_pointer pointer }
+{
+    let lead = pointer / 188;
+    let trail = pointer % 188;
+    let lead_offset = if lead < 0x1F { 0x81 } else { 0xC1 };
+    let trail_offset = if trail < 0x3F { 0x40 } else { 0x41 };
+    Bytes::Two([(lead + lead_offset) as u8, (trail + trail_offset) as u8])
+}
+
+/// The Shift_JIS encoder.
+#[tactic(auto, unfolding(enc_model::specs::Encode::shift_jis_encoder))]
+fn shift_jis(set: &IndexSet, shift: ShiftState, c: char) -> Written
+    ensures { written_of result ≡ shift_jis_encoder (tables set.now).jis0208 (shift_of shift) c }
+{
+    match c {
+        '\0'..='\u{80}' => Written::Wrote(Bytes::One([c as u8]), shift),
+        '\u{A5}' => Written::Wrote(Bytes::One([0x5C]), shift),
+        '\u{203E}' => Written::Wrote(Bytes::One([0x7E]), shift),
+        '\u{FF61}'..='\u{FF9F}' => {
+            Written::Wrote(Bytes::One([(c as u32 - 0xFF61 + 0xA1) as u8]), shift)
+        }
+        _ => {
+            let c = without_minus(c);
+            match set.pointer_sjis(c) {
+                Some(pointer) => Written::Wrote(shift_jis_pair(pointer), shift),
+                None => Written::Lacks(Bytes::Zero, shift, c),
+            }
+        }
+    }
+}
+
+/// The least pointer of a character in jis0208, where the encoders of EUC-JP and ISO-2022-JP may use it.
+pub fn pointer_below_8836(set: &IndexSet, c: char) -> Option<u32>
+    ensures value { result ≡ below_8836 (pointer (tables set.now).jis0208 c) }
+    ensures bounded { IfSome result (λ p. p < 8836) }
+{
+    let pointer = set.pointer(Kind::Jis0208, c)?;
+    if pointer < 8836 { Some(pointer) } else { None }
+}
+
+/// The EUC-JP encoder.
+#[tactic(auto, unfolding(enc_model::specs::Encode::euc_jp_encoder))]
+fn euc_jp(set: &IndexSet, shift: ShiftState, c: char) -> Written
+    ensures { written_of result ≡ euc_jp_encoder (tables set.now).jis0208 (shift_of shift) c }
+{
+    match c {
+        '\0'..='\u{7F}' => Written::Wrote(Bytes::One([c as u8]), shift),
+        '\u{A5}' => Written::Wrote(Bytes::One([0x5C]), shift),
+        '\u{203E}' => Written::Wrote(Bytes::One([0x7E]), shift),
+        '\u{FF61}'..='\u{FF9F}' => {
+            Written::Wrote(Bytes::Two([0x8E, (c as u32 - 0xFF61 + 0xA1) as u8]), shift)
+        }
+        _ => {
+            let c = without_minus(c);
+            match pointer_below_8836(set, c) {
+                Some(pointer) => {
+                    let lead = (pointer / 94 + 0xA1) as u8;
+                    let trail = (pointer % 94 + 0xA1) as u8;
+                    Written::Wrote(Bytes::Two([lead, trail]), shift)
+                }
+                None => Written::Lacks(Bytes::Zero, shift, c),
+            }
+        }
+    }
+}
+
+/// What the encoder of an encoding gives for a character. UTF-16 has none, and its texts are in UTF-8.
+pub fn written(set: &IndexSet, to: Encoding, shift: ShiftState, c: char) -> Written
+    ensures { written_of result ≡ encoder (tables set.now) to (shift_of shift) c }
+{
+    match to {
+        Encoding::Utf8 | Encoding::Utf16Be | Encoding::Utf16Le => Written::Wrote(utf8(c), shift),
+        Encoding::ShiftJis => shift_jis(set, shift, c),
+        Encoding::EucJp => euc_jp(set, shift, c),
+        Encoding::Iso2022Jp => iso2022_jp(set, shift, c),
+        single => single_byte(set, single, shift, c),
+    }
+}

@@ -1,0 +1,48 @@
+-- The index of a kind.
+use Rattle.std.specs.Prelude.{◌≡◌, ℕ, List, Option, Some, None, Result, Ok, Err, slice_set}
+use Rattle.enc_model.specs.Index.{Index}
+use Rattle.enc_model.specs.Encode.{Tables}
+use Rattle.enc_model.specs.Indexes.{IndexSet, place_of, single_of}
+use Rattle.enc_index.specs.declared.kind.Kind.{Kind}
+use Rattle.enc_index.specs.declared.kind.Kind.TheVariants.{Jis0208, Jis0212, Katakana, Single}
+use Rattle.enc_index.specs.declared.kind.ReadError.{ReadError}
+use Rattle.enc_index.specs.declared.kind.ReadError.TheVariants.{NoMemory}
+use Rattle.enc_index.specs.Files.{file_of}
+
+abbrev pub table_of : Tables → Kind → Index
+table_of t Jis0208 = t.jis0208
+table_of t Jis0212 = t.jis0212
+table_of t Katakana = t.katakana
+table_of t (Single e) = t.single e
+
+-- the index of a kind, where its file was set
+abbrev pub index_of : IndexSet → Kind → Option Index
+index_of x Jis0208 = x.jis0208
+index_of x Jis0212 = x.jis0212
+index_of x Katakana = x.katakana
+index_of x (Single e) = single_of x e
+
+-- an index with its kind
+pub record KindedIndex : Type 0 where
+  pub kind : Kind
+  pub pairs : Index
+
+-- reading a file gives its pairs or its first bad line; want of memory may come in place of either
+abbrev pub IsReading : Kind → List ℕ → Result KindedIndex ReadError → Type 0
+IsReading kind bytes (Ok index) = (index.kind ≡ kind) × (file_of kind bytes ≡ Ok index.pairs)
+IsReading kind bytes (Err NoMemory) = Unit {0}
+IsReading kind bytes (Err e) = file_of kind bytes ≡ Err e
+
+abbrev pub set_place : List (Option Index) → Option ℕ → Index → List (Option Index)
+set_place single None index = single
+set_place single (Some place) index = slice_set single place (Some index)
+
+abbrev pub set_kind : IndexSet → Kind → Index → IndexSet
+set_kind x Jis0208 index = record x { jis0208 = Some index }
+set_kind x Jis0212 index = record x { jis0212 = Some index }
+set_kind x Katakana index = record x { katakana = Some index }
+set_kind x (Single e) index = record x { single = set_place x.single (place_of e) index }
+
+-- the set with this index in its kind's place (nowhere where that is `Single` of no single-byte encoding)
+abbrev pub with_index : IndexSet → KindedIndex → IndexSet
+with_index x index = set_kind x index.kind index.pairs

@@ -1,0 +1,7 @@
+pub mod Area
+pub mod Entries
+pub mod Files
+pub mod Kinds
+pub mod Scalars
+pub mod Sets
+pub mod Usable

@@ -1,0 +1,9 @@
+-- Which pointers an encoder may use.
+use Rattle.std.specs.Prelude.{ℕ, Bool, not, nat_le}
+use Rattle.enc_model.specs.Index.{within}
+use Rattle.enc_index.specs.declared.usable.Usable.{Usable}
+use Rattle.enc_index.specs.declared.usable.Usable.TheVariants.{All, OfShiftJis}
+
+abbrev pub keeps : Usable → ℕ → Bool
+keeps All p = nat_le 0 p
+keeps OfShiftJis p = not (within 8272 8835 p)

@@ -1,0 +1,177 @@
+//! The lines of an index file.
+
+ghost use Rattle.std.specs.Prelude.{◌≡◌, ℕ, ◌+◌, ◌<◌, ◌≤◌, ◌^◌, length, ◌∷◌, IfSome, Option, Some, Ok, Err, MatchResult, option_copied};
+ghost use Rattle.enc_index.specs.Entries.{pairs_from, AreScalars};
+ghost use Rattle.enc_index.specs.Files.{lines_behind, before, behind, without_cr, is_dropped, number, without_spaces, without_0x, pair_of, with_pair, with_line, with_lines, lines_of};
+
+use crate::kind::ReadError;
+
+/// The bytes before the first mark, and those behind it.
+#[tactic(auto, using(crate::proofs::Cuts::before_here, crate::proofs::Cuts::behind_here, crate::proofs::Cuts::front_next, crate::proofs::Cuts::behind_next, crate::proofs::Cuts::before_end, crate::proofs::Cuts::behind_end))]
+fn cut(bytes: &[u8], mark: u8) -> (&[u8], Option<&[u8]>)
+    ensures before { result.0.now ≡ before mark bytes.now }
+    ensures behind { option_copied result.1 ≡ behind mark bytes.now }
+{
+    for (place, byte) in bytes.iter().enumerate() {
+        if *byte == mark {
+            return (&bytes[..place], Some(&bytes[place + 1..]));
+        }
+    }
+    (bytes, None)
+}
+
+/// A line without a CR at its end.
+fn without_cr(line: &[u8]) -> &[u8]
+    ensures { result.now ≡ without_cr line.now }
+{
+    if line.is_empty() {
+        return line;
+    }
+    let last = line.len() - 1;
+    if line[last] == b'\r' {
+        &line[..last]
+    } else {
+        line
+    }
+}
+
+/// A field without the spaces in front.
+#[tactic(auto, using(crate::proofs::Cuts::spaces_here, crate::proofs::Cuts::spaces_next, crate::proofs::Cuts::spaces_end))]
+fn without_spaces(field: &[u8]) -> &[u8]
+    ensures { result.now ≡ without_spaces field.now }
+{
+    for (place, byte) in field.iter().enumerate() {
+        if *byte != b' ' {
+            return &field[place..];
+        }
+    }
+    &field[field.len()..]
+}
+
+/// A field without `0x` in front.
+fn without_0x(field: &[u8]) -> &[u8]
+    ensures { result.now ≡ without_0x field.now }
+{
+    if field.len() >= 2 && field[0] == b'0' && field[1] == b'x' {
+        &field[2..]
+    } else {
+        field
+    }
+}
+
+/// A number of at least one and at most so many digits.
+#[tactic(auto, using(crate::proofs::Numbers::room_for_digit, crate::proofs::Numbers::room_for_radix, crate::proofs::Numbers::grown, crate::proofs::Numbers::onward_next, crate::proofs::Numbers::onward_bad, crate::proofs::Numbers::onward_end))]
+fn number(digits: &[u8], radix: u32, most: usize) -> Option<u32>
+    requires least { 2 ≤ radix }
+    requires greatest { radix ≤ 36 }
+    requires fits { radix ^ most ≤ 2 ^ 32 }
+    ensures { result ≡ number radix most digits.now }
+{
+    if digits.is_empty() || digits.len() > most {
+        return None;
+    }
+    let mut value = 0;
+    for byte in digits {
+        value = value * radix + (*byte as char).to_digit(radix)?;
+    }
+    Some(value)
+}
+
+/// A line's first two fields: the pointer and the code point.
+#[tactic(auto, unfolding(crate::specs::Files::pair_of))]
+fn pair_of(line: &[u8]) -> Option<(u32, u32)>
+    ensures { result ≡ pair_of line.now }
+{
+    let (first, rest) = cut(line, b'\t');
+    let pointer = number(without_spaces(first), 10, 6)?;
+    let (second, _others) = cut(rest?, b'\t');
+    let point = number(without_0x(second), 16, 8)?;
+    Some((pointer, point))
+}
+
+/// Puts a line's pair into the table.
+#[tactic(auto, using(crate::proofs::Pairs::pair_put, crate::proofs::Pairs::pair_twice, crate::proofs::Pairs::scalar_test))]
+fn put_pair(
+    codes: &mut [Option<char>],
+    line_number: usize,
+    pair: (u32, u32),
+) -> Result<(), ReadError>
+    ensures pairs { MatchResult result (λ _. with_pair (length codes.old) line_number (pairs_from 0 codes.old) (Some pair) ≡ Ok (pairs_from 0 codes.new)) (λ e. with_pair (length codes.old) line_number (pairs_from 0 codes.old) (Some pair) ≡ Err e) }
+    ensures scalars { AreScalars codes.old → AreScalars codes.new }
+{
+    let place = pair.0 as usize;
+    if place >= codes.len() {
+        return Err(ReadError::Range(line_number));
+    }
+    let Some(c) = char::from_u32(pair.1) else {
+        return Err(ReadError::Range(line_number));
+    };
+    if codes[place].is_some() {
+        return Err(ReadError::Twice(line_number));
+    }
+    codes[place] = Some(c);
+    Ok(())
+}
+
+/// Whether a line says nothing.
+fn is_dropped(line: &[u8]) -> bool
+    ensures { result ≡ is_dropped line.now }
+{
+    line.is_empty() || line[0] == b'#'
+}
+
+/// Puts what a line says into the table.
+#[tactic(auto, unfolding(crate::specs::Files::with_line))]
+fn read_line(codes: &mut [Option<char>], line_number: usize, line: &[u8]) -> Result<(), ReadError>
+    ensures pairs { MatchResult result (λ _. with_line (length codes.old) line_number (pairs_from 0 codes.old) line.now ≡ Ok (pairs_from 0 codes.new)) (λ e. with_line (length codes.old) line_number (pairs_from 0 codes.old) line.now ≡ Err e) }
+    ensures scalars { AreScalars codes.old → AreScalars codes.new }
+{
+    if is_dropped(line) {
+        return Ok(());
+    }
+    match pair_of(line) {
+        Some(pair) => put_pair(codes, line_number, pair),
+        None => Err(ReadError::Line(line_number)),
+    }
+}
+
+/// A text's first line, and what is behind its LF.
+#[tactic(auto, using(crate::proofs::Lines::lines_next, crate::proofs::Lines::lines_last, crate::proofs::Lines::behind_shorter))]
+fn next_line(text: &[u8]) -> (&[u8], Option<&[u8]>)
+    ensures lines { lines_of text.now ≡ result.0.now ∷ lines_behind (option_copied result.1) }
+    ensures shorter { IfSome (option_copied result.1) (λ rest. length rest < length text.now) }
+{
+    let (line, rest) = cut(text, b'\n');
+    match rest {
+        Some(_) => (without_cr(line), rest),
+        None => (line, None),
+    }
+}
+
+/// Puts what the lines of a text say into the table, up to the first bad one.
+#[tactic(auto, using(crate::proofs::Lines::lines_on, crate::proofs::Lines::lines_bad, crate::proofs::Lines::lines_done))]
+fn read_lines(codes: &mut [Option<char>], bytes: &[u8]) -> Result<(), ReadError>
+    ensures pairs { MatchResult result (λ _. with_lines (length codes.old) 1 (pairs_from 0 codes.old) (lines_of bytes.now) ≡ Ok (pairs_from 0 codes.new)) (λ e. with_lines (length codes.old) 1 (pairs_from 0 codes.old) (lines_of bytes.now) ≡ Err e) }
+    ensures scalars { AreScalars codes.old → AreScalars codes.new }
+{
+    let mut text = bytes;
+    let mut line_number = 1;
+    loop {
+        let (line, rest) = next_line(text);
+        read_line(codes, line_number, line)?;
+        match rest {
+            Some(behind) => text = behind,
+            None => return Ok(()),
+        }
+        line_number += 1;
+    }
+}
+
+/// Puts what the lines of a file say into the table, up to the first bad one.
+pub fn read_file(codes: &mut Vec<Option<char>>, bytes: &[u8]) -> Result<(), ReadError>
+    ensures pairs { MatchResult result (λ _. with_lines (length codes.old.items) 1 (pairs_from 0 codes.old.items) (lines_of bytes.now) ≡ Ok (pairs_from 0 codes.new.items)) (λ e. with_lines (length codes.old.items) 1 (pairs_from 0 codes.old.items) (lines_of bytes.now) ≡ Err e) }
+    ensures scalars { AreScalars codes.old.items → AreScalars codes.new.items }
+    ensures length { length codes.new.items ≡ length codes.old.items }
+{
+    read_lines(codes, bytes)
+}

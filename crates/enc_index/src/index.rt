@@ -1,0 +1,112 @@
+//! An index file that was read.
+
+ghost use Rattle.std.specs.Prelude.{◌≡◌, ℕ, ◌≤◌, replicate, None, IfOk};
+ghost use Rattle.enc_index.specs.Files.{pointers_of};
+ghost use Rattle.enc_index.specs.Sets.{IsIndex};
+ghost use Rattle.enc_index.specs.Kinds.{KindedIndex, IsReading};
+ghost use Rattle.enc_model.specs.Index.{code, pointer, pointer_sjis};
+
+use crate::file::read_file;
+use crate::kind::{Kind, ReadError};
+use crate::table::Table;
+use std::alloc::{AllocError, Global};
+use std::marker::Model;
+
+/// An index of its kind.
+#[derive(Drop)]
+pub struct Index {
+    kind: Kind,
+    table: Table,
+}
+
+impl Model for Index {
+    ghost use Rattle.enc_index.specs.Files.{pointers_of};
+    ghost use Rattle.enc_index.specs.Sets.{IsIndex};
+    ghost use Rattle.enc_index.specs.Kinds.{KindedIndex};
+
+    ghost Value = { KindedIndex };
+
+    ghost view = { λ i. record { kind = i.kind; pairs = i.table } };
+
+    ghost invariant = { λ i. IsIndex (pointers_of i.kind) i.table };
+}
+
+/// How many pointers a kind has.
+fn pointers_of(kind: Kind) -> usize
+    ensures count { result ≡ pointers_of kind }
+    ensures bound { result ≤ 11280 }
+{
+    match kind {
+        Kind::Jis0208 => 11280,
+        Kind::Jis0212 => 8836,
+        Kind::Katakana => 63,
+        Kind::Single(_) => 128,
+    }
+}
+
+/// A table with no code point.
+fn no_codes(alloc: Global, pointers: usize) -> Result<Vec<Option<char>>, AllocError>
+    ensures { IfOk result (λ codes. codes.items ≡ replicate pointers None) }
+{
+    let mut codes = Vec::new(alloc);
+    for _pointer in 0..pointers {
+        codes.push(None)?;
+    }
+    Ok(codes)
+}
+
+impl Index {
+    /// Reads an index file: lines of a pointer, a TAB and a code point (Encoding Standard, "Indexes"). Lines end in LF, with
+    /// or without a CR before it. Empty lines, lines that start with `#` and fields behind the code point don't matter. A
+    /// pointer has 1 to 6 decimal digits, with any spaces in front, a code point 1 to 8 hexadecimal ones, with or without `0x`.
+    ///
+    /// # Errors
+    ///
+    /// What is wrong with the first bad line, or `NoMemory` if memory is refused.
+    pub fn read(alloc: Global, bytes: &[u8], kind: Kind) -> Result<Index, ReadError>
+        ensures { IsReading kind bytes.now result }
+    {
+        let mut codes = no_codes(alloc, pointers_of(kind))?;
+        read_file(&mut codes, bytes)?;
+        let table = Table::new(alloc, codes)?;
+        Ok(Index { kind, table })
+    }
+
+    /// Which index it is.
+    pub fn kind(&self) -> Kind
+        ensures { result ≡ self.now.kind }
+    {
+        self.kind
+    }
+
+    /// The code point at a pointer.
+    pub fn code(&self, pointer: u32) -> Option<char>
+        ensures { result ≡ code self.now.pairs pointer }
+    {
+        self.table.code(pointer)
+    }
+
+    /// The least pointer of a code point.
+    pub fn pointer(&self, c: char) -> Option<u32>
+        ensures { result ≡ pointer self.now.pairs c }
+    {
+        self.table.pointer(c)
+    }
+
+    /// The least pointer of a code point outside 8272..8835, which the encoder of Shift_JIS leaves out.
+    pub fn pointer_sjis(&self, c: char) -> Option<u32>
+        ensures { result ≡ pointer_sjis self.now.pairs c }
+    {
+        self.table.pointer_sjis(c)
+    }
+
+    /// The kind, and the table.
+    pub(crate) fn into_parts(self) -> (Kind, Table)
+        ensures kind { result.0 ≡ self.kind }
+        ensures pairs { result.1 ≡ self.pairs }
+        ensures valid { IsIndex (pointers_of self.kind) self.pairs }
+    {
+        let Index { kind, table } = self;
+        (kind, table)
+    }
+}

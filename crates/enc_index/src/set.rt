@@ -1,0 +1,205 @@
+//! The index files that were set.
+
+ghost use Rattle.std.specs.Prelude.{◌≡◌, ◌<◌, ℕ, Option, IfOk, IfSome, option_copied, length, slice_index_or, replicate};
+ghost use Rattle.enc_model.specs.Index.{code, pointer, pointer_sjis};
+ghost use Rattle.enc_model.specs.Indexes.{no_indexes, tables, offers, place_of, single_of};
+ghost use Rattle.enc_index.specs.Files.{pointers_of};
+ghost use Rattle.enc_index.specs.Kinds.{table_of, index_of, with_index};
+ghost use Rattle.enc_index.specs.Sets.{IsIndexSet};
+ghost use Rattle.enc_index.specs.Area.{nth_file};
+
+use crate::index::Index;
+use crate::kind::Kind;
+use crate::table::Table;
+use enc_model::Encoding;
+use std::alloc::{AllocError, Global};
+use std::marker::Model;
+
+/// How many encodings have a single-byte index.
+const SINGLE_BYTE_ENCODINGS: usize = 15;
+
+/// The index files that were set.
+#[derive(Drop)]
+pub struct IndexSet {
+    jis0208: Option<Table>,
+    jis0212: Option<Table>,
+    katakana: Option<Table>,
+    /// of the fifteen single-byte encodings, in their order
+    single: Vec<Option<Table>>,
+}
+
+impl Model for IndexSet {
+    ghost use Rattle.enc_model.specs.Indexes.{IndexSet};
+    ghost use Rattle.enc_index.specs.Sets.{IsIndexSet};
+
+    ghost Value = { IndexSet };
+
+    ghost view = { λ s. record { jis0208 = s.jis0208; jis0212 = s.jis0212; katakana = s.katakana; single = s.single.items } };
+
+    ghost invariant = { λ s. IsIndexSet (record { jis0208 = s.jis0208; jis0212 = s.jis0212; katakana = s.katakana; single = s.single.items }) };
+}
+
+/// The place of a single-byte encoding among the fifteen.
+fn place_of(encoding: Encoding) -> Option<usize>
+    ensures { result ≡ place_of encoding }
+{
+    match encoding {
+        Encoding::Ibm866 => Some(0),
+        Encoding::Iso8859X2 => Some(1),
+        Encoding::Iso8859X5 => Some(2),
+        Encoding::Iso8859X15 => Some(3),
+        Encoding::Koi8R => Some(4),
+        Encoding::Macintosh => Some(5),
+        Encoding::Windows1250 => Some(6),
+        Encoding::Windows1251 => Some(7),
+        Encoding::Windows1252 => Some(8),
+        Encoding::Windows1253 => Some(9),
+        Encoding::Windows1254 => Some(10),
+        Encoding::Windows1255 => Some(11),
+        Encoding::Windows1256 => Some(12),
+        Encoding::Windows1257 => Some(13),
+        Encoding::Windows1258 => Some(14),
+        _ => None,
+    }
+}
+
+impl IndexSet {
+    /// A set of which no file was set.
+    ///
+    /// # Errors
+    ///
+    /// `AllocError` if the memory for it is refused.
+    pub fn new(alloc: Global) -> Result<IndexSet, AllocError>
+        ensures { IfOk result (λ set. set ≡ no_indexes) }
+    {
+        let mut single = Vec::new(alloc);
+        for _place in 0..SINGLE_BYTE_ENCODINGS {
+            single.push(None)?;
+        }
+        Ok(IndexSet {
+            jis0208: None,
+            jis0212: None,
+            katakana: None,
+            single,
+        })
+    }
+
+    /// Each index that was set is one of its kind.
+    pub(crate) fn valid(&self)
+        ensures { IsIndexSet self.now }
+    {
+        let _ = &self.jis0208;
+    }
+
+    /// The set of these tables.
+    pub(crate) fn of_tables(
+        jis0208: Option<Table>,
+        jis0212: Option<Table>,
+        katakana: Option<Table>,
+        single: Vec<Option<Table>>,
+    ) -> IndexSet
+        requires { IsIndexSet (record { jis0208 = jis0208; jis0212 = jis0212; katakana = katakana; single = single.items }) }
+        ensures { result ≡ record { jis0208 = jis0208; jis0212 = jis0212; katakana = katakana; single = single.items } }
+    {
+        IndexSet {
+            jis0208,
+            jis0212,
+            katakana,
+            single,
+        }
+    }
+
+    /// The table of the n-th of the eighteen files, where it was set.
+    pub(crate) fn nth_table(&self, n: usize) -> Option<&Table>
+        ensures { option_copied result ≡ nth_file self.now n }
+    {
+        match n {
+            0 => self.jis0208.as_ref(),
+            1 => self.jis0212.as_ref(),
+            2 => self.katakana.as_ref(),
+            _ => match self.single.get(n - 3) {
+                Some(table) => table.as_ref(),
+                None => None,
+            },
+        }
+    }
+
+    /// Puts an index in its kind's place, in place of the one that was there. An index of `Single` of no single-byte encoding
+    /// is put nowhere. Takes no memory.
+    pub fn set(&mut self, index: Index)
+        ensures { self.new ≡ with_index self.old index }
+    {
+        let (kind, table) = index.into_parts();
+        match kind {
+            Kind::Jis0208 => self.jis0208 = Some(table),
+            Kind::Jis0212 => self.jis0212 = Some(table),
+            Kind::Katakana => self.katakana = Some(table),
+            Kind::Single(encoding) => {
+                if let Some(place) = place_of(encoding) {
+                    self.single[place] = Some(table);
+                }
+            }
+        }
+    }
+
+    /// The index of a single-byte encoding, where its file was set.
+    fn single_table(&self, encoding: Encoding) -> Option<&Table>
+        ensures { option_copied result ≡ single_of self.now encoding }
+    {
+        let place = place_of(encoding)?;
+        self.single[place].as_ref()
+    }
+
+    /// The index of a kind, where its file was set.
+    fn table(&self, kind: Kind) -> Option<&Table>
+        ensures { option_copied result ≡ index_of self.now kind }
+    {
+        match kind {
+            Kind::Jis0208 => self.jis0208.as_ref(),
+            Kind::Jis0212 => self.jis0212.as_ref(),
+            Kind::Katakana => self.katakana.as_ref(),
+            Kind::Single(encoding) => self.single_table(encoding),
+        }
+    }
+
+    /// Whether texts in an encoding can be read and written: UTF-8 and UTF-16 always, a single-byte encoding where its
+    /// file was set, Shift_JIS with jis0208, EUC-JP with jis0208 and jis0212, ISO-2022-JP with jis0208 and katakana.
+    pub fn offers(&self, encoding: Encoding) -> bool
+        ensures { result ≡ offers self.now encoding }
+    {
+        match encoding {
+            Encoding::Utf8 | Encoding::Utf16Be | Encoding::Utf16Le => true,
+            Encoding::ShiftJis => self.jis0208.is_some(),
+            Encoding::EucJp => self.jis0208.is_some() && self.jis0212.is_some(),
+            Encoding::Iso2022Jp => self.jis0208.is_some() && self.katakana.is_some(),
+            single => self.single_table(single).is_some(),
+        }
+    }
+
+    /// The code point at a pointer of an index. A file that is not set maps nothing.
+    #[tactic(auto, using(crate::proofs::Lookups::code_of_none, crate::proofs::Lookups::table_is))]
+    pub fn code(&self, kind: Kind, pointer: u32) -> Option<char>
+        ensures { result ≡ code (table_of (tables self.now) kind) pointer }
+    {
+        self.table(kind)?.code(pointer)
+    }
+
+    /// The least pointer of a code point in an index.
+    #[tactic(auto, using(crate::proofs::Lookups::pointer_of_none, crate::proofs::Lookups::table_is))]
+    pub fn pointer(&self, kind: Kind, c: char) -> Option<u32>
+        ensures value { result ≡ pointer (table_of (tables self.now) kind) c }
+        ensures bounded { IfSome result (λ p. p < pointers_of kind) }
+    {
+        let _ = &self.jis0208;
+        self.table(kind)?.pointer(c)
+    }
+
+    /// The least pointer of a code point in jis0208 outside 8272..8835, which the encoder of Shift_JIS leaves out.
+    #[tactic(auto, using(crate::proofs::Lookups::pointer_of_none))]
+    pub fn pointer_sjis(&self, c: char) -> Option<u32>
+        ensures value { result ≡ pointer_sjis (tables self.now).jis0208 c }
+        ensures bounded { IfSome result (λ p. p < 11280) }
+    {
+        self.jis0208.as_ref()?.pointer_sjis(c)
+    }
+}

@@ -1,0 +1,149 @@
+//! The decoder of EUC-JP.
+
+ghost use Rattle.std.specs.Prelude.{◌≡◌, OnOk, true, false, ◌<◌, ◌≤◌, ◌+◌, [], ◌∷◌, Some, None};
+ghost use Rattle.enc_legacy.specs.EucJpState.{IsEucJpState};
+ghost use Rattle.enc_model.specs.Stream.{restored_bytes, IsCalm, steps};
+ghost use Rattle.enc_model.specs.Sink.{Given};
+ghost use Rattle.enc_model.specs.Japanese.{EucJp, euc_jp, euc_jp_start, euc_jp_pair};
+ghost use Rattle.enc_model.specs.Indexes.{tables};
+ghost use Rattle.enc_model.proofs.Calm.{euc_jp_calm};
+
+use crate::kana::{half_width, pair_answer};
+use enc_index::{IndexSet, Kind};
+use enc_model::{Answer, Decoder, Restored, Sink, feed, finish};
+use std::marker::Model;
+
+/// A decoder of EUC-JP (Encoding Standard, section 12.1.1): the lead that is kept, or 0, and whether it is one of jis0212.
+#[derive(Drop)]
+pub struct EucJpState {
+    lead: u8,
+    flag: bool,
+}
+
+impl Model for EucJpState {
+    ghost Value = { EucJp };
+
+    ghost view = { λ s. record { lead = s.lead; flag = s.flag } };
+
+    ghost invariant = { λ s. IsEucJpState s.lead s.flag };
+}
+
+/// What a lead and the byte behind it stand for.
+fn euc_jp_char(indexes: &IndexSet, flag: bool, lead: u8, b: u8) -> Option<char>
+    ensures { result ≡ euc_jp_pair (tables indexes.now).jis0208 (tables indexes.now).jis0212 flag lead b }
+{
+    if lead < 0xA1 || 0xFE < lead || b < 0xA1 || 0xFE < b {
+        return None;
+    }
+    let pointer = (lead as u32 - 0xA1) * 94 + (b as u32 - 0xA1);
+    if flag {
+        indexes.code(Kind::Jis0212, pointer)
+    } else {
+        indexes.code(Kind::Jis0208, pointer)
+    }
+}
+
+impl EucJpState {
+    /// A decoder that has read nothing.
+    pub fn new() -> Self
+        ensures { result ≡ euc_jp_start }
+    {
+        EucJpState {
+            lead: 0,
+            flag: false,
+        }
+    }
+}
+
+impl Decoder for EucJpState {
+    type Tables = IndexSet;
+
+    ghost handler = { λ t. euc_jp (tables t).jis0208 (tables t).jis0212 };
+
+    #[tactic(auto, unfolding(enc_model::specs::Japanese::euc_jp))]
+    fn read(&mut self, indexes: &IndexSet, byte: Option<u8>) -> (Answer, Restored) {
+        let (lead, flag) = self.kept();
+        *self = Self::new();
+        let Some(b) = byte else {
+            return if lead == 0 {
+                (Answer::Finished, Restored::Zero)
+            } else {
+                (Answer::Error, Restored::Zero)
+            };
+        };
+        match (lead, b) {
+            (0, 0..=0x7F) => (Answer::Point(b as char), Restored::Zero),
+            (0, 0x8E | 0x8F | 0xA1..=0xFE) => {
+                *self = Self::keeping(b, false);
+                (Answer::Nothing, Restored::Zero)
+            }
+            (0, _) => (Answer::Error, Restored::Zero),
+            (0x8E, 0xA1..=0xDF) => (half_width(b - 0xA1), Restored::Zero),
+            (0x8F, 0xA1..=0xFE) => {
+                *self = Self::keeping(b, true);
+                (Answer::Nothing, Restored::Zero)
+            }
+            _ => pair_answer(euc_jp_char(indexes, flag, lead, b), b),
+        }
+    }
+
+    ghost calm = { λ t. euc_jp_calm (tables t).jis0208 (tables t).jis0212 };
+}
+
+impl EucJpState {
+    /// A decoder that keeps this lead, or none where it is 0; the flag says that it is one of jis0212.
+    pub fn keeping(lead: u8, flag: bool) -> Self
+        requires { IsEucJpState lead flag }
+        ensures { result ≡ record { lead = lead; flag = flag } }
+    {
+        EucJpState { lead, flag }
+    }
+
+    /// The lead that is kept, or 0, and whether it is one of jis0212.
+    pub fn kept(&self) -> (u8, bool)
+        ensures lead { result.0 ≡ self.now.lead }
+        ensures flag { result.1 ≡ self.now.flag }
+        ensures valid { IsEucJpState result.0 result.1 }
+    {
+        (self.lead, self.flag)
+    }
+
+    /// The same state once more.
+    pub fn copy(&self) -> Self
+        ensures { result ≡ self.now }
+    {
+        EucJpState {
+            lead: self.lead,
+            flag: self.flag,
+        }
+    }
+
+    /// The steps over a piece, from any state.
+    ///
+    /// # Errors
+    ///
+    /// The sink's refusal, at once; nothing more is said of the state then.
+    pub fn feed<S: Sink>(
+        &mut self,
+        indexes: &IndexSet,
+        piece: &[u8],
+        sink: &mut S,
+    ) -> Result<(), S::Refusal>
+        ensures given { Given S.takes S.refuses sink.old (steps (euc_jp (tables indexes.now).jis0208 (tables indexes.now).jis0212) false self.old piece.now).text sink.new result }
+        ensures state { OnOk result (self.new ≡ (steps (euc_jp (tables indexes.now).jis0208 (tables indexes.now).jis0212) false self.old piece.now).state) }
+    {
+        feed(self, indexes, piece, sink)
+    }
+
+    /// The steps of the end.
+    ///
+    /// # Errors
+    ///
+    /// The sink's refusal, at once; nothing more is said of the state then.
+    pub fn finish<S: Sink>(&mut self, indexes: &IndexSet, sink: &mut S) -> Result<(), S::Refusal>
+        ensures given { Given S.takes S.refuses sink.old (steps (euc_jp (tables indexes.now).jis0208 (tables indexes.now).jis0212) true self.old []).text sink.new result }
+        ensures state { OnOk result (self.new ≡ (steps (euc_jp (tables indexes.now).jis0208 (tables indexes.now).jis0212) true self.old []).state) }
+    {
+        finish(self, indexes, sink)
+    }
+}

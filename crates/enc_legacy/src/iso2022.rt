@@ -1,0 +1,285 @@
+//! The decoder of ISO-2022-JP.
+
+ghost use Rattle.std.specs.Prelude.{◌≡◌, OnOk, true, ◌≤◌, ℕ, false, [], ◌∷◌, Some, None};
+ghost use Rattle.enc_legacy.specs.Iso2022State.{IsStand};
+ghost use Rattle.enc_model.specs.Stream.{restored_bytes, IsCalm, steps};
+ghost use Rattle.enc_model.specs.Sink.{Given};
+ghost use Rattle.enc_model.specs.Japanese.{Iso2022, iso2022, iso2022_start, iso2022_answer, iso2022_byte, iso2022_end, iso2022_plain, answer_of, escape_of, introducer_byte};
+ghost use Rattle.enc_model.specs.Index.{code};
+ghost use Rattle.enc_model.proofs.Calm.{iso2022_calm};
+ghost use Rattle.enc_model.specs.Indexes.{tables};
+
+use crate::kana::{answer_for, half_width};
+use enc_index::{IndexSet, Kind};
+use enc_model::{Answer, Charset, Decoder, Introducer, Place, Restored, Sink, feed, finish};
+use std::marker::Model;
+
+/// A decoder of ISO-2022-JP (Encoding Standard, section 12.2.1): where it stands, the output state, to which an escape that
+/// means nothing goes back, and a flag, set between an escape and the next byte.
+#[derive(Drop)]
+pub struct Iso2022State {
+    place: Place,
+    output: Charset,
+    flag: bool,
+}
+
+impl Model for Iso2022State {
+    ghost Value = { Iso2022 };
+
+    ghost view = { λ s. record { place = s.place; output = s.output; flag = s.flag } };
+
+    ghost invariant = { λ s. IsStand s.place s.output s.flag };
+}
+
+/// The answer to a byte other than 1B in a set.
+fn plain_answer(set: Charset, b: u8) -> Answer
+    ensures { result ≡ iso2022_answer set b }
+{
+    match set {
+        Charset::Roman if b == 0x5C => Answer::Point('\u{A5}'),
+        Charset::Roman if b == 0x7E => Answer::Point('\u{203E}'),
+        Charset::Ascii | Charset::Roman => {
+            if b < 0x80 && b != 0x0E && b != 0x0F {
+                Answer::Point(b as char)
+            } else {
+                Answer::Error
+            }
+        }
+        Charset::Katakana => {
+            if 0x21 <= b && b <= 0x5F {
+                half_width(b - 0x21)
+            } else {
+                Answer::Error
+            }
+        }
+        Charset::Lead => {
+            if 0x21 <= b && b <= 0x7E {
+                Answer::Nothing
+            } else {
+                Answer::Error
+            }
+        }
+    }
+}
+
+/// The set that 1B and two bytes mean.
+fn escape(lead: Introducer, b: u8) -> Option<Charset>
+    ensures { result ≡ escape_of lead b }
+{
+    match (lead, b) {
+        (Introducer::Paren, 0x42) => Some(Charset::Ascii),
+        (Introducer::Paren, 0x4A) => Some(Charset::Roman),
+        (Introducer::Paren, 0x49) => Some(Charset::Katakana),
+        (Introducer::Dollar, 0x40 | 0x42) => Some(Charset::Lead),
+        _ => None,
+    }
+}
+
+/// The byte behind 1B.
+fn byte_of(lead: Introducer) -> u8
+    ensures { result ≡ introducer_byte lead }
+{
+    match lead {
+        Introducer::Dollar => 0x24,
+        Introducer::Paren => 0x28,
+    }
+}
+
+impl Iso2022State {
+    /// A decoder that has read nothing.
+    pub fn new() -> Self
+        ensures { result ≡ iso2022_start }
+    {
+        Iso2022State {
+            place: Place::In(Charset::Ascii),
+            output: Charset::Ascii,
+            flag: false,
+        }
+    }
+
+    /// Goes on in the output state.
+    fn back(&mut self)
+        ensures { self.new ≡ record { place = Place.In self.old.output; output = self.old.output; flag = false } }
+    {
+        self.place = Place::In(self.output);
+        self.flag = false;
+    }
+
+    /// The end.
+    fn end(&mut self) -> (Answer, Restored)
+        ensures answer { result.0 ≡ (iso2022_end self.old.place self.old.output self.old.flag).answer }
+        ensures restored { restored_bytes result.1 ≡ (iso2022_end self.old.place self.old.output self.old.flag).restored }
+        ensures state { self.new ≡ (iso2022_end self.old.place self.old.output self.old.flag).state }
+    {
+        match self.place {
+            Place::In(_) => (Answer::Finished, Restored::Zero),
+            Place::Trail(_) => {
+                self.place = Place::In(Charset::Lead);
+                (Answer::Error, Restored::Zero)
+            }
+            Place::EscapeStart => {
+                self.back();
+                (Answer::Error, Restored::Zero)
+            }
+            Place::Escape(lead) => {
+                self.back();
+                (Answer::Error, Restored::One(byte_of(lead)))
+            }
+        }
+    }
+
+    /// A byte behind 1B and one more.
+    fn escaped(&mut self, lead: Introducer, b: u8) -> (Answer, Restored)
+        ensures answer { result.0 ≡ (iso2022_byte [] (Place.Escape lead) self.old.output self.old.flag b).answer }
+        ensures restored { restored_bytes result.1 ≡ (iso2022_byte [] (Place.Escape lead) self.old.output self.old.flag b).restored }
+        ensures state { self.new ≡ (iso2022_byte [] (Place.Escape lead) self.old.output self.old.flag b).state }
+    {
+        match escape(lead, b) {
+            Some(set) => {
+                let answer = if self.flag {
+                    Answer::Error
+                } else {
+                    Answer::Nothing
+                };
+                self.place = Place::In(set);
+                self.output = set;
+                self.flag = true;
+                (answer, Restored::Zero)
+            }
+            None => {
+                self.back();
+                (Answer::Error, Restored::Two(byte_of(lead), b))
+            }
+        }
+    }
+
+    /// A byte other than 1B in a set.
+    fn plain(&mut self, set: Charset, b: u8) -> Answer
+        requires { self.old.output ≡ set }
+        ensures answer { result ≡ (iso2022_plain set self.old.output b).answer }
+        ensures state { self.new ≡ (iso2022_plain set self.old.output b).state }
+    {
+        let answer = plain_answer(set, b);
+        self.flag = false;
+        self.place = match (set, answer) {
+            (Charset::Lead, Answer::Nothing) => Place::Trail(b),
+            _ => Place::In(set),
+        };
+        answer
+    }
+}
+
+impl Decoder for Iso2022State {
+    type Tables = IndexSet;
+
+    ghost handler = { λ t. iso2022 (tables t).jis0208 };
+
+    #[tactic(auto, unfolding(enc_model::specs::Japanese::iso2022))]
+    fn read(&mut self, indexes: &IndexSet, byte: Option<u8>) -> (Answer, Restored) {
+        let Some(b) = byte else {
+            return self.end();
+        };
+        match self.place {
+            Place::In(set) => {
+                if b == 0x1B {
+                    self.place = Place::EscapeStart;
+                    (Answer::Nothing, Restored::Zero)
+                } else {
+                    (self.plain(set, b), Restored::Zero)
+                }
+            }
+            Place::Trail(lead) => {
+                if b == 0x1B {
+                    self.place = Place::EscapeStart;
+                    return (Answer::Error, Restored::Zero);
+                }
+                self.place = Place::In(Charset::Lead);
+                if b < 0x21 || 0x7E < b {
+                    return (Answer::Error, Restored::Zero);
+                }
+                let pointer = (lead as u32 - 0x21) * 94 + (b as u32 - 0x21);
+                let code = indexes.code(Kind::Jis0208, pointer);
+                (answer_for(code), Restored::Zero)
+            }
+            Place::EscapeStart => match b {
+                0x24 => {
+                    self.place = Place::Escape(Introducer::Dollar);
+                    (Answer::Nothing, Restored::Zero)
+                }
+                0x28 => {
+                    self.place = Place::Escape(Introducer::Paren);
+                    (Answer::Nothing, Restored::Zero)
+                }
+                _ => {
+                    self.back();
+                    (Answer::Error, Restored::One(b))
+                }
+            },
+            Place::Escape(lead) => self.escaped(lead, b),
+        }
+    }
+
+    ghost calm = { λ t. iso2022_calm (tables t).jis0208 };
+}
+
+impl Iso2022State {
+    /// A decoder that stands there, with this output state and flag.
+    pub fn standing(place: Place, output: Charset, flag: bool) -> Self
+        requires { IsStand place output flag }
+        ensures { result ≡ record { place = place; output = output; flag = flag } }
+    {
+        Iso2022State {
+            place,
+            output,
+            flag,
+        }
+    }
+
+    /// Where it stands, its output state and its flag.
+    pub fn stand(&self) -> (Place, Charset, bool)
+        ensures value { self.now ≡ record { place = result.0; output = result.1; flag = result.2 } }
+        ensures valid { IsStand result.0 result.1 result.2 }
+    {
+        (self.place, self.output, self.flag)
+    }
+
+    /// The same state once more.
+    pub fn copy(&self) -> Self
+        ensures { result ≡ self.now }
+    {
+        Iso2022State {
+            place: self.place,
+            output: self.output,
+            flag: self.flag,
+        }
+    }
+
+    /// The steps over a piece, from any state.
+    ///
+    /// # Errors
+    ///
+    /// The sink's refusal, at once; nothing more is said of the state then.
+    pub fn feed<S: Sink>(
+        &mut self,
+        indexes: &IndexSet,
+        piece: &[u8],
+        sink: &mut S,
+    ) -> Result<(), S::Refusal>
+        ensures given { Given S.takes S.refuses sink.old (steps (iso2022 (tables indexes.now).jis0208) false self.old piece.now).text sink.new result }
+        ensures state { OnOk result (self.new ≡ (steps (iso2022 (tables indexes.now).jis0208) false self.old piece.now).state) }
+    {
+        feed(self, indexes, piece, sink)
+    }
+
+    /// The steps of the end.
+    ///
+    /// # Errors
+    ///
+    /// The sink's refusal, at once; nothing more is said of the state then.
+    pub fn finish<S: Sink>(&mut self, indexes: &IndexSet, sink: &mut S) -> Result<(), S::Refusal>
+        ensures given { Given S.takes S.refuses sink.old (steps (iso2022 (tables indexes.now).jis0208) true self.old []).text sink.new result }
+        ensures state { OnOk result (self.new ≡ (steps (iso2022 (tables indexes.now).jis0208) true self.old []).state) }
+    {
+        finish(self, indexes, sink)
+    }
+}

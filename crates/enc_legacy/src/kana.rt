@@ -1,0 +1,37 @@
+//! What the decoders of Japanese text share.
+
+ghost use Rattle.std.specs.Prelude.{◌≡◌, ◌+◌, ◌<◌, ℕ, Option, Some};
+ghost use Rattle.enc_model.specs.Stream.{Step, restored_bytes};
+ghost use Rattle.enc_model.specs.Japanese.{answer_of, pair_step};
+
+use enc_model::{Answer, Restored};
+
+/// The answer for a code point, or the error for none.
+pub(crate) fn answer_for(code: Option<char>) -> Answer
+    ensures { result ≡ answer_of code }
+{
+    match code {
+        Some(c) => Answer::Point(c),
+        None => Answer::Error,
+    }
+}
+
+/// A half-width katakana, counted from U+FF61.
+pub(crate) fn half_width(from_first: u8) -> Answer
+    requires { from_first < 63 }
+    ensures { result ≡ answer_of (Some (0xFF61 + from_first)) }
+{
+    answer_for(char::from_u32(0xFF61 + from_first as u32))
+}
+
+/// The answer to a lead and this byte, for the code point of the two or none: without one, ASCII is read again.
+pub(crate) fn pair_answer(code: Option<char>, b: u8) -> (Answer, Restored)
+    ensures answer { result.0 ≡ answer_of code }
+    ensures restored { restored_bytes result.1 ≡ (pair_step {S = ℕ} 0 code b).restored }
+{
+    match code {
+        Some(c) => (Answer::Point(c), Restored::Zero),
+        None if b < 0x80 => (Answer::Error, Restored::One(b)),
+        None => (Answer::Error, Restored::Zero),
+    }
+}

@@ -1,0 +1,148 @@
+//! The decoder of Shift_JIS.
+
+ghost use Rattle.std.specs.Prelude.{◌≡◌, OnOk, true, false, ◌⊎◌, ◌<◌, ◌≤◌, ◌+◌, ℕ, [], ◌∷◌, Some, None};
+ghost use Rattle.enc_legacy.specs.ShiftJis.{IsShiftJisLead, IsShiftJisState};
+ghost use Rattle.enc_model.specs.Stream.{restored_bytes, IsCalm, steps};
+ghost use Rattle.enc_model.specs.Sink.{Given};
+ghost use Rattle.enc_model.specs.Japanese.{shift_jis, shift_jis_at, shift_jis_pair};
+ghost use Rattle.enc_model.specs.Indexes.{tables};
+ghost use Rattle.enc_model.proofs.Calm.{shift_jis_calm};
+
+use crate::kana::{half_width, pair_answer};
+use enc_index::{IndexSet, Kind};
+use enc_model::{Answer, Decoder, Restored, Sink, feed, finish};
+use std::marker::Model;
+
+/// A decoder of Shift_JIS (Encoding Standard, section 12.3.1): the lead that is kept, or 0.
+#[derive(Drop)]
+pub struct ShiftJisState {
+    lead: u8,
+}
+
+impl Model for ShiftJisState {
+    ghost Value = { ℕ };
+
+    ghost view = { λ s. s.lead };
+
+    ghost invariant = { λ s. IsShiftJisState s.lead };
+}
+
+/// The pointer of a lead and a trail.
+fn shift_jis_pointer(lead: u8, b: u8) -> u32
+    requires lead { IsShiftJisLead lead }
+    requires trail { 0x40 ≤ b }
+    ensures { result ≡ shift_jis_at lead b }
+{
+    let offset: u32 = if b < 0x7F { 0x40 } else { 0x41 };
+    let lead_offset: u32 = if lead < 0xA0 { 0x81 } else { 0xC1 };
+    (lead as u32 - lead_offset) * 188 + b as u32 - offset
+}
+
+/// What a lead and the byte behind it stand for.
+fn shift_jis_char(indexes: &IndexSet, lead: u8, b: u8) -> Option<char>
+    requires lead { IsShiftJisLead lead }
+    ensures { result ≡ shift_jis_pair (tables indexes.now).jis0208 lead b }
+{
+    if b < 0x40 || b == 0x7F || 0xFC < b {
+        return None;
+    }
+    let pointer = shift_jis_pointer(lead, b);
+    if 8836 <= pointer && pointer <= 10715 {
+        return char::from_u32(0xE000 + (pointer - 8836));
+    }
+    indexes.code(Kind::Jis0208, pointer)
+}
+
+impl Decoder for ShiftJisState {
+    type Tables = IndexSet;
+
+    ghost handler = { λ t. shift_jis (tables t).jis0208 };
+
+    #[tactic(auto, unfolding(enc_model::specs::Japanese::shift_jis))]
+    fn read(&mut self, indexes: &IndexSet, byte: Option<u8>) -> (Answer, Restored) {
+        let lead = self.lead();
+        *self = Self::new();
+        let Some(b) = byte else {
+            return if lead == 0 {
+                (Answer::Finished, Restored::Zero)
+            } else {
+                (Answer::Error, Restored::Zero)
+            };
+        };
+        if lead != 0 {
+            return pair_answer(shift_jis_char(indexes, lead, b), b);
+        }
+        match b {
+            0..=0x80 => (Answer::Point(b as char), Restored::Zero),
+            0xA1..=0xDF => (half_width(b - 0xA1), Restored::Zero),
+            0x81..=0x9F | 0xE0..=0xFC => {
+                *self = Self::keeping(b);
+                (Answer::Nothing, Restored::Zero)
+            }
+            _ => (Answer::Error, Restored::Zero),
+        }
+    }
+
+    ghost calm = { λ t. shift_jis_calm (tables t).jis0208 };
+}
+
+impl ShiftJisState {
+    /// A decoder that has read nothing.
+    pub fn new() -> Self
+        ensures { result ≡ 0 }
+    {
+        ShiftJisState { lead: 0 }
+    }
+
+    /// A decoder that keeps this lead, or none where it is 0.
+    pub fn keeping(lead: u8) -> Self
+        requires { IsShiftJisState lead }
+        ensures { result ≡ lead }
+    {
+        ShiftJisState { lead }
+    }
+
+    /// The lead that is kept, or 0.
+    pub fn lead(&self) -> u8
+        ensures value { result ≡ self.now }
+        ensures valid { IsShiftJisState result }
+    {
+        self.lead
+    }
+
+    /// The same state once more.
+    pub fn copy(&self) -> Self
+        ensures { result ≡ self.now }
+    {
+        ShiftJisState { lead: self.lead }
+    }
+
+    /// The steps over a piece, from any state.
+    ///
+    /// # Errors
+    ///
+    /// The sink's refusal, at once; nothing more is said of the state then.
+    pub fn feed<S: Sink>(
+        &mut self,
+        indexes: &IndexSet,
+        piece: &[u8],
+        sink: &mut S,
+    ) -> Result<(), S::Refusal>
+        ensures given { Given S.takes S.refuses sink.old (steps (shift_jis (tables indexes.now).jis0208) false self.old piece.now).text sink.new result }
+        ensures state { OnOk result (self.new ≡ (steps (shift_jis (tables indexes.now).jis0208) false self.old piece.now).state) }
+    {
+        feed(self, indexes, piece, sink)
+    }
+
+    /// The steps of the end.
+    ///
+    /// # Errors
+    ///
+    /// The sink's refusal, at once; nothing more is said of the state then.
+    pub fn finish<S: Sink>(&mut self, indexes: &IndexSet, sink: &mut S) -> Result<(), S::Refusal>
+        ensures given { Given S.takes S.refuses sink.old (steps (shift_jis (tables indexes.now).jis0208) true self.old []).text sink.new result }
+        ensures state { OnOk result (self.new ≡ (steps (shift_jis (tables indexes.now).jis0208) true self.old []).state) }
+    {
+        finish(self, indexes, sink)
+    }
+}

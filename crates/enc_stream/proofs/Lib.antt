@@ -1,0 +1,7 @@
+pub mod Begins
+pub mod Ends
+pub mod Fed
+pub mod Given
+pub mod Grows
+pub mod Refusals
+pub mod Singles

@@ -1,0 +1,5 @@
+pub mod AnyDecoder
+pub mod Errors
+pub mod Sniff
+pub mod Stage
+pub mod Standing

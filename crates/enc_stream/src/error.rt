@@ -1,0 +1,42 @@
+//! Why a transcoder writes no more.
+
+ghost use Rattle.std.specs.Prelude.{◌≡◌};
+
+use enc_encode::EncodeError;
+use std::alloc::AllocError;
+
+/// Why a transcoder wrote no more.
+#[derive(Clone, Copy, Debug, PartialEq, Eq)]
+pub enum TranscodeError {
+    /// The output could not grow.
+    NoMemory,
+    /// The encoding lacks this character, and the mode is fatal.
+    Unencodable(char),
+    /// A call was refused before, or the end was taken.
+    Spent,
+}
+
+impl From<EncodeError> for TranscodeError {
+    ghost use Rattle.std.specs.Prelude.{◌≡◌};
+    ghost use Rattle.enc_stream.specs.Errors.{error_of};
+
+    ghost from_gives = { λ e t. t ≡ error_of e };
+
+    fn from(e: EncodeError) -> TranscodeError {
+        match e {
+            EncodeError::NoMemory => TranscodeError::NoMemory,
+            EncodeError::Unencodable(c) => TranscodeError::Unencodable(c),
+        }
+    }
+}
+
+impl From<AllocError> for TranscodeError {
+    ghost use Rattle.std.specs.Prelude.{◌≡◌};
+    ghost use Rattle.enc_stream.specs.declared.error.TranscodeError.TheVariants.{NoMemory};
+
+    ghost from_gives = { λ e t. t ≡ NoMemory };
+
+    fn from(_e: AllocError) -> TranscodeError {
+        TranscodeError::NoMemory
+    }
+}

@@ -1,0 +1,155 @@
+//! Decoding with the sniffing of a BOM, over pieces.
+
+ghost use Rattle.std.specs.Prelude.{◌≡◌, ◌++◌, OnOk, IfOk, true, false, []};
+ghost use Rattle.enc_model.specs.Decode.{decoding, decoding_start};
+ghost use Rattle.enc_model.specs.Indexes.{tables};
+ghost use Rattle.enc_model.specs.Sink.{Given};
+ghost use Rattle.enc_model.specs.Transcode.{Before, fed, fed_end};
+ghost use Rattle.enc_stream.specs.AnyDecoder.{decoding_of};
+ghost use Rattle.enc_stream.specs.Sniff.{held_bytes, Sniffs};
+ghost use Rattle.enc_stream.specs.Stage.{phase_at, is_done_at, is_spent_at};
+
+use crate::decoder::AnyDecoder;
+use crate::sniff::{Held, Sniffed, bytes_of, sniff};
+use enc_index::IndexSet;
+use enc_model::{Encoding, Sink};
+
+/// Where a transcoder stands.
+#[derive(Drop)]
+pub enum Stage {
+    /// A BOM may still come.
+    Before(Held),
+    /// The encoding in effect is known.
+    During(AnyDecoder),
+    /// The end was decoded.
+    Over,
+    /// A call was refused.
+    Spent,
+}
+
+impl Stage {
+    ghost use Rattle.std.specs.Prelude.{◌≡◌};
+    ghost use Rattle.enc_stream.specs.Stage.{phase_at, is_spent_at};
+
+    /// The same stage once more.
+    pub fn copy(&self) -> Self
+        ensures phase { phase_at result ≡ phase_at self.now }
+        ensures spent { is_spent_at result ≡ is_spent_at self.now }
+    {
+        match self {
+            Stage::Before(held) => Stage::Before(*held),
+            Stage::During(decoder) => Stage::During(decoder.copy()),
+            Stage::Over => Stage::Over,
+            Stage::Spent => Stage::Spent,
+        }
+    }
+}
+
+/// Decodes the first bytes of an encoding.
+fn begin<S: Sink>(
+    encoding: Encoding,
+    set: &IndexSet,
+    piece: &[u8],
+    sink: &mut S,
+) -> Result<AnyDecoder, S::Refusal>
+    ensures given { Given S.takes S.refuses sink.old (decoding (tables set.now) false (decoding_start encoding) piece.now).text sink.new result }
+    ensures state { IfOk result (λ d. decoding_of d ≡ (decoding (tables set.now) false (decoding_start encoding) piece.now).state) }
+{
+    let mut decoder = AnyDecoder::new(encoding);
+    decoder.feed(set, piece, sink)?;
+    Ok(decoder)
+}
+
+/// Decodes held bytes that are no BOM, and a piece behind them.
+fn begin_plain<S: Sink>(
+    from: Encoding,
+    held: Held,
+    set: &IndexSet,
+    piece: &[u8],
+    sink: &mut S,
+) -> Result<AnyDecoder, S::Refusal>
+    ensures given { Given S.takes S.refuses sink.old (decoding (tables set.now) false (decoding_start from) (held_bytes held ++ piece.now)).text sink.new result }
+    ensures state { IfOk result (λ d. decoding_of d ≡ (decoding (tables set.now) false (decoding_start from) (held_bytes held ++ piece.now)).state) }
+{
+    let mut decoder = begin(from, set, bytes_of(held), sink)?;
+    decoder.feed(set, piece, sink)?;
+    Ok(decoder)
+}
+
+/// Sniffs a piece behind held bytes, and decodes what is no BOM.
+fn decide<S: Sink>(
+    from: Encoding,
+    held: Held,
+    set: &IndexSet,
+    piece: &[u8],
+    sink: &mut S,
+) -> Result<Stage, S::Refusal>
+    ensures given { Given S.takes S.refuses sink.old (fed (tables set.now) from (Before (held_bytes held)) piece.now).text sink.new result }
+    ensures phase { IfOk result (λ stage. (phase_at stage ≡ (fed (tables set.now) from (Before (held_bytes held)) piece.now).phase) × (is_spent_at stage ≡ false)) }
+{
+    match sniff(held, piece) {
+        Sniffed::Still(next) => Ok(Stage::Before(next)),
+        Sniffed::Bom(encoding, skip) => {
+            let decoder = begin(encoding, set, &piece[skip..], sink)?;
+            Ok(Stage::During(decoder))
+        }
+        Sniffed::Plain => {
+            let decoder = begin_plain(from, held, set, piece, sink)?;
+            Ok(Stage::During(decoder))
+        }
+    }
+}
+
+/// Decodes a piece, from any stage but the last two.
+#[tactic(auto, unfolding(enc_model::specs::Transcode::fed))]
+pub fn go_on<S: Sink>(
+    stage: Stage,
+    from: Encoding,
+    set: &IndexSet,
+    piece: &[u8],
+    sink: &mut S,
+) -> Result<Stage, S::Refusal>
+    requires { is_done_at stage ≡ false }
+    ensures given { Given S.takes S.refuses sink.old (fed (tables set.now) from (phase_at stage) piece.now).text sink.new result }
+    ensures phase { IfOk result (λ next. (phase_at next ≡ (fed (tables set.now) from (phase_at stage) piece.now).phase) × (is_spent_at next ≡ false)) }
+{
+    match stage {
+        Stage::Before(held) => decide(from, held, set, piece, sink),
+        Stage::During(mut decoder) => {
+            decoder.feed(set, piece, sink)?;
+            Ok(Stage::During(decoder))
+        }
+        Stage::Over | Stage::Spent => unreachable!(),
+    }
+}
+
+/// Decodes held bytes that are all there is, and the end.
+fn conclude_held<S: Sink>(
+    from: Encoding,
+    held: Held,
+    set: &IndexSet,
+    sink: &mut S,
+) -> Result<(), S::Refusal>
+    ensures { Given S.takes S.refuses sink.old (fed_end (tables set.now) from (Before (held_bytes held))) sink.new result }
+{
+    let mut decoder = begin(from, set, bytes_of(held), sink)?;
+    decoder.finish(set, sink)
+}
+
+/// Decodes the end, from any stage but the last two.
+#[tactic(auto, unfolding(enc_model::specs::Transcode::fed_end))]
+pub fn conclude<S: Sink>(
+    stage: Stage,
+    from: Encoding,
+    set: &IndexSet,
+    sink: &mut S,
+) -> Result<(), S::Refusal>
+    requires { is_done_at stage ≡ false }
+    ensures { Given S.takes S.refuses sink.old (fed_end (tables set.now) from (phase_at stage)) sink.new result }
+{
+    match stage {
+        Stage::Before(held) => conclude_held(from, held, set, sink),
+        Stage::During(mut decoder) => decoder.finish(set, sink),
+        Stage::Over | Stage::Spent => unreachable!(),
+    }
+}

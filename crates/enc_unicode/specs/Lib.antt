@@ -1,0 +1,4 @@
+pub mod Nowhere
+pub mod Orders
+pub mod Utf8State
+pub mod Utf16State

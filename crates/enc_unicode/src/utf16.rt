@@ -1,0 +1,232 @@
+//! The decoder of UTF-16.
+
+ghost use Rattle.std.specs.Prelude.{◌≡◌, OnOk, true, false, ◌<◌, ◌≤◌, ◌+◌, ◌-◌, ◌*◌, [], ◌∷◌, Some, None};
+ghost use Rattle.enc_unicode.specs.Utf16State.{IsLead, IsTrail, IsKept, InOrder};
+ghost use Rattle.enc_unicode.specs.Orders.{is_big};
+ghost use Rattle.enc_model.specs.Stream.{restored_bytes, IsCalm, steps};
+ghost use Rattle.enc_model.specs.Sink.{Given};
+ghost use Rattle.enc_model.specs.Utf16.{Utf16, utf16, utf16_start, unit_of, utf16_unit, utf16_end};
+ghost use Rattle.enc_model.proofs.Calm.{utf16_calm};
+
+use crate::order::Order;
+use enc_model::{Answer, Decoder, Restored, Sink, feed, finish};
+use std::marker::Model;
+
+/// The unit of two bytes.
+fn unit_in(order: Order, first: u8, second: u8) -> u16
+    ensures { result ≡ unit_of (is_big order) first second }
+{
+    match order {
+        Order::Big => first as u16 * 256 + second as u16,
+        Order::Little => second as u16 * 256 + first as u16,
+    }
+}
+
+/// The code point of a pair of surrogates.
+fn paired(lead: u16, trail: u16) -> char
+    requires lead { IsLead lead }
+    requires trail { IsTrail trail }
+    ensures { result ≡ 0x10000 + (lead - 0xD800) * 0x400 + (trail - 0xDC00) }
+{
+    match char::from_u32(0x10000 + (lead as u32 - 0xD800) * 0x400 + (trail as u32 - 0xDC00)) {
+        Some(c) => c,
+        None => unreachable!(),
+    }
+}
+
+/// What is kept of the bytes so far: the first byte of a unit, and a lead surrogate.
+#[derive(Drop)]
+struct Units {
+    byte: Option<u8>,
+    lead: Option<u16>,
+}
+
+impl Model for Units {
+    ghost Value = { Utf16 };
+
+    ghost view = { λ s. record { byte = s.byte; lead = s.lead } };
+
+    ghost invariant = { λ s. IsKept s.lead };
+}
+
+impl Units {
+    /// Nothing is kept.
+    fn new() -> Self
+        ensures { result ≡ utf16_start }
+    {
+        Units {
+            byte: None,
+            lead: None,
+        }
+    }
+
+    /// The same once more.
+    fn copy(&self) -> Self
+        ensures { result ≡ self.now }
+    {
+        Units {
+            byte: self.byte,
+            lead: self.lead,
+        }
+    }
+
+    /// Takes a unit where no byte is kept.
+    fn unit(&mut self, unit: u16, first: u8, second: u8) -> (Answer, Restored)
+        requires { self.old.byte ≡ None }
+        ensures answer { result.0 ≡ (utf16_unit self.old.lead unit first second).answer }
+        ensures restored { restored_bytes result.1 ≡ (utf16_unit self.old.lead unit first second).restored }
+        ensures state { self.new ≡ (utf16_unit self.old.lead unit first second).state }
+    {
+        if let Some(lead) = self.lead {
+            self.lead = None;
+            return match unit {
+                0xDC00..=0xDFFF => (Answer::Point(paired(lead, unit)), Restored::Zero),
+                _ => (Answer::Error, Restored::Two(first, second)),
+            };
+        }
+        match unit {
+            0xD800..=0xDBFF => {
+                self.lead = Some(unit);
+                (Answer::Nothing, Restored::Zero)
+            }
+            0xDC00..=0xDFFF => (Answer::Error, Restored::Zero),
+            _ => match char::from_u32(unit as u32) {
+                Some(c) => (Answer::Point(c), Restored::Zero),
+                None => unreachable!(),
+            },
+        }
+    }
+
+    /// The end: nothing is kept from then on.
+    fn end(&mut self) -> Answer
+        ensures answer { result ≡ (utf16_end self.old.byte self.old.lead).answer }
+        ensures restored { (utf16_end self.old.byte self.old.lead).restored ≡ [] }
+        ensures state { self.new ≡ (utf16_end self.old.byte self.old.lead).state }
+    {
+        let answer = match (self.byte, self.lead) {
+            (None, None) => Answer::Finished,
+            _ => Answer::Error,
+        };
+        *self = Self::new();
+        answer
+    }
+}
+
+impl Decoder for Units {
+    type Tables = Order;
+
+    ghost handler = { λ order. utf16 (is_big order) };
+
+    #[tactic(auto, unfolding(enc_model::specs::Utf16::utf16))]
+    fn read(&mut self, order: &Order, byte: Option<u8>) -> (Answer, Restored) {
+        let Some(second) = byte else {
+            return (self.end(), Restored::Zero);
+        };
+        match self.byte {
+            None => {
+                self.byte = Some(second);
+                (Answer::Nothing, Restored::Zero)
+            }
+            Some(first) => {
+                self.byte = None;
+                self.unit(unit_in(*order, first, second), first, second)
+            }
+        }
+    }
+
+    ghost calm = { λ order. utf16_calm (is_big order) };
+}
+
+/// A decoder of UTF-16 (Encoding Standard, section 14.2.1), in the order that it was made with.
+#[derive(Drop)]
+pub struct Utf16State {
+    order: Order,
+    units: Units,
+}
+
+impl Model for Utf16State {
+    ghost Value = { InOrder };
+
+    ghost view = { λ s. record { big = is_big s.order; state = s.units } };
+}
+
+impl Utf16State {
+    /// A decoder that has read nothing.
+    pub fn new(order: Order) -> Self
+        ensures { result ≡ record { big = is_big order; state = utf16_start } }
+    {
+        Utf16State {
+            order,
+            units: Units::new(),
+        }
+    }
+
+    /// A decoder that keeps this: the first byte of a unit, and a lead surrogate.
+    pub fn keeping(order: Order, byte: Option<u8>, lead: Option<u16>) -> Self
+        requires { IsKept lead }
+        ensures { result ≡ record { big = is_big order; state = record { byte = byte; lead = lead } } }
+    {
+        Utf16State {
+            order,
+            units: Units { byte, lead },
+        }
+    }
+
+    /// The order of the bytes of a unit.
+    pub fn order(&self) -> Order
+        ensures { is_big result ≡ self.now.big }
+    {
+        self.order
+    }
+
+    /// The byte that is kept, the first of a unit.
+    pub fn byte(&self) -> Option<u8>
+        ensures { result ≡ self.now.state.byte }
+    {
+        self.units.byte
+    }
+
+    /// The lead surrogate that is kept.
+    pub fn lead(&self) -> Option<u16>
+        ensures value { result ≡ self.now.state.lead }
+        ensures surrogate { IsKept result }
+    {
+        self.units.lead
+    }
+
+    /// The same state once more.
+    pub fn copy(&self) -> Self
+        ensures { result ≡ self.now }
+    {
+        Utf16State {
+            order: self.order,
+            units: self.units.copy(),
+        }
+    }
+
+    /// The steps over a piece, from any state.
+    ///
+    /// # Errors
+    ///
+    /// The sink's refusal, at once; nothing more is said of the state then.
+    pub fn feed<S: Sink>(&mut self, piece: &[u8], sink: &mut S) -> Result<(), S::Refusal>
+        ensures given { Given S.takes S.refuses sink.old (steps (utf16 self.old.big) false self.old.state piece.now).text sink.new result }
+        ensures order { self.new.big ≡ self.old.big }
+        ensures state { OnOk result (self.new.state ≡ (steps (utf16 self.old.big) false self.old.state piece.now).state) }
+    {
+        feed(&mut self.units, &self.order, piece, sink)
+    }
+
+    /// The steps of the end.
+    ///
+    /// # Errors
+    ///
+    /// The sink's refusal, at once; nothing more is said of the state then.
+    pub fn finish<S: Sink>(&mut self, sink: &mut S) -> Result<(), S::Refusal>
+        ensures given { Given S.takes S.refuses sink.old (steps (utf16 self.old.big) true self.old.state []).text sink.new result }
+        ensures order { self.new.big ≡ self.old.big }
+        ensures state { OnOk result (self.new.state ≡ (steps (utf16 self.old.big) true self.old.state []).state) }
+    {
+        finish(&mut self.units, &self.order, sink)
+    }
+}

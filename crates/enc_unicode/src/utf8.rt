@@ -1,0 +1,222 @@
+//! The decoder of UTF-8.
+
+ghost use Rattle.std.specs.Prelude.{◌≡◌, ◌≢◌, IfSome, IfNone, OnOk, true, false, ◌<◌, ◌≤◌, ◌+◌, [], ◌∷◌, take, Some};
+ghost use Rattle.enc_unicode.specs.Utf8State.{IsUtf8State, IsBehind, utf8_behind};
+ghost use Rattle.enc_model.specs.Stream.{restored_bytes, IsCalm, steps};
+ghost use Rattle.enc_model.specs.Sink.{Given};
+ghost use Rattle.enc_model.specs.Utf8.{Utf8, utf8, utf8_start, utf8_first, utf8_next};
+ghost use Rattle.enc_unicode.specs.Nowhere.{nowhere_sink};
+ghost use Rattle.enc_model.proofs.Calm.{utf8_calm};
+
+use enc_model::{Answer, Decoder, Restored, Sink, feed, finish};
+use std::convert::Infallible;
+use std::marker::Model;
+
+/// A decoder of UTF-8 (Encoding Standard, section 8.1.1): how many bytes are still needed, the bounds of the next one, the code
+/// point as far as it is known, and the bytes that it came from.
+#[derive(Drop)]
+pub struct Utf8State {
+    needed: u8,
+    lower: u8,
+    upper: u8,
+    point: u32,
+    kept: [u8; 3],
+    seen: u8,
+}
+
+impl Model for Utf8State {
+    ghost Value = { Utf8 };
+
+    ghost view = { λ s. record { needed = s.needed; lower = s.lower; upper = s.upper; point = s.point; kept = take s.seen s.kept } };
+
+    ghost invariant = { λ s. IsUtf8State s.needed s.lower s.upper s.point s.seen × IsBehind (record { needed = s.needed; lower = s.lower; upper = s.upper; point = s.point; kept = take s.seen s.kept }) };
+}
+
+impl Utf8State {
+    /// A decoder that has read nothing.
+    pub fn new() -> Self
+        ensures { result ≡ utf8_start }
+    {
+        Self::needs(0, 0x80, 0xBF, 0, 0, 0)
+    }
+
+    /// The same state once more.
+    pub fn copy(&self) -> Self
+        ensures { result ≡ self.now }
+    {
+        Utf8State {
+            needed: self.needed,
+            lower: self.lower,
+            upper: self.upper,
+            point: self.point,
+            kept: self.kept,
+            seen: self.seen,
+        }
+    }
+
+    /// The bytes that are kept: the front of a character that isn't whole yet, empty between characters. The state is the
+    /// one that they lead to from the start.
+    pub fn kept(&self) -> &[u8]
+        ensures bytes { result.now ≡ self.now.kept }
+        ensures behind { IsBehind self.now }
+    {
+        &self.kept[..self.seen as usize]
+    }
+
+    /// The state that these bytes lead to from the start, or None where it doesn't keep just them.
+    pub fn behind(bytes: &[u8]) -> Option<Self>
+        ensures some { IfSome result (λ s. (s ≡ utf8_behind bytes.now) × (s.kept ≡ bytes.now)) }
+        ensures none { IfNone result ((utf8_behind bytes.now).kept ≢ bytes.now) }
+    {
+        let mut state = Self::new();
+        match state.feed(bytes, &mut Nowhere) {
+            Ok(()) if state.kept() == bytes => Some(state),
+            _ => None,
+        }
+    }
+
+    /// A decoder that needs more bytes behind a lead.
+    fn needs(needed: u8, lower: u8, upper: u8, point: u32, lead: u8, seen: u8) -> Self
+        requires valid { IsUtf8State needed lower upper point seen }
+        requires behind { IsBehind (record { needed = needed; lower = lower; upper = upper; point = point; kept = take seen (lead ∷ []) }) }
+        requires few { seen ≤ 1 }
+        ensures { result ≡ record { needed = needed; lower = lower; upper = upper; point = point; kept = take seen (lead ∷ []) } }
+    {
+        Utf8State {
+            needed,
+            lower,
+            upper,
+            point,
+            kept: [lead, 0, 0],
+            seen,
+        }
+    }
+
+    /// Takes a byte where none is needed.
+    fn first(&mut self, b: u8) -> Answer
+        requires { self.old.needed ≡ 0 }
+        ensures answer { result ≡ (utf8_first b).answer }
+        ensures state { self.new ≡ (utf8_first b).state }
+    {
+        prove!(self.needed == 0);
+        match b {
+            0..=0x7F => Answer::Point(b as char),
+            0xC2..=0xDF => {
+                *self = Self::needs(1, 0x80, 0xBF, (b - 0xC0) as u32, b, 1);
+                Answer::Nothing
+            }
+            0xE0..=0xEF => {
+                let lower = if b == 0xE0 { 0xA0 } else { 0x80 };
+                let upper = if b == 0xED { 0x9F } else { 0xBF };
+                *self = Self::needs(2, lower, upper, (b - 0xE0) as u32, b, 1);
+                Answer::Nothing
+            }
+            0xF0..=0xF4 => {
+                let lower = if b == 0xF0 { 0x90 } else { 0x80 };
+                let upper = if b == 0xF4 { 0x8F } else { 0xBF };
+                *self = Self::needs(3, lower, upper, (b - 0xF0) as u32, b, 1);
+                Answer::Nothing
+            }
+            _ => Answer::Error,
+        }
+    }
+
+    /// Takes a byte within the bounds.
+    fn next(&mut self, b: u8) -> Answer
+        requires needed { 0 < self.old.needed }
+        requires within { (self.old.lower ≤ b) × (b ≤ self.old.upper) }
+        ensures answer { result ≡ (utf8_next self.old b).answer }
+        ensures state { self.new ≡ (utf8_next self.old b).state }
+    {
+        let point = self.point * 64 + (b - 0x80) as u32;
+        if self.needed == 1 {
+            *self = Self::new();
+            return match char::from_u32(point) {
+                Some(c) => Answer::Point(c),
+                None => unreachable!(),
+            };
+        }
+        self.kept[self.seen as usize] = b;
+        self.seen += 1;
+        self.needed -= 1;
+        self.lower = 0x80;
+        self.upper = 0xBF;
+        self.point = point;
+        Answer::Nothing
+    }
+}
+
+/// Where text goes that nobody reads.
+#[derive(Drop)]
+struct Nowhere;
+
+impl Sink for Nowhere {
+    type Refusal = Infallible;
+
+    ghost takes = { λ old text new. Unit {0} };
+
+    ghost refuses = { λ old text why new. ⊥ };
+
+    fn put(&mut self, _c: char) -> Result<(), Infallible> {
+        Ok(())
+    }
+
+    fn ascii(&mut self, _run: &[u8]) -> Result<(), Infallible> {
+        Ok(())
+    }
+
+    ghost is_sink = { nowhere_sink };
+}
+
+impl Decoder for Utf8State {
+    type Tables = ();
+
+    ghost handler = { λ t. utf8 };
+
+    #[tactic(auto, unfolding(enc_model::specs::Utf8::utf8))]
+    fn read(&mut self, _tables: &(), byte: Option<u8>) -> (Answer, Restored) {
+        let Some(b) = byte else {
+            if self.needed == 0 {
+                return (Answer::Finished, Restored::Zero);
+            }
+            *self = Self::new();
+            return (Answer::Error, Restored::Zero);
+        };
+        if self.needed == 0 {
+            return (self.first(b), Restored::Zero);
+        }
+        if b < self.lower || self.upper < b {
+            *self = Self::new();
+            return (Answer::Error, Restored::One(b));
+        }
+        (self.next(b), Restored::Zero)
+    }
+
+    ghost calm = { λ t. utf8_calm };
+}
+
+impl Utf8State {
+    /// The steps over a piece, from any state.
+    ///
+    /// # Errors
+    ///
+    /// The sink's refusal, at once; nothing more is said of the state then.
+    pub fn feed<S: Sink>(&mut self, piece: &[u8], sink: &mut S) -> Result<(), S::Refusal>
+        ensures given { Given S.takes S.refuses sink.old (steps utf8 false self.old piece.now).text sink.new result }
+        ensures state { OnOk result (self.new ≡ (steps utf8 false self.old piece.now).state) }
+    {
+        feed(self, &(), piece, sink)
+    }
+
+    /// The steps of the end.
+    ///
+    /// # Errors
+    ///
+    /// The sink's refusal, at once; nothing more is said of the state then.
+    pub fn finish<S: Sink>(&mut self, sink: &mut S) -> Result<(), S::Refusal>
+        ensures given { Given S.takes S.refuses sink.old (steps utf8 true self.old []).text sink.new result }
+        ensures state { OnOk result (self.new ≡ (steps utf8 true self.old []).state) }
+    {
+        finish(self, &(), sink)
+    }
+}

@@ -1,0 +1,124 @@
+//! The bytes of a line, given until all are taken.
+ghost use Rattle.std.specs.Prelude.{◌≡◌, ℕ, List, [], length, drop};
+ghost use Rattle.tus_session.specs.History.{Gave};
+ghost use Rattle.gateway_engine.specs.Script.{Run, mores, mores_after, most_calls, give_within};
+ghost use Rattle.gateway_engine.specs.Runs.{IsAt, Went, Flowed, GivenOnce, settles};
+
+use crate::calls::{came, more};
+use crate::connections::Connections;
+use crate::faults::CallFault;
+use std::alloc::Global;
+use std::io::Write;
+use tus_session::Answer;
+
+/// Whether the line goes on behind an answer, where no text is still to be given.
+fn goes_on(answer: Option<Answer>) -> Option<bool>
+    ensures { result ≡ settles answer }
+{
+    match answer {
+        None => Some(false),
+        Some(answer) if answer.closes => Some(false),
+        Some(answer) if answer.more => None,
+        Some(_) => Some(true),
+    }
+}
+
+/// A text that is still to be given is given. Whether the line's bytes go on.
+fn give_text<C: Connections, W: Write>(
+    alloc: Global,
+    core: &mut C,
+    writer: &mut W,
+    conn: usize,
+) -> Result<bool, CallFault>
+    ensures { (r : Run) (front : List ℕ) → IsAt (C.stands core.old) (W.contents writer.old) front r
+        → Flowed (C.stands core.new) (W.contents writer.new) front result (mores most_calls conn) r }
+{
+    let mut left = u64::MAX;
+    while left > 0 {
+        match more(alloc, core, writer, conn) {
+            Err(fault) => return Err(fault),
+            Ok(answer) => {
+                if let Some(on) = goes_on(answer) {
+                    return Ok(on);
+                }
+            }
+        }
+        left -= 1;
+    }
+    Ok(true)
+}
+
+/// Whether the line's bytes go on behind an answer: a text that is still to be given is given.
+fn go_on<C: Connections, W: Write>(
+    alloc: Global,
+    core: &mut C,
+    writer: &mut W,
+    conn: usize,
+    answer: Answer,
+) -> Result<bool, CallFault>
+    ensures { (r : Run) (front given : List ℕ) → IsAt (C.stands core.old) (W.contents writer.old) front r
+        → Flowed (C.stands core.new) (W.contents writer.new) front result
+            (λ x. mores_after (mores most_calls conn) (record { run = x; outcome = Gave given answer.taken answer.closes answer.more })) r }
+{
+    match goes_on(Some(answer)) {
+        Some(on) => Ok(on),
+        None => give_text(alloc, core, writer, conn),
+    }
+}
+
+/// One call with bytes of a line, and what follows it. How many bytes were taken, where the line goes on.
+fn give_once<C: Connections, W: Write>(
+    alloc: Global,
+    core: &mut C,
+    writer: &mut W,
+    conn: usize,
+    bytes: &[u8],
+) -> Result<Option<usize>, CallFault>
+    ensures { (r : Run) (front : List ℕ) (k : ℕ) → (bytes.now ≡ [] → ⊥) → IsAt (C.stands core.old) (W.contents writer.old) front r
+        → GivenOnce (C.stands core.new) (W.contents writer.new) front result k conn bytes.now r }
+{
+    match came(alloc, core, writer, conn, bytes) {
+        Err(fault) => Err(fault),
+        Ok(None) => Ok(None),
+        Ok(Some(answer)) => match go_on(alloc, core, writer, conn, answer) {
+            Ok(true) => Ok(Some(answer.taken)),
+            Ok(false) => Ok(None),
+            Err(fault) => Err(fault),
+        },
+    }
+}
+
+/// The bytes behind those that were taken.
+fn untaken(bytes: &[u8], taken: usize) -> &[u8]
+    ensures { result.now ≡ drop taken bytes.now }
+{
+    match bytes.get(taken..) {
+        Some(rest) => rest,
+        None => &[],
+    }
+}
+
+/// Gives a line's bytes to a connection until all are taken. A connection that closes or refuses drops the rest.
+pub(crate) fn give<C: Connections, W: Write>(
+    alloc: Global,
+    core: &mut C,
+    writer: &mut W,
+    conn: usize,
+    bytes: &[u8],
+) -> Result<(), CallFault>
+    ensures { (r : Run) (front : List ℕ) → IsAt (C.stands core.old) (W.contents writer.old) front r
+        → Went (C.stands core.new) (W.contents writer.new) front result (give_within (length bytes.now) conn bytes.now) r }
+{
+    let mut rest = bytes;
+    let mut left = bytes.len();
+    while left > 0 && !rest.is_empty() {
+        let taken = match give_once(alloc, core, writer, conn, rest) {
+            Err(fault) => return Err(fault),
+            Ok(None) => return Ok(()),
+            Ok(Some(taken)) => taken,
+        };
+        rest = untaken(rest, taken);
+        left -= 1;
+    }
+    Ok(())
+}

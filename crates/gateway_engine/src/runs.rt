@@ -1,0 +1,148 @@
+//! The lines of a script, one after another, and its end.
+ghost use Rattle.std.specs.Prelude.{◌≡◌, ℕ, List, []};
+ghost use Rattle.gateway_engine.specs.Script.{Run, obeyed, cut_from, run_lines, script_lines, is_long, is_bad};
+ghost use Rattle.gateway_engine.specs.Shown.{order_shown};
+ghost use Rattle.gateway_engine.specs.Runs.{IsAt, Went, CutOne, LineRan, Ends};
+
+use crate::calls::{cut, open, refused};
+use crate::connections::Connections;
+use crate::faults::{CallFault, RunFault};
+use crate::lines::give;
+use crate::orders::{Order, read_order};
+use std::alloc::Global;
+use std::io::Write;
+use tus_request::texts::{behind, front};
+use tus_session::SessionError;
+
+/// The most bytes of a line: a CR counts, the LF doesn't.
+const MAX_LINE: usize = 65536;
+
+/// The most bytes of a script.
+const MAX_SCRIPT: u64 = 1_073_741_824;
+
+/// Does what a line asks for.
+fn obey<C: Connections, W: Write>(
+    alloc: Global,
+    core: &mut C,
+    writer: &mut W,
+    order: &Order,
+) -> Result<(), CallFault>
+    ensures { (r : Run) (front : List ℕ) → IsAt (C.stands core.old) (W.contents writer.old) front r
+        → Went (C.stands core.new) (W.contents writer.new) front result (obeyed (order_shown order.now)) r }
+{
+    match order {
+        Order::Skip | Order::Bad => Ok(()),
+        Order::Open(conn) => open(alloc, core, writer, *conn),
+        Order::Give(conn, bytes) => give(alloc, core, writer, *conn, bytes),
+        Order::Cut(conn) => cut(alloc, core, writer, *conn),
+    }
+}
+
+/// Cuts a connection if it is open.
+fn cut_open<C: Connections, W: Write>(
+    alloc: Global,
+    core: &mut C,
+    writer: &mut W,
+    conn: usize,
+) -> Result<(), CallFault>
+    ensures { (r : Run) (front : List ℕ) (k : ℕ) → IsAt (C.stands core.old) (W.contents writer.old) front r
+        → CutOne (C.stands core.new) (W.contents writer.new) front result k conn r }
+{
+    match core.ended(conn) {
+        Ok(()) => Ok(()),
+        Err(error) => match error {
+            SessionError::Closed => Ok(()),
+            error => refused(alloc, writer, conn, error),
+        },
+    }
+}
+
+/// Whether a line that begins at this byte of the script is too long, or makes the script so.
+fn too_long(start: u64, line: &[u8]) -> bool
+    ensures { result ≡ is_long start line.now }
+{
+    line.len() > MAX_LINE || start.saturating_add(line.len() as u64) > MAX_SCRIPT
+}
+
+/// Whether a line asks for nothing that there is.
+fn is_no_order(order: &Order) -> bool
+    ensures { result ≡ is_bad (order_shown order.now) }
+{
+    matches!(order, Order::Bad)
+}
+
+/// Runs a line of this number, which begins at this byte of the script.
+fn run_line<C: Connections, W: Write>(
+    alloc: Global,
+    core: &mut C,
+    writer: &mut W,
+    number: u64,
+    start: u64,
+    line: &[u8],
+) -> Result<(), RunFault>
+    ensures { (r : Run) (front : List ℕ) (lines : List (List ℕ)) → IsAt (C.stands core.old) (W.contents writer.old) front r
+        → LineRan (C.stands core.new) (W.contents writer.new) front result number start line.now lines r }
+{
+    if too_long(start, line) {
+        return Err(RunFault::Script(number));
+    }
+    let Ok(order) = read_order(alloc, line) else {
+        return Err(RunFault::NoMemory);
+    };
+    if is_no_order(&order) {
+        return Err(RunFault::Script(number));
+    }
+    match obey(alloc, core, writer, &order) {
+        Ok(()) => Ok(()),
+        Err(fault) => Err(RunFault::from(fault)),
+    }
+}
+
+/// Cuts the open connections, in order.
+fn cut_all<C: Connections, W: Write>(
+    alloc: Global,
+    core: &mut C,
+    writer: &mut W,
+) -> Result<(), CallFault>
+    ensures { (r : Run) (front : List ℕ) → IsAt (C.stands core.old) (W.contents writer.old) front r
+        → Went (C.stands core.new) (W.contents writer.new) front result (cut_from 16 0) r }
+{
+    let mut left = 16;
+    while left > 0 {
+        match cut_open(alloc, core, writer, 16 - left) {
+            Ok(()) => {}
+            Err(fault) => return Err(fault),
+        }
+        left -= 1;
+    }
+    Ok(())
+}
+
+/// Runs the lines of a script, and cuts the connections that are open at its end.
+pub(crate) fn run_script<C: Connections, W: Write>(
+    alloc: Global,
+    core: &mut C,
+    writer: &mut W,
+    script: &[u8],
+) -> Result<(), RunFault>
+    ensures { (r : Run) (front : List ℕ) → IsAt (C.stands core.old) (W.contents writer.old) front r
+        → Ends (C.stands core.new) (W.contents writer.new) front result (run_lines 1 0 (script_lines script.now)) r }
+{
+    let mut rest = script;
+    let mut number = 1;
+    let mut start = 0;
+    while !rest.is_empty() {
+        let line = front(rest, b'\n');
+        match run_line(alloc, core, writer, number, start, line) {
+            Ok(()) => {}
+            Err(fault) => return Err(fault),
+        }
+        rest = behind(rest, b'\n');
+        number += 1;
+        start += line.len() as u64 + 1;
+    }
+    match cut_all(alloc, core, writer) {
+        Ok(()) => Ok(()),
+        Err(fault) => Err(RunFault::from(fault)),
+    }
+}

@@ -1,0 +1,11 @@
+use Rattle.std.proofs.Common.{◌≡◌, ◌<◌, List, ap, subst, arith}
+use Rattle.spool_blocks.specs.Blocks.{Row, Held}
+use Rattle.spool_blocks.specs.Chains.{Owns}
+use Rattle.spool_blocks.proofs.Counts.{within}
+use Rattle.spool_blocks.proofs.blocks.Blocks.claim_one.Goals as goal
+
+pub push-requires-clause-above : goal.push-requires-clause-above
+push-requires-clause-above c b i own =
+    let same : c.self.inside.chains ≡ c.args.self.now.rows = ap (λ (h : Held). h.rows) c.self.view_is in
+    let lower : i < c.args.ordinal = c.requires.above b i (subst (λ (l : List Row). Owns l b c.args.slot i) same own) in
+    omega (arith, lower, within c.self.inside.chains b (c.args.slot, i) own, c.self.invariant.few)

@@ -1,0 +1,14 @@
+use Rattle.std.proofs.Common.{rules}
+use Rattle.spool_blocks.proofs.Links.{unlinked_at}
+use Rattle.spool_blocks.proofs.chains.Chains.new.Goals as goal
+
+pub returns : goal.returns
+returns c = c.in_ok-rows.ensures.items_if_clones_equal (λ y same. search rules)
+
+pub invariant_of-result : goal.invariant_of-result
+invariant_of-result c =
+    unlinked_at c.args.blocks c.requires
+    (c.in_ok-rows.ensures.items_if_clones_equal (λ y same. search rules))
+    (c.in_ok-below.ensures.items_if_clones_equal (λ y same. search rules))
+    (c.in_ok-tops.ensures.items_if_clones_equal (λ y same. search rules))
+    (c.in_ok-counts.ensures.items_if_clones_equal (λ y same. search rules))

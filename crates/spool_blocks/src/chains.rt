@@ -1,0 +1,100 @@
+// Each slot's blocks, linked from the highest down.
+ghost use Rattle.std.specs.Prelude.{◌≡◌, ◌≤◌, ◌<◌, ◌+◌, ℕ, List, Option, None, Some, IsNone, length, get_or, slice_set, replicate, IfOk, IfSome};
+ghost use Rattle.spool_blocks.specs.Blocks.{Row, slot_count, IsWhole};
+ghost use Rattle.spool_blocks.specs.Chains.{Owns, rank, Linked, Taken};
+
+use crate::lists::fill;
+use crate::{BlockNo, Row, SLOTS};
+use std::alloc::{AllocError, Global};
+use std::marker::Model;
+
+/// Which blocks the slots own. From each block a link leads to the slot's next lower one, so that the highest of a slot
+/// are reached at once.
+#[derive(Drop)]
+pub(crate) struct Chains {
+    rows: Vec<Row>,
+    below: Vec<Option<BlockNo>>,
+    tops: Vec<Option<BlockNo>>,
+    counts: Vec<u32>,
+}
+
+impl Model for Chains {
+    ghost Value = { List Row };
+
+    ghost view = { λ c. c.rows.items };
+
+    ghost invariant = { λ c. Linked c.rows.items c.below.items c.tops.items c.counts.items };
+}
+
+impl Chains {
+    /// No slot owns a block.
+    pub(crate) fn new(alloc: Global, blocks: usize) -> Result<Self, AllocError>
+        requires { blocks ≤ 65536 }
+        ensures { IfOk result (λ chains. chains ≡ replicate blocks None) }
+    {
+        let rows = vec![in alloc; None; blocks]?;
+        let below = vec![in alloc; None; blocks]?;
+        let tops = vec![in alloc; None; SLOTS as usize]?;
+        let counts = vec![in alloc; 0; SLOTS as usize]?;
+        Ok(Chains {
+            rows,
+            below,
+            tops,
+            counts,
+        })
+    }
+
+    pub(crate) fn rows(&self) -> &[Row]
+        ensures same { result.now ≡ self.now }
+        ensures few { length self.now ≤ 65536 }
+        ensures slots { (b slot k : ℕ) → Owns self.now b slot k → slot < 512 }
+    {
+        &self.rows
+    }
+
+    /// Puts a block that nobody owns on top of the slot's blocks.
+    pub(crate) fn push(&mut self, block: BlockNo, slot: u32, ordinal: u32)
+        requires below { block < length self.old }
+        requires free { get_or self.old block None ≡ None }
+        requires slot { slot < 512 }
+        requires above { (c i : ℕ) → Owns self.old c slot i → rank c i < rank block ordinal }
+        ensures { self.new ≡ slice_set self.old block (Some (slot, ordinal)) }
+    {
+        let at = slot as usize;
+        self.below[block as usize] = self.tops[at];
+        self.tops[at] = Some(block);
+        self.counts[at] += 1;
+        self.rows[block as usize] = Some((slot, ordinal));
+    }
+
+    /// Takes the slot's highest block out if its ordinal is `first` or more.
+    pub(crate) fn pop(&mut self, slot: u32, first: u32) -> Option<BlockNo>
+        requires { slot < 512 }
+        ensures same { IsNone result → self.new ≡ self.old }
+        ensures none { IsNone result → (b k : ℕ) → Owns self.old b slot k → k < first }
+        ensures some { IfSome result (λ block. Taken self.old block slot first self.new) }
+    {
+        let at = slot as usize;
+        let block = self.tops[at]?;
+        let (_, ordinal) = self.rows[block as usize]?;
+        if ordinal < first {
+            return None;
+        }
+        self.tops[at] = self.below[block as usize];
+        self.counts[at] -= 1;
+        self.rows[block as usize] = None;
+        Some(block)
+    }
+
+    /// The slot's blocks by ordinal, of a slot whose n blocks have the ordinals below n, each once. One step for each.
+    pub(crate) fn list_of(&self, alloc: Global, slot: u32) -> Result<Vec<BlockNo>, AllocError>
+        requires { slot < 512 }
+        ensures size { IfOk result (λ list. length list.items ≡ slot_count slot self.now) }
+        ensures listed { IfOk result (λ list. (i : ℕ) → i < length list.items → IsWhole slot self.now → Owns self.now (get_or list.items i 0) slot i) }
+    {
+        let at = slot as usize;
+        let mut list = vec![in alloc; 0; self.counts[at] as usize]?;
+        fill(&self.rows, &self.below, self.tops[at], slot, &mut list);
+        Ok(list)
+    }
+}

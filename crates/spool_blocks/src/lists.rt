@@ -1,0 +1,41 @@
+// The list of a slot's blocks is filled along the links.
+ghost use Rattle.std.specs.Prelude.{◌≡◌, ◌≤◌, ◌<◌, ℕ, None, Some, length, get_or};
+ghost use Rattle.spool_blocks.specs.Blocks.{IsWhole};
+ghost use Rattle.spool_blocks.specs.Chains.{Owns, Links, ListedFrom};
+
+use crate::{BlockNo, Row};
+
+/// Puts each of the slot's blocks, from the highest down, at its ordinal.
+pub(crate) fn fill(
+    rows: &[Row],
+    below: &[Option<BlockNo>],
+    top: Option<BlockNo>,
+    slot: u32,
+    list: &mut [BlockNo],
+)
+    requires few { length rows.now ≤ 65536 }
+    requires size { length below.now ≡ length rows.now }
+    requires links { Links rows.now below.now }
+    requires top { ListedFrom rows.now slot top list.old }
+    ensures size { length list.new ≡ length list.old }
+    ensures listed { (b i : ℕ) → Owns rows.now b slot i → i < length list.new → IsWhole slot rows.now → get_or list.new i 0 ≡ b }
+{
+    let mut next = top;
+    while let Some(block) = next {
+        place(list, rows[block as usize], block);
+        next = below[block as usize];
+    }
+}
+
+// Puts a block at the ordinal of its row, where the list has a place for it.
+fn place(list: &mut [BlockNo], row: Row, block: BlockNo)
+    ensures size { length list.new ≡ length list.old }
+    ensures placed { (slot i : ℕ) → row ≡ Some (slot, i) → i < length list.old → get_or list.new i 0 ≡ block }
+    ensures others { (i : ℕ) → ((slot : ℕ) → row ≡ Some (slot, i) → ⊥) → get_or list.new i 0 ≡ get_or list.old i 0 }
+{
+    if let Some((_, ordinal)) = row {
+        if (ordinal as usize) < list.len() {
+            list[ordinal as usize] = block;
+        }
+    }
+}

@@ -1,0 +1,11 @@
+-- What a disk over a file stands for.
+use Rattle.std.specs.Prelude.{ℕ}
+use Rattle.spool_disk.specs.declared.file.FileDisk.{FileDisk}
+
+-- the number of its bytes
+abbrev pub length_of : FileDisk → ℕ
+length_of disk = disk.len
+
+-- how many calls failed
+abbrev pub failed_in : FileDisk → ℕ
+failed_in disk = disk.failed

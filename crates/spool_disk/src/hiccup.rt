@@ -1,0 +1,135 @@
+// A disk of which one call fails.
+ghost use Rattle.std.specs.Prelude.{◌≡◌, ◌≤◌, ◌+◌, ◌↔◌, Some, None, IsErr, OnOk, OnErr, ℕ, length};
+ghost use Rattle.spool_disk.specs.Disk.{Counts, Elapses, Writes};
+
+use crate::{Disk, DiskFault};
+
+/// The most bytes that a failing write fills.
+const FILLED: usize = 65536;
+
+/// One call fails and the others pass to the disk within. `len` is no such call. Where a byte is given, a write that
+/// fails fills its range with it, or the first 65,536 bytes of a longer one.
+#[derive(Drop)]
+pub struct HiccupDisk<D> {
+    inner: D,
+    // how many calls pass before the one that fails, None behind it
+    wait: Option<u64>,
+    fill: Option<u8>,
+    missed: u64,
+}
+
+impl<D> HiccupDisk<D> {
+    ghost use Rattle.spool_disk.specs.Hiccup.{within_of, wait_of, fill_of, missed_of};
+
+    /// The call of this number fails, counted from 0.
+    pub fn new(inner: D, call: u64, fill: Option<u8>) -> Self
+        ensures inner { within_of result ≡ inner }
+        ensures wait { wait_of result ≡ Some call }
+        ensures fill { fill_of result ≡ fill }
+        ensures none { missed_of result ≡ 0 }
+    {
+        HiccupDisk {
+            inner,
+            wait: Some(call),
+            fill,
+            missed: 0,
+        }
+    }
+
+    /// The disk within.
+    pub fn into_inner(self) -> D
+        ensures { result ≡ within_of self }
+    {
+        let HiccupDisk {
+            inner,
+            wait: _,
+            fill: _,
+            missed: _,
+        } = self;
+        inner
+    }
+
+    // Whether this call passes.
+    fn pass(&mut self) -> Result<(), DiskFault>
+        ensures inner { within_of self.new ≡ within_of self.old }
+        ensures fill { fill_of self.new ≡ fill_of self.old }
+        ensures fails { IsErr result ↔ (wait_of self.old ≡ Some 0) }
+        ensures waits { (calls : ℕ) → wait_of self.old ≡ Some (calls + 1) → wait_of self.new ≡ Some calls }
+        ensures once { OnErr result (wait_of self.new ≡ None) }
+        ensures over { wait_of self.old ≡ None → wait_of self.new ≡ None }
+        ensures passes { OnOk result (missed_of self.new ≡ missed_of self.old) }
+        ensures counted { Counts (IsErr result) (missed_of self.old) (missed_of self.new) }
+    {
+        match self.wait {
+            None => Ok(()),
+            Some(0) => {
+                self.wait = None;
+                self.missed = self.missed.saturating_add(1);
+                Err(DiskFault)
+            }
+            Some(calls) => {
+                self.wait = Some(calls - 1);
+                Ok(())
+            }
+        }
+    }
+}
+
+// Writes as much of the filler as a range has bytes. Whether that fails is not told.
+fn scrawl<D: Disk>(disk: &mut D, at: u64, bytes: &[u8], filler: &[u8])
+    requires { at + length bytes.now ≤ D.size disk.old }
+    ensures size { D.size disk.new ≡ D.size disk.old }
+    ensures honest { D.honest disk.old ↔ D.honest disk.new }
+    ensures writes { D.honest disk.old → Writes at bytes.now ⊥ (D.seen disk.old) (D.seen disk.new) (D.loose disk.old) (D.loose disk.new) }
+    ensures time { D.honest disk.old → Elapses (D.moment disk.old) (D.moment disk.new) (D.left_since disk.old) (D.left_since disk.new) (D.seen disk.new) (D.loose disk.new) }
+    ensures later { D.failures disk.old ≤ D.failures disk.new }
+{
+    let len = bytes.len().min(filler.len());
+    let _ = disk.write_at(at, &filler[..len]);
+}
+
+impl<D: Disk> Disk for HiccupDisk<D> {
+    ghost size = { λ d. D.size d.inner };
+
+    ghost honest = { λ d. D.honest d.inner };
+
+    ghost seen = { λ d. D.seen d.inner };
+
+    ghost loose = { λ d. D.loose d.inner };
+
+    ghost moment = { λ d. D.moment d.inner };
+
+    ghost left_since = { λ d. D.left_since d.inner };
+
+    ghost failures = { λ d. D.failures d.inner + d.missed };
+
+    ghost counts_now = { λ d. D.counts_now d.inner };
+
+    ghost only_now = { λ d. D.only_now d.inner };
+
+    fn len(&self) -> u64 {
+        self.inner.len()
+    }
+
+    fn read(&mut self, at: u64, buf: &mut [u8]) -> Result<(), DiskFault> {
+        self.pass()?;
+        self.inner.read(at, buf)
+    }
+
+    fn write_at(&mut self, at: u64, bytes: &[u8]) -> Result<(), DiskFault> {
+        match self.pass() {
+            Ok(()) => self.inner.write_at(at, bytes),
+            Err(fault) => {
+                if let Some(byte) = self.fill {
+                    scrawl(&mut self.inner, at, bytes, &[byte; FILLED]);
+                }
+                Err(fault)
+            }
+        }
+    }
+
+    fn sync(&mut self) -> Result<(), DiskFault> {
+        self.pass()?;
+        self.inner.sync()
+    }
+}

@@ -1,0 +1,3 @@
+pub mod Answered
+pub mod Pieces
+pub mod Texts

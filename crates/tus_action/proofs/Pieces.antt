@@ -1,0 +1,88 @@
+-- The pieces of a text that is given.
+use Rattle.std.proofs.Common.{◌≡◌, ◌≤◌, ◌<◌, ◌+◌, ◌-◌, min, arith, ℕ, Bool, true, false, List, [], ◌∷◌, ◌++◌, length, take, drop, nat_le, Some, None, refl, sym, subst, ap, ◌∙◌, if◌then◌else◌, append-nil}
+use Rattle.std.proofs.lemmas.List.{length-take, length-drop, take_all, take-take, drop-drop, drop_all, drop-take, length-take-le}
+use Rattle.std.proofs.lemmas.Bool.{leb-true, leb-false}
+use Rattle.upload_rules.specs.Store.{Store, Upload, upload_of, text_of}
+use Rattle.upload_rules.specs.Reading.{text_at, IsRead}
+use Rattle.tus_action.specs.Acts.{Giving, piece_of, pending_of, pending_after}
+use Rattle.tus_action.specs.Serves.{GivesAs, GivingIs, giving_behind}
+use Rattle.tus_action.specs.declared.acts.Giving as given
+
+-- what is left of the first bytes of a text
+pub left_is : (text : List ℕ) (l g : ℕ) → g ≤ l → drop g (take l text) ≡ take (l - g) (drop g text)
+left_is text l g some =
+    let e : l ≡ g + (l - g) = omega arith in
+    ap (λ k. drop g (take k text)) e ∙ drop-take g (l - g) text
+
+take_least : (n k : ℕ) (xs : List ℕ) (c : ℕ) (b : Bool) → nat_le k n ≡ b → c ≡ min k n → take c xs ≡ take n (take k xs)
+take_least n k xs c true few e =
+    let le : k ≤ n = leb-true k n few in
+    let is : c ≡ k = omega arith in
+    let l : length (take k xs) ≡ min k (length xs) = length-take k xs in
+    ap (λ x. take x xs) is ∙ sym (take_all n (take k xs) (omega arith))
+take_least n k xs c false more e =
+    let lt : n < k = leb-false k n more in
+    let is : c ≡ n = omega arith in
+    ap (λ x. take x xs) is ∙ sym (take-take n k xs (omega arith))
+
+-- the piece that is read is the next one
+pub piece_is : (text : List ℕ) (l g c n : ℕ) (zeros piece : List ℕ) → g ≤ l → l ≤ length text → c ≡ min (l - g) 65536 → length zeros ≡ c
+    → IsRead text g n zeros piece → piece ≡ take 65536 (drop g (take l text))
+piece_is text l g c n zeros piece some within count size read =
+    let ld : length (drop g text) ≡ length text - g = length-drop g text in
+    let all : n ≡ c = read.count ∙ (omega arith) in
+    let rest : drop n zeros ≡ [] = drop_all n zeros (omega arith) in
+    read.bytes ∙ (ap (λ r. take n (drop g text) ++ r) rest ∙ (append-nil (take n (drop g text)) ∙ (ap (λ k. take k (drop g text)) all
+    ∙ (take_least 65536 (l - g) (drop g text) c (nat_le (l - g) 65536) refl count ∙ ap (take 65536) (sym (left_is text l g some))))))
+
+text_here : (m : Store) (n k : ℕ) (up : Upload) → n ≡ k → upload_of m k ≡ Some up → text_at m (upload_of m n) ≡ text_of m.indexes up
+text_here m n k up is found = ap (λ x. text_at m (upload_of m x)) is ∙ ap (text_at m) found
+
+-- what is read is the next piece
+pub given_piece : (m : Store) (g : given.Giving) (h : Giving) (up : Upload) → GivesAs m g h up → (c n : ℕ) (zeros piece : List ℕ)
+    → c ≡ min (g.length - g.given) 65536 → length zeros ≡ c → IsRead (text_at m (upload_of m g.number)) g.given n zeros piece → piece ≡ piece_of h
+given_piece m g h up gives c n zeros piece count size read =
+    let text : List ℕ = text_of m.indexes up in
+    let here : text_at m (upload_of m g.number) ≡ text = text_here m g.number h.number up gives.number gives.found in
+    piece_is text g.length g.given c n zeros piece gives.some gives.within count size (subst (λ t. IsRead t g.given n zeros piece) here read)
+    ∙ ap (take 65536) (sym gives.left)
+
+-- a list that isn't empty is pending
+pending_some : (number : ℕ) (left : List ℕ) (closes : Bool) (b : ℕ) → 0 < b → length left ≡ b
+    → pending_of number left closes ≡ Some (record { number = number; left = left; closes = closes })
+pending_some number [] closes b some is = absurd (omega arith)
+pending_some number (x ∷ left) closes b some is = refl
+
+behind_case : (m : Store) (g : given.Giving) (h : Giving) (up : Upload) → GivesAs m g h up → (c : ℕ) → c ≡ min (g.length - g.given) 65536
+    → (b : Bool) → nat_le g.length (g.given + c) ≡ b
+    → GivingIs m (if b then None else Some (record { number = g.number; length = g.length; given = g.given + c; closes = g.closes })) (pending_after h)
+behind_case m g h up gives c count true over =
+    let text : List ℕ = text_of m.indexes up in
+    let le : g.length ≤ g.given + c = leb-true g.length (g.given + c) over in
+    let some : g.given ≤ g.length = gives.some in
+    let within : g.length ≤ length text = gives.within in
+    let lt : length (take g.length text) ≡ g.length = length-take-le g.length text within in
+    let ld : length (drop g.given (take g.length text)) ≡ length (take g.length text) - g.given = length-drop g.given (take g.length text) in
+    let ll : length h.left ≡ g.length - g.given = ap length gives.left ∙ (omega arith) in
+    let none : drop 65536 h.left ≡ [] = drop_all 65536 h.left (omega arith) in
+    subst (λ x. GivingIs m None (pending_of h.number x h.closes)) (sym none) (tt {0})
+behind_case m g h up gives c count false under =
+    let text : List ℕ = text_of m.indexes up in
+    let lt : g.given + c < g.length = leb-false g.length (g.given + c) under in
+    let some : g.given ≤ g.length = gives.some in
+    let within : g.length ≤ length text = gives.within in
+    let c_is : c ≡ 65536 = omega arith in
+    let ltk : length (take g.length text) ≡ g.length = length-take-le g.length text within in
+    let ld : length (drop g.given (take g.length text)) ≡ length (take g.length text) - g.given = length-drop g.given (take g.length text) in
+    let ll : length h.left ≡ g.length - g.given = ap length gives.left ∙ (omega arith) in
+    let lr : length (drop 65536 h.left) ≡ length h.left - 65536 = length-drop 65536 h.left in
+    let rest : drop 65536 h.left ≡ drop (g.given + c) (take g.length text) =
+    ap (drop 65536) gives.left ∙ (drop-drop 65536 g.given (take g.length text) ∙ ap (λ k. drop (g.given + k) (take g.length text)) (sym c_is)) in
+    let pending = pending_some h.number (drop 65536 h.left) h.closes (g.length - g.given - 65536) (omega arith) (omega arith) in
+    subst (λ x. GivingIs m (Some (record { number = g.number; length = g.length; given = g.given + c; closes = g.closes })) x) (sym pending)
+    (up, record { number = gives.number; found = gives.found; some = omega arith; within = within; left = rest; closes = gives.closes })
+
+-- what is left behind the piece
+pub gives_on : (m : Store) (g : given.Giving) (h : Giving) (up : Upload) → GivesAs m g h up → (c : ℕ) → c ≡ min (g.length - g.given) 65536
+    → GivingIs m (giving_behind g c) (pending_after h)
+gives_on m g h up gives c count = behind_case m g h up gives c count (nat_le g.length (g.given + c)) refl

@@ -1,0 +1,22 @@
+use Rattle.std.proofs.Common.{◌≡◌, ℕ, List, ap, sym, ◌∙◌, subst, take, length, false}
+use Rattle.upload_rules.specs.Calls.{commit_refusal, dropped}
+use Rattle.tus_action.specs.Acts.{committed_as, replied}
+use Rattle.tus_action.specs.Faults.{fault_of}
+use Rattle.tus_request.specs.Replies.{reply_refused}
+use Rattle.tus_action.specs.Serves.{RepliesTo}
+use Rattle.tus_action.proofs.Answered.{refused_serves, taken_back}
+use Rattle.tus_action.proofs.bodies.end_body.Goals as goal
+
+pub returns-in-Err-clause-answer : goal.returns-in-Err-clause-answer
+returns-in-Err-clause-answer g c = λ w p r stands found holds at_end bare closes.
+    let old : List ℕ = c.args.out.now.items in
+    let before : ℕ = length c.as_slice-before.result.now in
+    let d : ℕ = g.U.Uploads.number_of c.args.draft in
+    let back : c.truncate.new.self.items ≡ old = taken_back old _ c.truncate.new.self.items before (ap length c.as_slice-before.ensures.value)
+    (c.truncate.ensures.items ∙ ap (λ l. take before l) c.in-Ok.ensures.ok) in
+    refused_serves g.U.Uploads c.commit.new.self (dropped w d) (committed_as w d p r) (commit_refusal w d p) c.in-Err.error c.refuse.result false c.args.bare c.args.closes
+    old c.refuse.new.out.items _
+    (λ f. sym (ap (λ b. replied (dropped w d) (reply_refused (fault_of f) false c.args.bare b) b) closes
+    ∙ ap (λ b. replied (dropped w d) (reply_refused (fault_of f) false b r.closes) r.closes) bare))
+    (c.in-Err.ensures.answer w p stands found holds)
+    (subst (λ l. RepliesTo c.refuse.result c.in-Err.error false c.args.bare c.args.closes l c.refuse.new.out.items) back c.refuse.ensures.answer)

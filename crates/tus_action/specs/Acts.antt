@@ -1,0 +1,125 @@
+-- What a request does at its head moment, and what the end of a body is answered.
+use Rattle.std.specs.Prelude.{ℕ, Bool, true, false, ◌||◌, List, [], ◌∷◌, ◌++◌, length, take, drop, if◌then◌else◌, Option, Some, None}
+use Rattle.tus_request.specs.declared.faults.Fault.{Fault}
+use Rattle.tus_request.specs.declared.faults.Fault.TheVariants.{NoSuch}
+use Rattle.tus_request.specs.Requests.{Creation, Options, Create, Head, Get, Patch as Patches, Action, Request, Verdict, Asks, Refuses}
+use Rattle.tus_request.specs.Replies.{reply_options, reply_created, reply_head, reply_patched, reply_text, reply_continue, reply_refused}
+use Rattle.upload_rules.specs.declared.errors.UploadRefusal.{UploadRefusal}
+use Rattle.upload_rules.specs.Store.{New, Upload, upload_of, text_of}
+use Rattle.upload_rules.specs.World.{Patch, World, free_number}
+use Rattle.upload_rules.specs.Calls.{create_refusal, created, begin_refusal, begun, longer, appended, commit_refusal, spent, reached}
+use Rattle.tus_action.specs.Faults.{fault_of}
+
+-- A text that is still to be given: of which upload, the bytes that are left, and whether the connection closes then.
+-- (With terminations: a deleted upload closes the connection.)
+pub record Giving : Type 0 where
+  pub number : ℕ
+  pub left : List ℕ
+  pub closes : Bool
+
+-- AT THE HEAD MOMENT: the world, a patch that is now open, a reply, a text still to be given, and whether it closes
+pub record Acted : Type 0 where
+  pub world : World
+  pub draft : Option ℕ
+  pub bytes : List ℕ
+  pub pending : Option Giving
+  pub closes : Bool
+
+abbrev pub replied : World → List ℕ → Bool → Acted
+replied w bytes closes = record { world = w; draft = None; bytes = bytes; pending = None; closes = closes }
+
+-- a request is refused at its head
+abbrev pub refused_at : World → Fault → Request → Bool → Acted
+refused_at w f r closes = replied w (reply_refused f false r.bare closes) closes
+
+-- the fields that a POST asks for
+abbrev pub new_of : Creation → New
+new_of c = record { declared = c.declared; from = c.from; to = c.to; mode = c.mode; metadata = c.metadata }
+
+-- a POST that passed its checks
+abbrev pub post : World → Request → New → Option UploadRefusal → Acted
+post w r new None = replied (created w new) (reply_created w.store.next r.bare r.closes) r.closes
+post w r new (Some f) = replied w (reply_refused (fault_of f) true r.bare r.closes) r.closes
+
+abbrev pub head : World → Request → Option Upload → Acted
+head w r None = refused_at w NoSuch r r.closes
+head w r (Some u) = replied w (reply_head (length u.accepted) u.declared u.metadata r.bare r.closes) r.closes
+
+abbrev pub piece_size : ℕ
+piece_size = 65536
+
+abbrev pub pending_of : ℕ → List ℕ → Bool → Option Giving
+pending_of number [] closes = None
+pending_of number (b ∷ left) closes = Some (record { number = number; left = b ∷ left; closes = closes })
+
+abbrev pub is_pending : Option Giving → Bool
+is_pending None = false
+is_pending (Some g) = true
+
+-- the reply's head and the first piece of the text. The rest is pending, and only its last byte closes
+abbrev pub giving : World → Request → ℕ → Upload → List ℕ → List ℕ → Acted
+giving w r number u text left = record {
+  world = w;
+  draft = None;
+  bytes = reply_text u.to (length text) r.bare r.closes ++ (if r.bare then [] else take piece_size text);
+  pending = pending_of number left r.closes;
+  closes = if is_pending (pending_of number left r.closes) then false else r.closes;
+}
+
+abbrev pub get : World → Request → ℕ → Option Upload → Acted
+get w r number None = refused_at w NoSuch r r.closes
+get w r number (Some u) =
+    let text = text_of w.store.indexes u in giving w r number u text (if r.bare then [] else drop piece_size text)
+
+-- a PATCH that passed its checks: refused with a close where it asked for 100 Continue, or begun
+abbrev pub patch : World → Request → ℕ → Option UploadRefusal → Acted
+patch w r number (Some f) = refused_at w (fault_of f) r (r.closes || r.expects)
+patch w r number None = record {
+  world = begun w number r.length;
+  draft = Some (free_number w);
+  bytes = if r.expects then reply_continue else [];
+  pending = None;
+  closes = false;
+}
+
+-- (with terminations: Delete n, a change at its head moment)
+abbrev pub acted_on : World → Request → Action → Acted
+acted_on w r Options = replied w (reply_options r.closes) r.closes
+acted_on w r (Create c) = post w r (new_of c) (create_refusal w (new_of c))
+acted_on w r (Head n) = head w r (upload_of w.store n)
+acted_on w r (Get n) = get w r n (upload_of w.store n)
+acted_on w r (Patches n offset) = patch w r n (begin_refusal w n offset r.length)
+
+abbrev pub acted : World → Verdict → Acted
+acted w (Asks r) = acted_on w r r.action
+acted w (Refuses x) = replied w (reply_refused x.fault x.on_files x.bare x.closes) x.closes
+
+-- BODIES: a patch is given the bytes that came
+
+abbrev pub fed : World → ℕ → List ℕ → World
+fed w d [] = w
+fed w d (b ∷ piece) = appended w d (b ∷ piece)
+
+-- the answer at the body moment
+abbrev pub patched_reply : Patch → Request → Option UploadRefusal → List ℕ
+patched_reply p r None = reply_patched (reached p) r.closes
+patched_reply p r (Some f) = reply_refused (fault_of f) false r.bare r.closes
+
+abbrev pub committed_as : World → ℕ → Patch → Request → Option UploadRefusal → Acted
+committed_as w d p r refusal = replied (spent w d p refusal) (patched_reply p r refusal) r.closes
+
+abbrev pub commit_with : World → ℕ → Verdict → Option Patch → Acted
+commit_with w d (Asks r) (Some p) = committed_as w d p r (commit_refusal w d p)
+commit_with w d v _ = replied w [] false
+
+-- the patch with the bytes that came
+abbrev pub fed_patch : World → ℕ → Patch → List ℕ → Patch
+fed_patch w d p [] = p
+fed_patch w d p (b ∷ piece) = longer w d p (b ∷ piece)
+
+-- the next piece of a text, and what is left of it then
+abbrev pub piece_of : Giving → List ℕ
+piece_of g = take piece_size g.left
+
+abbrev pub pending_after : Giving → Option Giving
+pending_after g = pending_of g.number (drop piece_size g.left) g.closes

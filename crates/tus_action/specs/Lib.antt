@@ -1,0 +1,3 @@
+pub mod Faults
+pub mod Acts
+pub mod Serves

@@ -1,0 +1,87 @@
+//! What a request does at its head, and what stays open behind it.
+ghost use Rattle.std.specs.Prelude.{◌≡◌};
+ghost use Rattle.tus_action.specs.Faults.{stop_of};
+ghost use Rattle.tus_action.specs.Serves.{replied_only, replied_giving, giving_behind};
+
+use upload_rules::UploadError;
+
+/// Why a call gives no answer.
+#[derive(Clone, Copy, Debug, PartialEq, Eq, Drop)]
+pub enum Stop {
+    /// A growth was refused: nothing was changed.
+    NoMemory,
+    /// The device failed: the store must be opened again.
+    DiskFault,
+}
+
+impl From<UploadError> for Stop {
+    /// Of a call that the rules can't refuse.
+    fn from(error: UploadError) -> Self
+        ensures { result ≡ stop_of error }
+    {
+        match error {
+            UploadError::DiskFault => Stop::DiskFault,
+            UploadError::NoMemory | UploadError::Refused(_) => Stop::NoMemory,
+        }
+    }
+}
+
+/// A text that is still to be given.
+#[derive(Clone, Copy, Debug, PartialEq, Eq, Drop)]
+pub struct Giving {
+    /// The upload's number.
+    pub number: u64,
+    /// How many of the text's bytes are given in all.
+    pub length: u64,
+    /// How many were given.
+    pub given: u64,
+    /// Whether the connection closes behind the last of them.
+    pub closes: bool,
+}
+
+/// What a request did: what is open now, and whether the connection closes.
+pub struct Acted<B> {
+    /// The draft of an append whose body is to come.
+    pub draft: Option<B>,
+    /// The rest of a text.
+    pub giving: Option<Giving>,
+    /// Whether the connection closes.
+    pub closes: bool,
+}
+
+impl<B> Acted<B> {
+    /// Only a reply: nothing is open.
+    pub(crate) fn replied(closes: bool) -> Self
+        ensures { result ≡ replied_only closes }
+    {
+        Acted {
+            draft: None,
+            giving: None,
+            closes,
+        }
+    }
+
+    /// A reply whose text goes on, or one that is whole.
+    pub(crate) fn giving(giving: Option<Giving>, closes: bool) -> Self
+        ensures { result ≡ replied_giving giving closes }
+    {
+        Acted {
+            closes: closes && giving.is_none(),
+            draft: None,
+            giving,
+        }
+    }
+}
+
+impl Giving {
+    /// What is left of the text behind so many bytes more.
+    pub(crate) fn behind(self, count: u64) -> Option<Giving>
+        ensures { result ≡ giving_behind self count }
+    {
+        let given = self.given.saturating_add(count);
+        if given >= self.length {
+            return None;
+        }
+        Some(Giving { given, ..self })
+    }
+}

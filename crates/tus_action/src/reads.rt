@@ -1,0 +1,122 @@
+//! Requests that read the uploads: HEAD and GET, and the further pieces of a text.
+ghost use Rattle.std.specs.Prelude.{◌≡◌, ◌++◌, ◌+◌, ◌≤◌, Some, None, IsErrOf, OnOk, IfOk};
+ghost use Rattle.upload_rules.specs.Store.{upload_of};
+ghost use Rattle.upload_rules.specs.World.{World};
+ghost use Rattle.upload_rules.specs.Answers.{Quiet, Counts};
+ghost use Rattle.tus_request.specs.Requests.{Request};
+ghost use Rattle.tus_action.specs.Acts.{head, get, Giving as Pending};
+ghost use Rattle.tus_action.specs.Serves.{Serves, Gives, GivingIs};
+
+use crate::acts::{Acted, Giving, Stop};
+use crate::refusals::refuse;
+use std::alloc::Global;
+use tus_request::replies::{reply_head, reply_text};
+use upload_rules::{UploadError, UploadRefusal, Uploads};
+
+/// The most bytes of a text that one call gives.
+const PIECE: u64 = 65536;
+
+/// Tells how far an upload has come.
+pub(crate) fn show<U: Uploads>(
+    alloc: Global,
+    store: &mut U,
+    number: u64,
+    bare: bool,
+    closes: bool,
+    out: &mut Vec<u8>,
+) -> Result<Acted<U::Draft>, Stop>
+    ensures answer { (w : World) (r : Request) → U.stands store.old w → bare ≡ r.bare → closes ≡ r.closes
+        → Serves U.Uploads store.new result out.old.items out.new.items w (head w r (upload_of w.store number)) }
+    ensures same { store.new ≡ store.old }
+    ensures no_device { IsErrOf result Stop.DiskFault → ⊥ }
+{
+    let Some(record) = store.record(number) else {
+        return refuse(
+            alloc,
+            UploadError::Refused(UploadRefusal::NoSuch),
+            false,
+            bare,
+            closes,
+            out,
+        );
+    };
+    match reply_head(
+        alloc,
+        record.accepted,
+        record.declared,
+        record.metadata.as_str(),
+        bare,
+        closes,
+        out,
+    ) {
+        Ok(()) => Ok(Acted::replied(closes)),
+        Err(_) => Err(Stop::NoMemory),
+    }
+}
+
+/// Gives the next piece of a text, 65,536 bytes or all that are left where they are fewer: appends it to `out`.
+pub fn give_more<U: Uploads>(
+    alloc: Global,
+    store: &mut U,
+    giving: Giving,
+    out: &mut Vec<u8>,
+) -> Result<Option<Giving>, Stop>
+    ensures answer { (w : World) (h : Pending) → U.stands store.old w → GivingIs w.store (Some giving) (Some h)
+        → Gives U.Uploads store.new result out.old.items out.new.items w h }
+    ensures crash { Quiet (U.moment store.old) (U.moment store.new) (U.left_only store.old) (U.left_only store.new) }
+    ensures counts { Counts (IsErrOf result Stop.DiskFault) (U.failures store.old) (U.failures store.new) }
+{
+    let count = giving.length.saturating_sub(giving.given).min(PIECE) as usize;
+    let Ok(mut piece) = vec![in alloc; 0u8; count] else {
+        return Err(Stop::NoMemory);
+    };
+    match store.read_text(giving.number, giving.given, &mut piece) {
+        Ok(_count) => {}
+        Err(error) => return Err(Stop::from(error)),
+    }
+    match out.extend_from_slice(&piece) {
+        Ok(()) => Ok(giving.behind(count as u64)),
+        Err(_) => Err(Stop::NoMemory),
+    }
+}
+
+/// Gives a text's first piece, behind the reply's head.
+pub(crate) fn give_text<U: Uploads>(
+    alloc: Global,
+    store: &mut U,
+    number: u64,
+    bare: bool,
+    closes: bool,
+    out: &mut Vec<u8>,
+) -> Result<Acted<U::Draft>, Stop>
+    ensures answer { (w : World) (r : Request) → U.stands store.old w → bare ≡ r.bare → closes ≡ r.closes
+        → Serves U.Uploads store.new result out.old.items out.new.items w (get w r number (upload_of w.store number)) }
+    ensures crash { Quiet (U.moment store.old) (U.moment store.new) (U.left_only store.old) (U.left_only store.new) }
+    ensures counts { Counts (IsErrOf result Stop.DiskFault) (U.failures store.old) (U.failures store.new) }
+{
+    let Some(record) = store.record(number) else {
+        let error = UploadError::Refused(UploadRefusal::NoSuch);
+        return refuse(alloc, error, false, bare, closes, out);
+    };
+    let length = record.text_len;
+    let before = out.as_slice().len();
+    let Ok(()) = reply_text(alloc, record.to, length, bare, closes, out) else {
+        return Err(Stop::NoMemory);
+    };
+    if bare {
+        return Ok(Acted::replied(closes));
+    }
+    let giving = Giving {
+        number,
+        length,
+        given: 0,
+        closes,
+    };
+    match give_more(alloc, store, giving, out) {
+        Ok(left) => Ok(Acted::giving(left, closes)),
+        Err(stop) => {
+            out.truncate(before);
+            Err(stop)
+        }
+    }
+}

@@ -1,0 +1,49 @@
+//! The refusals of the uploads, as replies.
+ghost use Rattle.std.specs.Prelude.{◌≡◌, IsErrOf, ◌↔◌};
+ghost use Rattle.tus_action.specs.Faults.{fault_of as fault};
+ghost use Rattle.tus_action.specs.Serves.{RepliesTo};
+
+use crate::acts::{Acted, Stop};
+use std::alloc::Global;
+use tus_request::Fault;
+use tus_request::replies::reply_refused;
+use upload_rules::{UploadError, UploadRefusal};
+
+/// A refusal of the uploads as that of a reply.
+pub fn fault_of(refusal: UploadRefusal) -> Fault
+    ensures { result ≡ fault refusal }
+{
+    match refusal {
+        UploadRefusal::Unencodable => Fault::Unencodable,
+        UploadRefusal::NoSuch => Fault::NoSuch,
+        UploadRefusal::Offset => Fault::Offset,
+        UploadRefusal::TooLong => Fault::TooLong,
+        UploadRefusal::Slots => Fault::Slots,
+        UploadRefusal::TooLarge => Fault::TooLarge,
+        UploadRefusal::Full => Fault::Full,
+    }
+}
+
+/// A call on the uploads gave no answer: where the rules refused it, their reply is appended to `out`.
+pub(crate) fn refuse<B>(
+    alloc: Global,
+    error: UploadError,
+    on_files: bool,
+    bare: bool,
+    closes: bool,
+    out: &mut Vec<u8>,
+) -> Result<Acted<B>, Stop>
+    ensures answer { RepliesTo result error on_files bare closes out.old.items out.new.items }
+    ensures fault { IsErrOf result Stop.DiskFault ↔ (error ≡ UploadError.DiskFault) }
+{
+    match error {
+        UploadError::Refused(refusal) => {
+            match reply_refused(alloc, fault_of(refusal), on_files, bare, closes, out) {
+                Ok(()) => Ok(Acted::replied(closes)),
+                Err(_) => Err(Stop::NoMemory),
+            }
+        }
+        UploadError::NoMemory => Err(Stop::NoMemory),
+        UploadError::DiskFault => Err(Stop::DiskFault),
+    }
+}

@@ -1,0 +1,68 @@
+//! A request at its head.
+ghost use Rattle.std.specs.Prelude.{◌≡◌, Some, IsErrOf};
+ghost use Rattle.upload_rules.specs.World.{World};
+ghost use Rattle.upload_rules.specs.Answers.{Limits, Counts};
+ghost use Rattle.tus_request.specs.Requests.{Asks};
+ghost use Rattle.tus_request.specs.Shown.{request_shown};
+ghost use Rattle.tus_action.specs.Acts.{acted};
+ghost use Rattle.tus_action.specs.Serves.{Serves, CanBeMade};
+
+use crate::acts::{Acted, Stop};
+use crate::reads::{give_text, show};
+use crate::writes::{begin, create};
+use std::alloc::Global;
+use tus_request::replies::reply_options;
+use tus_request::{Action, Request};
+use upload_rules::{New, Uploads};
+
+/// Does what a request asks for at its head, and appends the reply to `out`.
+pub fn act<U: Uploads>(
+    alloc: Global,
+    store: &mut U,
+    request: Request,
+    out: &mut Vec<u8>,
+) -> Result<Acted<U::Draft>, Stop>
+    requires usable { (w : World) → U.stands store.old w → CanBeMade w (request_shown request).action }
+    ensures answer { (w : World) → U.stands store.old w
+        → Serves U.Uploads store.new result out.old.items out.new.items w (acted w (Asks (request_shown request))) }
+    ensures crash { (w : World) → U.stands store.old w
+        → Limits (U.moment store.old) (U.moment store.new) (U.left_only store.old) (U.left_only store.new) w.store (acted w (Asks (request_shown request))).world.store }
+    ensures counts { Counts (IsErrOf result Stop.DiskFault) (U.failures store.old) (U.failures store.new) }
+{
+    let Request {
+        action,
+        length,
+        bare,
+        expects,
+        closes,
+    } = request;
+    match action {
+        Action::Options => match reply_options(alloc, closes, out) {
+            Ok(()) => Ok(Acted::replied(closes)),
+            Err(_) => Err(Stop::NoMemory),
+        },
+        Action::Create {
+            declared,
+            from,
+            to,
+            mode,
+            metadata,
+        } => {
+            let new = New {
+                declared,
+                from,
+                to,
+                mode,
+                metadata,
+            };
+            create(alloc, store, new, bare, closes, out)
+        }
+        Action::Head(number) => show(alloc, store, number, bare, closes, out),
+        Action::Get(number) => give_text(alloc, store, number, bare, closes, out),
+        Action::Patch { number, offset } => {
+            begin(
+                alloc, store, number, offset, length, bare, expects, closes, out,
+            )
+        }
+    }
+}

@@ -1,0 +1,91 @@
+//! Requests that change the uploads: a POST, and a PATCH at its head.
+ghost use Rattle.std.specs.Prelude.{◌≡◌, ◌++◌, [], Some, IsErrOf, OnOk, OnErr, if◌then◌else◌};
+ghost use Rattle.upload_rules.specs.World.{World};
+ghost use Rattle.upload_rules.specs.Calls.{create_refusal, create_outcome, begin_refusal};
+ghost use Rattle.upload_rules.specs.Answers.{Limits, Quiet, Counts};
+ghost use Rattle.upload_rules.specs.Records.{IsUsable};
+ghost use Rattle.tus_request.specs.Requests.{Request};
+ghost use Rattle.tus_request.specs.Replies.{reply_continue as continue_bytes};
+ghost use Rattle.tus_action.specs.Acts.{post, patch};
+ghost use Rattle.tus_action.specs.Serves.{Serves};
+
+use crate::acts::{Acted, Stop};
+use crate::refusals::refuse;
+use std::alloc::{AllocError, Global};
+use tus_request::replies::{reply_continue, reply_created};
+use upload_rules::{New, Uploads};
+
+/// Makes an upload. The reply is built first.
+pub(crate) fn create<U: Uploads>(
+    alloc: Global,
+    store: &mut U,
+    new: New,
+    bare: bool,
+    closes: bool,
+    out: &mut Vec<u8>,
+) -> Result<Acted<U::Draft>, Stop>
+    requires usable { (w : World) → U.stands store.old w → IsUsable w.store.indexes new }
+    ensures answer { (w : World) (r : Request) → U.stands store.old w → bare ≡ r.bare → closes ≡ r.closes
+        → Serves U.Uploads store.new result out.old.items out.new.items w (post w r new (create_refusal w new)) }
+    ensures crash { (w : World) → U.stands store.old w
+        → Limits (U.moment store.old) (U.moment store.new) (U.left_only store.old) (U.left_only store.new) w.store (create_outcome w new) }
+    ensures counts { Counts (IsErrOf result Stop.DiskFault) (U.failures store.old) (U.failures store.new) }
+{
+    let before = out.as_slice().len();
+    let number = store.next_number();
+    let Ok(()) = reply_created(alloc, number, bare, closes, out) else {
+        return Err(Stop::NoMemory);
+    };
+    match store.create(new) {
+        Ok(_number) => Ok(Acted::replied(closes)),
+        Err(error) => {
+            out.truncate(before);
+            refuse(alloc, error, true, bare, closes, out)
+        }
+    }
+}
+
+/// Appends `100 Continue` where the request asked for it.
+fn append_continue(alloc: Global, expects: bool, out: &mut Vec<u8>) -> Result<(), AllocError>
+    ensures ok { OnOk result (out.new.items ≡ out.old.items ++ (if expects then continue_bytes else [])) }
+    ensures err { OnErr result (out.new.items ≡ out.old.items) }
+{
+    if !expects {
+        return Ok(());
+    }
+    reply_continue(alloc, out)
+}
+
+/// Begins an append. The reply is built first.
+pub(crate) fn begin<U: Uploads>(
+    alloc: Global,
+    store: &mut U,
+    number: u64,
+    offset: u64,
+    length: u64,
+    bare: bool,
+    expects: bool,
+    closes: bool,
+    out: &mut Vec<u8>,
+) -> Result<Acted<U::Draft>, Stop>
+    ensures answer { (w : World) (r : Request) → U.stands store.old w → length ≡ r.length → bare ≡ r.bare → expects ≡ r.expects → closes ≡ r.closes
+        → Serves U.Uploads store.new result out.old.items out.new.items w (patch w r number (begin_refusal w number offset length)) }
+    ensures crash { Quiet (U.moment store.old) (U.moment store.new) (U.left_only store.old) (U.left_only store.new) }
+    ensures counts { Counts (IsErrOf result Stop.DiskFault) (U.failures store.old) (U.failures store.new) }
+{
+    let before = out.as_slice().len();
+    let Ok(()) = append_continue(alloc, expects, out) else {
+        return Err(Stop::NoMemory);
+    };
+    match store.begin(number, offset, length) {
+        Ok(draft) => Ok(Acted {
+            draft: Some(draft),
+            giving: None,
+            closes: false,
+        }),
+        Err(error) => {
+            out.truncate(before);
+            refuse(alloc, error, false, bare, closes || expects, out)
+        }
+    }
+}

@@ -1,0 +1,154 @@
+-- The lines of a head, one after another.
+use Rattle.std.specs.Prelude.{◌≡◌, ℕ, ◌+◌, ◌-◌, ◌<◌, ◌≤◌, ◌⊎◌, Bool, true, false, List, [], ◌∷◌, length, take, drop, ◌==◌, nat_lt, if◌then◌else◌, Option, Some, None, option_map}
+use Rattle.std.proofs.Common.{arith, ◌∙◌, refl, zero, suc, get_or, add_assoc, inl, inr, add-one}
+use Rattle.std.specs.List.{position}
+use Rattle.std.proofs.lemmas.List.Quantifiers.{position-Some}
+use Rattle.std.proofs.lemmas.List.Sums.{fails_before_first}
+use Rattle.std.proofs.lemmas.Bool.Decides.{nat_tests}
+use Rattle.std.specs.List.{position_or_len}
+use Rattle.std.proofs.lemmas.List.{length-take-le, length-drop}
+use Rattle.tus_request.specs.Lines.{lines, is_empty_line, up_to_empty, head_lines, Extent, extent_of, head_extent}
+
+pub true_or_false : (v : Bool) → (v ≡ true) ⊎ (v ≡ false)
+true_or_false true = inl refl
+true_or_false false = inr refl
+
+no_line : (bytes : List ℕ) → ((k : ℕ) → k < length bytes → (get_or bytes k 0 == 10) ≡ false) → lines bytes ≡ []
+no_line [] none = refl
+no_line (b ∷ bytes) none =
+    let rest : lines bytes ≡ [] = no_line bytes (λ k h. none (suc k) (omega arith)) in
+    rw (none 0 (omega arith), rest)
+
+one_line : (bytes : List ℕ) (i : ℕ) → i < length bytes → (get_or bytes i 0 == 10) ≡ true
+    → ((k : ℕ) → k < i → (get_or bytes k 0 == 10) ≡ false) → lines bytes ≡ take (suc i) bytes ∷ lines (drop (suc i) bytes)
+one_line [] i inside feed none = absurd (omega arith)
+one_line (b ∷ bytes) zero inside feed none = rw feed
+one_line (b ∷ bytes) (suc i) inside feed none =
+    rw (none 0 (omega arith), one_line bytes i (omega arith) feed (λ k h. none (suc k) (omega arith)))
+
+-- bytes with no LF have no whole line
+pub lines_none : (bytes : List ℕ) → position (λ b. b == 10) bytes ≡ None → lines bytes ≡ []
+lines_none bytes e =
+    let past : length bytes ≤ position_or_len (λ b. b == 10) bytes =
+    elim (true_or_false (nat_lt (position_or_len (λ b. b == 10) bytes) (length bytes))) [
+      | inl t ↦ let k = rw t at e in absurd (cc)
+      | inr f ↦ grind (arith, nat_tests)
+    ] in
+    no_line bytes (λ k h. fails_before_first (λ b. b == 10) bytes k 0 (omega arith))
+
+-- the first LF ends the first line
+pub lines_some : (bytes : List ℕ) (i : ℕ) → position (λ b. b == 10) bytes ≡ Some i
+    → (i < length bytes) × (lines bytes ≡ take (i + 1) bytes ∷ lines (drop (i + 1) bytes))
+lines_some bytes i e =
+    let p = position-Some (λ b. b == 10) bytes i 0 e in
+    (p.0, rw add-one (one_line bytes i p.0 p.1 p.2))
+
+-- with the bytes and the lines in front
+abbrev pub further : ℕ → ℕ → Option Extent → Option Extent
+further len texts o = option_map (λ e. record { len = len + e.len; texts = texts + e.texts }) o
+
+-- what the lines that are left make of a head, after so many lines that aren't empty
+abbrev pub extent_after : ℕ → List (List ℕ) → Option Extent
+extent_after zero rest = option_map extent_of (head_lines rest)
+extent_after (suc n) rest = option_map extent_of (up_to_empty rest)
+
+further_none : (len texts n : ℕ) → further len texts (extent_after n []) ≡ None
+further_none len texts zero = refl
+further_none len texts (suc n) = refl
+
+extent_cons : (line : List ℕ) (o : Option (List (List ℕ)))
+    → option_map extent_of (option_map (λ more. line ∷ more) o) ≡ further (length line) (if is_empty_line line then 0 else 1) (option_map extent_of o)
+extent_cons line None = refl
+extent_cons line (Some head) = refl
+
+further_twice : (len texts m n : ℕ) (o : Option Extent) → further len texts (further m n o) ≡ further (len + m) (texts + n) o
+further_twice len texts m n None = refl
+further_twice len texts m n (Some e) = rw (add_assoc, add_assoc)
+
+-- a line that isn't empty
+pub after_text : (len texts : ℕ) (line : List ℕ) (rest : List (List ℕ)) → is_empty_line line ≡ false
+    → further len texts (extent_after texts (line ∷ rest)) ≡ further (len + length line) (suc texts) (extent_after (suc texts) rest)
+after_text len zero line rest e =
+    let k = rw e at (extent_cons line (up_to_empty rest)) in
+    rw (e, k) (further_twice len 0 (length line) 1 (option_map extent_of (up_to_empty rest)))
+after_text len (suc n) line rest e =
+    let k = rw e at (extent_cons line (up_to_empty rest)) in
+    let w : suc n + 1 ≡ suc (suc n) = add-one (suc n) in
+    rw (e, k) (rw w at (further_twice len (suc n) (length line) 1 (option_map extent_of (up_to_empty rest))))
+
+-- an empty line in front
+pub after_empty : (len : ℕ) (line : List ℕ) (rest : List (List ℕ)) → is_empty_line line ≡ true
+    → further len 0 (extent_after 0 (line ∷ rest)) ≡ further (len + length line) 0 (extent_after 0 rest)
+after_empty len line rest e =
+    let k = rw e at (extent_cons line (head_lines rest)) in
+    rw (e, k) (further_twice len 0 (length line) 0 (option_map extent_of (head_lines rest)))
+
+-- the empty line that ends the head
+pub at_end : (len texts : ℕ) (line : List ℕ) (rest : List (List ℕ)) → 0 < texts → is_empty_line line ≡ true
+    → further len texts (extent_after texts (line ∷ rest)) ≡ Some (record { len = len + length line; texts = texts })
+at_end len zero line rest some e = absurd (omega arith)
+at_end len (suc n) line rest some e =
+    let z : length line + 0 ≡ length line = omega arith in
+    let y : suc n + 0 ≡ suc n = omega arith in
+    rw (e, e, z, y)
+
+-- what a loop over the lines knows
+pub record IsSoFar (bytes rest : List ℕ) (len texts : ℕ) : Type 0 where
+  pub extent : head_extent bytes ≡ further len texts (extent_after texts (lines rest))
+  pub all : len + length rest ≡ length bytes
+  pub few : texts ≤ len
+
+pub further_zero : (o : Option Extent) → o ≡ further 0 0 o
+further_zero None = refl
+further_zero (Some e) = let l : 0 + e.len ≡ e.len = omega arith in let t : 0 + e.texts ≡ e.texts = omega arith in rw (l, t)
+
+pub at_start : (bytes : List ℕ) → IsSoFar bytes bytes 0 0
+at_start bytes = record { extent = further_zero (head_extent bytes); all = omega arith; few = omega arith }
+
+-- one more line, which isn't empty
+pub text_more : (bytes rest : List ℕ) (len texts last : ℕ) (line more : List ℕ) → IsSoFar bytes rest len texts
+    → position (λ b. b == 10) rest ≡ Some last → line ≡ take (last + 1) rest → more ≡ drop (last + 1) rest
+    → is_empty_line line ≡ false → IsSoFar bytes more (len + length line) (texts + 1)
+text_more bytes rest len texts last line more was feed front back text =
+    let s = lines_some rest last feed in
+    let n : length (take (last + 1) rest) ≡ last + 1 = length-take-le (last + 1) rest (omega (arith, s.0)) in
+    let m : length line ≡ last + 1 = rw front n in
+    let d : length more ≡ length rest - (last + 1) = rw back (length-drop (last + 1) rest) in
+    let ls : lines rest ≡ line ∷ lines more = rw (front, back) s.1 in
+    let e : head_extent bytes ≡ further len texts (extent_after texts (line ∷ lines more)) = rw ls at was.extent in
+    record {
+      extent = rw add-one (e ∙ after_text len texts line (lines more) text);
+      all = omega (arith, was.all, s.0);
+      few = omega (arith, was.few);
+    }
+
+-- an empty line in front
+pub empty_more : (bytes rest : List ℕ) (len texts last : ℕ) (line more : List ℕ) → IsSoFar bytes rest len texts
+    → position (λ b. b == 10) rest ≡ Some last → line ≡ take (last + 1) rest → more ≡ drop (last + 1) rest
+    → is_empty_line line ≡ true → texts ≡ 0 → IsSoFar bytes more (len + length line) texts
+empty_more bytes rest len texts last line more was feed front back text none =
+    let s = lines_some rest last feed in
+    let n : length (take (last + 1) rest) ≡ last + 1 = length-take-le (last + 1) rest (omega (arith, s.0)) in
+    let m : length line ≡ last + 1 = rw front n in
+    let d : length more ≡ length rest - (last + 1) = rw back (length-drop (last + 1) rest) in
+    let ls : lines rest ≡ line ∷ lines more = rw (front, back) s.1 in
+    let e : head_extent bytes ≡ further len 0 (extent_after 0 (line ∷ lines more)) = rw none at (rw ls at was.extent) in
+    record {
+      extent = rw none (e ∙ after_empty len line (lines more) text);
+      all = omega (arith, was.all, s.0);
+      few = omega (arith, was.few);
+    }
+
+-- the empty line that ends the head
+pub ends_here : (bytes rest : List ℕ) (len texts last : ℕ) (line : List ℕ) → IsSoFar bytes rest len texts
+    → position (λ b. b == 10) rest ≡ Some last → line ≡ take (last + 1) rest
+    → is_empty_line line ≡ true → 0 < texts → head_extent bytes ≡ Some (record { len = len + length line; texts = texts })
+ends_here bytes rest len texts last line was feed front text some =
+    let s = lines_some rest last feed in
+    let ls : lines rest ≡ line ∷ lines (drop (last + 1) rest) = rw front s.1 in
+    (rw ls at was.extent) ∙ at_end len texts line (lines (drop (last + 1) rest)) some text
+
+-- no head is whole
+pub not_whole : (bytes rest : List ℕ) (len texts : ℕ) → IsSoFar bytes rest len texts
+    → position (λ b. b == 10) rest ≡ None → head_extent bytes ≡ None
+not_whole bytes rest len texts was feed = (rw (lines_none rest feed) at was.extent) ∙ further_none len texts texts

@@ -1,0 +1,130 @@
+-- Worked examples of heads and replies, by computation.
+use Rattle.std.proofs.Common.{◌≡◌, Bool, true, false, [], ◌∷◌, ◌++◌, List, ℕ, refl, length, codes}
+use Rattle.std.specs.Fmt.{digits}
+use Rattle.enc_model.specs.declared.Encoding.{Encoding}
+use Rattle.enc_model.specs.declared.Encoding.TheVariants.{Utf8, Utf16Le}
+use Rattle.enc_model.specs.declared.Mode.TheVariants.{Html}
+use Rattle.enc_labels.specs.Labels.{encoding_of, found, labels, stripped}
+use Rattle.tus_request.specs.Metadata.{metadata_of, choice_of}
+use Rattle.std.specs.Prelude.{Some, None}
+use Rattle.base64.specs.Decode.{groups_error, scan_steps, groups_bytes}
+use Rattle.std.specs.Str.{is_utf8, chars}
+use Rattle.httparse.specs.Grammar.{print_request, trim_ows, is_token_byte}
+use Rattle.tus_request.specs.declared.faults.Fault.{Fault}
+use Rattle.tus_request.specs.declared.faults.Fault.TheVariants.{Offset, TusVersion, BadMethod, Malformed, NoRoute, BadLength}
+use Rattle.tus_request.specs.Requests.{Verdict, Asks, Refuses, Patch, Options}
+use Rattle.tus_request.specs.Answers.{Judged, More, answer_of}
+use Rattle.tus_request.specs.Replies.{crlf, reply_options, reply_created, reply_patched, reply_head, reply_text, reply_refused, reply_continue}
+
+abbrev all : Encoding → Bool
+all e = true
+
+abbrev line : List ℕ → List ℕ → List ℕ
+line text more = text ++ (13 ∷ 10 ∷ more)
+
+-- REPLIES
+
+options_reply : length (reply_options false) ≡ 145
+options_reply = refl
+
+created_reply : length (reply_created 1 false false) ≡ 110
+unfolding digits
+created_reply = refl
+
+patched_reply : length (reply_patched 5 false) ≡ 92
+unfolding digits
+patched_reply = refl
+
+head_reply : length (reply_head 5 5 [] true false) ≡ 102
+unfolding digits
+head_reply = refl
+
+text_reply : length (reply_text Utf8 5 false false) ≡ 126
+unfolding digits
+text_reply = refl
+
+wrong_offset_reply : length (reply_refused Offset false false false) ≡ 105
+unfolding digits
+wrong_offset_reply = refl
+
+no_version_reply : length (reply_refused TusVersion true false false) ≡ 137
+unfolding digits
+no_version_reply = refl
+
+bad_method_reply : length (reply_refused BadMethod true false false) ≡ 138
+unfolding digits
+bad_method_reply = refl
+
+malformed_reply : length (reply_refused Malformed false false true) ≡ 128
+unfolding digits
+malformed_reply = refl
+
+continue_reply : length reply_continue ≡ 25
+continue_reply = refl
+
+-- HEADS
+
+patch_head : List ℕ
+patch_head = line (codes "PATCH /files/1 HTTP/1.1") (line (codes "Tus-Resumable: 1.0.0") (line (codes "Upload-Offset: 0")
+    (line (codes "Content-Type: application/offset+octet-stream") (line (codes "Content-Length: 5") crlf))))
+
+reads_patch : answer_of all (patch_head ++ codes "hel") ≡ Judged 133 (Asks (record { action = Patch 1 0; length = 5; bare = false; expects = false; closes = false }))
+unfolding patch_head answer_of print_request trim_ows is_token_byte is_utf8 chars lib.Utf8.encode
+reads_patch = refl
+
+waits_for_its_end : answer_of all (codes "GET /files/1 HTTP/1.1") ≡ More
+unfolding answer_of
+waits_for_its_end = refl
+
+old_version_of_options : answer_of all (line (codes "OPTIONS /files HTTP/1.1") (line (codes "Tus-Resumable: 0.2.2") crlf))
+    ≡ Judged 49 (Asks (record { action = Options; length = 0; bare = false; expects = false; closes = false }))
+unfolding answer_of print_request trim_ows is_token_byte is_utf8 chars lib.Utf8.encode
+old_version_of_options = refl
+
+-- refused, with no body
+abbrev refused : Fault → Bool → Bool → Verdict
+refused fault on_files closes = Refuses (record { fault = fault; length = 0; on_files = on_files; bare = false; closes = closes })
+
+leading_zero : answer_of all (line (codes "GET /files/01 HTTP/1.1") crlf) ≡ Judged 26 (refused NoRoute false false)
+unfolding answer_of print_request trim_ows is_token_byte is_utf8 chars lib.Utf8.encode
+leading_zero = refl
+
+two_lengths : answer_of all (line (codes "GET /files HTTP/1.1") (line (codes "Content-Length: 0") (line (codes "Content-Length: 0") crlf))) ≡ Judged 61 (refused BadLength true true)
+unfolding answer_of print_request trim_ows is_token_byte is_utf8 chars lib.Utf8.encode
+two_lengths = refl
+
+malformed : answer_of all (line (codes "BAD") crlf) ≡ Judged 7 (refused Malformed false true)
+unfolding answer_of print_request trim_ows is_token_byte is_utf8 chars lib.Utf8.encode
+malformed = refl
+
+-- METADATA
+
+one_key : metadata_of (codes "note") ≡ Some ((codes "note", []) ∷ [])
+one_key = refl
+
+one_setting : metadata_of (codes " from dXRmLTg= ") ≡ Some ((codes "from", codes "utf-8") ∷ [])
+unfolding groups_error scan_steps groups_bytes
+one_setting = refl
+
+doubled_key : metadata_of (codes "from dXRmLTg=,from dXRmLTg=") ≡ None
+unfolding groups_error scan_steps groups_bytes
+doubled_key = refl
+
+stray_bits : metadata_of (codes "note YR==") ≡ None
+unfolding groups_error scan_steps groups_bytes
+stray_bits = refl
+
+no_key : metadata_of (codes "note,,name") ≡ None
+no_key = refl
+
+by_default : choice_of [] ≡ Some (record { from = Utf8; to = Utf8; mode = Html })
+unfolding encoding_of found labels stripped
+by_default = refl
+
+utf_16_is_read : choice_of ((codes "to", codes "UTF-16") ∷ (codes "from", codes "utf-16le") ∷ []) ≡ Some (record { from = Utf16Le; to = Utf8; mode = Html })
+unfolding encoding_of found labels stripped
+utf_16_is_read = refl
+
+unknown_label : choice_of ((codes "from", codes "klingon") ∷ []) ≡ None
+unfolding encoding_of found labels stripped
+unknown_label = refl

@@ -1,0 +1,54 @@
+-- What a stream's front is answered, by the grammar of request heads.
+use Rattle.std.specs.Prelude.{◌≡◌, ℕ, Bool, ◌≤◌, ◌⊎◌, List, [], ◌++◌, length, take, nat_lt, if◌then◌else◌, Option, Some, None}
+use Rattle.httparse.specs.Grammar.{RequestHead, ReadsRequest, HasNoRequest}
+use Rattle.enc_model.specs.declared.Encoding.{Encoding}
+use Rattle.tus_request.specs.Lines.{Extent, head_extent}
+use Rattle.tus_request.specs.Checks.{verdict_on, no_head}
+use Rattle.tus_request.specs.declared.faults.Fault.TheVariants.{HeadTooLong, Malformed}
+use Rattle.tus_request.specs.Answers.{Answer, More, Judged}
+
+-- the front of a stream: a head that isn't whole yet, too much for a head, or a whole head
+pub data Front : Type 0 where
+  unfinished : Front
+  too_long : ℕ → Front
+  whole : List ℕ → Front
+
+-- the first 8,192 bytes hold a whole head of at most 64 lines between request line and end, or may yet,
+-- or are too long
+abbrev pub front_with : List ℕ → Option Extent → Front
+front_with bytes None = if nat_lt (length bytes) 8192 then unfinished else too_long 8192
+front_with bytes (Some e) = if nat_lt 65 e.texts then too_long e.len else whole (take e.len bytes)
+
+abbrev pub front : List ℕ → Front
+front bytes = front_with bytes (head_extent (take 8192 bytes))
+
+-- a whole head within the limits stands there
+abbrev pub IsWhole : Front → Type 0
+IsWhole unfinished = ⊥
+IsWhole (too_long taken) = ⊥
+IsWhole (whole head) = Unit {0}
+
+-- the answer for a whole head: by the grammar it is a request head, or no prefix of it is one
+abbrev pub IsHeadAnswer : (Encoding → Bool) → List ℕ → Answer → Type 0
+IsHeadAnswer offers head answer =
+    (HasNoRequest head × (answer ≡ Judged (length head) (no_head Malformed)))
+    ⊎ ((h : RequestHead) × ReadsRequest head h [] × (answer ≡ Judged (length head) (verdict_on offers h)))
+
+abbrev pub IsFrontAnswer : (Encoding → Bool) → Front → Answer → Type 0
+IsFrontAnswer offers unfinished answer = answer ≡ More
+IsFrontAnswer offers (too_long taken) answer = answer ≡ Judged taken (no_head HeadTooLong)
+IsFrontAnswer offers (whole head) answer = IsHeadAnswer offers head answer
+
+-- the answer for a stream
+abbrev pub IsAnswer : (Encoding → Bool) → List ℕ → Answer → Type 0
+IsAnswer offers bytes answer = IsFrontAnswer offers (front bytes) answer
+
+-- the bytes are a whole head within the limits, at the front of some bytes
+pub record IsShortHeadOf (head more : List ℕ) (e : Extent) : Type 0 where
+  pub short : length head ≤ 8192
+  pub extent : head_extent (head ++ more) ≡ Some e
+  pub all : e.len ≡ length head
+  pub few : e.texts ≤ 65
+
+abbrev pub IsShortHead : List ℕ → Type 0
+IsShortHead head = (more : List ℕ) × (e : Extent) × IsShortHeadOf head more e

@@ -1,0 +1,143 @@
+//! The checks of a head.
+ghost use Rattle.std.specs.Prelude.{◌≡◌, ◌≤◌, length, map, All, IfOk};
+ghost use Rattle.httparse.specs.Borrowed.{header_parts};
+ghost use Rattle.enc_model.specs.Indexes.{offers};
+ghost use Rattle.tus_request.specs.Fields.{values, values_in, IsUsable};
+ghost use Rattle.tus_request.specs.Checks.{checked, asking, line_place, is_bare, cut_off};
+ghost use Rattle.tus_request.specs.CheckParts.{asking_shown, line_shown, refusal_shown, verdict_shown};
+ghost use Rattle.tus_request.specs.Requests.{Refuses};
+
+use crate::faults::Fault;
+use crate::fields::by_name;
+use crate::lookups::{body_length, first_or, has_word, is_given, lists};
+use crate::methods::{Verb, verb_of};
+use crate::places::{Place, named_by, on_files};
+use crate::requests::Request;
+use crate::texts::path;
+use enc_index::IndexSet;
+use http_header::HeaderMap;
+use httparse::Header;
+use rules::decide;
+use std::alloc::{AllocError, Global};
+
+mod post;
+mod rules;
+
+/// A request line.
+#[derive(Clone, Copy, Drop)]
+pub(crate) struct Line<'h> {
+    pub(crate) method: &'h str,
+    pub(crate) target: &'h str,
+    pub(crate) minor: u8,
+}
+
+/// What a request line and the fields say.
+#[derive(Drop)]
+struct Asking<'h> {
+    verb: Verb,
+    place: Option<Place>,
+    fields: &'h HeaderMap,
+    length: u64,
+    bare: bool,
+    expects: bool,
+    closes: bool,
+}
+
+/// Why a request is refused, and what its reply needs.
+#[derive(Clone, Copy, Drop)]
+pub(crate) struct Refusal {
+    pub(crate) fault: Fault,
+    pub(crate) length: u64,
+    pub(crate) on_files: bool,
+    pub(crate) bare: bool,
+    pub(crate) closes: bool,
+}
+
+/// What the checks of a head come to.
+#[derive(Drop)]
+pub(crate) enum Verdict {
+    Asks(Request),
+    Refuses(Refusal),
+}
+
+/// The checks, over a request line and its headers.
+pub(crate) fn judge(
+    alloc: Global,
+    line: Line<'_>,
+    headers: &[Header<'_>],
+    set: &IndexSet,
+) -> Result<Verdict, AllocError>
+    requires few { length headers.now ≤ 64 }
+    requires usable { All IsUsable headers.now }
+    ensures { IfOk result (λ v. verdict_shown v ≡ checked (offers set.now) (line_shown line.entry) (values_in (map header_parts headers.now))) }
+{
+    let fields = by_name(alloc, headers)?;
+    check(alloc, line, &fields, set)
+}
+
+/// The checks, over a request line and its fields.
+fn check(
+    alloc: Global,
+    line: Line<'_>,
+    fields: &HeaderMap,
+    set: &IndexSet,
+) -> Result<Verdict, AllocError>
+    ensures { IfOk result (λ v. verdict_shown v ≡ checked (offers set.now) (line_shown line.entry) (values fields.now)) }
+{
+    let place = named_by(alloc, path(line.target))?;
+    if is_given(fields, "transfer-encoding") {
+        return Ok(Verdict::Refuses(cut_off(line, place, Fault::Coding)));
+    }
+    let Some(length) = body_length(fields) else {
+        return Ok(Verdict::Refuses(cut_off(line, place, Fault::BadLength)));
+    };
+    let asking = ask(alloc, line, place, fields, length)?;
+    decide(alloc, &asking, set)
+}
+
+/// What a request line and the fields say.
+fn ask<'h>(
+    alloc: Global,
+    line: Line<'h>,
+    place: Option<Place>,
+    fields: &'h HeaderMap,
+    length: u64,
+) -> Result<Asking<'h>, AllocError>
+    requires { place ≡ line_place (line_shown line) }
+    ensures { IfOk result (λ a. asking_shown a ≡ asking (line_shown line.entry) (values fields.now) length) }
+{
+    let verb = verb_of(
+        alloc,
+        first_or(fields, "x-http-method-override", line.method),
+    )?;
+    Ok(Asking {
+        verb,
+        place,
+        fields,
+        length,
+        bare: is_bare(line),
+        expects: line.minor == 1 && length > 0 && has_word(fields, "expect", "100-continue"),
+        closes: line.minor == 0 || lists(fields, "connection", "close"),
+    })
+}
+
+/// Whether a request line says HEAD.
+fn is_bare(line: Line<'_>) -> bool
+    ensures { result ≡ is_bare (line_shown line.entry) }
+{
+    line.method == "HEAD"
+}
+
+/// A request whose body has no known end.
+fn cut_off(line: Line<'_>, place: Option<Place>, fault: Fault) -> Refusal
+    requires { place ≡ line_place (line_shown line) }
+    ensures { Refuses (refusal_shown result) ≡ cut_off (line_shown line.entry) fault }
+{
+    Refusal {
+        fault,
+        length: 0,
+        on_files: on_files(place),
+        bare: is_bare(line),
+        closes: true,
+    }
+}

@@ -1,0 +1,113 @@
+//! The checks of a POST.
+ghost use Rattle.std.specs.Prelude.{◌≡◌, IfOk, codes, option_map};
+ghost use Rattle.enc_model.specs.Indexes.{offers};
+ghost use Rattle.tus_request.specs.Checks.{post_checked, with_metadata, with_pairs, with_choice};
+ghost use Rattle.tus_request.specs.Fields.{values};
+ghost use Rattle.tus_request.specs.Metadata.{metadata_of};
+ghost use Rattle.tus_request.specs.Pairs.{choice_shown};
+ghost use Rattle.tus_request.specs.CheckParts.{asking_shown, verdict_shown};
+
+use super::rules::{passed, refused};
+use super::{Asking, Verdict};
+use crate::faults::Fault;
+use crate::lookups::number_in;
+use crate::metadata::{Choice, choice_of, read};
+use crate::requests::Action;
+use enc_index::IndexSet;
+use http_header::HeaderValue;
+use std::alloc::{AllocError, Global};
+
+/// The checks of a POST.
+pub(super) fn check_post(
+    alloc: Global,
+    asking: &Asking<'_>,
+    set: &IndexSet,
+) -> Result<Verdict, AllocError>
+    ensures { IfOk result (λ v. verdict_shown v ≡ post_checked (offers set.now) (asking_shown asking.now)) }
+{
+    if asking.length > 0 {
+        return Ok(refused(asking, Fault::BadHeader));
+    }
+    match number_in(asking.fields, "upload-length") {
+        Some(declared) => check_metadata(alloc, asking, set, declared),
+        None => Ok(refused(asking, Fault::BadHeader)),
+    }
+}
+
+/// The check that there is at most one metadata.
+fn check_metadata(
+    alloc: Global,
+    asking: &Asking<'_>,
+    set: &IndexSet,
+    declared: u64,
+) -> Result<Verdict, AllocError>
+    ensures { IfOk result (λ v. verdict_shown v ≡ with_metadata (offers set.now) (asking_shown asking.now) declared (values asking.now.fields.now (codes "upload-metadata"))) }
+{
+    let mut values = asking.fields.get_all("upload-metadata").iter();
+    let Some(value) = values.next() else {
+        return check_pairs(alloc, asking, set, declared, "");
+    };
+    if values.next().is_some() {
+        return Ok(refused(asking, Fault::BadHeader));
+    }
+    check_value(alloc, asking, set, declared, value)
+}
+
+/// The checks of a metadata value.
+fn check_value(
+    alloc: Global,
+    asking: &Asking<'_>,
+    set: &IndexSet,
+    declared: u64,
+    value: &HeaderValue,
+) -> Result<Verdict, AllocError>
+    ensures { IfOk result (λ v. verdict_shown v ≡ with_pairs (offers set.now) (asking_shown asking.now) declared value.now.bytes (metadata_of value.now.bytes)) }
+{
+    match value.to_str() {
+        Ok(metadata) => check_pairs(alloc, asking, set, declared, metadata),
+        Err(_) => Ok(refused(asking, Fault::BadMetadata)),
+    }
+}
+
+/// The checks of a metadata text.
+fn check_pairs(
+    alloc: Global,
+    asking: &Asking<'_>,
+    set: &IndexSet,
+    declared: u64,
+    metadata: &str,
+) -> Result<Verdict, AllocError>
+    ensures { IfOk result (λ v. verdict_shown v ≡ with_pairs (offers set.now) (asking_shown asking.now) declared metadata.now (metadata_of metadata.now)) }
+{
+    match read(alloc, metadata.as_bytes())? {
+        Some(pairs) => check_choice(alloc, asking, set, declared, metadata, choice_of(&pairs)),
+        None => Ok(refused(asking, Fault::BadMetadata)),
+    }
+}
+
+/// The check that the encodings and the mode are known and offered.
+fn check_choice(
+    alloc: Global,
+    asking: &Asking<'_>,
+    set: &IndexSet,
+    declared: u64,
+    metadata: &str,
+    choice: Option<Choice>,
+) -> Result<Verdict, AllocError>
+    ensures { IfOk result (λ v. verdict_shown v ≡ with_choice (offers set.now) (asking_shown asking.now) declared metadata.now (option_map choice_shown choice)) }
+{
+    let Some(choice) = choice else {
+        return Ok(refused(asking, Fault::BadLabel));
+    };
+    if !set.offers(choice.from) || !set.offers(choice.to) {
+        return Ok(refused(asking, Fault::BadLabel));
+    }
+    let action = Action::Create {
+        declared,
+        from: choice.from,
+        to: choice.to,
+        mode: choice.mode,
+        metadata: String::from_str(alloc, metadata)?,
+    };
+    Ok(passed(asking, action))
+}

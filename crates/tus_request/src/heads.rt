@@ -1,0 +1,119 @@
+//! Reading a head.
+ghost use Rattle.std.specs.Prelude.{◌≡◌, IfOk, OnErr, nat_lt, if◌then◌else◌};
+ghost use Rattle.enc_model.specs.Indexes.{offers};
+ghost use Rattle.tus_request.specs.Answers.{More, Judged, answer_of};
+ghost use Rattle.tus_request.specs.Checks.{no_head};
+ghost use Rattle.tus_request.specs.CheckParts.{verdict_shown};
+ghost use Rattle.tus_request.specs.declared.faults.Fault.TheVariants.{HeadTooLong};
+ghost use Rattle.tus_request.specs.Grammar.{front, IsWhole, IsAnswer, IsHeadAnswer, IsShortHead};
+ghost use Rattle.tus_request.specs.Shown.{answer_shown};
+
+use crate::checks::{Line, Verdict, judge};
+use crate::faults::Fault;
+use crate::lines::measure;
+use crate::requests::Parsed;
+use enc_index::IndexSet;
+use httparse::{Request, Status};
+use std::alloc::{AllocError, Global};
+
+// The most bytes of a head, and the most lines behind its request line.
+const MAX_HEAD: usize = 8192;
+
+const MAX_LINES: usize = 64;
+
+/// Reads the head at the front of a stream, which is all of the stream that has come and isn't read yet.
+///
+/// The answer is a function of the bytes and of what the index set offers, and it is the one that the grammar of
+/// request heads (RFC 9112, sections 2 to 5, as `httparse` reads it by default) gives.
+/// A head has at most 8,192 bytes and 64 lines behind its request line, and ends with the first empty line behind a
+/// line that isn't empty. While it isn't whole, it is only looked through for its end.
+///
+/// # Errors
+///
+/// `AllocError` if memory for the fields, the route or the metadata is refused: only where a whole head within the
+/// limits stands there.
+pub fn parse(alloc: Global, bytes: &[u8], set: &IndexSet) -> Result<Parsed, AllocError>
+    ensures function { IfOk result (λ answer. answer_shown answer ≡ answer_of (offers set.now) bytes.now) }
+    ensures grammar { IfOk result (λ answer. IsAnswer (offers set.now) bytes.now (answer_shown answer)) }
+    ensures memory { OnErr result (IsWhole (front bytes.now)) }
+{
+    parse_head(alloc, bytes, set)
+}
+
+/// Reads the head at the front of a stream.
+fn parse_head(alloc: Global, bytes: &[u8], set: &IndexSet) -> Result<Parsed, AllocError>
+    ensures grammar { IfOk result (λ answer. IsAnswer (offers set.now) bytes.now (answer_shown answer)) }
+    ensures memory { OnErr result (IsWhole (front bytes.now)) }
+{
+    let front = &bytes[..bytes.len().min(MAX_HEAD)];
+    let Some(extent) = measure(front) else {
+        return Ok(unmeasured(front.len()));
+    };
+    if extent.texts > MAX_LINES + 1 {
+        return Ok(no_head(extent.len, Fault::HeadTooLong));
+    }
+    read_whole(alloc, &front[..extent.len], set)
+}
+
+/// The answer where so many bytes of a head, and no whole one, have come.
+fn unmeasured(came: usize) -> Parsed
+    ensures { answer_shown result ≡ (if nat_lt came 8192 then More else Judged 8192 (no_head HeadTooLong)) }
+{
+    if came < MAX_HEAD {
+        Parsed::More
+    } else {
+        no_head(MAX_HEAD, Fault::HeadTooLong)
+    }
+}
+
+/// No head stands there.
+fn no_head(taken: usize, fault: Fault) -> Parsed
+    ensures { answer_shown result ≡ Judged taken (no_head fault) }
+{
+    Parsed::Refused {
+        taken,
+        length: 0,
+        fault,
+        on_files: false,
+        bare: false,
+        closes: true,
+    }
+}
+
+/// What a whole head comes to.
+fn answer(taken: usize, verdict: Verdict) -> Parsed
+    ensures { answer_shown result ≡ Judged taken (verdict_shown verdict) }
+{
+    match verdict {
+        Verdict::Asks(request) => Parsed::Head { taken, request },
+        Verdict::Refuses(refusal) => Parsed::Refused {
+            taken,
+            length: refusal.length,
+            fault: refusal.fault,
+            on_files: refusal.on_files,
+            bare: refusal.bare,
+            closes: refusal.closes,
+        },
+    }
+}
+
+/// Reads a head that is whole.
+fn read_whole(alloc: Global, head: &[u8], set: &IndexSet) -> Result<Parsed, AllocError>
+    requires { IsShortHead head.now }
+    ensures { IfOk result (λ answer. IsHeadAnswer (offers set.now) head.now (answer_shown answer)) }
+{
+    let mut headers = [httparse::EMPTY_HEADER; MAX_LINES];
+    let mut request = Request::new(&mut headers);
+    match request.parse(head) {
+        Ok(Status::Complete(_)) => {}
+        Ok(Status::Partial) => return Ok(no_head(head.len(), Fault::Malformed)),
+        Err(_) => return Ok(no_head(head.len(), Fault::Malformed)),
+    }
+    let line = Line {
+        method: request.method.unwrap(),
+        target: request.path.unwrap(),
+        minor: request.version.unwrap(),
+    };
+    let verdict = judge(alloc, line, request.headers, set)?;
+    Ok(answer(head.len(), verdict))
+}

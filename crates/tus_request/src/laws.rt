@@ -1,0 +1,32 @@
+//! Laws about the answers for a stream: each call does nothing, and its contract is the law.
+ghost use Rattle.std.specs.Prelude.{◌≡◌, ℕ, List, [], Some};
+ghost use Rattle.enc_model.specs.Indexes.{offers};
+ghost use Rattle.httparse.specs.Grammar.{RequestHead, ReadsRequest};
+ghost use Rattle.tus_request.specs.Reading.{request_of};
+ghost use Rattle.tus_request.specs.Answers.{Answer, answer_of};
+ghost use Rattle.tus_request.specs.Grammar.{IsAnswer};
+ghost use Rattle.tus_request.specs.Steady.{IsSteady};
+ghost use Rattle.tus_request.specs.Value.{IsValue, value_of};
+
+use enc_index::IndexSet;
+
+/// A stream has one answer at most.
+pub fn one_answer(bytes: &[u8], set: &IndexSet)
+    ensures { (x y : Answer) → IsAnswer (offers set.now) bytes.now x → IsAnswer (offers set.now) bytes.now y → x ≡ y }
+{}
+
+/// What an answer says of a stream's front doesn't depend on what follows.
+pub fn steady_answers(set: &IndexSet)
+    ensures { IsSteady (answer_of (offers set.now)) }
+{}
+
+/// A request head is read from some bytes exactly where they are its print, by the grammar.
+pub fn head_read(head: &[u8])
+    ensures finds { (h : RequestHead) → ReadsRequest head.now h [] → request_of head.now ≡ Some h }
+    ensures reads { (h : RequestHead) → request_of head.now ≡ Some h → ReadsRequest head.now h [] }
+{}
+
+/// At most one list of bytes has a text as its padded Base64.
+pub fn one_value(text: &[u8])
+    ensures { (bytes : List ℕ) → IsValue text.now bytes → value_of text.now ≡ Some bytes }
+{}

@@ -1,0 +1,101 @@
+//! Looking up the fields of a head.
+ghost use Rattle.std.specs.Prelude.{◌≡◌, codes, option_copied};
+ghost use Rattle.std.specs.List.{list_any};
+ghost use Rattle.http_header.specs.Token.{lowercase};
+ghost use Rattle.tus_request.specs.Fields.{values};
+ghost use Rattle.tus_request.specs.Texts.{any_case, lists_word};
+ghost use Rattle.tus_request.specs.Checks.{is_given, first_or, only, number_in, length_in, is_word_when, is_patch_media};
+
+use crate::number::number;
+use crate::texts::{front, is_word, lists_word};
+use http_header::HeaderMap;
+
+/// Whether there is a field of a name.
+pub(crate) fn is_given(fields: &HeaderMap, name: &str) -> bool
+    ensures { result ≡ is_given (values fields.now (lowercase name.now)) }
+{
+    fields.get(name).is_some()
+}
+
+/// The first value of a name, or another text.
+pub(crate) fn first_or<'f>(fields: &'f HeaderMap, name: &str, other: &'f str) -> &'f [u8]
+    ensures { result.now ≡ first_or (values fields.now (lowercase name.now)) other.now }
+{
+    match fields.get_all(name).iter().next() {
+        Some(value) => value.as_bytes(),
+        None => other.as_bytes(),
+    }
+}
+
+/// The one value of a name.
+pub(crate) fn only<'f>(fields: &'f HeaderMap, name: &str) -> Option<&'f [u8]>
+    ensures { option_copied result ≡ only (values fields.now (lowercase name.now)) }
+{
+    let mut values = fields.get_all(name).iter();
+    let value = values.next()?;
+    if values.next().is_some() {
+        return None;
+    }
+    Some(value.as_bytes())
+}
+
+/// The number that the one value of a name writes.
+pub(crate) fn number_in(fields: &HeaderMap, name: &str) -> Option<u64>
+    ensures { result ≡ number_in (values fields.now (lowercase name.now)) }
+{
+    number(only(fields, name)?)
+}
+
+/// The length of the body, if the fields give one.
+pub(crate) fn body_length(fields: &HeaderMap) -> Option<u64>
+    ensures { result ≡ length_in (values fields.now (codes "content-length")) }
+{
+    if !is_given(fields, "content-length") {
+        return Some(0);
+    }
+    number_in(fields, "content-length")
+}
+
+/// Whether the one value of a name is a word.
+pub(crate) fn is_only(fields: &HeaderMap, name: &str, word: &str) -> bool
+    ensures { result ≡ is_word_when word.now (only (values fields.now (lowercase name.now))) }
+{
+    match only(fields, name) {
+        Some(value) => value == word.as_bytes(),
+        None => false,
+    }
+}
+
+/// Whether the media type is that of an append.
+pub(crate) fn is_patch_media(fields: &HeaderMap) -> bool
+    ensures { result ≡ is_patch_media (only (values fields.now (codes "content-type"))) }
+{
+    match only(fields, "content-type") {
+        Some(value) => is_word(front(value, b';'), "application/offset+octet-stream"),
+        None => false,
+    }
+}
+
+/// Whether a value of a name is a word, in any case.
+pub(crate) fn has_word(fields: &HeaderMap, name: &str, word: &str) -> bool
+    ensures { result ≡ list_any (any_case word.now) (values fields.now (lowercase name.now)) }
+{
+    for value in fields.get_all(name).iter() {
+        if is_word(value.as_bytes(), word) {
+            return true;
+        }
+    }
+    false
+}
+
+/// Whether a value of a name is a list that has a word, in any case.
+pub(crate) fn lists(fields: &HeaderMap, name: &str, word: &str) -> bool
+    ensures { result ≡ list_any (lists_word word.now) (values fields.now (lowercase name.now)) }
+{
+    for value in fields.get_all(name).iter() {
+        if lists_word(value.as_bytes(), word) {
+            return true;
+        }
+    }
+    false
+}

@@ -1,0 +1,37 @@
+//! The methods.
+ghost use Rattle.std.specs.Prelude.{◌≡◌, IfOk};
+ghost use Rattle.tus_request.specs.Methods.{verb_of};
+
+use http::Method;
+use http::method::MethodError;
+use std::alloc::{AllocError, Global};
+
+/// A method that the server knows, or another.
+#[derive(Clone, Copy, Drop)]
+pub(crate) enum Verb {
+    Options,
+    Post,
+    Head,
+    Patch,
+    Get,
+    Other,
+}
+
+/// The method that some bytes name.
+pub(crate) fn verb_of(alloc: Global, name: &[u8]) -> Result<Verb, AllocError>
+    ensures { IfOk result (λ verb. verb ≡ verb_of name.now) }
+{
+    let method = match Method::from_bytes(alloc, name) {
+        Ok(method) => method,
+        Err(MethodError::OutOfMemory) => return Err(AllocError),
+        Err(MethodError::Invalid) => return Ok(Verb::Other),
+    };
+    Ok(match method.as_str() {
+        "OPTIONS" => Verb::Options,
+        "POST" => Verb::Post,
+        "HEAD" => Verb::Head,
+        "PATCH" => Verb::Patch,
+        "GET" => Verb::Get,
+        _ => Verb::Other,
+    })
+}

@@ -1,0 +1,196 @@
+//! The replies of the server, each as its exact bytes, without its body.
+//!
+//! Each call appends to `out`; on an error `out` is as it was. `bare` says that the request line was HEAD, and `closes`
+//! that the connection closes.
+ghost use Rattle.std.specs.Prelude.{◌≡◌, ◌<◌, ◌+◌, ◌++◌, OnOk, OnErr};
+ghost use Rattle.std.specs.Vec.{vec_capacity, vec_len};
+ghost use Rattle.tus_request.specs.Replies.{reply_options, reply_created, reply_head, reply_patched, reply_text, reply_refused, reply_continue, unless_bare};
+ghost use Rattle.tus_request.specs.ReplyParts.{reply_shown};
+
+use crate::faults::Fault;
+use enc_labels::name_of;
+use enc_model::Encoding;
+use parts::{Lines, Reply, Status};
+use std::alloc::{AllocError, Global};
+
+mod parts;
+
+/// Appends the reply to OPTIONS.
+///
+/// # Errors
+///
+/// `AllocError` if memory is refused.
+pub fn reply_options(
+    alloc: Global,
+    _bare: bool,
+    closes: bool,
+    out: &mut Vec<u8>,
+) -> Result<(), AllocError>
+    ensures ok { OnOk result (out.new.items ≡ out.old.items ++ reply_options closes) }
+    ensures err { OnErr result (out.new.items ≡ out.old.items) }
+{
+    let reply = Reply {
+        status: Status::NoContent,
+        lines: Lines::Options,
+        length: None,
+        closes,
+    };
+    append(alloc, &reply, out)
+}
+
+/// Appends the reply to a POST that made the upload of this number.
+///
+/// # Errors
+///
+/// `AllocError` if memory is refused.
+pub fn reply_created(
+    alloc: Global,
+    number: u64,
+    bare: bool,
+    closes: bool,
+    out: &mut Vec<u8>,
+) -> Result<(), AllocError>
+    ensures ok { OnOk result (out.new.items ≡ out.old.items ++ reply_created number bare closes) }
+    ensures err { OnErr result (out.new.items ≡ out.old.items) }
+{
+    let reply = Reply {
+        status: Status::Created,
+        lines: Lines::Created(number),
+        length: unless_bare(bare, 0),
+        closes,
+    };
+    append(alloc, &reply, out)
+}
+
+/// Appends the reply to a HEAD of an upload: how many bytes it has, how many it will have, and its metadata.
+///
+/// # Errors
+///
+/// `AllocError` if memory is refused.
+pub fn reply_head(
+    alloc: Global,
+    offset: u64,
+    declared: u64,
+    metadata: &str,
+    bare: bool,
+    closes: bool,
+    out: &mut Vec<u8>,
+) -> Result<(), AllocError>
+    ensures ok { OnOk result (out.new.items ≡ out.old.items ++ reply_head offset declared metadata.now bare closes) }
+    ensures err { OnErr result (out.new.items ≡ out.old.items) }
+{
+    let reply = Reply {
+        status: Status::Okay,
+        lines: Lines::Shown {
+            offset,
+            declared,
+            metadata,
+        },
+        length: unless_bare(bare, 0),
+        closes,
+    };
+    append(alloc, &reply, out)
+}
+
+/// Appends the reply to a PATCH that was accepted: how many bytes the upload has now.
+///
+/// # Errors
+///
+/// `AllocError` if memory is refused.
+pub fn reply_patched(
+    alloc: Global,
+    offset: u64,
+    _bare: bool,
+    closes: bool,
+    out: &mut Vec<u8>,
+) -> Result<(), AllocError>
+    ensures ok { OnOk result (out.new.items ≡ out.old.items ++ reply_patched offset closes) }
+    ensures err { OnErr result (out.new.items ≡ out.old.items) }
+{
+    let reply = Reply {
+        status: Status::NoContent,
+        lines: Lines::Offset(offset),
+        length: None,
+        closes,
+    };
+    append(alloc, &reply, out)
+}
+
+/// Appends the head of the reply to a GET of an upload whose text, in the encoding `to`, has so many bytes.
+///
+/// # Errors
+///
+/// `AllocError` if memory is refused.
+pub fn reply_text(
+    alloc: Global,
+    to: Encoding,
+    length: u64,
+    bare: bool,
+    closes: bool,
+    out: &mut Vec<u8>,
+) -> Result<(), AllocError>
+    ensures ok { OnOk result (out.new.items ≡ out.old.items ++ reply_text to length bare closes) }
+    ensures err { OnErr result (out.new.items ≡ out.old.items) }
+{
+    let reply = Reply {
+        status: Status::Okay,
+        lines: Lines::Text(name_of(to)),
+        length: unless_bare(bare, length),
+        closes,
+    };
+    append(alloc, &reply, out)
+}
+
+/// Appends the reply to a request that is refused.
+///
+/// # Errors
+///
+/// `AllocError` if memory is refused.
+pub fn reply_refused(
+    alloc: Global,
+    fault: Fault,
+    on_files: bool,
+    bare: bool,
+    closes: bool,
+    out: &mut Vec<u8>,
+) -> Result<(), AllocError>
+    ensures ok { OnOk result (out.new.items ≡ out.old.items ++ reply_refused fault on_files bare closes) }
+    ensures err { OnErr result (out.new.items ≡ out.old.items) }
+{
+    let reply = Reply {
+        status: Status::Refused(fault),
+        lines: Lines::Refused { fault, on_files },
+        length: unless_bare(bare, 0),
+        closes,
+    };
+    append(alloc, &reply, out)
+}
+
+/// Appends `100 Continue`.
+///
+/// # Errors
+///
+/// `AllocError` if memory is refused: only where `out` has no room.
+pub fn reply_continue(out: &mut Vec<u8>) -> Result<(), AllocError>
+    ensures ok { OnOk result (out.new.items ≡ out.old.items ++ reply_continue) }
+    ensures err { OnErr result (out.new.items ≡ out.old.items) }
+    ensures full { OnErr result (vec_capacity out.old < vec_len out.old + 25) }
+{
+    out.extend_from_slice(b"HTTP/1.1 100 Continue\r\n\r\n")
+}
+
+/// The body's length, which a reply to a request line of HEAD leaves out.
+fn unless_bare(bare: bool, length: u64) -> Option<u64>
+    ensures { result ≡ unless_bare bare length }
+{
+    if bare { None } else { Some(length) }
+}
+
+/// Appends a reply, or leaves `out` as it is.
+fn append(alloc: Global, reply: &Reply<'_>, out: &mut Vec<u8>) -> Result<(), AllocError>
+    ensures ok { OnOk result (out.new.items ≡ out.old.items ++ reply_shown reply.now) }
+    ensures err { OnErr result (out.new.items ≡ out.old.items) }
+{
+    let text = reply.to_string(alloc)?;
+    out.extend_from_slice(text.as_bytes())
+}

@@ -1,0 +1,85 @@
+//! Parts of header values.
+ghost use Rattle.std.specs.Prelude.{◌≡◌, ◌==◌};
+ghost use Rattle.std.specs.List.{position};
+ghost use Rattle.tus_request.specs.Reading.{before, behind};
+ghost use Rattle.tus_request.specs.Texts.{any_case, skipped, trimmed, lists_word};
+
+/// Whether a text is a word, in any case.
+pub(crate) fn is_word(text: &[u8], word: &str) -> bool
+    ensures { result ≡ any_case word.now text.now }
+{
+    text.eq_ignore_ascii_case(word.as_bytes())
+}
+
+/// Where the first of a mark stands.
+fn place_of(text: &[u8], mark: u8) -> Option<usize>
+    ensures { result ≡ position (λ b. b == mark) text.now }
+{
+    text.iter().position(|b| *b == mark)
+}
+
+/// The bytes in front of the first of a mark, or all of them.
+pub fn front(text: &[u8], mark: u8) -> &[u8]
+    ensures { result.now ≡ before mark text.now }
+{
+    match place_of(text, mark) {
+        Some(at) => &text[..at],
+        None => text,
+    }
+}
+
+/// The bytes behind the first of a mark, or none.
+pub fn behind(text: &[u8], mark: u8) -> &[u8]
+    ensures { result.now ≡ behind mark text.now }
+{
+    match place_of(text, mark) {
+        Some(at) => &text[at + 1..],
+        None => &[],
+    }
+}
+
+/// A text without the blanks in front.
+fn without_front<'t>(text: &'t [u8], blanks: &[u8]) -> &'t [u8]
+    ensures { result.now ≡ skipped blanks.now text.now }
+{
+    let mut rest = text;
+    while let Some((first, more)) = rest.split_first() {
+        if !blanks.contains(first) {
+            return rest;
+        }
+        rest = more;
+    }
+    rest
+}
+
+/// A text without the blanks at both ends.
+pub(crate) fn trimmed<'t>(text: &'t [u8], blanks: &[u8]) -> &'t [u8]
+    ensures { result.now ≡ trimmed blanks.now text.now }
+{
+    let mut rest = without_front(text, blanks);
+    while let Some((last, more)) = rest.split_last() {
+        if !blanks.contains(last) {
+            return rest;
+        }
+        rest = more;
+    }
+    rest
+}
+
+/// Whether a list of words, with commas between them, has one, in any case.
+pub(crate) fn lists_word(text: &[u8], word: &str) -> bool
+    ensures { result ≡ lists_word word.now text.now }
+{
+    text.split(|b| *b == b',')
+        .any(|part| is_word(trimmed(part, b" \t"), word))
+}
+
+/// The part of a target in front of the first question mark.
+pub(crate) fn path(target: &str) -> &str
+    ensures { result.now ≡ before 63 target.now }
+{
+    match target.split_once('?') {
+        Some((path, _)) => path,
+        None => target,
+    }
+}

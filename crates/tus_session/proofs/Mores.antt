@@ -1,0 +1,157 @@
+-- The next piece of a text.
+use Rattle.std.proofs.Common.{◌≡◌, ◌⊎◌, inl, inr, ℕ, ◌+◌, ◌-◌, ◌<◌, ◌≤◌, Bool, true, false, List, [], ◌∷◌, ◌++◌, length, take, drop, Option, Some, None, Result, Ok, Err, refl, sym, ◌∙◌, ap, subst, arith, append-nil, if◌then◌else◌}
+use Rattle.upload_rules.specs.Store.{Store, Upload, find}
+use Rattle.upload_rules.specs.World.{Patch, World}
+use Rattle.upload_rules.specs.declared.uploads.Uploads.{Ghosts}
+use Rattle.tus_action.specs.Acts.{Giving, is_pending, pending_after, piece_of}
+use Rattle.tus_action.specs.Serves.{GivesAs, GivingIs}
+use Rattle.tus_action.specs.declared.acts.Giving as given
+use Rattle.tus_session.specs.Streams.{Asked, Rest, InHead, InBody, cut}
+use Rattle.tus_session.specs.Turns.{Conn, Turn, reader, left_world, given_up, more_on, more_turn}
+use Rattle.tus_session.specs.History.{is_closed, has_text}
+use Rattle.tus_session.specs.Stands.{PatchesAs, PatchIs, TaskIs, LinkIs, PlaceIs, draft_at}
+use Rattle.tus_session.specs.Moves.{Moves}
+use Rattle.tus_session.specs.Turned.{TurnedAs, Turned}
+use Rattle.tus_session.specs.declared.errors.SessionError.{SessionError}
+use Rattle.tus_session.specs.declared.answers.Answer.{Answer}
+use Rattle.tus_session.specs.declared.conns.Link.{Link}
+use Rattle.tus_session.specs.declared.conns.Patching.{Patching}
+use Rattle.tus_session.specs.declared.conns.Place.{Place}
+use Rattle.tus_session.specs.declared.conns.Place.TheVariants.{Closed, Open}
+use Rattle.tus_session.specs.declared.conns.Task.{Task}
+use Rattle.tus_session.specs.declared.conns.Task.TheVariants as tasks
+use Rattle.tus_session.proofs.Opening.{still}
+use Rattle.tus_session.proofs.Tasks.{IsGiving, text_at}
+
+abbrev unmoved_turn : World → Conn → Turn
+unmoved_turn w conn = record { world = w; conn = Some conn; bytes = []; taken = 0 }
+
+abbrev given_turn : World → Conn → Giving → Turn
+given_turn w conn h = record { world = w; conn = given_up conn h.closes (pending_after h); bytes = piece_of h; taken = 0 }
+
+more_none_is : (w : World) (conn : Conn) → conn.pending ≡ None → unmoved_turn w conn ≡ more_turn w conn
+unfolding more_turn
+more_none_is w conn e = sym (ap (more_on w conn) e)
+
+more_some_is : (w : World) (conn : Conn) (h : Giving) → conn.pending ≡ Some h → given_turn w conn h ≡ more_turn w conn
+unfolding more_turn
+more_some_is w conn h e = sym (ap (more_on w conn) e)
+
+module _ {U B : Type 0} (u : Ghosts U B) where
+  -- a connection stays as it is, and nothing is given
+  pub stays : (store : U) (w : World) (k : Link B) (conn : Conn) (more : Bool) (out : List ℕ) → u.stands store w → LinkIs u w k.head.items k.left k.task conn
+    → more ≡ is_pending conn.pending → TurnedAs u store (Open k) (record { taken = 0; closes = false; more = more }) out out w conn.draft (unmoved_turn w conn)
+  stays store w k conn more out stands link e = record {
+    shown = stands;
+    here = link;
+    moves = still w conn.draft;
+    taken = refl;
+    closes = refl;
+    more = e;
+    bytes = sym (append-nil out);
+  }
+
+  no_text : (w : World) (rest : Rest) (task : Task B) (draft : Option ℕ) (pending : Option Giving) → TaskIs u w rest task draft pending
+    → ((g : given.Giving) → task ≡ tasks.Text g → ⊥) → pending ≡ None
+  no_text w rest tasks.Idle None None is not = refl
+  no_text w rest tasks.Idle None (Some h) is not = absurd is
+  no_text w rest tasks.Idle (Some d) pending is not = absurd is
+  no_text w rest (tasks.Patch b) None pending is not = absurd is
+  no_text w rest (tasks.Patch b) (Some d) None is not = refl
+  no_text w rest (tasks.Patch b) (Some d) (Some h) is not = absurd is
+  no_text w rest (tasks.Text g) draft pending is not = absurd (not g refl)
+
+  -- no text is to be given
+  pub more_nothing : (store : U) (w : World) (k : Link B) (conn : Conn) (out : List ℕ) → u.stands store w → LinkIs u w k.head.items k.left k.task conn
+    → ((g : given.Giving) → k.task ≡ tasks.Text g → ⊥)
+    → TurnedAs u store (Open k) (record { taken = 0; closes = false; more = false }) out out w conn.draft (more_turn w conn)
+  more_nothing store w k conn out stands link not =
+      let none = no_text w (cut (reader w) conn.stream).rest k.task conn.draft conn.pending link.does not in
+      subst (TurnedAs u store (Open k) (record { taken = 0; closes = false; more = false }) out out w conn.draft) (more_none_is w conn none)
+      (stays store w k conn false out stands link (sym (ap is_pending none)))
+
+  text_stays : (w : World) (rest : Rest) (g : given.Giving) (h : Giving) (draft : Option ℕ) → draft ≡ None → GivingIs w.store (Some g) (Some h) → TaskIs u w rest (tasks.Text g) draft (Some h)
+  text_stays w rest g h draft e is = subst (λ d. TaskIs u w rest (tasks.Text g) d (Some h)) (sym e) is
+
+  idle_stays : (w : World) (rest : Rest) (draft : Option ℕ) → draft ≡ None → TaskIs u w rest tasks.Idle draft None
+  idle_stays w rest draft e = subst (λ d. TaskIs u w rest tasks.Idle d None) (sym e) tt
+
+  module _ (store : U) (w : World) (k : Link B) (conn : Conn) (g : given.Giving) (stands : u.stands store w) (link : LinkIs u w k.head.items k.left k.task conn)
+    (is : IsGiving w g conn.draft conn.pending) where
+
+    some_turned : (old new : List ℕ) (rest : given.Giving) (pending : Option Giving) → GivingIs w.store (Some rest) pending → new ≡ old ++ piece_of is.h
+      → TurnedAs u store (Open (record k { task = tasks.Text rest })) (record { taken = 0; closes = false; more = true }) old new w conn.draft
+        (record { world = w; conn = given_up conn is.h.closes pending; bytes = piece_of is.h; taken = 0 })
+    some_turned old new rest None given e = absurd given
+    some_turned old new rest (Some h) given e = record {
+      shown = stands;
+      here = record { kept = link.kept; does = text_stays w (cut (reader w) conn.stream).rest rest h conn.draft is.draft_is given };
+      moves = still w conn.draft;
+      taken = refl;
+      closes = refl;
+      more = refl;
+      bytes = e;
+    }
+
+    -- more of the text is left
+    pub more_some : (old new : List ℕ) (rest : given.Giving) → GivingIs w.store (Some rest) (pending_after is.h) → new ≡ old ++ piece_of is.h
+      → TurnedAs u store (Open (record k { task = tasks.Text rest })) (record { taken = 0; closes = false; more = true }) old new w conn.draft (more_turn w conn)
+    more_some old new rest given e =
+        subst (TurnedAs u store (Open (record k { task = tasks.Text rest })) (record { taken = 0; closes = false; more = true }) old new w conn.draft)
+        (more_some_is w conn is.h is.pending_is) (some_turned old new rest (pending_after is.h) given e)
+
+    abbrev pub idle_place : Bool → Place B
+    idle_place closes = if closes then Closed else Open (record k { task = tasks.Idle })
+
+    none_closes : (old new : List ℕ) (closes : Bool) → new ≡ old ++ piece_of is.h
+      → TurnedAs u store (idle_place closes) (record { taken = 0; closes = closes; more = false }) old new w conn.draft
+        (record { world = w; conn = given_up conn closes None; bytes = piece_of is.h; taken = 0 })
+    none_closes old new true e = record {
+      shown = stands;
+      here = tt;
+      moves = subst (λ o. Moves w w o None) (sym is.draft_is) (still w None);
+      taken = refl;
+      closes = refl;
+      more = refl;
+      bytes = e;
+    }
+    none_closes old new false e = record {
+      shown = stands;
+      here = record { kept = link.kept; does = idle_stays w (cut (reader w) conn.stream).rest conn.draft is.draft_is };
+      moves = still w conn.draft;
+      taken = refl;
+      closes = refl;
+      more = refl;
+      bytes = e;
+    }
+
+    none_turned : (old new : List ℕ) (closes : Bool) (pending : Option Giving) → GivingIs w.store None pending → closes ≡ is.h.closes → new ≡ old ++ piece_of is.h
+      → TurnedAs u store (idle_place closes) (record { taken = 0; closes = closes; more = false }) old new w conn.draft
+        (record { world = w; conn = given_up conn is.h.closes pending; bytes = piece_of is.h; taken = 0 })
+    none_turned old new closes (Some h) given same e = absurd given
+    none_turned old new closes None given same e =
+        subst (λ b. TurnedAs u store (idle_place closes) (record { taken = 0; closes = closes; more = false }) old new w conn.draft
+          (record { world = w; conn = given_up conn b None; bytes = piece_of is.h; taken = 0 })) same (none_closes old new closes e)
+
+    -- the text is given
+    pub more_done : (old new : List ℕ) → GivingIs w.store None (pending_after is.h) → new ≡ old ++ piece_of is.h
+      → TurnedAs u store (idle_place g.closes) (record { taken = 0; closes = g.closes; more = false }) old new w conn.draft (more_turn w conn)
+    more_done old new given e =
+        subst (TurnedAs u store (idle_place g.closes) (record { taken = 0; closes = g.closes; more = false }) old new w conn.draft)
+        (more_some_is w conn is.h is.pending_is) (none_turned old new g.closes (pending_after is.h) given is.gives.closes e)
+
+    -- memory was wanting
+    pub more_left : u.stands store (left_world w conn.draft)
+    more_left = subst (λ o. u.stands store (left_world w o)) (sym is.draft_is) stands
+
+    -- what `give_more` is asked for
+    pub given_as : conn.pending ≡ Some is.h
+    given_as = is.pending_is
+
+module _ {U B : Type 0} (u : Ghosts U B) where
+  -- under other names for the place and the answer
+  pub turned_ok : (store : U) (place place' : Place B) (r : Result Answer SessionError) (a : Answer) (old new : List ℕ) (w : World) (own : Option ℕ) (t : Turn)
+    → place ≡ place' → r ≡ Ok a → TurnedAs u store place' a old new w own t → Turned u store place r old new w own t
+  turned_ok store place place' r a old new w own t e f is =
+      let x : Turned u store place (Ok a) old new w own t = subst (λ p. TurnedAs u store p a old new w own t) (sym e) is in
+      subst (λ r. Turned u store place r old new w own t) (sym f) x

@@ -1,0 +1,287 @@
+-- What the calls on uploads leave to the other connections.
+use Rattle.std.proofs.Common.{◌≡◌, ◌≢◌, ◌⊎◌, inl, inr, ℕ, zero, suc, ◌+◌, ◌-◌, ◌<◌, ◌≤◌, ◌==◌, Bool, true, false, List, [], ◌∷◌, ◌++◌, length, if◌then◌else◌, Option, Some, None, refl, sym, ◌∙◌, ap, subst, arith, append-nil, append_assoc}
+use Rattle.std.proofs.lemmas.Bool.Decides.{nat_tests}
+use Rattle.std.proofs.lemmas.Bool.{cases_eq, eqb-true, ne_eqb, cases_Bool}
+use Rattle.std.proofs.lemmas.List.{length-append}
+use Rattle.upload_rules.specs.Store.{New, Upload, Store, upload_of, text_of, with_bytes, find, replaced, without, is_complete, new_upload, created_store, appended_store, appended_to}
+use Rattle.upload_rules.specs.World.{Patch, World, is_there, least_from, free_number}
+use Rattle.upload_rules.specs.Apart.{IsApart}
+use Rattle.upload_rules.specs.declared.errors.UploadRefusal.{UploadRefusal}
+use Rattle.upload_rules.specs.declared.errors.UploadRefusal.TheVariants.{Offset}
+use Rattle.upload_rules.specs.Calls.{dropped, committed, committed_store, spent, created, begun, begun_at, first_patch, appended, longer, is_empty, commit_refusal, offset_refusal, text_refusal, or_else, refuse_if}
+use Rattle.upload_rules.proofs.Finds.{find_without_other, find_without_same, none_without, find_replaced_same, find_replaced_other, none_replaced, length_without}
+use Rattle.tus_action.specs.Acts.{fed, fed_patch}
+use Rattle.tus_session.specs.Stands.{IsThere}
+use Rattle.tus_session.specs.Turns.{left_world}
+use Rattle.tus_session.specs.Moves.{Longer, Grows, Moves}
+use Rattle.tus_session.proofs.Growth.{text_longer}
+use Rattle.tus_session.proofs.Opening.{same_grows, still}
+
+abbrev Patches : Type 0
+Patches = List (ℕ × Patch)
+
+-- FINDING AND KEEPING APART
+
+without_case : {A : Type 0} (d : ℕ) (x : ℕ × A) (xs : List (ℕ × A)) → IsApart (x ∷ xs) → IsApart (without d xs) → (b : Bool) → IsApart (if b then xs else x ∷ without d xs)
+without_case d x xs apart rest true = apart.1
+without_case d x xs apart rest false = (none_without d x.0 xs apart.0, rest)
+
+pub apart_without : {A : Type 0} (d : ℕ) (xs : List (ℕ × A)) → IsApart xs → IsApart (without d xs)
+apart_without d [] apart = tt
+apart_without d (x ∷ xs) apart = without_case d x xs apart (apart_without d xs apart.1) (x.0 == d)
+
+replaced_case : {A : Type 0} (d : ℕ) (a : A) (x : ℕ × A) (xs : List (ℕ × A)) → IsApart (x ∷ xs) → IsApart (replaced d a xs) → (b : Bool) → (x.0 == d) ≡ b
+  → IsApart (if b then (d, a) ∷ xs else x ∷ replaced d a xs)
+replaced_case d a x xs apart rest true e = (subst (λ n. find n xs ≡ None) (eqb-true x.0 d e) apart.0, apart.1)
+replaced_case d a x xs apart rest false e = (none_replaced d x.0 a xs apart.0, rest)
+
+pub apart_replaced : {A : Type 0} (d : ℕ) (a : A) (xs : List (ℕ × A)) → IsApart xs → IsApart (replaced d a xs)
+apart_replaced d a [] apart = tt
+apart_replaced d a (x ∷ xs) apart = replaced_case d a x xs apart (apart_replaced d a xs apart.1) (x.0 == d) refl
+
+some_ne : (d e : ℕ) → (Some d ≡ Some e → ⊥) → d ≡ e → ⊥
+some_ne d e h is = h (ap Some is)
+
+-- the draft is dropped
+pub drop_moves : (w : World) (d : ℕ) → Moves w (dropped w d) (Some d) None
+drop_moves w d = record {
+  grows = same_grows w.store;
+  others = λ e p ne found. find_without_other d e w.patches (some_ne d e ne) ∙ found;
+  back = λ e p apart found. elim (cases_eq d e) [
+    | inl is ↦
+      let none : find e (without d w.patches) ≡ None = subst (λ n. find n (without d w.patches) ≡ None) is (find_without_same d w.patches apart) in
+      let x : Some p ≡ None = sym found ∙ none in
+      absurd (cc)
+    | inr ne ↦ inr (λ h. ne (let x : d ≡ e = cc in x), (p, sym (find_without_other d e w.patches ne) ∙ found))
+  ];
+  fresh = λ e h. absurd (cc);
+  unique = λ h. apart_without d w.patches h;
+}
+
+pub left_moves : (w : World) (own : Option ℕ) → Moves w (left_world w own) own None
+left_moves w None = still w None
+left_moves w (Some d) = drop_moves w d
+
+-- the draft's patch grows
+pub feed_moves : (w : World) (d : ℕ) (p : Patch) (piece : List ℕ) → find d w.patches ≡ Some p → Moves w (fed w d piece) (Some d) (Some d)
+feed_moves w d p [] found = still w (Some d)
+feed_moves w d p (b ∷ piece) found =
+    let q = longer w d p (b ∷ piece) in
+    let w' : World = record w { patches = replaced d q w.patches } in
+    let e : w' ≡ fed w d (b ∷ piece) = ap (λ o. elim o as (λ _. World) [ None ↦ w | Some p ↦ record w { patches = replaced d (longer w d p (b ∷ piece)) w.patches } ]) (sym found) in
+    let now : Moves w w' (Some d) (Some d) = record {
+      grows = same_grows w.store;
+      others = λ e p ne there. find_replaced_other d e q w.patches (some_ne d e ne) ∙ there;
+      back = λ e p apart there. elim (cases_eq d e) [
+        | inl is ↦ inl (ap Some is)
+        | inr ne ↦ inr (λ h. ne (let x : d ≡ e = cc in x), (p, sym (find_replaced_other d e q w.patches ne) ∙ there))
+      ];
+      fresh = λ e h. inl h;
+      unique = λ h. apart_replaced d q w.patches h;
+    } in
+    subst (λ x. Moves w x (Some d) (Some d)) e now
+
+-- THE LEAST FREE NUMBER
+
+abbrev IsFull : ℕ → Patches → Type 0
+IsFull n patches = (k : ℕ) → k < n → is_there (find k patches) ≡ true
+
+one_is : (o : Option Patch) → is_there o ≡ true → (p : Patch) × (o ≡ Some p)
+one_is None h = absurd cc
+one_is (Some p) h = (p, refl)
+
+none_is : (o : Option Patch) → is_there o ≡ false → o ≡ None
+none_is None h = refl
+none_is (Some p) h = absurd cc
+
+at_least : (n m : ℕ) (patches : Patches) → m ≡ n → IsFull n patches → n ≤ length patches
+at_least zero m patches same full = omega arith
+at_least (suc n) m patches same full =
+    let there = one_is (find n patches) (full n (omega arith)) in
+    let shorter = length_without n there.0 patches there.1 in
+    let rest = at_least n n (without n patches) refl (λ k lt. ap is_there (find_without_other n k patches (omega arith)) ∙ full k (omega arith)) in
+    omega (arith, shorter, rest)
+
+one_more_full : (n : ℕ) (patches : Patches) → IsFull n patches → is_there (find n patches) ≡ true → IsFull (n + 1) patches
+one_more_full n patches full there k lt = elim (cases_eq k n) [ inl is ↦ subst (λ i. is_there (find i patches) ≡ true) (sym is) there | inr ne ↦ full k (omega arith) ]
+
+none_least : (left n : ℕ) (patches : Patches) → IsFull n patches → length patches ≤ n + left → find (least_from left n patches) patches ≡ None
+none_least zero n patches full high =
+    elim (cases_Bool (is_there (find n patches))) [
+      | inl there ↦ let more = at_least (n + 1) (n + 1) patches refl (one_more_full n patches full there) in absurd (omega (arith, more))
+      | inr free ↦ none_is (find n patches) free
+    ]
+none_least (suc left) n patches full high =
+    elim (cases_Bool (is_there (find n patches))) [
+      | inl there ↦ rw there (none_least left (n + 1) patches (one_more_full n patches full there) (omega arith))
+      | inr free ↦ rw free (none_is (find n patches) free)
+    ]
+
+pub free_none : (w : World) → find (free_number w) w.patches ≡ None
+free_none w = none_least (length w.patches) 0 w.patches (λ k lt. absurd (omega arith)) (omega arith)
+
+abbrev pub with_patch : World → ℕ → Patch → World
+with_patch w d p = record w { patches = (d, p) ∷ w.patches }
+
+find_first : (d : ℕ) (p : Patch) (patches : Patches) → find d ((d, p) ∷ patches) ≡ Some p
+find_first d p patches = grind (arith, nat_tests)
+
+find_behind : (d e : ℕ) (p : Patch) (patches : Patches) → (d ≡ e → ⊥) → find e ((d, p) ∷ patches) ≡ find e patches
+find_behind d e p patches ne = grind (arith, nat_tests)
+
+-- a patch is opened under a number that none has
+pub open_moves : (w : World) (d : ℕ) (p : Patch) → find d w.patches ≡ None → Moves w (with_patch w d p) None (Some d)
+open_moves w d p free = record {
+  grows = same_grows w.store;
+  others = λ e q ne found. elim (cases_eq d e) [
+    | inl is ↦ let x : None ≡ Some q = sym free ∙ (ap (λ n. find n w.patches) is ∙ found) in absurd (cc)
+    | inr ne' ↦ find_behind d e p w.patches ne' ∙ found
+  ];
+  back = λ e q apart found. elim (cases_eq d e) [
+    | inl is ↦ inl (ap Some is)
+    | inr ne ↦ inr (λ h. absurd (cc), (q, sym (find_behind d e p w.patches ne) ∙ found))
+  ];
+  fresh = λ e h. let x : d ≡ e = cc in inr (ap (λ n. find n w.patches) (sym x) ∙ free);
+  unique = λ h. (free, h);
+}
+
+-- THE STORE CHANGES
+
+-- one step after another
+pub grows_both : (m m1 m2 : Store) → Grows m m1 → Grows m1 m2 → Grows m m2
+grows_both m m1 m2 a b = record {
+  indexes = b.indexes ∙ a.indexes;
+  uploads = λ n up found.
+      let x = a.uploads n up found in
+      let y = b.uploads n (with_bytes up x.0) x.2 in
+      let e : with_bytes (with_bytes up x.0) y.0 ≡ with_bytes up (x.0 ++ y.0) = ap (λ z. record up { accepted = z }) (append_assoc up.accepted x.0 y.0) in
+      (x.0 ++ y.0, x.1 ++ y.1, y.2 ∙ ap Some e,
+        ap (text_of m2.indexes) (sym e) ∙ (y.3 ∙ (ap (λ t. t ++ y.1) x.3 ∙ append_assoc (text_of m.indexes up) x.1 y.1)));
+}
+
+own_or : (own : Option ℕ) (e : ℕ) → (own ≡ Some e) ⊎ (own ≡ Some e → ⊥)
+own_or None e = inr (λ h. absurd (cc))
+own_or (Some d) e = elim (cases_eq d e) [ inl is ↦ inl (ap Some is) | inr ne ↦ inr (λ h. ne (let x : d ≡ e = cc in x)) ]
+
+none_or : (o : Option Patch) → (o ≡ None) ⊎ ((p : Patch) × (o ≡ Some p))
+none_or None = inl refl
+none_or (Some p) = inr (p, refl)
+
+pub both_moves : (w w1 w2 : World) (x y z : Option ℕ) → Moves w w1 x y → Moves w1 w2 y z → Moves w w2 x z
+both_moves w w1 w2 x y z a b = record {
+  grows = grows_both w.store w1.store w2.store a.grows b.grows;
+  others = λ e p ne found.
+      b.others e p
+      (λ h. elim (a.fresh e h) [ inl own ↦ ne own | inr none ↦ let c : Some p ≡ None = sym found ∙ none in absurd (cc) ])
+      (a.others e p ne found);
+  back = λ e p apart found. elim (b.back e p (a.unique apart) found) [
+    | inl own ↦ inl own
+    | inr other ↦ elim (a.back e other.1.0 apart other.1.1) [ inl own ↦ absurd (other.0 own) | inr more ↦ inr more ]
+  ];
+  fresh = λ e h. elim (b.fresh e h) [
+    | inl own ↦ a.fresh e own
+    | inr none ↦ elim (own_or x e) [
+      | inl own ↦ inl own
+      | inr ne ↦ elim (none_or (find e w.patches)) [
+        | inl free ↦ inr free
+        | inr there ↦ let c : Some there.0 ≡ None = sym (a.others e there.0 ne there.1) ∙ none in absurd (cc)
+      ]
+    ]
+  ];
+  unique = λ h. b.unique (a.unique h);
+}
+
+-- the uploads of the second world, and the patches of the first
+pub stored_moves : (w : World) (m : Store) (own : Option ℕ) → Grows w.store m → Moves w (record w { store = m }) own own
+stored_moves w m own grows = let s = still w own in record {
+  grows = grows;
+  others = s.others;
+  back = s.back;
+  fresh = s.fresh;
+  unique = s.unique;
+}
+
+find_created : (n m : ℕ) (up new : Upload) (uploads : List (ℕ × Upload)) → find n uploads ≡ Some up → find n (uploads ++ (m, new) ∷ []) ≡ Some up
+find_created n m up new [] h = absurd (cc)
+find_created n m up new (x ∷ xs) h = let ih = find_created n m up new xs in grind (arith, nat_tests)
+
+same_longer : (m m' : Store) (n : ℕ) (up : Upload) → m'.indexes ≡ m.indexes → upload_of m' n ≡ Some up → Longer m m' n up
+same_longer m m' n up same found =
+    let s : with_bytes up [] ≡ up = ap (λ x. record up { accepted = x }) (append-nil up.accepted) in
+    ([], [], found ∙ ap Some (sym s),
+      ap (λ x. text_of x (with_bytes up [])) same ∙ (ap (text_of m.indexes) s ∙ sym (append-nil (text_of m.indexes up))))
+
+-- an upload is made
+pub create_moves : (w : World) (new : New) (own : Option ℕ) → Moves w (created w new) own own
+create_moves w new own = stored_moves w (created_store w.store new) own (record {
+  indexes = refl;
+  uploads = λ n up found. same_longer w.store (created_store w.store new) n up refl (find_created n w.store.next up (new_upload new) w.store.uploads found);
+})
+
+-- bytes are put behind an upload that isn't complete
+append_grows_at : (m : Store) (number : ℕ) (bytes : List ℕ) (u : Upload) → upload_of m number ≡ Some u → is_complete u ≡ false
+  → Grows m (record m { uploads = replaced number (with_bytes u bytes) m.uploads })
+append_grows_at m number bytes u there unfinished =
+    let m' : Store = record m { uploads = replaced number (with_bytes u bytes) m.uploads } in
+    record {
+      indexes = refl;
+      uploads = λ n up found. elim (cases_eq number n) [
+        | inl is ↦
+          let same : Some u ≡ Some up = sym there ∙ (ap (λ i. find i m.uploads) is ∙ found) in
+          let us : u ≡ up = cc in
+          let more = text_longer m.indexes u bytes unfinished in
+          let f : find number (replaced number (with_bytes u bytes) m.uploads) ≡ Some (with_bytes u bytes) =
+              find_replaced_same number u (with_bytes u bytes) m.uploads there in
+          let l : Longer m m' number u = (bytes, more.0, f, more.1) in
+          subst (λ i. Longer m m' i up) is (subst (λ x. Longer m m' number x) us l)
+        | inr ne ↦ same_longer m m' n up refl (find_replaced_other number n (with_bytes u bytes) m.uploads ne ∙ found)
+      ];
+    }
+
+or_else_none : (a b : Option UploadRefusal) → or_else a b ≡ None → a ≡ None
+or_else_none None b e = refl
+or_else_none (Some f) b e = absurd (cc)
+
+same_length : (a b : ℕ) (f : UploadRefusal) → refuse_if (if a == b then false else true) f ≡ None → a ≡ b
+same_length a b f e = elim (cases_eq a b) [
+    | inl is ↦ is
+    | inr ne ↦ let x : (a == b) ≡ false = ne_eqb a b ne in let y : Some f ≡ None = ap (λ t. refuse_if (if t then false else true) f) (sym x) ∙ e in absurd (cc)
+  ]
+
+offset_same : (p : Patch) (o : Option Upload) (u : Upload) → o ≡ Some u → offset_refusal p o ≡ None → length u.accepted ≡ length p.began.accepted
+offset_same p None u is e = absurd (cc)
+offset_same p (Some v) u is e =
+    let x : v ≡ u = cc in
+    ap (λ y. length y.accepted) (sym x) ∙ same_length (length v.accepted) (length p.began.accepted) Offset e
+
+not_empty : (body : List ℕ) → is_empty body ≡ false → 0 < length body
+not_empty [] e = absurd (cc)
+not_empty (b ∷ body) e = omega arith
+
+-- what is committed is put behind an upload that isn't complete
+store_grows : (w : World) (p : Patch) → IsThere w p → length p.began.accepted + p.count ≤ p.began.declared → length p.body ≤ p.count
+  → offset_refusal p (upload_of w.store p.number) ≡ None → (b : Bool) → is_empty p.body ≡ b
+  → Grows w.store (if b then w.store else appended_store w.store p.number p.body)
+store_grows w p there fits short none true e = same_grows w.store
+store_grows w p (more, found) fits short none false e =
+    let u = with_bytes p.began more in
+    let n : length u.accepted ≡ length p.began.accepted = offset_same p (upload_of w.store p.number) u found none in
+    let some = not_empty p.body e in
+    let unfinished : is_complete u ≡ false = ne_eqb (length u.accepted) u.declared (omega arith) in
+    let now = append_grows_at w.store p.number p.body u found unfinished in
+    subst (λ o. Grows w.store (appended_to w.store p.number p.body o)) (sym found) now
+
+-- the patch is spent
+spend_on : (w : World) (d : ℕ) (p : Patch) → IsThere w p → length p.began.accepted + p.count ≤ p.began.declared → length p.body ≤ p.count
+  → (o : Option UploadRefusal) → commit_refusal w d p ≡ o → Moves w (spent w d p o) (Some d) None
+unfolding commit_refusal
+spend_on w d p there fits short (Some f) e = drop_moves w d
+spend_on w d p there fits short None e =
+    let none = or_else_none (offset_refusal p (upload_of w.store p.number)) (text_refusal w d p) e in
+    let m = committed_store w.store p in
+    let grows : Grows w.store m = store_grows w p there fits short none (is_empty p.body) refl in
+    both_moves w (record w { store = m }) (committed w d p) (Some d) (Some d) None (stored_moves w m (Some d) grows) (drop_moves (record w { store = m }) d)
+
+pub spend_moves : (w : World) (d : ℕ) (p : Patch) → IsThere w p → length p.began.accepted + p.count ≤ p.began.declared → length p.body ≤ p.count
+  → Moves w (spent w d p (commit_refusal w d p)) (Some d) None
+spend_moves w d p there fits short = spend_on w d p there fits short (commit_refusal w d p) refl

@@ -1,0 +1,106 @@
+-- What a request leaves open behind its head: nothing, a text, or a patch.
+use Rattle.std.proofs.Common.{ℕ, ◌+◌, ◌<◌, ◌≤◌, ◌≡◌, ◌==◌, ◌⊎◌, inl, inr, Bool, true, false, List, [], ◌∷◌, ◌++◌, Option, Some, None, length, take, drop, refl, sym, ◌∙◌, ap, subst, arith, if◌then◌else◌, nat_lt}
+use Rattle.std.proofs.lemmas.Bool.{ltb-false, eqb-true}
+use Rattle.tus_request.specs.Requests.{Request, Verdict, Action, Options, Create, Head, Get, Asks, Creation}
+use Rattle.tus_request.specs.Requests.{Patch as Patches}
+use Rattle.upload_rules.specs.Store.{New, Store, Upload, upload_of, find, text_of}
+use Rattle.upload_rules.specs.World.{Patch, World, free_number}
+use Rattle.upload_rules.specs.Calls.{create_refusal, begin_refusal, begin_refusal_at, begun_at, first_patch, refuse_if}
+use Rattle.upload_rules.specs.declared.errors.UploadRefusal.{UploadRefusal}
+use Rattle.upload_rules.specs.declared.errors.UploadRefusal.TheVariants.{NoSuch, Offset, TooLong}
+use Rattle.tus_action.specs.Acts.{Acted, Giving, acted, acted_on, post, new_of, head, get, giving, patch, pending_of, is_pending, piece_size}
+use Rattle.tus_session.specs.Moves.{Moves}
+use Rattle.tus_session.proofs.Moved.{create_moves, free_none}
+use Rattle.tus_session.proofs.Opening.{still}
+
+-- a patch is open
+pub record Opened (w : World) (r : Request) (a : Acted) : Type 0 where
+  pub d : ℕ
+  pub number : ℕ
+  pub offset : ℕ
+  pub up : Upload
+  pub draft_is : a.draft ≡ Some d
+  pub action_is : r.action ≡ Patches number offset
+  pub there : upload_of w.store number ≡ Some up
+  pub world_is : a.world ≡ record w { patches = (d, first_patch number r.length up) ∷ w.patches }
+  pub free : find d w.patches ≡ None
+  pub length_is : length up.accepted ≡ offset
+  pub fits : offset + r.length ≤ up.declared
+  pub idle : a.pending ≡ None
+  pub stays : a.closes ≡ false
+
+pub data Leaves (w : World) (r : Request) (a : Acted) : Type 0 where
+  Nothing : Moves w a.world None None → a.draft ≡ None → a.pending ≡ None → Leaves w r a
+  Text : (h : Giving) → a.world ≡ w → a.draft ≡ None → a.pending ≡ Some h → a.closes ≡ false → Leaves w r a
+  Patching : Opened w r a → Leaves w r a
+
+posted : (w : World) (r : Request) (new : New) (o : Option UploadRefusal) → Leaves w r (post w r new o)
+posted w r new None = Nothing (create_moves w new None) refl refl
+posted w r new (Some f) = Nothing (still w None) refl refl
+
+shown : (w : World) (r : Request) (o : Option Upload) → Leaves w r (head w r o)
+shown w r None = Nothing (still w None) refl refl
+shown w r (Some u) = Nothing (still w None) refl refl
+
+given : (w : World) (r : Request) (number : ℕ) (u : Upload) (text left : List ℕ) → Leaves w r (giving w r number u text left)
+given w r number u text [] = Nothing (still w None) refl refl
+given w r number u text (b ∷ left) = Text (record { number = number; left = b ∷ left; closes = r.closes }) refl refl refl refl
+
+got : (w : World) (r : Request) (number : ℕ) (o : Option Upload) → Leaves w r (get w r number o)
+got w r number None = Nothing (still w None) refl refl
+got w r number (Some u) = given w r number u (text_of w.store.indexes u) (if r.bare then [] else drop piece_size (text_of w.store.indexes u))
+
+-- a patch that isn't refused
+pub record Begins (offset count : ℕ) (o : Option Upload) : Type 0 where
+  pub up : Upload
+  pub there : o ≡ Some up
+  pub length_is : length up.accepted ≡ offset
+  pub fits : offset + count ≤ up.declared
+
+fits_case : (b : Bool) → refuse_if b TooLong ≡ None → b ≡ false
+fits_case true e = absurd (cc)
+fits_case false e = refl
+
+begins_case : (offset count : ℕ) (u : Upload) (b : Bool) → (length u.accepted == offset) ≡ b
+  → (if b then refuse_if (nat_lt u.declared (offset + count)) TooLong else Some Offset) ≡ None → Begins offset count (Some u)
+begins_case offset count u true same e = record {
+  up = u;
+  there = refl;
+  length_is = eqb-true (length u.accepted) offset same;
+  fits = ltb-false u.declared (offset + count) (fits_case (nat_lt u.declared (offset + count)) e);
+}
+begins_case offset count u false same e = absurd (cc)
+
+begins : (offset count : ℕ) (o : Option Upload) → begin_refusal_at offset count o ≡ None → Begins offset count o
+begins offset count None e = absurd (cc)
+begins offset count (Some u) e = begins_case offset count u (length u.accepted == offset) refl e
+
+patched : (w : World) (r : Request) (number offset : ℕ) → r.action ≡ Patches number offset → (o : Option UploadRefusal) → begin_refusal w number offset r.length ≡ o → Leaves w r (patch w r number o)
+patched w r number offset action (Some f) e = Nothing (still w None) refl refl
+patched w r number offset action None e =
+    let b = begins offset r.length (upload_of w.store number) e in
+    Patching (record {
+      d = free_number w;
+      number = number;
+      offset = offset;
+      up = b.up;
+      draft_is = refl;
+      action_is = action;
+      there = b.there;
+      world_is = ap (begun_at w number r.length) b.there;
+      free = free_none w;
+      length_is = b.length_is;
+      fits = b.fits;
+      idle = refl;
+      stays = refl;
+    })
+
+leaves_on : (w : World) (r : Request) (x : Action) → r.action ≡ x → Leaves w r (acted_on w r x)
+leaves_on w r Options e = Nothing (still w None) refl refl
+leaves_on w r (Create c) e = posted w r (new_of c) (create_refusal w (new_of c))
+leaves_on w r (Head n) e = shown w r (upload_of w.store n)
+leaves_on w r (Get n) e = got w r n (upload_of w.store n)
+leaves_on w r (Patches n offset) e = patched w r n offset e (begin_refusal w n offset r.length) refl
+
+pub leaves : (w : World) (r : Request) → Leaves w r (acted w (Asks r))
+leaves w r = leaves_on w r r.action refl

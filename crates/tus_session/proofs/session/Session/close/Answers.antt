@@ -1,0 +1,48 @@
+use Rattle.std.proofs.Common.{◌≡◌, ◌≤◌, length, take, arith, refl, sym, ◌∙◌, ap, subst}
+use Rattle.std.proofs.lemmas.List.{take_all}
+use Rattle.tus_session.proofs.Closes.{begins_closing, popped, after_closed, after_open, all_closed, IsClosing}
+use Rattle.tus_session.proofs.session.Session.close.Goals as goal
+
+pub loop-place-init : goal.loop-place-init
+loop-place-init g c = record {
+  kept = λ st stands. (st.world, begins_closing g.U.Uploads c.args.self.places.items c.args.store.now st stands);
+  front = sym (take_all (length c.args.self.places.items) c.args.self.places.items (omega arith));
+  below = omega arith;
+  counts = refl;
+  crash = record { later = omega arith; keeps = λ t ms le left. left };
+}
+
+pub loop-place-preserved-in-Closed : goal.loop-place-preserved-in-Closed
+loop-place-preserved-in-Closed g c =
+    let inv = c.loop-place.invariant in
+    let is = popped c.args.self.places.items c.loop-place.places.items c.pop.new.self.items c.in-Some.place inv.front c.in-Some.ensures.items in
+    record {
+      kept = λ st stands.
+          let v = inv.kept st stands in
+          after_closed g.U.Uploads c.args.self.places.items c.loop-place.places.items c.pop.new.self.items c.args.store.now st stands c.loop-place.store v.0 c.in-Some.place c.in-Closed.is is v.1;
+      front = is.front;
+      below = omega (arith, inv.below, is.count);
+      counts = inv.counts;
+      crash = inv.crash;
+    }
+
+pub loop-place-preserved : goal.loop-place-preserved
+loop-place-preserved g c =
+    let inv = c.loop-place.invariant in
+    let is = popped c.args.self.places.items c.loop-place.places.items c.pop.new.self.items c.in-Some.place inv.front c.in-Some.ensures.items in
+    record {
+      kept = λ st stands.
+          let v = inv.kept st stands in
+          after_open g.U.Uploads c.args.self.places.items c.loop-place.places.items c.pop.new.self.items c.args.store.now st stands c.loop-place.store c.drop_link.new.store v.0 c.in-Some.place c.in-Open.link
+          c.in-Open.is is v.1 (c.drop_link.ensures.kept v.0 v.1.shown);
+      front = is.front;
+      below = omega (arith, inv.below, is.count);
+      counts = c.drop_link.ensures.counts ∙ inv.counts;
+      crash = record {
+        later = omega (arith, inv.crash.later, c.drop_link.ensures.crash.later);
+        keeps = λ t ms le left. c.drop_link.ensures.crash.keeps t ms (omega (arith, inv.crash.later)) (inv.crash.keeps t ms le left);
+      };
+    }
+
+pub returns-clause-kept : goal.returns-clause-kept
+returns-clause-kept g c st stands = ?

@@ -1,0 +1,19 @@
+use Rattle.std.proofs.Common.{◌≡◌, ◌≤◌, ℕ, length, take}
+use Rattle.upload_rules.specs.World.{World}
+use Rattle.upload_rules.specs.Answers.{Quiet}
+use Rattle.tus_session.specs.History.{State}
+use Rattle.tus_session.specs.Stands.{SessionStands}
+use Rattle.tus_session.proofs.Closes.{IsClosing}
+use Rattle.tus_session.proofs.session.Session.close.Given as goal
+
+abbrev pub invariant-loop-place : goal.invariant-loop-place
+invariant-loop-place g l = record {
+  kept : (st : State) → SessionStands g.U.Uploads l.fn.self.places.items l.fn.store st → (v : World) × IsClosing g.U.Uploads st (length l.places.items) l.store v;
+  front : l.places.items ≡ take (length l.places.items) l.fn.self.places.items;
+  below : length l.places.items ≤ length l.fn.self.places.items;
+  counts : g.U.Uploads.failures l.store ≡ g.U.Uploads.failures l.fn.store;
+  crash : Quiet (g.U.Uploads.moment l.fn.store) (g.U.Uploads.moment l.store) (g.U.Uploads.left_only l.fn.store) (g.U.Uploads.left_only l.store);
+}
+
+abbrev pub decreases-loop-place : goal.decreases-loop-place
+decreases-loop-place g l = length l.places.items

@@ -1,0 +1,39 @@
+-- A head that is whole.
+use Rattle.std.specs.Prelude.{◌≡◌, ◌-◌, ◌+◌, ◌<◌, ◌^◌, ℕ, List, ◌++◌, length, Option, None}
+use Rattle.upload_rules.specs.World.{World}
+use Rattle.tus_request.specs.Requests.{Request, Action, Options, Create, Head, Get, Patch, Verdict}
+use Rattle.tus_request.specs.Answers.{Answer, More, Judged}
+use Rattle.tus_session.specs.Streams.{InHead, cut}
+use Rattle.tus_session.specs.Turns.{Conn, reader}
+
+-- the connection's bytes are an unfinished head, and nothing is open
+pub record InsideHead (w : World) (conn : Conn) (h : List ℕ) : Type 0 where
+  pub rest : (cut (reader w) conn.stream).rest ≡ InHead h
+  pub draft : conn.draft ≡ None
+  pub pending : conn.pending ≡ None
+
+-- the bytes make it whole: it has n bytes, and comes to this
+pub record IsWhole (w : World) (conn : Conn) (h bytes : List ℕ) (n before : ℕ) (v : Verdict) : Type 0 where
+  pub inside : InsideHead w conn h
+  pub judged : reader w (h ++ bytes) ≡ Judged n v
+  pub before_is : before ≡ n - length h
+
+-- the numbers of a PATCH are small
+abbrev pub OffsetFits : Action → Type 0
+OffsetFits Options = Unit {0}
+OffsetFits (Create c) = Unit {0}
+OffsetFits (Head number) = Unit {0}
+OffsetFits (Get number) = Unit {0}
+OffsetFits (Patch number offset) = offset < 10 ^ 18
+
+pub record IsSmall (r : Request) : Type 0 where
+  pub count : r.length < 10 ^ 18
+  pub offset : OffsetFits r.action
+
+-- the offset behind the body
+abbrev pub ReachedIs : Action → ℕ → ℕ → Type 0
+ReachedIs Options count reached = Unit {0}
+ReachedIs (Create c) count reached = Unit {0}
+ReachedIs (Head number) count reached = Unit {0}
+ReachedIs (Get number) count reached = Unit {0}
+ReachedIs (Patch number offset) count reached = reached ≡ offset + count

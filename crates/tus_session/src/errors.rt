@@ -1,0 +1,14 @@
+//! Why a call of a session gives no answer.
+
+/// Why a call of a session gives no answer.
+#[derive(Clone, Copy, Debug, PartialEq, Eq, Drop)]
+pub enum SessionError {
+    /// A growth was refused: nothing was committed, and the connection is closed.
+    NoMemory,
+    /// The device failed: the store must be opened again.
+    DiskFault,
+    /// The connection's number isn't below 16, or it is open.
+    TooMany,
+    /// The connection isn't open.
+    Closed,
+}

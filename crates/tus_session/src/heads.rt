@@ -1,0 +1,198 @@
+// What came on a connection: the bytes of a head, or of a body.
+ghost use Rattle.std.specs.Prelude.{◌≡◌, ◌+◌, ◌<◌, ◌≤◌, ◌^◌, ℕ, List, [], length, Some, IsErrOf};
+ghost use Rattle.tus_request.specs.Requests.{Asks};
+ghost use Rattle.upload_rules.specs.World.{World};
+ghost use Rattle.upload_rules.specs.Answers.{Limits, Counts};
+ghost use Rattle.tus_request.specs.Shown.{request_shown};
+ghost use Rattle.tus_action.specs.Serves.{CanBeMade};
+ghost use Rattle.tus_session.specs.Turns.{Conn, came_turn};
+ghost use Rattle.tus_session.specs.Stands.{LinkIs};
+ghost use Rattle.tus_session.specs.Turned.{Turned};
+ghost use Rattle.tus_session.specs.Heads.{InsideHead, IsWhole, IsSmall, ReachedIs};
+
+use crate::bodies::{body_of, skip};
+use crate::conns::{Link, Patching, Place, Task};
+use crate::turns::unmoved;
+use crate::{Answer, SessionError};
+use std::alloc::Global;
+use tus_action::{Acted, Stop, act};
+use tus_request::replies::reply_refused;
+use tus_request::{Action, Parsed, Request, parse};
+use upload_rules::Uploads;
+
+// The offset behind the body that a PATCH asks for.
+fn reached_by(request: &Request) -> u64
+    ensures { IsSmall (request_shown request.now) → ReachedIs (request_shown request.now).action request.now.length result }
+{
+    match request.action {
+        Action::Patch { offset, .. } => offset.saturating_add(request.length),
+        _ => 0,
+    }
+}
+
+// A request whose head is whole: what it asks for is done, and then what came of its body is taken.
+fn request_of<U: Uploads>(
+    alloc: Global,
+    store: &mut U,
+    head: Vec<u8>,
+    request: Request,
+    before: usize,
+    bytes: &[u8],
+    out: &mut Vec<u8>,
+) -> (Place<U::Draft>, Result<Answer, SessionError>)
+    requires usable { (w : World) → U.stands store.old w → CanBeMade w (request_shown request).action }
+    requires small { IsSmall (request_shown request) }
+    requires within { before ≤ length bytes.now }
+    requires cleared { head.items ≡ [] }
+    ensures answer { (w : World) (conn : Conn) (h : List ℕ) (n : ℕ) → U.stands store.old w → IsWhole w conn h bytes.now n before (Asks (request_shown request))
+        → Turned U.Uploads store.new result.0 result.1 out.old.items out.new.items w conn.draft (came_turn w conn bytes.now) }
+    ensures crash { (w : World) (conn : Conn) (h : List ℕ) (n : ℕ) → U.stands store.old w → IsWhole w conn h bytes.now n before (Asks (request_shown request))
+        → Limits (U.moment store.old) (U.moment store.new) (U.left_only store.old) (U.left_only store.new) w.store (came_turn w conn bytes.now).world.store }
+    ensures counts { Counts (IsErrOf result.1 SessionError.DiskFault) (U.failures store.old) (U.failures store.new) }
+{
+    let length = request.length;
+    let bare = request.bare;
+    let closes = request.closes;
+    let reached = reached_by(&request);
+    let behind = &bytes[before..];
+    let start = out.len();
+    let acted = match act(alloc, store, request, out) {
+        Ok(acted) => acted,
+        Err(Stop::NoMemory) => return (Place::Closed, Err(SessionError::NoMemory)),
+        Err(Stop::DiskFault) => return (Place::Closed, Err(SessionError::DiskFault)),
+    };
+    let Acted {
+        draft,
+        giving,
+        closes: over,
+    } = acted;
+    match draft {
+        Some(draft) => {
+            let patch = Patching {
+                draft,
+                reached,
+                bare,
+                closes,
+            };
+            let (place, answer) = body_of(alloc, store, head, patch, length, before, behind, out);
+            if answer.is_err() {
+                out.truncate(start);
+            }
+            (place, answer)
+        }
+        None => match giving {
+            Some(giving) => (
+                Place::Open(Link {
+                    head,
+                    left: length,
+                    task: Task::Text(giving),
+                }),
+                Ok(Answer {
+                    taken: before,
+                    closes: false,
+                    more: true,
+                }),
+            ),
+            None => {
+                let (place, answer) = skip(head, length, before, behind.len(), over);
+                (place, Ok(answer))
+            }
+        },
+    }
+}
+
+// Bytes of a head came.
+fn head_of<U: Uploads>(
+    alloc: Global,
+    store: &mut U,
+    head: Vec<u8>,
+    bytes: &[u8],
+    out: &mut Vec<u8>,
+) -> (Place<U::Draft>, Result<Answer, SessionError>)
+    ensures answer { (w : World) (conn : Conn) → U.stands store.old w → InsideHead w conn head.items
+        → Turned U.Uploads store.new result.0 result.1 out.old.items out.new.items w conn.draft (came_turn w conn bytes.now) }
+    ensures crash { (w : World) (conn : Conn) → U.stands store.old w → InsideHead w conn head.items
+        → Limits (U.moment store.old) (U.moment store.new) (U.left_only store.old) (U.left_only store.new) w.store (came_turn w conn bytes.now).world.store }
+    ensures counts { Counts (IsErrOf result.1 SessionError.DiskFault) (U.failures store.old) (U.failures store.new) }
+{
+    let mut head = head;
+    let had = head.len();
+    let Ok(()) = head.extend_from_slice(bytes) else {
+        return (Place::Closed, Err(SessionError::NoMemory));
+    };
+    let Ok(parsed) = parse(alloc, &head, store.indexes()) else {
+        return (Place::Closed, Err(SessionError::NoMemory));
+    };
+    match parsed {
+        Parsed::More => {
+            let link = Link {
+                head,
+                left: 0,
+                task: Task::Idle,
+            };
+            let answer = Answer {
+                taken: bytes.len(),
+                closes: false,
+                more: false,
+            };
+            (Place::Open(link), Ok(answer))
+        }
+        Parsed::Refused {
+            taken,
+            length,
+            fault,
+            on_files,
+            bare,
+            closes,
+        } => {
+            let before = taken.saturating_sub(had);
+            let behind = &bytes[before..];
+            head.clear();
+            match reply_refused(alloc, fault, on_files, bare, closes, out) {
+                Ok(()) => {
+                    let (place, answer) = skip(head, length, before, behind.len(), closes);
+                    (place, Ok(answer))
+                }
+                Err(_) => (Place::Closed, Err(SessionError::NoMemory)),
+            }
+        }
+        Parsed::Head { taken, request } => {
+            let before = taken.saturating_sub(had);
+            head.clear();
+            request_of(alloc, store, head, request, before, bytes, out)
+        }
+    }
+}
+
+// Bytes came on an open connection.
+pub(crate) fn came_of<U: Uploads>(
+    alloc: Global,
+    store: &mut U,
+    link: Link<U::Draft>,
+    bytes: &[u8],
+    out: &mut Vec<u8>,
+) -> (Place<U::Draft>, Result<Answer, SessionError>)
+    ensures answer { (w : World) (conn : Conn) → U.stands store.old w → LinkIs U.Uploads w link.head.items link.left link.task conn
+        → Turned U.Uploads store.new result.0 result.1 out.old.items out.new.items w conn.draft (came_turn w conn bytes.now) }
+    ensures crash { (w : World) (conn : Conn) → U.stands store.old w → LinkIs U.Uploads w link.head.items link.left link.task conn
+        → Limits (U.moment store.old) (U.moment store.new) (U.left_only store.old) (U.left_only store.new) w.store (came_turn w conn bytes.now).world.store }
+    ensures counts { Counts (IsErrOf result.1 SessionError.DiskFault) (U.failures store.old) (U.failures store.new) }
+{
+    let Link { head, left, task } = link;
+    match task {
+        Task::Text(giving) => {
+            let link = Link {
+                head,
+                left,
+                task: Task::Text(giving),
+            };
+            unmoved(link, true)
+        }
+        Task::Patch(patch) => body_of(alloc, store, head, patch, left, 0, bytes, out),
+        Task::Idle if left > 0 => {
+            let (place, answer) = skip(head, left, 0, bytes.len(), false);
+            (place, Ok(answer))
+        }
+        Task::Idle => head_of(alloc, store, head, bytes, out),
+    }
+}

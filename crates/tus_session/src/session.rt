@@ -1,0 +1,165 @@
+//! Up to 16 connections over any store of uploads.
+ghost use Rattle.std.specs.Prelude.{◌≡◌, ℕ, Option, IfOk, IsErrOf};
+ghost use Rattle.tus_session.specs.History.{State, Opened, Came, More, Ended, Served, step, beginning};
+ghost use Rattle.tus_session.specs.Places.{places_of};
+ghost use Rattle.tus_session.specs.Stands.{SessionStands};
+ghost use Rattle.tus_session.specs.Told.{Opens, Told, Ends};
+ghost use Rattle.upload_rules.specs.Store.{Store};
+ghost use Rattle.upload_rules.specs.World.{at_rest};
+ghost use Rattle.upload_rules.specs.Answers.{Limits, Quiet, Counts};
+
+use crate::heads::came_of;
+use crate::turns::{drop_link, end_of, more_of};
+use crate::{Answer, SessionError};
+use crate::conns::{Link, Place, Task};
+use std::alloc::{AllocError, Global};
+use std::mem;
+use upload_rules::Uploads;
+
+/// Up to 16 connections: of each an unfinished head, or how many bytes of a body are to come, and what its last head left open.
+pub struct Session<U: Uploads> {
+    alloc: Global,
+    places: Vec<Place<U::Draft>>,
+}
+
+impl<U: Uploads> Session<U> {
+    /// No connection is open.
+    pub fn new(alloc: Global) -> Result<Self, AllocError>
+        ensures { (store : U) (m : Store) (blocks : Option ℕ) → U.stands store (at_rest m blocks)
+            → IfOk result (λ s. SessionStands U.Uploads (places_of s) store (beginning m blocks)) }
+    {
+        let mut places = Vec::with_capacity(alloc, 16)?;
+        for _ in 0..16usize {
+            match places.push(Place::Closed) {
+                Ok(()) => {}
+                Err(_full) => unreachable!(),
+            }
+        }
+        Ok(Session { alloc, places })
+    }
+
+    /// Opens a connection. It needs no memory.
+    pub fn opened(&mut self, conn: usize) -> Result<(), SessionError>
+        ensures { (store : U) (st : State) → SessionStands U.Uploads (places_of self.old) store st
+            → Opens U.Uploads (places_of self.new) store result st (Opened conn) }
+    {
+        if conn >= self.places.len() {
+            return Err(SessionError::TooMany);
+        }
+        let Place::Closed = &self.places[conn] else {
+            return Err(SessionError::TooMany);
+        };
+        let link = Link {
+            head: Vec::new(self.alloc),
+            left: 0,
+            task: Task::Idle,
+        };
+        put_back(&mut self.places[conn], Place::Open(link));
+        Ok(())
+    }
+
+    /// Bytes came: those of at most one request are taken, and what they bring is appended to `out`. At most one change is made.
+    ///
+    /// A call takes up to the end of the request under way, or all bytes where that end isn't among them. While a text is still to be given it
+    /// takes none, and a request that leaves a text to be given is taken up to the end of its head.
+    /// Each call looks for the end of an unfinished head once, in the at most 8,192 bytes of it that are kept.
+    ///
+    /// Refused with `Closed` where the connection isn't open, and then with `NoMemory`, which closes the connection, or `DiskFault`.
+    pub fn came(
+        &mut self,
+        store: &mut U,
+        conn: usize,
+        bytes: &[u8],
+        out: &mut Vec<u8>,
+    ) -> Result<Answer, SessionError>
+        ensures answer { (st : State) → SessionStands U.Uploads (places_of self.old) store.old st
+            → Told U.Uploads (places_of self.new) store.new result out.old.items out.new.items st (Came conn bytes.now) }
+        ensures crash { (st : State) → SessionStands U.Uploads (places_of self.old) store.old st
+            → Limits (U.moment store.old) (U.moment store.new) (U.left_only store.old) (U.left_only store.new) st.world.store
+                (step st (Came conn bytes.now) Served).state.world.store }
+        ensures counts { Counts (IsErrOf result SessionError.DiskFault) (U.failures store.old) (U.failures store.new) }
+    {
+        if conn >= self.places.len() {
+            return Err(SessionError::Closed);
+        }
+        let (next, answer) = match mem::replace(&mut self.places[conn], Place::Closed) {
+            Place::Closed => return Err(SessionError::Closed),
+            Place::Open(link) => came_of(self.alloc, store, link, bytes, out),
+        };
+        put_back(&mut self.places[conn], next);
+        answer
+    }
+
+    /// Gives the next piece of a text that is still to be given: 65,536 bytes, or all that are left where they are fewer, appended to `out`.
+    /// With none left it gives nothing.
+    ///
+    /// Refused with `Closed` where the connection isn't open, and then with `NoMemory`, which closes the connection, or `DiskFault`.
+    pub fn more(
+        &mut self,
+        store: &mut U,
+        conn: usize,
+        out: &mut Vec<u8>,
+    ) -> Result<Answer, SessionError>
+        ensures answer { (st : State) → SessionStands U.Uploads (places_of self.old) store.old st
+            → Told U.Uploads (places_of self.new) store.new result out.old.items out.new.items st (More conn) }
+        ensures crash { Quiet (U.moment store.old) (U.moment store.new) (U.left_only store.old) (U.left_only store.new) }
+        ensures counts { Counts (IsErrOf result SessionError.DiskFault) (U.failures store.old) (U.failures store.new) }
+    {
+        if conn >= self.places.len() {
+            return Err(SessionError::Closed);
+        }
+        let (next, answer) = match mem::replace(&mut self.places[conn], Place::Closed) {
+            Place::Closed => return Err(SessionError::Closed),
+            Place::Open(link) => more_of(self.alloc, store, link, out),
+        };
+        put_back(&mut self.places[conn], next);
+        answer
+    }
+
+    /// The connection ended. What came of a PATCH body is committed, without a reply.
+    ///
+    /// Refused with `Closed` where the connection isn't open, and then with `NoMemory` or `DiskFault`. It is closed in every case.
+    pub fn ended(&mut self, store: &mut U, conn: usize) -> Result<(), SessionError>
+        ensures answer { (st : State) → SessionStands U.Uploads (places_of self.old) store.old st
+            → Ends U.Uploads (places_of self.new) store.new result st (Ended conn) }
+        ensures crash { (st : State) → SessionStands U.Uploads (places_of self.old) store.old st
+            → Limits (U.moment store.old) (U.moment store.new) (U.left_only store.old) (U.left_only store.new) st.world.store
+                (step st (Ended conn) Served).state.world.store }
+        ensures counts { Counts (IsErrOf result SessionError.DiskFault) (U.failures store.old) (U.failures store.new) }
+    {
+        if conn >= self.places.len() {
+            return Err(SessionError::Closed);
+        }
+        match mem::replace(&mut self.places[conn], Place::Closed) {
+            Place::Closed => Err(SessionError::Closed),
+            Place::Open(link) => end_of(store, link),
+        }
+    }
+
+    /// Ends the session: the drafts that are open are dropped.
+    pub fn close(self, store: &mut U)
+        ensures kept { (st : State) → SessionStands U.Uploads (places_of self) store.old st → U.stands store.new (at_rest st.world.store st.world.blocks) }
+        ensures crash { Quiet (U.moment store.old) (U.moment store.new) (U.left_only store.old) (U.left_only store.new) }
+        ensures counts { U.failures store.new ≡ U.failures store.old }
+    {
+        let Session { alloc: _, mut places } = self;
+        while let Some(place) = places.pop() {
+            match place {
+                Place::Closed => {}
+                Place::Open(link) => drop_link(store, link),
+            }
+        }
+        places.destroy_empty();
+    }
+}
+
+// Puts a connection in the place of a closed one.
+fn put_back<B>(slot: &mut Place<B>, next: Place<B>)
+    requires { slot.old ≡ Place.Closed }
+    ensures { slot.new ≡ next }
+{
+    match mem::replace(slot, next) {
+        Place::Closed => {}
+        Place::Open(_link) => unreachable!(),
+    }
+}

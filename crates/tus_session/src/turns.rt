@@ -1,0 +1,138 @@
+// A turn of one connection: the next piece of a text, and the connection's end.
+ghost use Rattle.std.specs.Prelude.{◌≡◌, false, IsErrOf, if◌then◌else◌, Ok};
+ghost use Rattle.upload_rules.specs.World.{World};
+ghost use Rattle.upload_rules.specs.Answers.{Limits, Quiet, Counts};
+ghost use Rattle.tus_session.specs.Turns.{Conn, more_turn, ended_world};
+ghost use Rattle.tus_session.specs.Stands.{LinkIs, dropped_by};
+ghost use Rattle.tus_session.specs.Turned.{Turned, Ended};
+
+use crate::conns::{Link, Patching, Place, Task};
+use crate::{Answer, SessionError};
+use tus_action::{Stop, cut_body, give_more};
+use std::alloc::Global;
+use upload_rules::Uploads;
+
+// Nothing was given: the connection is as it was.
+pub(crate) fn unmoved<B>(link: Link<B>, more: bool) -> (Place<B>, Result<Answer, SessionError>)
+    ensures place { result.0 ≡ Place.Open link }
+    ensures answer { result.1 ≡ Ok (record { taken = 0; closes = false; more = more }) }
+{
+    let answer = Answer {
+        taken: 0,
+        closes: false,
+        more,
+    };
+    (Place::Open(link), Ok(answer))
+}
+
+// The next piece of the text that is still to be given, if there is one.
+pub(crate) fn more_of<U: Uploads>(
+    alloc: Global,
+    store: &mut U,
+    link: Link<U::Draft>,
+    out: &mut Vec<u8>,
+) -> (Place<U::Draft>, Result<Answer, SessionError>)
+    ensures answer { (w : World) (conn : Conn) → U.stands store.old w → LinkIs U.Uploads w link.head.items link.left link.task conn
+        → Turned U.Uploads store.new result.0 result.1 out.old.items out.new.items w conn.draft (more_turn w conn) }
+    ensures crash { Quiet (U.moment store.old) (U.moment store.new) (U.left_only store.old) (U.left_only store.new) }
+    ensures counts { Counts (IsErrOf result.1 SessionError.DiskFault) (U.failures store.old) (U.failures store.new) }
+{
+    let Link { head, left, task } = link;
+    let giving = match task {
+        Task::Text(giving) => giving,
+        task => return unmoved(Link { head, left, task }, false),
+    };
+    match give_more(alloc, store, giving, out) {
+        Ok(Some(rest)) => {
+            let answer = Answer {
+                taken: 0,
+                closes: false,
+                more: true,
+            };
+            let link = Link {
+                head,
+                left,
+                task: Task::Text(rest),
+            };
+            (Place::Open(link), Ok(answer))
+        }
+        Ok(None) => {
+            let answer = Answer {
+                taken: 0,
+                closes: giving.closes,
+                more: false,
+            };
+            (place_of(head, left, giving.closes), Ok(answer))
+        }
+        Err(Stop::NoMemory) => (Place::Closed, Err(SessionError::NoMemory)),
+        Err(Stop::DiskFault) => (Place::Closed, Err(SessionError::DiskFault)),
+    }
+}
+
+// The connection ended: what came of an open patch is committed.
+pub(crate) fn end_of<U: Uploads>(
+    store: &mut U,
+    link: Link<U::Draft>,
+) -> Result<(), SessionError>
+    ensures answer { (w : World) (conn : Conn) → U.stands store.old w → LinkIs U.Uploads w link.head.items link.left link.task conn
+        → Ended U.Uploads store.new result w conn.draft (ended_world w conn) }
+    ensures crash { (w : World) (conn : Conn) → U.stands store.old w → LinkIs U.Uploads w link.head.items link.left link.task conn
+        → Limits (U.moment store.old) (U.moment store.new) (U.left_only store.old) (U.left_only store.new) w.store (ended_world w conn).store }
+    ensures counts { Counts (IsErrOf result SessionError.DiskFault) (U.failures store.old) (U.failures store.new) }
+{
+    let Link {
+        head: _,
+        left: _,
+        task,
+    } = link;
+    match task {
+        Task::Idle | Task::Text(_) => Ok(()),
+        Task::Patch(Patching {
+            draft,
+            reached: _,
+            bare: _,
+            closes: _,
+        }) => match cut_body(store, draft) {
+            Ok(()) => Ok(()),
+            Err(Stop::NoMemory) => Err(SessionError::NoMemory),
+            Err(Stop::DiskFault) => Err(SessionError::DiskFault),
+        },
+    }
+}
+
+// The session ends: an open patch is dropped.
+pub(crate) fn drop_link<U: Uploads>(store: &mut U, link: Link<U::Draft>)
+    ensures kept { (w : World) → U.stands store.old w → U.stands store.new (dropped_by U.Uploads w link.task) }
+    ensures crash { Quiet (U.moment store.old) (U.moment store.new) (U.left_only store.old) (U.left_only store.new) }
+    ensures counts { U.failures store.new ≡ U.failures store.old }
+{
+    let Link {
+        head: _,
+        left: _,
+        task,
+    } = link;
+    match task {
+        Task::Idle | Task::Text(_) => {}
+        Task::Patch(Patching {
+            draft,
+            reached: _,
+            bare: _,
+            closes: _,
+        }) => store.drop_open(draft),
+    }
+}
+
+// A connection with nothing open, behind a call that may close it.
+pub(crate) fn place_of<B>(head: Vec<u8>, left: u64, closes: bool) -> Place<B>
+    ensures { result ≡ (if closes then Place.Closed else Place.Open (record { head = head; left = left; task = Task.Idle })) }
+{
+    if closes {
+        Place::Closed
+    } else {
+        Place::Open(Link {
+            head,
+            left,
+            task: Task::Idle,
+        })
+    }
+}

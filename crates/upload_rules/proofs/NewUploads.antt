@@ -1,0 +1,73 @@
+-- An upload without bytes: its text is empty, complete or not.
+use Rattle.std.proofs.Common.{◌≡◌, Bool, true, false, [], None, refl, sym, ◌∙◌, ap, subst}
+use Rattle.enc_model.specs.declared.Encoding.{Encoding}
+use Rattle.enc_model.specs.declared.Encoding.TheVariants as encodings
+use Rattle.enc_model.specs.declared.Mode.{Mode}
+use Rattle.enc_model.specs.Indexes.{IndexSet, tables}
+use Rattle.enc_model.specs.Encode.{Tables, InAscii, Encoder, coded, coded_within, encoder, ended_coded}
+use Rattle.enc_model.specs.Index.{Index}
+use Rattle.enc_model.specs.Stream.{steps, steps_within}
+use Rattle.enc_model.specs.Utf8.{utf8}
+use Rattle.enc_model.specs.Utf16.{utf16}
+use Rattle.enc_model.specs.Japanese.{SingleState, single, shift_jis, euc_jp, iso2022}
+use Rattle.enc_model.specs.Decode.{decoding, decoding_start, decoded, decoded_text, decode, text}
+use Rattle.enc_model.specs.Transcode.{Before, IsAt, phase_of}
+use Rattle.enc_model.proofs.Pieces.{decoded_none}
+use Rattle.enc_stream.specs.Standing.{Standing, start}
+use Rattle.upload_rules.specs.Texts.{IsReading}
+use Rattle.upload_rules.specs.Store.{New, new_upload, text_of, is_complete}
+use Rattle.upload_rules.proofs.TextGrows.{text_open, text_done}
+
+single_ended : (index : Index) → (steps (single index) true SingleState []).text ≡ []
+unfolding steps steps_within single
+single_ended index = refl
+
+-- the end of nothing decodes to nothing
+nothing_ended : (t : Tables) (e : Encoding) → (decoding t true (decoding_start e) []).text ≡ []
+unfolding decoding steps steps_within utf8 utf16 shift_jis euc_jp iso2022
+nothing_ended t encodings.Utf8 = refl
+nothing_ended t encodings.Utf16Be = refl
+nothing_ended t encodings.Utf16Le = refl
+nothing_ended t encodings.ShiftJis = refl
+nothing_ended t encodings.EucJp = refl
+nothing_ended t encodings.Iso2022Jp = refl
+nothing_ended t e = single_ended (t.single e)
+
+decode_nothing : (t : Tables) (e : Encoding) (done : Bool) → decode t e [] done ≡ []
+unfolding decode decoded
+decode_nothing t e false = refl
+decode_nothing t e true = nothing_ended t e
+
+nothing_coded : (f : Encoder) (mode : Mode) → coded f mode InAscii [] ≡ record { bytes = []; state = InAscii; fault = None }
+unfolding coded coded_within
+nothing_coded f mode = refl
+
+-- the text of no bytes, complete or not
+text_of_nothing : (t : Tables) (from to : Encoding) (mode : Mode) (done : Bool) → text t from to mode [] done ≡ record { bytes = []; state = InAscii; fault = None }
+text_of_nothing t from to mode false =
+    text_open t from to mode [] ∙ ap (coded (encoder t to) mode InAscii) (decode_nothing t from false) ∙ nothing_coded (encoder t to) mode
+text_of_nothing t from to mode true =
+    text_done t from to mode [] ∙ ap (λ z. ended_coded (coded (encoder t to) mode InAscii z)) (decode_nothing t from true) ∙ ap ended_coded (nothing_coded (encoder t to) mode)
+
+pub new_text : (x : IndexSet) (new : New) → text_of x (new_upload new) ≡ []
+unfolding text_of
+new_text x new = ap (λ r. r.bytes) (text_of_nothing (tables x) new.from new.to new.mode (is_complete (new_upload new)))
+
+-- a transcoder that saw no byte
+starts : (t : Tables) (from to : Encoding) (mode : Mode) → IsAt t (record { from = from; to = to; mode = mode; phase = Before []; shift = InAscii }) []
+starts t from to mode =
+    let d = decoded_none t from in
+    let so_far : coded (encoder t to) mode InAscii (decoded_text (decoded t from [] false)) ≡ record { bytes = []; state = InAscii; fault = None } =
+    ap (λ z. coded (encoder t to) mode InAscii (decoded_text z)) d ∙ nothing_coded (encoder t to) mode in
+    record {
+      phase = sym (ap phase_of d);
+      fault = ap (λ r. r.fault) so_far;
+      shift = sym (ap (λ r. r.state) so_far);
+    }
+
+pub new_reading : (x : IndexSet) (new : New) (t : Standing)
+    → t ≡ start new.from new.to new.mode
+    → IsReading x (new_upload new) [] t
+new_reading x new t is =
+    subst (IsReading x (new_upload new) []) (sym is)
+    (record { unspent = refl; from = refl; to = refl; mode = refl; at = starts (tables x) new.from new.to new.mode })

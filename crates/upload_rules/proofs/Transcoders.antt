@@ -1,0 +1,122 @@
+-- A transcoder that stands at an upload's bytes, one piece further and at the end.
+use Rattle.std.proofs.Common.{◌≡◌, ℕ, Bool, true, false, List, [], ◌++◌, Option, Some, None, refl, sym, ◌∙◌, ap, subst, append_assoc, append-nil, Vec, Global}
+use Rattle.enc_model.specs.Indexes.{IndexSet, tables}
+use Rattle.enc_model.specs.Encode.{Tables, InAscii, Coded, behind, coded, encoder, ended_coded}
+use Rattle.enc_model.specs.Decode.{decoded, decoded_text, decode, text}
+use Rattle.enc_model.specs.Transcode.{fed_end, Transcoder, IsAt, stepped, added, added_end, so_far}
+use Rattle.enc_model.proofs.Steady.{encoder_steady}
+use Rattle.enc_model.proofs.Transcoding.{coded_both, text_added, fault_added, at_next}
+use Rattle.enc_stream.specs.Standing.{Standing, stepped_on, Answers}
+use Rattle.enc_stream.specs.declared.error.TranscodeError.{TranscodeError}
+use Rattle.enc_stream.specs.declared.error.TranscodeError.TheVariants as errors
+use Rattle.upload_rules.specs.Store.{Upload, text_with}
+use Rattle.upload_rules.specs.World.{is_there}
+use Rattle.upload_rules.specs.Texts.{IsReading, IsRest, IsWhole}
+use Rattle.upload_rules.proofs.TextGrows.{decode_end, ended_behind, text_open, text_done, fault_stays}
+
+-- the text that a transcoder of these encodings stands at
+so_far_open : (t : Tables) (s : Transcoder) (b : List ℕ) → so_far t s b ≡ text t s.from s.to s.mode b false
+unfolding decode
+so_far_open t s b = sym (text_open t s.from s.to s.mode b)
+
+-- the text with the end
+end_added : (t : Tables) (s : Transcoder) (b : List ℕ) → IsAt t s b → text t s.from s.to s.mode b true ≡ behind (so_far t s b).bytes (added_end t s)
+unfolding decode
+end_added t s b here =
+    let f = encoder t s.to in
+    let d = decoded_text (decoded t s.from b false) in
+    let e = fed_end t s.from s.phase in
+    let all : decoded_text (decoded t s.from b true) ≡ d ++ e = decode_end t s.from b ∙ ap (λ p. d ++ fed_end t s.from p) (sym here.phase) in
+    text_done t s.from s.to s.mode b
+    ∙ ap (λ z. ended_coded (coded f s.mode InAscii z)) all
+    ∙ ap ended_coded (coded_both f (encoder_steady t s.to) s.mode InAscii d e here.fault)
+    ∙ ap (λ z. ended_coded (behind (so_far t s b).bytes (coded f s.mode z e))) (sym here.shift)
+    ∙ ended_behind (so_far t s b).bytes (coded f s.mode s.shift e)
+
+module _ (x : IndexSet) (u : Upload) (bytes : List ℕ) (t : Standing) (here : IsReading x u bytes t) where
+  -- the encodings are the upload's
+  same_text : (b : List ℕ) (done : Bool) → text (tables x) t.transcoder.from t.transcoder.to t.transcoder.mode b done ≡ text (tables x) u.from u.to u.mode b done
+  same_text b done =
+      ap (λ e. text (tables x) e t.transcoder.to t.transcoder.mode b done) here.from
+      ∙ ap (λ e. text (tables x) u.from e t.transcoder.mode b done) here.to
+      ∙ ap (λ m. text (tables x) u.from u.to m b done) here.mode
+
+  stands_at : so_far (tables x) t.transcoder (u.accepted ++ bytes) ≡ text_with x u bytes false
+  stands_at = so_far_open (tables x) t.transcoder (u.accepted ++ bytes) ∙ same_text (u.accepted ++ bytes) false
+
+  stands_further : (piece : List ℕ) → so_far (tables x) t.transcoder ((u.accepted ++ bytes) ++ piece) ≡ text_with x u (bytes ++ piece) false
+  stands_further piece =
+      so_far_open (tables x) t.transcoder ((u.accepted ++ bytes) ++ piece) ∙ same_text ((u.accepted ++ bytes) ++ piece) false
+      ∙ ap (λ b. text (tables x) u.from u.to u.mode b false) (append_assoc u.accepted bytes piece)
+
+  stands_ended : text_with x u bytes true ≡ behind (text_with x u bytes false).bytes (added_end (tables x) t.transcoder)
+  stands_ended =
+      sym (same_text (u.accepted ++ bytes) true) ∙ end_added (tables x) t.transcoder (u.accepted ++ bytes) here.at
+      ∙ ap (λ r. behind r.bytes (added_end (tables x) t.transcoder)) stands_at
+
+  pub without_fault : (text_with x u bytes false).fault ≡ None
+  without_fault = sym (ap (λ r. r.fault) stands_at) ∙ here.at.fault
+
+  -- a piece without a code makes the text without a value
+  pub piece_fault : (piece : List ℕ) (d : ℕ) → (added (tables x) t.transcoder piece).fault ≡ Some d → is_there (text_with x u (bytes ++ piece) false).fault ≡ true
+  piece_fault piece d h =
+      ap is_there (sym (ap (λ r. r.fault) (stands_further piece)) ∙ fault_added (tables x) t.transcoder (u.accepted ++ bytes) piece here.at ∙ h)
+
+  -- one piece further
+  pub further : (piece old new : List ℕ) (next : Standing) → IsRest x u bytes false old
+      → (added (tables x) t.transcoder piece).fault ≡ None → next ≡ stepped_on (tables x) t piece → new ≡ old ++ (added (tables x) t.transcoder piece).bytes
+      → IsReading x u (bytes ++ piece) next × IsRest x u (bytes ++ piece) false new
+  further piece old new next rest ok is grown = (
+    record {
+      unspent = ap (λ s. s.spent) is;
+      from = ap (λ s. s.transcoder.from) is ∙ here.from;
+      to = ap (λ s. s.transcoder.to) is ∙ here.to;
+      mode = ap (λ s. s.transcoder.mode) is ∙ here.mode;
+      at = subst (λ s. IsAt (tables x) s (u.accepted ++ (bytes ++ piece))) (sym (ap (λ s. s.transcoder) is))
+          (subst (IsAt (tables x) (stepped (tables x) t.transcoder piece)) (append_assoc u.accepted bytes piece) (at_next (tables x) t.transcoder (u.accepted ++ bytes) piece here.at ok));
+    },
+    let start = (text_with x u [] false).bytes in
+        let more = (added (tables x) t.transcoder piece).bytes in
+        ap (λ z. start ++ z) grown ∙ sym (append_assoc start old more) ∙ ap (λ z. z ++ more) (rest ∙ sym (ap (λ r. r.bytes) stands_at))
+        ∙ sym (text_added (tables x) t.transcoder (u.accepted ++ bytes) piece here.at) ∙ ap (λ r. r.bytes) (stands_further piece),
+  )
+
+  -- an end without a code
+  pub end_fault : (d : ℕ) → (added_end (tables x) t.transcoder).fault ≡ Some d → is_there (text_with x u bytes true).fault ≡ true
+  end_fault d h = ap is_there (ap (λ r. r.fault) stands_ended ∙ h)
+
+  -- whole at the end
+  pub whole_ended : (old new : List ℕ) → IsRest x u bytes false old → (added_end (tables x) t.transcoder).fault ≡ None → new ≡ old ++ (added_end (tables x) t.transcoder).bytes
+      → IsWhole x u bytes true t new
+  whole_ended old new rest ok grown = record {
+    reading = here;
+    rest = (
+        let start = (text_with x u [] false).bytes in
+        let more = (added_end (tables x) t.transcoder).bytes in
+        ap (λ z. start ++ z) grown ∙ sym (append_assoc start old more) ∙ ap (λ z. z ++ more) rest ∙ sym (ap (λ r. r.bytes) stands_ended));
+    encodable = ap (λ r. r.fault) stands_ended ∙ ok;
+  }
+
+  pub whole_open : (old : List ℕ) → IsRest x u bytes false old → IsWhole x u bytes false t old
+  whole_open old rest = record { reading = here; rest = rest; encodable = without_fault }
+
+-- a text without a value has none with more bytes
+there : (o : Option ℕ) → is_there o ≡ true → (d : ℕ) × (o ≡ Some d)
+there None h = absurd cc
+there (Some d) h = (d, refl)
+
+pub stays_unencodable : (x : IndexSet) (u : Upload) (bytes piece : List ℕ) (done : Bool) → is_there (text_with x u bytes false).fault ≡ true
+    → is_there (text_with x u (bytes ++ piece) done).fault ≡ true
+stays_unencodable x u bytes piece done h =
+    let d = there (text_with x u bytes false).fault h in
+    ap is_there (ap (λ b. (text (tables x) u.from u.to u.mode b done).fault) (sym (append_assoc u.accepted bytes piece))
+    ∙ fault_stays (tables x) u.from u.to u.mode (u.accepted ++ bytes) piece done d.0 d.1)
+
+pub unencodable_ended : (x : IndexSet) (u : Upload) (bytes : List ℕ) (done : Bool) → is_there (text_with x u bytes false).fault ≡ true
+    → is_there (text_with x u bytes done).fault ≡ true
+unencodable_ended x u bytes done h =
+    ap (λ b. is_there (text_with x u b done).fault) (sym (append-nil bytes)) ∙ stays_unencodable x u bytes [] done h
+
+-- why a transcoder stopped
+pub code_fault : (e : TranscodeError) (c : ℕ) (r : Coded) (old new : Vec ℕ Global) (before after : Standing) → e ≡ errors.Unencodable c → Answers e r old new before after → r.fault ≡ Some c
+code_fault e c r old new before after is why = (subst (λ x. Answers x r old new before after) is why).0.reason

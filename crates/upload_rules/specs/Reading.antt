@@ -1,0 +1,19 @@
+-- Reading a text.
+use Rattle.std.specs.Prelude.{◌≡◌, ℕ, ◌-◌, List, [], ◌++◌, length, take, drop, min, Option, Some, None}
+use Rattle.upload_rules.specs.declared.errors.UploadRefusal.{UploadRefusal}
+use Rattle.upload_rules.specs.declared.errors.UploadRefusal.TheVariants.{NoSuch}
+use Rattle.upload_rules.specs.Store.{Upload, Store, text_of}
+
+abbrev pub no_such : Option Upload → Option UploadRefusal
+no_such None = Some NoSuch
+no_such (Some u) = None
+
+-- the text of the upload, if there is one
+abbrev pub text_at : Store → Option Upload → List ℕ
+text_at m None = []
+text_at m (Some u) = text_of m.indexes u
+
+-- n bytes were read: the text's from `at` on, as many as there are and fit; what is behind them in the buffer stays
+pub record IsRead (text : List ℕ) (at n : ℕ) (old new : List ℕ) : Type 0 where
+  pub count : n ≡ min (length text - at) (length old)
+  pub bytes : new ≡ take n (drop at text) ++ drop n old

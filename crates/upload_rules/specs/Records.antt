@@ -1,0 +1,42 @@
+-- What a record tells of an upload, and which fields an upload may be made of.
+use Rattle.std.specs.Prelude.{◌≡◌, ◌≤◌, ℕ, true, List, [], ◌∷◌, All, length, nat_lt, if◌then◌else◌, Option, Some, None}
+use Rattle.enc_model.specs.Indexes.{IndexSet, offers}
+use Rattle.enc_model.specs.declared.Encoding.TheVariants.{Utf16Be, Utf16Le}
+use Rattle.upload_rules.specs.declared.records.Record.{Record}
+use Rattle.upload_rules.specs.Store.{New, Upload, text_of}
+
+pub record Tells (x : IndexSet) (number : ℕ) (r : Record) (u : Upload) : Type 0 where
+  pub number_is : r.number ≡ number
+  pub declared : r.declared ≡ u.declared
+  pub accepted : r.accepted ≡ length u.accepted
+  pub text_len : r.text_len ≡ length (text_of x u)
+  pub from : r.from ≡ u.from
+  pub to : r.to ≡ u.to
+  pub mode : r.mode ≡ u.mode
+  pub metadata : r.metadata.bytes.items ≡ u.metadata
+
+-- a record where there is an upload, and none where there is none
+abbrev pub TellsOf : IndexSet → Option (ℕ × Upload) → Option Record → Type 0
+TellsOf x None None = Unit {0}
+TellsOf x (Some entry) (Some r) = Tells x entry.0 r entry.1
+TellsOf x _ _ = ⊥
+
+abbrev pub with_number : ℕ → Option Upload → Option (ℕ × Upload)
+with_number n None = None
+with_number n (Some u) = Some (n, u)
+
+-- the upload of the least number above this one
+abbrev pub above : ℕ → List (ℕ × Upload) → Option (ℕ × Upload)
+above n [] = None
+above n (entry ∷ entries) = if nat_lt n entry.0 then Some entry else above n entries
+
+-- what `create` may be given, whatever the index set
+pub record IsWellFormed (new : New) : Type 0 where
+  pub no_utf16 : (new.to ≡ Utf16Be → ⊥) × (new.to ≡ Utf16Le → ⊥)
+  pub short : length new.metadata ≤ 1536
+  pub printable : All (λ b. (0x20 ≤ b) × (b ≤ 0x7E)) new.metadata
+
+-- the index set offers both encodings
+pub record IsOffered (x : IndexSet) (new : New) : Type 0 where
+  pub from : offers x new.from ≡ true
+  pub to : offers x new.to ≡ true

@@ -1,0 +1,37 @@
+-- What a table stands for.
+use Rattle.std.specs.Prelude.{◌≡◌, ℕ, Option, Some, None, Result, Ok, Err}
+use Rattle.enc_model.specs.Indexes.{IndexSet}
+use Rattle.upload_rules.specs.declared.errors.UploadRefusal.{UploadRefusal}
+use Rattle.upload_rules.specs.declared.slots.Slot.{Slot}
+use Rattle.upload_rules.specs.declared.appends.OpenAppend.{OpenAppend}
+use Rattle.upload_rules.specs.Store.{Upload, find}
+use Rattle.upload_rules.specs.World.{World}
+use Rattle.upload_rules.specs.Calls.{begin_refusal_at, first_patch}
+use Rattle.upload_rules.specs.Apart.{IsApart}
+use Rattle.upload_rules.specs.Grown.{IsGrown}
+use Rattle.upload_rules.specs.Slots.{numbers, IsRising, IsBelow, SlotStands, AllStand}
+use Rattle.upload_rules.specs.Appends.{AppendStands, AppendOf, append_at}
+use Rattle.upload_rules.specs.declared.table.Table.{Table}
+
+pub record TableStands (t : Table) (w : World) : Type 0 where
+  pub indexes : t.indexes ≡ w.store.indexes
+  pub next : t.next ≡ w.store.next
+  pub slots : AllStand w.store.indexes w.store.uploads t.slots.items
+  pub rising : IsRising (numbers t.slots.items)
+  pub below : IsBelow (numbers t.slots.items) w.store.next
+  pub appends : (d : ℕ) → AppendOf w.store.indexes w.store.next (find d w.patches) (append_at t.appends.items d)
+  pub apart : IsApart w.patches
+  pub grown : IsGrown w
+  pub unlimited : w.blocks ≡ None
+
+-- the upload's slot, and none where there is no upload
+abbrev pub IsSlotOf : IndexSet → ℕ → Option Upload → Option Slot → Type 0
+IsSlotOf x n None None = Unit {0}
+IsSlotOf x n (Some u) (Some s) = SlotStands x n u s
+IsSlotOf x n _ _ = ⊥
+
+-- an append of an upload as it is, or the rules' refusal
+abbrev pub IsOpened : World → ℕ → ℕ → ℕ → Option Upload → Result OpenAppend UploadRefusal → Type 0
+IsOpened w n offset count None (Ok o) = ⊥
+IsOpened w n offset count (Some u) (Ok o) = (begin_refusal_at offset count (Some u) ≡ None) × AppendStands w.store.indexes w.store.next (first_patch n count u) o
+IsOpened w n offset count u (Err e) = begin_refusal_at offset count u ≡ Some e

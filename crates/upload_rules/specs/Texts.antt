@@ -1,0 +1,43 @@
+-- What is kept of a text: where a transcoder stands, and what an append adds.
+use Rattle.std.specs.Prelude.{◌≡◌, ℕ, Bool, true, false, List, [], ◌++◌, None, Result, Ok, Err, Vec}
+use Rattle.std.specs.declared.alloc.Global.{Global}
+use Rattle.enc_model.specs.Indexes.{IndexSet, tables}
+use Rattle.enc_model.specs.Transcode.{IsAt}
+use Rattle.enc_stream.specs.Standing.{Standing}
+use Rattle.upload_rules.specs.Store.{Upload, text_with}
+use Rattle.upload_rules.specs.World.{is_there}
+use Rattle.upload_rules.specs.declared.errors.UploadError.{UploadError}
+use Rattle.upload_rules.specs.declared.errors.UploadError.TheVariants.{NoMemory, Refused}
+use Rattle.upload_rules.specs.declared.errors.UploadRefusal.TheVariants as refusals
+use Rattle.upload_rules.specs.declared.new_text.NewText.{NewText}
+use Rattle.upload_rules.specs.declared.new_text.NewText.TheVariants.{Growing, Unencodable}
+
+-- the transcoder stands where decoding and encoding end over the accepted bytes and these
+pub record IsReading (x : IndexSet) (u : Upload) (bytes : List ℕ) (t : Standing) : Type 0 where
+  pub unspent : t.spent ≡ false
+  pub from : t.transcoder.from ≡ u.from
+  pub to : t.transcoder.to ≡ u.to
+  pub mode : t.transcoder.mode ≡ u.mode
+  pub at : IsAt (tables x) t.transcoder (u.accepted ++ bytes)
+
+-- behind the text of the accepted bytes these are what further bytes come to, the end among them or not
+abbrev pub IsRest : IndexSet → Upload → List ℕ → Bool → List ℕ → Type 0
+IsRest x u bytes done text = (text_with x u [] false).bytes ++ text ≡ (text_with x u bytes done).bytes
+
+-- what an append of these bytes adds to the text
+abbrev pub HoldsText : IndexSet → Upload → List ℕ → NewText → Type 0
+HoldsText x u bytes (Growing t text) = IsReading x u bytes t × IsRest x u bytes false text.items
+HoldsText x u bytes Unencodable = is_there (text_with x u bytes false).fault ≡ true
+
+-- the text with an append's bytes, the end among them or not, has a value, and these are what is new in it
+pub record IsWhole (x : IndexSet) (u : Upload) (bytes : List ℕ) (done : Bool) (t : Standing) (text : List ℕ) : Type 0 where
+  pub reading : IsReading x u bytes t
+  pub rest : IsRest x u bytes done text
+  pub encodable : (text_with x u bytes done).fault ≡ None
+
+-- how an append's text ends
+abbrev pub IsEnded : IndexSet → Upload → List ℕ → Bool → Result (Standing × Vec ℕ Global) UploadError → Type 0
+IsEnded x u bytes done (Ok parts) = IsWhole x u bytes done parts.0 parts.1.items
+IsEnded x u bytes done (Err NoMemory) = Unit {0}
+IsEnded x u bytes done (Err (Refused refusals.Unencodable)) = is_there (text_with x u bytes done).fault ≡ true
+IsEnded x u bytes done (Err e) = ⊥

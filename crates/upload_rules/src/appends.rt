@@ -1,0 +1,100 @@
+//! Appends under way.
+
+ghost use Rattle.std.specs.Prelude.{◌≡◌, ◌<◌, ◌≤◌, ◌+◌, ◌++◌, ℕ, length, OnOk, OnErr, IfOk, IsErrOf, Some, slice_set};
+ghost use Rattle.upload_rules.specs.World.{Patch};
+ghost use Rattle.upload_rules.specs.Slots.{SlotStands};
+ghost use Rattle.upload_rules.specs.Appends.{AppendStands, IsPlaced, IsPut, append_at};
+
+use crate::UploadError;
+use crate::new_text::NewText;
+use crate::slots::Slot;
+use enc_index::IndexSet;
+use std::alloc::AllocError;
+use std::mem;
+
+/// An append under way.
+#[derive(Drop)]
+pub(crate) struct OpenAppend {
+    /// The upload's number.
+    pub(crate) number: u64,
+    /// How many bytes were accepted when it began.
+    pub(crate) offset: u64,
+    /// How many bytes came since.
+    pub(crate) came: u64,
+    /// What they add to the text.
+    pub(crate) text: NewText,
+}
+
+impl OpenAppend {
+    /// With a piece more of its body; as it was, where a growth is refused.
+    pub(crate) fn feed(&mut self, indexes: &IndexSet, piece: &[u8]) -> Result<(), AllocError>
+        ensures ok { (next : ℕ) (p : Patch) → AppendStands indexes.now next p self.old → length p.body + length piece.now ≤ p.count
+            → OnOk result (AppendStands indexes.now next (record p { body = p.body ++ piece.now }) self.new) }
+        ensures err { (next : ℕ) (p : Patch) → AppendStands indexes.now next p self.old → OnErr result (AppendStands indexes.now next p self.new) }
+    {
+        let text = mem::replace(&mut self.text, NewText::Unencodable);
+        let (text, outcome) = text.with(indexes, piece);
+        self.text = text;
+        outcome?;
+        self.came = self.came.saturating_add(piece.len() as u64);
+        Ok(())
+    }
+
+    /// Puts the new text behind the slot's, and answers the new count of accepted bytes.
+    pub(crate) fn put_behind(self, slot: &mut Slot, indexes: &IndexSet) -> Result<u64, UploadError>
+        ensures put { (next : ℕ) (p : Patch) → AppendStands indexes.now next p self → 0 < length p.body → SlotStands indexes.now p.number p.began slot.old
+            → IsPut indexes.now p slot.new result }
+        ensures no_device { IsErrOf result UploadError.DiskFault → ⊥ }
+    {
+        let OpenAppend {
+            number: _,
+            offset,
+            came,
+            text,
+        } = self;
+        let accepted = offset.saturating_add(came);
+        let (transcoder, text) = text.ended(indexes, accepted == slot.record.declared)?;
+        match slot.grow(&text, accepted, transcoder) {
+            Ok(()) => Ok(accepted),
+            Err(_) => Err(UploadError::NoMemory),
+        }
+    }
+}
+
+/// Puts an append at the least place that is free.
+pub(crate) fn placed(
+    appends: &mut Vec<Option<OpenAppend>>,
+    append: OpenAppend,
+) -> Result<usize, AllocError>
+    ensures ok { IfOk result (λ place. IsPlaced appends.old.items append place appends.new.items) }
+    ensures err { OnErr result (appends.new.items ≡ appends.old.items) }
+{
+    match appends.iter().position(|place| place.is_none()) {
+        Some(place) => {
+            appends[place] = Some(append);
+            Ok(place)
+        }
+        None => {
+            let place = appends.len();
+            appends.push(Some(append))?;
+            Ok(place)
+        }
+    }
+}
+
+/// Takes the append of a draft's number out.
+pub(crate) fn taken(appends: &mut Vec<Option<OpenAppend>>, place: usize) -> Option<OpenAppend>
+    ensures taken { result ≡ append_at appends.old.items place }
+    ensures after { appends.new.items ≡ slice_set appends.old.items place None }
+{
+    appends.get_mut(place)?.take()
+}
+
+/// Puts an append back that was taken out.
+pub(crate) fn put_back(appends: &mut Vec<Option<OpenAppend>>, place: usize, append: OpenAppend)
+    ensures { appends.new.items ≡ slice_set appends.old.items place (Some append) }
+{
+    if let Some(free) = appends.get_mut(place) {
+        *free = Some(append);
+    }
+}

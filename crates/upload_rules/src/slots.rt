@@ -1,0 +1,100 @@
+//! The uploads of a table, by ascending numbers.
+
+ghost use Rattle.std.specs.Prelude.{◌≡◌, ◌++◌, ◌<◌, ◌≤◌, [], ℕ, length, IfOk, OnOk, OnErr, MatchOption, IfSome, slice_index};
+ghost use Rattle.enc_stream.specs.Standing.{IsOutput};
+ghost use Rattle.upload_rules.specs.Store.{new_upload};
+ghost use Rattle.upload_rules.specs.Reading.{IsRead};
+ghost use Rattle.enc_model.specs.Indexes.{IndexSet as Indexes};
+ghost use Rattle.upload_rules.specs.Slots.{SlotStands, numbers, IsRising, IsDivided, IsFirstAt, IsNowhere};
+
+use crate::{New, Record};
+use enc_stream::Transcoder;
+use std::alloc::{AllocError, Global};
+
+/// An upload of a table.
+#[derive(Drop)]
+pub(crate) struct Slot {
+    /// What is told of it.
+    pub(crate) record: Record,
+    /// The stored text.
+    pub(crate) text: Vec<u8>,
+    /// Where transcoding stands behind the accepted bytes.
+    pub(crate) transcoder: Transcoder,
+}
+
+impl Slot {
+    /// An upload without bytes.
+    pub(crate) fn new(alloc: Global, number: u64, fields: New) -> Self
+        requires { IsOutput fields.to }
+        ensures { (x : Indexes) → SlotStands x number (new_upload fields) result }
+    {
+        let New {
+            declared,
+            from,
+            to,
+            mode,
+            metadata,
+        } = fields;
+        Slot {
+            record: Record {
+                number,
+                declared,
+                accepted: 0,
+                text_len: 0,
+                from,
+                to,
+                mode,
+                metadata,
+            },
+            text: Vec::new(alloc),
+            transcoder: Transcoder::new(from, to, mode),
+        }
+    }
+
+    /// The text with these bytes behind it, and as many accepted bytes as are said.
+    pub(crate) fn grow(
+        &mut self,
+        text: &[u8],
+        accepted: u64,
+        transcoder: Transcoder,
+    ) -> Result<(), AllocError>
+        ensures text { OnOk result (self.new.text.items ≡ self.old.text.items ++ text.now) }
+        ensures record { OnOk result (self.new.record ≡ record self.old.record { accepted = accepted; text_len = length self.new.text.items }) }
+        ensures transcoder { OnOk result (self.new.transcoder ≡ transcoder) }
+        ensures same { OnErr result ((self.new.text.items ≡ self.old.text.items) × (self.new.record ≡ self.old.record) × (self.new.transcoder ≡ self.old.transcoder)) }
+    {
+        self.text.extend_from_slice(text)?;
+        self.record.accepted = accepted;
+        self.record.text_len = self.text.len() as u64;
+        self.transcoder = transcoder;
+        Ok(())
+    }
+}
+
+/// How many uploads have numbers up to this one.
+pub(crate) fn places_to(slots: &[Slot], number: u64) -> usize
+    ensures within { result ≤ length slots.now }
+    ensures divided { IsRising (numbers slots.now) → IsDivided (numbers slots.now) number result }
+{
+    slots.partition_point(|slot| slot.record.number <= number)
+}
+
+/// The place of a number.
+pub(crate) fn place_of(slots: &[Slot], number: u64) -> Option<usize>
+    ensures within { IfSome result (λ place. place < length slots.now) }
+    ensures place { IsRising (numbers slots.now) → MatchOption result (IsNowhere (numbers slots.now) number) (IsFirstAt (numbers slots.now) number) }
+{
+    let place = places_to(slots, number).checked_sub(1)?;
+    (slots[place].record.number == number).then_some(place)
+}
+
+/// Reads a text's bytes from `at` on, as many as there are and fit.
+pub(crate) fn read_from(text: &[u8], at: u64, buf: &mut [u8]) -> usize
+    ensures { IsRead text.now at result buf.old buf.new }
+{
+    let from = text.len().min(at as usize);
+    let rest = &text[from..];
+    let count = rest.len().min(buf.len());
+    buf[..count].copy_from_slice(&rest[..count]);
+    count
+}

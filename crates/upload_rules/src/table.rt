@@ -1,0 +1,190 @@
+//! Uploads in memory, where a crash leaves nothing to speak of.
+
+use crate::appends::{OpenAppend, placed, put_back, taken};
+use crate::new_text::NewText;
+use crate::slots::{Slot, place_of, places_to, read_from};
+use crate::{New, Record, UploadError, UploadRefusal, Uploads};
+use enc_index::IndexSet;
+use std::alloc::Global;
+
+/// The greatest declared length.
+const LENGTH_LIMIT: u64 = 1_073_741_824;
+
+/// How many uploads there may be.
+const SLOT_COUNT: usize = 512;
+
+/// Behind the last number.
+const NUMBERS_END: u64 = 1_000_000_000_000_000_000;
+
+/// Uploads in memory: without a device, and without a limit of room.
+#[derive(Drop)]
+pub struct Table {
+    alloc: Global,
+    indexes: IndexSet,
+    /// by ascending numbers
+    slots: Vec<Slot>,
+    next: u64,
+    /// by the numbers of their drafts
+    appends: Vec<Option<OpenAppend>>,
+}
+
+/// A draft of a table: the append of its number.
+pub struct TableDraft {
+    number: usize,
+}
+
+impl Table {
+    ghost use Rattle.std.specs.Prelude.{◌≡◌, None, MatchOption, MatchResult, option_copied};
+    ghost use Rattle.upload_rules.specs.Store.{no_uploads, upload_of};
+    ghost use Rattle.upload_rules.specs.World.{World, at_rest};
+    ghost use Rattle.upload_rules.specs.Table.{TableStands, IsSlotOf, IsOpened};
+
+    /// A table without uploads.
+    pub fn new(alloc: Global, indexes: IndexSet) -> Self
+        ensures { TableStands result (at_rest (no_uploads indexes) None) }
+    {
+        Table {
+            alloc,
+            indexes,
+            slots: Vec::new(alloc),
+            next: 1,
+            appends: Vec::new(alloc),
+        }
+    }
+
+    /// The slot of a number.
+    fn slot(&self, number: u64) -> Option<&Slot>
+        ensures { (w : World) → TableStands self.now w → IsSlotOf w.store.indexes number (upload_of w.store number) (option_copied result) }
+    {
+        let place = place_of(&self.slots, number)?;
+        Some(&self.slots[place])
+    }
+
+    /// The append that `begin` opens, if the rules allow it.
+    fn opened(&self, number: u64, offset: u64, count: u64) -> Result<OpenAppend, UploadRefusal>
+        ensures { (w : World) → TableStands self.now w → IsOpened w number offset count (upload_of w.store number) result }
+    {
+        let Some(slot) = self.slot(number) else {
+            return Err(UploadRefusal::NoSuch);
+        };
+        if slot.record.accepted != offset {
+            return Err(UploadRefusal::Offset);
+        }
+        if slot.record.declared < offset || slot.record.declared - offset < count {
+            return Err(UploadRefusal::TooLong);
+        }
+        Ok(OpenAppend {
+            number,
+            offset,
+            came: 0,
+            text: NewText::Growing {
+                transcoder: slot.transcoder.copy(),
+                text: Vec::new(self.alloc),
+            },
+        })
+    }
+}
+
+impl Uploads for Table {
+    ghost use Rattle.upload_rules.specs.Table.{TableStands};
+
+    type Draft = TableDraft;
+
+    ghost stands = { TableStands };
+
+    ghost number_of = { λ d. d.number };
+
+    ghost holds = { λ d p. Unit {0} };
+
+    ghost moment = { λ t. 0 };
+
+    ghost left_only = { λ t n ms. Unit {0} };
+
+    ghost failures = { λ t. 0 };
+
+    ghost durable = { λ t w ms stands among. tt };
+
+    fn record(&self, number: u64) -> Option<&Record> {
+        Some(&self.slot(number)?.record)
+    }
+
+    fn record_after(&self, number: u64) -> Option<&Record> {
+        let place = places_to(&self.slots, number);
+        Some(&self.slots.get(place)?.record)
+    }
+
+    fn next_number(&self) -> u64 {
+        self.next
+    }
+
+    fn indexes(&self) -> &IndexSet {
+        &self.indexes
+    }
+
+    fn create(&mut self, new: New) -> Result<u64, UploadError> {
+        if new.declared > LENGTH_LIMIT {
+            return Err(UploadError::Refused(UploadRefusal::TooLarge));
+        }
+        if self.slots.len() >= SLOT_COUNT || self.next >= NUMBERS_END {
+            return Err(UploadError::Refused(UploadRefusal::Slots));
+        }
+        let number = self.next;
+        if self.slots.push(Slot::new(self.alloc, number, new)).is_err() {
+            return Err(UploadError::NoMemory);
+        }
+        self.next = number + 1;
+        Ok(number)
+    }
+
+    fn begin(&mut self, number: u64, offset: u64, count: u64) -> Result<TableDraft, UploadError> {
+        let append = match self.opened(number, offset, count) {
+            Ok(append) => append,
+            Err(refusal) => return Err(UploadError::Refused(refusal)),
+        };
+        match placed(&mut self.appends, append) {
+            Ok(number) => Ok(TableDraft { number }),
+            Err(_) => Err(UploadError::NoMemory),
+        }
+    }
+
+    fn append(&mut self, draft: &mut TableDraft, piece: &[u8]) -> Result<(), UploadError> {
+        let Some(mut append) = taken(&mut self.appends, draft.number) else {
+            return Err(UploadError::Refused(UploadRefusal::NoSuch));
+        };
+        let outcome = append.feed(&self.indexes, piece);
+        put_back(&mut self.appends, draft.number, append);
+        match outcome {
+            Ok(()) => Ok(()),
+            Err(_) => Err(UploadError::NoMemory),
+        }
+    }
+
+    fn commit(&mut self, draft: TableDraft) -> Result<u64, UploadError> {
+        let TableDraft { number } = draft;
+        let Some(append) = taken(&mut self.appends, number) else {
+            return Err(UploadError::Refused(UploadRefusal::NoSuch));
+        };
+        let Some(place) = place_of(&self.slots, append.number) else {
+            return Err(UploadError::Refused(UploadRefusal::NoSuch));
+        };
+        if self.slots[place].record.accepted != append.offset {
+            return Err(UploadError::Refused(UploadRefusal::Offset));
+        }
+        if append.came == 0 {
+            return Ok(append.offset);
+        }
+        append.put_behind(&mut self.slots[place], &self.indexes)
+    }
+
+    fn drop_open(&mut self, draft: TableDraft) {
+        let TableDraft { number } = draft;
+        let _ = taken(&mut self.appends, number);
+    }
+
+    fn read_text(&mut self, number: u64, at: u64, buf: &mut [u8]) -> Result<usize, UploadError> {
+        match self.slot(number) {
+            Some(slot) => Ok(read_from(&slot.text, at, buf)),
+            None => Err(UploadError::Refused(UploadRefusal::NoSuch)),
+        }
+    }
+}
