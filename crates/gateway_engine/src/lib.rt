@@ -4,10 +4,14 @@
 mod calls;
 mod connections;
 mod faults;
+mod gateway;
 mod lines;
 mod orders;
 mod runs;
+mod scripts;
 mod writing;
 
 pub use connections::Connections;
 pub use faults::{CallFault, RunFault};
+pub use gateway::Gateway;
+pub use scripts::run_over;

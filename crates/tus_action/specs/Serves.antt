@@ -4,7 +4,7 @@ use Rattle.upload_rules.specs.Store.{Store, Upload, upload_of, text_of, find}
 use Rattle.upload_rules.specs.World.{Patch, World}
 use Rattle.upload_rules.specs.declared.uploads.Uploads.{Ghosts}
 use Rattle.tus_request.specs.Requests.{Action, Create}
-use Rattle.upload_rules.specs.Records.{IsUsable}
+use Rattle.upload_rules.specs.Records.{IsWellFormed, IsOffered}
 use Rattle.upload_rules.specs.declared.errors.UploadError.{UploadError}
 use Rattle.upload_rules.specs.declared.errors.UploadError.TheVariants as errors
 use Rattle.tus_request.specs.Replies.{reply_refused}
@@ -68,10 +68,15 @@ Gives u store (Ok g) old new w h = u.stands store w × GivingIs w.store g (pendi
 Gives u store (Err NoMemory) old new w h = u.stands store w × (new ≡ old)
 Gives u store (Err DiskFault) old new w h = new ≡ old
 
+-- what a POST makes fits a record, and its text has an output encoding
+abbrev pub CanBeMade : Action → Type 0
+CanBeMade (Create c) = IsWellFormed (new_of c)
+CanBeMade _ = Unit {0}
+
 -- what a POST makes is what the index set offers
-abbrev pub CanBeMade : World → Action → Type 0
-CanBeMade w (Create c) = IsUsable w.store.indexes (new_of c)
-CanBeMade w _ = Unit {0}
+abbrev pub CanBeRead : World → Action → Type 0
+CanBeRead w (Create c) = IsOffered w.store.indexes (new_of c)
+CanBeRead w _ = Unit {0}
 
 -- only a reply: nothing is open
 abbrev pub replied_only : {B : Type 0} → Bool → code.Acted B

@@ -57,7 +57,7 @@ pub fn end_body<U: Uploads>(
     ensures counts { Counts (IsErrOf result Stop.DiskFault) (U.failures store.old) (U.failures store.new) }
 {
     let before = out.as_slice().len();
-    let Ok(()) = reply_patched(alloc, reached, closes, out) else {
+    let Ok(()) = reply_patched(alloc, reached, bare, closes, out) else {
         store.drop_open(draft);
         return Err(Stop::NoMemory);
     };

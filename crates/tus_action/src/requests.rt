@@ -5,7 +5,7 @@ ghost use Rattle.upload_rules.specs.Answers.{Limits, Counts};
 ghost use Rattle.tus_request.specs.Requests.{Asks};
 ghost use Rattle.tus_request.specs.Shown.{request_shown};
 ghost use Rattle.tus_action.specs.Acts.{acted};
-ghost use Rattle.tus_action.specs.Serves.{Serves, CanBeMade};
+ghost use Rattle.tus_action.specs.Serves.{Serves, CanBeMade, CanBeRead};
 
 use crate::acts::{Acted, Stop};
 use crate::reads::{give_text, show};
@@ -22,7 +22,8 @@ pub fn act<U: Uploads>(
     request: Request,
     out: &mut Vec<u8>,
 ) -> Result<Acted<U::Draft>, Stop>
-    requires usable { (w : World) → U.stands store.old w → CanBeMade w (request_shown request).action }
+    requires well_formed { CanBeMade (request_shown request).action }
+    requires offered { (w : World) → U.stands store.old w → CanBeRead w (request_shown request).action }
     ensures answer { (w : World) → U.stands store.old w
         → Serves U.Uploads store.new result out.old.items out.new.items w (acted w (Asks (request_shown request))) }
     ensures crash { (w : World) → U.stands store.old w
@@ -37,7 +38,7 @@ pub fn act<U: Uploads>(
         closes,
     } = request;
     match action {
-        Action::Options => match reply_options(alloc, closes, out) {
+        Action::Options => match reply_options(alloc, bare, closes, out) {
             Ok(()) => Ok(Acted::replied(closes)),
             Err(_) => Err(Stop::NoMemory),
         },

@@ -3,7 +3,7 @@ ghost use Rattle.std.specs.Prelude.{◌≡◌, ◌++◌, [], Some, IsErrOf, OnOk
 ghost use Rattle.upload_rules.specs.World.{World};
 ghost use Rattle.upload_rules.specs.Calls.{create_refusal, create_outcome, begin_refusal};
 ghost use Rattle.upload_rules.specs.Answers.{Limits, Quiet, Counts};
-ghost use Rattle.upload_rules.specs.Records.{IsUsable};
+ghost use Rattle.upload_rules.specs.Records.{IsWellFormed, IsOffered};
 ghost use Rattle.tus_request.specs.Requests.{Request};
 ghost use Rattle.tus_request.specs.Replies.{reply_continue as continue_bytes};
 ghost use Rattle.tus_action.specs.Acts.{post, patch};
@@ -24,7 +24,8 @@ pub(crate) fn create<U: Uploads>(
     closes: bool,
     out: &mut Vec<u8>,
 ) -> Result<Acted<U::Draft>, Stop>
-    requires usable { (w : World) → U.stands store.old w → IsUsable w.store.indexes new }
+    requires well_formed { IsWellFormed new }
+    requires offered { (w : World) → U.stands store.old w → IsOffered w.store.indexes new }
     ensures answer { (w : World) (r : Request) → U.stands store.old w → bare ≡ r.bare → closes ≡ r.closes
         → Serves U.Uploads store.new result out.old.items out.new.items w (post w r new (create_refusal w new)) }
     ensures crash { (w : World) → U.stands store.old w
@@ -46,14 +47,14 @@ pub(crate) fn create<U: Uploads>(
 }
 
 /// Appends `100 Continue` where the request asked for it.
-fn append_continue(alloc: Global, expects: bool, out: &mut Vec<u8>) -> Result<(), AllocError>
+fn append_continue(expects: bool, out: &mut Vec<u8>) -> Result<(), AllocError>
     ensures ok { OnOk result (out.new.items ≡ out.old.items ++ (if expects then continue_bytes else [])) }
     ensures err { OnErr result (out.new.items ≡ out.old.items) }
 {
     if !expects {
         return Ok(());
     }
-    reply_continue(alloc, out)
+    reply_continue(out)
 }
 
 /// Begins an append. The reply is built first.
@@ -74,7 +75,7 @@ pub(crate) fn begin<U: Uploads>(
     ensures counts { Counts (IsErrOf result Stop.DiskFault) (U.failures store.old) (U.failures store.new) }
 {
     let before = out.as_slice().len();
-    let Ok(()) = append_continue(alloc, expects, out) else {
+    let Ok(()) = append_continue(expects, out) else {
         return Err(Stop::NoMemory);
     };
     match store.begin(number, offset, length) {

@@ -3,7 +3,9 @@ ghost use Rattle.std.specs.Prelude.{◌≡◌, ℕ, List, [], Some};
 ghost use Rattle.enc_model.specs.Indexes.{offers};
 ghost use Rattle.httparse.specs.Grammar.{RequestHead, ReadsRequest};
 ghost use Rattle.tus_request.specs.Reading.{request_of};
-ghost use Rattle.tus_request.specs.Answers.{Answer, answer_of};
+ghost use Rattle.tus_request.specs.Answers.{Answer, Judged, answer_of};
+ghost use Rattle.tus_request.specs.Requests.{Request, Asks};
+ghost use Rattle.tus_request.specs.Sound.{IsSoundRequest};
 ghost use Rattle.tus_request.specs.Grammar.{IsAnswer};
 ghost use Rattle.tus_request.specs.Steady.{IsSteady};
 ghost use Rattle.tus_request.specs.Value.{IsValue, value_of};
@@ -29,4 +31,9 @@ pub fn head_read(head: &[u8])
 /// At most one list of bytes has a text as its padded Base64.
 pub fn one_value(text: &[u8])
     ensures { (bytes : List ℕ) → IsValue text.now bytes → value_of text.now ≡ Some bytes }
+{}
+
+/// A request that passed its checks is sound: its numbers are small, its encodings are offered, its metadata is plain.
+pub fn sound_requests(bytes: &[u8], set: &IndexSet)
+    ensures { (n : ℕ) (r : Request) → answer_of (offers set.now) bytes.now ≡ Judged n (Asks r) → IsSoundRequest (offers set.now) r }
 {}

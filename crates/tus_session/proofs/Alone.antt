@@ -17,7 +17,7 @@ abbrev pub restreamed : List ℕ → List ℕ → Turn → Turn
 restreamed s piece t = record t { conn = option_map (with_stream (s ++ take t.taken piece)) t.conn }
 
 conn_again : (x y : List ℕ) (d : Option ℕ) (g : Option Giving) (closes : Bool)
-  → (if closes then None else Some (record { stream = x; draft = d; pending = g }))
+    → (if closes then None else Some (record { stream = x; draft = d; pending = g }))
     ≡ option_map (with_stream x) (if closes then None else Some (record { stream = y; draft = d; pending = g }))
 conn_again x y d g true = refl
 conn_again x y d g false = refl
@@ -28,17 +28,17 @@ turn_again k u piece n a =
     (conn_again (k.stream ++ take n piece) (u ++ take n piece) a.draft a.pending a.closes)
 
 with_again : (k : Conn) (u piece : List ℕ) (n : ℕ) (m : Moments) (a : Acted) (b : Bool)
-  → (elim b [ | true ↦ turn_of k piece (n - length m.came) a | false ↦ turn_of k piece n (body_step a m.came m.body a.draft) ])
-    ≡ restreamed k.stream piece (elim b [ | true ↦ turn_of (with_stream u k) piece (n - length m.came) a | false ↦ turn_of (with_stream u k) piece n (body_step a m.came m.body a.draft) ])
+    → (elim b [ true ↦ turn_of k piece (n - length m.came) a | false ↦ turn_of k piece n (body_step a m.came m.body a.draft) ])
+    ≡ restreamed k.stream piece (elim b [ true ↦ turn_of (with_stream u k) piece (n - length m.came) a | false ↦ turn_of (with_stream u k) piece n (body_step a m.came m.body a.draft) ])
 with_again k u piece n m a true = turn_again k u piece (n - length m.came) a
 with_again k u piece n m a false = turn_again k u piece n (body_step a m.came m.body a.draft)
 
 at_again : (w : World) (k : Conn) (u piece : List ℕ) (n : ℕ) (m : Moments)
-  → came_at w k piece n m ≡ restreamed k.stream piece (came_at w (with_stream u k) piece n m)
+    → came_at w k piece n m ≡ restreamed k.stream piece (came_at w (with_stream u k) piece n m)
 at_again w k u piece n m = let a = at_head w k.draft m.head in with_again k u piece n m a (is_pending a.pending)
 
 on_again : (w : World) (k : Conn) (piece : List ℕ) → IsSteady (reader w) → (g : Option Giving)
-  → came_on w k piece g ≡ restreamed k.stream piece (came_on w (with_stream (left (reader w) k.stream) k) piece g)
+    → came_on w k piece g ≡ restreamed k.stream piece (came_on w (with_stream (left (reader w) k.stream) k) piece g)
 on_again w k piece _ (Some g) =
     ap (λ x. record { world = w; conn = Some (with_stream x k); bytes = []; taken = 0 }) (sym (append-nil k.stream))
 on_again w k piece steady None =
@@ -51,6 +51,6 @@ on_again w k piece steady None =
 
 -- THE STEP FROM WHAT IS LEFT: the same turn, and the stream goes on by what was taken
 pub came_alone : (w : World) (k : Conn) (piece : List ℕ)
-  → came_turn w k piece ≡ restreamed k.stream piece (came_turn w (with_stream (left (reader w) k.stream) k) piece)
+    → came_turn w k piece ≡ restreamed k.stream piece (came_turn w (with_stream (left (reader w) k.stream) k) piece)
 unfolding came_turn
 came_alone w k piece = on_again w k piece (steady (offers w.store.indexes)) k.pending

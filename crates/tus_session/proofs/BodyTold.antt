@@ -51,7 +51,7 @@ rest_same w w' s e = ap (λ x. (cut (answer_of (offers x)) s).rest) e
 module _ {U B : Type 0} (u : Ghosts U B) where
   -- nothing is open behind an answer
   pub idle_here : (w' : World) (place : Place B) (k : Link B) (closes : Bool) (s' : List ℕ) (rest : Rest) → place ≡ (if closes then Closed else Open (record k { task = tasks.Idle }))
-    → RestIs k.head.items k.left rest → (cut (reader w') s').rest ≡ rest → PlaceIs u w' place (if closes then None else Some (plain s' None))
+      → RestIs k.head.items k.left rest → (cut (reader w') s').rest ≡ rest → PlaceIs u w' place (if closes then None else Some (plain s' None))
   idle_here w' place k true s' rest e kept here = subst (λ p. PlaceIs u w' p None) (sym e) tt
   idle_here w' place k false s' rest e kept here =
       let link : LinkIs u w' k.head.items k.left tasks.Idle (plain s' None) = record { kept = subst (RestIs k.head.items k.left) (sym here) kept; does = tt } in
@@ -74,7 +74,7 @@ module _ {U B : Type 0} (u : Ghosts U B) where
 
     -- the patch with the bytes that came
     patches_fed : (b' : Patching B) (q : List ℕ) → u.number_of b'.draft ≡ d → u.holds b'.draft (fed_patch w d p q) → find d (fed w d q).patches ≡ Some (fed_patch w d p q)
-      → b'.reached ≡ b.reached → b'.bare ≡ b.bare → b'.closes ≡ b.closes → PatchesAs u (fed w d q) b' d (longer asked q) r (fed_patch w d p q)
+        → b'.reached ≡ b.reached → b'.bare ≡ b.bare → b'.closes ≡ b.closes → PatchesAs u (fed w d q) b' d (longer asked q) r (fed_patch w d p q)
     patches_fed b' q number holds found reached bare closes =
         let l : length (fed_patch w d p q).began.accepted ≡ length p.began.accepted = ap (λ x. length x.accepted) (fed_began w d p q) in
         let m : (fed_patch w d p q).began.declared ≡ p.began.declared = ap (λ x. x.declared) (fed_began w d p q) in
@@ -97,8 +97,8 @@ module _ {U B : Type 0} (u : Ghosts U B) where
 
     -- the body goes on: the place, and what moved
     pub part_here : (store : U) (place : Place B) (a : Answer) (k : Link B) (b' : Patching B) (taken : ℕ) (q s' : List ℕ)
-      → GoesOn u store place a k b b' taken (fed w d q) (fed_patch w d p q) → RestIs k.head.items k.left (InBody (longer asked q))
-      → (cut (reader w) s').rest ≡ InBody (longer asked q) → PlaceIs u (fed w d q) place (Some (plain s' (Some d)))
+        → GoesOn u store place a k b b' taken (fed w d q) (fed_patch w d p q) → RestIs k.head.items k.left (InBody (longer asked q))
+        → (cut (reader w) s').rest ≡ InBody (longer asked q) → PlaceIs u (fed w d q) place (Some (plain s' (Some d)))
     part_here store place a k b' taken q s' goes kept here =
         let w' = fed w d q in
         let moves = feed_moves w d p q is.found in
@@ -124,8 +124,7 @@ module _ {U B : Type 0} (u : Ghosts U B) where
         both_moves w w1 (spent w1 d p1 (commit_refusal w1 d p1)) (Some d) (Some d) None (feed_moves w d p q is.found)
         (spend_moves w1 d p1 (there_fed q) (omega arith) (omega arith))
 
-
-fed_found : (w : World) (d : ℕ) (p : Patch) (q : List ℕ) → find d w.patches ≡ Some p → find d (fed w d q).patches ≡ Some (fed_patch w d p q)
+pub fed_found : (w : World) (d : ℕ) (p : Patch) (q : List ℕ) → find d w.patches ≡ Some p → find d (fed w d q).patches ≡ Some (fed_patch w d p q)
 fed_found w d p [] found = found
 fed_found w d p (b ∷ q) found =
     ap (λ o. find d (appended_at w d (b ∷ q) o).patches) found ∙ find_replaced_same d p (longer_patch w d p (b ∷ q)) w.patches found
@@ -150,7 +149,7 @@ module _ (w : World) (s : List ℕ) (d : ℕ) (asked : Asked) (inside : (cut (re
   with_acted q n m = record { world = m.world; conn = if m.closes then None else Some (record { stream = s ++ q; draft = m.draft; pending = m.pending }); bytes = m.bytes; taken = n }
 
   pub rest_is : (bytes : List ℕ) (p : Patch) (r : Request) (n : ℕ) → body_length asked.verdict - length asked.body ≡ n → body_length asked.verdict ≤ length asked.body + length bytes
-    → find d w.patches ≡ Some p → asked.verdict ≡ Asks r → came_turn w (plain s (Some d)) bytes ≡ rest_turned p (take n bytes) r n
+      → find d w.patches ≡ Some p → asked.verdict ≡ Asks r → came_turn w (plain s (Some d)) bytes ≡ rest_turned p (take n bytes) r n
   unfolding with_acted
   rest_is bytes p r n e enough found asks =
       let q = take n bytes in
@@ -161,15 +160,14 @@ module _ (w : World) (s : List ℕ) (d : ℕ) (asked : Asked) (inside : (cut (re
       ∙ ap (λ o. with_acted q n (commit_with (fed w d q) d (Asks r) o)) f))
 
 module _ {U B : Type 0} (u : Ghosts U B) (store' : U) (place : Place B) (old new : List ℕ) (w : World) (s : List ℕ) (b : Patching B) (asked : Asked) (r : Request) (p : Patch)
-  (is : PatchesAs u w b (u.number_of b.draft) asked r p) (inside : (cut (reader w) s).rest ≡ InBody asked) (k : Link B) (left : ℕ)
-  (none : k.head.items ≡ []) (left_is : left ≡ body_length asked.verdict - length asked.body) where
-
+    (is : PatchesAs u w b (u.number_of b.draft) asked r p) (inside : (cut (reader w) s).rest ≡ InBody asked) (k : Link B) (left : ℕ)
+    (none : k.head.items ≡ []) (left_is : left ≡ body_length asked.verdict - length asked.body) where
   abbrev own : ℕ
   own = u.number_of b.draft
 
   part_told : (bytes : List ℕ) (a : Result Answer SessionError) → length bytes < left
-    → Parts u store' place a (record k { left = left - length bytes; task = tasks.Idle }) b (0 + length bytes) (fed w own bytes) (fed_patch w own p bytes) (dropped w own)
-    → new ≡ old → Turned u store' place a old new w (Some own) (part_turned w s own asked inside bytes)
+      → Parts u store' place a (record k { left = left - length bytes; task = tasks.Idle }) b (0 + length bytes) (fed w own bytes) (fed_patch w own p bytes) (dropped w own)
+      → new ≡ old → Turned u store' place a old new w (Some own) (part_turned w s own asked inside bytes)
   part_told bytes (Ok a) few (b', goes) same =
       let l : length (asked.body ++ bytes) ≡ length asked.body + length bytes = length-append asked.body bytes in
       let wants = body_wants w s asked inside in
@@ -190,8 +188,8 @@ module _ {U B : Type 0} (u : Ghosts U B) (store' : U) (place : Place B) (old new
   part_told bytes (Err errors.Closed) few x same = absurd x
 
   rest_answered : (q : List ℕ) (a : Answer) → length p.body + length q ≤ p.count → (cut (reader w) (s ++ q)).rest ≡ InHead []
-    → Answered u store' place a old new (record k { left = 0; task = tasks.Idle }) (0 + left) (ended_by w own p q r)
-    → TurnedAs u store' place a old new w (Some own) (rest_turned w s own asked inside p q r left)
+      → Answered u store' place a old new (record k { left = 0; task = tasks.Idle }) (0 + left) (ended_by w own p q r)
+      → TurnedAs u store' place a old new w (Some own) (rest_turned w s own asked inside p q r left)
   rest_answered q a few ends answered =
       let m = ended_by w own p q r in
       let moves = rest_moves u w b asked r p is q few in
@@ -210,16 +208,18 @@ module _ {U B : Type 0} (u : Ghosts U B) (store' : U) (place : Place B) (old new
       closed_moves : (w w' : World) (s' : List ℕ) (c : Bool) → Moves w w' (Some own) None → Moves w w' (Some own) (draft_at (if c then None else Some (plain s' None)))
       closed_moves w w' s' true moves = moves
       closed_moves w w' s' false moves = moves
+
       closes_is : (s' : List ℕ) (c : Bool) → c ≡ is_closed (if c then None else Some (plain s' None))
       closes_is s' true = refl
       closes_is s' false = refl
+
       more_is : (s' : List ℕ) (c : Bool) → false ≡ has_text (if c then None else Some (plain s' None))
       more_is s' true = refl
       more_is s' false = refl
 
   rest_told : (q : List ℕ) (a : Result Answer SessionError) → length p.body + length q ≤ p.count → (cut (reader w) (s ++ q)).rest ≡ InHead []
-    → Replies u store' place a old new (record k { left = 0; task = tasks.Idle }) (0 + left) (ended_by w own p q r) (dropped w own)
-    → Turned u store' place a old new w (Some own) (rest_turned w s own asked inside p q r left)
+      → Replies u store' place a old new (record k { left = 0; task = tasks.Idle }) (0 + left) (ended_by w own p q r) (dropped w own)
+      → Turned u store' place a old new w (Some own) (rest_turned w s own asked inside p q r left)
   rest_told q (Ok a) few ends x = rest_answered q a few ends x
   rest_told q (Err errors.NoMemory) few ends x = x
   rest_told q (Err errors.DiskFault) few ends x = x
@@ -227,27 +227,27 @@ module _ {U B : Type 0} (u : Ghosts U B) (store' : U) (place : Place B) (old new
   rest_told q (Err errors.Closed) few ends x = absurd x
 
   pub body_told : (bytes : List ℕ) (a : Result Answer SessionError)
-    → (length bytes < left → Parts u store' place a (record k { left = left - length bytes; task = tasks.Idle }) b (0 + length bytes) (fed w own bytes) (fed_patch w own p bytes) (dropped w own))
-    → (length bytes < left → new ≡ old)
-    → (left ≤ length bytes → Replies u store' place a old new (record k { left = 0; task = tasks.Idle }) (0 + left) (ended_by w own p (take left bytes) r) (dropped w own))
-    → Turned u store' place a old new w (Some own) (came_turn w (plain s (Some own)) bytes)
+      → (length bytes < left → Parts u store' place a (record k { left = left - length bytes; task = tasks.Idle }) b (0 + length bytes) (fed w own bytes) (fed_patch w own p bytes) (dropped w own))
+      → (length bytes < left → new ≡ old)
+      → (left ≤ length bytes → Replies u store' place a old new (record k { left = 0; task = tasks.Idle }) (0 + left) (ended_by w own p (take left bytes) r) (dropped w own))
+      → Turned u store' place a old new w (Some own) (came_turn w (plain s (Some own)) bytes)
   body_told bytes a part same rest =
       let wants = body_wants w s asked inside in
       elim (cases_lt (length bytes) left) [
-      | inl few ↦
-        subst (Turned u store' place a old new w (Some own)) (sym (part_is w s own asked inside bytes (omega arith))) (part_told bytes a few (part few) (same few))
-      | inr enough ↦
-        let l : length (take left bytes) ≡ left = length-take-le left bytes enough in
-        let v : body_length asked.verdict ≡ r.length = ap body_length is.asks in
-        let n : length p.body ≡ length asked.body = ap length is.body in
-        let c = is.count in
-        let ends = body_whole_rest (reader w) (steady (offers w.store.indexes)) s (take left bytes) asked inside (omega arith) in
-        subst (Turned u store' place a old new w (Some own)) (sym (rest_is w s own asked inside bytes p r left (sym left_is) (omega arith) is.found is.asks))
-        (rest_told (take left bytes) a (omega arith) ends (rest enough))
-    ]
+        | inl few ↦
+            subst (Turned u store' place a old new w (Some own)) (sym (part_is w s own asked inside bytes (omega arith))) (part_told bytes a few (part few) (same few))
+        | inr enough ↦
+            let l : length (take left bytes) ≡ left = length-take-le left bytes enough in
+            let v : body_length asked.verdict ≡ r.length = ap body_length is.asks in
+            let n : length p.body ≡ length asked.body = ap length is.body in
+            let c = is.count in
+            let ends = body_whole_rest (reader w) (steady (offers w.store.indexes)) s (take left bytes) asked inside (omega arith) in
+            subst (Turned u store' place a old new w (Some own)) (sym (rest_is w s own asked inside bytes p r left (sym left_is) (omega arith) is.found is.asks))
+            (rest_told (take left bytes) a (omega arith) ends (rest enough))
+      ]
 
 module _ {U B : Type 0} (u : Ghosts U B) (w : World) (conn : Conn) (k : Link B) (b : Patching B)
-  (is : IsPatching u w (cut (reader w) conn.stream).rest b conn.draft conn.pending) (kept : RestIs k.head.items k.left (cut (reader w) conn.stream).rest) where
+    (is : IsPatching u w (cut (reader w) conn.stream).rest b conn.draft conn.pending) (kept : RestIs k.head.items k.left (cut (reader w) conn.stream).rest) where
   abbrev pub own_of : ℕ
   own_of = u.number_of b.draft
 
@@ -284,10 +284,10 @@ module _ {U B : Type 0} (u : Ghosts U B) (w : World) (conn : Conn) (k : Link B) 
       omega arith
 
   pub patch_told : (store' : U) (place : Place B) (old new bytes : List ℕ) (a : Result Answer SessionError)
-    → (length bytes < k.left → Parts u store' place a (record k { left = k.left - length bytes; task = tasks.Idle }) b (0 + length bytes) (fed w own_of bytes) (fed_patch w own_of is.p bytes) (dropped w own_of))
-    → (length bytes < k.left → new ≡ old)
-    → (k.left ≤ length bytes → Replies u store' place a old new (record k { left = 0; task = tasks.Idle }) (0 + k.left) (ended_by w own_of is.p (take k.left bytes) is.r) (dropped w own_of))
-    → Turned u store' place a old new w conn.draft (came_turn w conn bytes)
+      → (length bytes < k.left → Parts u store' place a (record k { left = k.left - length bytes; task = tasks.Idle }) b (0 + length bytes) (fed w own_of bytes) (fed_patch w own_of is.p bytes) (dropped w own_of))
+      → (length bytes < k.left → new ≡ old)
+      → (k.left ≤ length bytes → Replies u store' place a old new (record k { left = 0; task = tasks.Idle }) (0 + k.left) (ended_by w own_of is.p (take k.left bytes) is.r) (dropped w own_of))
+      → Turned u store' place a old new w conn.draft (came_turn w conn bytes)
   patch_told store' place old new bytes a part same rest =
       subst (λ x. Turned u store' place a old new w x.draft (came_turn w x bytes)) (conn_is conn (Some own_of) draft_is_own is.idle)
       (body_told u store' place old new w conn.stream b is.asked is.r is.p own_patches is.rest_is k k.left kept_body.0 kept_body.1 bytes a part same rest)
@@ -301,76 +301,75 @@ module _ {U B : Type 0} (u : Ghosts U B) (w : World) (conn : Conn) (k : Link B) 
 
 -- a body that is dropped
 module _ {U B : Type 0} (u : Ghosts U B) (store : U) (w : World) (conn : Conn) (k : Link B) (stands : u.stands store w) (draft : conn.draft ≡ None) (idle : conn.pending ≡ None)
-  (kept : RestIs k.head.items k.left (cut (reader w) conn.stream).rest) (some : 0 < k.left) where
-
+    (kept : RestIs k.head.items k.left (cut (reader w) conn.stream).rest) (some : 0 < k.left) where
   abbrev dropped_turn : List ℕ → List ℕ → ℕ → Turn
   dropped_turn s q n = record { world = w; conn = Some (plain (s ++ q) None); bytes = []; taken = n }
 
   skipped : (s : List ℕ) (place : Place B) (a : Answer) (out bytes : List ℕ) (rest : Rest) → (cut (reader w) s).rest ≡ rest → RestIs k.head.items k.left rest
-    → place ≡ Open (record k { left = k.left - min k.left (length bytes); task = tasks.Idle }) → a ≡ took (0 + min k.left (length bytes)) false
-    → TurnedAs u store place a out out w None (came_turn w (plain s None) bytes)
+      → place ≡ Open (record k { left = k.left - min k.left (length bytes); task = tasks.Idle }) → a ≡ took (0 + min k.left (length bytes)) false
+      → TurnedAs u store place a out out w None (came_turn w (plain s None) bytes)
   skipped s place a out bytes (InHead h) inside (e, zero) place_is answer_is = absurd (omega arith)
   skipped s place a out bytes (InBody asked) inside (e, left_is) place_is answer_is =
       let wants = body_wants w s asked inside in
       elim (cases_lt (length bytes) k.left) [
-      | inl few ↦
-        let n : min k.left (length bytes) ≡ length bytes = omega arith in
-        let t : take (length bytes) bytes ≡ bytes = take_all (length bytes) bytes (omega arith) in
-        let turn : came_turn w (plain s None) bytes ≡ dropped_turn s bytes (length bytes) =
+        | inl few ↦
+            let n : min k.left (length bytes) ≡ length bytes = omega arith in
+            let t : take (length bytes) bytes ≡ bytes = take_all (length bytes) bytes (omega arith) in
+            let turn : came_turn w (plain s None) bytes ≡ dropped_turn s bytes (length bytes) =
             part_turn w (plain s None) asked inside bytes refl (omega arith) ∙ ap (λ q. dropped_turn s q (length bytes)) t in
-        let l : length (asked.body ++ bytes) ≡ length asked.body + length bytes = length-append asked.body bytes in
-        let here = body_part_rest (reader w) (steady (offers w.store.indexes)) s bytes asked inside (omega arith) in
-        let left' : k.left - min k.left (length bytes) ≡ body_length asked.verdict - length (asked.body ++ bytes) = omega arith in
-        let now : TurnedAs u store place a out out w None (dropped_turn s bytes (length bytes)) = record {
-          shown = stands;
-          here = idle_here u w place (record k { left = k.left - min k.left (length bytes); task = tasks.Idle }) false (s ++ bytes) (InBody (longer asked bytes)) place_is (e, left') here;
-          moves = still w None;
-          taken = ap (λ x. x.taken) answer_is ∙ (let x : 0 + min k.left (length bytes) ≡ length bytes = omega arith in x);
-          closes = ap (λ x. x.closes) answer_is;
-          more = ap (λ x. x.more) answer_is;
-          bytes = sym (append-nil out);
-        } in
-        subst (TurnedAs u store place a out out w None) (sym turn) now
-      | inr enough ↦
-        let n : min k.left (length bytes) ≡ k.left = omega arith in
-        let q = take k.left bytes in
-        let turn : came_turn w (plain s None) bytes ≡ dropped_turn s q k.left =
+            let l : length (asked.body ++ bytes) ≡ length asked.body + length bytes = length-append asked.body bytes in
+            let here = body_part_rest (reader w) (steady (offers w.store.indexes)) s bytes asked inside (omega arith) in
+            let left' : k.left - min k.left (length bytes) ≡ body_length asked.verdict - length (asked.body ++ bytes) = omega arith in
+            let now : TurnedAs u store place a out out w None (dropped_turn s bytes (length bytes)) = record {
+              shown = stands;
+              here = idle_here u w place (record k { left = k.left - min k.left (length bytes); task = tasks.Idle }) false (s ++ bytes) (InBody (longer asked bytes)) place_is (e, left') here;
+              moves = still w None;
+              taken = ap (λ x. x.taken) answer_is ∙ (let x : 0 + min k.left (length bytes) ≡ length bytes = omega arith in x);
+              closes = ap (λ x. x.closes) answer_is;
+              more = ap (λ x. x.more) answer_is;
+              bytes = sym (append-nil out);
+            } in
+            subst (TurnedAs u store place a out out w None) (sym turn) now
+        | inr enough ↦
+            let n : min k.left (length bytes) ≡ k.left = omega arith in
+            let q = take k.left bytes in
+            let turn : came_turn w (plain s None) bytes ≡ dropped_turn s q k.left =
             rest_turn w (plain s None) asked inside bytes refl (omega arith) wants ∙ ap (λ m. dropped_turn s (take m bytes) m) (sym left_is) in
-        let l : length q ≡ k.left = length-take-le k.left bytes enough in
-        let here = body_whole_rest (reader w) (steady (offers w.store.indexes)) s q asked inside (omega arith) in
-        let left' : k.left - min k.left (length bytes) ≡ 0 = omega arith in
-        let now : TurnedAs u store place a out out w None (dropped_turn s q k.left) = record {
-          shown = stands;
-          here = idle_here u w place (record k { left = k.left - min k.left (length bytes); task = tasks.Idle }) false (s ++ q) (InHead []) place_is (e, left') here;
-          moves = still w None;
-          taken = ap (λ x. x.taken) answer_is ∙ (let x : 0 + min k.left (length bytes) ≡ k.left = omega arith in x);
-          closes = ap (λ x. x.closes) answer_is;
-          more = ap (λ x. x.more) answer_is;
-          bytes = sym (append-nil out);
-        } in
-        subst (TurnedAs u store place a out out w None) (sym turn) now
-    ]
+            let l : length q ≡ k.left = length-take-le k.left bytes enough in
+            let here = body_whole_rest (reader w) (steady (offers w.store.indexes)) s q asked inside (omega arith) in
+            let left' : k.left - min k.left (length bytes) ≡ 0 = omega arith in
+            let now : TurnedAs u store place a out out w None (dropped_turn s q k.left) = record {
+              shown = stands;
+              here = idle_here u w place (record k { left = k.left - min k.left (length bytes); task = tasks.Idle }) false (s ++ q) (InHead []) place_is (e, left') here;
+              moves = still w None;
+              taken = ap (λ x. x.taken) answer_is ∙ (let x : 0 + min k.left (length bytes) ≡ k.left = omega arith in x);
+              closes = ap (λ x. x.closes) answer_is;
+              more = ap (λ x. x.more) answer_is;
+              bytes = sym (append-nil out);
+            } in
+            subst (TurnedAs u store place a out out w None) (sym turn) now
+      ]
 
   pub skip_told : (place : Place B) (a : Answer) (out bytes : List ℕ)
-    → place ≡ Open (record k { left = k.left - min k.left (length bytes); task = tasks.Idle }) → a ≡ took (0 + min k.left (length bytes)) false
-    → TurnedAs u store place a out out w conn.draft (came_turn w conn bytes)
+      → place ≡ Open (record k { left = k.left - min k.left (length bytes); task = tasks.Idle }) → a ≡ took (0 + min k.left (length bytes)) false
+      → TurnedAs u store place a out out w conn.draft (came_turn w conn bytes)
   skip_told place a out bytes e f =
       subst (λ x. TurnedAs u store place a out out w x.draft (came_turn w x bytes)) (conn_is conn None draft idle)
       (skipped conn.stream place a out bytes (cut (reader w) conn.stream).rest refl kept e f)
 
 pub text_turn_is : (w : World) (conn : Conn) (bytes : List ℕ) (h : Giving) → conn.pending ≡ Some h
-  → record { world = w; conn = Some conn; bytes = []; taken = 0 } ≡ came_turn w conn bytes
+    → record { world = w; conn = Some conn; bytes = []; taken = 0 } ≡ came_turn w conn bytes
 unfolding came_turn
 text_turn_is w conn bytes h e = sym (ap (came_on w conn bytes) e)
 
 -- no body is under way
 inside_case : (w : World) (conn : Conn) (head : List ℕ) (left : ℕ) (rest : Rest) → (cut (reader w) conn.stream).rest ≡ rest → RestIs head left rest → left ≡ 0
-  → (cut (reader w) conn.stream).rest ≡ InHead head
+    → (cut (reader w) conn.stream).rest ≡ InHead head
 inside_case w conn head left (InHead h) e (same, x) none = e ∙ ap InHead (sym same)
 inside_case w conn head left (InBody asked) e (x, left_is) none = let wants = body_wants w conn.stream asked e in absurd (omega arith)
 
 pub inside_at : (w : World) (conn : Conn) (head : List ℕ) (left : ℕ) → RestIs head left (cut (reader w) conn.stream).rest → left ≡ 0 → conn.draft ≡ None → conn.pending ≡ None
-  → InsideHead w conn head
+    → InsideHead w conn head
 inside_at w conn head left kept none draft pending = record {
   rest = inside_case w conn head left (cut (reader w) conn.stream).rest refl kept none;
   draft = draft;

@@ -17,13 +17,13 @@ body_turn w k piece n moment = turn_of k piece n (body_step (at_head w k.draft N
 
 module _ (w : World) (k : Conn) (asked : Asked) (rest : (cut (reader w) k.stream).rest ≡ InBody asked) where
   by_moments : (piece : List ℕ) (n : ℕ) (m : Moments) → taken (reader w) k.stream piece ≡ n → moments (reader w) k.stream (take n piece) ≡ m
-    → came_on w k piece None ≡ came_at w k piece n m
+      → came_on w k piece None ≡ came_at w k piece n m
   by_moments piece n m e f =
       ap (λ n. came_at w k piece n (moments (reader w) k.stream (take n piece))) e ∙ ap (came_at w k piece n) f
 
   -- fewer bytes than the body wants: all are taken
   pub part_turn : (piece : List ℕ) → k.pending ≡ None → length asked.body + length piece < body_length asked.verdict
-    → came_turn w k piece ≡ body_turn w k piece (length piece) None
+      → came_turn w k piece ≡ body_turn w k piece (length piece) None
   unfolding came_turn
   part_turn piece idle few =
       let answer = reader w in
@@ -33,16 +33,16 @@ module _ (w : World) (k : Conn) (asked : Asked) (rest : (cut (reader w) k.stream
       let only : cut answer u ≡ only_body asked = left_alone answer s k.stream ∙ ap (λ x. record { whole = []; rest = x }) rest in
       let t : take (length piece) piece ≡ piece = take_all (length piece) piece (omega arith) in
       let few' : length asked.body + length (take (length piece) piece) < body_length asked.verdict =
-          let l : length (take (length piece) piece) ≡ length piece = ap length t in omega arith in
+      let l : length (take (length piece) piece) ≡ length piece = ap length t in omega arith in
       let n : taken answer k.stream piece ≡ length piece = taken_alone answer s k.stream piece ∙ part_taken answer s u piece b.0 asked b.1 only few in
       let m : moments answer k.stream (take (length piece) piece) ≡ bytes_came (take (length piece) piece) =
-          moments_alone answer s k.stream (take (length piece) piece) ∙ part_came answer s u (take (length piece) piece) b.0 asked b.1 only few' in
+      moments_alone answer s k.stream (take (length piece) piece) ∙ part_came answer s u (take (length piece) piece) b.0 asked b.1 only few' in
       ap (came_on w k piece) idle ∙ by_moments piece (length piece) (bytes_came (take (length piece) piece)) n m
 
   -- the rest of the body is in the piece: it alone is taken, and it is the body moment
   pub rest_turn : (piece : List ℕ) → k.pending ≡ None → body_length asked.verdict ≤ length asked.body + length piece → length asked.body < body_length asked.verdict
-    → came_turn w k piece ≡ body_turn w k piece (body_length asked.verdict - length asked.body)
-        (Some (longer asked (take (body_length asked.verdict - length asked.body) piece)))
+      → came_turn w k piece ≡ body_turn w k piece (body_length asked.verdict - length asked.body)
+      (Some (longer asked (take (body_length asked.verdict - length asked.body) piece)))
   unfolding came_turn
   rest_turn piece idle enough wants =
       let answer = reader w in

@@ -62,7 +62,7 @@ module _ {U B : Type 0} (u : Ghosts U B) where
 
   -- a place whose draft is dropped
   pub draft_closing : (st : State) (left : ℕ) (store store' : U) (v : World) (d : ℕ) → IsClosing u st (suc left) store v → draft_at (st.conns left) ≡ Some d
-    → u.stands store' (dropped v d) → IsClosing u st left store' (dropped v d)
+      → u.stands store' (dropped v d) → IsClosing u st left store' (dropped v d)
   draft_closing st left store store' v d is own shown = record {
     shown = shown;
     uploads = is.uploads;
@@ -70,18 +70,18 @@ module _ {U B : Type 0} (u : Ghosts U B) where
     unique = apart_without d v.patches is.unique;
     owned = λ e p found. elim (cases_eq d e) [
       | inl same ↦
-        let none : find e (without d v.patches) ≡ None = subst (λ n. find n (without d v.patches) ≡ None) same (find_without_same d v.patches is.unique) in
-        let x : Some p ≡ None = sym found ∙ none in absurd (cc)
+          let none : find e (without d v.patches) ≡ None = subst (λ n. find n (without d v.patches) ≡ None) same (find_without_same d v.patches is.unique) in
+          let x : Some p ≡ None = sym found ∙ none in absurd (cc)
       | inr ne ↦
-        let c = is.owned e p (sym (find_without_other d e v.patches ne) ∙ found) in
-        let other : c.0 ≢ left = λ same. ne (let x : Some d ≡ Some e = sym own ∙ (ap (λ i. draft_at (st.conns i)) (sym same) ∙ c.2) in let y : d ≡ e = cc in y) in
-        (c.0, omega (arith, c.1, other), c.2)
+          let c = is.owned e p (sym (find_without_other d e v.patches ne) ∙ found) in
+          let other : c.0 ≢ left = λ same. ne (let x : Some d ≡ Some e = sym own ∙ (ap (λ i. draft_at (st.conns i)) (sym same) ∙ c.2) in let y : d ≡ e = cc in y) in
+          (c.0, omega (arith, c.1, other), c.2)
     ];
   }
 
   task_closing : (st : State) (left : ℕ) (store store' : U) (v : World) (task : Task B) (conn : Conn) → IsClosing u st (suc left) store v → st.conns left ≡ Some conn
-    → TaskIs u st.world (cut (reader st.world) conn.stream).rest task conn.draft conn.pending
-    → u.stands store' (dropped_by u v task) → (v' : World) × IsClosing u st left store' v'
+      → TaskIs u st.world (cut (reader st.world) conn.stream).rest task conn.draft conn.pending
+      → u.stands store' (dropped_by u v task) → (v' : World) × IsClosing u st left store' v'
   task_closing st left store store' v tasks.Idle conn is e does shown =
       let none = (idling u st.world (cut (reader st.world) conn.stream).rest tasks.Idle conn.draft conn.pending does refl).0 in
       let now : IsClosing u st (suc left) store' v = record { shown = shown; uploads = is.uploads; blocks = is.blocks; unique = is.unique; owned = is.owned } in
@@ -96,12 +96,12 @@ module _ {U B : Type 0} (u : Ghosts U B) where
       (dropped v open_is.d, draft_closing st left store store' v open_is.d is (ap draft_at e ∙ open_is.draft_is) stands)
 
   pub link_closing : (st : State) (left : ℕ) (store store' : U) (v : World) (k : Link B) (o : Option Conn) → IsClosing u st (suc left) store v → st.conns left ≡ o
-    → PlaceIs u st.world (Open k) o → u.stands store' (dropped_by u v k.task) → (v' : World) × IsClosing u st left store' v'
+      → PlaceIs u st.world (Open k) o → u.stands store' (dropped_by u v k.task) → (v' : World) × IsClosing u st left store' v'
   link_closing st left store store' v k None is e place shown = absurd place
   link_closing st left store store' v k (Some conn) is e place shown = task_closing st left store store' v k.task conn is e place.does shown
 
   pub closed_closing : (st : State) (left : ℕ) (store : U) (v : World) (o : Option Conn) → IsClosing u st (suc left) store v → st.conns left ≡ o
-    → PlaceIs u st.world Closed o → (v' : World) × IsClosing u st left store v'
+      → PlaceIs u st.world Closed o → (v' : World) × IsClosing u st left store v'
   closed_closing st left store v None is e place = (v, none_closing st left store v is (ap draft_at e))
   closed_closing st left store v (Some conn) is e place = absurd place
 
@@ -131,7 +131,7 @@ pub popped : {B : Type 0} (all old new : List (Place B)) (x : Place B) → old �
 popped all old new x front items =
     let rest = drop (length old) all in
     let whole : all ≡ new ++ x ∷ rest =
-        sym (take-append-drop (length old) all) ∙ (ap (λ ys. ys ++ rest) (sym front ∙ items) ∙ append_assoc new (x ∷ []) rest) in
+    sym (take-append-drop (length old) all) ∙ (ap (λ ys. ys ++ rest) (sym front ∙ items) ∙ append_assoc new (x ∷ []) rest) in
     let n : length (new ++ x ∷ []) ≡ length new + length (x ∷ []) = length-append new (x ∷ []) in
     let m : length old ≡ length (new ++ x ∷ []) = ap length items in
     record {
@@ -148,13 +148,13 @@ module _ {U B : Type 0} (u : Ghosts U B) (all old new : List (Place B)) (first :
   one_less store v x is closing = subst (λ n. IsClosing u st n store v) is.count closing
 
   pub after_closed : (store : U) (v : World) (x : Place B) → x ≡ Closed → Popped all old new x → IsClosing u st (length old) store v
-    → (v' : World) × IsClosing u st (length new) store v'
+      → (v' : World) × IsClosing u st (length new) store v'
   after_closed store v x e is closing =
       closed_closing u st (length new) store v (st.conns (length new)) (one_less store v x is closing) refl
       (subst (λ p. PlaceIs u st.world p (st.conns (length new))) e (place_there x is))
 
   pub after_open : (store store' : U) (v : World) (x : Place B) (k : Link B) → x ≡ Open k → Popped all old new x → IsClosing u st (length old) store v
-    → u.stands store' (dropped_by u v k.task) → (v' : World) × IsClosing u st (length new) store' v'
+      → u.stands store' (dropped_by u v k.task) → (v' : World) × IsClosing u st (length new) store' v'
   after_open store store' v x k e is closing shown =
       link_closing u st (length new) store store' v k (st.conns (length new)) (one_less store v x is closing) refl
       (subst (λ p. PlaceIs u st.world p (st.conns (length new))) e (place_there x is)) shown

@@ -14,7 +14,7 @@ after_whole rs c = record { whole = rs ++ c.whole; rest = c.rest }
 
 -- two cuts that agree on shorter streams
 head_same : (f g : List ℕ → Cut) (head : List ℕ) (v : Verdict) (rest : List ℕ) (b : Bool) → f (drop (body_length v) rest) ≡ g (drop (body_length v) rest)
-  → behind_head f head v rest b ≡ behind_head g head v rest b
+    → behind_head f head v rest b ≡ behind_head g head v rest b
 head_same f g head v rest true e = refl
 head_same f g head v rest false e = ap (onto (record { head = head; verdict = v; body = take (body_length v) rest })) e
 
@@ -25,7 +25,7 @@ shorter s n m some within =
     omega arith
 
 answer_same : (answer : Reader) → IsSteady answer → (f g : List ℕ → Cut) (s : List ℕ) (a : Answer) → answer s ≡ a
-  → ((t : List ℕ) → length t < length s → f t ≡ g t) → by_answer f s a ≡ by_answer g s a
+    → ((t : List ℕ) → length t < length s → f t ≡ g t) → by_answer f s a ≡ by_answer g s a
 answer_same answer steady f g s More e same = refl
 answer_same answer steady f g s (Judged n v) e same =
     head_same f g (take n s) v (drop n s) (nat_lt (length (drop n s)) (body_length v))
@@ -51,7 +51,7 @@ abbrev pub GoesOn : Reader → List ℕ → List ℕ → Cut → Type 0
 GoesOn answer p s c = cut answer (s ++ p) ≡ after_whole c.whole (cut answer (rest_bytes c.rest ++ p))
 
 body_there : (f : List ℕ → Cut) (head : List ℕ) (v : Verdict) (rest p : List ℕ) → body_length v ≤ length rest
-  → behind_head f head v (rest ++ p) (nat_lt (length (rest ++ p)) (body_length v))
+    → behind_head f head v (rest ++ p) (nat_lt (length (rest ++ p)) (body_length v))
     ≡ onto (record { head = head; verdict = v; body = take (body_length v) rest }) (f (drop (body_length v) rest ++ p))
 body_there f head v rest p fits =
     let n : length (rest ++ p) ≡ length rest + length p = length-append rest p in
@@ -60,14 +60,14 @@ body_there f head v rest p fits =
     ∙ ap (λ x. onto (record { head = head; verdict = v; body = take (body_length v) rest }) (f x)) (drop-append-le (body_length v) rest p fits))
 
 pub head_there : (f : List ℕ → Cut) (n : ℕ) (v : Verdict) (s p : List ℕ) → n ≤ length s
-  → by_answer f (s ++ p) (Judged n v) ≡ behind_head f (take n s) v (drop n s ++ p) (nat_lt (length (drop n s ++ p)) (body_length v))
+    → by_answer f (s ++ p) (Judged n v) ≡ behind_head f (take n s) v (drop n s ++ p) (nat_lt (length (drop n s ++ p)) (body_length v))
 head_there f n v s p within =
     ap (λ x. behind_head f x v (drop n (s ++ p)) (nat_lt (length (drop n (s ++ p))) (body_length v))) (take-append-le n s p within)
     ∙ ap (λ x. behind_head f (take n s) v x (nat_lt (length x) (body_length v))) (drop-append-le n s p within)
 
 on_body : (answer : Reader) → IsSteady answer → (s p : List ℕ) (n : ℕ) (v : Verdict) → answer s ≡ Judged n v
-  → ((t : List ℕ) → length t < length s → GoesOn answer p t (cut answer t))
-  → (b : Bool) → nat_lt (length (drop n s)) (body_length v) ≡ b → GoesOn answer p s (behind_head (cut answer) (take n s) v (drop n s) b)
+    → ((t : List ℕ) → length t < length s → GoesOn answer p t (cut answer t))
+    → (b : Bool) → nat_lt (length (drop n s)) (body_length v) ≡ b → GoesOn answer p s (behind_head (cut answer) (take n s) v (drop n s) b)
 on_body answer steady s p n v e goes true under = ap (λ x. cut answer (x ++ p)) (sym (take-append-drop n s))
 on_body answer steady s p n v e goes false there =
     let within = steady.within s n v e in
@@ -79,7 +79,7 @@ on_body answer steady s p n v e goes false there =
     ∙ ap (onto (record { head = take n s; verdict = v; body = take (body_length v) (drop n s) })) (goes t (shorter s n (body_length v) (steady.some s n v e) within)))))
 
 on_answer : (answer : Reader) → IsSteady answer → (s p : List ℕ) (a : Answer) → answer s ≡ a
-  → ((t : List ℕ) → length t < length s → GoesOn answer p t (cut answer t)) → GoesOn answer p s (by_answer (cut answer) s a)
+    → ((t : List ℕ) → length t < length s → GoesOn answer p t (cut answer t)) → GoesOn answer p s (by_answer (cut answer) s a)
 on_answer answer steady s p More e goes = refl
 on_answer answer steady s p (Judged n v) e goes =
     on_body answer steady s p n v e goes (nat_lt (length (drop n s)) (body_length v)) refl
@@ -98,19 +98,19 @@ abbrev pub Covers : List ℕ → Cut → Type 0
 Covers s c = span c.whole + length (rest_bytes c.rest) ≡ length s
 
 cover_body : (answer : Reader) → IsSteady answer → (s : List ℕ) (n : ℕ) (v : Verdict) → n ≤ length s → 0 < n
-  → ((t : List ℕ) → length t < length s → Covers t (cut answer t))
-  → (b : Bool) → nat_lt (length (drop n s)) (body_length v) ≡ b → Covers s (behind_head (cut answer) (take n s) v (drop n s) b)
+    → ((t : List ℕ) → length t < length s → Covers t (cut answer t))
+    → (b : Bool) → nat_lt (length (drop n s)) (body_length v) ≡ b → Covers s (behind_head (cut answer) (take n s) v (drop n s) b)
 cover_body answer steady s n v within some covers true under = let e : length (take n s ++ drop n s) ≡ length s = ap length (take-append-drop n s) in omega arith
 cover_body answer steady s n v within some covers false there =
     let t = drop (body_length v) (drop n s) in
     let c = covers t (shorter s n (body_length v) some within) in
     let a : length (take n s) + length (drop n s) ≡ length s = sym (length-append (take n s) (drop n s)) ∙ ap length (take-append-drop n s) in
     let b : length (take (body_length v) (drop n s)) + length t ≡ length (drop n s) =
-        sym (length-append (take (body_length v) (drop n s)) t) ∙ ap length (take-append-drop (body_length v) (drop n s)) in
+    sym (length-append (take (body_length v) (drop n s)) t) ∙ ap length (take-append-drop (body_length v) (drop n s)) in
     omega arith
 
 cover_answer : (answer : Reader) → IsSteady answer → (s : List ℕ) (a : Answer) → answer s ≡ a
-  → ((t : List ℕ) → length t < length s → Covers t (cut answer t)) → Covers s (by_answer (cut answer) s a)
+    → ((t : List ℕ) → length t < length s → Covers t (cut answer t)) → Covers s (by_answer (cut answer) s a)
 cover_answer answer steady s More e covers = omega arith
 cover_answer answer steady s (Judged n v) e covers =
     cover_body answer steady s n v (steady.within s n v e) (steady.some s n v e) covers (nat_lt (length (drop n s)) (body_length v)) refl
@@ -146,7 +146,7 @@ left_alone answer steady s =
     let c = cut answer s in
     let u = rest_bytes c.rest in
     let e : c ≡ after_whole c.whole (cut answer u) =
-        ap (cut answer) (sym (append-nil s)) ∙ (goes_on answer steady s [] ∙ ap (λ x. after_whole c.whole (cut answer x)) (append-nil u)) in
+    ap (cut answer) (sym (append-nil s)) ∙ (goes_on answer steady s [] ∙ ap (λ x. after_whole c.whole (cut answer x)) (append-nil u)) in
     let w : (cut answer u).whole ≡ [] = none_more c.whole (cut answer u).whole (ap (λ x. x.whole) e) in
     let r : (cut answer u).rest ≡ c.rest = sym (ap (λ x. x.rest) e) in
     both (cut answer u).whole [] (cut answer u).rest c.rest w r
@@ -167,22 +167,23 @@ abbrev IsMoments : Moments → Moments → Type 0
 IsMoments m n = m ≡ n
 
 three : {h h' b b' : Option Asked} {c c' : List ℕ} → h ≡ h' → b ≡ b' → c ≡ c'
-  → IsMoments (record { head = h; body = b; came = c }) (record { head = h'; body = b'; came = c' })
+    → IsMoments (record { head = h; body = b; came = c }) (record { head = h'; body = b'; came = c' })
 three {h} {h'} {b} {b'} {c} {c'} e f g =
     ap (λ x. record { head = x; body = b; came = c }) e ∙ (ap (λ x. record { head = h'; body = x; came = c }) f ∙ ap (λ x. record { head = h'; body = b'; came = x }) g)
 
 -- behind whole requests, the moments are those without them
 moments_behind : (ws : List Asked) (r : Rest) (d : Cut)
-  → moments_of (record { whole = ws; rest = r }) (after_whole ws d) ≡ moments_of (record { whole = []; rest = r }) d
+    → moments_of (record { whole = ws; rest = r }) (after_whole ws d) ≡ moments_of (record { whole = []; rest = r }) d
 moments_behind ws r d =
     let heads : (ws ++ d.whole) ++ headed d.rest ≡ ws ++ heads_of d = append_assoc ws d.whole (headed d.rest) in
     let h : slice_get ((ws ++ d.whole) ++ headed d.rest) (length (ws ++ headed r)) ≡ slice_get (heads_of d) (length (headed r)) =
-        ap (λ x. slice_get x (length (ws ++ headed r))) heads
-        ∙ (ap (slice_get (ws ++ heads_of d)) (length-append ws (headed r)) ∙ get_behind ws (heads_of d) (length (headed r))) in
+    ap (λ x. slice_get x (length (ws ++ headed r))) heads
+    ∙ (ap (slice_get (ws ++ heads_of d)) (length-append ws (headed r)) ∙ get_behind ws (heads_of d) (length (headed r))) in
     let b : slice_get (ws ++ d.whole) (length ws) ≡ slice_get d.whole 0 = get_first_behind ws d.whole in
     let c : slice_get ((ws ++ d.whole) ++ headed d.rest) (length ws) ≡ slice_get (heads_of d) 0 =
-        ap (λ x. slice_get x (length ws)) heads ∙ get_first_behind ws (heads_of d) in
+    ap (λ x. slice_get x (length ws)) heads ∙ get_first_behind ws (heads_of d) in
     three h b (ap (λ x. drop (length (rest_body r)) (body_of x)) c)
+
 -- the unfinished part of a stream
 abbrev pub left : Reader → List ℕ → List ℕ
 left answer s = rest_bytes (cut answer s).rest
@@ -198,7 +199,7 @@ moments_alone answer steady s q =
 
 -- how much is taken, by what is left alone
 by_end : (ws : List Asked) (s u p : List ℕ) (d : Cut) → span ws + length u ≡ length s → (r : Option Asked)
-  → taken_to s p (after_whole ws d) (length ws) r ≡ taken_to u p d 0 r
+    → taken_to s p (after_whole ws d) (length ws) r ≡ taken_to u p d 0 r
 by_end ws s u p d covers None = refl
 by_end ws s u p d covers (Some r) =
     let front : take (length ws) (ws ++ d.whole) ≡ ws = take-append_seam ws d.whole in
@@ -206,7 +207,7 @@ by_end ws s u p d covers (Some r) =
     omega arith
 
 taken_behind : (ws : List Asked) (r : Rest) (s u p : List ℕ) (d : Cut) → span ws + length u ≡ length s
-  → taken_of s p (record { whole = ws; rest = r }) (after_whole ws d) ≡ taken_of u p (record { whole = []; rest = r }) d
+    → taken_of s p (record { whole = ws; rest = r }) (after_whole ws d) ≡ taken_of u p (record { whole = []; rest = r }) d
 taken_behind ws r s u p d covers =
     ap (taken_to s p (after_whole ws d) (length ws)) (get_first_behind ws d.whole) ∙ by_end ws s u p d covers (slice_get d.whole 0)
 

@@ -45,7 +45,7 @@ without_first : (d : ℕ) (q : Patch) (xs : List (ℕ × Patch)) → without d (
 without_first d q xs = grind (arith, nat_tests)
 
 without_case : (d : ℕ) (q : Patch) (x : ℕ × Patch) (xs : List (ℕ × Patch)) → without d (replaced d q xs) ≡ without d xs → (b : Bool) → (x.0 == d) ≡ b
-  → without d (if b then (d, q) ∷ xs else x ∷ replaced d q xs) ≡ (if b then xs else x ∷ without d xs)
+    → without d (if b then (d, q) ∷ xs else x ∷ replaced d q xs) ≡ (if b then xs else x ∷ without d xs)
 without_case d q x xs ih true e = without_first d q xs
 without_case d q x xs ih false e = rw e (ap (λ ys. x ∷ ys) ih)
 
@@ -61,7 +61,7 @@ drop_fed w d p (b ∷ piece) found =
 
 -- the offset behind the whole body
 pub reached_fed : (w : World) (d : ℕ) (p : Patch) (piece : List ℕ) (n : ℕ) → length p.body + length piece ≡ p.count → n ≡ length p.began.accepted + p.count
-  → n ≡ reached (fed_patch w d p piece)
+    → n ≡ reached (fed_patch w d p piece)
 reached_fed w d p piece n all e =
     let a : length (fed_patch w d p piece).began.accepted ≡ length p.began.accepted = ap (λ u. length u.accepted) (fed_began w d p piece) in
     let b : length (fed_patch w d p piece).body ≡ length p.body + length piece = ap length (fed_body w d p piece) ∙ length-append p.body piece in
@@ -69,7 +69,7 @@ reached_fed w d p piece n all e =
 
 -- the store behind the body's end
 pub ended_store : (w : World) (d : ℕ) (p : Patch) (piece : List ℕ) (r : Request)
-  → commit_outcome (fed w d piece) d (fed_patch w d p piece) ≡ (ended_by w d p piece r).world.store
+    → commit_outcome (fed w d piece) d (fed_patch w d p piece) ≡ (ended_by w d p piece r).world.store
 ended_store w d p piece r =
     sym (spent_store (fed w d piece) d (fed_patch w d p piece) (commit_refusal (fed w d piece) d (fed_patch w d p piece)))
 
@@ -80,8 +80,8 @@ module _ {U B : Type 0} (u : Ghosts U B) where
 
   -- a reply was given, and no draft is open
   pub answered_as : (store : U) (place : Place B) (acted : code.Acted B) (old new : List ℕ) (k : Link B) (taken : ℕ) (m : Acted) → ActedAs u store acted old new m → m.draft ≡ None
-    → (acted.draft ≡ None → place ≡ (if acted.closes then Closed else Open (record k { task = tasks.Idle })))
-    → Answered u store place (took taken acted.closes) old new k taken m
+      → (acted.draft ≡ None → place ≡ (if acted.closes then Closed else Open (record k { task = tasks.Idle })))
+      → Answered u store place (took taken acted.closes) old new k taken m
   answered_as store place acted old new k taken m is none at =
       let d : DraftIs u m.world acted.draft None = subst (DraftIs u m.world acted.draft) none is.draft in
       record {

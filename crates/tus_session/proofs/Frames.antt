@@ -35,37 +35,43 @@ gives_more w w' g h up grows is =
     let n : length (t ++ m.1) ≡ length t + length m.1 = length-append t m.1 in
     let within = is.within in
     let l : length (text_of w'.store.indexes (with_bytes up m.0)) ≡ length t + length m.1 = ap length m.3 ∙ n in
-    let f : take g.length (text_of w'.store.indexes (with_bytes up m.0)) ≡ take g.length t = ap (take g.length) m.3 ∙ take-append-le g.length t m.1 within in
-    (with_bytes up m.0, record {
-      number = is.number;
-      found = m.2;
-      some = is.some;
-      within = omega arith;
-      left = is.left ∙ ap (drop g.given) (sym f);
-      closes = is.closes;
-    })
+    let f : take g.length (text_of w'.store.indexes (with_bytes up m.0)) ≡ take g.length t = ap (take g.length) m.3 ∙ take-append-le g.length t m.1 within in (
+      with_bytes up m.0,
+      record {
+        number = is.number;
+        found = m.2;
+        some = is.some;
+        within = omega arith;
+        left = is.left ∙ ap (drop g.given) (sym f);
+        closes = is.closes;
+      },
+    )
 
 module _ {U B : Type 0} (u : Ghosts U B) where
   patch_moved : (w w' : World) (own : Option ℕ) (b : Patching B) (d : ℕ) (rest : Rest) → Grows w.store w'.store
-    → ((e : ℕ) (p : Patch) → (own ≡ Some e → ⊥) → find e w.patches ≡ Some p → find e w'.patches ≡ Some p)
-    → (own ≡ Some d → ⊥) → PatchIs u w rest b d → PatchIs u w' rest b d
+      → ((e : ℕ) (p : Patch) → (own ≡ Some e → ⊥) → find e w.patches ≡ Some p → find e w'.patches ≡ Some p)
+      → (own ≡ Some d → ⊥) → PatchIs u w rest b d → PatchIs u w' rest b d
   patch_moved w w' own b d (InHead h) grows others ne is = absurd is
-  patch_moved w w' own b d (InBody asked) grows others ne (r, p, is) = (r, p, record {
-    number = is.number;
-    found = others d p ne is.found;
-    holds = is.holds;
-    asks = is.asks;
-    count = is.count;
-    body = is.body;
-    reached = is.reached;
-    fits = is.fits;
-    grown = there_more w w' p grows is.grown;
-    bare = is.bare;
-    closes = is.closes;
-  })
+  patch_moved w w' own b d (InBody asked) grows others ne (r, p, is) = (
+    r,
+    p,
+    record {
+      number = is.number;
+      found = others d p ne is.found;
+      holds = is.holds;
+      asks = is.asks;
+      count = is.count;
+      body = is.body;
+      reached = is.reached;
+      fits = is.fits;
+      grown = there_more w w' p grows is.grown;
+      bare = is.bare;
+      closes = is.closes;
+    },
+  )
 
   task_moved : (w w' : World) (own own' : Option ℕ) (rest : Rest) (task : Task B) (draft : Option ℕ) (pending : Option Giving) → Moves w w' own own'
-    → ((e : ℕ) → draft ≡ Some e → own ≡ Some e → ⊥) → TaskIs u w rest task draft pending → TaskIs u w' rest task draft pending
+      → ((e : ℕ) → draft ≡ Some e → own ≡ Some e → ⊥) → TaskIs u w rest task draft pending → TaskIs u w' rest task draft pending
   task_moved w w' own own' rest tasks.Idle None None moves ne is = tt
   task_moved w w' own own' rest tasks.Idle None (Some h) moves ne is = absurd is
   task_moved w w' own own' rest tasks.Idle (Some d) pending moves ne is = absurd is
@@ -77,10 +83,10 @@ module _ {U B : Type 0} (u : Ghosts U B) where
   task_moved w w' own own' rest (tasks.Text g) (Some d) pending moves ne is = absurd is
 
   link_moved : (w w' : World) (own own' : Option ℕ) (head : List ℕ) (left : ℕ) (task : Task B) (conn : Conn) → Moves w w' own own'
-    → ((e : ℕ) → conn.draft ≡ Some e → own ≡ Some e → ⊥) → LinkIs u w head left task conn → LinkIs u w' head left task conn
+      → ((e : ℕ) → conn.draft ≡ Some e → own ≡ Some e → ⊥) → LinkIs u w head left task conn → LinkIs u w' head left task conn
   link_moved w w' own own' head left task conn moves ne is =
       let e : (cut (reader w) conn.stream).rest ≡ (cut (reader w') conn.stream).rest =
-          ap (λ x. (cut (answer_of (offers x)) conn.stream).rest) (sym moves.grows.indexes) in
+      ap (λ x. (cut (answer_of (offers x)) conn.stream).rest) (sym moves.grows.indexes) in
       record {
         kept = subst (RestIs head left) e is.kept;
         does = subst (λ r. TaskIs u w' r task conn.draft conn.pending) e
@@ -88,14 +94,14 @@ module _ {U B : Type 0} (u : Ghosts U B) where
       }
 
   pub place_moved : (w w' : World) (own own' : Option ℕ) (place : Place B) (conn : Option Conn) → Moves w w' own own'
-    → ((e : ℕ) → draft_at conn ≡ Some e → own ≡ Some e → ⊥) → PlaceIs u w place conn → PlaceIs u w' place conn
+      → ((e : ℕ) → draft_at conn ≡ Some e → own ≡ Some e → ⊥) → PlaceIs u w place conn → PlaceIs u w' place conn
   place_moved w w' own own' Closed None moves ne is = tt
   place_moved w w' own own' Closed (Some conn) moves ne is = absurd is
   place_moved w w' own own' (Open k) None moves ne is = absurd is
   place_moved w w' own own' (Open k) (Some conn) moves ne is = link_moved w w' own own' k.head.items k.left k.task conn moves ne is
 
   task_draft : (w : World) (rest : Rest) (task : Task B) (draft : Option ℕ) (pending : Option Giving) (d : ℕ) → TaskIs u w rest task draft pending → draft ≡ Some d
-    → (p : Patch) × (find d w.patches ≡ Some p)
+      → (p : Patch) × (find d w.patches ≡ Some p)
   task_draft w rest tasks.Idle None None d is e = absurd (cc)
   task_draft w rest tasks.Idle None (Some h) d is e = absurd is
   task_draft w rest tasks.Idle (Some x) pending d is e = absurd is
@@ -109,7 +115,7 @@ module _ {U B : Type 0} (u : Ghosts U B) where
 
   -- a draft's patch is open
   pub draft_found : (w : World) (place : Place B) (conn : Option Conn) (d : ℕ) → PlaceIs u w place conn → draft_at conn ≡ Some d
-    → (p : Patch) × (find d w.patches ≡ Some p)
+      → (p : Patch) × (find d w.patches ≡ Some p)
   draft_found w Closed None d is e = absurd (cc)
   draft_found w Closed (Some conn) d is e = absurd is
   draft_found w (Open k) None d is e = absurd is

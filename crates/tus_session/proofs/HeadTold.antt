@@ -37,7 +37,7 @@ is_steady w = steady (offers w.store.indexes)
 -- without a patch or a text, what the head did is all
 came_plain : (k : Conn) (piece : List ℕ) (n : ℕ) (m : Moments) (a : Acted) → a.pending ≡ None → a.draft ≡ None → came_with k piece n m a ≡ turn_of k piece n a
 came_plain k piece n m a idle none =
-    ap (λ b. elim b as (λ _. Turn) [ | true ↦ turn_of k piece (n - length m.came) a | false ↦ turn_of k piece n (body_step a m.came m.body a.draft) ]) (ap is_pending idle)
+    ap (λ b. elim b as (λ _. Turn) [ true ↦ turn_of k piece (n - length m.came) a | false ↦ turn_of k piece n (body_step a m.came m.body a.draft) ]) (ap is_pending idle)
     ∙ ap (λ d. turn_of k piece n (body_step a m.came m.body d)) none
 
 abbrev pub answered_turn : Acted → List ℕ → ℕ → Turn
@@ -51,9 +51,9 @@ turn_plain k piece n a idle none =
 
 module _ {U B : Type 0} (u : Ghosts U B) where
   answered_as_turn : (store' : U) (place : Place B) (x : code.Answer) (old new : List ℕ) (w : World) (k : Link B) (a : Acted) (s' : List ℕ) (rest : Rest) (n : ℕ)
-    → u.stands store' a.world → Moves w a.world None None → place ≡ (if a.closes then Closed else Open (record k { task = tasks.Idle })) → RestIs k.head.items k.left rest
-    → (cut (reader w) s').rest ≡ rest → x ≡ took n a.closes → new ≡ old ++ a.bytes
-    → TurnedAs u store' place x old new w None (answered_turn a s' n)
+      → u.stands store' a.world → Moves w a.world None None → place ≡ (if a.closes then Closed else Open (record k { task = tasks.Idle })) → RestIs k.head.items k.left rest
+      → (cut (reader w) s').rest ≡ rest → x ≡ took n a.closes → new ≡ old ++ a.bytes
+      → TurnedAs u store' place x old new w None (answered_turn a s' n)
   answered_as_turn store' place x old new w k a s' rest n shown moves place_is kept here answer_is bytes = record {
     shown = shown;
     here = idle_here u a.world place k a.closes s' rest place_is kept (rest_same w a.world s' moves.grows.indexes ∙ here);
@@ -67,22 +67,24 @@ module _ {U B : Type 0} (u : Ghosts U B) where
       moves_as : (c : Bool) → Moves w a.world None (draft_at (if c then None else Some (plain s' None)))
       moves_as true = moves
       moves_as false = moves
+
       closes_is : (c : Bool) → c ≡ is_closed (if c then None else Some (plain s' None))
       closes_is true = refl
       closes_is false = refl
+
       more_is : (c : Bool) → false ≡ has_text (if c then None else Some (plain s' None))
       more_is true = refl
       more_is false = refl
 
   -- the head isn't whole yet
   pub more_told : (store : U) (place : Place B) (x : code.Answer) (out : List ℕ) (w : World) (conn : Conn) (h bytes : List ℕ) (k : Link B) → u.stands store w → InsideHead w conn h
-    → reader w (h ++ bytes) ≡ More → place ≡ Open (record k { task = tasks.Idle }) → k.head.items ≡ h ++ bytes → k.left ≡ 0 → x ≡ took (length bytes) false
-    → TurnedAs u store place x out out w conn.draft (came_turn w conn bytes)
+      → reader w (h ++ bytes) ≡ More → place ≡ Open (record k { task = tasks.Idle }) → k.head.items ≡ h ++ bytes → k.left ≡ 0 → x ≡ took (length bytes) false
+      → TurnedAs u store place x out out w conn.draft (came_turn w conn bytes)
   more_told store place x out w conn h bytes k stands inside more place_is head_is left_is answer_is =
       let a : Acted = record { world = w; draft = None; bytes = []; pending = None; closes = false } in
       let t : take (length bytes) bytes ≡ bytes = take_all (length bytes) bytes (omega arith) in
       let turn : came_turn w conn bytes ≡ answered_turn a (conn.stream ++ bytes) (length bytes) =
-          more_turn_is w conn h inside bytes more ∙ ap (λ q. answered_turn a (conn.stream ++ q) (length bytes)) t in
+      more_turn_is w conn h inside bytes more ∙ ap (λ q. answered_turn a (conn.stream ++ q) (length bytes)) t in
       let here = head_more_rest (reader w) (is_steady w) conn.stream h inside.rest bytes more in
       let now = answered_as_turn store place x out out w k a (conn.stream ++ bytes) (InHead (h ++ bytes)) (length bytes) stands (still w None) place_is (head_is, left_is) here answer_is (sym (append-nil out)) in
       subst (λ d. TurnedAs u store place x out out w d (came_turn w conn bytes)) (sym inside.draft)
@@ -94,10 +96,10 @@ module _ {U B : Type 0} (u : Ghosts U B) where
 
     -- what the head did is all: the rest of the body is dropped
     pub no_patch_told : (place : Place B) (x : code.Answer) (old new : List ℕ) (k : Link B) → u.stands store' (acted w v).world → Moves w (acted w v).world None None
-      → (acted w v).draft ≡ None → (acted w v).pending ≡ None
-      → place ≡ (if (acted w v).closes then Closed else Open (record k { left = body_length v - min (body_length v) (length behind); task = tasks.Idle })) → k.head.items ≡ []
-      → x ≡ took (before + min (body_length v) (length behind)) (acted w v).closes → new ≡ old ++ (acted w v).bytes
-      → TurnedAs u store' place x old new w conn.draft (came_turn w conn bytes)
+        → (acted w v).draft ≡ None → (acted w v).pending ≡ None
+        → place ≡ (if (acted w v).closes then Closed else Open (record k { left = body_length v - min (body_length v) (length behind); task = tasks.Idle })) → k.head.items ≡ []
+        → x ≡ took (before + min (body_length v) (length behind)) (acted w v).closes → new ≡ old ++ (acted w v).bytes
+        → TurnedAs u store' place x old new w conn.draft (came_turn w conn bytes)
     no_patch_told place x old new k shown moves none idle place_is head_is answer_is bytes_are =
         let a = acted w v in
         let m = body_length v in
@@ -106,38 +108,38 @@ module _ {U B : Type 0} (u : Ghosts U B) where
         let k' : Link B = record k { left = m - min m (length behind) } in
         subst (λ d. TurnedAs u store' place x old new w d (came_turn w conn bytes)) (sym is.inside.draft)
         (elim (cases_lt (length behind) m) as (λ _. TurnedAs u store' place x old new w None (came_turn w conn bytes)) [
-        | inl few ↦
-          let t : take (length bytes) bytes ≡ bytes = take_all (length bytes) bytes (omega arith) in
-          let turn : came_turn w conn bytes ≡ answered_turn a (conn.stream ++ bytes) (length bytes) =
+          | inl few ↦
+              let t : take (length bytes) bytes ≡ bytes = take_all (length bytes) bytes (omega arith) in
+              let turn : came_turn w conn bytes ≡ answered_turn a (conn.stream ++ bytes) (length bytes) =
               part_turn_is w conn h is.inside bytes n before v is.judged is.before_is few
               ∙ (came_plain conn bytes (length bytes) (record { head = Some (judged_as (h ++ bytes) n v); body = None; came = behind }) a idle none
               ∙ (turn_plain conn bytes (length bytes) a idle none ∙ ap (λ q. answered_turn a (conn.stream ++ q) (length bytes)) t)) in
-          let b : drop n (h ++ bytes) ≡ behind = drop_behind h bytes before n within.0 in
-          let lb : length (drop n (h ++ bytes)) ≡ length behind = ap length b in
-          let here = head_part_rest (reader w) (is_steady w) conn.stream h is.inside.rest bytes n v is.judged (omega arith) in
-          let left_is : m - min m (length behind) ≡ m - length (drop n (h ++ bytes)) = omega arith in
-          let count : before + min m (length behind) ≡ length bytes = omega arith in
-          let now = answered_as_turn store' place x old new w k' a (conn.stream ++ bytes) (InBody (judged_as (h ++ bytes) n v)) (length bytes) shown moves place_is (head_is, left_is) here
+              let b : drop n (h ++ bytes) ≡ behind = drop_behind h bytes before n within.0 in
+              let lb : length (drop n (h ++ bytes)) ≡ length behind = ap length b in
+              let here = head_part_rest (reader w) (is_steady w) conn.stream h is.inside.rest bytes n v is.judged (omega arith) in
+              let left_is : m - min m (length behind) ≡ m - length (drop n (h ++ bytes)) = omega arith in
+              let count : before + min m (length behind) ≡ length bytes = omega arith in
+              let now = answered_as_turn store' place x old new w k' a (conn.stream ++ bytes) (InBody (judged_as (h ++ bytes) n v)) (length bytes) shown moves place_is (head_is, left_is) here
               (answer_is ∙ ap (λ i. took i a.closes) count) bytes_are in
-          subst (TurnedAs u store' place x old new w None) (sym turn) now
-        | inr enough ↦
-          let q = take (before + m) bytes in
-          let turn : came_turn w conn bytes ≡ answered_turn a (conn.stream ++ q) (before + m) =
+              subst (TurnedAs u store' place x old new w None) (sym turn) now
+          | inr enough ↦
+              let q = take (before + m) bytes in
+              let turn : came_turn w conn bytes ≡ answered_turn a (conn.stream ++ q) (before + m) =
               whole_turn_is w conn h is.inside bytes n before v is.judged is.before_is enough
               ∙ (came_plain conn bytes (before + m) (record { head = Some (judged_as (h ++ q) n v); body = Some (judged_as (h ++ q) n v); came = take m behind }) a idle none ∙ turn_plain conn bytes (before + m) a idle none) in
-          let b : drop n (h ++ q) ≡ take m behind = front_body w conn h is.inside bytes n before v is.judged is.before_is m in
-          let all : length (drop n (h ++ q)) ≡ m = ap length b ∙ length-take-le m behind enough in
-          let here = head_whole_rest (reader w) (is_steady w) conn.stream h is.inside.rest q n v (front_judged w conn h is.inside bytes n before v is.judged is.before_is m) all in
-          let left_is : m - min m (length behind) ≡ 0 = omega arith in
-          let count : before + min m (length behind) ≡ before + m = omega arith in
-          let now = answered_as_turn store' place x old new w k' a (conn.stream ++ q) (InHead []) (before + m) shown moves place_is (head_is, left_is) here
+              let b : drop n (h ++ q) ≡ take m behind = front_body w conn h is.inside bytes n before v is.judged is.before_is m in
+              let all : length (drop n (h ++ q)) ≡ m = ap length b ∙ length-take-le m behind enough in
+              let here = head_whole_rest (reader w) (is_steady w) conn.stream h is.inside.rest q n v (front_judged w conn h is.inside bytes n before v is.judged is.before_is m) all in
+              let left_is : m - min m (length behind) ≡ 0 = omega arith in
+              let count : before + min m (length behind) ≡ before + m = omega arith in
+              let now = answered_as_turn store' place x old new w k' a (conn.stream ++ q) (InHead []) (before + m) shown moves place_is (head_is, left_is) here
               (answer_is ∙ ap (λ i. took i a.closes) count) bytes_are in
-          subst (TurnedAs u store' place x old new w None) (sym turn) now
+              subst (TurnedAs u store' place x old new w None) (sym turn) now
         ])
 
 -- WHAT PARSE TELLS
 pub judged_by : (x : IndexSet) (bytes' h bytes : List ℕ) (p p' : Parsed) → bytes' ≡ h ++ bytes → answer_shown p ≡ answer_of (offers x) bytes' → p ≡ p'
-  → answer_of (offers x) (h ++ bytes) ≡ answer_shown p'
+    → answer_of (offers x) (h ++ bytes) ≡ answer_shown p'
 judged_by x bytes' h bytes p p' e f g = ap (answer_of (offers x)) (sym e) ∙ (sym f ∙ ap answer_shown g)
 
 pub within_bytes : (x : IndexSet) (h bytes : List ℕ) (n : ℕ) (v : Verdict) → answer_of (offers x) (h ++ bytes) ≡ Judged n v → n - length h ≤ length bytes
@@ -157,10 +159,10 @@ slice_rest before bytes =
 
 module _ {U B : Type 0} (u : Ghosts U B) (store' : U) (w : World) (conn : Conn) (h bytes : List ℕ) (n before : ℕ) (v : Verdict) (is : IsWhole w conn h bytes n before v) where
   pub no_patch_len : (place : Place B) (x : code.Answer) (old new : List ℕ) (k : Link B) (len : ℕ) → len ≡ length (drop before bytes)
-    → u.stands store' (acted w v).world → Moves w (acted w v).world None None → (acted w v).draft ≡ None → (acted w v).pending ≡ None
-    → place ≡ (if (acted w v).closes then Closed else Open (record k { left = body_length v - min (body_length v) len; task = tasks.Idle })) → k.head.items ≡ []
-    → x ≡ took (before + min (body_length v) len) (acted w v).closes → new ≡ old ++ (acted w v).bytes
-    → TurnedAs u store' place x old new w conn.draft (came_turn w conn bytes)
+      → u.stands store' (acted w v).world → Moves w (acted w v).world None None → (acted w v).draft ≡ None → (acted w v).pending ≡ None
+      → place ≡ (if (acted w v).closes then Closed else Open (record k { left = body_length v - min (body_length v) len; task = tasks.Idle })) → k.head.items ≡ []
+      → x ≡ took (before + min (body_length v) len) (acted w v).closes → new ≡ old ++ (acted w v).bytes
+      → TurnedAs u store' place x old new w conn.draft (came_turn w conn bytes)
   no_patch_len place x old new k len len_is shown moves none idle place_is head_is answer_is bytes_are =
       no_patch_told u store' w conn h bytes n before v is place x old new k shown moves none idle
       (place_is ∙ ap (λ i. if (acted w v).closes then Closed else Open (record k { left = body_length v - min (body_length v) i; task = tasks.Idle })) len_is)

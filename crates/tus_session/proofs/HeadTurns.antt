@@ -30,7 +30,7 @@ module _ (w : World) (conn : Conn) (h : List ℕ) (inside : InsideHead w conn h)
   is_steady = steady (offers w.store.indexes)
 
   by_moments : (piece : List ℕ) (n : ℕ) (m : Moments) → taken (reader w) h piece ≡ n → moments (reader w) h (take n piece) ≡ m
-    → came_turn w conn piece ≡ came_at w conn piece n m
+      → came_turn w conn piece ≡ came_at w conn piece n m
   unfolding came_turn
   by_moments piece n m e f =
       let answer = reader w in
@@ -42,7 +42,7 @@ module _ (w : World) (conn : Conn) (h : List ℕ) (inside : InsideHead w conn h)
 
   -- the head isn't whole yet
   pub more_turn_is : (piece : List ℕ) → reader w (h ++ piece) ≡ More
-    → came_turn w conn piece ≡ turn_of conn piece (length piece) (record { world = w; draft = None; bytes = []; pending = None; closes = false })
+      → came_turn w conn piece ≡ turn_of conn piece (length piece) (record { world = w; draft = None; bytes = []; pending = None; closes = false })
   more_turn_is piece e =
       let only = head_only (reader w) is_steady conn.stream h inside.rest in
       let p = head_part (reader w) is_steady h piece only e in
@@ -74,7 +74,7 @@ module _ (w : World) (conn : Conn) (h : List ℕ) (inside : InsideHead w conn h)
 
     -- fewer bytes of the body than it wants
     pub part_turn_is : length (drop before bytes) < body_length v
-      → came_turn w conn bytes ≡ came_with conn bytes (length bytes) (record { head = Some (judged_as (h ++ bytes) n v); body = None; came = drop before bytes }) (acted w v)
+        → came_turn w conn bytes ≡ came_with conn bytes (length bytes) (record { head = Some (judged_as (h ++ bytes) n v); body = None; came = drop before bytes }) (acted w v)
     part_turn_is few =
         let only = head_only (reader w) is_steady conn.stream h inside.rest in
         let b : drop n (h ++ bytes) ≡ drop before bytes = drop_behind h bytes before n head_within.0 in
@@ -82,7 +82,7 @@ module _ (w : World) (conn : Conn) (h : List ℕ) (inside : InsideHead w conn h)
         let p = head_whole (reader w) is_steady h bytes n v only judged few' in
         let t : take (length bytes) bytes ≡ bytes = take_all (length bytes) bytes (omega arith) in
         let f : moments (reader w) h (take (length bytes) bytes) ≡ record { head = Some (judged_as (h ++ bytes) n v); body = None; came = drop before bytes } =
-            ap (moments (reader w) h) t ∙ (p.0 ∙ ap (λ c. record { head = Some (judged_as (h ++ bytes) n v); body = None; came = c }) b) in
+        ap (moments (reader w) h) t ∙ (p.0 ∙ ap (λ c. record { head = Some (judged_as (h ++ bytes) n v); body = None; came = c }) b) in
         by_moments bytes (length bytes) (record { head = Some (judged_as (h ++ bytes) n v); body = None; came = drop before bytes }) p.1 f
 
     abbrev pub whole_asked : Asked
@@ -90,7 +90,7 @@ module _ (w : World) (conn : Conn) (h : List ℕ) (inside : InsideHead w conn h)
 
     -- the whole body is there
     pub whole_turn_is : body_length v ≤ length (drop before bytes)
-      → came_turn w conn bytes ≡ came_with conn bytes (before + body_length v) (record { head = Some whole_asked; body = Some whole_asked; came = take (body_length v) (drop before bytes) }) (acted w v)
+        → came_turn w conn bytes ≡ came_with conn bytes (before + body_length v) (record { head = Some whole_asked; body = Some whole_asked; came = take (body_length v) (drop before bytes) }) (acted w v)
     whole_turn_is enough =
         let only = head_only (reader w) is_steady conn.stream h inside.rest in
         let m = body_length v in
@@ -102,6 +102,6 @@ module _ (w : World) (conn : Conn) (h : List ℕ) (inside : InsideHead w conn h)
         let c : drop n (h ++ q) ≡ take m (drop before bytes) = front_body m in
         let all : length (drop n (h ++ q)) ≡ m = ap length c ∙ length-take-le m (drop before bytes) enough in
         let f : moments (reader w) h q ≡ record { head = Some whole_asked; body = Some whole_asked; came = take m (drop before bytes) } =
-            both_whole (reader w) is_steady h q n v only (front_judged m) all
-            ∙ ap (λ x. record { head = Some whole_asked; body = Some whole_asked; came = x }) c in
+        both_whole (reader w) is_steady h q n v only (front_judged m) all
+        ∙ ap (λ x. record { head = Some whole_asked; body = Some whole_asked; came = x }) c in
         by_moments bytes (before + m) (record { head = Some whole_asked; body = Some whole_asked; came = take m (drop before bytes) }) t f

@@ -30,56 +30,55 @@ pub record IsPut {B : Type 0} (places all : List (Place B)) (k : ℕ) (next : Pl
 
 module _ {U B : Type 0} (u : Ghosts U B) where
   module _ (places all : List (Place B)) (store store' : U) (st : State) (w' : World) (k : ℕ) (next : Place B) (conn' : Option Conn)
-    (stands : SessionStands u places store st) (is_put : IsPut places all k next)
-    (moves : Moves st.world w' (draft_at (st.conns k)) (draft_at conn')) (shown : u.stands store' w') (here : PlaceIs u w' next conn') where
-
+      (stands : SessionStands u places store st) (is_put : IsPut places all k next)
+      (moves : Moves st.world w' (draft_at (st.conns k)) (draft_at conn')) (shown : u.stands store' w') (here : PlaceIs u w' next conn') where
     each_there : (c : ℕ) → PlaceIs u w' (get_or all c Closed) (with_conn st.conns k conn' c)
     each_there c = elim (cases_eq c k) [
-        | inl is ↦
+      | inl is ↦
           let P : ℕ → Type 0 = λ i. PlaceIs u w' (get_or all i Closed) (with_conn st.conns k conn' i) in
           let a : PlaceIs u w' (get_or all k Closed) conn' = subst (λ x. PlaceIs u w' x conn') (sym is_put.here) here in
           let b : P k = subst (λ x. PlaceIs u w' (get_or all k Closed) x) (sym (conns_here st.conns k conn')) a in
           subst P (sym is) b
-        | inr ne ↦
+      | inr ne ↦
           let a : PlaceIs u w' (get_or places c Closed) (st.conns c) =
-              place_moved u st.world w' (draft_at (st.conns k)) (draft_at conn') (get_or places c Closed) (st.conns c) moves
-              (λ e f g. ne (stands.apart c k e f g)) (stands.each c) in
+          place_moved u st.world w' (draft_at (st.conns k)) (draft_at conn') (get_or places c Closed) (st.conns c) moves
+          (λ e f g. ne (stands.apart c k e f g)) (stands.each c) in
           let b : PlaceIs u w' (get_or all c Closed) (st.conns c) = subst (λ x. PlaceIs u w' x (st.conns c)) (sym (is_put.others c ne)) a in
           subst (λ x. PlaceIs u w' (get_or all c Closed) x) (sym (conns_else st.conns k c conn' ne)) b
-      ]
+    ]
 
     -- another connection's draft isn't the one that is here now
     not_both : (e d : ℕ) → e ≢ k → draft_at conn' ≡ Some d → draft_at (st.conns e) ≡ Some d → ⊥
     not_both e d ne f g = elim (moves.fresh d f) [
-        | inl own ↦ ne (stands.apart e k d g own)
-        | inr none ↦ let p = draft_found u st.world (get_or places e Closed) (st.conns e) d (stands.each e) g in let x : Some p.0 ≡ None = sym p.1 ∙ none in absurd (cc)
-      ]
+      | inl own ↦ ne (stands.apart e k d g own)
+      | inr none ↦ let p = draft_found u st.world (get_or places e Closed) (st.conns e) d (stands.each e) g in let x : Some p.0 ≡ None = sym p.1 ∙ none in absurd (cc)
+    ]
 
     apart_there : (c e d : ℕ) → draft_at (with_conn st.conns k conn' c) ≡ Some d → draft_at (with_conn st.conns k conn' e) ≡ Some d → c ≡ e
     apart_there c e d f g = elim (cases_eq c k) [
-        | inl is ↦ elim (cases_eq e k) [
-          | inl is' ↦ is ∙ sym is'
-          | inr ne' ↦
+      | inl is ↦ elim (cases_eq e k) [
+        | inl is' ↦ is ∙ sym is'
+        | inr ne' ↦
             let a : draft_at conn' ≡ Some d = ap draft_at (sym (conns_here st.conns k conn')) ∙ (ap (λ i. draft_at (with_conn st.conns k conn' i)) (sym is) ∙ f) in
             absurd (not_both e d ne' a (ap draft_at (sym (conns_else st.conns k e conn' ne')) ∙ g))
-        ]
-        | inr ne ↦ elim (cases_eq e k) [
-          | inl is' ↦
+      ]
+      | inr ne ↦ elim (cases_eq e k) [
+        | inl is' ↦
             let a : draft_at conn' ≡ Some d = ap draft_at (sym (conns_here st.conns k conn')) ∙ (ap (λ i. draft_at (with_conn st.conns k conn' i)) (sym is') ∙ g) in
             absurd (not_both c d ne a (ap draft_at (sym (conns_else st.conns k c conn' ne)) ∙ f))
-          | inr ne' ↦
+        | inr ne' ↦
             stands.apart c e d (ap draft_at (sym (conns_else st.conns k c conn' ne)) ∙ f) (ap draft_at (sym (conns_else st.conns k e conn' ne')) ∙ g)
-        ]
       ]
+    ]
 
     owned_there : (d : ℕ) (p : Patch) → find d w'.patches ≡ Some p → (c : ℕ) × (draft_at (with_conn st.conns k conn' c) ≡ Some d)
     owned_there d p found = elim (moves.back d p stands.unique found) [
-        | inl own ↦ (k, ap draft_at (conns_here st.conns k conn') ∙ own)
-        | inr other ↦
+      | inl own ↦ (k, ap draft_at (conns_here st.conns k conn') ∙ own)
+      | inr other ↦
           let c = stands.owned d other.1.0 other.1.1 in
           let ne : c.0 ≢ k = λ is. other.0 (ap (λ i. draft_at (st.conns i)) (sym is) ∙ c.1) in
           (c.0, ap draft_at (conns_else st.conns k c.0 conn' ne) ∙ c.1)
-      ]
+    ]
 
     pub in_place : SessionStands u all store' (put st w' k conn')
     in_place = record {
@@ -109,7 +108,7 @@ module _ {U B : Type 0} (u : Ghosts U B) where
 
   -- what a connection's place tells
   pub place_at : (places : List (Place B)) (store : U) (st : State) (k : ℕ) (x : Place B) → SessionStands u places store st → k < length places
-    → x ≡ get_or places k x → PlaceIs u st.world x (st.conns k)
+      → x ≡ get_or places k x → PlaceIs u st.world x (st.conns k)
   place_at places store st k x stands lt e = subst (λ y. PlaceIs u st.world y (st.conns k)) (sym (e ∙ get_or-any places k x Closed lt)) (stands.each k)
     where
       get_or-any : (xs : List (Place B)) (i : ℕ) (a b : Place B) → i < length xs → get_or xs i a ≡ get_or xs i b
@@ -127,7 +126,7 @@ module _ {U B : Type 0} (u : Ghosts U B) where
   beyond places store st k stands le = closed_none st.world (st.conns k) (subst (λ y. PlaceIs u st.world y (st.conns k)) (past places k le) (stands.each k))
 
   pub closed_at : (places : List (Place B)) (store : U) (st : State) (k : ℕ) (x : Place B) → SessionStands u places store st → k < length places
-    → x ≡ get_or places k x → x ≡ Closed → st.conns k ≡ None
+      → x ≡ get_or places k x → x ≡ Closed → st.conns k ≡ None
   closed_at places store st k x stands lt e is = closed_none st.world (st.conns k) (subst (λ y. PlaceIs u st.world y (st.conns k)) is (place_at places store st k x stands lt e))
 
   some_conn : (w : World) (k : Link B) (conn : Option Conn) → PlaceIs u w (Open k) conn → (c : Conn) × (conn ≡ Some c)
@@ -135,7 +134,7 @@ module _ {U B : Type 0} (u : Ghosts U B) where
   some_conn w k (Some c) is = (c, refl)
 
   pub open_at : (places : List (Place B)) (store : U) (st : State) (c : ℕ) (x : Place B) (k : Link B) → SessionStands u places store st → c < length places
-    → x ≡ get_or places c x → x ≡ Open k → (conn : Conn) × (st.conns c ≡ Some conn) × PlaceIs u st.world (Open k) (Some conn)
+      → x ≡ get_or places c x → x ≡ Open k → (conn : Conn) × (st.conns c ≡ Some conn) × PlaceIs u st.world (Open k) (Some conn)
   open_at places store st c x k stands lt e is =
       let at : PlaceIs u st.world (Open k) (st.conns c) = subst (λ y. PlaceIs u st.world y (st.conns c)) is (place_at places store st c x stands lt e) in
       let some = some_conn st.world k (st.conns c) at in
@@ -149,7 +148,7 @@ set_same (y ∷ xs) (suc c) x e = ap (λ zs. y ∷ zs) (set_same xs c x e)
 module _ {U B : Type 0} (u : Ghosts U B) where
   -- a closed place is closed again
   pub closed_again : (places : List (Place B)) (store : U) (st : State) (c : ℕ) (x y : Place B) → SessionStands u places store st → c < length places
-    → x ≡ get_or places c x → x ≡ Closed → y ≡ Closed → SessionStands u (slice_set places c y) store st
+      → x ≡ get_or places c x → x ≡ Closed → y ≡ Closed → SessionStands u (slice_set places c y) store st
   closed_again places store st c x y stands lt e is again =
       let here : get_or places c Closed ≡ Closed = subst (λ z. get_or places c z ≡ z) is (sym e) in
       subst (λ z. SessionStands u (slice_set places c z) store st) (sym again) (subst (λ ps. SessionStands u ps store st) (sym (set_same places c Closed here)) stands)

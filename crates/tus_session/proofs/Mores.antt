@@ -40,7 +40,7 @@ more_some_is w conn h e = sym (ap (more_on w conn) e)
 module _ {U B : Type 0} (u : Ghosts U B) where
   -- a connection stays as it is, and nothing is given
   pub stays : (store : U) (w : World) (k : Link B) (conn : Conn) (more : Bool) (out : List ℕ) → u.stands store w → LinkIs u w k.head.items k.left k.task conn
-    → more ≡ is_pending conn.pending → TurnedAs u store (Open k) (record { taken = 0; closes = false; more = more }) out out w conn.draft (unmoved_turn w conn)
+      → more ≡ is_pending conn.pending → TurnedAs u store (Open k) (record { taken = 0; closes = false; more = more }) out out w conn.draft (unmoved_turn w conn)
   stays store w k conn more out stands link e = record {
     shown = stands;
     here = link;
@@ -52,7 +52,7 @@ module _ {U B : Type 0} (u : Ghosts U B) where
   }
 
   no_text : (w : World) (rest : Rest) (task : Task B) (draft : Option ℕ) (pending : Option Giving) → TaskIs u w rest task draft pending
-    → ((g : given.Giving) → task ≡ tasks.Text g → ⊥) → pending ≡ None
+      → ((g : given.Giving) → task ≡ tasks.Text g → ⊥) → pending ≡ None
   no_text w rest tasks.Idle None None is not = refl
   no_text w rest tasks.Idle None (Some h) is not = absurd is
   no_text w rest tasks.Idle (Some d) pending is not = absurd is
@@ -63,8 +63,8 @@ module _ {U B : Type 0} (u : Ghosts U B) where
 
   -- no text is to be given
   pub more_nothing : (store : U) (w : World) (k : Link B) (conn : Conn) (out : List ℕ) → u.stands store w → LinkIs u w k.head.items k.left k.task conn
-    → ((g : given.Giving) → k.task ≡ tasks.Text g → ⊥)
-    → TurnedAs u store (Open k) (record { taken = 0; closes = false; more = false }) out out w conn.draft (more_turn w conn)
+      → ((g : given.Giving) → k.task ≡ tasks.Text g → ⊥)
+      → TurnedAs u store (Open k) (record { taken = 0; closes = false; more = false }) out out w conn.draft (more_turn w conn)
   more_nothing store w k conn out stands link not =
       let none = no_text w (cut (reader w) conn.stream).rest k.task conn.draft conn.pending link.does not in
       subst (TurnedAs u store (Open k) (record { taken = 0; closes = false; more = false }) out out w conn.draft) (more_none_is w conn none)
@@ -77,10 +77,9 @@ module _ {U B : Type 0} (u : Ghosts U B) where
   idle_stays w rest draft e = subst (λ d. TaskIs u w rest tasks.Idle d None) (sym e) tt
 
   module _ (store : U) (w : World) (k : Link B) (conn : Conn) (g : given.Giving) (stands : u.stands store w) (link : LinkIs u w k.head.items k.left k.task conn)
-    (is : IsGiving w g conn.draft conn.pending) where
-
+      (is : IsGiving w g conn.draft conn.pending) where
     some_turned : (old new : List ℕ) (rest : given.Giving) (pending : Option Giving) → GivingIs w.store (Some rest) pending → new ≡ old ++ piece_of is.h
-      → TurnedAs u store (Open (record k { task = tasks.Text rest })) (record { taken = 0; closes = false; more = true }) old new w conn.draft
+        → TurnedAs u store (Open (record k { task = tasks.Text rest })) (record { taken = 0; closes = false; more = true }) old new w conn.draft
         (record { world = w; conn = given_up conn is.h.closes pending; bytes = piece_of is.h; taken = 0 })
     some_turned old new rest None given e = absurd given
     some_turned old new rest (Some h) given e = record {
@@ -95,7 +94,7 @@ module _ {U B : Type 0} (u : Ghosts U B) where
 
     -- more of the text is left
     pub more_some : (old new : List ℕ) (rest : given.Giving) → GivingIs w.store (Some rest) (pending_after is.h) → new ≡ old ++ piece_of is.h
-      → TurnedAs u store (Open (record k { task = tasks.Text rest })) (record { taken = 0; closes = false; more = true }) old new w conn.draft (more_turn w conn)
+        → TurnedAs u store (Open (record k { task = tasks.Text rest })) (record { taken = 0; closes = false; more = true }) old new w conn.draft (more_turn w conn)
     more_some old new rest given e =
         subst (TurnedAs u store (Open (record k { task = tasks.Text rest })) (record { taken = 0; closes = false; more = true }) old new w conn.draft)
         (more_some_is w conn is.h is.pending_is) (some_turned old new rest (pending_after is.h) given e)
@@ -104,7 +103,7 @@ module _ {U B : Type 0} (u : Ghosts U B) where
     idle_place closes = if closes then Closed else Open (record k { task = tasks.Idle })
 
     none_closes : (old new : List ℕ) (closes : Bool) → new ≡ old ++ piece_of is.h
-      → TurnedAs u store (idle_place closes) (record { taken = 0; closes = closes; more = false }) old new w conn.draft
+        → TurnedAs u store (idle_place closes) (record { taken = 0; closes = closes; more = false }) old new w conn.draft
         (record { world = w; conn = given_up conn closes None; bytes = piece_of is.h; taken = 0 })
     none_closes old new true e = record {
       shown = stands;
@@ -126,16 +125,16 @@ module _ {U B : Type 0} (u : Ghosts U B) where
     }
 
     none_turned : (old new : List ℕ) (closes : Bool) (pending : Option Giving) → GivingIs w.store None pending → closes ≡ is.h.closes → new ≡ old ++ piece_of is.h
-      → TurnedAs u store (idle_place closes) (record { taken = 0; closes = closes; more = false }) old new w conn.draft
+        → TurnedAs u store (idle_place closes) (record { taken = 0; closes = closes; more = false }) old new w conn.draft
         (record { world = w; conn = given_up conn is.h.closes pending; bytes = piece_of is.h; taken = 0 })
     none_turned old new closes (Some h) given same e = absurd given
     none_turned old new closes None given same e =
         subst (λ b. TurnedAs u store (idle_place closes) (record { taken = 0; closes = closes; more = false }) old new w conn.draft
-          (record { world = w; conn = given_up conn b None; bytes = piece_of is.h; taken = 0 })) same (none_closes old new closes e)
+        (record { world = w; conn = given_up conn b None; bytes = piece_of is.h; taken = 0 })) same (none_closes old new closes e)
 
     -- the text is given
     pub more_done : (old new : List ℕ) → GivingIs w.store None (pending_after is.h) → new ≡ old ++ piece_of is.h
-      → TurnedAs u store (idle_place g.closes) (record { taken = 0; closes = g.closes; more = false }) old new w conn.draft (more_turn w conn)
+        → TurnedAs u store (idle_place g.closes) (record { taken = 0; closes = g.closes; more = false }) old new w conn.draft (more_turn w conn)
     more_done old new given e =
         subst (TurnedAs u store (idle_place g.closes) (record { taken = 0; closes = g.closes; more = false }) old new w conn.draft)
         (more_some_is w conn is.h is.pending_is) (none_turned old new g.closes (pending_after is.h) given is.gives.closes e)
@@ -151,7 +150,7 @@ module _ {U B : Type 0} (u : Ghosts U B) where
 module _ {U B : Type 0} (u : Ghosts U B) where
   -- under other names for the place and the answer
   pub turned_ok : (store : U) (place place' : Place B) (r : Result Answer SessionError) (a : Answer) (old new : List ℕ) (w : World) (own : Option ℕ) (t : Turn)
-    → place ≡ place' → r ≡ Ok a → TurnedAs u store place' a old new w own t → Turned u store place r old new w own t
+      → place ≡ place' → r ≡ Ok a → TurnedAs u store place' a old new w own t → Turned u store place r old new w own t
   turned_ok store place place' r a old new w own t e f is =
       let x : Turned u store place (Ok a) old new w own t = subst (λ p. TurnedAs u store p a old new w own t) (sym e) is in
       subst (λ r. Turned u store place r old new w own t) (sym f) x

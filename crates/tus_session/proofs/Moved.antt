@@ -3,11 +3,12 @@ use Rattle.std.proofs.Common.{◌≡◌, ◌≢◌, ◌⊎◌, inl, inr, ℕ, ze
 use Rattle.std.proofs.lemmas.Bool.Decides.{nat_tests}
 use Rattle.std.proofs.lemmas.Bool.{cases_eq, eqb-true, ne_eqb, cases_Bool}
 use Rattle.std.proofs.lemmas.List.{length-append}
-use Rattle.upload_rules.specs.Store.{New, Upload, Store, upload_of, text_of, with_bytes, find, replaced, without, is_complete, new_upload, created_store, appended_store, appended_to}
-use Rattle.upload_rules.specs.World.{Patch, World, is_there, least_from, free_number}
+use Rattle.upload_rules.specs.Store.{New, Upload, Store, upload_of, text_of, text_with, with_bytes, find, replaced, without, is_complete, new_upload, created_store, appended_store, appended_to}
+use Rattle.upload_rules.specs.World.{Patch, World, is_there, least_from, free_number, completes, patch_text}
+use Rattle.upload_rules.specs.Room.{is_short}
 use Rattle.upload_rules.specs.Apart.{IsApart}
 use Rattle.upload_rules.specs.declared.errors.UploadRefusal.{UploadRefusal}
-use Rattle.upload_rules.specs.declared.errors.UploadRefusal.TheVariants.{Offset}
+use Rattle.upload_rules.specs.declared.errors.UploadRefusal.TheVariants.{Offset, Unencodable, Full}
 use Rattle.upload_rules.specs.Calls.{dropped, committed, committed_store, spent, created, begun, begun_at, first_patch, appended, longer, is_empty, commit_refusal, offset_refusal, text_refusal, or_else, refuse_if}
 use Rattle.upload_rules.proofs.Finds.{find_without_other, find_without_same, none_without, find_replaced_same, find_replaced_other, none_replaced, length_without}
 use Rattle.tus_action.specs.Acts.{fed, fed_patch}
@@ -31,7 +32,7 @@ apart_without d [] apart = tt
 apart_without d (x ∷ xs) apart = without_case d x xs apart (apart_without d xs apart.1) (x.0 == d)
 
 replaced_case : {A : Type 0} (d : ℕ) (a : A) (x : ℕ × A) (xs : List (ℕ × A)) → IsApart (x ∷ xs) → IsApart (replaced d a xs) → (b : Bool) → (x.0 == d) ≡ b
-  → IsApart (if b then (d, a) ∷ xs else x ∷ replaced d a xs)
+    → IsApart (if b then (d, a) ∷ xs else x ∷ replaced d a xs)
 replaced_case d a x xs apart rest true e = (subst (λ n. find n xs ≡ None) (eqb-true x.0 d e) apart.0, apart.1)
 replaced_case d a x xs apart rest false e = (none_replaced d x.0 a xs apart.0, rest)
 
@@ -49,9 +50,9 @@ drop_moves w d = record {
   others = λ e p ne found. find_without_other d e w.patches (some_ne d e ne) ∙ found;
   back = λ e p apart found. elim (cases_eq d e) [
     | inl is ↦
-      let none : find e (without d w.patches) ≡ None = subst (λ n. find n (without d w.patches) ≡ None) is (find_without_same d w.patches apart) in
-      let x : Some p ≡ None = sym found ∙ none in
-      absurd (cc)
+        let none : find e (without d w.patches) ≡ None = subst (λ n. find n (without d w.patches) ≡ None) is (find_without_same d w.patches apart) in
+        let x : Some p ≡ None = sym found ∙ none in
+        absurd (cc)
     | inr ne ↦ inr (λ h. ne (let x : d ≡ e = cc in x), (p, sym (find_without_other d e w.patches ne) ∙ found))
   ];
   fresh = λ e h. absurd (cc);
@@ -154,9 +155,12 @@ grows_both m m1 m2 a b = record {
   uploads = λ n up found.
       let x = a.uploads n up found in
       let y = b.uploads n (with_bytes up x.0) x.2 in
-      let e : with_bytes (with_bytes up x.0) y.0 ≡ with_bytes up (x.0 ++ y.0) = ap (λ z. record up { accepted = z }) (append_assoc up.accepted x.0 y.0) in
-      (x.0 ++ y.0, x.1 ++ y.1, y.2 ∙ ap Some e,
-        ap (text_of m2.indexes) (sym e) ∙ (y.3 ∙ (ap (λ t. t ++ y.1) x.3 ∙ append_assoc (text_of m.indexes up) x.1 y.1)));
+      let e : with_bytes (with_bytes up x.0) y.0 ≡ with_bytes up (x.0 ++ y.0) = ap (λ z. record up { accepted = z }) (append_assoc up.accepted x.0 y.0) in (
+        x.0 ++ y.0,
+        x.1 ++ y.1,
+        y.2 ∙ ap Some e,
+        ap (text_of m2.indexes) (sym e) ∙ (y.3 ∙ (ap (λ t. t ++ y.1) x.3 ∙ append_assoc (text_of m.indexes up) x.1 y.1)),
+      );
 }
 
 own_or : (own : Option ℕ) (e : ℕ) → (own ≡ Some e) ⊎ (own ≡ Some e → ⊥)
@@ -207,9 +211,12 @@ find_created n m up new (x ∷ xs) h = let ih = find_created n m up new xs in gr
 
 same_longer : (m m' : Store) (n : ℕ) (up : Upload) → m'.indexes ≡ m.indexes → upload_of m' n ≡ Some up → Longer m m' n up
 same_longer m m' n up same found =
-    let s : with_bytes up [] ≡ up = ap (λ x. record up { accepted = x }) (append-nil up.accepted) in
-    ([], [], found ∙ ap Some (sym s),
-      ap (λ x. text_of x (with_bytes up [])) same ∙ (ap (text_of m.indexes) s ∙ sym (append-nil (text_of m.indexes up))))
+    let s : with_bytes up [] ≡ up = ap (λ x. record up { accepted = x }) (append-nil up.accepted) in (
+      [],
+      [],
+      found ∙ ap Some (sym s),
+      ap (λ x. text_of x (with_bytes up [])) same ∙ (ap (text_of m.indexes) s ∙ sym (append-nil (text_of m.indexes up))),
+    )
 
 -- an upload is made
 pub create_moves : (w : World) (new : New) (own : Option ℕ) → Moves w (created w new) own own
@@ -219,21 +226,21 @@ create_moves w new own = stored_moves w (created_store w.store new) own (record 
 })
 
 -- bytes are put behind an upload that isn't complete
-append_grows_at : (m : Store) (number : ℕ) (bytes : List ℕ) (u : Upload) → upload_of m number ≡ Some u → is_complete u ≡ false
-  → Grows m (record m { uploads = replaced number (with_bytes u bytes) m.uploads })
-append_grows_at m number bytes u there unfinished =
+append_grows_at : (m : Store) (number : ℕ) (bytes : List ℕ) (u : Upload) (done : Bool) → upload_of m number ≡ Some u → is_complete u ≡ false
+    → (text_with m.indexes u bytes done).fault ≡ None → Grows m (record m { uploads = replaced number (with_bytes u bytes) m.uploads })
+append_grows_at m number bytes u done there unfinished value =
     let m' : Store = record m { uploads = replaced number (with_bytes u bytes) m.uploads } in
     record {
       indexes = refl;
       uploads = λ n up found. elim (cases_eq number n) [
         | inl is ↦
-          let same : Some u ≡ Some up = sym there ∙ (ap (λ i. find i m.uploads) is ∙ found) in
-          let us : u ≡ up = cc in
-          let more = text_longer m.indexes u bytes unfinished in
-          let f : find number (replaced number (with_bytes u bytes) m.uploads) ≡ Some (with_bytes u bytes) =
-              find_replaced_same number u (with_bytes u bytes) m.uploads there in
-          let l : Longer m m' number u = (bytes, more.0, f, more.1) in
-          subst (λ i. Longer m m' i up) is (subst (λ x. Longer m m' number x) us l)
+            let same : Some u ≡ Some up = sym there ∙ (ap (λ i. find i m.uploads) is ∙ found) in
+            let us : u ≡ up = cc in
+            let more = text_longer m.indexes u bytes done unfinished value in
+            let f : find number (replaced number (with_bytes u bytes) m.uploads) ≡ Some (with_bytes u bytes) =
+            find_replaced_same number u (with_bytes u bytes) m.uploads there in
+            let l : Longer m m' number u = (bytes, more.0, f, more.1) in
+            subst (λ i. Longer m m' i up) is (subst (λ x. Longer m m' number x) us l)
         | inr ne ↦ same_longer m m' n up refl (find_replaced_other number n (with_bytes u bytes) m.uploads ne ∙ found)
       ];
     }
@@ -244,9 +251,9 @@ or_else_none (Some f) b e = absurd (cc)
 
 same_length : (a b : ℕ) (f : UploadRefusal) → refuse_if (if a == b then false else true) f ≡ None → a ≡ b
 same_length a b f e = elim (cases_eq a b) [
-    | inl is ↦ is
-    | inr ne ↦ let x : (a == b) ≡ false = ne_eqb a b ne in let y : Some f ≡ None = ap (λ t. refuse_if (if t then false else true) f) (sym x) ∙ e in absurd (cc)
-  ]
+  | inl is ↦ is
+  | inr ne ↦ let x : (a == b) ≡ false = ne_eqb a b ne in let y : Some f ≡ None = ap (λ t. refuse_if (if t then false else true) f) (sym x) ∙ e in absurd (cc)
+]
 
 offset_same : (p : Patch) (o : Option Upload) (u : Upload) → o ≡ Some u → offset_refusal p o ≡ None → length u.accepted ≡ length p.began.accepted
 offset_same p None u is e = absurd (cc)
@@ -258,30 +265,55 @@ not_empty : (body : List ℕ) → is_empty body ≡ false → 0 < length body
 not_empty [] e = absurd (cc)
 not_empty (b ∷ body) e = omega arith
 
+or_else_second : (a b : Option UploadRefusal) → or_else a b ≡ None → b ≡ None
+or_else_second None b e = e
+or_else_second (Some f) b e = absurd (cc)
+
+no_fault : (o : Option ℕ) (rest : Option UploadRefusal) → (if is_there o then Some Unencodable else rest) ≡ None → o ≡ None
+no_fault None rest e = refl
+no_fault (Some c) rest e = absurd (cc)
+
+-- a text that is committed has a value
+has_value : (w : World) (d : ℕ) (p : Patch) → is_empty p.body ≡ false → text_refusal w d p ≡ None → (text_with w.store.indexes p.began p.body (completes p)).fault ≡ None
+unfolding patch_text
+has_value w d p e none =
+    let fault = (patch_text w.store.indexes p (completes p)).fault in
+    let rest = refuse_if (is_short w d p (completes p)) Full in
+    no_fault fault rest (sym (ap (λ b. if b then None else (if is_there fault then Some Unencodable else rest)) e) ∙ none)
+
+none_behind : (xs ys : List ℕ) → length (xs ++ ys) ≡ length xs → ys ≡ []
+none_behind xs [] e = refl
+none_behind xs (y ∷ ys) e =
+    let n : length (xs ++ y ∷ ys) ≡ length xs + length (y ∷ ys) = length-append xs (y ∷ ys) in
+    absurd (omega arith)
+
 -- what is committed is put behind an upload that isn't complete
-store_grows : (w : World) (p : Patch) → IsThere w p → length p.began.accepted + p.count ≤ p.began.declared → length p.body ≤ p.count
-  → offset_refusal p (upload_of w.store p.number) ≡ None → (b : Bool) → is_empty p.body ≡ b
-  → Grows w.store (if b then w.store else appended_store w.store p.number p.body)
-store_grows w p there fits short none true e = same_grows w.store
-store_grows w p (more, found) fits short none false e =
+store_grows : (w : World) (d : ℕ) (p : Patch) → IsThere w p → length p.began.accepted + p.count ≤ p.began.declared → length p.body ≤ p.count
+    → offset_refusal p (upload_of w.store p.number) ≡ None → text_refusal w d p ≡ None → (b : Bool) → is_empty p.body ≡ b
+    → Grows w.store (if b then w.store else appended_store w.store p.number p.body)
+store_grows w d p there fits short none valued true e = same_grows w.store
+store_grows w d p (more, found) fits short none valued false e =
     let u = with_bytes p.began more in
     let n : length u.accepted ≡ length p.began.accepted = offset_same p (upload_of w.store p.number) u found none in
+    let nil = none_behind p.began.accepted more n in
+    let same : p.began ≡ u = sym (ap (λ x. record p.began { accepted = x }) (append-nil p.began.accepted)) ∙ ap (with_bytes p.began) (sym nil) in
+    let value = subst (λ x. (text_with w.store.indexes x p.body (completes p)).fault ≡ None) same (has_value w d p e valued) in
     let some = not_empty p.body e in
     let unfinished : is_complete u ≡ false = ne_eqb (length u.accepted) u.declared (omega arith) in
-    let now = append_grows_at w.store p.number p.body u found unfinished in
+    let now = append_grows_at w.store p.number p.body u (completes p) found unfinished value in
     subst (λ o. Grows w.store (appended_to w.store p.number p.body o)) (sym found) now
 
 -- the patch is spent
 spend_on : (w : World) (d : ℕ) (p : Patch) → IsThere w p → length p.began.accepted + p.count ≤ p.began.declared → length p.body ≤ p.count
-  → (o : Option UploadRefusal) → commit_refusal w d p ≡ o → Moves w (spent w d p o) (Some d) None
+    → (o : Option UploadRefusal) → commit_refusal w d p ≡ o → Moves w (spent w d p o) (Some d) None
 unfolding commit_refusal
 spend_on w d p there fits short (Some f) e = drop_moves w d
 spend_on w d p there fits short None e =
     let none = or_else_none (offset_refusal p (upload_of w.store p.number)) (text_refusal w d p) e in
     let m = committed_store w.store p in
-    let grows : Grows w.store m = store_grows w p there fits short none (is_empty p.body) refl in
+    let grows : Grows w.store m = store_grows w d p there fits short none (or_else_second (offset_refusal p (upload_of w.store p.number)) (text_refusal w d p) e) (is_empty p.body) refl in
     both_moves w (record w { store = m }) (committed w d p) (Some d) (Some d) None (stored_moves w m (Some d) grows) (drop_moves (record w { store = m }) d)
 
 pub spend_moves : (w : World) (d : ℕ) (p : Patch) → IsThere w p → length p.began.accepted + p.count ≤ p.began.declared → length p.body ≤ p.count
-  → Moves w (spent w d p (commit_refusal w d p)) (Some d) None
+    → Moves w (spent w d p (commit_refusal w d p)) (Some d) None
 spend_moves w d p there fits short = spend_on w d p there fits short (commit_refusal w d p) refl

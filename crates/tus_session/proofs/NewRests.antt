@@ -15,7 +15,7 @@ module _ (answer : Reader) (steady : IsSteady answer) where
 
   -- more of a body
   pub body_part_rest : (s q : List ℕ) (r : Asked) → (cut answer s).rest ≡ InBody r → length r.body + length q < body_length r.verdict
-    → (cut answer (s ++ q)).rest ≡ InBody (longer r q)
+      → (cut answer (s ++ q)).rest ≡ InBody (longer r q)
   body_part_rest s q r e few =
       let u = left answer s in
       let b = left_body answer steady s r e in
@@ -25,7 +25,7 @@ module _ (answer : Reader) (steady : IsSteady answer) where
       ∙ ap (behind_head (cut answer) r.head r.verdict (r.body ++ q)) (lt-ltb (length (r.body ++ q)) (body_length r.verdict) (omega arith)))
 
   whole_rest : (head : List ℕ) (v : Verdict) (rest : List ℕ) → length rest ≡ body_length v
-    → (behind_head (cut answer) head v rest (nat_lt (length rest) (body_length v))).rest ≡ InHead []
+      → (behind_head (cut answer) head v rest (nat_lt (length rest) (body_length v))).rest ≡ InHead []
   whole_rest head v rest all =
       let m = body_length v in
       let d : drop m rest ≡ [] = drop_all m rest (omega arith) in
@@ -34,7 +34,7 @@ module _ (answer : Reader) (steady : IsSteady answer) where
 
   -- its last bytes
   pub body_whole_rest : (s q : List ℕ) (r : Asked) → (cut answer s).rest ≡ InBody r → length r.body + length q ≡ body_length r.verdict
-    → (cut answer (s ++ q)).rest ≡ InHead []
+      → (cut answer (s ++ q)).rest ≡ InHead []
   body_whole_rest s q r e all =
       let u = left answer s in
       let b = left_body answer steady s r e in
@@ -57,14 +57,14 @@ module _ (answer : Reader) (steady : IsSteady answer) where
 
     -- the head is whole, and its body isn't
     pub head_part_rest : (p : List ℕ) (n : ℕ) (v : Verdict) → answer (h ++ p) ≡ Judged n v → length (drop n (h ++ p)) < body_length v
-      → (cut answer (s ++ p)).rest ≡ InBody (judged_as (h ++ p) n v)
+        → (cut answer (s ++ p)).rest ≡ InBody (judged_as (h ++ p) n v)
     head_part_rest p n v e few =
         head_on p ∙ ap (λ c. c.rest) (cut_steps answer steady (h ++ p) ∙ (ap (by_answer (cut answer) (h ++ p)) e
         ∙ ap (behind_head (cut answer) (take n (h ++ p)) v (drop n (h ++ p))) (lt-ltb (length (drop n (h ++ p))) (body_length v) few)))
 
     -- both are whole
     pub head_whole_rest : (p : List ℕ) (n : ℕ) (v : Verdict) → answer (h ++ p) ≡ Judged n v → length (drop n (h ++ p)) ≡ body_length v
-      → (cut answer (s ++ p)).rest ≡ InHead []
+        → (cut answer (s ++ p)).rest ≡ InHead []
     head_whole_rest p n v e all =
         head_on p ∙ (ap (λ c. c.rest) (cut_steps answer steady (h ++ p) ∙ ap (by_answer (cut answer) (h ++ p)) e)
         ∙ whole_rest (take n (h ++ p)) v (drop n (h ++ p)) all)

@@ -24,8 +24,12 @@ use Rattle.tus_session.proofs.InPlace.{in_place, is_set, beyond, closed_at, open
 pub same_grows : (m : Store) → Grows m m
 same_grows m = record {
   indexes = refl;
-  uploads = λ n up e. ([], [], e ∙ ap (λ x. Some (record up { accepted = x })) (sym (append-nil up.accepted)),
-      ap (λ x. text_of m.indexes (record up { accepted = x })) (append-nil up.accepted) ∙ sym (append-nil (text_of m.indexes up)));
+  uploads = λ n up e. (
+    [],
+    [],
+    e ∙ ap (λ x. Some (record up { accepted = x })) (sym (append-nil up.accepted)),
+    ap (λ x. text_of m.indexes (record up { accepted = x })) (append-nil up.accepted) ∙ sym (append-nil (text_of m.indexes up)),
+  );
 }
 
 -- nothing moved
@@ -53,41 +57,41 @@ module _ {U B : Type 0} (u : Ghosts U B) where
       }
 
   opened_step : (places : List (Place B)) (store : U) (st : State) (c : ℕ) (k : Link B) → SessionStands u places store st → c < length places → (o : Option Conn)
-    → st.conns c ≡ o → o ≡ None → k.head.items ≡ [] → k.left ≡ 0 → k.task ≡ tasks.Idle
-    → Follows u (slice_set places c (Open k)) store (opened_at st c o).state (opened_at st c o).outcome Done
+      → st.conns c ≡ o → o ≡ None → k.head.items ≡ [] → k.left ≡ 0 → k.task ≡ tasks.Idle
+      → Follows u (slice_set places c (Open k)) store (opened_at st c o).state (opened_at st c o).outcome Done
   opened_step places store st c k stands lt (Some conn) is none e f g = absurd (cc)
   opened_step places store st c k stands lt None is none e f g =
       let n : nat_lt c 16 ≡ true = lt-ltb c 16 (omega (arith, stands.count)) in
       let d : None ≡ draft_at (st.conns c) = ap draft_at (sym is) in
       let moves : Moves st.world st.world (draft_at (st.conns c)) None = subst (λ o. Moves st.world st.world o None) d (still st.world None) in
       let s : SessionStands u (slice_set places c (Open k)) store (put st st.world c (Some fresh)) =
-          in_place u places (slice_set places c (Open k)) store store st st.world c (Open k) (Some fresh) stands (is_set u places c (Open k) lt) moves stands.shown (new_place st.world k e f g) in
+      in_place u places (slice_set places c (Open k)) store store st st.world c (Open k) (Some fresh) stands (is_set u places c (Open k) lt) moves stands.shown (new_place st.world k e f g) in
       let P : Bool → Type 0 = λ b. let x : Step = (if b then record { state = put st st.world c (Some fresh); outcome = Done } else kept st TooMany) in
-          Follows u (slice_set places c (Open k)) store x.state x.outcome Done in
+      Follows u (slice_set places c (Open k)) store x.state x.outcome Done in
       let now : P true = record { stands = s; outcome = refl } in
       subst P (sym n) now
 
   pub opened : (places : List (Place B)) (store : U) (st : State) (c : ℕ) (k : Link B) → SessionStands u places store st → c < length places → st.conns c ≡ None
-    → k.head.items ≡ [] → k.left ≡ 0 → k.task ≡ tasks.Idle
-    → Follows u (slice_set places c (Open k)) store (step st (Opened c) Served).state (step st (Opened c) Served).outcome Done
+      → k.head.items ≡ [] → k.left ≡ 0 → k.task ≡ tasks.Idle
+      → Follows u (slice_set places c (Open k)) store (step st (Opened c) Served).state (step st (Opened c) Served).outcome Done
   unfolding step
   opened places store st c k stands lt none e f g = opened_step places store st c k stands lt (st.conns c) refl none e f g
 
   pub not_below : (places : List (Place B)) (store : U) (st : State) (c : ℕ) → SessionStands u places store st → length places ≤ c
-    → Follows u places store st (step st (Opened c) Served).outcome (Refused TooMany)
+      → Follows u places store st (step st (Opened c) Served).outcome (Refused TooMany)
   unfolding step
   not_below places store st c stands le =
       let n : nat_lt c 16 ≡ false = le-ltb c 16 (omega (arith, stands.count)) in
       let none = beyond u places store st c stands le in
       let P : Bool → Type 0 = λ b. let x : Step = (if b then record { state = put st st.world c (Some fresh); outcome = Done } else kept st TooMany) in
-          Follows u places store st x.outcome (Refused TooMany) in
+      Follows u places store st x.outcome (Refused TooMany) in
       let Q : Option Conn → Type 0 = λ o. Follows u places store st (opened_at st c o).outcome (Refused TooMany) in
       let now : P false = record { stands = stands; outcome = refl } in
       let later : Q None = subst P (sym n) now in
       subst Q (sym none) later
 
   pub is_open : (places : List (Place B)) (store : U) (st : State) (c : ℕ) (x : Place B) (k : Link B) → SessionStands u places store st → c < length places
-    → x ≡ get_or places c x → x ≡ Open k → Follows u places store st (step st (Opened c) Served).outcome (Refused TooMany)
+      → x ≡ get_or places c x → x ≡ Open k → Follows u places store st (step st (Opened c) Served).outcome (Refused TooMany)
   unfolding step
   is_open places store st c x k stands lt e is =
       let o = open_at u places store st c x k stands lt e is in
@@ -97,7 +101,7 @@ module _ {U B : Type 0} (u : Ghosts U B) where
 
   -- so many closed places
   pub begun : (places : List (Place B)) (store : U) (m : Store) (blocks : Option ℕ) → u.stands store (at_rest m blocks) → length places ≡ 16
-    → ((c : ℕ) → get_or places c Closed ≡ Closed) → SessionStands u places store (beginning m blocks)
+      → ((c : ℕ) → get_or places c Closed ≡ Closed) → SessionStands u places store (beginning m blocks)
   begun places store m blocks shown count all = record {
     count = count;
     shown = shown;

@@ -62,7 +62,7 @@ fits_case true e = absurd (cc)
 fits_case false e = refl
 
 begins_case : (offset count : ℕ) (u : Upload) (b : Bool) → (length u.accepted == offset) ≡ b
-  → (if b then refuse_if (nat_lt u.declared (offset + count)) TooLong else Some Offset) ≡ None → Begins offset count (Some u)
+    → (if b then refuse_if (nat_lt u.declared (offset + count)) TooLong else Some Offset) ≡ None → Begins offset count (Some u)
 begins_case offset count u true same e = record {
   up = u;
   there = refl;

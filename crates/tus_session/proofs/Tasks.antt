@@ -49,14 +49,14 @@ module _ {U B : Type 0} (u : Ghosts U B) where
   idle_at w rest (Some d) pending is = absurd is
 
   pub patch_at : (w : World) (rest : Rest) (b : Patching B) (draft : Option ℕ) (pending : Option Giving) → TaskIs u w rest (tasks.Patch b) draft pending
-    → IsPatching u w rest b draft pending
+      → IsPatching u w rest b draft pending
   patch_at w rest b None pending is = absurd is
   patch_at w rest b (Some d) (Some h) is = absurd is
   patch_at w (InHead h) b (Some d) None is = absurd is
   patch_at w (InBody asked) b (Some d) None (r, p, is) = record { d = d; asked = asked; r = r; p = p; draft_is = refl; idle = refl; rest_is = refl; patches = is }
 
   pub text_at : (w : World) (rest : Rest) (g : given.Giving) (draft : Option ℕ) (pending : Option Giving) → TaskIs u w rest (tasks.Text g) draft pending
-    → IsGiving w g draft pending
+      → IsGiving w g draft pending
   text_at w rest g None None is = absurd is
   text_at w rest g None (Some h) (up, is) = record { h = h; up = up; draft_is = refl; pending_is = refl; gives = is }
   text_at w rest g (Some d) pending is = absurd is
@@ -66,7 +66,7 @@ pub body_wants : (w : World) (s : List ℕ) (asked : Asked) → (cut (reader w) 
 body_wants w s asked e = (left_body (reader w) (steady (offers w.store.indexes)) s asked e).1.wants
 
 pub body_short : {U B : Type 0} (u : Ghosts U B) (w : World) (s : List ℕ) (b : Patching B) (d : ℕ) (asked : Asked) (r : Request) (p : Patch)
-  → (cut (reader w) s).rest ≡ InBody asked → PatchesAs u w b d asked r p → length p.body < p.count
+    → (cut (reader w) s).rest ≡ InBody asked → PatchesAs u w b d asked r p → length p.body < p.count
 body_short u w s b d asked r p e is =
     let wants = body_wants w s asked e in
     let l : body_length asked.verdict ≡ r.length = ap body_length is.asks in
@@ -79,7 +79,7 @@ pub limits_same : (moment : ℕ) (left_only : ℕ → List Store → Type 0) (m 
 limits_same moment left_only m m' = record { later = omega arith; limits = λ t ms le left a b. left }
 
 pub limits_to : {moment moment' : ℕ} {left_only left_only' : ℕ → List Store → Type 0} {m x y : Store} → x ≡ y
-  → Limits moment moment' left_only left_only' m x → Limits moment moment' left_only left_only' m y
+    → Limits moment moment' left_only left_only' m x → Limits moment moment' left_only left_only' m y
 limits_to {moment} {moment'} {left_only} {left_only'} {m} e h = subst (λ z. Limits moment moment' left_only left_only' m z) e h
 
 -- THE END OF A CONNECTION
@@ -139,19 +139,19 @@ module _ {U B : Type 0} (u : Ghosts U B) where
 
 module _ {U B : Type 0} (u : Ghosts U B) where
   pub patching : (w : World) (rest : Rest) (task : Task B) (b : Patching B) (draft : Option ℕ) (pending : Option Giving) → TaskIs u w rest task draft pending
-    → task ≡ tasks.Patch b → IsPatching u w rest b draft pending
+      → task ≡ tasks.Patch b → IsPatching u w rest b draft pending
   patching w rest task b draft pending is e = patch_at u w rest b draft pending (subst (λ t. TaskIs u w rest t draft pending) e is)
 
   pub giving : (w : World) (rest : Rest) (task : Task B) (g : given.Giving) (draft : Option ℕ) (pending : Option Giving) → TaskIs u w rest task draft pending
-    → task ≡ tasks.Text g → IsGiving w g draft pending
+      → task ≡ tasks.Text g → IsGiving w g draft pending
   giving w rest task g draft pending is e = text_at u w rest g draft pending (subst (λ t. TaskIs u w rest t draft pending) e is)
 
   pub idling : (w : World) (rest : Rest) (task : Task B) (draft : Option ℕ) (pending : Option Giving) → TaskIs u w rest task draft pending
-    → task ≡ tasks.Idle → (draft ≡ None) × (pending ≡ None)
+      → task ≡ tasks.Idle → (draft ≡ None) × (pending ≡ None)
   idling w rest task draft pending is e = idle_at u w rest draft pending (subst (λ t. TaskIs u w rest t draft pending) e is)
 
   -- no patch is open
   pub no_draft : (w : World) (rest : Rest) (task : Task B) (draft : Option ℕ) (pending : Option Giving) → TaskIs u w rest task draft pending
-    → (task ≡ tasks.Idle) ⊎ ((g : given.Giving) × (task ≡ tasks.Text g)) → draft ≡ None
+      → (task ≡ tasks.Idle) ⊎ ((g : given.Giving) × (task ≡ tasks.Text g)) → draft ≡ None
   no_draft w rest task draft pending is (inl e) = (idling w rest task draft pending is e).0
   no_draft w rest task draft pending is (inr (g, e)) = (giving w rest task g draft pending is e).draft_is

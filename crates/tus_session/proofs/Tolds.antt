@@ -32,7 +32,7 @@ unfolding step
 more_is st c conn e = record { conn_is = e; step_is = ap (more_at st c) e }
 
 memory_is : (st : State) (e : Event) (conn : Conn) → st.conns (conn_in e) ≡ Some conn
-  → step st e OutOfMemory ≡ record { state = put st (left_world st.world conn.draft) (conn_in e) None; outcome = Refused errors.NoMemory }
+    → step st e OutOfMemory ≡ record { state = put st (left_world st.world conn.draft) (conn_in e) None; outcome = Refused errors.NoMemory }
 unfolding step
 memory_is st e conn is = ap (lost_at st (conn_in e)) is
 
@@ -41,35 +41,34 @@ module _ {U B : Type 0} (u : Ghosts U B) where
   open_is o conn e = subst IsOpen (sym e) tt
 
   pub gave : (out new : List ℕ) (a : Answer) (t : Turn) → a.taken ≡ t.taken → a.closes ≡ is_closed t.conn → a.more ≡ has_text t.conn
-    → Gave t.bytes t.taken (is_closed t.conn) (has_text t.conn) ≡ Gave t.bytes a.taken a.closes a.more
+      → Gave t.bytes t.taken (is_closed t.conn) (has_text t.conn) ≡ Gave t.bytes a.taken a.closes a.more
   gave out new a t e f g = sym (ap (λ n. Gave t.bytes n a.closes a.more) e ∙ (ap (λ b. Gave t.bytes t.taken b a.more) f ∙ ap (λ b. Gave t.bytes t.taken (is_closed t.conn) b) g))
 
   module _ (places all : List (Place B)) (store store' : U) (st : State) (next : Place B) (e : Event) (conn : Conn)
-    (stands : SessionStands u places store st) (is_put : IsPut places all (conn_in e) next) where
-
+      (stands : SessionStands u places store st) (is_put : IsPut places all (conn_in e) next) where
     moves_at : (w' : World) (own' : Option ℕ) → st.conns (conn_in e) ≡ Some conn → Moves st.world w' conn.draft own' → Moves st.world w' (draft_at (st.conns (conn_in e))) own'
     moves_at w' own' is moves = subst (λ o. Moves st.world w' (draft_at o) own') (sym is) moves
 
     -- the connection is gone, with its draft
     pub lost : st.conns (conn_in e) ≡ Some conn → next ≡ Closed → u.stands store' (left_world st.world conn.draft)
-      → Follows u all store' (step st e OutOfMemory).state (step st e OutOfMemory).outcome (Refused errors.NoMemory)
+        → Follows u all store' (step st e OutOfMemory).state (step st e OutOfMemory).outcome (Refused errors.NoMemory)
     lost is closed shown =
         let w' = left_world st.world conn.draft in
         let here : PlaceIs u w' next None = subst (λ p. PlaceIs u w' p None) (sym closed) tt in
         let s : SessionStands u all store' (put st w' (conn_in e) None) =
-            in_place u places all store store' st w' (conn_in e) next None stands is_put (moves_at w' None is (left_moves st.world conn.draft)) shown here in
+        in_place u places all store store' st w' (conn_in e) next None stands is_put (moves_at w' None is (left_moves st.world conn.draft)) shown here in
         let x : Step = record { state = put st w' (conn_in e) None; outcome = Refused errors.NoMemory } in
         let f : Follows u all store' x.state x.outcome (Refused errors.NoMemory) = record { stands = s; outcome = refl } in
         subst (λ y. Follows u all store' y.state y.outcome (Refused errors.NoMemory)) (sym (memory_is st e conn is)) f
 
     pub told : (t : Turn) (r : Result Answer SessionError) (old new : List ℕ) → IsTurn st e conn t → Turned u store' next r old new st.world conn.draft t
-      → Told u all store' r old new st e
+        → Told u all store' r old new st e
     told t (Ok a) old new is turn =
         let s : SessionStands u all store' (put st t.world (conn_in e) t.conn) =
-            in_place u places all store store' st t.world (conn_in e) next t.conn stands is_put (moves_at t.world (draft_at t.conn) is.conn_is turn.moves) turn.shown turn.here in
+        in_place u places all store store' st t.world (conn_in e) next t.conn stands is_put (moves_at t.world (draft_at t.conn) is.conn_is turn.moves) turn.shown turn.here in
         let x = turned st (conn_in e) t in
         let f : Follows u all store' x.state x.outcome (Gave t.bytes a.taken a.closes a.more) =
-            record { stands = s; outcome = gave old new a t turn.taken turn.closes turn.more } in
+        record { stands = s; outcome = gave old new a t turn.taken turn.closes turn.more } in
         (t.bytes, subst (λ y. Follows u all store' y.state y.outcome (Gave t.bytes a.taken a.closes a.more)) (sym is.step_is) f, turn.bytes)
     told t (Err errors.NoMemory) old new is (shown, closed, same) = (lost is.conn_is closed shown, same)
     told t (Err errors.DiskFault) old new is same = (open_is (st.conns (conn_in e)) conn is.conn_is, same)
@@ -77,13 +76,13 @@ module _ {U B : Type 0} (u : Ghosts U B) where
     told t (Err errors.Closed) old new is turn = absurd turn
 
     pub ends : (r : Result (Unit {0}) SessionError) → st.conns (conn_in e) ≡ Some conn → next ≡ Closed
-      → step st e Served ≡ record { state = put st (ended_world st.world conn) (conn_in e) None; outcome = Done }
-      → EndedBy u store' r st.world conn.draft (ended_world st.world conn) → Ends u all store' r st e
+        → step st e Served ≡ record { state = put st (ended_world st.world conn) (conn_in e) None; outcome = Done }
+        → EndedBy u store' r st.world conn.draft (ended_world st.world conn) → Ends u all store' r st e
     ends (Ok x) is closed done turn =
         let w' = ended_world st.world conn in
         let here : PlaceIs u w' next None = subst (λ p. PlaceIs u w' p None) (sym closed) tt in
         let s : SessionStands u all store' (put st w' (conn_in e) None) =
-            in_place u places all store store' st w' (conn_in e) next None stands is_put (moves_at w' None is turn.moves) turn.shown here in
+        in_place u places all store store' st w' (conn_in e) next None stands is_put (moves_at w' None is turn.moves) turn.shown here in
         let x : Step = record { state = put st w' (conn_in e) None; outcome = Done } in
         let f : Follows u all store' x.state x.outcome Done = record { stands = s; outcome = refl } in
         subst (λ y. Follows u all store' y.state y.outcome Done) (sym done) f
@@ -94,21 +93,21 @@ module _ {U B : Type 0} (u : Ghosts U B) where
 
   -- no connection is open there
   pub none_came : (places : List (Place B)) (store : U) (st : State) (c : ℕ) (bytes : List ℕ) → SessionStands u places store st → st.conns c ≡ None
-    → Follows u places store st (step st (Came c bytes) Served).outcome (Refused errors.Closed)
+      → Follows u places store st (step st (Came c bytes) Served).outcome (Refused errors.Closed)
   unfolding step
   none_came places store st c bytes stands none = record { stands = stands; outcome = ap (λ o. (came_at st c bytes o).outcome) none }
 
   pub none_more : (places : List (Place B)) (store : U) (st : State) (c : ℕ) → SessionStands u places store st → st.conns c ≡ None
-    → Follows u places store st (step st (More c) Served).outcome (Refused errors.Closed)
+      → Follows u places store st (step st (More c) Served).outcome (Refused errors.Closed)
   unfolding step
   none_more places store st c stands none = record { stands = stands; outcome = ap (λ o. (more_at st c o).outcome) none }
 
   pub none_ended : (places : List (Place B)) (store : U) (st : State) (c : ℕ) → SessionStands u places store st → st.conns c ≡ None
-    → Follows u places store st (step st (Ended c) Served).outcome (Refused errors.Closed)
+      → Follows u places store st (step st (Ended c) Served).outcome (Refused errors.Closed)
   unfolding step
   none_ended places store st c stands none = record { stands = stands; outcome = ap (λ o. (ended_at st c o).outcome) none }
 
 pub ended_step : (st : State) (c : ℕ) (conn : Conn) → st.conns c ≡ Some conn
-  → step st (Ended c) Served ≡ record { state = put st (ended_world st.world conn) c None; outcome = Done }
+    → step st (Ended c) Served ≡ record { state = put st (ended_world st.world conn) c None; outcome = Done }
 unfolding step
 ended_step st c conn e = ap (ended_at st c) e

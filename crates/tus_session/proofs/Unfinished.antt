@@ -29,7 +29,7 @@ abbrev pub only_body : Asked → Cut
 only_body r = record { whole = []; rest = InBody r }
 
 body_case : (answer : Reader) (u : List ℕ) (r : Asked) (n : ℕ) (v : Verdict) → answer u ≡ Judged n v → (b : Bool)
-  → nat_lt (length (drop n u)) (body_length v) ≡ b → only_body r ≡ behind_head (cut answer) (take n u) v (drop n u) b → (m : ℕ) × IsBody answer u m r
+    → nat_lt (length (drop n u)) (body_length v) ≡ b → only_body r ≡ behind_head (cut answer) (take n u) v (drop n u) b → (m : ℕ) × IsBody answer u m r
 unfolding whole_of rest_of
 body_case answer u r n v e true under q =
     let s : Asked = record { head = take n u; verdict = v; body = drop n u } in
@@ -55,7 +55,7 @@ left_body answer steady s r e =
 
 -- the cut with more of the body
 pub cut_more : (answer : Reader) → IsSteady answer → (u q : List ℕ) (n : ℕ) (r : Asked) → IsBody answer u n r
-  → cut answer (u ++ q) ≡ behind_head (cut answer) r.head r.verdict (r.body ++ q) (nat_lt (length (r.body ++ q)) (body_length r.verdict))
+    → cut answer (u ++ q) ≡ behind_head (cut answer) r.head r.verdict (r.body ++ q) (nat_lt (length (r.body ++ q)) (body_length r.verdict))
 cut_more answer steady u q n r is =
     let v = r.verdict in
     cut_steps answer steady (u ++ q)
@@ -75,13 +75,13 @@ body_ended r q = record { head = None; body = Some (longer r q); came = q }
 
 -- MORE OF A BODY: fewer bytes than it wants
 pub part_came : (answer : Reader) → IsSteady answer → (u q : List ℕ) (n : ℕ) (r : Asked) → IsBody answer u n r → cut answer u ≡ only_body r
-  → length r.body + length q < body_length r.verdict → moments answer u q ≡ bytes_came q
+    → length r.body + length q < body_length r.verdict → moments answer u q ≡ bytes_came q
 unfolding moments
 part_came answer steady u q n r is only few =
     let l : length (r.body ++ q) ≡ length r.body + length q = length-append r.body q in
     let e : cut answer (u ++ q) ≡ only_body (longer r q) =
-        cut_more answer steady u q n r is
-        ∙ ap (behind_head (cut answer) r.head r.verdict (r.body ++ q)) (lt-ltb (length (r.body ++ q)) (body_length r.verdict) (omega arith)) in
+    cut_more answer steady u q n r is
+    ∙ ap (behind_head (cut answer) r.head r.verdict (r.body ++ q)) (lt-ltb (length (r.body ++ q)) (body_length r.verdict) (omega arith)) in
     ap (λ c. moments_of c (cut answer (u ++ q))) only
     ∙ (ap (moments_of (only_body r)) e ∙ ap (λ x. record { head = None; body = None; came = x }) (drop-append_seam r.body q))
 
@@ -97,7 +97,7 @@ empty_cut answer steady = cut_steps answer steady [] ∙ ap (by_answer (cut answ
 
 -- its last bytes
 pub rest_came : (answer : Reader) → IsSteady answer → (u q : List ℕ) (n : ℕ) (r : Asked) → IsBody answer u n r → cut answer u ≡ only_body r
-  → length r.body + length q ≡ body_length r.verdict → moments answer u q ≡ body_ended r q
+    → length r.body + length q ≡ body_length r.verdict → moments answer u q ≡ body_ended r q
 unfolding moments
 rest_came answer steady u q n r is only all =
     let m = body_length r.verdict in
@@ -105,26 +105,26 @@ rest_came answer steady u q n r is only all =
     let t : take m (r.body ++ q) ≡ r.body ++ q = take_all m (r.body ++ q) (omega arith) in
     let d : drop m (r.body ++ q) ≡ [] = drop_all m (r.body ++ q) (omega arith) in
     let e : cut answer (u ++ q) ≡ record { whole = longer r q ∷ []; rest = InHead [] } =
-        cut_more answer steady u q n r is
-        ∙ (ap (behind_head (cut answer) r.head r.verdict (r.body ++ q)) (le-ltb (length (r.body ++ q)) m (omega arith))
-        ∙ (ap (λ x. onto (record { head = r.head; verdict = r.verdict; body = x }) (cut answer (drop m (r.body ++ q)))) t
-        ∙ (ap (λ x. onto (longer r q) (cut answer x)) d ∙ ap (onto (longer r q)) (empty_cut answer steady)))) in
+    cut_more answer steady u q n r is
+    ∙ (ap (behind_head (cut answer) r.head r.verdict (r.body ++ q)) (le-ltb (length (r.body ++ q)) m (omega arith))
+    ∙ (ap (λ x. onto (record { head = r.head; verdict = r.verdict; body = x }) (cut answer (drop m (r.body ++ q)))) t
+    ∙ (ap (λ x. onto (longer r q) (cut answer x)) d ∙ ap (onto (longer r q)) (empty_cut answer steady)))) in
     ap (λ c. moments_of c (cut answer (u ++ q))) only
     ∙ (ap (moments_of (only_body r)) e ∙ ap (λ x. record { head = None; body = Some (longer r q); came = x }) (drop-append_seam r.body q))
 
 -- HOW MUCH IS TAKEN of a body: the piece, or what the body still wants
 pub part_taken : (answer : Reader) → IsSteady answer → (u p : List ℕ) (n : ℕ) (r : Asked) → IsBody answer u n r → cut answer u ≡ only_body r
-  → length r.body + length p < body_length r.verdict → taken answer u p ≡ length p
+    → length r.body + length p < body_length r.verdict → taken answer u p ≡ length p
 unfolding taken
 part_taken answer steady u p n r is only few =
     let l : length (r.body ++ p) ≡ length r.body + length p = length-append r.body p in
     let e : cut answer (u ++ p) ≡ only_body (longer r p) =
-        cut_more answer steady u p n r is
-        ∙ ap (behind_head (cut answer) r.head r.verdict (r.body ++ p)) (lt-ltb (length (r.body ++ p)) (body_length r.verdict) (omega arith)) in
+    cut_more answer steady u p n r is
+    ∙ ap (behind_head (cut answer) r.head r.verdict (r.body ++ p)) (lt-ltb (length (r.body ++ p)) (body_length r.verdict) (omega arith)) in
     ap (λ c. taken_of u p c (cut answer (u ++ p))) only ∙ ap (taken_of u p (only_body r)) e
 
 pub rest_taken : (answer : Reader) → IsSteady answer → (u p : List ℕ) (n : ℕ) (r : Asked) → IsBody answer u n r → cut answer u ≡ only_body r
-  → body_length r.verdict ≤ length r.body + length p → taken answer u p ≡ body_length r.verdict - length r.body
+    → body_length r.verdict ≤ length r.body + length p → taken answer u p ≡ body_length r.verdict - length r.body
 unfolding taken
 rest_taken answer steady u p n r is only enough =
     let m = body_length r.verdict in
@@ -135,8 +135,8 @@ rest_taken answer steady u p n r is only enough =
     let h : length (take n u) ≡ length r.head = ap length is.head in
     let b : length (drop n u) ≡ length r.body = ap length is.body in
     let e : cut answer (u ++ p) ≡ onto s (cut answer (drop m (r.body ++ p))) =
-        cut_more answer steady u p n r is
-        ∙ ap (behind_head (cut answer) r.head r.verdict (r.body ++ p)) (le-ltb (length (r.body ++ p)) m (omega arith)) in
+    cut_more answer steady u p n r is
+    ∙ ap (behind_head (cut answer) r.head r.verdict (r.body ++ p)) (le-ltb (length (r.body ++ p)) m (omega arith)) in
     let k : 0 + size s - length u ≡ m - length r.body = omega arith in
     ap (λ c. taken_of u p c (cut answer (u ++ p))) only ∙ (ap (taken_of u p (only_body r)) e ∙ k)
 
@@ -146,47 +146,49 @@ only_head h = record { whole = []; rest = InHead h }
 
 -- the head isn't whole yet
 pub head_part : (answer : Reader) → IsSteady answer → (h q : List ℕ) → cut answer h ≡ only_head h → answer (h ++ q) ≡ More
-  → (moments answer h q ≡ record { head = None; body = None; came = [] }) × (taken answer h q ≡ length q)
+    → (moments answer h q ≡ record { head = None; body = None; came = [] }) × (taken answer h q ≡ length q)
 unfolding moments taken
 head_part answer steady h q only e =
-    let f : cut answer (h ++ q) ≡ only_head (h ++ q) = cut_steps answer steady (h ++ q) ∙ ap (by_answer (cut answer) (h ++ q)) e in
-    (ap (λ c. moments_of c (cut answer (h ++ q))) only ∙ ap (moments_of (only_head h)) f,
-     ap (λ c. taken_of h q c (cut answer (h ++ q))) only ∙ ap (taken_of h q (only_head h)) f)
+    let f : cut answer (h ++ q) ≡ only_head (h ++ q) = cut_steps answer steady (h ++ q) ∙ ap (by_answer (cut answer) (h ++ q)) e in (
+      ap (λ c. moments_of c (cut answer (h ++ q))) only ∙ ap (moments_of (only_head h)) f,
+      ap (λ c. taken_of h q c (cut answer (h ++ q))) only ∙ ap (taken_of h q (only_head h)) f,
+    )
 
 abbrev pub judged_as : List ℕ → ℕ → Verdict → Asked
 judged_as s n v = record { head = take n s; verdict = v; body = drop n s }
 
 -- the head is whole, and its body isn't
 pub head_whole : (answer : Reader) → IsSteady answer → (h q : List ℕ) (n : ℕ) (v : Verdict) → cut answer h ≡ only_head h → answer (h ++ q) ≡ Judged n v
-  → length (drop n (h ++ q)) < body_length v
-  → (moments answer h q ≡ record { head = Some (judged_as (h ++ q) n v); body = None; came = drop n (h ++ q) }) × (taken answer h q ≡ length q)
+    → length (drop n (h ++ q)) < body_length v
+    → (moments answer h q ≡ record { head = Some (judged_as (h ++ q) n v); body = None; came = drop n (h ++ q) }) × (taken answer h q ≡ length q)
 unfolding moments taken
 head_whole answer steady h q n v only e few =
     let f : cut answer (h ++ q) ≡ only_body (judged_as (h ++ q) n v) =
-        cut_steps answer steady (h ++ q) ∙ (ap (by_answer (cut answer) (h ++ q)) e
-        ∙ ap (behind_head (cut answer) (take n (h ++ q)) v (drop n (h ++ q))) (lt-ltb (length (drop n (h ++ q))) (body_length v) few)) in
-    (ap (λ c. moments_of c (cut answer (h ++ q))) only ∙ ap (moments_of (only_head h)) f,
-     ap (λ c. taken_of h q c (cut answer (h ++ q))) only ∙ ap (taken_of h q (only_head h)) f)
+    cut_steps answer steady (h ++ q) ∙ (ap (by_answer (cut answer) (h ++ q)) e
+    ∙ ap (behind_head (cut answer) (take n (h ++ q)) v (drop n (h ++ q))) (lt-ltb (length (drop n (h ++ q))) (body_length v) few)) in (
+      ap (λ c. moments_of c (cut answer (h ++ q))) only ∙ ap (moments_of (only_head h)) f,
+      ap (λ c. taken_of h q c (cut answer (h ++ q))) only ∙ ap (taken_of h q (only_head h)) f,
+    )
 
 -- both are whole, and the bytes end there
 pub both_whole : (answer : Reader) → IsSteady answer → (h q : List ℕ) (n : ℕ) (v : Verdict) → cut answer h ≡ only_head h → answer (h ++ q) ≡ Judged n v
-  → length (drop n (h ++ q)) ≡ body_length v
-  → moments answer h q ≡ record { head = Some (judged_as (h ++ q) n v); body = Some (judged_as (h ++ q) n v); came = drop n (h ++ q) }
+    → length (drop n (h ++ q)) ≡ body_length v
+    → moments answer h q ≡ record { head = Some (judged_as (h ++ q) n v); body = Some (judged_as (h ++ q) n v); came = drop n (h ++ q) }
 unfolding moments
 both_whole answer steady h q n v only e all =
     let m = body_length v in
     let rest = drop n (h ++ q) in
     let r = judged_as (h ++ q) n v in
     let f : cut answer (h ++ q) ≡ record { whole = r ∷ []; rest = InHead [] } =
-        cut_steps answer steady (h ++ q) ∙ (ap (by_answer (cut answer) (h ++ q)) e
-        ∙ (ap (behind_head (cut answer) (take n (h ++ q)) v rest) (le-ltb (length rest) m (omega arith))
-        ∙ (ap (λ x. onto (record { head = take n (h ++ q); verdict = v; body = x }) (cut answer (drop m rest))) (take_all m rest (omega arith))
-        ∙ (ap (λ x. onto r (cut answer x)) (drop_all m rest (omega arith)) ∙ ap (onto r) (empty_cut answer steady))))) in
+    cut_steps answer steady (h ++ q) ∙ (ap (by_answer (cut answer) (h ++ q)) e
+    ∙ (ap (behind_head (cut answer) (take n (h ++ q)) v rest) (le-ltb (length rest) m (omega arith))
+    ∙ (ap (λ x. onto (record { head = take n (h ++ q); verdict = v; body = x }) (cut answer (drop m rest))) (take_all m rest (omega arith))
+    ∙ (ap (λ x. onto r (cut answer x)) (drop_all m rest (omega arith)) ∙ ap (onto r) (empty_cut answer steady))))) in
     ap (λ c. moments_of c (cut answer (h ++ q))) only ∙ ap (moments_of (only_head h)) f
 
 -- a piece in which the request ends: its head and body alone are taken
 pub whole_taken : (answer : Reader) → IsSteady answer → (h p : List ℕ) (n : ℕ) (v : Verdict) → cut answer h ≡ only_head h → answer (h ++ p) ≡ Judged n v
-  → body_length v ≤ length (drop n (h ++ p)) → taken answer h p ≡ n + body_length v - length h
+    → body_length v ≤ length (drop n (h ++ p)) → taken answer h p ≡ n + body_length v - length h
 unfolding taken
 whole_taken answer steady h p n v only e enough =
     let m = body_length v in
@@ -194,8 +196,8 @@ whole_taken answer steady h p n v only e enough =
     let a : length (take n (h ++ p)) ≡ n = length-take-le n (h ++ p) (steady.within (h ++ p) n v e) in
     let b : length (take m (drop n (h ++ p))) ≡ m = length-take-le m (drop n (h ++ p)) enough in
     let f : cut answer (h ++ p) ≡ onto s (cut answer (drop m (drop n (h ++ p)))) =
-        cut_steps answer steady (h ++ p) ∙ (ap (by_answer (cut answer) (h ++ p)) e
-        ∙ ap (behind_head (cut answer) (take n (h ++ p)) v (drop n (h ++ p))) (le-ltb (length (drop n (h ++ p))) m enough)) in
+    cut_steps answer steady (h ++ p) ∙ (ap (by_answer (cut answer) (h ++ p)) e
+    ∙ ap (behind_head (cut answer) (take n (h ++ p)) v (drop n (h ++ p))) (le-ltb (length (drop n (h ++ p))) m enough)) in
     let k : 0 + size s - length h ≡ n + m - length h = omega arith in
     ap (λ c. taken_of h p c (cut answer (h ++ p))) only ∙ (ap (taken_of h p (only_head h)) f ∙ k)
 
@@ -214,7 +216,7 @@ no_answer answer steady h n v only e =
     (sym only ∙ (cut_steps answer steady h ∙ ap (by_answer (cut answer) h) e))
 
 new_case : (answer : Reader) → IsSteady answer → (h q : List ℕ) (n : ℕ) (v : Verdict) → cut answer h ≡ only_head h → answer (h ++ q) ≡ Judged n v
-  → (b : Bool) → nat_lt (length h) n ≡ b → length h < n
+    → (b : Bool) → nat_lt (length h) n ≡ b → length h < n
 new_case answer steady h q n v only e true t = ltb-true (length h) n t
 new_case answer steady h q n v only e false t =
     let within : n ≤ length h = ltb-false (length h) n t in

@@ -21,6 +21,6 @@ pub record Moves (w w' : World) (own own' : Option ℕ) : Type 0 where
   pub grows : Grows w.store w'.store
   pub others : (e : ℕ) (p : Patch) → (own ≡ Some e → ⊥) → find e w.patches ≡ Some p → find e w'.patches ≡ Some p
   pub back : (e : ℕ) (p : Patch) → IsApart w.patches → find e w'.patches ≡ Some p
-    → (own' ≡ Some e) ⊎ ((own ≡ Some e → ⊥) × ((q : Patch) × (find e w.patches ≡ Some q)))
+      → (own' ≡ Some e) ⊎ ((own ≡ Some e → ⊥) × ((q : Patch) × (find e w.patches ≡ Some q)))
   pub fresh : (e : ℕ) → own' ≡ Some e → (own ≡ Some e) ⊎ (find e w.patches ≡ None)
   pub unique : IsApart w.patches → IsApart w'.patches

@@ -16,7 +16,13 @@ use tus_action::{Acted, Stop, end_body, feed_body};
 use upload_rules::Uploads;
 
 // A body that is dropped: what came of it is taken.
-pub(crate) fn skip<B>(head: Vec<u8>, left: u64, before: usize, behind: usize, closes: bool) -> (Place<B>, Answer)
+pub(crate) fn skip<B>(
+    head: Vec<u8>,
+    left: u64,
+    before: usize,
+    behind: usize,
+    closes: bool,
+) -> (Place<B>, Answer)
     requires { before + behind < 2 ^ 64 }
     ensures place { result.0 ≡ (if closes then Place.Closed else Place.Open (record { head = head; left = left - min left behind; task = Task.Idle })) }
     ensures answer { result.1 ≡ took (before + min left behind) closes }
@@ -44,7 +50,7 @@ fn go_on<U: Uploads>(
     ensures answer { (w : World) (p : Patch) → U.stands store.old w → find (U.number_of patch.draft) w.patches ≡ Some p → U.holds patch.draft p
         → length p.body + length bytes.now ≤ p.count
         → Parts U.Uploads store.new result.0 result.1 (record { head = head; left = left - length bytes.now; task = Task.Idle }) patch (before + length bytes.now)
-            (fed w (U.number_of patch.draft) bytes.now) (fed_patch w (U.number_of patch.draft) p bytes.now) (dropped w (U.number_of patch.draft)) }
+        (fed w (U.number_of patch.draft) bytes.now) (fed_patch w (U.number_of patch.draft) p bytes.now) (dropped w (U.number_of patch.draft)) }
     ensures crash { (w : World) (p : Patch) → U.stands store.old w → find (U.number_of patch.draft) w.patches ≡ Some p → U.holds patch.draft p
         → Limits (U.moment store.old) (U.moment store.new) (U.left_only store.old) (U.left_only store.new) w.store w.store }
     ensures counts { Counts (IsErrOf result.1 SessionError.DiskFault) (U.failures store.old) (U.failures store.new) }
@@ -94,11 +100,11 @@ fn finish<U: Uploads>(
     ensures answer { (w : World) (p : Patch) (r : Request) → U.stands store.old w → find (U.number_of patch.draft) w.patches ≡ Some p → U.holds patch.draft p
         → length p.body + length bytes.now ≡ p.count → patch.reached ≡ length p.began.accepted + p.count → patch.bare ≡ r.bare → patch.closes ≡ r.closes
         → Replies U.Uploads store.new result.0 result.1 out.old.items out.new.items (record { head = head; left = 0; task = Task.Idle }) (before + length bytes.now)
-            (ended_by w (U.number_of patch.draft) p bytes.now r) (dropped w (U.number_of patch.draft)) }
+        (ended_by w (U.number_of patch.draft) p bytes.now r) (dropped w (U.number_of patch.draft)) }
     ensures crash { (w : World) (p : Patch) (r : Request) → U.stands store.old w → find (U.number_of patch.draft) w.patches ≡ Some p → U.holds patch.draft p
         → length p.body + length bytes.now ≤ p.count
         → Limits (U.moment store.old) (U.moment store.new) (U.left_only store.old) (U.left_only store.new) w.store
-            (ended_by w (U.number_of patch.draft) p bytes.now r).world.store }
+        (ended_by w (U.number_of patch.draft) p bytes.now r).world.store }
     ensures counts { Counts (IsErrOf result.1 SessionError.DiskFault) (U.failures store.old) (U.failures store.new) }
 {
     let Patching {
@@ -168,23 +174,31 @@ pub(crate) fn body_of<U: Uploads>(
     ensures part { length bytes.now < left → (w : World) (p : Patch) → U.stands store.old w → find (U.number_of patch.draft) w.patches ≡ Some p → U.holds patch.draft p
         → length p.body + length bytes.now ≤ p.count
         → Parts U.Uploads store.new result.0 result.1 (record { head = head; left = left - length bytes.now; task = Task.Idle }) patch (before + length bytes.now)
-            (fed w (U.number_of patch.draft) bytes.now) (fed_patch w (U.number_of patch.draft) p bytes.now) (dropped w (U.number_of patch.draft)) }
+        (fed w (U.number_of patch.draft) bytes.now) (fed_patch w (U.number_of patch.draft) p bytes.now) (dropped w (U.number_of patch.draft)) }
     ensures part_out { length bytes.now < left → out.new.items ≡ out.old.items }
     ensures part_crash { length bytes.now < left → (w : World) (p : Patch) → U.stands store.old w → find (U.number_of patch.draft) w.patches ≡ Some p → U.holds patch.draft p
         → Limits (U.moment store.old) (U.moment store.new) (U.left_only store.old) (U.left_only store.new) w.store w.store }
     ensures rest { left ≤ length bytes.now → (w : World) (p : Patch) (r : Request) → U.stands store.old w → find (U.number_of patch.draft) w.patches ≡ Some p → U.holds patch.draft p
         → length p.body + left ≡ p.count → patch.reached ≡ length p.began.accepted + p.count → patch.bare ≡ r.bare → patch.closes ≡ r.closes
         → Replies U.Uploads store.new result.0 result.1 out.old.items out.new.items (record { head = head; left = 0; task = Task.Idle }) (before + left)
-            (ended_by w (U.number_of patch.draft) p (take left bytes.now) r) (dropped w (U.number_of patch.draft)) }
+        (ended_by w (U.number_of patch.draft) p (take left bytes.now) r) (dropped w (U.number_of patch.draft)) }
     ensures rest_crash { left ≤ length bytes.now → (w : World) (p : Patch) (r : Request) → U.stands store.old w → find (U.number_of patch.draft) w.patches ≡ Some p → U.holds patch.draft p
         → length p.body + left ≤ p.count
         → Limits (U.moment store.old) (U.moment store.new) (U.left_only store.old) (U.left_only store.new) w.store
-            (ended_by w (U.number_of patch.draft) p (take left bytes.now) r).world.store }
+        (ended_by w (U.number_of patch.draft) p (take left bytes.now) r).world.store }
     ensures counts { Counts (IsErrOf result.1 SessionError.DiskFault) (U.failures store.old) (U.failures store.new) }
 {
     if (bytes.len() as u64) < left {
         go_on(store, head, patch, left, before, bytes)
     } else {
-        finish(alloc, store, head, patch, before, &bytes[..left as usize], out)
+        finish(
+            alloc,
+            store,
+            head,
+            patch,
+            before,
+            &bytes[..left as usize],
+            out,
+        )
     }
 }

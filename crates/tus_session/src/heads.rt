@@ -4,7 +4,7 @@ ghost use Rattle.tus_request.specs.Requests.{Asks};
 ghost use Rattle.upload_rules.specs.World.{World};
 ghost use Rattle.upload_rules.specs.Answers.{Limits, Counts};
 ghost use Rattle.tus_request.specs.Shown.{request_shown};
-ghost use Rattle.tus_action.specs.Serves.{CanBeMade};
+ghost use Rattle.tus_action.specs.Serves.{CanBeMade, CanBeRead};
 ghost use Rattle.tus_session.specs.Turns.{Conn, came_turn};
 ghost use Rattle.tus_session.specs.Stands.{LinkIs};
 ghost use Rattle.tus_session.specs.Turned.{Turned};
@@ -40,7 +40,8 @@ fn request_of<U: Uploads>(
     bytes: &[u8],
     out: &mut Vec<u8>,
 ) -> (Place<U::Draft>, Result<Answer, SessionError>)
-    requires usable { (w : World) → U.stands store.old w → CanBeMade w (request_shown request).action }
+    requires makeable { CanBeMade (request_shown request).action }
+    requires usable { (w : World) → U.stands store.old w → CanBeRead w (request_shown request).action }
     requires small { IsSmall (request_shown request) }
     requires within { before ≤ length bytes.now }
     requires cleared { head.items ≡ [] }
@@ -75,10 +76,13 @@ fn request_of<U: Uploads>(
                 closes,
             };
             let (place, answer) = body_of(alloc, store, head, patch, length, before, behind, out);
-            if answer.is_err() {
-                out.truncate(start);
+            match answer {
+                Ok(answer) => (place, Ok(answer)),
+                Err(error) => {
+                    out.truncate(start);
+                    (place, Err(error))
+                }
             }
-            (place, answer)
         }
         None => match giving {
             Some(giving) => (

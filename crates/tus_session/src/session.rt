@@ -8,10 +8,10 @@ ghost use Rattle.upload_rules.specs.Store.{Store};
 ghost use Rattle.upload_rules.specs.World.{at_rest};
 ghost use Rattle.upload_rules.specs.Answers.{Limits, Quiet, Counts};
 
+use crate::conns::{Link, Place, Task};
 use crate::heads::came_of;
 use crate::turns::{drop_link, end_of, more_of};
 use crate::{Answer, SessionError};
-use crate::conns::{Link, Place, Task};
 use std::alloc::{AllocError, Global};
 use std::mem;
 use upload_rules::Uploads;
@@ -76,7 +76,7 @@ impl<U: Uploads> Session<U> {
             → Told U.Uploads (places_of self.new) store.new result out.old.items out.new.items st (Came conn bytes.now) }
         ensures crash { (st : State) → SessionStands U.Uploads (places_of self.old) store.old st
             → Limits (U.moment store.old) (U.moment store.new) (U.left_only store.old) (U.left_only store.new) st.world.store
-                (step st (Came conn bytes.now) Served).state.world.store }
+            (step st (Came conn bytes.now) Served).state.world.store }
         ensures counts { Counts (IsErrOf result SessionError.DiskFault) (U.failures store.old) (U.failures store.new) }
     {
         if conn >= self.places.len() {
@@ -124,7 +124,7 @@ impl<U: Uploads> Session<U> {
             → Ends U.Uploads (places_of self.new) store.new result st (Ended conn) }
         ensures crash { (st : State) → SessionStands U.Uploads (places_of self.old) store.old st
             → Limits (U.moment store.old) (U.moment store.new) (U.left_only store.old) (U.left_only store.new) st.world.store
-                (step st (Ended conn) Served).state.world.store }
+            (step st (Ended conn) Served).state.world.store }
         ensures counts { Counts (IsErrOf result SessionError.DiskFault) (U.failures store.old) (U.failures store.new) }
     {
         if conn >= self.places.len() {
@@ -142,7 +142,10 @@ impl<U: Uploads> Session<U> {
         ensures crash { Quiet (U.moment store.old) (U.moment store.new) (U.left_only store.old) (U.left_only store.new) }
         ensures counts { U.failures store.new ≡ U.failures store.old }
     {
-        let Session { alloc: _, mut places } = self;
+        let Session {
+            alloc: _,
+            mut places,
+        } = self;
         while let Some(place) = places.pop() {
             match place {
                 Place::Closed => {}

@@ -8,8 +8,8 @@ ghost use Rattle.tus_session.specs.Turned.{Turned, Ended};
 
 use crate::conns::{Link, Patching, Place, Task};
 use crate::{Answer, SessionError};
-use tus_action::{Stop, cut_body, give_more};
 use std::alloc::Global;
+use tus_action::{Stop, cut_body, give_more};
 use upload_rules::Uploads;
 
 // Nothing was given: the connection is as it was.
@@ -70,10 +70,7 @@ pub(crate) fn more_of<U: Uploads>(
 }
 
 // The connection ended: what came of an open patch is committed.
-pub(crate) fn end_of<U: Uploads>(
-    store: &mut U,
-    link: Link<U::Draft>,
-) -> Result<(), SessionError>
+pub(crate) fn end_of<U: Uploads>(store: &mut U, link: Link<U::Draft>) -> Result<(), SessionError>
     ensures answer { (w : World) (conn : Conn) → U.stands store.old w → LinkIs U.Uploads w link.head.items link.left link.task conn
         → Ended U.Uploads store.new result w conn.draft (ended_world w conn) }
     ensures crash { (w : World) (conn : Conn) → U.stands store.old w → LinkIs U.Uploads w link.head.items link.left link.task conn
@@ -87,12 +84,14 @@ pub(crate) fn end_of<U: Uploads>(
     } = link;
     match task {
         Task::Idle | Task::Text(_) => Ok(()),
-        Task::Patch(Patching {
-            draft,
-            reached: _,
-            bare: _,
-            closes: _,
-        }) => match cut_body(store, draft) {
+        Task::Patch(
+            Patching {
+                draft,
+                reached: _,
+                bare: _,
+                closes: _,
+            },
+        ) => match cut_body(store, draft) {
             Ok(()) => Ok(()),
             Err(Stop::NoMemory) => Err(SessionError::NoMemory),
             Err(Stop::DiskFault) => Err(SessionError::DiskFault),
@@ -113,12 +112,14 @@ pub(crate) fn drop_link<U: Uploads>(store: &mut U, link: Link<U::Draft>)
     } = link;
     match task {
         Task::Idle | Task::Text(_) => {}
-        Task::Patch(Patching {
-            draft,
-            reached: _,
-            bare: _,
-            closes: _,
-        }) => store.drop_open(draft),
+        Task::Patch(
+            Patching {
+                draft,
+                reached: _,
+                bare: _,
+                closes: _,
+            },
+        ) => store.drop_open(draft),
     }
 }
 

@@ -1,6 +1,5 @@
-use Rattle.std.proofs.Common.{◌≡◌, ◌≤◌, ◌+◌, length, Some, refl, sym, ◌∙◌, ap, subst, arith}
+use Rattle.std.proofs.Common.{◌≡◌, ◌≤◌, ◌+◌, length, Some, refl, ◌∙◌, ap, subst, arith}
 use Rattle.upload_rules.specs.Store.{find}
-use Rattle.upload_rules.specs.Calls.{dropped, commit_outcome}
 use Rattle.tus_action.specs.Acts.{fed, fed_patch}
 use Rattle.tus_session.proofs.Feeding.{drop_fed, reached_fed, answered_as, ended_store, fed_store}
 use Rattle.tus_session.proofs.Tasks.{limits_to}

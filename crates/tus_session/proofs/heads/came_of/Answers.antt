@@ -22,7 +22,7 @@ returns-in-Text-clause-answer g c w conn stands link =
     let turn = stays g.U.Uploads c.args.store.now w k conn true c.args.out.now.items stands now (sym (ap is_pending is.pending_is)) in
     turned_ok g.U.Uploads _ _ _ _ _ _ _ w conn.draft _ c.unmoved.ensures.place c.unmoved.ensures.answer
     (subst (TurnedAs g.U.Uploads c.args.store.now (Open k) (record { taken = 0; closes = false; more = true }) c.args.out.now.items c.args.out.now.items w conn.draft)
-      (text_turn_is w conn c.args.bytes.now is.h is.pending_is) turn)
+    (text_turn_is w conn c.args.bytes.now is.h is.pending_is) turn)
 
 pub returns-in-Patch-clause-answer : goal.returns-in-Patch-clause-answer
 returns-in-Patch-clause-answer g c w conn stands link =
@@ -42,10 +42,10 @@ returns-in-Patch-clause-crash g c w conn stands link =
     let found = ap (λ n. find n w.patches) is.patches.number ∙ is.patches.found in
     let all = left_wanted g.U.Uploads w conn c.args.link b is link.kept in
     elim (cases_lt (length c.args.bytes.now) c.args.link.left) [
-    | inl few ↦ still_limits _ (c.body_of.ensures.part_crash few w is.p stands found is.patches.holds)
-    | inr enough ↦
-      limits_to (rest_store g.U.Uploads w conn c.args.link b is link.kept c.args.bytes.now enough)
-      (c.body_of.ensures.rest_crash enough w is.p is.r stands found is.patches.holds (omega arith))
+      | inl few ↦ still_limits _ (c.body_of.ensures.part_crash few w is.p stands found is.patches.holds)
+      | inr enough ↦
+          limits_to (rest_store g.U.Uploads w conn c.args.link b is link.kept c.args.bytes.now enough)
+          (c.body_of.ensures.rest_crash enough w is.p is.r stands found is.patches.holds (omega arith))
     ]
 
 pub returns-in-Idle-clause-answer : goal.returns-in-Idle-clause-answer

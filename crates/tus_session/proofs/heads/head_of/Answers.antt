@@ -5,7 +5,7 @@ use Rattle.tus_request.specs.Answers.{answer_of}
 use Rattle.tus_request.specs.Requests.{Refusal, Refuses}
 use Rattle.tus_session.specs.Turns.{reader, came_turn}
 use Rattle.tus_session.specs.declared.conns.Task.TheVariants.{Idle}
-use Rattle.tus_session.proofs.Verdicts.{small, usable}
+use Rattle.tus_session.proofs.Verdicts.{small, makeable, usable}
 use Rattle.tus_session.proofs.HeadTold.{more_told, no_patch_len, slice_rest, judged_by, within_bytes, in_world}
 use Rattle.tus_session.proofs.Opening.{still}
 use Rattle.tus_session.proofs.heads.head_of.Goals as goal
@@ -13,47 +13,53 @@ use Rattle.tus_session.proofs.heads.head_of.Goals as goal
 pub slice_bounds-behind-count : goal.slice_bounds-behind-count
 slice_bounds-behind-count g c =
     let items = c.deref.ensures.value ∙ c.in-Ok.ensures.items in
-    let j = judged_by c.indexes.result.now _ c.args.head.items c.args.bytes.now _ _ items c.in-Ok-parse.ensures c.in-Refused.is in
+    let j = judged_by c.indexes.result.now _ c.args.head.items c.args.bytes.now _ _ items c.in-Ok-parse.ensures.function c.in-Refused.is in
     let w = within_bytes c.indexes.result.now c.args.head.items c.args.bytes.now c.in-Refused.taken _ j in
     omega (arith, w, c.len-had.ensures, c.args.head.ok.0, c.saturating_sub-before.ensures)
 
 pub slice_bounds-behind-start : goal.slice_bounds-behind-start
 slice_bounds-behind-start g c =
     let items = c.deref.ensures.value ∙ c.in-Ok.ensures.items in
-    let j = judged_by c.indexes.result.now _ c.args.head.items c.args.bytes.now _ _ items c.in-Ok-parse.ensures c.in-Refused.is in
+    let j = judged_by c.indexes.result.now _ c.args.head.items c.args.bytes.now _ _ items c.in-Ok-parse.ensures.function c.in-Refused.is in
     let w = within_bytes c.indexes.result.now c.args.head.items c.args.bytes.now c.in-Refused.taken _ j in
     omega (arith, w, c.len-had.ensures, c.args.head.ok.0, c.saturating_sub-before.ensures)
 
 pub request_of-requires-clause-usable : goal.request_of-requires-clause-usable
 request_of-requires-clause-usable g c w stands =
     let items = c.deref.ensures.value ∙ c.in-Ok.ensures.items in
-    let j = judged_by c.indexes.result.now _ c.args.head.items c.args.bytes.now _ _ items c.in-Ok-parse.ensures c.in-Head.is in
+    let j = judged_by c.indexes.result.now _ c.args.head.items c.args.bytes.now _ _ items c.in-Ok-parse.ensures.function c.in-Head.is in
     usable w (c.args.head.items ++ c.args.bytes.now) c.in-Head.taken _ (in_world w c.indexes.result.now _ _ (c.indexes.ensures w stands) j)
+
+pub request_of-requires-clause-makeable : goal.request_of-requires-clause-makeable
+request_of-requires-clause-makeable g c =
+    let items = c.deref.ensures.value ∙ c.in-Ok.ensures.items in
+    let j = judged_by c.indexes.result.now _ c.args.head.items c.args.bytes.now _ _ items c.in-Ok-parse.ensures.function c.in-Head.is in
+    makeable c.indexes.result.now (c.args.head.items ++ c.args.bytes.now) c.in-Head.taken _ j
 
 pub request_of-requires-clause-small : goal.request_of-requires-clause-small
 request_of-requires-clause-small g c =
     let items = c.deref.ensures.value ∙ c.in-Ok.ensures.items in
-    let j = judged_by c.indexes.result.now _ c.args.head.items c.args.bytes.now _ _ items c.in-Ok-parse.ensures c.in-Head.is in
+    let j = judged_by c.indexes.result.now _ c.args.head.items c.args.bytes.now _ _ items c.in-Ok-parse.ensures.function c.in-Head.is in
     small c.indexes.result.now (c.args.head.items ++ c.args.bytes.now) c.in-Head.taken _ j
 
 pub request_of-requires-clause-within : goal.request_of-requires-clause-within
 request_of-requires-clause-within g c =
     let items = c.deref.ensures.value ∙ c.in-Ok.ensures.items in
-    let j = judged_by c.indexes.result.now _ c.args.head.items c.args.bytes.now _ _ items c.in-Ok-parse.ensures c.in-Head.is in
+    let j = judged_by c.indexes.result.now _ c.args.head.items c.args.bytes.now _ _ items c.in-Ok-parse.ensures.function c.in-Head.is in
     let w = within_bytes c.indexes.result.now c.args.head.items c.args.bytes.now c.in-Head.taken _ j in
     omega (arith, w, c.len-had.ensures, c.args.head.ok.0, c.saturating_sub-before-in-Head.ensures)
 
 pub returns-in-More-clause-answer : goal.returns-in-More-clause-answer
 returns-in-More-clause-answer g c w conn stands inside =
     let items = c.deref.ensures.value ∙ c.in-Ok.ensures.items in
-    let j = judged_by c.indexes.result.now _ c.args.head.items c.args.bytes.now _ _ items c.in-Ok-parse.ensures c.in-More.is in
+    let j = judged_by c.indexes.result.now _ c.args.head.items c.args.bytes.now _ _ items c.in-Ok-parse.ensures.function c.in-More.is in
     more_told g.U.Uploads _ _ _ _ w conn c.args.head.items c.args.bytes.now (record { head = c.extend_from_slice.new.self; left = 0; task = Idle }) stands inside
     (in_world w c.indexes.result.now _ _ (c.indexes.ensures w stands) j) refl c.in-Ok.ensures.items refl refl
 
 pub returns-in-Ok-reply_refused-clause-answer : goal.returns-in-Ok-reply_refused-clause-answer
 returns-in-Ok-reply_refused-clause-answer g c w conn stands inside =
     let items = c.deref.ensures.value ∙ c.in-Ok.ensures.items in
-    let j = judged_by c.indexes.result.now _ c.args.head.items c.args.bytes.now _ _ items c.in-Ok-parse.ensures c.in-Refused.is in
+    let j = judged_by c.indexes.result.now _ c.args.head.items c.args.bytes.now _ _ items c.in-Ok-parse.ensures.function c.in-Refused.is in
     let r : Refusal = record { fault = c.in-Refused.fault; length = c.in-Refused.length; on_files = c.in-Refused.on_files; bare = c.in-Refused.bare; closes = c.in-Refused.closes } in
     no_patch_len g.U.Uploads _ w conn c.args.head.items c.args.bytes.now c.in-Refused.taken c.saturating_sub-before.result (Refuses r)
     (record {
@@ -67,7 +73,7 @@ returns-in-Ok-reply_refused-clause-answer g c w conn stands inside =
 pub returns-in-Head-clause-answer : goal.returns-in-Head-clause-answer
 returns-in-Head-clause-answer g c w conn stands inside =
     let items = c.deref.ensures.value ∙ c.in-Ok.ensures.items in
-    let j = judged_by c.indexes.result.now _ c.args.head.items c.args.bytes.now _ _ items c.in-Ok-parse.ensures c.in-Head.is in
+    let j = judged_by c.indexes.result.now _ c.args.head.items c.args.bytes.now _ _ items c.in-Ok-parse.ensures.function c.in-Head.is in
     c.request_of.ensures.answer w conn c.args.head.items c.in-Head.taken stands (record {
       inside = inside;
       judged = in_world w c.indexes.result.now _ _ (c.indexes.ensures w stands) j;
@@ -77,7 +83,7 @@ returns-in-Head-clause-answer g c w conn stands inside =
 pub returns-in-Head-clause-crash : goal.returns-in-Head-clause-crash
 returns-in-Head-clause-crash g c w conn stands inside =
     let items = c.deref.ensures.value ∙ c.in-Ok.ensures.items in
-    let j = judged_by c.indexes.result.now _ c.args.head.items c.args.bytes.now _ _ items c.in-Ok-parse.ensures c.in-Head.is in
+    let j = judged_by c.indexes.result.now _ c.args.head.items c.args.bytes.now _ _ items c.in-Ok-parse.ensures.function c.in-Head.is in
     c.request_of.ensures.crash w conn c.args.head.items c.in-Head.taken stands (record {
       inside = inside;
       judged = in_world w c.indexes.result.now _ _ (c.indexes.ensures w stands) j;

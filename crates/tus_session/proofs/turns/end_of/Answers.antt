@@ -1,7 +1,3 @@
-use Rattle.std.proofs.Common.{◌≡◌, subst, sym, ap, inl, inr, rules, refl}
-use Rattle.upload_rules.specs.Answers.{Limits}
-use Rattle.tus_session.specs.Streams.{cut}
-use Rattle.tus_session.specs.Turns.{reader, ended_world}
 use Rattle.tus_session.proofs.Tasks.{patching, no_draft, ends_idle, ends_patch, ends_left, ends_store, found_as, limits_same, limits_to}
 use Rattle.tus_session.proofs.turns.end_of.Goals as goal
 

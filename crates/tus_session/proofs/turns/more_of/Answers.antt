@@ -1,6 +1,4 @@
-use Rattle.std.proofs.Common.{◌≡◌, subst, sym, ap, inl, inr, rules, refl}
-use Rattle.tus_session.specs.Streams.{cut}
-use Rattle.tus_session.specs.Turns.{reader}
+use Rattle.std.proofs.Common.{refl}
 use Rattle.tus_session.proofs.Tasks.{giving}
 use Rattle.tus_session.proofs.Mores.{more_nothing, more_some, more_done, more_left, turned_ok}
 use Rattle.tus_session.proofs.turns.more_of.Goals as goal

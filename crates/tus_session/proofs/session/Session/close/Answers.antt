@@ -1,4 +1,4 @@
-use Rattle.std.proofs.Common.{◌≡◌, ◌≤◌, length, take, arith, refl, sym, ◌∙◌, ap, subst}
+use Rattle.std.proofs.Common.{◌≡◌, length, arith, refl, sym, ◌∙◌, subst}
 use Rattle.std.proofs.lemmas.List.{take_all}
 use Rattle.tus_session.proofs.Closes.{begins_closing, popped, after_closed, after_open, all_closed, IsClosing}
 use Rattle.tus_session.proofs.session.Session.close.Goals as goal
@@ -45,4 +45,7 @@ loop-place-preserved g c =
     }
 
 pub returns-clause-kept : goal.returns-clause-kept
-returns-clause-kept g c st stands = ?
+returns-clause-kept g c st stands =
+    let none : length c.loop-place.places.items ≡ 0 = omega (arith, c.in_default.ensures.cases.0, c.loop-place.places.ok.0) in
+    let v = c.loop-place.invariant.kept st stands in
+    all_closed g.U.Uploads st c.loop-place.store v.0 (subst (λ n. IsClosing g.U.Uploads st n c.loop-place.store v.0) none v.1)

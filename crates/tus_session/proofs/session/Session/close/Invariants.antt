@@ -1,4 +1,4 @@
-use Rattle.std.proofs.Common.{◌≡◌, ◌≤◌, ℕ, length, take}
+use Rattle.std.proofs.Common.{◌≡◌, ◌≤◌, length, take}
 use Rattle.upload_rules.specs.World.{World}
 use Rattle.upload_rules.specs.Answers.{Quiet}
 use Rattle.tus_session.specs.History.{State}

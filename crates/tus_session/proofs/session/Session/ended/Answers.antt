@@ -1,5 +1,4 @@
-use Rattle.std.proofs.Common.{◌≡◌, ◌<◌, length, arith, refl, sym, ◌∙◌, ap}
-use Rattle.tus_session.specs.Turns.{ended_world}
+use Rattle.std.proofs.Common.{◌<◌, length, arith, sym, ◌∙◌, ap}
 use Rattle.tus_session.specs.History.{Ended}
 use Rattle.tus_session.proofs.InPlace.{beyond, closed_at, closed_again, open_at, is_set}
 use Rattle.tus_session.proofs.Tasks.{limits_to}

@@ -1,4 +1,4 @@
-use Rattle.std.proofs.Common.{◌≡◌, ◌<◌, length, arith, refl, sym, ◌∙◌}
+use Rattle.std.proofs.Common.{◌<◌, length, arith, refl, sym, ◌∙◌}
 use Rattle.tus_session.specs.Turns.{more_turn}
 use Rattle.tus_session.specs.History.{More}
 use Rattle.tus_session.proofs.InPlace.{beyond, closed_at, closed_again, open_at, is_set_twice}

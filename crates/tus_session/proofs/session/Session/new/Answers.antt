@@ -1,7 +1,7 @@
 use Rattle.std.proofs.Common.{◌≡◌, ◌∷◌, ◌++◌, [], arith, length, ap}
 use Rattle.std.proofs.lemmas.List.{length_push}
 use Rattle.tus_session.specs.declared.conns.Place.TheVariants.{Closed}
-use Rattle.tus_session.proofs.Opening.{closed_push, begun}
+use Rattle.tus_session.proofs.Opening.{closed_push}
 use Rattle.tus_session.proofs.session.Session.new.Goals as goal
 
 pub loop-preserved : goal.loop-preserved

@@ -1,6 +1,4 @@
-use Rattle.std.proofs.Common.{◌<◌, ◌≤◌, length, arith, refl}
-use Rattle.tus_session.specs.History.{Opened, Served, Done, step}
-use Rattle.tus_session.specs.Told.{Follows}
+use Rattle.std.proofs.Common.{◌<◌, length, arith, refl}
 use Rattle.tus_session.proofs.Opening.{opened, not_below, is_open}
 use Rattle.tus_session.proofs.InPlace.{closed_at}
 use Rattle.tus_session.proofs.session.Session.opened.Goals as goal

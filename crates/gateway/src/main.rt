@@ -1,0 +1,75 @@
+//! A gateway for resumable uploads of text in old and new encodings.
+#![tactic(auto)]
+
+mod command_line;
+
+use clap::error::ErrorKind;
+use command_line::command;
+use enc_index::IndexSet;
+use gateway_engine::{RunFault, run_over};
+use std::alloc::Global;
+use std::env;
+use std::io;
+use std::process::ExitCode;
+use upload_rules::Table;
+
+// The statuses that the program ends with.
+const USAGE: u8 = 1;
+
+const REFUSED: u8 = 2;
+
+const FAULT: u8 = 3;
+
+fn main(rt: HostRuntime) -> ExitCode {
+    match run(&rt) {
+        Ok(code) => code,
+        Err(_) => ExitCode::from(REFUSED),
+    }
+}
+
+// Does what the command line asks for.
+fn run(rt: &HostRuntime) -> io::Result<ExitCode> {
+    let alloc = rt.alloc();
+    let mut words = Vec::new(alloc);
+    for word in env::args(rt)? {
+        words.push(word)?;
+    }
+    let matches = match command(alloc, &words) {
+        Ok(matches) => matches,
+        Err(error) => {
+            error.print(rt)?;
+            return Ok(if error.use_stderr() {
+                ExitCode::from(USAGE)
+            } else {
+                ExitCode::SUCCESS
+            });
+        }
+    };
+    let _ = matches;
+    script(rt, alloc)
+}
+
+// Runs standard input as a script over uploads in memory.
+fn script(rt: &HostRuntime, alloc: Global) -> io::Result<ExitCode> {
+    let indexes = IndexSet::new(alloc)?;
+    let mut reader = rt.reader();
+    let mut writer = io::writer(rt);
+    match run_over(alloc, &mut reader, &mut writer, Table::new(alloc, indexes)) {
+        Ok(_uploads) => Ok(ExitCode::SUCCESS),
+        Err((_uploads, fault)) => refused(rt, fault),
+    }
+}
+
+// Tells why a run was refused.
+fn refused(rt: &HostRuntime, fault: RunFault) -> io::Result<ExitCode> {
+    match fault {
+        RunFault::NoMemory => eprintln!(rt; "refused: 0 NoMemory")?,
+        RunFault::Script(line) => eprintln!(rt; "refused: 32 Script {line}")?,
+        RunFault::Io => eprintln!(rt; "refused: 33 Io")?,
+        RunFault::DiskFault => {
+            eprintln!(rt; "device fault")?;
+            return Ok(ExitCode::from(FAULT));
+        }
+    }
+    Ok(ExitCode::from(REFUSED))
+}

@@ -1,0 +1,91 @@
+-- A session's calls as those of connections.
+use Rattle.std.proofs.Common.{◌≡◌, Bool, true, false, ℕ, List, [], ◌++◌, Option, Some, None, Result, Ok, Err, refl, sym, subst, ap, ◌∙◌, append-nil, nat_lt, if◌then◌else◌}
+use Rattle.upload_rules.specs.declared.uploads.Uploads.{Ghosts}
+use Rattle.tus_session.specs.Turns.{Conn, fresh}
+use Rattle.tus_session.specs.History.{State, Event, Opened, Came, More, Ended, Served, OutOfMemory, Failed, Outcome, Done, Refused, Step, step, put, kept, opened_at, came_at, more_at, ended_at, is_closed}
+use Rattle.tus_session.specs.Stands.{SessionStands}
+use Rattle.tus_session.specs.Told as told
+use Rattle.tus_session.specs.Told.{IsOpen, Told, Opens}
+use Rattle.tus_session.specs.declared.answers.Answer.{Answer}
+use Rattle.tus_session.specs.declared.conns.Place.{Place}
+use Rattle.tus_session.specs.declared.errors.SessionError.{SessionError}
+use Rattle.tus_session.specs.declared.errors.SessionError.TheVariants.{NoMemory, DiskFault, TooMany, Closed}
+use Rattle.gateway_engine.specs.Connections.{Keeps, Gives, Does}
+
+failed_outcome : (st : State) (e : Event) → (step st e Failed).outcome ≡ Refused DiskFault
+unfolding step
+failed_outcome st e = refl
+
+-- A REFUSED EVENT LEAVES THE STATE AS IT WAS
+abbrev RefusedStays : State → Step → Type 0
+RefusedStays st t = (f : SessionError) → t.outcome ≡ Refused f → t.state ≡ st
+
+came_stays : (st : State) (c : ℕ) (piece : List ℕ) (o : Option Conn) → RefusedStays st (came_at st c piece o)
+came_stays st c piece None f e = refl
+came_stays st c piece (Some k) f e = absurd (cc)
+
+pub came_refused : (st : State) (c : ℕ) (piece : List ℕ) → RefusedStays st (step st (Came c piece) Served)
+unfolding step
+came_refused st c piece = came_stays st c piece (st.conns c)
+
+more_stays : (st : State) (c : ℕ) (o : Option Conn) → RefusedStays st (more_at st c o)
+more_stays st c None f e = refl
+more_stays st c (Some k) f e = absurd (cc)
+
+pub more_refused : (st : State) (c : ℕ) → RefusedStays st (step st (More c) Served)
+unfolding step
+more_refused st c = more_stays st c (st.conns c)
+
+ended_stays : (st : State) (c : ℕ) (o : Option Conn) → RefusedStays st (ended_at st c o)
+ended_stays st c None f e = refl
+ended_stays st c (Some k) f e = absurd (cc)
+
+pub ended_refused : (st : State) (c : ℕ) → RefusedStays st (step st (Ended c) Served)
+unfolding step
+ended_refused st c = ended_stays st c (st.conns c)
+
+-- opening is refused for one reason
+abbrev ManyStays : State → Step → Type 0
+ManyStays st t = (f : SessionError) → t.outcome ≡ Refused f → (f ≡ TooMany) × (t.state ≡ st)
+
+refusal_is : (f g : SessionError) → Refused f ≡ Refused g → g ≡ f
+refusal_is f g e = sym (ap (λ o. elim o as (λ _. SessionError) [ Refused x ↦ x | _ ↦ f ]) e)
+
+many_case : (st : State) (c : ℕ) (b : Bool) → ManyStays st (if b then record { state = put st st.world c (Some fresh); outcome = Done } else kept st TooMany)
+many_case st c true f e = absurd (cc)
+many_case st c false f e = (refusal_is TooMany f e, refl)
+
+opened_stays : (st : State) (c : ℕ) (o : Option Conn) → ManyStays st (opened_at st c o)
+opened_stays st c (Some k) f e = (refusal_is TooMany f e, refl)
+opened_stays st c None f e = many_case st c (nat_lt c 16) f e
+
+pub opened_refused : (st : State) (c : ℕ) → ManyStays st (step st (Opened c) Served)
+unfolding step
+opened_refused st c = opened_stays st c (st.conns c)
+
+module _ {U B : Type 0} (u : Ghosts U B) (places : List (Place B)) (store : U) (st : State) (e : Event) where
+  abbrev stands : State → Type 0
+  stands s = SessionStands u places store s
+
+  pub told_gives : (result : Result Answer SessionError) (old new : List ℕ) → RefusedStays st (step st e Served) → Told u places store result old new st e → Gives stands result old new st e
+  told_gives (Ok a) old new stays t = (t.0, record { answer = t.1.outcome; keeps = t.1.stands }, t.2)
+  told_gives (Err NoMemory) old new stays t = ([], record { answer = t.0.outcome; keeps = t.0.stands }, t.1 ∙ sym (append-nil old))
+  told_gives (Err DiskFault) old new stays t = ([], record { answer = failed_outcome st e; keeps = tt {0} }, t.1 ∙ sym (append-nil old))
+  told_gives (Err TooMany) old new stays t =
+      ([], record { answer = t.0.outcome; keeps = subst stands (sym (stays TooMany t.0.outcome)) t.0.stands }, t.1 ∙ sym (append-nil old))
+  told_gives (Err Closed) old new stays t =
+      ([], record { answer = t.0.outcome; keeps = subst stands (sym (stays Closed t.0.outcome)) t.0.stands }, t.1 ∙ sym (append-nil old))
+
+  pub ends_does : (result : Result (Unit {0}) SessionError) → RefusedStays st (step st e Served) → told.Ends u places store result st e → Does stands result st e
+  ends_does (Ok x) stays t = record { answer = t.outcome; keeps = t.stands }
+  ends_does (Err NoMemory) stays t = record { answer = t.outcome; keeps = t.stands }
+  ends_does (Err DiskFault) stays t = record { answer = failed_outcome st e; keeps = tt {0} }
+  ends_does (Err TooMany) stays t = record { answer = t.outcome; keeps = subst stands (sym (stays TooMany t.outcome)) t.stands }
+  ends_does (Err Closed) stays t = record { answer = t.outcome; keeps = subst stands (sym (stays Closed t.outcome)) t.stands }
+
+  pub opens_does : (result : Result (Unit {0}) SessionError) → ManyStays st (step st e Served) → Opens u places store result st e → Does stands result st e
+  opens_does (Ok x) stays t = record { answer = t.outcome; keeps = t.stands }
+  opens_does (Err NoMemory) stays t = let f : NoMemory ≡ TooMany = (stays NoMemory t.outcome).0 in absurd (cc)
+  opens_does (Err DiskFault) stays t = let f : DiskFault ≡ TooMany = (stays DiskFault t.outcome).0 in absurd (cc)
+  opens_does (Err TooMany) stays t = record { answer = t.outcome; keeps = subst stands (sym ((stays TooMany t.outcome).1)) t.stands }
+  opens_does (Err Closed) stays t = let f : Closed ≡ TooMany = (stays Closed t.outcome).0 in absurd (cc)

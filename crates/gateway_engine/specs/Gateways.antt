@@ -1,0 +1,10 @@
+-- What a gateway stands for.
+use Rattle.upload_rules.specs.declared.uploads.Uploads.{Ghosts}
+use Rattle.tus_session.specs.History.{State}
+use Rattle.tus_session.specs.Places.{places_of}
+use Rattle.tus_session.specs.Stands.{SessionStands}
+use Rattle.gateway_engine.specs.declared.gateway.Gateway.{Gateway}
+
+-- its session and its store are where the history is
+abbrev pub GatewayStands : {U B : Type 0} → Ghosts U B → Gateway U B → State → Type 0
+GatewayStands u g st = SessionStands u (places_of g.session) g.store st

@@ -1,0 +1,59 @@
+//! A script over a store of uploads.
+ghost use Rattle.std.specs.Prelude.{◌≡◌, ◌++◌, ℕ, List, Option, Some, IfSome, IfOk, IfErr, OnOk, ◌⊎◌};
+ghost use Rattle.upload_rules.specs.Store.{Store};
+ghost use Rattle.upload_rules.specs.World.{at_rest};
+ghost use Rattle.tus_session.specs.History.{beginning};
+ghost use Rattle.gateway_engine.specs.Ran.{HasRun};
+
+use crate::faults::RunFault;
+use crate::gateway::Gateway;
+use crate::runs::run_script;
+use std::alloc::Global;
+use std::io::{ErrorKind, Read, Write};
+use upload_rules::Uploads;
+
+/// Reads a script to its end. An interrupted read is tried again.
+fn read_script<R: Read>(alloc: Global, reader: &mut R) -> Result<Vec<u8>, RunFault>
+    ensures ok { OnOk result (IfSome (R.remaining reader.old) (λ bytes. IfOk result (λ script. script.items ≡ bytes))) }
+    ensures err { IfErr result (λ fault. (fault ≡ RunFault.NoMemory) ⊎ (fault ≡ RunFault.Io)) }
+{
+    let mut script = Vec::new(alloc);
+    match reader.read_to_end(&mut script) {
+        Ok(_count) => Ok(script),
+        Err(error) => Err(if error.kind() == ErrorKind::OutOfMemory {
+            RunFault::NoMemory
+        } else {
+            RunFault::Io
+        }),
+    }
+}
+
+/// Runs a script from `reader` over uploads, and writes to `writer` what its calls give. The uploads are handed back, with no draft open.
+///
+/// The script is read whole before its first line is run.
+///
+/// Refused with `NoMemory` where a growth outside the calls was refused, `DiskFault`, `Script` of the first line that is none or too long, and `Io`.
+/// What was committed and written before stands.
+pub fn run_over<U: Uploads, R: Read, W: Write>(
+    alloc: Global,
+    reader: &mut R,
+    writer: &mut W,
+    store: U,
+) -> Result<U, (U, RunFault)>
+    // What is written is the script's output, with a mark for each call that was refused for memory.
+    ensures output { (m : Store) (blocks : Option ℕ) (bytes front : List ℕ) → U.stands store (at_rest m blocks) → R.remaining reader.old ≡ Some bytes → W.contents writer.old ≡ Some front
+        → HasRun U.Uploads result (W.contents writer.new) front (beginning m blocks) bytes }
+{
+    let script = match read_script(alloc, reader) {
+        Ok(script) => script,
+        Err(fault) => return Err((store, fault)),
+    };
+    let mut gateway = match Gateway::new(alloc, store) {
+        Ok(gateway) => gateway,
+        Err((store, _)) => return Err((store, RunFault::NoMemory)),
+    };
+    match run_script(alloc, &mut gateway, writer, &script) {
+        Ok(()) => Ok(gateway.close()),
+        Err(fault) => Err((gateway.close(), fault)),
+    }
+}
