@@ -3,14 +3,13 @@
 
 mod command_line;
 
-use clap::error::ErrorKind;
+use clap::Error;
 use command_line::command;
 use enc_index::IndexSet;
 use gateway_engine::{RunFault, run_over};
 use std::alloc::Global;
-use std::env;
-use std::io;
 use std::process::ExitCode;
+use std::{env, io};
 use upload_rules::Table;
 
 // The statuses that the program ends with.
@@ -34,19 +33,20 @@ fn run(rt: &HostRuntime) -> io::Result<ExitCode> {
     for word in env::args(rt)? {
         words.push(word)?;
     }
-    let matches = match command(alloc, &words) {
-        Ok(matches) => matches,
-        Err(error) => {
-            error.print(rt)?;
-            return Ok(if error.use_stderr() {
-                ExitCode::from(USAGE)
-            } else {
-                ExitCode::SUCCESS
-            });
-        }
-    };
-    let _ = matches;
-    script(rt, alloc)
+    match command(alloc, &words) {
+        Ok(_script) => script(rt, alloc),
+        Err(error) => told(rt, error),
+    }
+}
+
+// Prints help, or what is wrong with the command line.
+fn told(rt: &HostRuntime, error: Error) -> io::Result<ExitCode> {
+    error.print(rt)?;
+    Ok(if error.use_stderr() {
+        ExitCode::from(USAGE)
+    } else {
+        ExitCode::SUCCESS
+    })
 }
 
 // Runs standard input as a script over uploads in memory.

@@ -1,7 +1,7 @@
 -- What is written of the bytes that a call gave.
 use Rattle.std.specs.Io.KnownBytes.{Appends}
-use Rattle.std.proofs.lemmas.List.{take-append-drop, take_rest}
-use Rattle.std.proofs.Common.{◌≡◌, ◌==◌, ◌-◌, Bool, true, false, ℕ, List, [], ◌∷◌, ◌++◌, length, take, drop, Option, Some, None, refl, sym, ap, ◌∙◌, append_assoc, codes, arith}
+use Rattle.std.proofs.lemmas.List.{take-append-drop}
+use Rattle.std.proofs.Common.{◌≡◌, ◌==◌, Bool, true, false, ℕ, List, [], ◌∷◌, ◌++◌, length, take, drop, Option, Some, None, refl, sym, ap, ◌∙◌, append_assoc, codes, arith}
 use Rattle.std.specs.Fmt.{decimal}
 use Rattle.gateway_engine.specs.Script.{written_bytes}
 use Rattle.gateway_engine.specs.Outputs.{count_line}
@@ -14,7 +14,7 @@ line_then n count more =
 
 -- the line, the bytes and a LF
 pub framed : (n : ℕ) (bytes old mid new : List ℕ) (b : Bool) → b ≡ (length bytes == 0) → b ≡ false
-  → mid ≡ (old ++ count_line n (length bytes)) ++ bytes → new ≡ mid ++ (10 ∷ []) → new ≡ old ++ written_bytes n bytes
+    → mid ≡ (old ++ count_line n (length bytes)) ++ bytes → new ≡ mid ++ (10 ∷ []) → new ≡ old ++ written_bytes n bytes
 framed n [] old mid new b is some first last = let e : false ≡ true = sym some ∙ is in absurd (cc)
 framed n (c ∷ bytes) old mid new b is some first last =
     let line = count_line n (length (c ∷ bytes)) in
@@ -30,11 +30,12 @@ appends_both (Some a) None c x y p q = absurd p
 
 -- a part of the rest was written
 pub wrote_more : (a b c : Option (List ℕ)) (bytes front rest next : List ℕ) (n : ℕ) → bytes ≡ front ++ rest → Appends a b front → Appends b c (take n rest)
-  → next ≡ drop n rest → (more : List ℕ) × (bytes ≡ more ++ next) × Appends a c more
-wrote_more a b c bytes front rest next n parts before now is =
-    (front ++ take n rest,
-     parts ∙ (ap (λ z. front ++ z) (sym (take-append-drop n rest)) ∙ (sym (append_assoc front (take n rest) (drop n rest)) ∙ ap (λ z. (front ++ take n rest) ++ z) (sym is))),
-     appends_both a b c front (take n rest) before now)
+    → next ≡ drop n rest → (more : List ℕ) × (bytes ≡ more ++ next) × Appends a c more
+wrote_more a b c bytes front rest next n parts before now is = (
+  front ++ take n rest,
+  parts ∙ (ap (λ z. front ++ z) (sym (take-append-drop n rest)) ∙ (sym (append_assoc front (take n rest) (drop n rest)) ∙ ap (λ z. (front ++ take n rest) ++ z) (sym is))),
+  appends_both a b c front (take n rest) before now,
+)
 
 -- the list isn't empty
 pub some_list : (b : Bool) (list : List ℕ) → b ≡ (length list == 0) → b ≡ false → list ≡ [] → ⊥

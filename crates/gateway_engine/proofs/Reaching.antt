@@ -1,6 +1,6 @@
 -- Runs that lead on from one another.
-use Rattle.std.proofs.Common.{◌≡◌, Bool, true, false, ℕ, zero, suc, List, [], ◌∷◌, ◌++◌, Option, Some, None, Result, Ok, Err, refl, sym, subst, ap, ◌∙◌, append_assoc, drop, if◌then◌else◌}
-use Rattle.tus_session.specs.History.{State, Event, Came, More, Mark, Outcome, Gave, Done, Refused}
+use Rattle.std.proofs.Common.{◌≡◌, Bool, true, false, ℕ, zero, suc, List, [], ◌∷◌, ◌++◌, Option, Some, None, Result, Ok, Err, refl, sym, ap, ◌∙◌, append_assoc, drop, if◌then◌else◌}
+use Rattle.tus_session.specs.History.{State, Event, Came, More, Outcome, Gave, Refused}
 use Rattle.tus_session.specs.declared.answers.Answer.{Answer}
 use Rattle.tus_session.specs.declared.errors.SessionError.{SessionError}
 use Rattle.tus_session.specs.declared.errors.SessionError.TheVariants as errors
@@ -8,7 +8,7 @@ use Rattle.gateway_engine.specs.Script as script
 use Rattle.gateway_engine.specs.Script.{Run, Flow, flow, call, mores, mores_after, most_calls, onward, given_after, give_within}
 use Rattle.gateway_engine.specs.declared.faults.CallFault.{CallFault}
 use Rattle.gateway_engine.specs.declared.faults.CallFault.TheVariants as faults
-use Rattle.gateway_engine.specs.Runs.{with_marks, Calls, Called, IsAt, IsDown, Reaches, Leads, LeadsOn, Flowed, Went, GivenOnce, settles}
+use Rattle.gateway_engine.specs.Runs.{with_marks, Calls, Called, IsAt, Reaches, Leads, LeadsOn, Flowed, Went, GivenOnce, settles}
 
 pub reach_both : {X : Type 0} (f g h : Run → X) (r s t : Run) → Reaches f r g s → Reaches g s h t → Reaches f r h t
 reach_both f g h r s t p q =
@@ -22,7 +22,7 @@ reach_none f r = ([], λ rest. refl)
 
 -- through a call
 pub reach_call : {X : Type 0} (k : script.Called → X) (r s : Run) (n : ℕ) (e : Event) (o : Outcome) → Calls r n e s o
-  → Reaches (λ x. k (call x n e)) r (λ x. k (record { run = x; outcome = o })) s
+    → Reaches (λ x. k (call x n e)) r (λ x. k (record { run = x; outcome = o })) s
 reach_call k r s n e o c = (c.0 ∷ [], λ rest. ap k (c.1 rest))
 
 -- THE PIECES OF A TEXT
@@ -49,26 +49,26 @@ unfolding most_calls
 most_is = refl
 
 given_more : (S : State → Type 0) (held : Option (List ℕ)) (front : List ℕ) (a : Answer) (n k : ℕ) (r s : Run) (bytes : List ℕ) (closes more : Bool)
-  → Calls r n (More n) s (Gave bytes a.taken closes more) → IsAt S held front s
-  → MoreSays S held front (if closes then Some false else if more then None else Some true) k n r
+    → Calls r n (More n) s (Gave bytes a.taken closes more) → IsAt S held front s
+    → MoreSays S held front (if closes then Some false else if more then None else Some true) k n r
 given_more S held front a n k r s bytes true more c at = (s, reach_more k n r s (Gave bytes a.taken true more) c, at)
 given_more S held front a n k r s bytes false true c at = (s, reach_more k n r s (Gave bytes a.taken false true) c, at)
 given_more S held front a n k r s bytes false false c at = (s, reach_more k n r s (Gave bytes a.taken false false) c, at)
 
 pub more_says : (S : State → Type 0) (held : Option (List ℕ)) (front : List ℕ) (o : Option Answer) (n k : ℕ) (r : Run) → Called S held front (Ok o) n (More n) r
-  → MoreSays S held front (settles o) k n r
+    → MoreSays S held front (settles o) k n r
 more_says S held front None n k r c = (c.0, reach_more k n r c.0 (Refused c.1) c.2, c.3)
 more_says S held front (Some a) n k r c = given_more S held front a n k r c.0 c.1 a.closes a.more c.2 c.3
 
 pub more_fails : (S : State → Type 0) (held : Option (List ℕ)) (front : List ℕ) (fault : CallFault) (n k : ℕ) (r : Run) → Called S held front (Err fault) n (More n) r
-  → Flowed S held front (Err fault) (mores (suc k) n) r
+    → Flowed S held front (Err fault) (mores (suc k) n) r
 more_fails S held front faults.DiskFault n k r c = (c.0, reach_more k n r c.0 (Refused errors.DiskFault) c.1, c.2)
 more_fails S held front faults.NoMemory n k r c = tt {0}
 more_fails S held front faults.Io n k r c = tt {0}
 
 -- behind some calls
 pub flow_behind : (S : State → Type 0) (held : Option (List ℕ)) (front : List ℕ) (result : Result Bool CallFault) (f g : Run → Flow) (r s : Run)
-  → Reaches f r g s → Flowed S held front result g s → Flowed S held front result f r
+    → Reaches f r g s → Flowed S held front result g s → Flowed S held front result f r
 flow_behind S held front (Ok b) f g r s p q = (q.0, reach_both f g (λ x. flow x b) r s q.0 p q.1, q.2)
 flow_behind S held front (Err faults.DiskFault) f g r s p q = (q.0, reach_both f g (λ x. flow x false) r s q.0 p q.1, q.2)
 flow_behind S held front (Err faults.NoMemory) f g r s p q = tt {0}
@@ -85,7 +85,7 @@ unfolding give_within
 give_step k n b bytes r = refl
 
 settled_flow : (a : Answer) (given : List ℕ) (n : ℕ) (b closes more : Bool) → (if closes then Some false else if more then None else Some true) ≡ Some b
-  → (x : Run) → mores_after (mores most_calls n) (record { run = x; outcome = Gave given a.taken closes more }) ≡ flow x b
+    → (x : Run) → mores_after (mores most_calls n) (record { run = x; outcome = Gave given a.taken closes more }) ≡ flow x b
 settled_flow a given n b true more e x = ap (flow x) (some_is e)
   where
     some_is : {c d : Bool} → Some c ≡ Some d → c ≡ d
@@ -95,7 +95,7 @@ settled_flow a given n b false false e x = ap (flow x) (ap (λ o. elim o as (λ 
 
 -- a call with bytes that was served
 pub given_reaches : (k n : ℕ) (bytes : List ℕ) (r s : Run) (given : List ℕ) (a : Answer) → (bytes ≡ [] → ⊥) → Calls r n (Came n bytes) s (Gave given a.taken a.closes a.more)
-  → Reaches (give_within (suc k) n bytes) r (behind_answer k n bytes a (λ x. mores_after (mores most_calls n) (record { run = x; outcome = Gave given a.taken a.closes a.more }))) s
+    → Reaches (give_within (suc k) n bytes) r (behind_answer k n bytes a (λ x. mores_after (mores most_calls n) (record { run = x; outcome = Gave given a.taken a.closes a.more }))) s
 given_reaches k n [] r s given a some c = absurd (some refl)
 given_reaches k n (b ∷ bytes) r s given a some c =
     (c.0 ∷ [], λ rest. give_step k n b bytes (with_marks r (c.0 ∷ rest)) ∙ ap (given_after (give_within k n) n (b ∷ bytes)) (c.1 rest))
@@ -108,32 +108,32 @@ refused_leads k n (b ∷ bytes) r s f some c =
 
 -- the line goes on behind an answer that settles it
 pub flow_settled : (S : State → Type 0) (held : Option (List ℕ)) (front : List ℕ) (r : Run) (a : Answer) (given : List ℕ) (n : ℕ) (b : Bool) → Some b ≡ settles (Some a) → IsAt S held front r
-  → Flowed S held front (Ok b) (λ x. mores_after (mores most_calls n) (record { run = x; outcome = Gave given a.taken a.closes a.more })) r
+    → Flowed S held front (Ok b) (λ x. mores_after (mores most_calls n) (record { run = x; outcome = Gave given a.taken a.closes a.more })) r
 flow_settled S held front r a given n b e at = (r, ([], λ rest. settled_flow a given n b a.closes a.more (sym e) (with_marks r rest)), at)
 
 open_flow : (a : Answer) (given : List ℕ) (n : ℕ) (closes more : Bool) → None ≡ (if closes then Some false else if more then None else Some true)
-  → (x : Run) → mores_after (mores most_calls n) (record { run = x; outcome = Gave given a.taken closes more }) ≡ mores most_calls n x
+    → (x : Run) → mores_after (mores most_calls n) (record { run = x; outcome = Gave given a.taken closes more }) ≡ mores most_calls n x
 open_flow a given n true more e x = absurd (cc)
 open_flow a given n false true e x = refl
 open_flow a given n false false e x = absurd (cc)
 
 pub flow_open : (S : State → Type 0) (held : Option (List ℕ)) (front : List ℕ) (r : Run) (a : Answer) (given : List ℕ) (n : ℕ) (result : Result Bool CallFault) → None ≡ settles (Some a)
-  → Flowed S held front result (mores most_calls n) r
-  → Flowed S held front result (λ x. mores_after (mores most_calls n) (record { run = x; outcome = Gave given a.taken a.closes a.more })) r
+    → Flowed S held front result (mores most_calls n) r
+    → Flowed S held front result (λ x. mores_after (mores most_calls n) (record { run = x; outcome = Gave given a.taken a.closes a.more })) r
 flow_open S held front r a given n result e f =
     flow_behind S held front result (λ x. mores_after (mores most_calls n) (record { run = x; outcome = Gave given a.taken a.closes a.more })) (mores most_calls n) r r
-      ([], λ rest. open_flow a given n a.closes a.more e (with_marks r rest)) f
+    ([], λ rest. open_flow a given n a.closes a.more e (with_marks r rest)) f
 
 -- what a call with bytes and the text behind it did
 module _ (S : State → Type 0) (held : Option (List ℕ)) (front : List ℕ) (k n : ℕ) (bytes : List ℕ) (r s : Run) (given : List ℕ) (a : Answer)
-  (some : bytes ≡ [] → ⊥) (c : Calls r n (Came n bytes) s (Gave given a.taken a.closes a.more)) where
+    (some : bytes ≡ [] → ⊥) (c : Calls r n (Came n bytes) s (Gave given a.taken a.closes a.more)) where
   abbrev rest_flow : Run → Flow
   rest_flow x = mores_after (mores most_calls n) (record { run = x; outcome = Gave given a.taken a.closes a.more })
 
   reaches : (t : Run) (b : Bool) → LeadsOn rest_flow s t b → Reaches (give_within (suc k) n bytes) r (λ x. onward (give_within k n (drop a.taken bytes)) (flow x b)) t
   reaches t b p =
       reach_both (give_within (suc k) n bytes) (behind_answer k n bytes a rest_flow) (λ x. onward (give_within k n (drop a.taken bytes)) (flow x b)) r s t
-        (given_reaches k n bytes r s given a some c) (reach_with (onward (give_within k n (drop a.taken bytes))) rest_flow (λ x. flow x b) s t p)
+      (given_reaches k n bytes r s given a some c) (reach_with (onward (give_within k n (drop a.taken bytes))) rest_flow (λ x. flow x b) s t p)
 
   pub once_on : Flowed S held front (Ok true) rest_flow s → GivenOnce S held front (Ok (Some a.taken)) k n bytes r
   once_on f = (f.0, reaches f.0 true f.1, f.2)
@@ -142,34 +142,34 @@ module _ (S : State → Type 0) (held : Option (List ℕ)) (front : List ℕ) (k
   once_off f = (f.0, reaches f.0 false f.1, f.2)
 
 pub came_fails : (S : State → Type 0) (held : Option (List ℕ)) (front : List ℕ) (fault : CallFault) (k n : ℕ) (bytes : List ℕ) (r : Run) → (bytes ≡ [] → ⊥)
-  → Called S held front (Err fault) n (Came n bytes) r → GivenOnce S held front (Err fault) k n bytes r
+    → Called S held front (Err fault) n (Came n bytes) r → GivenOnce S held front (Err fault) k n bytes r
 came_fails S held front faults.DiskFault k n bytes r some c = (c.0, refused_leads k n bytes r c.0 errors.DiskFault some c.1, c.2)
 came_fails S held front faults.NoMemory k n bytes r some c = tt {0}
 came_fails S held front faults.Io k n bytes r some c = tt {0}
 
 pub came_refused : (S : State → Type 0) (held : Option (List ℕ)) (front : List ℕ) (k n : ℕ) (bytes : List ℕ) (r : Run) → (bytes ≡ [] → ⊥)
-  → Called S held front (Ok None) n (Came n bytes) r → GivenOnce S held front (Ok None) k n bytes r
+    → Called S held front (Ok None) n (Came n bytes) r → GivenOnce S held front (Ok None) k n bytes r
 came_refused S held front k n bytes r some c = (c.0, refused_leads k n bytes r c.0 c.1 some c.2, c.3)
 
 -- the device failed while a text was given
 pub text_fails : (S : State → Type 0) (held : Option (List ℕ)) (front : List ℕ) (fault : CallFault) (k n : ℕ) (bytes : List ℕ) (r s : Run) (given : List ℕ) (a : Answer) → (bytes ≡ [] → ⊥)
-  → Calls r n (Came n bytes) s (Gave given a.taken a.closes a.more)
-  → Flowed S held front (Err fault) (λ x. mores_after (mores most_calls n) (record { run = x; outcome = Gave given a.taken a.closes a.more })) s
-  → GivenOnce S held front (Err fault) k n bytes r
+    → Calls r n (Came n bytes) s (Gave given a.taken a.closes a.more)
+    → Flowed S held front (Err fault) (λ x. mores_after (mores most_calls n) (record { run = x; outcome = Gave given a.taken a.closes a.more })) s
+    → GivenOnce S held front (Err fault) k n bytes r
 text_fails S held front faults.DiskFault k n bytes r s given a some c f = (f.0, reaches S held front k n bytes r s given a some c f.0 false f.1, f.2)
 text_fails S held front faults.NoMemory k n bytes r s given a some c f = tt {0}
 text_fails S held front faults.Io k n bytes r s given a some c f = tt {0}
 
 -- what went behind some calls
 pub went_behind : (S : State → Type 0) (held : Option (List ℕ)) (front : List ℕ) (result : Result (Unit {0}) CallFault) (f g : Run → Run) (r s : Run)
-  → Reaches f r g s → Went S held front result g s → Went S held front result f r
+    → Reaches f r g s → Went S held front result g s → Went S held front result f r
 went_behind S held front (Ok x) f g r s p q = (q.0, reach_both f g (λ x. x) r s q.0 p q.1, q.2)
 went_behind S held front (Err faults.DiskFault) f g r s p q = (q.0, reach_both f g (λ x. x) r s q.0 p q.1, q.2)
 went_behind S held front (Err faults.NoMemory) f g r s p q = tt {0}
 went_behind S held front (Err faults.Io) f g r s p q = tt {0}
 
 pub once_fails : (S : State → Type 0) (held : Option (List ℕ)) (front : List ℕ) (fault : CallFault) (k n : ℕ) (bytes : List ℕ) (r : Run)
-  → GivenOnce S held front (Err fault) k n bytes r → Went S held front (Err fault) (give_within (suc k) n bytes) r
+    → GivenOnce S held front (Err fault) k n bytes r → Went S held front (Err fault) (give_within (suc k) n bytes) r
 once_fails S held front faults.DiskFault k n bytes r p = p
 once_fails S held front faults.NoMemory k n bytes r p = tt {0}
 once_fails S held front faults.Io k n bytes r p = tt {0}

@@ -1,8 +1,8 @@
 -- A session's calls as those of connections.
-use Rattle.std.proofs.Common.{◌≡◌, Bool, true, false, ℕ, List, [], ◌++◌, Option, Some, None, Result, Ok, Err, refl, sym, subst, ap, ◌∙◌, append-nil, nat_lt, if◌then◌else◌}
+use Rattle.std.proofs.Common.{◌≡◌, Bool, true, false, ℕ, List, [], Option, Some, None, Result, Ok, Err, refl, sym, subst, ap, ◌∙◌, append-nil, nat_lt, if◌then◌else◌}
 use Rattle.upload_rules.specs.declared.uploads.Uploads.{Ghosts}
 use Rattle.tus_session.specs.Turns.{Conn, fresh}
-use Rattle.tus_session.specs.History.{State, Event, Opened, Came, More, Ended, Served, OutOfMemory, Failed, Outcome, Done, Refused, Step, step, put, kept, opened_at, came_at, more_at, ended_at, is_closed}
+use Rattle.tus_session.specs.History.{State, Event, Opened, Came, More, Ended, Served, Failed, Done, Refused, Step, step, put, kept, opened_at, came_at, more_at, ended_at}
 use Rattle.tus_session.specs.Stands.{SessionStands}
 use Rattle.tus_session.specs.Told as told
 use Rattle.tus_session.specs.Told.{IsOpen, Told, Opens}
@@ -10,7 +10,7 @@ use Rattle.tus_session.specs.declared.answers.Answer.{Answer}
 use Rattle.tus_session.specs.declared.conns.Place.{Place}
 use Rattle.tus_session.specs.declared.errors.SessionError.{SessionError}
 use Rattle.tus_session.specs.declared.errors.SessionError.TheVariants.{NoMemory, DiskFault, TooMany, Closed}
-use Rattle.gateway_engine.specs.Connections.{Keeps, Gives, Does}
+use Rattle.gateway_engine.specs.Connections.{Gives, Does}
 
 failed_outcome : (st : State) (e : Event) → (step st e Failed).outcome ≡ Refused DiskFault
 unfolding step

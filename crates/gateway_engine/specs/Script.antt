@@ -1,9 +1,6 @@
 -- A script: its events, and what is written.
-use Rattle.std.specs.Prelude.{ℕ, zero, suc, ◌+◌, ◌*◌, ◌-◌, Bool, true, false, ◌&&◌, ◌||◌, List, [], ◌∷◌, ◌++◌, length, take, drop, slice_get, codes, bytes_eq, nat_lt, nat_le, ◌==◌, if◌then◌else◌, Option, Some, None}
-use Rattle.std.specs.List.{list_all}
-use Rattle.std.specs.Char.{is_ascii_digit}
+use Rattle.std.specs.Prelude.{ℕ, zero, suc, ◌+◌, ◌-◌, Bool, true, false, ◌||◌, List, [], ◌∷◌, ◌++◌, length, take, drop, slice_get, codes, bytes_eq, nat_lt, nat_le, ◌==◌, if◌then◌else◌, Option, Some, None}
 use Rattle.std.specs.Fmt.{decimal}
-use Rattle.std.specs.Str.Parse.{digits_value}
 use Rattle.hex.specs.Hex.{decode_of}
 use Rattle.tus_request.specs.Number.{number_of}
 use Rattle.tus_request.specs.Reading.{before, behind}
@@ -11,8 +8,6 @@ use Rattle.tus_request.specs.Value.{answered}
 use Rattle.tus_session.specs.declared.errors.SessionError.{SessionError}
 use Rattle.tus_session.specs.declared.errors.SessionError.TheVariants.{DiskFault}
 use Rattle.tus_session.specs.Faults.{error_number}
-use Rattle.tus_session.specs.Turns.{Conn}
-use Rattle.tus_action.specs.Acts.{Giving}
 use Rattle.tus_session.specs.History.{State, Event, Opened, Came, More, Ended, Mark, Served, Marked, Step, step, Outcome, Gave, Done, Refused, is_closed}
 
 -- THE LINES. The last one may lack its LF

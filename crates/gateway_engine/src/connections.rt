@@ -15,12 +15,7 @@ pub trait Connections {
         ensures { (st : State) → stands self.old st → Does (stands self.new) result st (Opened conn) };
 
     /// Bytes came: those of at most one request are taken, and what they are answered is put behind `out`.
-    fn came(
-        &mut self,
-        conn: usize,
-        bytes: &[u8],
-        out: &mut Vec<u8>,
-    ) -> Result<Answer, SessionError>
+    fn came(&mut self, conn: usize, bytes: &[u8], out: &mut Vec<u8>) -> Result<Answer, SessionError>
         ensures { (st : State) → stands self.old st → Gives (stands self.new) result out.old.items out.new.items st (Came conn bytes.now) };
 
     /// The next piece of a text is put behind `out`.

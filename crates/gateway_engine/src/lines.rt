@@ -58,7 +58,7 @@ fn go_on<C: Connections, W: Write>(
 ) -> Result<bool, CallFault>
     ensures { (r : Run) (front given : List ℕ) → IsAt (C.stands core.old) (W.contents writer.old) front r
         → Flowed (C.stands core.new) (W.contents writer.new) front result
-            (λ x. mores_after (mores most_calls conn) (record { run = x; outcome = Gave given answer.taken answer.closes answer.more })) r }
+        (λ x. mores_after (mores most_calls conn) (record { run = x; outcome = Gave given answer.taken answer.closes answer.more })) r }
 {
     match goes_on(Some(answer)) {
         Some(on) => Ok(on),

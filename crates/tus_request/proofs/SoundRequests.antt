@@ -15,9 +15,9 @@ use Rattle.tus_request.specs.Fields.{values_in}
 use Rattle.enc_model.specs.declared.Encoding.{Encoding}
 use Rattle.enc_model.specs.declared.Encoding.TheVariants as e
 use Rattle.enc_model.specs.declared.Mode.{Mode}
-use Rattle.enc_labels.specs.Labels.{encoding_of, output_of}
+use Rattle.enc_labels.specs.Labels.{output_of}
 use Rattle.tus_request.specs.Number.{is_number, number_of}
-use Rattle.tus_request.specs.Metadata.{KeyValue, is_plain, is_metadata, metadata_of, Choice, choice_with, choice_of, setting}
+use Rattle.tus_request.specs.Metadata.{KeyValue, is_plain, is_metadata, metadata_of, Choice, choice_with, choice_of}
 use Rattle.tus_request.specs.Checks as checks
 use Rattle.tus_request.specs.declared.methods.Verb.{Verb}
 use Rattle.tus_request.specs.declared.methods.Verb.TheVariants as verb
@@ -26,9 +26,9 @@ use Rattle.tus_request.specs.declared.places.Place.TheVariants as place
 use Rattle.tus_request.specs.declared.faults.Fault.TheVariants.{Coding, TusVersion, BadLabel, BadHeader, MediaType, HeadTooLong}
 use Rattle.tus_request.specs.Lines.{Extent, head_extent}
 use Rattle.tus_request.specs.Reading.{request_of}
-use Rattle.tus_request.specs.Requests.{Creation, Action, Options, Create, Head, Get, Patch, Request, Verdict, Asks, Refuses}
-use Rattle.tus_request.specs.Answers.{Answer, More, Judged, answer_with, answer_of}
-use Rattle.tus_request.specs.Sound.{IsSoundCreation, IsSoundAction, IsSoundRequest, IsSound, IsSoundAnswer}
+use Rattle.tus_request.specs.Requests.{Action, Options, Create, Head, Get, Request, Asks}
+use Rattle.tus_request.specs.Answers.{More, Judged, answer_with, answer_of}
+use Rattle.tus_request.specs.Sound.{IsSoundAction, IsSoundRequest, IsSound, IsSoundAnswer}
 
 both : (a b : Bool) → (a && b) ≡ true → (a ≡ true) × (b ≡ true)
 both true true p = (refl, refl)
@@ -144,19 +144,19 @@ module _ (offers : Encoding → Bool) where
   passed_sound x a small sound = record { length_is = small; action_is = sound }
 
   choice_if : (x : checks.Asking) (declared : ℕ) (metadata : List ℕ) (c : Choice) (b : Bool) → x.length < 10 ^ 18 → (offers c.from && offers c.to) ≡ b → NoUtf16 c.to → IsPlainText metadata
-    → IsSound offers (if b then checks.passed x (Create (record { declared = declared; from = c.from; to = c.to; mode = c.mode; metadata = metadata })) else checks.refused x BadLabel)
+      → IsSound offers (if b then checks.passed x (Create (record { declared = declared; from = c.from; to = c.to; mode = c.mode; metadata = metadata })) else checks.refused x BadLabel)
   choice_if x declared metadata c true small q to plain =
       let r = both (offers c.from) (offers c.to) q in
       record { length_is = small; action_is = record { from = r.0; to = r.1; no_utf16 = to; short = plain.0; plain = plain.1 } }
   choice_if x declared metadata c false small q to plain = tt {0}
 
   choice_sound : (x : checks.Asking) (declared : ℕ) (metadata : List ℕ) (o : Option Choice) → x.length < 10 ^ 18 → ((c : Choice) → o ≡ Some c → NoUtf16 c.to) → IsPlainText metadata
-    → IsSound offers (checks.with_choice offers x declared metadata o)
+      → IsSound offers (checks.with_choice offers x declared metadata o)
   choice_sound x declared metadata None small to plain = tt {0}
   choice_sound x declared metadata (Some c) small to plain = choice_if x declared metadata c (offers c.from && offers c.to) small refl (to c refl) plain
 
   pairs_sound : (x : checks.Asking) (declared : ℕ) (metadata : List ℕ) (o : Option (List KeyValue)) → x.length < 10 ^ 18 → ((pairs : List KeyValue) → o ≡ Some pairs → IsPlainText metadata)
-    → IsSound offers (checks.with_pairs offers x declared metadata o)
+      → IsSound offers (checks.with_pairs offers x declared metadata o)
   pairs_sound x declared metadata None small plain = tt {0}
   pairs_sound x declared metadata (Some pairs) small plain =
       choice_sound x declared metadata (choice_of pairs) small (λ c q. choice_output _ _ _ c q) (plain pairs refl)
@@ -171,7 +171,7 @@ module _ (offers : Encoding → Bool) where
   declared_sound x (Some declared) small = metadata_sound x declared (x.given (codes "upload-metadata")) small
 
   post_if : (x : checks.Asking) (b : Bool) → x.length < 10 ^ 18
-    → IsSound offers (if b then checks.refused x BadHeader else checks.with_declared offers x (checks.number_in (x.given (codes "upload-length"))))
+      → IsSound offers (if b then checks.refused x BadHeader else checks.with_declared offers x (checks.number_in (x.given (codes "upload-length"))))
   post_if x true small = tt {0}
   post_if x false small = declared_sound x (checks.number_in (x.given (codes "upload-length"))) small
 
@@ -180,7 +180,7 @@ module _ (offers : Encoding → Bool) where
   offset_sound x n (Some offset) small less = record { length_is = small; action_is = less offset refl }
 
   patch_if : (x : checks.Asking) (n : ℕ) (b : Bool) → x.length < 10 ^ 18
-    → IsSound offers (if b then checks.at_offset x n (checks.number_in (x.given (codes "upload-offset"))) else checks.refused x MediaType)
+      → IsSound offers (if b then checks.at_offset x n (checks.number_in (x.given (codes "upload-offset"))) else checks.refused x MediaType)
   patch_if x n true small =
       offset_sound x n (checks.number_in (x.given (codes "upload-offset"))) small (λ m q. when_small (checks.only (x.given (codes "upload-offset"))) m q)
   patch_if x n false small = tt {0}
@@ -215,7 +215,7 @@ module _ (offers : Encoding → Bool) where
   measured_sound line given (Some n) less = decided_if (checks.asking line given n) (checks.lacks_version (checks.asking line given n)) (less n refl)
 
   checked_if : (line : checks.Line) (given : List ℕ → List (List ℕ)) (b : Bool)
-    → IsSound offers (if b then checks.cut_off line Coding else checks.measured offers line given (checks.length_in (given (codes "content-length"))))
+      → IsSound offers (if b then checks.cut_off line Coding else checks.measured offers line given (checks.length_in (given (codes "content-length"))))
   checked_if line given true = tt {0}
   checked_if line given false = measured_sound line given (checks.length_in (given (codes "content-length"))) (λ n q. length_small (given (codes "content-length")) n q)
 

@@ -1,5 +1,5 @@
 -- What holds of every request that passed its checks.
-use Rattle.std.specs.Prelude.{◌≡◌, ◌<◌, ◌≤◌, ◌^◌, ℕ, Bool, true, List, All, length}
+use Rattle.std.specs.Prelude.{◌≡◌, ◌<◌, ◌≤◌, ◌^◌, Bool, true, All, length}
 use Rattle.enc_model.specs.declared.Encoding.{Encoding}
 use Rattle.enc_model.specs.declared.Encoding.TheVariants.{Utf16Be, Utf16Le}
 use Rattle.tus_request.specs.Requests.{Creation, Action, Options, Create, Head, Get, Patch, Request, Verdict, Asks, Refuses}

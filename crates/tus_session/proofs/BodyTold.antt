@@ -1,26 +1,26 @@
 -- From what a body comes to, to the turn's answer.
-use Rattle.std.proofs.Common.{ℕ, ◌+◌, ◌-◌, ◌<◌, ◌≤◌, ◌≡◌, ◌⊎◌, inl, inr, Bool, true, false, List, [], ◌∷◌, ◌++◌, Option, Some, None, Result, Ok, Err, length, take, drop, refl, sym, ◌∙◌, ap, subst, arith, append-nil, min, if◌then◌else◌}
+use Rattle.std.proofs.Common.{ℕ, ◌+◌, ◌-◌, ◌<◌, ◌≤◌, ◌≡◌, inl, inr, Bool, true, false, List, [], ◌∷◌, ◌++◌, Option, Some, None, Result, Ok, Err, length, take, refl, sym, ◌∙◌, ap, subst, arith, append-nil, min, if◌then◌else◌}
 use Rattle.std.proofs.lemmas.Bool.{cases_lt}
 use Rattle.std.proofs.lemmas.List.{length-take-le, take_all, length-append}
 use Rattle.enc_model.specs.Indexes.{offers}
 use Rattle.tus_request.proofs.Fronts.{steady}
 use Rattle.tus_request.specs.Answers.{answer_of}
-use Rattle.tus_request.specs.Requests.{Request, Verdict, Asks, body_length}
+use Rattle.tus_request.specs.Requests.{Request, Asks, body_length}
 use Rattle.upload_rules.specs.Store.{Upload, upload_of, with_bytes, find}
 use Rattle.upload_rules.specs.World.{Patch, World}
 use Rattle.upload_rules.specs.Calls.{dropped, spent, commit_refusal, appended_at}
 use Rattle.upload_rules.specs.Calls.{longer as longer_patch}
 use Rattle.upload_rules.proofs.Finds.{find_replaced_same}
 use Rattle.upload_rules.specs.declared.uploads.Uploads.{Ghosts}
-use Rattle.tus_action.specs.Acts.{Giving, Acted, fed, fed_patch, commit_with, committed_as}
+use Rattle.tus_action.specs.Acts.{Giving, Acted, fed, fed_patch, commit_with}
 use Rattle.tus_session.specs.Streams.{Asked, InHead, InBody, Rest, cut}
-use Rattle.tus_session.specs.Turns.{Conn, Turn, reader, left_world, came_on, came_turn}
+use Rattle.tus_session.specs.Turns.{Conn, Turn, reader, came_on, came_turn}
 use Rattle.tus_session.specs.History.{is_closed, has_text}
 use Rattle.tus_session.specs.Stands.{IsThere, PatchesAs, RestIs, TaskIs, LinkIs, PlaceIs, draft_at}
 use Rattle.tus_session.specs.Heads.{InsideHead}
 use Rattle.tus_session.specs.Moves.{Moves}
 use Rattle.tus_session.specs.Turned.{TurnedAs, Turned}
-use Rattle.tus_session.specs.Bodies.{took, GoesOn, GoesOnSome, Parts, Answered, Replies, ended_by}
+use Rattle.tus_session.specs.Bodies.{took, GoesOn, Parts, Answered, Replies, ended_by}
 use Rattle.tus_session.specs.declared.answers.Answer.{Answer}
 use Rattle.tus_session.specs.declared.errors.SessionError.{SessionError}
 use Rattle.tus_session.specs.declared.errors.SessionError.TheVariants as errors
@@ -30,12 +30,12 @@ use Rattle.tus_session.specs.declared.conns.Task.TheVariants as tasks
 use Rattle.tus_session.specs.declared.conns.Place.{Place}
 use Rattle.tus_session.specs.declared.conns.Place.TheVariants.{Closed, Open}
 use Rattle.tus_session.proofs.BodyTurns.{part_turn, rest_turn}
-use Rattle.tus_session.proofs.Feeding.{fed_body, fed_began, fed_number, fed_count, fed_store}
+use Rattle.tus_session.proofs.Feeding.{fed_body, fed_began, fed_number, fed_count}
 use Rattle.tus_session.proofs.Frames.{there_more}
 use Rattle.tus_session.proofs.Opening.{still}
 use Rattle.tus_session.proofs.Moved.{feed_moves, spend_moves, both_moves}
 use Rattle.tus_session.proofs.NewRests.{body_part_rest, body_whole_rest}
-use Rattle.tus_session.proofs.Tasks.{IsPatching, body_wants, found_as}
+use Rattle.tus_session.proofs.Tasks.{IsPatching, body_wants}
 use Rattle.tus_session.proofs.Unfinished.{longer}
 
 abbrev pub plain : List ℕ → Option ℕ → Conn

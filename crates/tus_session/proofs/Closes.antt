@@ -1,5 +1,5 @@
 -- The end of a session: its drafts are dropped, one place after another.
-use Rattle.std.proofs.Common.{◌≡◌, ◌≢◌, ◌⊎◌, inl, inr, ℕ, zero, suc, ◌+◌, ◌-◌, ◌<◌, ◌≤◌, ◌==◌, Bool, true, false, List, [], ◌∷◌, ◌++◌, length, take, drop, get_or, append_assoc, if◌then◌else◌, Option, Some, None, refl, sym, ◌∙◌, ap, subst, arith}
+use Rattle.std.proofs.Common.{◌≡◌, ◌≢◌, inl, inr, ℕ, suc, ◌+◌, ◌<◌, List, [], ◌∷◌, ◌++◌, length, take, drop, get_or, append_assoc, Option, Some, None, refl, sym, ◌∙◌, ap, subst, arith}
 use Rattle.std.proofs.lemmas.Bool.{cases_eq, cases_lt}
 use Rattle.std.proofs.lemmas.Bool.Decides.{nat_tests}
 use Rattle.std.proofs.lemmas.List.{length-append, take-append-drop}
@@ -13,7 +13,7 @@ use Rattle.upload_rules.proofs.Finds.{find_without_same, find_without_other}
 use Rattle.tus_session.specs.Streams.{cut}
 use Rattle.tus_session.specs.Turns.{Conn, reader}
 use Rattle.tus_session.specs.History.{State}
-use Rattle.tus_session.specs.Stands.{TaskIs, LinkIs, PlaceIs, draft_at, SessionStands, dropped_by}
+use Rattle.tus_session.specs.Stands.{TaskIs, PlaceIs, draft_at, SessionStands, dropped_by}
 use Rattle.tus_session.specs.declared.conns.Link.{Link}
 use Rattle.tus_session.specs.declared.conns.Task.{Task}
 use Rattle.tus_session.specs.declared.conns.Task.TheVariants as tasks

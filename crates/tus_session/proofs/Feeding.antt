@@ -1,14 +1,14 @@
 -- A patch whose body goes on.
-use Rattle.std.proofs.Common.{◌≡◌, ℕ, ◌+◌, ◌-◌, ◌<◌, ◌≤◌, ◌==◌, Bool, true, false, List, [], ◌∷◌, ◌++◌, length, Option, Some, None, Result, Ok, Err, refl, sym, ◌∙◌, ap, subst, arith, append-nil, if◌then◌else◌}
+use Rattle.std.proofs.Common.{◌≡◌, ℕ, ◌+◌, ◌==◌, Bool, true, false, List, [], ◌∷◌, ◌++◌, length, Option, Some, None, refl, sym, ◌∙◌, ap, subst, arith, append-nil, if◌then◌else◌}
 use Rattle.std.proofs.lemmas.Bool.Decides.{nat_tests}
 use Rattle.std.proofs.lemmas.List.{length-append}
-use Rattle.upload_rules.specs.Store.{Store, find, without, replaced}
+use Rattle.upload_rules.specs.Store.{find, without, replaced}
 use Rattle.upload_rules.specs.World.{Patch, World}
-use Rattle.upload_rules.specs.Calls.{longer, appended_at, dropped, spent, commit_refusal, commit_outcome, reached}
+use Rattle.upload_rules.specs.Calls.{longer, appended_at, dropped, commit_refusal, commit_outcome, reached}
 use Rattle.upload_rules.specs.declared.uploads.Uploads.{Ghosts}
 use Rattle.tus_request.specs.Requests.{Request}
-use Rattle.tus_action.specs.Acts.{Acted, fed, fed_patch, committed_as}
-use Rattle.tus_action.specs.Serves.{Feeds, Serves, ActedAs, DraftIs}
+use Rattle.tus_action.specs.Acts.{Acted, fed, fed_patch}
+use Rattle.tus_action.specs.Serves.{ActedAs, DraftIs}
 use Rattle.tus_action.specs.declared.acts.Acted as code
 use Rattle.tus_session.specs.Bodies.{ended_by, took, Answered}
 use Rattle.tus_session.specs.declared.conns.Link.{Link}

@@ -1,22 +1,18 @@
 -- A turn on one connection leaves the others as they were.
-use Rattle.std.proofs.Common.{◌≡◌, ◌≢◌, ◌⊎◌, inl, inr, ℕ, ◌+◌, ◌<◌, ◌≤◌, ◌==◌, Bool, true, false, List, [], ◌∷◌, ◌++◌, length, take, drop, get_or, slice_set, if◌then◌else◌, Option, Some, None, refl, sym, ◌∙◌, ap, subst, arith, get_or-set_same, get_or-set_other, length-set, append_assoc, eqb}
-use Rattle.std.proofs.lemmas.Bool.Decides.{nat_tests}
-use Rattle.std.proofs.lemmas.Bool.{cases_eq}
+use Rattle.std.proofs.Common.{◌≡◌, ℕ, ◌+◌, List, ◌++◌, length, take, drop, Option, Some, None, refl, sym, ◌∙◌, ap, subst, arith, append_assoc}
 use Rattle.std.proofs.lemmas.List.{length-append, take-append-le}
 use Rattle.enc_model.specs.Indexes.{offers}
 use Rattle.tus_request.specs.Answers.{answer_of}
-use Rattle.upload_rules.specs.Store.{Upload, upload_of, text_of, with_bytes, find}
+use Rattle.upload_rules.specs.Store.{Upload, text_of, with_bytes, find}
 use Rattle.upload_rules.specs.World.{Patch, World}
-use Rattle.upload_rules.specs.Apart.{IsApart}
 use Rattle.upload_rules.specs.declared.uploads.Uploads.{Ghosts}
 use Rattle.tus_action.specs.Acts.{Giving}
 use Rattle.tus_action.specs.Serves.{GivesAs}
 use Rattle.tus_action.specs.declared.acts.Giving as given
-use Rattle.tus_session.specs.Streams.{Rest, InHead, InBody, Cut, cut}
+use Rattle.tus_session.specs.Streams.{Rest, InHead, InBody, cut}
 use Rattle.tus_session.specs.Turns.{Conn, reader}
-use Rattle.tus_session.specs.History.{State, with_conn, put}
-use Rattle.tus_session.specs.Stands.{IsThere, PatchesAs, PatchIs, TaskIs, RestIs, LinkIs, PlaceIs, draft_at, SessionStands}
-use Rattle.tus_session.specs.Moves.{Longer, Grows, Moves}
+use Rattle.tus_session.specs.Stands.{IsThere, PatchIs, TaskIs, RestIs, LinkIs, PlaceIs, draft_at}
+use Rattle.tus_session.specs.Moves.{Grows, Moves}
 use Rattle.tus_session.specs.declared.conns.Patching.{Patching}
 use Rattle.tus_session.specs.declared.conns.Task.{Task}
 use Rattle.tus_session.specs.declared.conns.Task.TheVariants as tasks

@@ -1,5 +1,5 @@
 -- A text grows.
-use Rattle.std.proofs.Common.{◌≡◌, ℕ, List, [], ◌++◌, Bool, true, false, Option, Some, None, refl, sym, ◌∙◌}
+use Rattle.std.proofs.Common.{◌≡◌, ℕ, List, [], ◌++◌, Bool, false, Option, Some, None, refl, sym, ◌∙◌}
 use Rattle.enc_model.specs.Indexes.{IndexSet}
 use Rattle.upload_rules.specs.Store.{Upload, with_bytes, text_of, text_with, is_complete}
 use Rattle.upload_rules.proofs.Longer.{text_in_front, stays_without_code}

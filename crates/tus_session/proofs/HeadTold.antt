@@ -1,5 +1,5 @@
 -- From what a head comes to, to the turn's answer.
-use Rattle.std.proofs.Common.{ℕ, ◌+◌, ◌-◌, ◌<◌, ◌≤◌, ◌≡◌, ◌⊎◌, inl, inr, Bool, true, false, List, [], ◌∷◌, ◌++◌, Option, Some, None, Result, Ok, Err, length, take, drop, min, refl, sym, ◌∙◌, ap, subst, arith, append-nil, if◌then◌else◌}
+use Rattle.std.proofs.Common.{ℕ, ◌+◌, ◌-◌, ◌≤◌, ◌≡◌, inl, inr, Bool, true, false, List, [], ◌++◌, Option, Some, None, length, take, drop, min, refl, sym, ◌∙◌, ap, subst, arith, append-nil, if◌then◌else◌}
 use Rattle.std.proofs.lemmas.Bool.{cases_lt}
 use Rattle.std.proofs.lemmas.List.{length-take-le, take_all, length-append, length-drop}
 use Rattle.enc_model.specs.Indexes.{IndexSet, offers}
@@ -7,18 +7,18 @@ use Rattle.tus_request.specs.Shown.{answer_shown}
 use Rattle.tus_request.specs.declared.requests.Parsed.{Parsed}
 use Rattle.tus_request.proofs.Fronts.{steady}
 use Rattle.tus_request.specs.Answers.{Answer, More, Judged, answer_of}
-use Rattle.tus_request.specs.Requests.{Request, Verdict, Asks, body_length}
+use Rattle.tus_request.specs.Requests.{Verdict, body_length}
 use Rattle.tus_request.specs.Steady.{IsSteady}
-use Rattle.upload_rules.specs.World.{Patch, World}
+use Rattle.upload_rules.specs.World.{World}
 use Rattle.upload_rules.specs.declared.uploads.Uploads.{Ghosts}
 use Rattle.tus_action.specs.Acts.{Acted, Giving, acted, is_pending}
-use Rattle.tus_session.specs.Streams.{Asked, InHead, InBody, Rest, Moments, cut}
-use Rattle.tus_session.specs.Turns.{Conn, Turn, reader, conn_of, turn_of, came_with, body_step, came_turn}
+use Rattle.tus_session.specs.Streams.{InHead, InBody, Rest, Moments, cut}
+use Rattle.tus_session.specs.Turns.{Conn, Turn, reader, turn_of, came_with, body_step, came_turn}
 use Rattle.tus_session.specs.History.{is_closed, has_text}
-use Rattle.tus_session.specs.Stands.{RestIs, TaskIs, LinkIs, PlaceIs, draft_at}
+use Rattle.tus_session.specs.Stands.{RestIs, draft_at}
 use Rattle.tus_session.specs.Heads.{InsideHead, IsWhole}
 use Rattle.tus_session.specs.Moves.{Moves}
-use Rattle.tus_session.specs.Turned.{TurnedAs, Turned}
+use Rattle.tus_session.specs.Turned.{TurnedAs}
 use Rattle.tus_session.specs.Bodies.{took}
 use Rattle.tus_session.specs.declared.answers.Answer as code
 use Rattle.tus_session.specs.declared.conns.Link.{Link}

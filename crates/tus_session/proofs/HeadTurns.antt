@@ -1,16 +1,16 @@
 -- The turn of a connection whose request under way is a head.
-use Rattle.std.proofs.Common.{ℕ, zero, suc, ◌+◌, ◌-◌, ◌<◌, ◌≤◌, ◌≡◌, false, List, [], ◌∷◌, ◌++◌, Option, Some, None, length, take, drop, refl, sym, ◌∙◌, ap, subst, arith, append_assoc}
-use Rattle.std.proofs.lemmas.List.{length-take-le, take_all, length-append, length-drop, drop-take, take-append-drop}
+use Rattle.std.proofs.Common.{ℕ, zero, suc, ◌+◌, ◌-◌, ◌<◌, ◌≤◌, ◌≡◌, false, List, [], ◌∷◌, ◌++◌, Some, None, length, take, drop, refl, sym, ◌∙◌, ap, arith, append_assoc}
+use Rattle.std.proofs.lemmas.List.{length-take-le, take_all, length-append, drop-take, take-append-drop}
 use Rattle.enc_model.specs.Indexes.{offers}
 use Rattle.tus_request.proofs.Fronts.{steady}
-use Rattle.tus_request.specs.Answers.{Answer, More, Judged}
+use Rattle.tus_request.specs.Answers.{More, Judged}
 use Rattle.tus_request.specs.Requests.{Verdict, body_length}
 use Rattle.tus_request.specs.Steady.{IsSteady}
 use Rattle.upload_rules.specs.World.{World}
-use Rattle.tus_action.specs.Acts.{Acted, acted}
-use Rattle.tus_session.specs.Streams.{Asked, InHead, InBody, cut, Moments, moments, taken}
-use Rattle.tus_session.specs.Turns.{Conn, Turn, at_head, turn_of, came_with, came_at, came_on, reader, came_turn}
-use Rattle.tus_session.specs.Heads.{InsideHead, IsWhole}
+use Rattle.tus_action.specs.Acts.{acted}
+use Rattle.tus_session.specs.Streams.{Asked, Moments, moments, taken}
+use Rattle.tus_session.specs.Turns.{Conn, at_head, turn_of, came_with, came_at, came_on, reader, came_turn}
+use Rattle.tus_session.specs.Heads.{InsideHead}
 use Rattle.tus_session.proofs.Cuts.{left, moments_alone, taken_alone}
 use Rattle.tus_session.proofs.Unfinished.{judged_as, head_part, head_whole, both_whole, whole_taken, head_new}
 use Rattle.tus_session.proofs.NewRests.{head_left, head_only, drop_behind, take_behind}

@@ -1,7 +1,7 @@
 -- What a crash may leave, over one call after another.
-use Rattle.std.proofs.Common.{◌≡◌, ℕ, ◌≤◌, List, subst, arith}
+use Rattle.std.proofs.Common.{◌≡◌, ℕ, List, subst, arith}
 use Rattle.upload_rules.specs.Store.{Store}
-use Rattle.upload_rules.specs.Answers.{Among, Limits, Quiet}
+use Rattle.upload_rules.specs.Answers.{Limits, Quiet}
 
 module _ {m0 m1 m2 : ℕ} {l0 l1 l2 : ℕ → List Store → Type 0} where
   pub quiet_then : {a b : Store} → Quiet m0 m1 l0 l1 → Limits m1 m2 l1 l2 a b → Limits m0 m2 l0 l2 a b

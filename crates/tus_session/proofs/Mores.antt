@@ -1,27 +1,24 @@
 -- The next piece of a text.
-use Rattle.std.proofs.Common.{◌≡◌, ◌⊎◌, inl, inr, ℕ, ◌+◌, ◌-◌, ◌<◌, ◌≤◌, Bool, true, false, List, [], ◌∷◌, ◌++◌, length, take, drop, Option, Some, None, Result, Ok, Err, refl, sym, ◌∙◌, ap, subst, arith, append-nil, if◌then◌else◌}
-use Rattle.upload_rules.specs.Store.{Store, Upload, find}
-use Rattle.upload_rules.specs.World.{Patch, World}
+use Rattle.std.proofs.Common.{◌≡◌, ℕ, Bool, true, false, List, [], ◌++◌, Option, Some, None, Result, Ok, refl, sym, ap, subst, append-nil, if◌then◌else◌}
+use Rattle.upload_rules.specs.World.{World}
 use Rattle.upload_rules.specs.declared.uploads.Uploads.{Ghosts}
 use Rattle.tus_action.specs.Acts.{Giving, is_pending, pending_after, piece_of}
-use Rattle.tus_action.specs.Serves.{GivesAs, GivingIs}
+use Rattle.tus_action.specs.Serves.{GivingIs}
 use Rattle.tus_action.specs.declared.acts.Giving as given
-use Rattle.tus_session.specs.Streams.{Asked, Rest, InHead, InBody, cut}
+use Rattle.tus_session.specs.Streams.{Rest, cut}
 use Rattle.tus_session.specs.Turns.{Conn, Turn, reader, left_world, given_up, more_on, more_turn}
-use Rattle.tus_session.specs.History.{is_closed, has_text}
-use Rattle.tus_session.specs.Stands.{PatchesAs, PatchIs, TaskIs, LinkIs, PlaceIs, draft_at}
+use Rattle.tus_session.specs.Stands.{TaskIs, LinkIs}
 use Rattle.tus_session.specs.Moves.{Moves}
 use Rattle.tus_session.specs.Turned.{TurnedAs, Turned}
 use Rattle.tus_session.specs.declared.errors.SessionError.{SessionError}
 use Rattle.tus_session.specs.declared.answers.Answer.{Answer}
 use Rattle.tus_session.specs.declared.conns.Link.{Link}
-use Rattle.tus_session.specs.declared.conns.Patching.{Patching}
 use Rattle.tus_session.specs.declared.conns.Place.{Place}
 use Rattle.tus_session.specs.declared.conns.Place.TheVariants.{Closed, Open}
 use Rattle.tus_session.specs.declared.conns.Task.{Task}
 use Rattle.tus_session.specs.declared.conns.Task.TheVariants as tasks
 use Rattle.tus_session.proofs.Opening.{still}
-use Rattle.tus_session.proofs.Tasks.{IsGiving, text_at}
+use Rattle.tus_session.proofs.Tasks.{IsGiving}
 
 abbrev unmoved_turn : World → Conn → Turn
 unmoved_turn w conn = record { world = w; conn = Some conn; bytes = []; taken = 0 }

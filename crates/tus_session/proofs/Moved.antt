@@ -1,5 +1,5 @@
 -- What the calls on uploads leave to the other connections.
-use Rattle.std.proofs.Common.{◌≡◌, ◌≢◌, ◌⊎◌, inl, inr, ℕ, zero, suc, ◌+◌, ◌-◌, ◌<◌, ◌≤◌, ◌==◌, Bool, true, false, List, [], ◌∷◌, ◌++◌, length, if◌then◌else◌, Option, Some, None, refl, sym, ◌∙◌, ap, subst, arith, append-nil, append_assoc}
+use Rattle.std.proofs.Common.{◌≡◌, ◌⊎◌, inl, inr, ℕ, zero, suc, ◌+◌, ◌<◌, ◌≤◌, ◌==◌, Bool, true, false, List, [], ◌∷◌, ◌++◌, length, if◌then◌else◌, Option, Some, None, refl, sym, ◌∙◌, ap, subst, arith, append-nil, append_assoc}
 use Rattle.std.proofs.lemmas.Bool.Decides.{nat_tests}
 use Rattle.std.proofs.lemmas.Bool.{cases_eq, eqb-true, ne_eqb, cases_Bool}
 use Rattle.std.proofs.lemmas.List.{length-append}
@@ -9,9 +9,9 @@ use Rattle.upload_rules.specs.Room.{is_short}
 use Rattle.upload_rules.specs.Apart.{IsApart}
 use Rattle.upload_rules.specs.declared.errors.UploadRefusal.{UploadRefusal}
 use Rattle.upload_rules.specs.declared.errors.UploadRefusal.TheVariants.{Offset, Unencodable, Full}
-use Rattle.upload_rules.specs.Calls.{dropped, committed, committed_store, spent, created, begun, begun_at, first_patch, appended, longer, is_empty, commit_refusal, offset_refusal, text_refusal, or_else, refuse_if}
+use Rattle.upload_rules.specs.Calls.{dropped, committed, committed_store, spent, created, longer, is_empty, commit_refusal, offset_refusal, text_refusal, or_else, refuse_if}
 use Rattle.upload_rules.proofs.Finds.{find_without_other, find_without_same, none_without, find_replaced_same, find_replaced_other, none_replaced, length_without}
-use Rattle.tus_action.specs.Acts.{fed, fed_patch}
+use Rattle.tus_action.specs.Acts.{fed}
 use Rattle.tus_session.specs.Stands.{IsThere}
 use Rattle.tus_session.specs.Turns.{left_world}
 use Rattle.tus_session.specs.Moves.{Longer, Grows, Moves}

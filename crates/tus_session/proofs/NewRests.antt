@@ -1,13 +1,13 @@
 -- What is left of a stream behind an event.
-use Rattle.std.proofs.Common.{ℕ, zero, suc, ◌+◌, ◌-◌, ◌<◌, ◌≤◌, ◌≡◌, Bool, true, false, List, [], ◌∷◌, ◌++◌, Some, None, length, take, drop, subst, refl, sym, ◌∙◌, ap, arith, nat_lt}
-use Rattle.std.proofs.lemmas.List.{take_all, drop_all, length-append}
+use Rattle.std.proofs.Common.{ℕ, zero, suc, ◌+◌, ◌<◌, ◌≡◌, List, [], ◌∷◌, ◌++◌, length, take, drop, subst, ◌∙◌, ap, arith, nat_lt}
+use Rattle.std.proofs.lemmas.List.{drop_all, length-append}
 use Rattle.std.proofs.lemmas.Bool.{le-ltb, lt-ltb}
 use Rattle.tus_request.specs.Requests.{Verdict, body_length}
 use Rattle.tus_request.specs.Steady.{IsSteady}
-use Rattle.tus_request.specs.Answers.{Answer, More, Judged}
-use Rattle.tus_session.specs.Streams.{Asked, InHead, InBody, Rest, Cut, Reader, onto, behind_head, by_answer, cut}
+use Rattle.tus_request.specs.Answers.{More, Judged}
+use Rattle.tus_session.specs.Streams.{Asked, InHead, InBody, Reader, behind_head, by_answer, cut}
 use Rattle.tus_session.proofs.Cuts.{cut_steps, goes_on, left, left_alone}
-use Rattle.tus_session.proofs.Unfinished.{left_body, longer, cut_more, empty_cut, judged_as, only_body, only_head}
+use Rattle.tus_session.proofs.Unfinished.{left_body, longer, cut_more, empty_cut, judged_as, only_head}
 
 module _ (answer : Reader) (steady : IsSteady answer) where
   rest_on : (s p : List ℕ) → (cut answer (s ++ p)).rest ≡ (cut answer (left answer s ++ p)).rest

@@ -1,17 +1,16 @@
 -- A connection is opened; a session begins.
-use Rattle.std.proofs.Common.{◌≡◌, ◌≢◌, ◌⊎◌, inl, inr, ℕ, zero, suc, ◌+◌, ◌<◌, ◌≤◌, ◌==◌, Bool, true, false, List, [], ◌∷◌, ◌++◌, length, get_or, slice_set, if◌then◌else◌, Option, Some, None, refl, sym, ◌∙◌, ap, subst, arith, nat_lt, append-nil}
+use Rattle.std.proofs.Common.{◌≡◌, ◌⊎◌, inl, inr, ℕ, zero, suc, ◌<◌, ◌≤◌, Bool, true, false, List, [], ◌∷◌, ◌++◌, length, get_or, slice_set, if◌then◌else◌, Option, Some, None, refl, sym, ◌∙◌, ap, subst, arith, nat_lt, append-nil}
 use Rattle.std.proofs.lemmas.Bool.{lt-ltb, le-ltb, cases_eq}
-use Rattle.std.proofs.lemmas.Grind.{common_steps}
 use Rattle.enc_model.specs.Indexes.{offers}
 use Rattle.tus_request.proofs.Fronts.{steady}
-use Rattle.upload_rules.specs.Store.{Store, find, upload_of, text_of, with_bytes, Upload}
+use Rattle.upload_rules.specs.Store.{Store, find, text_of}
 use Rattle.upload_rules.specs.World.{Patch, World, at_rest}
 use Rattle.upload_rules.specs.declared.uploads.Uploads.{Ghosts}
-use Rattle.tus_session.specs.Streams.{Rest, InHead, InBody, cut}
+use Rattle.tus_session.specs.Streams.{InHead, cut}
 use Rattle.tus_session.specs.Turns.{Conn, fresh, reader}
-use Rattle.tus_session.specs.History.{State, Opened, Served, Outcome, Done, Refused, put, kept, opened_at, beginning, step, Step}
-use Rattle.tus_session.specs.Stands.{RestIs, TaskIs, PlaceIs, LinkIs, draft_at, SessionStands}
-use Rattle.tus_session.specs.Moves.{Longer, Grows, Moves}
+use Rattle.tus_session.specs.History.{State, Opened, Served, Done, Refused, put, kept, opened_at, beginning, step, Step}
+use Rattle.tus_session.specs.Stands.{RestIs, TaskIs, PlaceIs, draft_at, SessionStands}
+use Rattle.tus_session.specs.Moves.{Grows, Moves}
 use Rattle.tus_session.specs.Told.{Follows}
 use Rattle.tus_session.specs.declared.conns.Task.TheVariants as tasks
 use Rattle.tus_session.specs.declared.conns.Link.{Link}
@@ -19,7 +18,7 @@ use Rattle.tus_session.specs.declared.conns.Place.{Place}
 use Rattle.tus_session.specs.declared.conns.Place.TheVariants.{Closed, Open}
 use Rattle.tus_session.specs.declared.errors.SessionError.TheVariants.{TooMany}
 use Rattle.tus_session.proofs.Unfinished.{empty_cut}
-use Rattle.tus_session.proofs.InPlace.{in_place, is_set, beyond, closed_at, open_at}
+use Rattle.tus_session.proofs.InPlace.{in_place, is_set, beyond, open_at}
 
 pub same_grows : (m : Store) → Grows m m
 same_grows m = record {

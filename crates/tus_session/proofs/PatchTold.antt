@@ -1,28 +1,26 @@
 -- From a patch that a head opened, to the turn's answer.
-use Rattle.std.proofs.Common.{ℕ, ◌+◌, ◌-◌, ◌<◌, ◌≤◌, ◌≡◌, ◌⊎◌, inl, inr, Bool, true, false, List, [], ◌∷◌, ◌++◌, Option, Some, None, Result, Ok, Err, length, take, drop, min, refl, sym, ◌∙◌, ap, subst, arith, append-nil, append_assoc, if◌then◌else◌}
+use Rattle.std.proofs.Common.{ℕ, ◌+◌, ◌-◌, ◌<◌, ◌≤◌, ◌≡◌, inl, inr, Bool, true, false, List, [], ◌∷◌, ◌++◌, Some, None, Result, Ok, Err, length, take, drop, refl, sym, ◌∙◌, ap, subst, arith, append-nil, append_assoc, if◌then◌else◌}
 use Rattle.std.proofs.lemmas.Bool.{cases_lt}
 use Rattle.std.proofs.lemmas.Bool.Decides.{nat_tests}
 use Rattle.std.proofs.lemmas.List.{length-drop, length-take-le, take_all}
 use Rattle.enc_model.specs.Indexes.{offers}
 use Rattle.tus_request.proofs.Fronts.{steady}
-use Rattle.tus_request.specs.Answers.{Judged}
-use Rattle.tus_request.specs.Requests.{Request, Verdict, Asks, body_length}
-use Rattle.upload_rules.specs.Store.{Store, Upload, upload_of, find, with_bytes, without}
+use Rattle.tus_request.specs.Requests.{Request, Asks}
+use Rattle.upload_rules.specs.Store.{Store, find, without}
 use Rattle.upload_rules.specs.World.{Patch, World}
 use Rattle.upload_rules.specs.Calls.{first_patch, dropped}
 use Rattle.upload_rules.specs.declared.uploads.Uploads.{Ghosts}
 use Rattle.tus_action.specs.Acts.{Acted, acted, fed, fed_patch, commit_with}
-use Rattle.tus_action.specs.Serves.{ActedAs, DraftIs}
-use Rattle.tus_action.specs.declared.acts.Acted as code_acted
-use Rattle.tus_session.specs.Streams.{Asked, Moments, Rest, InHead, InBody, cut}
-use Rattle.tus_session.specs.Stands.{RestIs, PatchesAs, PlaceIs, draft_at}
+use Rattle.tus_action.specs.Serves.{DraftIs}
+use Rattle.tus_session.specs.Streams.{Asked, Moments, InHead, InBody, cut}
+use Rattle.tus_session.specs.Stands.{PatchesAs, draft_at}
 use Rattle.tus_session.specs.History.{is_closed, has_text}
 use Rattle.tus_session.proofs.Feeding.{fed_store}
-use Rattle.tus_session.specs.Turns.{Conn, Turn, reader, turn_of, came_with, came_turn}
+use Rattle.tus_session.specs.Turns.{Conn, Turn, reader, came_with, came_turn}
 use Rattle.tus_session.specs.Heads.{IsWhole, ReachedIs}
 use Rattle.tus_session.specs.Moves.{Moves}
 use Rattle.tus_session.specs.Turned.{TurnedAs, Turned}
-use Rattle.tus_session.specs.Bodies.{took, GoesOn, Parts, Answered, Replies, ended_by}
+use Rattle.tus_session.specs.Bodies.{Parts, Replies, ended_by}
 use Rattle.tus_session.specs.declared.answers.Answer as code
 use Rattle.tus_session.specs.declared.errors.SessionError.{SessionError}
 use Rattle.tus_session.specs.declared.errors.SessionError.TheVariants as errors
@@ -30,7 +28,6 @@ use Rattle.tus_session.specs.declared.conns.Patching.{Patching}
 use Rattle.tus_session.specs.declared.conns.Link.{Link}
 use Rattle.tus_session.specs.declared.conns.Task.TheVariants as tasks
 use Rattle.tus_session.specs.declared.conns.Place.{Place}
-use Rattle.tus_session.specs.declared.conns.Place.TheVariants.{Closed, Open}
 use Rattle.tus_session.proofs.BodyTold.{plain, idle_here, rest_same, part_here, rest_moves, fed_found}
 use Rattle.tus_session.proofs.HeadTurns.{part_turn_is, whole_turn_is, head_within, front_judged, front_body}
 use Rattle.tus_session.proofs.Moved.{open_moves, feed_moves, both_moves}
@@ -40,7 +37,7 @@ use Rattle.upload_rules.specs.Answers.{Limits}
 use Rattle.tus_session.proofs.Limiting.{first_then, still_limits}
 use Rattle.tus_session.proofs.Tasks.{limits_to}
 use Rattle.tus_session.proofs.RequestLeaves.{Opened, Leaves, Nothing, Text, Patching as AsPatch, leaves}
-use Rattle.tus_session.proofs.Unfinished.{judged_as, longer}
+use Rattle.tus_session.proofs.Unfinished.{judged_as}
 
 -- what was written stays, or none of it
 abbrev pub OutIs : Result code.Answer SessionError → List ℕ → List ℕ → List ℕ → Type 0

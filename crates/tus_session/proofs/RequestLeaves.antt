@@ -1,14 +1,14 @@
 -- What a request leaves open behind its head: nothing, a text, or a patch.
-use Rattle.std.proofs.Common.{ℕ, ◌+◌, ◌<◌, ◌≤◌, ◌≡◌, ◌==◌, ◌⊎◌, inl, inr, Bool, true, false, List, [], ◌∷◌, ◌++◌, Option, Some, None, length, take, drop, refl, sym, ◌∙◌, ap, subst, arith, if◌then◌else◌, nat_lt}
+use Rattle.std.proofs.Common.{ℕ, ◌+◌, ◌≤◌, ◌≡◌, ◌==◌, Bool, true, false, List, [], ◌∷◌, Option, Some, None, length, drop, refl, ap, if◌then◌else◌, nat_lt}
 use Rattle.std.proofs.lemmas.Bool.{ltb-false, eqb-true}
-use Rattle.tus_request.specs.Requests.{Request, Verdict, Action, Options, Create, Head, Get, Asks, Creation}
+use Rattle.tus_request.specs.Requests.{Request, Action, Options, Create, Head, Get, Asks}
 use Rattle.tus_request.specs.Requests.{Patch as Patches}
-use Rattle.upload_rules.specs.Store.{New, Store, Upload, upload_of, find, text_of}
-use Rattle.upload_rules.specs.World.{Patch, World, free_number}
+use Rattle.upload_rules.specs.Store.{New, Upload, upload_of, find, text_of}
+use Rattle.upload_rules.specs.World.{World, free_number}
 use Rattle.upload_rules.specs.Calls.{create_refusal, begin_refusal, begin_refusal_at, begun_at, first_patch, refuse_if}
 use Rattle.upload_rules.specs.declared.errors.UploadRefusal.{UploadRefusal}
-use Rattle.upload_rules.specs.declared.errors.UploadRefusal.TheVariants.{NoSuch, Offset, TooLong}
-use Rattle.tus_action.specs.Acts.{Acted, Giving, acted, acted_on, post, new_of, head, get, giving, patch, pending_of, is_pending, piece_size}
+use Rattle.upload_rules.specs.declared.errors.UploadRefusal.TheVariants.{Offset, TooLong}
+use Rattle.tus_action.specs.Acts.{Acted, Giving, acted, acted_on, post, new_of, head, get, giving, patch, piece_size}
 use Rattle.tus_session.specs.Moves.{Moves}
 use Rattle.tus_session.proofs.Moved.{create_moves, free_none}
 use Rattle.tus_session.proofs.Opening.{still}

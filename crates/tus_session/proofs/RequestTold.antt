@@ -1,10 +1,10 @@
 -- From what a request does at its head, to the turn's answer.
-use Rattle.std.proofs.Common.{ℕ, ◌+◌, ◌-◌, ◌<◌, ◌≤◌, ◌≡◌, ◌⊎◌, inl, inr, Bool, true, false, List, [], ◌∷◌, ◌++◌, Option, Some, None, Result, Ok, Err, length, take, drop, min, refl, sym, ◌∙◌, ap, subst, arith, append-nil, append_assoc, if◌then◌else◌}
+use Rattle.std.proofs.Common.{ℕ, ◌+◌, ◌-◌, ◌≡◌, inl, inr, Bool, true, false, List, [], ◌++◌, Option, Some, None, length, take, drop, min, refl, sym, ◌∙◌, ap, subst, arith, if◌then◌else◌}
 use Rattle.std.proofs.lemmas.Bool.{cases_lt}
 use Rattle.std.proofs.lemmas.List.{length-drop, length-take-le}
-use Rattle.tus_request.specs.Requests.{Request, Verdict, Asks, body_length}
+use Rattle.tus_request.specs.Requests.{Request, Asks}
 use Rattle.upload_rules.specs.Store.{Store}
-use Rattle.upload_rules.specs.World.{Patch, World}
+use Rattle.upload_rules.specs.World.{World}
 use Rattle.upload_rules.specs.Answers.{Limits}
 use Rattle.upload_rules.specs.declared.uploads.Uploads.{Ghosts}
 use Rattle.tus_action.specs.Acts.{Acted, Giving, acted, is_pending}
@@ -14,12 +14,12 @@ use Rattle.tus_action.specs.declared.acts.Acted as code_acted
 use Rattle.enc_model.specs.Indexes.{offers}
 use Rattle.tus_request.proofs.Fronts.{steady}
 use Rattle.tus_request.specs.Answers.{Judged}
-use Rattle.tus_session.specs.Streams.{Asked, Moments, Rest, InHead, InBody, cut}
+use Rattle.tus_session.specs.Streams.{Moments, Rest, InHead, InBody, cut}
 use Rattle.tus_session.specs.Stands.{RestIs, LinkIs}
 use Rattle.tus_session.specs.Turns.{Conn, Turn, reader, turn_of, came_with, body_step, came_turn}
 use Rattle.tus_session.specs.Heads.{IsWhole}
 use Rattle.tus_session.specs.Moves.{Moves}
-use Rattle.tus_session.specs.Turned.{TurnedAs, Turned}
+use Rattle.tus_session.specs.Turned.{TurnedAs}
 use Rattle.tus_session.specs.Bodies.{took}
 use Rattle.tus_session.specs.declared.answers.Answer as code
 use Rattle.tus_session.specs.declared.conns.Link.{Link}
@@ -32,7 +32,7 @@ use Rattle.tus_session.proofs.NewRests.{head_part_rest, head_whole_rest}
 use Rattle.tus_session.proofs.BodyTold.{rest_same}
 use Rattle.tus_session.proofs.Opening.{still}
 use Rattle.tus_session.proofs.Limiting.{still_limits}
-use Rattle.tus_session.proofs.RequestLeaves.{Opened, Leaves, Nothing, Text, Patching, leaves}
+use Rattle.tus_session.proofs.RequestLeaves.{Leaves, Nothing, Text, Patching, leaves}
 use Rattle.tus_session.proofs.Tasks.{limits_to}
 use Rattle.tus_session.proofs.Unfinished.{judged_as}
 

@@ -1,28 +1,27 @@
 -- What a connection's task tells of its draft and its text.
-use Rattle.std.proofs.Common.{◌≡◌, ◌⊎◌, inl, inr, ℕ, ◌+◌, ◌-◌, ◌<◌, ◌≤◌, List, [], ◌∷◌, ◌++◌, length, Option, Some, None, refl, sym, ◌∙◌, ap, subst, arith}
+use Rattle.std.proofs.Common.{◌≡◌, ◌⊎◌, inl, inr, ℕ, ◌<◌, List, length, Option, Some, None, refl, sym, ◌∙◌, ap, subst, arith}
 use Rattle.enc_model.specs.Indexes.{offers}
-use Rattle.tus_request.specs.Requests.{Request, Asks, body_length}
+use Rattle.tus_request.specs.Requests.{Request, body_length}
 use Rattle.tus_request.proofs.Fronts.{steady}
 use Rattle.upload_rules.specs.Store.{Store, Upload, find}
 use Rattle.upload_rules.specs.World.{Patch, World}
 use Rattle.upload_rules.specs.declared.errors.UploadRefusal.{UploadRefusal}
 use Rattle.upload_rules.specs.declared.uploads.Uploads.{Ghosts}
-use Rattle.upload_rules.specs.Answers.{Among, Limits, Quiet}
+use Rattle.upload_rules.specs.Answers.{Limits}
 use Rattle.upload_rules.specs.Calls.{dropped, committed_store, spent, commit_refusal, commit_outcome, outcome}
 use Rattle.tus_action.specs.Acts.{Giving}
 use Rattle.tus_action.specs.Serves.{GivesAs}
 use Rattle.tus_action.specs.declared.acts.Giving as given
 use Rattle.tus_session.specs.Streams.{Asked, Rest, InHead, InBody, cut}
 use Rattle.tus_session.specs.Turns.{Conn, reader, left_world, ended_on, ended_with, ended_world}
-use Rattle.tus_session.specs.Stands.{PatchesAs, PatchIs, TaskIs, LinkIs}
-use Rattle.tus_session.specs.Moves.{Moves}
+use Rattle.tus_session.specs.Stands.{PatchesAs, TaskIs}
 use Rattle.tus_session.specs.Turned.{EndedAs}
 use Rattle.tus_session.specs.declared.conns.Patching.{Patching}
 use Rattle.tus_session.specs.declared.conns.Task.{Task}
 use Rattle.tus_session.specs.declared.conns.Task.TheVariants as tasks
 use Rattle.tus_session.proofs.Unfinished.{left_body}
 use Rattle.tus_session.proofs.Opening.{still}
-use Rattle.tus_session.proofs.Moved.{spend_moves, left_moves}
+use Rattle.tus_session.proofs.Moved.{spend_moves}
 
 -- an open patch, with its request and its body
 pub record IsPatching {U B : Type 0} (u : Ghosts U B) (w : World) (rest : Rest) (b : Patching B) (draft : Option ℕ) (pending : Option Giving) : Type 0 where

@@ -1,22 +1,21 @@
 -- From a turn to the session's answer.
-use Rattle.std.proofs.Common.{◌≡◌, ◌⊎◌, inl, inr, ℕ, ◌+◌, ◌-◌, ◌<◌, ◌≤◌, Bool, true, false, List, [], ◌∷◌, ◌++◌, length, get_or, slice_set, Option, Some, None, Result, Ok, Err, refl, sym, ◌∙◌, ap, subst, arith}
-use Rattle.upload_rules.specs.World.{Patch, World}
+use Rattle.std.proofs.Common.{◌≡◌, ℕ, List, Option, Some, None, Result, Ok, Err, refl, sym, ◌∙◌, ap, subst}
+use Rattle.upload_rules.specs.World.{World}
 use Rattle.upload_rules.specs.declared.uploads.Uploads.{Ghosts}
 use Rattle.tus_session.specs.Turns.{Conn, Turn, left_world, more_turn, came_turn, ended_world}
-use Rattle.tus_session.specs.History.{State, Step, Event, Opened, Came, More, Ended, Served, OutOfMemory, Outcome, Gave, Done, Refused, step, kept, put, turned, conn_in, lost_at, came_at, more_at, ended_at, is_closed, has_text}
+use Rattle.tus_session.specs.History.{State, Step, Event, Came, More, Ended, Served, OutOfMemory, Gave, Done, Refused, step, put, turned, conn_in, lost_at, came_at, more_at, ended_at, is_closed, has_text}
 use Rattle.tus_session.specs.Stands.{PlaceIs, draft_at, SessionStands}
 use Rattle.tus_session.specs.Moves.{Moves}
-use Rattle.tus_session.specs.Turned.{TurnedAs, Turned, EndedAs}
+use Rattle.tus_session.specs.Turned.{Turned}
 use Rattle.tus_session.specs.Turned.{Ended as EndedBy}
 use Rattle.tus_session.specs.Told.{IsOpen, Follows, Told, Ends}
 use Rattle.tus_session.specs.declared.answers.Answer.{Answer}
-use Rattle.tus_session.specs.declared.conns.Link.{Link}
 use Rattle.tus_session.specs.declared.conns.Place.{Place}
-use Rattle.tus_session.specs.declared.conns.Place.TheVariants.{Closed, Open}
+use Rattle.tus_session.specs.declared.conns.Place.TheVariants.{Closed}
 use Rattle.tus_session.specs.declared.errors.SessionError.{SessionError}
 use Rattle.tus_session.specs.declared.errors.SessionError.TheVariants as errors
 use Rattle.tus_session.proofs.Moved.{left_moves}
-use Rattle.tus_session.proofs.InPlace.{IsPut, in_place, is_set, is_set_twice, beyond, closed_at, open_at}
+use Rattle.tus_session.proofs.InPlace.{IsPut, in_place}
 
 -- the event's turn on an open connection
 pub record IsTurn (st : State) (e : Event) (conn : Conn) (t : Turn) : Type 0 where

@@ -1,9 +1,9 @@
 -- What a request that passed its checks asks for.
-use Rattle.std.proofs.Common.{◌≡◌, ◌<◌, ◌^◌, ℕ, List}
+use Rattle.std.proofs.Common.{◌≡◌, ℕ, List}
 use Rattle.enc_model.specs.Indexes.{IndexSet, offers}
 use Rattle.tus_request.specs.Answers.{Judged, answer_of}
 use Rattle.tus_request.specs.Requests.{Request, Action, Options, Create, Head, Get, Patch, Asks}
-use Rattle.tus_request.specs.Sound.{IsSoundAction, IsSoundRequest}
+use Rattle.tus_request.specs.Sound.{IsSoundAction}
 use Rattle.tus_request.proofs.SoundRequests.{request_sound}
 use Rattle.upload_rules.specs.World.{World}
 use Rattle.tus_action.specs.Serves.{CanBeMade, CanBeRead}

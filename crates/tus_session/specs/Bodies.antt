@@ -1,8 +1,8 @@
 -- What becomes of a patch whose body goes on, or ends.
-use Rattle.std.specs.Prelude.{◌≡◌, ◌++◌, ◌-◌, ◌+◌, ℕ, Bool, false, List, length, Result, Ok, Err, Some, if◌then◌else◌}
+use Rattle.std.specs.Prelude.{◌≡◌, ◌++◌, ℕ, Bool, false, List, Result, Ok, Err, Some, if◌then◌else◌}
 use Rattle.upload_rules.specs.Store.{find}
 use Rattle.upload_rules.specs.World.{World, Patch}
-use Rattle.upload_rules.specs.Calls.{dropped, commit_refusal}
+use Rattle.upload_rules.specs.Calls.{commit_refusal}
 use Rattle.upload_rules.specs.declared.uploads.Uploads.{Ghosts}
 use Rattle.tus_request.specs.Requests.{Request}
 use Rattle.tus_action.specs.Acts.{Acted, fed, fed_patch, committed_as}

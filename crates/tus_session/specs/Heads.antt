@@ -1,8 +1,8 @@
 -- A head that is whole.
-use Rattle.std.specs.Prelude.{◌≡◌, ◌-◌, ◌+◌, ◌<◌, ◌^◌, ℕ, List, ◌++◌, length, Option, None}
+use Rattle.std.specs.Prelude.{◌≡◌, ◌-◌, ◌+◌, ◌<◌, ◌^◌, ℕ, List, ◌++◌, length, None}
 use Rattle.upload_rules.specs.World.{World}
 use Rattle.tus_request.specs.Requests.{Request, Action, Options, Create, Head, Get, Patch, Verdict}
-use Rattle.tus_request.specs.Answers.{Answer, More, Judged}
+use Rattle.tus_request.specs.Answers.{Judged}
 use Rattle.tus_session.specs.Streams.{InHead, cut}
 use Rattle.tus_session.specs.Turns.{Conn, reader}
 

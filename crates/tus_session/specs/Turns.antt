@@ -5,7 +5,7 @@ use Rattle.enc_model.specs.Indexes.{offers}
 use Rattle.upload_rules.specs.Store.{find}
 use Rattle.upload_rules.specs.World.{Patch, World}
 use Rattle.upload_rules.specs.Calls.{commit_refusal, spent, dropped}
-use Rattle.tus_action.specs.Acts.{Giving, Acted, replied, acted, is_pending, pending_of, piece_size, fed, commit_with}
+use Rattle.tus_action.specs.Acts.{Giving, Acted, acted, is_pending, pending_of, piece_size, fed, commit_with}
 use Rattle.tus_session.specs.Streams.{Asked, Reader, Moments, moments, taken}
 
 -- an open connection: its stream, its open patch's draft number, and its pending text

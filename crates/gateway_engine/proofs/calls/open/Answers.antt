@@ -9,4 +9,4 @@ returns-in-Ok g c = λ r front at.
 pub returns-in-Err : goal.returns-in-Err
 returns-in-Err g c = λ r front at.
     refused_went (g.C.Connections.stands c.args.core.now) (g.C.Connections.stands c.opened.new.self) (g.W.Write.contents c.args.writer.now) (g.W.Write.contents c.refused.new.writer)
-      front r c.args.conn (Opened c.args.conn) c.in-Err.error c.refused.result at (c.in-Err.ensures r.state at.keeps) c.refused.ensures
+    front r c.args.conn (Opened c.args.conn) c.in-Err.error c.refused.result at (c.in-Err.ensures r.state at.keeps) c.refused.ensures

@@ -6,4 +6,4 @@ pub loop-rest-preserved : goal.loop-rest-preserved
 loop-rest-preserved g c =
     let i = c.loop-rest.invariant in
     wrote_more (g.W.Write.contents c.args.writer.now) (g.W.Write.contents c.loop-rest.writer) (g.W.Write.contents c.write.new.self) c.args.bytes.now i.0 c.loop-rest.rest.now _ c.in-Ok.count
-      i.1 i.2 c.in-Ok.ensures.bytes (take_rest c.loop-rest.rest.now c.in-Ok.count)
+    i.1 i.2 c.in-Ok.ensures.bytes (take_rest c.loop-rest.rest.now c.in-Ok.count)

@@ -1,8 +1,6 @@
-use Rattle.std.proofs.Common.{◌≡◌, true, false, ◌<◌, ◌≤◌, ◌+◌, Some, None, inl, inr, length, take, refl, sym, ◌∙◌, ap, subst, arith}
+use Rattle.std.proofs.Common.{◌≡◌, true, false, ◌<◌, inl, inr, length, sym, ◌∙◌, ap, subst, arith}
 use Rattle.std.proofs.lemmas.Bool.{cases_lt}
 use Rattle.upload_rules.specs.Store.{find}
-use Rattle.tus_session.specs.Streams.{cut, InBody}
-use Rattle.tus_session.specs.Turns.{reader, came_turn}
 use Rattle.tus_session.specs.Stands.{LinkIs}
 use Rattle.tus_session.specs.Turned.{TurnedAs}
 use Rattle.tus_session.specs.declared.conns.Task.TheVariants.{Text}
@@ -10,8 +8,8 @@ use Rattle.tus_session.specs.declared.conns.Place.TheVariants.{Open}
 use Rattle.tus_action.specs.Acts.{is_pending}
 use Rattle.tus_session.proofs.Limiting.{still_limits}
 use Rattle.tus_session.proofs.Mores.{stays, turned_ok}
-use Rattle.tus_session.proofs.Tasks.{patching, giving, idling, limits_to, limits_same}
-use Rattle.tus_session.proofs.BodyTold.{plain, conn_is, patch_told, left_wanted, rest_store, skip_told, text_turn_is, inside_at}
+use Rattle.tus_session.proofs.Tasks.{patching, giving, idling, limits_to}
+use Rattle.tus_session.proofs.BodyTold.{patch_told, left_wanted, rest_store, skip_told, text_turn_is, inside_at}
 use Rattle.tus_session.proofs.heads.came_of.Goals as goal
 
 pub returns-in-Text-clause-answer : goal.returns-in-Text-clause-answer

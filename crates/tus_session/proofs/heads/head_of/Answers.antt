@@ -1,9 +1,5 @@
-use Rattle.std.proofs.Common.{◌≡◌, ◌<◌, ◌≤◌, ◌+◌, ◌-◌, ◌++◌, ℕ, Some, None, inl, inr, length, take, refl, sym, ◌∙◌, ap, subst, arith}
-use Rattle.enc_model.specs.Indexes.{offers}
-use Rattle.tus_request.proofs.Fronts.{steady}
-use Rattle.tus_request.specs.Answers.{answer_of}
+use Rattle.std.proofs.Common.{◌++◌, None, refl, ◌∙◌, arith}
 use Rattle.tus_request.specs.Requests.{Refusal, Refuses}
-use Rattle.tus_session.specs.Turns.{reader, came_turn}
 use Rattle.tus_session.specs.declared.conns.Task.TheVariants.{Idle}
 use Rattle.tus_session.proofs.Verdicts.{small, makeable, usable}
 use Rattle.tus_session.proofs.HeadTold.{more_told, no_patch_len, slice_rest, judged_by, within_bytes, in_world}

@@ -6,4 +6,4 @@ use Rattle.gateway_engine.proofs.gateway.GatewayConnections.opened.Goals as goal
 pub returns : goal.returns
 returns g c = λ st stands.
     opens_does g.U.Uploads (places_of c.opened.new.self) c.args.self.now.store st (Opened c.args.conn) c.opened.result
-      (opened_refused st c.args.conn) (c.opened.ensures _ st stands)
+    (opened_refused st c.args.conn) (c.opened.ensures _ st stands)

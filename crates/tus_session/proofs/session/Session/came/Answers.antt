@@ -1,8 +1,8 @@
-use Rattle.std.proofs.Common.{◌≡◌, ◌<◌, length, arith, refl, sym, ◌∙◌, ap}
+use Rattle.std.proofs.Common.{◌<◌, length, arith, refl, sym, ◌∙◌, ap}
 use Rattle.tus_session.specs.Turns.{came_turn}
 use Rattle.tus_session.specs.History.{Came}
 use Rattle.tus_session.proofs.InPlace.{beyond, closed_at, closed_again, open_at, is_set_twice}
-use Rattle.tus_session.proofs.Tasks.{limits_to, limits_same}
+use Rattle.tus_session.proofs.Tasks.{limits_to}
 use Rattle.tus_session.proofs.Tolds.{came_is, none_came, told}
 use Rattle.tus_session.proofs.session.Session.came.Goals as goal
 
