@@ -4,6 +4,7 @@
 mod command_line;
 
 use clap::Error;
+use clap::error::ErrorKind;
 use command_line::command;
 use enc_index::IndexSet;
 use gateway_engine::{RunFault, run_over};
@@ -22,7 +23,15 @@ const FAULT: u8 = 3;
 fn main(rt: HostRuntime) -> ExitCode {
     match run(&rt) {
         Ok(code) => code,
-        Err(_) => ExitCode::from(REFUSED),
+        Err(error) => refused(&rt, fault_of(&error)),
+    }
+}
+
+// A fault of input, output or memory as that of a run.
+fn fault_of(error: &io::Error) -> RunFault {
+    match error.kind() {
+        io::ErrorKind::OutOfMemory => RunFault::NoMemory,
+        _ => RunFault::Io,
     }
 }
 
@@ -39,8 +48,11 @@ fn run(rt: &HostRuntime) -> io::Result<ExitCode> {
     }
 }
 
-// Prints help, or what is wrong with the command line.
+// Prints help, or what is wrong with the command line. Want of memory is no fault of the command line.
 fn told(rt: &HostRuntime, error: Error) -> io::Result<ExitCode> {
+    if error.kind() == ErrorKind::OutOfMemory {
+        return Ok(refused(rt, RunFault::NoMemory));
+    }
     error.print(rt)?;
     Ok(if error.use_stderr() {
         ExitCode::from(USAGE)
@@ -56,20 +68,18 @@ fn script(rt: &HostRuntime, alloc: Global) -> io::Result<ExitCode> {
     let mut writer = io::writer(rt);
     match run_over(alloc, &mut reader, &mut writer, Table::new(alloc, indexes)) {
         Ok(_uploads) => Ok(ExitCode::SUCCESS),
-        Err((_uploads, fault)) => refused(rt, fault),
+        Err((_uploads, fault)) => Ok(refused(rt, fault)),
     }
 }
 
-// Tells why a run was refused.
-fn refused(rt: &HostRuntime, fault: RunFault) -> io::Result<ExitCode> {
-    match fault {
-        RunFault::NoMemory => eprintln!(rt; "refused: 0 NoMemory")?,
-        RunFault::Script(line) => eprintln!(rt; "refused: 32 Script {line}")?,
-        RunFault::Io => eprintln!(rt; "refused: 33 Io")?,
-        RunFault::DiskFault => {
-            eprintln!(rt; "device fault")?;
-            return Ok(ExitCode::from(FAULT));
-        }
-    }
-    Ok(ExitCode::from(REFUSED))
+// Tells why a run was refused. Where standard error takes nothing, the status alone says it.
+fn refused(rt: &HostRuntime, fault: RunFault) -> ExitCode {
+    let (told, status) = match fault {
+        RunFault::NoMemory => (eprintln!(rt; "refused: 0 NoMemory"), REFUSED),
+        RunFault::Script(line) => (eprintln!(rt; "refused: 32 Script {line}"), REFUSED),
+        RunFault::Io => (eprintln!(rt; "refused: 33 Io"), REFUSED),
+        RunFault::DiskFault => (eprintln!(rt; "device fault"), FAULT),
+    };
+    drop(told);
+    ExitCode::from(status)
 }

@@ -9,6 +9,8 @@ mod lines;
 mod orders;
 mod runs;
 mod scripts;
+#[cfg(test)]
+mod tests;
 mod writing;
 
 pub use connections::Connections;
