@@ -4,4 +4,5 @@ pub mod Fed
 pub mod Given
 pub mod Grows
 pub mod Refusals
+pub mod Rows
 pub mod Singles
