@@ -1,10 +1,10 @@
 //! The numbers of encodings, modes and states in the state bytes.
 
-ghost use Rattle.std.specs.Prelude.{◌≡◌, Some, None};
+ghost use Rattle.std.specs.Prelude.{◌≡◌, Some, MatchOption};
 ghost use Rattle.enc_model.specs.declared.Encoding.{Encoding as Encodings};
 ghost use Rattle.enc_model.specs.declared.Mode.{Mode as Modes};
 ghost use Rattle.enc_model.specs.declared.Charset.{Charset as Charsets};
-ghost use Rattle.enc_encode.specs.declared.shift.ShiftState.{ShiftState as Shifts};
+ghost use Rattle.enc_model.specs.Encode.{Shift};
 ghost use Rattle.enc_encode.specs.State.{shift_of};
 ghost use Rattle.enc_stream.specs.StateBytes.{encoding_number, mode_number, shift_number, charset_number};
 
@@ -75,7 +75,7 @@ pub fn number_of_shift(shift: ShiftState) -> u8
 
 /// The encoder's state of a number.
 pub fn shift_at(number: u8) -> Option<ShiftState>
-    ensures { (s : Shifts) → shift_number (shift_of s) ≡ number → result ≡ Some s }
+    ensures { (s : Shift) → shift_number s ≡ number → MatchOption result ⊥ (λ state. shift_of state ≡ s) }
 {
     match number {
         0 => Some(ShiftState::Ascii),
