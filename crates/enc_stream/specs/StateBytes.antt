@@ -175,10 +175,14 @@ pub record IsFitting (s : Transcoder) : Type 0 where
   pub phase : IsPhaseOf s.from s.phase
   pub shift : IsShiftIn s.phase s.to s.shift
 
+abbrev pub IsByte : Option ℕ → Type 0
+IsByte None = Unit {0}
+IsByte (Some b) = b < 256
+
 -- a decoder's state is one that it can be in
 abbrev pub IsReached : Decoding → Type 0
 IsReached (OfUtf8 s) = IsBehind s × (length s.kept ≤ 3)
-IsReached (OfUtf16 big s) = IsKept s.lead
+IsReached (OfUtf16 big s) = IsByte s.byte × IsKept s.lead
 IsReached (OfShiftJis lead) = IsShiftJisState lead
 IsReached (OfEucJp s) = IsEucJpState s.lead s.flag
 IsReached (OfIso2022 s) = IsStand s.place s.output s.flag

@@ -129,40 +129,18 @@ impl Transcoder {
         ensures sound { IsSound self.now.transcoder }
     {
         let [first, second, third, fourth, fifth] = self.stage.pack();
-        [
-            number_of_encoding(self.from),
-            number_of_encoding(self.encoder.to()),
-            number_of_mode(self.encoder.mode()),
-            self.stage.phase(),
-            first,
-            second,
-            third,
-            fourth,
-            fifth,
-            0,
-            0,
-            0,
-            0,
-            0,
-            0,
-            0,
-            number_of_shift(self.encoder.shift()),
-            0,
-            0,
-            0,
-            0,
-            0,
-            0,
-            0,
-            0,
-            0,
-            0,
-            0,
-            0,
-            0,
-            0,
-            0,
-        ]
+        let mut bytes = [0; 32];
+        bytes[0] = number_of_encoding(self.from);
+        bytes[1] = number_of_encoding(self.encoder.to());
+        bytes[2] = number_of_mode(self.encoder.mode());
+        bytes[3] = self.stage.phase();
+        bytes[4] = first;
+        bytes[5] = second;
+        bytes[6] = third;
+        bytes[7] = fourth;
+        bytes[8] = fifth;
+        bytes[16] = number_of_shift(self.encoder.shift());
+        bytes
     }
 
     /// The transcoder whose state bytes these may be, where they are any's.
