@@ -1,14 +1,13 @@
 -- A transcoder's parts go on fitting one another.
-use Rattle.std.proofs.Common.{ℕ, ◌≡◌, ◌⊎◌, Bool, true, false, List, [], ◌++◌, refl, sym, ◌∙◌, ap, subst, drop, inl, inr, rules, if◌then◌else◌}
+use Rattle.std.proofs.Common.{ℕ, ◌≡◌, Bool, true, false, List, ◌++◌, refl, sym, ◌∙◌, subst, drop, inl, inr, rules, if◌then◌else◌}
 use Rattle.enc_model.specs.declared.Encoding.{Encoding}
-use Rattle.enc_model.specs.declared.Encoding.TheVariants.{Utf8, Utf16Be, Utf16Le, ShiftJis, EucJp, Iso2022Jp, Ibm866, Iso8859X2, Iso8859X5, Iso8859X15, Koi8R, Macintosh, Windows1250, Windows1251, Windows1252, Windows1253, Windows1254, Windows1255, Windows1256, Windows1257, Windows1258}
+use Rattle.enc_model.specs.declared.Encoding.TheVariants.{Utf8, Utf16Be, Utf16Le}
 use Rattle.enc_model.specs.declared.Mode.{Mode}
 use Rattle.enc_model.specs.Encode.{Tables, Shift, InAscii, coded, encoder}
 use Rattle.enc_model.specs.Decode.{Decoding, OfUtf8, OfUtf16, OfShiftJis, OfEucJp, OfIso2022, OfSingle, decoding, decoding_start, sniffed, undecided, begins, bom8, bom_be, bom_le}
-use Rattle.enc_model.specs.Transcode.{Transcoder, Phase, Before, During, Over, Fed, fed, added, stepped}
-use Rattle.enc_stream.specs.Standing.{IsOutput, start}
+use Rattle.enc_model.specs.Transcode.{Transcoder, Phase, Before, During, Over, Fed, fed, stepped}
 use Rattle.enc_stream.specs.StateBytes.{IsFitting, IsInEffect, IsOwn, IsPhaseOf, IsShiftIn, encoding_of}
-use Rattle.enc_stream.proofs.Fed.{fed_held, fed_sniffed, fed_during}
+use Rattle.enc_stream.proofs.Fed.{fed_held, fed_sniffed}
 use Rattle.enc_stream.proofs.Shifts.{coded_nothing, coded_in_ascii}
 
 -- THE DECODER

@@ -1,10 +1,9 @@
 -- The state bytes of worked examples, by computation.
-use Rattle.std.proofs.Common.{ℕ, ◌≡◌, false, List, [], ◌∷◌, ◌++◌, refl, replicate}
+use Rattle.std.proofs.Common.{ℕ, ◌≡◌, false, List, [], ◌∷◌, refl, replicate}
 use Rattle.enc_model.specs.declared.Encoding.{Encoding}
 use Rattle.enc_model.specs.declared.Encoding.TheVariants.{Utf8, ShiftJis, Iso2022Jp}
 use Rattle.enc_model.specs.declared.Mode.TheVariants.{Html}
 use Rattle.enc_model.specs.Stream.{steps, steps_within}
-use Rattle.enc_model.specs.Index.{code}
 use Rattle.enc_model.specs.Utf8.{utf8}
 use Rattle.enc_model.specs.Japanese.{shift_jis, iso2022}
 use Rattle.enc_model.specs.Encode.{Tables, InAscii}

@@ -1,12 +1,12 @@
 -- Only the encoder of ISO-2022-JP leaves its first state.
-use Rattle.std.proofs.Common.{ℕ, zero, suc, ◌+◌, ◌*◌, ◌≡◌, ◌⊎◌, List, [], ◌∷◌, ◌++◌, Option, Some, None, refl, ◌∙◌, ap, length, arith, inl, inr}
+use Rattle.std.proofs.Common.{ℕ, zero, suc, ◌*◌, ◌≡◌, ◌⊎◌, List, [], ◌∷◌, ◌++◌, refl, ◌∙◌, length, arith, inl, inr}
 use Rattle.std.proofs.lemmas.Bool.Decides.{nat_tests}
 use Rattle.enc_model.specs.declared.Encoding.{Encoding}
 use Rattle.enc_model.specs.declared.Encoding.TheVariants.{Utf8, Utf16Be, Utf16Le, ShiftJis, EucJp, Iso2022Jp}
 use Rattle.enc_model.specs.declared.Mode.{Mode}
 use Rattle.enc_model.specs.declared.Mode.TheVariants.{Html, Fatal}
 use Rattle.enc_model.specs.Index.{Index}
-use Rattle.enc_model.specs.Encode.{Tables, Shift, InAscii, Encoder, Written, Wrote, Again, Lacks, Coded, coded, coded_within, went, reference, encoder, utf8_encoder, shift_jis_encoder, euc_jp_encoder, single_encoder}
+use Rattle.enc_model.specs.Encode.{Tables, Shift, InAscii, Encoder, Written, Wrote, Again, Lacks, Coded, coded, coded_within, went, reference, encoder, shift_jis_encoder, euc_jp_encoder, single_encoder}
 
 abbrev shift_behind : Written → Shift
 shift_behind (Wrote bytes s) = s

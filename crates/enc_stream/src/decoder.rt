@@ -8,8 +8,8 @@ ghost use Rattle.enc_stream.specs.AnyDecoder.{decoding_of};
 ghost use Rattle.enc_stream.specs.StateBytes.{IsOwn, IsReached, encoding_of, decoder_bytes, padded};
 
 use crate::states::{
-    euc_jp_at, euc_jp_bytes, iso2022_at, iso2022_bytes, shift_jis_at, utf8_at, utf8_bytes, utf16_at,
-    utf16_bytes,
+    euc_jp_at, euc_jp_bytes, iso2022_at, iso2022_bytes, shift_jis_at, utf8_at, utf8_bytes,
+    utf16_at, utf16_bytes,
 };
 use enc_index::IndexSet;
 use enc_legacy::{EucJpState, Iso2022State, ShiftJisState, SingleState};

@@ -148,7 +148,18 @@ impl Transcoder {
         ensures ready { IfSome result (λ t. t.spent ≡ false) }
         ensures same { (s : State) → IsSound s → state_bytes s ≡ bytes.now → result ≡ Some (standing s) }
     {
-        let [from, to, mode, phase, first, second, third, fourth, fifth, ..] = *bytes;
+        let [
+            from,
+            to,
+            mode,
+            phase,
+            first,
+            second,
+            third,
+            fourth,
+            fifth,
+            ..
+        ] = *bytes;
         let from = encoding_at(from)?;
         let encoder = encoder_at(to, mode, bytes[16])?;
         let stage = Stage::unpack(from, phase, [first, second, third, fourth, fifth])?;

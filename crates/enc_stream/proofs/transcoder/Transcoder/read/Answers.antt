@@ -35,10 +35,10 @@ returns-then-not-is_encoder_in-clause-same c s sound is =
     let k = c.in_ok-encoder.ensures.same e sound.fitting.output (to_there s b is) (mode_there s b is) (shift_there s b is) in
     let encoder : c.in_ok-encoder.encoder ≡ e = cc in
     let phase : phase_at c.in_ok-stage.stage ≡ s.phase =
-      c.in_ok-stage.ensures.same s.phase (subst (λ (z : Encoding). IsPhaseOf z s.phase) (sym from) sound.fitting.phase) sound.reached (phase_there s b is) (kept_there s b is) in
+    c.in_ok-stage.ensures.same s.phase (subst (λ (z : Encoding). IsPhaseOf z s.phase) (sym from) sound.fitting.phase) sound.reached (phase_there s b is) (kept_there s b is) in
     let shift : IsShiftIn (phase_at c.in_ok-stage.stage) c.in_ok-encoder.encoder.to c.in_ok-encoder.encoder.shift =
-      subst (λ (z : Phase). IsShiftIn z c.in_ok-encoder.encoder.to c.in_ok-encoder.encoder.shift) (sym phase)
-      (subst (λ (z : EncoderState). IsShiftIn s.phase z.to z.shift) (sym encoder) sound.fitting.shift) in
+    subst (λ (z : Phase). IsShiftIn z c.in_ok-encoder.encoder.to c.in_ok-encoder.encoder.shift) (sym phase)
+    (subst (λ (z : EncoderState). IsShiftIn s.phase z.to z.shift) (sym encoder) sound.fitting.shift) in
     let told = c.is_encoder_in.ensures.1 shift in
     absurd (search rules)
 
@@ -51,5 +51,5 @@ returns-clause-same c s sound is =
     let k = c.in_ok-encoder.ensures.same e sound.fitting.output (to_there s b is) (mode_there s b is) (shift_there s b is) in
     let encoder : c.in_ok-encoder.encoder ≡ e = cc in
     let phase : phase_at c.in_ok-stage.stage ≡ s.phase =
-      c.in_ok-stage.ensures.same s.phase (subst (λ (z : Encoding). IsPhaseOf z s.phase) (sym from) sound.fitting.phase) sound.reached (phase_there s b is) (kept_there s b is) in
+    c.in_ok-stage.ensures.same s.phase (subst (λ (z : Encoding). IsPhaseOf z s.phase) (sym from) sound.fitting.phase) sound.reached (phase_there s b is) (kept_there s b is) in
     ap Some (sym (stands s c.in_ok-from.from c.in_ok-encoder.encoder (phase_at c.in_ok-stage.stage) (is_spent_at c.in_ok-stage.stage) from encoder phase c.in_ok-stage.ensures.fits.1))
