@@ -1,7 +1,11 @@
 pub mod Begins
+pub mod Bytes
 pub mod Ends
 pub mod Fed
+pub mod Fitting
 pub mod Given
 pub mod Grows
 pub mod Refusals
+pub mod Rows
+pub mod Shifts
 pub mod Singles

@@ -3,3 +3,4 @@ pub mod Errors
 pub mod Sniff
 pub mod Stage
 pub mod Standing
+pub mod StateBytes

@@ -1,11 +1,16 @@
 //! The decoder of whichever encoding is in effect.
 
-ghost use Rattle.std.specs.Prelude.{◌≡◌, OnOk, true, false, []};
-ghost use Rattle.enc_model.specs.Decode.{decoding, decoding_start};
+ghost use Rattle.std.specs.Prelude.{◌≡◌, OnOk, IfSome, MatchOption, true, false, []};
+ghost use Rattle.enc_model.specs.Decode.{Decoding, decoding, decoding_start};
 ghost use Rattle.enc_model.specs.Indexes.{tables};
 ghost use Rattle.enc_model.specs.Sink.{Given};
 ghost use Rattle.enc_stream.specs.AnyDecoder.{decoding_of};
+ghost use Rattle.enc_stream.specs.StateBytes.{IsOwn, IsReached, encoding_of, decoder_bytes, padded};
 
+use crate::states::{
+    euc_jp_at, euc_jp_bytes, iso2022_at, iso2022_bytes, shift_jis_at, utf8_at, utf8_bytes,
+    utf16_at, utf16_bytes,
+};
 use enc_index::IndexSet;
 use enc_legacy::{EucJpState, Iso2022State, ShiftJisState, SingleState};
 use enc_model::{Encoding, Sink};
@@ -86,5 +91,53 @@ impl AnyDecoder {
             AnyDecoder::Iso2022(state) => state.finish(set, sink),
             AnyDecoder::Single(state) => state.finish(set, sink),
         }
+    }
+
+    /// The encoding that it reads.
+    pub fn encoding(&self) -> Encoding
+        ensures { result ≡ encoding_of (decoding_of self.now) }
+    {
+        match self {
+            AnyDecoder::Utf8(_) => Encoding::Utf8,
+            AnyDecoder::Utf16(state) => match state.order() {
+                Order::Big => Encoding::Utf16Be,
+                Order::Little => Encoding::Utf16Le,
+            },
+            AnyDecoder::ShiftJis(_) => Encoding::ShiftJis,
+            AnyDecoder::EucJp(_) => Encoding::EucJp,
+            AnyDecoder::Iso2022(_) => Encoding::Iso2022Jp,
+            AnyDecoder::Single(state) => state.encoding(),
+        }
+    }
+
+    /// Its state as bytes, without the encoding.
+    pub fn pack(&self) -> [u8; 4]
+        ensures bytes { result ≡ padded 4 (decoder_bytes (decoding_of self.now)) }
+        ensures reached { IsReached (decoding_of self.now) }
+    {
+        match self {
+            AnyDecoder::Utf8(state) => utf8_bytes(state),
+            AnyDecoder::Utf16(state) => utf16_bytes(state),
+            AnyDecoder::ShiftJis(state) => [state.lead(), 0, 0, 0],
+            AnyDecoder::EucJp(state) => euc_jp_bytes(state),
+            AnyDecoder::Iso2022(state) => iso2022_bytes(state),
+            AnyDecoder::Single(_) => [0; 4],
+        }
+    }
+
+    /// The decoder that has this state. Bytes that no decoder packs may be read as some other state's.
+    pub fn unpack(encoding: Encoding, bytes: [u8; 4]) -> Option<Self>
+        ensures encoding { IfSome result (λ d. IsOwn (decoding_of d) × (encoding_of (decoding_of d) ≡ encoding)) }
+        ensures same { (s : Decoding) → IsOwn s → IsReached s → encoding_of s ≡ encoding → padded 4 (decoder_bytes s) ≡ bytes → MatchOption result ⊥ (λ d. decoding_of d ≡ s) }
+    {
+        Some(match encoding {
+            Encoding::Utf8 => AnyDecoder::Utf8(utf8_at(bytes)?),
+            Encoding::Utf16Be => AnyDecoder::Utf16(utf16_at(Order::Big, bytes)?),
+            Encoding::Utf16Le => AnyDecoder::Utf16(utf16_at(Order::Little, bytes)?),
+            Encoding::ShiftJis => AnyDecoder::ShiftJis(shift_jis_at(bytes[0])?),
+            Encoding::EucJp => AnyDecoder::EucJp(euc_jp_at(bytes[0], bytes[1])?),
+            Encoding::Iso2022Jp => AnyDecoder::Iso2022(iso2022_at(bytes)?),
+            single => AnyDecoder::Single(SingleState::new(single)),
+        })
     }
 }

@@ -3,8 +3,10 @@
 
 mod decoder;
 mod error;
+mod numbers;
 mod sniff;
 mod stage;
+mod states;
 mod transcoder;
 mod written;
 

@@ -1,7 +1,9 @@
 //! The sniffing of a BOM, over pieces.
 
-ghost use Rattle.std.specs.Prelude.{◌≡◌};
+ghost use Rattle.std.specs.Prelude.{◌≡◌, ◌∷◌, [], ℕ, List, true, MatchOption};
+ghost use Rattle.enc_model.specs.Decode.{undecided};
 ghost use Rattle.enc_stream.specs.Sniff.{held_bytes, LacksOne, Sniffs};
+ghost use Rattle.enc_stream.specs.StateBytes.{counted, padded};
 
 use enc_model::Encoding;
 
@@ -36,6 +38,34 @@ pub fn bytes_of(held: Held) -> &'static [u8]
         Held::EfBb => &[0xEF, 0xBB],
         Held::Fe => &[0xFE],
         Held::Ff => &[0xFF],
+    }
+}
+
+/// The count of the held bytes, and these.
+pub fn held_packed(held: Held) -> [u8; 5]
+    ensures { result ≡ padded 5 (counted (held_bytes held)) }
+{
+    match held {
+        Held::Nothing => [0; 5],
+        Held::Ef => [1, 0xEF, 0, 0, 0],
+        Held::EfBb => [2, 0xEF, 0xBB, 0, 0],
+        Held::Fe => [1, 0xFE, 0, 0, 0],
+        Held::Ff => [1, 0xFF, 0, 0, 0],
+    }
+}
+
+/// The held bytes of this count.
+pub fn held_at(count: u8, first: u8, second: u8) -> Option<Held>
+    ensures { (bytes : List ℕ) → undecided bytes ≡ true → padded 3 (counted bytes) ≡ count ∷ first ∷ second ∷ []
+        → MatchOption result ⊥ (λ held. held_bytes held ≡ bytes) }
+{
+    match (count, first, second) {
+        (0, ..) => Some(Held::Nothing),
+        (1, 0xEF, _) => Some(Held::Ef),
+        (2, 0xEF, 0xBB) => Some(Held::EfBb),
+        (1, 0xFE, _) => Some(Held::Fe),
+        (1, 0xFF, _) => Some(Held::Ff),
+        _ => None,
     }
 }
 

@@ -1,6 +1,6 @@
 //! Decoding with the sniffing of a BOM, over pieces.
 
-ghost use Rattle.std.specs.Prelude.{◌≡◌, ◌++◌, OnOk, IfOk, true, false, []};
+ghost use Rattle.std.specs.Prelude.{◌≡◌, ◌++◌, ◌↔◌, OnOk, IfOk, IsTrue, true, false, []};
 ghost use Rattle.enc_model.specs.Decode.{decoding, decoding_start};
 ghost use Rattle.enc_model.specs.Indexes.{tables};
 ghost use Rattle.enc_model.specs.Sink.{Given};
@@ -8,9 +8,11 @@ ghost use Rattle.enc_model.specs.Transcode.{Before, fed, fed_end};
 ghost use Rattle.enc_stream.specs.AnyDecoder.{decoding_of};
 ghost use Rattle.enc_stream.specs.Sniff.{held_bytes, Sniffs};
 ghost use Rattle.enc_stream.specs.Stage.{phase_at, is_done_at, is_spent_at};
+ghost use Rattle.enc_stream.specs.StateBytes.{IsInEffect};
 
 use crate::decoder::AnyDecoder;
-use crate::sniff::{Held, Sniffed, bytes_of, sniff};
+use crate::numbers::{encoding_at, number_of_encoding};
+use crate::sniff::{Held, Sniffed, bytes_of, held_at, held_packed, sniff};
 use enc_index::IndexSet;
 use enc_model::{Encoding, Sink};
 
@@ -28,8 +30,10 @@ pub enum Stage {
 }
 
 impl Stage {
-    ghost use Rattle.std.specs.Prelude.{◌≡◌};
+    ghost use Rattle.std.specs.Prelude.{◌≡◌, false, IfSome, MatchOption};
+    ghost use Rattle.enc_model.specs.Transcode.{Phase};
     ghost use Rattle.enc_stream.specs.Stage.{phase_at, is_spent_at};
+    ghost use Rattle.enc_stream.specs.StateBytes.{IsPhaseOf, IsReachedIn, phase_number, phase_bytes, padded};
 
     /// The same stage once more.
     pub fn copy(&self) -> Self
@@ -43,6 +47,66 @@ impl Stage {
             Stage::Spent => Stage::Spent,
         }
     }
+
+    /// The number of its phase.
+    pub fn phase(&self) -> u8
+        ensures { result ≡ phase_number (phase_at self.now) }
+    {
+        match self {
+            Stage::Before(_) => 0,
+            Stage::During(_) => 1,
+            Stage::Over | Stage::Spent => 2,
+        }
+    }
+
+    /// What it keeps, as bytes.
+    pub fn pack(&self) -> [u8; 5]
+        ensures bytes { result ≡ padded 5 (phase_bytes (phase_at self.now)) }
+        ensures reached { IsReachedIn (phase_at self.now) }
+    {
+        match self {
+            Stage::Before(held) => held_packed(*held),
+            Stage::During(decoder) => {
+                let [first, second, third, fourth] = decoder.pack();
+                let encoding = number_of_encoding(decoder.encoding());
+                [encoding, first, second, third, fourth]
+            }
+            Stage::Over | Stage::Spent => [0; 5],
+        }
+    }
+
+    /// The stage of this phase that keeps this. Bytes that no stage packs may be read as some other's.
+    pub fn unpack(from: Encoding, phase: u8, kept: [u8; 5]) -> Option<Self>
+        ensures fits { IfSome result (λ stage. IsPhaseOf from (phase_at stage) × (is_spent_at stage ≡ false)) }
+        ensures same { (p : Phase) → IsPhaseOf from p → IsReachedIn p → phase_number p ≡ phase → padded 5 (phase_bytes p) ≡ kept
+            → MatchOption result ⊥ (λ stage. phase_at stage ≡ p) }
+    {
+        let [first, second, third, fourth, fifth] = kept;
+        match phase {
+            0 => Some(Stage::Before(held_at(first, second, third)?)),
+            1 => {
+                let encoding = encoding_at(first)?;
+                if !is_in_effect(from, encoding) {
+                    return None;
+                }
+                let decoder = AnyDecoder::unpack(encoding, [second, third, fourth, fifth])?;
+                Some(Stage::During(decoder))
+            }
+            2 => Some(Stage::Over),
+            _ => None,
+        }
+    }
+}
+
+/// Whether the encoding in effect may be this one: the source's, or that of a BOM.
+fn is_in_effect(from: Encoding, encoding: Encoding) -> bool
+    ensures { IsTrue result ↔ IsInEffect from encoding }
+{
+    encoding == from
+        || matches!(
+            encoding,
+            Encoding::Utf8 | Encoding::Utf16Be | Encoding::Utf16Le
+        )
 }
 
 /// Decodes the first bytes of an encoding.

@@ -215,3 +215,154 @@ fn spent_behind_a_refusal_and_done_behind_the_end(rt: HostRuntime) -> Result<(),
     assert_eq!(rt; out.as_slice(), b"A&#233;".as_slice());
     Ok(())
 }
+
+/// The state bytes that begin with these, zeros behind them.
+fn with_zeros(front: &[u8]) -> [u8; 32] {
+    let mut bytes = [0; 32];
+    for (place, byte) in bytes.iter_mut().zip(front.iter()) {
+        *place = *byte;
+    }
+    bytes
+}
+
+/// Packs behind a piece, and goes on from the bytes to the text of all.
+fn goes_on(
+    rt: &impl Abort,
+    alloc: Global,
+    start: &Transcoder,
+    set: &IndexSet,
+    pieces: (&[u8], &[u8]),
+    state: &[u8],
+    text: &[u8],
+) -> Result<(), Fail> {
+    let mut out = Vec::new(alloc);
+    let mut first = start.copy();
+    first.feed(set, pieces.0, &mut out)?;
+    let bytes = first.pack();
+    assert_eq!(rt; bytes, with_zeros(state));
+    let mut next = Transcoder::unpack(&bytes).ok_or("refused")?;
+    next.feed(set, pieces.1, &mut out)?;
+    next.finish(set, &mut out)?;
+    assert_eq!(rt; out.as_slice(), text);
+    assert_eq!(rt; next.pack()[3], 2);
+    Ok(())
+}
+
+#[test]
+fn state_bytes_before_the_bom_and_in_japanese(rt: HostRuntime) -> Result<(), Fail> {
+    let alloc = rt.alloc();
+    let set = with_an_index(alloc)?;
+    let utf8 = Transcoder::new(Encoding::Utf8, Encoding::Utf8, Mode::Html);
+    let held = [0, 0, 0, 0, 2, 0xEF, 0xBB];
+    goes_on(
+        &rt,
+        alloc,
+        &utf8,
+        &set,
+        (&[0xEF, 0xBB], &[0xBF, 0x41]),
+        &held,
+        b"A",
+    )?;
+    let shift_jis = Transcoder::new(Encoding::ShiftJis, Encoding::Utf8, Mode::Html);
+    let lead = [3, 0, 0, 1, 3, 0x82];
+    let text = "\u{3042}".as_bytes();
+    goes_on(
+        &rt,
+        alloc,
+        &shift_jis,
+        &set,
+        (&[0x82], &[0xA0]),
+        &lead,
+        text,
+    )?;
+    let iso2022 = Transcoder::new(Encoding::Iso2022Jp, Encoding::Utf8, Mode::Html);
+    let escaped = [5, 0, 0, 1, 5, 3, 3, 0, 1];
+    goes_on(
+        &rt,
+        alloc,
+        &iso2022,
+        &set,
+        (&[0x1B, 0x24, 0x42], &[0x24, 0x22]),
+        &escaped,
+        text,
+    )
+}
+
+#[test]
+fn state_bytes_of_the_other_states(rt: HostRuntime) -> Result<(), Fail> {
+    let alloc = rt.alloc();
+    let set = with_an_index(alloc)?;
+    let utf8 = Transcoder::new(Encoding::Utf8, Encoding::Utf8, Mode::Fatal);
+    goes_on(
+        &rt,
+        alloc,
+        &utf8,
+        &set,
+        (&[0xF0, 0x9F, 0x98], &[0x80]),
+        &[0, 0, 1, 1, 0, 3, 0xF0, 0x9F, 0x98],
+        "\u{1F600}".as_bytes(),
+    )?;
+    let marked = Transcoder::new(Encoding::Koi8R, Encoding::Utf8, Mode::Html);
+    goes_on(
+        &rt,
+        alloc,
+        &marked,
+        &set,
+        (&[0xFF, 0xFE, 0x3D, 0xD8, 0x00], &[0xDE]),
+        &[10, 0, 0, 1, 2, 3, 0x00, 0xD8, 0x3D],
+        "\u{1F600}".as_bytes(),
+    )?;
+    let euc_jp = Transcoder::new(Encoding::EucJp, Encoding::Iso2022Jp, Mode::Html);
+    let mut state = with_zeros(&[4, 5, 0, 1, 4, 0xA4, 1]);
+    state[16] = 2;
+    goes_on(
+        &rt,
+        alloc,
+        &euc_jp,
+        &set,
+        (&[0xA4, 0xA2, 0x8F, 0xA4], &[0xA2]),
+        &state,
+        b"\x1B$B\x24\x22\x1B(B&#65533;",
+    )
+}
+
+#[test]
+fn state_bytes_of_no_state(rt: HostRuntime) {
+    let none: [&[u8]; 19] = [
+        // numbers of nothing, and UTF-16 as the output
+        &[21],
+        &[0, 1],
+        &[0, 0, 2],
+        &[0, 0, 0, 3],
+        // held bytes that are no BOM's
+        &[0, 0, 0, 0, 1, 0x41],
+        &[0, 0, 0, 0, 3, 0xEF, 0xBB, 0xBF],
+        // something behind the end
+        &[0, 0, 0, 2, 1],
+        // an encoding in effect that is neither the source's nor a BOM's
+        &[0, 0, 0, 1, 3],
+        // no front of a character
+        &[0, 0, 0, 1, 0, 2, 0xE0, 0x80],
+        &[0, 0, 0, 1, 0, 4, 0xF0, 0x9F, 0x98, 0x80],
+        &[0, 0, 0, 1, 0, 0, 0x80],
+        // a lead that is no surrogate, and one that isn't said to be kept
+        &[2, 0, 0, 1, 2, 2, 0, 0xDC, 0],
+        &[2, 0, 0, 1, 2, 0, 0, 0xD8, 0],
+        // a lead of no character, and a flag without a lead
+        &[3, 0, 0, 1, 3, 0xA0],
+        &[4, 0, 0, 1, 4, 0, 1],
+        &[4, 0, 0, 1, 4, 0x8E, 1],
+        // an output state that isn't the set, and a flag behind a lead
+        &[5, 0, 0, 1, 5, 3, 0, 0, 0],
+        &[5, 0, 0, 1, 5, 4, 3, 0x24, 1],
+        // an encoder's state that UTF-8 lacks
+        &[0, 0, 0, 1, 0, 0, 0, 0, 0, 0, 0, 0, 0, 0, 0, 0, 1],
+    ];
+    for front in none {
+        assert!(rt; Transcoder::unpack(&with_zeros(front)).is_none());
+    }
+    let mut last = with_zeros(&[]);
+    assert!(rt; Transcoder::unpack(&last).is_some());
+    last[31] = 1;
+    assert!(rt; Transcoder::unpack(&last).is_none());
+}

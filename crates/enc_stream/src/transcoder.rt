@@ -1,17 +1,23 @@
 //! The transcoder.
 
-ghost use Rattle.std.specs.Prelude.{◌≡◌, ◌++◌, List, [], ℕ, None, true, false, OnOk, IfErr, IsErrOf, IsTrue, ◌↔◌};
+ghost use Rattle.std.specs.Prelude.{◌≡◌, ◌≢◌, ◌++◌, List, [], ℕ, Some, None, true, false, OnOk, IfErr, IfSome, MatchOption, IsErrOf, IsTrue, ◌↔◌};
 ghost use Rattle.enc_model.specs.Decode.{text as text_of};
 ghost use Rattle.enc_model.specs.Encode.{Tables};
 ghost use Rattle.enc_model.specs.Indexes.{tables};
-ghost use Rattle.enc_model.specs.Transcode.{IsAt, added, added_end, so_far};
+ghost use Rattle.enc_model.specs.Transcode.{Transcoder as State, IsAt, added, added_end, so_far};
+ghost use Rattle.enc_encode.specs.State.{EncoderState};
+ghost use Rattle.enc_stream.specs.Stage.{phase_at};
 ghost use Rattle.enc_stream.specs.Standing.{is_done, start, stepped_on, finished, IsOutput, Answers};
+ghost use Rattle.enc_stream.specs.StateBytes.{IsShiftIn, IsSound, encoding_number, mode_number, shift_number, standing, state_bytes};
 
 use crate::error::TranscodeError;
+use crate::numbers::{
+    encoding_at, mode_at, number_of_encoding, number_of_mode, number_of_shift, shift_at,
+};
 use crate::sniff::Held;
 use crate::stage::Stage;
 use crate::written::{transcode, write_end};
-use enc_encode::Encoder;
+use enc_encode::{Encoder, ShiftState};
 use enc_index::IndexSet;
 use enc_model::{Encoding, Mode};
 use std::marker::Model;
@@ -36,6 +42,31 @@ impl Model for Transcoder {
       transcoder = record { from = s.from; to = s.encoder.to; mode = s.encoder.mode; phase = phase_at s.stage; shift = s.encoder.shift };
       spent = is_spent_at s.stage;
     } };
+
+    ghost use Rattle.std.specs.Prelude.{◌≡◌, false};
+    ghost use Rattle.enc_stream.specs.StateBytes.{IsFitting};
+
+    ghost invariant = { λ s. is_spent_at s.stage ≡ false → IsFitting (record { from = s.from; to = s.encoder.to; mode = s.encoder.mode; phase = phase_at s.stage; shift = s.encoder.shift }) };
+}
+
+/// The encoder of an output encoding, a mode and a state, each by its number.
+fn encoder_at(to: u8, mode: u8, shift: u8) -> Option<Encoder>
+    ensures output { IfSome result (λ e. IsOutput e.to) }
+    ensures same { (e : EncoderState) → IsOutput e.to → encoding_number e.to ≡ to → mode_number e.mode ≡ mode → shift_number e.shift ≡ shift → result ≡ Some e }
+{
+    let to = encoding_at(to)?;
+    if let Encoding::Utf16Be | Encoding::Utf16Le = to {
+        return None;
+    }
+    Some(Encoder::resume(to, mode_at(mode)?, shift_at(shift)?))
+}
+
+/// Whether an encoder may stand there in this stage: only while text is decoded to ISO-2022-JP in another state than ASCII.
+fn is_encoder_in(stage: &Stage, encoder: Encoder) -> bool
+    ensures { IsTrue result ↔ IsShiftIn (phase_at stage.now) encoder.to encoder.shift }
+{
+    encoder.shift() == ShiftState::Ascii
+        || matches!(stage, Stage::During(_)) && encoder.to() == Encoding::Iso2022Jp
 }
 
 impl Transcoder {
@@ -76,6 +107,85 @@ impl Transcoder {
         ensures { result ≡ is_done self.now }
     {
         matches!(self.stage, Stage::Over | Stage::Spent)
+    }
+
+    /// Its 32 state bytes, of which `unpack` makes it again. Their form is the gateway's own:
+    ///
+    /// - 0, 1, 2: the numbers of the source encoding and the output encoding, 0 to 20 in the order of `Encoding`; the mode, 0
+    ///   for html and 1 for fatal.
+    /// - 3: 0 before a BOM is decided, 1 from then on, 2 behind the end.
+    /// - 4 on, before the BOM is decided: how many bytes are held, and these.
+    /// - 4, from then on: the number of the encoding in effect. 5 on, its decoder's state. UTF-8: how many bytes are kept, and
+    ///   these. UTF-16: 1 for a byte that is kept plus 2 for a lead surrogate; the byte; the lead, the higher byte first.
+    ///   Shift_JIS: the lead or 0. EUC-JP: the lead or 0; 1 where it is one of jis0212. ISO-2022-JP: 0 to 3 for the sets ASCII,
+    ///   Roman, katakana and jis0208, 4 behind a lead, 5 behind 1B and 6 behind one byte more; the output state, 0 to 3; the
+    ///   byte that is kept or 0; the flag.
+    /// - 16: the encoder's state, 0 for ASCII, 1 for Roman, 2 for jis0208.
+    ///
+    /// All others are 0. It takes no memory.
+    pub fn pack(&self) -> [u8; 32]
+        requires { self.now.spent ≡ false }
+        ensures bytes { result ≡ state_bytes self.now.transcoder }
+        ensures sound { IsSound self.now.transcoder }
+    {
+        let [first, second, third, fourth, fifth] = self.stage.pack();
+        let mut bytes = [0; 32];
+        bytes[0] = number_of_encoding(self.from);
+        bytes[1] = number_of_encoding(self.encoder.to());
+        bytes[2] = number_of_mode(self.encoder.mode());
+        bytes[3] = self.stage.phase();
+        bytes[4] = first;
+        bytes[5] = second;
+        bytes[6] = third;
+        bytes[7] = fourth;
+        bytes[8] = fifth;
+        bytes[16] = number_of_shift(self.encoder.shift());
+        bytes
+    }
+
+    /// The transcoder whose state bytes these may be, where they are any's.
+    fn read(bytes: &[u8; 32]) -> Option<Self>
+        ensures ready { IfSome result (λ t. t.spent ≡ false) }
+        ensures same { (s : State) → IsSound s → state_bytes s ≡ bytes.now → result ≡ Some (standing s) }
+    {
+        let [
+            from,
+            to,
+            mode,
+            phase,
+            first,
+            second,
+            third,
+            fourth,
+            fifth,
+            ..
+        ] = *bytes;
+        let from = encoding_at(from)?;
+        let encoder = encoder_at(to, mode, bytes[16])?;
+        let stage = Stage::unpack(from, phase, [first, second, third, fourth, fifth])?;
+        if !is_encoder_in(&stage, encoder) {
+            return None;
+        }
+        Some(Transcoder {
+            from,
+            encoder,
+            stage,
+        })
+    }
+
+    /// The transcoder of these state bytes, or None where they are those of none: each state has one spelling. It takes no
+    /// memory.
+    pub fn unpack(bytes: &[u8; 32]) -> Option<Self>
+        ensures unpacked { MatchOption result ((s : State) → IsSound s → state_bytes s ≢ bytes.now)
+            (λ t. (t.spent ≡ false) × IsSound t.transcoder × (state_bytes t.transcoder ≡ bytes.now)) }
+        ensures only { (s : State) → IsSound s → state_bytes s ≡ bytes.now → result ≡ Some (standing s) }
+    {
+        let transcoder = Self::read(bytes)?;
+        if transcoder.pack() == *bytes {
+            Some(transcoder)
+        } else {
+            None
+        }
     }
 
     /// Takes a piece: decodes it (Encoding Standard, sections 4 and 6, with the sniffing of a BOM) and appends its code to

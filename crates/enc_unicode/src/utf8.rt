@@ -1,6 +1,6 @@
 //! The decoder of UTF-8.
 
-ghost use Rattle.std.specs.Prelude.{◌≡◌, ◌≢◌, IfSome, IfNone, OnOk, true, false, ◌<◌, ◌≤◌, ◌+◌, [], ◌∷◌, take, Some};
+ghost use Rattle.std.specs.Prelude.{◌≡◌, ◌≢◌, IfSome, IfNone, OnOk, true, false, ◌<◌, ◌≤◌, ◌+◌, [], ◌∷◌, length, take, Some};
 ghost use Rattle.enc_unicode.specs.Utf8State.{IsUtf8State, IsBehind, utf8_behind};
 ghost use Rattle.enc_model.specs.Stream.{restored_bytes, IsCalm, steps};
 ghost use Rattle.enc_model.specs.Sink.{Given};
@@ -59,6 +59,7 @@ impl Utf8State {
     pub fn kept(&self) -> &[u8]
         ensures bytes { result.now ≡ self.now.kept }
         ensures behind { IsBehind self.now }
+        ensures few { length result.now ≤ 3 }
     {
         &self.kept[..self.seen as usize]
     }

@@ -1,0 +1,86 @@
+-- The places of the state bytes.
+use Rattle.std.proofs.Common.{ℕ, zero, suc, ◌+◌, ◌≡◌, ◌≤◌, true, List, [], ◌∷◌, ◌++◌, length, get_or, refl, sym, ◌∙◌, ap, arith, lit≤}
+use Rattle.enc_model.specs.declared.Encoding.{Encoding}
+use Rattle.enc_model.specs.Decode.{Decoding, OfUtf8, OfUtf16, OfShiftJis, OfEucJp, OfIso2022, OfSingle, undecided}
+use Rattle.enc_model.specs.Transcode.{Transcoder, Phase, Before, During, Over}
+use Rattle.enc_stream.specs.StateBytes.{IsPhaseOf, IsReached, IsReachedIn, IsSound, encoding_number, mode_number, phase_number, shift_number, decoder_bytes, phase_bytes, padded, state_bytes}
+
+-- WHAT A PHASE KEEPS HAS AT MOST FIVE BYTES
+
+few_held : (held : List ℕ) → undecided held ≡ true → length held ≤ 4
+few_held [] h = lit≤ tt
+few_held (x ∷ []) h = lit≤ tt
+few_held (x ∷ y ∷ []) h = lit≤ tt
+few_held (x ∷ y ∷ z ∷ bytes) h = absurd cc
+
+few_kept : (s : Decoding) → IsReached s → length (decoder_bytes s) ≤ 4
+few_kept (OfUtf8 s) h = let l = h.1 in omega (arith, l)
+few_kept (OfUtf16 big s) h = grind arith
+few_kept (OfShiftJis lead) h = lit≤ tt
+few_kept (OfEucJp s) h = lit≤ tt
+few_kept (OfIso2022 s) h = lit≤ tt
+few_kept (OfSingle e s) h = lit≤ tt
+
+few : (from : Encoding) (p : Phase) → IsPhaseOf from p → IsReachedIn p → length (phase_bytes p) ≤ 5
+few from (Before held) h k = let l = few_held held h in omega (arith, l)
+few from (During s) h k = let l = few_kept s k in omega (arith, l)
+few from Over h k = lit≤ tt
+
+-- THE FIRST FIVE OF TWELVE
+
+five : (xs rest : List ℕ) → (let all = padded 12 xs ++ rest in
+    padded 5 xs ≡ get_or all 0 0 ∷ get_or all 1 0 ∷ get_or all 2 0 ∷ get_or all 3 0 ∷ get_or all 4 0 ∷ [])
+five [] rest = refl
+five (a ∷ []) rest = refl
+five (a ∷ b ∷ []) rest = refl
+five (a ∷ b ∷ c ∷ []) rest = refl
+five (a ∷ b ∷ c ∷ d ∷ []) rest = refl
+five (a ∷ b ∷ c ∷ d ∷ e ∷ xs) rest = refl
+
+twelve : (xs : List ℕ) → length xs ≤ 5 → (let front = padded 5 xs in
+    padded 12 xs ≡ get_or front 0 0 ∷ get_or front 1 0 ∷ get_or front 2 0 ∷ get_or front 3 0 ∷ get_or front 4 0 ∷ 0 ∷ 0 ∷ 0 ∷ 0 ∷ 0 ∷ 0 ∷ 0 ∷ [])
+twelve [] h = refl
+twelve (a ∷ []) h = refl
+twelve (a ∷ b ∷ []) h = refl
+twelve (a ∷ b ∷ c ∷ []) h = refl
+twelve (a ∷ b ∷ c ∷ d ∷ []) h = refl
+twelve (a ∷ b ∷ c ∷ d ∷ e ∷ []) h = refl
+twelve (a ∷ b ∷ c ∷ d ∷ e ∷ f ∷ xs) h = absurd (omega (arith, h))
+
+-- what stands behind them
+behind : (n : ℕ) (xs rest : List ℕ) (i : ℕ) → get_or (padded n xs ++ rest) (n + i) 0 ≡ get_or rest i 0
+behind zero xs rest i = grind arith
+behind (suc n) [] rest i = grind (arith, behind n [] rest i)
+behind (suc n) (x ∷ xs) rest i = grind (arith, behind n xs rest i)
+
+-- THE BYTES OF A STATE, AND ITS PARTS
+
+pub packed : (s : Transcoder) (from to mode phase shift : ℕ) (kept : List ℕ) → IsSound s →
+    from ≡ encoding_number s.from → to ≡ encoding_number s.to → mode ≡ mode_number s.mode → phase ≡ phase_number s.phase → shift ≡ shift_number s.shift →
+    kept ≡ padded 5 (phase_bytes s.phase) →
+    from ∷ to ∷ mode ∷ phase ∷ get_or kept 0 0 ∷ get_or kept 1 0 ∷ get_or kept 2 0 ∷ get_or kept 3 0 ∷ get_or kept 4 0 ∷ 0 ∷ 0 ∷ 0 ∷ 0 ∷ 0 ∷ 0 ∷ 0
+    ∷ shift ∷ 0 ∷ 0 ∷ 0 ∷ 0 ∷ 0 ∷ 0 ∷ 0 ∷ 0 ∷ 0 ∷ 0 ∷ 0 ∷ 0 ∷ 0 ∷ 0 ∷ 0 ∷ []
+    ≡ state_bytes s
+packed s from to mode phase shift kept sound e1 e2 e3 e4 e5 e6 =
+    rw (e1, e2, e3, e4, e5, e6, twelve (phase_bytes s.phase) (few s.from s.phase sound.fitting.phase sound.reached)) refl
+
+module _ (s : Transcoder) (bytes : List ℕ) (is : state_bytes s ≡ bytes) where
+  pub from_there : encoding_number s.from ≡ get_or bytes 0 0
+  from_there = ap (λ z. get_or z 0 0) is
+
+  pub to_there : encoding_number s.to ≡ get_or bytes 1 0
+  to_there = ap (λ z. get_or z 1 0) is
+
+  pub mode_there : mode_number s.mode ≡ get_or bytes 2 0
+  mode_there = ap (λ z. get_or z 2 0) is
+
+  pub phase_there : phase_number s.phase ≡ get_or bytes 3 0
+  phase_there = ap (λ z. get_or z 3 0) is
+
+  pub shift_there : shift_number s.shift ≡ get_or bytes 16 0
+  shift_there = sym (behind 12 (phase_bytes s.phase) (padded 16 (shift_number s.shift ∷ [])) 0) ∙ ap (λ z. get_or z 16 0) is
+
+  pub kept_there : padded 5 (phase_bytes s.phase) ≡ get_or bytes 4 0 ∷ get_or bytes 5 0 ∷ get_or bytes 6 0 ∷ get_or bytes 7 0 ∷ get_or bytes 8 0 ∷ []
+  kept_there =
+      five (phase_bytes s.phase) (padded 16 (shift_number s.shift ∷ []))
+      ∙ ap (λ z. get_or z 4 0 ∷ get_or z 5 0 ∷ get_or z 6 0 ∷ get_or z 7 0 ∷ get_or z 8 0 ∷ []) is

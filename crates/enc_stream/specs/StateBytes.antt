@@ -1,0 +1,201 @@
+-- THE 32 STATE BYTES OF A TRANSCODER, which the gateway keeps of an upload: the format is its own.
+--
+-- Bytes 0, 1, 2: the numbers of the source encoding, of the output encoding and of the mode. Byte 3: the phase.
+-- From byte 4 on what the phase keeps: the count of held bytes and these, or the encoding in effect and its decoder's state.
+-- Byte 16: the encoder's state. All others are 0.
+use Rattle.std.specs.Prelude.{ℕ, zero, suc, ◌/◌, ◌%◌, ◌≤◌, ◌<◌, ◌≡◌, ◌⊎◌, Bool, true, false, List, [], ◌∷◌, ◌++◌, Option, Some, None, length, if◌then◌else◌}
+use Rattle.enc_model.specs.declared.Encoding.{Encoding}
+use Rattle.enc_model.specs.declared.Encoding.TheVariants.{Utf8, Utf16Be, Utf16Le, ShiftJis, EucJp, Iso2022Jp, Ibm866, Iso8859X2, Iso8859X5, Iso8859X15, Koi8R, Macintosh, Windows1250, Windows1251, Windows1252, Windows1253, Windows1254, Windows1255, Windows1256, Windows1257, Windows1258}
+use Rattle.enc_model.specs.declared.Mode.{Mode}
+use Rattle.enc_model.specs.declared.Mode.TheVariants.{Html, Fatal}
+use Rattle.enc_model.specs.declared.Charset.{Charset}
+use Rattle.enc_model.specs.declared.Charset.TheVariants.{Ascii, Roman, Katakana, Lead}
+use Rattle.enc_model.specs.declared.Place.{Place}
+use Rattle.enc_model.specs.declared.Place.TheVariants.{In, Trail, EscapeStart, Escape}
+use Rattle.enc_model.specs.Japanese.{introducer_byte}
+use Rattle.enc_model.specs.Encode.{Shift, InAscii, InRoman, InJis}
+use Rattle.enc_model.specs.Decode.{Decoding, OfUtf8, OfUtf16, OfShiftJis, OfEucJp, OfIso2022, OfSingle, undecided}
+use Rattle.enc_model.specs.Transcode.{Transcoder, Phase, Before, During, Over}
+use Rattle.enc_unicode.specs.Utf8State.{IsBehind}
+use Rattle.enc_unicode.specs.Utf16State.{IsKept}
+use Rattle.enc_legacy.specs.ShiftJis.{IsShiftJisState}
+use Rattle.enc_legacy.specs.EucJpState.{IsEucJpState}
+use Rattle.enc_legacy.specs.Iso2022State.{IsStand}
+use Rattle.enc_stream.specs.Standing.{Standing, IsOutput}
+
+-- NUMBERS
+
+abbrev pub encoding_number : Encoding → ℕ
+encoding_number Utf8 = 0
+encoding_number Utf16Be = 1
+encoding_number Utf16Le = 2
+encoding_number ShiftJis = 3
+encoding_number EucJp = 4
+encoding_number Iso2022Jp = 5
+encoding_number Ibm866 = 6
+encoding_number Iso8859X2 = 7
+encoding_number Iso8859X5 = 8
+encoding_number Iso8859X15 = 9
+encoding_number Koi8R = 10
+encoding_number Macintosh = 11
+encoding_number Windows1250 = 12
+encoding_number Windows1251 = 13
+encoding_number Windows1252 = 14
+encoding_number Windows1253 = 15
+encoding_number Windows1254 = 16
+encoding_number Windows1255 = 17
+encoding_number Windows1256 = 18
+encoding_number Windows1257 = 19
+encoding_number Windows1258 = 20
+
+abbrev pub mode_number : Mode → ℕ
+mode_number Html = 0
+mode_number Fatal = 1
+
+-- the encoder's state, in ISO-2022-JP
+abbrev pub shift_number : Shift → ℕ
+shift_number InAscii = 0
+shift_number InRoman = 1
+shift_number InJis = 2
+
+-- before the BOM is decided, decoding, and behind the end
+abbrev pub phase_number : Phase → ℕ
+phase_number (Before held) = 0
+phase_number (During s) = 1
+phase_number Over = 2
+
+-- A DECODER'S STATE
+
+-- how many bytes are kept, and these
+abbrev pub counted : List ℕ → List ℕ
+counted bytes = length bytes ∷ bytes
+
+-- 1 for a byte that is kept and 2 for a lead surrogate; the byte; the lead, the higher byte first
+abbrev pub utf16_bytes : Option ℕ → Option ℕ → List ℕ
+utf16_bytes None None = 0 ∷ []
+utf16_bytes (Some byte) None = 1 ∷ byte ∷ []
+utf16_bytes None (Some lead) = 2 ∷ 0 ∷ lead / 256 ∷ lead % 256 ∷ []
+utf16_bytes (Some byte) (Some lead) = 3 ∷ byte ∷ lead / 256 ∷ lead % 256 ∷ []
+
+abbrev pub flag_number : Bool → ℕ
+flag_number false = 0
+flag_number true = 1
+
+abbrev pub charset_number : Charset → ℕ
+charset_number Ascii = 0
+charset_number Roman = 1
+charset_number Katakana = 2
+charset_number Lead = 3
+
+-- where a decoder of ISO-2022-JP stands, and the byte that it keeps there, or 0
+abbrev pub place_number : Place → ℕ
+place_number (In set) = charset_number set
+place_number (Trail lead) = 4
+place_number EscapeStart = 5
+place_number (Escape lead) = 6
+
+abbrev pub place_lead : Place → ℕ
+place_lead (In set) = 0
+place_lead (Trail lead) = lead
+place_lead EscapeStart = 0
+place_lead (Escape lead) = introducer_byte lead
+
+-- the state, and zeros that don't count
+abbrev pub decoder_bytes : Decoding → List ℕ
+decoder_bytes (OfUtf8 s) = counted s.kept
+decoder_bytes (OfUtf16 big s) = utf16_bytes s.byte s.lead
+decoder_bytes (OfShiftJis lead) = lead ∷ []
+decoder_bytes (OfEucJp s) = s.lead ∷ flag_number s.flag ∷ []
+decoder_bytes (OfIso2022 s) = place_number s.place ∷ charset_number s.output ∷ place_lead s.place ∷ flag_number s.flag ∷ []
+decoder_bytes (OfSingle e s) = []
+
+-- the encoding that a decoder reads
+abbrev pub encoding_of : Decoding → Encoding
+encoding_of (OfUtf8 s) = Utf8
+encoding_of (OfUtf16 big s) = if big then Utf16Be else Utf16Le
+encoding_of (OfShiftJis lead) = ShiftJis
+encoding_of (OfEucJp s) = EucJp
+encoding_of (OfIso2022 s) = Iso2022Jp
+encoding_of (OfSingle e s) = e
+
+-- THE BYTES
+
+-- what a phase keeps
+abbrev pub phase_bytes : Phase → List ℕ
+phase_bytes (Before held) = counted held
+phase_bytes (During s) = encoding_number (encoding_of s) ∷ decoder_bytes s
+phase_bytes Over = []
+
+-- the bytes, and zeros behind them, so many in all
+abbrev pub padded : ℕ → List ℕ → List ℕ
+padded zero bytes = []
+padded (suc n) [] = 0 ∷ padded n []
+padded (suc n) (b ∷ bytes) = b ∷ padded n bytes
+
+abbrev pub state_bytes : Transcoder → List ℕ
+state_bytes s =
+    encoding_number s.from ∷ encoding_number s.to ∷ mode_number s.mode ∷ phase_number s.phase
+    ∷ (padded 12 (phase_bytes s.phase) ++ padded 16 (shift_number s.shift ∷ []))
+
+-- THE SOUND STATES: those that a transcoder can be in
+
+-- the encoding in effect is the source's, or that of a BOM
+abbrev pub IsInEffect : Encoding → Encoding → Type 0
+IsInEffect from e = (e ≡ from) ⊎ ((e ≡ Utf8) ⊎ ((e ≡ Utf16Be) ⊎ (e ≡ Utf16Le)))
+
+abbrev pub IsSingle : Encoding → Type 0
+IsSingle Utf8 = ⊥
+IsSingle Utf16Be = ⊥
+IsSingle Utf16Le = ⊥
+IsSingle ShiftJis = ⊥
+IsSingle EucJp = ⊥
+IsSingle Iso2022Jp = ⊥
+IsSingle _ = Unit {0}
+
+-- a decoder without a state of its own is one of a single-byte encoding
+abbrev pub IsOwn : Decoding → Type 0
+IsOwn (OfSingle e s) = IsSingle e
+IsOwn _ = Unit {0}
+
+-- what is held may become a BOM, and what is decoded is decoded from the encoding in effect
+abbrev pub IsPhaseOf : Encoding → Phase → Type 0
+IsPhaseOf from (Before held) = undecided held ≡ true
+IsPhaseOf from (During s) = IsOwn s × IsInEffect from (encoding_of s)
+IsPhaseOf from Over = Unit {0}
+
+-- only while text is decoded to ISO-2022-JP is the encoder in another state than ASCII
+abbrev pub IsShiftIn : Phase → Encoding → Shift → Type 0
+IsShiftIn (Before held) to shift = shift ≡ InAscii
+IsShiftIn (During s) to shift = (to ≡ Iso2022Jp) ⊎ (shift ≡ InAscii)
+IsShiftIn Over to shift = shift ≡ InAscii
+
+-- a transcoder's parts fit one another
+pub record IsFitting (s : Transcoder) : Type 0 where
+  pub output : IsOutput s.to
+  pub phase : IsPhaseOf s.from s.phase
+  pub shift : IsShiftIn s.phase s.to s.shift
+
+abbrev pub IsByte : Option ℕ → Type 0
+IsByte None = Unit {0}
+IsByte (Some b) = b < 256
+
+-- a decoder's state is one that it can be in
+abbrev pub IsReached : Decoding → Type 0
+IsReached (OfUtf8 s) = IsBehind s × (length s.kept ≤ 3)
+IsReached (OfUtf16 big s) = IsByte s.byte × IsKept s.lead
+IsReached (OfShiftJis lead) = IsShiftJisState lead
+IsReached (OfEucJp s) = IsEucJpState s.lead s.flag
+IsReached (OfIso2022 s) = IsStand s.place s.output s.flag
+IsReached (OfSingle e s) = Unit {0}
+
+abbrev pub IsReachedIn : Phase → Type 0
+IsReachedIn (During s) = IsReached s
+IsReachedIn _ = Unit {0}
+
+pub record IsSound (s : Transcoder) : Type 0 where
+  pub fitting : IsFitting s
+  pub reached : IsReachedIn s.phase
+
+-- a transcoder that stands there, and takes more
+abbrev pub standing : Transcoder → Standing
+standing s = record { transcoder = s; spent = false }
