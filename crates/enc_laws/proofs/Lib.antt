@@ -1,0 +1,5 @@
+pub mod Rows
+pub mod Leads
+pub mod Segments
+pub mod Reading
+pub mod Cutting
