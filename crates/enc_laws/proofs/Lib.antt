@@ -3,3 +3,5 @@ pub mod Leads
 pub mod Segments
 pub mod Reading
 pub mod Cutting
+pub mod Scalars
+pub mod Handlers
