@@ -1,11 +1,11 @@
 -- The decoder of UTF-8 gives what the cut into maximal subparts gives.
-use Rattle.std.proofs.Common.{ℕ, zero, suc, ◌+◌, ◌-◌, ◌<◌, ◌≤◌, ◌≡◌, ◌⊎◌, inl, inr, Bool, true, false, not, ◌&&◌, List, [], ◌∷◌, ◌++◌, Some, length, drop, take, refl, sym, ◌∙◌, ap, subst, arith, if◌then◌else◌, length-drop}
+use Rattle.std.proofs.Common.{ℕ, zero, suc, ◌<◌, ◌≤◌, ◌≡◌, ◌⊎◌, inl, inr, Bool, true, false, not, ◌&&◌, List, [], ◌∷◌, ◌++◌, length, drop, refl, sym, ◌∙◌, ap, subst, arith, if◌then◌else◌, length-drop}
 use Rattle.std.specs.List.{concat}
 use Rattle.std.proofs.lemmas.Bool.{cases_order}
-use Rattle.enc_model.specs.Stream.{Run, after, steps}
+use Rattle.enc_model.specs.Stream.{after, steps}
 use Rattle.enc_model.specs.Utf8.{Utf8, utf8, utf8_start}
 use Rattle.enc_laws.specs.Subparts.{Ranges, fills, is_sequence, is_prefix, is_open, segment, segments_within, segments, scalar_of, segment_scalar, segments_text}
-use Rattle.enc_laws.proofs.Leads.{Leads, Leading, LeadsNowhere, ascii, ascii_read, two, three_e0, three_e1, three_ed, four_f0, four_f1, four_f4, nowhere}
+use Rattle.enc_laws.proofs.Leads.{Leading, LeadsNowhere, ascii, ascii_read, two, three_e0, three_e1, three_ed, four_f0, four_f1, four_f4, nowhere}
 use Rattle.enc_laws.proofs.Segments.{taken, taken_begins, taken_parts, segment_is}
 use Rattle.enc_laws.proofs.Reading.{read_is, value, behind, tail_whole, tail_stopped, tail_open, open_text, scalar_is, end_start}
 
@@ -37,9 +37,6 @@ not_open true y e = ap not e
 not_open false y e = refl
 
 module _ (b : ℕ) (ranges : Ranges) (s : Utf8) (l : Leading b ranges s) (ended : Bool) (bytes : List ℕ) where
-  here : List ℕ
-  here = b ∷ taken ranges bytes
-
   lead_read : steps utf8 ended utf8_start (b ∷ bytes) ≡ steps utf8 ended s bytes
   lead_read = read_is ended utf8_start b bytes _ l.read
 

@@ -1,11 +1,9 @@
 -- Each handler is sound.
-use Rattle.std.proofs.Common.{ℕ, zero, suc, ◌+◌, ◌-◌, ◌*◌, ◌<◌, ◌≤◌, ◌≡◌, ◌==◌, Bool, true, false, ◌&&◌, ◌||◌, List, [], ◌∷◌, ◌++◌, Option, Some, None, refl, sym, ◌∙◌, ap, arith, if◌then◌else◌, nat_le, nat_lt, lit≤, lit<}
+use Rattle.std.proofs.Common.{ℕ, ◌+◌, ◌-◌, ◌*◌, ◌<◌, ◌≤◌, ◌≡◌, ◌==◌, Bool, true, false, ◌&&◌, ◌||◌, List, [], ◌∷◌, Option, Some, None, refl, arith, if◌then◌else◌, nat_lt, lit≤, lit<}
 use Rattle.std.proofs.lemmas.Bool.Decides.{nat_tests}
-use Rattle.std.proofs.lemmas.Grind.{common_steps}
 use Rattle.enc_model.specs.declared.Answer.{Answer}
 use Rattle.enc_model.specs.declared.Answer.TheVariants.{Point, Error, Nothing, Finished}
 use Rattle.enc_model.specs.Index.{Index, code, within}
-use Rattle.enc_model.specs.Stream.{Step, Handler}
 use Rattle.enc_model.specs.Utf16.{Utf16, utf16, utf16_unit, utf16_byte, utf16_end, unit_of}
 use Rattle.enc_model.specs.declared.Charset.{Charset}
 use Rattle.enc_model.specs.declared.Charset.TheVariants.{Ascii, Roman, Katakana, Lead}
@@ -24,7 +22,7 @@ answer_scalar : (o : Option ℕ) → IsScalarOption o → IsScalarAnswer (answer
 answer_scalar None s = tt
 answer_scalar (Some c) s = s
 
-branch : {A : Type 0} (P : A → Type 0) (x : Bool) (a b : A) → (x ≡ true → P a) → (x ≡ false → P b) → P (if x then a else b)
+pub branch : {A : Type 0} (P : A → Type 0) (x : Bool) (a b : A) → (x ≡ true → P a) → (x ≡ false → P b) → P (if x then a else b)
 branch P true a b f g = f refl
 branch P false a b f g = g refl
 

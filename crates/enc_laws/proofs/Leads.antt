@@ -1,10 +1,9 @@
 -- What a lead byte leads to, in the table and in the decoder.
-use Rattle.std.proofs.Common.{ℕ, suc, ◌+◌, ◌-◌, ◌*◌, ◌<◌, ◌≤◌, ◌≡◌, Bool, true, false, List, [], ◌∷◌, ◌++◌, Some, None, length, refl, sym, ◌∙◌, ap, arith, lit≤}
+use Rattle.std.proofs.Common.{ℕ, suc, ◌-◌, ◌<◌, ◌≤◌, ◌≡◌, false, List, [], ◌∷◌, Some, length, refl, arith, lit≤}
 use Rattle.std.proofs.lemmas.Bool.Decides.{nat_tests}
-use Rattle.enc_model.specs.declared.Answer.TheVariants.{Point, Error, Nothing, Finished}
-use Rattle.enc_model.specs.Stream.{Step}
+use Rattle.enc_model.specs.declared.Answer.TheVariants.{Point, Error, Nothing}
 use Rattle.enc_model.specs.Utf8.{Utf8, utf8, utf8_start, lead_of}
-use Rattle.enc_laws.specs.Subparts.{Ranges, table, fills, begins_to_fill, is_sequence, is_prefix}
+use Rattle.enc_laws.specs.Subparts.{Ranges, fills, begins_to_fill, is_sequence, is_prefix}
 
 -- the table's rows for a lead byte: their other ranges
 pub record Leads (b : ℕ) (ranges : Ranges) : Type 0 where

@@ -5,3 +5,5 @@ pub mod Reading
 pub mod Cutting
 pub mod Scalars
 pub mod Handlers
+pub mod Sequences
+pub mod Texts

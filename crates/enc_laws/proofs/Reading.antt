@@ -1,5 +1,5 @@
 -- How the decoder reads the bytes behind a lead.
-use Rattle.std.proofs.Common.{ℕ, zero, suc, ◌+◌, ◌-◌, ◌*◌, ◌<◌, ◌≤◌, ◌≡◌, ◌==◌, Bool, true, false, List, [], ◌∷◌, ◌++◌, Some, None, length, drop, refl, sym, ◌∙◌, ap, arith, if◌then◌else◌, lit≤}
+use Rattle.std.proofs.Common.{ℕ, suc, ◌+◌, ◌-◌, ◌*◌, ◌≤◌, ◌≡◌, Bool, true, false, List, [], ◌∷◌, ◌++◌, Some, None, length, drop, refl, sym, ◌∙◌, ap, arith, if◌then◌else◌}
 use Rattle.std.proofs.lemmas.Bool.Decides.{nat_tests}
 use Rattle.enc_model.specs.Index.{within}
 use Rattle.enc_model.specs.declared.Answer.TheVariants.{Point, Error, Nothing, Finished}
@@ -8,7 +8,7 @@ use Rattle.enc_model.specs.Utf8.{Utf8, utf8, utf8_start}
 use Rattle.enc_model.proofs.Calm.{utf8_calm}
 use Rattle.enc_model.proofs.Steps.{steps_cons, steps_none, steps_end}
 use Rattle.enc_laws.specs.Subparts.{Ranges, fills, scalar_of}
-use Rattle.enc_laws.proofs.Leads.{ArePlain, Waits, mark_of}
+use Rattle.enc_laws.proofs.Leads.{Waits, mark_of}
 use Rattle.enc_laws.proofs.Segments.{taken, taken_on, taken_stops, fills_on}
 
 -- a byte, by what the handler gives
@@ -60,9 +60,6 @@ pub end_start : (ended : Bool) → (steps utf8 ended utf8_start []).text ≡ []
 unfolding steps steps_within utf8
 end_start true = refl
 end_start false = refl
-
-abbrev run_text : {S : Type 0} → Run S → List ℕ
-run_text r = r.text
 
 -- THE REST OF A SEQUENCE: the bytes that fill its ranges, and those behind them
 

@@ -1,12 +1,11 @@
 -- What handlers give where their tables have scalar values.
-use Rattle.std.proofs.Common.{ℕ, zero, suc, ◌+◌, ◌-◌, ◌*◌, ◌<◌, ◌≤◌, ◌≡◌, ◌==◌, Bool, true, false, ◌&&◌, List, [], ◌∷◌, ◌++◌, Option, Some, None, refl, sym, ◌∙◌, ap, arith, if◌then◌else◌, All, nat_le, nat_lt, IfSome, append-nil}
+use Rattle.std.proofs.Common.{ℕ, zero, suc, ◌<◌, ◌≤◌, ◌≡◌, ◌==◌, Bool, true, false, ◌&&◌, List, [], ◌∷◌, ◌++◌, Option, Some, None, refl, arith, if◌then◌else◌, nat_le, nat_lt, IfSome, append-nil}
 use Rattle.std.proofs.lemmas.Bool.Decides.{nat_tests}
 use Rattle.std.proofs.lemmas.List.Elements.{All-nil, All-cons, All-head, All-tail, All-append}
 use Rattle.enc_model.specs.declared.Answer.{Answer}
 use Rattle.enc_model.specs.declared.Answer.TheVariants.{Point, Error, Nothing, Finished}
-use Rattle.enc_model.specs.declared.Encoding.{Encoding}
 use Rattle.enc_model.specs.Index.{Index, code}
-use Rattle.enc_model.specs.Indexes.{IndexSet, pairs_of, place_of, at_place}
+use Rattle.enc_model.specs.Indexes.{IndexSet, pairs_of, at_place}
 use Rattle.enc_model.specs.Stream.{Step, Handler, Run, said, after, steps, steps_within}
 use Rattle.enc_index.specs.Entries.{ascends}
 use Rattle.enc_index.specs.Scalars.{is_scalar}

@@ -1,9 +1,7 @@
 -- Which bytes the segment of a lead byte has.
-use Rattle.std.proofs.Common.{ℕ, suc, ◌+◌, ◌-◌, ◌*◌, ◌<◌, ◌≤◌, ◌≡◌, Bool, true, false, List, [], ◌∷◌, ◌++◌, refl, sym, ◌∙◌, ap, arith, length, drop, take, if◌then◌else◌}
-use Rattle.std.proofs.lemmas.Bool.Decides.{nat_tests}
-use Rattle.std.proofs.lemmas.Grind.{common_steps}
+use Rattle.std.proofs.Common.{ℕ, ◌≤◌, ◌≡◌, Bool, true, false, List, [], ◌∷◌, ◌++◌, refl, ◌∙◌, ap, arith, length, drop, if◌then◌else◌}
 use Rattle.enc_model.specs.Index.{within}
-use Rattle.enc_laws.specs.Subparts.{Ranges, table, fills, begins_to_fill, is_sequence, is_prefix, segment, first_where}
+use Rattle.enc_laws.specs.Subparts.{Ranges, fills, begins_to_fill, segment}
 use Rattle.enc_laws.proofs.Leads.{Leads}
 
 -- the bytes at the front that fill the first ranges

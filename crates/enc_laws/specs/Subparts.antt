@@ -1,5 +1,5 @@
 -- The cut of bytes into maximal subparts (Unicode Standard, chapter 3: Table 3-7, and 'U+FFFD Substitution of Maximal Subparts').
-use Rattle.std.specs.Prelude.{ℕ, zero, suc, ◌+◌, ◌-◌, ◌*◌, Bool, true, false, not, ◌&&◌, List, [], ◌∷◌, ◌++◌, length, take, drop, if◌then◌else◌}
+use Rattle.std.specs.Prelude.{ℕ, zero, suc, ◌+◌, ◌-◌, ◌*◌, Bool, true, false, not, ◌&&◌, List, [], ◌∷◌, length, take, drop, if◌then◌else◌}
 use Rattle.std.specs.List.{list_any}
 use Rattle.enc_model.specs.Index.{within}
 
