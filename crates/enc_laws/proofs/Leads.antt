@@ -1,0 +1,144 @@
+-- What a lead byte leads to, in the table and in the decoder.
+use Rattle.std.proofs.Common.{ℕ, suc, ◌-◌, ◌<◌, ◌≤◌, ◌≡◌, false, List, [], ◌∷◌, Some, length, refl, arith, lit≤}
+use Rattle.std.proofs.lemmas.Bool.Decides.{nat_tests}
+use Rattle.enc_model.specs.declared.Answer.TheVariants.{Point, Error, Nothing}
+use Rattle.enc_model.specs.Utf8.{Utf8, utf8, utf8_start, lead_of}
+use Rattle.enc_laws.specs.Subparts.{Ranges, fills, begins_to_fill, is_sequence, is_prefix}
+
+-- the table's rows for a lead byte: their other ranges
+pub record Leads (b : ℕ) (ranges : Ranges) : Type 0 where
+  pub few : length ranges ≤ 3
+  pub sequence : (t : List ℕ) → is_sequence (b ∷ t) ≡ fills ranges t
+  pub prefix : (t : List ℕ) → is_prefix (b ∷ t) ≡ begins_to_fill ranges t
+
+-- ranges of which each is 80..BF
+abbrev pub ArePlain : Ranges → Type 0
+ArePlain [] = Unit {0}
+ArePlain (r ∷ ranges) = (r.0 ≡ 0x80) × (r.1 ≡ 0xBF) × ArePlain ranges
+
+-- the decoder waits for bytes in these ranges
+abbrev pub Waits : Ranges → Utf8 → Type 0
+Waits [] s = ⊥
+Waits (r ∷ ranges) s = (s.needed ≡ suc (length ranges)) × (s.lower ≡ r.0) × (s.upper ≡ r.1) × ArePlain ranges
+
+-- what the lead takes away from the first byte's bits
+abbrev pub mark_of : Ranges → ℕ
+mark_of [] = 0
+mark_of (r ∷ []) = 0xC0
+mark_of (r ∷ s ∷ []) = 0xE0
+mark_of (r ∷ s ∷ t ∷ ranges) = 0xF0
+
+-- the decoder's state behind a lead
+pub record Leading (b : ℕ) (ranges : Ranges) (s : Utf8) : Type 0 where
+  pub leads : Leads b ranges
+  pub read : utf8 utf8_start (Some b) ≡ record { state = s; answer = Nothing; restored = [] }
+  pub waits : Waits ranges s
+  pub point : s.point ≡ b - mark_of ranges
+
+abbrev pub lead_state : ℕ → ℕ → ℕ → ℕ → ℕ → Utf8
+lead_state b needed lower upper point = (lead_of b needed lower upper point).state
+
+pub ascii : (b : ℕ) → b < 0x80 → Leads b []
+ascii b l = record { few = lit≤ tt; sequence = λ t. grind (arith, nat_tests); prefix = λ t. grind (arith, nat_tests) }
+
+pub ascii_read : (b : ℕ) → b < 0x80 → utf8 utf8_start (Some b) ≡ record { state = utf8_start; answer = Point b; restored = [] }
+unfolding utf8
+ascii_read b l = grind (arith, nat_tests)
+
+read_c2 : (b : ℕ) → 0xC2 ≤ b → b ≤ 0xDF → utf8 utf8_start (Some b) ≡ lead_of b 1 0x80 0xBF (b - 0xC0)
+unfolding utf8
+read_c2 b l h = grind (arith, nat_tests)
+
+pub two : (b : ℕ) → 0xC2 ≤ b → b ≤ 0xDF → Leading b ((0x80, 0xBF) ∷ []) (lead_state b 1 0x80 0xBF (b - 0xC0))
+two b l h = record {
+  leads = record { few = lit≤ tt; sequence = λ t. grind (arith, nat_tests); prefix = λ t. grind (arith, nat_tests) };
+  read = read_c2 b l h;
+  waits = (refl, refl, refl, tt);
+  point = refl;
+}
+
+read_e0 : (b : ℕ) → b ≡ 0xE0 → utf8 utf8_start (Some b) ≡ lead_of b 2 0xA0 0xBF (b - 0xE0)
+unfolding utf8
+read_e0 b e = grind (arith, nat_tests)
+
+pub three_e0 : (b : ℕ) → b ≡ 0xE0 → Leading b ((0xA0, 0xBF) ∷ (0x80, 0xBF) ∷ []) (lead_state b 2 0xA0 0xBF (b - 0xE0))
+three_e0 b e = record {
+  leads = record { few = lit≤ tt; sequence = λ t. grind (arith, nat_tests); prefix = λ t. grind (arith, nat_tests) };
+  read = read_e0 b e;
+  waits = (refl, refl, refl, (refl, refl, tt));
+  point = refl;
+}
+
+-- E1 to EC, EE and EF
+read_e1 : (b : ℕ) → 0xE1 ≤ b → b ≤ 0xEF → (b ≡ 0xED → ⊥) → utf8 utf8_start (Some b) ≡ lead_of b 2 0x80 0xBF (b - 0xE0)
+unfolding utf8
+read_e1 b l h n = grind (arith, nat_tests)
+
+pub three_e1 : (b : ℕ) → 0xE1 ≤ b → b ≤ 0xEF → (b ≡ 0xED → ⊥) → Leading b ((0x80, 0xBF) ∷ (0x80, 0xBF) ∷ []) (lead_state b 2 0x80 0xBF (b - 0xE0))
+three_e1 b l h n = record {
+  leads = record { few = lit≤ tt; sequence = λ t. grind (arith, nat_tests); prefix = λ t. grind (arith, nat_tests) };
+  read = read_e1 b l h n;
+  waits = (refl, refl, refl, (refl, refl, tt));
+  point = refl;
+}
+
+read_ed : (b : ℕ) → b ≡ 0xED → utf8 utf8_start (Some b) ≡ lead_of b 2 0x80 0x9F (b - 0xE0)
+unfolding utf8
+read_ed b e = grind (arith, nat_tests)
+
+pub three_ed : (b : ℕ) → b ≡ 0xED → Leading b ((0x80, 0x9F) ∷ (0x80, 0xBF) ∷ []) (lead_state b 2 0x80 0x9F (b - 0xE0))
+three_ed b e = record {
+  leads = record { few = lit≤ tt; sequence = λ t. grind (arith, nat_tests); prefix = λ t. grind (arith, nat_tests) };
+  read = read_ed b e;
+  waits = (refl, refl, refl, (refl, refl, tt));
+  point = refl;
+}
+
+read_f0 : (b : ℕ) → b ≡ 0xF0 → utf8 utf8_start (Some b) ≡ lead_of b 3 0x90 0xBF (b - 0xF0)
+unfolding utf8
+read_f0 b e = grind (arith, nat_tests)
+
+pub four_f0 : (b : ℕ) → b ≡ 0xF0 → Leading b ((0x90, 0xBF) ∷ (0x80, 0xBF) ∷ (0x80, 0xBF) ∷ []) (lead_state b 3 0x90 0xBF (b - 0xF0))
+four_f0 b e = record {
+  leads = record { few = lit≤ tt; sequence = λ t. grind (arith, nat_tests); prefix = λ t. grind (arith, nat_tests) };
+  read = read_f0 b e;
+  waits = (refl, refl, refl, (refl, refl, (refl, refl, tt)));
+  point = refl;
+}
+
+read_f1 : (b : ℕ) → 0xF1 ≤ b → b ≤ 0xF3 → utf8 utf8_start (Some b) ≡ lead_of b 3 0x80 0xBF (b - 0xF0)
+unfolding utf8
+read_f1 b l h = grind (arith, nat_tests)
+
+pub four_f1 : (b : ℕ) → 0xF1 ≤ b → b ≤ 0xF3 → Leading b ((0x80, 0xBF) ∷ (0x80, 0xBF) ∷ (0x80, 0xBF) ∷ []) (lead_state b 3 0x80 0xBF (b - 0xF0))
+four_f1 b l h = record {
+  leads = record { few = lit≤ tt; sequence = λ t. grind (arith, nat_tests); prefix = λ t. grind (arith, nat_tests) };
+  read = read_f1 b l h;
+  waits = (refl, refl, refl, (refl, refl, (refl, refl, tt)));
+  point = refl;
+}
+
+read_f4 : (b : ℕ) → b ≡ 0xF4 → utf8 utf8_start (Some b) ≡ lead_of b 3 0x80 0x8F (b - 0xF0)
+unfolding utf8
+read_f4 b e = grind (arith, nat_tests)
+
+pub four_f4 : (b : ℕ) → b ≡ 0xF4 → Leading b ((0x80, 0x8F) ∷ (0x80, 0xBF) ∷ (0x80, 0xBF) ∷ []) (lead_state b 3 0x80 0x8F (b - 0xF0))
+four_f4 b e = record {
+  leads = record { few = lit≤ tt; sequence = λ t. grind (arith, nat_tests); prefix = λ t. grind (arith, nat_tests) };
+  read = read_f4 b e;
+  waits = (refl, refl, refl, (refl, refl, (refl, refl, tt)));
+  point = refl;
+}
+
+-- a byte that begins no sequence
+pub record LeadsNowhere (b : ℕ) : Type 0 where
+  pub sequence : (t : List ℕ) → is_sequence (b ∷ t) ≡ false
+  pub prefix : (t : List ℕ) → is_prefix (b ∷ t) ≡ false
+  pub read : utf8 utf8_start (Some b) ≡ record { state = utf8_start; answer = Error; restored = [] }
+
+read_none : (b : ℕ) → 0x80 ≤ b → (0xC2 ≤ b → 0xF5 ≤ b) → utf8 utf8_start (Some b) ≡ record { state = utf8_start; answer = Error; restored = [] }
+unfolding utf8
+read_none b l n = grind (arith, nat_tests)
+
+pub nowhere : (b : ℕ) → 0x80 ≤ b → (0xC2 ≤ b → 0xF5 ≤ b) → LeadsNowhere b
+nowhere b l n = record { sequence = λ t. grind (arith, nat_tests); prefix = λ t. grind (arith, nat_tests); read = read_none b l n }

@@ -1,0 +1,2 @@
+pub mod Subparts
+pub mod WellFormed

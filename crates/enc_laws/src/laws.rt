@@ -1,0 +1,38 @@
+//! The laws, each as the contract of a function that does nothing.
+
+ghost use Rattle.std.specs.Prelude.{◌≡◌, ℕ, List, Bool, None};
+ghost use Rattle.std.specs.List.{concat};
+ghost use Rattle.enc_model.specs.declared.Encoding.{Encoding};
+ghost use Rattle.enc_model.specs.declared.Encoding.TheVariants.{Utf8};
+ghost use Rattle.enc_model.specs.declared.Mode.{Mode};
+ghost use Rattle.enc_model.specs.Encode.{Tables, encode};
+ghost use Rattle.enc_model.specs.Decode.{decode, text};
+ghost use Rattle.enc_model.specs.Indexes.{IndexSet, tables};
+ghost use Rattle.enc_model.specs.Stream.{steps};
+ghost use Rattle.enc_model.specs.Utf8.{utf8, utf8_start};
+ghost use Rattle.enc_index.specs.Sets.{IsIndexSet};
+ghost use Rattle.enc_laws.specs.Subparts.{segments, segments_text};
+ghost use Rattle.enc_laws.specs.WellFormed.{AreBytes, AreScalars, IsWellFormed};
+
+/// The decoder of UTF-8 gives what the cut into maximal subparts gives, ended and not ended.
+pub fn cut_by_subparts()
+    ensures whole { (bytes : List ℕ) → concat (segments bytes) ≡ bytes }
+    ensures text { (ended : Bool) (bytes : List ℕ) → (steps utf8 ended utf8_start bytes).text ≡ segments_text ended (segments bytes) }
+{}
+
+/// A decoder gives scalar values alone, whatever bytes it reads.
+pub fn gives_scalars()
+    ensures { (x : IndexSet) (e : Encoding) (bytes : List ℕ) (ended : Bool) → IsIndexSet x → AreBytes bytes → AreScalars (decode (tables x) e bytes ended) }
+{}
+
+/// What the encoder of UTF-8 writes for scalar values is well-formed, and each of them has a code.
+pub fn writes_well_formed()
+    ensures bytes { (t : Tables) (mode : Mode) (scalars : List ℕ) (ended : Bool) → AreScalars scalars → IsWellFormed (encode t Utf8 mode scalars ended).bytes }
+    ensures fault { (t : Tables) (mode : Mode) (scalars : List ℕ) (ended : Bool) → (encode t Utf8 mode scalars ended).fault ≡ None }
+{}
+
+/// A text that is stored as UTF-8 is well-formed at every moment, whatever bytes came, ended or not.
+pub fn well_formed_at_every_moment()
+    ensures { (x : IndexSet) (from : Encoding) (mode : Mode) (bytes : List ℕ) (ended : Bool) → IsIndexSet x → AreBytes bytes
+        → IsWellFormed (text (tables x) from Utf8 mode bytes ended).bytes }
+{}

@@ -1,0 +1,6 @@
+//! Laws of the encodings: UTF-8 by maximal subparts, and well-formed texts.
+#![tactic(auto)]
+
+mod laws;
+
+pub use laws::{cut_by_subparts, gives_scalars, well_formed_at_every_moment, writes_well_formed};
