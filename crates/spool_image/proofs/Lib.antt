@@ -1,0 +1,4 @@
+pub mod Bytes
+pub mod Fresh
+pub mod Says
+pub mod NoUploads

@@ -1,0 +1,108 @@
+-- A fresh spool shows no uploads.
+use Rattle.std.proofs.Common.{◌≡◌, inl, inr, ℕ, ◌+◌, ◌-◌, ◌*◌, ◌<◌, ◌≤◌, List, [], Option, None, Some, get_or, replicate, refl, sym, ◌∙◌, ap, subst, arith}
+use Rattle.std.proofs.Math.ListN.{get_or-eq_default, length-replicate}
+use Rattle.std.proofs.lemmas.List.{get_or-replicate}
+use Rattle.std.proofs.lemmas.Bool.{cases_lt}
+use Rattle.enc_model.specs.Indexes.{IndexSet}
+use Rattle.enc_model.specs.Transcode.{Transcoder}
+use Rattle.enc_index.specs.Area.{area_byte}
+use Rattle.enc_index.specs.Sets.{IsIndexSet}
+use Rattle.spool_journal.specs.Image.{journal_pages, all_pages, byte_of, overlaid}
+use Rattle.spool_journal.proofs.Gate.{shut_view}
+use Rattle.upload_rules.specs.Store.{no_uploads}
+use Rattle.spool_image.specs.View.{SlotRecord, View, Says, Stands, slot_bytes, row_bytes, index_place, state_place, slot_place, row_place, state_page, first_page}
+use Rattle.spool_image.specs.Shows.{IsSound, ImageShows}
+use Rattle.spool_image.specs.Fresh.{IsFresh}
+use Rattle.spool_image.proofs.Fresh.{fresh_front, fresh_area, fresh_state, fresh_zeros}
+use Rattle.spool_image.proofs.Says.{some_journal, all_is, says_same}
+
+abbrev nothing : (A : Type 0) → Option A
+nothing A = None
+
+none_at : {A : Type 0} (n i : ℕ) → get_or (replicate n (nothing A)) i (nothing A) ≡ nothing A
+none_at {A = A} n i = elim (cases_lt i n) [
+  | inl below ↦ get_or-replicate n i (nothing A) (nothing A) below
+  | inr from ↦ get_or-eq_default (replicate n (nothing A)) (nothing A) (omega (arith, length-replicate {A = Option A} n (nothing A), from))
+]
+
+never : {A X : Type 0} {o : Option A} {a : A} → o ≡ None → o ≡ Some a → X
+never none some = cc
+
+fresh_view : ℕ → IndexSet → View
+fresh_view n x = record { blocks = n; version = 1; next = 1; indexes = x; slots = replicate 512 None; rows = replicate n None; texts = λ s. [] }
+
+module _ (n : ℕ) (x : IndexSet) (image : ℕ → ℕ) (fresh : IsFresh n x image) where
+  zeros : (place size : ℕ) → state_place n + 12 ≤ place → place + size ≤ 4096 * all_pages n → Stands image place size []
+  zeros place size from below = record {
+    each = λ i lt. fresh.behind.each (place + i) (omega (arith, from)) (omega (arith, below, lt)) ∙ fresh_zeros n x (place + i) (omega (arith, from));
+  }
+
+  slot : (s : ℕ) → s < 512 → Stands image (slot_place n s) 2048 []
+  slot s lt = zeros (slot_place n s) 2048 (omega arith) (omega (arith, all_is n, some_journal n, lt))
+
+  row : (b : ℕ) → b < 512 * (journal_pages n - 257) → Stands image (row_place n b) 8 []
+  row b lt = zeros (row_place n b) 8 (omega arith) (omega (arith, all_is n, some_journal n, lt))
+
+  row_none : (b : ℕ) → b < 512 * (journal_pages n - 257) → Stands image (row_place n b) 8 (row_bytes None)
+  unfolding row_bytes
+  row_none b lt = row b lt
+
+  fresh_says : Says image (fresh_view n x)
+  unfolding fresh_view
+  fresh_says =
+      let j = some_journal n in
+      let all = all_is n in
+      record {
+        first = record { each = λ i lt. let at : i ≡ 0 + i = omega arith in subst (λ (p : ℕ). image p ≡ byte_of (first_page n) i) at (fresh.front i lt) };
+        area = λ i lt.
+            let at : index_place n + i - index_place n ≡ i = omega arith in
+            fresh.behind.each (index_place n + i) (omega arith) (omega (arith, lt, all)) ∙ fresh_area n x (index_place n + i) (omega arith) (omega (arith, lt)) ∙ ap (λ (p : ℕ). area_byte x p) at;
+        state = record {
+          each = λ i lt.
+              let at : state_place n + i - state_place n ≡ i = omega arith in
+              fresh.behind.each (state_place n + i) (omega arith) (omega (arith, lt, all, j)) ∙ fresh_state n x (state_place n + i) (omega arith) ∙ ap (λ (p : ℕ). byte_of (state_page 1 1) p) at;
+        };
+        slots = λ s lt. subst (λ (o : Option SlotRecord). Stands image (slot_place n s) 2048 (slot_bytes o)) (sym (none_at 512 s)) (slot s lt);
+        rows = λ b lt. subst (λ (o : Option (ℕ × ℕ)). Stands image (row_place n b) 8 (row_bytes o)) (sym (none_at n b)) (row_none b lt);
+        texts = λ s r e. never (none_at 512 s) e;
+      }
+
+  fresh_sound : 16 ≤ n → n ≤ 65536 → IsIndexSet x → IsSound (fresh_view n x)
+  unfolding fresh_view
+  fresh_sound least most valid = record {
+    least = least;
+    most = most;
+    version = refl;
+    next_least = omega arith;
+    next_most = omega arith;
+    indexes = valid;
+    slot_count = length-replicate {A = Option SlotRecord} 512 None;
+    row_count = length-replicate {A = Option (ℕ × ℕ)} n None;
+    records = λ s r e. never (none_at 512 s) e;
+    distinct = λ s t r q e f same. never (none_at 512 s) e;
+    owners = λ b slot ordinal e. never (none_at n b) e;
+    lists = λ s r e. never (none_at 512 s) e;
+  }
+
+  gate_shut : image 4096 ≡ 165 → ⊥
+  gate_shut ajar =
+      let zero_there : image 4096 ≡ 0 = fresh.behind.each 4096 (omega arith) (omega (arith, all_is n)) ∙ fresh_front n x 4096 (omega arith) in
+      omega (arith, zero_there, ajar)
+
+  pub fresh_shows : 16 ≤ n → n ≤ 65536 → IsIndexSet x → (state_bytes : Transcoder → List ℕ) → ImageShows state_bytes image (no_uploads x)
+  unfolding fresh_view
+  fresh_shows least most valid state_bytes = record {
+    view = fresh_view n x;
+    is = record {
+      form = λ ajar. absurd (gate_shut ajar);
+      says = says_same (overlaid image) image (fresh_view n x) (λ p outside. shut_view image p gate_shut) fresh_says;
+    };
+    shows = record {
+      sound = fresh_sound least most valid;
+      next = refl;
+      indexes = refl;
+      rising = λ i k lt below. omega (arith, below);
+      told = λ s r e. never (none_at 512 s) e;
+      all = λ k u e. never refl e;
+    };
+  }

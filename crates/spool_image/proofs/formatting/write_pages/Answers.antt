@@ -1,0 +1,26 @@
+use Rattle.std.proofs.Common.{rules, ◌∙◌, ◌*◌, inl, inr, arith}
+use Rattle.spool_disk.proofs.Firm.{not_err}
+use Rattle.spool_journal.proofs.Steps.{no_failure}
+use Rattle.std.proofs.lemmas.Bool.{cases_lt}
+use Rattle.spool_image.specs.View.{state_place}
+use Rattle.spool_image.proofs.Fresh.{fresh_more}
+use Rattle.spool_image.proofs.Says.{all_is}
+use Rattle.spool_image.proofs.formatting.write_pages.Goals as goal
+
+pub loop-page-preserved : goal.loop-page-preserved
+loop-page-preserved g c =
+    let inv = c.loop-page.invariant in
+    record {
+      size = c.write_at.ensures.size ∙ inv.size;
+      honest = λ honest. c.write_at.ensures.honest.0 (inv.honest honest);
+      back = λ honest. inv.back (c.write_at.ensures.honest.1 honest);
+      counts = no_failure c.write_at.ensures.counts (not_err _ _ c.in_ok-write_at.was) ∙ inv.counts;
+      fresh = λ honest. fresh_more _ _ _ _ (inv.fresh honest) (c.in_ok-write_at.ensures.writes (inv.honest honest)) (search rules) (search rules) c.fresh_page.ensures.bytes;
+      valid = λ past. elim (cases_lt (4096 * c.loop-page.page) (state_place c.args.layout.now)) [
+        | inl before ↦ c.fresh_page.ensures.valid (omega (arith, past)) before
+        | inr behind ↦ inv.valid behind
+      ];
+    }
+
+pub returns-clause-valid : goal.returns-clause-valid
+returns-clause-valid g c = c.loop-page.invariant.valid (omega (arith, all_is c.args.layout.now))

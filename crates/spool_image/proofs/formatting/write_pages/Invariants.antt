@@ -1,0 +1,15 @@
+use Rattle.std.proofs.Common.{◌≡◌, ◌≤◌, ◌*◌}
+use Rattle.enc_index.specs.Sets.{IsIndexSet}
+use Rattle.spool_image.specs.View.{state_place}
+use Rattle.spool_image.specs.Fresh.{IsFreshTo}
+use Rattle.spool_image.proofs.formatting.write_pages.Given as goal
+
+abbrev pub invariant-loop-page : goal.invariant-loop-page
+invariant-loop-page g l = record {
+  size : g.D.Disk.size l.disk ≡ g.D.Disk.size l.fn.disk;
+  honest : g.D.Disk.honest l.fn.disk → g.D.Disk.honest l.disk;
+  back : g.D.Disk.honest l.disk → g.D.Disk.honest l.fn.disk;
+  counts : g.D.Disk.failures l.disk ≡ g.D.Disk.failures l.fn.disk;
+  fresh : g.D.Disk.honest l.fn.disk → IsFreshTo l.layout l.indexes (4096 * l.page) (g.D.Disk.seen l.disk);
+  valid : state_place l.layout ≤ 4096 * l.page → IsIndexSet l.indexes;
+}

@@ -1,0 +1,5 @@
+pub mod Bytes
+pub mod View
+pub mod Shows
+pub mod Fresh
+pub mod Format

@@ -1,0 +1,104 @@
+-- A view shows uploads: all that is kept of them stands there, and all checks hold.
+-- The 32 bytes of a transcoder's state are the variable `state_bytes` throughout, for what enc_stream says of packing one.
+use Rattle.std.specs.Prelude.{◌≡◌, ℕ, ◌^◌, ◌<◌, ◌≤◌, All, true, false, List, [], Some, None, length, map}
+use Rattle.enc_model.specs.Indexes.{IndexSet, tables}
+use Rattle.enc_model.specs.Encode.{InAscii}
+use Rattle.enc_model.specs.Transcode.{Transcoder, Over, IsAt}
+use Rattle.enc_index.specs.Sets.{IsIndexSet}
+use Rattle.spool_blocks.specs.Blocks.{Row}
+use Rattle.spool_blocks.specs.Chains.{Owns}
+use Rattle.upload_rules.specs.Store.{Upload, Store, find, is_complete, text_with, text_of}
+use Rattle.upload_rules.specs.Room.{blocks_of}
+use Rattle.upload_rules.specs.Slots.{IsRising}
+use Rattle.spool_image.specs.View.{SlotRecord, View, slot_at, IsViewOf}
+
+-- THE CHECKS
+
+pub record IsSoundRecord (next : ℕ) (r : SlotRecord) : Type 0 where
+  pub some : 1 ≤ r.number
+  pub below : r.number < next
+  pub accepted : r.accepted ≤ r.declared
+  pub declared : r.declared ≤ 1073741824
+  pub text_fits : r.text_len < 2 ^ 64
+  pub state_size : length r.state ≡ 32
+  pub metadata_size : length r.metadata ≤ 1536
+  pub printable : All (λ b. (0x20 ≤ b) × (b ≤ 0x7E)) r.metadata
+
+-- the slot owns blocks at the ordinals below n, one at each
+pub record OwnsOneEach (rows : List Row) (slot n : ℕ) : Type 0 where
+  pub there : (i : ℕ) → i < n → (b : ℕ) × Owns rows b slot i
+  pub once : (a b i : ℕ) → Owns rows a slot i → Owns rows b slot i → a ≡ b
+  pub only : (b i : ℕ) → Owns rows b slot i → i < n
+
+-- the row's slot is in use, and its ordinal fits four bytes
+pub record IsOwned (v : View) (slot ordinal : ℕ) : Type 0 where
+  pub used : SlotRecord
+  pub there : slot_at v slot ≡ Some used
+  pub fits : ordinal < 2 ^ 32
+
+pub record IsSound (v : View) : Type 0 where
+  pub least : 16 ≤ v.blocks
+  pub most : v.blocks ≤ 65536
+  pub version : v.version ≡ 1
+  pub next_least : 1 ≤ v.next
+  pub next_most : v.next ≤ 10 ^ 18
+  pub indexes : IsIndexSet v.indexes
+  pub slot_count : length v.slots ≡ 512
+  pub row_count : length v.rows ≡ v.blocks
+  pub records : (s : ℕ) (r : SlotRecord) → slot_at v s ≡ Some r → IsSoundRecord v.next r
+  pub distinct : (s t : ℕ) (r q : SlotRecord) → slot_at v s ≡ Some r → slot_at v t ≡ Some q → r.number ≡ q.number → s ≡ t
+  pub owners : (b slot ordinal : ℕ) → Owns v.rows b slot ordinal → IsOwned v slot ordinal
+  pub lists : (s : ℕ) (r : SlotRecord) → slot_at v s ≡ Some r → OwnsOneEach v.rows s (blocks_of r.text_len)
+
+-- THE UPLOADS
+
+-- the transcoder is where decoding and encoding end over the accepted bytes, the end among them where the upload is complete
+pub record EndsAt (x : IndexSet) (u : Upload) (t : Transcoder) : Type 0 where
+  pub from : t.from ≡ u.from
+  pub to : t.to ≡ u.to
+  pub mode : t.mode ≡ u.mode
+  pub unfinished : is_complete u ≡ false → IsAt (tables x) t u.accepted
+  pub finished : is_complete u ≡ true → (t.phase ≡ Over) × (t.shift ≡ InAscii)
+
+-- these bytes are its state's
+pub record IsStateOf (state_bytes : Transcoder → List ℕ) (x : IndexSet) (u : Upload) (bytes : List ℕ) : Type 0 where
+  pub transcoder : Transcoder
+  pub ends : EndsAt x u transcoder
+  pub packed : bytes ≡ state_bytes transcoder
+
+-- a record and a text tell of an upload
+pub record IsRecordOf (state_bytes : Transcoder → List ℕ) (x : IndexSet) (r : SlotRecord) (shown : List ℕ) (u : Upload) : Type 0 where
+  pub declared : r.declared ≡ u.declared
+  pub accepted : r.accepted ≡ length u.accepted
+  pub metadata : r.metadata ≡ u.metadata
+  pub text_len : r.text_len ≡ length (text_of x u)
+  pub text : shown ≡ text_of x u
+  pub encodable : (text_with x u [] (is_complete u)).fault ≡ None
+  pub state : IsStateOf state_bytes x u r.state
+
+-- the upload that a record tells of
+pub record IsTold (state_bytes : Transcoder → List ℕ) (m : Store) (r : SlotRecord) (shown : List ℕ) : Type 0 where
+  pub upload : Upload
+  pub there : find r.number m.uploads ≡ Some upload
+  pub tells : IsRecordOf state_bytes m.indexes r shown upload
+
+-- the slot that tells of a number
+pub record HasSlot (v : View) (n : ℕ) : Type 0 where
+  pub slot : ℕ
+  pub used : SlotRecord
+  pub there : slot_at v slot ≡ Some used
+  pub number : used.number ≡ n
+
+pub record Shows (state_bytes : Transcoder → List ℕ) (v : View) (m : Store) : Type 0 where
+  pub sound : IsSound v
+  pub next : v.next ≡ m.next
+  pub indexes : v.indexes ≡ m.indexes
+  pub rising : IsRising (map (λ e. e.0) m.uploads)
+  pub told : (s : ℕ) (r : SlotRecord) → slot_at v s ≡ Some r → IsTold state_bytes m r (v.texts s)
+  pub all : (n : ℕ) (u : Upload) → find n m.uploads ≡ Some u → HasSlot v n
+
+-- the image, read plainly, shows the uploads
+pub record ImageShows (state_bytes : Transcoder → List ℕ) (image : ℕ → ℕ) (m : Store) : Type 0 where
+  pub view : View
+  pub is : IsViewOf image view
+  pub shows : Shows state_bytes view m

@@ -1,0 +1,136 @@
+// A spool without uploads is made.
+ghost use Rattle.std.specs.Prelude.{◌≡◌, ◌≤◌, ◌<◌, ◌*◌, ◌+◌, ◌↔◌, ℕ, List, true, false, IsErr, IsOk, IfOk, OnOk, Err, get_or};
+ghost use Rattle.enc_model.specs.Transcode.{Transcoder};
+ghost use Rattle.enc_model.specs.Indexes.{IndexSet as Indexes};
+ghost use Rattle.enc_index.specs.Sets.{IsIndexSet};
+ghost use Rattle.spool_disk.specs.Disk.{IsImage, Counts, Keeps};
+ghost use Rattle.spool_disk.specs.Views.{Lasts};
+ghost use Rattle.spool_journal.specs.Image.{all_pages};
+ghost use Rattle.upload_rules.specs.Store.{no_uploads};
+ghost use Rattle.spool_image.specs.View.{index_place, state_place};
+ghost use Rattle.spool_image.specs.Shows.{ImageShows};
+ghost use Rattle.spool_image.specs.Format.{HasMagic, FitsSpool, IsRefusal};
+ghost use Rattle.spool_image.specs.Fresh.{fresh_byte, IsFreshTo, IsFresh};
+
+use crate::FormatError;
+use crate::pages::{MAGIC, blank_page, first_page, state_page};
+use enc_index::IndexSet;
+use spool_disk::{Disk, DiskFault};
+use spool_journal::{Layout, PAGE};
+
+// A page behind page 0 of a spool without uploads.
+fn fresh_page(layout: &Layout, indexes: &IndexSet, page: u32) -> [u8; PAGE]
+    ensures bytes { (i : ℕ) → i < 4096 → get_or result i 0 ≡ fresh_byte layout.now indexes.now (4096 * page + i) }
+    ensures valid { index_place layout.now ≤ 4096 * page → 4096 * page < state_place layout.now → IsIndexSet indexes.now }
+{
+    let index_page = layout.index_page();
+    let metadata_page = layout.metadata_page();
+    if page < index_page {
+        return blank_page();
+    }
+    if page < metadata_page {
+        return indexes.to_area((page - index_page) as usize);
+    }
+    if page == metadata_page {
+        return state_page(1);
+    }
+    blank_page()
+}
+
+// Writes all pages behind page 0.
+fn write_pages<D: Disk>(disk: &mut D, layout: &Layout, indexes: &IndexSet) -> Result<(), DiskFault>
+    requires { 4096 * all_pages layout.now ≤ D.size disk.old }
+    ensures size { D.size disk.new ≡ D.size disk.old }
+    ensures honest { D.honest disk.old ↔ D.honest disk.new }
+    ensures counts { Counts (IsErr result) (D.failures disk.old) (D.failures disk.new) }
+    ensures fresh { D.honest disk.old → OnOk result (IsFreshTo layout.now indexes.now (4096 * all_pages layout.now) (D.seen disk.new)) }
+    ensures valid { OnOk result (IsIndexSet indexes.now) }
+{
+    for page in 1..layout.pages() {
+        disk.write_at(4096 * page as u64, &fresh_page(layout, indexes, page))?;
+    }
+    Ok(())
+}
+
+// Writes page 0 behind the others, which are synced before.
+fn write_first<D: Disk>(disk: &mut D, layout: &Layout) -> Result<(), DiskFault>
+    requires { 4096 * all_pages layout.now ≤ D.size disk.old }
+    ensures size { D.size disk.new ≡ D.size disk.old }
+    ensures honest { D.honest disk.old ↔ D.honest disk.new }
+    ensures counts { Counts (IsErr result) (D.failures disk.old) (D.failures disk.new) }
+    ensures firm { D.honest disk.old → OnOk result ((p : ℕ) → D.loose disk.new p → ⊥) }
+    ensures fresh { D.honest disk.old → OnOk result ((x : Indexes) → IsFreshTo layout.now x (4096 * all_pages layout.now) (D.seen disk.old) → IsFresh layout.now x (D.seen disk.new)) }
+    ensures least { OnOk result (16 ≤ layout.now) }
+    ensures most { OnOk result (layout.now ≤ 65536) }
+{
+    disk.sync()?;
+    disk.write_at(0, &first_page(layout.blocks()))?;
+    disk.sync()
+}
+
+// Whether the disk begins with the first bytes of a spool.
+fn is_spool<D: Disk>(disk: &mut D) -> Result<bool, DiskFault>
+    ensures size { D.size disk.new ≡ D.size disk.old }
+    ensures honest { D.honest disk.old ↔ D.honest disk.new }
+    ensures counts { Counts (IsErr result) (D.failures disk.old) (D.failures disk.new) }
+    ensures keeps { D.honest disk.old → Keeps (D.seen disk.old) (D.seen disk.new) (D.loose disk.old) (D.loose disk.new) }
+    ensures lasts { D.honest disk.old → Lasts D.Disk disk.old disk.new (IsImage (D.seen disk.old) (D.loose disk.old)) }
+    ensures yes { D.honest disk.old → IfOk result (λ is. is ≡ true → HasMagic (D.size disk.old) (D.seen disk.old)) }
+    ensures no { D.honest disk.old → IfOk result (λ is. is ≡ false → HasMagic (D.size disk.old) (D.seen disk.old) → ⊥) }
+{
+    if disk.len() < 8 {
+        return Ok(false);
+    }
+    let mut front = [0; 8];
+    disk.read(0, &mut front)?;
+    Ok(front == MAGIC)
+}
+
+/// Makes a spool without uploads of so many text blocks. It writes all pages but page 0 and syncs, and then page 0 and syncs.
+/// `AlreadySpool` where the disk begins with the first bytes of a spool; `Size` where the text blocks are not 16 to 65,536 or
+/// the disk is shorter than all pages; these in this order, and then nothing was written. `DiskFault` where the disk failed. It
+/// takes no memory.
+pub fn format<D: Disk>(disk: &mut D, blocks: u32, indexes: &IndexSet) -> Result<(), FormatError>
+    ensures size { D.size disk.new ≡ D.size disk.old }
+    ensures honest { D.honest disk.old ↔ D.honest disk.new }
+    ensures counts { Counts (result ≡ Err FormatError.DiskFault) (D.failures disk.old) (D.failures disk.new) }
+
+    // It refuses exactly a spool, and then a size that doesn't fit.
+    ensures already { D.honest disk.old → result ≡ Err FormatError.AlreadySpool → HasMagic (D.size disk.old) (D.seen disk.old) }
+    ensures no_spool { D.honest disk.old → (result ≡ Err FormatError.AlreadySpool → ⊥) → (result ≡ Err FormatError.DiskFault → ⊥) → HasMagic (D.size disk.old) (D.seen disk.old) → ⊥ }
+    ensures fits { IsOk result → FitsSpool blocks (D.size disk.old) }
+    ensures too_long { result ≡ Err FormatError.Size → FitsSpool blocks (D.size disk.old) → ⊥ }
+
+    // Then every image is one from before.
+    ensures same { D.honest disk.old → IsRefusal result → Keeps (D.seen disk.old) (D.seen disk.new) (D.loose disk.old) (D.loose disk.new) }
+    ensures lasts { D.honest disk.old → IsRefusal result → Lasts D.Disk disk.old disk.new (IsImage (D.seen disk.old) (D.loose disk.old)) }
+
+    // Else every image shows no uploads, and these indexes.
+    ensures shows { D.honest disk.old → OnOk result ((state_bytes : Transcoder → List ℕ) (image : ℕ → ℕ) → IsImage (D.seen disk.new) (D.loose disk.new) image → ImageShows state_bytes image (no_uploads indexes.now)) }
+    ensures firm { D.honest disk.old → OnOk result ((p : ℕ) → D.loose disk.new p → ⊥) }
+{
+    if is_spool(disk)? {
+        return Err(FormatError::AlreadySpool);
+    }
+    let Some(layout) = Layout::of(blocks) else {
+        return Err(FormatError::Size);
+    };
+    if disk.len() < 4096 * layout.pages() as u64 {
+        return Err(FormatError::Size);
+    }
+    make(disk, &layout, indexes)?;
+    Ok(())
+}
+
+// Writes all pages.
+fn make<D: Disk>(disk: &mut D, layout: &Layout, indexes: &IndexSet) -> Result<(), DiskFault>
+    requires { 4096 * all_pages layout.now ≤ D.size disk.old }
+    ensures size { D.size disk.new ≡ D.size disk.old }
+    ensures honest { D.honest disk.old ↔ D.honest disk.new }
+    ensures counts { Counts (IsErr result) (D.failures disk.old) (D.failures disk.new) }
+    ensures firm { D.honest disk.old → OnOk result ((p : ℕ) → D.loose disk.new p → ⊥) }
+    ensures shows { D.honest disk.old → OnOk result ((state_bytes : Transcoder → List ℕ) (image : ℕ → ℕ) → IsImage (D.seen disk.new) (D.loose disk.new) image → ImageShows state_bytes image (no_uploads indexes.now)) }
+{
+    write_pages(disk, layout, indexes)?;
+    write_first(disk, layout)
+}

@@ -1,0 +1,40 @@
+// The pages of a spool that are neither records nor rows.
+ghost use Rattle.std.specs.Prelude.{◌≡◌, ◌<◌, ◌≤◌, ◌+◌, ◌*◌, ℕ, [], length, slice_index};
+ghost use Rattle.spool_image.specs.Bytes.{IsPadded};
+ghost use Rattle.spool_image.specs.View.{magic, first_page, state_page};
+
+use crate::fields::put;
+use spool_journal::PAGE;
+
+/// The first bytes of a spool.
+pub(crate) const MAGIC: [u8; 8] = *b"TUSSPOOL";
+
+/// The version of the layout.
+pub(crate) const VERSION: u32 = 1;
+
+/// A page of zeros.
+pub(crate) fn blank_page() -> [u8; PAGE]
+    ensures { IsPadded result [] }
+{
+    [0; PAGE]
+}
+
+/// Page 0 of a spool of so many text blocks.
+pub(crate) fn first_page(blocks: u32) -> [u8; PAGE]
+    ensures { IsPadded result (first_page blocks) }
+{
+    let mut page = [0; PAGE];
+    put(&mut page, 0, &MAGIC);
+    put(&mut page, 8, &blocks.to_be_bytes());
+    page
+}
+
+/// The state page: the version and the next number.
+pub(crate) fn state_page(next: u64) -> [u8; PAGE]
+    ensures { IsPadded result (state_page 1 next) }
+{
+    let mut page = [0; PAGE];
+    put(&mut page, 0, &VERSION.to_be_bytes());
+    put(&mut page, 4, &next.to_be_bytes());
+    page
+}

@@ -1,0 +1,99 @@
+use crate::{FormatError, format, pages_of};
+use enc_index::{Index, IndexSet, Kind};
+use spool_disk::{Disk, DiskFault, FuseDisk, MemoryDisk};
+use std::alloc::{AllocError, Global};
+use std::test::Fail;
+
+// A disk of 557 pages, as many as a spool of 16 blocks has.
+fn small_disk(alloc: Global) -> Result<MemoryDisk, AllocError> {
+    MemoryDisk::new(alloc, 557 * 4096)
+}
+
+// A byte, if it is there.
+fn byte_at<D: Disk>(disk: &mut D, at: u64) -> Result<u8, DiskFault> {
+    if at >= disk.len() {
+        return Err(DiskFault);
+    }
+    let mut byte = [0];
+    disk.read(at, &mut byte)?;
+    Ok(byte[0])
+}
+
+#[test]
+fn pages_of_the_least_and_the_greatest_spool(rt: HostRuntime) -> Result<(), Fail> {
+    assert_eq!(rt; pages_of(16), Some(557));
+    assert_eq!(rt; pages_of(65536), Some(66331));
+    assert_eq!(rt; pages_of(15), None);
+    assert_eq!(rt; pages_of(65537), None);
+    Ok(())
+}
+
+#[test]
+fn spool_is_not_formatted_again(rt: HostRuntime) -> Result<(), Fail> {
+    let mut indexes = IndexSet::new(rt.alloc())?;
+    indexes.set(Index::read(rt.alloc(), b"0\t3000\n", Kind::Jis0208)?);
+    let mut disk = small_disk(rt.alloc())?;
+    assert_eq!(rt; format(&mut disk, 16, &indexes), Ok(()));
+    // the first page, the gate, the index area's flag and first code point, and the state page
+    for (at, want) in [
+        (0, b'T'),
+        (7, b'L'),
+        (11, 16),
+        (12, 0),
+        (4096, 0),
+        (261 * 4096, 1),
+        (261 * 4096 + 34, 0x30),
+        (261 * 4096 + 36, 0xFF),
+        (283 * 4096 + 3, 1),
+        (283 * 4096 + 11, 1),
+        (283 * 4096 + 12, 0),
+        (284 * 4096, 0),
+    ] {
+        assert_eq!(rt; byte_at(&mut disk, at), Ok(want), "at {at}");
+    }
+    assert_eq!(rt;
+        format(&mut disk, 16, &indexes),
+        Err(FormatError::AlreadySpool)
+    );
+    assert_eq!(rt;
+        format(&mut disk, 15, &indexes),
+        Err(FormatError::AlreadySpool)
+    );
+    Ok(())
+}
+
+#[test]
+fn size_out_of_range_or_disk_too_short_is_refused(rt: HostRuntime) -> Result<(), Fail> {
+    let indexes = IndexSet::new(rt.alloc())?;
+    let mut disk = small_disk(rt.alloc())?;
+    for blocks in [0, 15, 17, 65536, 65537] {
+        assert_eq!(rt;
+            format(&mut disk, blocks, &indexes),
+            Err(FormatError::Size),
+            "{blocks}"
+        );
+    }
+    let mut short = MemoryDisk::new(rt.alloc(), 7)?;
+    assert_eq!(rt; format(&mut short, 16, &indexes), Err(FormatError::Size));
+    assert_eq!(rt; format(&mut disk, 16, &indexes), Ok(()));
+    Ok(())
+}
+
+#[test]
+fn fault_of_the_disk_leaves_no_spool(rt: HostRuntime) -> Result<(), Fail> {
+    let indexes = IndexSet::new(rt.alloc())?;
+    // a read, 556 pages, a sync, page 0 and a sync
+    for passed in [0, 1, 300, 557, 558] {
+        let mut fuse = FuseDisk::new(small_disk(rt.alloc())?, passed);
+        assert_eq!(rt;
+            format(&mut fuse, 16, &indexes),
+            Err(FormatError::DiskFault),
+            "{passed}"
+        );
+        let mut disk = fuse.into_inner();
+        assert_eq!(rt; byte_at(&mut disk, 0), Ok(0), "{passed}");
+    }
+    let mut fuse = FuseDisk::new(small_disk(rt.alloc())?, 560);
+    assert_eq!(rt; format(&mut fuse, 16, &indexes), Ok(()));
+    Ok(())
+}
