@@ -77,6 +77,8 @@ impl<U: Uploads> Session<U> {
         ensures crash { (st : State) → SessionStands U.Uploads (places_of self.old) store.old st
             → Limits (U.moment store.old) (U.moment store.new) (U.left_only store.old) (U.left_only store.new) st.world.store
             (step st (Came conn bytes.now) Served).state.world.store }
+        ensures unmade { (st : State) → SessionStands U.Uploads (places_of self.old) store.old st → IsErrOf result SessionError.NoMemory
+            → Limits (U.moment store.old) (U.moment store.new) (U.left_only store.old) (U.left_only store.new) st.world.store st.world.store }
         ensures counts { Counts (IsErrOf result SessionError.DiskFault) (U.failures store.old) (U.failures store.new) }
     {
         if conn >= self.places.len() {
@@ -125,6 +127,8 @@ impl<U: Uploads> Session<U> {
         ensures crash { (st : State) → SessionStands U.Uploads (places_of self.old) store.old st
             → Limits (U.moment store.old) (U.moment store.new) (U.left_only store.old) (U.left_only store.new) st.world.store
             (step st (Ended conn) Served).state.world.store }
+        ensures unmade { (st : State) → SessionStands U.Uploads (places_of self.old) store.old st → IsErrOf result SessionError.NoMemory
+            → Limits (U.moment store.old) (U.moment store.new) (U.left_only store.old) (U.left_only store.new) st.world.store st.world.store }
         ensures counts { Counts (IsErrOf result SessionError.DiskFault) (U.failures store.old) (U.failures store.new) }
     {
         if conn >= self.places.len() {
