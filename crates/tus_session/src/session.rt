@@ -40,8 +40,9 @@ impl<U: Uploads> Session<U> {
 
     /// Opens a connection. It needs no memory.
     pub fn opened(&mut self, conn: usize) -> Result<(), SessionError>
-        ensures { (store : U) (st : State) → SessionStands U.Uploads (places_of self.old) store st
+        ensures answer { (store : U) (st : State) → SessionStands U.Uploads (places_of self.old) store st
             → Opens U.Uploads (places_of self.new) store result st (Opened conn) }
+        ensures no_device { IsErrOf result SessionError.DiskFault → ⊥ }
     {
         if conn >= self.places.len() {
             return Err(SessionError::TooMany);
