@@ -1,6 +1,9 @@
 -- A session's calls as those of connections.
 use Rattle.std.proofs.Common.{◌≡◌, Bool, true, false, ℕ, List, [], Option, Some, None, Result, Ok, Err, refl, sym, subst, ap, ◌∙◌, append-nil, nat_lt, if◌then◌else◌}
+use Rattle.std.specs.Prelude.{IsErrOf}
 use Rattle.upload_rules.specs.declared.uploads.Uploads.{Ghosts}
+use Rattle.upload_rules.specs.Store.{Store}
+use Rattle.upload_rules.specs.Answers.{Limits}
 use Rattle.tus_session.specs.Turns.{Conn, fresh}
 use Rattle.tus_session.specs.History.{State, Event, Opened, Came, More, Ended, Served, Failed, Done, Refused, Step, step, put, kept, opened_at, came_at, more_at, ended_at}
 use Rattle.tus_session.specs.Stands.{SessionStands}
@@ -10,7 +13,9 @@ use Rattle.tus_session.specs.declared.answers.Answer.{Answer}
 use Rattle.tus_session.specs.declared.conns.Place.{Place}
 use Rattle.tus_session.specs.declared.errors.SessionError.{SessionError}
 use Rattle.tus_session.specs.declared.errors.SessionError.TheVariants.{NoMemory, DiskFault, TooMany, Closed}
-use Rattle.gateway_engine.specs.Connections.{Gives, Does}
+use Rattle.tus_session.proofs.Limiting.{still_limits}
+use Rattle.gateway_engine.specs.Connections.{Gives, Does, mark_of}
+use Rattle.gateway_engine.specs.Images.{shown_by}
 
 failed_outcome : (st : State) (e : Event) → (step st e Failed).outcome ≡ Refused DiskFault
 unfolding step
@@ -89,3 +94,14 @@ module _ {U B : Type 0} (u : Ghosts U B) (places : List (Place B)) (store : U) (
   opens_does (Err DiskFault) stays t = let f : DiskFault ≡ TooMany = (stays DiskFault t.outcome).0 in absurd (cc)
   opens_does (Err TooMany) stays t = record { answer = t.outcome; keeps = subst stands (sym ((stays TooMany t.outcome).1)) t.stands }
   opens_does (Err Closed) stays t = let f : Closed ≡ TooMany = (stays Closed t.outcome).0 in absurd (cc)
+
+-- what images may show behind a call
+module _ {before now : ℕ} {left_only left_only' : ℕ → List Store → Type 0} {T : Type 0} (st : State) (e : Event) where
+  pub shown_behind : (result : Result T SessionError) → Limits before now left_only left_only' st.world.store (step st e Served).state.world.store
+      → (IsErrOf result NoMemory → Limits before now left_only left_only' st.world.store st.world.store)
+      → Limits before now left_only left_only' st.world.store (shown_by st e (mark_of result))
+  shown_behind (Ok x) made unmade = made
+  shown_behind (Err NoMemory) made unmade = still_limits _ (unmade refl)
+  shown_behind (Err DiskFault) made unmade = made
+  shown_behind (Err TooMany) made unmade = made
+  shown_behind (Err Closed) made unmade = made

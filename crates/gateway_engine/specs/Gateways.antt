@@ -5,6 +5,10 @@ use Rattle.tus_session.specs.Places.{places_of}
 use Rattle.tus_session.specs.Stands.{SessionStands}
 use Rattle.gateway_engine.specs.declared.gateway.Gateway.{Gateway}
 
+-- the uploads that it has
+abbrev pub store_of : {U B : Type 0} → Gateway U B → U
+store_of g = g.store
+
 -- its session and its store are where the history is
 abbrev pub GatewayStands : {U B : Type 0} → Ghosts U B → Gateway U B → State → Type 0
 GatewayStands u g st = SessionStands u (places_of g.session) g.store st

@@ -1,5 +1,6 @@
 pub mod Faults
 pub mod Script
+pub mod Images
 pub mod Connections
 pub mod Gateways
 pub mod Ran

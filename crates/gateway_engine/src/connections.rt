@@ -1,7 +1,10 @@
 //! Connections, as a script drives them.
-ghost use Rattle.std.specs.Prelude.{◌≡◌, false, IsErrOf};
+ghost use Rattle.std.specs.Prelude.{◌≡◌, ℕ, List, false, IsErrOf};
+ghost use Rattle.upload_rules.specs.Store.{Store};
+ghost use Rattle.upload_rules.specs.Answers.{Limits, Quiet, Counts};
 ghost use Rattle.tus_session.specs.History.{State, Opened, Came, More, Ended, is_closed};
-ghost use Rattle.gateway_engine.specs.Connections.{Gives, Does};
+ghost use Rattle.gateway_engine.specs.Connections.{Gives, Does, mark_of};
+ghost use Rattle.gateway_engine.specs.Images.{shown_by};
 
 use tus_session::{Answer, SessionError};
 
@@ -10,20 +13,39 @@ pub trait Connections {
     /// They are where the history is.
     ghost stands: { Self → State → Type 0 };
 
+    /// Counts what the device was asked.
+    ghost moment: { Self → ℕ };
+
+    /// What a crash at any moment since that one might have left shows one of these stores.
+    ghost left_only: { Self → ℕ → List Store → Type 0 };
+
+    /// How often the device failed.
+    ghost failures: { Self → ℕ };
+
     /// Opens a connection.
     fn opened(&mut self, conn: usize) -> Result<(), SessionError>
-        ensures { (st : State) → stands self.old st → Does (stands self.new) result st (Opened conn) };
+        ensures does { (st : State) → stands self.old st → Does (stands self.new) result st (Opened conn) }
+        ensures crash { Quiet (moment self.old) (moment self.new) (left_only self.old) (left_only self.new) }
+        ensures counts { Counts (IsErrOf result SessionError.DiskFault) (failures self.old) (failures self.new) };
 
     /// Bytes came: those of at most one request are taken, and what they are answered is put behind `out`.
     fn came(&mut self, conn: usize, bytes: &[u8], out: &mut Vec<u8>) -> Result<Answer, SessionError>
-        ensures { (st : State) → stands self.old st → Gives (stands self.new) result out.old.items out.new.items st (Came conn bytes.now) };
+        ensures gives { (st : State) → stands self.old st → Gives (stands self.new) result out.old.items out.new.items st (Came conn bytes.now) }
+        ensures crash { (st : State) → stands self.old st
+            → Limits (moment self.old) (moment self.new) (left_only self.old) (left_only self.new) st.world.store (shown_by st (Came conn bytes.now) (mark_of result)) }
+        ensures counts { Counts (IsErrOf result SessionError.DiskFault) (failures self.old) (failures self.new) };
 
     /// The next piece of a text is put behind `out`.
     fn more(&mut self, conn: usize, out: &mut Vec<u8>) -> Result<Answer, SessionError>
-        ensures { (st : State) → stands self.old st → Gives (stands self.new) result out.old.items out.new.items st (More conn) };
+        ensures gives { (st : State) → stands self.old st → Gives (stands self.new) result out.old.items out.new.items st (More conn) }
+        ensures crash { Quiet (moment self.old) (moment self.new) (left_only self.old) (left_only self.new) }
+        ensures counts { Counts (IsErrOf result SessionError.DiskFault) (failures self.old) (failures self.new) };
 
     /// The connection ended. The device is asked only for one that is open.
     fn ended(&mut self, conn: usize) -> Result<(), SessionError>
         ensures does { (st : State) → stands self.old st → Does (stands self.new) result st (Ended conn) }
-        ensures open { (st : State) → stands self.old st → IsErrOf result SessionError.DiskFault → is_closed (st.conns conn) ≡ false };
+        ensures open { (st : State) → stands self.old st → IsErrOf result SessionError.DiskFault → is_closed (st.conns conn) ≡ false }
+        ensures crash { (st : State) → stands self.old st
+            → Limits (moment self.old) (moment self.new) (left_only self.old) (left_only self.new) st.world.store (shown_by st (Ended conn) (mark_of result)) }
+        ensures counts { Counts (IsErrOf result SessionError.DiskFault) (failures self.old) (failures self.new) };
 }

@@ -11,11 +11,12 @@ use Rattle.tus_action.specs.declared.acts.Stop.TheVariants as Stops
 use Rattle.tus_action.specs.declared.acts.Acted as code
 use Rattle.tus_request.specs.Replies.{reply_refused}
 use Rattle.std.proofs.Math.Seq.{take-append_seam}
-use Rattle.upload_rules.specs.Answers.{Answers, IsLate}
+use Rattle.std.specs.Prelude.{IsErrOf}
+use Rattle.upload_rules.specs.Answers.{Answers, IsLate, Limits}
 use Rattle.tus_action.specs.Acts.{fed, fed_patch, Acted, replied}
-use Rattle.upload_rules.specs.Store.{find, replaced}
+use Rattle.upload_rules.specs.Store.{Store, find, replaced}
 use Rattle.upload_rules.specs.World.{Patch, World}
-use Rattle.upload_rules.specs.Calls.{longer, appended, appended_at, dropped, spent}
+use Rattle.upload_rules.specs.Calls.{longer, appended, appended_at, dropped, spent, outcome}
 
 same_number : (n : ℕ) → (n == n) ≡ true
 same_number n = grind (arith)
@@ -95,3 +96,15 @@ refused_serves u store gone m refusal NoMemory (Ok a) on_files bare closes old n
 refused_serves u store gone m refusal DiskFault (Err Stops.NoMemory) on_files bare closes old new done replies_to answered replies = absurd replies
 refused_serves u store gone m refusal DiskFault (Err Stops.DiskFault) on_files bare closes old new done replies_to answered replies = replies
 refused_serves u store gone m refusal DiskFault (Ok a) on_files bare closes old new done replies_to answered replies = absurd replies
+
+-- refused for memory, by the call itself or behind its refusal: nothing was made
+pub nothing_made : {m0 m1 : ℕ} {l0 l1 : ℕ → List Store → Type 0} {B T : Type 0} (before after : Store) (refusal : Option UploadRefusal) (e : UploadError)
+    (result : Result (code.Acted B) Stop) (on_files bare closes : Bool) (old new : List ℕ) (done : T → Type 0) (same : Type 0)
+    → Answers {T = T} refusal (Err e) done same → RepliesTo result e on_files bare closes old new → IsErrOf result Stops.NoMemory
+    → Limits m0 m1 l0 l1 before (outcome refusal before after) → (e ≡ NoMemory → Limits m0 m1 l0 l1 before before) → Limits m0 m1 l0 l1 before before
+nothing_made {m0} {m1} {l0} {l1} before after refusal (Refused f) result on_files bare closes old new done same answered replies is limits unmade =
+    subst (λ x. Limits m0 m1 l0 l1 before (outcome x before after)) answered.0 limits
+nothing_made before after refusal NoMemory result on_files bare closes old new done same answered replies is limits unmade = unmade refl
+nothing_made before after refusal DiskFault (Ok a) on_files bare closes old new done same answered replies is limits unmade = absurd replies
+nothing_made before after refusal DiskFault (Err Stops.NoMemory) on_files bare closes old new done same answered replies is limits unmade = absurd replies
+nothing_made before after refusal DiskFault (Err Stops.DiskFault) on_files bare closes old new done same answered replies is limits unmade = absurd (cc)

@@ -54,6 +54,8 @@ pub fn end_body<U: Uploads>(
         (committed_as w (U.number_of draft) p r (commit_refusal w (U.number_of draft) p)) }
     ensures crash { (w : World) (p : Patch) → U.stands store.old w → find (U.number_of draft) w.patches ≡ Some p → U.holds draft p
         → Limits (U.moment store.old) (U.moment store.new) (U.left_only store.old) (U.left_only store.new) w.store (commit_outcome w (U.number_of draft) p) }
+    ensures unmade { (w : World) (p : Patch) → U.stands store.old w → find (U.number_of draft) w.patches ≡ Some p → U.holds draft p → IsErrOf result Stop.NoMemory
+        → Limits (U.moment store.old) (U.moment store.new) (U.left_only store.old) (U.left_only store.new) w.store w.store }
     ensures counts { Counts (IsErrOf result Stop.DiskFault) (U.failures store.old) (U.failures store.new) }
 {
     let before = out.as_slice().len();
@@ -76,6 +78,8 @@ pub fn cut_body<U: Uploads>(store: &mut U, draft: U::Draft) -> Result<(), Stop>
         → Ends U.Uploads store.new result (dropped w (U.number_of draft)) (spent w (U.number_of draft) p (commit_refusal w (U.number_of draft) p)) }
     ensures crash { (w : World) (p : Patch) → U.stands store.old w → find (U.number_of draft) w.patches ≡ Some p → U.holds draft p
         → Limits (U.moment store.old) (U.moment store.new) (U.left_only store.old) (U.left_only store.new) w.store (commit_outcome w (U.number_of draft) p) }
+    ensures unmade { (w : World) (p : Patch) → U.stands store.old w → find (U.number_of draft) w.patches ≡ Some p → U.holds draft p → IsErrOf result Stop.NoMemory
+        → Limits (U.moment store.old) (U.moment store.new) (U.left_only store.old) (U.left_only store.new) w.store w.store }
     ensures counts { Counts (IsErrOf result Stop.DiskFault) (U.failures store.old) (U.failures store.new) }
 {
     match store.commit(draft) {

@@ -30,6 +30,8 @@ pub(crate) fn create<U: Uploads>(
         → Serves U.Uploads store.new result out.old.items out.new.items w (post w r new (create_refusal w new)) }
     ensures crash { (w : World) → U.stands store.old w
         → Limits (U.moment store.old) (U.moment store.new) (U.left_only store.old) (U.left_only store.new) w.store (create_outcome w new) }
+    ensures unmade { (w : World) → U.stands store.old w → IsErrOf result Stop.NoMemory
+        → Limits (U.moment store.old) (U.moment store.new) (U.left_only store.old) (U.left_only store.new) w.store w.store }
     ensures counts { Counts (IsErrOf result Stop.DiskFault) (U.failures store.old) (U.failures store.new) }
 {
     let before = out.as_slice().len();

@@ -24,3 +24,6 @@ still_limits b l = record { later = l.later; limits = λ t ms le left x y. l.lim
 
 pub limits_from : {m0 m1 : ℕ} {l0 l1 : ℕ → List Store → Type 0} {a b c : Store} → a ≡ b → Limits m0 m1 l0 l1 a c → Limits m0 m1 l0 l1 b c
 limits_from {m0} {m1} {l0} {l1} {a} {b} {c} e h = subst (λ z. Limits m0 m1 l0 l1 z c) e h
+
+pub limits_both : {m0 m1 : ℕ} {l0 l1 : ℕ → List Store → Type 0} {a b : Store} → a ≡ b → Limits m0 m1 l0 l1 a a → Limits m0 m1 l0 l1 b b
+limits_both {m0} {m1} {l0} {l1} {a} {b} e h = subst (λ z. Limits m0 m1 l0 l1 z z) e h

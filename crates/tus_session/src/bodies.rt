@@ -105,6 +105,9 @@ fn finish<U: Uploads>(
         → length p.body + length bytes.now ≤ p.count
         → Limits (U.moment store.old) (U.moment store.new) (U.left_only store.old) (U.left_only store.new) w.store
         (ended_by w (U.number_of patch.draft) p bytes.now r).world.store }
+    ensures unmade { (w : World) (p : Patch) → U.stands store.old w → find (U.number_of patch.draft) w.patches ≡ Some p → U.holds patch.draft p
+        → length p.body + length bytes.now ≤ p.count → IsErrOf result.1 SessionError.NoMemory
+        → Limits (U.moment store.old) (U.moment store.new) (U.left_only store.old) (U.left_only store.new) w.store w.store }
     ensures counts { Counts (IsErrOf result.1 SessionError.DiskFault) (U.failures store.old) (U.failures store.new) }
 {
     let Patching {
@@ -186,6 +189,9 @@ pub(crate) fn body_of<U: Uploads>(
         → length p.body + left ≤ p.count
         → Limits (U.moment store.old) (U.moment store.new) (U.left_only store.old) (U.left_only store.new) w.store
         (ended_by w (U.number_of patch.draft) p (take left bytes.now) r).world.store }
+    ensures unmade { (w : World) (p : Patch) → U.stands store.old w → find (U.number_of patch.draft) w.patches ≡ Some p → U.holds patch.draft p
+        → length p.body + left ≤ p.count → IsErrOf result.1 SessionError.NoMemory
+        → Limits (U.moment store.old) (U.moment store.new) (U.left_only store.old) (U.left_only store.new) w.store w.store }
     ensures counts { Counts (IsErrOf result.1 SessionError.DiskFault) (U.failures store.old) (U.failures store.new) }
 {
     if (bytes.len() as u64) < left {

@@ -49,6 +49,8 @@ fn request_of<U: Uploads>(
         → Turned U.Uploads store.new result.0 result.1 out.old.items out.new.items w conn.draft (came_turn w conn bytes.now) }
     ensures crash { (w : World) (conn : Conn) (h : List ℕ) (n : ℕ) → U.stands store.old w → IsWhole w conn h bytes.now n before (Asks (request_shown request))
         → Limits (U.moment store.old) (U.moment store.new) (U.left_only store.old) (U.left_only store.new) w.store (came_turn w conn bytes.now).world.store }
+    ensures unmade { (w : World) (conn : Conn) (h : List ℕ) (n : ℕ) → U.stands store.old w → IsWhole w conn h bytes.now n before (Asks (request_shown request)) → IsErrOf result.1 SessionError.NoMemory
+        → Limits (U.moment store.old) (U.moment store.new) (U.left_only store.old) (U.left_only store.new) w.store w.store }
     ensures counts { Counts (IsErrOf result.1 SessionError.DiskFault) (U.failures store.old) (U.failures store.new) }
 {
     let length = request.length;
@@ -117,6 +119,8 @@ fn head_of<U: Uploads>(
         → Turned U.Uploads store.new result.0 result.1 out.old.items out.new.items w conn.draft (came_turn w conn bytes.now) }
     ensures crash { (w : World) (conn : Conn) → U.stands store.old w → InsideHead w conn head.items
         → Limits (U.moment store.old) (U.moment store.new) (U.left_only store.old) (U.left_only store.new) w.store (came_turn w conn bytes.now).world.store }
+    ensures unmade { (w : World) (conn : Conn) → U.stands store.old w → InsideHead w conn head.items → IsErrOf result.1 SessionError.NoMemory
+        → Limits (U.moment store.old) (U.moment store.new) (U.left_only store.old) (U.left_only store.new) w.store w.store }
     ensures counts { Counts (IsErrOf result.1 SessionError.DiskFault) (U.failures store.old) (U.failures store.new) }
 {
     let mut head = head;
@@ -180,6 +184,8 @@ pub(crate) fn came_of<U: Uploads>(
         → Turned U.Uploads store.new result.0 result.1 out.old.items out.new.items w conn.draft (came_turn w conn bytes.now) }
     ensures crash { (w : World) (conn : Conn) → U.stands store.old w → LinkIs U.Uploads w link.head.items link.left link.task conn
         → Limits (U.moment store.old) (U.moment store.new) (U.left_only store.old) (U.left_only store.new) w.store (came_turn w conn bytes.now).world.store }
+    ensures unmade { (w : World) (conn : Conn) → U.stands store.old w → LinkIs U.Uploads w link.head.items link.left link.task conn → IsErrOf result.1 SessionError.NoMemory
+        → Limits (U.moment store.old) (U.moment store.new) (U.left_only store.old) (U.left_only store.new) w.store w.store }
     ensures counts { Counts (IsErrOf result.1 SessionError.DiskFault) (U.failures store.old) (U.failures store.new) }
 {
     let Link { head, left, task } = link;

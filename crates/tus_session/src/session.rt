@@ -40,8 +40,9 @@ impl<U: Uploads> Session<U> {
 
     /// Opens a connection. It needs no memory.
     pub fn opened(&mut self, conn: usize) -> Result<(), SessionError>
-        ensures { (store : U) (st : State) → SessionStands U.Uploads (places_of self.old) store st
+        ensures answer { (store : U) (st : State) → SessionStands U.Uploads (places_of self.old) store st
             → Opens U.Uploads (places_of self.new) store result st (Opened conn) }
+        ensures no_device { IsErrOf result SessionError.DiskFault → ⊥ }
     {
         if conn >= self.places.len() {
             return Err(SessionError::TooMany);
@@ -77,6 +78,8 @@ impl<U: Uploads> Session<U> {
         ensures crash { (st : State) → SessionStands U.Uploads (places_of self.old) store.old st
             → Limits (U.moment store.old) (U.moment store.new) (U.left_only store.old) (U.left_only store.new) st.world.store
             (step st (Came conn bytes.now) Served).state.world.store }
+        ensures unmade { (st : State) → SessionStands U.Uploads (places_of self.old) store.old st → IsErrOf result SessionError.NoMemory
+            → Limits (U.moment store.old) (U.moment store.new) (U.left_only store.old) (U.left_only store.new) st.world.store st.world.store }
         ensures counts { Counts (IsErrOf result SessionError.DiskFault) (U.failures store.old) (U.failures store.new) }
     {
         if conn >= self.places.len() {
@@ -125,6 +128,8 @@ impl<U: Uploads> Session<U> {
         ensures crash { (st : State) → SessionStands U.Uploads (places_of self.old) store.old st
             → Limits (U.moment store.old) (U.moment store.new) (U.left_only store.old) (U.left_only store.new) st.world.store
             (step st (Ended conn) Served).state.world.store }
+        ensures unmade { (st : State) → SessionStands U.Uploads (places_of self.old) store.old st → IsErrOf result SessionError.NoMemory
+            → Limits (U.moment store.old) (U.moment store.new) (U.left_only store.old) (U.left_only store.new) st.world.store st.world.store }
         ensures counts { Counts (IsErrOf result SessionError.DiskFault) (U.failures store.old) (U.failures store.new) }
     {
         if conn >= self.places.len() {

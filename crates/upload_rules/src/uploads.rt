@@ -60,6 +60,8 @@ pub trait Uploads {
             → Answers (create_refusal w new) result (λ n. (n ≡ w.store.next) × stands self.new (created w new)) (stands self.new w) }
         ensures crash { (w : World) → stands self.old w
             → Limits (moment self.old) (moment self.new) (left_only self.old) (left_only self.new) w.store (create_outcome w new) }
+        ensures unmade { (w : World) → stands self.old w → IsErrOf result UploadError.NoMemory
+            → Limits (moment self.old) (moment self.new) (left_only self.old) (left_only self.new) w.store w.store }
         ensures counts { Counts (IsErrOf result UploadError.DiskFault) (failures self.old) (failures self.new) };
 
     /// Opens a draft of `count` bytes at an offset, under the least number that is free: refused with `NoSuch`, `Offset`, `TooLong`, `NoMemory`.
@@ -94,6 +96,8 @@ pub trait Uploads {
             (stands self.new (dropped w (Self.number_of draft))) }
         ensures crash { (w : World) (p : Patch) → stands self.old w → find (Self.number_of draft) w.patches ≡ Some p → holds draft p
             → Limits (moment self.old) (moment self.new) (left_only self.old) (left_only self.new) w.store (commit_outcome w (Self.number_of draft) p) }
+        ensures unmade { (w : World) (p : Patch) → stands self.old w → find (Self.number_of draft) w.patches ≡ Some p → holds draft p → IsErrOf result UploadError.NoMemory
+            → Limits (moment self.old) (moment self.new) (left_only self.old) (left_only self.new) w.store w.store }
         ensures counts { Counts (IsErrOf result UploadError.DiskFault) (failures self.old) (failures self.new) };
 
     /// Gives a draft up. It serves after a fault too, when the store stands for no world.

@@ -14,7 +14,7 @@ returns-in-Ok-tell g c = λ r front at.
     let given : List ℕ = c.more.new.out.items in
     let none : c.new-out.result.items ≡ [] = c.new-out.ensures.items in
     told_called (g.C.Connections.stands c.args.core.now) s' old new front r c.args.conn (More c.args.conn) a given at
-    (subst (λ o. Gives s' (Ok a) o given r.state (More c.args.conn)) none (c.in-Ok.ensures r.state at.keeps))
+    (subst (λ o. Gives s' (Ok a) o given r.state (More c.args.conn)) none (c.in-Ok.ensures.gives r.state at.keeps))
     (subst (λ b. Tells old new (Ok (tt {0})) c.args.conn b a.closes) c.deref.ensures.value c.in-Ok-tell.ensures)
 
 pub returns-in-Ok-refused : goal.returns-in-Ok-refused
@@ -24,7 +24,7 @@ returns-in-Ok-refused g c = λ r front at.
     let given : List ℕ = c.more.new.out.items in
     let none : c.new-out.result.items ≡ [] = c.new-out.ensures.items in
     refused_called (g.C.Connections.stands c.args.core.now) s' (g.W.Write.contents c.args.writer.now) (g.W.Write.contents c.refused.new.writer) front r c.args.conn (More c.args.conn) f given at
-    (subst (λ o. Gives s' (Err f) o given r.state (More c.args.conn)) none (c.in-Err.ensures r.state at.keeps)) c.in-Ok-refused.ensures
+    (subst (λ o. Gives s' (Err f) o given r.state (More c.args.conn)) none (c.in-Err.ensures.gives r.state at.keeps)) c.in-Ok-refused.ensures
 
 pub returns : goal.returns
 returns g c = λ r front at.
@@ -33,4 +33,4 @@ returns g c = λ r front at.
     let given : List ℕ = c.more.new.out.items in
     let none : c.new-out.result.items ≡ [] = c.new-out.ensures.items in
     refuse_stopped (g.C.Connections.stands c.args.core.now) s' (g.W.Write.contents c.args.writer.now) (g.W.Write.contents c.refused.new.writer) front r c.args.conn (More c.args.conn) f given
-    c.in-Err-refused.fault at (subst (λ o. Gives s' (Err f) o given r.state (More c.args.conn)) none (c.in-Err.ensures r.state at.keeps)) c.in-Err-refused.ensures
+    c.in-Err-refused.fault at (subst (λ o. Gives s' (Err f) o given r.state (More c.args.conn)) none (c.in-Err.ensures.gives r.state at.keeps)) c.in-Err-refused.ensures

@@ -20,7 +20,7 @@ returns-in-Ok-run_script g c = record {
       let now : State → Type 0 = λ s. GatewayStands g.U.Uploads c.run_script.new.core s in
       let held = g.W.Write.contents c.run_script.new.writer in
       let at = begins (λ s. GatewayStands g.U.Uploads c.in-Ok-new.gateway s) st (g.W.Write.contents c.args.writer.now) front (c.in-Ok-new.ensures.ok m blocks stands) writes in
-      ran g.U.Uploads now c.close.result held front st bytes (λ s is. c.close.ensures s is)
+      ran g.U.Uploads now c.close.result held front st bytes (λ s is. c.close.ensures.kept s is)
       (subst (λ b. Ends now held front (Ok (tt {0})) (run_lines 1 0 (script_lines b)) (run_from st [])) script (c.in-Ok-run_script.ensures (run_from st []) front at));
 }
 
@@ -32,6 +32,6 @@ returns g c = record {
       let now : State → Type 0 = λ s. GatewayStands g.U.Uploads c.run_script.new.core s in
       let held = g.W.Write.contents c.run_script.new.writer in
       let at = begins (λ s. GatewayStands g.U.Uploads c.in-Ok-new.gateway s) st (g.W.Write.contents c.args.writer.now) front (c.in-Ok-new.ensures.ok m blocks stands) writes in
-      stopped g.U.Uploads now c.close-in-Err-run_script.result held front st bytes (λ s is. c.close-in-Err-run_script.ensures s is) c.in-Err-run_script.fault
+      stopped g.U.Uploads now c.close-in-Err-run_script.result held front st bytes (λ s is. c.close-in-Err-run_script.ensures.kept s is) c.in-Err-run_script.fault
       (subst (λ b. Ends now held front (Err c.in-Err-run_script.fault) (run_lines 1 0 (script_lines b)) (run_from st [])) script (c.in-Err-run_script.ensures (run_from st []) front at));
 }

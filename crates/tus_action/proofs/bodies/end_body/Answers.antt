@@ -1,10 +1,10 @@
-use Rattle.std.proofs.Common.{◌≡◌, ℕ, List, ap, sym, ◌∙◌, subst, take, length, false}
-use Rattle.upload_rules.specs.Calls.{commit_refusal, dropped}
+use Rattle.std.proofs.Common.{◌≡◌, ℕ, List, ap, sym, ◌∙◌, subst, take, length, false, Err}
+use Rattle.upload_rules.specs.Calls.{commit_refusal, committed_store, dropped}
 use Rattle.tus_action.specs.Acts.{committed_as, replied}
 use Rattle.tus_action.specs.Faults.{fault_of}
 use Rattle.tus_request.specs.Replies.{reply_refused}
 use Rattle.tus_action.specs.Serves.{RepliesTo}
-use Rattle.tus_action.proofs.Answered.{refused_serves, taken_back}
+use Rattle.tus_action.proofs.Answered.{refused_serves, taken_back, nothing_made}
 use Rattle.tus_action.proofs.bodies.end_body.Goals as goal
 
 pub returns-in-Err-clause-answer : goal.returns-in-Err-clause-answer
@@ -20,3 +20,10 @@ returns-in-Err-clause-answer g c = λ w p r stands found holds at_end bare close
     ∙ ap (λ b. replied (dropped w d) (reply_refused (fault_of f) false b r.closes) r.closes) bare))
     (c.in-Err.ensures.answer w p stands found holds)
     (subst (λ l. RepliesTo c.refuse.result c.in-Err.error false c.args.bare c.args.closes l c.refuse.new.out.items) back c.refuse.ensures.answer)
+
+pub returns-in-Err-clause-unmade : goal.returns-in-Err-clause-unmade
+returns-in-Err-clause-unmade g c = λ w p stands found holds is.
+    let d : ℕ = g.U.Uploads.number_of c.args.draft in
+    nothing_made w.store (committed_store w.store p) (commit_refusal w d p) c.in-Err.error c.refuse.result false c.args.bare c.args.closes _ _ _ _
+    (c.in-Err.ensures.answer w p stands found holds) c.refuse.ensures.answer is (c.in-Err.ensures.crash w p stands found holds)
+    (λ none. c.in-Err.ensures.unmade w p stands found holds (ap Err none))

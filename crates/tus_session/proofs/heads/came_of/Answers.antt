@@ -63,3 +63,17 @@ returns-in-Idle-2-clause-crash g c w conn stands link =
     let is = idling g.U.Uploads w _ _ conn.draft conn.pending link.does c.in-Idle-2.is in
     let none : c.args.link.left ≡ 0 = omega arith in
     c.head_of.ensures.crash w conn stands (inside_at w conn _ _ link.kept none is.0 is.1)
+
+pub returns-in-Patch-clause-unmade : goal.returns-in-Patch-clause-unmade
+returns-in-Patch-clause-unmade g c w conn stands link none_left =
+    let b = c.in-Patch.patch in
+    let is = patching g.U.Uploads w _ _ b conn.draft conn.pending link.does c.in-Patch.is in
+    let found = ap (λ n. find n w.patches) is.patches.number ∙ is.patches.found in
+    let all = left_wanted g.U.Uploads w conn c.args.link b is link.kept in
+    c.body_of.ensures.unmade w is.p stands found is.patches.holds (omega arith) none_left
+
+pub returns-in-Idle-2-clause-unmade : goal.returns-in-Idle-2-clause-unmade
+returns-in-Idle-2-clause-unmade g c w conn stands link none_left =
+    let is = idling g.U.Uploads w _ _ conn.draft conn.pending link.does c.in-Idle-2.is in
+    let none : c.args.link.left ≡ 0 = omega arith in
+    c.head_of.ensures.unmade w conn stands (inside_at w conn _ _ link.kept none is.0 is.1) none_left

@@ -85,3 +85,13 @@ returns-in-Head-clause-crash g c w conn stands inside =
       judged = in_world w c.indexes.result.now _ _ (c.indexes.ensures w stands) j;
       before_is = omega (arith, c.len-had.ensures, c.args.head.ok.0, c.saturating_sub-before-in-Head.ensures);
     })
+
+pub returns-in-Head-clause-unmade : goal.returns-in-Head-clause-unmade
+returns-in-Head-clause-unmade g c w conn stands inside none_left =
+    let items = c.deref.ensures.value ∙ c.in-Ok.ensures.items in
+    let j = judged_by c.indexes.result.now _ c.args.head.items c.args.bytes.now _ _ items c.in-Ok-parse.ensures.function c.in-Head.is in
+    c.request_of.ensures.unmade w conn c.args.head.items c.in-Head.taken stands (record {
+      inside = inside;
+      judged = in_world w c.indexes.result.now _ _ (c.indexes.ensures w stands) j;
+      before_is = omega (arith, c.len-had.ensures, c.args.head.ok.0, c.saturating_sub-before-in-Head.ensures);
+    }) none_left

@@ -33,3 +33,9 @@ returns-clause-crash g c st stands =
     let lt : c.args.conn < length c.args.self.now.places.items = omega (arith, c.if-conn-len.false, c.len.ensures, c.args.self.now.places.ok.0) in
     let o = open_at g.U.Uploads c.args.self.now.places.items _ st c.args.conn _ c.in-Open.link stands lt c.index_mut.ensures.value (sym c.replace.ensures.value ∙ c.in-Open.is) in
     limits_to (ap (λ x. x.state.world.store) (sym (came_is st c.args.conn c.args.bytes.now o.0 o.1).step_is)) (c.came_of.ensures.crash st.world o.0 stands.shown o.2)
+
+pub returns-clause-unmade : goal.returns-clause-unmade
+returns-clause-unmade g c st stands none_left =
+    let lt : c.args.conn < length c.args.self.now.places.items = omega (arith, c.if-conn-len.false, c.len.ensures, c.args.self.now.places.ok.0) in
+    let o = open_at g.U.Uploads c.args.self.now.places.items _ st c.args.conn _ c.in-Open.link stands lt c.index_mut.ensures.value (sym c.replace.ensures.value ∙ c.in-Open.is) in
+    c.came_of.ensures.unmade st.world o.0 stands.shown o.2 none_left
