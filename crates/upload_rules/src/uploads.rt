@@ -1,6 +1,4 @@
 //! Uploads: each call is stated for every world that the store stands for.
-// CHANGED: `create` requires `well_formed` (no world in it) and `offered` (for each world) in place of `usable`. A body knows no world,
-// so what it needs for itself (an output encoding, metadata that fits a record) may not hang on one.
 ghost use Rattle.std.specs.Prelude.{◌≡◌, ◌≤◌, ◌+◌, ℕ, List, length, Option, Some, None, IsErrOf, option_copied};
 ghost use Rattle.enc_model.specs.Indexes.{IndexSet as Indexes};
 ghost use Rattle.upload_rules.specs.Store.{Upload, Store, upload_of, find};
