@@ -1,6 +1,6 @@
 //! The laws, each as the contract of a function that does nothing.
 
-ghost use Rattle.std.specs.Prelude.{◌≡◌, ℕ, List, Bool, None};
+ghost use Rattle.std.specs.Prelude.{◌≡◌, ◌≤◌, ◌++◌, ℕ, List, Bool, true, None, length};
 ghost use Rattle.std.specs.List.{concat};
 ghost use Rattle.enc_model.specs.declared.Encoding.{Encoding};
 ghost use Rattle.enc_model.specs.declared.Encoding.TheVariants.{Utf8};
@@ -11,8 +11,14 @@ ghost use Rattle.enc_model.specs.Indexes.{IndexSet, tables};
 ghost use Rattle.enc_model.specs.Stream.{steps};
 ghost use Rattle.enc_model.specs.Utf8.{utf8, utf8_start};
 ghost use Rattle.enc_index.specs.Sets.{IsIndexSet};
-ghost use Rattle.enc_laws.specs.Subparts.{segments, segments_text};
+ghost use Rattle.enc_laws.specs.Subparts.{is_sequence, is_prefix, segment, segments, segments_text};
 ghost use Rattle.enc_laws.specs.WellFormed.{AreBytes, AreScalars, IsWellFormed};
+
+/// Where a well-formed sequence begins, it is the segment; and no longer prefix of one begins there than the segment.
+pub fn longest_subparts()
+    ensures sequence { (front rest : List ℕ) → is_sequence front ≡ true → segment (front ++ rest) ≡ front }
+    ensures longest { (front rest : List ℕ) → is_prefix front ≡ true → length front ≤ length (segment (front ++ rest)) }
+{}
 
 /// The decoder of UTF-8 gives what the cut into maximal subparts gives, ended and not ended.
 pub fn cut_by_subparts()
