@@ -25,13 +25,13 @@ pub record Outcome (ended : Bool) (bytes here rest : List ℕ) : Type 0 where
   pub parts : here ++ rest ≡ bytes
   pub outcome : Given ended bytes here rest ⊎ Open ended bytes here rest
 
-scalar_whole : (here : List ℕ) → is_sequence here ≡ true → segment_scalar here ≡ scalar_of here
+pub scalar_whole : (here : List ℕ) → is_sequence here ≡ true → segment_scalar here ≡ scalar_of here
 scalar_whole here e = ap (λ x. if x then scalar_of here else 0xFFFD) e
 
 scalar_part : (here : List ℕ) → is_sequence here ≡ false → segment_scalar here ≡ 0xFFFD
 scalar_part here e = ap (λ x. if x then scalar_of here else 0xFFFD) e
 
-not_open : (x y : Bool) → y ≡ true → (x && not y) ≡ false
+pub not_open : (x y : Bool) → y ≡ true → (x && not y) ≡ false
 not_open true y e = ap not e
 not_open false y e = refl
 
@@ -108,7 +108,7 @@ nowhere_given b ended bytes n = record {
   closed = λ r. ap (λ x. x && not (is_sequence (b ∷ []))) (n.prefix []);
 }
 
-nowhere_segment : (b : ℕ) (bytes : List ℕ) → LeadsNowhere b → segment (b ∷ bytes) ≡ b ∷ []
+pub nowhere_segment : (b : ℕ) (bytes : List ℕ) → LeadsNowhere b → segment (b ∷ bytes) ≡ b ∷ []
 nowhere_segment b [] n = simp (n.sequence, n.prefix)
 nowhere_segment b (c ∷ []) n = simp (n.sequence, n.prefix)
 nowhere_segment b (c ∷ d ∷ []) n = simp (n.sequence, n.prefix)
@@ -125,11 +125,11 @@ outcome_of b ended bytes = elim (kind_of b) [
 
 -- THE LAW
 
-none_within : (n : ℕ) → segments_within n [] ≡ []
+pub none_within : (n : ℕ) → segments_within n [] ≡ []
 none_within zero = refl
 none_within (suc n) = refl
 
-text_on : (n : ℕ) (ended : Bool) (here rest : List ℕ) → length rest ≤ n → (rest ≡ [] → is_open here ≡ false) →
+pub text_on : (n : ℕ) (ended : Bool) (here rest : List ℕ) → length rest ≤ n → (rest ≡ [] → is_open here ≡ false) →
     segments_text ended (here ∷ segments_within n rest) ≡ segment_scalar here ∷ segments_text ended (segments_within n rest)
 text_on n true here [] l closed = rw (none_within n) refl
 text_on n false here [] l closed =

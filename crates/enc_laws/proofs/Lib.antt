@@ -8,3 +8,4 @@ pub mod Handlers
 pub mod Sequences
 pub mod Texts
 pub mod Longest
+pub mod Back

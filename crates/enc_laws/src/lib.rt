@@ -4,6 +4,6 @@
 mod laws;
 
 pub use laws::{
-    cut_by_subparts, gives_scalars, longest_subparts, well_formed_at_every_moment,
+    cut_by_subparts, gives_scalars, longest_subparts, reads_back, well_formed_at_every_moment,
     writes_well_formed,
 };
