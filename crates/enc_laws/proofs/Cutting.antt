@@ -1,11 +1,10 @@
 -- The decoder of UTF-8 gives what the cut into maximal subparts gives.
 use Rattle.std.proofs.Common.{ℕ, zero, suc, ◌<◌, ◌≤◌, ◌≡◌, ◌⊎◌, inl, inr, Bool, true, false, not, ◌&&◌, List, [], ◌∷◌, ◌++◌, length, drop, refl, sym, ◌∙◌, ap, subst, arith, if◌then◌else◌, length-drop}
 use Rattle.std.specs.List.{concat}
-use Rattle.std.proofs.lemmas.Bool.{cases_order}
 use Rattle.enc_model.specs.Stream.{after, steps}
 use Rattle.enc_model.specs.Utf8.{Utf8, utf8, utf8_start}
 use Rattle.enc_laws.specs.Subparts.{Ranges, fills, is_sequence, is_prefix, is_open, segment, segments_within, segments, scalar_of, segment_scalar, segments_text}
-use Rattle.enc_laws.proofs.Leads.{Leading, LeadsNowhere, ascii, ascii_read, two, three_e0, three_e1, three_ed, four_f0, four_f1, four_f4, nowhere}
+use Rattle.enc_laws.proofs.Leads.{Leading, LeadsNowhere, ascii, ascii_read, kind_of}
 use Rattle.enc_laws.proofs.Segments.{taken, taken_begins, taken_parts, segment_is}
 use Rattle.enc_laws.proofs.Reading.{read_is, value, behind, tail_whole, tail_stopped, tail_open, open_text, scalar_is, end_start}
 
@@ -26,13 +25,13 @@ pub record Outcome (ended : Bool) (bytes here rest : List ℕ) : Type 0 where
   pub parts : here ++ rest ≡ bytes
   pub outcome : Given ended bytes here rest ⊎ Open ended bytes here rest
 
-scalar_whole : (here : List ℕ) → is_sequence here ≡ true → segment_scalar here ≡ scalar_of here
+pub scalar_whole : (here : List ℕ) → is_sequence here ≡ true → segment_scalar here ≡ scalar_of here
 scalar_whole here e = ap (λ x. if x then scalar_of here else 0xFFFD) e
 
 scalar_part : (here : List ℕ) → is_sequence here ≡ false → segment_scalar here ≡ 0xFFFD
 scalar_part here e = ap (λ x. if x then scalar_of here else 0xFFFD) e
 
-not_open : (x y : Bool) → y ≡ true → (x && not y) ≡ false
+pub not_open : (x y : Bool) → y ≡ true → (x && not y) ≡ false
 not_open true y e = ap not e
 not_open false y e = refl
 
@@ -86,7 +85,7 @@ module _ (b : ℕ) (ranges : Ranges) (s : Utf8) (l : Leading b ranges s) (ended 
   lead_outcome =
       let at : Outcome ended (b ∷ bytes) (b ∷ taken ranges bytes) (behind ranges bytes) =
       record { some = omega arith; parts = ap (λ t. b ∷ t) (taken_parts ranges bytes); outcome = lead_case } in
-      subst (λ z. Outcome ended (b ∷ bytes) z (drop (length z) (b ∷ bytes))) (sym (segment_is b ranges bytes l.leads l.leads.few)) at
+      subst (λ z. Outcome ended (b ∷ bytes) z (drop (length z) (b ∷ bytes))) (sym (segment_is b ranges bytes l.leads)) at
 
 -- a byte alone
 alone : (b : ℕ) (ended : Bool) (bytes : List ℕ) → segment (b ∷ bytes) ≡ b ∷ [] → Given ended (b ∷ bytes) (b ∷ []) bytes →
@@ -109,7 +108,7 @@ nowhere_given b ended bytes n = record {
   closed = λ r. ap (λ x. x && not (is_sequence (b ∷ []))) (n.prefix []);
 }
 
-nowhere_segment : (b : ℕ) (bytes : List ℕ) → LeadsNowhere b → segment (b ∷ bytes) ≡ b ∷ []
+pub nowhere_segment : (b : ℕ) (bytes : List ℕ) → LeadsNowhere b → segment (b ∷ bytes) ≡ b ∷ []
 nowhere_segment b [] n = simp (n.sequence, n.prefix)
 nowhere_segment b (c ∷ []) n = simp (n.sequence, n.prefix)
 nowhere_segment b (c ∷ d ∷ []) n = simp (n.sequence, n.prefix)
@@ -117,64 +116,20 @@ nowhere_segment b (c ∷ d ∷ e ∷ bytes) n = simp (n.sequence, n.prefix)
 
 -- WHICHEVER BYTE IT IS
 
-module _ (b : ℕ) (ended : Bool) (bytes : List ℕ) where
-  Here : Type 0
-  Here = Outcome ended (b ∷ bytes) (segment (b ∷ bytes)) (drop (length (segment (b ∷ bytes))) (b ∷ bytes))
-
-  out : 0x80 ≤ b → (0xC2 ≤ b → 0xF5 ≤ b) → Here
-  unfolding Here
-  out l n = let at = nowhere b l n in alone b ended bytes (nowhere_segment b bytes at) (nowhere_given b ended bytes at)
-
-  from_f1 : 0xF1 ≤ b → Here
-  unfolding Here
-  from_f1 l = elim (cases_order b 0xF4) [
-    | inl e ↦ lead_outcome b _ _ (four_f4 b e) ended bytes
-    | inr (inl below) ↦ lead_outcome b _ _ (four_f1 b l (omega arith)) ended bytes
-    | inr (inr above) ↦ out (omega arith) (λ _. omega arith)
-  ]
-
-  from_e1 : 0xE1 ≤ b → Here
-  unfolding Here
-  from_e1 l = elim (cases_order b 0xF0) [
-    | inl e ↦ lead_outcome b _ _ (four_f0 b e) ended bytes
-    | inr (inl below) ↦ elim (cases_order b 0xED) [
-      | inl e ↦ lead_outcome b _ _ (three_ed b e) ended bytes
-      | inr apart ↦ lead_outcome b _ _ (three_e1 b l (omega arith) (λ e. elim apart [ inl x ↦ omega arith | inr y ↦ omega arith ])) ended bytes
-    ]
-    | inr (inr above) ↦ from_f1 above
-  ]
-
-  from_c2 : 0xC2 ≤ b → Here
-  unfolding Here
-  from_c2 l = elim (cases_order b 0xE0) [
-    | inl e ↦ lead_outcome b _ _ (three_e0 b e) ended bytes
-    | inr (inl below) ↦ lead_outcome b _ _ (two b l (omega arith)) ended bytes
-    | inr (inr above) ↦ from_e1 above
-  ]
-
-  from_80 : 0x80 ≤ b → Here
-  unfolding Here
-  from_80 l = elim (cases_order b 0xC2) [
-    | inl e ↦ from_c2 (omega arith)
-    | inr (inl below) ↦ out l (λ h. absurd (omega arith))
-    | inr (inr above) ↦ from_c2 (omega arith)
-  ]
-
-  pub outcome_of : Outcome ended (b ∷ bytes) (segment (b ∷ bytes)) (drop (length (segment (b ∷ bytes))) (b ∷ bytes))
-  unfolding Here
-  outcome_of = elim (cases_order b 0x80) [
-    | inl e ↦ from_80 (omega arith)
-    | inr (inl below) ↦ alone b ended bytes (segment_is b [] bytes (ascii b below) (ascii b below).few) (ascii_given b ended bytes below)
-    | inr (inr above) ↦ from_80 (omega arith)
-  ]
+pub outcome_of : (b : ℕ) (ended : Bool) (bytes : List ℕ) → Outcome ended (b ∷ bytes) (segment (b ∷ bytes)) (drop (length (segment (b ∷ bytes))) (b ∷ bytes))
+outcome_of b ended bytes = elim (kind_of b) [
+  | inl low ↦ alone b ended bytes (segment_is b [] bytes (ascii b low)) (ascii_given b ended bytes low)
+  | inr (inl lead) ↦ lead_outcome b lead.0 lead.1 lead.2 ended bytes
+  | inr (inr none) ↦ alone b ended bytes (nowhere_segment b bytes none) (nowhere_given b ended bytes none)
+]
 
 -- THE LAW
 
-none_within : (n : ℕ) → segments_within n [] ≡ []
+pub none_within : (n : ℕ) → segments_within n [] ≡ []
 none_within zero = refl
 none_within (suc n) = refl
 
-text_on : (n : ℕ) (ended : Bool) (here rest : List ℕ) → length rest ≤ n → (rest ≡ [] → is_open here ≡ false) →
+pub text_on : (n : ℕ) (ended : Bool) (here rest : List ℕ) → length rest ≤ n → (rest ≡ [] → is_open here ≡ false) →
     segments_text ended (here ∷ segments_within n rest) ≡ segment_scalar here ∷ segments_text ended (segments_within n rest)
 text_on n true here [] l closed = rw (none_within n) refl
 text_on n false here [] l closed =

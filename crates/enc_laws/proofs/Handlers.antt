@@ -13,7 +13,8 @@ use Rattle.enc_model.specs.declared.Place.{Place}
 use Rattle.enc_model.specs.declared.Place.TheVariants.{In, Trail, EscapeStart, Escape}
 use Rattle.enc_model.specs.Japanese.{Single, single, answer_of, shift_jis, shift_jis_at, shift_jis_pair, pair_step, EucJp, euc_jp, euc_jp_start, euc_jp_pair, Iso2022, iso2022, plain, introducer_byte, escape_of, iso2022_answer, iso2022_to, iso2022_plain, iso2022_escape, iso2022_byte, iso2022_end}
 use Rattle.enc_index.specs.Scalars.{is_scalar}
-use Rattle.enc_laws.proofs.Scalars.{low_scalar, high_scalar, IsScalarOption, HasScalars, IsScalarAnswer, FewBytes, IsSound, both}
+use Rattle.enc_laws.proofs.Scalars.{low_scalar, high_scalar, IsScalarOption, HasScalars, IsScalarAnswer, FewBytes, IsSound}
+use Rattle.enc_laws.proofs.Leads.{both}
 
 abbrev pub Always : {S : Type 0} → S → Type 0
 Always s = Unit {0}

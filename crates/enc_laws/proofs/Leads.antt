@@ -1,5 +1,6 @@
 -- What a lead byte leads to, in the table and in the decoder.
-use Rattle.std.proofs.Common.{ℕ, suc, ◌-◌, ◌<◌, ◌≤◌, ◌≡◌, false, List, [], ◌∷◌, Some, length, refl, arith, lit≤}
+use Rattle.std.proofs.Common.{ℕ, suc, ◌-◌, ◌<◌, ◌≤◌, ◌≡◌, ◌⊎◌, inl, inr, Bool, true, false, ◌&&◌, List, [], ◌∷◌, Some, length, refl, arith, lit≤}
+use Rattle.std.proofs.lemmas.Bool.{cases_lt, cases_order}
 use Rattle.std.proofs.lemmas.Bool.Decides.{nat_tests}
 use Rattle.enc_model.specs.declared.Answer.TheVariants.{Point, Error, Nothing}
 use Rattle.enc_model.specs.Utf8.{Utf8, utf8, utf8_start, lead_of}
@@ -142,3 +143,42 @@ read_none b l n = grind (arith, nat_tests)
 
 pub nowhere : (b : ℕ) → 0x80 ≤ b → (0xC2 ≤ b → 0xF5 ≤ b) → LeadsNowhere b
 nowhere b l n = record { sequence = λ t. grind (arith, nat_tests); prefix = λ t. grind (arith, nat_tests); read = read_none b l n }
+
+-- WHICHEVER BYTE IT IS
+
+abbrev pub Kind : ℕ → Type 0
+Kind b = (b < 0x80) ⊎ (((ranges : Ranges) × (s : Utf8) × Leading b ranges s) ⊎ LeadsNowhere b)
+
+kind_from_f1 : (b : ℕ) → 0xF1 ≤ b → Kind b
+kind_from_f1 b l = elim (cases_order b 0xF4) [
+  | inl e ↦ inr (inl (_, _, four_f4 b e))
+  | inr (inl below) ↦ inr (inl (_, _, four_f1 b l (omega arith)))
+  | inr (inr above) ↦ inr (inr (nowhere b (omega arith) (λ _. omega arith)))
+]
+
+kind_from_e1 : (b : ℕ) → 0xE1 ≤ b → Kind b
+kind_from_e1 b l = elim (cases_order b 0xF0) [
+  | inl e ↦ inr (inl (_, _, four_f0 b e))
+  | inr (inl below) ↦ elim (cases_order b 0xED) [
+    | inl e ↦ inr (inl (_, _, three_ed b e))
+    | inr apart ↦ inr (inl (_, _, three_e1 b l (omega arith) (λ e. elim apart [ inl x ↦ omega arith | inr y ↦ omega arith ])))
+  ]
+  | inr (inr above) ↦ kind_from_f1 b above
+]
+
+kind_from_c2 : (b : ℕ) → 0xC2 ≤ b → Kind b
+kind_from_c2 b l = elim (cases_order b 0xE0) [
+  | inl e ↦ inr (inl (_, _, three_e0 b e))
+  | inr (inl below) ↦ inr (inl (_, _, two b l (omega arith)))
+  | inr (inr above) ↦ kind_from_e1 b above
+]
+
+pub kind_of : (b : ℕ) → Kind b
+kind_of b = elim (cases_lt b 0x80) [
+  | inl low ↦ inl low
+  | inr high ↦ elim (cases_lt b 0xC2) [ inl below ↦ inr (inr (nowhere b high (λ h. absurd (omega arith)))) | inr lead ↦ kind_from_c2 b lead ]
+]
+
+pub both : (a b : Bool) → (a && b) ≡ true → (a ≡ true) × (b ≡ true)
+both true b e = (refl, e)
+both false b e = absurd cc

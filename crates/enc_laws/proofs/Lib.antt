@@ -7,3 +7,5 @@ pub mod Scalars
 pub mod Handlers
 pub mod Sequences
 pub mod Texts
+pub mod Longest
+pub mod Back

@@ -10,6 +10,7 @@ use Rattle.enc_model.specs.Stream.{Step, Handler, Run, said, after, steps, steps
 use Rattle.enc_index.specs.Entries.{ascends}
 use Rattle.enc_index.specs.Scalars.{is_scalar}
 use Rattle.enc_index.specs.Sets.{IsIndex, IsIndexSet}
+use Rattle.enc_laws.proofs.Leads.{both}
 use Rattle.enc_laws.specs.WellFormed.{AreBytes, AreScalars}
 
 pub low_scalar : (c : ℕ) → c < 0xD800 → is_scalar c ≡ true
@@ -27,10 +28,6 @@ IsScalarOption (Some c) = is_scalar c ≡ true
 -- it maps to scalar values
 abbrev pub HasScalars : Index → Type 0
 HasScalars index = (p : ℕ) → IsScalarOption (code index p)
-
-pub both : (a b : Bool) → (a && b) ≡ true → (a ≡ true) × (b ≡ true)
-both true b e = (refl, e)
-both false b e = absurd cc
 
 index_scalars : (low bound : ℕ) (index : Index) → ascends low bound index ≡ true → HasScalars index
 unfolding ascends code

@@ -2,7 +2,7 @@
 use Rattle.std.proofs.Common.{ℕ, ◌≤◌, ◌≡◌, Bool, true, false, List, [], ◌∷◌, ◌++◌, refl, ◌∙◌, ap, arith, length, drop, if◌then◌else◌}
 use Rattle.enc_model.specs.Index.{within}
 use Rattle.enc_laws.specs.Subparts.{Ranges, fills, begins_to_fill, segment}
-use Rattle.enc_laws.proofs.Leads.{Leads}
+use Rattle.enc_laws.proofs.Leads.{Leads, both}
 
 -- the bytes at the front that fill the first ranges
 abbrev pub taken : Ranges → List ℕ → List ℕ
@@ -68,12 +68,12 @@ seg3 b r s t (c ∷ d ∷ g ∷ bytes) l = go (within r.0 r.1 c) (within s.0 s.1
     go false y z e f h = simp (l.sequence, l.prefix, e)
 
 -- what fills the first ranges, with its lead
-pub segment_is : (b : ℕ) (ranges bytes : _) → Leads b ranges → length ranges ≤ 3 → segment (b ∷ bytes) ≡ b ∷ taken ranges bytes
-segment_is b [] bytes l few = seg0 b bytes l
-segment_is b (r ∷ []) bytes l few = seg1 b r bytes l
-segment_is b (r ∷ s ∷ []) bytes l few = seg2 b r s bytes l
-segment_is b (r ∷ s ∷ t ∷ []) bytes l few = seg3 b r s t bytes l
-segment_is b (r ∷ s ∷ t ∷ u ∷ ranges) bytes l few = absurd (omega arith)
+pub segment_is : (b : ℕ) (ranges bytes : _) → Leads b ranges → segment (b ∷ bytes) ≡ b ∷ taken ranges bytes
+segment_is b [] bytes l = seg0 b bytes l
+segment_is b (r ∷ []) bytes l = seg1 b r bytes l
+segment_is b (r ∷ s ∷ []) bytes l = seg2 b r s bytes l
+segment_is b (r ∷ s ∷ t ∷ []) bytes l = seg3 b r s t bytes l
+segment_is b (r ∷ s ∷ t ∷ u ∷ ranges) bytes l = let few = l.few in absurd (omega arith)
 
 -- It is a prefix of a sequence.
 pub taken_begins : (ranges : Ranges) (bytes : List ℕ) → begins_to_fill ranges (taken ranges bytes) ≡ true
@@ -105,3 +105,20 @@ taken_parts (r ∷ ranges) (c ∷ bytes) = go (within r.0 r.1 c) refl (taken_par
         taken (r ∷ ranges) (c ∷ bytes) ++ drop (length (taken (r ∷ ranges) (c ∷ bytes))) (c ∷ bytes) ≡ c ∷ bytes
     go true e ih = ap (λ t. t ++ drop (length t) (c ∷ bytes)) (taken_on r ranges c bytes e) ∙ ap (λ t. c ∷ t) ih
     go false e ih = ap (λ t. t ++ drop (length t) (c ∷ bytes)) (taken_stops r ranges c bytes e)
+
+-- A sequence at the front is what fills the ranges, and no longer prefix begins to.
+pub taken_whole : (ranges : Ranges) (t rest : List ℕ) → fills ranges t ≡ true → taken ranges (t ++ rest) ≡ t
+taken_whole [] [] rest f = refl
+taken_whole [] (c ∷ t) rest f = absurd cc
+taken_whole (r ∷ ranges) [] rest f = absurd cc
+taken_whole (r ∷ ranges) (c ∷ t) rest f =
+    let p = both (within r.0 r.1 c) (fills ranges t) f in
+    taken_on r ranges c (t ++ rest) p.0 ∙ ap (λ z. c ∷ z) (taken_whole ranges t rest p.1)
+
+pub taken_longest : (ranges : Ranges) (t rest : List ℕ) → begins_to_fill ranges t ≡ true → length t ≤ length (taken ranges (t ++ rest))
+taken_longest ranges [] rest f = omega arith
+taken_longest [] (c ∷ t) rest f = absurd cc
+taken_longest (r ∷ ranges) (c ∷ t) rest f =
+    let p = both (within r.0 r.1 c) (begins_to_fill ranges t) f in
+    let ih = taken_longest ranges t rest p.1 in
+    rw (taken_on r ranges c (t ++ rest) p.0) (omega (arith, ih))

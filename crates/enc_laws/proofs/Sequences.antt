@@ -7,7 +7,7 @@ use Rattle.enc_model.specs.Index.{within}
 use Rattle.enc_model.specs.Encode.{utf8_bytes}
 use Rattle.enc_index.specs.Scalars.{is_scalar}
 use Rattle.enc_laws.specs.Subparts.{Ranges, table, fills, is_sequence, scalar_of}
-use Rattle.enc_laws.proofs.Scalars.{both}
+use Rattle.enc_laws.proofs.Leads.{both}
 
 -- A SEQUENCE has one of the table's rows.
 

@@ -85,7 +85,7 @@ decode_scalars x e bytes ended valid all =
 
 -- ENCODING
 
-abbrev written : List ℕ → List (List ℕ)
+abbrev pub written : List ℕ → List (List ℕ)
 written [] = []
 written (c ∷ cs) = utf8_bytes c ∷ written cs
 

@@ -1,6 +1,6 @@
 //! The laws, each as the contract of a function that does nothing.
 
-ghost use Rattle.std.specs.Prelude.{◌≡◌, ℕ, List, Bool, None};
+ghost use Rattle.std.specs.Prelude.{◌≡◌, ◌≤◌, ◌++◌, ℕ, List, [], ◌∷◌, Bool, true, false, None, length};
 ghost use Rattle.std.specs.List.{concat};
 ghost use Rattle.enc_model.specs.declared.Encoding.{Encoding};
 ghost use Rattle.enc_model.specs.declared.Encoding.TheVariants.{Utf8};
@@ -11,8 +11,17 @@ ghost use Rattle.enc_model.specs.Indexes.{IndexSet, tables};
 ghost use Rattle.enc_model.specs.Stream.{steps};
 ghost use Rattle.enc_model.specs.Utf8.{utf8, utf8_start};
 ghost use Rattle.enc_index.specs.Sets.{IsIndexSet};
-ghost use Rattle.enc_laws.specs.Subparts.{segments, segments_text};
+ghost use Rattle.enc_laws.specs.Subparts.{is_sequence, is_prefix, segment, segments, segments_text};
 ghost use Rattle.enc_laws.specs.WellFormed.{AreBytes, AreScalars, IsWellFormed};
+
+/// Where a well-formed sequence begins, it is the segment. No longer prefix of one begins there than the segment, which is
+/// such a prefix itself; where there is none, a single byte.
+pub fn longest_subparts()
+    ensures sequence { (front rest : List ℕ) → is_sequence front ≡ true → segment (front ++ rest) ≡ front }
+    ensures longest { (front rest : List ℕ) → is_prefix front ≡ true → length front ≤ length (segment (front ++ rest)) }
+    ensures prefix { (b : ℕ) (bytes : List ℕ) → is_prefix (b ∷ []) ≡ true → is_prefix (segment (b ∷ bytes)) ≡ true }
+    ensures single { (b : ℕ) (bytes : List ℕ) → is_prefix (b ∷ []) ≡ false → segment (b ∷ bytes) ≡ b ∷ [] }
+{}
 
 /// The decoder of UTF-8 gives what the cut into maximal subparts gives, ended and not ended.
 pub fn cut_by_subparts()
@@ -29,6 +38,12 @@ pub fn gives_scalars()
 pub fn writes_well_formed()
     ensures bytes { (t : Tables) (mode : Mode) (scalars : List ℕ) (ended : Bool) → AreScalars scalars → IsWellFormed (encode t Utf8 mode scalars ended).bytes }
     ensures fault { (t : Tables) (mode : Mode) (scalars : List ℕ) (ended : Bool) → (encode t Utf8 mode scalars ended).fault ≡ None }
+{}
+
+/// The decoder of UTF-8 reads the scalar values back that the encoder wrote.
+pub fn reads_back()
+    ensures { (t : Tables) (mode : Mode) (scalars : List ℕ) (done ended : Bool) → AreScalars scalars
+        → (steps utf8 ended utf8_start (encode t Utf8 mode scalars done).bytes).text ≡ scalars }
 {}
 
 /// A text that is stored as UTF-8 is well-formed at every moment, whatever bytes came, ended or not.

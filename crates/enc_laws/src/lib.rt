@@ -3,4 +3,7 @@
 
 mod laws;
 
-pub use laws::{cut_by_subparts, gives_scalars, well_formed_at_every_moment, writes_well_formed};
+pub use laws::{
+    cut_by_subparts, gives_scalars, longest_subparts, reads_back, well_formed_at_every_moment,
+    writes_well_formed,
+};

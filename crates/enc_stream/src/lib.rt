@@ -14,4 +14,6 @@ pub use error::TranscodeError;
 pub use transcoder::Transcoder;
 
 #[cfg(test)]
+mod data_tests;
+#[cfg(test)]
 mod tests;
