@@ -1,24 +1,89 @@
 //! The command line.
 
-use clap::{Arg, ArgMatches, Command, Error};
-use std::alloc::Global;
+use clap::{Arg, ArgAction, ArgMatches, Command, Error};
+use std::alloc::{AllocError, Global};
 
-// The spools there are: `-` stands for uploads in memory.
-static SPOOLS: [&str; 1] = ["-"];
+// The spools that a script may run over: `-` stands for uploads in memory.
+static SCRIPT_SPOOLS: [&str; 1] = ["-"];
 
-/// Reads the command line. `script -` and the words for help are all that it can be; any
-/// other is a usage fault.
-pub(crate) fn command<'a>(alloc: Global, words: &'a [String]) -> Result<ArgMatches<'a>, Error> {
-    let spool = Arg::new(alloc, "SPOOL")
-        .required(true)
-        .value_parser(SPOOLS.as_slice())
-        .help("`-`: uploads in memory, gone when the script ends");
-    let script = Command::new(alloc, "script")
-        .about("Runs standard input as a script of connections")
-        .arg(spool)?;
-    let gateway = Command::new(alloc, "gateway")
+/// What the command line asks for.
+pub(crate) enum Order<'a> {
+    /// A new spool at this path, of so many text blocks, with the index files of this folder.
+    Format {
+        spool: &'a str,
+        blocks: u32,
+        indexes: &'a str,
+    },
+    /// Standard input, run as a script.
+    Script,
+    /// Nothing that there is.
+    Nothing,
+}
+
+/// Reads the command line. A word that doesn't read, a word too many and one too few are usage faults, and so is a call for help.
+pub(crate) fn read_order<'a>(alloc: Global, words: &'a [String]) -> Result<Order<'a>, Error> {
+    let matches = gateway(alloc)?.try_get_matches_from(words)?;
+    Ok(match matches.subcommand() {
+        Some(("format", given)) => format_order(given),
+        Some(("script", _)) => Order::Script,
+        _ => Order::Nothing,
+    })
+}
+
+// All arguments of `format` are required.
+fn format_order<'a>(given: &ArgMatches<'a>) -> Order<'a> {
+    let spool = given.get_str("SPOOL");
+    let blocks = given.get_one::<u32>("blocks");
+    let indexes = given.get_str("indexes");
+    match (spool, blocks, indexes) {
+        (Some(spool), Some(blocks), Some(indexes)) => Order::Format {
+            spool,
+            blocks,
+            indexes,
+        },
+        _ => Order::Nothing,
+    }
+}
+
+// The program's commands.
+fn gateway<'a>(alloc: Global) -> Result<Command<'a>, AllocError> {
+    Command::new(alloc, "gateway")
         .about("A gateway for resumable uploads (tus 1.0.0) of text in old and new encodings")
         .subcommand_required(true)
-        .subcommand(script)?;
-    gateway.try_get_matches_from(words)
+        .subcommand(format(alloc)?)?
+        .subcommand(script(alloc)?)
+}
+
+fn format<'a>(alloc: Global) -> Result<Command<'a>, AllocError> {
+    let spool = Arg::new(alloc, "SPOOL")
+        .required(true)
+        .help("The file to be made or lengthened");
+    let blocks = Arg::new(alloc, "blocks")
+        .long("blocks")
+        .required(true)
+        .action(ArgAction::Set)
+        .value_name("N")
+        .value_parser(clap::value_parser!(u32))
+        .help("How many blocks of 4,096 bytes there are for texts: 16 to 65536");
+    let indexes = Arg::new(alloc, "indexes")
+        .long("indexes")
+        .required(true)
+        .action(ArgAction::Set)
+        .value_name("DIR")
+        .help("The folder with the index files: index-jis0208.txt and so on");
+    Command::new(alloc, "format")
+        .about("Makes a spool without uploads")
+        .arg(spool)?
+        .arg(blocks)?
+        .arg(indexes)
+}
+
+fn script<'a>(alloc: Global) -> Result<Command<'a>, AllocError> {
+    let spool = Arg::new(alloc, "SPOOL")
+        .required(true)
+        .value_parser(SCRIPT_SPOOLS.as_slice())
+        .help("`-`: uploads in memory, gone when the script ends");
+    Command::new(alloc, "script")
+        .about("Runs standard input as a script of connections")
+        .arg(spool)
 }

@@ -2,56 +2,72 @@
 #![tactic(auto)]
 
 mod command_line;
+mod faults;
+mod formatting;
+mod index_files;
 
 use clap::Error;
 use clap::error::ErrorKind;
-use command_line::command;
+use command_line::{Order, read_order};
 use enc_index::IndexSet;
-use gateway_engine::{RunFault, run_over};
+use faults::Fault;
+use formatting::format_file;
+use gateway_engine::run_over;
 use std::alloc::Global;
 use std::process::ExitCode;
 use std::{env, io};
 use upload_rules::Table;
 
-// The statuses that the program ends with.
+// The status of a command line that is none.
 const USAGE: u8 = 1;
-
-const REFUSED: u8 = 2;
-
-const FAULT: u8 = 3;
 
 fn main(rt: HostRuntime) -> ExitCode {
     match run(&rt) {
         Ok(code) => code,
-        Err(error) => refused(&rt, fault_of(&error)),
-    }
-}
-
-// A fault of input, output or memory as that of a run.
-fn fault_of(error: &io::Error) -> RunFault {
-    match error.kind() {
-        io::ErrorKind::OutOfMemory => RunFault::NoMemory,
-        _ => RunFault::Io,
+        Err(fault) => {
+            // Where standard error takes nothing, the status alone says it.
+            let told = eprintln!(rt; "{fault}");
+            drop(told);
+            ExitCode::from(fault.status())
+        }
     }
 }
 
 // Does what the command line asks for.
-fn run(rt: &HostRuntime) -> io::Result<ExitCode> {
+fn run(rt: &HostRuntime) -> Result<ExitCode, Fault> {
     let alloc = rt.alloc();
-    let mut words = Vec::new(alloc);
-    for word in env::args(rt)? {
-        words.push(word)?;
-    }
-    match command(alloc, &words) {
-        Ok(_script) => script(rt, alloc),
+    let words = words(rt, alloc)?;
+    match read_order(alloc, &words) {
+        Ok(
+            Order::Format {
+                spool,
+                blocks,
+                indexes,
+            },
+        ) => {
+            let pages = format_file(rt, alloc, spool, blocks, indexes)?;
+            println!(rt; "formatted {blocks} blocks, {pages} pages")?;
+            Ok(ExitCode::SUCCESS)
+        }
+        Ok(Order::Script) => script(rt, alloc),
+        Ok(Order::Nothing) => Ok(ExitCode::from(USAGE)),
         Err(error) => told(rt, error),
     }
 }
 
+// The words of the command line.
+fn words(rt: &HostRuntime, alloc: Global) -> io::Result<Vec<String>> {
+    let mut words = Vec::new(alloc);
+    for word in env::args(rt)? {
+        words.push(word)?;
+    }
+    Ok(words)
+}
+
 // Prints help, or what is wrong with the command line. Want of memory is no fault of the command line.
-fn told(rt: &HostRuntime, error: Error) -> io::Result<ExitCode> {
+fn told(rt: &HostRuntime, error: Error) -> Result<ExitCode, Fault> {
     if error.kind() == ErrorKind::OutOfMemory {
-        return Ok(refused(rt, RunFault::NoMemory));
+        return Err(Fault::NoMemory);
     }
     error.print(rt)?;
     Ok(if error.use_stderr() {
@@ -62,24 +78,12 @@ fn told(rt: &HostRuntime, error: Error) -> io::Result<ExitCode> {
 }
 
 // Runs standard input as a script over uploads in memory.
-fn script(rt: &HostRuntime, alloc: Global) -> io::Result<ExitCode> {
+fn script(rt: &HostRuntime, alloc: Global) -> Result<ExitCode, Fault> {
     let indexes = IndexSet::new(alloc)?;
     let mut reader = rt.reader();
     let mut writer = io::writer(rt);
     match run_over(alloc, &mut reader, &mut writer, Table::new(alloc, indexes)) {
         Ok(_uploads) => Ok(ExitCode::SUCCESS),
-        Err((_uploads, fault)) => Ok(refused(rt, fault)),
+        Err((_uploads, fault)) => Err(Fault::from(fault)),
     }
-}
-
-// Tells why a run was refused. Where standard error takes nothing, the status alone says it.
-fn refused(rt: &HostRuntime, fault: RunFault) -> ExitCode {
-    let (told, status) = match fault {
-        RunFault::NoMemory => (eprintln!(rt; "refused: 0 NoMemory"), REFUSED),
-        RunFault::Script(line) => (eprintln!(rt; "refused: 32 Script {line}"), REFUSED),
-        RunFault::Io => (eprintln!(rt; "refused: 33 Io"), REFUSED),
-        RunFault::DiskFault => (eprintln!(rt; "device fault"), FAULT),
-    };
-    drop(told);
-    ExitCode::from(status)
 }

@@ -1,0 +1,102 @@
+//! Why the program ends before its work is done.
+
+use enc_index::ReadError;
+use gateway_engine::RunFault;
+use spool_disk::DiskFault;
+use spool_image::FormatError;
+use std::alloc::AllocError;
+use std::{fmt, io};
+
+/// Why the program ends before its work is done.
+#[derive(Clone, Copy, Debug, PartialEq, Eq, Drop)]
+pub(crate) enum Fault {
+    /// A growth was refused.
+    NoMemory,
+    /// The device failed.
+    Device,
+    /// A line of this index file isn't of the form, is out of range, or gives a pointer again.
+    Index(&'static str, ReadError),
+    /// The file is a spool already.
+    AlreadySpool,
+    /// The number of text blocks isn't 16 to 65,536.
+    Size,
+    /// A line of the script.
+    Script(u64),
+    /// A reader, a writer or a file failed.
+    Io,
+}
+
+impl fmt::Display for Fault {
+    fn fmt<W: fmt::Write>(&self, f: &mut fmt::Formatter<W>) -> fmt::Result {
+        match self {
+            Fault::NoMemory => f.write_str("refused: 0 NoMemory"),
+            Fault::Device => f.write_str("device fault"),
+            Fault::Index(file, ReadError::Line(line)) => write!(f, "refused: 3 Line {file} {line}"),
+            Fault::Index(file, ReadError::Range(line)) => write!(
+                f,
+                "refused: 4 Range {file} {line}"
+            ),
+            Fault::Index(file, ReadError::Twice(line)) => write!(
+                f,
+                "refused: 5 Twice {file} {line}"
+            ),
+            Fault::Index(_, ReadError::NoMemory) => f.write_str("refused: 0 NoMemory"),
+            Fault::AlreadySpool => f.write_str("refused: 13 AlreadySpool"),
+            Fault::Size => f.write_str("refused: 14 Size"),
+            Fault::Script(line) => write!(f, "refused: 32 Script {line}"),
+            Fault::Io => f.write_str("refused: 33 Io"),
+        }
+    }
+}
+
+impl Fault {
+    /// The status that the program ends with.
+    pub(crate) fn status(self) -> u8 {
+        match self {
+            Fault::Device => 3,
+            _ => 2,
+        }
+    }
+}
+
+impl From<AllocError> for Fault {
+    fn from(_error: AllocError) -> Self {
+        Fault::NoMemory
+    }
+}
+
+impl From<io::Error> for Fault {
+    fn from(error: io::Error) -> Self {
+        match error.kind() {
+            io::ErrorKind::OutOfMemory => Fault::NoMemory,
+            _ => Fault::Io,
+        }
+    }
+}
+
+impl From<DiskFault> for Fault {
+    fn from(_fault: DiskFault) -> Self {
+        Fault::Device
+    }
+}
+
+impl From<FormatError> for Fault {
+    fn from(error: FormatError) -> Self {
+        match error {
+            FormatError::AlreadySpool => Fault::AlreadySpool,
+            FormatError::Size => Fault::Size,
+            FormatError::DiskFault => Fault::Device,
+        }
+    }
+}
+
+impl From<RunFault> for Fault {
+    fn from(fault: RunFault) -> Self {
+        match fault {
+            RunFault::NoMemory => Fault::NoMemory,
+            RunFault::DiskFault => Fault::Device,
+            RunFault::Script(line) => Fault::Script(line),
+            RunFault::Io => Fault::Io,
+        }
+    }
+}
