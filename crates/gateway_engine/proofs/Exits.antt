@@ -1,15 +1,17 @@
 -- From the lines' end to the script's.
-use Rattle.std.proofs.Common.{◌≡◌, ◌⊎◌, inl, inr, ℕ, List, [], ◌++◌, Option, Some, Ok, Err, refl, sym, subst, ap, ◌∙◌, append-nil, arith}
+use Rattle.std.proofs.Common.{◌≡◌, ◌⊎◌, inl, inr, ℕ, List, [], ◌++◌, Option, Some, None, Ok, Err, refl, sym, subst, ◌∙◌, append-nil, arith}
 use Rattle.std.specs.Prelude.{IsErrOf}
+use Rattle.std.specs.Io.KnownBytes.{Appends}
 use Rattle.upload_rules.specs.Store.{Store}
 use Rattle.upload_rules.specs.Answers.{Quiet, Counts}
 use Rattle.upload_rules.specs.declared.uploads.Uploads.{Ghosts}
 use Rattle.tus_session.specs.History.{State, Mark, Marked}
+use Rattle.gateway_engine.proofs.Outputs.{appends_nothing}
 use Rattle.gateway_engine.specs.Script as script
 use Rattle.gateway_engine.specs.Script.{script as the_script, Run, run_lines, script_lines, run_from, ended_as, Exit, Ran, AtLine, Faulted}
 use Rattle.gateway_engine.specs.Images.{IsFirst, stores_of, LimitsTo}
 use Rattle.gateway_engine.specs.Runs.{View, with_marks, IsHistory, IsAt, Reaches, Stops, script_past, Ends}
-use Rattle.gateway_engine.specs.Ran.{Shows, Rests, EndedSo, RestsSo, StoppedSo, HasRun, HasFailed}
+use Rattle.gateway_engine.specs.Ran.{Shows, Rests, EndedSo, RestsSo, StoppedSo, HasRun, IsScript, HasFailed}
 use Rattle.gateway_engine.specs.declared.faults.CallFault.{CallFault}
 use Rattle.gateway_engine.specs.declared.faults.CallFault.TheVariants as faults
 use Rattle.gateway_engine.specs.declared.faults.RunFault.{RunFault}
@@ -19,10 +21,10 @@ use Rattle.gateway_engine.specs.declared.faults.RunFault.TheVariants as runs
 limits_none : (moment : ℕ) (left_only : ℕ → List Store → Type 0) (stores : List Store) → LimitsTo moment moment left_only left_only stores
 limits_none moment left_only stores = record { later = omega arith; limits = λ t ms le left among. left }
 
-pub begins : {C : Type 0} (v : View C) → v.before ≡ v.now → v.u.stands v.now v.st → v.held ≡ Some v.front → IsAt v (run_from v.st [])
+pub begins : {C : Type 0} (v : View C) → v.before ≡ v.now → v.u.stands v.now v.st → v.held ≡ v.front → IsAt v (run_from v.st [])
 begins v same stands is = record {
   keeps = stands;
-  wrote = is ∙ ap Some (sym (append-nil v.front));
+  wrote = subst (λ h. Appends h v.held []) is (appends_nothing v.held);
   up = refl;
   history = record { state = refl; output = refl; images = subst (λ c. LimitsTo (v.u.moment c) (v.u.moment v.now) (v.u.left_only c) (v.u.left_only v.now) (stores_of v.st [])) (sym same) (limits_none (v.u.moment v.now) (v.u.left_only v.now) (stores_of v.st [])) };
 }
@@ -47,7 +49,7 @@ module _ {U B C : Type 0} (u : Ghosts U B) (v : View C) (before store : U) (byte
   ends_as : (s : Run) (exit : Exit) → (p : Reaches lines begun (λ x. ended_as x exit) s) → the_script v.st (p.0 ++ []) bytes ≡ ended_as (with_marks s []) exit
   ends_as s exit p = script_is v.st (p.0 ++ []) bytes ∙ p.1 []
 
-  ended_so : (s : Run) (exit : Exit) → (p : Reaches lines begun (λ x. ended_as x exit) s) → v.held ≡ Some (v.front ++ s.out) → IsHistory v s
+  ended_so : (s : Run) (exit : Exit) → (p : Reaches lines begun (λ x. ended_as x exit) s) → Appends v.front v.held s.out → IsHistory v s
       → EndedSo u before store v.st (the_script v.st (p.0 ++ []) bytes) v.held v.front exit
   ended_so s exit p wrote is =
       let now : EndedSo u before store v.st (ended_as (with_marks s []) exit) v.held v.front exit =
@@ -88,30 +90,30 @@ module _ {U B C : Type 0} (u : Ghosts U B) (v : View C) (before store : U) (byte
   stopped runs.Io p = stopped_so faults.Io p
 
 -- THE RUN NEVER BEGAN: the script wasn't read, or memory was wanting
-module _ {U B : Type 0} (u : Ghosts U B) (store : U) (held : Option (List ℕ)) (front : List ℕ) (st : State) (bytes : List ℕ) (stands : Rests u store st) (wrote : held ≡ Some front) where
+module _ {U B : Type 0} (u : Ghosts U B) (store : U) (held : Option (List ℕ)) (st : State) (bytes : List ℕ) (stands : Rests u store st) where
   all_follow : (past : List Marked) → IsFirst [] past
   all_follow past = (past, sym (append-nil past))
 
-  pub unbegun : (fault : RunFault) → (fault ≡ runs.NoMemory) ⊎ (fault ≡ runs.Io) → HasRun u store (Err (store, fault)) held front st bytes
-  unbegun fault (inl e) = subst (λ f. HasRun u store (Err (store, f)) held front st bytes) (sym e) (
+  pub unbegun : (fault : RunFault) → (fault ≡ runs.NoMemory) ⊎ (fault ≡ runs.Io) → HasRun u store (Err (store, fault)) held held st bytes
+  unbegun fault (inl e) = subst (λ f. HasRun u store (Err (store, f)) held held st bytes) (sym e) (
     [],
     record {
       past = [];
       first = all_follow (the_script st [] bytes).run.past;
       out = [];
-      wrote = wrote ∙ ap Some (sym (append-nil front));
+      wrote = appends_nothing held;
       most = inl refl;
       rests = stands;
       shows = limits_none (u.moment store) (u.left_only store) (stores_of st []);
     },
   )
-  unbegun fault (inr e) = subst (λ f. HasRun u store (Err (store, f)) held front st bytes) (sym e) (
+  unbegun fault (inr e) = subst (λ f. HasRun u store (Err (store, f)) held held st bytes) (sym e) (
     [],
     record {
       past = [];
       first = all_follow (the_script st [] bytes).run.past;
       out = [];
-      wrote = wrote ∙ ap Some (sym (append-nil front));
+      wrote = appends_nothing held;
       most = ([], [], refl, refl);
       rests = stands;
       shows = limits_none (u.moment store) (u.left_only store) (stores_of st []);
@@ -139,3 +141,8 @@ shows_through u before first last now stores same quiet shows = subst (λ b. Lim
   later = omega (arith, shows.later, quiet.later);
   limits = λ t ms le left among. quiet.keeps t ms (omega (arith, shows.later)) (shows.limits t ms le left among);
 })
+
+-- of an unread script nothing is told
+pub some_script : (known : Option (List ℕ)) → (bytes : List ℕ) × IsScript known bytes
+some_script None = ([], tt {0})
+some_script (Some bytes) = (bytes, refl)

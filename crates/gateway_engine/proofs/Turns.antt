@@ -1,6 +1,6 @@
 -- A call, and the run behind it.
 use Rattle.std.specs.Io.KnownBytes.{Appends}
-use Rattle.std.proofs.Common.{◌≡◌, false, ℕ, List, [], ◌∷◌, ◌++◌, Option, Some, None, Result, Ok, Err, inr, refl, sym, subst, ap, ◌∙◌, append_assoc, append-nil}
+use Rattle.std.proofs.Common.{◌≡◌, false, ℕ, List, [], ◌∷◌, ◌++◌, Option, Some, None, Result, Ok, Err, inr, refl, sym, subst, ap, ◌∙◌, append-nil}
 use Rattle.tus_session.specs.History.{Event, Mark, Served, Outcome, Gave, Done, Refused, step, conn_in}
 use Rattle.tus_session.specs.declared.answers.Answer.{Answer}
 use Rattle.tus_session.specs.declared.errors.SessionError.{SessionError}
@@ -12,6 +12,7 @@ use Rattle.gateway_engine.specs.Images.{shown_by}
 use Rattle.gateway_engine.specs.Outputs.{AppendsPart}
 use Rattle.gateway_engine.specs.Script.{Run, call, is_fault, written}
 use Rattle.gateway_engine.specs.Runs.{View, with_marks, stepped, Calls, Called, IsAt, IsDown, IsStopped, Leads, Stops, run_past, Went, Refuses, Tells}
+use Rattle.gateway_engine.proofs.Outputs.{appends_both, appends_nothing}
 use Rattle.gateway_engine.proofs.Passing.{passes_by, first_same}
 use Rattle.gateway_engine.proofs.Seen.{seen_behind, Leaves, history_on, last_is}
 
@@ -26,12 +27,6 @@ calls r n e m outcome is = (m, λ rest. leads_call r n e m rest ∙ ap (λ o. re
 
 leads : (r : Run) (n : ℕ) (e : Event) (m : Mark) → Leads (λ x. (call x n e).run) r (stepped r n e m)
 leads r n e m = (m ∷ [], λ rest. ap (λ c. c.run) (leads_call r n e m rest))
-
-pub wrote_on : (old new : Option (List ℕ)) (front out more : List ℕ) → old ≡ Some (front ++ out) → Appends old new more → new ≡ Some (front ++ (out ++ more))
-wrote_on old (Some new) front out more is now =
-    let a : Appends (Some (front ++ out)) (Some new) more = subst (λ o. Appends o (Some new) more) is now in
-    ap Some (a ∙ append_assoc front out more)
-wrote_on old None front out more is now = absurd (subst (λ o. Appends o None more) is now)
 
 no_fault : (f : SessionError) → (f ≡ errors.DiskFault → ⊥) → is_fault (Refused f) ≡ false
 no_fault errors.NoMemory other = refl
@@ -52,7 +47,7 @@ module _ {C : Type 0} (v : View C) (now : C) (held : Option (List ℕ)) (r : Run
       → Appends v.held held (written (conn_in e) outcome) → IsAt (seen_behind v now held) (stepped r (conn_in e) e m)
   stays_at outcome stands is up appends = record {
     keeps = stands;
-    wrote = wrote_on v.held held v.front r.out (written (conn_in e) (step r.state e m).outcome) at.wrote (subst (λ o. Appends v.held held (written (conn_in e) o)) (sym is) appends);
+    wrote = appends_both v.front v.held held r.out (written (conn_in e) (step r.state e m).outcome) at.wrote (subst (λ o. Appends v.held held (written (conn_in e) o)) (sym is) appends);
     up = ap is_fault is ∙ up;
     history = history_on v now held r e m at.history leaves;
   }
@@ -60,7 +55,8 @@ module _ {C : Type 0} (v : View C) (now : C) (held : Option (List ℕ)) (r : Run
   -- the device failed: nothing was written
   goes_down : held ≡ v.held → (step r.state e m).outcome ≡ Refused errors.DiskFault → IsDown (seen_behind v now held) (stepped r (conn_in e) e m)
   goes_down same is = record {
-    wrote = same ∙ (at.wrote ∙ ap (λ o. Some (v.front ++ o)) (sym (ap (λ o. r.out ++ written (conn_in e) o) is ∙ append-nil r.out)));
+    wrote = subst (λ h. Appends v.front h (r.out ++ written (conn_in e) (step r.state e m).outcome)) (sym same)
+        (subst (Appends v.front v.held) (sym (ap (λ o. r.out ++ written (conn_in e) o) is ∙ append-nil r.out)) at.wrote);
     down = ap is_fault is;
     history = history_on v now held r e m at.history leaves;
   }
@@ -70,7 +66,7 @@ module _ {C : Type 0} (v : View C) (now : C) (held : Option (List ℕ)) (r : Run
   wants_memory stands same = record {
     keeps = stands;
     out = r.out;
-    wrote = same ∙ at.wrote;
+    wrote = subst (λ h. Appends v.front h r.out) (sym same) at.wrote;
     replies = inr at.history.output;
     history = history_on v now held r e m at.history leaves;
   }
@@ -81,7 +77,7 @@ module _ {C : Type 0} (v : View C) (now : C) (held : Option (List ℕ)) (r : Run
   breaks_off outcome stands is wrote = record {
     keeps = stands;
     out = r.out ++ wrote.0;
-    wrote = wrote_on v.held held v.front r.out wrote.0 at.wrote wrote.3;
+    wrote = appends_both v.front v.held held r.out wrote.0 at.wrote wrote.3;
     replies = (wrote.0, wrote.1, sym (last_is v r e m at.history) ∙ (ap (written (conn_in e)) is ∙ wrote.2), ap (λ o. o ++ wrote.0) at.history.output);
     history = history_on v now held r e m at.history leaves;
   }
@@ -90,11 +86,7 @@ module _ {C : Type 0} (v : View C) (now : C) (held : Option (List ℕ)) (r : Run
 pub done_went : {C : Type 0} (v : View C) (now : C) (r : Run) (e : Event) → IsAt v r → Leaves v now r.state.world.store (shown_by r.state e Served)
     → Does (v.u.stands now) (Ok (tt {0})) r.state e → Went (seen_behind v now v.held) (Ok (tt {0})) (λ x. (call x (conn_in e) e).run) r
 done_went v now r e at leaves does =
-    (stepped r (conn_in e) e Served, leads r (conn_in e) e Served, stays_at v now v.held r e Served at leaves Done does.keeps does.answer refl (nothing v.held))
-  where
-    nothing : (h : Option (List ℕ)) → Appends h h []
-    nothing None = tt {0}
-    nothing (Some x) = sym (append-nil x)
+    (stepped r (conn_in e) e Served, leads r (conn_in e) e Served, stays_at v now v.held r e Served at leaves Done does.keeps does.answer refl (appends_nothing v.held))
 
 stops_at : {C : Type 0} (v : View C) (fault : CallFault) (r : Run) (n : ℕ) (e : Event) (m : Mark) → IsStopped v fault (stepped r n e m) → Stops v fault run_past (λ x. (call x n e).run) r
 stops_at v fault r n e m is =

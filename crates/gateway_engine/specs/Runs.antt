@@ -19,16 +19,16 @@ use Rattle.gateway_engine.specs.declared.faults.RunFault.TheVariants as runs
 abbrev pub with_marks : Run → List Mark → Run
 with_marks r marks = record r { marks = marks }
 
--- A run as it is seen: the connections before it and now, where the history was before it, and what the writer holds now, and held before
+-- A run as it is seen: the connections before it and now, where the history was before it, and what the writer holds now, and held in front of it
 pub record View (C : Type 0) : Type 1 where
   pub u : Ghosts C
   pub before : C
   pub now : C
   pub st : State
   pub held : Option (List ℕ)
-  pub front : List ℕ
+  pub front : Option (List ℕ)
 
-abbrev pub view : {C : Type 0} → Ghosts C → C → C → State → Option (List ℕ) → List ℕ → View C
+abbrev pub view : {C : Type 0} → Ghosts C → C → C → State → Option (List ℕ) → Option (List ℕ) → View C
 view u before now st held front = record { u = u; before = before; now = now; st = st; held = held; front = front }
 
 -- The run is at the history of its events, and its output is theirs. Since its beginning images are limited to its uploads
@@ -40,13 +40,13 @@ pub record IsHistory {C : Type 0} (v : View C) (r : Run) : Type 0 where
 -- the connections are where the run is, the writer holds what it wrote behind what was there before, and the device hasn't failed
 pub record IsAt {C : Type 0} (v : View C) (r : Run) : Type 0 where
   pub keeps : v.u.stands v.now r.state
-  pub wrote : v.held ≡ Some (v.front ++ r.out)
+  pub wrote : Appends v.front v.held r.out
   pub up : r.down ≡ false
   pub history : IsHistory v r
 
 -- the device failed behind what the run wrote
 pub record IsDown {C : Type 0} (v : View C) (r : Run) : Type 0 where
-  pub wrote : v.held ≡ Some (v.front ++ r.out)
+  pub wrote : Appends v.front v.held r.out
   pub down : r.down ≡ true
   pub history : IsHistory v r
 
@@ -54,7 +54,7 @@ pub record IsDown {C : Type 0} (v : View C) (r : Run) : Type 0 where
 pub record IsStopped {C : Type 0} (v : View C) (fault : CallFault) (r : Run) : Type 0 where
   pub keeps : v.u.stands v.now r.state
   pub out : List ℕ
-  pub wrote : v.held ≡ Some (v.front ++ out)
+  pub wrote : Appends v.front v.held out
   pub replies : WroteMost fault v.st r.past out
   pub history : IsHistory v r
 

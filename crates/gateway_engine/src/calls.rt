@@ -59,7 +59,7 @@ pub(crate) fn open<C: Connections, W: Write>(
     writer: &mut W,
     conn: usize,
 ) -> Result<(), CallFault>
-    ensures does { (before : C) (st : State) (r : Run) (front : List ℕ) → IsAt (view C.Connections before core.old st (W.contents writer.old) front) r
+    ensures does { (before : C) (st : State) (r : Run) (front : Option (List ℕ)) → IsAt (view C.Connections before core.old st (W.contents writer.old) front) r
         → Went (view C.Connections before core.new st (W.contents writer.new) front) result (λ x. (call x conn (Opened conn)).run) r }
     ensures counts { Counts (IsErrOf result CallFault.DiskFault) (C.failures core.old) (C.failures core.new) }
 {
@@ -76,7 +76,7 @@ pub(crate) fn cut<C: Connections, W: Write>(
     writer: &mut W,
     conn: usize,
 ) -> Result<(), CallFault>
-    ensures does { (before : C) (st : State) (r : Run) (front : List ℕ) → IsAt (view C.Connections before core.old st (W.contents writer.old) front) r
+    ensures does { (before : C) (st : State) (r : Run) (front : Option (List ℕ)) → IsAt (view C.Connections before core.old st (W.contents writer.old) front) r
         → Went (view C.Connections before core.new st (W.contents writer.new) front) result (λ x. (call x conn (Ended conn)).run) r }
     ensures counts { Counts (IsErrOf result CallFault.DiskFault) (C.failures core.old) (C.failures core.new) }
 {
@@ -94,7 +94,7 @@ pub(crate) fn came<C: Connections, W: Write>(
     conn: usize,
     bytes: &[u8],
 ) -> Result<Option<Answer>, CallFault>
-    ensures does { (before : C) (st : State) (r : Run) (front : List ℕ) → IsAt (view C.Connections before core.old st (W.contents writer.old) front) r
+    ensures does { (before : C) (st : State) (r : Run) (front : Option (List ℕ)) → IsAt (view C.Connections before core.old st (W.contents writer.old) front) r
         → Called (view C.Connections before core.new st (W.contents writer.new) front) result conn (Came conn bytes.now) r }
     ensures counts { Counts (IsErrOf result CallFault.DiskFault) (C.failures core.old) (C.failures core.new) }
 {
@@ -118,7 +118,7 @@ pub(crate) fn more<C: Connections, W: Write>(
     writer: &mut W,
     conn: usize,
 ) -> Result<Option<Answer>, CallFault>
-    ensures does { (before : C) (st : State) (r : Run) (front : List ℕ) → IsAt (view C.Connections before core.old st (W.contents writer.old) front) r
+    ensures does { (before : C) (st : State) (r : Run) (front : Option (List ℕ)) → IsAt (view C.Connections before core.old st (W.contents writer.old) front) r
         → Called (view C.Connections before core.new st (W.contents writer.new) front) result conn (More conn) r }
     ensures counts { Counts (IsErrOf result CallFault.DiskFault) (C.failures core.old) (C.failures core.new) }
 {

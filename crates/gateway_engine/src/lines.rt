@@ -1,5 +1,5 @@
 //! The bytes of a line, given until all are taken.
-ghost use Rattle.std.specs.Prelude.{◌≡◌, ℕ, List, [], length, drop, IsErrOf};
+ghost use Rattle.std.specs.Prelude.{◌≡◌, ℕ, Option, List, [], length, drop, IsErrOf};
 ghost use Rattle.upload_rules.specs.Answers.{Counts};
 ghost use Rattle.tus_session.specs.History.{State, Gave};
 ghost use Rattle.gateway_engine.specs.Script.{Run, mores, mores_after, most_calls, give_within};
@@ -31,7 +31,7 @@ fn give_text<C: Connections, W: Write>(
     writer: &mut W,
     conn: usize,
 ) -> Result<bool, CallFault>
-    ensures does { (before : C) (st : State) (r : Run) (front : List ℕ) → IsAt (view C.Connections before core.old st (W.contents writer.old) front) r
+    ensures does { (before : C) (st : State) (r : Run) (front : Option (List ℕ)) → IsAt (view C.Connections before core.old st (W.contents writer.old) front) r
         → Flowed (view C.Connections before core.new st (W.contents writer.new) front) result (mores most_calls conn) r }
     ensures counts { Counts (IsErrOf result CallFault.DiskFault) (C.failures core.old) (C.failures core.new) }
 {
@@ -58,7 +58,7 @@ fn go_on<C: Connections, W: Write>(
     conn: usize,
     answer: Answer,
 ) -> Result<bool, CallFault>
-    ensures does { (before : C) (st : State) (r : Run) (front given : List ℕ) → IsAt (view C.Connections before core.old st (W.contents writer.old) front) r
+    ensures does { (before : C) (st : State) (r : Run) (front : Option (List ℕ)) (given : List ℕ) → IsAt (view C.Connections before core.old st (W.contents writer.old) front) r
         → Flowed (view C.Connections before core.new st (W.contents writer.new) front) result
         (λ x. mores_after (mores most_calls conn) (record { run = x; outcome = Gave given answer.taken answer.closes answer.more })) r }
     ensures counts { Counts (IsErrOf result CallFault.DiskFault) (C.failures core.old) (C.failures core.new) }
@@ -77,7 +77,7 @@ fn give_once<C: Connections, W: Write>(
     conn: usize,
     bytes: &[u8],
 ) -> Result<Option<usize>, CallFault>
-    ensures does { (before : C) (st : State) (r : Run) (front : List ℕ) (k : ℕ) → (bytes.now ≡ [] → ⊥) → IsAt (view C.Connections before core.old st (W.contents writer.old) front) r
+    ensures does { (before : C) (st : State) (r : Run) (front : Option (List ℕ)) (k : ℕ) → (bytes.now ≡ [] → ⊥) → IsAt (view C.Connections before core.old st (W.contents writer.old) front) r
         → GivenOnce (view C.Connections before core.new st (W.contents writer.new) front) result k conn bytes.now r }
     ensures counts { Counts (IsErrOf result CallFault.DiskFault) (C.failures core.old) (C.failures core.new) }
 {
@@ -110,7 +110,7 @@ pub(crate) fn give<C: Connections, W: Write>(
     conn: usize,
     bytes: &[u8],
 ) -> Result<(), CallFault>
-    ensures does { (before : C) (st : State) (r : Run) (front : List ℕ) → IsAt (view C.Connections before core.old st (W.contents writer.old) front) r
+    ensures does { (before : C) (st : State) (r : Run) (front : Option (List ℕ)) → IsAt (view C.Connections before core.old st (W.contents writer.old) front) r
         → Went (view C.Connections before core.new st (W.contents writer.new) front) result (give_within (length bytes.now) conn bytes.now) r }
     ensures counts { Counts (IsErrOf result CallFault.DiskFault) (C.failures core.old) (C.failures core.new) }
 {

@@ -1,5 +1,5 @@
 //! The lines of a script, one after another, and its end.
-ghost use Rattle.std.specs.Prelude.{◌≡◌, ℕ, List, [], IsErrOf};
+ghost use Rattle.std.specs.Prelude.{◌≡◌, ℕ, Option, List, [], IsErrOf};
 ghost use Rattle.upload_rules.specs.Answers.{Counts};
 ghost use Rattle.tus_session.specs.History.{State};
 ghost use Rattle.gateway_engine.specs.Script.{Run, obeyed, cut_from, run_lines, script_lines, is_long, is_bad};
@@ -29,7 +29,7 @@ fn obey<C: Connections, W: Write>(
     writer: &mut W,
     order: &Order,
 ) -> Result<(), CallFault>
-    ensures does { (before : C) (st : State) (r : Run) (front : List ℕ) → IsAt (view C.Connections before core.old st (W.contents writer.old) front) r
+    ensures does { (before : C) (st : State) (r : Run) (front : Option (List ℕ)) → IsAt (view C.Connections before core.old st (W.contents writer.old) front) r
         → Went (view C.Connections before core.new st (W.contents writer.new) front) result (obeyed (order_shown order.now)) r }
     ensures counts { Counts (IsErrOf result CallFault.DiskFault) (C.failures core.old) (C.failures core.new) }
 {
@@ -48,7 +48,7 @@ fn cut_open<C: Connections, W: Write>(
     writer: &mut W,
     conn: usize,
 ) -> Result<(), CallFault>
-    ensures does { (before : C) (st : State) (r : Run) (front : List ℕ) (k : ℕ) → IsAt (view C.Connections before core.old st (W.contents writer.old) front) r
+    ensures does { (before : C) (st : State) (r : Run) (front : Option (List ℕ)) (k : ℕ) → IsAt (view C.Connections before core.old st (W.contents writer.old) front) r
         → CutOne (view C.Connections before core.new st (W.contents writer.new) front) result k conn r }
     ensures counts { Counts (IsErrOf result CallFault.DiskFault) (C.failures core.old) (C.failures core.new) }
 {
@@ -84,7 +84,7 @@ fn run_line<C: Connections, W: Write>(
     start: u64,
     line: &[u8],
 ) -> Result<(), RunFault>
-    ensures does { (before : C) (st : State) (r : Run) (front : List ℕ) (lines : List (List ℕ)) → IsAt (view C.Connections before core.old st (W.contents writer.old) front) r
+    ensures does { (before : C) (st : State) (r : Run) (front : Option (List ℕ)) (lines : List (List ℕ)) → IsAt (view C.Connections before core.old st (W.contents writer.old) front) r
         → LineRan (view C.Connections before core.new st (W.contents writer.new) front) result number start line.now lines r }
     ensures counts { Counts (IsErrOf result RunFault.DiskFault) (C.failures core.old) (C.failures core.new) }
 {
@@ -109,7 +109,7 @@ fn cut_all<C: Connections, W: Write>(
     core: &mut C,
     writer: &mut W,
 ) -> Result<(), CallFault>
-    ensures does { (before : C) (st : State) (r : Run) (front : List ℕ) → IsAt (view C.Connections before core.old st (W.contents writer.old) front) r
+    ensures does { (before : C) (st : State) (r : Run) (front : Option (List ℕ)) → IsAt (view C.Connections before core.old st (W.contents writer.old) front) r
         → Went (view C.Connections before core.new st (W.contents writer.new) front) result (cut_from 16 0) r }
     ensures counts { Counts (IsErrOf result CallFault.DiskFault) (C.failures core.old) (C.failures core.new) }
 {
@@ -131,7 +131,7 @@ pub(crate) fn run_script<C: Connections, W: Write>(
     writer: &mut W,
     script: &[u8],
 ) -> Result<(), RunFault>
-    ensures does { (before : C) (st : State) (r : Run) (front : List ℕ) → IsAt (view C.Connections before core.old st (W.contents writer.old) front) r
+    ensures does { (before : C) (st : State) (r : Run) (front : Option (List ℕ)) → IsAt (view C.Connections before core.old st (W.contents writer.old) front) r
         → Ends (view C.Connections before core.new st (W.contents writer.new) front) result (run_lines 1 0 (script_lines script.now)) r }
     ensures counts { Counts (IsErrOf result RunFault.DiskFault) (C.failures core.old) (C.failures core.new) }
 {
