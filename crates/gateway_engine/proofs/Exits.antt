@@ -3,8 +3,9 @@ use Rattle.std.proofs.Common.{◌≡◌, ◌⊎◌, inl, inr, ℕ, List, [], ◌
 use Rattle.std.specs.Prelude.{IsErrOf}
 use Rattle.std.specs.Io.KnownBytes.{Appends}
 use Rattle.upload_rules.specs.Store.{Store}
-use Rattle.upload_rules.specs.Answers.{Quiet, Counts}
+use Rattle.upload_rules.specs.Answers.{Among, Quiet, Counts}
 use Rattle.upload_rules.specs.declared.uploads.Uploads.{Ghosts}
+use Rattle.gateway_engine.proofs.Seen.{first_store, all_themselves}
 use Rattle.tus_session.specs.History.{State, Mark, Marked}
 use Rattle.gateway_engine.proofs.Outputs.{appends_nothing}
 use Rattle.gateway_engine.specs.Script as script
@@ -33,6 +34,18 @@ begins v same stands is = record {
 script_is : (st : State) (marks : List Mark) (bytes : List ℕ) → the_script st marks bytes ≡ run_lines 1 0 (script_lines bytes) (with_marks (run_from st []) marks)
 unfolding the_script
 script_is st marks bytes = refl
+
+-- the uploads are on the device
+abbrev pub IsDurable : {U B : Type 0} → Ghosts U B → U → State → Type 0
+IsDurable u store st = (ms : List Store) → Among st.world.store ms → u.left_only store (u.moment store) ms
+
+-- what images may show since the run began
+pub shows_since : {U B : Type 0} (u : Ghosts U B) (before now : U) (st : State) (past : List Marked) → IsDurable u before st
+    → LimitsTo (u.moment before) (u.moment now) (u.left_only before) (u.left_only now) (stores_of st past) → Shows u before now st past
+shows_since u before now st past durable limits = record {
+  since = limits.limits (u.moment before) (stores_of st past) (omega arith) (durable (stores_of st past) (first_store st past)) (all_themselves (stores_of st past));
+  limits = limits;
+}
 
 -- what images may show of the run of the connections
 abbrev pub ShowsIn : {C : Type 0} → View C → List Marked → Type 0
@@ -90,7 +103,7 @@ module _ {U B C : Type 0} (u : Ghosts U B) (v : View C) (before store : U) (byte
   stopped runs.Io p = stopped_so faults.Io p
 
 -- THE RUN NEVER BEGAN: the script wasn't read, or memory was wanting
-module _ {U B : Type 0} (u : Ghosts U B) (store : U) (held : Option (List ℕ)) (st : State) (bytes : List ℕ) (stands : Rests u store st) where
+module _ {U B : Type 0} (u : Ghosts U B) (store : U) (held : Option (List ℕ)) (st : State) (bytes : List ℕ) (stands : Rests u store st) (durable : IsDurable u store st) where
   all_follow : (past : List Marked) → IsFirst [] past
   all_follow past = (past, sym (append-nil past))
 
@@ -104,7 +117,7 @@ module _ {U B : Type 0} (u : Ghosts U B) (store : U) (held : Option (List ℕ)) 
       wrote = appends_nothing held;
       most = inl refl;
       rests = stands;
-      shows = limits_none (u.moment store) (u.left_only store) (stores_of st []);
+      shows = shows_since u store store st [] durable (limits_none (u.moment store) (u.left_only store) (stores_of st []));
     },
   )
   unbegun fault (inr e) = subst (λ f. HasRun u store (Err (store, f)) held held st bytes) (sym e) (
@@ -116,7 +129,7 @@ module _ {U B : Type 0} (u : Ghosts U B) (store : U) (held : Option (List ℕ)) 
       wrote = appends_nothing held;
       most = ([], [], refl, refl);
       rests = stands;
-      shows = limits_none (u.moment store) (u.left_only store) (stores_of st []);
+      shows = shows_since u store store st [] durable (limits_none (u.moment store) (u.left_only store) (stores_of st []));
     },
   )
 

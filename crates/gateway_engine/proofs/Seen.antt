@@ -1,5 +1,5 @@
 -- What images may show behind one event more.
-use Rattle.std.proofs.Common.{◌≡◌, ℕ, List, [], ◌∷◌, ◌++◌, Option, refl, sym, subst, ap, ◌∙◌, arith}
+use Rattle.std.proofs.Common.{◌≡◌, ℕ, List, [], ◌∷◌, ◌++◌, Option, inl, inr, refl, sym, subst, ap, ◌∙◌, arith}
 use Rattle.upload_rules.specs.Store.{Store}
 use Rattle.upload_rules.specs.Answers.{Among, Limits}
 use Rattle.tus_session.specs.History.{State, Event, Mark, Marked, Served, OutOfMemory, Failed, step, history, conn_in}
@@ -60,3 +60,16 @@ history_same v now held r is leaves = record {
   output = is.output;
   images = limits_still v.st r.past is.images (subst (λ s. Leaves v now s.world.store s.world.store) is.state leaves);
 }
+
+-- THE UPLOADS OF A HISTORY
+more_among : (m : Store) (stores ms : List Store) → AllAmong stores ms → AllAmong stores (m ∷ ms)
+more_among m [] ms all = tt {0}
+more_among m (x ∷ stores) ms (here, others) = (inr here, more_among m stores ms others)
+
+pub all_themselves : (stores : List Store) → AllAmong stores stores
+all_themselves [] = tt {0}
+all_themselves (m ∷ stores) = (inl refl, more_among m stores stores (all_themselves stores))
+
+pub first_store : (st : State) (past : List Marked) → Among st.world.store (stores_of st past)
+first_store st [] = inl refl
+first_store st (e ∷ past) = inr (first_store st past)

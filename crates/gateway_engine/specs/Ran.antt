@@ -12,9 +12,11 @@ use Rattle.gateway_engine.specs.declared.faults.CallFault.TheVariants as calls
 use Rattle.gateway_engine.specs.declared.faults.RunFault.{RunFault}
 use Rattle.gateway_engine.specs.declared.faults.RunFault.TheVariants.{DiskFault, Script, NoMemory, Io}
 
--- from the uploads before to the uploads now: since the run began images are limited to those of the history of these events
-abbrev pub Shows : {U B : Type 0} → Ghosts U B → U → U → State → List Marked → Type 0
-Shows u before now st past = LimitsTo (u.moment before) (u.moment now) (u.left_only before) (u.left_only now) (stores_of st past)
+-- From the uploads before to the uploads now. What a crash at any moment since the run began might have left shows the uploads of the history
+-- behind all these events, all but the latest, and so on; and images of earlier moments show them, or what they showed
+pub record Shows {U B : Type 0} (u : Ghosts U B) (before now : U) (st : State) (past : List Marked) : Type 0 where
+  pub since : u.left_only now (u.moment before) (stores_of st past)
+  pub limits : LimitsTo (u.moment before) (u.moment now) (u.left_only before) (u.left_only now) (stores_of st past)
 
 -- the uploads are those of the history, and no draft is open
 abbrev pub Rests : {U B : Type 0} → Ghosts U B → U → State → Type 0
