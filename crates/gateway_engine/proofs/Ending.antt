@@ -4,7 +4,8 @@ use Rattle.tus_session.specs.History.{State, Ended, Served, OutOfMemory, Done, R
 use Rattle.tus_session.specs.Turns.{Conn}
 use Rattle.tus_session.specs.declared.errors.SessionError.{SessionError}
 use Rattle.tus_session.specs.declared.errors.SessionError.TheVariants as errors
-use Rattle.gateway_engine.specs.Connections.{Does}
+use Rattle.gateway_engine.specs.Connections.{Does, mark_of}
+use Rattle.gateway_engine.specs.Images.{shown_by}
 use Rattle.gateway_engine.specs.Script as script
 use Rattle.gateway_engine.specs.Script.{Run, call, Order, obeyed, order_of, bared, is_long, is_bad, cut_next, cut_from, run_lines, script_lines, onto_line, ended_as, finished, Ran, Faulted, AtLine}
 use Rattle.gateway_engine.specs.declared.faults.CallFault.{CallFault}
@@ -13,9 +14,11 @@ use Rattle.gateway_engine.specs.declared.faults.RunFault.{RunFault}
 use Rattle.gateway_engine.specs.declared.faults.RunFault.TheVariants as runs
 use Rattle.tus_request.specs.Reading.{before, behind}
 use Rattle.gateway_engine.specs.Faults.{run_fault}
-use Rattle.gateway_engine.specs.Runs.{with_marks, IsAt, Reaches, Leads, Went, Refuses, CutOne, Ends, LineRan}
+use Rattle.gateway_engine.specs.Runs.{View, with_marks, IsAt, Reaches, Leads, run_past, script_past, Stops, Went, Refuses, CutOne, Ends, LineRan}
 use Rattle.gateway_engine.proofs.Turns.{done_went, refused_went}
-use Rattle.gateway_engine.proofs.Reaching.{reach_both}
+use Rattle.gateway_engine.proofs.Reaching.{reach_both, reach_none, stops_behind}
+use Rattle.gateway_engine.proofs.Passing.{passes_by, passes_on, passes_as, cut_adds, lines_add, first_same}
+use Rattle.gateway_engine.proofs.Seen.{seen_behind, Leaves, history_same}
 
 -- WHETHER A CONNECTION IS OPEN, BY WHAT ITS END IS ANSWERED
 closed_case : (st : State) (c : ℕ) (o : Option Conn) → (ended_at st c o).outcome ≡ Refused errors.Closed → (is_closed o ≡ true) × ((ended_at st c o).state ≡ st)
@@ -79,35 +82,54 @@ cut_down (suc k) n r down =
     ap (λ x. cut_next (cut_from k (n + 1)) r n (is_closed (r.state.conns n) || x)) down
     ∙ (ap (cut_next (cut_from k (n + 1)) r n) (or_true (is_closed (r.state.conns n))) ∙ cut_down k (n + 1) r down)
 
-went_cut : (S : State → Type 0) (held : Option (List ℕ)) (front : List ℕ) (result : Result (Unit {0}) CallFault) (k n : ℕ) (r : Run) → is_closed (r.state.conns n) ≡ false → r.down ≡ false
-    → Went S held front result (λ x. (call x n (Ended n)).run) r → CutOne S held front result k n r
-went_cut S held front (Ok x) k n r is_open up p = (p.0, cut_goes k n r p.0 is_open up p.1, p.2)
-went_cut S held front (Err faults.DiskFault) k n r is_open up p =
+cut_stops : {C : Type 0} (v : View C) (fault : CallFault) (k n : ℕ) (r : Run) → is_closed (r.state.conns n) ≡ false → r.down ≡ false
+    → Stops v fault run_past (λ x. (call x n (Ended n)).run) r → Stops v fault run_past (cut_from (suc k) n) r
+cut_stops v fault k n r is_open up p =
+    let ended : Run → Run = λ x. (call x n (Ended n)).run in (
+      p.0,
+      passes_as run_past (cut_from (suc k) n) (λ x. cut_from k (n + 1) (ended x)) r p.0 (λ marks. next_by k n (with_marks r marks) false false is_open up)
+          (passes_on run_past run_past (cut_from k (n + 1)) ended r p.0 (cut_adds k (n + 1)) p.1),
+      p.2,
+    )
+
+went_cut : {C : Type 0} (v : View C) (result : Result (Unit {0}) CallFault) (k n : ℕ) (r : Run) → is_closed (r.state.conns n) ≡ false → r.down ≡ false
+    → Went v result (λ x. (call x n (Ended n)).run) r → CutOne v result k n r
+went_cut v (Ok x) k n r is_open up p = (p.0, cut_goes k n r p.0 is_open up p.1, p.2)
+went_cut v (Err faults.DiskFault) k n r is_open up p =
     let g = cut_goes k n r p.0 is_open up p.1 in
     (p.0, (g.0, λ rest. g.1 rest ∙ cut_down k (n + 1) (with_marks p.0 rest) p.2.down), p.2)
-went_cut S held front (Err faults.NoMemory) k n r is_open up p = tt {0}
-went_cut S held front (Err faults.Io) k n r is_open up p = tt {0}
+went_cut v (Err faults.NoMemory) k n r is_open up p = cut_stops v faults.NoMemory k n r is_open up p
+went_cut v (Err faults.Io) k n r is_open up p = cut_stops v faults.Io k n r is_open up p
 
-pub cut_done : (S S' : State → Type 0) (held : Option (List ℕ)) (front : List ℕ) (k n : ℕ) (r : Run) → IsAt S held front r → Does S' (Ok (tt {0})) r.state (Ended n)
-    → CutOne S' held front (Ok (tt {0})) k n r
-cut_done S S' held front k n r at does =
-    went_cut S' held front (Ok (tt {0})) k n r (ended_open r.state n does.answer) at.up (done_went S S' held front r n (Ended n) at does)
+pub cut_done : {C : Type 0} (v : View C) (now : C) (k n : ℕ) (r : Run) → IsAt v r → Leaves v now r.state.world.store (shown_by r.state (Ended n) Served)
+    → Does (v.u.stands now) (Ok (tt {0})) r.state (Ended n) → CutOne (seen_behind v now v.held) (Ok (tt {0})) k n r
+cut_done v now k n r at leaves does =
+    went_cut (seen_behind v now v.held) (Ok (tt {0})) k n r (ended_open r.state n does.answer) at.up (done_went v now r (Ended n) at leaves does)
 
-pub cut_skipped : (S S' : State → Type 0) (held : Option (List ℕ)) (front : List ℕ) (k n : ℕ) (r : Run) → IsAt S held front r → Does S' (Err errors.Closed) r.state (Ended n)
-    → CutOne S' held front (Ok (tt {0})) k n r
-cut_skipped S S' held front k n r at does =
-    let c = ended_closed r.state n does.answer in
-    (r, cut_closed k n r c.0 at.up, record { keeps = subst S' c.1 does.keeps; wrote = at.wrote; up = at.up })
+pub cut_skipped : {C : Type 0} (v : View C) (now : C) (k n : ℕ) (r : Run) → IsAt v r → Leaves v now r.state.world.store (shown_by r.state (Ended n) Served)
+    → Does (v.u.stands now) (Err errors.Closed) r.state (Ended n) → CutOne (seen_behind v now v.held) (Ok (tt {0})) k n r
+cut_skipped v now k n r at leaves does =
+    let c = ended_closed r.state n does.answer in (
+      r,
+      cut_closed k n r c.0 at.up,
+      record {
+        keeps = subst (v.u.stands now) c.1 does.keeps;
+        wrote = at.wrote;
+        up = at.up;
+        history = history_same v now v.held r at.history (subst (λ s. Leaves v now r.state.world.store s.world.store) c.1 leaves);
+      },
+    )
 
-pub cut_refused : (S S' : State → Type 0) (old new : Option (List ℕ)) (front : List ℕ) (k n : ℕ) (r : Run) (f : SessionError) (result : Result (Unit {0}) CallFault)
-    → IsAt S old front r → Does S' (Err f) r.state (Ended n) → (f ≡ errors.Closed → ⊥) → (f ≡ errors.DiskFault → is_closed (r.state.conns n) ≡ false)
-    → Refuses old new result n f → CutOne S' new front result k n r
-cut_refused S S' old new front k n r errors.NoMemory result at does other is_open refuses =
-    went_cut S' new front result k n r (ended_lost r.state n does.answer) at.up (refused_went S S' old new front r n (Ended n) errors.NoMemory result at does refuses)
-cut_refused S S' old new front k n r errors.DiskFault result at does other is_open refuses =
-    went_cut S' new front result k n r (is_open refl) at.up (refused_went S S' old new front r n (Ended n) errors.DiskFault result at does refuses)
-cut_refused S S' old new front k n r errors.TooMany result at does other is_open refuses = absurd (ended_many r.state n does.answer)
-cut_refused S S' old new front k n r errors.Closed result at does other is_open refuses = absurd (other refl)
+pub cut_refused : {C : Type 0} (v : View C) (now : C) (held : Option (List ℕ)) (k n : ℕ) (r : Run) (f : SessionError) (result : Result (Unit {0}) CallFault)
+    → IsAt v r → Leaves v now r.state.world.store (shown_by r.state (Ended n) (mark_of {T = Unit {0}} (Err f))) → Does (v.u.stands now) (Err f) r.state (Ended n)
+    → (f ≡ errors.Closed → ⊥) → (f ≡ errors.DiskFault → is_closed (r.state.conns n) ≡ false)
+    → Refuses v.held held result n f → CutOne (seen_behind v now held) result k n r
+cut_refused v now held k n r errors.NoMemory result at leaves does other is_open refuses =
+    went_cut (seen_behind v now held) result k n r (ended_lost r.state n does.answer) at.up (refused_went v now held r (Ended n) errors.NoMemory result at leaves does refuses)
+cut_refused v now held k n r errors.DiskFault result at leaves does other is_open refuses =
+    went_cut (seen_behind v now held) result k n r (is_open refl) at.up (refused_went v now held r (Ended n) errors.DiskFault result at leaves does refuses)
+cut_refused v now held k n r errors.TooMany result at leaves does other is_open refuses = absurd (ended_many r.state n does.answer)
+cut_refused v now held k n r errors.Closed result at leaves does other is_open refuses = absurd (other refl)
 
 -- A LINE
 line_step : (number start : ℕ) (line : List ℕ) (lines : List (List ℕ)) (r : Run) (down bad : Bool) → r.down ≡ down → (is_long start line || is_bad (order_of (bared line))) ≡ bad
@@ -132,9 +154,9 @@ line_step number start line lines r false bad e f = ap (λ d. elim d as (λ _. s
 ]) e ∙ ap (λ b. elim b as (λ _. script.Result) [ true ↦ ended_as r (AtLine number) | false ↦ run_lines (number + 1) (start + length line + 1) lines (obeyed (order_of (bared line)) r) ]) f
 
 -- a line that is none ends the run
-pub line_bad : (S : State → Type 0) (held : Option (List ℕ)) (front : List ℕ) (number start : ℕ) (line : List ℕ) (lines : List (List ℕ)) (r : Run) → IsAt S held front r
-    → (is_long start line || is_bad (order_of (bared line))) ≡ true → Ends S held front (Err (runs.Script number)) (run_lines number start (line ∷ lines)) r
-line_bad S held front number start line lines r at bad = (r, ([], λ rest. line_step number start line lines (with_marks r rest) false true at.up bad), at)
+pub line_bad : {C : Type 0} (v : View C) (number start : ℕ) (line : List ℕ) (lines : List (List ℕ)) (r : Run) → IsAt v r
+    → (is_long start line || is_bad (order_of (bared line))) ≡ true → Ends v (Err (runs.Script number)) (run_lines number start (line ∷ lines)) r
+line_bad v number start line lines r at bad = (r, ([], λ rest. line_step number start line lines (with_marks r rest) false true at.up bad), at)
 
 -- once the device failed no line is run
 pub lines_down : (number start : ℕ) (lines : List (List ℕ)) (r : Run) → r.down ≡ true → run_lines number start lines r ≡ ended_as r Faulted
@@ -143,10 +165,10 @@ lines_down number start [] r down = ap finished (cut_down 16 0 r down) ∙ ap (�
 lines_down number start (line ∷ lines) r down = line_step number start line lines r true (is_long start line || is_bad (order_of (bared line))) down refl
 
 -- a line that is obeyed
-pub line_ran : (S : State → Type 0) (held : Option (List ℕ)) (front : List ℕ) (number start : ℕ) (line : List ℕ) (lines : List (List ℕ)) (r : Run) (o : Order)
+pub line_ran : {C : Type 0} (v : View C) (number start : ℕ) (line : List ℕ) (lines : List (List ℕ)) (r : Run) (o : Order)
     → o ≡ order_of (bared line) → r.down ≡ false → (is_long start line || is_bad (order_of (bared line))) ≡ false
-    → Went S held front (Ok (tt {0})) (obeyed o) r → LineRan S held front (Ok (tt {0})) number start line lines r
-line_ran S held front number start line lines r o is up good p = (
+    → Went v (Ok (tt {0})) (obeyed o) r → LineRan v (Ok (tt {0})) number start line lines r
+line_ran v number start line lines r o is up good p = (
   p.0,
   (
     p.1.0,
@@ -156,10 +178,31 @@ line_ran S held front number start line lines r o is up good p = (
   p.2,
 )
 
-pub line_stops : (S : State → Type 0) (held : Option (List ℕ)) (front : List ℕ) (fault : CallFault) (number start : ℕ) (line : List ℕ) (lines : List (List ℕ)) (r : Run) (o : Order)
+line_breaks : {C : Type 0} (v : View C) (fault : CallFault) (number start : ℕ) (line : List ℕ) (lines : List (List ℕ)) (r : Run) (o : Order)
     → o ≡ order_of (bared line) → r.down ≡ false → (is_long start line || is_bad (order_of (bared line))) ≡ false
-    → Went S held front (Err fault) (obeyed o) r → LineRan S held front (Err (run_fault fault)) number start line lines r
-line_stops S held front faults.DiskFault number start line lines r o is up good p = (
+    → Stops v fault run_past (obeyed o) r → Stops v fault script_past (run_lines number start (line ∷ lines)) r
+line_breaks v fault number start line lines r o is up good p =
+    let others : Run → script.Result = run_lines (number + 1) (start + length line + 1) lines in (
+      p.0,
+      passes_as script_past (run_lines number start (line ∷ lines)) (λ x. others (obeyed o x)) r p.0
+          (λ marks. line_step number start line lines (with_marks r marks) false false up good ∙ ap (λ q. others (obeyed q (with_marks r marks))) (sym is))
+          (passes_on run_past script_past others (obeyed o) r p.0 (lines_add (number + 1) (start + length line + 1) lines) p.1),
+      p.2,
+    )
+
+-- memory was wanting before the line did anything
+pub line_wants : {C : Type 0} (v : View C) (number start : ℕ) (line : List ℕ) (lines : List (List ℕ)) (r : Run) → IsAt v r
+    → LineRan v (Err runs.NoMemory) number start line lines r
+line_wants v number start line lines r at = (
+  r,
+  passes_by script_past (run_lines number start (line ∷ lines)) (run_lines number start (line ∷ lines)) r r (reach_none (run_lines number start (line ∷ lines)) r) (lines_add number start (line ∷ lines)),
+  record { keeps = at.keeps; out = r.out; wrote = at.wrote; replies = inl at.history.output; history = at.history },
+)
+
+pub line_stops : {C : Type 0} (v : View C) (fault : CallFault) (number start : ℕ) (line : List ℕ) (lines : List (List ℕ)) (r : Run) (o : Order)
+    → o ≡ order_of (bared line) → r.down ≡ false → (is_long start line || is_bad (order_of (bared line))) ≡ false
+    → Went v (Err fault) (obeyed o) r → LineRan v (Err (run_fault fault)) number start line lines r
+line_stops v faults.DiskFault number start line lines r o is up good p = (
   p.0,
   (
     p.1.0,
@@ -169,8 +212,8 @@ line_stops S held front faults.DiskFault number start line lines r o is up good 
   ),
   p.2,
 )
-line_stops S held front faults.NoMemory number start line lines r o is up good p = tt {0}
-line_stops S held front faults.Io number start line lines r o is up good p = tt {0}
+line_stops v faults.NoMemory number start line lines r o is up good p = line_breaks v faults.NoMemory number start line lines r o is up good p
+line_stops v faults.Io number start line lines r o is up good p = line_breaks v faults.Io number start line lines r o is up good p
 
 -- the code's error is no other than it was matched to be
 pub or_first : (a b : Bool) → a ≡ true → (a || b) ≡ true
@@ -229,38 +272,46 @@ unfolding cut_from
 cut_none n r = ([], λ rest. refl)
 
 -- the fault of the connections' cutting is the run's
-pub lines_end : (S : State → Type 0) (held : Option (List ℕ)) (front : List ℕ) (number start : ℕ) (r : Run) → Went S held front (Ok (tt {0})) (cut_from 16 0) r
-    → Ends S held front (Ok (tt {0})) (run_lines number start []) r
-lines_end S held front number start r p =
+pub lines_end : {C : Type 0} (v : View C) (number start : ℕ) (r : Run) → Went v (Ok (tt {0})) (cut_from 16 0) r
+    → Ends v (Ok (tt {0})) (run_lines number start []) r
+lines_end v number start r p =
     (p.0, (p.1.0, λ rest. end_step number start (with_marks r (p.1.0 ++ rest)) ∙ (ap finished (p.1.1 rest) ∙ ap (λ d. ended_as (with_marks p.0 rest) (if d then Faulted else Ran)) p.2.up)), p.2)
 
-pub lines_stop : (S : State → Type 0) (held : Option (List ℕ)) (front : List ℕ) (fault : CallFault) (number start : ℕ) (r : Run) → Went S held front (Err fault) (cut_from 16 0) r
-    → Ends S held front (Err (run_fault fault)) (run_lines number start []) r
-lines_stop S held front faults.DiskFault number start r p =
+end_breaks : {C : Type 0} (v : View C) (fault : CallFault) (number start : ℕ) (r : Run) → Stops v fault run_past (cut_from 16 0) r → Stops v fault script_past (run_lines number start []) r
+end_breaks v fault number start r p = (
+  p.0,
+  passes_as script_past (run_lines number start []) (λ x. finished (cut_from 16 0 x)) r p.0 (λ marks. end_step number start (with_marks r marks))
+      (passes_on run_past script_past finished (cut_from 16 0) r p.0 (λ x. first_same x.past) p.1),
+  p.2,
+)
+
+pub lines_stop : {C : Type 0} (v : View C) (fault : CallFault) (number start : ℕ) (r : Run) → Went v (Err fault) (cut_from 16 0) r
+    → Ends v (Err (run_fault fault)) (run_lines number start []) r
+lines_stop v faults.DiskFault number start r p =
     (p.0, (p.1.0, λ rest. end_step number start (with_marks r (p.1.0 ++ rest)) ∙ (ap finished (p.1.1 rest) ∙ ap (λ d. ended_as (with_marks p.0 rest) (if d then Faulted else Ran)) p.2.down)), p.2)
-lines_stop S held front faults.NoMemory number start r p = tt {0}
-lines_stop S held front faults.Io number start r p = tt {0}
+lines_stop v faults.NoMemory number start r p = end_breaks v faults.NoMemory number start r p
+lines_stop v faults.Io number start r p = end_breaks v faults.Io number start r p
 
 -- behind some lines
-pub ends_behind : (S : State → Type 0) (held : Option (List ℕ)) (front : List ℕ) (result : Result (Unit {0}) RunFault) (f g : Run → script.Result) (r s : Run)
-    → Reaches f r g s → Ends S held front result g s → Ends S held front result f r
-ends_behind S held front (Ok x) f g r s p q = (q.0, reach_both f g (λ x. ended_as x Ran) r s q.0 p q.1, q.2)
-ends_behind S held front (Err runs.DiskFault) f g r s p q = (q.0, reach_both f g (λ x. ended_as x Faulted) r s q.0 p q.1, q.2)
-ends_behind S held front (Err (runs.Script n)) f g r s p q = (q.0, reach_both f g (λ x. ended_as x (AtLine n)) r s q.0 p q.1, q.2)
-ends_behind S held front (Err runs.NoMemory) f g r s p q = tt {0}
-ends_behind S held front (Err runs.Io) f g r s p q = tt {0}
+pub ends_behind : {C : Type 0} (v : View C) (result : Result (Unit {0}) RunFault) (f g : Run → script.Result) (r s : Run)
+    → Reaches f r g s → Ends v result g s → Ends v result f r
+ends_behind v (Ok x) f g r s p q = (q.0, reach_both f g (λ x. ended_as x Ran) r s q.0 p q.1, q.2)
+ends_behind v (Err runs.DiskFault) f g r s p q = (q.0, reach_both f g (λ x. ended_as x Faulted) r s q.0 p q.1, q.2)
+ends_behind v (Err (runs.Script n)) f g r s p q = (q.0, reach_both f g (λ x. ended_as x (AtLine n)) r s q.0 p q.1, q.2)
+ends_behind v (Err runs.NoMemory) f g r s p q = stops_behind v faults.NoMemory script_past f g r s p q
+ends_behind v (Err runs.Io) f g r s p q = stops_behind v faults.Io script_past f g r s p q
 
-pub cut_fails : (S : State → Type 0) (held : Option (List ℕ)) (front : List ℕ) (fault : CallFault) (k n : ℕ) (r : Run) → CutOne S held front (Err fault) k n r
-    → Went S held front (Err fault) (cut_from (suc k) n) r
-cut_fails S held front faults.DiskFault k n r p = p
-cut_fails S held front faults.NoMemory k n r p = tt {0}
-cut_fails S held front faults.Io k n r p = tt {0}
+pub cut_fails : {C : Type 0} (v : View C) (fault : CallFault) (k n : ℕ) (r : Run) → CutOne v (Err fault) k n r
+    → Went v (Err fault) (cut_from (suc k) n) r
+cut_fails v faults.DiskFault k n r p = p
+cut_fails v faults.NoMemory k n r p = p
+cut_fails v faults.Io k n r p = p
 
 -- the fault of a line is that of its run
-pub line_fails : (S : State → Type 0) (held : Option (List ℕ)) (front : List ℕ) (fault : RunFault) (number start : ℕ) (bytes : List ℕ) (r : Run) → (bytes ≡ [] → ⊥)
-    → LineRan S held front (Err fault) number start (before 10 bytes) (script_lines (behind 10 bytes)) r → Ends S held front (Err fault) (run_lines number start (script_lines bytes)) r
-line_fails S held front fault number start bytes r some p =
-    subst (λ l. Ends S held front (Err fault) (run_lines number start l) r) (sym (lines_split bytes some)) p
+pub line_fails : {C : Type 0} (v : View C) (fault : RunFault) (number start : ℕ) (bytes : List ℕ) (r : Run) → (bytes ≡ [] → ⊥)
+    → LineRan v (Err fault) number start (before 10 bytes) (script_lines (behind 10 bytes)) r → Ends v (Err fault) (run_lines number start (script_lines bytes)) r
+line_fails v fault number start bytes r some p =
+    subst (λ l. Ends v (Err fault) (run_lines number start l) r) (sym (lines_split bytes some)) p
 
 room_case : (b : ℕ) (bytes : List ℕ) (t : Bool) → (0 < length (behind 10 bytes) → length (before 10 bytes) + 1 + length (behind 10 bytes) ≤ length bytes)
     → 0 < length (if t then bytes else behind 10 bytes) → length (if t then [] else b ∷ before 10 bytes) + 1 + length (if t then bytes else behind 10 bytes) ≤ suc (length bytes)
@@ -277,11 +328,11 @@ list_size [] some = absurd (some refl)
 list_size (x ∷ list) some = omega arith
 
 -- on to the lines behind one that ran
-pub lines_on : (S : State → Type 0) (held : Option (List ℕ)) (front : List ℕ) (number start : ℕ) (rest line more : List ℕ) (f : Run → script.Result) (r s : Run) → (rest ≡ [] → ⊥)
+pub lines_on : {C : Type 0} (v : View C) (number start : ℕ) (rest line more : List ℕ) (f : Run → script.Result) (r s : Run) → (rest ≡ [] → ⊥)
     → line ≡ before 10 rest → more ≡ behind 10 rest → Reaches f r (run_lines number start (script_lines rest)) s
-    → LineRan S held front (Ok (tt {0})) number start line (script_lines (behind 10 rest)) s
-    → (t : Run) × Reaches f r (run_lines (number + 1) (start + (length line + 1)) (script_lines more)) t × IsAt S held front t
-lines_on S held front number start rest line more f r s some is_line is_more p q =
+    → LineRan v (Ok (tt {0})) number start line (script_lines (behind 10 rest)) s
+    → (t : Run) × Reaches f r (run_lines (number + 1) (start + (length line + 1)) (script_lines more)) t × IsAt v t
+lines_on v number start rest line more f r s some is_line is_more p q =
     let lines : script_lines rest ≡ line ∷ script_lines (behind 10 rest) = lines_split rest some ∙ ap (λ l. l ∷ script_lines (behind 10 rest)) (sym is_line) in
     let first : Reaches f r (run_lines number start (line ∷ script_lines (behind 10 rest))) s = subst (λ l. Reaches f r (run_lines number start l) s) lines p in
     let both : Reaches f r (run_lines (number + 1) (start + length line + 1) (script_lines (behind 10 rest))) q.0 =

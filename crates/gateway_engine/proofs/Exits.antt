@@ -1,52 +1,161 @@
 -- From the lines' end to the script's.
-use Rattle.std.proofs.Common.{◌≡◌, ◌⊎◌, inl, inr, ℕ, List, [], ◌++◌, Option, Some, Ok, Err, refl, sym, subst, ap, ◌∙◌, append-nil}
-use Rattle.upload_rules.specs.World.{at_rest}
+use Rattle.std.proofs.Common.{◌≡◌, ◌⊎◌, inl, inr, ℕ, List, [], ◌++◌, Option, Some, None, Ok, Err, refl, sym, subst, ◌∙◌, append-nil, arith}
+use Rattle.std.specs.Prelude.{IsErrOf}
+use Rattle.std.specs.Io.KnownBytes.{Appends}
+use Rattle.upload_rules.specs.Store.{Store}
+use Rattle.upload_rules.specs.Answers.{Among, Quiet, Counts}
 use Rattle.upload_rules.specs.declared.uploads.Uploads.{Ghosts}
-use Rattle.tus_session.specs.History.{State, Mark}
+use Rattle.gateway_engine.proofs.Seen.{first_store, all_themselves}
+use Rattle.tus_session.specs.History.{State, Mark, Marked}
+use Rattle.gateway_engine.proofs.Outputs.{appends_nothing}
+use Rattle.gateway_engine.specs.Script as script
 use Rattle.gateway_engine.specs.Script.{script as the_script, Run, run_lines, script_lines, run_from, ended_as, Exit, Ran, AtLine, Faulted}
-use Rattle.gateway_engine.specs.Runs.{with_marks, IsAt, Reaches, Ends}
-use Rattle.gateway_engine.specs.Ran.{EndedSo, RestsSo, HasRun}
+use Rattle.gateway_engine.specs.Images.{IsFirst, stores_of, LimitsTo}
+use Rattle.gateway_engine.specs.Runs.{View, with_marks, IsHistory, IsAt, Reaches, Stops, script_past, Ends}
+use Rattle.gateway_engine.specs.Ran.{Shows, Rests, EndedSo, RestsSo, StoppedSo, HasRun, IsScript, HasFailed}
+use Rattle.gateway_engine.specs.declared.faults.CallFault.{CallFault}
+use Rattle.gateway_engine.specs.declared.faults.CallFault.TheVariants as faults
 use Rattle.gateway_engine.specs.declared.faults.RunFault.{RunFault}
 use Rattle.gateway_engine.specs.declared.faults.RunFault.TheVariants as runs
 
-pub begins : (S : State → Type 0) (st : State) (held : Option (List ℕ)) (front : List ℕ) → S st → held ≡ Some front → IsAt S held front (run_from st [])
-begins S st held front stands is = record { keeps = stands; wrote = is ∙ ap Some (sym (append-nil front)); up = refl }
+-- nothing happened so far
+limits_none : (moment : ℕ) (left_only : ℕ → List Store → Type 0) (stores : List Store) → LimitsTo moment moment left_only left_only stores
+limits_none moment left_only stores = record { later = omega arith; limits = λ t ms le left among. left }
 
-script_is : (st : State) (bytes : List ℕ) (s : Run) (exit : Exit) → (p : Reaches (run_lines 1 0 (script_lines bytes)) (run_from st []) (λ x. ended_as x exit) s)
-    → the_script st (p.0 ++ []) bytes ≡ ended_as (with_marks s []) exit
+pub begins : {C : Type 0} (v : View C) → v.before ≡ v.now → v.u.stands v.now v.st → v.held ≡ v.front → IsAt v (run_from v.st [])
+begins v same stands is = record {
+  keeps = stands;
+  wrote = subst (λ h. Appends h v.held []) is (appends_nothing v.held);
+  up = refl;
+  history = record { state = refl; output = refl; images = subst (λ c. LimitsTo (v.u.moment c) (v.u.moment v.now) (v.u.left_only c) (v.u.left_only v.now) (stores_of v.st [])) (sym same) (limits_none (v.u.moment v.now) (v.u.left_only v.now) (stores_of v.st [])) };
+}
+
+-- the script, by its marks
+script_is : (st : State) (marks : List Mark) (bytes : List ℕ) → the_script st marks bytes ≡ run_lines 1 0 (script_lines bytes) (with_marks (run_from st []) marks)
 unfolding the_script
-script_is st bytes s exit p = p.1 []
+script_is st marks bytes = refl
 
-ended_so : (st : State) (bytes : List ℕ) (s : Run) (exit : Exit) (held : Option (List ℕ)) (front : List ℕ) → (p : Reaches (run_lines 1 0 (script_lines bytes)) (run_from st []) (λ x. ended_as x exit) s)
-    → held ≡ Some (front ++ s.out) → EndedSo (the_script st (p.0 ++ []) bytes) held front exit
-ended_so st bytes s exit held front p wrote =
-    let e = script_is st bytes s exit p in
-    record { exits = ap (λ r. r.exit) e; wrote = wrote ∙ ap (λ r. Some (front ++ r.run.out)) (sym e) }
+-- the uploads are on the device
+abbrev pub IsDurable : {U B : Type 0} → Ghosts U B → U → State → Type 0
+IsDurable u store st = (ms : List Store) → Among st.world.store ms → u.left_only store (u.moment store) ms
 
-module _ {U B : Type 0} (u : Ghosts U B) (S : State → Type 0) (store : U) (held : Option (List ℕ)) (front : List ℕ) (st : State) (bytes : List ℕ)
-    (closes : (now : State) → S now → u.stands store (at_rest now.world.store now.world.blocks)) where
-  rests : (s : Run) (exit : Exit) → (p : Reaches (run_lines 1 0 (script_lines bytes)) (run_from st []) (λ x. ended_as x exit) s) → IsAt S held front s
-      → (marks : List Mark) × RestsSo u store (the_script st marks bytes) held front exit
-  rests s exit p at =
-      let e = script_is st bytes s exit p in (
-        p.0 ++ [],
-        record {
-          ended = ended_so st bytes s exit held front p at.wrote;
-          rests = subst (λ r. u.stands store (at_rest r.run.state.world.store r.run.state.world.blocks)) (sym e) (closes s.state at.keeps);
-        },
-      )
+-- what images may show since the run began
+pub shows_since : {U B : Type 0} (u : Ghosts U B) (before now : U) (st : State) (past : List Marked) → IsDurable u before st
+    → LimitsTo (u.moment before) (u.moment now) (u.left_only before) (u.left_only now) (stores_of st past) → Shows u before now st past
+shows_since u before now st past durable limits = record {
+  since = limits.limits (u.moment before) (stores_of st past) (omega arith) (durable (stores_of st past) (first_store st past)) (all_themselves (stores_of st past));
+  limits = limits;
+}
 
-  pub ran : Ends S held front (Ok (tt {0})) (run_lines 1 0 (script_lines bytes)) (run_from st []) → HasRun u (Ok store) held front st bytes
-  ran p = rests p.0 Ran p.1 p.2
+-- what images may show of the run of the connections
+abbrev pub ShowsIn : {C : Type 0} → View C → List Marked → Type 0
+ShowsIn v past = LimitsTo (v.u.moment v.before) (v.u.moment v.now) (v.u.left_only v.before) (v.u.left_only v.now) (stores_of v.st past)
 
-  pub stopped : (fault : RunFault) → Ends S held front (Err fault) (run_lines 1 0 (script_lines bytes)) (run_from st []) → HasRun u (Err (store, fault)) held front st bytes
-  stopped runs.NoMemory p = tt {0}
-  stopped runs.DiskFault p = (p.1.0 ++ [], ended_so st bytes p.0 Faulted held front p.1 p.2.wrote)
-  stopped (runs.Script n) p = rests p.0 (AtLine n) p.1 p.2
-  stopped runs.Io p = tt {0}
+module _ {U B C : Type 0} (u : Ghosts U B) (v : View C) (before store : U) (bytes : List ℕ)
+    (closes : (now : State) → v.u.stands v.now now → Rests u store now) (shows : (past : List Marked) → ShowsIn v past → Shows u before store v.st past) where
+  abbrev lines : Run → script.Result
+  lines = run_lines 1 0 (script_lines bytes)
 
--- a fault of the reader's, or want of memory
-pub unread : {U B : Type 0} (u : Ghosts U B) (store : U) (held : Option (List ℕ)) (front : List ℕ) (st : State) (bytes : List ℕ) (fault : RunFault)
-    → (fault ≡ runs.NoMemory) ⊎ (fault ≡ runs.Io) → HasRun u (Err (store, fault)) held front st bytes
-unread u store held front st bytes fault (inl e) = subst (λ f. HasRun u (Err (store, f)) held front st bytes) (sym e) (tt {0})
-unread u store held front st bytes fault (inr e) = subst (λ f. HasRun u (Err (store, f)) held front st bytes) (sym e) (tt {0})
+  abbrev begun : Run
+  begun = run_from v.st []
+
+  ends_as : (s : Run) (exit : Exit) → (p : Reaches lines begun (λ x. ended_as x exit) s) → the_script v.st (p.0 ++ []) bytes ≡ ended_as (with_marks s []) exit
+  ends_as s exit p = script_is v.st (p.0 ++ []) bytes ∙ p.1 []
+
+  ended_so : (s : Run) (exit : Exit) → (p : Reaches lines begun (λ x. ended_as x exit) s) → Appends v.front v.held s.out → IsHistory v s
+      → EndedSo u before store v.st (the_script v.st (p.0 ++ []) bytes) v.held v.front exit
+  ended_so s exit p wrote is =
+      let now : EndedSo u before store v.st (ended_as (with_marks s []) exit) v.held v.front exit =
+      record { exits = refl; wrote = wrote; output = is.output; state = is.state; shows = shows s.past is.images } in
+      subst (λ r. EndedSo u before store v.st r v.held v.front exit) (sym (ends_as s exit p)) now
+
+  rests_so : (s : Run) (exit : Exit) → (p : Reaches lines begun (λ x. ended_as x exit) s) → IsAt v s
+      → (marks : List Mark) × RestsSo u before store v.st (the_script v.st marks bytes) v.held v.front exit
+  rests_so s exit p at = (
+    p.0 ++ [],
+    record {
+      ended = ended_so s exit p at.wrote at.history;
+      rests = subst (λ r. Rests u store r.run.state) (sym (ends_as s exit p)) (closes s.state at.keeps);
+    },
+  )
+
+  stopped_so : (fault : CallFault) → Stops v fault script_past lines begun → (marks : List Mark) × StoppedSo u before store v.st (the_script v.st marks bytes) v.held v.front fault
+  stopped_so fault p = (
+    p.1.0 ++ [],
+    record {
+      past = p.0.past;
+      first = subst (λ r. IsFirst p.0.past r.run.past) (sym (script_is v.st (p.1.0 ++ []) bytes)) (p.1.1 []);
+      out = p.2.out;
+      wrote = p.2.wrote;
+      most = p.2.replies;
+      rests = subst (Rests u store) p.2.history.state (closes p.0.state p.2.keeps);
+      shows = shows p.0.past p.2.history.images;
+    },
+  )
+
+  pub ran : Ends v (Ok (tt {0})) lines begun → HasRun u before (Ok store) v.held v.front v.st bytes
+  ran p = rests_so p.0 Ran p.1 p.2
+
+  pub stopped : (fault : RunFault) → Ends v (Err fault) lines begun → HasRun u before (Err (store, fault)) v.held v.front v.st bytes
+  stopped runs.NoMemory p = stopped_so faults.NoMemory p
+  stopped runs.DiskFault p = (p.1.0 ++ [], ended_so p.0 Faulted p.1 p.2.wrote p.2.history)
+  stopped (runs.Script n) p = rests_so p.0 (AtLine n) p.1 p.2
+  stopped runs.Io p = stopped_so faults.Io p
+
+-- THE RUN NEVER BEGAN: the script wasn't read, or memory was wanting
+module _ {U B : Type 0} (u : Ghosts U B) (store : U) (held : Option (List ℕ)) (st : State) (bytes : List ℕ) (stands : Rests u store st) (durable : IsDurable u store st) where
+  all_follow : (past : List Marked) → IsFirst [] past
+  all_follow past = (past, sym (append-nil past))
+
+  pub unbegun : (fault : RunFault) → (fault ≡ runs.NoMemory) ⊎ (fault ≡ runs.Io) → HasRun u store (Err (store, fault)) held held st bytes
+  unbegun fault (inl e) = subst (λ f. HasRun u store (Err (store, f)) held held st bytes) (sym e) (
+    [],
+    record {
+      past = [];
+      first = all_follow (the_script st [] bytes).run.past;
+      out = [];
+      wrote = appends_nothing held;
+      most = inl refl;
+      rests = stands;
+      shows = shows_since u store store st [] durable (limits_none (u.moment store) (u.left_only store) (stores_of st []));
+    },
+  )
+  unbegun fault (inr e) = subst (λ f. HasRun u store (Err (store, f)) held held st bytes) (sym e) (
+    [],
+    record {
+      past = [];
+      first = all_follow (the_script st [] bytes).run.past;
+      out = [];
+      wrote = appends_nothing held;
+      most = ([], [], refl, refl);
+      rests = stands;
+      shows = shows_since u store store st [] durable (limits_none (u.moment store) (u.left_only store) (stores_of st []));
+    },
+  )
+
+-- THE COUNT OF FAULTS
+pub counts_as : {U : Type 0} {a b : ℕ} (store : U) (fault : RunFault) → Counts (IsErrOf {T = Unit {0}} (Err fault) runs.DiskFault) a b → Counts (HasFailed (Err (store, fault))) a b
+counts_as store runs.NoMemory c = record { later = c.later; counted = λ f. absurd f; nothing_else = λ less. let e : Err runs.NoMemory ≡ Err runs.DiskFault = c.nothing_else less in absurd (cc) }
+counts_as store runs.DiskFault c = record { later = c.later; counted = λ f. c.counted refl; nothing_else = λ less. tt {0} }
+counts_as store (runs.Script n) c = record { later = c.later; counted = λ f. absurd f; nothing_else = λ less. let e : Err (runs.Script n) ≡ Err runs.DiskFault = c.nothing_else less in absurd (cc) }
+counts_as store runs.Io c = record { later = c.later; counted = λ f. absurd f; nothing_else = λ less. let e : Err runs.Io ≡ Err runs.DiskFault = c.nothing_else less in absurd (cc) }
+
+pub counts_nothing : {U : Type 0} (a : ℕ) (store : U) (fault : RunFault) → (fault ≡ runs.NoMemory) ⊎ (fault ≡ runs.Io) → Counts (HasFailed (Err (store, fault))) a a
+counts_nothing a store fault (inl e) = subst (λ f. Counts (HasFailed (Err (store, f))) a a) (sym e) (record { later = omega arith; counted = λ f. absurd f; nothing_else = λ less. absurd (omega arith) })
+counts_nothing a store fault (inr e) = subst (λ f. Counts (HasFailed (Err (store, f))) a a) (sym e) (record { later = omega arith; counted = λ f. absurd f; nothing_else = λ less. absurd (omega arith) })
+
+-- from the uploads that a gateway was made of to those that it gave back
+pub counts_through : {F : Type 0} {a b c d : ℕ} → b ≡ a → d ≡ c → Counts F b c → Counts F a d
+counts_through {F} {a} {b} {c} {d} first last counts = subst (λ n. Counts F n d) first (subst (λ n. Counts F b n) (sym last) counts)
+
+pub shows_through : {U B : Type 0} (u : Ghosts U B) (before first last now : U) (stores : List Store) → first ≡ before → Quiet (u.moment last) (u.moment now) (u.left_only last) (u.left_only now)
+    → LimitsTo (u.moment first) (u.moment last) (u.left_only first) (u.left_only last) stores → LimitsTo (u.moment before) (u.moment now) (u.left_only before) (u.left_only now) stores
+shows_through u before first last now stores same quiet shows = subst (λ b. LimitsTo (u.moment b) (u.moment now) (u.left_only b) (u.left_only now) stores) same (record {
+  later = omega (arith, shows.later, quiet.later);
+  limits = λ t ms le left among. quiet.keeps t ms (omega (arith, shows.later)) (shows.limits t ms le left among);
+})
+
+-- of an unread script nothing is told
+pub some_script : (known : Option (List ℕ)) → (bytes : List ℕ) × IsScript known bytes
+some_script None = ([], tt {0})
+some_script (Some bytes) = (bytes, refl)

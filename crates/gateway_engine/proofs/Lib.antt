@@ -1,4 +1,7 @@
 pub mod Outputs
+pub mod Passing
+pub mod Counting
+pub mod Seen
 pub mod Turns
 pub mod Reaching
 pub mod Ending

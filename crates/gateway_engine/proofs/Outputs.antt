@@ -1,7 +1,7 @@
 -- What is written of the bytes that a call gave.
 use Rattle.std.specs.Io.KnownBytes.{Appends}
 use Rattle.std.proofs.lemmas.List.{take-append-drop}
-use Rattle.std.proofs.Common.{◌≡◌, ◌==◌, Bool, true, false, ℕ, List, [], ◌∷◌, ◌++◌, length, take, drop, Option, Some, None, refl, sym, ap, ◌∙◌, append_assoc, codes, arith}
+use Rattle.std.proofs.Common.{◌≡◌, ◌==◌, Bool, true, false, ℕ, List, [], ◌∷◌, ◌++◌, length, take, drop, Option, Some, None, refl, sym, ap, ◌∙◌, append_assoc, append-nil, codes, arith}
 use Rattle.std.specs.Fmt.{decimal}
 use Rattle.gateway_engine.specs.Script.{written_bytes}
 use Rattle.gateway_engine.specs.Outputs.{count_line}
@@ -21,6 +21,10 @@ framed n (c ∷ bytes) old mid new b is some first last =
     last ∙ (ap (λ x. x ++ (10 ∷ [])) first
     ∙ (append_assoc (old ++ line) (c ∷ bytes) (10 ∷ [])
     ∙ (append_assoc old line ((c ∷ bytes) ++ (10 ∷ [])) ∙ ap (λ x. old ++ x) (line_then n (length (c ∷ bytes)) ((c ∷ bytes) ++ (10 ∷ []))))))
+
+pub appends_nothing : (known : Option (List ℕ)) → Appends known known []
+appends_nothing None = tt {0}
+appends_nothing (Some x) = sym (append-nil x)
 
 pub appends_both : (a b c : Option (List ℕ)) (x y : List ℕ) → Appends a b x → Appends b c y → Appends a c (x ++ y)
 appends_both None b c x y p q = tt {0}

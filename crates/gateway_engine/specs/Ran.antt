@@ -1,26 +1,69 @@
 -- What a run of a script comes to.
-use Rattle.std.specs.Prelude.{◌≡◌, ℕ, List, ◌++◌, Option, Some, Result, Ok, Err}
+use Rattle.std.specs.Prelude.{◌≡◌, ℕ, List, Option, Some, None, Result, Ok, Err}
+use Rattle.std.specs.Io.KnownBytes.{Appends}
 use Rattle.upload_rules.specs.World.{at_rest}
 use Rattle.upload_rules.specs.declared.uploads.Uploads.{Ghosts}
-use Rattle.tus_session.specs.History.{State, Mark}
+use Rattle.tus_session.specs.History.{State, Mark, Marked, history}
 use Rattle.gateway_engine.specs.Script as script
 use Rattle.gateway_engine.specs.Script.{script as the_script, Exit, Ran, AtLine, Faulted}
+use Rattle.gateway_engine.specs.Images.{IsFirst, output_of, stores_of, LimitsTo, WroteMost}
+use Rattle.gateway_engine.specs.declared.faults.CallFault.{CallFault}
+use Rattle.gateway_engine.specs.declared.faults.CallFault.TheVariants as calls
 use Rattle.gateway_engine.specs.declared.faults.RunFault.{RunFault}
-use Rattle.gateway_engine.specs.declared.faults.RunFault.TheVariants.{DiskFault, Script}
+use Rattle.gateway_engine.specs.declared.faults.RunFault.TheVariants.{DiskFault, Script, NoMemory, Io}
 
--- the script ended so, by the marks of its calls, and this was written behind what was there
-pub record EndedSo (r : script.Result) (held : Option (List ℕ)) (front : List ℕ) (exit : Exit) : Type 0 where
+-- From the uploads before to the uploads now. What a crash at any moment since the run began might have left shows the uploads of the history
+-- behind all these events, all but the latest, and so on; and images of earlier moments show them, or what they showed
+pub record Shows {U B : Type 0} (u : Ghosts U B) (before now : U) (st : State) (past : List Marked) : Type 0 where
+  pub since : u.left_only now (u.moment before) (stores_of st past)
+  pub limits : LimitsTo (u.moment before) (u.moment now) (u.left_only before) (u.left_only now) (stores_of st past)
+
+-- the uploads are those of the history, and no draft is open
+abbrev pub Rests : {U B : Type 0} → Ghosts U B → U → State → Type 0
+Rests u store st = u.stands store (at_rest st.world.store st.world.blocks)
+
+-- The script ended so, by the marks of its calls, and this was written behind what was there: the output of all its events.
+pub record EndedSo {U B : Type 0} (u : Ghosts U B) (before now : U) (st : State) (r : script.Result) (held front : Option (List ℕ)) (exit : Exit) : Type 0 where
   pub exits : r.exit ≡ exit
-  pub wrote : held ≡ Some (front ++ r.run.out)
+  pub wrote : Appends front held r.run.out
+  pub output : r.run.out ≡ output_of st r.run.past
+  pub state : r.run.state ≡ history st r.run.past
+  pub shows : Shows u before now st r.run.past
 
 -- the script ended so, and the store has the uploads of its history, no draft open
-pub record RestsSo {U B : Type 0} (u : Ghosts U B) (store : U) (r : script.Result) (held : Option (List ℕ)) (front : List ℕ) (exit : Exit) : Type 0 where
-  pub ended : EndedSo r held front exit
-  pub rests : u.stands store (at_rest r.run.state.world.store r.run.state.world.blocks)
+pub record RestsSo {U B : Type 0} (u : Ghosts U B) (before now : U) (st : State) (r : script.Result) (held front : Option (List ℕ)) (exit : Exit) : Type 0 where
+  pub ended : EndedSo u before now st r held front exit
+  pub rests : Rests u now r.run.state
 
--- Of a reader's or a writer's fault, and of want of memory of the run's own, nothing is said.
-abbrev pub HasRun : {U B : Type 0} → Ghosts U B → Result U (U × RunFault) → Option (List ℕ) → List ℕ → State → List ℕ → Type 0
-HasRun u (Ok store) held front st bytes = (marks : List Mark) × RestsSo u store (the_script st marks bytes) held front Ran
-HasRun u (Err (store, Script n)) held front st bytes = (marks : List Mark) × RestsSo u store (the_script st marks bytes) held front (AtLine n)
-HasRun u (Err (store, DiskFault)) held front st bytes = (marks : List Mark) × EndedSo (the_script st marks bytes) held front Faulted
-HasRun u (Err (store, e)) held front st bytes = Unit {0}
+-- The run was broken off behind these events, the first of the script's. The store has the uploads of their history, no draft open
+pub record StoppedSo {U B : Type 0} (u : Ghosts U B) (before now : U) (st : State) (r : script.Result) (held front : Option (List ℕ)) (fault : CallFault) : Type 0 where
+  pub past : List Marked
+  pub first : IsFirst past r.run.past
+  pub out : List ℕ
+  pub wrote : Appends front held out
+  pub most : WroteMost fault st past out
+  pub rests : Rests u now (history st past)
+  pub shows : Shows u before now st past
+
+-- behind a device's fault nothing is known of the store but its images
+abbrev pub HasRun : {U B : Type 0} → Ghosts U B → U → Result U (U × RunFault) → Option (List ℕ) → Option (List ℕ) → State → List ℕ → Type 0
+HasRun u before (Ok store) held front st bytes = (marks : List Mark) × RestsSo u before store st (the_script st marks bytes) held front Ran
+HasRun u before (Err (store, Script n)) held front st bytes = (marks : List Mark) × RestsSo u before store st (the_script st marks bytes) held front (AtLine n)
+HasRun u before (Err (store, DiskFault)) held front st bytes = (marks : List Mark) × EndedSo u before store st (the_script st marks bytes) held front Faulted
+HasRun u before (Err (store, NoMemory)) held front st bytes = (marks : List Mark) × StoppedSo u before store st (the_script st marks bytes) held front calls.NoMemory
+HasRun u before (Err (store, Io)) held front st bytes = (marks : List Mark) × StoppedSo u before store st (the_script st marks bytes) held front calls.Io
+
+-- the script is what the reader had left, where that is known
+abbrev pub IsScript : Option (List ℕ) → List ℕ → Type 0
+IsScript None script = Unit {0}
+IsScript (Some bytes) script = script ≡ bytes
+
+-- the device failed
+abbrev pub HasFailed : {U : Type 0} → Result U (U × RunFault) → Type 0
+HasFailed (Err (store, DiskFault)) = Unit {0}
+HasFailed result = ⊥
+
+-- the uploads that are handed back
+abbrev pub store_of : {U : Type 0} → Result U (U × RunFault) → U
+store_of (Ok store) = store
+store_of (Err (store, fault)) = store

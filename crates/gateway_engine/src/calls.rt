@@ -1,9 +1,10 @@
 //! A call on the connections, and what it writes.
-ghost use Rattle.std.specs.Prelude.{ℕ, List, Option};
-ghost use Rattle.tus_session.specs.History.{Opened, Came, More, Ended};
+ghost use Rattle.std.specs.Prelude.{ℕ, List, Option, IsErrOf};
+ghost use Rattle.upload_rules.specs.Answers.{Counts};
+ghost use Rattle.tus_session.specs.History.{State, Opened, Came, More, Ended};
 ghost use Rattle.tus_session.specs.Faults.{error_number};
 ghost use Rattle.gateway_engine.specs.Script.{Run, call};
-ghost use Rattle.gateway_engine.specs.Runs.{IsAt, Went, Refuses, Called, Tells};
+ghost use Rattle.gateway_engine.specs.Runs.{view, IsAt, Went, Refuses, Called, Tells};
 
 use crate::connections::Connections;
 use crate::faults::CallFault;
@@ -58,8 +59,9 @@ pub(crate) fn open<C: Connections, W: Write>(
     writer: &mut W,
     conn: usize,
 ) -> Result<(), CallFault>
-    ensures { (r : Run) (front : List ℕ) → IsAt (C.stands core.old) (W.contents writer.old) front r
-        → Went (C.stands core.new) (W.contents writer.new) front result (λ x. (call x conn (Opened conn)).run) r }
+    ensures does { (before : C) (st : State) (r : Run) (front : Option (List ℕ)) → IsAt (view C.Connections before core.old st (W.contents writer.old) front) r
+        → Went (view C.Connections before core.new st (W.contents writer.new) front) result (λ x. (call x conn (Opened conn)).run) r }
+    ensures counts { Counts (IsErrOf result CallFault.DiskFault) (C.failures core.old) (C.failures core.new) }
 {
     match core.opened(conn) {
         Ok(()) => Ok(()),
@@ -74,8 +76,9 @@ pub(crate) fn cut<C: Connections, W: Write>(
     writer: &mut W,
     conn: usize,
 ) -> Result<(), CallFault>
-    ensures { (r : Run) (front : List ℕ) → IsAt (C.stands core.old) (W.contents writer.old) front r
-        → Went (C.stands core.new) (W.contents writer.new) front result (λ x. (call x conn (Ended conn)).run) r }
+    ensures does { (before : C) (st : State) (r : Run) (front : Option (List ℕ)) → IsAt (view C.Connections before core.old st (W.contents writer.old) front) r
+        → Went (view C.Connections before core.new st (W.contents writer.new) front) result (λ x. (call x conn (Ended conn)).run) r }
+    ensures counts { Counts (IsErrOf result CallFault.DiskFault) (C.failures core.old) (C.failures core.new) }
 {
     match core.ended(conn) {
         Ok(()) => Ok(()),
@@ -91,8 +94,9 @@ pub(crate) fn came<C: Connections, W: Write>(
     conn: usize,
     bytes: &[u8],
 ) -> Result<Option<Answer>, CallFault>
-    ensures { (r : Run) (front : List ℕ) → IsAt (C.stands core.old) (W.contents writer.old) front r
-        → Called (C.stands core.new) (W.contents writer.new) front result conn (Came conn bytes.now) r }
+    ensures does { (before : C) (st : State) (r : Run) (front : Option (List ℕ)) → IsAt (view C.Connections before core.old st (W.contents writer.old) front) r
+        → Called (view C.Connections before core.new st (W.contents writer.new) front) result conn (Came conn bytes.now) r }
+    ensures counts { Counts (IsErrOf result CallFault.DiskFault) (C.failures core.old) (C.failures core.new) }
 {
     let mut out = Vec::new(alloc);
     match core.came(conn, bytes, &mut out) {
@@ -114,8 +118,9 @@ pub(crate) fn more<C: Connections, W: Write>(
     writer: &mut W,
     conn: usize,
 ) -> Result<Option<Answer>, CallFault>
-    ensures { (r : Run) (front : List ℕ) → IsAt (C.stands core.old) (W.contents writer.old) front r
-        → Called (C.stands core.new) (W.contents writer.new) front result conn (More conn) r }
+    ensures does { (before : C) (st : State) (r : Run) (front : Option (List ℕ)) → IsAt (view C.Connections before core.old st (W.contents writer.old) front) r
+        → Called (view C.Connections before core.new st (W.contents writer.new) front) result conn (More conn) r }
+    ensures counts { Counts (IsErrOf result CallFault.DiskFault) (C.failures core.old) (C.failures core.new) }
 {
     let mut out = Vec::new(alloc);
     match core.more(conn, &mut out) {

@@ -1,8 +1,9 @@
 //! The bytes of a line, given until all are taken.
-ghost use Rattle.std.specs.Prelude.{◌≡◌, ℕ, List, [], length, drop};
-ghost use Rattle.tus_session.specs.History.{Gave};
+ghost use Rattle.std.specs.Prelude.{◌≡◌, ℕ, Option, List, [], length, drop, IsErrOf};
+ghost use Rattle.upload_rules.specs.Answers.{Counts};
+ghost use Rattle.tus_session.specs.History.{State, Gave};
 ghost use Rattle.gateway_engine.specs.Script.{Run, mores, mores_after, most_calls, give_within};
-ghost use Rattle.gateway_engine.specs.Runs.{IsAt, Went, Flowed, GivenOnce, settles};
+ghost use Rattle.gateway_engine.specs.Runs.{view, IsAt, Went, Flowed, GivenOnce, settles};
 
 use crate::calls::{came, more};
 use crate::connections::Connections;
@@ -30,8 +31,9 @@ fn give_text<C: Connections, W: Write>(
     writer: &mut W,
     conn: usize,
 ) -> Result<bool, CallFault>
-    ensures { (r : Run) (front : List ℕ) → IsAt (C.stands core.old) (W.contents writer.old) front r
-        → Flowed (C.stands core.new) (W.contents writer.new) front result (mores most_calls conn) r }
+    ensures does { (before : C) (st : State) (r : Run) (front : Option (List ℕ)) → IsAt (view C.Connections before core.old st (W.contents writer.old) front) r
+        → Flowed (view C.Connections before core.new st (W.contents writer.new) front) result (mores most_calls conn) r }
+    ensures counts { Counts (IsErrOf result CallFault.DiskFault) (C.failures core.old) (C.failures core.new) }
 {
     let mut left = u64::MAX;
     while left > 0 {
@@ -56,9 +58,10 @@ fn go_on<C: Connections, W: Write>(
     conn: usize,
     answer: Answer,
 ) -> Result<bool, CallFault>
-    ensures { (r : Run) (front given : List ℕ) → IsAt (C.stands core.old) (W.contents writer.old) front r
-        → Flowed (C.stands core.new) (W.contents writer.new) front result
+    ensures does { (before : C) (st : State) (r : Run) (front : Option (List ℕ)) (given : List ℕ) → IsAt (view C.Connections before core.old st (W.contents writer.old) front) r
+        → Flowed (view C.Connections before core.new st (W.contents writer.new) front) result
         (λ x. mores_after (mores most_calls conn) (record { run = x; outcome = Gave given answer.taken answer.closes answer.more })) r }
+    ensures counts { Counts (IsErrOf result CallFault.DiskFault) (C.failures core.old) (C.failures core.new) }
 {
     match goes_on(Some(answer)) {
         Some(on) => Ok(on),
@@ -74,8 +77,9 @@ fn give_once<C: Connections, W: Write>(
     conn: usize,
     bytes: &[u8],
 ) -> Result<Option<usize>, CallFault>
-    ensures { (r : Run) (front : List ℕ) (k : ℕ) → (bytes.now ≡ [] → ⊥) → IsAt (C.stands core.old) (W.contents writer.old) front r
-        → GivenOnce (C.stands core.new) (W.contents writer.new) front result k conn bytes.now r }
+    ensures does { (before : C) (st : State) (r : Run) (front : Option (List ℕ)) (k : ℕ) → (bytes.now ≡ [] → ⊥) → IsAt (view C.Connections before core.old st (W.contents writer.old) front) r
+        → GivenOnce (view C.Connections before core.new st (W.contents writer.new) front) result k conn bytes.now r }
+    ensures counts { Counts (IsErrOf result CallFault.DiskFault) (C.failures core.old) (C.failures core.new) }
 {
     match came(alloc, core, writer, conn, bytes) {
         Err(fault) => Err(fault),
@@ -106,8 +110,9 @@ pub(crate) fn give<C: Connections, W: Write>(
     conn: usize,
     bytes: &[u8],
 ) -> Result<(), CallFault>
-    ensures { (r : Run) (front : List ℕ) → IsAt (C.stands core.old) (W.contents writer.old) front r
-        → Went (C.stands core.new) (W.contents writer.new) front result (give_within (length bytes.now) conn bytes.now) r }
+    ensures does { (before : C) (st : State) (r : Run) (front : Option (List ℕ)) → IsAt (view C.Connections before core.old st (W.contents writer.old) front) r
+        → Went (view C.Connections before core.new st (W.contents writer.new) front) result (give_within (length bytes.now) conn bytes.now) r }
+    ensures counts { Counts (IsErrOf result CallFault.DiskFault) (C.failures core.old) (C.failures core.new) }
 {
     let mut rest = bytes;
     let mut left = bytes.len();

@@ -1,8 +1,10 @@
 //! The lines of a script, one after another, and its end.
-ghost use Rattle.std.specs.Prelude.{◌≡◌, ℕ, List, []};
+ghost use Rattle.std.specs.Prelude.{◌≡◌, ℕ, Option, List, [], IsErrOf};
+ghost use Rattle.upload_rules.specs.Answers.{Counts};
+ghost use Rattle.tus_session.specs.History.{State};
 ghost use Rattle.gateway_engine.specs.Script.{Run, obeyed, cut_from, run_lines, script_lines, is_long, is_bad};
 ghost use Rattle.gateway_engine.specs.Shown.{order_shown};
-ghost use Rattle.gateway_engine.specs.Runs.{IsAt, Went, CutOne, LineRan, Ends};
+ghost use Rattle.gateway_engine.specs.Runs.{view, IsAt, Went, CutOne, LineRan, Ends};
 
 use crate::calls::{cut, open, refused};
 use crate::connections::Connections;
@@ -27,8 +29,9 @@ fn obey<C: Connections, W: Write>(
     writer: &mut W,
     order: &Order,
 ) -> Result<(), CallFault>
-    ensures { (r : Run) (front : List ℕ) → IsAt (C.stands core.old) (W.contents writer.old) front r
-        → Went (C.stands core.new) (W.contents writer.new) front result (obeyed (order_shown order.now)) r }
+    ensures does { (before : C) (st : State) (r : Run) (front : Option (List ℕ)) → IsAt (view C.Connections before core.old st (W.contents writer.old) front) r
+        → Went (view C.Connections before core.new st (W.contents writer.new) front) result (obeyed (order_shown order.now)) r }
+    ensures counts { Counts (IsErrOf result CallFault.DiskFault) (C.failures core.old) (C.failures core.new) }
 {
     match order {
         Order::Skip | Order::Bad => Ok(()),
@@ -45,8 +48,9 @@ fn cut_open<C: Connections, W: Write>(
     writer: &mut W,
     conn: usize,
 ) -> Result<(), CallFault>
-    ensures { (r : Run) (front : List ℕ) (k : ℕ) → IsAt (C.stands core.old) (W.contents writer.old) front r
-        → CutOne (C.stands core.new) (W.contents writer.new) front result k conn r }
+    ensures does { (before : C) (st : State) (r : Run) (front : Option (List ℕ)) (k : ℕ) → IsAt (view C.Connections before core.old st (W.contents writer.old) front) r
+        → CutOne (view C.Connections before core.new st (W.contents writer.new) front) result k conn r }
+    ensures counts { Counts (IsErrOf result CallFault.DiskFault) (C.failures core.old) (C.failures core.new) }
 {
     match core.ended(conn) {
         Ok(()) => Ok(()),
@@ -80,8 +84,9 @@ fn run_line<C: Connections, W: Write>(
     start: u64,
     line: &[u8],
 ) -> Result<(), RunFault>
-    ensures { (r : Run) (front : List ℕ) (lines : List (List ℕ)) → IsAt (C.stands core.old) (W.contents writer.old) front r
-        → LineRan (C.stands core.new) (W.contents writer.new) front result number start line.now lines r }
+    ensures does { (before : C) (st : State) (r : Run) (front : Option (List ℕ)) (lines : List (List ℕ)) → IsAt (view C.Connections before core.old st (W.contents writer.old) front) r
+        → LineRan (view C.Connections before core.new st (W.contents writer.new) front) result number start line.now lines r }
+    ensures counts { Counts (IsErrOf result RunFault.DiskFault) (C.failures core.old) (C.failures core.new) }
 {
     if too_long(start, line) {
         return Err(RunFault::Script(number));
@@ -104,8 +109,9 @@ fn cut_all<C: Connections, W: Write>(
     core: &mut C,
     writer: &mut W,
 ) -> Result<(), CallFault>
-    ensures { (r : Run) (front : List ℕ) → IsAt (C.stands core.old) (W.contents writer.old) front r
-        → Went (C.stands core.new) (W.contents writer.new) front result (cut_from 16 0) r }
+    ensures does { (before : C) (st : State) (r : Run) (front : Option (List ℕ)) → IsAt (view C.Connections before core.old st (W.contents writer.old) front) r
+        → Went (view C.Connections before core.new st (W.contents writer.new) front) result (cut_from 16 0) r }
+    ensures counts { Counts (IsErrOf result CallFault.DiskFault) (C.failures core.old) (C.failures core.new) }
 {
     let mut left = 16;
     while left > 0 {
@@ -125,8 +131,9 @@ pub(crate) fn run_script<C: Connections, W: Write>(
     writer: &mut W,
     script: &[u8],
 ) -> Result<(), RunFault>
-    ensures { (r : Run) (front : List ℕ) → IsAt (C.stands core.old) (W.contents writer.old) front r
-        → Ends (C.stands core.new) (W.contents writer.new) front result (run_lines 1 0 (script_lines script.now)) r }
+    ensures does { (before : C) (st : State) (r : Run) (front : Option (List ℕ)) → IsAt (view C.Connections before core.old st (W.contents writer.old) front) r
+        → Ends (view C.Connections before core.new st (W.contents writer.new) front) result (run_lines 1 0 (script_lines script.now)) r }
+    ensures counts { Counts (IsErrOf result RunFault.DiskFault) (C.failures core.old) (C.failures core.new) }
 {
     let mut rest = script;
     let mut number = 1;

@@ -2,8 +2,9 @@
 ghost use Rattle.std.specs.Prelude.{◌≡◌, ◌++◌, ℕ, List, Option, Some, IfSome, IfOk, IfErr, OnOk, ◌⊎◌};
 ghost use Rattle.upload_rules.specs.Store.{Store};
 ghost use Rattle.upload_rules.specs.World.{at_rest};
+ghost use Rattle.upload_rules.specs.Answers.{Counts};
 ghost use Rattle.tus_session.specs.History.{beginning};
-ghost use Rattle.gateway_engine.specs.Ran.{HasRun};
+ghost use Rattle.gateway_engine.specs.Ran.{HasRun, IsScript, HasFailed, store_of};
 
 use crate::faults::RunFault;
 use crate::gateway::Gateway;
@@ -14,7 +15,7 @@ use upload_rules::Uploads;
 
 /// Reads a script to its end. An interrupted read is tried again.
 fn read_script<R: Read>(alloc: Global, reader: &mut R) -> Result<Vec<u8>, RunFault>
-    ensures ok { OnOk result (IfSome (R.remaining reader.old) (λ bytes. IfOk result (λ script. script.items ≡ bytes))) }
+    ensures ok { IfOk result (λ script. IsScript (R.remaining reader.old) script.items) }
     ensures err { IfErr result (λ fault. (fault ≡ RunFault.NoMemory) ⊎ (fault ≡ RunFault.Io)) }
 {
     let mut script = Vec::new(alloc);
@@ -40,9 +41,11 @@ pub fn run_over<U: Uploads, R: Read, W: Write>(
     writer: &mut W,
     store: U,
 ) -> Result<U, (U, RunFault)>
-    // What is written is the script's output, with a mark for each call that was refused for memory.
-    ensures output { (m : Store) (blocks : Option ℕ) (bytes front : List ℕ) → U.stands store (at_rest m blocks) → R.remaining reader.old ≡ Some bytes → W.contents writer.old ≡ Some front
-        → HasRun U.Uploads result (W.contents writer.new) front (beginning m blocks) bytes }
+    // What is written is the script's output, with a mark for each call that was refused for memory. Images show the uploads of its history.
+    ensures output { (m : Store) (blocks : Option ℕ) → U.stands store (at_rest m blocks)
+        → (script : List ℕ) × IsScript (R.remaining reader.old) script
+        × HasRun U.Uploads store result (W.contents writer.new) (W.contents writer.old) (beginning m blocks) script }
+    ensures counts { Counts (HasFailed result) (U.failures store) (U.failures (store_of result)) }
 {
     let script = match read_script(alloc, reader) {
         Ok(script) => script,

@@ -3,7 +3,7 @@ ghost use Rattle.std.specs.Prelude.{◌≡◌, ◌++◌, OnOk, OnErr, IsErrOf, �
 ghost use Rattle.std.specs.Io.KnownBytes.{Appends};
 ghost use Rattle.tus_session.specs.Faults.{error_number};
 ghost use Rattle.gateway_engine.specs.Script.{written_bytes, written_close, written_refusal};
-ghost use Rattle.gateway_engine.specs.Outputs.{IsWriteFault, count_line, refusal_bytes};
+ghost use Rattle.gateway_engine.specs.Outputs.{IsWriteFault, AppendsPart, count_line, refusal_bytes};
 
 use crate::faults::CallFault;
 use std::alloc::{AllocError, Global};
@@ -13,7 +13,7 @@ use tus_session::SessionError;
 /// Writes all of the bytes: a write of none is a fault.
 pub(crate) fn write_out<W: Write>(writer: &mut W, bytes: &[u8]) -> Result<(), CallFault>
     ensures ok { OnOk result (Appends (W.contents writer.old) (W.contents writer.new) bytes.now) }
-    ensures err { IsWriteFault result }
+    ensures err { IsWriteFault result (AppendsPart (W.contents writer.old) (W.contents writer.new) bytes.now) }
 {
     let mut rest = bytes;
     while !rest.is_empty() {

@@ -1,12 +1,14 @@
 use Rattle.tus_session.specs.History.{Ended}
+use Rattle.gateway_engine.specs.Runs.{view}
 use Rattle.gateway_engine.proofs.Turns.{done_went, refused_went}
 use Rattle.gateway_engine.proofs.calls.cut.Goals as goal
 
-pub returns-in-Ok : goal.returns-in-Ok
-returns-in-Ok g c = λ r front at.
-    done_went (g.C.Connections.stands c.args.core.now) (g.C.Connections.stands c.ended.new.self) _ front r c.args.conn (Ended c.args.conn) at (c.in-Ok.ensures.does r.state at.keeps)
+pub returns-in-Ok-clause-does : goal.returns-in-Ok-clause-does
+returns-in-Ok-clause-does g c = λ before st r front at.
+    done_went (view g.C.Connections before c.args.core.now st (g.W.Write.contents c.args.writer.now) front) c.ended.new.self r (Ended c.args.conn) at
+    (c.in-Ok.ensures.crash r.state at.keeps) (c.in-Ok.ensures.does r.state at.keeps)
 
-pub returns-in-Err : goal.returns-in-Err
-returns-in-Err g c = λ r front at.
-    refused_went (g.C.Connections.stands c.args.core.now) (g.C.Connections.stands c.ended.new.self) (g.W.Write.contents c.args.writer.now) (g.W.Write.contents c.refused.new.writer)
-    front r c.args.conn (Ended c.args.conn) c.in-Err.error c.refused.result at (c.in-Err.ensures.does r.state at.keeps) c.refused.ensures
+pub returns-in-Err-clause-does : goal.returns-in-Err-clause-does
+returns-in-Err-clause-does g c = λ before st r front at.
+    refused_went (view g.C.Connections before c.args.core.now st (g.W.Write.contents c.args.writer.now) front) c.ended.new.self (g.W.Write.contents c.refused.new.writer) r (Ended c.args.conn)
+    c.in-Err.error c.refused.result at (c.in-Err.ensures.crash r.state at.keeps) (c.in-Err.ensures.does r.state at.keeps) c.refused.ensures

@@ -1,35 +1,34 @@
-use Rattle.std.proofs.Common.{◌≡◌, ◌-◌, suc, ℕ, [], length, subst, sym, arith, Some, None, Ok, Err}
+use Rattle.std.proofs.Common.{◌≡◌, ◌-◌, suc, ℕ, [], length, subst, sym, ◌∙◌, arith, Some, None, Ok, Err}
 use Rattle.gateway_engine.specs.Script.{give_within}
-use Rattle.gateway_engine.specs.Runs.{Reaches, GivenOnce}
+use Rattle.gateway_engine.specs.Runs.{view, Reaches, GivenOnce}
+use Rattle.gateway_engine.proofs.Counting.{uncounted}
 use Rattle.gateway_engine.proofs.Outputs.{some_list, no_list}
 use Rattle.gateway_engine.proofs.Reaching.{reach_both, went_behind, once_fails, give_none, give_stop}
 use Rattle.gateway_engine.proofs.lines.give.Goals as goal
 
-pub returns-in-Err : goal.returns-in-Err
-returns-in-Err g c = λ r front at.
-    let i = c.loop-left.invariant r front at in
+pub returns-in-Err-clause-does : goal.returns-in-Err-clause-does
+returns-in-Err-clause-does g c = λ before st r front at.
+    let i = c.loop-left.invariant.1 before st r front at in
     let n = c.args.conn in
     let k : ℕ = c.loop-left.left - 1 in
     let rest = c.loop-left.rest.now in
     let step : c.loop-left.left ≡ suc k = omega (arith, c.loop-left-test.true) in
-    let s' = g.C.Connections.stands c.give_once.new.core in
-    let held = g.W.Write.contents c.give_once.new.writer in
-    went_behind s' held front (Err c.in-Err.fault) (give_within (length c.args.bytes.now) n c.args.bytes.now) (give_within (suc k) n rest) r i.0
+    let v = view g.C.Connections before c.give_once.new.core st (g.W.Write.contents c.give_once.new.writer) front in
+    went_behind v (Err c.in-Err.fault) (give_within (length c.args.bytes.now) n c.args.bytes.now) (give_within (suc k) n rest) r i.0
     (subst (λ k. Reaches (give_within (length c.args.bytes.now) n c.args.bytes.now) r (give_within k n rest) i.0) step i.1)
-    (once_fails s' held front c.in-Err.fault k n rest i.0 (c.in-Err.ensures i.0 front k (some_list _ rest c.is_empty.ensures c.if-not-is_empty.true) i.2))
+    (once_fails v c.in-Err.fault k n rest i.0 (c.in-Err.ensures.does before st i.0 front k (some_list _ rest c.is_empty.ensures c.if-not-is_empty.true) i.2))
 
-pub returns-in-Ok-None : goal.returns-in-Ok-None
-returns-in-Ok-None g c = λ r front at.
-    let i = c.loop-left.invariant r front at in
+pub returns-in-Ok-None-clause-does : goal.returns-in-Ok-None-clause-does
+returns-in-Ok-None-clause-does g c = λ before st r front at.
+    let i = c.loop-left.invariant.1 before st r front at in
     let n = c.args.conn in
     let k : ℕ = c.loop-left.left - 1 in
     let rest = c.loop-left.rest.now in
     let step : c.loop-left.left ≡ suc k = omega (arith, c.loop-left-test.true) in
-    let s' = g.C.Connections.stands c.give_once.new.core in
-    let held = g.W.Write.contents c.give_once.new.writer in
-    let p : GivenOnce s' held front (Ok None) k n rest i.0 =
-    subst (λ o. GivenOnce s' held front (Ok o) k n rest i.0) c.in-Ok-None.field-0-is
-    (c.in-Ok-None.ensures i.0 front k (some_list _ rest c.is_empty.ensures c.if-not-is_empty.true) i.2) in (
+    let v = view g.C.Connections before c.give_once.new.core st (g.W.Write.contents c.give_once.new.writer) front in
+    let p : GivenOnce v (Ok None) k n rest i.0 =
+    subst (λ o. GivenOnce v (Ok o) k n rest i.0) c.in-Ok-None.field-0-is
+    (c.in-Ok-None.ensures.does before st i.0 front k (some_list _ rest c.is_empty.ensures c.if-not-is_empty.true) i.2) in (
       p.0,
       reach_both (give_within (length c.args.bytes.now) n c.args.bytes.now) (give_within (suc k) n rest) (λ x. x) r i.0 p.0
           (subst (λ k. Reaches (give_within (length c.args.bytes.now) n c.args.bytes.now) r (give_within k n rest) i.0) step i.1) p.1,
@@ -37,27 +36,29 @@ returns-in-Ok-None g c = λ r front at.
     )
 
 pub loop-left-preserved : goal.loop-left-preserved
-loop-left-preserved g c = λ r front at.
-    let i = c.loop-left.invariant r front at in
-    let n = c.args.conn in
-    let k : ℕ = c.loop-left.left - 1 in
-    let rest = c.loop-left.rest.now in
-    let step : c.loop-left.left ≡ suc k = omega (arith, c.loop-left-test.true) in
-    let s' = g.C.Connections.stands c.give_once.new.core in
-    let held = g.W.Write.contents c.give_once.new.writer in
-    let p : GivenOnce s' held front (Ok (Some c.in-Ok-Some.taken)) k n rest i.0 =
-    subst (λ o. GivenOnce s' held front (Ok o) k n rest i.0) c.in-Ok-Some.field-0-is
-    (c.in-Ok-Some.ensures i.0 front k (some_list _ rest c.is_empty.ensures c.if-not-is_empty.true) i.2) in (
-      p.0,
-      reach_both (give_within (length c.args.bytes.now) n c.args.bytes.now) (give_within (suc k) n rest) (give_within k n c.untaken-rest.result.now) r i.0 p.0
-          (subst (λ k. Reaches (give_within (length c.args.bytes.now) n c.args.bytes.now) r (give_within k n rest) i.0) step i.1)
-          (subst (λ l. Reaches (give_within (suc k) n rest) i.0 (give_within k n l) p.0) (sym c.untaken-rest.ensures) p.1),
-      p.2,
-    )
+loop-left-preserved g c = (
+  uncounted (λ fails. absurd (cc)) c.in-Ok-Some.ensures.counts ∙ c.loop-left.invariant.0,
+  λ before st r front at.
+      let i = c.loop-left.invariant.1 before st r front at in
+      let n = c.args.conn in
+      let k : ℕ = c.loop-left.left - 1 in
+      let rest = c.loop-left.rest.now in
+      let step : c.loop-left.left ≡ suc k = omega (arith, c.loop-left-test.true) in
+      let v = view g.C.Connections before c.give_once.new.core st (g.W.Write.contents c.give_once.new.writer) front in
+      let p : GivenOnce v (Ok (Some c.in-Ok-Some.taken)) k n rest i.0 =
+      subst (λ o. GivenOnce v (Ok o) k n rest i.0) c.in-Ok-Some.field-0-is
+      (c.in-Ok-Some.ensures.does before st i.0 front k (some_list _ rest c.is_empty.ensures c.if-not-is_empty.true) i.2) in (
+        p.0,
+        reach_both (give_within (length c.args.bytes.now) n c.args.bytes.now) (give_within (suc k) n rest) (give_within k n c.untaken-rest.result.now) r i.0 p.0
+            (subst (λ k. Reaches (give_within (length c.args.bytes.now) n c.args.bytes.now) r (give_within k n rest) i.0) step i.1)
+            (subst (λ l. Reaches (give_within (suc k) n rest) i.0 (give_within k n l) p.0) (sym c.untaken-rest.ensures) p.1),
+        p.2,
+      ),
+)
 
-pub returns-else-not-is_empty : goal.returns-else-not-is_empty
-returns-else-not-is_empty g c = λ r front at.
-    let i = c.loop-left.invariant r front at in
+pub returns-else-not-is_empty-clause-does : goal.returns-else-not-is_empty-clause-does
+returns-else-not-is_empty-clause-does g c = λ before st r front at.
+    let i = c.loop-left.invariant.1 before st r front at in
     let n = c.args.conn in
     let k : ℕ = c.loop-left.left in
     let none : c.loop-left.rest.now ≡ [] = no_list _ c.loop-left.rest.now c.is_empty.ensures c.if-not-is_empty.false in (
@@ -67,9 +68,9 @@ returns-else-not-is_empty g c = λ r front at.
       i.2,
     )
 
-pub returns-after-loop-left : goal.returns-after-loop-left
-returns-after-loop-left g c = λ r front at.
-    let i = c.loop-left.invariant r front at in
+pub returns-after-loop-left-clause-does : goal.returns-after-loop-left-clause-does
+returns-after-loop-left-clause-does g c = λ before st r front at.
+    let i = c.loop-left.invariant.1 before st r front at in
     let n = c.args.conn in
     let none : c.loop-left.left ≡ 0 = omega (arith, c.loop-left-test.false) in (
       i.0,

@@ -1,20 +1,27 @@
 use Rattle.std.proofs.Common.{Err, subst, ap}
 use Rattle.tus_session.specs.History.{Ended}
-use Rattle.gateway_engine.specs.Connections.{Does}
+use Rattle.gateway_engine.specs.Connections.{Does, mark_of}
+use Rattle.gateway_engine.specs.Images.{shown_by}
+use Rattle.gateway_engine.specs.Runs.{view}
+use Rattle.gateway_engine.proofs.Seen.{Leaves}
 use Rattle.gateway_engine.proofs.Ending.{cut_done, cut_skipped, cut_refused}
 use Rattle.gateway_engine.proofs.runs.cut_open.Goals as goal
 
-pub returns-in-Ok : goal.returns-in-Ok
-returns-in-Ok g c = λ r front k at.
-    cut_done (g.C.Connections.stands c.args.core.now) (g.C.Connections.stands c.ended.new.self) _ front k c.args.conn r at (c.in-Ok.ensures.does r.state at.keeps)
+pub returns-in-Ok-clause-does : goal.returns-in-Ok-clause-does
+returns-in-Ok-clause-does g c = λ before st r front k at.
+    cut_done (view g.C.Connections before c.args.core.now st (g.W.Write.contents c.args.writer.now) front) c.ended.new.self k c.args.conn r at
+    (c.in-Ok.ensures.crash r.state at.keeps) (c.in-Ok.ensures.does r.state at.keeps)
 
-pub returns-in-Closed : goal.returns-in-Closed
-returns-in-Closed g c = λ r front k at.
-    let s' = g.C.Connections.stands c.ended.new.self in
-    cut_skipped (g.C.Connections.stands c.args.core.now) s' _ front k c.args.conn r at
-    (subst (λ f. Does s' (Err f) r.state (Ended c.args.conn)) c.in-Closed.is (c.in-Err.ensures.does r.state at.keeps))
+pub returns-in-Closed-clause-does : goal.returns-in-Closed-clause-does
+returns-in-Closed-clause-does g c = λ before st r front k at.
+    let v = view g.C.Connections before c.args.core.now st (g.W.Write.contents c.args.writer.now) front in
+    let e = Ended c.args.conn in
+    cut_skipped v c.ended.new.self k c.args.conn r at
+    (subst (λ f. Leaves v c.ended.new.self r.state.world.store (shown_by r.state e (mark_of {T = Unit {0}} (Err f)))) c.in-Closed.is (c.in-Err.ensures.crash r.state at.keeps))
+    (subst (λ f. Does (g.C.Connections.stands c.ended.new.self) (Err f) r.state e) c.in-Closed.is (c.in-Err.ensures.does r.state at.keeps))
 
-pub returns-in_default : goal.returns-in_default
-returns-in_default g c = λ r front k at.
-    cut_refused (g.C.Connections.stands c.args.core.now) (g.C.Connections.stands c.ended.new.self) (g.W.Write.contents c.args.writer.now) (g.W.Write.contents c.refused.new.writer)
-    front k c.args.conn r c.in-Err.error c.refused.result at (c.in-Err.ensures.does r.state at.keeps) c.in_default.not-Closed (λ is. c.in-Err.ensures.open r.state at.keeps (ap Err is)) c.refused.ensures
+pub returns-in_default-clause-does : goal.returns-in_default-clause-does
+returns-in_default-clause-does g c = λ before st r front k at.
+    cut_refused (view g.C.Connections before c.args.core.now st (g.W.Write.contents c.args.writer.now) front) c.ended.new.self (g.W.Write.contents c.refused.new.writer)
+    k c.args.conn r c.in-Err.error c.refused.result at (c.in-Err.ensures.crash r.state at.keeps) (c.in-Err.ensures.does r.state at.keeps) c.in_default.not-Closed
+    (λ is. c.in-Err.ensures.open r.state at.keeps (ap Err is)) c.refused.ensures

@@ -1,37 +1,70 @@
-use Rattle.std.proofs.Common.{◌≡◌, [], Ok, Err, subst, ◌∙◌}
-use Rattle.std.specs.Prelude.{IfSome}
-use Rattle.tus_session.specs.History.{State, beginning}
+use Rattle.std.proofs.Common.{[], Ok, Err, inl, refl, sym, subst}
+use Rattle.upload_rules.specs.World.{at_rest}
+use Rattle.tus_session.specs.History.{beginning}
 use Rattle.gateway_engine.specs.Script.{run_lines, script_lines, run_from}
-use Rattle.gateway_engine.specs.Gateways.{GatewayStands}
-use Rattle.gateway_engine.specs.Runs.{Ends}
-use Rattle.gateway_engine.proofs.Exits.{begins, ran, stopped, unread}
+use Rattle.gateway_engine.specs.Gateways.{store_of, as_connections}
+use Rattle.gateway_engine.specs.Images.{stores_of}
+use Rattle.gateway_engine.specs.Runs.{view, IsAt, Ends}
+use Rattle.gateway_engine.specs.Ran.{HasRun}
+use Rattle.gateway_engine.specs.declared.faults.RunFault.TheVariants as runs
+use Rattle.gateway_engine.proofs.Exits.{begins, ran, stopped, unbegun, some_script, counts_nothing, shows_since, shows_through}
 use Rattle.gateway_engine.proofs.scripts.run_over.Goals as goal
 
 pub returns-in-Err : goal.returns-in-Err
 returns-in-Err g c = record {
-  output = λ m blocks bytes front stands reads writes. unread g.U.Uploads _ _ front (beginning m blocks) bytes c.in-Err.fault c.in-Err.ensures.err;
+  output = λ m blocks stands.
+      let script = some_script (g.R.Read.remaining c.args.reader.now) in
+      (script.0, script.1, unbegun g.U.Uploads c.args.store (g.W.Write.contents c.args.writer.now) (beginning m blocks) script.0 stands (λ ms among. g.met.U.Uploads.durable c.args.store (at_rest m blocks) ms stands among) c.in-Err.fault c.in-Err.ensures.err);
+  counts = counts_nothing (g.U.Uploads.failures c.args.store) c.args.store c.in-Err.fault c.in-Err.ensures.err;
 }
 
-pub returns-in-Ok-run_script : goal.returns-in-Ok-run_script
-returns-in-Ok-run_script g c = record {
-  output = λ m blocks bytes front stands reads writes.
-      let script : c.deref.result.now ≡ bytes = c.deref.ensures.value ∙ subst (λ o. IfSome o (λ b. c.in-Ok.script.items ≡ b)) reads c.in-Ok.ensures.ok in
-      let st = beginning m blocks in
-      let now : State → Type 0 = λ s. GatewayStands g.U.Uploads c.run_script.new.core s in
-      let held = g.W.Write.contents c.run_script.new.writer in
-      let at = begins (λ s. GatewayStands g.U.Uploads c.in-Ok-new.gateway s) st (g.W.Write.contents c.args.writer.now) front (c.in-Ok-new.ensures.ok m blocks stands) writes in
-      ran g.U.Uploads now c.close.result held front st bytes (λ s is. c.close.ensures.kept s is)
-      (subst (λ b. Ends now held front (Ok (tt {0})) (run_lines 1 0 (script_lines b)) (run_from st [])) script (c.in-Ok-run_script.ensures (run_from st []) front at));
-}
+pub returns-in-Err-new-clause-output : goal.returns-in-Err-new-clause-output
+returns-in-Err-new-clause-output g c = λ m blocks stands.
+    let st = beginning m blocks in
+    let held = g.W.Write.contents c.args.writer.now in
+    let script = c.in-Ok.script.items in (
+      script,
+      c.in-Ok.ensures.ok,
+      subst (λ s. HasRun g.U.Uploads c.args.store (Err (s, runs.NoMemory)) held held st script) (sym c.in-Err-new.ensures.back)
+          (unbegun g.U.Uploads c.args.store held st script stands (λ ms among. g.met.U.Uploads.durable c.args.store (at_rest m blocks) ms stands among) runs.NoMemory (inl refl)),
+    )
 
-pub returns : goal.returns
-returns g c = record {
-  output = λ m blocks bytes front stands reads writes.
-      let script : c.deref.result.now ≡ bytes = c.deref.ensures.value ∙ subst (λ o. IfSome o (λ b. c.in-Ok.script.items ≡ b)) reads c.in-Ok.ensures.ok in
-      let st = beginning m blocks in
-      let now : State → Type 0 = λ s. GatewayStands g.U.Uploads c.run_script.new.core s in
-      let held = g.W.Write.contents c.run_script.new.writer in
-      let at = begins (λ s. GatewayStands g.U.Uploads c.in-Ok-new.gateway s) st (g.W.Write.contents c.args.writer.now) front (c.in-Ok-new.ensures.ok m blocks stands) writes in
-      stopped g.U.Uploads now c.close-in-Err-run_script.result held front st bytes (λ s is. c.close-in-Err-run_script.ensures.kept s is) c.in-Err-run_script.fault
-      (subst (λ b. Ends now held front (Err c.in-Err-run_script.fault) (run_lines 1 0 (script_lines b)) (run_from st [])) script (c.in-Err-run_script.ensures (run_from st []) front at));
-}
+pub returns-in-Ok-run_script-clause-output : goal.returns-in-Ok-run_script-clause-output
+returns-in-Ok-run_script-clause-output g c = λ m blocks stands.
+    let script = c.in-Ok.script.items in
+    let front = g.W.Write.contents c.args.writer.now in
+    let u = g.U.Uploads in
+    let st = beginning m blocks in
+    let gateway = c.in-Ok-new.gateway in
+    let now = c.run_script.new.core in
+    let w = view (as_connections u) gateway gateway st front front in
+    let at : IsAt w (run_from st []) = begins w refl (c.in-Ok-new.ensures.ok m blocks stands) refl in
+    let v = view (as_connections u) gateway now st (g.W.Write.contents c.run_script.new.writer) front in (
+      script,
+      c.in-Ok.ensures.ok,
+      ran u v c.args.store c.close.result script (λ s is. c.close.ensures.kept s is)
+          (λ past shown. shows_since u c.args.store c.close.result st past (λ ms among. g.met.U.Uploads.durable c.args.store (at_rest m blocks) ms stands among)
+          (shows_through u c.args.store (store_of gateway) (store_of now) c.close.result (stores_of st past) c.in-Ok-new.ensures.same c.close.ensures.crash shown))
+          (subst (λ b. Ends v (Ok (tt {0})) (run_lines 1 0 (script_lines b)) (run_from st [])) c.deref.ensures.value (c.in-Ok-run_script.ensures.does gateway st (run_from st []) front at)),
+    )
+
+pub returns-clause-output : goal.returns-clause-output
+returns-clause-output g c = λ m blocks stands.
+    let script = c.in-Ok.script.items in
+    let front = g.W.Write.contents c.args.writer.now in
+    let u = g.U.Uploads in
+    let st = beginning m blocks in
+    let gateway = c.in-Ok-new.gateway in
+    let now = c.run_script.new.core in
+    let fault = c.in-Err-run_script.fault in
+    let w = view (as_connections u) gateway gateway st front front in
+    let at : IsAt w (run_from st []) = begins w refl (c.in-Ok-new.ensures.ok m blocks stands) refl in
+    let v = view (as_connections u) gateway now st (g.W.Write.contents c.run_script.new.writer) front in
+    let back = c.close-in-Err-run_script.result in (
+      script,
+      c.in-Ok.ensures.ok,
+      stopped u v c.args.store back script (λ s is. c.close-in-Err-run_script.ensures.kept s is)
+          (λ past shown. shows_since u c.args.store back st past (λ ms among. g.met.U.Uploads.durable c.args.store (at_rest m blocks) ms stands among)
+          (shows_through u c.args.store (store_of gateway) (store_of now) back (stores_of st past) c.in-Ok-new.ensures.same c.close-in-Err-run_script.ensures.crash shown))
+          fault (subst (λ b. Ends v (Err fault) (run_lines 1 0 (script_lines b)) (run_from st [])) c.deref.ensures.value (c.in-Err-run_script.ensures.does gateway st (run_from st []) front at)),
+    )
