@@ -12,7 +12,8 @@ use std::alloc::{AllocError, Global};
 use std::collections::BTreeMap;
 use std::marker::Model;
 
-/// One index, in tables for both directions.
+/// One index, in tables for both directions. A look-up by pointer takes one step. One by code point searches a sorted map: of
+/// 11,280 entries it looks at 14 or a few more, and never at all.
 #[derive(Drop)]
 pub struct Table {
     /// at each pointer its code point
