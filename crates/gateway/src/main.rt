@@ -36,7 +36,10 @@ fn main(rt: HostRuntime) -> ExitCode {
 // Does what the command line asks for.
 fn run(rt: &HostRuntime) -> Result<ExitCode, Fault> {
     let alloc = rt.alloc();
-    let words = words(rt, alloc)?;
+    let words = match words(rt, alloc) {
+        Ok(words) => words,
+        Err(error) => return no_words(rt, error),
+    };
     match read_order(alloc, &words) {
         Ok(
             Order::Format {
@@ -62,6 +65,15 @@ fn words(rt: &HostRuntime, alloc: Global) -> io::Result<Vec<String>> {
         words.push(word)?;
     }
     Ok(words)
+}
+
+// Why the command line has no words: one that isn't UTF-8 is a usage fault.
+fn no_words(rt: &HostRuntime, error: io::Error) -> Result<ExitCode, Fault> {
+    if error.kind() != io::ErrorKind::InvalidData {
+        return Err(Fault::from(error));
+    }
+    eprintln!(rt; "error: invalid UTF-8 was detected in one or more arguments")?;
+    Ok(ExitCode::from(USAGE))
 }
 
 // Prints help, or what is wrong with the command line. Want of memory is no fault of the command line.
