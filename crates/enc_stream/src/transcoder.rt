@@ -84,6 +84,19 @@ impl Transcoder {
         }
     }
 
+    /// A transcoder behind the end of a text without bytes, as `new` and then `finish` make it.
+    pub fn ended(from: Encoding, to: Encoding, mode: Mode) -> Self
+        requires { IsOutput to }
+        ensures { result ≡ finished (start from to mode) }
+    {
+        let encoder = Encoder::new(to, mode);
+        Transcoder {
+            from,
+            encoder,
+            stage: Stage::Over,
+        }
+    }
+
     /// The same transcoder once more. It takes no memory.
     pub fn copy(&self) -> Self
         ensures { result ≡ self.now }
