@@ -32,15 +32,15 @@ impl NewText {
     ghost use Rattle.enc_stream.specs.StateBytes.{IsSound};
 
     /// What an append to the upload of a record adds at first: nothing. None where the state bytes are those of no state.
-    pub(crate) fn behind(alloc: Global, record: &Record) -> Option<Self>
-        ensures { (x : Indexes) (n : ℕ) (u : Upload) → Tells x n record.now u → (text_with x u [] (is_complete u)).fault ≡ None
+    pub(crate) fn behind(alloc: Global, upload: &Record) -> Option<Self>
+        ensures { (x : Indexes) (n : ℕ) (u : Upload) → Tells x n upload.now u → (text_with x u [] (is_complete u)).fault ≡ None
             → IsSound (transcoder_with x u [] (is_complete u)) → MatchOption result ⊥ (HoldsText x u []) }
     {
-        if record.accepted == record.declared {
+        if upload.accepted == upload.declared {
             return Some(NewText::Complete);
         }
         Some(NewText::Growing {
-            transcoder: Transcoder::unpack(&record.state)?,
+            transcoder: Transcoder::unpack(&upload.state)?,
             text: Vec::new(alloc),
         })
     }
@@ -102,9 +102,9 @@ impl NewText {
                 Err(_) => return Err(UploadError::NoMemory),
             }
         }
-        // A spent transcoder has no state; none is kept.
+        // No spent transcoder is kept: it would have no state.
         if transcoder.is_spent() {
-            return Err(UploadError::NoMemory);
+            return Err(UploadError::Refused(UploadRefusal::Unencodable));
         }
         Ok((transcoder.pack(), text))
     }

@@ -16,7 +16,7 @@ returns-in_err-unpack c x n u tells ok sound =
 pub returns : goal.returns
 unfolding state_with
 returns c x n u tells ok sound =
-    let open_still : is_complete u ≡ false = ne_eqb (length u.accepted) u.declared (λ e. c.if-record.false (tells.accepted ∙ e ∙ sym tells.declared)) in
+    let open_still : is_complete u ≡ false = ne_eqb (length u.accepted) u.declared (λ e. c.if-upload.false (tells.accepted ∙ e ∙ sym tells.declared)) in
     let k = c.in_ok-unpack.ensures.only (transcoder_with x u [] (is_complete u)) sound (sym tells.state) in
     let is : c.in_ok-unpack.field-0 ≡ standing (transcoder_with x u [] (is_complete u)) = cc in
     let encodable : (text_with x u [] false).fault ≡ None = ap (λ b. (text_with x u [] b).fault) (sym open_still) ∙ ok in (
