@@ -156,7 +156,7 @@ impl Transcoder {
         bytes
     }
 
-    /// The transcoder whose state bytes these may be, where they are any's.
+    /// The transcoder whose state bytes these are, where they are any's. Bytes of none may be read as some other's.
     fn read(bytes: &[u8; 32]) -> Option<Self>
         ensures ready { IfSome result (λ t. t.spent ≡ false) }
         ensures same { (s : State) → IsSound s → state_bytes s ≡ bytes.now → result ≡ Some (standing s) }
