@@ -100,7 +100,7 @@ place_lead (Trail lead) = lead
 place_lead EscapeStart = 0
 place_lead (Escape lead) = introducer_byte lead
 
--- the state, and zeros that don't count
+-- what is kept of a decoder's state, without zeros at the end
 abbrev pub decoder_bytes : Decoding → List ℕ
 decoder_bytes (OfUtf8 s) = counted s.kept
 decoder_bytes (OfUtf16 big s) = utf16_bytes s.byte s.lead
@@ -175,6 +175,7 @@ pub record IsFitting (s : Transcoder) : Type 0 where
   pub phase : IsPhaseOf s.from s.phase
   pub shift : IsShiftIn s.phase s.to s.shift
 
+-- what is kept as a byte is one
 abbrev pub IsByte : Option ℕ → Type 0
 IsByte None = Unit {0}
 IsByte (Some b) = b < 256
@@ -192,6 +193,7 @@ abbrev pub IsReachedIn : Phase → Type 0
 IsReachedIn (During s) = IsReached s
 IsReachedIn _ = Unit {0}
 
+-- what `pack` writes the bytes of, and `unpack` reads
 pub record IsSound (s : Transcoder) : Type 0 where
   pub fitting : IsFitting s
   pub reached : IsReachedIn s.phase

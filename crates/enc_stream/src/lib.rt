@@ -1,4 +1,4 @@
-//! A decoder and an encoder as one value.
+//! A decoder and an encoder as one value, and its state as 32 bytes.
 #![tactic(auto)]
 
 mod decoder;

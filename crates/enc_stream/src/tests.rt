@@ -361,6 +361,8 @@ fn state_bytes_of_no_state(rt: HostRuntime) {
     for front in none {
         assert!(rt; Transcoder::unpack(&with_zeros(front)).is_none());
     }
+    let ended = Transcoder::ended(Encoding::Koi8R, Encoding::Utf8, Mode::Fatal);
+    assert_eq!(rt; ended.pack(), with_zeros(&[10, 0, 1, 2]));
     let mut last = with_zeros(&[]);
     assert!(rt; Transcoder::unpack(&last).is_some());
     last[31] = 1;

@@ -84,6 +84,19 @@ impl Transcoder {
         }
     }
 
+    /// A transcoder behind the end of a text without bytes, as `new` and then `finish` make it.
+    pub fn ended(from: Encoding, to: Encoding, mode: Mode) -> Self
+        requires { IsOutput to }
+        ensures { result ≡ finished (start from to mode) }
+    {
+        let encoder = Encoder::new(to, mode);
+        Transcoder {
+            from,
+            encoder,
+            stage: Stage::Over,
+        }
+    }
+
     /// The same transcoder once more. It takes no memory.
     pub fn copy(&self) -> Self
         ensures { result ≡ self.now }
@@ -143,7 +156,7 @@ impl Transcoder {
         bytes
     }
 
-    /// The transcoder whose state bytes these may be, where they are any's.
+    /// The transcoder whose state bytes these are, where they are any's. Bytes of none may be read as some other's.
     fn read(bytes: &[u8; 32]) -> Option<Self>
         ensures ready { IfSome result (λ t. t.spent ≡ false) }
         ensures same { (s : State) → IsSound s → state_bytes s ≡ bytes.now → result ≡ Some (standing s) }

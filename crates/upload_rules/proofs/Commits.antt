@@ -3,8 +3,7 @@ use Rattle.std.proofs.Common.{◌≡◌, ℕ, ◌+◌, ◌<◌, ◌≤◌, ◌^�
 use Rattle.std.proofs.lemmas.Bool.{ne_eqb}
 use Rattle.enc_model.specs.Indexes.{IndexSet, tables}
 use Rattle.enc_model.specs.Decode.{text}
-use Rattle.enc_model.specs.Transcode.{IsAt}
-use Rattle.enc_stream.specs.Standing.{Standing}
+use Rattle.enc_stream.specs.StateBytes.{IsSound, state_bytes}
 use Rattle.upload_rules.specs.declared.records.Record.{Record}
 use Rattle.upload_rules.specs.declared.errors.UploadError.{UploadError}
 use Rattle.upload_rules.specs.declared.errors.UploadError.TheVariants.{NoMemory, DiskFault, Refused}
@@ -14,7 +13,8 @@ use Rattle.upload_rules.specs.declared.appends.OpenAppend.{OpenAppend}
 use Rattle.upload_rules.specs.declared.new_text.NewText.{NewText}
 use Rattle.upload_rules.specs.Store.{Upload, text_of, text_with, with_bytes, is_complete}
 use Rattle.upload_rules.specs.World.{Patch, is_there, completes, patch_text}
-use Rattle.upload_rules.specs.Texts.{IsReading, HoldsText, IsWhole, IsEnded}
+use Rattle.upload_rules.specs.States.{transcoder_over, transcoder_with, state_with, state_of}
+use Rattle.upload_rules.specs.Texts.{HoldsText, IsWhole, IsEnded}
 use Rattle.upload_rules.specs.Slots.{SlotStands}
 use Rattle.upload_rules.specs.Appends.{AppendStands, IsPut}
 
@@ -26,14 +26,32 @@ pub text_of_is : (x : IndexSet) (u : Upload) → text_of x u ≡ (text_with x u 
 unfolding text_of
 text_of_is x u = refl
 
--- the text of the upload with the body
+-- the upload with the body is complete where the body completes it
+complete_with : (u : Upload) (bytes : List ℕ) (done : Bool) → (length u.accepted + length bytes == u.declared) ≡ done → is_complete (with_bytes u bytes) ≡ done
+complete_with u bytes done is = ap (λ n. n == u.declared) (length-append u.accepted bytes) ∙ is
+
+-- its text, and the text of the upload with the body
+whole_with_bytes : (x : IndexSet) (u : Upload) (bytes : List ℕ) (done : Bool) → (length u.accepted + length bytes == u.declared) ≡ done
+    → text_with x (with_bytes u bytes) [] (is_complete (with_bytes u bytes)) ≡ text_with x u bytes done
+whole_with_bytes x u bytes done is =
+    ap (text_with x (with_bytes u bytes) []) (complete_with u bytes done is)
+    ∙ ap (λ b. text (tables x) u.from u.to u.mode b done) (append-nil (u.accepted ++ bytes))
+
 pub text_with_bytes : (x : IndexSet) (u : Upload) (bytes : List ℕ) (done : Bool) → (length u.accepted + length bytes == u.declared) ≡ done
     → text_of x (with_bytes u bytes) ≡ (text_with x u bytes done).bytes
-text_with_bytes x u bytes done is =
-    text_of_is x (with_bytes u bytes)
-    ∙ ap (λ b. (text (tables x) u.from u.to u.mode b (length (u.accepted ++ bytes) == u.declared)).bytes) (append-nil (u.accepted ++ bytes))
-    ∙ ap (λ n. (text (tables x) u.from u.to u.mode (u.accepted ++ bytes) (n == u.declared)).bytes) (length-append u.accepted bytes)
-    ∙ ap (λ b. (text (tables x) u.from u.to u.mode (u.accepted ++ bytes) b).bytes) is
+text_with_bytes x u bytes done is = text_of_is x (with_bytes u bytes) ∙ ap (λ r. r.bytes) (whole_with_bytes x u bytes done is)
+
+-- and where transcoding stands
+transcoder_with_bytes : (x : IndexSet) (u : Upload) (bytes : List ℕ) (done : Bool) → (length u.accepted + length bytes == u.declared) ≡ done
+    → transcoder_with x (with_bytes u bytes) [] (is_complete (with_bytes u bytes)) ≡ transcoder_with x u bytes done
+transcoder_with_bytes x u bytes done is =
+    ap (transcoder_with x (with_bytes u bytes) []) (complete_with u bytes done is)
+    ∙ ap (λ b. transcoder_over (tables x) u.from u.to u.mode b done) (append-nil (u.accepted ++ bytes))
+
+state_with_bytes : (x : IndexSet) (u : Upload) (bytes : List ℕ) (done : Bool) → (length u.accepted + length bytes == u.declared) ≡ done
+    → state_of x (with_bytes u bytes) ≡ state_with x u bytes done
+unfolding state_with
+state_with_bytes x u bytes done is = ap state_bytes (transcoder_with_bytes x u bytes done is)
 
 module _ (x : IndexSet) (next : ℕ) (p : Patch) (o : OpenAppend) (stands : AppendStands x next p o) where
   -- with another text
@@ -66,7 +84,7 @@ module _ (x : IndexSet) (next : ℕ) (p : Patch) (o : OpenAppend) (stands : Appe
   }
 
   module _ (some : 0 < length p.body) (s : Slot) (kept : SlotStands x p.number p.began s) where
-    open_still : is_complete p.began ≡ false
+    pub open_still : is_complete p.began ≡ false
     open_still = ne_eqb (length p.began.accepted) p.began.declared (λ e. (let h = stands.held in let w = stands.within in omega (arith, e, h, w, some)))
 
     pub reaches : length p.began.accepted + length p.body < 2 ^ 64
@@ -85,11 +103,11 @@ module _ (x : IndexSet) (next : ℕ) (p : Patch) (o : OpenAppend) (stands : Appe
     not_put (Refused refusals.Full) done is ended = absurd ended
 
     -- the slot with the body
-    pub put_there : (n : ℕ) (done : Bool) (t : Standing) (more : List ℕ) (new : Slot) → n ≡ length p.began.accepted + length p.body → done ≡ completes p
-        → IsWhole x p.began p.body done t more
-        → new.text.items ≡ s.text.items ++ more → new.record ≡ record s.record { accepted = n; text_len = length new.text.items } → new.transcoder ≡ t
+    pub put_there : (n : ℕ) (done : Bool) (state more : List ℕ) (new : Slot) → n ≡ length p.began.accepted + length p.body → done ≡ completes p
+        → IsWhole x p.began p.body done state more
+        → new.text.items ≡ s.text.items ++ more → new.record ≡ record s.record { accepted = n; text_len = length new.text.items; state = state }
         → IsPut x p new (Ok n)
-    put_there n done t more new count is whole text told at =
+    put_there n done state more new count is whole text told =
         let u = p.began in
         let all : new.text.items ≡ text_of x (with_bytes u p.body) =
         text ∙ ap (λ z. z ++ more) (kept.text ∙ text_of_is x u ∙ ap (λ b. (text_with x u [] b).bytes) open_still) ∙ whole.rest
@@ -105,17 +123,12 @@ module _ (x : IndexSet) (next : ℕ) (p : Patch) (o : OpenAppend) (stands : Appe
               from = ap (λ (r : Record). r.from) told ∙ kept.tells.from;
               to = ap (λ (r : Record). r.to) told ∙ kept.tells.to;
               mode = ap (λ (r : Record). r.mode) told ∙ kept.tells.mode;
+              state = ap (λ (r : Record). r.state) told ∙ whole.state_is ∙ sym (state_with_bytes x u p.body done (sym is));
               metadata = ap (λ (r : Record). r.metadata.bytes.items) told ∙ kept.tells.metadata;
             };
             text = all;
-            reading = subst (IsReading x (with_bytes u p.body) []) (sym at)
-                (record {
-                  unspent = whole.reading.unspent;
-                  from = whole.reading.from;
-                  to = whole.reading.to;
-                  mode = whole.reading.mode;
-                  at = subst (IsAt (tables x) t.transcoder) (sym (append-nil (u.accepted ++ p.body))) whole.reading.at;
-                });
+            encodable = ap (λ r. r.fault) (whole_with_bytes x u p.body done (sym is)) ∙ whole.encodable;
+            sound = subst IsSound (sym (transcoder_with_bytes x u p.body done (sym is))) whole.sound;
           },
         )
 

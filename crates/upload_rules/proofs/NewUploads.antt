@@ -1,5 +1,6 @@
 -- An upload without bytes: its text is empty, complete or not.
-use Rattle.std.proofs.Common.{◌≡◌, Bool, true, false, [], None, refl, sym, ◌∙◌, ap, subst}
+use Rattle.std.proofs.Common.{◌≡◌, Bool, true, false, [], None, refl, sym, ◌∙◌, ap, eq-eqb}
+use Rattle.std.proofs.lemmas.Bool.{ne_eqb}
 use Rattle.enc_model.specs.declared.Encoding.{Encoding}
 use Rattle.enc_model.specs.declared.Encoding.TheVariants as encodings
 use Rattle.enc_model.specs.declared.Mode.{Mode}
@@ -10,12 +11,12 @@ use Rattle.enc_model.specs.Stream.{steps, steps_within}
 use Rattle.enc_model.specs.Utf8.{utf8}
 use Rattle.enc_model.specs.Utf16.{utf16}
 use Rattle.enc_model.specs.Japanese.{SingleState, single, shift_jis, euc_jp, iso2022}
-use Rattle.enc_model.specs.Decode.{decoding, decoding_start, decoded, decoded_text, decode, text}
-use Rattle.enc_model.specs.Transcode.{Before, IsAt, phase_of}
+use Rattle.enc_model.specs.Decode.{decoding, decoding_start, decoded, decode, text}
+use Rattle.enc_model.specs.Transcode.{phase_of}
 use Rattle.enc_model.proofs.Pieces.{decoded_none}
-use Rattle.enc_stream.specs.Standing.{Standing, start}
-use Rattle.upload_rules.specs.Texts.{IsReading}
-use Rattle.upload_rules.specs.Store.{New, new_upload, text_of, is_complete}
+use Rattle.enc_stream.specs.Standing.{Standing, start, finished}
+use Rattle.upload_rules.specs.States.{transcoder_with}
+use Rattle.upload_rules.specs.Store.{New, new_upload, text_of, text_with, is_complete}
 use Rattle.upload_rules.proofs.TextGrows.{text_open, text_done}
 
 single_ended : (index : Index) → (steps (single index) true SingleState []).text ≡ []
@@ -53,21 +54,16 @@ pub new_text : (x : IndexSet) (new : New) → text_of x (new_upload new) ≡ []
 unfolding text_of
 new_text x new = ap (λ r. r.bytes) (text_of_nothing (tables x) new.from new.to new.mode (is_complete (new_upload new)))
 
--- a transcoder that saw no byte
-starts : (t : Tables) (from to : Encoding) (mode : Mode) → IsAt t (record { from = from; to = to; mode = mode; phase = Before []; shift = InAscii }) []
-starts t from to mode =
-    let d = decoded_none t from in
-    let so_far : coded (encoder t to) mode InAscii (decoded_text (decoded t from [] false)) ≡ record { bytes = []; state = InAscii; fault = None } =
-    ap (λ z. coded (encoder t to) mode InAscii (decoded_text z)) d ∙ nothing_coded (encoder t to) mode in
-    record {
-      phase = sym (ap phase_of d);
-      fault = ap (λ r. r.fault) so_far;
-      shift = sym (ap (λ r. r.state) so_far);
-    }
+pub new_encodable : (x : IndexSet) (new : New) (done : Bool) → (text_with x (new_upload new) [] done).fault ≡ None
+new_encodable x new done = ap (λ r. r.fault) (text_of_nothing (tables x) new.from new.to new.mode done)
 
-pub new_reading : (x : IndexSet) (new : New) (t : Standing)
-    → t ≡ start new.from new.to new.mode
-    → IsReading x (new_upload new) [] t
-new_reading x new t is =
-    subst (IsReading x (new_upload new) []) (sym is)
-    (record { unspent = refl; from = refl; to = refl; mode = refl; at = starts (tables x) new.from new.to new.mode })
+-- where a transcoder stands that saw no byte, and the end where none is to come
+pub new_open : (x : IndexSet) (new : New) (t : Standing) → t ≡ start new.from new.to new.mode → (new.declared ≡ 0 → ⊥)
+    → t.transcoder ≡ transcoder_with x (new_upload new) [] (is_complete (new_upload new))
+new_open x new t is some =
+    ap (λ s. s.transcoder) is
+    ∙ rw (ne_eqb 0 new.declared (λ e. some (sym e)), ap phase_of (decoded_none (tables x) new.from), ap (λ r. r.state) (text_of_nothing (tables x) new.from new.to new.mode false)) refl
+
+pub new_complete : (x : IndexSet) (new : New) (t : Standing) → t ≡ finished (start new.from new.to new.mode) → new.declared ≡ 0
+    → t.transcoder ≡ transcoder_with x (new_upload new) [] (is_complete (new_upload new))
+new_complete x new t is none = ap (λ s. s.transcoder) is ∙ rw (eq-eqb 0 new.declared (sym none)) refl

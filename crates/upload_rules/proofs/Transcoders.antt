@@ -1,16 +1,20 @@
 -- A transcoder that stands at an upload's bytes, one piece further and at the end.
 use Rattle.std.proofs.Common.{◌≡◌, ℕ, Bool, true, false, List, [], ◌++◌, Option, Some, None, refl, sym, ◌∙◌, ap, subst, append_assoc, append-nil, Vec, Global}
+use Rattle.enc_model.specs.declared.Encoding.{Encoding}
+use Rattle.enc_model.specs.declared.Mode.{Mode}
 use Rattle.enc_model.specs.Indexes.{IndexSet, tables}
 use Rattle.enc_model.specs.Encode.{Tables, InAscii, Coded, behind, coded, encoder, ended_coded}
 use Rattle.enc_model.specs.Decode.{decoded, decoded_text, decode, text}
-use Rattle.enc_model.specs.Transcode.{fed_end, Transcoder, IsAt, stepped, added, added_end, so_far}
+use Rattle.enc_model.specs.Transcode.{fed_end, phase_of, Transcoder, IsAt, stepped, added, added_end, so_far}
 use Rattle.enc_model.proofs.Steady.{encoder_steady}
 use Rattle.enc_model.proofs.Transcoding.{coded_both, text_added, fault_added, at_next}
-use Rattle.enc_stream.specs.Standing.{Standing, stepped_on, Answers}
+use Rattle.enc_stream.specs.Standing.{Standing, stepped_on, finished, Answers}
+use Rattle.enc_stream.specs.StateBytes.{IsSound, standing, state_bytes}
 use Rattle.enc_stream.specs.declared.error.TranscodeError.{TranscodeError}
 use Rattle.enc_stream.specs.declared.error.TranscodeError.TheVariants as errors
 use Rattle.upload_rules.specs.Store.{Upload, text_with}
 use Rattle.upload_rules.specs.World.{is_there}
+use Rattle.upload_rules.specs.States.{transcoder_over, transcoder_with, state_with}
 use Rattle.upload_rules.specs.Texts.{IsReading, IsRest, IsWhole}
 use Rattle.upload_rules.proofs.TextGrows.{decode_end, ended_behind, text_open, text_done, fault_stays}
 
@@ -32,6 +36,20 @@ end_added t s b here =
     ∙ ap ended_coded (coded_both f (encoder_steady t s.to) s.mode InAscii d e here.fault)
     ∙ ap (λ z. ended_coded (behind (so_far t s b).bytes (coded f s.mode z e))) (sym here.shift)
     ∙ ended_behind (so_far t s b).bytes (coded f s.mode s.shift e)
+
+over : (t : Tables) (s : Transcoder) (from to : Encoding) (mode : Mode) (b : List ℕ) → s.from ≡ from → s.to ≡ to → s.mode ≡ mode
+    → s.phase ≡ phase_of (decoded t from b false) → s.shift ≡ (text t from to mode b false).state → s ≡ transcoder_over t from to mode b false
+over t s from to mode b e1 e2 e3 e4 e5 =
+    rw (e1, e2, e3, e4, e5) refl
+
+-- a transcoder that stands where an open text's bytes end
+pub reads : (x : IndexSet) (u : Upload) (bytes : List ℕ) (t : Standing) → (text_with x u bytes false).fault ≡ None → t ≡ standing (transcoder_with x u bytes false)
+    → IsReading x u bytes t
+reads x u bytes t ok is =
+    let s = transcoder_with x u bytes false in
+    let e = so_far_open (tables x) s (u.accepted ++ bytes) in
+    subst (IsReading x u bytes) (sym is)
+    (record { unspent = refl; from = refl; to = refl; mode = refl; at = record { phase = refl; fault = ap (λ r. r.fault) e ∙ ok; shift = sym (ap (λ r. r.state) e) } })
 
 module _ (x : IndexSet) (u : Upload) (bytes : List ℕ) (t : Standing) (here : IsReading x u bytes t) where
   -- the encodings are the upload's
@@ -85,20 +103,38 @@ module _ (x : IndexSet) (u : Upload) (bytes : List ℕ) (t : Standing) (here : I
   pub end_fault : (d : ℕ) → (added_end (tables x) t.transcoder).fault ≡ Some d → is_there (text_with x u bytes true).fault ≡ true
   end_fault d h = ap is_there (ap (λ r. r.fault) stands_ended ∙ h)
 
-  -- whole at the end
-  pub whole_ended : (old new : List ℕ) → IsRest x u bytes false old → (added_end (tables x) t.transcoder).fault ≡ None → new ≡ old ++ (added_end (tables x) t.transcoder).bytes
-      → IsWhole x u bytes true t new
-  whole_ended old new rest ok grown = record {
-    reading = here;
+  -- where it stands is the state
+  still_open : t.transcoder ≡ transcoder_with x u bytes false
+  still_open =
+      over (tables x) t.transcoder u.from u.to u.mode (u.accepted ++ bytes) here.from here.to here.mode
+      (here.at.phase ∙ ap (λ e. phase_of (decoded (tables x) e (u.accepted ++ bytes) false)) here.from) (here.at.shift ∙ ap (λ r. r.state) stands_at)
+
+  pub whole_open : (state old : List ℕ) → state ≡ state_bytes t.transcoder → IsSound t.transcoder → IsRest x u bytes false old → IsWhole x u bytes false state old
+  unfolding state_with
+  whole_open state old is sound rest = record {
+    state_is = is ∙ ap state_bytes still_open;
+    sound = subst IsSound still_open sound;
+    rest = rest;
+    encodable = without_fault;
+  }
+
+  -- at the end
+  at_end : (next : Standing) → next ≡ finished t → next.transcoder ≡ transcoder_with x u bytes true
+  at_end next is = ap (λ s. s.transcoder) is ∙ rw (here.from, here.to, here.mode) refl
+
+  pub whole_ended : (next : Standing) (state old new : List ℕ) → next ≡ finished t → state ≡ state_bytes next.transcoder → IsSound next.transcoder
+      → IsRest x u bytes false old → (added_end (tables x) t.transcoder).fault ≡ None → new ≡ old ++ (added_end (tables x) t.transcoder).bytes
+      → IsWhole x u bytes true state new
+  unfolding state_with
+  whole_ended next state old new is packed sound rest ok grown = record {
+    state_is = packed ∙ ap state_bytes (at_end next is);
+    sound = subst IsSound (at_end next is) sound;
     rest = (
         let start = (text_with x u [] false).bytes in
         let more = (added_end (tables x) t.transcoder).bytes in
         ap (λ z. start ++ z) grown ∙ sym (append_assoc start old more) ∙ ap (λ z. z ++ more) rest ∙ sym (ap (λ r. r.bytes) stands_ended));
     encodable = ap (λ r. r.fault) stands_ended ∙ ok;
   }
-
-  pub whole_open : (old : List ℕ) → IsRest x u bytes false old → IsWhole x u bytes false t old
-  whole_open old rest = record { reading = here; rest = rest; encodable = without_fault }
 
 -- a text without a value has none with more bytes
 there : (o : Option ℕ) → is_there o ≡ true → (d : ℕ) × (o ≡ Some d)

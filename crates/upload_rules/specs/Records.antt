@@ -4,6 +4,7 @@ use Rattle.enc_model.specs.Indexes.{IndexSet, offers}
 use Rattle.enc_model.specs.declared.Encoding.TheVariants.{Utf16Be, Utf16Le}
 use Rattle.upload_rules.specs.declared.records.Record.{Record}
 use Rattle.upload_rules.specs.Store.{New, Upload, text_of}
+use Rattle.upload_rules.specs.States.{state_of}
 
 pub record Tells (x : IndexSet) (number : ℕ) (r : Record) (u : Upload) : Type 0 where
   pub number_is : r.number ≡ number
@@ -13,6 +14,7 @@ pub record Tells (x : IndexSet) (number : ℕ) (r : Record) (u : Upload) : Type 
   pub from : r.from ≡ u.from
   pub to : r.to ≡ u.to
   pub mode : r.mode ≡ u.mode
+  pub state : r.state ≡ state_of x u
   pub metadata : r.metadata.bytes.items ≡ u.metadata
 
 -- a record where there is an upload, and none where there is none

@@ -1,9 +1,10 @@
 -- The uploads of a table by their places.
-use Rattle.std.specs.Prelude.{◌≡◌, ◌≤◌, ◌<◌, ℕ, List, [], ◌∷◌, map, length, slice_index}
+use Rattle.std.specs.Prelude.{◌≡◌, ◌≤◌, ◌<◌, ℕ, List, [], ◌∷◌, None, map, length, slice_index}
 use Rattle.enc_model.specs.Indexes.{IndexSet}
-use Rattle.upload_rules.specs.Store.{Upload, text_of}
+use Rattle.enc_stream.specs.StateBytes.{IsSound}
+use Rattle.upload_rules.specs.Store.{Upload, text_of, text_with, is_complete}
 use Rattle.upload_rules.specs.Records.{Tells}
-use Rattle.upload_rules.specs.Texts.{IsReading}
+use Rattle.upload_rules.specs.States.{transcoder_with}
 use Rattle.upload_rules.specs.declared.slots.Slot.{Slot}
 
 abbrev pub number_of : Slot → ℕ
@@ -34,11 +35,12 @@ pub record IsFirstAt (ns : List ℕ) (n place : ℕ) : Type 0 where
 abbrev pub IsNowhere : List ℕ → ℕ → Type 0
 IsNowhere ns n = (k : ℕ) → k < length ns → slice_index ns k ≡ n → ⊥
 
--- a place of a table: the record tells of the upload, its text is kept, and where transcoding stands
+-- a place of a table: the record tells of the upload, its text has a value and is kept, and its state can be unpacked
 pub record SlotStands (x : IndexSet) (n : ℕ) (u : Upload) (s : Slot) : Type 0 where
   pub tells : Tells x n s.record u
   pub text : s.text.items ≡ text_of x u
-  pub reading : IsReading x u [] s.transcoder
+  pub encodable : (text_with x u [] (is_complete u)).fault ≡ None
+  pub sound : IsSound (transcoder_with x u [] (is_complete u))
 
 abbrev pub AllStand : IndexSet → List (ℕ × Upload) → List Slot → Type 0
 AllStand x [] [] = Unit {0}

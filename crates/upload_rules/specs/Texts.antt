@@ -4,13 +4,15 @@ use Rattle.std.specs.declared.alloc.Global.{Global}
 use Rattle.enc_model.specs.Indexes.{IndexSet, tables}
 use Rattle.enc_model.specs.Transcode.{IsAt}
 use Rattle.enc_stream.specs.Standing.{Standing}
-use Rattle.upload_rules.specs.Store.{Upload, text_with}
+use Rattle.enc_stream.specs.StateBytes.{IsSound}
+use Rattle.upload_rules.specs.Store.{Upload, text_with, is_complete}
+use Rattle.upload_rules.specs.States.{transcoder_with, state_with}
 use Rattle.upload_rules.specs.World.{is_there}
 use Rattle.upload_rules.specs.declared.errors.UploadError.{UploadError}
 use Rattle.upload_rules.specs.declared.errors.UploadError.TheVariants.{NoMemory, Refused}
 use Rattle.upload_rules.specs.declared.errors.UploadRefusal.TheVariants as refusals
 use Rattle.upload_rules.specs.declared.new_text.NewText.{NewText}
-use Rattle.upload_rules.specs.declared.new_text.NewText.TheVariants.{Growing, Unencodable}
+use Rattle.upload_rules.specs.declared.new_text.NewText.TheVariants.{Growing, Unencodable, Complete}
 
 -- the transcoder stands where decoding and encoding end over the accepted bytes and these
 pub record IsReading (x : IndexSet) (u : Upload) (bytes : List ℕ) (t : Standing) : Type 0 where
@@ -28,15 +30,17 @@ IsRest x u bytes done text = (text_with x u [] false).bytes ++ text ≡ (text_wi
 abbrev pub HoldsText : IndexSet → Upload → List ℕ → NewText → Type 0
 HoldsText x u bytes (Growing t text) = IsReading x u bytes t × IsRest x u bytes false text.items
 HoldsText x u bytes Unencodable = is_there (text_with x u bytes false).fault ≡ true
+HoldsText x u bytes Complete = is_complete u ≡ true
 
--- the text with an append's bytes, the end among them or not, has a value, and these are what is new in it
-pub record IsWhole (x : IndexSet) (u : Upload) (bytes : List ℕ) (done : Bool) (t : Standing) (text : List ℕ) : Type 0 where
-  pub reading : IsReading x u bytes t
+-- the text with an append's bytes, the end among them or not, has a value, these are what is new in it, and this is the state then
+pub record IsWhole (x : IndexSet) (u : Upload) (bytes : List ℕ) (done : Bool) (state text : List ℕ) : Type 0 where
+  pub state_is : state ≡ state_with x u bytes done
+  pub sound : IsSound (transcoder_with x u bytes done)
   pub rest : IsRest x u bytes done text
   pub encodable : (text_with x u bytes done).fault ≡ None
 
 -- how an append's text ends
-abbrev pub IsEnded : IndexSet → Upload → List ℕ → Bool → Result (Standing × Vec ℕ Global) UploadError → Type 0
+abbrev pub IsEnded : IndexSet → Upload → List ℕ → Bool → Result (List ℕ × Vec ℕ Global) UploadError → Type 0
 IsEnded x u bytes done (Ok parts) = IsWhole x u bytes done parts.0 parts.1.items
 IsEnded x u bytes done (Err NoMemory) = Unit {0}
 IsEnded x u bytes done (Err (Refused refusals.Unencodable)) = is_there (text_with x u bytes done).fault ≡ true

@@ -53,8 +53,8 @@ impl OpenAppend {
             text,
         } = self;
         let accepted = offset.saturating_add(came);
-        let (transcoder, text) = text.ended(indexes, accepted == slot.record.declared)?;
-        match slot.grow(&text, accepted, transcoder) {
+        let (state, text) = text.ended(indexes, accepted == slot.record.declared)?;
+        match slot.grow(&text, accepted, state) {
             Ok(()) => Ok(accepted),
             Err(_) => Err(UploadError::NoMemory),
         }

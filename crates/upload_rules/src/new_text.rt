@@ -1,13 +1,13 @@
 //! What an append adds to its upload's text.
 
-ghost use Rattle.std.specs.Prelude.{◌≡◌, ◌++◌, [], ℕ, Bool, true, List, OnOk, OnErr, IsErrOf};
+ghost use Rattle.std.specs.Prelude.{◌≡◌, ◌++◌, [], ℕ, Bool, true, false, None, List, OnOk, OnErr, IsErrOf, MatchOption};
 ghost use Rattle.enc_model.specs.Indexes.{IndexSet as Indexes};
-ghost use Rattle.upload_rules.specs.Store.{Upload};
+ghost use Rattle.upload_rules.specs.Store.{Upload, text_with, is_complete};
 
-use crate::{UploadError, UploadRefusal};
+use crate::{Record, UploadError, UploadRefusal};
 use enc_index::IndexSet;
 use enc_stream::{TranscodeError, Transcoder};
-use std::alloc::AllocError;
+use std::alloc::{AllocError, Global};
 
 /// What an append adds to its upload's text.
 #[derive(Drop)]
@@ -21,10 +21,29 @@ pub(crate) enum NewText {
     },
     /// A character has no code.
     Unencodable,
+    /// The upload is complete: no bytes come.
+    Complete,
 }
 
 impl NewText {
     ghost use Rattle.upload_rules.specs.Texts.{HoldsText, IsEnded};
+    ghost use Rattle.upload_rules.specs.Records.{Tells};
+    ghost use Rattle.upload_rules.specs.States.{transcoder_with};
+    ghost use Rattle.enc_stream.specs.StateBytes.{IsSound};
+
+    /// What an append to the upload of a record adds at first: nothing. None where the state bytes are those of no state.
+    pub(crate) fn behind(alloc: Global, upload: &Record) -> Option<Self>
+        ensures { (x : Indexes) (n : ℕ) (u : Upload) → Tells x n upload.now u → (text_with x u [] (is_complete u)).fault ≡ None
+            → IsSound (transcoder_with x u [] (is_complete u)) → MatchOption result ⊥ (HoldsText x u []) }
+    {
+        if upload.accepted == upload.declared {
+            return Some(NewText::Complete);
+        }
+        Some(NewText::Growing {
+            transcoder: Transcoder::unpack(&upload.state)?,
+            text: Vec::new(alloc),
+        })
+    }
 
     /// With a piece more; as it was, where a growth is refused.
     pub(crate) fn with(self, indexes: &IndexSet, piece: &[u8]) -> (Self, Result<(), AllocError>)
@@ -33,6 +52,7 @@ impl NewText {
     {
         match self {
             NewText::Unencodable => (NewText::Unencodable, Ok(())),
+            NewText::Complete => (NewText::Complete, Ok(())),
             NewText::Growing {
                 transcoder,
                 mut text,
@@ -57,24 +77,24 @@ impl NewText {
         }
     }
 
-    /// The new bytes, with those of the end where the upload is complete, and where transcoding stands behind the accepted bytes.
+    /// The state bytes behind the accepted bytes, and the new text, with the bytes of the end where these complete the upload.
     pub(crate) fn ended(
         self,
         indexes: &IndexSet,
         completes: bool,
-    ) -> Result<(Transcoder, Vec<u8>), UploadError>
-        ensures ended { (u : Upload) (bytes : List ℕ) → HoldsText indexes.now u bytes self → IsEnded indexes.now u bytes completes result }
+    ) -> Result<([u8; 32], Vec<u8>), UploadError>
+        ensures ended { (u : Upload) (bytes : List ℕ) → HoldsText indexes.now u bytes self → is_complete u ≡ false → IsEnded indexes.now u bytes completes result }
         ensures no_device { IsErrOf result UploadError.DiskFault → ⊥ }
     {
         let NewText::Growing {
-            transcoder,
+            mut transcoder,
             mut text,
         } = self
         else {
             return Err(UploadError::Refused(UploadRefusal::Unencodable));
         };
         if completes {
-            match transcoder.copy().finish(indexes, &mut text) {
+            match transcoder.finish(indexes, &mut text) {
                 Ok(()) => {}
                 Err(TranscodeError::Unencodable(_)) => return Err(UploadError::Refused(
                     UploadRefusal::Unencodable,
@@ -82,6 +102,10 @@ impl NewText {
                 Err(_) => return Err(UploadError::NoMemory),
             }
         }
-        Ok((transcoder, text))
+        // No spent transcoder is kept: it would have no state.
+        if transcoder.is_spent() {
+            return Err(UploadError::Refused(UploadRefusal::Unencodable));
+        }
+        Ok((transcoder.pack(), text))
     }
 }

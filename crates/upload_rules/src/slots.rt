@@ -18,8 +18,6 @@ pub(crate) struct Slot {
     pub(crate) record: Record,
     /// The stored text.
     pub(crate) text: Vec<u8>,
-    /// Where transcoding stands behind the accepted bytes.
-    pub(crate) transcoder: Transcoder,
 }
 
 impl Slot {
@@ -35,6 +33,11 @@ impl Slot {
             mode,
             metadata,
         } = fields;
+        let transcoder = if declared == 0 {
+            Transcoder::ended(from, to, mode)
+        } else {
+            Transcoder::new(from, to, mode)
+        };
         Slot {
             record: Record {
                 number,
@@ -44,29 +47,28 @@ impl Slot {
                 from,
                 to,
                 mode,
+                state: transcoder.pack(),
                 metadata,
             },
             text: Vec::new(alloc),
-            transcoder: Transcoder::new(from, to, mode),
         }
     }
 
-    /// The text with these bytes behind it, and as many accepted bytes as are said.
+    /// The text with these bytes behind it, and as many accepted bytes and the state as are said.
     pub(crate) fn grow(
         &mut self,
         text: &[u8],
         accepted: u64,
-        transcoder: Transcoder,
+        state: [u8; 32],
     ) -> Result<(), AllocError>
         ensures text { OnOk result (self.new.text.items ≡ self.old.text.items ++ text.now) }
-        ensures record { OnOk result (self.new.record ≡ record self.old.record { accepted = accepted; text_len = length self.new.text.items }) }
-        ensures transcoder { OnOk result (self.new.transcoder ≡ transcoder) }
-        ensures same { OnErr result ((self.new.text.items ≡ self.old.text.items) × (self.new.record ≡ self.old.record) × (self.new.transcoder ≡ self.old.transcoder)) }
+        ensures record { OnOk result (self.new.record ≡ record self.old.record { accepted = accepted; text_len = length self.new.text.items; state = state }) }
+        ensures same { OnErr result ((self.new.text.items ≡ self.old.text.items) × (self.new.record ≡ self.old.record)) }
     {
         self.text.extend_from_slice(text)?;
         self.record.accepted = accepted;
         self.record.text_len = self.text.len() as u64;
-        self.transcoder = transcoder;
+        self.record.state = state;
         Ok(())
     }
 }

@@ -73,14 +73,14 @@ impl Table {
         if slot.record.declared < offset || slot.record.declared - offset < count {
             return Err(UploadRefusal::TooLong);
         }
+        let Some(text) = NewText::behind(self.alloc, &slot.record) else {
+            return Err(UploadRefusal::NoSuch);
+        };
         Ok(OpenAppend {
             number,
             offset,
             came: 0,
-            text: NewText::Growing {
-                transcoder: slot.transcoder.copy(),
-                text: Vec::new(self.alloc),
-            },
+            text,
         })
     }
 }

@@ -77,6 +77,8 @@ fn lengths(rt: HostRuntime) -> Result<(), Fail> {
     );
     assert_eq!(rt; table.create(plain(rt.alloc(), 1_073_741_824)), Ok(1));
     assert_eq!(rt; table.create(plain(rt.alloc(), 0)), Ok(2));
+    assert_eq!(rt; table.record(1).map(|r| r.state[3]), Some(0));
+    assert_eq!(rt; table.record(2).map(|r| r.state[3]), Some(2));
     assert_eq!(rt; patched(&mut table, 2, 0, b""), Ok(0));
     assert_eq!(rt;
         patched(&mut table, 2, 0, b"a"),
@@ -90,6 +92,12 @@ fn character_cut_in_two(rt: HostRuntime) -> Result<(), Fail> {
     let mut table = Table::new(rt.alloc(), IndexSet::new(rt.alloc())?);
     assert_eq!(rt; table.create(plain(rt.alloc(), 3)), Ok(1));
     assert_eq!(rt; patched(&mut table, 1, 0, b"\xf0\x90"), Ok(2));
+    let mut state = [0; 32];
+    state[3] = 1;
+    state[5] = 2;
+    state[6] = 0xf0;
+    state[7] = 0x90;
+    assert_eq!(rt; table.record(1).map(|r| r.state), Some(state));
     assert_eq!(rt; table.record(1).map(|r| r.text_len), Some(0));
     assert_eq!(rt; patched(&mut table, 1, 2, b"\x80"), Ok(3));
     let mut buf = [0; 4];

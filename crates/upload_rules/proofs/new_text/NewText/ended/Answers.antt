@@ -1,39 +1,52 @@
-use Rattle.std.proofs.Common.{ℕ, true, false, sym, subst, ap, ◌∙◌, Vec, Global}
-use Rattle.enc_model.specs.Indexes.{tables}
+use Rattle.std.proofs.Common.{◌≡◌, ℕ, Bool, true, false, List, refl, sym, subst, ap, ◌∙◌, Vec, Global}
+use Rattle.enc_model.specs.Indexes.{IndexSet, tables}
 use Rattle.enc_model.specs.Transcode.{added_end}
-use Rattle.upload_rules.specs.Store.{text_with}
+use Rattle.enc_stream.specs.Standing.{Standing}
+use Rattle.enc_stream.specs.StateBytes.{IsSound, state_bytes}
+use Rattle.upload_rules.specs.declared.new_text.NewText.{NewText}
+use Rattle.upload_rules.specs.declared.new_text.NewText.TheVariants.{Growing, Unencodable, Complete}
+use Rattle.upload_rules.specs.Store.{Upload, text_with, is_complete}
 use Rattle.upload_rules.specs.World.{is_there}
-use Rattle.upload_rules.specs.Texts.{HoldsText, IsReading, IsWhole}
+use Rattle.upload_rules.specs.Texts.{HoldsText, IsWhole}
 use Rattle.upload_rules.proofs.Transcoders.{whole_ended, whole_open, end_fault, unencodable_ended, code_fault}
 use Rattle.upload_rules.proofs.new_text.NewText.ended.Goals as goal
 use Rattle.upload_rules.proofs.new_text.NewText.ended.Goals.{then-completes+in-Ok, else-completes}
 
+-- what isn't growing has no value, or its upload is complete
+no_text : (x : IndexSet) (u : Upload) (bytes : List ℕ) (done : Bool) (t : NewText) → ((transcoder : Standing) (text : Vec ℕ Global) → t ≡ Growing transcoder text → ⊥)
+    → HoldsText x u bytes t → is_complete u ≡ false → is_there (text_with x u bytes done).fault ≡ true
+no_text x u bytes done (Growing transcoder text) other holds still = absurd (other transcoder text refl)
+no_text x u bytes done Unencodable other holds still = unencodable_ended x u bytes done holds
+no_text x u bytes done Complete other holds still = absurd cc
+
 pub returns-in_default-clause-ended : goal.returns-in_default-clause-ended
-returns-in_default-clause-ended c = λ u bytes holds.
-    unencodable_ended c.args.indexes.now u bytes c.args.completes (subst (HoldsText c.args.indexes.now u bytes) c.in_default.is holds)
+returns-in_default-clause-ended c = λ u bytes holds still.
+    no_text c.args.indexes.now u bytes c.args.completes c.args.self c.in_default.not-Growing holds still
 
 pub returns-in-Err-Unencodable-clause-ended : goal.returns-in-Err-Unencodable-clause-ended
-returns-in-Err-Unencodable-clause-ended c = λ u bytes holds.
+returns-in-Err-Unencodable-clause-ended c = λ u bytes holds still.
     let x = c.args.indexes.now in
     let held = subst (HoldsText x u bytes) c.in-Growing.is holds in
-    let reading = subst (IsReading x u bytes) (sym c.copy.ensures) held.0 in
     ap (λ b. is_there (text_with x u bytes b).fault) c.if-completes.true
-    ∙ end_fault x u bytes c.copy.result reading c.in-Err-Unencodable.field-0-0
-    (code_fault c.in-Err-Unencodable.field-0 c.in-Err-Unencodable.field-0-0 (added_end (tables x) c.copy.result.transcoder) _ _ _ _ c.in-Err-Unencodable.field-0-is c.in-Err-Unencodable.ensures.refused)
+    ∙ end_fault x u bytes c.in-Growing.transcoder held.0 c.in-Err-Unencodable.field-0-0
+    (code_fault c.in-Err-Unencodable.field-0 c.in-Err-Unencodable.field-0-0 (added_end (tables x) c.in-Growing.transcoder.transcoder) _ _ _ _ c.in-Err-Unencodable.field-0-is c.in-Err-Unencodable.ensures.refused)
 
 pub returns-clause-ended : goal.returns-clause-ended
-returns-clause-ended c = λ u bytes holds.
+returns-clause-ended c = λ u bytes holds still.
     let x = c.args.indexes.now in
     let held = subst (HoldsText x u bytes) c.in-Growing.is holds in
     elim c.if-completes.branch [
       | then-completes+in-Ok w ↦
-          let reading = subst (IsReading x u bytes) (sym w.copy.ensures) held.0 in
-          let whole = whole_ended x u bytes w.copy.result reading c.in-Growing.text.items w.finish.new.out.items held.1 w.in-Ok.ensures.no_fault w.in-Ok.ensures.added in
-          subst (λ b. IsWhole x u bytes b c.in-Growing.transcoder c.if-completes.text.items) (sym w.if-completes.true)
-          (subst (λ (t : Vec ℕ Global). IsWhole x u bytes true c.in-Growing.transcoder t.items) (sym w.text-is)
-          (subst (λ t. IsWhole x u bytes true t w.finish.new.out.items) w.copy.ensures whole))
+          let packed : c.pack.result ≡ state_bytes w.finish.new.self.transcoder = c.pack.ensures.bytes ∙ ap (λ t. state_bytes t.transcoder) w.transcoder-is in
+          let sound = subst (λ t. IsSound t.transcoder) w.transcoder-is c.pack.ensures.sound in
+          let whole = whole_ended x u bytes c.in-Growing.transcoder held.0 w.finish.new.self c.pack.result c.in-Growing.text.items w.finish.new.out.items
+          w.in-Ok.ensures.over packed sound held.1 w.in-Ok.ensures.no_fault w.in-Ok.ensures.added in
+          subst (λ b. IsWhole x u bytes b c.pack.result c.if-completes.text.items) (sym w.if-completes.true)
+          (subst (λ (t : Vec ℕ Global). IsWhole x u bytes true c.pack.result t.items) (sym w.text-is) whole)
       | else-completes w ↦
-          subst (λ b. IsWhole x u bytes b c.in-Growing.transcoder c.if-completes.text.items) (sym w.if-completes.false)
-          (subst (λ (t : Vec ℕ Global). IsWhole x u bytes false c.in-Growing.transcoder t.items) (sym w.text-is)
-          (whole_open x u bytes c.in-Growing.transcoder held.0 c.in-Growing.text.items held.1))
+          let packed : c.pack.result ≡ state_bytes c.in-Growing.transcoder.transcoder = c.pack.ensures.bytes ∙ ap (λ t. state_bytes t.transcoder) w.transcoder-is in
+          let sound = subst (λ t. IsSound t.transcoder) w.transcoder-is c.pack.ensures.sound in
+          subst (λ b. IsWhole x u bytes b c.pack.result c.if-completes.text.items) (sym w.if-completes.false)
+          (subst (λ (t : Vec ℕ Global). IsWhole x u bytes false c.pack.result t.items) (sym w.text-is)
+          (whole_open x u bytes c.in-Growing.transcoder held.0 c.pack.result c.in-Growing.text.items packed sound held.1))
     ]

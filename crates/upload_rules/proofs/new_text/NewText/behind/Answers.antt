@@ -1,0 +1,25 @@
+use Rattle.std.proofs.Common.{◌≡◌, ◌++◌, [], false, None, ap, sym, ◌∙◌, append-nil}
+use Rattle.std.proofs.lemmas.Bool.{ne_eqb}
+use Rattle.std.proofs.Common.{length}
+use Rattle.enc_stream.specs.StateBytes.{standing}
+use Rattle.upload_rules.specs.Store.{text_with, is_complete}
+use Rattle.upload_rules.specs.States.{transcoder_with, state_with}
+use Rattle.upload_rules.proofs.Transcoders.{reads}
+use Rattle.upload_rules.proofs.new_text.NewText.behind.Goals as goal
+
+pub returns-in_err-unpack : goal.returns-in_err-unpack
+unfolding state_with
+returns-in_err-unpack c x n u tells ok sound =
+    let k = c.in_err-unpack.ensures.only (transcoder_with x u [] (is_complete u)) sound (sym tells.state) in
+    absurd cc
+
+pub returns : goal.returns
+unfolding state_with
+returns c x n u tells ok sound =
+    let open_still : is_complete u ≡ false = ne_eqb (length u.accepted) u.declared (λ e. c.if-upload.false (tells.accepted ∙ e ∙ sym tells.declared)) in
+    let k = c.in_ok-unpack.ensures.only (transcoder_with x u [] (is_complete u)) sound (sym tells.state) in
+    let is : c.in_ok-unpack.field-0 ≡ standing (transcoder_with x u [] (is_complete u)) = cc in
+    let encodable : (text_with x u [] false).fault ≡ None = ap (λ b. (text_with x u [] b).fault) (sym open_still) ∙ ok in (
+      reads x u [] c.in_ok-unpack.field-0 encodable (is ∙ ap (λ b. standing (transcoder_with x u [] b)) open_still),
+      ap (λ l. (text_with x u [] false).bytes ++ l) c.new.ensures.items ∙ append-nil (text_with x u [] false).bytes,
+    )

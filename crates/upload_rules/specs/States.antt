@@ -1,0 +1,27 @@
+-- Where transcoding stands over an upload's bytes, and its state bytes.
+use Rattle.std.specs.Prelude.{ℕ, Bool, true, false, List, [], ◌++◌}
+use Rattle.enc_model.specs.declared.Encoding.{Encoding}
+use Rattle.enc_model.specs.declared.Mode.{Mode}
+use Rattle.enc_model.specs.Encode.{Tables, InAscii}
+use Rattle.enc_model.specs.Indexes.{IndexSet, tables}
+use Rattle.enc_model.specs.Decode.{decoded, text}
+use Rattle.enc_model.specs.Transcode.{Transcoder, Over, phase_of}
+use Rattle.enc_stream.specs.StateBytes.{state_bytes}
+use Rattle.upload_rules.specs.Store.{Upload, is_complete}
+
+-- where decoding and encoding end over the bytes, the end among them or not
+abbrev pub transcoder_over : Tables → Encoding → Encoding → Mode → List ℕ → Bool → Transcoder
+transcoder_over t from to mode b false =
+    record { from = from; to = to; mode = mode; phase = phase_of (decoded t from b false); shift = (text t from to mode b false).state }
+transcoder_over t from to mode b true = record { from = from; to = to; mode = mode; phase = Over; shift = InAscii }
+
+-- over the accepted bytes and these further ones
+abbrev pub transcoder_with : IndexSet → Upload → List ℕ → Bool → Transcoder
+transcoder_with x u bytes done = transcoder_over (tables x) u.from u.to u.mode (u.accepted ++ bytes) done
+
+unfoldable pub state_with : IndexSet → Upload → List ℕ → Bool → List ℕ
+state_with x u bytes done = state_bytes (transcoder_with x u bytes done)
+
+-- the state of an upload: behind the end exactly where it is complete
+abbrev pub state_of : IndexSet → Upload → List ℕ
+state_of x u = state_with x u [] (is_complete u)
