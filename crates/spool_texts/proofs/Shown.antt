@@ -79,11 +79,10 @@ take_behind n len [] ys size = let same : n ≡ len = omega (arith, size) in ap 
 take_behind zero len (x ∷ xs) ys size = absurd (omega (arith, size))
 take_behind (suc n) len (x ∷ xs) ys size = ap (λ (zs : List ℕ). x ∷ zs) (take_behind n len xs ys (omega (arith, size)))
 
-pub text_joined : (image : ℕ → ℕ) (first n len : ℕ) (list more : List ℕ) → n ≤ length list → text_on image first (take n list ++ more) (4096 * n + len) ≡ text_on image first list (4096 * n) ++ text_on image first more len
-text_joined image first n len list more le =
-    ap (λ (xs : List ℕ). take (4096 * n + len) xs) (blocks_on-append image first (take n list) more)
-    ∙ take_behind (4096 * n + len) len (blocks_on image first (take n list)) (blocks_on image first more) (omega (arith, size))
-    ∙ ap (λ (xs : List ℕ). xs ++ take len (blocks_on image first more)) front
+-- the text on the first n blocks
+pub text_front : (image : ℕ → ℕ) (first n : ℕ) (list : List ℕ) → n ≤ length list → text_on image first list (4096 * n) ≡ blocks_on image first (take n list)
+text_front image first n list le =
+    ap (λ (xs : List ℕ). take (4096 * n) xs) whole ∙ take-append-le (4096 * n) (blocks_on image first (take n list)) (blocks_on image first (drop n list)) (omega (arith, size)) ∙ take_all (4096 * n) (blocks_on image first (take n list)) (omega (arith, size))
   where
     size : length (blocks_on image first (take n list)) ≡ 4096 * n
     size = omega (arith, length-blocks_on image first (take n list), length-take n list, le)
@@ -91,5 +90,11 @@ text_joined image first n len list more le =
     whole : blocks_on image first list ≡ blocks_on image first (take n list) ++ blocks_on image first (drop n list)
     whole = ap (blocks_on image first) (sym (take-append-drop n list)) ∙ blocks_on-append image first (take n list) (drop n list)
 
-    front : blocks_on image first (take n list) ≡ take (4096 * n) (blocks_on image first list)
-    front = sym (ap (λ (xs : List ℕ). take (4096 * n) xs) whole ∙ take-append-le (4096 * n) (blocks_on image first (take n list)) (blocks_on image first (drop n list)) (omega (arith, size)) ∙ take_all (4096 * n) (blocks_on image first (take n list)) (omega (arith, size)))
+pub text_joined : (image : ℕ → ℕ) (first n len : ℕ) (list more : List ℕ) → n ≤ length list → text_on image first (take n list ++ more) (4096 * n + len) ≡ text_on image first list (4096 * n) ++ text_on image first more len
+text_joined image first n len list more le =
+    ap (λ (xs : List ℕ). take (4096 * n + len) xs) (blocks_on-append image first (take n list) more)
+    ∙ take_behind (4096 * n + len) len (blocks_on image first (take n list)) (blocks_on image first more) (omega (arith, size))
+    ∙ ap (λ (xs : List ℕ). xs ++ take len (blocks_on image first more)) (sym (text_front image first n list le))
+  where
+    size : length (blocks_on image first (take n list)) ≡ 4096 * n
+    size = omega (arith, length-blocks_on image first (take n list), length-take n list, le)

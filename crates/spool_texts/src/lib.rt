@@ -5,8 +5,12 @@
 //! `write_last`. So a committed block is never written to.
 #![tactic(auto)]
 
+mod draft_text;
+mod error;
 mod laws;
 mod reads;
 
+pub use draft_text::DraftText;
+pub use error::DraftError;
 pub use laws::{same_but_blocks, shown_texts};
 pub use reads::read_text;
