@@ -66,3 +66,10 @@ content_more new mid old bytes done n rest le is before =
     ∙ ap (λ (xs : List ℕ). xs ++ take n (drop done bytes)) before
     ∙ append_assoc old (take done bytes) (take n (drop done bytes))
     ∙ ap (λ (xs : List ℕ). old ++ xs) (sym (take-add done n bytes))
+
+-- what a draft holds is given by its blocks and unfinished bytes
+pub same_held : (d e : Draft) → e.blocks ≡ d.blocks → e.unfinished ≡ d.unfinished → held_count e ≡ held_count d
+same_held d e blocks unfinished = omega (arith, ap length blocks, ap length unfinished)
+
+pub same_content : (seen : ℕ → ℕ) (first : ℕ) (d e : Draft) → e.blocks ≡ d.blocks → e.unfinished ≡ d.unfinished → content_on seen first e ≡ content_on seen first d
+same_content seen first d e blocks unfinished = rw (blocks, unfinished)

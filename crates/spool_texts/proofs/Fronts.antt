@@ -7,7 +7,7 @@ use Rattle.spool_journal.specs.Phases.{Idle}
 use Rattle.spool_journal.specs.Texts.{aside}
 use Rattle.spool_journal.proofs.TextFrames.{aside_else}
 use Rattle.spool_texts.specs.TextOn.{blocks_on, text_on}
-use Rattle.spool_texts.specs.Written.{InBlocks, WritesIn, IsImageBut}
+use Rattle.spool_texts.specs.Written.{SameOutside, NoneOf, InBlocks, WritesIn, IsImageBut}
 use Rattle.spool_texts.proofs.Shown.{text_front, text_joined}
 
 -- the first bytes of a span
@@ -111,3 +111,7 @@ pub but_on : {first : ℕ} {list list' : List ℕ} {seen mid image : ℕ → ℕ
 but_on more grown a is = record {
   same = λ p away firm. is.same p away (λ m. ⊎_elim firm (λ within. away (in_append more grown within)) (a.loosens p m)) ∙ a.outside p (λ within. away (in_append more grown within));
 }
+
+-- where only other blocks were written
+pub blocks_kept : (seen seen' : ℕ → ℕ) (first : ℕ) (list blocks : List ℕ) → SameOutside first blocks seen seen' → NoneOf list blocks → blocks_on seen' first list ≡ blocks_on seen first list
+blocks_kept seen seen' first list blocks same apart = blocks_same seen' seen first list (λ i p lt e. same p (λ within. apart i within.at lt within.below (omega (arith, e, within.here))))

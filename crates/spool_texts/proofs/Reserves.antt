@@ -3,7 +3,7 @@ use Rattle.std.proofs.Common.{◌≡◌, ◌≢◌, ℕ, suc, ◌+◌, ◌-◌, 
 use Rattle.std.proofs.Math.Dec.{eqb}
 use Rattle.std.proofs.lemmas.Bool.{eqb-true, cases_lt, both_ways}
 use Rattle.std.proofs.lemmas.Bool.Decides.{nat_tests}
-use Rattle.std.proofs.lemmas.List.{get_or_default, get_or_append_left, get_or-append_right, get_or-append-add, get_or_push, length_push, append_assoc}
+use Rattle.std.proofs.lemmas.List.{get_or_default, get_or_append_left, get_or-append_right, get_or-append-add, get_or_push, length_push, append_assoc, append-nil}
 use Rattle.std.proofs.lemmas.Map.Keys.{IsDistinct-from_apart}
 use Rattle.std.proofs.lemmas.Map.Steps.{length-le_from_distinct_below}
 use Rattle.std.specs.List.{list_any}
@@ -66,6 +66,19 @@ in_either P more more' first second i lt = ⊎_elim
     (λ (inside : i < length more). subst P (sym (get_or_append_left more more' 0 i inside)) (first i inside))
     (λ (behind : length more ≤ i). subst P (sym (get_or-append_right more more' (length more) i 0 refl behind)) (second (i - length more) (omega (arith, lt, behind, length-append more more'))))
     (cases_lt i (length more))
+
+-- no block more
+pub takes_none : (h : Held) (list list' : List ℕ) → list' ≡ list → Takes h h list list'
+takes_none h list list' same = record {
+  more = [];
+  grown = same ∙ sym (append-nil list);
+  rows = refl;
+  size = refl;
+  free = λ i lt. absurd (omega (arith, lt));
+  taken = λ i lt. absurd (omega (arith, lt));
+  others = λ b away. refl;
+  keeps = λ b e. e;
+}
 
 -- the list grew, and then again
 pub takes_on : {a b c : Held} {first second third : List ℕ} → Takes a b first second → Takes b c second third → Takes a c first third

@@ -3,10 +3,12 @@ use Rattle.std.specs.Prelude.{◌≡◌, ◌≢◌, ℕ, ◌+◌, ◌*◌, ◌-�
 use Rattle.spool_blocks.specs.Blocks.{Held, IsFree}
 use Rattle.spool_texts.specs.TextOn.{blocks_on}
 
--- its blocks by ordinal, from that of the committed tail on, and the bytes that aren't on a full block
+-- its blocks by ordinal, from that of the committed tail on; the bytes that aren't on a full block; and how many blocks its list
+-- holds before it takes more memory
 pub record Draft : Type 0 where
   pub blocks : List ℕ
   pub unfinished : List ℕ
+  pub room : ℕ
 
 -- all blocks are full but the last, where bytes of it are unfinished
 abbrev pub full_count : Draft → ℕ

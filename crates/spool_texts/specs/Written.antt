@@ -1,5 +1,5 @@
 -- What writes into listed blocks leave. The text blocks begin at a page.
-use Rattle.std.specs.Prelude.{◌≡◌, ◌⊎◌, ℕ, ◌+◌, ◌/◌, ◌<◌, List, [], ◌∷◌, Option, None, length, get_or}
+use Rattle.std.specs.Prelude.{◌≡◌, ◌≢◌, ◌⊎◌, ℕ, ◌+◌, ◌/◌, ◌<◌, List, [], ◌∷◌, Option, None, length, get_or}
 use Rattle.spool_journal.specs.Image.{InForm, count, number, overlaid}
 use Rattle.spool_journal.specs.Texts.{text_shown, aside}
 
@@ -9,9 +9,17 @@ pub record InBlocks (first : ℕ) (blocks : List ℕ) (p : ℕ) : Type 0 where
   pub below : at < length blocks
   pub here : first + get_or blocks at 0 ≡ p / 4096
 
+-- two that agree outside these blocks
+abbrev pub SameOutside : ℕ → List ℕ → (ℕ → ℕ) → (ℕ → ℕ) → Type 0
+SameOutside first blocks a b = (p : ℕ) → (InBlocks first blocks p → ⊥) → b p ≡ a p
+
+-- no listed block is one of these
+abbrev pub NoneOf : List ℕ → List ℕ → Type 0
+NoneOf list blocks = (i k : ℕ) → i < length list → k < length blocks → get_or list i 0 ≢ get_or blocks k 0
+
 -- outside these blocks nothing changes, and only there places become loose
 pub record WritesIn (first : ℕ) (blocks : List ℕ) (seen seen' : ℕ → ℕ) (loose loose' : ℕ → Type 0) : Type 0 where
-  pub outside : (p : ℕ) → (InBlocks first blocks p → ⊥) → seen' p ≡ seen p
+  pub outside : SameOutside first blocks seen seen'
   pub loosens : (p : ℕ) → loose' p → loose p ⊎ InBlocks first blocks p
 
 -- outside these blocks a crash might have left this before

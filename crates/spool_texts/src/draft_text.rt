@@ -1,5 +1,5 @@
 // The new text of a draft.
-ghost use Rattle.std.specs.Prelude.{◌≡◌, ◌≤◌, ◌<◌, ◌≢◌, ◌*◌, ◌+◌, ◌-◌, ◌/◌, ◌%◌, ◌++◌, ◌↔◌, ℕ, [], ◌∷◌, length, take, drop, min, true, get_or, IsOk, IsErr, IsErrOf, IfOk, OnOk, OnErr};
+ghost use Rattle.std.specs.Prelude.{◌≡◌, ◌≤◌, ◌<◌, ◌≢◌, ◌*◌, ◌+◌, ◌-◌, ◌/◌, ◌%◌, ◌++◌, ◌^◌, ◌↔◌, ℕ, [], ◌∷◌, length, take, drop, min, true, get_or, IsOk, IsErr, IsErrOf, IfOk, OnOk, OnErr, vec_len, vec_capacity};
 ghost use Rattle.spool_blocks.specs.Blocks.{IsFree, with_reserved};
 ghost use Rattle.spool_disk.specs.Disk.{Counts, IsImage, Keeps};
 ghost use Rattle.spool_disk.specs.Views.{Lasts};
@@ -13,7 +13,7 @@ use crate::{DraftError, read_text};
 use spool_blocks::{BlockNo, Blocks};
 use spool_disk::{Disk, DiskFault};
 use spool_journal::{Layout, PAGE, write_block};
-use std::alloc::Global;
+use std::alloc::{AllocError, Global};
 use std::marker::Model;
 
 /// The new text of a draft: the blocks that it reserved, and the bytes of the unfinished block. It has to be spent, by
@@ -28,7 +28,7 @@ pub struct DraftText {
 impl Model for DraftText {
     ghost Value = { Draft };
 
-    ghost view = { λ d. record { blocks = d.blocks.items; unfinished = take d.filled d.page.items } };
+    ghost view = { λ d. record { blocks = d.blocks.items; unfinished = take d.filled d.page.items; room = vec_capacity d.blocks } };
 
     ghost invariant = { λ d. (length d.page.items ≡ 4096) × (d.filled < 4096) × (length d.blocks.items ≤ 65536) };
 }
@@ -112,11 +112,16 @@ impl DraftText {
         ensures held { OnOk result (held_count self.new ≡ held_count self.old + length bytes.now) }
         ensures content { D.honest disk.old → OnOk result (content_on (D.seen disk.new) (25 + 2 * journal_pages layout.now) self.new ≡ content_on (D.seen disk.old) (25 + 2 * journal_pages layout.now) self.old ++ bytes.now) }
 
-        // It reserves no more blocks than its bytes need, and refuses only where all are taken. This holds after a refusal too.
+        // Where memory is short, nothing is done.
+        ensures memory { IsErrOf result DraftError.NoMemory → (self.new ≡ self.old) × (disk.new ≡ disk.old) × (blocks.new ≡ blocks.old) }
+
+        // It reserves no more blocks than its bytes need, and refuses only where they need more and none is free. What it reserved
+        // it holds after a refusal too.
         ensures listed { OnOk result (1 ≤ length bytes.now → length self.new.blocks ≡ (held_count self.new + 4095) / 4096) }
         ensures takes { Takes blocks.old blocks.new self.old.blocks self.new.blocks }
         ensures reserved { IsReserved blocks.new self.new.blocks }
         ensures full { IsErrOf result DraftError.Full → (b : ℕ) → IsFree blocks.new b → ⊥ }
+        ensures scarce { IsErrOf result DraftError.Full → length self.new.blocks < (held_count self.old + length bytes.now + 4095) / 4096 }
 
         // But for its own blocks, nothing is written, and every image is one from before.
         ensures writes { D.honest disk.old → WritesIn (25 + 2 * journal_pages layout.now) self.new.blocks (D.seen disk.old) (D.seen disk.new) (D.loose disk.old) (D.loose disk.new) }
@@ -124,11 +129,27 @@ impl DraftText {
         ensures image { D.honest disk.old → (image : ℕ → ℕ) → IsImage (D.seen disk.new) (D.loose disk.new) image → IsImage (D.seen disk.old) (D.loose disk.old) (aside_blocks (25 + 2 * journal_pages layout.now) self.new.blocks (D.seen disk.old) image) }
         ensures lasts { D.honest disk.old → Lasts D.Disk disk.old disk.new (λ image. IsImage (D.seen disk.old) (D.loose disk.old) (aside_blocks (25 + 2 * journal_pages layout.now) self.new.blocks (D.seen disk.old) image)) }
     {
+        if bytes.is_empty() {
+            return Ok(());
+        }
+        self.make_room(bytes.len())?;
         let mut done = 0;
         while done < bytes.len() {
             done += self.put_some(disk, layout, blocks, &bytes[done..])?;
         }
         Ok(())
+    }
+
+    // Makes the list long enough for so many bytes more.
+    fn make_room(&mut self, len: usize) -> Result<(), AllocError>
+        requires { len < 2 ^ 63 }
+        ensures blocks { self.new.blocks ≡ self.old.blocks }
+        ensures unfinished { self.new.unfinished ≡ self.old.unfinished }
+        ensures same { OnErr result (self.new ≡ self.old) }
+        ensures room { OnOk result (held_count self.old + len ≤ 4096 * self.new.room) }
+    {
+        let more = (self.filled + len).div_ceil(PAGE);
+        self.blocks.reserve(more)
     }
 
     // Puts as many bytes behind as the unfinished block has room for.
@@ -143,11 +164,14 @@ impl DraftText {
         requires blocks { length blocks.old.rows ≡ layout.now }
         requires reserved { IsReserved blocks.old self.old.blocks }
         requires some { 1 ≤ length bytes.now }
+        requires space { held_count self.old + length bytes.now ≤ 4096 * self.old.room }
         ensures size { D.size disk.new ≡ D.size disk.old }
         ensures honest { D.honest disk.old ↔ D.honest disk.new }
         ensures counts { Counts (IsErrOf result DraftError.DiskFault) (D.failures disk.old) (D.failures disk.new) }
         ensures some { IfOk result (λ n. 1 ≤ n) }
         ensures within { IfOk result (λ n. n ≤ length bytes.now) }
+        ensures space { self.old.room ≤ self.new.room }
+        ensures no_memory { IsErrOf result DraftError.NoMemory → ⊥ }
         ensures listed { OnOk result (1 ≤ length self.new.blocks) }
         ensures few { length self.new.unfinished < 4096 }
         ensures held { IfOk result (λ n. held_count self.new ≡ held_count self.old + n) }
@@ -155,6 +179,7 @@ impl DraftText {
         ensures takes { Takes blocks.old blocks.new self.old.blocks self.new.blocks }
         ensures reserved { IsReserved blocks.new self.new.blocks }
         ensures full { IsErrOf result DraftError.Full → (b : ℕ) → IsFree blocks.new b → ⊥ }
+        ensures scarce { IsErrOf result DraftError.Full → 4096 * length self.new.blocks ≤ held_count self.old }
         ensures writes { D.honest disk.old → WritesIn (25 + 2 * journal_pages layout.now) self.new.blocks (D.seen disk.old) (D.seen disk.new) (D.loose disk.old) (D.loose disk.new) }
         ensures idle { D.honest disk.old → Idle (journal_pages layout.now) (D.seen disk.old) (D.loose disk.old) → Idle (journal_pages layout.now) (D.seen disk.new) (D.loose disk.new) }
         ensures lasts { D.honest disk.old → Lasts D.Disk disk.old disk.new (IsImageBut (25 + 2 * journal_pages layout.now) self.new.blocks (D.seen disk.old) (D.loose disk.old)) }
@@ -206,14 +231,17 @@ impl DraftText {
 
     // Reserves a block where the next byte is the first one of a block.
     fn open_block(&mut self, blocks: &mut Blocks) -> Result<(), DraftError>
-        requires { IsReserved blocks.old self.old.blocks }
+        requires reserved { IsReserved blocks.old self.old.blocks }
+        requires space { full_count self.old + 1 ≤ self.old.room }
         ensures takes { Takes blocks.old blocks.new self.old.blocks self.new.blocks }
         ensures reserved { IsReserved blocks.new self.new.blocks }
         ensures unfinished { self.new.unfinished ≡ self.old.unfinished }
         ensures ready { OnOk result (length self.new.blocks ≡ full_count self.old + 1) }
         ensures few { length self.new.unfinished < 4096 }
-        ensures full { IsErrOf result DraftError.Full → (b : ℕ) → IsFree blocks.new b → ⊥ }
-        ensures no_fault { IsErrOf result DraftError.DiskFault → ⊥ }
+        ensures space { self.old.room ≤ self.new.room }
+        ensures only_full { IsErr result → IsErrOf result DraftError.Full }
+        ensures full { IsErr result → (b : ℕ) → IsFree blocks.new b → ⊥ }
+        ensures scarce { OnErr result (length self.new.blocks ≡ full_count self.old) }
     {
         if self.filled == 0 || self.blocks.is_empty() {
             take_block(&mut self.blocks, blocks)?;
@@ -280,16 +308,18 @@ fn write_front<D: Disk>(
 
 // Reserves a block, and puts it behind the others.
 fn take_block(list: &mut Vec<BlockNo>, blocks: &mut Blocks) -> Result<(), DraftError>
+    requires space { vec_len list.old < vec_capacity list.old }
     requires few { length list.old.items ≤ 65536 }
     requires reserved { IsReserved blocks.old list.old.items }
     ensures few { length list.new.items ≤ 65536 }
     ensures takes { Takes blocks.old blocks.new list.old.items list.new.items }
     ensures reserved { IsReserved blocks.new list.new.items }
     ensures one { OnOk result (length list.new.items ≡ length list.old.items + 1) }
-    ensures full { IsErrOf result DraftError.Full → (b : ℕ) → IsFree blocks.new b → ⊥ }
-    ensures no_fault { IsErrOf result DraftError.DiskFault → ⊥ }
+    ensures space { vec_capacity list.old ≤ vec_capacity list.new }
+    ensures only_full { IsErr result → IsErrOf result DraftError.Full }
+    ensures full { IsErr result → (b : ℕ) → IsFree blocks.new b → ⊥ }
+    ensures same { OnErr result (list.new.items ≡ list.old.items) }
 {
-    list.reserve(1)?;
     let Some(block) = blocks.take() else {
         return Err(DraftError::Full);
     };

@@ -12,5 +12,5 @@ mod reads;
 
 pub use draft_text::DraftText;
 pub use error::DraftError;
-pub use laws::{same_but_blocks, shown_texts};
+pub use laws::{kept_texts, same_but_blocks, shown_texts};
 pub use reads::read_text;

@@ -1,11 +1,43 @@
-use Rattle.std.proofs.Common.{arith, ◌-◌, length, drop, refl, sym, ◌∙◌, length-take}
+use Rattle.std.proofs.Common.{inl, arith, ◌-◌, length, drop, refl, sym, subst, ◌∙◌, length-take}
+use Rattle.std.proofs.lemmas.List.{append-nil}
 use Rattle.spool_disk.proofs.Firm.{lasts_on, lasts_more}
 use Rattle.spool_journal.proofs.Steps.{no_failure}
+use Rattle.spool_texts.specs.Drafts.{IsReserved}
 use Rattle.spool_texts.proofs.Asides.{image_aside}
-use Rattle.spool_texts.proofs.Contents.{content_more}
-use Rattle.spool_texts.proofs.Fronts.{writes_on, but_more, but_on, image_in}
-use Rattle.spool_texts.proofs.Reserves.{takes_on}
+use Rattle.spool_texts.proofs.Contents.{content_more, same_held, same_content}
+use Rattle.spool_texts.proofs.Fronts.{writes_none, writes_on, but_more, but_on, image_in}
+use Rattle.spool_texts.proofs.Reserves.{takes_none, takes_on}
 use Rattle.spool_texts.proofs.draft_text.DraftText.put.Goals as goal
+
+pub returns-then-is_empty-clause-image : goal.returns-then-is_empty-clause-image
+returns-then-is_empty-clause-image g c honest image is = image_aside _ _ (image_in (writes_none _ _) is)
+
+pub returns-in_err-make_room-clause-takes : goal.returns-in_err-make_room-clause-takes
+returns-in_err-make_room-clause-takes g c = takes_none _ _ _ c.make_room.ensures.blocks
+
+pub returns-in_err-make_room-clause-image : goal.returns-in_err-make_room-clause-image
+returns-in_err-make_room-clause-image g c honest image is = image_aside _ _ (image_in (writes_none _ _) is)
+
+pub loop-done-init : goal.loop-done-init
+loop-done-init g c =
+    let blocks = c.make_room.ensures.blocks in
+    let unfinished = c.make_room.ensures.unfinished in
+    record {
+      size = refl;
+      honest = λ honest. honest;
+      back = λ honest. honest;
+      counts = refl;
+      within = omega arith;
+      space = c.in_ok-make_room.ensures.room;
+      few = λ lt. absurd (omega (arith, lt));
+      some = λ lt. absurd (omega (arith, lt));
+      held = omega (arith, same_held c.args.self.now c.make_room.new.self blocks unfinished);
+      content = λ honest. same_content _ _ c.args.self.now c.make_room.new.self blocks unfinished ∙ sym (append-nil _);
+      takes = takes_none _ _ _ blocks;
+      reserved = subst (IsReserved c.args.blocks.now) (sym blocks) c.requires.reserved;
+      writes = λ honest. writes_none _ _;
+      lasts = λ honest. record { later = omega arith; nothing_else = λ t image le left. inl left };
+    }
 
 pub returns-in_err-done-clause-takes : goal.returns-in_err-done-clause-takes
 returns-in_err-done-clause-takes g c = takes_on c.loop-done.invariant.takes c.put_some.ensures.takes
@@ -41,7 +73,7 @@ loop-done-preserved g c =
       back = λ honest. inv.back (c.put_some.ensures.honest.1 honest);
       counts = no_failure c.put_some.ensures.counts (λ e. let wrong = sym c.in_ok-done.was ∙ e in cc) ∙ inv.counts;
       within = omega (arith, within, length-take (length c.args.bytes.now - c.loop-done.done) (drop c.loop-done.done c.args.bytes.now), inv.within);
-      nothing = λ e. absurd (omega (arith, e, some));
+      space = omega (arith, inv.space, c.put_some.ensures.space);
       few = λ _. c.put_some.ensures.few;
       some = λ _. c.in_ok-done.ensures.listed;
       held = omega (arith, c.in_ok-done.ensures.held, inv.held);
@@ -56,12 +88,6 @@ loop-done-preserved g c =
           (lasts_more (inv.lasts honest) (λ image is. but_more takes.more takes.grown is))
           (lasts_more (c.put_some.ensures.lasts (inv.honest honest)) (λ image is. but_on takes.more takes.grown (inv.writes honest) is));
     }
-
-pub returns-clause-nothing : goal.returns-clause-nothing
-returns-clause-nothing g c none =
-    let inv = c.loop-done.invariant in
-    let same = inv.nothing (omega (arith, none, inv.within)) in
-    (same.0, same.1, same.2, refl)
 
 pub returns-clause-image : goal.returns-clause-image
 returns-clause-image g c honest image is = image_aside _ _ (image_in (c.loop-done.invariant.writes honest) is)

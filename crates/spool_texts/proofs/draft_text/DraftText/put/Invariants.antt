@@ -12,7 +12,7 @@ invariant-loop-done g l = record {
   back : g.D.Disk.honest l.disk → g.D.Disk.honest l.fn.disk;
   counts : g.D.Disk.failures l.disk ≡ g.D.Disk.failures l.fn.disk;
   within : l.done ≤ length l.bytes;
-  nothing : l.done ≡ 0 → (l.self ≡ l.fn.self) × (l.disk ≡ l.fn.disk) × (l.blocks ≡ l.fn.blocks);
+  space : held_count l.fn.self + length l.bytes ≤ 4096 * l.self.room;
   few : 1 ≤ l.done → length l.self.unfinished < 4096;
   some : 1 ≤ l.done → 1 ≤ length l.self.blocks;
   held : held_count l.self ≡ held_count l.fn.self + l.done;

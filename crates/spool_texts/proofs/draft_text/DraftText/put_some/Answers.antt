@@ -20,5 +20,5 @@ returns-clause-content g c honest =
     let page_is : c.deref-2.result.now ≡ c.args.self.now.unfinished ++ bytes =
     page_filled c.self.inside.page.len c.self.inside.filled c.fill-n.result c.fill-n.new.page _ c.deref_mut.result.now bytes c.deref-2.result.now c.args.self.now.unfinished c.deref-2.ensures.value cap new_size full c.fill-n.ensures.filled (ap (λ (xs : List ℕ). take c.self.inside.filled xs) c.deref_mut.ensures.value ∙ unfinished_is) in
     let text = rw c.deref.ensures.value at (c.in_ok-write_front.ensures.text honest) in
-    full_written seen seen' first c.args.self.now record { blocks = c.self.inside.blocks.items; unfinished = [] } c.open_block.ensures.takes.more c.deref-2.result.now bytes refl (blocks_is ∙ c.open_block.ensures.takes.grown)
+    full_written seen seen' first c.args.self.now record { blocks = c.self.inside.blocks.items; unfinished = []; room = c.args.self.now.room } c.open_block.ensures.takes.more c.deref-2.result.now bytes refl (blocks_is ∙ c.open_block.ensures.takes.grown)
     (ap length blocks_is ∙ c.in_ok-open_block.ensures.ready) page_size page_is text

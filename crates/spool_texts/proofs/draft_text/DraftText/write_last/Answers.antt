@@ -29,7 +29,7 @@ returns-clause-written g c honest =
     on_more c.write_front.result (c.write_front.ensures.text honest) (λ text some.
     let text' = rw (c.deref.ensures.value, c.deref-2.ensures.value) at text in
     subst (λ (d : Draft). text_on seen' first d.blocks (held_count d) ≡ content_on seen first d) c.self.view_is
-    (last_written seen seen' first record { blocks = c.self.inside.blocks.items; unfinished = take c.self.inside.filled c.self.inside.page.items } (search rules) (omega (arith, length-take c.self.inside.filled c.self.inside.page.items, c.if-self-eq0.false, c.self.invariant)) (omega (arith, length-take c.self.inside.filled c.self.inside.page.items, c.self.invariant)) text'))
+    (last_written seen seen' first record { blocks = c.self.inside.blocks.items; unfinished = take c.self.inside.filled c.self.inside.page.items; room = c.args.self.now.room } (search rules) (omega (arith, length-take c.self.inside.filled c.self.inside.page.items, c.if-self-eq0.false, c.self.invariant)) (omega (arith, length-take c.self.inside.filled c.self.inside.page.items, c.self.invariant)) text'))
 
 pub returns-clause-image : goal.returns-clause-image
 returns-clause-image g c honest image is =
