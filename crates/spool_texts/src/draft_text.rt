@@ -71,7 +71,7 @@ impl DraftText {
         ensures few { length self.now.blocks ≤ 65536 }
         ensures unfinished { length self.now.unfinished < 4096 }
     {
-        &self.blocks
+        self.blocks.as_slice()
     }
 
     /// Gives up the memory, and hands over the reserved blocks.
