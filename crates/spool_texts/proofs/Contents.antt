@@ -1,0 +1,75 @@
+-- What a draft holds.
+use Rattle.std.proofs.Common.{◌≡◌, ℕ, ◌+◌, ◌-◌, ◌*◌, ◌≤◌, ◌++◌, List, [], length, take, drop, sym, ◌∙◌, ap, arith}
+use Rattle.std.proofs.lemmas.List.{take_all, append-nil, append_assoc, nil_from_length, take-append-le, take_at, take-take}
+use Rattle.std.proofs.Math.Seq.{take-add}
+use Rattle.spool_texts.specs.TextOn.{blocks_on, text_on}
+use Rattle.spool_texts.specs.Drafts.{Draft, full_count, held_count, content_on}
+use Rattle.spool_texts.proofs.Shown.{text_front}
+
+-- nothing is unfinished
+pub all_written : (seen : ℕ → ℕ) (first : ℕ) (d : Draft) → length d.unfinished ≡ 0 → text_on seen first d.blocks (held_count d) ≡ content_on seen first d
+all_written seen first d none =
+    let held : held_count d ≡ 4096 * length d.blocks = omega (arith, none) in
+    let full : length d.blocks ≡ full_count d = omega (arith, none) in
+    ap (λ (n : ℕ). text_on seen first d.blocks n) held
+    ∙ text_front seen first (length d.blocks) d.blocks (omega arith)
+    ∙ ap (λ (n : ℕ). blocks_on seen first (take n d.blocks)) full
+    ∙ sym (append-nil (blocks_on seen first (take (full_count d) d.blocks)))
+    ∙ ap (λ (xs : List ℕ). blocks_on seen first (take (full_count d) d.blocks) ++ xs) (sym (nil_from_length d.unfinished none))
+
+-- the unfinished bytes are on the last block
+pub last_written : (seen seen' : ℕ → ℕ) (first : ℕ) (d : Draft) → 1 ≤ length d.blocks → 1 ≤ length d.unfinished → length d.unfinished ≤ 4096 → text_on seen' first d.blocks (4096 * (length d.blocks - 1) + length d.unfinished) ≡ text_on seen first d.blocks (4096 * (length d.blocks - 1)) ++ d.unfinished → text_on seen' first d.blocks (held_count d) ≡ content_on seen first d
+last_written seen seen' first d some more few text =
+    let full : length d.blocks - 1 ≡ full_count d = omega (arith, more, few) in
+    let held : held_count d ≡ 4096 * (length d.blocks - 1) + length d.unfinished = omega (arith, more, few) in
+    ap (λ (n : ℕ). text_on seen' first d.blocks n) held
+    ∙ text
+    ∙ ap (λ (xs : List ℕ). xs ++ d.unfinished) (text_front seen first (length d.blocks - 1) d.blocks (omega arith))
+    ∙ ap (λ (n : ℕ). blocks_on seen first (take n d.blocks) ++ d.unfinished) full
+
+-- the last block is full, and written
+pub full_written : (seen seen' : ℕ → ℕ) (first : ℕ) (old new : Draft) (more page bytes : List ℕ) → new.unfinished ≡ [] → new.blocks ≡ old.blocks ++ more → length new.blocks ≡ full_count old + 1 → length page ≡ 4096 → page ≡ old.unfinished ++ bytes
+    → text_on seen' first new.blocks (4096 * (length new.blocks - 1) + length page) ≡ text_on seen first new.blocks (4096 * (length new.blocks - 1)) ++ page → content_on seen' first new ≡ content_on seen first old ++ bytes
+full_written seen seen' first old new more page bytes none grown ready size is text =
+    sym (all_written seen' first new (ap length none))
+    ∙ ap (λ (n : ℕ). text_on seen' first new.blocks n) held
+    ∙ text
+    ∙ ap (λ (n : ℕ). text_on seen first new.blocks (4096 * n) ++ page) full
+    ∙ ap (λ (xs : List ℕ). xs ++ page) (text_front seen first (full_count old) new.blocks (omega (arith, ready)))
+    ∙ ap (λ (xs : List ℕ). blocks_on seen first xs ++ page) front
+    ∙ ap (λ (xs : List ℕ). blocks_on seen first (take (full_count old) old.blocks) ++ xs) is
+    ∙ sym (append_assoc (blocks_on seen first (take (full_count old) old.blocks)) old.unfinished bytes)
+  where
+    held : held_count new ≡ 4096 * (length new.blocks - 1) + length page
+    held = omega (arith, ap length none, size, ready)
+
+    full : length new.blocks - 1 ≡ full_count old
+    full = omega (arith, ready)
+
+    front : take (full_count old) new.blocks ≡ take (full_count old) old.blocks
+    front = ap (λ (xs : List ℕ). take (full_count old) xs) grown ∙ take-append-le (full_count old) old.blocks more (omega arith)
+
+-- the bytes of a page that is full
+pub page_filled : (cap filled n : ℕ) (page rest old bytes result unfinished : List ℕ) → result ≡ take cap (page ++ rest) → cap ≡ 4096 → length page ≡ 4096 → filled + n ≡ 4096 → take (filled + n) page ≡ take filled old ++ bytes → take filled old ≡ unfinished → result ≡ unfinished ++ bytes
+page_filled cap filled n page rest old bytes result unfinished is cap_is size full filled_is front =
+    is
+    ∙ take_at page rest cap (omega (arith, size, cap_is))
+    ∙ sym (take_all (filled + n) page (omega (arith, size, full)))
+    ∙ filled_is
+    ∙ ap (λ (xs : List ℕ). xs ++ bytes) front
+
+-- some bytes more
+pub content_more : (new mid old bytes : List ℕ) (done n rest : ℕ) → n ≤ rest → new ≡ mid ++ take n (take rest (drop done bytes)) → mid ≡ old ++ take done bytes → new ≡ old ++ take (done + n) bytes
+content_more new mid old bytes done n rest le is before =
+    is
+    ∙ ap (λ (xs : List ℕ). mid ++ xs) (take-take n rest (drop done bytes) le)
+    ∙ ap (λ (xs : List ℕ). xs ++ take n (drop done bytes)) before
+    ∙ append_assoc old (take done bytes) (take n (drop done bytes))
+    ∙ ap (λ (xs : List ℕ). old ++ xs) (sym (take-add done n bytes))
+
+-- what a draft holds is given by its blocks and unfinished bytes
+pub same_held : (d e : Draft) → e.blocks ≡ d.blocks → e.unfinished ≡ d.unfinished → held_count e ≡ held_count d
+same_held d e blocks unfinished = omega (arith, ap length blocks, ap length unfinished)
+
+pub same_content : (seen : ℕ → ℕ) (first : ℕ) (d e : Draft) → e.blocks ≡ d.blocks → e.unfinished ≡ d.unfinished → content_on seen first e ≡ content_on seen first d
+same_content seen first d e blocks unfinished = rw (blocks, unfinished)

@@ -1,0 +1,21 @@
+-- The text on listed blocks.
+use Rattle.std.specs.Prelude.{◌≡◌, ℕ, ◌+◌, ◌*◌, ◌<◌, ◌++◌, List, [], ◌∷◌, Option, None, Some, length, get_or, take}
+use Rattle.spool_disk.specs.Disk.{span}
+
+-- the bytes of the listed blocks, joined; the text blocks begin at a page
+unfoldable pub blocks_on : (ℕ → ℕ) → ℕ → List ℕ → List ℕ
+blocks_on seen first [] = []
+blocks_on seen first (b ∷ list) = span seen (4096 * (first + b)) 4096 ++ blocks_on seen first list
+
+-- the text of this length on the listed blocks
+abbrev pub text_on : (ℕ → ℕ) → ℕ → List ℕ → ℕ → List ℕ
+text_on seen first list len = take len (blocks_on seen first list)
+
+-- these are the slot's blocks by ordinal, each of which is there once
+pub record IsListed (rows : List (Option (ℕ × ℕ))) (slot : ℕ) (list : List ℕ) : Type 0 where
+  pub owned : (i : ℕ) → i < length list → get_or rows (get_or list i 0) None ≡ Some (slot, i)
+  pub once : (a b i : ℕ) → get_or rows a None ≡ Some (slot, i) → get_or rows b None ≡ Some (slot, i) → a ≡ b
+
+-- each listed block is one of so many
+abbrev pub AllBelow : ℕ → List ℕ → Type 0
+AllBelow blocks list = (i : ℕ) → i < length list → get_or list i 0 < blocks

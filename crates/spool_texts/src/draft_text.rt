@@ -1,0 +1,339 @@
+// The new text of a draft.
+ghost use Rattle.std.specs.Prelude.{◌≡◌, ◌≤◌, ◌<◌, ◌≢◌, ◌*◌, ◌+◌, ◌-◌, ◌/◌, ◌%◌, ◌++◌, ◌^◌, ◌↔◌, ℕ, [], ◌∷◌, length, take, drop, min, true, get_or, IsOk, IsErr, IsErrOf, IfOk, OnOk, OnErr, vec_len, vec_capacity};
+ghost use Rattle.spool_blocks.specs.Blocks.{IsFree, with_reserved};
+ghost use Rattle.spool_disk.specs.Disk.{Counts, IsImage, Keeps};
+ghost use Rattle.spool_disk.specs.Views.{Lasts};
+ghost use Rattle.spool_journal.specs.Image.{journal_pages, all_pages};
+ghost use Rattle.spool_journal.specs.Phases.{Idle};
+ghost use Rattle.spool_texts.specs.Drafts.{Draft, full_count, held_count, content_on, IsReserved, Takes, GivesBack};
+ghost use Rattle.spool_texts.specs.TextOn.{text_on, AllBelow};
+ghost use Rattle.spool_texts.specs.Written.{WritesIn, IsImageBut, aside_blocks};
+
+use crate::{DraftError, read_text};
+use spool_blocks::{BlockNo, Blocks};
+use spool_disk::{Disk, DiskFault};
+use spool_journal::{Layout, PAGE, write_block};
+use std::alloc::{AllocError, Global};
+use std::marker::Model;
+
+/// The new text of a draft: the blocks that it reserved, and the bytes of the unfinished block. It has to be spent, by
+/// `give_back` or `into_list`.
+pub struct DraftText {
+    blocks: Vec<BlockNo>,
+    // the bytes of the unfinished block, and room for the rest of it
+    page: Vec<u8>,
+    filled: usize,
+}
+
+impl Model for DraftText {
+    ghost Value = { Draft };
+
+    ghost view = { λ d. record { blocks = d.blocks.items; unfinished = take d.filled d.page.items; room = vec_capacity d.blocks } };
+
+    ghost invariant = { λ d. (length d.page.items ≡ 4096) × (d.filled < 4096) × (length d.blocks.items ≤ 65536) };
+}
+
+impl DraftText {
+    /// No new text behind the one of this length on the listed blocks. The bytes on its last block, if that isn't full, are read
+    /// and stay in memory: they go on a block of the draft's own with its first new byte.
+    pub fn begin<D: Disk>(
+        alloc: Global,
+        disk: &mut D,
+        layout: &Layout,
+        list: &[BlockNo],
+        len: u64,
+    ) -> Result<Self, DraftError>
+        requires room { 4096 * all_pages layout.now ≤ D.size disk.old }
+        requires blocks { AllBelow layout.now list.now }
+        requires long { len ≤ 4096 * length list.now }
+        ensures size { D.size disk.new ≡ D.size disk.old }
+        ensures honest { D.honest disk.old ↔ D.honest disk.new }
+        ensures counts { Counts (IsErrOf result DraftError.DiskFault) (D.failures disk.old) (D.failures disk.new) }
+        ensures enough { IsErrOf result DraftError.Full → ⊥ }
+        ensures none { IfOk result (λ draft. draft.blocks ≡ []) }
+        ensures tail { D.honest disk.old → IfOk result (λ draft. draft.unfinished ≡ drop (len - len % 4096) (text_on (D.seen disk.old) (25 + 2 * journal_pages layout.now) list.now len)) }
+        ensures tail_size { IfOk result (λ draft. length draft.unfinished ≡ len % 4096) }
+        ensures keeps { D.honest disk.old → Keeps (D.seen disk.old) (D.seen disk.new) (D.loose disk.old) (D.loose disk.new) }
+        ensures lasts { D.honest disk.old → Lasts D.Disk disk.old disk.new (IsImage (D.seen disk.old) (D.loose disk.old)) }
+    {
+        let mut page = vec![in alloc; 0; PAGE]?;
+        let filled = read_tail(disk, layout, list, len, &mut page)?;
+        Ok(DraftText {
+            blocks: Vec::new(alloc),
+            page,
+            filled,
+        })
+    }
+
+    /// The reserved blocks, by ordinal from that of the committed text's last unfinished block on.
+    pub fn list(&self) -> &[BlockNo]
+        ensures blocks { result.now ≡ self.now.blocks }
+        ensures few { length self.now.blocks ≤ 65536 }
+        ensures unfinished { length self.now.unfinished < 4096 }
+    {
+        self.blocks.as_slice()
+    }
+
+    /// Gives up the memory, and hands over the reserved blocks.
+    pub fn into_list(self) -> Vec<BlockNo>
+        ensures { result.items ≡ self.blocks }
+    {
+        let DraftText {
+            blocks,
+            page: _,
+            filled: _,
+        } = self;
+        blocks
+    }
+
+    /// The number of bytes that it holds, with those of the committed tail.
+    pub fn len(&self) -> u64
+        ensures { result ≡ held_count self.now }
+    {
+        let full = self.blocks.len().saturating_sub(self.filled.div_ceil(PAGE));
+        PAGE as u64 * full as u64 + self.filled as u64
+    }
+
+    /// Puts bytes behind. A block is reserved as its first byte comes, and written, without a sync, as its last one does.
+    pub fn put<D: Disk>(
+        &mut self,
+        disk: &mut D,
+        layout: &Layout,
+        blocks: &mut Blocks,
+        bytes: &[u8],
+    ) -> Result<(), DraftError>
+        requires room { 4096 * all_pages layout.now ≤ D.size disk.old }
+        requires blocks { length blocks.old.rows ≡ layout.now }
+        requires reserved { IsReserved blocks.old self.old.blocks }
+        ensures size { D.size disk.new ≡ D.size disk.old }
+        ensures honest { D.honest disk.old ↔ D.honest disk.new }
+        ensures counts { Counts (IsErrOf result DraftError.DiskFault) (D.failures disk.old) (D.failures disk.new) }
+        ensures nothing { length bytes.now ≡ 0 → (self.new ≡ self.old) × (disk.new ≡ disk.old) × (blocks.new ≡ blocks.old) × IsOk result }
+        ensures held { OnOk result (held_count self.new ≡ held_count self.old + length bytes.now) }
+        ensures content { D.honest disk.old → OnOk result (content_on (D.seen disk.new) (25 + 2 * journal_pages layout.now) self.new ≡ content_on (D.seen disk.old) (25 + 2 * journal_pages layout.now) self.old ++ bytes.now) }
+
+        // Where memory is short, nothing is done.
+        ensures memory { IsErrOf result DraftError.NoMemory → (self.new ≡ self.old) × (disk.new ≡ disk.old) × (blocks.new ≡ blocks.old) }
+
+        // It reserves no more blocks than its bytes need, and refuses only where they need more and none is free. What it reserved
+        // it holds after a refusal too.
+        ensures listed { OnOk result (1 ≤ length bytes.now → length self.new.blocks ≡ (held_count self.new + 4095) / 4096) }
+        ensures takes { Takes blocks.old blocks.new self.old.blocks self.new.blocks }
+        ensures reserved { IsReserved blocks.new self.new.blocks }
+        ensures full { IsErrOf result DraftError.Full → (b : ℕ) → IsFree blocks.new b → ⊥ }
+        ensures scarce { IsErrOf result DraftError.Full → length self.new.blocks < (held_count self.old + length bytes.now + 4095) / 4096 }
+
+        // But for its own blocks, nothing is written, and every image is one from before.
+        ensures writes { D.honest disk.old → WritesIn (25 + 2 * journal_pages layout.now) self.new.blocks (D.seen disk.old) (D.seen disk.new) (D.loose disk.old) (D.loose disk.new) }
+        ensures idle { D.honest disk.old → Idle (journal_pages layout.now) (D.seen disk.old) (D.loose disk.old) → Idle (journal_pages layout.now) (D.seen disk.new) (D.loose disk.new) }
+        ensures image { D.honest disk.old → (image : ℕ → ℕ) → IsImage (D.seen disk.new) (D.loose disk.new) image → IsImage (D.seen disk.old) (D.loose disk.old) (aside_blocks (25 + 2 * journal_pages layout.now) self.new.blocks (D.seen disk.old) image) }
+        ensures lasts { D.honest disk.old → Lasts D.Disk disk.old disk.new (λ image. IsImage (D.seen disk.old) (D.loose disk.old) (aside_blocks (25 + 2 * journal_pages layout.now) self.new.blocks (D.seen disk.old) image)) }
+    {
+        if bytes.is_empty() {
+            return Ok(());
+        }
+        self.make_room(bytes.len())?;
+        let mut done = 0;
+        while done < bytes.len() {
+            done += self.put_some(disk, layout, blocks, &bytes[done..])?;
+        }
+        Ok(())
+    }
+
+    // Makes the list long enough for so many bytes more.
+    fn make_room(&mut self, len: usize) -> Result<(), AllocError>
+        requires { len < 2 ^ 63 }
+        ensures blocks { self.new.blocks ≡ self.old.blocks }
+        ensures unfinished { self.new.unfinished ≡ self.old.unfinished }
+        ensures same { OnErr result (self.new ≡ self.old) }
+        ensures room { OnOk result (held_count self.old + len ≤ 4096 * self.new.room) }
+    {
+        let more = (self.filled + len).div_ceil(PAGE);
+        self.blocks.reserve(more)
+    }
+
+    // Puts as many bytes behind as the unfinished block has room for.
+    fn put_some<D: Disk>(
+        &mut self,
+        disk: &mut D,
+        layout: &Layout,
+        blocks: &mut Blocks,
+        bytes: &[u8],
+    ) -> Result<usize, DraftError>
+        requires room { 4096 * all_pages layout.now ≤ D.size disk.old }
+        requires blocks { length blocks.old.rows ≡ layout.now }
+        requires reserved { IsReserved blocks.old self.old.blocks }
+        requires some { 1 ≤ length bytes.now }
+        requires space { held_count self.old + length bytes.now ≤ 4096 * self.old.room }
+        ensures size { D.size disk.new ≡ D.size disk.old }
+        ensures honest { D.honest disk.old ↔ D.honest disk.new }
+        ensures counts { Counts (IsErrOf result DraftError.DiskFault) (D.failures disk.old) (D.failures disk.new) }
+        ensures some { IfOk result (λ n. 1 ≤ n) }
+        ensures within { IfOk result (λ n. n ≤ length bytes.now) }
+        ensures space { self.old.room ≤ self.new.room }
+        ensures no_memory { IsErrOf result DraftError.NoMemory → ⊥ }
+        ensures listed { OnOk result (1 ≤ length self.new.blocks) }
+        ensures few { length self.new.unfinished < 4096 }
+        ensures held { IfOk result (λ n. held_count self.new ≡ held_count self.old + n) }
+        ensures content { D.honest disk.old → IfOk result (λ n. content_on (D.seen disk.new) (25 + 2 * journal_pages layout.now) self.new ≡ content_on (D.seen disk.old) (25 + 2 * journal_pages layout.now) self.old ++ take n bytes.now) }
+        ensures takes { Takes blocks.old blocks.new self.old.blocks self.new.blocks }
+        ensures reserved { IsReserved blocks.new self.new.blocks }
+        ensures full { IsErrOf result DraftError.Full → (b : ℕ) → IsFree blocks.new b → ⊥ }
+        ensures scarce { IsErrOf result DraftError.Full → 4096 * length self.new.blocks ≤ held_count self.old }
+        ensures writes { D.honest disk.old → WritesIn (25 + 2 * journal_pages layout.now) self.new.blocks (D.seen disk.old) (D.seen disk.new) (D.loose disk.old) (D.loose disk.new) }
+        ensures idle { D.honest disk.old → Idle (journal_pages layout.now) (D.seen disk.old) (D.loose disk.old) → Idle (journal_pages layout.now) (D.seen disk.new) (D.loose disk.new) }
+        ensures lasts { D.honest disk.old → Lasts D.Disk disk.old disk.new (IsImageBut (25 + 2 * journal_pages layout.now) self.new.blocks (D.seen disk.old) (D.loose disk.old)) }
+    {
+        self.open_block(blocks)?;
+        let n = fill(&mut self.page, self.filled, bytes);
+        if self.filled + n < PAGE {
+            self.filled += n;
+            return Ok(n);
+        }
+        write_front(disk, layout, &self.blocks, &self.page)?;
+        self.filled = 0;
+        Ok(n)
+    }
+
+    /// Writes the unfinished block, where it has bytes and a block is reserved, without a sync.
+    pub fn write_last<D: Disk>(&self, disk: &mut D, layout: &Layout) -> Result<(), DiskFault>
+        requires room { 4096 * all_pages layout.now ≤ D.size disk.old }
+        requires blocks { AllBelow layout.now self.now.blocks }
+        requires distinct { (i k : ℕ) → i < k → k < length self.now.blocks → get_or self.now.blocks i 0 ≢ get_or self.now.blocks k 0 }
+        ensures size { D.size disk.new ≡ D.size disk.old }
+        ensures honest { D.honest disk.old ↔ D.honest disk.new }
+        ensures counts { Counts (IsErr result) (D.failures disk.old) (D.failures disk.new) }
+        ensures written { D.honest disk.old → OnOk result (1 ≤ length self.now.blocks → text_on (D.seen disk.new) (25 + 2 * journal_pages layout.now) self.now.blocks (held_count self.now) ≡ content_on (D.seen disk.old) (25 + 2 * journal_pages layout.now) self.now) }
+        ensures writes { D.honest disk.old → WritesIn (25 + 2 * journal_pages layout.now) self.now.blocks (D.seen disk.old) (D.seen disk.new) (D.loose disk.old) (D.loose disk.new) }
+        ensures idle { D.honest disk.old → Idle (journal_pages layout.now) (D.seen disk.old) (D.loose disk.old) → Idle (journal_pages layout.now) (D.seen disk.new) (D.loose disk.new) }
+        ensures image { D.honest disk.old → (image : ℕ → ℕ) → IsImage (D.seen disk.new) (D.loose disk.new) image → IsImage (D.seen disk.old) (D.loose disk.old) (aside_blocks (25 + 2 * journal_pages layout.now) self.now.blocks (D.seen disk.old) image) }
+        ensures lasts { D.honest disk.old → Lasts D.Disk disk.old disk.new (λ image. IsImage (D.seen disk.old) (D.loose disk.old) (aside_blocks (25 + 2 * journal_pages layout.now) self.now.blocks (D.seen disk.old) image)) }
+    {
+        if self.filled == 0 {
+            return Ok(());
+        }
+        if self.blocks.is_empty() {
+            return Ok(());
+        }
+        write_front(disk, layout, &self.blocks, &self.page[..self.filled])
+    }
+
+    /// Gives the reserved blocks back, without memory and without the disk.
+    pub fn give_back(self, blocks: &mut Blocks)
+        requires { IsReserved blocks.old self.blocks }
+        ensures { GivesBack blocks.old blocks.new self.blocks }
+    {
+        let list = self.into_list();
+        for block in &list {
+            blocks.give_back(*block);
+        }
+    }
+
+    // Reserves a block where the next byte is the first one of a block.
+    fn open_block(&mut self, blocks: &mut Blocks) -> Result<(), DraftError>
+        requires reserved { IsReserved blocks.old self.old.blocks }
+        requires space { full_count self.old + 1 ≤ self.old.room }
+        ensures takes { Takes blocks.old blocks.new self.old.blocks self.new.blocks }
+        ensures reserved { IsReserved blocks.new self.new.blocks }
+        ensures unfinished { self.new.unfinished ≡ self.old.unfinished }
+        ensures ready { OnOk result (length self.new.blocks ≡ full_count self.old + 1) }
+        ensures few { length self.new.unfinished < 4096 }
+        ensures space { self.old.room ≤ self.new.room }
+        ensures only_full { IsErr result → IsErrOf result DraftError.Full }
+        ensures full { IsErr result → (b : ℕ) → IsFree blocks.new b → ⊥ }
+        ensures scarce { OnErr result (length self.new.blocks ≡ full_count self.old) }
+    {
+        if self.filled == 0 || self.blocks.is_empty() {
+            take_block(&mut self.blocks, blocks)?;
+        }
+        Ok(())
+    }
+}
+
+// Reads the bytes of the text behind its last full block.
+fn read_tail<D: Disk>(
+    disk: &mut D,
+    layout: &Layout,
+    list: &[BlockNo],
+    len: u64,
+    page: &mut [u8],
+) -> Result<usize, DiskFault>
+    requires room { 4096 * all_pages layout.now ≤ D.size disk.old }
+    requires blocks { AllBelow layout.now list.now }
+    requires long { len ≤ 4096 * length list.now }
+    requires page { length page.old ≡ 4096 }
+    ensures size { D.size disk.new ≡ D.size disk.old }
+    ensures honest { D.honest disk.old ↔ D.honest disk.new }
+    ensures counts { Counts (IsErr result) (D.failures disk.old) (D.failures disk.new) }
+    ensures count { IfOk result (λ n. n ≡ len % 4096) }
+    ensures tail { D.honest disk.old → OnOk result (take (len % 4096) page.new ≡ drop (len - len % 4096) (text_on (D.seen disk.old) (25 + 2 * journal_pages layout.now) list.now len)) }
+    ensures keeps { D.honest disk.old → Keeps (D.seen disk.old) (D.seen disk.new) (D.loose disk.old) (D.loose disk.new) }
+    ensures lasts { D.honest disk.old → Lasts D.Disk disk.old disk.new (IsImage (D.seen disk.old) (D.loose disk.old)) }
+{
+    let tail = (len % PAGE as u64) as usize;
+    read_text(
+        disk,
+        layout,
+        list,
+        len,
+        len - tail as u64,
+        &mut page[..tail],
+    )?;
+    Ok(tail)
+}
+
+// Writes bytes to the front of the last listed block.
+fn write_front<D: Disk>(
+    disk: &mut D,
+    layout: &Layout,
+    list: &[BlockNo],
+    bytes: &[u8],
+) -> Result<(), DiskFault>
+    requires room { 4096 * all_pages layout.now ≤ D.size disk.old }
+    requires blocks { AllBelow layout.now list.now }
+    requires distinct { (i k : ℕ) → i < k → k < length list.now → get_or list.now i 0 ≢ get_or list.now k 0 }
+    requires some { 1 ≤ length list.now }
+    requires fits { length bytes.now ≤ 4096 }
+    ensures size { D.size disk.new ≡ D.size disk.old }
+    ensures honest { D.honest disk.old ↔ D.honest disk.new }
+    ensures counts { Counts (IsErr result) (D.failures disk.old) (D.failures disk.new) }
+    ensures text { D.honest disk.old → OnOk result (text_on (D.seen disk.new) (25 + 2 * journal_pages layout.now) list.now (4096 * (length list.now - 1) + length bytes.now) ≡ text_on (D.seen disk.old) (25 + 2 * journal_pages layout.now) list.now (4096 * (length list.now - 1)) ++ bytes.now) }
+    ensures writes { D.honest disk.old → WritesIn (25 + 2 * journal_pages layout.now) list.now (D.seen disk.old) (D.seen disk.new) (D.loose disk.old) (D.loose disk.new) }
+    ensures idle { D.honest disk.old → Idle (journal_pages layout.now) (D.seen disk.old) (D.loose disk.old) → Idle (journal_pages layout.now) (D.seen disk.new) (D.loose disk.new) }
+    ensures lasts { D.honest disk.old → Lasts D.Disk disk.old disk.new (IsImageBut (25 + 2 * journal_pages layout.now) list.now (D.seen disk.old) (D.loose disk.old)) }
+{
+    let last = list[list.len() - 1];
+    write_block(disk, layout, last, 0, bytes)
+}
+
+// Reserves a block, and puts it behind the others.
+fn take_block(list: &mut Vec<BlockNo>, blocks: &mut Blocks) -> Result<(), DraftError>
+    requires space { vec_len list.old < vec_capacity list.old }
+    requires few { length list.old.items ≤ 65536 }
+    requires reserved { IsReserved blocks.old list.old.items }
+    ensures few { length list.new.items ≤ 65536 }
+    ensures takes { Takes blocks.old blocks.new list.old.items list.new.items }
+    ensures reserved { IsReserved blocks.new list.new.items }
+    ensures one { OnOk result (length list.new.items ≡ length list.old.items + 1) }
+    ensures space { vec_capacity list.old ≤ vec_capacity list.new }
+    ensures only_full { IsErr result → IsErrOf result DraftError.Full }
+    ensures full { IsErr result → (b : ℕ) → IsFree blocks.new b → ⊥ }
+    ensures same { OnErr result (list.new.items ≡ list.old.items) }
+{
+    let Some(block) = blocks.take() else {
+        return Err(DraftError::Full);
+    };
+    list.push(block).unwrap();
+    Ok(())
+}
+
+// Puts as many bytes behind the first ones as there is room for.
+fn fill(page: &mut [u8], filled: usize, bytes: &[u8]) -> usize
+    requires { filled ≤ length page.old }
+    ensures count { result ≡ min (length bytes.now) (length page.old - filled) }
+    ensures filled { take (filled + result) page.new ≡ take filled page.old ++ take result bytes.now }
+{
+    let n = bytes.len().min(page.len() - filled);
+    page[filled..filled + n].copy_from_slice(&bytes[..n]);
+    n
+}

@@ -1,0 +1,67 @@
+// A piece of a text is read.
+ghost use Rattle.std.specs.Prelude.{◌≡◌, ◌≤◌, ◌*◌, ◌+◌, ◌↔◌, length, IsErr, IfOk};
+ghost use Rattle.spool_disk.specs.Disk.{Counts, IsImage, Keeps};
+ghost use Rattle.spool_disk.specs.Views.{Lasts};
+ghost use Rattle.spool_journal.specs.Image.{journal_pages, all_pages};
+ghost use Rattle.spool_texts.specs.Reading.{IsRead, IsPiece};
+ghost use Rattle.spool_texts.specs.TextOn.{text_on, AllBelow};
+
+use spool_blocks::BlockNo;
+use spool_disk::{Disk, DiskFault};
+use spool_journal::{Layout, PAGE};
+
+/// Reads bytes of the text of this length on the listed blocks from `at` on, as many as there are and fit. It reads each block
+/// concerned once, and takes no memory.
+pub fn read_text<D: Disk>(
+    disk: &mut D,
+    layout: &Layout,
+    list: &[BlockNo],
+    len: u64,
+    at: u64,
+    buf: &mut [u8],
+) -> Result<usize, DiskFault>
+    requires room { 4096 * all_pages layout.now ≤ D.size disk.old }
+    requires blocks { AllBelow layout.now list.now }
+    requires long { len ≤ 4096 * length list.now }
+    ensures size { D.size disk.new ≡ D.size disk.old }
+    ensures honest { D.honest disk.old ↔ D.honest disk.new }
+    ensures counts { Counts (IsErr result) (D.failures disk.old) (D.failures disk.new) }
+    ensures read { D.honest disk.old → IfOk result (λ n. IsRead (text_on (D.seen disk.old) (25 + 2 * journal_pages layout.now) list.now len) at n buf.old buf.new) }
+    ensures keeps { D.honest disk.old → Keeps (D.seen disk.old) (D.seen disk.new) (D.loose disk.old) (D.loose disk.new) }
+    ensures lasts { D.honest disk.old → Lasts D.Disk disk.old disk.new (IsImage (D.seen disk.old) (D.loose disk.old)) }
+{
+    let count = len.saturating_sub(at).min(buf.len() as u64) as usize;
+    let mut done = 0;
+    while done < count {
+        done += read_piece(disk, layout, list, at + done as u64, &mut buf[done..count])?;
+    }
+    Ok(count)
+}
+
+// Reads bytes from a place of the blocks on, as many as fit and lie on the same block.
+fn read_piece<D: Disk>(
+    disk: &mut D,
+    layout: &Layout,
+    list: &[BlockNo],
+    at: u64,
+    buf: &mut [u8],
+) -> Result<usize, DiskFault>
+    requires room { 4096 * all_pages layout.now ≤ D.size disk.old }
+    requires blocks { AllBelow layout.now list.now }
+    requires long { at + length buf.old ≤ 4096 * length list.now }
+    requires some { 1 ≤ length buf.old }
+    ensures size { D.size disk.new ≡ D.size disk.old }
+    ensures honest { D.honest disk.old ↔ D.honest disk.new }
+    ensures counts { Counts (IsErr result) (D.failures disk.old) (D.failures disk.new) }
+    ensures some { IfOk result (λ n. 1 ≤ n) }
+    ensures within { IfOk result (λ n. n ≤ length buf.old) }
+    ensures piece { D.honest disk.old → IfOk result (λ n. IsPiece (D.seen disk.old) (25 + 2 * journal_pages layout.now) list.now at n buf.old buf.new) }
+    ensures keeps { D.honest disk.old → Keeps (D.seen disk.old) (D.seen disk.new) (D.loose disk.old) (D.loose disk.new) }
+    ensures lasts { D.honest disk.old → Lasts D.Disk disk.old disk.new (IsImage (D.seen disk.old) (D.loose disk.old)) }
+{
+    let offset = at % PAGE as u64;
+    let page = layout.block_page(list[(at / PAGE as u64) as usize]);
+    let n = buf.len().min(PAGE - offset as usize);
+    disk.read(PAGE as u64 * page as u64 + offset, &mut buf[..n])?;
+    Ok(n)
+}
