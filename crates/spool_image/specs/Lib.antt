@@ -3,3 +3,4 @@ pub mod View
 pub mod Shows
 pub mod Fresh
 pub mod Format
+pub mod Fits

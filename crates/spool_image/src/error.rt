@@ -5,6 +5,10 @@ use spool_disk::DiskFault;
 use std::error::Error;
 use std::fmt;
 
+/// A spool's bytes are none that are ever written.
+#[derive(Clone, Copy, Debug, PartialEq, Eq, Drop)]
+pub(crate) struct Damaged;
+
 /// Why `format` makes no spool.
 #[derive(Clone, Copy, Debug, PartialEq, Eq)]
 pub enum FormatError {

@@ -6,6 +6,8 @@ mod fields;
 mod formatting;
 mod layout;
 mod pages;
+mod records;
+mod rows;
 #[cfg(test)]
 mod tests;
 

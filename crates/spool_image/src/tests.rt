@@ -1,3 +1,7 @@
+use crate::error::Damaged;
+use crate::pages::{blocks_said, first_page, state_page, version_and_next};
+use crate::records::{RECORD, SlotRecord};
+use crate::rows::{row_at, row_page};
 use crate::{FormatError, format, pages_of};
 use enc_index::{Index, IndexSet, Kind};
 use spool_disk::{Disk, DiskFault, FuseDisk, MemoryDisk};
@@ -95,5 +99,58 @@ fn fault_of_the_disk_leaves_no_spool(rt: HostRuntime) -> Result<(), Fail> {
     }
     let mut fuse = FuseDisk::new(small_disk(rt.alloc())?, 560);
     assert_eq!(rt; format(&mut fuse, 16, &indexes), Ok(()));
+    Ok(())
+}
+
+#[test]
+fn record_is_read_as_it_was_written(rt: HostRuntime) -> Result<(), Fail> {
+    let mut state = [0; 32];
+    state[4] = 2;
+    let record = SlotRecord {
+        number: 258,
+        declared: 4,
+        accepted: 3,
+        text_len: 1 << 40,
+        state,
+        metadata: b"note",
+    };
+    let bytes = record.to_bytes();
+    // the number, the state, the metadata's length and the metadata
+    for (at, want) in [
+        (6, 1),
+        (7, 2),
+        (36, 2),
+        (65, 4),
+        (66, b'n'),
+        (69, b'e'),
+        (70, 0),
+    ] {
+        assert_eq!(rt; bytes[at], want, "at {at}");
+    }
+    match SlotRecord::from_bytes(&bytes) {
+        Ok(Some(read)) => {
+            assert_eq!(rt; read.number, 258);
+            assert_eq!(rt; read.text_len, 1 << 40);
+            assert_eq!(rt; read.metadata, b"note".as_slice());
+        }
+        _ => panic!(rt; "no record"),
+    }
+    assert!(rt; matches!(SlotRecord::from_bytes(&[0; RECORD]), Ok(None)));
+    assert!(rt; matches!(SlotRecord::from_bytes(&[7; RECORD]), Err(Damaged)));
+    Ok(())
+}
+
+#[test]
+fn pages_are_read_as_they_were_written(rt: HostRuntime) -> Result<(), Fail> {
+    let page = row_page(&[None, Some((511, 65535))], 0);
+    assert_eq!(rt; &page[8..16], [0, 0, 2, 0, 0, 0, 255, 255].as_slice());
+    assert_eq!(rt; row_at(&page, 0), None);
+    assert_eq!(rt; row_at(&page, 8), Some((511, 65535)));
+    assert_eq!(rt; row_at(&page, 4088), None);
+    assert_eq!(rt; version_and_next(&state_page(7)), (1, 7));
+    let mut front = [0; 12];
+    front.copy_from_slice(&first_page(65536)[..12]);
+    assert_eq!(rt; blocks_said(&front), Some(65536));
+    assert_eq!(rt; blocks_said(&[0; 12]), None);
     Ok(())
 }
