@@ -5,3 +5,4 @@ pub mod Says
 pub mod NoUploads
 pub mod RecordBytes
 pub mod RowBytes
+pub mod Looks

@@ -1,5 +1,5 @@
 -- The bytes of a record.
-use Rattle.std.proofs.Common.{◌≡◌, ◌⊎◌, inl, inr, ℕ, zero, suc, ◌+◌, ◌-◌, ◌*◌, ◌<◌, ◌≤◌, ◌^◌, ◌++◌, List, [], ◌∷◌, length, get_or, take, drop, refl, sym, ◌∙◌, ap, subst, arith}
+use Rattle.std.proofs.Common.{◌≡◌, ◌⊎◌, inl, inr, ℕ, zero, suc, ◌+◌, ◌-◌, ◌*◌, ◌<◌, ◌≤◌, ◌^◌, ◌++◌, List, [], ◌∷◌, Option, Some, None, length, get_or, take, drop, refl, sym, ◌∙◌, ap, subst, arith}
 use Rattle.std.specs.Int.{to_be_bytes, w16, w64}
 use Rattle.std.specs.List.{slice_range}
 use Rattle.std.proofs.Common.{length-drop}
@@ -8,7 +8,8 @@ use Rattle.std.proofs.lemmas.List.{get_or-append-add, get_or-take, get_or-drop, 
 use Rattle.spool_journal.specs.Image.{byte_of}
 use Rattle.spool_image.specs.Bytes.{IsPadded}
 use Rattle.spool_image.proofs.Bytes.{padded_zeros}
-use Rattle.spool_image.specs.View.{SlotRecord, Stands, record_bytes}
+use Rattle.spool_image.specs.View.{SlotRecord, Stands, record_bytes, slot_bytes}
+use Rattle.spool_image.specs.Fits.{FitsSlotOf}
 
 pub pad : {page : List ℕ} (xs : List ℕ) {ys : List ℕ} (zs : List ℕ) → ys ≡ zs → IsPadded page (xs ++ ys) → IsPadded page (xs ++ zs)
 pad {page = page} xs zs e padded = subst (λ (bytes : List ℕ). IsPadded page (xs ++ bytes)) e padded
@@ -104,3 +105,9 @@ no_number bytes padded = record {
 
 pub record_eq : (r : SlotRecord) (n d a t : ℕ) (s m : List ℕ) → n ≡ r.number → d ≡ r.declared → a ≡ r.accepted → t ≡ r.text_len → s ≡ r.state → m ≡ r.metadata → record { number = n; declared = d; accepted = a; text_len = t; state = s; metadata = m } ≡ r
 record_eq r n d a t s m e1 e2 e3 e4 e5 e6 = rw (e1, e2, e3, e4, e5, e6)
+
+pub slot_few : (slot : Option SlotRecord) → FitsSlotOf slot → length (slot_bytes slot) ≤ 2048
+slot_few None fits = omega arith
+slot_few (Some r) fits =
+    let whole : length (record_bytes r) ≡ length (head_of r) + length r.metadata = ap length (sym (record_is r)) ∙ length-append (head_of r) r.metadata in
+    omega (arith, whole, length-head r fits.0.state, fits.0.metadata)

@@ -4,3 +4,4 @@ pub mod Shows
 pub mod Fresh
 pub mod Format
 pub mod Fits
+pub mod Reads

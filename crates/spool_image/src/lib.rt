@@ -6,11 +6,13 @@ mod fields;
 mod formatting;
 mod layout;
 mod pages;
+mod reading;
 mod records;
 mod rows;
+mod slots;
 #[cfg(test)]
 mod tests;
 
-pub use error::FormatError;
+pub use error::{FormatError, OpenFault};
 pub use formatting::format;
 pub use layout::pages_of;

@@ -1,12 +1,16 @@
 // The record of an upload as its slot keeps it.
-ghost use Rattle.std.specs.Prelude.{◌≡◌, ◌≤◌, ◌<◌, ◌^◌, [], ℕ, length, Ok, Some, None};
+ghost use Rattle.std.specs.Prelude.{◌≡◌, ◌≤◌, [], ℕ, All, length, Ok, Err, Some, None};
 ghost use Rattle.spool_image.specs.Bytes.{IsPadded};
 ghost use Rattle.spool_image.specs.Fits.{FitsSlot};
+ghost use Rattle.spool_image.specs.Reads.{LoadsAs};
 ghost use Rattle.spool_image.specs.View.{SlotRecord as Said, record_bytes};
 
+use crate::OpenFault;
 use crate::error::Damaged;
 use crate::fields::{get_u16, get_u64, put};
+use std::alloc::Global;
 use std::marker::Model;
+use std::str;
 
 /// How many bytes a slot has.
 pub(crate) const RECORD: usize = 2048;
@@ -14,7 +18,7 @@ pub(crate) const RECORD: usize = 2048;
 /// How many bytes of metadata a slot has room for.
 pub(crate) const METADATA: usize = 1536;
 
-/// The record of an upload as its slot keeps it.
+/// The record of an upload as its slot's bytes say it.
 #[derive(Drop)]
 pub(crate) struct SlotRecord<'a> {
     /// The upload's number, from 1 on.
@@ -77,5 +81,60 @@ impl<'a> SlotRecord<'a> {
             state,
             metadata: &bytes[66..metadata_end],
         }))
+    }
+}
+
+/// The record of an upload, kept in memory.
+#[derive(Drop)]
+pub(crate) struct KeptRecord {
+    /// The upload's number, from 1 on.
+    pub(crate) number: u64,
+    /// The declared length.
+    pub(crate) declared: u64,
+    /// How many bytes were accepted.
+    pub(crate) accepted: u64,
+    /// The length of the text.
+    pub(crate) text_len: u64,
+    /// The transcoder's state behind the accepted bytes.
+    pub(crate) state: [u8; 32],
+    /// The metadata as it was given.
+    pub(crate) metadata: String,
+}
+
+impl Model for KeptRecord {
+    ghost Value = { Said };
+
+    ghost view = { λ r. record { number = r.number; declared = r.declared; accepted = r.accepted; text_len = r.text_len; state = r.state; metadata = r.metadata.bytes.items } };
+}
+
+impl KeptRecord {
+    /// The record, with metadata of its own. `Damaged` where the metadata is no text.
+    pub(crate) fn of(alloc: Global, record: &SlotRecord<'_>) -> Result<KeptRecord, OpenFault>
+        ensures said { All (λ b. (0x20 ≤ b) × (b ≤ 0x7E)) record.now.metadata → LoadsAs result (λ kept. kept ≡ record.now) }
+        ensures no_device { result ≡ Err OpenFault.DiskFault → ⊥ }
+    {
+        let metadata = text_of(alloc, record.metadata)?;
+        Ok(KeptRecord {
+            number: record.number,
+            declared: record.declared,
+            accepted: record.accepted,
+            text_len: record.text_len,
+            state: record.state,
+            metadata,
+        })
+    }
+}
+
+// The bytes as text.
+fn text_of(alloc: Global, bytes: &[u8]) -> Result<String, OpenFault>
+    ensures said { All (λ b. (0x20 ≤ b) × (b ≤ 0x7E)) bytes.now → LoadsAs result (λ text. text.bytes.items ≡ bytes.now) }
+    ensures no_device { result ≡ Err OpenFault.DiskFault → ⊥ }
+{
+    match str::from_utf8(bytes) {
+        Ok(text) => {
+            let text = String::from_str(alloc, text)?;
+            Ok(text)
+        }
+        Err(_) => Err(OpenFault::Damaged),
     }
 }
