@@ -31,3 +31,7 @@ LoadsAs (Err Version) done = ⊥
 pub record IsFrontOf {A : Type 0} (whole front : List (Option A)) : Type 0 where
   pub few : length front ≤ length whole
   pub each : (k : ℕ) → k < length front → get_or front k None ≡ get_or whole k None
+
+-- two lists agree below a place
+pub record IsSameTo {A : Type 0} (end : ℕ) (whole list : List (Option A)) : Type 0 where
+  pub each : (k : ℕ) → k < end → get_or list k None ≡ get_or whole k None

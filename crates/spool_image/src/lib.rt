@@ -5,6 +5,7 @@ mod error;
 mod fields;
 mod formatting;
 mod layout;
+mod owners;
 mod pages;
 mod reading;
 mod records;

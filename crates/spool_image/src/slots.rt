@@ -1,20 +1,19 @@
-// The slots and the rows are read.
+// The slots are read.
 ghost use Rattle.std.specs.Prelude.{◌≡◌, ◌≤◌, ◌<◌, ◌*◌, ◌+◌, ◌-◌, ℕ, List, Option, None, length, get_or, IsErr, IfOk, OnOk, Ok, Err};
 ghost use Rattle.spool_disk.specs.Disk.{Counts};
-ghost use Rattle.spool_journal.specs.Image.{journal_pages, all_pages};
+ghost use Rattle.spool_journal.specs.Image.{all_pages};
 ghost use Rattle.spool_journal.specs.Phases.{Still};
 ghost use Rattle.spool_image.specs.Bytes.{IsPadded};
-ghost use Rattle.spool_image.specs.Fits.{FitsSlotOf, FitsRow};
+ghost use Rattle.spool_image.specs.Fits.{FitsSlotOf};
 ghost use Rattle.spool_image.specs.Reads.{OnlyReads, IsFrontOf, LoadsAs};
-ghost use Rattle.spool_image.specs.View.{SlotRecord as Said, Stands, slot_bytes, row_bytes, slot_place, row_place};
+ghost use Rattle.spool_image.specs.View.{SlotRecord as Said, Stands, slot_bytes, slot_place};
 
 use crate::OpenFault;
 use crate::reading::read_at;
 use crate::records::{KeptRecord, RECORD, SlotRecord};
-use crate::rows::{ROWS, row_at};
-use spool_blocks::{Row, SLOTS};
-use spool_disk::{Disk, DiskFault};
-use spool_journal::{Layout, PAGE};
+use spool_blocks::SLOTS;
+use spool_disk::Disk;
+use spool_journal::Layout;
 use std::alloc::Global;
 
 // The record in a slot's bytes, kept.
