@@ -6,3 +6,4 @@ pub mod NoUploads
 pub mod RecordBytes
 pub mod RowBytes
 pub mod Looks
+pub mod Sound

@@ -5,3 +5,5 @@ pub mod Fresh
 pub mod Format
 pub mod Fits
 pub mod Reads
+pub mod Faults
+pub mod Kept

@@ -2,6 +2,7 @@
 ghost use Rattle.std.specs.Prelude.{◌≡◌};
 
 use spool_disk::DiskFault;
+use spool_journal::RecoverError;
 use std::alloc::AllocError;
 use std::error::Error;
 use std::fmt;
@@ -76,6 +77,19 @@ impl From<AllocError> for OpenFault {
 
     fn from(_error: AllocError) -> OpenFault {
         OpenFault::NoMemory
+    }
+}
+
+impl From<RecoverError> for OpenFault {
+    ghost use Rattle.spool_image.specs.Faults.{fault_of};
+
+    ghost from_gives = { λ error fault. fault ≡ fault_of error };
+
+    fn from(error: RecoverError) -> OpenFault {
+        match error {
+            RecoverError::DiskFault => OpenFault::DiskFault,
+            RecoverError::Damaged => OpenFault::Damaged,
+        }
     }
 }
 

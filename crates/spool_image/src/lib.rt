@@ -1,9 +1,11 @@
 //! The uploads on a spool: its typed pages, and how a spool without uploads is made.
 #![tactic(auto)]
 
+mod checks;
 mod error;
 mod fields;
 mod formatting;
+mod kept;
 mod layout;
 mod owners;
 mod pages;
