@@ -7,3 +7,4 @@ pub mod RecordBytes
 pub mod RowBytes
 pub mod Looks
 pub mod Sound
+pub mod Opens

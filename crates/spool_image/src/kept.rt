@@ -84,6 +84,7 @@ pub(crate) fn load<D: Disk>(alloc: Global, disk: &mut D, layout: Layout) -> Resu
     requires { 4096 * all_pages layout ≤ D.size disk.old }
     ensures reads { OnlyReads D.Disk disk.old disk.new }
     ensures counts { Counts (result ≡ Err OpenFault.DiskFault) (D.failures disk.old) (D.failures disk.new) }
+    ensures layout { IfOk result (λ kept. kept.layout ≡ layout) }
     ensures said { D.honest disk.old → (bytes : ℕ → ℕ) → Still bytes (D.seen disk.old) (D.loose disk.old)
         → (v : View) → IsSound v → v.blocks ≡ layout → Says bytes v → LoadsAs result (λ kept. KeepsView kept v) }
 {

@@ -7,6 +7,7 @@ mod fields;
 mod formatting;
 mod kept;
 mod layout;
+mod opening;
 mod owners;
 mod pages;
 mod reading;
