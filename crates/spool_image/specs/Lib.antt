@@ -7,3 +7,4 @@ pub mod Fits
 pub mod Reads
 pub mod Faults
 pub mod Kept
+pub mod Spool

@@ -14,9 +14,11 @@ mod reading;
 mod records;
 mod rows;
 mod slots;
+mod spool;
 #[cfg(test)]
 mod tests;
 
 pub use error::{FormatError, OpenFault};
 pub use formatting::format;
 pub use layout::pages_of;
+pub use spool::Spool;
