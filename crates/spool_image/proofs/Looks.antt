@@ -1,15 +1,14 @@
 -- Calls that only read.
-use Rattle.std.proofs.Common.{◌≡◌, ◌⊎◌, inl, inr, ℕ, ◌-◌, ◌≢◌, set, take, ◌++◌, below_more, Option, None, Result, Ok, Err, ◌+◌, ◌*◌, ◌<◌, ◌≤◌, List, length, get_or, refl, sym, ◌∙◌, ap, subst, arith}
+use Rattle.std.proofs.Common.{◌≡◌, inl, inr, ℕ, ◌-◌, ◌≢◌, set, take, ◌++◌, below_more, Option, None, Result, Ok, Err, ◌+◌, ◌*◌, ◌<◌, ◌≤◌, List, length, get_or, refl, sym, ◌∙◌, ap, subst, arith}
 use Rattle.std.proofs.Math.ListN.{get_or-eq_default}
 use Rattle.std.proofs.lemmas.Bool.{cases_lt}
 use Rattle.std.proofs.Math.Seq.{take-append_seam}
-use Rattle.spool_disk.specs.Disk.{span, Keeps, Elapses}
-use Rattle.spool_disk.specs.Views.{Lasts}
+use Rattle.spool_disk.specs.Disk.{span}
 use Rattle.spool_disk.specs.declared.disk.Disk.{Ghosts}
-use Rattle.spool_disk.proofs.Firm.{lasts_call, lasts_on}
+use Rattle.spool_disk.proofs.Firm.{lasts_on}
 use Rattle.spool_journal.specs.Image.{byte_of, journal_pages}
 use Rattle.spool_journal.specs.Phases.{Still}
-use Rattle.spool_journal.proofs.Recovers.{get_span, still_keeps, still_image}
+use Rattle.spool_journal.proofs.Recovers.{get_span}
 use Rattle.spool_image.specs.Bytes.{IsPadded}
 use Rattle.spool_image.specs.View.{Stands, state_page}
 use Rattle.spool_image.specs.Reads.{OnlyReads, IsReadAt, LoadsAs, IsFrontOf, IsSameTo}

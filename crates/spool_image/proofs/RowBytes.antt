@@ -1,7 +1,6 @@
 -- The bytes of a row.
-use Rattle.std.proofs.Common.{◌≡◌, ◌⊎◌, inl, inr, ℕ, ◌+◌, ◌-◌, ◌*◌, ◌<◌, ◌≤◌, ◌++◌, List, [], ◌∷◌, Option, Some, None, length, get_or, replicate, refl, sym, ◌∙◌, ap, subst, arith}
+use Rattle.std.proofs.Common.{◌≡◌, ℕ, ◌+◌, ◌<◌, ◌≤◌, ◌++◌, List, Option, Some, None, length, get_or, replicate, refl, sym, ◌∙◌, arith}
 use Rattle.std.specs.Int.{to_be_bytes, w32}
-use Rattle.std.proofs.lemmas.Bool.{cases_lt}
 use Rattle.spool_disk.specs.Disk.{In}
 use Rattle.spool_journal.specs.Image.{byte_of}
 use Rattle.spool_image.specs.Bytes.{IsPadded}

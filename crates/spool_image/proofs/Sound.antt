@@ -1,9 +1,9 @@
 -- What a sound view says of a slot and of a row.
-use Rattle.std.proofs.Common.{◌≡◌, ◌⊎◌, inl, inr, ℕ, ◌+◌, ◌-◌, ◌*◌, ◌^◌, ◌/◌, ◌<◌, ◌≤◌, refl, subst, List, Option, None, Some, length, get_or, ltb, true, sym, ◌∙◌, ap, arith}
+use Rattle.std.proofs.Common.{◌≡◌, inl, inr, ℕ, ◌+◌, ◌-◌, ◌*◌, ◌^◌, ◌<◌, ◌≤◌, refl, subst, List, Option, None, Some, length, get_or, ltb, true, sym, ◌∙◌, ap, arith}
 use Rattle.std.proofs.lemmas.Bool.Decides.{nat_tests}
 use Rattle.upload_rules.specs.Room.{blocks_of}
 use Rattle.spool_image.specs.View.{View, SlotRecord, Says, Stands, slot_at, slot_bytes, row_bytes, state_page, index_place, state_place, slot_place, row_place}
-use Rattle.spool_image.specs.Fits.{FitsSlot, FitsSlotOf, FitsRow}
+use Rattle.spool_image.specs.Fits.{FitsSlotOf, FitsRow}
 use Rattle.enc_index.specs.Area.{area_byte}
 use Rattle.spool_journal.specs.Image.{journal_pages}
 use Rattle.std.proofs.Math.ListN.{get_or-eq_default}

@@ -1,5 +1,5 @@
 -- What an opened spool stands for.
-use Rattle.std.specs.Prelude.{◌≡◌, ℕ, Result, Ok, Err}
+use Rattle.std.specs.Prelude.{◌≡◌, Result, Ok, Err}
 use Rattle.spool_disk.specs.declared.disk.Disk.{Ghosts}
 use Rattle.spool_image.specs.declared.error.OpenFault.{OpenFault}
 use Rattle.spool_image.specs.declared.error.OpenFault.TheVariants.{DiskFault}

@@ -219,13 +219,19 @@ fn each_call_of_opening_may_fail(rt: HostRuntime) -> Result<(), Fail> {
     for passed in [0, 1, 2, 3, 4, 25, 26, 537, 538] {
         let fuse = FuseDisk::new(disk, passed);
         match Spool::open(rt.alloc(), fuse) {
-            Ok(_) => panic!(rt; "opened"),
+            Ok(spool) => {
+                disk = spool.into_disk().into_inner();
+                panic!(rt; "opened after {passed}");
+            }
             Err((fuse, fault)) => {
                 assert_eq!(rt; fault, OpenFault::DiskFault, "{passed}");
                 disk = fuse.into_inner();
             }
         }
     }
-    assert!(rt; Spool::open(rt.alloc(), FuseDisk::new(disk, 539)).is_ok());
+    match Spool::open(rt.alloc(), FuseDisk::new(disk, 539)) {
+        Ok(spool) => drop(spool.into_disk()),
+        Err((_, fault)) => panic!(rt; "{fault}"),
+    }
     Ok(())
 }

@@ -1,8 +1,6 @@
-use Rattle.std.proofs.Common.{◌≡◌, ◌∙◌, ◌<◌, ℕ, List, Option, Some, None, get_or, sym, ap, rules, tests, arith}
-use Rattle.std.proofs.lemmas.Bool.Decides.{nat_tests}
+use Rattle.std.proofs.Common.{◌≡◌, ◌∙◌, Some, None, get_or, sym, ap, rules, arith}
 use Rattle.upload_rules.specs.Room.{blocks_of}
-use Rattle.spool_image.specs.View.{View, SlotRecord}
-use Rattle.spool_image.specs.Shows.{IsSound}
+use Rattle.spool_image.specs.View.{SlotRecord}
 use Rattle.spool_image.proofs.Sound.{row_below, row_used, is_less}
 use Rattle.spool_image.proofs.checks.is_row_sound.Goals as goal
 

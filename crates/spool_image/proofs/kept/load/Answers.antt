@@ -1,8 +1,6 @@
-use Rattle.std.proofs.Common.{◌≡◌, ◌∙◌, ◌<◌, ℕ, List, Option, None, get_or, rules, sym, ap, arith}
+use Rattle.std.proofs.Common.{◌≡◌, ◌∙◌, rules, sym}
 use Rattle.std.proofs.lemmas.Bool.{false≢true}
-use Rattle.spool_blocks.specs.Blocks.{Held}
 use Rattle.spool_image.specs.Kept.{KeepsView}
-use Rattle.spool_image.specs.View.{View, SlotRecord}
 use Rattle.spool_image.specs.declared.kept.Kept.{Kept}
 use Rattle.spool_image.proofs.Looks.{reads_on, loads_err}
 use Rattle.spool_image.proofs.Sound.{said_slot, slots_fit}

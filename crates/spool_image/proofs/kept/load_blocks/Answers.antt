@@ -1,7 +1,6 @@
-use Rattle.std.proofs.Common.{◌≡◌, ◌∙◌, ℕ, List, Option, None, length, get_or, replicate, false, rules, sym, ap, arith}
+use Rattle.std.proofs.Common.{◌≡◌, ◌∙◌, ℕ, List, Option, length, replicate, false, rules, sym, ap}
 use Rattle.std.proofs.lemmas.Bool.{false≢true}
 use Rattle.spool_blocks.specs.Blocks.{Held}
-use Rattle.spool_image.specs.View.{View}
 use Rattle.spool_image.proofs.Looks.{loads_err}
 use Rattle.spool_image.proofs.Sound.{said_row, rows_fit}
 use Rattle.spool_image.proofs.kept.load_blocks.Goals as goal

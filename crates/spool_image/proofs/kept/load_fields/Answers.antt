@@ -1,6 +1,5 @@
-use Rattle.std.proofs.Common.{◌≡◌, ℕ, rules, arith}
+use Rattle.std.proofs.Common.{◌≡◌, ℕ, rules}
 use Rattle.enc_model.specs.Indexes.{IndexSet}
-use Rattle.spool_image.specs.View.{View}
 use Rattle.spool_image.proofs.Looks.{loads_err}
 use Rattle.spool_image.proofs.Sound.{said_area}
 use Rattle.spool_image.proofs.kept.load_fields.Goals as goal

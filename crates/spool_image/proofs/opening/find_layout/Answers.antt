@@ -1,4 +1,4 @@
-use Rattle.std.proofs.Common.{◌≡◌, ◌∙◌, ◌⊎◌, ℕ, Option, Some, None, IsNone, refl, ap, arith, ⊎_elim}
+use Rattle.std.proofs.Common.{◌≡◌, ◌∙◌, ℕ, Option, Some, None, IsNone, refl, ap, arith, ⊎_elim}
 use Rattle.spool_journal.specs.Image.{all_pages}
 use Rattle.spool_image.proofs.Fresh.{some_pages}
 use Rattle.spool_image.proofs.opening.find_layout.Goals as goal

@@ -1,12 +1,9 @@
-use Rattle.std.proofs.Common.{◌≡◌, ◌∙◌, ◌⊎◌, inl, inr, ℕ, Result, Ok, Err, refl, sym, ap, subst, rules, arith, ⊎_elim}
-use Rattle.spool_disk.specs.Disk.{IsImage}
-use Rattle.spool_disk.specs.Views.{Lasts}
+use Rattle.std.proofs.Common.{◌≡◌, inl, inr, ℕ, sym, subst, rules, ⊎_elim}
 use Rattle.spool_disk.proofs.Firm.{lasts_on, lasts_more}
 use Rattle.spool_journal.specs.Image.{journal_pages, overlaid}
-use Rattle.spool_journal.specs.Phases.{Settled, ReadsAs}
+use Rattle.spool_journal.specs.Phases.{ReadsAs}
 use Rattle.spool_image.specs.Kept.{KeepsView}
-use Rattle.spool_image.specs.Reads.{LoadsAs}
-use Rattle.spool_image.specs.View.{View, IsViewOf}
+use Rattle.spool_image.specs.View.{IsViewOf}
 use Rattle.spool_image.specs.declared.kept.Kept.{Kept}
 use Rattle.spool_image.proofs.Looks.{loads_err}
 use Rattle.spool_image.proofs.Opens.{same_function, first_plain, keeps_image}

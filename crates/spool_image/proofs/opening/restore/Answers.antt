@@ -1,4 +1,4 @@
-use Rattle.std.proofs.Common.{◌≡◌, ◌∙◌, ◌⊎◌, inl, inr, ℕ, Result, Ok, Err, IfOk, refl, sym, subst, rules, arith}
+use Rattle.std.proofs.Common.{◌≡◌, ◌∙◌, inr, ℕ, Result, Err, refl, sym, subst, rules}
 use Rattle.spool_disk.proofs.Firm.{lasts_on, lasts_more}
 use Rattle.spool_journal.specs.Image.{journal_pages, overlaid, InForm, count, number}
 use Rattle.spool_journal.specs.Phases.{Settled}
@@ -7,7 +7,6 @@ use Rattle.spool_journal.specs.declared.error.RecoverError.TheVariants as recove
 use Rattle.spool_image.specs.Faults.{fault_of}
 use Rattle.spool_image.specs.Kept.{KeepsView}
 use Rattle.spool_image.specs.Reads.{LoadsAs}
-use Rattle.spool_image.specs.View.{View, Says}
 use Rattle.spool_image.specs.declared.kept.Kept.{Kept}
 use Rattle.spool_image.proofs.Opens.{settled_still, settled_says, settled_reads, settled_on, if_ok}
 use Rattle.spool_image.proofs.opening.restore.Goals as goal

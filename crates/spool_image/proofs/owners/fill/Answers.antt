@@ -1,4 +1,4 @@
-use Rattle.std.proofs.Common.{◌≡◌, ◌<◌, ◌≤◌, ◌+◌, ◌*◌, ℕ, List, Option, None, length, get_or, rules, sym, ◌∙◌, subst, arith}
+use Rattle.std.proofs.Common.{◌≡◌, ◌+◌, ℕ, List, Option, None, get_or, rules, sym, subst, arith}
 use Rattle.spool_image.specs.Reads.{IsSameTo}
 use Rattle.spool_image.proofs.Looks.{same_set, same_past}
 use Rattle.spool_image.proofs.owners.fill.Goals as goal

@@ -1,4 +1,4 @@
-use Rattle.std.proofs.Common.{◌≡◌, ◌+◌, ◌-◌, ◌*◌, ◌<◌, ℕ, List, Option, None, length, get_or, rules, subst, arith}
+use Rattle.std.proofs.Common.{◌≡◌, ◌+◌, ◌*◌, ℕ, length, rules, subst, arith}
 use Rattle.spool_image.specs.Reads.{IsSameTo}
 use Rattle.spool_image.specs.View.{row_place}
 use Rattle.spool_image.proofs.Says.{all_is}

@@ -1,4 +1,4 @@
-use Rattle.std.proofs.Common.{◌≡◌, ◌∙◌, ℕ, length, rules, sym, arith}
+use Rattle.std.proofs.Common.{◌≡◌, ◌∙◌, length, rules, arith}
 use Rattle.spool_image.proofs.Looks.{same_all, rows_cover, take_new}
 use Rattle.spool_image.proofs.owners.load_rows.Goals as goal
 

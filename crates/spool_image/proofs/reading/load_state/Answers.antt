@@ -1,4 +1,4 @@
-use Rattle.std.proofs.Common.{◌≡◌, rules, ◌*◌, ◌∙◌, sym, arith}
+use Rattle.std.proofs.Common.{◌≡◌, rules, ◌*◌, arith}
 use Rattle.spool_image.specs.View.{state_place, state_page}
 use Rattle.spool_image.proofs.Says.{all_is, some_journal}
 use Rattle.spool_image.proofs.Looks.{read_padded, length-state}

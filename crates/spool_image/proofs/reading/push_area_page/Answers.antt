@@ -1,4 +1,4 @@
-use Rattle.std.proofs.Common.{◌*◌, arith}
+use Rattle.std.proofs.Common.{arith}
 use Rattle.spool_image.proofs.Says.{all_is, some_journal}
 use Rattle.spool_image.proofs.reading.push_area_page.Goals as goal
 

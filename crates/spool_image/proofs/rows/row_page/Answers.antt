@@ -1,8 +1,7 @@
-use Rattle.std.proofs.Common.{◌≡◌, ◌<◌, ◌+◌, ◌*◌, ℕ, List, Option, None, get_or, rules, subst, sym, arith}
+use Rattle.std.proofs.Common.{◌+◌, ◌*◌, ℕ, Option, None, get_or, rules, subst, arith}
 use Rattle.std.proofs.Common.{below_more}
-use Rattle.spool_journal.specs.Image.{byte_of}
 use Rattle.spool_image.specs.Bytes.{IsPadded}
-use Rattle.spool_image.specs.View.{Stands, row_bytes}
+use Rattle.spool_image.specs.View.{row_bytes}
 use Rattle.spool_image.proofs.RowBytes.{row_there, row_else}
 use Rattle.spool_image.proofs.rows.row_page.Goals as goal
 

@@ -1,4 +1,4 @@
-use Rattle.std.proofs.Common.{◌≡◌, ◌<◌, ◌+◌, ◌*◌, ℕ, None, length, get_or}
+use Rattle.std.proofs.Common.{◌<◌, ◌+◌, ◌*◌, ℕ, None, get_or}
 use Rattle.spool_journal.specs.Image.{byte_of}
 use Rattle.spool_image.specs.View.{Stands, row_bytes}
 use Rattle.spool_image.proofs.rows.row_page.Given as goal

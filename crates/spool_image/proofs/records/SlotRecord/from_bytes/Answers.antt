@@ -1,9 +1,8 @@
-use Rattle.std.proofs.Common.{rules, ◌≡◌, ◌+◌, ◌≤◌, [], ℕ, length, Ok, Some, None, List, refl, sym, ◌∙◌, ap, subst, arith}
-use Rattle.std.specs.Int.{to_be_bytes, w16, w64}
+use Rattle.std.proofs.Common.{rules, ◌≡◌, ◌+◌, ℕ, length, Ok, Some, List, ◌∙◌, ap, arith}
 use Rattle.spool_journal.specs.Image.{byte_of}
 use Rattle.spool_image.specs.Bytes.{IsPadded}
 use Rattle.spool_image.specs.Fits.{FitsSlot}
-use Rattle.spool_image.specs.View.{SlotRecord, Stands, record_bytes}
+use Rattle.spool_image.specs.View.{SlotRecord, record_bytes}
 use Rattle.spool_image.proofs.RecordBytes.{PartsAt, parts_of, padded_stands, range_is, no_number, record_eq}
 use Rattle.spool_image.proofs.records.SlotRecord.from_bytes.Goals as goal
 

@@ -1,5 +1,5 @@
 use Rattle.std.proofs.Common.{rules, ◌≡◌, [], ℕ, length, List, ◌++◌, refl, subst}
-use Rattle.std.specs.Int.{to_be_bytes, w16, w64}
+use Rattle.std.specs.Int.{to_be_bytes, w64}
 use Rattle.spool_image.specs.Bytes.{IsPadded}
 use Rattle.spool_image.specs.View.{SlotRecord, record_bytes}
 use Rattle.spool_image.proofs.Bytes.{padded_zeros}
