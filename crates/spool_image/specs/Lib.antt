@@ -3,3 +3,8 @@ pub mod View
 pub mod Shows
 pub mod Fresh
 pub mod Format
+pub mod Fits
+pub mod Reads
+pub mod Faults
+pub mod Kept
+pub mod Spool

@@ -1,0 +1,71 @@
+-- Steps of opening a spool.
+use Rattle.std.proofs.Common.{◌≡◌, inl, inr, ℕ, ◌+◌, ◌<◌, List, get_or, Result, Ok, Err, IfOk, refl, sym, ◌∙◌, subst, arith}
+use Rattle.std.proofs.lemmas.Bool.{cases_eq}
+use Rattle.spool_disk.specs.Disk.{IsImage, Keeps}
+use Rattle.spool_journal.specs.Image.{journal_pages, overlaid, count, number, content}
+use Rattle.spool_journal.specs.Phases.{Settled, ReadsAs, Still}
+use Rattle.spool_journal.proofs.Over.{over_none}
+use Rattle.spool_journal.proofs.Gate.{open_view, shut_view}
+use Rattle.enc_model.specs.Transcode.{Transcoder}
+use Rattle.upload_rules.specs.Store.{Store}
+use Rattle.spool_image.specs.View.{View, Says, IsViewOf, first_page}
+use Rattle.spool_image.specs.Shows.{Shows, ImageShows}
+use Rattle.spool_image.proofs.Says.{says_same}
+
+pub same_function : (f g : ℕ → ℕ) → ((p : ℕ) → f p ≡ g p) → f ≡ g
+same_function f g same = λ i p. same p i
+
+-- page 0 is never one of the journal's places
+front_plain : (image : ℕ → ℕ) (v : View) → IsViewOf image v → (p : ℕ) → p < 4096 → image p ≡ overlaid image p
+front_plain image v is p lt = elim (cases_eq (image 4096) 165) [
+  | inl ajar ↦
+      let form = is.form ajar in
+      sym (open_view image p ajar ∙ over_none (number image) (content image) image (count image) p (λ k below e. omega (arith, (form.inside k below).from, e, lt)))
+  | inr shut ↦ sym (shut_view image p shut)
+]
+
+pub first_plain : (image : ℕ → ℕ) (v : View) → IsViewOf image v → (i : ℕ) → i < 4096 → image i ≡ get_or (first_page v.blocks) i 0
+first_plain image v is i lt =
+    let at : 0 + i ≡ i = omega arith in
+    let there : overlaid image i ≡ get_or (first_page v.blocks) i 0 = subst (λ (p : ℕ). overlaid image p ≡ get_or (first_page v.blocks) i 0) at (is.says.first.each i lt) in
+    front_plain image v is i lt ∙ there
+
+-- behind a recovery
+pub settled_still : {j : ℕ} {bytes seen : ℕ → ℕ} {loose : ℕ → Type 0} → Settled j bytes seen loose → Still seen seen loose
+settled_still settled = record { reads = λ p. refl; firm = settled.firm }
+
+pub settled_says : {bytes seen : ℕ → ℕ} {loose : ℕ → Type 0} (v : View) → Settled (journal_pages v.blocks) bytes seen loose → Says bytes v → Says seen v
+settled_says {bytes = bytes} {seen = seen} v settled says = says_same seen bytes v settled.same says
+
+pub settled_reads : {j : ℕ} {bytes seen : ℕ → ℕ} {loose : ℕ → Type 0} (image : ℕ → ℕ) → Settled j bytes seen loose → ((p : ℕ) → image p ≡ seen p) → ReadsAs j image bytes
+settled_reads image settled same =
+    let shut : image 4096 ≡ 165 → ⊥ = λ ajar. settled.closed (sym (same 4096) ∙ ajar) in
+    record {
+      form = λ ajar. absurd (shut ajar);
+      same = λ p outside. shut_view image p shut ∙ same p ∙ settled.same p outside;
+    }
+
+pub settled_on : {j : ℕ} {bytes seen seen' : ℕ → ℕ} {loose loose' : ℕ → Type 0} → Settled j bytes seen loose → Still seen seen' loose' → Settled j bytes seen' loose'
+settled_on settled still = record {
+  firm = still.firm;
+  closed = λ ajar. settled.closed (sym (still.reads 4096) ∙ ajar);
+  same = λ p outside. still.reads p ∙ settled.same p outside;
+}
+
+-- what reads the same shows the same
+pub reads_shows : (image was : ℕ → ℕ) (v : View) → IsViewOf was v → ReadsAs (journal_pages v.blocks) image (overlaid was) → IsViewOf image v
+reads_shows image was v is reads = record {
+  form = reads.form;
+  says = says_same (overlaid image) (overlaid was) v reads.same is.says;
+}
+
+pub image_shows : (state_bytes : Transcoder → List ℕ) (m : Store) (image was : ℕ → ℕ) (v : View) → IsViewOf was v → Shows state_bytes v m → ReadsAs (journal_pages v.blocks) image (overlaid was) → ImageShows state_bytes image m
+image_shows state_bytes m image was v is shows reads = record { view = v; is = reads_shows image was v is reads; shows = shows }
+
+pub if_ok : {T E X : Type 0} (r : Result T E) → X → IfOk r (λ t. X)
+if_ok (Ok t) x = x
+if_ok (Err e) x = tt
+
+-- a read before it changes nothing of this
+pub keeps_image : {seen seen' image : ℕ → ℕ} {loose loose' : ℕ → Type 0} → Keeps seen seen' loose loose' → IsImage seen' loose' image → IsImage seen loose image
+keeps_image keeps is = record { same = λ p firm. is.same p (λ l. firm (keeps.loosens p l)) ∙ keeps.same p }

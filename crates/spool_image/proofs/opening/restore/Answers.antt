@@ -1,0 +1,47 @@
+use Rattle.std.proofs.Common.{◌≡◌, ◌∙◌, inr, ℕ, Result, Err, refl, sym, subst, rules}
+use Rattle.spool_disk.proofs.Firm.{lasts_on, lasts_more}
+use Rattle.spool_journal.specs.Image.{journal_pages, overlaid, InForm, count, number}
+use Rattle.spool_journal.specs.Phases.{Settled}
+use Rattle.spool_journal.specs.declared.error.RecoverError.{RecoverError}
+use Rattle.spool_journal.specs.declared.error.RecoverError.TheVariants as recover
+use Rattle.spool_image.specs.Faults.{fault_of}
+use Rattle.spool_image.specs.Kept.{KeepsView}
+use Rattle.spool_image.specs.Reads.{LoadsAs}
+use Rattle.spool_image.specs.declared.kept.Kept.{Kept}
+use Rattle.spool_image.proofs.Opens.{settled_still, settled_says, settled_reads, settled_on, if_ok}
+use Rattle.spool_image.proofs.opening.restore.Goals as goal
+
+recover_handed : {T : Type 0} (P : T → Type 0) (e : RecoverError) → (e ≡ recover.Damaged → ⊥) → LoadsAs {T = T} (Err (fault_of e)) P
+recover_handed P recover.DiskFault not = tt
+recover_handed P recover.Damaged not = absurd (not refl)
+
+err_of : (e d : RecoverError) → e ≡ d → ◌≡◌ {A = Result (Unit {0}) RecoverError} (Err e) (Err d)
+err_of e d same = cc
+
+pub returns-in_err-recover-clause-said : goal.returns-in_err-recover-clause-said
+returns-in_err-recover-clause-said g c honest v sound blocks is =
+    let J : ℕ → Type 0 = λ n. g.D.Disk.seen c.args.disk.now 4096 ≡ 165 → InForm (journal_pages n) (count (g.D.Disk.seen c.args.disk.now)) (number (g.D.Disk.seen c.args.disk.now)) in
+    let form = subst J blocks is.form in
+    let sound_head : c.in_err-recover.field-0.0 ≡ recover.Damaged → ⊥ = λ e. (let bad = c.recover.ensures.damaged honest (c.in_err-recover.was ∙ err_of _ _ e) in bad.1 (form bad.0)) in
+    let handed = recover_handed (λ (kept : Kept). KeepsView kept v) c.in_err-recover.field-0.0 sound_head in
+    search rules
+
+pub returns-clause-said : goal.returns-clause-said
+returns-clause-said g c honest v sound blocks is =
+    let settled = c.in_ok-recover.ensures.settled honest in
+    let mid = c.recover.ensures.honest.0 honest in
+    let J : ℕ → Type 0 = λ n. Settled (journal_pages n) (overlaid (g.D.Disk.seen c.args.disk.now)) (g.D.Disk.seen c.recover.new.disk) (g.D.Disk.loose c.recover.new.disk) in
+    let settled_v = subst J (sym blocks) settled in
+    c.load.ensures.said mid _ (settled_still settled) v sound blocks (settled_says v settled_v is.says)
+
+pub returns-clause-settled : goal.returns-clause-settled
+returns-clause-settled g c honest =
+    let settled = c.in_ok-recover.ensures.settled honest in
+    let mid = c.recover.ensures.honest.0 honest in
+    if_ok c.load.result (settled_on settled (c.load.ensures.reads.still mid _ (settled_still settled)))
+
+pub returns-clause-lasts : goal.returns-clause-lasts
+returns-clause-lasts g c honest =
+    let settled = c.in_ok-recover.ensures.settled honest in
+    let mid = c.recover.ensures.honest.0 honest in
+    lasts_on (c.recover.ensures.lasts honest) (lasts_more (c.load.ensures.reads.lasts mid _ (settled_still settled)) (λ image same. inr (settled_reads image settled same)))

@@ -1,0 +1,12 @@
+use Rattle.std.proofs.Common.{◌≡◌, ◌<◌, ◌+◌, ◌*◌, ℕ, List, Option, None, length, get_or}
+use Rattle.spool_journal.specs.Image.{byte_of}
+use Rattle.spool_image.specs.Fits.{FitsRow}
+use Rattle.spool_image.specs.Reads.{IsSameTo}
+use Rattle.spool_image.specs.View.{Stands, row_bytes}
+use Rattle.spool_image.proofs.owners.fill.Given as goal
+
+abbrev pub invariant-loop-k : goal.invariant-loop-k
+invariant-loop-k l =
+    (all : List (Option (ℕ × ℕ))) → length all ≡ length l.fn.rows → ((b : ℕ) → FitsRow (get_or all b None)) →
+    ((k : ℕ) → k < 512 → Stands (byte_of l.page) (8 * k) 8 (row_bytes (get_or all (l.first + k) None))) →
+    IsSameTo l.first all l.fn.rows → IsSameTo (l.first + l.k) all l.rows

@@ -1,0 +1,96 @@
+// A spool is found on a disk, made whole and read.
+ghost use Rattle.std.specs.Prelude.{◌≡◌, ◌⊎◌, ◌≤◌, ◌<◌, ◌*◌, ◌↔◌, ℕ, Ok, Err, IsErr, IfOk, get_or};
+ghost use Rattle.spool_disk.specs.Disk.{IsImage, Counts, Keeps};
+ghost use Rattle.spool_disk.specs.Views.{Lasts};
+ghost use Rattle.spool_journal.specs.Image.{journal_pages, all_pages, overlaid};
+ghost use Rattle.spool_journal.specs.Phases.{Settled, ReadsAs};
+ghost use Rattle.spool_image.specs.Kept.{KeepsView};
+ghost use Rattle.spool_image.specs.Reads.{LoadsAs};
+ghost use Rattle.spool_image.specs.Shows.{IsSound};
+ghost use Rattle.spool_image.specs.View.{View, IsViewOf, first_page};
+
+use crate::OpenFault;
+use crate::kept::{Kept, load};
+use crate::pages::blocks_said;
+use spool_disk::{Disk, DiskFault};
+use spool_journal::{Layout, recover};
+use std::alloc::Global;
+
+// Reads the first twelve bytes.
+fn read_front<D: Disk>(disk: &mut D) -> Result<[u8; 12], DiskFault>
+    requires { 12 ≤ D.size disk.old }
+    ensures size { D.size disk.new ≡ D.size disk.old }
+    ensures honest { D.honest disk.old ↔ D.honest disk.new }
+    ensures counts { Counts (IsErr result) (D.failures disk.old) (D.failures disk.new) }
+    ensures keeps { D.honest disk.old → Keeps (D.seen disk.old) (D.seen disk.new) (D.loose disk.old) (D.loose disk.new) }
+    ensures lasts { D.honest disk.old → Lasts D.Disk disk.old disk.new (IsImage (D.seen disk.old) (D.loose disk.old)) }
+    ensures bytes { D.honest disk.old → IfOk result (λ front. (i : ℕ) → i < 12 → get_or front i 0 ≡ D.seen disk.old i) }
+{
+    let mut front = [0; 12];
+    disk.read(0, &mut front)?;
+    Ok(front)
+}
+
+// The layout that page 0 says.
+fn find_layout<D: Disk>(disk: &mut D) -> Result<Layout, OpenFault>
+    ensures size { D.size disk.new ≡ D.size disk.old }
+    ensures honest { D.honest disk.old ↔ D.honest disk.new }
+    ensures counts { Counts (result ≡ Err OpenFault.DiskFault) (D.failures disk.old) (D.failures disk.new) }
+    ensures keeps { D.honest disk.old → Keeps (D.seen disk.old) (D.seen disk.new) (D.loose disk.old) (D.loose disk.new) }
+    ensures lasts { D.honest disk.old → Lasts D.Disk disk.old disk.new (IsImage (D.seen disk.old) (D.loose disk.old)) }
+    ensures room { IfOk result (λ layout. 4096 * all_pages layout ≤ D.size disk.old) }
+    ensures said { D.honest disk.old → (blocks : ℕ) → 16 ≤ blocks → blocks ≤ 65536 → 4096 * all_pages blocks ≤ D.size disk.old
+        → ((i : ℕ) → i < 4096 → D.seen disk.old i ≡ get_or (first_page blocks) i 0) → LoadsAs result (λ layout. layout ≡ blocks) }
+{
+    if disk.len() < 12 {
+        return Err(OpenFault::NotASpool);
+    }
+    let front = read_front(disk)?;
+    let Some(blocks) = blocks_said(&front) else {
+        return Err(OpenFault::NotASpool);
+    };
+    let Some(layout) = Layout::of(blocks) else {
+        return Err(OpenFault::NotASpool);
+    };
+    if disk.len() < 4096 * layout.pages() as u64 {
+        return Err(OpenFault::NotASpool);
+    }
+    Ok(layout)
+}
+
+// Makes a spool whole and reads it.
+fn restore<D: Disk>(alloc: Global, disk: &mut D, layout: Layout) -> Result<Kept, OpenFault>
+    requires { 4096 * all_pages layout ≤ D.size disk.old }
+    ensures size { D.size disk.new ≡ D.size disk.old }
+    ensures honest { D.honest disk.old ↔ D.honest disk.new }
+    ensures counts { Counts (result ≡ Err OpenFault.DiskFault) (D.failures disk.old) (D.failures disk.new) }
+    ensures layout { IfOk result (λ kept. kept.layout ≡ layout) }
+    ensures said { D.honest disk.old → (v : View) → IsSound v → v.blocks ≡ layout → IsViewOf (D.seen disk.old) v → LoadsAs result (λ kept. KeepsView kept v) }
+    ensures settled { D.honest disk.old → IfOk result (λ kept. Settled (journal_pages layout) (overlaid (D.seen disk.old)) (D.seen disk.new) (D.loose disk.new)) }
+    ensures lasts { D.honest disk.old → Lasts D.Disk disk.old disk.new (λ image. IsImage (D.seen disk.old) (D.loose disk.old) image ⊎ ReadsAs (journal_pages layout) image (overlaid (D.seen disk.old))) }
+{
+    recover(disk, &layout)?;
+    load(alloc, disk, layout)
+}
+
+/// Finds a spool, makes it whole and reads it.
+pub(crate) fn prepare<D: Disk>(alloc: Global, disk: &mut D) -> Result<Kept, OpenFault>
+    ensures size { D.size disk.new ≡ D.size disk.old }
+    ensures honest { D.honest disk.old ↔ D.honest disk.new }
+    ensures counts { Counts (result ≡ Err OpenFault.DiskFault) (D.failures disk.old) (D.failures disk.new) }
+    ensures room { IfOk result (λ kept. 4096 * all_pages kept.layout ≤ D.size disk.old) }
+
+    // What a read shows is kept, or memory or the device refuses it.
+    ensures said { D.honest disk.old → (v : View) → IsSound v → IsViewOf (D.seen disk.old) v → 4096 * all_pages v.blocks ≤ D.size disk.old
+        → LoadsAs result (λ kept. KeepsView kept v) }
+
+    // And it stands on the disk, all of it synced, behind a closed gate.
+    ensures settled { D.honest disk.old → IfOk result (λ kept. Settled (journal_pages kept.layout) (overlaid (D.seen disk.old)) (D.seen disk.new) (D.loose disk.new)) }
+
+    // A crash during it leaves what it might have left before, or what reads the same.
+    ensures lasts { D.honest disk.old → (v : View) → IsSound v → IsViewOf (D.seen disk.old) v → 4096 * all_pages v.blocks ≤ D.size disk.old
+        → Lasts D.Disk disk.old disk.new (λ image. IsImage (D.seen disk.old) (D.loose disk.old) image ⊎ ReadsAs (journal_pages v.blocks) image (overlaid (D.seen disk.old))) }
+{
+    let layout = find_layout(disk)?;
+    restore(alloc, disk, layout)
+}
