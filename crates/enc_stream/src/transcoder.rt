@@ -108,6 +108,27 @@ impl Transcoder {
         }
     }
 
+    /// The encoding that its bytes are in, by their label.
+    pub fn from(&self) -> Encoding
+        ensures { result ≡ self.now.transcoder.from }
+    {
+        self.from
+    }
+
+    /// The encoding that it writes.
+    pub fn to(&self) -> Encoding
+        ensures { result ≡ self.now.transcoder.to }
+    {
+        self.encoder.to()
+    }
+
+    /// What it does with a character that the written encoding lacks.
+    pub fn mode(&self) -> Mode
+        ensures { result ≡ self.now.transcoder.mode }
+    {
+        self.encoder.mode()
+    }
+
     /// Whether a refusal, `NoMemory` or `Unencodable`, spent it. Behind the end it is not spent.
     pub fn is_spent(&self) -> bool
         ensures { result ≡ self.now.spent }

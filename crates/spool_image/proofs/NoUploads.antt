@@ -4,7 +4,6 @@ use Rattle.std.proofs.Math.ListN.{get_or-eq_default, length-replicate}
 use Rattle.std.proofs.lemmas.List.{get_or-replicate}
 use Rattle.std.proofs.lemmas.Bool.{cases_lt}
 use Rattle.enc_model.specs.Indexes.{IndexSet}
-use Rattle.enc_model.specs.Transcode.{Transcoder}
 use Rattle.enc_index.specs.Area.{area_byte}
 use Rattle.enc_index.specs.Sets.{IsIndexSet}
 use Rattle.spool_journal.specs.Image.{journal_pages, all_pages, byte_of, overlaid}
@@ -89,9 +88,9 @@ module _ (n : ℕ) (x : IndexSet) (image : ℕ → ℕ) (fresh : IsFresh n x ima
       let zero_there : image 4096 ≡ 0 = fresh.behind.each 4096 (omega arith) (omega (arith, all_is n)) ∙ fresh_front n x 4096 (omega arith) in
       omega (arith, zero_there, ajar)
 
-  pub fresh_shows : 16 ≤ n → n ≤ 65536 → IsIndexSet x → (state_bytes : Transcoder → List ℕ) → ImageShows state_bytes image (no_uploads x)
+  pub fresh_shows : 16 ≤ n → n ≤ 65536 → IsIndexSet x → ImageShows image (no_uploads x)
   unfolding fresh_view
-  fresh_shows least most valid state_bytes = record {
+  fresh_shows least most valid = record {
     view = fresh_view n x;
     is = record {
       form = λ ajar. absurd (gate_shut ajar);

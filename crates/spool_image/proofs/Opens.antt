@@ -6,7 +6,6 @@ use Rattle.spool_journal.specs.Image.{journal_pages, overlaid, count, number, co
 use Rattle.spool_journal.specs.Phases.{Settled, ReadsAs, Still}
 use Rattle.spool_journal.proofs.Over.{over_none}
 use Rattle.spool_journal.proofs.Gate.{open_view, shut_view}
-use Rattle.enc_model.specs.Transcode.{Transcoder}
 use Rattle.upload_rules.specs.Store.{Store}
 use Rattle.spool_image.specs.View.{View, Says, IsViewOf, first_page}
 use Rattle.spool_image.specs.Shows.{Shows, ImageShows}
@@ -59,8 +58,8 @@ reads_shows image was v is reads = record {
   says = says_same (overlaid image) (overlaid was) v reads.same is.says;
 }
 
-pub image_shows : (state_bytes : Transcoder → List ℕ) (m : Store) (image was : ℕ → ℕ) (v : View) → IsViewOf was v → Shows state_bytes v m → ReadsAs (journal_pages v.blocks) image (overlaid was) → ImageShows state_bytes image m
-image_shows state_bytes m image was v is shows reads = record { view = v; is = reads_shows image was v is reads; shows = shows }
+pub image_shows : (m : Store) (image was : ℕ → ℕ) (v : View) → IsViewOf was v → Shows v m → ReadsAs (journal_pages v.blocks) image (overlaid was) → ImageShows image m
+image_shows m image was v is shows reads = record { view = v; is = reads_shows image was v is reads; shows = shows }
 
 pub if_ok : {T E X : Type 0} (r : Result T E) → X → IfOk r (λ t. X)
 if_ok (Ok t) x = x

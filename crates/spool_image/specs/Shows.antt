@@ -1,14 +1,12 @@
 -- A view shows uploads: all that is kept of them stands there, and all checks hold.
--- The 32 bytes of a transcoder's state are the variable `state_bytes` throughout, for what enc_stream says of packing one.
 use Rattle.std.specs.Prelude.{◌≡◌, ℕ, ◌^◌, ◌<◌, ◌≤◌, All, true, false, List, [], Some, None, length, map}
-use Rattle.enc_model.specs.Indexes.{IndexSet, tables}
-use Rattle.enc_model.specs.Encode.{InAscii}
-use Rattle.enc_model.specs.Transcode.{Transcoder, Over, IsAt}
+use Rattle.enc_model.specs.Indexes.{IndexSet}
 use Rattle.enc_index.specs.Sets.{IsIndexSet}
 use Rattle.spool_blocks.specs.Blocks.{Row}
 use Rattle.spool_blocks.specs.Chains.{Owns}
 use Rattle.upload_rules.specs.Store.{Upload, Store, find, is_complete, text_with, text_of}
 use Rattle.upload_rules.specs.Room.{blocks_of}
+use Rattle.upload_rules.specs.States.{state_of}
 use Rattle.upload_rules.specs.Slots.{IsRising}
 use Rattle.spool_image.specs.View.{SlotRecord, View, slot_at, IsViewOf}
 
@@ -52,35 +50,21 @@ pub record IsSound (v : View) : Type 0 where
 
 -- THE UPLOADS
 
--- the transcoder is where decoding and encoding end over the accepted bytes, the end among them where the upload is complete
-pub record EndsAt (x : IndexSet) (u : Upload) (t : Transcoder) : Type 0 where
-  pub from : t.from ≡ u.from
-  pub to : t.to ≡ u.to
-  pub mode : t.mode ≡ u.mode
-  pub unfinished : is_complete u ≡ false → IsAt (tables x) t u.accepted
-  pub finished : is_complete u ≡ true → (t.phase ≡ Over) × (t.shift ≡ InAscii)
-
--- these bytes are its state's
-pub record IsStateOf (state_bytes : Transcoder → List ℕ) (x : IndexSet) (u : Upload) (bytes : List ℕ) : Type 0 where
-  pub transcoder : Transcoder
-  pub ends : EndsAt x u transcoder
-  pub packed : bytes ≡ state_bytes transcoder
-
 -- a record and a text tell of an upload
-pub record IsRecordOf (state_bytes : Transcoder → List ℕ) (x : IndexSet) (r : SlotRecord) (shown : List ℕ) (u : Upload) : Type 0 where
+pub record IsRecordOf (x : IndexSet) (r : SlotRecord) (shown : List ℕ) (u : Upload) : Type 0 where
   pub declared : r.declared ≡ u.declared
   pub accepted : r.accepted ≡ length u.accepted
   pub metadata : r.metadata ≡ u.metadata
   pub text_len : r.text_len ≡ length (text_of x u)
   pub text : shown ≡ text_of x u
   pub encodable : (text_with x u [] (is_complete u)).fault ≡ None
-  pub state : IsStateOf state_bytes x u r.state
+  pub state : r.state ≡ state_of x u
 
 -- the upload that a record tells of
-pub record IsTold (state_bytes : Transcoder → List ℕ) (m : Store) (r : SlotRecord) (shown : List ℕ) : Type 0 where
+pub record IsTold (m : Store) (r : SlotRecord) (shown : List ℕ) : Type 0 where
   pub upload : Upload
   pub there : find r.number m.uploads ≡ Some upload
-  pub tells : IsRecordOf state_bytes m.indexes r shown upload
+  pub tells : IsRecordOf m.indexes r shown upload
 
 -- the slot that tells of a number
 pub record HasSlot (v : View) (n : ℕ) : Type 0 where
@@ -89,16 +73,16 @@ pub record HasSlot (v : View) (n : ℕ) : Type 0 where
   pub there : slot_at v slot ≡ Some used
   pub number : used.number ≡ n
 
-pub record Shows (state_bytes : Transcoder → List ℕ) (v : View) (m : Store) : Type 0 where
+pub record Shows (v : View) (m : Store) : Type 0 where
   pub sound : IsSound v
   pub next : v.next ≡ m.next
   pub indexes : v.indexes ≡ m.indexes
   pub rising : IsRising (map (λ e. e.0) m.uploads)
-  pub told : (s : ℕ) (r : SlotRecord) → slot_at v s ≡ Some r → IsTold state_bytes m r (v.texts s)
+  pub told : (s : ℕ) (r : SlotRecord) → slot_at v s ≡ Some r → IsTold m r (v.texts s)
   pub all : (n : ℕ) (u : Upload) → find n m.uploads ≡ Some u → HasSlot v n
 
 -- the image, read plainly, shows the uploads
-pub record ImageShows (state_bytes : Transcoder → List ℕ) (image : ℕ → ℕ) (m : Store) : Type 0 where
+pub record ImageShows (image : ℕ → ℕ) (m : Store) : Type 0 where
   pub view : View
   pub is : IsViewOf image view
-  pub shows : Shows state_bytes view m
+  pub shows : Shows view m

@@ -1,6 +1,5 @@
 // A spool without uploads is made.
 ghost use Rattle.std.specs.Prelude.{◌≡◌, ◌≤◌, ◌<◌, ◌*◌, ◌+◌, ◌↔◌, ℕ, List, true, false, IsErr, IsOk, IfOk, OnOk, Err, get_or};
-ghost use Rattle.enc_model.specs.Transcode.{Transcoder};
 ghost use Rattle.enc_model.specs.Indexes.{IndexSet as Indexes};
 ghost use Rattle.enc_index.specs.Sets.{IsIndexSet};
 ghost use Rattle.spool_disk.specs.Disk.{IsImage, Counts, Keeps};
@@ -106,7 +105,7 @@ pub fn format<D: Disk>(disk: &mut D, blocks: u32, indexes: &IndexSet) -> Result<
     ensures lasts { D.honest disk.old → IsRefusal result → Lasts D.Disk disk.old disk.new (IsImage (D.seen disk.old) (D.loose disk.old)) }
 
     // Else every image shows no uploads, and these indexes.
-    ensures shows { D.honest disk.old → OnOk result ((state_bytes : Transcoder → List ℕ) (image : ℕ → ℕ) → IsImage (D.seen disk.new) (D.loose disk.new) image → ImageShows state_bytes image (no_uploads indexes.now)) }
+    ensures shows { D.honest disk.old → OnOk result ((image : ℕ → ℕ) → IsImage (D.seen disk.new) (D.loose disk.new) image → ImageShows image (no_uploads indexes.now)) }
     ensures firm { D.honest disk.old → OnOk result ((p : ℕ) → D.loose disk.new p → ⊥) }
 {
     if is_spool(disk)? {
@@ -129,7 +128,7 @@ fn make<D: Disk>(disk: &mut D, layout: &Layout, indexes: &IndexSet) -> Result<()
     ensures honest { D.honest disk.old ↔ D.honest disk.new }
     ensures counts { Counts (IsErr result) (D.failures disk.old) (D.failures disk.new) }
     ensures firm { D.honest disk.old → OnOk result ((p : ℕ) → D.loose disk.new p → ⊥) }
-    ensures shows { D.honest disk.old → OnOk result ((state_bytes : Transcoder → List ℕ) (image : ℕ → ℕ) → IsImage (D.seen disk.new) (D.loose disk.new) image → ImageShows state_bytes image (no_uploads indexes.now)) }
+    ensures shows { D.honest disk.old → OnOk result ((image : ℕ → ℕ) → IsImage (D.seen disk.new) (D.loose disk.new) image → ImageShows image (no_uploads indexes.now)) }
 {
     write_pages(disk, layout, indexes)?;
     write_first(disk, layout)

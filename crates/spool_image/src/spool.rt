@@ -1,6 +1,5 @@
 // The uploads on a disk.
 ghost use Rattle.std.specs.Prelude.{◌≡◌, ◌⊎◌, ◌≤◌, ◌*◌, ◌↔◌, ℕ, List, IfOk};
-ghost use Rattle.enc_model.specs.Transcode.{Transcoder};
 ghost use Rattle.spool_disk.specs.Disk.{IsImage, Counts};
 ghost use Rattle.spool_disk.specs.Views.{Lasts};
 ghost use Rattle.spool_journal.specs.Image.{all_pages};
@@ -40,12 +39,12 @@ impl<D: Disk> Spool<D> {
         ensures opened { D.honest disk → (v : View) → IsSound v → IsViewOf (D.seen disk) v → 4096 * all_pages v.blocks ≤ D.size disk → OpensAs result (λ s. Keeps s v) }
 
         // A crash during it leaves what it might have left before, or what shows the same uploads.
-        ensures lasts { D.honest disk → (state_bytes : Transcoder → List ℕ) (m : Store) (v : View) → IsViewOf (D.seen disk) v → Shows state_bytes v m → 4096 * all_pages v.blocks ≤ D.size disk
-            → Lasts D.Disk disk (disk_after result) (λ image. IsImage (D.seen disk) (D.loose disk) image ⊎ ImageShows state_bytes image m) }
+        ensures lasts { D.honest disk → (m : Store) (v : View) → IsViewOf (D.seen disk) v → Shows v m → 4096 * all_pages v.blocks ≤ D.size disk
+            → Lasts D.Disk disk (disk_after result) (λ image. IsImage (D.seen disk) (D.loose disk) image ⊎ ImageShows image m) }
 
         // And once it is opened, every image shows them.
-        ensures shows { D.honest disk → (state_bytes : Transcoder → List ℕ) (m : Store) (v : View) → IsViewOf (D.seen disk) v → Shows state_bytes v m → 4096 * all_pages v.blocks ≤ D.size disk
-            → IfOk result (λ s. (image : ℕ → ℕ) → IsImage (D.seen (disk_of s)) (D.loose (disk_of s)) image → ImageShows state_bytes image m) }
+        ensures shows { D.honest disk → (m : Store) (v : View) → IsViewOf (D.seen disk) v → Shows v m → 4096 * all_pages v.blocks ≤ D.size disk
+            → IfOk result (λ s. (image : ℕ → ℕ) → IsImage (D.seen (disk_of s)) (D.loose (disk_of s)) image → ImageShows image m) }
     {
         let mut disk = disk;
         match prepare(alloc, &mut disk) {

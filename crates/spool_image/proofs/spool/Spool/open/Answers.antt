@@ -6,23 +6,23 @@ use Rattle.spool_image.proofs.Opens.{image_shows, settled_reads}
 use Rattle.spool_image.proofs.spool.Spool.open.Goals as goal
 
 pub returns-in-Ok-clause-lasts : goal.returns-in-Ok-clause-lasts
-returns-in-Ok-clause-lasts g c honest state_bytes m v is shows room =
+returns-in-Ok-clause-lasts g c honest m v is shows room =
     lasts_more (c.in-Ok.ensures.lasts honest v shows.sound is room) (λ image one. ⊎_elim
     (λ here. inl here)
-    (λ reads. inr (image_shows state_bytes m image (g.D.Disk.seen c.args.disk) v is shows reads))
+    (λ reads. inr (image_shows m image (g.D.Disk.seen c.args.disk) v is shows reads))
     one)
 
 pub returns-in-Err-clause-lasts : goal.returns-in-Err-clause-lasts
-returns-in-Err-clause-lasts g c honest state_bytes m v is shows room =
+returns-in-Err-clause-lasts g c honest m v is shows room =
     lasts_more (c.in-Err.ensures.lasts honest v shows.sound is room) (λ image one. ⊎_elim
     (λ here. inl here)
-    (λ reads. inr (image_shows state_bytes m image (g.D.Disk.seen c.args.disk) v is shows reads))
+    (λ reads. inr (image_shows m image (g.D.Disk.seen c.args.disk) v is shows reads))
     one)
 
 pub returns-in-Ok-clause-shows : goal.returns-in-Ok-clause-shows
-returns-in-Ok-clause-shows g c honest state_bytes m v is shows room image here =
+returns-in-Ok-clause-shows g c honest m v is shows room image here =
     let was = g.D.Disk.seen c.args.disk in
     let settled = c.in-Ok.ensures.settled honest in
     let kept = c.in-Ok.ensures.said honest v shows.sound is room in
     let reads = settled_reads image settled (λ p. here.same p (settled.firm p)) in
-    image_shows state_bytes m image was v is shows (subst (λ (n : ℕ). ReadsAs (journal_pages n) image (overlaid was)) kept.blocks reads)
+    image_shows m image was v is shows (subst (λ (n : ℕ). ReadsAs (journal_pages n) image (overlaid was)) kept.blocks reads)
