@@ -29,8 +29,10 @@ impl<D: Disk> Spool<D> {
     /// # Errors
     ///
     /// The disk comes back with each. `NotASpool` where page 0 says none or the disk is shorter than its layout, then as
-    /// `recover`, then `Version` where the state page says another version than 1, then `Damaged` by the checks; `NoMemory`
-    /// where a growth was refused, and `DiskFault` where the device failed.
+    /// `recover`, then `Version` where the state page says another version than 1, then `Damaged` where the index area is no
+    /// set's, a number comes twice or isn't below the next one, a length is out of its range, metadata is no text, or a row's
+    /// slot is free or its ordinal behind the text; `NoMemory` where a growth was refused, and `DiskFault` where the device
+    /// failed.
     pub fn open(alloc: Global, disk: D) -> Result<Spool<D>, (D, OpenFault)>
         ensures size { D.size (disk_after result) ≡ D.size disk }
         ensures honest { D.honest disk ↔ D.honest (disk_after result) }
