@@ -3,7 +3,8 @@ ghost use Rattle.std.specs.Prelude.{◌≡◌, ◌⊎◌, ◌≤◌, ◌*◌, �
 ghost use Rattle.enc_model.specs.Transcode.{Transcoder};
 ghost use Rattle.spool_disk.specs.Disk.{IsImage, Counts};
 ghost use Rattle.spool_disk.specs.Views.{Lasts};
-ghost use Rattle.spool_journal.specs.Image.{all_pages};
+ghost use Rattle.spool_journal.specs.Image.{journal_pages, all_pages};
+ghost use Rattle.spool_journal.specs.Phases.{Idle};
 ghost use Rattle.upload_rules.specs.Store.{Store};
 ghost use Rattle.spool_image.specs.Shows.{IsSound, Shows, ImageShows};
 ghost use Rattle.spool_image.specs.View.{View, IsViewOf};
@@ -22,7 +23,7 @@ pub struct Spool<D: Disk> {
 }
 
 impl<D: Disk> Spool<D> {
-    ghost use Rattle.spool_image.specs.Spool.{disk_of, disk_after, Keeps, IsFault, OpensAs};
+    ghost use Rattle.spool_image.specs.Spool.{disk_of, size_of, disk_after, Keeps, IsFault, OpensAs};
 
     /// Opens what a crash may have left. It may crash too, and be called again.
     ///
@@ -40,6 +41,9 @@ impl<D: Disk> Spool<D> {
 
         // A disk of which a read shows uploads is opened, and what a read shows is kept, or memory or the device refuses it.
         ensures opened { D.honest disk → (v : View) → IsSound v → IsViewOf (D.seen disk) v → 4096 * all_pages v.blocks ≤ D.size disk → OpensAs result (λ s. Keeps s v) }
+
+        // And so a commit may be made.
+        ensures idle { D.honest disk → IfOk result (λ s. Idle (journal_pages (size_of s)) (D.seen (disk_of s)) (D.loose (disk_of s))) }
 
         // A crash during it leaves what it might have left before, or what shows the same uploads.
         ensures lasts { D.honest disk → (state_bytes : Transcoder → List ℕ) (m : Store) (v : View) → IsViewOf (D.seen disk) v → Shows state_bytes v m → 4096 * all_pages v.blocks ≤ D.size disk
