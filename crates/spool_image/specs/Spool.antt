@@ -1,5 +1,5 @@
 -- What an opened spool stands for.
-use Rattle.std.specs.Prelude.{◌≡◌, Result, Ok, Err}
+use Rattle.std.specs.Prelude.{◌≡◌, ℕ, Result, Ok, Err}
 use Rattle.spool_disk.specs.declared.disk.Disk.{Ghosts}
 use Rattle.spool_image.specs.declared.error.OpenFault.{OpenFault}
 use Rattle.spool_image.specs.declared.error.OpenFault.TheVariants.{DiskFault}
@@ -10,6 +10,10 @@ use Rattle.spool_image.specs.Reads.{LoadsAs}
 
 abbrev pub disk_of : {D : Type 0} {disk : Ghosts D} → Spool D disk → D
 disk_of s = s.disk
+
+-- the number of its text blocks
+abbrev pub size_of : {D : Type 0} {disk : Ghosts D} → Spool D disk → ℕ
+size_of s = s.kept.layout
 
 -- it keeps in memory what the view says, with no block reserved
 abbrev pub Keeps : {D : Type 0} {disk : Ghosts D} → Spool D disk → View → Type 0

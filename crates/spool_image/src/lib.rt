@@ -1,4 +1,4 @@
-//! The uploads on a spool: its typed pages, and how a spool without uploads is made.
+//! The uploads on a spool: its typed pages, how a spool without uploads is made, and how one is opened.
 #![tactic(auto)]
 
 mod checks;

@@ -2,7 +2,8 @@
 ghost use Rattle.std.specs.Prelude.{◌≡◌, ◌⊎◌, ◌≤◌, ◌*◌, ◌↔◌, ℕ, List, IfOk};
 ghost use Rattle.spool_disk.specs.Disk.{IsImage, Counts};
 ghost use Rattle.spool_disk.specs.Views.{Lasts};
-ghost use Rattle.spool_journal.specs.Image.{all_pages};
+ghost use Rattle.spool_journal.specs.Image.{journal_pages, all_pages};
+ghost use Rattle.spool_journal.specs.Phases.{Idle};
 ghost use Rattle.upload_rules.specs.Store.{Store};
 ghost use Rattle.spool_image.specs.Shows.{IsSound, Shows, ImageShows};
 ghost use Rattle.spool_image.specs.View.{View, IsViewOf};
@@ -21,15 +22,17 @@ pub struct Spool<D: Disk> {
 }
 
 impl<D: Disk> Spool<D> {
-    ghost use Rattle.spool_image.specs.Spool.{disk_of, disk_after, Keeps, IsFault, OpensAs};
+    ghost use Rattle.spool_image.specs.Spool.{disk_of, size_of, disk_after, Keeps, IsFault, OpensAs};
 
     /// Opens what a crash may have left. It may crash too, and be called again.
     ///
     /// # Errors
     ///
     /// The disk comes back with each. `NotASpool` where page 0 says none or the disk is shorter than its layout, then as
-    /// `recover`, then `Version` where the state page says another version than 1, then `Damaged` by the checks; `NoMemory`
-    /// where a growth was refused, and `DiskFault` where the device failed.
+    /// `recover`, then `Version` where the state page says another version than 1, then `Damaged` where the index area is no
+    /// set's, a number comes twice or isn't below the next one, a length is out of its range, metadata is no text, or a row's
+    /// slot is free or its ordinal behind the text; `NoMemory` where a growth was refused, and `DiskFault` where the device
+    /// failed.
     pub fn open(alloc: Global, disk: D) -> Result<Spool<D>, (D, OpenFault)>
         ensures size { D.size (disk_after result) ≡ D.size disk }
         ensures honest { D.honest disk ↔ D.honest (disk_after result) }
@@ -37,6 +40,9 @@ impl<D: Disk> Spool<D> {
 
         // A disk of which a read shows uploads is opened, and what a read shows is kept, or memory or the device refuses it.
         ensures opened { D.honest disk → (v : View) → IsSound v → IsViewOf (D.seen disk) v → 4096 * all_pages v.blocks ≤ D.size disk → OpensAs result (λ s. Keeps s v) }
+
+        // And so a commit may be made.
+        ensures idle { D.honest disk → IfOk result (λ s. Idle (journal_pages (size_of s)) (D.seen (disk_of s)) (D.loose (disk_of s))) }
 
         // A crash during it leaves what it might have left before, or what shows the same uploads.
         ensures lasts { D.honest disk → (m : Store) (v : View) → IsViewOf (D.seen disk) v → Shows v m → 4096 * all_pages v.blocks ≤ D.size disk

@@ -2,6 +2,7 @@ use Rattle.std.proofs.Common.{inl, inr, ℕ, subst, ⊎_elim}
 use Rattle.spool_disk.proofs.Firm.{lasts_more}
 use Rattle.spool_journal.specs.Image.{journal_pages, overlaid}
 use Rattle.spool_journal.specs.Phases.{ReadsAs}
+use Rattle.spool_journal.proofs.Gate.{settled_idle}
 use Rattle.spool_image.proofs.Opens.{image_shows, settled_reads}
 use Rattle.spool_image.proofs.spool.Spool.open.Goals as goal
 
@@ -26,3 +27,6 @@ returns-in-Ok-clause-shows g c honest m v is shows room image here =
     let kept = c.in-Ok.ensures.said honest v shows.sound is room in
     let reads = settled_reads image settled (λ p. here.same p (settled.firm p)) in
     image_shows m image was v is shows (subst (λ (n : ℕ). ReadsAs (journal_pages n) image (overlaid was)) kept.blocks reads)
+
+pub returns-in-Ok-clause-idle : goal.returns-in-Ok-clause-idle
+returns-in-Ok-clause-idle g c honest = settled_idle (c.in-Ok.ensures.settled honest)
