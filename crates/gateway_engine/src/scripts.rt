@@ -1,5 +1,5 @@
 //! A script over a store of uploads.
-ghost use Rattle.std.specs.Prelude.{◌≡◌, ◌++◌, ℕ, List, Option, Some, IfSome, IfOk, IfErr, OnOk, ◌⊎◌};
+ghost use Rattle.std.specs.Prelude.{◌≡◌, ℕ, List, Option, IfOk, IfErr, ◌⊎◌};
 ghost use Rattle.upload_rules.specs.Store.{Store};
 ghost use Rattle.upload_rules.specs.World.{at_rest};
 ghost use Rattle.upload_rules.specs.Answers.{Counts};
