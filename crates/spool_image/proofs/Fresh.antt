@@ -8,7 +8,7 @@ use Rattle.enc_index.specs.Area.{area_byte}
 use Rattle.spool_disk.specs.Disk.{IsImage, Writes, Syncs}
 use Rattle.spool_journal.specs.Image.{byte_of, journal_pages, all_pages}
 use Rattle.spool_journal.proofs.Steps.{span_at}
-use Rattle.spool_image.specs.View.{index_place, state_place, first_page, state_page}
+use Rattle.spool_pages.specs.View.{index_place, state_place, first_page, state_page}
 use Rattle.spool_image.specs.Fresh.{fresh_byte, IsFreshTo, IsFresh}
 
 yes : (a b : ℕ) → a < b → ltb a b ≡ true

@@ -9,8 +9,8 @@ use Rattle.spool_disk.proofs.Firm.{lasts_on}
 use Rattle.spool_journal.specs.Image.{byte_of, journal_pages}
 use Rattle.spool_journal.specs.Phases.{Still}
 use Rattle.spool_journal.proofs.Recovers.{get_span}
-use Rattle.spool_image.specs.Bytes.{IsPadded}
-use Rattle.spool_image.specs.View.{Stands, state_page}
+use Rattle.spool_pages.specs.Bytes.{IsPadded}
+use Rattle.spool_pages.specs.View.{Stands, state_page}
 use Rattle.spool_image.specs.Reads.{OnlyReads, IsReadAt, LoadsAs, IsFrontOf, IsSameTo}
 use Rattle.spool_image.specs.declared.error.OpenFault.{OpenFault}
 use Rattle.spool_image.specs.declared.error.OpenFault.TheVariants.{NotASpool, DiskFault, Damaged, Version, NoMemory}

@@ -1,5 +1,5 @@
 -- A fresh spool shows no uploads.
-use Rattle.std.proofs.Common.{◌≡◌, inl, inr, ℕ, ◌+◌, ◌-◌, ◌*◌, ◌<◌, ◌≤◌, List, [], Option, None, Some, get_or, replicate, refl, sym, ◌∙◌, ap, subst, arith}
+use Rattle.std.proofs.Common.{◌≡◌, inl, inr, ℕ, ◌+◌, ◌-◌, ◌*◌, ◌<◌, ◌≤◌, [], Option, None, Some, get_or, replicate, refl, sym, ◌∙◌, ap, subst, arith}
 use Rattle.std.proofs.Math.ListN.{get_or-eq_default, length-replicate}
 use Rattle.std.proofs.lemmas.List.{get_or-replicate}
 use Rattle.std.proofs.lemmas.Bool.{cases_lt}
@@ -9,11 +9,11 @@ use Rattle.enc_index.specs.Sets.{IsIndexSet}
 use Rattle.spool_journal.specs.Image.{journal_pages, all_pages, byte_of, overlaid}
 use Rattle.spool_journal.proofs.Gate.{shut_view}
 use Rattle.upload_rules.specs.Store.{no_uploads}
-use Rattle.spool_image.specs.View.{SlotRecord, View, Says, Stands, slot_bytes, row_bytes, index_place, state_place, slot_place, row_place, state_page, first_page}
+use Rattle.spool_pages.specs.View.{SlotRecord, View, Says, Stands, slot_bytes, row_bytes, index_place, state_place, slot_place, row_place, state_page, first_page}
 use Rattle.spool_image.specs.Shows.{IsSound, ImageShows}
 use Rattle.spool_image.specs.Fresh.{IsFresh}
 use Rattle.spool_image.proofs.Fresh.{fresh_front, fresh_area, fresh_state, fresh_zeros}
-use Rattle.spool_image.proofs.Says.{some_journal, all_is, says_same}
+use Rattle.spool_pages.proofs.Says.{some_journal, all_is, says_same}
 
 abbrev nothing : (A : Type 0) → Option A
 nothing A = None

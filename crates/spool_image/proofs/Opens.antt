@@ -1,5 +1,5 @@
 -- Steps of opening a spool.
-use Rattle.std.proofs.Common.{◌≡◌, inl, inr, ℕ, ◌+◌, ◌<◌, List, get_or, Result, Ok, Err, IfOk, refl, sym, ◌∙◌, subst, arith}
+use Rattle.std.proofs.Common.{◌≡◌, inl, inr, ℕ, ◌+◌, ◌<◌, get_or, Result, Ok, Err, IfOk, refl, sym, ◌∙◌, subst, arith}
 use Rattle.std.proofs.lemmas.Bool.{cases_eq}
 use Rattle.spool_disk.specs.Disk.{IsImage, Keeps}
 use Rattle.spool_journal.specs.Image.{journal_pages, overlaid, count, number, content}
@@ -7,9 +7,9 @@ use Rattle.spool_journal.specs.Phases.{Settled, ReadsAs, Still}
 use Rattle.spool_journal.proofs.Over.{over_none}
 use Rattle.spool_journal.proofs.Gate.{open_view, shut_view}
 use Rattle.upload_rules.specs.Store.{Store}
-use Rattle.spool_image.specs.View.{View, Says, IsViewOf, first_page}
+use Rattle.spool_pages.specs.View.{View, Says, IsViewOf, first_page}
 use Rattle.spool_image.specs.Shows.{Shows, ImageShows}
-use Rattle.spool_image.proofs.Says.{says_same}
+use Rattle.spool_pages.proofs.Says.{says_same}
 
 pub same_function : (f g : ℕ → ℕ) → ((p : ℕ) → f p ≡ g p) → f ≡ g
 same_function f g same = λ i p. same p i

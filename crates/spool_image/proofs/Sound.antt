@@ -2,12 +2,15 @@
 use Rattle.std.proofs.Common.{◌≡◌, inl, inr, ℕ, ◌+◌, ◌-◌, ◌*◌, ◌^◌, ◌<◌, ◌≤◌, refl, subst, List, Option, None, Some, length, get_or, ltb, true, sym, ◌∙◌, ap, arith}
 use Rattle.std.proofs.lemmas.Bool.Decides.{nat_tests}
 use Rattle.upload_rules.specs.Room.{blocks_of}
-use Rattle.spool_image.specs.View.{View, SlotRecord, Says, Stands, slot_at, slot_bytes, row_bytes, state_page, index_place, state_place, slot_place, row_place}
-use Rattle.spool_image.specs.Fits.{FitsSlotOf, FitsRow}
+use Rattle.spool_pages.specs.View.{View, SlotRecord, Says, Stands, slot_at, slot_bytes, row_bytes, state_page, index_place, state_place, slot_place, row_place}
+use Rattle.spool_pages.specs.Fits.{FitsSlotOf, FitsRow}
 use Rattle.enc_index.specs.Area.{area_byte}
 use Rattle.spool_journal.specs.Image.{journal_pages}
 use Rattle.std.proofs.Math.ListN.{get_or-eq_default}
 use Rattle.std.proofs.lemmas.Bool.{cases_lt}
+use Rattle.spool_image.specs.Records.{FitsKept}
+use Rattle.spool_image.specs.Holding.{AreDistinct}
+use Rattle.spool_blocks.specs.Chains.{OwnsOneEach}
 use Rattle.spool_image.specs.Shows.{IsSound, IsSoundRecord, IsOwned}
 
 module _ (v : View) (sound : IsSound v) (slots : List (Option SlotRecord)) (same : slots ≡ v.slots) where
@@ -17,8 +20,11 @@ module _ (v : View) (sound : IsSound v) (slots : List (Option SlotRecord)) (same
   pub slot_sound : (s : ℕ) (r : SlotRecord) → get_or slots s None ≡ Some r → IsSoundRecord v.next r
   slot_sound s r e = sound.records s r (there s (Some r) e)
 
-  pub slot_new : (s : ℕ) (r : SlotRecord) → get_or slots s None ≡ Some r → (t : ℕ) (q : SlotRecord) → t < s → get_or slots t None ≡ Some q → q.number ≡ r.number → ⊥
-  slot_new s r e t q lt f same_number = omega (arith, lt, sound.distinct t s q r (there t (Some q) f) (there s (Some r) e) same_number)
+  pub slots_distinct : AreDistinct slots
+  slots_distinct s t r q e f same_number = sound.distinct s t r q (there s (Some r) e) (there t (Some q) f) same_number
+
+  pub slot_owns : (s : ℕ) (r : SlotRecord) → get_or slots s None ≡ Some r → OwnsOneEach v.rows s (blocks_of r.text_len)
+  slot_owns s r e = sound.lists s r (there s (Some r) e)
 
   pub row_below : (b s k : ℕ) (r : SlotRecord) → get_or v.rows b None ≡ Some (s, k) → get_or slots s None ≡ Some r → k < blocks_of r.text_len
   row_below b s k r owns e = (sound.lists s r (there s (Some r) e)).only b k owns
@@ -54,7 +60,7 @@ module _ (bytes : ℕ → ℕ) (v : View) (n : ℕ) (blocks : v.blocks ≡ n) (s
 
 -- WHAT FITS
 
-slot_from : (o : Option SlotRecord) → ((r : SlotRecord) → o ≡ Some r → FitsSlotOf (Some r)) → FitsSlotOf o
+slot_from : (o : Option SlotRecord) → ((r : SlotRecord) → o ≡ Some r → FitsKept (Some r)) → FitsKept o
 slot_from None fits = tt
 slot_from (Some r) fits = fits r refl
 
@@ -62,24 +68,31 @@ row_from : (o : Option (ℕ × ℕ)) → ((p : ℕ × ℕ) → o ≡ Some p → 
 row_from None fits = tt
 row_from (Some p) fits = fits p refl
 
-record_fits : (next : ℕ) → next ≤ 10 ^ 18 → (r : SlotRecord) → IsSoundRecord next r → FitsSlotOf (Some r)
+pub fits_slot : (o : Option SlotRecord) → FitsKept o → FitsSlotOf o
+fits_slot None fits = tt
+fits_slot (Some r) fits = fits.0
+
+record_fits : (next : ℕ) → next ≤ 10 ^ 18 → (r : SlotRecord) → IsSoundRecord next r → FitsKept (Some r)
 record_fits next most r is = (
-  record {
-    some = is.some;
-    number = omega (arith, is.below, most);
-    declared = omega (arith, is.declared);
-    accepted = omega (arith, is.accepted, is.declared);
-    text_len = is.text_fits;
-    state = is.state_size;
-    metadata = is.metadata_size;
-  },
-  is.printable,
+  (
+    record {
+      some = is.some;
+      number = omega (arith, is.below, most);
+      declared = omega (arith, is.declared);
+      accepted = omega (arith, is.accepted, is.declared);
+      text_len = is.text_fits;
+      state = is.state_size;
+      metadata = is.metadata_size;
+    },
+    is.printable,
+  ),
+  is.state,
 )
 
-pub slots_fit : (v : View) → IsSound v → (s : ℕ) → FitsSlotOf (slot_at v s)
+pub slots_fit : (v : View) → IsSound v → (s : ℕ) → FitsKept (slot_at v s)
 slots_fit v sound s = slot_from (slot_at v s) (λ r e. record_fits v.next sound.next_most r (sound.records s r e))
 
-in_use : (slots : List (Option SlotRecord)) (s : ℕ) (r : SlotRecord) → get_or slots s None ≡ Some r → s < length slots
+pub in_use : (slots : List (Option SlotRecord)) (s : ℕ) (r : SlotRecord) → get_or slots s None ≡ Some r → s < length slots
 in_use slots s r e = elim (cases_lt s (length slots)) [
   | inl lt ↦ lt
   | inr over ↦ absurd (clash (sym e ∙ get_or-eq_default slots None over))

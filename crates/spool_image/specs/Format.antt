@@ -2,7 +2,7 @@
 use Rattle.std.specs.Prelude.{◌≡◌, ℕ, ◌*◌, ◌≤◌, Result, Ok, Err}
 use Rattle.spool_disk.specs.Disk.{span}
 use Rattle.spool_journal.specs.Image.{all_pages}
-use Rattle.spool_image.specs.View.{magic}
+use Rattle.spool_pages.specs.View.{magic}
 use Rattle.spool_image.specs.declared.error.FormatError.{FormatError}
 use Rattle.spool_image.specs.declared.error.FormatError.TheVariants.{AlreadySpool, Size, DiskFault}
 

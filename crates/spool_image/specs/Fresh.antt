@@ -3,7 +3,7 @@ use Rattle.std.specs.Prelude.{◌≡◌, ℕ, ◌-◌, ◌*◌, ◌<◌, ◌≤�
 use Rattle.enc_model.specs.Indexes.{IndexSet}
 use Rattle.enc_index.specs.Area.{area_byte}
 use Rattle.spool_journal.specs.Image.{byte_of, all_pages}
-use Rattle.spool_image.specs.View.{index_place, state_place, first_page, state_page}
+use Rattle.spool_pages.specs.View.{index_place, state_place, first_page, state_page}
 
 -- its bytes behind page 0: zeros, the index area, and the state page with zeros behind it
 unfoldable pub fresh_byte : ℕ → IndexSet → ℕ → ℕ

@@ -1,16 +1,31 @@
 -- A view shows uploads: all that is kept of them stands there, and all checks hold.
-use Rattle.std.specs.Prelude.{◌≡◌, ℕ, ◌^◌, ◌<◌, ◌≤◌, All, true, false, List, [], Some, None, length, map}
+use Rattle.std.specs.Prelude.{◌≡◌, ℕ, ◌^◌, ◌<◌, ◌≤◌, All, List, [], Some, None, length, map}
 use Rattle.enc_model.specs.Indexes.{IndexSet}
+use Rattle.enc_model.specs.Transcode.{Transcoder, Phase, Before, During, Over}
 use Rattle.enc_index.specs.Sets.{IsIndexSet}
-use Rattle.spool_blocks.specs.Blocks.{Row}
-use Rattle.spool_blocks.specs.Chains.{Owns}
+use Rattle.enc_stream.specs.StateBytes.{IsSound as IsSoundState, state_bytes}
+use Rattle.spool_blocks.specs.Chains.{Owns, OwnsOneEach}
 use Rattle.upload_rules.specs.Store.{Upload, Store, find, is_complete, text_with, text_of}
 use Rattle.upload_rules.specs.Room.{blocks_of}
-use Rattle.upload_rules.specs.States.{state_of}
+use Rattle.upload_rules.specs.States.{state_of, transcoder_with}
 use Rattle.upload_rules.specs.Slots.{IsRising}
-use Rattle.spool_image.specs.View.{SlotRecord, View, slot_at, IsViewOf}
+use Rattle.spool_pages.specs.View.{SlotRecord, View, slot_at, IsViewOf}
 
 -- THE CHECKS
+
+-- Behind the end exactly where all declared bytes were accepted. Before a byte order mark is decided all accepted bytes are held,
+-- and from the first byte on it may be decided.
+abbrev pub FitsPhase : Phase → ℕ → ℕ → Type 0
+FitsPhase (Before held) accepted declared = (accepted ≡ length held) × (accepted ≡ declared → ⊥)
+FitsPhase (During s) accepted declared = (1 ≤ accepted) × (accepted ≡ declared → ⊥)
+FitsPhase Over accepted declared = accepted ≡ declared
+
+-- the state bytes are those of a transcoder that may stand behind so many bytes
+pub record HasState (r : SlotRecord) : Type 0 where
+  pub transcoder : Transcoder
+  pub sound : IsSoundState transcoder
+  pub is : r.state ≡ state_bytes transcoder
+  pub phase : FitsPhase transcoder.phase r.accepted r.declared
 
 pub record IsSoundRecord (next : ℕ) (r : SlotRecord) : Type 0 where
   pub some : 1 ≤ r.number
@@ -19,14 +34,9 @@ pub record IsSoundRecord (next : ℕ) (r : SlotRecord) : Type 0 where
   pub declared : r.declared ≤ 1073741824
   pub text_fits : r.text_len < 2 ^ 64
   pub state_size : length r.state ≡ 32
+  pub state : HasState r
   pub metadata_size : length r.metadata ≤ 1536
   pub printable : All (λ b. (0x20 ≤ b) × (b ≤ 0x7E)) r.metadata
-
--- the slot owns blocks at the ordinals below n, one at each
-pub record OwnsOneEach (rows : List Row) (slot n : ℕ) : Type 0 where
-  pub there : (i : ℕ) → i < n → (b : ℕ) × Owns rows b slot i
-  pub once : (a b i : ℕ) → Owns rows a slot i → Owns rows b slot i → a ≡ b
-  pub only : (b i : ℕ) → Owns rows b slot i → i < n
 
 -- the row's slot is in use, and its ordinal fits four bytes
 pub record IsOwned (v : View) (slot ordinal : ℕ) : Type 0 where
@@ -58,6 +68,7 @@ pub record IsRecordOf (x : IndexSet) (r : SlotRecord) (shown : List ℕ) (u : Up
   pub text_len : r.text_len ≡ length (text_of x u)
   pub text : shown ≡ text_of x u
   pub encodable : (text_with x u [] (is_complete u)).fault ≡ None
+  pub sound : IsSoundState (transcoder_with x u [] (is_complete u))
   pub state : r.state ≡ state_of x u
 
 -- the upload that a record tells of

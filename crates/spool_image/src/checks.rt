@@ -2,20 +2,29 @@
 ghost use Rattle.std.specs.Prelude.{◌≡◌, ◌≤◌, ◌<◌, ◌+◌, ◌/◌, ℕ, true, false, Some, None, length, get_or, option_copied};
 ghost use Rattle.spool_blocks.specs.Chains.{Owns};
 ghost use Rattle.upload_rules.specs.Room.{blocks_of};
-ghost use Rattle.spool_image.specs.Shows.{IsSoundRecord, IsSound};
-ghost use Rattle.spool_image.specs.View.{View, SlotRecord as Said};
+ghost use Rattle.spool_image.specs.Shows.{HasState, IsSoundRecord, IsSound};
+ghost use Rattle.spool_image.specs.Records.{said_of};
+ghost use Rattle.spool_pages.specs.Fits.{FitsRow};
+ghost use Rattle.spool_pages.specs.View.{View, SlotRecord as Said};
 
 use crate::records::KeptRecord;
 use spool_blocks::Row;
+use upload_rules::Record;
 
 /// The greatest declared length.
-const LENGTH_LIMIT: u64 = 1_073_741_824;
+pub(crate) const LENGTH_LIMIT: u64 = 1_073_741_824;
 
 /// The greatest next number.
-const NUMBERS_END: u64 = 1_000_000_000_000_000_000;
+pub(crate) const NUMBERS_END: u64 = 1_000_000_000_000_000_000;
 
-// The record of a slot, none where the slot is free or isn't there.
-fn record_at(slots: &[Option<KeptRecord>], slot: usize) -> Option<&KeptRecord>
+/// Where the state bytes say the phase: 0 before a byte order mark is decided, 1 from then on, 2 behind the end.
+const PHASE_AT: usize = 3;
+
+/// Where they say how many bytes are held before it is decided.
+const HELD_AT: usize = 4;
+
+/// The record of a slot, none where the slot is free or isn't there.
+pub(crate) fn record_at(slots: &[Option<KeptRecord>], slot: usize) -> Option<&KeptRecord>
     ensures { option_copied result ≡ get_or slots.now slot None }
 {
     match slots.get(slot) {
@@ -24,34 +33,27 @@ fn record_at(slots: &[Option<KeptRecord>], slot: usize) -> Option<&KeptRecord>
     }
 }
 
-// Whether the slot has the number.
-fn has_number(slots: &[Option<KeptRecord>], slot: usize, number: u64) -> bool
-    ensures { ((q : Said) → get_or slots.now slot None ≡ Some q → q.number ≡ number → ⊥) → result ≡ false }
+// Whether the phase of the state fits the counts: behind the end exactly where all declared bytes were accepted, and before a byte
+// order mark is decided all accepted bytes are held.
+fn is_phase_sound(record: &Record) -> bool
+    ensures { HasState (said_of «record».now) → result ≡ true }
 {
-    match record_at(slots, slot) {
-        Some(record) => record.number == number,
-        None => false,
+    let is_complete = record.accepted == record.declared;
+    match record.state[PHASE_AT] {
+        0 => !is_complete && record.accepted == record.state[HELD_AT] as u64,
+        1 => !is_complete && record.accepted >= 1,
+        _ => is_complete,
     }
 }
 
-// Whether no slot below this one has the number.
-fn is_new(slots: &[Option<KeptRecord>], end: usize, number: u64) -> bool
-    requires { end ≤ length slots.now }
-    ensures { ((t : ℕ) (q : Said) → t < end → get_or slots.now t None ≡ Some q → q.number ≡ number → ⊥) → result ≡ true }
+// Whether a record's numbers and its state may be there.
+fn is_record_sound(record: &Record, next: u64) -> bool
+    ensures { IsSoundRecord next (said_of «record».now) → result ≡ true }
 {
-    for slot in 0..end {
-        if has_number(slots, slot, number) {
-            return false;
-        }
-    }
-    true
-}
-
-// Whether a record's numbers may be there.
-fn is_record_sound(record: &KeptRecord, next: u64) -> bool
-    ensures { IsSoundRecord next record.now → result ≡ true }
-{
-    record.number < next && record.accepted <= record.declared && record.declared <= LENGTH_LIMIT
+    record.number < next
+        && record.accepted <= record.declared
+        && record.declared <= LENGTH_LIMIT
+        && is_phase_sound(record)
 }
 
 // Whether a slot is free, or its record is one that may be there.
@@ -60,13 +62,13 @@ fn is_sound_at(slots: &[Option<KeptRecord>], slot: usize, next: u64) -> bool
     ensures { (v : View) → IsSound v → slots.now ≡ v.slots → next ≡ v.next → result ≡ true }
 {
     match record_at(slots, slot) {
-        Some(record) => is_record_sound(record, next) && is_new(slots, slot, record.number),
+        Some(kept) => is_record_sound(kept.record(), next),
         None => true,
     }
 }
 
-/// Whether the next number and all records may be there: numbers are distinct and below the next number, which is 1 to
-/// 10^18, and the accepted bytes are no more than the declared ones, which are at most 1,073,741,824.
+/// Whether the next number and all records may be there: numbers are below the next number, which is 1 to 10^18, the accepted
+/// bytes are no more than the declared ones, which are at most 1,073,741,824, and the state's phase fits them.
 pub(crate) fn are_sound(slots: &[Option<KeptRecord>], next: u64) -> bool
     ensures { (v : View) → IsSound v → slots.now ≡ v.slots → next ≡ v.next → result ≡ true }
 {
@@ -81,8 +83,8 @@ pub(crate) fn are_sound(slots: &[Option<KeptRecord>], next: u64) -> bool
     true
 }
 
-// How many blocks a text of this length has.
-fn blocks_of(len: u64) -> u64
+/// How many blocks a text of this length has.
+pub(crate) fn blocks_of(len: u64) -> u64
     ensures { result ≡ blocks_of len }
 {
     len.div_ceil(4096)
@@ -92,12 +94,13 @@ fn blocks_of(len: u64) -> u64
 fn is_row_sound(slots: &[Option<KeptRecord>], row: Row) -> bool
     ensures passes { (v : View) (b : ℕ) → IsSound v → slots.now ≡ v.slots → get_or v.rows b None ≡ row → result ≡ true }
     ensures slot { result ≡ true → (slot ordinal : ℕ) → row ≡ Some (slot, ordinal) → slot < length slots.now }
+    ensures fits { result ≡ true → length slots.now ≡ 512 → FitsRow row }
 {
     let Some((slot, ordinal)) = row else {
         return true;
     };
     match record_at(slots, slot as usize) {
-        Some(record) => (ordinal as u64) < blocks_of(record.text_len),
+        Some(kept) => (ordinal as u64) < blocks_of(kept.record().text_len),
         None => false,
     }
 }
@@ -107,6 +110,7 @@ pub(crate) fn are_rows_sound(slots: &[Option<KeptRecord>], rows: &[Row]) -> bool
     requires { length slots.now ≡ 512 }
     ensures passes { (v : View) → IsSound v → slots.now ≡ v.slots → rows.now ≡ v.rows → result ≡ true }
     ensures slots { result ≡ true → (b slot ordinal : ℕ) → Owns rows.now b slot ordinal → slot < 512 }
+    ensures fits { result ≡ true → (b : ℕ) → FitsRow (get_or rows.now b None) }
 {
     for i in 0..rows.len() {
         if !is_row_sound(slots, rows[i]) {

@@ -3,13 +3,10 @@ ghost use Rattle.std.specs.Prelude.{◌≡◌};
 
 use spool_disk::DiskFault;
 use spool_journal::RecoverError;
+use spool_pages::Damaged;
 use std::alloc::AllocError;
 use std::error::Error;
 use std::fmt;
-
-/// A spool's bytes are none that are ever written.
-#[derive(Clone, Copy, Debug, PartialEq, Eq, Drop)]
-pub(crate) struct Damaged;
 
 /// Why `format` makes no spool.
 #[derive(Clone, Copy, Debug, PartialEq, Eq)]

@@ -6,16 +6,16 @@ ghost use Rattle.spool_disk.specs.Disk.{IsImage, Counts, Keeps};
 ghost use Rattle.spool_disk.specs.Views.{Lasts};
 ghost use Rattle.spool_journal.specs.Image.{all_pages};
 ghost use Rattle.upload_rules.specs.Store.{no_uploads};
-ghost use Rattle.spool_image.specs.View.{index_place, state_place};
+ghost use Rattle.spool_pages.specs.View.{index_place, state_place};
 ghost use Rattle.spool_image.specs.Shows.{ImageShows};
 ghost use Rattle.spool_image.specs.Format.{HasMagic, FitsSpool, IsRefusal};
 ghost use Rattle.spool_image.specs.Fresh.{fresh_byte, IsFreshTo, IsFresh};
 
 use crate::FormatError;
-use crate::pages::{MAGIC, blank_page, first_page, state_page};
 use enc_index::IndexSet;
 use spool_disk::{Disk, DiskFault};
 use spool_journal::{Layout, PAGE};
+use spool_pages::{MAGIC, blank_page, first_page, state_page};
 
 // A page behind page 0 of a spool without uploads.
 fn fresh_page(layout: &Layout, indexes: &IndexSet, page: u32) -> [u8; PAGE]

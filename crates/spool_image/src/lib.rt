@@ -1,18 +1,21 @@
 //! The uploads on a spool: its typed pages, how a spool without uploads is made, and how one is opened.
 #![tactic(auto)]
 
+mod answers;
 mod checks;
+mod creating;
+mod drafting;
 mod error;
-mod fields;
+mod extending;
 mod formatting;
 mod kept;
 mod layout;
+mod lists;
 mod opening;
+mod order;
 mod owners;
-mod pages;
 mod reading;
 mod records;
-mod rows;
 mod slots;
 mod spool;
 #[cfg(test)]

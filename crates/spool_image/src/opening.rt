@@ -4,16 +4,16 @@ ghost use Rattle.spool_disk.specs.Disk.{IsImage, Counts, Keeps};
 ghost use Rattle.spool_disk.specs.Views.{Lasts};
 ghost use Rattle.spool_journal.specs.Image.{journal_pages, all_pages, overlaid};
 ghost use Rattle.spool_journal.specs.Phases.{Settled, ReadsAs};
-ghost use Rattle.spool_image.specs.Kept.{KeepsView};
+ghost use Rattle.spool_image.specs.Kept.{KeepsAlone};
 ghost use Rattle.spool_image.specs.Reads.{LoadsAs};
 ghost use Rattle.spool_image.specs.Shows.{IsSound};
-ghost use Rattle.spool_image.specs.View.{View, IsViewOf, first_page};
+ghost use Rattle.spool_pages.specs.View.{View, IsViewOf, first_page};
 
 use crate::OpenFault;
 use crate::kept::{Kept, load};
-use crate::pages::blocks_said;
 use spool_disk::{Disk, DiskFault};
 use spool_journal::{Layout, recover};
+use spool_pages::blocks_said;
 use std::alloc::Global;
 
 // Reads the first twelve bytes.
@@ -65,7 +65,7 @@ fn restore<D: Disk>(alloc: Global, disk: &mut D, layout: Layout) -> Result<Kept,
     ensures honest { D.honest disk.old ↔ D.honest disk.new }
     ensures counts { Counts (result ≡ Err OpenFault.DiskFault) (D.failures disk.old) (D.failures disk.new) }
     ensures layout { IfOk result (λ kept. kept.layout ≡ layout) }
-    ensures said { D.honest disk.old → (v : View) → IsSound v → v.blocks ≡ layout → IsViewOf (D.seen disk.old) v → LoadsAs result (λ kept. KeepsView kept v) }
+    ensures said { D.honest disk.old → (v : View) → IsSound v → v.blocks ≡ layout → IsViewOf (D.seen disk.old) v → LoadsAs result (λ kept. KeepsAlone kept v) }
     ensures settled { D.honest disk.old → IfOk result (λ kept. Settled (journal_pages layout) (overlaid (D.seen disk.old)) (D.seen disk.new) (D.loose disk.new)) }
     ensures lasts { D.honest disk.old → Lasts D.Disk disk.old disk.new (λ image. IsImage (D.seen disk.old) (D.loose disk.old) image ⊎ ReadsAs (journal_pages layout) image (overlaid (D.seen disk.old))) }
 {
@@ -82,7 +82,7 @@ pub(crate) fn prepare<D: Disk>(alloc: Global, disk: &mut D) -> Result<Kept, Open
 
     // What a read shows is kept, or memory or the device refuses it.
     ensures said { D.honest disk.old → (v : View) → IsSound v → IsViewOf (D.seen disk.old) v → 4096 * all_pages v.blocks ≤ D.size disk.old
-        → LoadsAs result (λ kept. KeepsView kept v) }
+        → LoadsAs result (λ kept. KeepsAlone kept v) }
 
     // And it stands on the disk, all of it synced, behind a closed gate.
     ensures settled { D.honest disk.old → IfOk result (λ kept. Settled (journal_pages kept.layout) (overlaid (D.seen disk.old)) (D.seen disk.new) (D.loose disk.new)) }

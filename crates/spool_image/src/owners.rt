@@ -3,16 +3,16 @@ ghost use Rattle.std.specs.Prelude.{◌≡◌, ◌≤◌, ◌<◌, ◌*◌, ◌+
 ghost use Rattle.spool_disk.specs.Disk.{Counts};
 ghost use Rattle.spool_journal.specs.Image.{journal_pages, all_pages, byte_of};
 ghost use Rattle.spool_journal.specs.Phases.{Still};
-ghost use Rattle.spool_image.specs.Fits.{FitsRow};
+ghost use Rattle.spool_pages.specs.Fits.{FitsRow};
 ghost use Rattle.spool_image.specs.Reads.{OnlyReads, IsSameTo, LoadsAs};
-ghost use Rattle.spool_image.specs.View.{Stands, row_bytes, row_place};
+ghost use Rattle.spool_pages.specs.View.{Stands, row_bytes, row_place};
 
 use crate::OpenFault;
 use crate::reading::read_at;
-use crate::rows::{ROWS, row_at};
 use spool_blocks::Row;
 use spool_disk::{Disk, DiskFault};
 use spool_journal::{Layout, PAGE};
+use spool_pages::{ROWS, row_at};
 use std::alloc::Global;
 
 /// The first page of rows, counted from the first of the metadata.

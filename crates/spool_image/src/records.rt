@@ -1,133 +1,106 @@
-// The record of an upload as its slot keeps it.
-ghost use Rattle.std.specs.Prelude.{◌≡◌, ◌≤◌, [], ℕ, All, length, Ok, Err, Some, None};
-ghost use Rattle.spool_image.specs.Bytes.{IsPadded};
-ghost use Rattle.spool_image.specs.Fits.{FitsSlot};
+// The record of an upload, kept in memory.
+ghost use Rattle.std.specs.Prelude.{◌≡◌, ◌≤◌, All, Err, Some, length, IfOk};
+ghost use Rattle.enc_stream.specs.StateBytes.{IsSound, state_bytes};
+ghost use Rattle.spool_image.specs.Extending.{SameEncodings, longer_record};
 ghost use Rattle.spool_image.specs.Reads.{LoadsAs};
-ghost use Rattle.spool_image.specs.View.{SlotRecord as Said, record_bytes};
+ghost use Rattle.spool_image.specs.Records.{FitsKept, FitsMemory, IsUnpacked, said_of};
+ghost use Rattle.spool_pages.specs.View.{SlotRecord as Said};
 
 use crate::OpenFault;
-use crate::error::Damaged;
-use crate::fields::{get_u16, get_u64, put};
+use crate::extending::Longer;
+use enc_stream::Transcoder;
+use spool_pages::SlotRecord;
 use std::alloc::Global;
 use std::marker::Model;
 use std::str;
+use upload_rules::Record;
 
-/// How many bytes a slot has.
-pub(crate) const RECORD: usize = 2048;
-
-/// How many bytes of metadata a slot has room for.
-pub(crate) const METADATA: usize = 1536;
-
-/// The record of an upload as its slot's bytes say it.
-#[derive(Drop)]
-pub(crate) struct SlotRecord<'a> {
-    /// The upload's number, from 1 on.
-    pub(crate) number: u64,
-    /// The declared length.
-    pub(crate) declared: u64,
-    /// How many bytes were accepted.
-    pub(crate) accepted: u64,
-    /// The length of the text.
-    pub(crate) text_len: u64,
-    /// The transcoder's state behind the accepted bytes.
-    pub(crate) state: [u8; 32],
-    /// The metadata as it was given.
-    pub(crate) metadata: &'a [u8],
-}
-
-impl<'a> Model for SlotRecord<'a> {
-    ghost Value = { Said };
-
-    ghost view = { λ r. record { number = r.number; declared = r.declared; accepted = r.accepted; text_len = r.text_len; state = r.state; metadata = r.metadata.now } };
-}
-
-impl<'a> SlotRecord<'a> {
-    /// The slot's bytes.
-    pub(crate) fn to_bytes(&self) -> [u8; RECORD]
-        requires { length self.now.metadata ≤ 1536 }
-        ensures { IsPadded result (record_bytes self.now) }
-    {
-        let mut bytes = [0; RECORD];
-        put(&mut bytes, 0, &self.number.to_be_bytes());
-        put(&mut bytes, 8, &self.declared.to_be_bytes());
-        put(&mut bytes, 16, &self.accepted.to_be_bytes());
-        put(&mut bytes, 24, &self.text_len.to_be_bytes());
-        put(&mut bytes, 32, &self.state);
-        put(&mut bytes, 64, &(self.metadata.len() as u16).to_be_bytes());
-        put(&mut bytes, 66, self.metadata);
-        bytes
-    }
-
-    /// The record in a slot's bytes, or none where the slot is free. `Damaged` where the metadata has no room in it.
-    pub(crate) fn from_bytes(bytes: &'a [u8; RECORD]) -> Result<Option<SlotRecord<'a>>, Damaged>
-        ensures free { IsPadded bytes.now [] → result ≡ Ok None }
-        ensures used { (r : Said) → FitsSlot r → IsPadded bytes.now (record_bytes r) → result ≡ Ok (Some r) }
-    {
-        let number = get_u64(bytes, 0);
-        if number == 0 {
-            return Ok(None);
-        }
-        let metadata_end = 66 + get_u16(bytes, 64) as usize;
-        if metadata_end > 66 + METADATA {
-            return Err(Damaged);
-        }
-        let mut state = [0; 32];
-        state.copy_from_slice(&bytes[32..64]);
-        Ok(Some(SlotRecord {
-            number,
-            declared: get_u64(bytes, 8),
-            accepted: get_u64(bytes, 16),
-            text_len: get_u64(bytes, 24),
-            state,
-            metadata: &bytes[66..metadata_end],
-        }))
-    }
-}
-
-/// The record of an upload, kept in memory.
+/// The record of an upload, with the encodings and the mode that its state says.
 #[derive(Drop)]
 pub(crate) struct KeptRecord {
-    /// The upload's number, from 1 on.
-    pub(crate) number: u64,
-    /// The declared length.
-    pub(crate) declared: u64,
-    /// How many bytes were accepted.
-    pub(crate) accepted: u64,
-    /// The length of the text.
-    pub(crate) text_len: u64,
-    /// The transcoder's state behind the accepted bytes.
-    pub(crate) state: [u8; 32],
-    /// The metadata as it was given.
-    pub(crate) metadata: String,
+    record: Record,
 }
 
 impl Model for KeptRecord {
     ghost Value = { Said };
 
-    ghost view = { λ r. record { number = r.number; declared = r.declared; accepted = r.accepted; text_len = r.text_len; state = r.state; metadata = r.metadata.bytes.items } };
+    ghost view = { λ k. said_of k.record };
+
+    ghost invariant = { λ k. FitsMemory k.record };
 }
 
 impl KeptRecord {
-    /// The record, with metadata of its own. `Damaged` where the metadata is no text.
+    /// The record, with metadata of its own. `Damaged` where the state is none of a transcoder, or the metadata is no text.
     pub(crate) fn of(alloc: Global, record: &SlotRecord<'_>) -> Result<KeptRecord, OpenFault>
-        ensures said { All (λ b. (0x20 ≤ b) × (b ≤ 0x7E)) record.now.metadata → LoadsAs result (λ kept. kept ≡ record.now) }
+        requires { length «record».now.metadata ≤ 1536 }
+        ensures said { FitsKept (Some «record».now) → LoadsAs result (λ kept. kept ≡ «record».now) }
         ensures no_device { result ≡ Err OpenFault.DiskFault → ⊥ }
     {
+        let Some(transcoder) = Transcoder::unpack(&record.state) else {
+            return Err(OpenFault::Damaged);
+        };
         let metadata = text_of(alloc, record.metadata)?;
         Ok(KeptRecord {
-            number: record.number,
-            declared: record.declared,
-            accepted: record.accepted,
-            text_len: record.text_len,
-            state: record.state,
-            metadata,
+            record: Record {
+                number: record.number,
+                declared: record.declared,
+                accepted: record.accepted,
+                text_len: record.text_len,
+                from: transcoder.from(),
+                to: transcoder.to(),
+                mode: transcoder.mode(),
+                state: record.state,
+                metadata,
+            },
         })
+    }
+
+    /// What is told of the upload.
+    pub(crate) fn record(&self) -> &Record
+        ensures said { said_of result.now ≡ self.now }
+        ensures unpacked { IsUnpacked result.now }
+    {
+        &self.record
+    }
+
+    /// A record that is kept.
+    pub(crate) fn new(upload: Record) -> KeptRecord
+        requires { FitsMemory upload }
+        ensures { result ≡ said_of upload }
+    {
+        KeptRecord { record: upload }
+    }
+
+    /// The upload gets longer.
+    pub(crate) fn extend(&mut self, longer: &Longer)
+        requires { SameEncodings self.old.state longer.now.state }
+        ensures { self.new ≡ longer_record self.old longer.now }
+    {
+        self.record.accepted = longer.accepted;
+        self.record.text_len = longer.text_len;
+        self.record.state = longer.state;
+    }
+
+    /// The record as its slot's bytes say it.
+    pub(crate) fn slot_record(&self) -> SlotRecord<'_>
+        ensures said { result ≡ self.now }
+        ensures short { length result.metadata ≤ 1536 }
+    {
+        SlotRecord {
+            number: self.record.number,
+            declared: self.record.declared,
+            accepted: self.record.accepted,
+            text_len: self.record.text_len,
+            state: self.record.state,
+            metadata: self.record.metadata.as_bytes(),
+        }
     }
 }
 
 // The bytes as text.
 fn text_of(alloc: Global, bytes: &[u8]) -> Result<String, OpenFault>
     ensures said { All (λ b. (0x20 ≤ b) × (b ≤ 0x7E)) bytes.now → LoadsAs result (λ text. text.bytes.items ≡ bytes.now) }
+    ensures same { IfOk result (λ text. text.bytes.items ≡ bytes.now) }
     ensures no_device { result ≡ Err OpenFault.DiskFault → ⊥ }
 {
     match str::from_utf8(bytes) {

@@ -3,22 +3,23 @@ ghost use Rattle.std.specs.Prelude.{◌≡◌, ◌≤◌, ◌<◌, ◌*◌, ◌+
 ghost use Rattle.spool_disk.specs.Disk.{Counts};
 ghost use Rattle.spool_journal.specs.Image.{all_pages};
 ghost use Rattle.spool_journal.specs.Phases.{Still};
-ghost use Rattle.spool_image.specs.Bytes.{IsPadded};
-ghost use Rattle.spool_image.specs.Fits.{FitsSlotOf};
+ghost use Rattle.spool_pages.specs.Bytes.{IsPadded};
+ghost use Rattle.spool_image.specs.Records.{FitsKept};
 ghost use Rattle.spool_image.specs.Reads.{OnlyReads, IsFrontOf, LoadsAs};
-ghost use Rattle.spool_image.specs.View.{SlotRecord as Said, Stands, slot_bytes, slot_place};
+ghost use Rattle.spool_pages.specs.View.{SlotRecord as Said, Stands, slot_bytes, slot_place};
 
 use crate::OpenFault;
 use crate::reading::read_at;
-use crate::records::{KeptRecord, RECORD, SlotRecord};
+use crate::records::KeptRecord;
 use spool_blocks::SLOTS;
 use spool_disk::Disk;
 use spool_journal::Layout;
+use spool_pages::{RECORD, SlotRecord};
 use std::alloc::Global;
 
 // The record in a slot's bytes, kept.
 fn kept_of(alloc: Global, bytes: &[u8; RECORD]) -> Result<Option<KeptRecord>, OpenFault>
-    ensures said { (slot : Option Said) → FitsSlotOf slot → IsPadded bytes.now (slot_bytes slot) → LoadsAs result (λ kept. kept ≡ slot) }
+    ensures said { (slot : Option Said) → FitsKept slot → IsPadded bytes.now (slot_bytes slot) → LoadsAs result (λ kept. kept ≡ slot) }
     ensures no_device { result ≡ Err OpenFault.DiskFault → ⊥ }
 {
     match SlotRecord::from_bytes(bytes)? {
@@ -42,7 +43,7 @@ fn load_slot<D: Disk>(
     ensures reads { OnlyReads D.Disk disk.old disk.new }
     ensures counts { Counts (result ≡ Err OpenFault.DiskFault) (D.failures disk.old) (D.failures disk.new) }
     ensures said { D.honest disk.old → (bytes : ℕ → ℕ) → Still bytes (D.seen disk.old) (D.loose disk.old)
-        → (said : Option Said) → FitsSlotOf said → Stands bytes (slot_place layout.now slot) 2048 (slot_bytes said) → LoadsAs result (λ kept. kept ≡ said) }
+        → (said : Option Said) → FitsKept said → Stands bytes (slot_place layout.now slot) 2048 (slot_bytes said) → LoadsAs result (λ kept. kept ≡ said) }
 {
     let mut bytes = [0; RECORD];
     let place = 4096 * (layout.metadata_page() as u64 + 1) + 2048 * slot as u64;
@@ -64,7 +65,7 @@ fn push_slot<D: Disk>(
     ensures counts { Counts (result ≡ Err OpenFault.DiskFault) (D.failures disk.old) (D.failures disk.new) }
     ensures long { OnOk result (length slots.new.items ≡ length slots.old.items + 1) }
     ensures said { D.honest disk.old → (bytes : ℕ → ℕ) → Still bytes (D.seen disk.old) (D.loose disk.old)
-        → (said : List (Option Said)) → length said ≡ 512 → FitsSlotOf (get_or said slot None)
+        → (said : List (Option Said)) → length said ≡ 512 → FitsKept (get_or said slot None)
         → Stands bytes (slot_place layout.now slot) 2048 (slot_bytes (get_or said slot None))
         → length slots.old.items ≡ slot → IsFrontOf said slots.old.items → LoadsAs result (λ done. IsFrontOf said slots.new.items) }
 {
@@ -86,7 +87,7 @@ pub(crate) fn load_slots<D: Disk>(
     ensures counts { Counts (result ≡ Err OpenFault.DiskFault) (D.failures disk.old) (D.failures disk.new) }
     ensures long { IfOk result (λ slots. length slots.items ≡ 512) }
     ensures said { D.honest disk.old → (bytes : ℕ → ℕ) → Still bytes (D.seen disk.old) (D.loose disk.old)
-        → (said : List (Option Said)) → length said ≡ 512 → ((s : ℕ) → FitsSlotOf (get_or said s None))
+        → (said : List (Option Said)) → length said ≡ 512 → ((s : ℕ) → FitsKept (get_or said s None))
         → ((s : ℕ) → s < 512 → Stands bytes (slot_place layout.now s) 2048 (slot_bytes (get_or said s None))) → LoadsAs result (λ slots. slots.items ≡ said) }
 {
     let mut slots = Vec::new(alloc);

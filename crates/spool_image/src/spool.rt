@@ -1,28 +1,32 @@
 // The uploads on a disk.
-ghost use Rattle.std.specs.Prelude.{◌≡◌, ◌⊎◌, ◌≤◌, ◌*◌, ◌↔◌, ℕ, List, IfOk};
-ghost use Rattle.spool_disk.specs.Disk.{IsImage, Counts};
+ghost use Rattle.std.specs.Prelude.{◌≡◌, ◌⊎◌, ◌≤◌, ◌*◌, ◌↔◌, ℕ, List, IfOk, IsErrOf};
+ghost use Rattle.spool_disk.specs.Disk.{IsImage, Counts, Keeps as KeepsSeen};
 ghost use Rattle.spool_disk.specs.Views.{Lasts};
 ghost use Rattle.spool_journal.specs.Image.{journal_pages, all_pages};
 ghost use Rattle.spool_journal.specs.Phases.{Idle};
-ghost use Rattle.upload_rules.specs.Store.{Store};
+ghost use Rattle.upload_rules.specs.Answers.{Answers};
+ghost use Rattle.upload_rules.specs.Reading.{no_such, text_at, IsRead};
+ghost use Rattle.upload_rules.specs.Store.{Store, upload_of};
+ghost use Rattle.spool_image.specs.Kept.{KeepsView};
 ghost use Rattle.spool_image.specs.Shows.{IsSound, Shows, ImageShows};
-ghost use Rattle.spool_image.specs.View.{View, IsViewOf};
+ghost use Rattle.spool_pages.specs.View.{View, Says, IsViewOf};
 
 use crate::OpenFault;
 use crate::kept::Kept;
 use crate::opening::prepare;
 use spool_disk::Disk;
 use std::alloc::Global;
+use upload_rules::UploadError;
 
 /// The uploads on a disk.
 pub struct Spool<D: Disk> {
     disk: D,
-    kept: Kept,
+    pub(crate) kept: Kept,
     ghost room: { 4096 * all_pages kept.layout ≤ D.size disk },
 }
 
 impl<D: Disk> Spool<D> {
-    ghost use Rattle.spool_image.specs.Spool.{disk_of, size_of, disk_after, Keeps, IsFault, OpensAs};
+    ghost use Rattle.spool_image.specs.Spool.{disk_of, kept_of, size_of, disk_after, Keeps, IsFault, OpensAs};
 
     /// Opens what a crash may have left. It may crash too, and be called again.
     ///
@@ -30,9 +34,9 @@ impl<D: Disk> Spool<D> {
     ///
     /// The disk comes back with each. `NotASpool` where page 0 says none or the disk is shorter than its layout, then as
     /// `recover`, then `Version` where the state page says another version than 1, then `Damaged` where the index area is no
-    /// set's, a number comes twice or isn't below the next one, a length is out of its range, metadata is no text, or a row's
-    /// slot is free or its ordinal behind the text; `NoMemory` where a growth was refused, and `DiskFault` where the device
-    /// failed.
+    /// set's, a number comes twice or isn't below the next one, a length is out of its range, a state is none of a transcoder or
+    /// its phase doesn't fit the counts, metadata is no text, a row's slot is free, or a slot's ordinals are not those of its
+    /// text, each once; `NoMemory` where a growth was refused, and `DiskFault` where the device failed.
     pub fn open(alloc: Global, disk: D) -> Result<Spool<D>, (D, OpenFault)>
         ensures size { D.size (disk_after result) ≡ D.size disk }
         ensures honest { D.honest disk ↔ D.honest (disk_after result) }
@@ -57,6 +61,34 @@ impl<D: Disk> Spool<D> {
             Ok(kept) => Ok(Spool { disk, kept }),
             Err(fault) => Err((disk, fault)),
         }
+    }
+
+    /// Reads a text's bytes from `at` on, as many as there are and fit. It takes no memory.
+    ///
+    /// # Errors
+    ///
+    /// `NoSuch` where no upload has the number, `DiskFault` where the device failed.
+    pub(crate) fn read(
+        &mut self,
+        number: u64,
+        at: u64,
+        buf: &mut [u8],
+    ) -> Result<usize, UploadError>
+        ensures size { D.size (disk_of self.new) ≡ D.size (disk_of self.old) }
+        ensures honest { D.honest (disk_of self.old) ↔ D.honest (disk_of self.new) }
+        ensures counts { Counts (IsErrOf result UploadError.DiskFault) (D.failures (disk_of self.old)) (D.failures (disk_of self.new)) }
+        ensures no_memory { IsErrOf result UploadError.NoMemory → ⊥ }
+        ensures kept { kept_of self.new ≡ kept_of self.old }
+
+        // The bytes are those of the text that a view shows, which a read of the disk shows.
+        ensures answer { D.honest (disk_of self.old) → (m : Store) (v : View) → KeepsView (kept_of self.old) v → Shows v m → Says (D.seen (disk_of self.old)) v
+            → Answers (no_such (upload_of m number)) result (λ n. IsRead (text_at m (upload_of m number)) at n buf.old buf.new) (Unit {0}) }
+
+        // And nothing is written.
+        ensures keeps { D.honest (disk_of self.old) → KeepsSeen (D.seen (disk_of self.old)) (D.seen (disk_of self.new)) (D.loose (disk_of self.old)) (D.loose (disk_of self.new)) }
+        ensures lasts { D.honest (disk_of self.old) → Lasts D.Disk (disk_of self.old) (disk_of self.new) (IsImage (D.seen (disk_of self.old)) (D.loose (disk_of self.old))) }
+    {
+        self.kept.read(&mut self.disk, number, at, buf)
     }
 
     /// The disk.

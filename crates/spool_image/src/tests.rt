@@ -1,12 +1,12 @@
-use crate::error::Damaged;
-use crate::pages::{blocks_said, first_page, state_page, version_and_next};
-use crate::records::{RECORD, SlotRecord};
-use crate::rows::{row_at, row_page};
 use crate::{FormatError, OpenFault, Spool, format, pages_of};
 use enc_index::{Index, IndexSet, Kind};
+use enc_model::{Encoding, Mode};
+use enc_stream::Transcoder;
 use spool_disk::{Crash, Disk, DiskFault, FuseDisk, MemoryDisk};
+use spool_pages::SlotRecord;
 use std::alloc::{AllocError, Global};
 use std::test::Fail;
+use upload_rules::{UploadError, UploadRefusal};
 
 // A disk of 557 pages, as many as a spool of 16 blocks has.
 fn small_disk(alloc: Global) -> Result<MemoryDisk, AllocError> {
@@ -21,6 +21,38 @@ fn byte_at<D: Disk>(disk: &mut D, at: u64) -> Result<u8, DiskFault> {
     let mut byte = [0];
     disk.read(at, &mut byte)?;
     Ok(byte[0])
+}
+
+// Writes bytes, if there is room.
+fn put<D: Disk>(disk: &mut D, at: u64, bytes: &[u8]) -> Result<(), DiskFault> {
+    let size = disk.len();
+    let count = bytes.len() as u64;
+    if size < count || size - count < at {
+        return Err(DiskFault);
+    }
+    disk.write_at(at, bytes)
+}
+
+// A spool with the uploads 7 in slot 0 and 3 in slot 4. The text of upload 7 has 4,097 bytes, on the blocks 3 and 9.
+fn write_uploads<D: Disk>(disk: &mut D) -> Result<(), DiskFault> {
+    let transcoder = Transcoder::new(Encoding::Utf8, Encoding::ShiftJis, Mode::Fatal);
+    let mut record = SlotRecord {
+        number: 7,
+        declared: 5000,
+        accepted: 0,
+        text_len: 4097,
+        state: transcoder.pack(),
+        metadata: b"name",
+    };
+    put(disk, 284 * 4096, &record.to_bytes())?;
+    record.number = 3;
+    record.text_len = 0;
+    put(disk, 286 * 4096, &record.to_bytes())?;
+    put(disk, 283 * 4096 + 11, &[8])?;
+    put(disk, 540 * 4096 + 8 * 3 + 3, &[1])?;
+    put(disk, 540 * 4096 + 8 * 9 + 3, &[1, 0, 0, 0, 1])?;
+    put(disk, 544 * 4096 + 4094, b"ab")?;
+    put(disk, 550 * 4096, b"cd")
 }
 
 #[test]
@@ -103,59 +135,6 @@ fn fault_of_the_disk_leaves_no_spool(rt: HostRuntime) -> Result<(), Fail> {
 }
 
 #[test]
-fn record_is_read_as_it_was_written(rt: HostRuntime) -> Result<(), Fail> {
-    let mut state = [0; 32];
-    state[4] = 2;
-    let record = SlotRecord {
-        number: 258,
-        declared: 4,
-        accepted: 3,
-        text_len: 1 << 40,
-        state,
-        metadata: b"note",
-    };
-    let bytes = record.to_bytes();
-    // the number, the state, the metadata's length and the metadata
-    for (at, want) in [
-        (6, 1),
-        (7, 2),
-        (36, 2),
-        (65, 4),
-        (66, b'n'),
-        (69, b'e'),
-        (70, 0),
-    ] {
-        assert_eq!(rt; bytes[at], want, "at {at}");
-    }
-    match SlotRecord::from_bytes(&bytes) {
-        Ok(Some(read)) => {
-            assert_eq!(rt; read.number, 258);
-            assert_eq!(rt; read.text_len, 1 << 40);
-            assert_eq!(rt; read.metadata, b"note".as_slice());
-        }
-        _ => panic!(rt; "no record"),
-    }
-    assert!(rt; matches!(SlotRecord::from_bytes(&[0; RECORD]), Ok(None)));
-    assert!(rt; matches!(SlotRecord::from_bytes(&[7; RECORD]), Err(Damaged)));
-    Ok(())
-}
-
-#[test]
-fn pages_are_read_as_they_were_written(rt: HostRuntime) -> Result<(), Fail> {
-    let page = row_page(&[None, Some((511, 65535))], 0);
-    assert_eq!(rt; &page[8..16], [0, 0, 2, 0, 0, 0, 255, 255].as_slice());
-    assert_eq!(rt; row_at(&page, 0), None);
-    assert_eq!(rt; row_at(&page, 8), Some((511, 65535)));
-    assert_eq!(rt; row_at(&page, 4088), None);
-    assert_eq!(rt; version_and_next(&state_page(7)), (1, 7));
-    let mut front = [0; 12];
-    front.copy_from_slice(&first_page(65536)[..12]);
-    assert_eq!(rt; blocks_said(&front), Some(65536));
-    assert_eq!(rt; blocks_said(&[0; 12]), None);
-    Ok(())
-}
-
-#[test]
 fn fresh_spool_is_opened_again_and_again(rt: HostRuntime) -> Result<(), Fail> {
     let indexes = IndexSet::new(rt.alloc())?;
     let mut disk = small_disk(rt.alloc())?;
@@ -204,6 +183,75 @@ fn damaged_disks_are_refused(rt: HostRuntime) -> Result<(), Fail> {
         if at < disk.len() {
             assert_eq!(rt; disk.write_at(at, &[before]), Ok(()));
         }
+    }
+    let (_, fault) = refused(&rt, disk);
+    assert_eq!(rt; fault, None);
+    Ok(())
+}
+
+#[test]
+fn uploads_are_told_of_and_read(rt: HostRuntime) -> Result<(), Fail> {
+    let indexes = IndexSet::new(rt.alloc())?;
+    let mut disk = small_disk(rt.alloc())?;
+    assert_eq!(rt; format(&mut disk, 16, &indexes), Ok(()));
+    write_uploads(&mut disk)?;
+    let mut spool = match Spool::open(rt.alloc(), disk) {
+        Ok(spool) => spool,
+        Err((_, fault)) => panic!(rt; "{fault}"),
+    };
+    assert_eq!(rt; spool.kept.next_number(), 8);
+    assert_eq!(rt; spool.kept.indexes().offers(Encoding::ShiftJis), false);
+    assert_eq!(rt; spool.kept.slot_of(3), Some(4));
+    assert_eq!(rt; spool.kept.slot_of(4), None);
+    assert_eq!(rt;
+        spool.kept.record(7).map(|record| record.to),
+        Some(Encoding::ShiftJis)
+    );
+    assert_eq!(rt;
+        spool.kept.record_after(2).map(|record| record.number),
+        Some(3)
+    );
+    assert_eq!(rt;
+        spool.kept.record_after(3).map(|record| record.number),
+        Some(7)
+    );
+    assert_eq!(rt; spool.kept.record_after(7).is_none(), true);
+    let mut buf = [0; 4];
+    assert_eq!(rt; spool.read(7, 4094, &mut buf), Ok(3));
+    assert_eq!(rt; buf, [b'a', b'b', b'c', 0]);
+    assert_eq!(rt; spool.read(3, 0, &mut buf), Ok(0));
+    assert_eq!(rt;
+        spool.read(4, 0, &mut buf),
+        Err(UploadError::Refused(UploadRefusal::NoSuch))
+    );
+    drop(spool.into_disk());
+    Ok(())
+}
+
+#[test]
+fn damaged_uploads_are_refused(rt: HostRuntime) -> Result<(), Fail> {
+    let indexes = IndexSet::new(rt.alloc())?;
+    let mut disk = small_disk(rt.alloc())?;
+    assert_eq!(rt; format(&mut disk, 16, &indexes), Ok(()));
+    write_uploads(&mut disk)?;
+    // a number that comes twice, a state without a transcoder, one that is decoding before the first byte and one behind the
+    // end, metadata that is no text, an ordinal twice, one behind the text, and a block too few
+    for (at, byte) in [
+        (286 * 4096 + 7, 7),
+        (284 * 4096 + 32, 21),
+        (284 * 4096 + 35, 1),
+        (284 * 4096 + 35, 2),
+        (284 * 4096 + 66, 0xFF),
+        (540 * 4096 + 8 * 9 + 7, 0),
+        (540 * 4096 + 8 * 9 + 7, 2),
+        (540 * 4096 + 8 * 9 + 3, 0),
+    ] {
+        let before = byte_at(&mut disk, at)?;
+        assert_eq!(rt; put(&mut disk, at, &[byte]), Ok(()));
+        let (back, fault) = refused(&rt, disk);
+        disk = back;
+        assert_eq!(rt; fault, Some(OpenFault::Damaged), "{at}: {byte}");
+        assert_eq!(rt; put(&mut disk, at, &[before]), Ok(()));
     }
     let (_, fault) = refused(&rt, disk);
     assert_eq!(rt; fault, None);

@@ -57,6 +57,7 @@ pub fn commit<D: Disk>(disk: &mut D, layout: &Layout, pages: &Pages) -> Result<(
     ensures honest { D.honest disk.old ↔ D.honest disk.new }
     ensures counts { Counts (IsErr result) (D.failures disk.old) (D.failures disk.new) }
     ensures nothing { length pages.now ≡ 0 → (disk.new ≡ disk.old) × IsOk result }
+    ensures ascends { Ascends pages.now }
 
     // Outside gate and journal every image then has exactly these pages changed, and all that a read gave.
     ensures done { D.honest disk.old → Idle (journal_pages layout.now) (D.seen disk.old) (D.loose disk.old) → 1 ≤ length pages.now → OnOk result (Settled (journal_pages layout.now) (laid pages.now (D.seen disk.old)) (D.seen disk.new) (D.loose disk.new)) }

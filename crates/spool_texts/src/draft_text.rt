@@ -16,8 +16,9 @@ use spool_journal::{Layout, PAGE, write_block};
 use std::alloc::{AllocError, Global};
 use std::marker::Model;
 
-/// The new text of a draft: the blocks that it reserved, and the bytes of the unfinished block. It has to be spent, by
-/// `give_back` or `into_list`.
+/// The new text of a draft: the blocks that it reserved, and the bytes of the unfinished block. Dropped without `give_back` or
+/// `into_list`, its blocks stay reserved.
+#[derive(Drop)]
 pub struct DraftText {
     blocks: Vec<BlockNo>,
     // the bytes of the unfinished block, and room for the rest of it

@@ -10,7 +10,7 @@ use Rattle.upload_rules.specs.World.{Patch, World, free_number}
 use Rattle.upload_rules.specs.Calls.{create_refusal, begin_refusal, begin_refusal_at, begun, first_patch}
 use Rattle.upload_rules.specs.Answers.{IsBegun}
 use Rattle.upload_rules.specs.Slots.{numbers, IsRising, IsBelow, AllStand}
-use Rattle.upload_rules.specs.Appends.{IsPlaced}
+use Rattle.upload_rules.specs.Drafts.{IsPlaced}
 use Rattle.upload_rules.specs.Table.{TableStands, IsOpened}
 use Rattle.upload_rules.proofs.Kept.{counts}
 use Rattle.upload_rules.proofs.Worlds.{Appends, begins}

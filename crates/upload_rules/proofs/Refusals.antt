@@ -14,12 +14,13 @@ use Rattle.upload_rules.specs.Room.{is_short}
 use Rattle.upload_rules.specs.Calls.{or_else, refuse_if, offset_refusal, text_refusal, commit_refusal, is_empty, committed, committed_store, dropped, reached, longer, appended, appended_at}
 use Rattle.upload_rules.specs.Answers.{Answers, IsLate}
 use Rattle.upload_rules.specs.Slots.{numbers, IsNowhere, IsFirstAt, SlotStands}
-use Rattle.upload_rules.specs.Appends.{AppendStands, append_at, IsPut}
+use Rattle.upload_rules.specs.Drafts.{draft_at}
+use Rattle.upload_rules.specs.Appends.{AppendStands, IsPut}
 use Rattle.upload_rules.specs.Table.{TableStands}
 use Rattle.upload_rules.proofs.Finds.{replaced_same}
 use Rattle.upload_rules.proofs.Places.{count_of}
 use Rattle.upload_rules.proofs.Same.{same_upload}
-use Rattle.upload_rules.proofs.Patches.{append_of}
+use Rattle.upload_rules.proofs.Patches.{draft_of}
 use Rattle.upload_rules.proofs.Lookups.{no_upload, upload_at}
 use Rattle.upload_rules.proofs.Worlds.{Appends, drops, puts, appends_more}
 
@@ -101,7 +102,7 @@ late_text w d p = late_of (is_empty p.body) (is_there (patch_text w.store.indexe
     late_of false true c = tt
     late_of false false c = late_if c
 
-in_range : (appends : List (Option OpenAppend)) (d : ℕ) (o : OpenAppend) → Some o ≡ append_at appends d → d < length appends
+in_range : (appends : List (Option OpenAppend)) (d : ℕ) (o : OpenAppend) → Some o ≡ draft_at appends d → d < length appends
 in_range appends d o is =
     elim (cases_lt d (length appends)) [
       | inl lt ↦ lt
@@ -116,13 +117,13 @@ longer_is w d p piece e f =
 
 module _ (t : Table) (w : World) (stands : TableStands t w) (d : ℕ) (p : Patch) (there : find d w.patches ≡ Some p) where
   -- the append of the draft is the patch's
-  pub append_is : (o : OpenAppend) → Some o ≡ append_at t.appends.items d → AppendStands w.store.indexes w.store.next p o
+  pub append_is : (o : OpenAppend) → Some o ≡ draft_at t.appends.items d → AppendStands w.store.indexes w.store.next p o
   append_is o is =
-      let a = append_of w.store.indexes w.store.next p (find d w.patches) (append_at t.appends.items d) there (stands.appends d) in
+      let a = draft_of (AppendStands w.store.indexes w.store.next) p (find d w.patches) (draft_at t.appends.items d) there (stands.appends d) in
       subst (AppendStands w.store.indexes w.store.next p) (some_same a.0 o (sym a.1 ∙ sym is)) a.2
 
   -- the append was taken out and is put back with more of its body
-  module _ (o : OpenAppend) (is : Some o ≡ append_at t.appends.items d) (taken v : Appends) (new : OpenAppend) (gone : taken.items ≡ set t.appends.items d None)
+  module _ (o : OpenAppend) (is : Some o ≡ draft_at t.appends.items d) (taken v : Appends) (new : OpenAppend) (gone : taken.items ≡ set t.appends.items d None)
       (back : v.items ≡ set taken.items d (Some new)) where
     put_back : v.items ≡ set t.appends.items d (Some new)
     put_back = back ∙ ap (λ l. set l d (Some new)) gone ∙ set_set t.appends.items d None (Some new)
@@ -140,13 +141,13 @@ module _ (t : Table) (w : World) (stands : TableStands t w) (d : ℕ) (p : Patch
         (appends_more t w stands d p p.body new v there (in_range t.appends.items d o is) put_back held)
 
   module _ (v : Appends) (gone : v.items ≡ set t.appends.items d None) where
-    pub refused_missing : (o : OpenAppend) → Some o ≡ append_at t.appends.items d → IsNowhere (numbers t.slots.items) o.number
+    pub refused_missing : (o : OpenAppend) → Some o ≡ draft_at t.appends.items d → IsNowhere (numbers t.slots.items) o.number
         → (commit_refusal w d p ≡ Some refusals.NoSuch) × TableStands (record t { appends = v }) (dropped w d)
     refused_missing o is other =
         (no_such_upload w d p (no_upload t w stands p.number (subst (IsNowhere (numbers t.slots.items)) (append_is o is).number other)), drops t w stands d v gone)
 
     -- an upload's bytes are as many as at the head moment
-    module _ (o : OpenAppend) (is : Some o ≡ append_at t.appends.items d) (place : ℕ) (s : Slot) (first : IsFirstAt (numbers t.slots.items) o.number place)
+    module _ (o : OpenAppend) (is : Some o ≡ draft_at t.appends.items d) (place : ℕ) (s : Slot) (first : IsFirstAt (numbers t.slots.items) o.number place)
         (here : s ≡ get_or t.slots.items place s) where
       -- the upload of the slot
       upload : (u : Upload) × (upload_of w.store p.number ≡ Some u) × SlotStands w.store.indexes p.number u s

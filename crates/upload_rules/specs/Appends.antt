@@ -1,5 +1,5 @@
--- The open appends of a table by their drafts' numbers.
-use Rattle.std.specs.Prelude.{◌≡◌, ◌≤◌, ◌<◌, ◌+◌, ◌^◌, ◌==◌, ℕ, true, false, List, length, Option, Some, None, slice_index_or, if◌then◌else◌, Result, Ok, Err}
+-- The open appends of a table.
+use Rattle.std.specs.Prelude.{◌≡◌, ◌≤◌, ◌<◌, ◌+◌, ◌^◌, ℕ, true, false, length, None, Result, Ok, Err}
 use Rattle.enc_model.specs.Indexes.{IndexSet}
 use Rattle.upload_rules.specs.declared.errors.UploadError.{UploadError}
 use Rattle.upload_rules.specs.declared.errors.UploadError.TheVariants.{NoMemory, Refused}
@@ -22,21 +22,6 @@ pub record AppendStands (x : IndexSet) (next : ℕ) (p : Patch) (o : OpenAppend)
   pub below : p.number < next
   pub roomy : p.short ≡ false
   pub text : HoldsText x p.began p.body o.text
-
--- an append where there is a patch, and none where there is none
-abbrev pub AppendOf : IndexSet → ℕ → Option Patch → Option OpenAppend → Type 0
-AppendOf x next None None = Unit {0}
-AppendOf x next (Some p) (Some o) = AppendStands x next p o
-AppendOf x next _ _ = ⊥
-
-abbrev pub append_at : List (Option OpenAppend) → ℕ → Option OpenAppend
-append_at appends d = slice_index_or appends d None
-
--- the append stands at the least place that was free
-pub record IsPlaced (old : List (Option OpenAppend)) (o : OpenAppend) (place : ℕ) (new : List (Option OpenAppend)) : Type 0 where
-  pub free : append_at old place ≡ None
-  pub least : (d : ℕ) → d < place → is_there (append_at old d) ≡ true
-  pub after : (d : ℕ) → append_at new d ≡ (if d == place then Some o else append_at old d)
 
 -- what a commit of a body that isn't empty makes of its slot
 abbrev pub IsPut : IndexSet → Patch → Slot → Result ℕ UploadError → Type 0

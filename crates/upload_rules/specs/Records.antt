@@ -3,8 +3,9 @@ use Rattle.std.specs.Prelude.{◌≡◌, ◌≤◌, ℕ, true, List, [], ◌∷�
 use Rattle.enc_model.specs.Indexes.{IndexSet, offers}
 use Rattle.enc_model.specs.declared.Encoding.TheVariants.{Utf16Be, Utf16Le}
 use Rattle.upload_rules.specs.declared.records.Record.{Record}
-use Rattle.upload_rules.specs.Store.{New, Upload, text_of}
-use Rattle.upload_rules.specs.States.{state_of}
+use Rattle.enc_stream.specs.StateBytes.{IsSound}
+use Rattle.upload_rules.specs.Store.{New, Upload, text_of, text_with, is_complete}
+use Rattle.upload_rules.specs.States.{state_of, transcoder_with}
 
 pub record Tells (x : IndexSet) (number : ℕ) (r : Record) (u : Upload) : Type 0 where
   pub number_is : r.number ≡ number
@@ -16,6 +17,12 @@ pub record Tells (x : IndexSet) (number : ℕ) (r : Record) (u : Upload) : Type 
   pub mode : r.mode ≡ u.mode
   pub state : r.state ≡ state_of x u
   pub metadata : r.metadata.bytes.items ≡ u.metadata
+
+-- the record tells of the upload, its text has a value, and its state can be unpacked
+pub record Keeps (x : IndexSet) (number : ℕ) (r : Record) (u : Upload) : Type 0 where
+  pub tells : Tells x number r u
+  pub encodable : (text_with x u [] (is_complete u)).fault ≡ None
+  pub sound : IsSound (transcoder_with x u [] (is_complete u))
 
 -- a record where there is an upload, and none where there is none
 abbrev pub TellsOf : IndexSet → Option (ℕ × Upload) → Option Record → Type 0

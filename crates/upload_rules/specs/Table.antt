@@ -10,7 +10,8 @@ use Rattle.upload_rules.specs.Calls.{begin_refusal_at, first_patch}
 use Rattle.upload_rules.specs.Apart.{IsApart}
 use Rattle.upload_rules.specs.Grown.{IsGrown}
 use Rattle.upload_rules.specs.Slots.{numbers, IsRising, IsBelow, SlotStands, AllStand}
-use Rattle.upload_rules.specs.Appends.{AppendStands, AppendOf, append_at}
+use Rattle.upload_rules.specs.Drafts.{DraftOf, draft_at}
+use Rattle.upload_rules.specs.Appends.{AppendStands}
 use Rattle.upload_rules.specs.declared.table.Table.{Table}
 
 pub record TableStands (t : Table) (w : World) : Type 0 where
@@ -19,7 +20,7 @@ pub record TableStands (t : Table) (w : World) : Type 0 where
   pub slots : AllStand w.store.indexes w.store.uploads t.slots.items
   pub rising : IsRising (numbers t.slots.items)
   pub below : IsBelow (numbers t.slots.items) w.store.next
-  pub appends : (d : ℕ) → AppendOf w.store.indexes w.store.next (find d w.patches) (append_at t.appends.items d)
+  pub appends : (d : ℕ) → DraftOf (AppendStands w.store.indexes w.store.next) (find d w.patches) (draft_at t.appends.items d)
   pub apart : IsApart w.patches
   pub grown : IsGrown w
   pub unlimited : w.blocks ≡ None

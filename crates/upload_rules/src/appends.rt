@@ -1,9 +1,9 @@
 //! Appends under way.
 
-ghost use Rattle.std.specs.Prelude.{◌≡◌, ◌<◌, ◌≤◌, ◌+◌, ◌++◌, ℕ, length, OnOk, OnErr, IfOk, IsErrOf, Some, slice_set};
+ghost use Rattle.std.specs.Prelude.{◌<◌, ◌≤◌, ◌+◌, ◌++◌, ℕ, length, OnOk, OnErr, IsErrOf};
 ghost use Rattle.upload_rules.specs.World.{Patch};
 ghost use Rattle.upload_rules.specs.Slots.{SlotStands};
-ghost use Rattle.upload_rules.specs.Appends.{AppendStands, IsPlaced, IsPut, append_at};
+ghost use Rattle.upload_rules.specs.Appends.{AppendStands, IsPut};
 
 use crate::UploadError;
 use crate::new_text::NewText;
@@ -58,43 +58,5 @@ impl OpenAppend {
             Ok(()) => Ok(accepted),
             Err(_) => Err(UploadError::NoMemory),
         }
-    }
-}
-
-/// Puts an append at the least place that is free.
-pub(crate) fn placed(
-    appends: &mut Vec<Option<OpenAppend>>,
-    append: OpenAppend,
-) -> Result<usize, AllocError>
-    ensures ok { IfOk result (λ place. IsPlaced appends.old.items append place appends.new.items) }
-    ensures err { OnErr result (appends.new.items ≡ appends.old.items) }
-{
-    match appends.iter().position(|place| place.is_none()) {
-        Some(place) => {
-            appends[place] = Some(append);
-            Ok(place)
-        }
-        None => {
-            let place = appends.len();
-            appends.push(Some(append))?;
-            Ok(place)
-        }
-    }
-}
-
-/// Takes the append of a draft's number out.
-pub(crate) fn taken(appends: &mut Vec<Option<OpenAppend>>, place: usize) -> Option<OpenAppend>
-    ensures taken { result ≡ append_at appends.old.items place }
-    ensures after { appends.new.items ≡ slice_set appends.old.items place None }
-{
-    appends.get_mut(place)?.take()
-}
-
-/// Puts an append back that was taken out.
-pub(crate) fn put_back(appends: &mut Vec<Option<OpenAppend>>, place: usize, append: OpenAppend)
-    ensures { appends.new.items ≡ slice_set appends.old.items place (Some append) }
-{
-    if let Some(free) = appends.get_mut(place) {
-        *free = Some(append);
     }
 }

@@ -2,6 +2,7 @@
 #![tactic(auto)]
 
 mod appends;
+mod drafts;
 mod errors;
 mod laws;
 mod new_text;
@@ -12,8 +13,10 @@ mod table;
 mod tests;
 mod uploads;
 
+pub use drafts::{placed, put_back, taken};
 pub use errors::{UploadError, UploadRefusal};
 pub use laws::{same_offset, text_grows};
+pub use new_text::NewText;
 pub use records::{New, Record};
 pub use table::{Table, TableDraft};
 pub use uploads::Uploads;

@@ -11,7 +11,7 @@ use std::alloc::{AllocError, Global};
 
 /// What an append adds to its upload's text.
 #[derive(Drop)]
-pub(crate) enum NewText {
+pub enum NewText {
     /// These bytes, and where transcoding stands behind them.
     Growing {
         /// Where transcoding stands.
@@ -32,7 +32,7 @@ impl NewText {
     ghost use Rattle.enc_stream.specs.StateBytes.{IsSound};
 
     /// What an append to the upload of a record adds at first: nothing. None where the state bytes are those of no state.
-    pub(crate) fn behind(alloc: Global, upload: &Record) -> Option<Self>
+    pub fn behind(alloc: Global, upload: &Record) -> Option<Self>
         ensures { (x : Indexes) (n : ℕ) (u : Upload) → Tells x n upload.now u → (text_with x u [] (is_complete u)).fault ≡ None
             → IsSound (transcoder_with x u [] (is_complete u)) → MatchOption result ⊥ (HoldsText x u []) }
     {
@@ -46,7 +46,7 @@ impl NewText {
     }
 
     /// With a piece more; as it was, where a growth is refused.
-    pub(crate) fn with(self, indexes: &IndexSet, piece: &[u8]) -> (Self, Result<(), AllocError>)
+    pub fn with(self, indexes: &IndexSet, piece: &[u8]) -> (Self, Result<(), AllocError>)
         ensures ok { (u : Upload) (bytes : List ℕ) → HoldsText indexes.now u bytes self → OnOk result.1 (HoldsText indexes.now u (bytes ++ piece.now) result.0) }
         ensures err { (u : Upload) (bytes : List ℕ) → HoldsText indexes.now u bytes self → OnErr result.1 (HoldsText indexes.now u bytes result.0) }
     {
@@ -78,7 +78,7 @@ impl NewText {
     }
 
     /// The state bytes behind the accepted bytes, and the new text, with the bytes of the end where these complete the upload.
-    pub(crate) fn ended(
+    pub fn ended(
         self,
         indexes: &IndexSet,
         completes: bool,

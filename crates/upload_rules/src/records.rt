@@ -1,8 +1,14 @@
 //! What a store tells of an upload, and what it is given to make one.
 
-ghost use Rattle.upload_rules.specs.Store.{New as Fields};
+ghost use Rattle.std.specs.Prelude.{◌≡◌, ◌≤◌, ◌<◌, ◌+◌, ◌^◌, ℕ, IsOk, None, Some, MatchResult};
+ghost use Rattle.enc_model.specs.Indexes.{IndexSet};
+ghost use Rattle.enc_stream.specs.Standing.{IsOutput};
+ghost use Rattle.upload_rules.specs.Calls.{begin_refusal_at};
+ghost use Rattle.upload_rules.specs.Store.{New as Fields, Upload, new_upload};
 
+use crate::UploadRefusal;
 use enc_model::{Encoding, Mode};
+use enc_stream::Transcoder;
 use std::marker::Model;
 
 /// An upload as the store tells of it.
@@ -47,4 +53,53 @@ impl Model for New {
     ghost Value = { Fields };
 
     ghost view = { λ n. record { declared = n.declared; from = n.from; to = n.to; mode = n.mode; metadata = n.metadata.bytes.items } };
+}
+
+impl Record {
+    ghost use Rattle.upload_rules.specs.Records.{Keeps, Tells};
+
+    /// The record of a new upload, without bytes.
+    pub fn first(number: u64, fields: New) -> Record
+        requires { IsOutput fields.to }
+        ensures { (x : IndexSet) → Keeps x number result (new_upload fields) }
+    {
+        let New {
+            declared,
+            from,
+            to,
+            mode,
+            metadata,
+        } = fields;
+        let transcoder = if declared == 0 {
+            Transcoder::ended(from, to, mode)
+        } else {
+            Transcoder::new(from, to, mode)
+        };
+        Record {
+            number,
+            declared,
+            accepted: 0,
+            text_len: 0,
+            from,
+            to,
+            mode,
+            state: transcoder.pack(),
+            metadata,
+        }
+    }
+
+    /// Whether `count` bytes may come at an offset: refused with `Offset`, `TooLong`.
+    pub fn admits(&self, offset: u64, count: u64) -> Result<(), UploadRefusal>
+        ensures room { IsOk result → (self.now.accepted ≡ offset) × (offset + count ≤ self.now.declared) × (self.now.declared < 2 ^ 64) }
+        ensures rules { (x : IndexSet) (n : ℕ) (u : Upload) → Tells x n self.now u
+            → MatchResult result (λ _. begin_refusal_at offset count (Some u) ≡ None) (λ e. begin_refusal_at offset count (Some u) ≡ Some e) }
+    {
+        if self.accepted != offset {
+            return Err(UploadRefusal::Offset);
+        }
+        if self.declared < offset || self.declared - offset < count {
+            return Err(UploadRefusal::TooLong);
+        }
+        Ok(())
+    }
 }

@@ -8,7 +8,6 @@ ghost use Rattle.enc_model.specs.Indexes.{IndexSet as Indexes};
 ghost use Rattle.upload_rules.specs.Slots.{SlotStands, numbers, IsRising, IsDivided, IsFirstAt, IsNowhere};
 
 use crate::{New, Record};
-use enc_stream::Transcoder;
 use std::alloc::{AllocError, Global};
 
 /// An upload of a table.
@@ -26,30 +25,8 @@ impl Slot {
         requires { IsOutput fields.to }
         ensures { (x : Indexes) → SlotStands x number (new_upload fields) result }
     {
-        let New {
-            declared,
-            from,
-            to,
-            mode,
-            metadata,
-        } = fields;
-        let transcoder = if declared == 0 {
-            Transcoder::ended(from, to, mode)
-        } else {
-            Transcoder::new(from, to, mode)
-        };
         Slot {
-            record: Record {
-                number,
-                declared,
-                accepted: 0,
-                text_len: 0,
-                from,
-                to,
-                mode,
-                state: transcoder.pack(),
-                metadata,
-            },
+            record: Record::first(number, fields),
             text: Vec::new(alloc),
         }
     }

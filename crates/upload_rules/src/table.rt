@@ -1,6 +1,7 @@
 //! Uploads in memory, where a crash leaves nothing to speak of.
 
-use crate::appends::{OpenAppend, placed, put_back, taken};
+use crate::appends::OpenAppend;
+use crate::drafts::{placed, put_back, taken};
 use crate::new_text::NewText;
 use crate::slots::{Slot, place_of, places_to, read_from};
 use crate::{New, Record, UploadError, UploadRefusal, Uploads};
@@ -67,12 +68,7 @@ impl Table {
         let Some(slot) = self.slot(number) else {
             return Err(UploadRefusal::NoSuch);
         };
-        if slot.record.accepted != offset {
-            return Err(UploadRefusal::Offset);
-        }
-        if slot.record.declared < offset || slot.record.declared - offset < count {
-            return Err(UploadRefusal::TooLong);
-        }
+        slot.record.admits(offset, count)?;
         let Some(text) = NewText::behind(self.alloc, &slot.record) else {
             return Err(UploadRefusal::NoSuch);
         };

@@ -1,6 +1,6 @@
 use Rattle.std.proofs.Common.{◌≡◌, ◌+◌, ◌-◌, ◌*◌, ℕ, get_or, sym, ◌∙◌, ap, arith}
 use Rattle.enc_index.specs.Area.{area_byte}
-use Rattle.spool_image.specs.View.{index_place, state_page}
+use Rattle.spool_pages.specs.View.{index_place, state_page}
 use Rattle.spool_image.proofs.Fresh.{fresh_front, fresh_area, fresh_state, fresh_zeros}
 use Rattle.spool_image.proofs.formatting.fresh_page.Goals as goal
 

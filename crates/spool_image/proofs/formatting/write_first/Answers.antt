@@ -1,6 +1,6 @@
 use Rattle.std.proofs.Common.{rules, arith, ◌∙◌, ap, get_or, ℕ}
 use Rattle.spool_disk.proofs.Firm.{on_ok}
-use Rattle.spool_image.specs.View.{first_page}
+use Rattle.spool_pages.specs.View.{first_page}
 use Rattle.spool_image.proofs.Fresh.{fresh_all, some_pages}
 use Rattle.spool_image.proofs.formatting.write_first.Goals as goal
 

@@ -2,9 +2,9 @@ use Rattle.std.proofs.Common.{rules, ◌∙◌, ◌*◌, inl, inr, arith}
 use Rattle.spool_disk.proofs.Firm.{not_err}
 use Rattle.spool_journal.proofs.Steps.{no_failure}
 use Rattle.std.proofs.lemmas.Bool.{cases_lt}
-use Rattle.spool_image.specs.View.{state_place}
+use Rattle.spool_pages.specs.View.{state_place}
 use Rattle.spool_image.proofs.Fresh.{fresh_more}
-use Rattle.spool_image.proofs.Says.{all_is}
+use Rattle.spool_pages.proofs.Says.{all_is}
 use Rattle.spool_image.proofs.formatting.write_pages.Goals as goal
 
 pub loop-page-preserved : goal.loop-page-preserved

@@ -1,6 +1,6 @@
 use Rattle.std.proofs.Common.{◌≡◌, ◌≤◌, ◌*◌}
 use Rattle.enc_index.specs.Sets.{IsIndexSet}
-use Rattle.spool_image.specs.View.{state_place}
+use Rattle.spool_pages.specs.View.{state_place}
 use Rattle.spool_image.specs.Fresh.{IsFreshTo}
 use Rattle.spool_image.proofs.formatting.write_pages.Given as goal
 

@@ -2,8 +2,8 @@ use Rattle.std.proofs.Common.{◌≡◌, inl, inr, ℕ, sym, subst, rules, ⊎_e
 use Rattle.spool_disk.proofs.Firm.{lasts_on, lasts_more}
 use Rattle.spool_journal.specs.Image.{journal_pages, overlaid}
 use Rattle.spool_journal.specs.Phases.{ReadsAs}
-use Rattle.spool_image.specs.Kept.{KeepsView}
-use Rattle.spool_image.specs.View.{IsViewOf}
+use Rattle.spool_image.specs.Kept.{KeepsAlone}
+use Rattle.spool_pages.specs.View.{IsViewOf}
 use Rattle.spool_image.specs.declared.kept.Kept.{Kept}
 use Rattle.spool_image.proofs.Looks.{loads_err}
 use Rattle.spool_image.proofs.Opens.{same_function, first_plain, keeps_image}
@@ -12,7 +12,7 @@ use Rattle.spool_image.proofs.opening.prepare.Goals as goal
 pub returns-in_err-layout-clause-said : goal.returns-in_err-layout-clause-said
 returns-in_err-layout-clause-said g c honest v sound is room =
     let found = c.in_err-layout.ensures.said honest v.blocks sound.least sound.most room (first_plain (g.D.Disk.seen c.args.disk.now) v is) in
-    let handed = loads_err _ (λ (kept : Kept). KeepsView kept v) _ found in
+    let handed = loads_err _ (λ (kept : Kept). KeepsAlone kept v) _ found in
     search rules
 
 pub returns-clause-said : goal.returns-clause-said

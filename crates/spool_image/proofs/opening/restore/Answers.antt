@@ -5,7 +5,7 @@ use Rattle.spool_journal.specs.Phases.{Settled}
 use Rattle.spool_journal.specs.declared.error.RecoverError.{RecoverError}
 use Rattle.spool_journal.specs.declared.error.RecoverError.TheVariants as recover
 use Rattle.spool_image.specs.Faults.{fault_of}
-use Rattle.spool_image.specs.Kept.{KeepsView}
+use Rattle.spool_image.specs.Kept.{KeepsAlone}
 use Rattle.spool_image.specs.Reads.{LoadsAs}
 use Rattle.spool_image.specs.declared.kept.Kept.{Kept}
 use Rattle.spool_image.proofs.Opens.{settled_still, settled_says, settled_reads, settled_on, if_ok}
@@ -23,7 +23,7 @@ returns-in_err-recover-clause-said g c honest v sound blocks is =
     let J : ℕ → Type 0 = λ n. g.D.Disk.seen c.args.disk.now 4096 ≡ 165 → InForm (journal_pages n) (count (g.D.Disk.seen c.args.disk.now)) (number (g.D.Disk.seen c.args.disk.now)) in
     let form = subst J blocks is.form in
     let sound_head : c.in_err-recover.field-0.0 ≡ recover.Damaged → ⊥ = λ e. (let bad = c.recover.ensures.damaged honest (c.in_err-recover.was ∙ err_of _ _ e) in bad.1 (form bad.0)) in
-    let handed = recover_handed (λ (kept : Kept). KeepsView kept v) c.in_err-recover.field-0.0 sound_head in
+    let handed = recover_handed (λ (kept : Kept). KeepsAlone kept v) c.in_err-recover.field-0.0 sound_head in
     search rules
 
 pub returns-clause-said : goal.returns-clause-said

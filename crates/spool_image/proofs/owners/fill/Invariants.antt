@@ -1,8 +1,8 @@
 use Rattle.std.proofs.Common.{◌≡◌, ◌<◌, ◌+◌, ◌*◌, ℕ, List, Option, None, length, get_or}
 use Rattle.spool_journal.specs.Image.{byte_of}
-use Rattle.spool_image.specs.Fits.{FitsRow}
+use Rattle.spool_pages.specs.Fits.{FitsRow}
 use Rattle.spool_image.specs.Reads.{IsSameTo}
-use Rattle.spool_image.specs.View.{Stands, row_bytes}
+use Rattle.spool_pages.specs.View.{Stands, row_bytes}
 use Rattle.spool_image.proofs.owners.fill.Given as goal
 
 abbrev pub invariant-loop-k : goal.invariant-loop-k

@@ -1,7 +1,7 @@
 use Rattle.std.proofs.Common.{◌≡◌, ◌+◌, ◌*◌, ℕ, length, rules, subst, arith}
 use Rattle.spool_image.specs.Reads.{IsSameTo}
-use Rattle.spool_image.specs.View.{row_place}
-use Rattle.spool_image.proofs.Says.{all_is}
+use Rattle.spool_pages.specs.View.{row_place}
+use Rattle.spool_pages.proofs.Says.{all_is}
 use Rattle.spool_image.proofs.Looks.{read_stands}
 use Rattle.spool_image.proofs.owners.load_page.Goals as goal
 

@@ -1,9 +1,9 @@
 use Rattle.std.proofs.Common.{◌≡◌, ◌<◌, ◌-◌, ◌*◌, ℕ, List, Option, None, length, get_or}
 use Rattle.spool_journal.specs.Image.{journal_pages}
 use Rattle.spool_journal.specs.Phases.{Still}
-use Rattle.spool_image.specs.Fits.{FitsRow}
+use Rattle.spool_pages.specs.Fits.{FitsRow}
 use Rattle.spool_image.specs.Reads.{OnlyReads, IsSameTo}
-use Rattle.spool_image.specs.View.{Stands, row_bytes, row_place}
+use Rattle.spool_pages.specs.View.{Stands, row_bytes, row_place}
 use Rattle.spool_image.proofs.owners.load_pages.Given as goal
 
 abbrev pub invariant-loop-page : goal.invariant-loop-page

@@ -1,7 +1,7 @@
 use Rattle.std.proofs.Common.{◌≡◌, ◌*◌, ℕ, length}
 use Rattle.spool_journal.specs.Phases.{Still}
 use Rattle.spool_image.specs.Reads.{OnlyReads, IsReadAt}
-use Rattle.spool_image.specs.View.{index_place}
+use Rattle.spool_pages.specs.View.{index_place}
 use Rattle.spool_image.proofs.reading.load_area.Given as goal
 
 abbrev pub invariant-loop-page : goal.invariant-loop-page

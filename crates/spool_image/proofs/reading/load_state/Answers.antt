@@ -1,6 +1,6 @@
 use Rattle.std.proofs.Common.{◌≡◌, rules, ◌*◌, arith}
-use Rattle.spool_image.specs.View.{state_place, state_page}
-use Rattle.spool_image.proofs.Says.{all_is, some_journal}
+use Rattle.spool_pages.specs.View.{state_place, state_page}
+use Rattle.spool_pages.proofs.Says.{all_is, some_journal}
 use Rattle.spool_image.proofs.Looks.{read_padded, length-state}
 use Rattle.spool_image.proofs.reading.load_state.Goals as goal
 

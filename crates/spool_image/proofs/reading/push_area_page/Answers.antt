@@ -1,5 +1,5 @@
 use Rattle.std.proofs.Common.{arith}
-use Rattle.spool_image.proofs.Says.{all_is, some_journal}
+use Rattle.spool_pages.proofs.Says.{all_is, some_journal}
 use Rattle.spool_image.proofs.reading.push_area_page.Goals as goal
 
 pub read_at-requires : goal.read_at-requires

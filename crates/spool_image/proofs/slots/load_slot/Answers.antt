@@ -1,8 +1,9 @@
 use Rattle.std.proofs.Common.{◌≡◌, ◌+◌, ◌*◌, rules, arith}
-use Rattle.spool_image.specs.View.{slot_place, slot_bytes}
-use Rattle.spool_image.proofs.Says.{all_is, some_journal}
+use Rattle.spool_pages.specs.View.{slot_place, slot_bytes}
+use Rattle.spool_pages.proofs.Says.{all_is, some_journal}
 use Rattle.spool_image.proofs.Looks.{read_padded}
-use Rattle.spool_image.proofs.RecordBytes.{slot_few}
+use Rattle.spool_image.proofs.Sound.{fits_slot}
+use Rattle.spool_pages.proofs.RecordBytes.{slot_few}
 use Rattle.spool_image.proofs.slots.load_slot.Goals as goal
 
 pub read_at-requires : goal.read_at-requires
@@ -11,4 +12,4 @@ read_at-requires g c = omega (arith, all_is c.args.layout.now, some_journal c.ar
 pub returns-clause-said : goal.returns-clause-said
 returns-clause-said g c honest bytes still said fits stands =
     let here : 4096 * (c.metadata_page.result + 1) + 2048 * c.args.slot ≡ slot_place c.args.layout.now c.args.slot = omega arith in
-    c.kept_of.ensures.said said fits (read_padded bytes _ _ c.read_at.new.buf (slot_bytes said) 2048 (c.in_ok-read_at.ensures.bytes honest bytes still) (search rules) here (slot_few said fits) stands)
+    c.kept_of.ensures.said said fits (read_padded bytes _ _ c.read_at.new.buf (slot_bytes said) 2048 (c.in_ok-read_at.ensures.bytes honest bytes still) (search rules) here (slot_few said (fits_slot said fits)) stands)

@@ -1,6 +1,6 @@
 use Rattle.std.proofs.Common.{◌≡◌, ◌+◌, ◌∙◌, ℕ, List, Option, rules, ap, arith}
 use Rattle.spool_journal.proofs.Steps.{no_failure}
-use Rattle.spool_image.specs.View.{SlotRecord}
+use Rattle.spool_pages.specs.View.{SlotRecord}
 use Rattle.spool_image.proofs.Looks.{reads_on, loads_err, ok_no_fault, front_all}
 use Rattle.spool_image.proofs.slots.load_slots.Goals as goal
 

@@ -26,7 +26,7 @@ returns-in-Ok-clause-shows g c honest m v is shows room image here =
     let settled = c.in-Ok.ensures.settled honest in
     let kept = c.in-Ok.ensures.said honest v shows.sound is room in
     let reads = settled_reads image settled (λ p. here.same p (settled.firm p)) in
-    image_shows m image was v is shows (subst (λ (n : ℕ). ReadsAs (journal_pages n) image (overlaid was)) kept.blocks reads)
+    image_shows m image was v is shows (subst (λ (n : ℕ). ReadsAs (journal_pages n) image (overlaid was)) kept.0.blocks reads)
 
 pub returns-in-Ok-clause-idle : goal.returns-in-Ok-clause-idle
 returns-in-Ok-clause-idle g c honest = settled_idle (c.in-Ok.ensures.settled honest)

@@ -17,19 +17,19 @@ same_slot slots place a b lt e f = e ∙ get_or_same slots place a b lt ∙ sym 
 
 pub returns-in_default-place_of-clause-answer : goal.returns-in_default-place_of-clause-answer
 returns-in_default-place_of-clause-answer c = λ w p stands there holds.
-    refused_missing c.args.self.now w stands c.args.draft.number p there c.taken.new.appends c.in-Some.ensures.after c.in-Some.append c.in-Some.ensures.taken
+    refused_missing c.args.self.now w stands c.args.draft.number p there c.taken.new.drafts c.in-Some.ensures.after c.in-Some.append c.in-Some.ensures.taken
     (subst (λ (l : List Slot). IsRising (numbers l) → IsNowhere (numbers l) c.in-Some.append.number) c.deref.ensures.value c.in_default-place_of.ensures.place stands.rising)
 
 pub returns-then-index-append-clause-answer : goal.returns-then-index-append-clause-answer
 returns-then-index-append-clause-answer c = λ w p stands there holds.
     let first = subst (λ (l : List Slot). IsRising (numbers l) → IsFirstAt (numbers l) c.in-Some.append.number c.in-Some-place_of.place) c.deref.ensures.value c.in-Some-place_of.ensures.place stands.rising in
-    refused_offset c.args.self.now w stands c.args.draft.number p there c.taken.new.appends c.in-Some.ensures.after c.in-Some.append c.in-Some.ensures.taken
+    refused_offset c.args.self.now w stands c.args.draft.number p there c.taken.new.drafts c.in-Some.ensures.after c.in-Some.append c.in-Some.ensures.taken
     c.in-Some-place_of.place c.index.result.now first c.index.ensures c.if-index-append.true
 
 pub returns-then-append-eq0-clause-answer : goal.returns-then-append-eq0-clause-answer
 returns-then-append-eq0-clause-answer c = λ w p stands there holds.
     let first = subst (λ (l : List Slot). IsRising (numbers l) → IsFirstAt (numbers l) c.in-Some.append.number c.in-Some-place_of.place) c.deref.ensures.value c.in-Some-place_of.ensures.place stands.rising in
-    commits_nothing c.args.self.now w stands c.args.draft.number p there c.taken.new.appends c.in-Some.ensures.after c.in-Some.append c.in-Some.ensures.taken
+    commits_nothing c.args.self.now w stands c.args.draft.number p there c.taken.new.drafts c.in-Some.ensures.after c.in-Some.append c.in-Some.ensures.taken
     c.in-Some-place_of.place c.index.result.now first c.index.ensures c.if-index-append.false c.if-append-eq0.true
 
 pub returns-clause-answer : goal.returns-clause-answer
@@ -41,7 +41,7 @@ returns-clause-answer c = λ w p stands there holds.
     let s = c.index.result.now in
     let first = subst (λ (l : List Slot). IsRising (numbers l) → IsFirstAt (numbers l) o.number place) c.deref.ensures.value c.in-Some-place_of.ensures.place stands.rising in
     let append = append_is t w stands d p there o c.in-Some.ensures.taken in
-    let v = c.taken.new.appends in
+    let v = c.taken.new.drafts in
     let gone = c.in-Some.ensures.after in
     let some = body_some t w stands d p there v gone o c.in-Some.ensures.taken place s first c.index.ensures c.if-index-append.false c.if-append-eq0.false in
     let kept = kept_as_before t w stands d p there v gone o c.in-Some.ensures.taken place s first c.index.ensures c.if-index-append.false in

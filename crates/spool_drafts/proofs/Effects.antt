@@ -1,0 +1,83 @@
+-- What calls leave, one after another.
+use Rattle.std.proofs.Common.{◌≡◌, inl, inr, ℕ, ◌+◌, ◌*◌, ◌++◌, List, [], length, refl, sym, ◌∙◌, ap, subst, arith, append-nil, ⊎_elim}
+use Rattle.spool_blocks.specs.Blocks.{Held}
+use Rattle.spool_disk.specs.Disk.{IsImage, Keeps}
+use Rattle.spool_disk.specs.Views.{Lasts}
+use Rattle.spool_disk.specs.declared.disk.Disk.{Ghosts}
+use Rattle.spool_disk.proofs.Firm.{lasts_on, lasts_more}
+use Rattle.spool_texts.specs.Drafts.{IsReserved, Takes, GivesBack}
+use Rattle.spool_texts.specs.Written.{WritesIn, IsImageBut, aside_blocks}
+use Rattle.spool_texts.proofs.Asides.{aside_blocks_else, image_aside}
+use Rattle.spool_texts.proofs.Fronts.{writes_none, writes_on, idle_in, image_in, but_more, but_on}
+use Rattle.spool_texts.proofs.Reserves.{takes_none}
+use Rattle.spool_drafts.specs.Effect.{Regrasps, OnlyWrites}
+
+-- an image that is one from before with the blocks as they were is one but for them
+but_aside : {seen image : ℕ → ℕ} {loose : ℕ → Type 0} {first : ℕ} {own : List ℕ} → IsImage seen loose (aside_blocks first own seen image) → IsImageBut first own seen loose image
+but_aside {seen = seen} {image = image} {first = first} {own = own} is = record { same = λ p away firm. sym (aside_blocks_else first own seen image p away) ∙ is.same p firm }
+
+writes_keeps : {seen seen' : ℕ → ℕ} {loose loose' : ℕ → Type 0} (first : ℕ) (own : List ℕ) → Keeps seen seen' loose loose' → WritesIn first own seen seen' loose loose'
+writes_keeps first own keeps = record { outside = λ p away. keeps.same p; loosens = λ p l. inl (keeps.loosens p l) }
+
+module _ {D : Type 0} {disk : Ghosts D} {j : ℕ} where
+  only : {own : List ℕ} {old new : D} → WritesIn (25 + 2 * j) own (disk.seen old) (disk.seen new) (disk.loose old) (disk.loose new) → Lasts disk old new (IsImageBut (25 + 2 * j) own (disk.seen old) (disk.loose old)) → OnlyWrites disk j own old new
+  only writes lasts = record {
+    writes = writes;
+    idle = λ idle. idle_in idle writes;
+    image = λ image is. image_aside _ _ (image_in writes is);
+    lasts = lasts_more lasts (λ image is. image_aside _ _ is);
+  }
+
+  -- nothing is written
+  pub only_none : (own : List ℕ) (d : D) → OnlyWrites disk j own d d
+  only_none own d = only (writes_none _ _) record { later = omega arith; nothing_else = λ t image le left. inl left }
+
+  -- only read
+  pub only_read : (own : List ℕ) {old new : D} → Keeps (disk.seen old) (disk.seen new) (disk.loose old) (disk.loose new) → Lasts disk old new (IsImage (disk.seen old) (disk.loose old)) → OnlyWrites disk j own old new
+  only_read own keeps lasts = only (writes_keeps _ _ keeps) (lasts_more lasts (λ image is. record { same = λ p away firm. is.same p firm }))
+
+  -- one call and then another
+  pub only_on : {own own' : List ℕ} {old mid new : D} (more : List ℕ) → own' ≡ own ++ more → OnlyWrites disk j own old mid → OnlyWrites disk j own' mid new → OnlyWrites disk j own' old new
+  only_on more grown a b = only
+      (writes_on more grown a.writes b.writes)
+      (lasts_on (lasts_more a.lasts (λ image is. but_more more grown (but_aside is))) (lasts_more b.lasts (λ image is. but_on more grown a.writes (but_aside is))))
+
+  -- on more blocks
+  pub only_wide : {own own' : List ℕ} {old new : D} (more : List ℕ) → own' ≡ own ++ more → OnlyWrites disk j own old new → OnlyWrites disk j own' old new
+  only_wide more grown a = only (writes_on more grown a.writes (writes_none _ _)) (lasts_more a.lasts (λ image is. but_more more grown (but_aside is)))
+
+  -- a call, and then a write to what the draft holds
+  pub only_then : {blocks blocks' : Held} {list list' own : List ℕ} {old mid new : D} → Regrasps blocks blocks' list list' own → OnlyWrites disk j own old mid → OnlyWrites disk j list' mid new → OnlyWrites disk j own old new
+  only_then {own = own} {mid = mid} {new = new} grasp a b = only_on [] (sym (append-nil own)) a
+      (⊎_elim
+      (λ here. subst (λ (list : List ℕ). OnlyWrites disk j list mid new) here.1 b)
+      (λ given. only_wide own refl (subst (λ (list : List ℕ). OnlyWrites disk j list mid new) given.1 b))
+      grasp.holds)
+
+-- BLOCKS
+
+pub grasp_takes : {old new : Held} {list list' : List ℕ} → Takes old new list list' → IsReserved new list' → Regrasps old new list list' list'
+grasp_takes {new = new} takes reserved = record { held = new; takes = takes; reserved = reserved; holds = inl (refl, refl) }
+
+pub grasp_none : (h : Held) (list list' : List ℕ) → list' ≡ list → IsReserved h list → Regrasps h h list list' list'
+grasp_none h list list' same reserved = grasp_takes (takes_none h list list' same) (subst (IsReserved h) (sym same) reserved)
+
+pub grasp_gives : {old held new : Held} {list own : List ℕ} (list' : List ℕ) → Takes old held list own → IsReserved held own → GivesBack held new own → list' ≡ [] → Regrasps old new list list' own
+grasp_gives {held = held} list' takes reserved gives none = record { held = held; takes = takes; reserved = reserved; holds = inr (gives, none) }
+
+pub rows_of : {old new : Held} {list list' own : List ℕ} → Regrasps old new list list' own → new.rows ≡ old.rows
+rows_of grasp = ⊎_elim (λ here. ap (λ (h : Held). h.rows) (sym here.0) ∙ grasp.takes.rows) (λ given. given.0.rows ∙ grasp.takes.rows) grasp.holds
+
+pub reserved_none : (h : Held) (list : List ℕ) → list ≡ [] → IsReserved h list
+reserved_none h list none =
+    let nothing : length list ≡ 0 = ap length none in
+    record {
+      below = λ i lt. absurd (omega (arith, lt, nothing));
+      reserved = λ i lt. absurd (omega (arith, lt, nothing));
+      no_owner = λ i lt. absurd (omega (arith, lt, nothing));
+      distinct = λ i k lt lt'. absurd (omega (arith, lt', nothing));
+    }
+
+pub reserved_of : {old new : Held} {list list' own : List ℕ} → Regrasps old new list list' own → IsReserved new list'
+reserved_of {new = new} {list' = list'} grasp =
+    ⊎_elim (λ here. subst (λ (h : Held). IsReserved h list') here.0 (subst (IsReserved grasp.held) (sym here.1) grasp.reserved)) (λ given. reserved_none new list' given.1) grasp.holds

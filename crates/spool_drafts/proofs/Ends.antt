@@ -1,0 +1,124 @@
+-- A draft whose text ends.
+use Rattle.std.proofs.Common.{◌≡◌, ◌⊎◌, inl, inr, ◌≤◌, ◌<◌, ◌+◌, ◌-◌, ◌*◌, ◌/◌, ◌%◌, ◌++◌, ℕ, Bool, true, false, List, [], length, Option, None, Some, Err, refl, sym, ◌∙◌, ap, subst, arith, append-nil, length-append, length-drop, ⊎_elim}
+use Rattle.std.proofs.lemmas.Bool.{cases_lt, ne_eqb}
+use Rattle.enc_model.specs.Indexes.{IndexSet}
+use Rattle.spool_blocks.specs.Blocks.{Held}
+use Rattle.spool_texts.specs.Drafts.{Draft}
+use Rattle.upload_rules.specs.declared.errors.UploadError.{UploadError}
+use Rattle.upload_rules.specs.declared.errors.UploadError.TheVariants.{NoMemory, DiskFault, Refused}
+use Rattle.upload_rules.specs.declared.errors.UploadRefusal.TheVariants as refusals
+use Rattle.upload_rules.specs.Room.{need_of, wants}
+use Rattle.upload_rules.specs.Store.{text_of, text_with, is_complete}
+use Rattle.upload_rules.specs.World.{Patch, is_there, patch_text}
+use Rattle.spool_drafts.specs.Drafts.{Holds, IsKept, IsWhole, EndsAs, open_text, list_of}
+use Rattle.spool_drafts.specs.Effect.{RunsShort}
+use Rattle.spool_drafts.specs.Fresh.{IsFinished, FinishesAs}
+use Rattle.spool_drafts.specs.Growth.{HoldsLen, HoldsCount, ClosesAs, list_on, whole_len}
+use Rattle.spool_drafts.specs.declared.draft.SpoolDraft.{SpoolDraft}
+use Rattle.spool_drafts.specs.declared.growth.Growth.{Growth}
+use Rattle.spool_drafts.proofs.Lengths.{need_some}
+use Rattle.spool_drafts.proofs.Patches.{value_before, in_front, wants_is, open_grows}
+
+-- where no block is needed nothing was added
+need_none : (t n : ℕ) → need_of t (n - t % 4096) ≡ 0 → n ≤ t % 4096
+need_none t n none = ⊎_elim (λ (lt : t % 4096 < n). omega (arith, lt, none, need_some t n lt)) (λ (le : n ≤ t % 4096). le) (cases_lt (t % 4096) n)
+
+whole_is : (t n : ℕ) (on : Option Draft) → HoldsCount on n → t % 4096 ≤ n → length (list_on on) ≡ need_of t (n - t % 4096) → whole_len t on ≡ 4096 * (t / 4096) + n
+whole_is t n None count some listed = omega (arith, some, need_none t n (sym listed))
+whole_is t n (Some text) count some listed = ap (λ (k : ℕ). 4096 * (t / 4096) + k) count
+
+module _ (x : IndexSet) (p : Patch) (d : SpoolDraft) (held : Holds x p d) (some : 0 < length p.body) (done : Bool) where
+  pub still : is_complete p.began ≡ false
+  still = ne_eqb (length p.began.accepted) p.began.declared (λ e. omega (arith, e, some, held.held, held.within))
+
+  patch_is : (b : Bool) → patch_text x p b ≡ text_with x p.began p.body b
+  unfolding patch_text
+  patch_is b = refl
+
+  pub refused : (blocks blocks' : Held) (new : SpoolDraft) (e : UploadError) → FinishesAs x p.began p.body done (Err e) → EndsAs x p done d new blocks blocks' (Err e)
+  refused blocks blocks' new NoMemory ends = tt
+  refused blocks blocks' new DiskFault ends = absurd ends
+  refused blocks blocks' new (Refused refusals.Unencodable) ends = ap (λ r. is_there r.fault) (patch_is done) ∙ ends
+  refused blocks blocks' new (Refused refusals.NoSuch) ends = absurd ends
+  refused blocks blocks' new (Refused refusals.Offset) ends = absurd ends
+  refused blocks blocks' new (Refused refusals.TooLong) ends = absurd ends
+  refused blocks blocks' new (Refused refusals.Slots) ends = absurd ends
+  refused blocks blocks' new (Refused refusals.TooLarge) ends = absurd ends
+  refused blocks blocks' new (Refused refusals.Full) ends = absurd ends
+
+  module _ (state text : List ℕ) (finished : IsFinished x p.began p.body done state text) where
+    encodable_end : (patch_text x p done).fault ≡ None
+    encodable_end = ap (λ r. r.fault) (patch_is done) ∙ finished.encodable
+
+    at_nil : p.body ++ [] ≡ p.body
+    at_nil = append-nil p.body
+
+    encodable_open : (patch_text x p false).fault ≡ None
+    encodable_open = ap (λ r. r.fault) (patch_is false) ∙ value_before x p.began p.body [] done (ap (λ (b : List ℕ). (text_with x p.began b done).fault) at_nil ∙ finished.encodable)
+
+    front : length (text_of x p.began) ≤ length (patch_text x p false).bytes
+    front = omega (arith, ap (λ r. length r.bytes) (patch_is false), in_front x p.began p.body false still (sym (ap (λ r. r.fault) (patch_is false)) ∙ encodable_open))
+
+    end_front : length (text_of x p.began) ≤ length (patch_text x p done).bytes
+    end_front = omega (arith, ap (λ r. length r.bytes) (patch_is done), in_front x p.began p.body done still finished.encodable)
+
+    pub open_ended : open_text x p done ≡ open_text x p false ++ text
+    open_ended =
+        ap (λ (b : List ℕ). open_text x (record p { body = b }) done) (sym at_nil)
+        ∙ open_grows x p [] text false done front (finished.adds ∙ ap (λ (b : List ℕ). (text_with x p.began b done).bytes) (sym at_nil))
+
+    pub kept_end : d.growth.short ≡ false → IsKept x p d
+    kept_end roomy = record { roomy = roomy; encodable = encodable_open; incomplete = still }
+
+    size : length (open_text x p false) + length text ≡ length (open_text x p done)
+    size = sym (ap length open_ended ∙ length-append (open_text x p false) text)
+
+    wanted : need_of d.growth.text_len ((length (open_text x p false) + length text) - d.growth.text_len % 4096) ≡ wants x p done
+    wanted =
+        ap (λ (t : ℕ). need_of t ((length (open_text x p false) + length text) - t % 4096)) held.committed
+        ∙ ap (λ (n : ℕ). need_of (length (text_of x p.began)) (n - length (text_of x p.began) % 4096)) size
+        ∙ sym (wants_is x p done encodable_end)
+
+    pub closed_len : (growth : Growth) → d.growth.short ≡ false → ((n : ℕ) → HoldsLen d.growth n → HoldsLen growth (n + length text)) → HoldsLen growth (length (open_text x p done))
+    closed_len growth roomy holds = subst (HoldsLen growth) size (holds (length (open_text x p false)) (held.kept (kept_end roomy)))
+
+    pub whole : (new : SpoolDraft) → new.growth.text_len ≡ d.growth.text_len → d.growth.short ≡ false → ((n : ℕ) → HoldsLen d.growth n → HoldsLen new.growth (n + length text)) → IsWhole x p done new state
+    whole new len roomy holds =
+        let closed = closed_len new.growth roomy holds in
+        let t = length (text_of x p.began) in
+        let committed : new.growth.text_len ≡ t = len ∙ held.committed in
+        record {
+          state_is = finished.state_is;
+          sound = finished.sound;
+          encodable = encodable_end;
+          roomy = sym held.short ∙ roomy;
+          listed = closed.listed ∙ ap (λ (n : ℕ). need_of new.growth.text_len (n - new.growth.text_len % 4096)) (sym size) ∙ ap (λ (k : ℕ). need_of k ((length (open_text x p false) + length text) - k % 4096)) len ∙ wanted;
+          len = omega (
+            arith,
+            whole_is new.growth.text_len (length (open_text x p done)) new.growth.on closed.count closed.some closed.listed,
+            ap (λ (k : ℕ). 4096 * (k / 4096)) committed,
+            length-drop (4096 * (t / 4096)) (patch_text x p done).bytes,
+            end_front,
+          );
+        }
+
+    pub not_closed : (growth : Growth) (new : SpoolDraft) (blocks blocks' : Held) (e : UploadError) → ClosesAs d.growth growth (length text) blocks blocks' (Err e) → EndsAs x p done d new blocks blocks' (Err e)
+    not_closed growth new blocks blocks' NoMemory closes = tt
+    not_closed growth new blocks blocks' DiskFault closes = tt
+    not_closed growth new blocks blocks' (Refused refusals.Full) closes = (
+      encodable_end,
+      by_room d.growth.short refl,
+    )
+      where
+        by_room : (b : Bool) → d.growth.short ≡ b → (p.short ≡ true) ⊎ RunsShort blocks blocks' (list_of d) (wants x p done)
+        by_room true short = inl (sym held.short ∙ short)
+        by_room false roomy = ⊎_elim
+            (λ (short : d.growth.short ≡ true). inl (sym held.short ∙ short))
+            (λ short. inr (subst (RunsShort blocks blocks' (list_of d)) wanted (short (length (open_text x p false)) (held.kept (kept_end roomy)))))
+            closes
+    not_closed growth new blocks blocks' (Refused refusals.Unencodable) closes = absurd closes
+    not_closed growth new blocks blocks' (Refused refusals.NoSuch) closes = absurd closes
+    not_closed growth new blocks blocks' (Refused refusals.Offset) closes = absurd closes
+    not_closed growth new blocks blocks' (Refused refusals.TooLong) closes = absurd closes
+    not_closed growth new blocks blocks' (Refused refusals.Slots) closes = absurd closes
+    not_closed growth new blocks blocks' (Refused refusals.TooLarge) closes = absurd closes

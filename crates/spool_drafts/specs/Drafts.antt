@@ -1,0 +1,111 @@
+-- What an open draft on a disk stands for.
+use Rattle.std.specs.Prelude.{◌≡◌, ◌⊎◌, ◌≤◌, ◌<◌, ◌*◌, ◌+◌, ◌/◌, ◌^◌, ◌++◌, ℕ, Bool, true, false, List, None, Some, length, drop, Result, Ok, Err}
+use Rattle.enc_model.specs.Indexes.{IndexSet}
+use Rattle.enc_stream.specs.StateBytes.{IsSound}
+use Rattle.spool_blocks.specs.Blocks.{Held}
+use Rattle.upload_rules.specs.Calls.{begin_refusal_at, first_patch}
+use Rattle.upload_rules.specs.declared.errors.UploadError.{UploadError}
+use Rattle.upload_rules.specs.declared.errors.UploadError.TheVariants.{NoMemory, DiskFault, Refused}
+use Rattle.upload_rules.specs.declared.errors.UploadRefusal.{UploadRefusal}
+use Rattle.upload_rules.specs.declared.errors.UploadRefusal.TheVariants as refusals
+use Rattle.upload_rules.specs.Room.{wants, need}
+use Rattle.upload_rules.specs.States.{state_with, transcoder_with}
+use Rattle.upload_rules.specs.Store.{Upload, text_of, is_complete}
+use Rattle.upload_rules.specs.World.{Patch, is_there, patch_text}
+use Rattle.spool_drafts.specs.Effect.{RunsShort}
+use Rattle.spool_drafts.specs.Fresh.{StandsAt}
+use Rattle.spool_drafts.specs.Growth.{list_on, tail_list, bytes_on, whole_len, IsTailed, HoldsLen}
+use Rattle.spool_drafts.specs.declared.draft.SpoolDraft.{SpoolDraft}
+
+-- the upload's number
+abbrev pub number_of : SpoolDraft → ℕ
+number_of d = d.number
+
+-- how many bytes were accepted when it began, and how many came since
+abbrev pub offset_of : SpoolDraft → ℕ
+offset_of d = d.offset
+
+abbrev pub came_of : SpoolDraft → ℕ
+came_of d = d.came
+
+-- its reserved blocks, by ordinal from that of the committed text's last unfinished block on
+abbrev pub list_of : SpoolDraft → List ℕ
+list_of d = list_on d.growth.on
+
+-- the block that the committed text's last bytes are on, where it isn't full
+abbrev pub tail_of : SpoolDraft → List ℕ
+tail_of d = tail_list d.growth.tail
+
+-- the length of the committed text, and of the text with what the draft added
+abbrev pub committed_len_of : SpoolDraft → ℕ
+committed_len_of d = d.growth.text_len
+
+abbrev pub len_of : SpoolDraft → ℕ
+len_of d = whole_len d.growth.text_len d.growth.on
+
+-- the committed text's last block, if there is an unfinished one, is one of so many
+abbrev pub IsPlaced : ℕ → SpoolDraft → Type 0
+IsPlaced blocks d = IsTailed blocks d.growth
+
+-- the patch's text behind the full blocks of the committed one
+abbrev pub open_text : IndexSet → Patch → Bool → List ℕ
+open_text x p done = drop (4096 * (length (text_of x p.began) / 4096)) (patch_text x p done).bytes
+
+-- its text is kept: there is room, it has a value, and bytes may come
+pub record IsKept (x : IndexSet) (p : Patch) (d : SpoolDraft) : Type 0 where
+  pub roomy : d.growth.short ≡ false
+  pub encodable : (patch_text x p false).fault ≡ None
+  pub incomplete : is_complete p.began ≡ false
+
+-- the draft is that of the patch, whatever the disk
+pub record Holds (x : IndexSet) (p : Patch) (d : SpoolDraft) : Type 0 where
+  pub number : number_of d ≡ p.number
+  pub offset : offset_of d ≡ length p.began.accepted
+  pub came : came_of d ≡ length p.body
+  pub held : length p.body ≤ p.count
+  pub within : length p.began.accepted + p.count ≤ p.began.declared
+  pub fits : p.began.declared < 2 ^ 64
+  pub committed : committed_len_of d ≡ length (text_of x p.began)
+  pub short : d.growth.short ≡ p.short
+  pub stands : StandsAt x p.began p.body d.fresh
+  pub needs : length (list_of d) ≡ need x p false
+  pub kept : IsKept x p d → HoldsLen d.growth (length (open_text x p false))
+
+-- and its bytes are the patch's: behind the full blocks of the committed text
+abbrev pub Carries : IndexSet → (ℕ → ℕ) → ℕ → Patch → SpoolDraft → Type 0
+Carries x seen first p d = IsKept x p d → bytes_on seen first d.growth d.growth.on ≡ open_text x p false
+
+-- a draft of the upload as it is, or the rules' refusal
+abbrev pub IsBegun : IndexSet → ℕ → ℕ → ℕ → Upload → Result SpoolDraft UploadRefusal → Type 0
+IsBegun x n offset count u (Ok d) = (begin_refusal_at offset count (Some u) ≡ None) × Holds x (first_patch n count u) d
+IsBegun x n offset count u (Err e) = begin_refusal_at offset count (Some u) ≡ Some e
+
+abbrev pub with_piece : Patch → List ℕ → Patch
+with_piece p piece = record p { body = p.body ++ piece }
+
+abbrev pub shortened : Patch → Patch
+shortened p = record p { short = true }
+
+-- the draft is that of the longer patch, or ran short of blocks for it
+abbrev pub IsLonger : IndexSet → Patch → SpoolDraft → SpoolDraft → Held → Held → Type 0
+IsLonger x q old new blocks blocks' =
+    Holds x q new ⊎ (Holds x (shortened q) new × RunsShort blocks blocks' (list_of old) (wants x q false))
+
+-- the whole text is on the draft's blocks, behind the full ones of the committed text
+pub record IsWhole (x : IndexSet) (p : Patch) (done : Bool) (d : SpoolDraft) (state : List ℕ) : Type 0 where
+  pub state_is : state ≡ state_with x p.began p.body done
+  pub sound : IsSound (transcoder_with x p.began p.body done)
+  pub encodable : (patch_text x p done).fault ≡ None
+  pub roomy : p.short ≡ false
+  pub listed : length (list_of d) ≡ wants x p done
+  pub len : len_of d ≡ length (patch_text x p done).bytes
+
+-- how the text ends, where a body came
+abbrev pub EndsAs : IndexSet → Patch → Bool → SpoolDraft → SpoolDraft → Held → Held → Result (List ℕ) UploadError → Type 0
+EndsAs x p done old new blocks blocks' (Ok state) = IsWhole x p done new state
+EndsAs x p done old new blocks blocks' (Err NoMemory) = Unit {0}
+EndsAs x p done old new blocks blocks' (Err DiskFault) = Unit {0}
+EndsAs x p done old new blocks blocks' (Err (Refused refusals.Unencodable)) = is_there (patch_text x p done).fault ≡ true
+EndsAs x p done old new blocks blocks' (Err (Refused refusals.Full)) =
+    ((patch_text x p done).fault ≡ None) × ((p.short ≡ true) ⊎ RunsShort blocks blocks' (list_of old) (wants x p done))
+EndsAs x p done old new blocks blocks' (Err (Refused e)) = ⊥

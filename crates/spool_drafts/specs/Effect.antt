@@ -1,0 +1,39 @@
+-- What a call on one draft does to the blocks and to the disk.
+use Rattle.std.specs.Prelude.{◌≡◌, ◌⊎◌, ◌<◌, ◌*◌, ◌+◌, ℕ, List, [], length}
+use Rattle.spool_blocks.specs.Blocks.{Held, IsFree}
+use Rattle.spool_disk.specs.Disk.{IsImage}
+use Rattle.spool_disk.specs.Views.{Lasts}
+use Rattle.spool_disk.specs.declared.disk.Disk.{Ghosts}
+use Rattle.spool_journal.specs.Phases.{Idle}
+use Rattle.spool_texts.specs.Drafts.{IsReserved, Takes, GivesBack}
+use Rattle.spool_texts.specs.Written.{WritesIn, aside_blocks}
+
+-- The draft reserved free blocks behind its list. It holds them all then, or gave them all back.
+pub record Regrasps (old new : Held) (list list' own : List ℕ) : Type 0 where
+  pub held : Held
+  pub takes : Takes old held list own
+  pub reserved : IsReserved held own
+  pub holds : ((held ≡ new) × (list' ≡ own)) ⊎ (GivesBack held new own × (list' ≡ []))
+
+-- Nothing is written but these blocks, and every image is one from before but for them.
+pub record OnlyWrites {D : Type 0} (disk : Ghosts D) (pages : ℕ) (own : List ℕ) (old new : D) : Type 0 where
+  pub writes : WritesIn (25 + 2 * pages) own (disk.seen old) (disk.seen new) (disk.loose old) (disk.loose new)
+  pub idle : Idle pages (disk.seen old) (disk.loose old) → Idle pages (disk.seen new) (disk.loose new)
+  pub image : (image : ℕ → ℕ) → IsImage (disk.seen new) (disk.loose new) image → IsImage (disk.seen old) (disk.loose old) (aside_blocks (25 + 2 * pages) own (disk.seen old) image)
+  pub lasts : Lasts disk old new (λ image. IsImage (disk.seen old) (disk.loose old) (aside_blocks (25 + 2 * pages) own (disk.seen old) image))
+
+-- what a call does, whatever the disk: it writes only the draft's own blocks, those of its list and free ones that it reserved
+pub record Effect {D : Type 0} (disk : Ghosts D) (pages : ℕ) (list list' : List ℕ) (old new : D) (blocks blocks' : Held) : Type 0 where
+  pub own : List ℕ
+  pub grasp : Regrasps blocks blocks' list list' own
+  pub writes : disk.honest old → OnlyWrites disk pages own old new
+
+-- it needed so many blocks and more were not free; then it gave all back
+pub record RunsShort (old new : Held) (list : List ℕ) (wanted : ℕ) : Type 0 where
+  pub held : Held
+  pub own : List ℕ
+  pub takes : Takes old held list own
+  pub reserved : IsReserved held own
+  pub full : (b : ℕ) → IsFree held b → ⊥
+  pub scarce : length own < wanted
+  pub gives : GivesBack held new own

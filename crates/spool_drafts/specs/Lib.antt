@@ -1,0 +1,4 @@
+pub mod Effect
+pub mod Growth
+pub mod Fresh
+pub mod Drafts

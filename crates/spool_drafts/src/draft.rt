@@ -1,0 +1,257 @@
+// An append under way on a disk.
+ghost use Rattle.std.specs.Prelude.{◌≡◌, get_or, ◌≤◌, ◌*◌, ◌+◌, ◌<◌, ◌/◌, ◌%◌, ◌-◌, ◌↔◌, ◌^◌, ℕ, [], true, min, length, IsOk, IsErrOf, OnOk, IfOk};
+ghost use Rattle.enc_model.specs.Indexes.{IndexSet as Indexes};
+ghost use Rattle.spool_disk.specs.Disk.{Counts};
+ghost use Rattle.spool_journal.specs.Image.{journal_pages, all_pages};
+ghost use Rattle.spool_texts.specs.Drafts.{IsReserved, GivesBack};
+ghost use Rattle.spool_texts.specs.TextOn.{AllBelow, text_on};
+ghost use Rattle.upload_rules.specs.Calls.{first_patch};
+ghost use Rattle.upload_rules.specs.Records.{Keeps};
+ghost use Rattle.upload_rules.specs.Store.{Upload, text_of};
+ghost use Rattle.upload_rules.specs.World.{Patch};
+ghost use Rattle.upload_rules.specs.declared.errors.UploadRefusal.{UploadRefusal as Refusal};
+ghost use Rattle.spool_drafts.specs.Effect.{Effect};
+ghost use Rattle.spool_drafts.specs.Growth.{list_on, AllIn};
+ghost use Rattle.spool_drafts.specs.Drafts.{Holds, Carries, IsBegun, IsPlaced, IsLonger, EndsAs, with_piece, open_text, number_of, offset_of, came_of, list_of, committed_len_of, len_of, tail_of};
+
+use crate::fresh::{finished, read_on};
+use crate::growth::Growth;
+use enc_index::IndexSet;
+use spool_blocks::{BlockNo, Blocks};
+use spool_disk::Disk;
+use spool_journal::Layout;
+use spool_texts::DraftText;
+use std::alloc::Global;
+use upload_rules::{NewText, Record, UploadError, UploadRefusal};
+
+/// An append under way on a disk: what it adds to its upload's text, on blocks that it reserved. Dropped without `give_back` or
+/// `into_list`, its blocks stay reserved.
+#[derive(Drop)]
+pub struct SpoolDraft {
+    number: u64,
+    offset: u64,
+    came: u64,
+    // where transcoding stands, without text
+    fresh: NewText,
+    growth: Growth,
+}
+
+impl SpoolDraft {
+    /// A draft of `count` bytes at an offset, behind the text that lies on the listed blocks, by ordinal: refused with `Offset`,
+    /// `TooLong`. It takes no memory and no block.
+    pub fn begin(
+        alloc: Global,
+        upload: &Record,
+        list: &[BlockNo],
+        offset: u64,
+        count: u64,
+    ) -> Result<Self, UploadRefusal>
+        requires long { upload.now.text_len ≤ 4096 * length list.now }
+        requires few { length list.now ≤ 65536 }
+        ensures begun { (x : Indexes) (n : ℕ) (u : Upload) → Keeps x n upload.now u → IsBegun x n offset count u result }
+        ensures content { (x : Indexes) (n : ℕ) (u : Upload) (seen : ℕ → ℕ) (first : ℕ) → Keeps x n upload.now u → text_on seen first list.now upload.now.text_len ≡ text_of x u
+            → IfOk result (λ d. Carries x seen first (first_patch n count u) d) }
+        ensures none { IfOk result (λ d. list_of d ≡ []) }
+        ensures tail_at { IfOk result (λ d. (i : ℕ) → i < length (tail_of d) → (upload.now.text_len / 4096 < length list.now) × (get_or (tail_of d) i 0 ≡ get_or list.now (upload.now.text_len / 4096) 0)) }
+        ensures placed { (blocks : ℕ) → AllBelow blocks list.now → IfOk result (λ d. IsPlaced blocks d) }
+        ensures tail { IfOk result (λ d. AllIn list.now (tail_of d)) }
+    {
+        upload.admits(offset, count)?;
+        let Some(fresh) = NewText::behind(alloc, upload) else {
+            return Err(UploadRefusal::NoSuch);
+        };
+        Ok(SpoolDraft {
+            number: upload.number,
+            offset,
+            came: 0,
+            fresh,
+            growth: Growth::behind(upload.text_len, list),
+        })
+    }
+
+    /// The number of the upload.
+    pub fn number(&self) -> u64
+        ensures { result ≡ number_of self.now }
+    {
+        self.number
+    }
+
+    /// How many bytes were accepted when it began.
+    pub fn offset(&self) -> u64
+        ensures { result ≡ offset_of self.now }
+    {
+        self.offset
+    }
+
+    /// How many bytes came since.
+    pub fn came(&self) -> u64
+        ensures { result ≡ came_of self.now }
+    {
+        self.came
+    }
+
+    /// The length in bytes of the committed text when it began. The ordinal of the draft's first block is its 4,096th part.
+    pub fn committed_len(&self) -> u64
+        ensures { result ≡ committed_len_of self.now }
+    {
+        self.growth.text_len
+    }
+
+    /// The length in bytes of the text with what the draft added.
+    pub fn len(&self) -> u64
+        requires { committed_len_of self.now ≤ 4096 * 65536 }
+        ensures { result ≡ len_of self.now }
+    {
+        self.growth.len()
+    }
+
+    /// The reserved blocks, by ordinal from that of the committed text's last unfinished block on.
+    pub fn list(&self) -> &[BlockNo]
+        ensures blocks { result.now ≡ list_of self.now }
+        ensures few { length (list_of self.now) ≤ 65536 }
+    {
+        self.growth.list()
+    }
+
+    /// Adds bytes to the body: refused with `NoMemory`, after which it is as before, and `DiskFault`, after which it may only be
+    /// spent. Where a character has no code or no block is free, it gives its blocks back and reserves none any more; `end`
+    /// answers why. No sync is made.
+    pub fn append<D: Disk>(
+        &mut self,
+        alloc: Global,
+        disk: &mut D,
+        layout: &Layout,
+        blocks: &mut Blocks,
+        indexes: &IndexSet,
+        piece: &[u8],
+    ) -> Result<(), UploadError>
+        requires room { 4096 * all_pages layout.now ≤ D.size disk.old }
+        requires blocks { length blocks.old.rows ≡ layout.now }
+        requires reserved { IsReserved blocks.old (list_of self.old) }
+        requires placed { IsPlaced layout.now self.old }
+        ensures size { D.size disk.new ≡ D.size disk.old }
+        ensures honest { D.honest disk.old ↔ D.honest disk.new }
+        ensures counts { Counts (IsErrOf result UploadError.DiskFault) (D.failures disk.old) (D.failures disk.new) }
+        ensures no_refusal { (e : Refusal) → IsErrOf result (UploadError.Refused e) → ⊥ }
+        ensures nothing { length piece.now ≡ 0 → (self.new ≡ self.old) × (disk.new ≡ disk.old) × (blocks.new ≡ blocks.old) × IsOk result }
+
+        // What it holds, and what it leaves of the blocks and the disk, whatever the answer.
+        ensures same { (number_of self.new ≡ number_of self.old) × (offset_of self.new ≡ offset_of self.old) × (committed_len_of self.new ≡ committed_len_of self.old) × (tail_of self.new ≡ tail_of self.old) }
+        ensures placed { IsPlaced layout.now self.new }
+        ensures tail { tail_of self.new ≡ tail_of self.old }
+        ensures rows { blocks.new.rows ≡ blocks.old.rows }
+        ensures reserved { IsReserved blocks.new (list_of self.new) }
+        ensures effect { Effect D.Disk (journal_pages layout.now) (list_of self.old) (list_of self.new) disk.old disk.new blocks.old blocks.new }
+
+        // The body is longer, or it is as it was.
+        ensures answer { (p : Patch) → Holds indexes.now p self.old → length p.body + length piece.now ≤ p.count
+            → OnOk result (IsLonger indexes.now (with_piece p piece.now) self.old self.new blocks.old blocks.new) }
+        ensures content { (p : Patch) → D.honest disk.old → Holds indexes.now p self.old → length p.body + length piece.now ≤ p.count
+            → Carries indexes.now (D.seen disk.old) (25 + 2 * journal_pages layout.now) p self.old
+            → OnOk result (Carries indexes.now (D.seen disk.new) (25 + 2 * journal_pages layout.now) (with_piece p piece.now) self.new) }
+        ensures memory { IsErrOf result UploadError.NoMemory → (list_of self.new ≡ list_of self.old) × (blocks.new ≡ blocks.old) }
+        ensures holds_on { (p : Patch) → Holds indexes.now p self.old → IsErrOf result UploadError.NoMemory → Holds indexes.now p self.new }
+        ensures content_on { (p : Patch) → D.honest disk.old → IsErrOf result UploadError.NoMemory
+            → Carries indexes.now (D.seen disk.old) (25 + 2 * journal_pages layout.now) p self.old
+            → Carries indexes.now (D.seen disk.new) (25 + 2 * journal_pages layout.now) p self.new }
+    {
+        if piece.is_empty() {
+            return Ok(());
+        }
+        let Ok((fresh, text)) = read_on(alloc, &self.fresh, indexes, piece) else {
+            return Err(UploadError::NoMemory);
+        };
+        if let NewText::Unencodable = fresh {
+            self.growth.give_back(blocks);
+            self.go_on(NewText::Unencodable, piece.len());
+            return Ok(());
+        }
+        self.growth.put(alloc, disk, layout, blocks, &text)?;
+        self.go_on(fresh, piece.len());
+        Ok(())
+    }
+
+    /// Ends the text, with the bytes of the end where the body completes the upload, writes the last block without a sync, and
+    /// answers the state bytes: refused with `Unencodable`, `Full`, `NoMemory`, `DiskFault`. After a refusal it may only be spent.
+    /// Where no byte was added to the text it has no blocks, and the committed ones stay.
+    pub fn end<D: Disk>(
+        &mut self,
+        alloc: Global,
+        disk: &mut D,
+        layout: &Layout,
+        blocks: &mut Blocks,
+        indexes: &IndexSet,
+        completes: bool,
+    ) -> Result<[u8; 32], UploadError>
+        requires room { 4096 * all_pages layout.now ≤ D.size disk.old }
+        requires blocks { length blocks.old.rows ≡ layout.now }
+        requires reserved { IsReserved blocks.old (list_of self.old) }
+        requires placed { IsPlaced layout.now self.old }
+        ensures size { D.size disk.new ≡ D.size disk.old }
+        ensures honest { D.honest disk.old ↔ D.honest disk.new }
+        ensures counts { Counts (IsErrOf result UploadError.DiskFault) (D.failures disk.old) (D.failures disk.new) }
+
+        // What it holds, and what it leaves of the blocks and the disk, whatever the answer.
+        ensures same { (number_of self.new ≡ number_of self.old) × (offset_of self.new ≡ offset_of self.old) × (came_of self.new ≡ came_of self.old) × (committed_len_of self.new ≡ committed_len_of self.old) × (tail_of self.new ≡ tail_of self.old) }
+        ensures rows { blocks.new.rows ≡ blocks.old.rows }
+        ensures reserved { IsReserved blocks.new (list_of self.new) }
+        ensures effect { Effect D.Disk (journal_pages layout.now) (list_of self.old) (list_of self.new) disk.old disk.new blocks.old blocks.new }
+
+        // Where a body came: the text's end, and the bytes on the blocks.
+        ensures answer { (p : Patch) → Holds indexes.now p self.old → 0 < length p.body → EndsAs indexes.now p completes self.old self.new blocks.old blocks.new result }
+        ensures content { (p : Patch) → D.honest disk.old → Holds indexes.now p self.old → 0 < length p.body → Carries indexes.now (D.seen disk.old) (25 + 2 * journal_pages layout.now) p self.old
+            → OnOk result (1 ≤ length (list_of self.new)
+            → text_on (D.seen disk.new) (25 + 2 * journal_pages layout.now) (list_of self.new) (length (open_text indexes.now p completes)) ≡ open_text indexes.now p completes) }
+    {
+        let (state, text) = finished(alloc, &self.fresh, indexes, completes)?;
+        self.growth.close(alloc, disk, layout, blocks, &text)?;
+        Ok(state)
+    }
+
+    // So many bytes more came.
+    fn go_on(&mut self, fresh: NewText, count: usize)
+        ensures { self.new ≡ record self.old { fresh = fresh; came = min (self.old.came + count) (2 ^ 64 - 1) } }
+    {
+        self.fresh = fresh;
+        self.came = self.came.saturating_add(count as u64);
+    }
+
+    /// Gives the reserved blocks back, without memory and without the disk.
+    pub fn give_back(self, blocks: &mut Blocks)
+        requires { IsReserved blocks.old (list_of self) }
+        ensures { GivesBack blocks.old blocks.new (list_of self) }
+    {
+        if let Some(text) = self.into_text() {
+            text.give_back(blocks);
+        }
+    }
+
+    /// Gives up the memory, and hands over the reserved blocks.
+    pub fn into_list(self, alloc: Global) -> Vec<BlockNo>
+        ensures { result.items ≡ list_of self }
+    {
+        match self.into_text() {
+            Some(text) => text.into_list(),
+            None => Vec::new(alloc),
+        }
+    }
+
+    // The new text alone.
+    fn into_text(self) -> Option<DraftText>
+        ensures { list_on result ≡ list_of self }
+    {
+        let SpoolDraft {
+            number: _,
+            offset: _,
+            came: _,
+            fresh: _,
+            growth: Growth {
+                text_len: _,
+                tail: _,
+                on,
+                short: _,
+            },
+        } = self;
+        on
+    }
+}

@@ -1,0 +1,71 @@
+// Where transcoding stands.
+ghost use Rattle.std.specs.Prelude.{◌≡◌, ◌++◌, ℕ, false, List, IfOk, IsErrOf};
+ghost use Rattle.upload_rules.specs.Store.{Upload, is_complete};
+ghost use Rattle.spool_drafts.specs.Fresh.{StandsAt, Adds, IsEmptied, text_in, FinishesAs};
+
+use enc_index::IndexSet;
+use std::alloc::{AllocError, Global};
+use upload_rules::{NewText, UploadError};
+
+/// Where transcoding stands behind a piece more, and what the piece adds to the text.
+pub(crate) fn read_on(
+    alloc: Global,
+    fresh: &NewText,
+    indexes: &IndexSet,
+    piece: &[u8],
+) -> Result<(NewText, Vec<u8>), AllocError>
+    ensures stands { (u : Upload) (bytes : List ℕ) → is_complete u ≡ false → StandsAt indexes.now u bytes fresh.now → IfOk result (λ read. StandsAt indexes.now u (bytes ++ piece.now) read.0) }
+    ensures adds { (u : Upload) (bytes : List ℕ) → is_complete u ≡ false → StandsAt indexes.now u bytes fresh.now → IfOk result (λ read. Adds indexes.now u bytes piece.now read.0 read.1.items) }
+{
+    let (next, outcome) = without_text(alloc, fresh).with(indexes, piece);
+    outcome?;
+    Ok(split(alloc, next))
+}
+
+/// The state bytes behind the body, and what the end adds to the text where the body completes the upload.
+pub(crate) fn finished(
+    alloc: Global,
+    fresh: &NewText,
+    indexes: &IndexSet,
+    completes: bool,
+) -> Result<([u8; 32], Vec<u8>), UploadError>
+    ensures finished { (u : Upload) (bytes : List ℕ) → is_complete u ≡ false → StandsAt indexes.now u bytes fresh.now → FinishesAs indexes.now u bytes completes result }
+    ensures no_device { IsErrOf result UploadError.DiskFault → ⊥ }
+{
+    without_text(alloc, fresh).ended(indexes, completes)
+}
+
+// The same without text.
+fn without_text(alloc: Global, fresh: &NewText) -> NewText
+    ensures { IsEmptied fresh.now result }
+{
+    match fresh {
+        NewText::Growing {
+            transcoder,
+            text: _,
+        } => NewText::Growing {
+            transcoder: transcoder.copy(),
+            text: Vec::new(alloc),
+        },
+        NewText::Unencodable => NewText::Unencodable,
+        NewText::Complete => NewText::Complete,
+    }
+}
+
+// The text is taken out.
+fn split(alloc: Global, fresh: NewText) -> (NewText, Vec<u8>)
+    ensures same { IsEmptied fresh result.0 }
+    ensures text { result.1.items ≡ text_in fresh }
+{
+    match fresh {
+        NewText::Growing { transcoder, text } => (
+            NewText::Growing {
+                transcoder,
+                text: Vec::new(alloc),
+            },
+            text,
+        ),
+        NewText::Unencodable => (NewText::Unencodable, Vec::new(alloc)),
+        NewText::Complete => (NewText::Complete, Vec::new(alloc)),
+    }
+}

@@ -1,0 +1,286 @@
+// The new text of a draft, on reserved blocks.
+ghost use Rattle.std.specs.Prelude.{◌≡◌, ◌≢◌, get_or, ◌≤◌, ◌*◌, ◌+◌, ◌%◌, ◌/◌, ◌<◌, ◌++◌, ◌↔◌, ℕ, [], true, false, None, length, IsOk, IsErr, IsErrOf, OnOk, IfOk};
+ghost use Rattle.spool_disk.specs.Disk.{Counts, IsImage, Keeps};
+ghost use Rattle.spool_disk.specs.Views.{Lasts};
+ghost use Rattle.spool_journal.specs.Image.{journal_pages, all_pages};
+ghost use Rattle.spool_texts.specs.Drafts.{IsReserved, GivesBack, content_on, held_count};
+ghost use Rattle.spool_texts.specs.TextOn.{AllBelow, text_on};
+ghost use Rattle.spool_drafts.specs.Effect.{Effect, OnlyWrites, RunsShort};
+ghost use Rattle.spool_drafts.specs.Growth.{list_on, tail_list, bytes_on, whole_len, AllIn, IsTailed, HoldsLen, HoldsCount, GrowsTo, ClosesAs};
+ghost use Rattle.upload_rules.specs.declared.errors.UploadRefusal.{UploadRefusal as Refusal};
+
+use spool_blocks::{BlockNo, Blocks};
+use spool_disk::Disk;
+use spool_journal::{Layout, PAGE};
+use spool_texts::{DraftError, DraftText};
+use std::alloc::Global;
+use std::mem;
+use upload_rules::{UploadError, UploadRefusal};
+
+/// The new text of a draft behind the committed one of its upload.
+#[derive(Drop)]
+pub(crate) struct Growth {
+    /// The length of the committed text in bytes.
+    pub(crate) text_len: u64,
+    /// Its last block, where that isn't full.
+    pub(crate) tail: Option<BlockNo>,
+    /// The new text, from the bytes on that block on: none before the first new byte.
+    pub(crate) on: Option<DraftText>,
+    /// No block was free: no bytes are kept any more.
+    pub(crate) short: bool,
+}
+
+impl Growth {
+    /// Nothing behind a text of this length on the listed blocks.
+    pub(crate) fn behind(text_len: u64, list: &[BlockNo]) -> Self
+        requires long { text_len ≤ 4096 * length list.now }
+        requires few { length list.now ≤ 65536 }
+        ensures len { result.text_len ≡ text_len }
+        ensures none { result.on ≡ None }
+        ensures roomy { result.short ≡ false }
+        ensures tailed { (blocks : ℕ) → AllBelow blocks list.now → IsTailed blocks result }
+        ensures tail_at { (i : ℕ) → i < length (tail_list result.tail) → (text_len / 4096 < length list.now) × (get_or (tail_list result.tail) i 0 ≡ get_or list.now (text_len / 4096) 0) }
+        ensures tail { AllIn list.now (tail_list result.tail) }
+        ensures bytes { (seen : ℕ → ℕ) (first : ℕ) → text_on seen first list.now (4096 * (text_len / 4096)) ++ bytes_on seen first result None ≡ text_on seen first list.now text_len }
+    {
+        let tail = if text_len % PAGE as u64 == 0 {
+            None
+        } else {
+            Some(list[(text_len / PAGE as u64) as usize])
+        };
+        Growth {
+            text_len,
+            tail,
+            on: None,
+            short: false,
+        }
+    }
+
+    /// The reserved blocks.
+    pub(crate) fn list(&self) -> &[BlockNo]
+        ensures blocks { result.now ≡ list_on self.now.on }
+        ensures few { length (list_on self.now.on) ≤ 65536 }
+    {
+        match &self.on {
+            Some(text) => text.list(),
+            None => &[],
+        }
+    }
+
+    /// The length of the text with what was put behind.
+    pub(crate) fn len(&self) -> u64
+        requires { self.now.text_len ≤ 4096 * 65536 }
+        ensures { result ≡ whole_len self.now.text_len self.now.on }
+    {
+        match &self.on {
+            Some(text) => {
+                let _few = text.list();
+                self.text_len / PAGE as u64 * PAGE as u64 + text.len()
+            }
+            None => self.text_len,
+        }
+    }
+
+    /// Gives the reserved blocks back.
+    pub(crate) fn give_back(&mut self, blocks: &mut Blocks)
+        requires { IsReserved blocks.old (list_on self.old.on) }
+        ensures gives { GivesBack blocks.old blocks.new (list_on self.old.on) }
+        ensures none { self.new ≡ record self.old { on = None } }
+    {
+        if let Some(text) = self.on.take() {
+            text.give_back(blocks);
+        }
+    }
+
+    /// Puts bytes behind, unless it is short of blocks. It runs short where no block is free for them, and gives all back.
+    pub(crate) fn put<D: Disk>(
+        &mut self,
+        alloc: Global,
+        disk: &mut D,
+        layout: &Layout,
+        blocks: &mut Blocks,
+        bytes: &[u8],
+    ) -> Result<(), UploadError>
+        requires room { 4096 * all_pages layout.now ≤ D.size disk.old }
+        requires blocks { length blocks.old.rows ≡ layout.now }
+        requires reserved { IsReserved blocks.old (list_on self.old.on) }
+        requires tailed { IsTailed layout.now self.old }
+        ensures size { D.size disk.new ≡ D.size disk.old }
+        ensures honest { D.honest disk.old ↔ D.honest disk.new }
+        ensures counts { Counts (IsErrOf result UploadError.DiskFault) (D.failures disk.old) (D.failures disk.new) }
+        ensures no_refusal { (e : Refusal) → IsErrOf result (UploadError.Refused e) → ⊥ }
+        ensures same { (self.new.text_len ≡ self.old.text_len) × (self.new.tail ≡ self.old.tail) }
+        ensures nothing { self.old.short ≡ true → (self.new ≡ self.old) × (blocks.new ≡ blocks.old) × IsOk result }
+        ensures effect { Effect D.Disk (journal_pages layout.now) (list_on self.old.on) (list_on self.new.on) disk.old disk.new blocks.old blocks.new }
+        ensures holds { (n : ℕ) → HoldsLen self.old n → OnOk result (GrowsTo (n + length bytes.now) self.old self.new blocks.old blocks.new) }
+        ensures content { D.honest disk.old → OnOk result (self.new.short ≡ false → bytes_on (D.seen disk.new) (25 + 2 * journal_pages layout.now) self.new self.new.on ≡ bytes_on (D.seen disk.old) (25 + 2 * journal_pages layout.now) self.old self.old.on ++ bytes.now) }
+
+        // Where memory is short, it holds what it held.
+        ensures memory { IsErrOf result UploadError.NoMemory → (list_on self.new.on ≡ list_on self.old.on) × (blocks.new ≡ blocks.old) × (self.new.short ≡ self.old.short) }
+        ensures holds_on { (n : ℕ) → HoldsLen self.old n → IsErrOf result UploadError.NoMemory → HoldsLen self.new n }
+        ensures content_on { D.honest disk.old → IsErrOf result UploadError.NoMemory → bytes_on (D.seen disk.new) (25 + 2 * journal_pages layout.now) self.new self.new.on ≡ bytes_on (D.seen disk.old) (25 + 2 * journal_pages layout.now) self.old self.old.on }
+    {
+        if self.short || bytes.is_empty() {
+            return Ok(());
+        }
+        self.open(alloc, disk, layout, blocks)?;
+        self.put_more(disk, layout, blocks, bytes)
+    }
+
+    /// Puts the last bytes behind, and writes the last block, without a sync: refused with `Full` where it is short of blocks.
+    pub(crate) fn close<D: Disk>(
+        &mut self,
+        alloc: Global,
+        disk: &mut D,
+        layout: &Layout,
+        blocks: &mut Blocks,
+        bytes: &[u8],
+    ) -> Result<(), UploadError>
+        requires room { 4096 * all_pages layout.now ≤ D.size disk.old }
+        requires blocks { length blocks.old.rows ≡ layout.now }
+        requires reserved { IsReserved blocks.old (list_on self.old.on) }
+        requires tailed { IsTailed layout.now self.old }
+        ensures size { D.size disk.new ≡ D.size disk.old }
+        ensures honest { D.honest disk.old ↔ D.honest disk.new }
+        ensures counts { Counts (IsErrOf result UploadError.DiskFault) (D.failures disk.old) (D.failures disk.new) }
+        ensures same { (self.new.text_len ≡ self.old.text_len) × (self.new.tail ≡ self.old.tail) }
+        ensures effect { Effect D.Disk (journal_pages layout.now) (list_on self.old.on) (list_on self.new.on) disk.old disk.new blocks.old blocks.new }
+        ensures answer { ClosesAs self.old self.new (length bytes.now) blocks.old blocks.new result }
+        ensures written { D.honest disk.old → OnOk result ((n : ℕ) → HoldsCount self.new.on n → 1 ≤ length (list_on self.new.on)
+            → text_on (D.seen disk.new) (25 + 2 * journal_pages layout.now) (list_on self.new.on) n ≡ bytes_on (D.seen disk.old) (25 + 2 * journal_pages layout.now) self.old self.old.on ++ bytes.now) }
+    {
+        self.put(alloc, disk, layout, blocks, bytes)?;
+        if self.short {
+            return Err(UploadError::Refused(UploadRefusal::Full));
+        }
+        self.write_last(disk, layout)
+    }
+
+    // Writes the unfinished block, without a sync.
+    fn write_last<D: Disk>(&self, disk: &mut D, layout: &Layout) -> Result<(), UploadError>
+        requires room { 4096 * all_pages layout.now ≤ D.size disk.old }
+        requires below { AllBelow layout.now (list_on self.now.on) }
+        requires distinct { (i k : ℕ) → i < k → k < length (list_on self.now.on) → get_or (list_on self.now.on) i 0 ≢ get_or (list_on self.now.on) k 0 }
+        ensures size { D.size disk.new ≡ D.size disk.old }
+        ensures honest { D.honest disk.old ↔ D.honest disk.new }
+        ensures counts { Counts (IsErrOf result UploadError.DiskFault) (D.failures disk.old) (D.failures disk.new) }
+        ensures only_fault { IsErr result → IsErrOf result UploadError.DiskFault }
+        ensures only { D.honest disk.old → OnlyWrites D.Disk (journal_pages layout.now) (list_on self.now.on) disk.old disk.new }
+        ensures written { D.honest disk.old → OnOk result ((n : ℕ) → HoldsCount self.now.on n → 1 ≤ length (list_on self.now.on)
+            → text_on (D.seen disk.new) (25 + 2 * journal_pages layout.now) (list_on self.now.on) n ≡ bytes_on (D.seen disk.old) (25 + 2 * journal_pages layout.now) self.now self.now.on) }
+    {
+        let Some(text) = &self.on else {
+            return Ok(());
+        };
+        match text.write_last(disk, layout) {
+            Ok(()) => Ok(()),
+            Err(_) => Err(UploadError::DiskFault),
+        }
+    }
+
+    // Begins the new text with the bytes on the committed text's last block, where it isn't begun.
+    fn open<D: Disk>(
+        &mut self,
+        alloc: Global,
+        disk: &mut D,
+        layout: &Layout,
+        blocks: &mut Blocks,
+    ) -> Result<(), UploadError>
+        requires room { 4096 * all_pages layout.now ≤ D.size disk.old }
+        requires reserved { IsReserved blocks.old (list_on self.old.on) }
+        requires tailed { IsTailed layout.now self.old }
+        ensures size { D.size disk.new ≡ D.size disk.old }
+        ensures honest { D.honest disk.old ↔ D.honest disk.new }
+        ensures counts { Counts (IsErrOf result UploadError.DiskFault) (D.failures disk.old) (D.failures disk.new) }
+        ensures no_refusal { (e : Refusal) → IsErrOf result (UploadError.Refused e) → ⊥ }
+        ensures blocks { blocks.new ≡ blocks.old }
+        ensures same { self.new ≡ record self.old { on = self.new.on } }
+        ensures list { list_on self.new.on ≡ list_on self.old.on }
+        ensures some { OnOk result (self.new.on ≡ None → ⊥) }
+        ensures holds { (n : ℕ) → HoldsLen self.old n → HoldsLen self.new n }
+        ensures content { D.honest disk.old → bytes_on (D.seen disk.new) (25 + 2 * journal_pages layout.now) self.new self.new.on ≡ bytes_on (D.seen disk.old) (25 + 2 * journal_pages layout.now) self.old self.old.on }
+        ensures keeps { D.honest disk.old → Keeps (D.seen disk.old) (D.seen disk.new) (D.loose disk.old) (D.loose disk.new) }
+        ensures lasts { D.honest disk.old → Lasts D.Disk disk.old disk.new (IsImage (D.seen disk.old) (D.loose disk.old)) }
+    {
+        if self.on.is_some() {
+            return Ok(());
+        }
+        let text = begun(alloc, disk, layout, self.tail, self.text_len)?;
+        // There was none.
+        if let Some(other) = mem::replace(&mut self.on, Some(text)) {
+            other.give_back(blocks);
+        }
+        Ok(())
+    }
+
+    // Puts bytes behind the begun text. It runs short where no block is free for them, and gives all back.
+    fn put_more<D: Disk>(
+        &mut self,
+        disk: &mut D,
+        layout: &Layout,
+        blocks: &mut Blocks,
+        bytes: &[u8],
+    ) -> Result<(), UploadError>
+        requires room { 4096 * all_pages layout.now ≤ D.size disk.old }
+        requires blocks { length blocks.old.rows ≡ layout.now }
+        requires reserved { IsReserved blocks.old (list_on self.old.on) }
+        requires begun { self.old.on ≡ None → ⊥ }
+        requires some { 1 ≤ length bytes.now }
+        ensures size { D.size disk.new ≡ D.size disk.old }
+        ensures honest { D.honest disk.old ↔ D.honest disk.new }
+        ensures counts { Counts (IsErrOf result UploadError.DiskFault) (D.failures disk.old) (D.failures disk.new) }
+        ensures no_refusal { (e : Refusal) → IsErrOf result (UploadError.Refused e) → ⊥ }
+        ensures same { (self.new.text_len ≡ self.old.text_len) × (self.new.tail ≡ self.old.tail) }
+        ensures effect { Effect D.Disk (journal_pages layout.now) (list_on self.old.on) (list_on self.new.on) disk.old disk.new blocks.old blocks.new }
+        ensures holds { (n : ℕ) → HoldsLen self.old n → OnOk result (GrowsTo (n + length bytes.now) self.old self.new blocks.old blocks.new) }
+        ensures content { D.honest disk.old → OnOk result (self.new.short ≡ false → bytes_on (D.seen disk.new) (25 + 2 * journal_pages layout.now) self.new self.new.on ≡ bytes_on (D.seen disk.old) (25 + 2 * journal_pages layout.now) self.old self.old.on ++ bytes.now) }
+        ensures memory { IsErrOf result UploadError.NoMemory → (self.new ≡ self.old) × (disk.new ≡ disk.old) × (blocks.new ≡ blocks.old) }
+    {
+        let Some(text) = &mut self.on else {
+            return Ok(());
+        };
+        match text.put(disk, layout, blocks, bytes) {
+            Ok(()) => Ok(()),
+            Err(DraftError::NoMemory) => Err(UploadError::NoMemory),
+            Err(DraftError::DiskFault) => Err(UploadError::DiskFault),
+            Err(DraftError::Full) => {
+                self.short = true;
+                self.give_back(blocks);
+                Ok(())
+            }
+        }
+    }
+}
+
+// The new text behind the committed one, of which the bytes on the last block are read.
+fn begun<D: Disk>(
+    alloc: Global,
+    disk: &mut D,
+    layout: &Layout,
+    tail: Option<BlockNo>,
+    text_len: u64,
+) -> Result<DraftText, UploadError>
+    requires room { 4096 * all_pages layout.now ≤ D.size disk.old }
+    requires below { AllBelow layout.now (tail_list tail) }
+    requires long { text_len % 4096 ≤ 4096 * length (tail_list tail) }
+    ensures size { D.size disk.new ≡ D.size disk.old }
+    ensures honest { D.honest disk.old ↔ D.honest disk.new }
+    ensures counts { Counts (IsErrOf result UploadError.DiskFault) (D.failures disk.old) (D.failures disk.new) }
+    ensures no_refusal { (e : Refusal) → IsErrOf result (UploadError.Refused e) → ⊥ }
+    ensures none { IfOk result (λ text. text.blocks ≡ []) }
+    ensures tail { D.honest disk.old → IfOk result (λ text. text.unfinished ≡ text_on (D.seen disk.old) (25 + 2 * journal_pages layout.now) (tail_list tail) (text_len % 4096)) }
+    ensures tail_size { IfOk result (λ text. length text.unfinished ≡ text_len % 4096) }
+    ensures keeps { D.honest disk.old → Keeps (D.seen disk.old) (D.seen disk.new) (D.loose disk.old) (D.loose disk.new) }
+    ensures lasts { D.honest disk.old → Lasts D.Disk disk.old disk.new (IsImage (D.seen disk.old) (D.loose disk.old)) }
+{
+    let begun = match tail {
+        Some(block) => DraftText::begin(alloc, disk, layout, &[block], text_len % PAGE as u64),
+        None => DraftText::begin(alloc, disk, layout, &[], 0),
+    };
+    match begun {
+        Ok(text) => Ok(text),
+        Err(DraftError::DiskFault) => Err(UploadError::DiskFault),
+        // No block is reserved here.
+        Err(DraftError::NoMemory | DraftError::Full) => Err(UploadError::NoMemory),
+    }
+}

@@ -1,5 +1,0 @@
-use Rattle.spool_image.proofs.Bytes.{padded_zeros}
-use Rattle.spool_image.proofs.pages.blank_page.Goals as goal
-
-pub returns : goal.returns
-returns c = padded_zeros 4096

@@ -1,0 +1,87 @@
+-- What is kept of a spool in memory, and how its parts fit one another, whatever the disk said.
+use Rattle.std.specs.Prelude.{◌≡◌, ◌⊎◌, ℕ, ◌<◌, ◌≤◌, List, [], Option, None, Some, length, get_or}
+use Rattle.enc_model.specs.Indexes.{IndexSet}
+use Rattle.spool_blocks.specs.Blocks.{Row, Held}
+use Rattle.upload_rules.specs.Room.{blocks_of}
+use Rattle.spool_pages.specs.Fits.{FitsRow}
+use Rattle.spool_pages.specs.View.{SlotRecord}
+
+-- THE ORDER: numbers of uploads with their slots
+
+abbrev pub number_at : List (ℕ × ℕ) → ℕ → ℕ
+number_at order k = (get_or order k (0, 0)).0
+
+-- each number is above those before it
+abbrev pub Rises : List (ℕ × ℕ) → Type 0
+Rises order = (i k : ℕ) → i < k → k < length order → number_at order i < number_at order k
+
+-- the number stands there with this slot
+pub record Lists (order : List (ℕ × ℕ)) (number slot : ℕ) : Type 0 where
+  pub place : ℕ
+  pub below : place < length order
+  pub here : get_or order place (0, 0) ≡ (number, slot)
+
+-- the slot is in use, by the upload of this number
+pub record IsUsedBy (slots : List (Option SlotRecord)) (slot number : ℕ) : Type 0 where
+  pub used : SlotRecord
+  pub there : get_or slots slot None ≡ Some used
+  pub is : used.number ≡ number
+
+-- these are the slots in use below this one, by ascending numbers
+pub record Orders (slots : List (Option SlotRecord)) (order : List (ℕ × ℕ)) (end : ℕ) : Type 0 where
+  pub rises : Rises order
+  pub below : (n s : ℕ) → Lists order n s → s < end
+  pub names : (n s : ℕ) → Lists order n s → IsUsedBy slots s n
+  pub all : (s : ℕ) (r : SlotRecord) → s < end → get_or slots s None ≡ Some r → Lists order r.number s
+
+-- no two slots have the same number
+abbrev pub AreDistinct : List (Option SlotRecord) → Type 0
+AreDistinct slots = (s t : ℕ) (r q : SlotRecord) → get_or slots s None ≡ Some r → get_or slots t None ≡ Some q → r.number ≡ q.number → s ≡ t
+
+-- the numbers up to this one are before the place, the greater ones from it on
+pub record IsPlaceFor (order : List (ℕ × ℕ)) (number place : ℕ) : Type 0 where
+  pub within : place ≤ length order
+  pub before : (k : ℕ) → k < place → number_at order k ≤ number
+  pub behind : (k : ℕ) → place ≤ k → k < length order → number < number_at order k
+
+-- the number came to the others, with this slot
+pub record IsAdded (old : List (ℕ × ℕ)) (number slot : ℕ) (new : List (ℕ × ℕ)) : Type 0 where
+  pub rises : Rises new
+  pub there : Lists new number slot
+  pub kept : (n s : ℕ) → Lists old n s → Lists new n s
+  pub only : (n s : ℕ) → Lists new n s → Lists old n s ⊎ ((n ≡ number) × (s ≡ slot))
+
+-- THE LISTS: each slot's blocks by ordinal
+
+-- these blocks are the slot's, as many as a text of this length needs
+pub record HasBlocks (rows : List Row) (slot len : ℕ) (list : List ℕ) : Type 0 where
+  pub size : length list ≡ blocks_of len
+  pub owned : (i : ℕ) → i < length list → get_or rows (get_or list i 0) None ≡ Some (slot, i)
+
+-- and none are a free slot's
+abbrev pub IsListOf : List Row → ℕ → Option SlotRecord → List ℕ → Type 0
+IsListOf rows slot None list = list ≡ []
+IsListOf rows slot (Some r) list = HasBlocks rows slot r.text_len list
+
+-- the lists of the slots below this one
+abbrev pub AreListsTo : List Row → List (Option SlotRecord) → List (List ℕ) → ℕ → Type 0
+AreListsTo rows slots lists end = (s : ℕ) → s < end → IsListOf rows s (get_or slots s None) (get_or lists s [])
+
+-- ALL THAT IS KEPT
+
+pub record Holding : Type 0 where
+  pub layout : ℕ
+  pub next : ℕ
+  pub indexes : IndexSet
+  pub slots : List (Option SlotRecord)
+  pub order : List (ℕ × ℕ)
+  pub lists : List (List ℕ)
+  pub blocks : Held
+
+pub record FitsTogether (h : Holding) : Type 0 where
+  pub slot_count : length h.slots ≡ 512
+  pub list_count : length h.lists ≡ 512
+  pub row_count : length h.blocks.rows ≡ h.layout
+  pub rows_fit : (b : ℕ) → FitsRow (get_or h.blocks.rows b None)
+  pub ordered : Orders h.slots h.order 512
+  pub listed : AreListsTo h.blocks.rows h.slots h.lists 512

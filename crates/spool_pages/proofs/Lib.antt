@@ -1,0 +1,9 @@
+pub mod Bytes
+pub mod Numbers
+pub mod Says
+pub mod RecordBytes
+pub mod RowBytes
+pub mod PageIn
+pub mod Changed
+pub mod Resting
+pub mod Laid

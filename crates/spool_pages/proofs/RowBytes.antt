@@ -1,0 +1,37 @@
+-- The bytes of a row.
+use Rattle.std.proofs.Common.{◌≡◌, ℕ, ◌+◌, ◌<◌, ◌≤◌, ◌++◌, List, Option, Some, None, length, get_or, replicate, refl, sym, ◌∙◌, arith}
+use Rattle.std.specs.Int.{to_be_bytes, w32}
+use Rattle.spool_disk.specs.Disk.{In}
+use Rattle.spool_journal.specs.Image.{byte_of}
+use Rattle.spool_pages.specs.Bytes.{IsPadded}
+use Rattle.spool_pages.specs.View.{Stands, row_bytes}
+use Rattle.spool_pages.proofs.Bytes.{padded_zeros}
+use Rattle.spool_pages.proofs.RecordBytes.{stands_front, stands_behind}
+
+pub owned_is : (slot ordinal : ℕ) → to_be_bytes w32 (slot + 1) ++ to_be_bytes w32 ordinal ≡ row_bytes (Some (slot, ordinal))
+unfolding row_bytes
+owned_is slot ordinal = refl
+
+pub free_padded : IsPadded (replicate 8 0) (row_bytes None)
+unfolding row_bytes
+free_padded = padded_zeros 8
+
+module _ (f : ℕ → ℕ) (at : ℕ) where
+  pub slot_at : (slot ordinal : ℕ) → Stands f at 8 (row_bytes (Some (slot, ordinal))) → Stands f at 4 (to_be_bytes w32 (slot + 1))
+  unfolding row_bytes
+  slot_at slot ordinal stands = stands_front (to_be_bytes w32 (slot + 1)) _ 4 refl (omega arith) stands
+
+  pub ordinal_at : (slot ordinal : ℕ) → Stands f at 8 (row_bytes (Some (slot, ordinal))) → Stands f (at + 4) 4 (to_be_bytes w32 ordinal)
+  unfolding row_bytes
+  ordinal_at slot ordinal stands = stands_behind (to_be_bytes w32 (slot + 1)) _ 4 4 refl (omega arith) stands
+
+  pub free_at : Stands f at 8 (row_bytes None) → Stands f at 4 (to_be_bytes w32 0)
+  unfolding row_bytes
+  free_at stands = record { each = λ i lt. stands.each i (omega (arith, lt)) ∙ sym ((padded_zeros 4).each i) }
+
+-- a row put into a page
+pub row_there : (new bytes : List ℕ) (at : ℕ) (row : Option (ℕ × ℕ)) → ((k : ℕ) → k < length bytes → get_or new (at + k) 0 ≡ get_or bytes k 0) → length bytes ≡ 8 → IsPadded bytes (row_bytes row) → Stands (byte_of new) at 8 (row_bytes row)
+row_there new bytes at row inside long padded = record { each = λ i lt. inside i (omega (arith, lt, long)) ∙ padded.each i }
+
+pub row_else : (page new bytes : List ℕ) (at other : ℕ) (row : Option (ℕ × ℕ)) → ((p : ℕ) → (In at (length bytes) p → ⊥) → get_or new p 0 ≡ get_or page p 0) → length bytes ≡ 8 → other + 8 ≤ at → Stands (byte_of page) other 8 (row_bytes row) → Stands (byte_of new) other 8 (row_bytes row)
+row_else page new bytes at other row outside long apart stands = record { each = λ i lt. outside (other + i) (λ within. omega (arith, within.from, apart, lt)) ∙ stands.each i lt }

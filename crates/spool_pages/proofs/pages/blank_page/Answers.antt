@@ -1,0 +1,5 @@
+use Rattle.spool_pages.proofs.Bytes.{padded_zeros}
+use Rattle.spool_pages.proofs.pages.blank_page.Goals as goal
+
+pub returns : goal.returns
+returns c = padded_zeros 4096

@@ -1,0 +1,40 @@
+use Rattle.std.proofs.Common.{◌≡◌, ◌+◌, ◌<◌, Some, eqb, ℕ, List, length, take, get_or, true, refl, sym, ◌∙◌, ap, subst, arith, rules}
+use Rattle.std.specs.Int.{to_be_bytes, w32}
+use Rattle.std.specs.List.{starts_with}
+use Rattle.std.specs.Cmp.Lexicographic.{pointwise}
+use Rattle.std.proofs.Math.ListN.{get_or-append, length-take}
+use Rattle.std.proofs.lemmas.List.{get_or-take, ext_get_or}
+use Rattle.spool_journal.specs.Image.{byte_of}
+use Rattle.spool_pages.specs.View.{Stands, magic, first_page}
+use Rattle.spool_pages.proofs.RecordBytes.{stands_behind}
+use Rattle.spool_pages.proofs.pages.blocks_said.Goals as goal
+
+module _ (front : List ℕ) (blocks : ℕ) (long : length front ≡ 12) (same : (i : ℕ) → i < 12 → get_or front i 0 ≡ get_or (first_page blocks) i 0) where
+  magic_there : (i : ℕ) → i < 8 → get_or (first_page blocks) i 0 ≡ get_or magic i 0
+  unfolding first_page
+  magic_there i lt = get_or-append magic (to_be_bytes w32 blocks) 0 i lt
+
+  taken : take 8 front ≡ magic
+  taken = ext_get_or 0 (take 8 front) magic (omega (arith, length-take 8 front, long)) (λ i lt.
+      let below : i < 8 = omega (arith, lt, length-take 8 front) in
+      get_or-take 8 front i 0 below ∙ same i (omega (arith, below)) ∙ magic_there i below)
+
+  whole : Stands (byte_of front) 0 12 (first_page blocks)
+  whole = record { each = λ i lt. let at : i ≡ 0 + i = omega arith in subst (λ (p : ℕ). get_or front p 0 ≡ get_or (first_page blocks) i 0) at (same i lt) }
+
+  number_at : Stands (byte_of front) 8 4 (to_be_bytes w32 blocks)
+  unfolding first_page
+  number_at = stands_behind magic (to_be_bytes w32 blocks) 8 4 refl (omega arith) whole
+
+  begins : starts_with eqb front magic ≡ true
+  begins = subst (λ (xs : List ℕ). pointwise eqb magic xs ≡ true) (sym taken) refl
+
+pub returns-then-not-starts_with : goal.returns-then-not-starts_with
+returns-then-not-starts_with c blocks fits same =
+    let v = c.starts_with.ensures.value in
+    let b = c.if-not-starts_with.true in
+    let yes = begins c.args.front.now blocks (search rules) same in
+    cc
+
+pub returns : goal.returns
+returns c blocks fits same = ap Some (c.get_u32.ensures blocks fits (number_at c.args.front.now blocks (search rules) same))

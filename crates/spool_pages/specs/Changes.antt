@@ -1,0 +1,66 @@
+-- What changed pages make of a view.
+use Rattle.std.specs.Prelude.{◌≡◌, ℕ, ◌+◌, ◌-◌, ◌*◌, ◌/◌, ◌%◌, ◌<◌, ◌==◌, if◌then◌else◌, List, [], ◌∷◌, Option, Some, None, length, get_or, slice_set}
+use Rattle.spool_blocks.specs.Blocks.{Row}
+use Rattle.spool_journal.specs.Image.{byte_of, journal_pages}
+use Rattle.spool_pages.specs.View.{SlotRecord, View, Stands, slot_at, state_page, slot_bytes, row_bytes}
+
+-- the bytes of the page of this number, if it is among them
+unfoldable pub page_in : ℕ → List (ℕ × List ℕ) → Option (List ℕ)
+page_in page [] = None
+page_in page (entry ∷ pages) = if entry.0 == page then Some entry.1 else page_in page pages
+
+-- a changed page says the new value; where it isn't changed, the new value is the old one
+abbrev pub Said : {A : Type 0} → Option (List ℕ) → (List ℕ → A → Type 0) → A → A → Type 0
+Said None says old new = new ≡ old
+Said (Some bytes) says old new = says bytes new
+
+-- THE PAGES OF A SPOOL OF n BLOCKS
+
+abbrev pub state_number : ℕ → ℕ
+state_number n = 25 + journal_pages n
+
+abbrev pub record_number : ℕ → ℕ → ℕ
+record_number n slot = 26 + journal_pages n + slot / 2
+
+abbrev pub row_number : ℕ → ℕ → ℕ
+row_number n block = 282 + journal_pages n + block / 512
+
+-- WHAT ONE SAYS
+
+abbrev pub SaysNext : List ℕ → ℕ → Type 0
+SaysNext bytes next = Stands (byte_of bytes) 0 4096 (state_page 1 next)
+
+abbrev pub SaysSlot : ℕ → List ℕ → Option SlotRecord → Type 0
+SaysSlot slot bytes kept = Stands (byte_of bytes) (2048 * (slot % 2)) 2048 (slot_bytes kept)
+
+abbrev pub SaysRow : ℕ → List ℕ → Row → Type 0
+SaysRow block bytes row = Stands (byte_of bytes) (8 * (block % 512)) 8 (row_bytes row)
+
+-- THE CHANGE: the size, the version and the index files stay
+
+-- all of it but for the rows on changed pages
+pub record ChangesButRows (pages : List (ℕ × List ℕ)) (v v' : View) : Type 0 where
+  pub blocks : v'.blocks ≡ v.blocks
+  pub version : v'.version ≡ v.version
+  pub indexes : v'.indexes ≡ v.indexes
+  pub next : Said (page_in (state_number v.blocks) pages) SaysNext v.next v'.next
+  pub slots : (s : ℕ) → s < 512 → Said (page_in (record_number v.blocks s) pages) (SaysSlot s) (slot_at v s) (slot_at v' s)
+  pub rows : (b : ℕ) → b < 512 * (journal_pages v.blocks - 257) → page_in (row_number v.blocks b) pages ≡ None → get_or v'.rows b None ≡ get_or v.rows b None
+
+pub record Changes (pages : List (ℕ × List ℕ)) (v v' : View) : Type 0 where
+  pub others : ChangesButRows pages v v'
+  pub rows : (b : ℕ) → b < 512 * (journal_pages v.blocks - 257) → Said (page_in (row_number v.blocks b) pages) (SaysRow b) (get_or v.rows b None) (get_or v'.rows b None)
+
+-- WHAT IS TO BE CHANGED
+
+-- another record in a slot
+abbrev pub with_record : View → ℕ → SlotRecord → View
+with_record v slot r = record v { slots = slice_set v.slots slot (Some r) }
+
+-- the slot whose record is on the same page
+abbrev pub neighbour : ℕ → ℕ
+neighbour slot = if slot % 2 == 0 then slot + 1 else slot - 1
+
+-- the rows differ only where one of these blocks is
+abbrev pub SameRowsBut : List ℕ → List Row → List Row → Type 0
+SameRowsBut blocks old new = (b : ℕ) → ((i : ℕ) → i < length blocks → get_or blocks i 0 ≡ b → ⊥) → get_or new b None ≡ get_or old b None

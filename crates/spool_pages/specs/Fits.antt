@@ -1,0 +1,21 @@
+-- Values whose numbers fit their bytes.
+use Rattle.std.specs.Prelude.{◌≡◌, ℕ, ◌+◌, ◌^◌, ◌<◌, ◌≤◌, Option, Some, None, All, length}
+use Rattle.spool_pages.specs.View.{SlotRecord}
+
+pub record FitsSlot (r : SlotRecord) : Type 0 where
+  pub some : 1 ≤ r.number
+  pub number : r.number < 2 ^ 64
+  pub declared : r.declared < 2 ^ 64
+  pub accepted : r.accepted < 2 ^ 64
+  pub text_len : r.text_len < 2 ^ 64
+  pub state : length r.state ≡ 32
+  pub metadata : length r.metadata ≤ 1536
+
+abbrev pub FitsRow : Option (ℕ × ℕ) → Type 0
+FitsRow None = Unit {0}
+FitsRow (Some o) = (o.0 + 1 < 2 ^ 32) × (o.1 < 2 ^ 32)
+
+-- a free slot, or a record with metadata of text
+abbrev pub FitsSlotOf : Option SlotRecord → Type 0
+FitsSlotOf None = Unit {0}
+FitsSlotOf (Some r) = FitsSlot r × All (λ b. (0x20 ≤ b) × (b ≤ 0x7E)) r.metadata

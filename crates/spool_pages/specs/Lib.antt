@@ -1,0 +1,5 @@
+pub mod Bytes
+pub mod View
+pub mod Fits
+pub mod Changes
+pub mod Rests

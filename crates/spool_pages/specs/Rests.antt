@@ -1,0 +1,25 @@
+-- A spool at rest: what it says stands in every image.
+use Rattle.std.specs.Prelude.{◌≡◌, ℕ, ◌+◌, ◌/◌, ◌<◌, List, None, Some, length, get_or}
+use Rattle.spool_blocks.specs.Blocks.{Row}
+use Rattle.spool_journal.specs.Texts.{text_shown}
+use Rattle.spool_pages.specs.View.{SlotRecord, View, slot_at, text_page, IsViewOf}
+
+-- the place is in a text block that no row owns
+pub record OnFree (v : View) (p : ℕ) : Type 0 where
+  pub block : ℕ
+  pub here : text_page v.blocks + block ≡ p / 4096
+  pub free : get_or v.rows block None ≡ None
+
+-- the gate is closed, and a crash may leave other bytes only in blocks that no row owns
+pub record Rests (v : View) (seen : ℕ → ℕ) (loose : ℕ → Type 0) : Type 0 where
+  pub closed : seen 4096 ≡ 165 → ⊥
+  pub firm : (p : ℕ) → loose p → OnFree v p
+  pub is : IsViewOf seen v
+
+-- no row owns one of these blocks
+abbrev pub Unowned : List Row → List ℕ → Type 0
+Unowned rows blocks = (i : ℕ) → i < length blocks → get_or rows (get_or blocks i 0) None ≡ None
+
+-- the view's texts are those that its rows show there
+abbrev pub HasTexts : (ℕ → ℕ) → View → Type 0
+HasTexts seen v = (s : ℕ) (r : SlotRecord) → slot_at v s ≡ Some r → v.texts s ≡ text_shown seen (text_page v.blocks) v.rows s r.text_len

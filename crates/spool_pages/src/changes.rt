@@ -1,0 +1,108 @@
+// The pages that a change of the metadata writes.
+ghost use Rattle.std.specs.Prelude.{◌≡◌, ◌≢◌, ◌↔◌, ◌≤◌, ◌<◌, ℕ, IsTrue, IsSome, OnOk, IfOk, List, IfSome, None, length, get_or, option_copied};
+ghost use Rattle.spool_blocks.specs.Blocks.{Row as HeldRow};
+ghost use Rattle.spool_journal.specs.Image.{journal_pages, InMeta, InArea};
+ghost use Rattle.spool_pages.specs.Changes.{page_in, ChangesButRows, Changes, with_record, neighbour, SameRowsBut};
+ghost use Rattle.spool_pages.specs.Fits.{FitsRow};
+ghost use Rattle.spool_pages.specs.View.{View, slot_at};
+
+use crate::places::{first_row_number, record_number, row_number, state_number};
+use crate::slot_pages::page_with;
+use crate::{SlotRecord, blank_page, row_page, state_page};
+use spool_blocks::{BlockNo, Row};
+use spool_journal::{Layout, Pages};
+use std::alloc::{AllocError, Global};
+
+/// The pages that a new record and the next number make. `beside` is the record that the other slot on the same page has, none where
+/// it is free. Err only where memory runs out.
+pub fn pages_of_new(
+    alloc: Global,
+    layout: &Layout,
+    next: u64,
+    slot: u32,
+    kept: &SlotRecord<'_>,
+    beside: Option<&SlotRecord<'_>>,
+) -> Result<Pages, AllocError>
+    requires slot { slot < 512 }
+    requires kept { length kept.now.metadata ≤ 1536 }
+    requires beside { IfSome beside (λ r. length r.now.metadata ≤ 1536) }
+    ensures area { IfOk result (λ pages. InArea (journal_pages layout.now) pages) }
+    ensures some { IfOk result (λ pages. 1 ≤ length pages) }
+    ensures changes { (v : View) → v.blocks ≡ layout.now → length v.slots ≡ 512 → slot_at v (neighbour slot) ≡ option_copied beside.entry
+        → IfOk result (λ pages. Changes pages v (record (with_record v slot kept.now) { next = next })) }
+{
+    let mut pages = Pages::new(alloc);
+    pages.put(state_number(layout), &state_page(next))?;
+    pages.put(record_number(layout, slot), &page_with(slot, kept, beside))?;
+    Ok(pages)
+}
+
+// Whether a page of this number is among them.
+fn is_there(pages: &Pages, page: u32) -> bool
+    ensures { IsTrue result ↔ IsSome (page_in page pages.now) }
+{
+    for at in 0..pages.len() {
+        if pages.number(at) == page {
+            return true;
+        }
+    }
+    false
+}
+
+// Puts a blank page of this number, unless it is there.
+fn make_room(pages: &mut Pages, page: u32) -> Result<(), AllocError>
+    ensures there { OnOk result (IsSome (page_in page pages.new)) }
+    ensures others { (other : ℕ) → page ≢ other → page_in other pages.new ≡ page_in other pages.old }
+    ensures area { (j : ℕ) → InMeta j page → InArea j pages.old → InArea j pages.new }
+{
+    if !is_there(pages, page) {
+        pages.put(page, &blank_page())?;
+    }
+    Ok(())
+}
+
+/// The pages that a record and other rows of these blocks make: the record's page, and each page that has one of the rows, blank until
+/// `fill_rows` gives it its bytes. `beside` is the record that the other slot on the same page has, none where it is free. It costs a
+/// look at these few pages for each of the blocks. Err only where memory runs out.
+pub fn pages_of_change(
+    alloc: Global,
+    layout: &Layout,
+    slot: u32,
+    kept: &SlotRecord<'_>,
+    beside: Option<&SlotRecord<'_>>,
+    blocks: &[BlockNo],
+) -> Result<Pages, AllocError>
+    requires slot { slot < 512 }
+    requires kept { length kept.now.metadata ≤ 1536 }
+    requires beside { IfSome beside (λ r. length r.now.metadata ≤ 1536) }
+    requires blocks { (i : ℕ) → i < length blocks.now → get_or blocks.now i 0 < layout.now }
+    ensures area { IfOk result (λ pages. InArea (journal_pages layout.now) pages) }
+    ensures some { IfOk result (λ pages. 1 ≤ length pages) }
+    ensures changes { (v : View) → v.blocks ≡ layout.now → length v.slots ≡ 512 → slot_at v (neighbour slot) ≡ option_copied beside.entry
+        → (rows : List HeldRow) → SameRowsBut blocks.now v.rows rows
+        → IfOk result (λ pages. ChangesButRows pages v (record (with_record v slot kept.now) { rows = rows })) }
+{
+    let mut pages = Pages::new(alloc);
+    pages.put(record_number(layout, slot), &page_with(slot, kept, beside))?;
+    for block in blocks {
+        make_room(&mut pages, row_number(layout, *block))?;
+    }
+    Ok(pages)
+}
+
+/// Gives each page of rows among these its bytes, from all rows of the spool as they are to be. It takes no memory.
+pub fn fill_rows(pages: &mut Pages, layout: &Layout, rows: &[Row])
+    requires fits { (b : ℕ) → FitsRow (get_or rows.now b None) }
+    requires area { InArea (journal_pages layout.now) pages.old }
+    ensures area { InArea (journal_pages layout.now) pages.new }
+    ensures same_length { length pages.new ≡ length pages.old }
+    ensures changes { (v v' : View) → v.blocks ≡ layout.now → ChangesButRows pages.old v v' → v'.rows ≡ rows.now → Changes pages.new v v' }
+{
+    let first = first_row_number(layout);
+    for at in 0..pages.len() {
+        let number = pages.number(at);
+        if number >= first {
+            pages.set(at, &row_page(rows, (number - first) as usize));
+        }
+    }
+}

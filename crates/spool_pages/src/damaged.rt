@@ -1,0 +1,15 @@
+// Bytes that no record has.
+use std::error::Error;
+use std::fmt;
+
+/// A slot's bytes are none that are ever written.
+#[derive(Clone, Copy, Debug, PartialEq, Eq, Drop)]
+pub struct Damaged;
+
+impl fmt::Display for Damaged {
+    fn fmt<W: fmt::Write>(&self, f: &mut fmt::Formatter<W>) -> fmt::Result {
+        f.write_str("a slot's bytes are damaged")
+    }
+}
+
+impl Error for Damaged {}

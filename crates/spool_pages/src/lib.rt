@@ -1,0 +1,25 @@
+//! The pages of a spool: what its bytes say, and its records, rows and other pages as bytes.
+#![tactic(auto)]
+
+mod changes;
+mod changing;
+mod damaged;
+mod fields;
+mod pages;
+mod places;
+mod records;
+mod rests;
+mod rows;
+mod slot_pages;
+#[cfg(test)]
+mod tests;
+
+pub use changes::{fill_rows, pages_of_change, pages_of_new};
+pub use changing::change;
+pub use damaged::Damaged;
+pub use pages::{
+    MAGIC, VERSION, blank_page, blocks_said, first_page, state_page, version_and_next,
+};
+pub use records::{METADATA, RECORD, SlotRecord};
+pub use rests::{resting_images, resting_writes, settled_rests};
+pub use rows::{ROWS, row_at, row_page};

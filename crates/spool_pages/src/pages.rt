@@ -1,0 +1,57 @@
+// The pages of a spool that are neither records nor rows.
+ghost use Rattle.std.specs.Prelude.{◌≡◌, ◌<◌, ◌≤◌, ◌^◌, ℕ, [], Some, get_or};
+ghost use Rattle.spool_pages.specs.Bytes.{IsPadded};
+ghost use Rattle.spool_pages.specs.View.{magic, first_page, state_page};
+
+use crate::fields::{get_u32, get_u64, put};
+use spool_journal::PAGE;
+
+/// The first bytes of a spool.
+pub const MAGIC: [u8; 8] = *b"TUSSPOOL";
+
+/// The version of the layout.
+pub const VERSION: u32 = 1;
+
+/// A page of zeros.
+pub fn blank_page() -> [u8; PAGE]
+    ensures { IsPadded result [] }
+{
+    [0; PAGE]
+}
+
+/// Page 0 of a spool of so many text blocks.
+pub fn first_page(blocks: u32) -> [u8; PAGE]
+    ensures { IsPadded result (first_page blocks) }
+{
+    let mut page = [0; PAGE];
+    put(&mut page, 0, &MAGIC);
+    put(&mut page, 8, &blocks.to_be_bytes());
+    page
+}
+
+/// The state page: the version and the next number.
+pub fn state_page(next: u64) -> [u8; PAGE]
+    ensures { IsPadded result (state_page 1 next) }
+{
+    let mut page = [0; PAGE];
+    put(&mut page, 0, &VERSION.to_be_bytes());
+    put(&mut page, 4, &next.to_be_bytes());
+    page
+}
+
+/// What a state page says: the version and the next number.
+pub fn version_and_next(page: &[u8; PAGE]) -> (u32, u64)
+    ensures { (version next : ℕ) → version < 2 ^ 32 → next < 2 ^ 64 → IsPadded page.now (state_page version next) → result ≡ (version, next) }
+{
+    (get_u32(page, 0), get_u64(page, 4))
+}
+
+/// The number of text blocks that the front of page 0 says, or none where it is not a spool's.
+pub fn blocks_said(front: &[u8; 12]) -> Option<u32>
+    ensures { (blocks : ℕ) → blocks < 2 ^ 32 → ((i : ℕ) → i < 12 → get_or front.now i 0 ≡ get_or (first_page blocks) i 0) → result ≡ Some blocks }
+{
+    if !front.starts_with(&MAGIC) {
+        return None;
+    }
+    Some(get_u32(front, 8))
+}

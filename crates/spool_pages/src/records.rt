@@ -1,0 +1,82 @@
+// The record of an upload as its slot keeps it.
+ghost use Rattle.std.specs.Prelude.{◌≡◌, ◌≤◌, [], length, Ok, Some, None, IfOk, IfSome};
+ghost use Rattle.spool_pages.specs.Bytes.{IsPadded};
+ghost use Rattle.spool_pages.specs.Fits.{FitsSlot};
+ghost use Rattle.spool_pages.specs.View.{SlotRecord as Said, record_bytes};
+
+use crate::Damaged;
+use crate::fields::{get_u16, get_u64, put};
+use std::marker::Model;
+
+/// How many bytes a slot has.
+pub const RECORD: usize = 2048;
+
+/// How many bytes of metadata a slot has room for.
+pub const METADATA: usize = 1536;
+
+/// The record of an upload as its slot's bytes say it.
+#[derive(Drop)]
+pub struct SlotRecord<'a> {
+    /// The upload's number, from 1 on.
+    pub number: u64,
+    /// The declared length.
+    pub declared: u64,
+    /// How many bytes were accepted.
+    pub accepted: u64,
+    /// The length of the text.
+    pub text_len: u64,
+    /// The transcoder's state behind the accepted bytes.
+    pub state: [u8; 32],
+    /// The metadata as it was given.
+    pub metadata: &'a [u8],
+}
+
+impl<'a> Model for SlotRecord<'a> {
+    ghost Value = { Said };
+
+    ghost view = { λ r. record { number = r.number; declared = r.declared; accepted = r.accepted; text_len = r.text_len; state = r.state; metadata = r.metadata.now } };
+}
+
+impl<'a> SlotRecord<'a> {
+    /// The slot's bytes.
+    pub fn to_bytes(&self) -> [u8; RECORD]
+        requires { length self.now.metadata ≤ 1536 }
+        ensures { IsPadded result (record_bytes self.now) }
+    {
+        let mut bytes = [0; RECORD];
+        put(&mut bytes, 0, &self.number.to_be_bytes());
+        put(&mut bytes, 8, &self.declared.to_be_bytes());
+        put(&mut bytes, 16, &self.accepted.to_be_bytes());
+        put(&mut bytes, 24, &self.text_len.to_be_bytes());
+        put(&mut bytes, 32, &self.state);
+        put(&mut bytes, 64, &(self.metadata.len() as u16).to_be_bytes());
+        put(&mut bytes, 66, self.metadata);
+        bytes
+    }
+
+    /// The record in a slot's bytes, or none where the slot is free. `Damaged` where the metadata has no room in it.
+    pub fn from_bytes(bytes: &'a [u8; RECORD]) -> Result<Option<SlotRecord<'a>>, Damaged>
+        ensures free { IsPadded bytes.now [] → result ≡ Ok None }
+        ensures used { (r : Said) → FitsSlot r → IsPadded bytes.now (record_bytes r) → result ≡ Ok (Some r) }
+        ensures few { IfOk result (λ found. IfSome found (λ r. length r.metadata ≤ 1536)) }
+    {
+        let number = get_u64(bytes, 0);
+        if number == 0 {
+            return Ok(None);
+        }
+        let metadata_end = 66 + get_u16(bytes, 64) as usize;
+        if metadata_end > 66 + METADATA {
+            return Err(Damaged);
+        }
+        let mut state = [0; 32];
+        state.copy_from_slice(&bytes[32..64]);
+        Ok(Some(SlotRecord {
+            number,
+            declared: get_u64(bytes, 8),
+            accepted: get_u64(bytes, 16),
+            text_len: get_u64(bytes, 24),
+            state,
+            metadata: &bytes[66..metadata_end],
+        }))
+    }
+}

@@ -1,0 +1,71 @@
+// The rows of the text blocks: who owns each.
+ghost use Rattle.std.specs.Prelude.{◌≡◌, ◌≤◌, ◌<◌, ◌+◌, ◌*◌, ◌^◌, ℕ, Option, None, Some, length, get_or};
+ghost use Rattle.spool_journal.specs.Image.{byte_of};
+ghost use Rattle.spool_pages.specs.Bytes.{IsPadded};
+ghost use Rattle.spool_pages.specs.Fits.{FitsRow};
+ghost use Rattle.spool_pages.specs.View.{Stands, row_bytes};
+
+use crate::fields::{get_u32, put};
+use spool_blocks::Row;
+use spool_journal::PAGE;
+
+/// How many rows a page has.
+pub const ROWS: usize = 512;
+
+// The bytes of a row that a slot owns.
+fn owned_bytes(slot: u32, ordinal: u32) -> [u8; 8]
+    requires { slot + 1 < 2 ^ 32 }
+    ensures { IsPadded result (row_bytes (Some (slot, ordinal))) }
+{
+    let mut bytes = [0; 8];
+    put(&mut bytes, 0, &(slot + 1).to_be_bytes());
+    put(&mut bytes, 4, &ordinal.to_be_bytes());
+    bytes
+}
+
+// The bytes of a row.
+fn bytes_of(row: Row) -> [u8; 8]
+    requires { FitsRow row }
+    ensures { IsPadded result (row_bytes row) }
+{
+    match row {
+        Some((slot, ordinal)) => owned_bytes(slot, ordinal),
+        None => [0; 8],
+    }
+}
+
+// The row of a block, none behind the last one.
+fn row_of(rows: &[Row], block: usize) -> Row
+    ensures { result ≡ get_or rows.now block None }
+{
+    if block < rows.len() {
+        rows[block]
+    } else {
+        None
+    }
+}
+
+/// The row at a place of a page.
+pub fn row_at(page: &[u8], at: usize) -> Row
+    requires { at + 8 ≤ length page.now }
+    ensures { (row : Option (ℕ × ℕ)) → FitsRow row → Stands (byte_of page.now) at 8 (row_bytes row) → result ≡ row }
+{
+    let slot = get_u32(page, at);
+    if slot == 0 {
+        return None;
+    }
+    Some((slot - 1, get_u32(page, at + 4)))
+}
+
+/// A page of rows: 512 of them, with free ones behind the last.
+pub fn row_page(rows: &[Row], page: usize) -> [u8; PAGE]
+    requires page { page < 128 }
+    requires fits { (b : ℕ) → FitsRow (get_or rows.now b None) }
+    ensures { (k : ℕ) → k < 512 → Stands (byte_of result) (8 * k) 8 (row_bytes (get_or rows.now (512 * page + k) None)) }
+{
+    let mut bytes = [0; PAGE];
+    for k in 0..ROWS {
+        put(&mut bytes, 8 * k, &bytes_of(row_of(rows, ROWS * page + k)));
+    }
+    bytes
+}

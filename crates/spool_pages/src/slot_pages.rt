@@ -1,0 +1,55 @@
+// The page of two slots.
+ghost use Rattle.std.specs.Prelude.{◌≡◌, ◌≤◌, Some, IfSome, length, option_copied};
+ghost use Rattle.spool_journal.specs.Image.{byte_of};
+ghost use Rattle.spool_pages.specs.Bytes.{IsPadded};
+ghost use Rattle.spool_pages.specs.Changes.{SaysSlot, neighbour};
+ghost use Rattle.spool_pages.specs.View.{Stands, slot_bytes};
+
+use crate::fields::put;
+use crate::{RECORD, SlotRecord};
+use spool_journal::PAGE;
+
+// The bytes of a slot: zeros where it is free.
+fn bytes_of(slot: Option<&SlotRecord<'_>>) -> [u8; RECORD]
+    requires { IfSome slot (λ r. length r.now.metadata ≤ 1536) }
+    ensures { IsPadded result (slot_bytes (option_copied slot.entry)) }
+{
+    match slot {
+        Some(kept) => kept.to_bytes(),
+        None => [0; RECORD],
+    }
+}
+
+/// The page of two slots, each with its record or free.
+pub(crate) fn record_page(
+    first: Option<&SlotRecord<'_>>,
+    second: Option<&SlotRecord<'_>>,
+) -> [u8; PAGE]
+    requires first { IfSome first (λ r. length r.now.metadata ≤ 1536) }
+    requires second { IfSome second (λ r. length r.now.metadata ≤ 1536) }
+    ensures first { Stands (byte_of result) 0 2048 (slot_bytes (option_copied first.entry)) }
+    ensures second { Stands (byte_of result) 2048 2048 (slot_bytes (option_copied second.entry)) }
+{
+    let mut page = [0; PAGE];
+    put(&mut page, 0, &bytes_of(first));
+    put(&mut page, RECORD, &bytes_of(second));
+    page
+}
+
+/// The page of a slot with this record, and beside it what the slot on the same page has.
+pub(crate) fn page_with(
+    slot: u32,
+    kept: &SlotRecord<'_>,
+    beside: Option<&SlotRecord<'_>>,
+) -> [u8; PAGE]
+    requires kept { length kept.now.metadata ≤ 1536 }
+    requires beside { IfSome beside (λ r. length r.now.metadata ≤ 1536) }
+    ensures kept { SaysSlot slot result (Some kept.now) }
+    ensures beside { SaysSlot (neighbour slot) result (option_copied beside.entry) }
+{
+    if slot % 2 == 0 {
+        record_page(Some(kept), beside)
+    } else {
+        record_page(beside, Some(kept))
+    }
+}
