@@ -52,6 +52,7 @@ pub trait Disk {
         ensures honest { honest self.old ↔ honest self.new }
         ensures bytes { honest self.old → IsOk result → buf.new ≡ span (seen self.old) at (length buf.old) }
         ensures keeps { honest self.old → Keeps (seen self.old) (seen self.new) (loose self.old) (loose self.new) }
+        ensures later { moment self.old ≤ moment self.new }
         ensures time { honest self.old → Elapses (moment self.old) (moment self.new) (left_since self.old) (left_since self.new) (seen self.new) (loose self.new) }
         ensures counts { Counts (IsErr result) (failures self.old) (failures self.new) };
 
@@ -62,6 +63,7 @@ pub trait Disk {
         ensures size { size self.new ≡ size self.old }
         ensures honest { honest self.old ↔ honest self.new }
         ensures writes { honest self.old → Writes at bytes.now (IsOk result) (seen self.old) (seen self.new) (loose self.old) (loose self.new) }
+        ensures later { moment self.old ≤ moment self.new }
         ensures time { honest self.old → Elapses (moment self.old) (moment self.new) (left_since self.old) (left_since self.new) (seen self.new) (loose self.new) }
         ensures counts { Counts (IsErr result) (failures self.old) (failures self.new) };
 
@@ -70,6 +72,7 @@ pub trait Disk {
         ensures size { size self.new ≡ size self.old }
         ensures honest { honest self.old ↔ honest self.new }
         ensures syncs { honest self.old → Syncs (IsOk result) (seen self.old) (seen self.new) (loose self.old) (loose self.new) }
+        ensures later { moment self.old ≤ moment self.new }
         ensures time { honest self.old → Elapses (moment self.old) (moment self.new) (left_since self.old) (left_since self.new) (seen self.new) (loose self.new) }
         ensures counts { Counts (IsErr result) (failures self.old) (failures self.new) };
 

@@ -83,6 +83,7 @@ fn scrawl<D: Disk>(disk: &mut D, at: u64, bytes: &[u8], filler: &[u8])
     ensures writes { D.honest disk.old → Writes at bytes.now ⊥ (D.seen disk.old) (D.seen disk.new) (D.loose disk.old) (D.loose disk.new) }
     ensures time { D.honest disk.old → Elapses (D.moment disk.old) (D.moment disk.new) (D.left_since disk.old) (D.left_since disk.new) (D.seen disk.new) (D.loose disk.new) }
     ensures later { D.failures disk.old ≤ D.failures disk.new }
+    ensures forward { D.moment disk.old ≤ D.moment disk.new }
 {
     let len = bytes.len().min(filler.len());
     let _ = disk.write_at(at, &filler[..len]);

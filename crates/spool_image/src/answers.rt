@@ -67,6 +67,7 @@ impl Kept {
         ensures size { D.size disk.new ≡ D.size disk.old }
         ensures honest { D.honest disk.old ↔ D.honest disk.new }
         ensures counts { Counts (IsErrOf result UploadError.DiskFault) (D.failures disk.old) (D.failures disk.new) }
+        ensures later { D.moment disk.old ≤ D.moment disk.new }
         ensures no_memory { IsErrOf result UploadError.NoMemory → ⊥ }
         ensures answer { D.honest disk.old → (m : Store) (v : View) → KeepsView self.now v → Shows v m → Says (D.seen disk.old) v
             → Answers (no_such (upload_of m number)) result (λ n. IsRead (text_at m (upload_of m number)) at n buf.old buf.new) (Unit {0}) }

@@ -77,6 +77,7 @@ impl<D: Disk> Spool<D> {
         ensures size { D.size (disk_of self.new) ≡ D.size (disk_of self.old) }
         ensures honest { D.honest (disk_of self.old) ↔ D.honest (disk_of self.new) }
         ensures counts { Counts (IsErrOf result UploadError.DiskFault) (D.failures (disk_of self.old)) (D.failures (disk_of self.new)) }
+        ensures later { D.moment (disk_of self.old) ≤ D.moment (disk_of self.new) }
         ensures no_memory { IsErrOf result UploadError.NoMemory → ⊥ }
         ensures kept { kept_of self.new ≡ kept_of self.old }
 

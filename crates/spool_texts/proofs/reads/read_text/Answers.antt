@@ -14,6 +14,7 @@ loop-done-preserved g c =
       size = c.read_piece.ensures.size ∙ inv.size;
       honest = λ honest. c.read_piece.ensures.honest.0 (inv.honest honest);
       back = λ honest. inv.back (c.read_piece.ensures.honest.1 honest);
+      later = omega (arith, inv.later, c.read_piece.ensures.later);
       counts = no_failure c.read_piece.ensures.counts (not_err _ _ c.in_ok-done.was) ∙ inv.counts;
       keeps = λ honest. keeps_on (inv.keeps honest) (c.read_piece.ensures.keeps (inv.honest honest));
       lasts = λ honest. lasts_on (inv.lasts honest) (lasts_more (c.read_piece.ensures.lasts (inv.honest honest)) (λ image is. image_keeps (inv.keeps honest) is));

@@ -10,6 +10,7 @@ invariant-loop-done g l = record {
   size : g.D.Disk.size l.disk ≡ g.D.Disk.size l.fn.disk;
   honest : g.D.Disk.honest l.fn.disk → g.D.Disk.honest l.disk;
   back : g.D.Disk.honest l.disk → g.D.Disk.honest l.fn.disk;
+  later : g.D.Disk.moment l.fn.disk ≤ g.D.Disk.moment l.disk;
   counts : g.D.Disk.failures l.disk ≡ g.D.Disk.failures l.fn.disk;
   keeps : g.D.Disk.honest l.fn.disk → Keeps (g.D.Disk.seen l.fn.disk) (g.D.Disk.seen l.disk) (g.D.Disk.loose l.fn.disk) (g.D.Disk.loose l.disk);
   lasts : g.D.Disk.honest l.fn.disk → Lasts g.D.Disk l.fn.disk l.disk (IsImage (g.D.Disk.seen l.fn.disk) (g.D.Disk.loose l.fn.disk));
