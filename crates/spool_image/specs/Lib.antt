@@ -12,3 +12,5 @@ pub mod Extending
 pub mod Stored
 pub mod Creating
 pub mod Drafting
+pub mod LeftOnly
+pub mod Durable

@@ -3,6 +3,7 @@
 
 mod answers;
 mod checks;
+mod committing;
 mod creating;
 mod drafting;
 mod error;
@@ -24,4 +25,4 @@ mod tests;
 pub use error::{FormatError, OpenFault};
 pub use formatting::format;
 pub use layout::pages_of;
-pub use spool::Spool;
+pub use spool::{Spool, SpoolAppend};
