@@ -27,3 +27,5 @@ pub mod Drafted
 pub mod DraftBegun
 pub mod DraftLonger
 pub mod LeftImages
+pub mod AnswersMore
+pub mod StandsOn
