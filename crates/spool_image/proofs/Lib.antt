@@ -26,3 +26,4 @@ pub mod DraftLists
 pub mod Drafted
 pub mod DraftBegun
 pub mod DraftLonger
+pub mod SameView
