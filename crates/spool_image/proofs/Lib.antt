@@ -26,6 +26,7 @@ pub mod DraftLists
 pub mod Drafted
 pub mod DraftBegun
 pub mod DraftLonger
+pub mod SameView
 pub mod LeftImages
 pub mod AnswersMore
 pub mod StandsOn

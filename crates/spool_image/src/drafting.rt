@@ -107,6 +107,7 @@ pub(crate) fn append<D: Disk>(
         → Answers None result
         (λ done. StandsFor D.Disk disk.new kept.new drafts.new.items (appended w number piece.now))
         (StandsFor D.Disk disk.new kept.new drafts.new.items w) }
+    // A crash during it leaves what shows the same.
     ensures quiet { (w : World) (p : Patch) → StandsFor D.Disk disk.old kept.old drafts.old.items w → find number w.patches ≡ Some p
         → Lasts D.Disk disk.old disk.new (λ image. (m : Store) → ImageShows (D.seen disk.old) m → ImageShows image m) }
 {

@@ -11,9 +11,9 @@ use Rattle.upload_rules.proofs.Patches.{draft_of}
 use Rattle.spool_blocks.specs.Blocks.{Row}
 use Rattle.spool_disk.proofs.Firm.{lasts_more}
 use Rattle.spool_drafts.specs.Drafts.{IsPlaced, Holds, Carries, IsLonger, with_piece, tail_of}
-use Rattle.spool_pages.proofs.Resting.{rests_aside}
 use Rattle.spool_image.specs.Drafting.{DraftsFit, DraftStands, DraftsStand, IsOwnedBy, StandsFor}
 use Rattle.spool_image.proofs.Drafted.{reserves_only}
+use Rattle.spool_image.proofs.SameView.{shows_aside}
 use Rattle.spool_image.specs.Holding.{Holding}
 use Rattle.spool_image.proofs.DraftLonger.{answered, changed_back, fit_longer, longer_carries, longer_holds, longer_world, moved, ok_more, some_draft, stand_longer}
 use Rattle.spool_image.proofs.drafting.append.Goals as goal
@@ -34,16 +34,13 @@ returns-clause-fits g c =
     c.append-answer.ensures.reserved c.append-answer.ensures.placed
 
 pub returns-clause-quiet : goal.returns-clause-quiet
-returns-clause-quiet g c w p s there fits =
+returns-clause-quiet g c w p s there =
     let effect = c.append-answer.ensures.effect in
     let v = s.stored.view in
     let rows = effect.grasp.takes.rows ∙ ap (λ (h : Holding). h.blocks.rows) c.kept.view_is ∙ s.stored.keeps.rows in
-    lasts_more (effect.writes s.stored.honest).lasts (λ image is. record {
-      view = v;
-      is = rests_aside effect.own image (sym s.stored.keeps.blocks ∙ sym (ap (λ (h : Holding). h.layout) c.kept.view_is)) s.stored.rests
-          (λ i lt. ap (λ (r : List Row). get_or r (get_or effect.own i 0) None) (sym rows) ∙ effect.grasp.reserved.no_owner i lt) is;
-      shows = s.stored.shows;
-    })
+    lasts_more (effect.writes s.stored.honest).lasts (λ image is m shown.
+    shows_aside v effect.own _ image m s.stored.shows.sound (sym s.stored.keeps.blocks ∙ sym (ap (λ (h : Holding). h.layout) c.kept.view_is)) s.stored.rests
+    (λ i lt. ap (λ (r : List Row). get_or r (get_or effect.own i 0) None) (sym rows) ∙ effect.grasp.reserved.no_owner i lt) is shown)
 
 pub returns-clause-answer : goal.returns-clause-answer
 returns-clause-answer g c w p s there fits =
