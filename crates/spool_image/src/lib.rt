@@ -21,6 +21,8 @@ mod slots;
 mod spool;
 #[cfg(test)]
 mod tests;
+#[cfg(test)]
+mod uploads_tests;
 
 pub use error::{FormatError, OpenFault};
 pub use formatting::format;

@@ -1,4 +1,4 @@
-//! The uploads on a disk, and appends to them that are under way.
+// The uploads on a disk, and appends to them that are under way.
 ghost use Rattle.std.specs.Prelude.{◌≡◌, ◌⊎◌, ◌≤◌, ◌*◌, ◌↔◌, ℕ, List, Some, IfOk};
 ghost use Rattle.spool_disk.specs.Disk.{IsImage, Counts};
 ghost use Rattle.spool_disk.specs.Views.{Lasts};
@@ -22,11 +22,12 @@ use spool_drafts::SpoolDraft;
 use std::alloc::Global;
 use upload_rules::{New, Record, UploadError, Uploads};
 
-/// The uploads on a disk, and the appends to them that are under way.
+/// The uploads on a disk, and the appends to them that are under way. After a `DiskFault` it stands for no uploads any more: drafts may
+/// be dropped, and the disk taken back and opened again.
 pub struct Spool<D: Disk> {
     alloc: Global,
     disk: D,
-    pub(crate) kept: Kept,
+    kept: Kept,
     /// by their numbers
     drafts: Vec<Option<SpoolDraft>>,
     ghost room: { 4096 * all_pages kept.layout ≤ D.size disk },
@@ -141,17 +142,37 @@ impl<D: Disk> Uploads for Spool<D> {
     }
 
     fn begin(&mut self, number: u64, offset: u64, count: u64) -> Result<SpoolAppend, UploadError> {
-        let number = begin::<D>(self.alloc, &self.kept, &mut self.drafts, number, offset, count)?;
+        let number = begin::<D>(
+            self.alloc,
+            &self.kept,
+            &mut self.drafts,
+            number,
+            offset,
+            count,
+        )?;
         Ok(SpoolAppend { number })
     }
 
     fn append(&mut self, draft: &mut SpoolAppend, piece: &[u8]) -> Result<(), UploadError> {
-        append(self.alloc, &mut self.disk, &mut self.kept, &mut self.drafts, draft.number, piece)
+        append(
+            self.alloc,
+            &mut self.disk,
+            &mut self.kept,
+            &mut self.drafts,
+            draft.number,
+            piece,
+        )
     }
 
     fn commit(&mut self, draft: SpoolAppend) -> Result<u64, UploadError> {
         let SpoolAppend { number } = draft;
-        commit(self.alloc, &mut self.disk, &mut self.kept, &mut self.drafts, number)
+        commit(
+            self.alloc,
+            &mut self.disk,
+            &mut self.kept,
+            &mut self.drafts,
+            number,
+        )
     }
 
     fn drop_open(&mut self, draft: SpoolAppend) {
