@@ -175,3 +175,43 @@ fn upload_is_made_or_not_where_the_disk_fails(rt: HostRuntime) -> Result<(), Fai
     }
     Ok(())
 }
+
+// What an append of five bytes to the upload 1 answers on a disk that fails after some calls, and the disk.
+fn patched_until(
+    alloc: Global,
+    disk: MemoryDisk,
+    passed: u64,
+) -> (MemoryDisk, Result<u64, UploadError>) {
+    match Spool::open(alloc, FuseDisk::new(disk, passed)) {
+        Ok(spool) => {
+            let mut spool = spool;
+            let answer = patched(&mut spool, 1, 0, b"hello");
+            (spool.into_disk().into_inner(), answer)
+        }
+        Err((fuse, _)) => (fuse.into_inner(), Err(UploadError::DiskFault)),
+    }
+}
+
+#[test]
+fn append_is_committed_or_not_where_the_disk_fails(rt: HostRuntime) -> Result<(), Fail> {
+    for passed in 539..570 {
+        let (disk, made) = created_until(rt.alloc(), fresh(rt.alloc())?, 1000);
+        assert_eq!(rt; made, Ok(1));
+        let (disk, answer) = patched_until(rt.alloc(), disk, passed);
+        let mut spool = opened(rt.alloc(), disk.crash(Crash::Torn(9)))?;
+        let accepted = spool.record(1).map(|r| r.accepted);
+        let mut buf = [0; 6];
+        let read = spool.read_text(1, 0, &mut buf);
+        drop(spool.into_disk());
+        if accepted == Some(5) {
+            assert_eq!(rt; read, Ok(5), "{passed}");
+            assert_eq!(rt; buf, [b'h', b'e', b'l', b'l', b'o', 0], "{passed}");
+        } else {
+            assert_eq!(rt; accepted, Some(0), "{passed}");
+            assert_eq!(rt; answer, Err(UploadError::DiskFault), "{passed}");
+        }
+        assert!(rt; passed > 539 || accepted == Some(0), "{passed}");
+        assert!(rt; passed < 569 || answer == Ok(5), "{passed}");
+    }
+    Ok(())
+}
