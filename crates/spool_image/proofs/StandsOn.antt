@@ -1,5 +1,5 @@
 -- A spool that stands for a world, at its opening and from call to call.
-use Rattle.std.proofs.Common.{◌≡◌, ◌↔◌, inl, inr, Result, Ok, Err, OnOk, IsErrOf, ℕ, ◌+◌, ◌*◌, ◌/◌, ◌%◌, ◌<◌, ◌≤◌, ◌++◌, true, false, List, [], Option, None, Some, length, get_or, replicate, take, refl, sym, ◌∙◌, ap, subst, arith, length-take}
+use Rattle.std.proofs.Common.{◌≡◌, ◌↔◌, inl, inr, Result, Ok, Err, OnOk, IsErrOf, ℕ, ◌+◌, ◌*◌, ◌%◌, ◌≤◌, ◌++◌, false, List, [], Option, None, Some, length, get_or, replicate, take, refl, sym, ◌∙◌, ap, subst, arith}
 use Rattle.std.proofs.Math.ListN.{get_or-eq_default, length-replicate}
 use Rattle.std.proofs.lemmas.Bool.{cases_lt}
 use Rattle.std.proofs.lemmas.List.{get_or-replicate}
@@ -29,7 +29,7 @@ use Rattle.upload_rules.specs.declared.errors.UploadError.{UploadError}
 use Rattle.upload_rules.specs.declared.errors.UploadError.TheVariants.{NoMemory, DiskFault, Refused}
 use Rattle.upload_rules.specs.declared.errors.UploadRefusal.{UploadRefusal}
 use Rattle.spool_image.proofs.Opens.{same_function}
-use Rattle.spool_image.specs.Drafting.{DraftsFit, DraftsStand, DraftStands, IsOwnedBy, StandsFor}
+use Rattle.spool_image.specs.Drafting.{DraftsStand, DraftStands, IsOwnedBy, StandsFor}
 use Rattle.spool_image.specs.Holding.{Holding, IsUsedBy}
 use Rattle.spool_image.specs.Kept.{KeepsAlone}
 use Rattle.spool_image.specs.Shows.{Shows}
