@@ -6,13 +6,14 @@ ghost use Rattle.enc_index.specs.Sets.{IsIndexSet};
 ghost use Rattle.spool_disk.specs.Disk.{Counts};
 ghost use Rattle.spool_journal.specs.Image.{all_pages};
 ghost use Rattle.spool_journal.specs.Phases.{Still};
-ghost use Rattle.spool_image.specs.Reads.{OnlyReads, IsReadAt, LoadsAs};
+ghost use Rattle.spool_image.specs.Reads.{OnlyReads, IsReadAt};
+ghost use Rattle.spool_kept.specs.Loads.{LoadsAs};
 ghost use Rattle.spool_pages.specs.View.{Stands, state_page, state_place, index_place};
 
-use crate::OpenFault;
 use enc_index::{AreaError, IndexSet};
 use spool_disk::{Disk, DiskFault};
 use spool_journal::{Layout, PAGE};
+use spool_kept::OpenFault;
 use spool_pages::version_and_next;
 use std::alloc::Global;
 
