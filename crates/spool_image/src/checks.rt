@@ -1,11 +1,11 @@
 // What is read is checked: only what a spool may say passes.
-ghost use Rattle.std.specs.Prelude.{◌≡◌, ◌≤◌, ◌<◌, ◌+◌, ◌/◌, ℕ, true, false, Some, None, length, get_or, option_copied};
+ghost use Rattle.std.specs.Prelude.{◌≡◌, ◌<◌, ℕ, true, false, Some, None, length, get_or};
 ghost use Rattle.spool_blocks.specs.Chains.{Owns};
 ghost use Rattle.upload_rules.specs.Room.{blocks_of};
 ghost use Rattle.spool_kept.specs.Shows.{HasState, IsSoundRecord, IsSound};
 ghost use Rattle.spool_kept.specs.Records.{said_of};
 ghost use Rattle.spool_pages.specs.Fits.{FitsRow};
-ghost use Rattle.spool_pages.specs.View.{View, SlotRecord as Said};
+ghost use Rattle.spool_pages.specs.View.{View};
 
 use spool_blocks::Row;
 use spool_kept::{KeptRecord, blocks_of, record_at};

@@ -6,7 +6,6 @@ pub mod Appended
 pub mod HandedOver
 pub mod AppendedTexts
 pub mod SlotsOf
-pub mod Counted
 pub mod Told
 pub mod Ordered
 pub mod Keeps

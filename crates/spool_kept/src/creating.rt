@@ -1,9 +1,9 @@
 // A new upload is made.
-ghost use Rattle.std.specs.Prelude.{◌≡◌, ◌↔◌, ◌⊎◌, ◌≤◌, ◌<◌, ◌+◌, ◌*◌, ◌^◌, ℕ, IsErr, IsErrOf, IsSome, IfOk, OnOk, IfSome, MatchOption, Some, None, length, get_or, option_copied};
+ghost use Rattle.std.specs.Prelude.{◌≡◌, ◌↔◌, ◌⊎◌, ◌≤◌, ◌<◌, ◌+◌, ◌*◌, ◌^◌, ℕ, IsErr, IsErrOf, IsSome, IfOk, OnOk, IfSome, MatchOption, Some, None, length, get_or};
 ghost use Rattle.spool_disk.specs.Disk.{Counts};
 ghost use Rattle.spool_disk.specs.Views.{Lasts};
 ghost use Rattle.spool_journal.specs.Image.{journal_pages, all_pages, InArea};
-ghost use Rattle.spool_pages.specs.Changes.{Changes, with_record, neighbour};
+ghost use Rattle.spool_pages.specs.Changes.{Changes, with_record};
 ghost use Rattle.spool_pages.specs.View.{View, text_page};
 ghost use Rattle.upload_rules.specs.Answers.{Answers};
 ghost use Rattle.upload_rules.specs.Calls.{create_refusal, outcome};
@@ -60,15 +60,6 @@ impl Kept {
         KeptRecord::new(Record::first(self.next, new))
     }
 
-    // The record that the other slot on the same page has.
-    fn record_beside(&self, slot: u32) -> Option<&KeptRecord>
-        requires { slot < 512 }
-        ensures { option_copied result ≡ get_or self.now.slots (neighbour slot) None }
-    {
-        let beside = if slot % 2 == 0 { slot + 1 } else { slot - 1 };
-        record_at(&self.slots, beside as usize)
-    }
-
     // The pages that a new record in a slot makes.
     fn pages_with(&self, alloc: Global, slot: u32, record: &KeptRecord) -> Result<Pages, AllocError>
         requires { HasRoomAt self.now slot }
@@ -77,13 +68,9 @@ impl Kept {
         ensures changes { (v : View) → v.blocks ≡ self.now.layout → v.slots ≡ self.now.slots → IfOk result (λ pages. Changes pages v (record (with_record v slot «record».now) { next = self.now.next + 1 })) }
     {
         let kept = record.slot_record();
-        match self.record_beside(slot) {
-            Some(beside) => {
-                let said = beside.slot_record();
-                pages_of_new(alloc, &self.layout, self.next + 1, slot, &kept, Some(&said))
-            }
-            None => pages_of_new(alloc, &self.layout, self.next + 1, slot, &kept, None),
-        }
+        let beside = self.beside(slot);
+        let next = self.next + 1;
+        pages_of_new(alloc, &self.layout, next, slot, &kept, beside.as_ref())
     }
 
     // Takes a new upload's record in. Where a growth is refused all is as it was.

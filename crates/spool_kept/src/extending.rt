@@ -1,10 +1,10 @@
 // An upload gets longer: its record and its blocks, in memory and on the disk.
-ghost use Rattle.std.specs.Prelude.{◌≡◌, ◌↔◌, ◌≤◌, ◌<◌, ◌*◌, ◌/◌, ◌++◌, ℕ, List, [], Some, None, Ok, Err, length, get_or, drop, slice_set, IfOk, OnOk, OnErr, IsSome, IfSome};
+ghost use Rattle.std.specs.Prelude.{◌≡◌, ◌↔◌, ◌≤◌, ◌<◌, ◌*◌, ◌/◌, ◌++◌, ℕ, List, [], Some, None, Ok, Err, length, get_or, drop, slice_set, IfOk, OnOk, OnErr, IsSome};
 ghost use Rattle.spool_disk.specs.Disk.{Counts};
 ghost use Rattle.spool_disk.specs.Views.{Lasts};
 ghost use Rattle.spool_journal.specs.Image.{all_pages, journal_pages, InArea};
 ghost use Rattle.spool_blocks.specs.Blocks.{Row as HeldRow};
-ghost use Rattle.spool_pages.specs.Changes.{ChangesButRows, neighbour, with_record, SameRowsBut};
+ghost use Rattle.spool_pages.specs.Changes.{ChangesButRows, with_record, SameRowsBut};
 ghost use Rattle.spool_pages.specs.View.{View, text_page};
 ghost use Rattle.spool_texts.specs.Drafts.{IsReserved};
 ghost use Rattle.upload_rules.specs.Store.{Store, appended_store};
@@ -61,14 +61,6 @@ impl From<DiskFault> for ExtendError {
     }
 }
 
-// The slot whose record is on the same page.
-fn neighbour(slot: u32) -> u32
-    requires { slot < 512 }
-    ensures { result ≡ neighbour slot }
-{
-    if slot % 2 == 0 { slot + 1 } else { slot - 1 }
-}
-
 // The blocks whose rows change: the new ones, and those that they replace. None where there are no new ones.
 fn changed_blocks(
     alloc: Global,
@@ -98,16 +90,6 @@ fn set_record(slots: &mut Vec<Option<KeptRecord>>, longer: &Longer)
 }
 
 impl Kept {
-    // The record of the other slot on a slot's page.
-    fn beside(&self, slot: u32) -> Option<SlotRecord<'_>>
-        requires { slot < 512 }
-        ensures said { result ≡ get_or self.now.slots (neighbour slot) None }
-        ensures short { IfSome result (λ r. length r.metadata ≤ 1536) }
-    {
-        let kept = record_at(&self.slots, neighbour(slot) as usize)?;
-        Some(kept.slot_record())
-    }
-
     // How many full blocks a slot's text has.
     fn full_blocks(&self, slot: u32) -> u32
         requires { IsSome (get_or self.now.slots slot None) }

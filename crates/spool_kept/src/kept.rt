@@ -1,19 +1,21 @@
 // What is kept of a spool in memory.
-ghost use Rattle.std.specs.Prelude.{◌≡◌, ◌≤◌, ◌*◌, ◌+◌, ◌<◌, ℕ, Ok, Err, None, false, replicate, length, get_or, IfOk};
+ghost use Rattle.std.specs.Prelude.{◌≡◌, ◌≤◌, ◌<◌, ℕ, Err, None, false, replicate, length, get_or, IfOk, IfSome};
 ghost use Rattle.spool_kept.specs.Holding.{Holding, FitsTogether};
 ghost use Rattle.spool_kept.specs.Kept.{KeepsAlone};
 ghost use Rattle.spool_kept.specs.Loads.{LoadsAs};
 ghost use Rattle.spool_kept.specs.Shows.{IsSound};
+ghost use Rattle.spool_pages.specs.Changes.{neighbour};
 ghost use Rattle.spool_pages.specs.Fits.{FitsRow};
 ghost use Rattle.spool_pages.specs.View.{View};
 
 use crate::OpenFault;
 use crate::lists::{BlockList, lists_of};
 use crate::order::{NumberedSlot, order_of};
-use crate::records::KeptRecord;
+use crate::records::{KeptRecord, record_at};
 use enc_index::IndexSet;
 use spool_blocks::Blocks;
 use spool_journal::Layout;
+use spool_pages::SlotRecord;
 use std::alloc::Global;
 use std::marker::Model;
 
@@ -78,4 +80,29 @@ impl Kept {
             blocks,
         })
     }
+
+    /// How many text blocks the spool has, and where its pages are.
+    pub fn layout(&self) -> &Layout
+        ensures { result.now ≡ self.now.layout }
+    {
+        &self.layout
+    }
+
+    /// The record of the other slot on a slot's page.
+    pub(crate) fn beside(&self, slot: u32) -> Option<SlotRecord<'_>>
+        requires { slot < 512 }
+        ensures said { result ≡ get_or self.now.slots (neighbour slot) None }
+        ensures short { IfSome result (λ r. length r.metadata ≤ 1536) }
+    {
+        let kept = record_at(&self.slots, neighbour(slot) as usize)?;
+        Some(kept.slot_record())
+    }
+}
+
+// The slot whose record is on the same page.
+fn neighbour(slot: u32) -> u32
+    requires { slot < 512 }
+    ensures { result ≡ neighbour slot }
+{
+    if slot % 2 == 0 { slot + 1 } else { slot - 1 }
 }

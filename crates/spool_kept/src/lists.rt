@@ -1,8 +1,8 @@
 // Each slot's blocks by ordinal.
-ghost use Rattle.std.specs.Prelude.{◌≡◌, ◌≤◌, ◌<◌, ◌+◌, ℕ, [], List, Some, None, true, length, get_or, take, drop, ◌++◌, IfOk, OnOk, OnErr, Err};
+ghost use Rattle.std.specs.Prelude.{◌≡◌, ◌≤◌, ◌<◌, ◌+◌, ℕ, List, Some, None, true, length, get_or, take, drop, ◌++◌, IfOk, OnOk, OnErr, Err};
 ghost use Rattle.spool_blocks.specs.Blocks.{Row, slot_count, IsWhole};
 ghost use Rattle.upload_rules.specs.Room.{blocks_of};
-ghost use Rattle.spool_kept.specs.Holding.{HasBlocks, IsListOf, AreListsTo};
+ghost use Rattle.spool_kept.specs.Holding.{HasBlocks, AreListsTo};
 ghost use Rattle.spool_kept.specs.Loads.{LoadsAs};
 ghost use Rattle.spool_kept.specs.Shows.{IsSound};
 ghost use Rattle.spool_pages.specs.View.{View};
