@@ -7,14 +7,13 @@ ghost use Rattle.spool_journal.specs.Phases.{Idle};
 ghost use Rattle.upload_rules.specs.Answers.{Answers};
 ghost use Rattle.upload_rules.specs.Reading.{no_such, text_at, IsRead};
 ghost use Rattle.upload_rules.specs.Store.{Store, upload_of};
-ghost use Rattle.spool_image.specs.Kept.{KeepsView};
-ghost use Rattle.spool_image.specs.Shows.{IsSound, Shows, ImageShows};
+ghost use Rattle.spool_kept.specs.Kept.{KeepsView};
+ghost use Rattle.spool_kept.specs.Shows.{IsSound, Shows, ImageShows};
 ghost use Rattle.spool_pages.specs.View.{View, Says, IsViewOf};
 
-use crate::OpenFault;
-use crate::kept::Kept;
 use crate::opening::prepare;
 use spool_disk::Disk;
+use spool_kept::{Kept, OpenFault};
 use std::alloc::Global;
 use upload_rules::UploadError;
 
