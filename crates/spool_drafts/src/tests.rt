@@ -4,11 +4,12 @@ ghost use Rattle.std.specs.Prelude.{◌≡◌, ◌≤◌, ◌*◌, IfOk, length}
 ghost use Rattle.spool_drafts.specs.Drafts.{IsPlaced, list_of};
 ghost use Rattle.spool_journal.specs.Image.{all_pages};
 ghost use Rattle.spool_texts.specs.Drafts.{IsReserved};
+ghost use Rattle.spool_texts.specs.TextOn.{AllBelow};
 
 use crate::SpoolDraft;
 use enc_index::IndexSet;
 use enc_model::{Encoding, Mode};
-use spool_blocks::Blocks;
+use spool_blocks::{BlockNo, Blocks};
 use spool_disk::{Disk, MemoryDisk};
 use spool_journal::{Layout, PAGE};
 use spool_texts::read_text;
@@ -70,67 +71,81 @@ fn append_pieces<D: Disk>(
     draft.append(alloc, disk, layout, blocks, indexes, &text[4100..])
 }
 
+// Appends 5,000 bytes to an upload behind its text on the listed blocks: the draft's blocks, and the state behind.
+fn appended<D: Disk>(
+    rt: &impl Abort,
+    alloc: Global,
+    disk: &mut D,
+    layout: &Layout,
+    blocks: &mut Blocks,
+    upload: &Record,
+    list: &[BlockNo],
+    text: &[u8],
+) -> Result<(Vec<BlockNo>, [u8; 32]), Fail>
+    requires room { 4096 * all_pages layout.now ≤ D.size disk.old }
+    requires blocks { length blocks.old.rows ≡ layout.now }
+    requires long { upload.now.text_len ≤ 4096 * length list.now }
+    requires few { length list.now ≤ 65536 }
+    requires listed { AllBelow layout.now list.now }
+    requires text { length text.now ≡ 5000 }
+    ensures size { D.size disk.new ≡ D.size disk.old }
+    ensures rows { blocks.new.rows ≡ blocks.old.rows }
+    ensures listed { IfOk result (λ r. AllBelow layout.now r.0.items) }
+{
+    let indexes = IndexSet::new(alloc)?;
+    let mut draft = SpoolDraft::begin(alloc, upload, list, upload.accepted, 5000).expect(
+        rt,
+        "it may begin",
+    );
+    append_pieces(&mut draft, alloc, disk, layout, blocks, &indexes, text)?;
+    let state = draft.end(alloc, disk, layout, blocks, &indexes, false)?;
+    assert_eq!(rt;
+        (draft.number(), draft.offset(), draft.came()),
+        (7, upload.accepted, 5000)
+    );
+    assert_eq!(rt; draft.committed_len(), upload.text_len);
+    assert_eq!(rt; draft.len(), upload.text_len + 5000);
+    assert_eq!(rt; draft.list().len(), 2);
+    Ok((draft.into_list(alloc), state))
+}
+
 #[test]
 fn text_is_gone_on_with_behind_its_unfinished_block(rt: HostRuntime) -> Result<(), Fail> {
     let layout = Layout::of(16).ok_or("few blocks")?;
     let mut disk = disk_of(rt.alloc(), layout.pages())?;
     let mut blocks = Blocks::of(rt.alloc(), vec![in rt.alloc(); None; 16]?)?;
-    let indexes = IndexSet::new(rt.alloc())?;
     let text = text_of(rt.alloc(), 10_000)?;
     assert_eq!(rt; text.len(), 10_000);
     let mut upload = upload_of(rt.alloc(), 10_000);
     assert_eq!(rt; upload.text_len, 0);
-    let mut draft = SpoolDraft::begin(rt.alloc(), &upload, &[], 0, 5000).expect(
+    let (first, state) = appended(
         &rt,
-        "it may begin",
-    );
-    let put = append_pieces(
-        &mut draft,
         rt.alloc(),
         &mut disk,
         &layout,
         &mut blocks,
-        &indexes,
+        &upload,
+        &[],
         &text[..5000],
-    );
-    assert_eq!(rt; put, Ok(()));
-    let state = draft.end(rt.alloc(), &mut disk, &layout, &mut blocks, &indexes, false)?;
-    assert_eq!(rt;
-        (draft.number(), draft.offset(), draft.came()),
-        (7, 0, 5000)
-    );
-    assert_eq!(rt; draft.committed_len(), 0);
-    assert_eq!(rt; draft.len(), 5000);
-    let list = draft.into_list(rt.alloc());
-    assert_eq!(rt; list.len(), 2);
-
+    )?;
+    assert_eq!(rt; first.len(), 2);
     upload.accepted = 5000;
     upload.text_len = 5000;
     upload.state = state;
-    let mut draft = SpoolDraft::begin(rt.alloc(), &upload, &list, 5000, 5000).expect(
+    let (behind, _) = appended(
         &rt,
-        "it may go on",
-    );
-    let put = append_pieces(
-        &mut draft,
         rt.alloc(),
         &mut disk,
         &layout,
         &mut blocks,
-        &indexes,
+        &upload,
+        &first,
         &text[5000..],
-    );
-    assert_eq!(rt; put, Ok(()));
-    let _state = draft.end(rt.alloc(), &mut disk, &layout, &mut blocks, &indexes, true)?;
-    assert_eq!(rt; (draft.offset(), draft.came()), (5000, 5000));
-    assert_eq!(rt; draft.committed_len(), 5000);
-    assert_eq!(rt; draft.len(), 10_000);
-    let behind = draft.list();
+    )?;
     assert_eq!(rt; behind.len(), 2);
-    let whole = [list[0], behind[0], behind[1]];
     let mut buf = vec![in rt.alloc(); 0; 10_000]?;
-    let read = read_text(&mut disk, &layout, &whole, 10_000, 0, &mut buf);
-    assert_eq!(rt; read, Ok(10_000));
+    read_text(&mut disk, &layout, &first, 4096, 0, &mut buf[..4096])?;
+    read_text(&mut disk, &layout, &behind, 5904, 0, &mut buf[4096..])?;
     assert!(rt; buf == text);
     Ok(())
 }
