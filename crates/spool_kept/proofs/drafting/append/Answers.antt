@@ -77,7 +77,7 @@ returns-clause-answer g c w p s there fits =
     let piece = c.args.piece.now in
     let longer_stands = stand_longer w.store.indexes seen seen' first c.kept.inside.layout h h' w before after s'.stands fit number o new here effect.own effect.grasp changed rows only.writes.outside in
     let tail : (upload_of w.store p.number ≡ Some p.began) → AreOwned h'.rows (tail_of new) =
-    λ still. subst (AreOwned h'.rows) (sym c.append-answer.ensures.tail) (subst (λ (r : List Row). AreOwned r (tail_of o)) (sym rows) (is.tail still)) in
+    λ still. subst (AreOwned h'.rows) (sym c.append-answer.ensures.same.3) (subst (λ (r : List Row). AreOwned r (tail_of o)) (sym rows) (is.tail still)) in
     let back = replaced_same number p w.patches there in
     answered _ _ c.append-answer.result
     (ok_more c.append-answer.result (c.append-answer.ensures.answer p held fits) (λ still. c.append-answer.ensures.content p s.stored.honest held fits (subst (λ (x : IndexSet). Carries x seen first p o) (sym ix) (is.carries still)))
