@@ -2,3 +2,5 @@ pub mod Fresh
 pub mod Format
 pub mod Reads
 pub mod Spool
+pub mod LeftOnly
+pub mod Durable

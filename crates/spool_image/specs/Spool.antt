@@ -5,9 +5,10 @@ use Rattle.spool_kept.specs.declared.error.OpenFault.{OpenFault}
 use Rattle.spool_kept.specs.declared.error.OpenFault.TheVariants.{DiskFault}
 use Rattle.spool_image.specs.declared.spool.Spool.{Spool}
 use Rattle.spool_pages.specs.View.{View}
-use Rattle.spool_kept.specs.Holding.{Holding}
 use Rattle.spool_kept.specs.Kept.{KeepsAlone}
 use Rattle.spool_kept.specs.Loads.{LoadsAs}
+use Rattle.spool_kept.specs.Drafting.{StandsFor}
+use Rattle.upload_rules.specs.World.{World}
 
 abbrev pub disk_of : {D : Type 0} {disk : Ghosts D} → Spool D disk → D
 disk_of s = s.disk
@@ -16,13 +17,13 @@ disk_of s = s.disk
 abbrev pub size_of : {D : Type 0} {disk : Ghosts D} → Spool D disk → ℕ
 size_of s = s.kept.layout
 
--- what it keeps in memory
-abbrev pub kept_of : {D : Type 0} {disk : Ghosts D} → Spool D disk → Holding
-kept_of s = s.kept
-
 -- it keeps in memory what the view says, with no block reserved
 abbrev pub Keeps : {D : Type 0} {disk : Ghosts D} → Spool D disk → View → Type 0
 Keeps s v = KeepsAlone s.kept v
+
+-- the disk, what is kept of it and the drafts stand for the world
+abbrev pub SpoolStands : {D : Type 0} {disk : Ghosts D} → Spool D disk → World → Type 0
+SpoolStands {disk = disk} s w = StandsFor disk s.disk s.kept s.drafts.items w
 
 -- the disk, opened or handed back
 abbrev pub disk_after : {D : Type 0} {disk : Ghosts D} → Result (Spool D disk) (D × OpenFault) → D

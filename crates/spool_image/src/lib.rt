@@ -13,9 +13,11 @@ mod slots;
 mod spool;
 #[cfg(test)]
 mod tests;
+#[cfg(test)]
+mod uploads_tests;
 
 pub use error::FormatError;
 pub use formatting::format;
 pub use layout::pages_of;
-pub use spool::Spool;
+pub use spool::{Spool, SpoolAppend};
 pub use spool_kept::OpenFault;

@@ -1,31 +1,42 @@
-// The uploads on a disk.
-ghost use Rattle.std.specs.Prelude.{◌≡◌, ◌⊎◌, ◌≤◌, ◌*◌, ◌↔◌, ℕ, List, IfOk, IsErrOf};
-ghost use Rattle.spool_disk.specs.Disk.{IsImage, Counts, Keeps as KeepsSeen};
+// The uploads on a disk, and appends to them that are under way.
+ghost use Rattle.std.specs.Prelude.{◌≡◌, ◌⊎◌, ◌≤◌, ◌*◌, ◌↔◌, ℕ, List, Some, IfOk};
+ghost use Rattle.spool_disk.specs.Disk.{IsImage, Counts};
 ghost use Rattle.spool_disk.specs.Views.{Lasts};
 ghost use Rattle.spool_journal.specs.Image.{journal_pages, all_pages};
 ghost use Rattle.spool_journal.specs.Phases.{Idle};
-ghost use Rattle.upload_rules.specs.Answers.{Answers};
-ghost use Rattle.upload_rules.specs.Reading.{no_such, text_at, IsRead};
-ghost use Rattle.upload_rules.specs.Store.{Store, upload_of};
-ghost use Rattle.spool_kept.specs.Kept.{KeepsView};
+ghost use Rattle.upload_rules.specs.Store.{Store};
+ghost use Rattle.upload_rules.specs.World.{at_rest};
+ghost use Rattle.spool_kept.specs.Drafting.{DraftsFit};
 ghost use Rattle.spool_kept.specs.Shows.{IsSound, Shows, ImageShows};
-ghost use Rattle.spool_pages.specs.View.{View, Says, IsViewOf};
+ghost use Rattle.spool_pages.specs.View.{View, IsViewOf};
 
 use crate::opening::prepare;
+use enc_index::IndexSet;
 use spool_disk::Disk;
-use spool_kept::{Kept, OpenFault};
+use spool_drafts::SpoolDraft;
+use spool_kept::{Kept, OpenFault, append, begin, commit, create, drop_open};
 use std::alloc::Global;
-use upload_rules::UploadError;
+use upload_rules::{New, Record, UploadError, Uploads};
 
-/// The uploads on a disk.
+/// The uploads on a disk, and the appends to them that are under way. After a `DiskFault` it stands for no uploads any more: drafts may
+/// be dropped, and the disk taken back and opened again.
 pub struct Spool<D: Disk> {
+    alloc: Global,
     disk: D,
-    pub(crate) kept: Kept,
+    kept: Kept,
+    /// by their numbers
+    drafts: Vec<Option<SpoolDraft>>,
     ghost room: { 4096 * all_pages kept.layout ≤ D.size disk },
+    ghost fits: { DraftsFit kept.layout kept.blocks drafts.items },
+}
+
+/// A draft of a spool: the append of its number.
+pub struct SpoolAppend {
+    number: usize,
 }
 
 impl<D: Disk> Spool<D> {
-    ghost use Rattle.spool_image.specs.Spool.{disk_of, kept_of, size_of, disk_after, Keeps, IsFault, OpensAs};
+    ghost use Rattle.spool_image.specs.Spool.{disk_of, size_of, disk_after, Keeps, SpoolStands, IsFault, OpensAs};
 
     /// Opens what a crash may have left. It may crash too, and be called again.
     ///
@@ -54,48 +65,118 @@ impl<D: Disk> Spool<D> {
         // And once it is opened, every image shows them.
         ensures shows { D.honest disk → (m : Store) (v : View) → IsViewOf (D.seen disk) v → Shows v m → 4096 * all_pages v.blocks ≤ D.size disk
             → IfOk result (λ s. (image : ℕ → ℕ) → IsImage (D.seen (disk_of s)) (D.loose (disk_of s)) image → ImageShows image m) }
+
+        // It stands for them, with no append under way.
+        ensures stands { D.honest disk → (m : Store) (v : View) → IsViewOf (D.seen disk) v → Shows v m → 4096 * all_pages v.blocks ≤ D.size disk
+            → IfOk result (λ s. SpoolStands s (at_rest m (Some v.blocks))) }
     {
         let mut disk = disk;
         match prepare(alloc, &mut disk) {
-            Ok(kept) => Ok(Spool { disk, kept }),
+            Ok(kept) => Ok(Spool {
+                alloc,
+                disk,
+                kept,
+                drafts: Vec::new(alloc),
+            }),
             Err(fault) => Err((disk, fault)),
         }
-    }
-
-    /// Reads a text's bytes from `at` on, as many as there are and fit. It takes no memory.
-    ///
-    /// # Errors
-    ///
-    /// `NoSuch` where no upload has the number, `DiskFault` where the device failed.
-    pub(crate) fn read(
-        &mut self,
-        number: u64,
-        at: u64,
-        buf: &mut [u8],
-    ) -> Result<usize, UploadError>
-        ensures size { D.size (disk_of self.new) ≡ D.size (disk_of self.old) }
-        ensures honest { D.honest (disk_of self.old) ↔ D.honest (disk_of self.new) }
-        ensures counts { Counts (IsErrOf result UploadError.DiskFault) (D.failures (disk_of self.old)) (D.failures (disk_of self.new)) }
-        ensures later { D.moment (disk_of self.old) ≤ D.moment (disk_of self.new) }
-        ensures no_memory { IsErrOf result UploadError.NoMemory → ⊥ }
-        ensures kept { kept_of self.new ≡ kept_of self.old }
-
-        // The bytes are those of the text that a view shows, which a read of the disk shows.
-        ensures answer { D.honest (disk_of self.old) → (m : Store) (v : View) → KeepsView (kept_of self.old) v → Shows v m → Says (D.seen (disk_of self.old)) v
-            → Answers (no_such (upload_of m number)) result (λ n. IsRead (text_at m (upload_of m number)) at n buf.old buf.new) (Unit {0}) }
-
-        // And nothing is written.
-        ensures keeps { D.honest (disk_of self.old) → KeepsSeen (D.seen (disk_of self.old)) (D.seen (disk_of self.new)) (D.loose (disk_of self.old)) (D.loose (disk_of self.new)) }
-        ensures lasts { D.honest (disk_of self.old) → Lasts D.Disk (disk_of self.old) (disk_of self.new) (IsImage (D.seen (disk_of self.old)) (D.loose (disk_of self.old))) }
-    {
-        self.kept.read(&mut self.disk, number, at, buf)
     }
 
     /// The disk.
     pub fn into_disk(self) -> D
         ensures { result ≡ disk_of self }
     {
-        let Spool { disk, kept: _ } = self;
+        let Spool {
+            alloc: _,
+            disk,
+            kept: _,
+            drafts: _,
+        } = self;
         disk
+    }
+}
+
+impl<D: Disk> Uploads for Spool<D> {
+    ghost use Rattle.spool_image.specs.LeftOnly.{LeftOnly};
+    ghost use Rattle.spool_image.specs.Spool.{SpoolStands};
+    ghost use Rattle.spool_image.specs.Durable.{durable_left};
+
+    type Draft = SpoolAppend;
+
+    ghost stands = { SpoolStands };
+
+    ghost number_of = { λ d. d.number };
+
+    ghost holds = { λ d p. Unit {0} };
+
+    ghost moment = { λ s. D.moment s.disk };
+
+    ghost left_only = { λ s t ms. LeftOnly D.Disk s.disk t ms };
+
+    ghost failures = { λ s. D.failures s.disk };
+
+    ghost durable = { λ s w ms stands among. durable_left s.disk s.kept w.store ms (D.only_now s.disk) stands.stored among };
+
+    fn record(&self, number: u64) -> Option<&Record> {
+        self.kept.record(number)
+    }
+
+    fn record_after(&self, number: u64) -> Option<&Record> {
+        self.kept.record_after(number)
+    }
+
+    fn next_number(&self) -> u64 {
+        self.kept.next_number()
+    }
+
+    fn indexes(&self) -> &IndexSet {
+        self.kept.indexes()
+    }
+
+    fn create(&mut self, new: New) -> Result<u64, UploadError> {
+        create(self.alloc, &mut self.disk, &mut self.kept, new)
+    }
+
+    fn begin(&mut self, number: u64, offset: u64, count: u64) -> Result<SpoolAppend, UploadError> {
+        let number = begin::<D>(
+            self.alloc,
+            &self.kept,
+            &mut self.drafts,
+            number,
+            offset,
+            count,
+        )?;
+        Ok(SpoolAppend { number })
+    }
+
+    fn append(&mut self, draft: &mut SpoolAppend, piece: &[u8]) -> Result<(), UploadError> {
+        append(
+            self.alloc,
+            &mut self.disk,
+            &mut self.kept,
+            &mut self.drafts,
+            draft.number,
+            piece,
+        )
+    }
+
+    fn commit(&mut self, draft: SpoolAppend) -> Result<u64, UploadError> {
+        let SpoolAppend { number } = draft;
+        commit(
+            self.alloc,
+            &mut self.disk,
+            &mut self.kept,
+            &mut self.drafts,
+            number,
+        )
+    }
+
+    fn drop_open(&mut self, draft: SpoolAppend) {
+        let SpoolAppend { number } = draft;
+        drop_open::<D>(&mut self.kept, &mut self.drafts, number)
+    }
+
+    fn read_text(&mut self, number: u64, at: u64, buf: &mut [u8]) -> Result<usize, UploadError> {
+        self.kept.read(&mut self.disk, number, at, buf)
     }
 }

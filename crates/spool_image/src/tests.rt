@@ -6,7 +6,7 @@ use spool_disk::{Crash, Disk, DiskFault, FuseDisk, MemoryDisk};
 use spool_pages::SlotRecord;
 use std::alloc::{AllocError, Global};
 use std::test::Fail;
-use upload_rules::{UploadError, UploadRefusal};
+use upload_rules::{UploadError, UploadRefusal, Uploads};
 
 // A disk of 557 pages, as many as a spool of 16 blocks has.
 fn small_disk(alloc: Global) -> Result<MemoryDisk, AllocError> {
@@ -199,29 +199,22 @@ fn uploads_are_told_of_and_read(rt: HostRuntime) -> Result<(), Fail> {
         Ok(spool) => spool,
         Err((_, fault)) => panic!(rt; "{fault}"),
     };
-    assert_eq!(rt; spool.kept.next_number(), 8);
-    assert_eq!(rt; spool.kept.indexes().offers(Encoding::ShiftJis), false);
-    assert_eq!(rt; spool.kept.slot_of(3), Some(4));
-    assert_eq!(rt; spool.kept.slot_of(4), None);
+    assert_eq!(rt; spool.next_number(), 8);
+    assert_eq!(rt; spool.indexes().offers(Encoding::ShiftJis), false);
+    assert!(rt; spool.record(4).is_none());
     assert_eq!(rt;
-        spool.kept.record(7).map(|record| record.to),
+        spool.record(7).map(|record| record.to),
         Some(Encoding::ShiftJis)
     );
-    assert_eq!(rt;
-        spool.kept.record_after(2).map(|record| record.number),
-        Some(3)
-    );
-    assert_eq!(rt;
-        spool.kept.record_after(3).map(|record| record.number),
-        Some(7)
-    );
-    assert_eq!(rt; spool.kept.record_after(7).is_none(), true);
+    assert_eq!(rt; spool.record_after(2).map(|record| record.number), Some(3));
+    assert_eq!(rt; spool.record_after(3).map(|record| record.number), Some(7));
+    assert_eq!(rt; spool.record_after(7).is_none(), true);
     let mut buf = [0; 4];
-    assert_eq!(rt; spool.read(7, 4094, &mut buf), Ok(3));
+    assert_eq!(rt; spool.read_text(7, 4094, &mut buf), Ok(3));
     assert_eq!(rt; buf, [b'a', b'b', b'c', 0]);
-    assert_eq!(rt; spool.read(3, 0, &mut buf), Ok(0));
+    assert_eq!(rt; spool.read_text(3, 0, &mut buf), Ok(0));
     assert_eq!(rt;
-        spool.read(4, 0, &mut buf),
+        spool.read_text(4, 0, &mut buf),
         Err(UploadError::Refused(UploadRefusal::NoSuch))
     );
     drop(spool.into_disk());

@@ -18,7 +18,7 @@ use Rattle.upload_rules.proofs.Growing.{grown_begun}
 use Rattle.upload_rules.proofs.Patches.{patch_there, begun_stand}
 use Rattle.spool_kept.specs.Holding.{Holding}
 use Rattle.spool_kept.specs.Shows.{Shows}
-use Rattle.spool_kept.specs.Drafting.{AreOwned, list_in, lists_at, DraftsFit, DraftStands, DraftsStand, StandsFor, OpensFor}
+use Rattle.spool_kept.specs.Drafting.{list_in, lists_at, DraftsFit, DraftStands, DraftsStand, IsOwnedBy, StandsFor, OpensFor}
 use Rattle.spool_kept.proofs.DraftLists.{in_other, none_in_nothing, nothing_reserved}
 use Rattle.spool_kept.proofs.Drafted.{IsChanged, changed_lists, fit_changed}
 
@@ -64,9 +64,9 @@ module _ {D : Type 0} (disk : Ghosts D) (d : D) (h : Holding) (old : List (Optio
   pub begin_late : (u : Option Upload) (o : SpoolDraft) → upload_of w.store n ≡ u → Opens u (Ok o) → IsLate (begin_refusal w n offset count)
   begin_late u o there opens = subst IsLate (sym (begin_allowed u o there opens)) tt
 
-  module _ (new : List (Option SpoolDraft)) (place : ℕ) (o : SpoolDraft) (placed : IsPlaced old o place new) (none : list_of o ≡ []) (owned : AreOwned h.blocks.rows (tail_of o)) where
+  module _ (new : List (Option SpoolDraft)) (place : ℕ) (o : SpoolDraft) (placed : IsPlaced old o place new) (none : list_of o ≡ []) (owned : IsOwnedBy h.slots h.blocks.rows n (tail_of o)) where
     abbrev Stands : Patch → SpoolDraft → Type 0
-    Stands = DraftStands w.store.indexes (disk.seen d) (25 + 2 * journal_pages h.layout) h.blocks.rows w.store
+    Stands = DraftStands w.store.indexes (disk.seen d) (25 + 2 * journal_pages h.layout) h.slots h.blocks.rows w.store
 
     number_free : place ≡ free_number w
     number_free = sym (is_free w place (λ k lt. (patch_there Stands (find k w.patches) (draft_at old k) (s.stands.each k)).1 (placed.least k lt)) (not_there (find place w.patches) (draft_at old place) (s.stands.each place) placed.free))
@@ -85,7 +85,7 @@ module _ {D : Type 0} (disk : Ghosts D) (d : D) (h : Holding) (old : List (Optio
         go (Some p) (Some o) h e = absurd cc
 
     stand_begun : (u : Upload) → upload_of w.store n ≡ Some u → Opens (Some u) (Ok o)
-        → DraftsStand w.store.indexes (disk.seen d) (25 + 2 * journal_pages h.layout) h.blocks (record w { patches = (place, first_patch n count u) ∷ w.patches }) new
+        → DraftsStand w.store.indexes (disk.seen d) (25 + 2 * journal_pages h.layout) h.slots h.blocks (record w { patches = (place, first_patch n count u) ∷ w.patches }) new
     stand_begun u there opens = record {
       each = begun_stand Stands w.patches old new s.stands.each place (first_patch n count u) o placed record {
         holds = opens.0.1;

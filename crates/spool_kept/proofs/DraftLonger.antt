@@ -19,7 +19,7 @@ use Rattle.spool_drafts.specs.Growth.{bytes_on, list_on, tail_list}
 use Rattle.spool_drafts.specs.declared.draft.SpoolDraft.{SpoolDraft}
 use Rattle.spool_drafts.specs.declared.growth.Growth.{Growth}
 use Rattle.spool_pages.specs.Rests.{Unowned}
-use Rattle.spool_pages.specs.View.{View}
+use Rattle.spool_pages.specs.View.{SlotRecord, View}
 use Rattle.upload_rules.specs.Calls.{appended_at, longer}
 use Rattle.upload_rules.specs.Drafts.{DraftOf, draft_at}
 use Rattle.upload_rules.specs.Grown.{IsGrown}
@@ -38,7 +38,7 @@ use Rattle.spool_kept.specs.Holding.{Holding}
 use Rattle.spool_kept.specs.Stored.{Stored}
 use Rattle.spool_kept.specs.Changed.{slot_of}
 use Rattle.spool_kept.specs.Shows.{Shows}
-use Rattle.spool_kept.specs.Drafting.{AreOwned, list_in, lists_at, DraftsFit, DraftStands, DraftsStand, OnlyReserves, StandsFor}
+use Rattle.spool_kept.specs.Drafting.{list_in, lists_at, DraftsFit, DraftStands, DraftsStand, IsOwnedBy, OnlyReserves, StandsFor}
 use Rattle.spool_kept.proofs.DraftLists.{IsOut, IsSwapped, all_reserved, all_apart, cases_in, in_other, in_own, kept_out, given_keeps, none_in_nothing, none_sym, out_of_more, reserved_before, taken_apart, taken_keeps}
 use Rattle.spool_kept.proofs.Drafted.{IsChanged, changed_lists, fit_changed, keeps_on}
 use Rattle.spool_kept.proofs.SlotsOf.{upload_slot, slots_apart, owner_upload}
@@ -98,7 +98,7 @@ module _ (n : ℕ) (h : Held) (old : List (Option SpoolDraft)) (fit : DraftsFit 
 
 -- THE RULE OF ROOM
 
-module _ (w : World) (x : IndexSet) (seen : ℕ → ℕ) (first : ℕ) (h : Held) (old : List (Option SpoolDraft)) (stand : DraftsStand w.store.indexes seen first h w old) (v : View) (shows : Shows v w.store) where
+module _ (w : World) (x : IndexSet) (seen : ℕ → ℕ) (first : ℕ) (records : List (Option SlotRecord)) (h : Held) (old : List (Option SpoolDraft)) (stand : DraftsStand w.store.indexes seen first records h w old) (v : View) (shows : Shows v w.store) where
   abbrev slots : ℕ → ℕ
   slots n = slot_of n v.slots
 
@@ -114,13 +114,13 @@ module _ (w : World) (x : IndexSet) (seen : ℕ → ℕ) (first : ℕ) (h : Held
 
   needed : (e : ℕ) (p : Patch) → find e w.patches ≡ Some p → length (lists_at old e) ≡ need w.store.indexes p false
   needed e p found =
-      let a = draft_of (DraftStands w.store.indexes seen first h.rows w.store) p (find e w.patches) (draft_at old e) found (stand.each e) in
+      let a = draft_of (DraftStands w.store.indexes seen first records h.rows w.store) p (find e w.patches) (draft_at old e) found (stand.each e) in
       ap length (ap list_in a.1) ∙ a.2.holds.needs
 
   no_list : (e : ℕ) → find e w.patches ≡ None → lists_at old e ≡ []
   no_list e none = go (find e w.patches) (draft_at old e) none (stand.each e)
     where
-      go : (q : Option Patch) (a : Option SpoolDraft) → q ≡ None → DraftOf (DraftStands w.store.indexes seen first h.rows w.store) q a → list_in a ≡ []
+      go : (q : Option Patch) (a : Option SpoolDraft) → q ≡ None → DraftOf (DraftStands w.store.indexes seen first records h.rows w.store) q a → list_in a ≡ []
       go None None e is = refl
       go None (Some a) e is = absurd is
       go (Some p) a e is = absurd cc
@@ -149,15 +149,15 @@ frame_bytes seen seen' first own g (Some t) same apart tail =
     ap (λ (xs : List ℕ). xs ++ t.unfinished) (blocks_kept seen seen' first (take (full_count t) t.blocks) own same (λ i k lt lt' e.
     apart i k (omega (arith, lt, length-take (full_count t) t.blocks)) lt' (sym (get_or-take (full_count t) t.blocks i 0 (omega (arith, lt, length-take (full_count t) t.blocks))) ∙ e)))
 
-owned_apart : (rows : List Row) (tail own : List ℕ) → AreOwned rows tail → Unowned rows own → NoneOf tail own
-owned_apart rows tail own owned unowned i k lt lt' e = owned i lt (ap (λ (b : ℕ). get_or rows b None) e ∙ unowned k lt')
+owned_apart : (slots : List (Option SlotRecord)) (rows : List Row) (number : ℕ) (tail own : List ℕ) → IsOwnedBy slots rows number tail → Unowned rows own → NoneOf tail own
+owned_apart slots rows number tail own is unowned i k lt lt' e = let owned = (is.owned i lt).1 in let none = ap (λ (b : ℕ). get_or rows b None) e ∙ unowned k lt' in cc
 
-pub still_stands : (x : IndexSet) (seen seen' : ℕ → ℕ) (first : ℕ) (rows : List Row) (m : Store) (own : List ℕ) (p : Patch) (a : SpoolDraft) → SameOutside first own seen seen' → NoneOf (list_of a) own → Unowned rows own
-    → DraftStands x seen first rows m p a → DraftStands x seen' first rows m p a
-still_stands x seen seen' first rows m own p a same apart unowned is = record {
+pub still_stands : (x : IndexSet) (seen seen' : ℕ → ℕ) (first : ℕ) (records : List (Option SlotRecord)) (rows : List Row) (m : Store) (own : List ℕ) (p : Patch) (a : SpoolDraft) → SameOutside first own seen seen' → NoneOf (list_of a) own → Unowned rows own
+    → DraftStands x seen first records rows m p a → DraftStands x seen' first records rows m p a
+still_stands x seen seen' first records rows m own p a same apart unowned is = record {
   holds = is.holds;
   below = is.below;
-  carries = λ there kept. frame_bytes seen seen' first own a.growth a.growth.on same apart (owned_apart rows (tail_of a) own (is.tail there) unowned) ∙ is.carries there kept;
+  carries = λ there kept. frame_bytes seen seen' first own a.growth a.growth.on same apart (owned_apart records rows p.number (tail_of a) own (is.tail there) unowned) ∙ is.carries there kept;
   tail = is.tail;
 }
 
@@ -208,29 +208,29 @@ changed_back old mid new d o o' there out back = record {
     inside : d < length mid
     inside = omega (arith, within, ap length out, length-set old d None)
 
-module _ (x : IndexSet) (seen seen' : ℕ → ℕ) (first n : ℕ) (h h' : Held) (w : World) (old new : List (Option SpoolDraft)) (stand : DraftsStand x seen first h w old) (fit : DraftsFit n h old)
+module _ (x : IndexSet) (seen seen' : ℕ → ℕ) (first n : ℕ) (records : List (Option SlotRecord)) (h h' : Held) (w : World) (old new : List (Option SpoolDraft)) (stand : DraftsStand x seen first records h w old) (fit : DraftsFit n h old)
     (d : ℕ) (o o' : SpoolDraft) (here : draft_at old d ≡ Some o) (own : List ℕ) (grasp : Regrasps h h' (list_of o) (list_of o') own) (changed : IsChanged old d (Some o') new)
     (rows : h'.rows ≡ h.rows) (same : SameOutside first own seen seen') where
   unowned : Unowned h.rows own
   unowned i lt = ap (λ (r : List Row). get_or r (get_or own i 0) None) (sym grasp.takes.rows) ∙ grasp.reserved.no_owner i lt
 
-  other_stands : (e : ℕ) → d ≢ e → (r : Patch) (a : SpoolDraft) → draft_at old e ≡ Some a → DraftStands x seen first h.rows w.store r a → DraftStands x seen' first h'.rows w.store r a
+  other_stands : (e : ℕ) → d ≢ e → (r : Patch) (a : SpoolDraft) → draft_at old e ≡ Some a → DraftStands x seen first records h.rows w.store r a → DraftStands x seen' first records h'.rows w.store r a
   other_stands e other r a there is =
-      subst (λ (z : List Row). DraftStands x seen' first z w.store r a) (sym rows)
-      (still_stands x seen seen' first h.rows w.store own r a same
+      subst (λ (z : List Row). DraftStands x seen' first records z w.store r a) (sym rows)
+      (still_stands x seen seen' first records h.rows w.store own r a same
       (subst (λ (xs : List ℕ). NoneOf xs own) (ap list_in there) (none_sym own (lists_at old e) (own_apart n h old fit d o here grasp.takes e other))) unowned is)
 
-  pub stand_longer : (p q : Patch) → find d w.patches ≡ Some p → IsGrown (record w { patches = replaced d q w.patches }) → DraftStands x seen' first h'.rows w.store q o'
-      → DraftsStand x seen' first h' (record w { patches = replaced d q w.patches }) new
+  pub stand_longer : (p q : Patch) → find d w.patches ≡ Some p → IsGrown (record w { patches = replaced d q w.patches }) → DraftStands x seen' first records h'.rows w.store q o'
+      → DraftsStand x seen' first records h' (record w { patches = replaced d q w.patches }) new
   stand_longer p q there grown is = record {
-    each = each_longer (DraftStands x seen first h.rows w.store) (DraftStands x seen' first h'.rows w.store) w.patches old new d p q o' there changed stand.each other_stands is;
+    each = each_longer (DraftStands x seen first records h.rows w.store) (DraftStands x seen' first records h'.rows w.store) w.patches old new d p q o' there changed stand.each other_stands is;
     apart = apart_replaced d q w.patches stand.apart;
     grown = grown;
     limit = stand.limit ∙ ap (λ (r : List Row). Some (length r)) (sym rows);
     all = all_longer n h old fit d o here h' new o' own grasp changed stand.all;
   }
 
-module _ (w : World) (seen seen' : ℕ → ℕ) (first n : ℕ) (h h' : Held) (old new : List (Option SpoolDraft)) (stand : DraftsStand w.store.indexes seen first h w old) (fit : DraftsFit n h old)
+module _ (w : World) (seen seen' : ℕ → ℕ) (first n : ℕ) (records : List (Option SlotRecord)) (h h' : Held) (old new : List (Option SpoolDraft)) (stand : DraftsStand w.store.indexes seen first records h w old) (fit : DraftsFit n h old)
     (d : ℕ) (o o' : SpoolDraft) (here : draft_at old d ≡ Some o) (own : List ℕ) (grasp : Regrasps h h' (list_of o) (list_of o') own) (changed : IsChanged old d (Some o') new)
     (rows : h'.rows ≡ h.rows) (v : View) (shows : Shows v w.store) (known : h.rows ≡ v.rows) (size : length h.reserved ≡ length h.rows)
     (after : DraftsFit n h' new) (p : Patch) (piece : List ℕ) where
@@ -247,14 +247,14 @@ module _ (w : World) (seen seen' : ℕ → ℕ) (first n : ℕ) (h h' : Held) (o
   kept_short holds =
       let swap = changed_lists old new d (Some o') changed in
       went_on w d w.store.indexes more o' seen' first h' (lists_at new d) refl
-      (room_rule w w.store.indexes seen first h old stand v shows h' d (list_of o') (lists_at new) rows known size_after swap after.reserved after.distinct (all_longer n h old fit d o here h' new o' own grasp changed stand.all))
+      (room_rule w w.store.indexes seen first records h old stand v shows h' d (list_of o') (lists_at new) rows known size_after swap after.reserved after.distinct (all_longer n h old fit d o here h' new o' own grasp changed stand.all))
       swap.here holds
 
   ran_short : RunsShort h h' (list_of o) (wants w.store.indexes more false) → is_short w d more false ≡ true
   ran_short short =
       let lists : ℕ → List ℕ = λ e. if e == d then short.own else lists_at old e in
       let swap : IsSwapped (lists_at old) d short.own lists = record { here = rw (eq-eqb d d refl) refl; others = λ e other. rw (ne_eqb e d (λ s. other (sym s))) refl } in
-      let rule = room_rule w w.store.indexes seen first h old stand v shows short.held d short.own lists short.takes.rows known (omega (arith, short.takes.size, size, ap length short.takes.rows)) swap
+      let rule = room_rule w w.store.indexes seen first records h old stand v shows short.held d short.own lists short.takes.rows known (omega (arith, short.takes.size, size, ap length short.takes.rows)) swap
       (all_reserved (lists_at old) lists d short.own swap short.held short.reserved (λ e other. taken_keeps (lists_at old e) short.takes (fit.reserved e)))
       (all_apart (lists_at old) lists d short.own swap (own_apart n h old fit d o here short.takes) fit.distinct)
       (taken_in n h old fit d o here lists short.takes swap stand.all) in
@@ -291,5 +291,5 @@ answered X Y (Err DiskFault) done same refused = tt
 answered X Y (Err (Refused e)) done same refused = absurd (refused e refl)
 
 pub longer_world : {D : Type 0} (disk : Ghosts D) (d : D) (h : Holding) (drafts : List (Option SpoolDraft)) (w : World) (number : ℕ) (piece : List ℕ) (p : Patch) (a : Option Patch) → a ≡ Some p → Stored disk d h w.store
-    → DraftsStand w.store.indexes (disk.seen d) (25 + 2 * journal_pages h.layout) h.blocks (record w { patches = replaced number (longer w number p piece) w.patches }) drafts → StandsFor disk d h drafts (appended_at w number piece a)
+    → DraftsStand w.store.indexes (disk.seen d) (25 + 2 * journal_pages h.layout) h.slots h.blocks (record w { patches = replaced number (longer w number p piece) w.patches }) drafts → StandsFor disk d h drafts (appended_at w number piece a)
 longer_world disk d h drafts w number piece p a e stored stands = subst (λ q. StandsFor disk d h drafts (appended_at w number piece q)) (sym e) (record { stored = stored; stands = stands })

@@ -3,12 +3,13 @@ use Rattle.std.proofs.Common.{◌≡◌, ◌≢◌, Result, Ok, Err, IfOk, ◌�
 use Rattle.std.proofs.lemmas.Bool.{cases_eq, cases_lt}
 use Rattle.std.proofs.lemmas.List.{get_or_past, length-set}
 use Rattle.spool_blocks.specs.Blocks.{Row, Held}
+use Rattle.spool_blocks.specs.Chains.{Owns}
 use Rattle.spool_disk.specs.declared.disk.Disk.{Ghosts}
 use Rattle.spool_journal.specs.Image.{journal_pages}
 use Rattle.spool_texts.specs.Drafts.{IsReserved, GivesBack}
 use Rattle.spool_texts.proofs.Reserves.{few_distinct}
 use Rattle.spool_texts.specs.Written.{NoneOf}
-use Rattle.spool_drafts.specs.Drafts.{IsPlaced, list_of, Carries, IsBegun}
+use Rattle.spool_drafts.specs.Drafts.{IsPlaced, list_of, tail_of, Carries, IsBegun}
 use Rattle.spool_drafts.specs.declared.draft.SpoolDraft.{SpoolDraft}
 use Rattle.spool_pages.specs.View.{SlotRecord, View}
 use Rattle.enc_model.specs.Indexes.{IndexSet}
@@ -22,10 +23,10 @@ use Rattle.upload_rules.proofs.Patches.{apart_without, dropped_stand}
 use Rattle.upload_rules.proofs.Growing.{grown_dropped}
 use Rattle.spool_texts.specs.TextOn.{IsListed}
 use Rattle.upload_rules.specs.Room.{blocks_of}
-use Rattle.spool_kept.specs.Holding.{Holding, Orders, FitsTogether, IsListOf}
+use Rattle.spool_kept.specs.Holding.{Holding, Orders, FitsTogether, IsListOf, IsUsedBy}
 use Rattle.spool_kept.specs.Kept.{KeepsView}
 use Rattle.spool_kept.specs.Stored.{Stored}
-use Rattle.spool_kept.specs.Drafting.{list_in, lists_at, DraftsFit, OnlyReserves, DraftStands, DraftsStand, StandsFor, OpensFor}
+use Rattle.spool_kept.specs.Drafting.{list_in, lists_at, DraftsFit, OnlyReserves, DraftStands, DraftsStand, IsOwnedBy, StandsFor, OpensFor}
 use Rattle.spool_kept.proofs.DraftLists.{IsSwapped, all_reserved, all_apart, in_other, none_in_nothing, given_keeps, kept_out, nothing_reserved}
 
 -- ANOTHER DRAFT AT ONE NUMBER
@@ -104,10 +105,10 @@ module _ (n : ℕ) (h h' : Held) (old new : List (Option SpoolDraft)) (d : ℕ) 
   fit_dropped fit gives = fit_changed n h h' old new d None fit gone (nothing_reserved h' [] refl)
       (λ e other. given_keeps (lists_at old e) gives (fit.reserved e) (fit.distinct d e other)) (λ a e. absurd cc) (λ e other. none_in_nothing [] (lists_at old e) refl)
 
-  pub stand_dropped : (x : IndexSet) (seen : ℕ → ℕ) (first : ℕ) (w : World) → GivesBack h h' (lists_at old d) → DraftsStand x seen first h w old → DraftsStand x seen first h' (dropped w d) new
-  stand_dropped x seen first w gives stand = record {
-    each = dropped_stand (DraftStands x seen first h'.rows w.store) w.patches old new
-        (subst (λ (rows : List Row). (e : ℕ) → DraftOf (DraftStands x seen first rows w.store) (find e w.patches) (draft_at old e)) (sym gives.rows) stand.each) d stand.apart is;
+  pub stand_dropped : (x : IndexSet) (seen : ℕ → ℕ) (first : ℕ) (records : List (Option SlotRecord)) (w : World) → GivesBack h h' (lists_at old d) → DraftsStand x seen first records h w old → DraftsStand x seen first records h' (dropped w d) new
+  stand_dropped x seen first records w gives stand = record {
+    each = dropped_stand (DraftStands x seen first records h'.rows w.store) w.patches old new
+        (subst (λ (rows : List Row). (e : ℕ) → DraftOf (DraftStands x seen first records rows w.store) (find e w.patches) (draft_at old e)) (sym gives.rows) stand.each) d stand.apart is;
     apart = apart_without d w.patches stand.apart;
     grown = grown_dropped w stand.grown d stand.apart;
     limit = stand.limit ∙ ap (λ (rows : List Row). Some (length rows)) (sym gives.rows);
@@ -130,8 +131,8 @@ pub drops : {D : Type 0} (disk : Ghosts D) (d : D) (old new : Holding) (drafts d
     → drafts' ≡ set drafts number None → GivesBack old.blocks new.blocks (lists_at drafts number) → StandsFor disk d old drafts w → StandsFor disk d new drafts' (dropped w number)
 drops disk d old new drafts drafts' number w same is gives s = record {
   stored = stored_on disk d old new w.store same s.stored;
-  stands = subst (λ (n : ℕ). DraftsStand w.store.indexes (disk.seen d) (25 + 2 * journal_pages n) new.blocks (dropped w number) drafts') (sym (ap (λ (h : Holding). h.layout) same.same))
-      (stand_dropped old.layout old.blocks new.blocks drafts drafts' number is w.store.indexes (disk.seen d) (25 + 2 * journal_pages old.layout) w gives s.stands);
+  stands = subst (λ (h : Holding). DraftsStand w.store.indexes (disk.seen d) (25 + 2 * journal_pages h.layout) h.slots new.blocks (dropped w number) drafts') (sym same.same)
+      (stand_dropped old.layout old.blocks new.blocks drafts drafts' number is w.store.indexes (disk.seen d) (25 + 2 * journal_pages old.layout) old.slots w gives s.stands);
 }
 
 -- A DRAFT MORE
@@ -152,6 +153,35 @@ few_listed h fits s lt few list is = of_slot (get_or h.slots s None) (fits.liste
     of_slot : (o : Option SlotRecord) → IsListOf h.blocks.rows s o (get_or h.lists s []) → length list ≤ 65536
     of_slot None none = omega (arith, ap length (is ∙ none))
     of_slot (Some r) has = omega (arith, ap length is, few_owned h.blocks.rows s (get_or h.lists s []) has.owned, fits.row_count, few)
+
+-- the block at one place of the list is the upload's too
+abbrev pub AllAt : List ℕ → ℕ → List ℕ → Type 0
+AllAt list k some = (i : ℕ) → i < length some → (k < length list) × (get_or some i 0 ≡ get_or list k 0)
+
+pub owned_in : (slots : List (Option SlotRecord)) (rows : List Row) (number k : ℕ) (list some : List ℕ) → IsOwnedBy slots rows number list → AllAt list k some → IsOwnedBy slots rows number some
+owned_in slots rows number k list some is all = record {
+  slot = is.slot;
+  used = is.used;
+  owned = λ i lt.
+      let at = all i lt in
+      let own = is.owned k at.0 in
+      (own.0, subst (λ (b : ℕ). Owns rows b is.slot own.0) (sym at.1) own.1);
+}
+
+pub tail_owned : (slots : List (Option SlotRecord)) (rows : List Row) (number k : ℕ) (list : List ℕ) (r : Result SpoolDraft UploadRefusal) → IsOwnedBy slots rows number list
+    → IfOk r (λ o. AllAt list k (tail_of o)) → IfOk r (λ o. IsOwnedBy slots rows number (tail_of o))
+tail_owned slots rows number k list (Ok o) is all = owned_in slots rows number k list (tail_of o) is all
+tail_owned slots rows number k list (Err e) is all = tt
+
+-- a slot's list holds its upload's blocks
+pub list_owned : (h : Holding) → FitsTogether h → (s : ℕ) → s < 512 → (number : ℕ) → IsUsedBy h.slots s number → (list : List ℕ) → list ≡ get_or h.lists s [] → IsOwnedBy h.slots h.blocks.rows number list
+list_owned h fits s lt number used list is =
+    let has = subst (λ (o : Option SlotRecord). IsListOf h.blocks.rows s o (get_or h.lists s [])) used.there (fits.listed s lt) in
+    record {
+      slot = s;
+      used = used;
+      owned = λ i lt. (i, ap (λ (xs : List ℕ). get_or h.blocks.rows (get_or xs i 0) None) is ∙ has.owned i (omega (arith, lt, ap length is)));
+    }
 
 pub told_text : (m : Store) (o : Option Upload) (u : Upload) (text : List ℕ) → o ≡ Some u → IsTextOf m o text → text ≡ text_of m.indexes u
 told_text m o u text e is = subst (λ (p : Option Upload). IsTextOf m p text) e is

@@ -2,6 +2,7 @@
 use Rattle.std.specs.Prelude.{◌≡◌, ◌≢◌, ◌<◌, ◌+◌, ◌*◌, ℕ, List, [], Option, None, Some, true, false, Result, Ok, Err, length, get_or}
 use Rattle.enc_model.specs.Indexes.{IndexSet}
 use Rattle.spool_blocks.specs.Blocks.{Row, Held}
+use Rattle.spool_blocks.specs.Chains.{Owns}
 use Rattle.spool_disk.specs.declared.disk.Disk.{Ghosts}
 use Rattle.spool_journal.specs.Image.{journal_pages}
 use Rattle.spool_texts.specs.Drafts.{IsReserved}
@@ -20,7 +21,8 @@ use Rattle.upload_rules.specs.World.{Patch, World}
 use Rattle.upload_rules.specs.declared.records.Record.{Record}
 use Rattle.upload_rules.specs.declared.errors.UploadRefusal.{UploadRefusal}
 use Rattle.upload_rules.specs.declared.errors.UploadRefusal.TheVariants.{NoSuch}
-use Rattle.spool_kept.specs.Holding.{Holding}
+use Rattle.spool_pages.specs.View.{SlotRecord}
+use Rattle.spool_kept.specs.Holding.{Holding, IsUsedBy}
 use Rattle.spool_kept.specs.Stored.{Stored}
 
 -- WHAT HOLDS ALWAYS
@@ -46,20 +48,22 @@ pub record OnlyReserves (old new : Holding) : Type 0 where
 
 -- WHAT THE DRAFTS STAND FOR
 
--- each listed block is owned
-abbrev pub AreOwned : List Row → List ℕ → Type 0
-AreOwned rows list = (i : ℕ) → i < length list → get_or rows (get_or list i 0) None ≡ None → ⊥
+-- the listed blocks are owned by the slot that the upload of this number is in
+pub record IsOwnedBy (slots : List (Option SlotRecord)) (rows : List Row) (number : ℕ) (list : List ℕ) : Type 0 where
+  pub slot : ℕ
+  pub used : IsUsedBy slots slot number
+  pub owned : (i : ℕ) → i < length list → (k : ℕ) × Owns rows (get_or list i 0) slot k
 
 -- The draft is the patch's. Once another draft made the upload longer, only its need matters: it can't be committed.
-pub record DraftStands (x : IndexSet) (seen : ℕ → ℕ) (first : ℕ) (rows : List Row) (m : Store) (p : Patch) (o : SpoolDraft) : Type 0 where
+pub record DraftStands (x : IndexSet) (seen : ℕ → ℕ) (first : ℕ) (slots : List (Option SlotRecord)) (rows : List Row) (m : Store) (p : Patch) (o : SpoolDraft) : Type 0 where
   pub holds : Holds x p o
   pub below : p.number < m.next
   pub carries : upload_of m p.number ≡ Some p.began → Carries x seen first p o
-  pub tail : upload_of m p.number ≡ Some p.began → AreOwned rows (tail_of o)
+  pub tail : upload_of m p.number ≡ Some p.began → IsOwnedBy slots rows p.number (tail_of o)
 
 -- each patch has its draft, and the drafts reserve all blocks that are reserved
-pub record DraftsStand (x : IndexSet) (seen : ℕ → ℕ) (first : ℕ) (h : Held) (w : World) (drafts : List (Option SpoolDraft)) : Type 0 where
-  pub each : (d : ℕ) → DraftOf (DraftStands x seen first h.rows w.store) (find d w.patches) (draft_at drafts d)
+pub record DraftsStand (x : IndexSet) (seen : ℕ → ℕ) (first : ℕ) (slots : List (Option SlotRecord)) (h : Held) (w : World) (drafts : List (Option SpoolDraft)) : Type 0 where
+  pub each : (d : ℕ) → DraftOf (DraftStands x seen first slots h.rows w.store) (find d w.patches) (draft_at drafts d)
   pub apart : IsApart w.patches
   pub grown : IsGrown w
   pub limit : w.blocks ≡ Some (length h.rows)
@@ -68,7 +72,7 @@ pub record DraftsStand (x : IndexSet) (seen : ℕ → ℕ) (first : ℕ) (h : He
 -- the disk, what is kept of it and the drafts stand for the world
 pub record StandsFor {D : Type 0} (disk : Ghosts D) (d : D) (h : Holding) (drafts : List (Option SpoolDraft)) (w : World) : Type 0 where
   pub stored : Stored disk d h w.store
-  pub stands : DraftsStand w.store.indexes (disk.seen d) (25 + 2 * journal_pages h.layout) h.blocks w drafts
+  pub stands : DraftsStand w.store.indexes (disk.seen d) (25 + 2 * journal_pages h.layout) h.slots h.blocks w drafts
 
 -- WHAT A DRAFT BEGINS BEHIND
 

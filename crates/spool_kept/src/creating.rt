@@ -11,6 +11,7 @@ ghost use Rattle.upload_rules.specs.Records.{IsWellFormed};
 ghost use Rattle.upload_rules.specs.Store.{Store, created_store};
 ghost use Rattle.upload_rules.specs.World.{at_rest};
 ghost use Rattle.spool_kept.specs.Creating.{HasRoomAt, IsTakenIn, IsNewRecord};
+ghost use Rattle.spool_kept.specs.Holding.{IsUsedBy};
 ghost use Rattle.spool_kept.specs.Kept.{KeepsView};
 ghost use Rattle.spool_kept.specs.Shows.{Shows};
 ghost use Rattle.spool_kept.specs.Stored.{Stored, ShowsEither};
@@ -124,6 +125,7 @@ pub fn create<D: Disk>(
     ensures counts { Counts (IsErrOf result UploadError.DiskFault) (D.failures disk.old) (D.failures disk.new) }
     ensures layout { kept.new.layout ≡ kept.old.layout }
     ensures blocks { kept.new.blocks ≡ kept.old.blocks }
+    ensures slots { (slot number : ℕ) → IsUsedBy kept.old.slots slot number → IsUsedBy kept.new.slots slot number }
     ensures answer { (m : Store) → Stored D.Disk disk.old kept.old m
         → Answers (create_refusal (at_rest m None) new) result (λ n. (n ≡ m.next) × Stored D.Disk disk.new kept.new (created_store m new)) (Stored D.Disk disk.new kept.new m) }
     ensures crash { (m : Store) → Stored D.Disk disk.old kept.old m

@@ -11,7 +11,7 @@ ghost use Rattle.spool_drafts.specs.Drafts.{IsPlaced, list_of, tail_of};
 ghost use Rattle.spool_pages.specs.View.{View, Says};
 ghost use Rattle.spool_texts.specs.TextOn.{AllBelow};
 ghost use Rattle.spool_kept.specs.Kept.{KeepsView};
-ghost use Rattle.spool_kept.specs.Drafting.{AreOwned, DraftsFit, IsUploadOn, OnlyReserves, OpensAs, StandsFor};
+ghost use Rattle.spool_kept.specs.Drafting.{DraftsFit, IsOwnedBy, IsUploadOn, OnlyReserves, OpensAs, StandsFor};
 ghost use Rattle.spool_kept.specs.Shows.{ImageShows, Shows};
 
 use crate::kept::Kept;
@@ -27,7 +27,7 @@ fn upload_on(kept: &Kept, number: u64) -> Option<(&Record, &[BlockNo])>
     ensures below { IfSome result (λ u. AllBelow kept.now.layout u.1.now) }
     ensures long { IfSome result (λ u. u.0.now.text_len ≤ 4096 * length u.1.now) }
     ensures few { IfSome result (λ u. length u.1.now ≤ 65536) }
-    ensures owned { IfSome result (λ u. AreOwned kept.now.blocks.rows u.1.now) }
+    ensures owned { IfSome result (λ u. IsOwnedBy kept.now.slots kept.now.blocks.rows number u.1.now) }
     ensures told { (v : View) (m : Store) (bytes : ℕ → ℕ) → KeepsView kept.now v → Shows v m → Says bytes v
         → MatchOption result (upload_of m number ≡ None) (λ u. IsUploadOn m number bytes (25 + 2 * journal_pages kept.now.layout) u.0.now u.1.now) }
 {
@@ -48,7 +48,7 @@ fn opened(
 ) -> Result<SpoolDraft, UploadRefusal>
     ensures none { IfOk result (λ o. list_of o ≡ []) }
     ensures placed { IfOk result (λ o. IsPlaced kept.now.layout o) }
-    ensures owned { IfOk result (λ o. AreOwned kept.now.blocks.rows (tail_of o)) }
+    ensures owned { IfOk result (λ o. IsOwnedBy kept.now.slots kept.now.blocks.rows number (tail_of o)) }
     ensures opened { (v : View) (m : Store) (bytes : ℕ → ℕ) → KeepsView kept.now v → Shows v m → Says bytes v
         → OpensAs m number offset count bytes (25 + 2 * journal_pages kept.now.layout) result }
 {
@@ -108,7 +108,7 @@ pub fn append<D: Disk>(
         (λ done. StandsFor D.Disk disk.new kept.new drafts.new.items (appended w number piece.now))
         (StandsFor D.Disk disk.new kept.new drafts.new.items w) }
     // A crash during it leaves what shows the same.
-    ensures quiet { (w : World) (p : Patch) → StandsFor D.Disk disk.old kept.old drafts.old.items w → find number w.patches ≡ Some p → length p.body + length piece.now ≤ p.count
+    ensures quiet { (w : World) (p : Patch) → StandsFor D.Disk disk.old kept.old drafts.old.items w → find number w.patches ≡ Some p
         → Lasts D.Disk disk.old disk.new (λ image. (m : Store) → ImageShows (D.seen disk.old) m → ImageShows image m) }
 {
     let Some(mut draft) = taken(drafts, number) else {

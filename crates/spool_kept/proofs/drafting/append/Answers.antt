@@ -11,7 +11,7 @@ use Rattle.upload_rules.proofs.Patches.{draft_of}
 use Rattle.spool_blocks.specs.Blocks.{Row}
 use Rattle.spool_disk.proofs.Firm.{lasts_more}
 use Rattle.spool_drafts.specs.Drafts.{IsPlaced, Holds, Carries, IsLonger, with_piece, tail_of}
-use Rattle.spool_kept.specs.Drafting.{AreOwned, DraftsFit, DraftStands, DraftsStand, StandsFor}
+use Rattle.spool_kept.specs.Drafting.{DraftsFit, DraftStands, DraftsStand, IsOwnedBy, StandsFor}
 use Rattle.spool_kept.proofs.Drafted.{reserves_only}
 use Rattle.spool_kept.proofs.SameView.{shows_aside}
 use Rattle.spool_kept.specs.Holding.{Holding}
@@ -34,7 +34,7 @@ returns-clause-fits g c =
     c.append-answer.ensures.reserved c.append-answer.ensures.placed
 
 pub returns-clause-quiet : goal.returns-clause-quiet
-returns-clause-quiet g c w p s there fits =
+returns-clause-quiet g c w p s there =
     let effect = c.append-answer.ensures.effect in
     let v = s.stored.view in
     let rows = effect.grasp.takes.rows ∙ ap (λ (h : Holding). h.blocks.rows) c.kept.view_is ∙ s.stored.keeps.rows in
@@ -56,6 +56,7 @@ returns-clause-answer g c w p s there fits =
     let s' = subst (λ (h : Holding). StandsFor g.D.Disk disk h before w) (sym c.kept.view_is) s in
     let v = s'.stored.view in
     let shows = s'.stored.shows in
+    let records = c.kept.inside.slots.items in
     let h = c.kept.inside.blocks in
     let h' = c.append-answer.new.blocks in
     let first = 25 + 2 * journal_pages c.kept.inside.layout in
@@ -65,8 +66,8 @@ returns-clause-answer g c w p s there fits =
     let fit = subst (λ (k : Holding). DraftsFit k.layout k.blocks before) (sym c.kept.view_is) c.requires.fits in
     let fit' = returns-clause-fits g c in
     let changed = changed_back before c.taken.new.drafts.items after number o new here c.taken.ensures.after c.put_back.ensures in
-    let at = draft_of (DraftStands w.store.indexes seen first h.rows w.store) p (find number w.patches) (draft_at before number) there (s'.stands.each number) in
-    let is = subst (DraftStands w.store.indexes seen first h.rows w.store p) (some_draft at.0 o (sym at.1 ∙ here)) at.2 in
+    let at = draft_of (DraftStands w.store.indexes seen first records h.rows w.store) p (find number w.patches) (draft_at before number) there (s'.stands.each number) in
+    let is = subst (DraftStands w.store.indexes seen first records h.rows w.store p) (some_draft at.0 o (sym at.1 ∙ here)) at.2 in
     let held = subst (λ (x : IndexSet). Holds x p o) (sym ix) is.holds in
     let only = effect.writes s.stored.honest in
     let same = reserves_only c.args.kept.now _ _ c.kept.view_is refl c.append-answer.ensures.rows in
@@ -75,9 +76,9 @@ returns-clause-answer g c w p s there fits =
     (ap (λ (k : Holding). k.layout) c.kept.view_is) only.writes in
     let rows = c.append-answer.ensures.rows in
     let piece = c.args.piece.now in
-    let longer_stands = stand_longer w.store.indexes seen seen' first c.kept.inside.layout h h' w before after s'.stands fit number o new here effect.own effect.grasp changed rows only.writes.outside in
-    let tail : (upload_of w.store p.number ≡ Some p.began) → AreOwned h'.rows (tail_of new) =
-    λ still. subst (AreOwned h'.rows) (sym c.append-answer.ensures.same.3) (subst (λ (r : List Row). AreOwned r (tail_of o)) (sym rows) (is.tail still)) in
+    let longer_stands = stand_longer w.store.indexes seen seen' first c.kept.inside.layout records h h' w before after s'.stands fit number o new here effect.own effect.grasp changed rows only.writes.outside in
+    let tail : (upload_of w.store p.number ≡ Some p.began) → IsOwnedBy records h'.rows p.number (tail_of new) =
+    λ still. subst (IsOwnedBy records h'.rows p.number) (sym c.append-answer.ensures.same.3) (subst (λ (r : List Row). IsOwnedBy records r p.number (tail_of o)) (sym rows) (is.tail still)) in
     let back = replaced_same number p w.patches there in
     answered _ _ c.append-answer.result
     (ok_more c.append-answer.result (c.append-answer.ensures.answer p held fits) (λ still. c.append-answer.ensures.content p s.stored.honest held fits (subst (λ (x : IndexSet). Carries x seen first p o) (sym ix) (is.carries still)))
@@ -86,15 +87,15 @@ returns-clause-answer g c w p s there fits =
     let is_longer = subst (λ (x : IndexSet). IsLonger x (with_piece p piece) o new h h') ix l in
     longer_world g.D.Disk disk' _ after w number piece p (find number w.patches) there stored
     (longer_stands p q there (grown_longer w s'.stands.grown number p (p.body ++ piece) q.short there) record {
-      holds = longer_holds w seen seen' first c.kept.inside.layout h h' before after s'.stands fit number o new here effect.own effect.grasp changed rows v shows s'.stored.keeps.rows c.rows-rows.ensures.reserved fit' p piece is_longer;
+      holds = longer_holds w seen seen' first c.kept.inside.layout records h h' before after s'.stands fit number o new here effect.own effect.grasp changed rows v shows s'.stored.keeps.rows c.rows-rows.ensures.reserved fit' p piece is_longer;
       below = is.below;
-      carries = λ still. longer_carries w seen seen' first c.kept.inside.layout h h' before after s'.stands fit number o new here effect.own effect.grasp changed rows v shows s'.stored.keeps.rows c.rows-rows.ensures.reserved fit' p piece is_longer
+      carries = λ still. longer_carries w seen seen' first c.kept.inside.layout records h h' before after s'.stands fit number o new here effect.own effect.grasp changed rows v shows s'.stored.keeps.rows c.rows-rows.ensures.reserved fit' p piece is_longer
           (subst (λ (x : IndexSet). Carries x seen' first (with_piece p piece) new) ix (carries still));
       tail = tail;
     })))
     (λ e. record {
       stored = stored;
-      stands = subst (λ ps. DraftsStand w.store.indexes seen' first h' (record w { patches = ps }) after) back
+      stands = subst (λ ps. DraftsStand w.store.indexes seen' first records h' (record w { patches = ps }) after) back
           (longer_stands p p there (subst (λ ps. IsGrown (record w { patches = ps })) (sym back) s'.stands.grown) record {
             holds = subst (λ (x : IndexSet). Holds x p new) ix (c.append-answer.ensures.holds_on p held e);
             below = is.below;

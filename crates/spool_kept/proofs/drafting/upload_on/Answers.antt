@@ -4,10 +4,11 @@ use Rattle.spool_journal.specs.Image.{journal_pages}
 use Rattle.spool_texts.specs.TextOn.{text_on}
 use Rattle.upload_rules.specs.Store.{upload_of}
 use Rattle.spool_pages.specs.View.{SlotRecord}
-use Rattle.spool_kept.specs.Holding.{Holding}
+use Rattle.spool_kept.specs.Holding.{Holding, IsUsedBy}
 use Rattle.spool_kept.specs.Records.{IsTextOf}
+use Rattle.spool_kept.specs.Drafting.{IsOwnedBy}
 use Rattle.spool_kept.proofs.Answered.{found, match_is_none, no_upload, same_used, text_told}
-use Rattle.spool_kept.proofs.Drafted.{few_listed, told_text}
+use Rattle.spool_kept.proofs.Drafted.{few_listed, list_owned, told_text}
 use Rattle.spool_kept.proofs.drafting.upload_on.Goals as goal
 
 pub returns-in_err-slot-clause-told : goal.returns-in_err-slot-clause-told
@@ -23,6 +24,12 @@ list_is c =
 
 pub returns-clause-few : goal.returns-clause-few
 returns-clause-few c = few_listed _ c.kept.invariant c.in_ok-slot.slot c.in_ok-slot.ensures.below (omega (arith, c.blocks-few.ensures.same, c.blocks-few.ensures.few)) c.blocks-list.result.now (list_is c)
+
+pub returns-clause-owned : goal.returns-clause-owned
+returns-clause-owned c =
+    let owned = list_owned _ c.kept.invariant c.in_ok-slot.slot c.in_ok-slot.ensures.below c.args.number
+    (subst (λ (h : Holding). IsUsedBy h.slots c.in_ok-slot.slot c.args.number) (sym c.kept.view_is) c.in_ok-slot.ensures.used) c.blocks-list.result.now (list_is c) in
+    subst (λ (h : Holding). IsOwnedBy h.slots h.blocks.rows c.args.number c.blocks-list.result.now) c.kept.view_is owned
 
 pub returns-clause-told : goal.returns-clause-told
 returns-clause-told c v m bytes kept shows says =

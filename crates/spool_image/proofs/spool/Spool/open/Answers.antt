@@ -4,6 +4,7 @@ use Rattle.spool_journal.specs.Image.{journal_pages, overlaid}
 use Rattle.spool_journal.specs.Phases.{ReadsAs}
 use Rattle.spool_journal.proofs.Gate.{settled_idle}
 use Rattle.spool_image.proofs.Opens.{image_shows, settled_reads}
+use Rattle.spool_image.proofs.StandsOn.{stands_opened}
 use Rattle.spool_image.proofs.spool.Spool.open.Goals as goal
 
 pub returns-in-Ok-clause-lasts : goal.returns-in-Ok-clause-lasts
@@ -30,3 +31,8 @@ returns-in-Ok-clause-shows g c honest m v is shows room image here =
 
 pub returns-in-Ok-clause-idle : goal.returns-in-Ok-clause-idle
 returns-in-Ok-clause-idle g c honest = settled_idle (c.in-Ok.ensures.settled honest)
+
+pub returns-in-Ok-clause-stands : goal.returns-in-Ok-clause-stands
+returns-in-Ok-clause-stands g c honest m v is shows room =
+    stands_opened g.D.Disk c.prepare.new.disk (g.D.Disk.seen c.args.disk) c.in-Ok.kept c.new.result.items m v c.new.ensures.items (c.in-Ok.ensures.honest.0 honest) is
+    (c.in-Ok.ensures.said honest v shows.sound is room) shows (c.in-Ok.ensures.settled honest)

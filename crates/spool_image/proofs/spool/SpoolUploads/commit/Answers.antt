@@ -1,0 +1,7 @@
+use Rattle.upload_rules.specs.Calls.{commit_outcome}
+use Rattle.spool_image.proofs.LeftImages.{limits_on}
+use Rattle.spool_image.proofs.spool.SpoolUploads.commit.Goals as goal
+
+pub returns-clause-crash : goal.returns-clause-crash
+returns-clause-crash g c w p stands there holds =
+    limits_on g.D.Disk c.args.self.now.disk c.commit.new.disk c.commit.ensures.honest w.store (commit_outcome w c.args.draft.number p) (c.commit.ensures.crash w p stands there)

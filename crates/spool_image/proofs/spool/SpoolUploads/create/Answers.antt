@@ -1,0 +1,23 @@
+use Rattle.upload_rules.specs.Calls.{create_refusal, create_outcome}
+use Rattle.spool_kept.specs.Stored.{Stored}
+use Rattle.spool_image.proofs.LeftImages.{limits_on}
+use Rattle.spool_image.proofs.StandsOn.{created_answers, stands_created, stands_same}
+use Rattle.spool_image.proofs.spool.SpoolUploads.create.Goals as goal
+
+pub returns-clause-answer : goal.returns-clause-answer
+returns-clause-answer g c w s =
+    let disk = c.args.self.now.disk in
+    let disk' = c.create.new.disk in
+    let kept = c.args.self.now.kept in
+    let kept' = c.create.new.kept in
+    let drafts = c.args.self.now.drafts.items in
+    let now = c.create.ensures in
+    created_answers (create_refusal w c.args.new) c.create.result w.store.next (Stored g.D.Disk disk' kept' w.store) (now.texts w.store s.stored)
+    (λ texts stored. stands_created g.D.Disk disk disk' kept kept' drafts w c.args.new s now.layout now.blocks now.slots texts stored)
+    (λ e. stands_same g.D.Disk disk disk' kept kept' drafts w s (now.unmade e))
+    (λ f e. stands_same g.D.Disk disk disk' kept kept' drafts w s (now.refused f e))
+    (now.answer w.store s.stored)
+
+pub returns-clause-crash : goal.returns-clause-crash
+returns-clause-crash g c w s =
+    limits_on g.D.Disk c.args.self.now.disk c.create.new.disk c.create.ensures.honest w.store (create_outcome w c.args.new) (c.create.ensures.crash w.store s.stored)

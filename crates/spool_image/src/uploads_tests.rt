@@ -1,0 +1,217 @@
+//! A spool in use.
+
+ghost use Rattle.std.specs.Prelude.{◌≡◌};
+ghost use Rattle.upload_rules.specs.Records.{IsWellFormed};
+
+use crate::{OpenFault, Spool, format};
+use enc_index::IndexSet;
+use enc_model::{Encoding, Mode};
+use spool_disk::{Crash, Disk, FuseDisk, MemoryDisk};
+use std::alloc::Global;
+use std::test::Fail;
+use upload_rules::{New, UploadError, UploadRefusal, Uploads};
+
+// The fields of an upload from UTF-8 to UTF-8.
+fn plain(alloc: Global, declared: u64) -> New
+    ensures form { IsWellFormed result }
+    ensures from { result.from ≡ Encoding.Utf8 }
+    ensures to { result.to ≡ Encoding.Utf8 }
+{
+    New {
+        declared,
+        from: Encoding::Utf8,
+        to: Encoding::Utf8,
+        mode: Mode::Html,
+        metadata: String::new(alloc),
+    }
+}
+
+// A disk with a spool of 16 blocks without uploads.
+fn fresh(alloc: Global) -> Result<MemoryDisk, Fail> {
+    let indexes = IndexSet::new(alloc)?;
+    let mut disk = MemoryDisk::new(alloc, 557 * 4096)?;
+    format(&mut disk, 16, &indexes)?;
+    Ok(disk)
+}
+
+// The spool on a disk.
+fn opened(alloc: Global, disk: MemoryDisk) -> Result<Spool<MemoryDisk>, OpenFault> {
+    match Spool::open(alloc, disk) {
+        Ok(spool) => Ok(spool),
+        Err((_, fault)) => Err(fault),
+    }
+}
+
+// An append of these bytes.
+fn patched<U: Uploads>(
+    uploads: &mut U,
+    number: u64,
+    offset: u64,
+    bytes: &[u8],
+) -> Result<u64, UploadError> {
+    let mut draft = uploads.begin(number, offset, bytes.len() as u64)?;
+    match uploads.append(&mut draft, bytes) {
+        Ok(()) => uploads.commit(draft),
+        Err(e) => {
+            uploads.drop_open(draft);
+            Err(e)
+        }
+    }
+}
+
+// Two appends at the same offset, of which the second one is committed first.
+fn raced<U: Uploads>(
+    uploads: &mut U,
+    number: u64,
+) -> Result<(Result<u64, UploadError>, Result<u64, UploadError>), UploadError> {
+    let mut first = uploads.begin(number, 0, 2)?;
+    let _ = uploads.append(&mut first, b"ab");
+    let second = patched(uploads, number, 0, b"cd");
+    Ok((uploads.commit(first), second))
+}
+
+// An append that is given up.
+fn given_up<U: Uploads>(uploads: &mut U, number: u64, bytes: &[u8]) -> Result<(), UploadError> {
+    let mut draft = uploads.begin(number, 0, bytes.len() as u64)?;
+    let answer = uploads.append(&mut draft, bytes);
+    uploads.drop_open(draft);
+    answer
+}
+
+#[test]
+fn upload_is_there_after_a_crash(rt: HostRuntime) -> Result<(), Fail> {
+    let mut spool = opened(rt.alloc(), fresh(rt.alloc())?)?;
+    assert_eq!(rt; spool.create(plain(rt.alloc(), 11)), Ok(1));
+    assert_eq!(rt; spool.next_number(), 2);
+    assert_eq!(rt; patched(&mut spool, 1, 0, b"hello "), Ok(6));
+    assert_eq!(rt; patched(&mut spool, 1, 6, b"world"), Ok(11));
+    let mut spool = opened(rt.alloc(), spool.into_disk().crash(Crash::Torn(9)))?;
+    assert_eq!(rt; spool.next_number(), 2);
+    assert_eq!(rt; spool.record(1).map(|r| r.accepted), Some(11));
+    assert_eq!(rt; spool.record_after(0).map(|r| r.text_len), Some(11));
+    assert!(rt; spool.record_after(1).is_none());
+    let mut buf = [0; 8];
+    assert_eq!(rt; spool.read_text(1, 4, &mut buf), Ok(7));
+    assert_eq!(rt; buf, [b'o', b' ', b'w', b'o', b'r', b'l', b'd', 0]);
+    assert_eq!(rt;
+        spool.read_text(2, 0, &mut buf),
+        Err(UploadError::Refused(UploadRefusal::NoSuch))
+    );
+    drop(spool.into_disk());
+    Ok(())
+}
+
+#[test]
+fn text_goes_on_over_the_end_of_a_block(rt: HostRuntime) -> Result<(), Fail> {
+    let mut spool = opened(rt.alloc(), fresh(rt.alloc())?)?;
+    assert_eq!(rt; spool.create(plain(rt.alloc(), 4098)), Ok(1));
+    assert_eq!(rt; patched(&mut spool, 1, 0, &[b'a'; 4095]), Ok(4095));
+    assert_eq!(rt; patched(&mut spool, 1, 4095, b"bcd"), Ok(4098));
+    let mut buf = [0; 6];
+    assert_eq!(rt; spool.read_text(1, 4093, &mut buf), Ok(5));
+    assert_eq!(rt; buf, [b'a', b'a', b'b', b'c', b'd', 0]);
+    drop(spool.into_disk());
+    Ok(())
+}
+
+#[test]
+fn one_append_at_an_offset_is_committed(rt: HostRuntime) -> Result<(), Fail> {
+    let mut spool = opened(rt.alloc(), fresh(rt.alloc())?)?;
+    assert_eq!(rt; spool.create(plain(rt.alloc(), 4)), Ok(1));
+    let late = Err(UploadError::Refused(UploadRefusal::Offset));
+    assert_eq!(rt; raced(&mut spool, 1), Ok((late, Ok(2))));
+    let mut buf = [0; 4];
+    assert_eq!(rt; spool.read_text(1, 0, &mut buf), Ok(2));
+    assert_eq!(rt; buf, [b'c', b'd', 0, 0]);
+    drop(spool.into_disk());
+    Ok(())
+}
+
+#[test]
+fn blocks_of_a_dropped_append_come_back(rt: HostRuntime) -> Result<(), Fail> {
+    let text = vec![in rt.alloc(); b'a'; 65536]?;
+    let longer = vec![in rt.alloc(); b'a'; 65537]?;
+    let mut spool = opened(rt.alloc(), fresh(rt.alloc())?)?;
+    assert_eq!(rt; spool.create(plain(rt.alloc(), 65537)), Ok(1));
+    assert_eq!(rt; given_up(&mut spool, 1, &text), Ok(()));
+    assert_eq!(rt;
+        patched(&mut spool, 1, 0, &longer),
+        Err(UploadError::Refused(UploadRefusal::Full))
+    );
+    assert_eq!(rt; patched(&mut spool, 1, 0, &text), Ok(65536));
+    drop(spool.into_disk());
+    Ok(())
+}
+
+// What a create answers on a disk that fails after some calls, and the disk.
+fn created_until(
+    alloc: Global,
+    disk: MemoryDisk,
+    passed: u64,
+) -> (MemoryDisk, Result<u64, UploadError>) {
+    match Spool::open(alloc, FuseDisk::new(disk, passed)) {
+        Ok(spool) => {
+            let mut spool = spool;
+            let answer = spool.create(plain(alloc, 5));
+            (spool.into_disk().into_inner(), answer)
+        }
+        Err((fuse, _)) => (fuse.into_inner(), Err(UploadError::DiskFault)),
+    }
+}
+
+#[test]
+fn upload_is_made_or_not_where_the_disk_fails(rt: HostRuntime) -> Result<(), Fail> {
+    // opening is 539 calls
+    for passed in 539..560 {
+        let (disk, answer) = created_until(rt.alloc(), fresh(rt.alloc())?, passed);
+        let spool = opened(rt.alloc(), disk.crash(Crash::Torn(9)))?;
+        let next = spool.next_number();
+        let there = spool.record(1).is_some();
+        drop(spool.into_disk());
+        assert_eq!(rt; next, if there { 2 } else { 1 }, "{passed}");
+        assert!(rt; there || answer == Err(UploadError::DiskFault), "{passed}");
+        assert!(rt; passed > 539 || !there, "{passed}");
+        assert!(rt; passed < 559 || answer == Ok(1), "{passed}");
+    }
+    Ok(())
+}
+
+// What an append of five bytes to the upload 1 answers on a disk that fails after some calls, and the disk.
+fn patched_until(
+    alloc: Global,
+    disk: MemoryDisk,
+    passed: u64,
+) -> (MemoryDisk, Result<u64, UploadError>) {
+    match Spool::open(alloc, FuseDisk::new(disk, passed)) {
+        Ok(spool) => {
+            let mut spool = spool;
+            let answer = patched(&mut spool, 1, 0, b"hello");
+            (spool.into_disk().into_inner(), answer)
+        }
+        Err((fuse, _)) => (fuse.into_inner(), Err(UploadError::DiskFault)),
+    }
+}
+
+#[test]
+fn append_is_committed_or_not_where_the_disk_fails(rt: HostRuntime) -> Result<(), Fail> {
+    for passed in 539..570 {
+        let (disk, made) = created_until(rt.alloc(), fresh(rt.alloc())?, 1000);
+        assert_eq!(rt; made, Ok(1));
+        let (disk, answer) = patched_until(rt.alloc(), disk, passed);
+        let mut spool = opened(rt.alloc(), disk.crash(Crash::Torn(9)))?;
+        let accepted = spool.record(1).map(|r| r.accepted);
+        let mut buf = [0; 6];
+        let read = spool.read_text(1, 0, &mut buf);
+        drop(spool.into_disk());
+        if accepted == Some(5) {
+            assert_eq!(rt; read, Ok(5), "{passed}");
+            assert_eq!(rt; buf, [b'h', b'e', b'l', b'l', b'o', 0], "{passed}");
+        } else {
+            assert_eq!(rt; accepted, Some(0), "{passed}");
+            assert_eq!(rt; answer, Err(UploadError::DiskFault), "{passed}");
+        }
+        assert!(rt; passed > 539 || accepted == Some(0), "{passed}");
+        assert!(rt; passed < 569 || answer == Ok(5), "{passed}");
+    }
+    Ok(())
+}
