@@ -25,10 +25,6 @@ pub record IsIn (list : List ℕ) (b : ℕ) : Type 0 where
   pub below : at < length list
   pub here : get_or list at 0 ≡ b
 
--- each of these blocks is listed
-abbrev pub AllIn : List ℕ → List ℕ → Type 0
-AllIn list blocks = (i : ℕ) → i < length blocks → IsIn list (get_or blocks i 0)
-
 -- there is such a block where the committed text needs it, and it is one of so many
 pub record IsTailed (blocks : ℕ) (g : Growth) : Type 0 where
   pub below : AllBelow blocks (tail_list g.tail)

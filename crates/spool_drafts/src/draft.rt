@@ -11,7 +11,7 @@ ghost use Rattle.upload_rules.specs.Store.{Upload, text_of};
 ghost use Rattle.upload_rules.specs.World.{Patch};
 ghost use Rattle.upload_rules.specs.declared.errors.UploadRefusal.{UploadRefusal as Refusal};
 ghost use Rattle.spool_drafts.specs.Effect.{Effect};
-ghost use Rattle.spool_drafts.specs.Growth.{list_on, AllIn};
+ghost use Rattle.spool_drafts.specs.Growth.{list_on};
 ghost use Rattle.spool_drafts.specs.Drafts.{Holds, Carries, IsBegun, IsPlaced, IsLonger, EndsAs, with_piece, open_text, number_of, offset_of, came_of, list_of, committed_len_of, len_of, tail_of};
 
 use crate::fresh::{finished, read_on};
@@ -52,9 +52,8 @@ impl SpoolDraft {
         ensures content { (x : Indexes) (n : ℕ) (u : Upload) (seen : ℕ → ℕ) (first : ℕ) → Keeps x n upload.now u → text_on seen first list.now upload.now.text_len ≡ text_of x u
             → IfOk result (λ d. Carries x seen first (first_patch n count u) d) }
         ensures none { IfOk result (λ d. list_of d ≡ []) }
-        ensures tail_at { IfOk result (λ d. (i : ℕ) → i < length (tail_of d) → (upload.now.text_len / 4096 < length list.now) × (get_or (tail_of d) i 0 ≡ get_or list.now (upload.now.text_len / 4096) 0)) }
+        ensures tail { IfOk result (λ d. (i : ℕ) → i < length (tail_of d) → (upload.now.text_len / 4096 < length list.now) × (get_or (tail_of d) i 0 ≡ get_or list.now (upload.now.text_len / 4096) 0)) }
         ensures placed { (blocks : ℕ) → AllBelow blocks list.now → IfOk result (λ d. IsPlaced blocks d) }
-        ensures tail { IfOk result (λ d. AllIn list.now (tail_of d)) }
     {
         upload.admits(offset, count)?;
         let Some(fresh) = NewText::behind(alloc, upload) else {
@@ -138,7 +137,6 @@ impl SpoolDraft {
         // What it holds, and what it leaves of the blocks and the disk, whatever the answer.
         ensures same { (number_of self.new ≡ number_of self.old) × (offset_of self.new ≡ offset_of self.old) × (committed_len_of self.new ≡ committed_len_of self.old) × (tail_of self.new ≡ tail_of self.old) }
         ensures placed { IsPlaced layout.now self.new }
-        ensures tail { tail_of self.new ≡ tail_of self.old }
         ensures rows { blocks.new.rows ≡ blocks.old.rows }
         ensures reserved { IsReserved blocks.new (list_of self.new) }
         ensures effect { Effect D.Disk (journal_pages layout.now) (list_of self.old) (list_of self.new) disk.old disk.new blocks.old blocks.new }

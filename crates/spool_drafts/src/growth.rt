@@ -6,7 +6,7 @@ ghost use Rattle.spool_journal.specs.Image.{journal_pages, all_pages};
 ghost use Rattle.spool_texts.specs.Drafts.{IsReserved, GivesBack, content_on, held_count};
 ghost use Rattle.spool_texts.specs.TextOn.{AllBelow, text_on};
 ghost use Rattle.spool_drafts.specs.Effect.{Effect, OnlyWrites, RunsShort};
-ghost use Rattle.spool_drafts.specs.Growth.{list_on, tail_list, bytes_on, whole_len, AllIn, IsTailed, HoldsLen, HoldsCount, GrowsTo, ClosesAs};
+ghost use Rattle.spool_drafts.specs.Growth.{list_on, tail_list, bytes_on, whole_len, IsTailed, HoldsLen, HoldsCount, GrowsTo, ClosesAs};
 ghost use Rattle.upload_rules.specs.declared.errors.UploadRefusal.{UploadRefusal as Refusal};
 
 use spool_blocks::{BlockNo, Blocks};
@@ -14,7 +14,6 @@ use spool_disk::Disk;
 use spool_journal::{Layout, PAGE};
 use spool_texts::{DraftError, DraftText};
 use std::alloc::Global;
-use std::mem;
 use upload_rules::{UploadError, UploadRefusal};
 
 /// The new text of a draft behind the committed one of its upload.
@@ -39,8 +38,7 @@ impl Growth {
         ensures none { result.on ≡ None }
         ensures roomy { result.short ≡ false }
         ensures tailed { (blocks : ℕ) → AllBelow blocks list.now → IsTailed blocks result }
-        ensures tail_at { (i : ℕ) → i < length (tail_list result.tail) → (text_len / 4096 < length list.now) × (get_or (tail_list result.tail) i 0 ≡ get_or list.now (text_len / 4096) 0) }
-        ensures tail { AllIn list.now (tail_list result.tail) }
+        ensures tail { (i : ℕ) → i < length (tail_list result.tail) → (text_len / 4096 < length list.now) × (get_or (tail_list result.tail) i 0 ≡ get_or list.now (text_len / 4096) 0) }
         ensures bytes { (seen : ℕ → ℕ) (first : ℕ) → text_on seen first list.now (4096 * (text_len / 4096)) ++ bytes_on seen first result None ≡ text_on seen first list.now text_len }
     {
         let tail = if text_len % PAGE as u64 == 0 {
@@ -123,7 +121,7 @@ impl Growth {
         if self.short || bytes.is_empty() {
             return Ok(());
         }
-        self.open(alloc, disk, layout, blocks)?;
+        self.open(alloc, disk, layout)?;
         self.put_more(disk, layout, blocks, bytes)
     }
 
@@ -184,16 +182,13 @@ impl Growth {
         alloc: Global,
         disk: &mut D,
         layout: &Layout,
-        blocks: &mut Blocks,
     ) -> Result<(), UploadError>
         requires room { 4096 * all_pages layout.now ≤ D.size disk.old }
-        requires reserved { IsReserved blocks.old (list_on self.old.on) }
         requires tailed { IsTailed layout.now self.old }
         ensures size { D.size disk.new ≡ D.size disk.old }
         ensures honest { D.honest disk.old ↔ D.honest disk.new }
         ensures counts { Counts (IsErrOf result UploadError.DiskFault) (D.failures disk.old) (D.failures disk.new) }
         ensures no_refusal { (e : Refusal) → IsErrOf result (UploadError.Refused e) → ⊥ }
-        ensures blocks { blocks.new ≡ blocks.old }
         ensures same { self.new ≡ record self.old { on = self.new.on } }
         ensures list { list_on self.new.on ≡ list_on self.old.on }
         ensures some { OnOk result (self.new.on ≡ None → ⊥) }
@@ -206,10 +201,7 @@ impl Growth {
             return Ok(());
         }
         let text = begun(alloc, disk, layout, self.tail, self.text_len)?;
-        // There was none.
-        if let Some(other) = mem::replace(&mut self.on, Some(text)) {
-            other.give_back(blocks);
-        }
+        self.on = Some(text);
         Ok(())
     }
 

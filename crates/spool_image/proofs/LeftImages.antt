@@ -6,8 +6,8 @@ use Rattle.spool_disk.specs.declared.disk.Disk.{Ghosts}
 use Rattle.upload_rules.specs.Answers.{Limits, Quiet}
 use Rattle.upload_rules.specs.Store.{Store}
 use Rattle.spool_image.specs.LeftOnly.{LeftOnly, ShowsOne}
-use Rattle.spool_image.specs.Shows.{ImageShows}
-use Rattle.spool_image.specs.Stored.{ShowsEither}
+use Rattle.spool_kept.specs.Shows.{ImageShows}
+use Rattle.spool_kept.specs.Stored.{ShowsEither}
 
 module _ {D : Type 0} (disk : Ghosts D) (old new : D) (honest : disk.honest old ↔ disk.honest new) where
   left_on : {P : (ℕ → ℕ) → Type 0} (t : ℕ) (ms : List Store) → Lasts disk old new P → ((image : ℕ → ℕ) → P image → ShowsOne ms image) → t ≤ disk.moment old → LeftOnly disk old t ms → LeftOnly disk new t ms

@@ -11,9 +11,10 @@ use Rattle.spool_journal.specs.Phases.{Still}
 use Rattle.spool_journal.proofs.Recovers.{get_span}
 use Rattle.spool_pages.specs.Bytes.{IsPadded}
 use Rattle.spool_pages.specs.View.{Stands, state_page}
-use Rattle.spool_image.specs.Reads.{OnlyReads, IsReadAt, LoadsAs, IsFrontOf, IsSameTo}
-use Rattle.spool_image.specs.declared.error.OpenFault.{OpenFault}
-use Rattle.spool_image.specs.declared.error.OpenFault.TheVariants.{NotASpool, DiskFault, Damaged, Version, NoMemory}
+use Rattle.spool_image.specs.Reads.{OnlyReads, IsReadAt, IsFrontOf, IsSameTo}
+use Rattle.spool_kept.specs.Loads.{LoadsAs}
+use Rattle.spool_kept.specs.declared.error.OpenFault.{OpenFault}
+use Rattle.spool_kept.specs.declared.error.OpenFault.TheVariants.{NotASpool, DiskFault, Damaged, Version, NoMemory}
 use Rattle.std.proofs.lemmas.List.{ext_get_or, get_or-set_other, get_or-set_same}
 
 pub reads_on : {D : Type 0} {disk : Ghosts D} {a b c : D} → OnlyReads disk a b → OnlyReads disk b c → OnlyReads disk a c
@@ -64,10 +65,6 @@ read_stands bytes place at off size buf xs read room is stands = record {
       let same : place + (off + i) ≡ at + i = omega (arith, is) in
       read.each (off + i) (omega (arith, lt, room)) ∙ ap bytes same ∙ stands.each i lt;
 }
-
-pub rows_cover : (n : ℕ) → n ≤ 512 * (journal_pages n - 257)
-unfolding journal_pages
-rows_cover n = omega arith
 
 pub row_pages_few : (n : ℕ) → n ≤ 65536 → journal_pages n ≤ 385
 unfolding journal_pages

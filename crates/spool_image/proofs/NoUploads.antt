@@ -10,7 +10,7 @@ use Rattle.spool_journal.specs.Image.{journal_pages, all_pages, byte_of, overlai
 use Rattle.spool_journal.proofs.Gate.{shut_view}
 use Rattle.upload_rules.specs.Store.{no_uploads}
 use Rattle.spool_pages.specs.View.{SlotRecord, View, Says, Stands, slot_bytes, row_bytes, index_place, state_place, slot_place, row_place, state_page, first_page}
-use Rattle.spool_image.specs.Shows.{IsSound, ImageShows}
+use Rattle.spool_kept.specs.Shows.{IsSound, ImageShows}
 use Rattle.spool_image.specs.Fresh.{IsFresh}
 use Rattle.spool_image.proofs.Fresh.{fresh_front, fresh_area, fresh_state, fresh_zeros}
 use Rattle.spool_pages.proofs.Says.{some_journal, all_is, says_same}

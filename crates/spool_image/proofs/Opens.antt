@@ -8,7 +8,7 @@ use Rattle.spool_journal.proofs.Over.{over_none}
 use Rattle.spool_journal.proofs.Gate.{open_view, shut_view}
 use Rattle.upload_rules.specs.Store.{Store}
 use Rattle.spool_pages.specs.View.{View, Says, IsViewOf, first_page}
-use Rattle.spool_image.specs.Shows.{Shows, ImageShows}
+use Rattle.spool_kept.specs.Shows.{Shows, ImageShows}
 use Rattle.spool_pages.proofs.Says.{says_same}
 
 pub same_function : (f g : ℕ → ℕ) → ((p : ℕ) → f p ≡ g p) → f ≡ g

@@ -29,11 +29,11 @@ use Rattle.upload_rules.specs.declared.errors.UploadError.{UploadError}
 use Rattle.upload_rules.specs.declared.errors.UploadError.TheVariants.{NoMemory, DiskFault, Refused}
 use Rattle.upload_rules.specs.declared.errors.UploadRefusal.{UploadRefusal}
 use Rattle.spool_image.proofs.Opens.{same_function}
-use Rattle.spool_image.specs.Drafting.{DraftsStand, DraftStands, IsOwnedBy, StandsFor}
-use Rattle.spool_image.specs.Holding.{Holding, IsUsedBy}
-use Rattle.spool_image.specs.Kept.{KeepsAlone}
-use Rattle.spool_image.specs.Shows.{Shows}
-use Rattle.spool_image.specs.Stored.{Stored}
+use Rattle.spool_kept.specs.Drafting.{DraftsStand, DraftStands, IsOwnedBy, StandsFor}
+use Rattle.spool_kept.specs.Holding.{Holding, IsUsedBy}
+use Rattle.spool_kept.specs.Kept.{KeepsAlone}
+use Rattle.spool_kept.specs.Shows.{Shows}
+use Rattle.spool_kept.specs.Stored.{Stored}
 
 -- a draft of any upload
 pub begun_any : (number count : ℕ) (u : Option Upload) → IsBegun (λ p. Unit {0}) number count u

@@ -5,10 +5,10 @@ use Rattle.spool_disk.specs.declared.disk.Disk.{Ghosts}
 use Rattle.spool_pages.proofs.Resting.{rests_image}
 use Rattle.upload_rules.specs.Answers.{Among}
 use Rattle.upload_rules.specs.Store.{Store}
-use Rattle.spool_image.specs.Holding.{Holding}
+use Rattle.spool_kept.specs.Holding.{Holding}
 use Rattle.spool_image.specs.LeftOnly.{LeftOnly}
-use Rattle.spool_image.specs.Shows.{ImageShows}
-use Rattle.spool_image.specs.Stored.{Stored}
+use Rattle.spool_kept.specs.Shows.{ImageShows}
+use Rattle.spool_kept.specs.Stored.{Stored}
 
 -- each image of a spool that stands for a store shows it
 pub stored_shows : {D : Type 0} (disk : Ghosts D) (d : D) (h : Holding) (m : Store) (image : ℕ → ℕ) → Stored disk d h m → IsImage (disk.seen d) (disk.loose d) image → ImageShows image m

@@ -3,7 +3,7 @@ use Rattle.std.specs.Prelude.{ℕ, List}
 use Rattle.spool_disk.specs.declared.disk.Disk.{Ghosts}
 use Rattle.upload_rules.specs.Answers.{Among}
 use Rattle.upload_rules.specs.Store.{Store}
-use Rattle.spool_image.specs.Shows.{ImageShows}
+use Rattle.spool_kept.specs.Shows.{ImageShows}
 
 -- the image shows one of these stores
 pub record ShowsOne (ms : List Store) (image : ℕ → ℕ) : Type 0 where

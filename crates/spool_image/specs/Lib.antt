@@ -1,16 +1,6 @@
-pub mod Shows
 pub mod Fresh
 pub mod Format
 pub mod Reads
-pub mod Faults
-pub mod Holding
-pub mod Kept
-pub mod Records
 pub mod Spool
-pub mod Changed
-pub mod Extending
-pub mod Stored
-pub mod Creating
-pub mod Drafting
 pub mod LeftOnly
 pub mod Durable

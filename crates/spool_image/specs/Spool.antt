@@ -1,13 +1,13 @@
 -- What an opened spool stands for.
 use Rattle.std.specs.Prelude.{◌≡◌, ℕ, Result, Ok, Err}
 use Rattle.spool_disk.specs.declared.disk.Disk.{Ghosts}
-use Rattle.spool_image.specs.declared.error.OpenFault.{OpenFault}
-use Rattle.spool_image.specs.declared.error.OpenFault.TheVariants.{DiskFault}
+use Rattle.spool_kept.specs.declared.error.OpenFault.{OpenFault}
+use Rattle.spool_kept.specs.declared.error.OpenFault.TheVariants.{DiskFault}
 use Rattle.spool_image.specs.declared.spool.Spool.{Spool}
 use Rattle.spool_pages.specs.View.{View}
-use Rattle.spool_image.specs.Kept.{KeepsAlone}
-use Rattle.spool_image.specs.Reads.{LoadsAs}
-use Rattle.spool_image.specs.Drafting.{StandsFor}
+use Rattle.spool_kept.specs.Kept.{KeepsAlone}
+use Rattle.spool_kept.specs.Loads.{LoadsAs}
+use Rattle.spool_kept.specs.Drafting.{StandsFor}
 use Rattle.upload_rules.specs.World.{World}
 
 abbrev pub disk_of : {D : Type 0} {disk : Ghosts D} → Spool D disk → D

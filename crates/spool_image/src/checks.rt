@@ -1,37 +1,21 @@
 // What is read is checked: only what a spool may say passes.
-ghost use Rattle.std.specs.Prelude.{◌≡◌, ◌≤◌, ◌<◌, ◌+◌, ◌/◌, ℕ, true, false, Some, None, length, get_or, option_copied};
+ghost use Rattle.std.specs.Prelude.{◌≡◌, ◌<◌, ℕ, true, false, Some, None, length, get_or};
 ghost use Rattle.spool_blocks.specs.Chains.{Owns};
 ghost use Rattle.upload_rules.specs.Room.{blocks_of};
-ghost use Rattle.spool_image.specs.Shows.{HasState, IsSoundRecord, IsSound};
-ghost use Rattle.spool_image.specs.Records.{said_of};
+ghost use Rattle.spool_kept.specs.Shows.{HasState, IsSoundRecord, IsSound};
+ghost use Rattle.spool_kept.specs.Records.{said_of};
 ghost use Rattle.spool_pages.specs.Fits.{FitsRow};
-ghost use Rattle.spool_pages.specs.View.{View, SlotRecord as Said};
+ghost use Rattle.spool_pages.specs.View.{View};
 
-use crate::records::KeptRecord;
 use spool_blocks::Row;
-use upload_rules::Record;
-
-/// The greatest declared length.
-pub(crate) const LENGTH_LIMIT: u64 = 1_073_741_824;
-
-/// The greatest next number.
-pub(crate) const NUMBERS_END: u64 = 1_000_000_000_000_000_000;
+use spool_kept::{KeptRecord, blocks_of, record_at};
+use upload_rules::{LENGTH_LIMIT, NUMBERS_END, Record};
 
 /// Where the state bytes say the phase: 0 before a byte order mark is decided, 1 from then on, 2 behind the end.
 const PHASE_AT: usize = 3;
 
 /// Where they say how many bytes are held before it is decided.
 const HELD_AT: usize = 4;
-
-/// The record of a slot, none where the slot is free or isn't there.
-pub(crate) fn record_at(slots: &[Option<KeptRecord>], slot: usize) -> Option<&KeptRecord>
-    ensures { option_copied result ≡ get_or slots.now slot None }
-{
-    match slots.get(slot) {
-        Some(record) => record.as_ref(),
-        None => None,
-    }
-}
 
 // Whether the phase of the state fits the counts: behind the end exactly where all declared bytes were accepted, and before a byte
 // order mark is decided all accepted bytes are held.
@@ -81,13 +65,6 @@ pub(crate) fn are_sound(slots: &[Option<KeptRecord>], next: u64) -> bool
         }
     }
     true
-}
-
-/// How many blocks a text of this length has.
-pub(crate) fn blocks_of(len: u64) -> u64
-    ensures { result ≡ blocks_of len }
-{
-    len.div_ceil(4096)
 }
 
 // Whether a row's slot is in use, and its ordinal below the number of blocks of the text.

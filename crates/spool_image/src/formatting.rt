@@ -1,5 +1,5 @@
 // A spool without uploads is made.
-ghost use Rattle.std.specs.Prelude.{◌≡◌, ◌≤◌, ◌<◌, ◌*◌, ◌+◌, ◌↔◌, ℕ, List, true, false, IsErr, IsOk, IfOk, OnOk, Err, get_or};
+ghost use Rattle.std.specs.Prelude.{◌≡◌, ◌≤◌, ◌<◌, ◌*◌, ◌+◌, ◌↔◌, ℕ, true, false, IsErr, IsOk, IfOk, OnOk, Err, get_or};
 ghost use Rattle.enc_model.specs.Indexes.{IndexSet as Indexes};
 ghost use Rattle.enc_index.specs.Sets.{IsIndexSet};
 ghost use Rattle.spool_disk.specs.Disk.{IsImage, Counts, Keeps};
@@ -7,7 +7,7 @@ ghost use Rattle.spool_disk.specs.Views.{Lasts};
 ghost use Rattle.spool_journal.specs.Image.{all_pages};
 ghost use Rattle.upload_rules.specs.Store.{no_uploads};
 ghost use Rattle.spool_pages.specs.View.{index_place, state_place};
-ghost use Rattle.spool_image.specs.Shows.{ImageShows};
+ghost use Rattle.spool_kept.specs.Shows.{ImageShows};
 ghost use Rattle.spool_image.specs.Format.{HasMagic, FitsSpool, IsRefusal};
 ghost use Rattle.spool_image.specs.Fresh.{fresh_byte, IsFreshTo, IsFresh};
 

@@ -1,22 +1,14 @@
-//! The uploads on a spool: its typed pages, how a spool without uploads is made, and how one is opened.
+//! The uploads on a spool: how a spool without uploads is made, and how one is opened.
 #![tactic(auto)]
 
-mod answers;
 mod checks;
-mod committing;
-mod creating;
-mod drafting;
 mod error;
-mod extending;
 mod formatting;
-mod kept;
 mod layout;
-mod lists;
+mod loading;
 mod opening;
-mod order;
 mod owners;
 mod reading;
-mod records;
 mod slots;
 mod spool;
 #[cfg(test)]
@@ -24,7 +16,8 @@ mod tests;
 #[cfg(test)]
 mod uploads_tests;
 
-pub use error::{FormatError, OpenFault};
+pub use error::FormatError;
 pub use formatting::format;
 pub use layout::pages_of;
 pub use spool::{Spool, SpoolAppend};
+pub use spool_kept::OpenFault;

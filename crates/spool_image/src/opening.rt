@@ -4,15 +4,15 @@ ghost use Rattle.spool_disk.specs.Disk.{IsImage, Counts, Keeps};
 ghost use Rattle.spool_disk.specs.Views.{Lasts};
 ghost use Rattle.spool_journal.specs.Image.{journal_pages, all_pages, overlaid};
 ghost use Rattle.spool_journal.specs.Phases.{Settled, ReadsAs};
-ghost use Rattle.spool_image.specs.Kept.{KeepsAlone};
-ghost use Rattle.spool_image.specs.Reads.{LoadsAs};
-ghost use Rattle.spool_image.specs.Shows.{IsSound};
+ghost use Rattle.spool_kept.specs.Kept.{KeepsAlone};
+ghost use Rattle.spool_kept.specs.Loads.{LoadsAs};
+ghost use Rattle.spool_kept.specs.Shows.{IsSound};
 ghost use Rattle.spool_pages.specs.View.{View, IsViewOf, first_page};
 
-use crate::OpenFault;
-use crate::kept::{Kept, load};
+use crate::loading::load;
 use spool_disk::{Disk, DiskFault};
 use spool_journal::{Layout, recover};
+use spool_kept::{Kept, OpenFault};
 use spool_pages::blocks_said;
 use std::alloc::Global;
 

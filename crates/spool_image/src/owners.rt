@@ -4,14 +4,15 @@ ghost use Rattle.spool_disk.specs.Disk.{Counts};
 ghost use Rattle.spool_journal.specs.Image.{journal_pages, all_pages, byte_of};
 ghost use Rattle.spool_journal.specs.Phases.{Still};
 ghost use Rattle.spool_pages.specs.Fits.{FitsRow};
-ghost use Rattle.spool_image.specs.Reads.{OnlyReads, IsSameTo, LoadsAs};
+ghost use Rattle.spool_image.specs.Reads.{OnlyReads, IsSameTo};
+ghost use Rattle.spool_kept.specs.Loads.{LoadsAs};
 ghost use Rattle.spool_pages.specs.View.{Stands, row_bytes, row_place};
 
-use crate::OpenFault;
 use crate::reading::read_at;
 use spool_blocks::Row;
 use spool_disk::{Disk, DiskFault};
 use spool_journal::{Layout, PAGE};
+use spool_kept::OpenFault;
 use spool_pages::{ROWS, row_at};
 use std::alloc::Global;
 

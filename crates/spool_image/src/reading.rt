@@ -1,18 +1,19 @@
 // A spool whose bytes are all synced is read.
-ghost use Rattle.std.specs.Prelude.{◌≡◌, ◌≤◌, ◌<◌, ◌*◌, ◌+◌, ◌^◌, ℕ, List, length, get_or, IsErr, IsOk, OnOk, IfOk, Ok, Err};
+ghost use Rattle.std.specs.Prelude.{◌≡◌, ◌≤◌, ◌<◌, ◌*◌, ◌+◌, ◌^◌, ℕ, length, IsErr, OnOk, IfOk, Ok, Err};
 ghost use Rattle.enc_model.specs.Indexes.{IndexSet as Indexes};
 ghost use Rattle.enc_index.specs.Area.{area_byte};
 ghost use Rattle.enc_index.specs.Sets.{IsIndexSet};
 ghost use Rattle.spool_disk.specs.Disk.{Counts};
 ghost use Rattle.spool_journal.specs.Image.{all_pages};
 ghost use Rattle.spool_journal.specs.Phases.{Still};
-ghost use Rattle.spool_image.specs.Reads.{OnlyReads, IsReadAt, LoadsAs};
+ghost use Rattle.spool_image.specs.Reads.{OnlyReads, IsReadAt};
+ghost use Rattle.spool_kept.specs.Loads.{LoadsAs};
 ghost use Rattle.spool_pages.specs.View.{Stands, state_page, state_place, index_place};
 
-use crate::OpenFault;
 use enc_index::{AreaError, IndexSet};
 use spool_disk::{Disk, DiskFault};
 use spool_journal::{Layout, PAGE};
+use spool_kept::OpenFault;
 use spool_pages::version_and_next;
 use std::alloc::Global;
 

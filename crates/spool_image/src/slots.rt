@@ -1,19 +1,19 @@
 // The slots are read.
-ghost use Rattle.std.specs.Prelude.{◌≡◌, ◌≤◌, ◌<◌, ◌*◌, ◌+◌, ◌-◌, ℕ, List, Option, None, length, get_or, IsErr, IfOk, OnOk, Ok, Err};
+ghost use Rattle.std.specs.Prelude.{◌≡◌, ◌≤◌, ◌<◌, ◌*◌, ◌+◌, ◌-◌, ℕ, List, Option, None, length, get_or, IfOk, OnOk, Ok, Err};
 ghost use Rattle.spool_disk.specs.Disk.{Counts};
 ghost use Rattle.spool_journal.specs.Image.{all_pages};
 ghost use Rattle.spool_journal.specs.Phases.{Still};
 ghost use Rattle.spool_pages.specs.Bytes.{IsPadded};
-ghost use Rattle.spool_image.specs.Records.{FitsKept};
-ghost use Rattle.spool_image.specs.Reads.{OnlyReads, IsFrontOf, LoadsAs};
+ghost use Rattle.spool_kept.specs.Records.{FitsKept};
+ghost use Rattle.spool_image.specs.Reads.{OnlyReads, IsFrontOf};
+ghost use Rattle.spool_kept.specs.Loads.{LoadsAs};
 ghost use Rattle.spool_pages.specs.View.{SlotRecord as Said, Stands, slot_bytes, slot_place};
 
-use crate::OpenFault;
 use crate::reading::read_at;
-use crate::records::KeptRecord;
 use spool_blocks::SLOTS;
 use spool_disk::Disk;
 use spool_journal::Layout;
+use spool_kept::{KeptRecord, OpenFault};
 use spool_pages::{RECORD, SlotRecord};
 use std::alloc::Global;
 

@@ -6,19 +6,15 @@ ghost use Rattle.spool_journal.specs.Image.{journal_pages, all_pages};
 ghost use Rattle.spool_journal.specs.Phases.{Idle};
 ghost use Rattle.upload_rules.specs.Store.{Store};
 ghost use Rattle.upload_rules.specs.World.{at_rest};
-ghost use Rattle.spool_image.specs.Drafting.{DraftsFit};
-ghost use Rattle.spool_image.specs.Shows.{IsSound, Shows, ImageShows};
+ghost use Rattle.spool_kept.specs.Drafting.{DraftsFit};
+ghost use Rattle.spool_kept.specs.Shows.{IsSound, Shows, ImageShows};
 ghost use Rattle.spool_pages.specs.View.{View, IsViewOf};
 
-use crate::OpenFault;
-use crate::committing::commit;
-use crate::creating::create;
-use crate::drafting::{append, begin, drop_open};
-use crate::kept::Kept;
 use crate::opening::prepare;
 use enc_index::IndexSet;
 use spool_disk::Disk;
 use spool_drafts::SpoolDraft;
+use spool_kept::{Kept, OpenFault, append, begin, commit, create, drop_open};
 use std::alloc::Global;
 use upload_rules::{New, Record, UploadError, Uploads};
 

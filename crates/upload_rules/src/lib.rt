@@ -18,5 +18,5 @@ pub use errors::{UploadError, UploadRefusal};
 pub use laws::{same_offset, text_grows};
 pub use new_text::NewText;
 pub use records::{New, Record};
-pub use table::{Table, TableDraft};
+pub use table::{LENGTH_LIMIT, NUMBERS_END, Table, TableDraft};
 pub use uploads::Uploads;

@@ -8,14 +8,14 @@ use crate::{New, Record, UploadError, UploadRefusal, Uploads};
 use enc_index::IndexSet;
 use std::alloc::Global;
 
-/// The greatest declared length.
-const LENGTH_LIMIT: u64 = 1_073_741_824;
+/// The greatest declared length, in bytes.
+pub const LENGTH_LIMIT: u64 = 1_073_741_824;
 
 /// How many uploads there may be.
 const SLOT_COUNT: usize = 512;
 
-/// Behind the last number.
-const NUMBERS_END: u64 = 1_000_000_000_000_000_000;
+/// Behind the last number: the greatest next number.
+pub const NUMBERS_END: u64 = 1_000_000_000_000_000_000;
 
 /// Uploads in memory: without a device, and without a limit of room.
 #[derive(Drop)]

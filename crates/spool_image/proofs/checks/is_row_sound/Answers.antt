@@ -1,7 +1,7 @@
 use Rattle.std.proofs.Common.{◌≡◌, ◌∙◌, Some, None, get_or, sym, ap, rules, arith}
 use Rattle.upload_rules.specs.Room.{blocks_of}
 use Rattle.spool_pages.specs.View.{SlotRecord}
-use Rattle.spool_image.proofs.Sound.{row_below, row_used, is_less}
+use Rattle.spool_kept.proofs.Sound.{row_below, row_used, is_less}
 use Rattle.spool_image.proofs.checks.is_row_sound.Goals as goal
 
 pub returns-in-Some-record_at-clause-passes : goal.returns-in-Some-record_at-clause-passes

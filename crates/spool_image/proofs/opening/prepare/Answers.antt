@@ -2,9 +2,9 @@ use Rattle.std.proofs.Common.{◌≡◌, inl, inr, ℕ, sym, subst, rules, ⊎_e
 use Rattle.spool_disk.proofs.Firm.{lasts_on, lasts_more}
 use Rattle.spool_journal.specs.Image.{journal_pages, overlaid}
 use Rattle.spool_journal.specs.Phases.{ReadsAs}
-use Rattle.spool_image.specs.Kept.{KeepsAlone}
+use Rattle.spool_kept.specs.Kept.{KeepsAlone}
 use Rattle.spool_pages.specs.View.{IsViewOf}
-use Rattle.spool_image.specs.declared.kept.Kept.{Kept}
+use Rattle.spool_kept.specs.declared.kept.Kept.{Kept}
 use Rattle.spool_image.proofs.Looks.{loads_err}
 use Rattle.spool_image.proofs.Opens.{same_function, first_plain, keeps_image}
 use Rattle.spool_image.proofs.opening.prepare.Goals as goal

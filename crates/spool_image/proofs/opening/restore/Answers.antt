@@ -4,10 +4,10 @@ use Rattle.spool_journal.specs.Image.{journal_pages, overlaid, InForm, count, nu
 use Rattle.spool_journal.specs.Phases.{Settled}
 use Rattle.spool_journal.specs.declared.error.RecoverError.{RecoverError}
 use Rattle.spool_journal.specs.declared.error.RecoverError.TheVariants as recover
-use Rattle.spool_image.specs.Faults.{fault_of}
-use Rattle.spool_image.specs.Kept.{KeepsAlone}
-use Rattle.spool_image.specs.Reads.{LoadsAs}
-use Rattle.spool_image.specs.declared.kept.Kept.{Kept}
+use Rattle.spool_kept.specs.Faults.{fault_of}
+use Rattle.spool_kept.specs.Kept.{KeepsAlone}
+use Rattle.spool_kept.specs.Loads.{LoadsAs}
+use Rattle.spool_kept.specs.declared.kept.Kept.{Kept}
 use Rattle.spool_image.proofs.Opens.{settled_still, settled_says, settled_reads, settled_on, if_ok}
 use Rattle.spool_image.proofs.opening.restore.Goals as goal
 

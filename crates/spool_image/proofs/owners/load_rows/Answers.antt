@@ -1,5 +1,6 @@
 use Rattle.std.proofs.Common.{◌≡◌, ◌∙◌, length, rules, arith}
-use Rattle.spool_image.proofs.Looks.{same_all, rows_cover, take_new}
+use Rattle.spool_image.proofs.Looks.{same_all, take_new}
+use Rattle.spool_kept.proofs.SameView.{rows_cover}
 use Rattle.spool_image.proofs.owners.load_rows.Goals as goal
 
 pub returns-clause-said : goal.returns-clause-said

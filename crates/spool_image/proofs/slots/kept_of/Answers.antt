@@ -1,5 +1,5 @@
 use Rattle.std.proofs.Common.{rules, ◌≡◌, None, Some, sym, subst}
-use Rattle.spool_image.specs.Records.{FitsKept}
+use Rattle.spool_kept.specs.Records.{FitsKept}
 use Rattle.spool_pages.specs.View.{SlotRecord}
 use Rattle.spool_image.proofs.slots.kept_of.Goals as goal
 

@@ -2,7 +2,7 @@ use Rattle.std.proofs.Common.{◌≡◌, ◌+◌, ◌*◌, rules, arith}
 use Rattle.spool_pages.specs.View.{slot_place, slot_bytes}
 use Rattle.spool_pages.proofs.Says.{all_is, some_journal}
 use Rattle.spool_image.proofs.Looks.{read_padded}
-use Rattle.spool_image.proofs.Sound.{fits_slot}
+use Rattle.spool_kept.proofs.Sound.{fits_slot}
 use Rattle.spool_pages.proofs.RecordBytes.{slot_few}
 use Rattle.spool_image.proofs.slots.load_slot.Goals as goal
 

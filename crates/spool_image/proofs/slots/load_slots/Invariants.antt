@@ -1,6 +1,6 @@
 use Rattle.std.proofs.Common.{◌≡◌, ◌<◌, ℕ, List, Option, None, length, get_or}
 use Rattle.spool_journal.specs.Phases.{Still}
-use Rattle.spool_image.specs.Records.{FitsKept}
+use Rattle.spool_kept.specs.Records.{FitsKept}
 use Rattle.spool_image.specs.Reads.{OnlyReads, IsFrontOf}
 use Rattle.spool_pages.specs.View.{SlotRecord, Stands, slot_bytes, slot_place}
 use Rattle.spool_image.proofs.slots.load_slots.Given as goal

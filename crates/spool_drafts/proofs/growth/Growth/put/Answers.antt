@@ -1,5 +1,4 @@
 use Rattle.std.proofs.Common.{[], refl, sym, subst, append-nil}
-use Rattle.spool_blocks.specs.Blocks.{Held}
 use Rattle.spool_drafts.specs.Effect.{Regrasps}
 use Rattle.spool_drafts.specs.Growth.{list_on}
 use Rattle.spool_drafts.proofs.Effects.{only_none, only_read, only_on, grasp_none}
@@ -13,8 +12,7 @@ returns-in_err-open-clause-effect g c =
     let list = list_on c.args.self.now.on in
     record {
       own = list_on c.open.new.self.on;
-      grasp = subst (λ (h : Held). Regrasps c.args.blocks.now h list (list_on c.open.new.self.on) (list_on c.open.new.self.on)) (sym c.open.ensures.blocks)
-          (grasp_none _ list _ c.open.ensures.list c.requires.reserved);
+      grasp = grasp_none _ list _ c.open.ensures.list c.requires.reserved;
       writes = λ honest. only_read _ (c.open.ensures.keeps honest) (c.open.ensures.lasts honest);
     }
 
@@ -24,6 +22,6 @@ returns-clause-effect g c =
     record {
       own = effect.own;
       grasp = subst (λ list. Regrasps c.args.blocks.now c.put_more.new.blocks list (list_on c.put_more.new.self.on) effect.own) c.open.ensures.list
-          (subst (λ (h : Held). Regrasps h c.put_more.new.blocks (list_on c.open.new.self.on) (list_on c.put_more.new.self.on) effect.own) c.open.ensures.blocks effect.grasp);
+          effect.grasp;
       writes = λ honest. only_on [] (sym (append-nil effect.own)) (only_read _ (c.open.ensures.keeps honest) (c.open.ensures.lasts honest)) (effect.writes (c.open.ensures.honest.0 honest));
     }

@@ -1,5 +1,5 @@
 use Rattle.upload_rules.specs.Calls.{create_refusal, create_outcome}
-use Rattle.spool_image.specs.Stored.{Stored}
+use Rattle.spool_kept.specs.Stored.{Stored}
 use Rattle.spool_image.proofs.LeftImages.{limits_on}
 use Rattle.spool_image.proofs.StandsOn.{created_answers, stands_created, stands_same}
 use Rattle.spool_image.proofs.spool.SpoolUploads.create.Goals as goal

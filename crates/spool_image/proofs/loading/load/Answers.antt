@@ -1,0 +1,52 @@
+use Rattle.std.proofs.Common.{◌≡◌, ◌∙◌, rules, sym}
+use Rattle.std.proofs.lemmas.Bool.{false≢true}
+use Rattle.spool_kept.specs.Kept.{KeepsAlone}
+use Rattle.spool_kept.specs.Holding.{Holding}
+use Rattle.spool_image.proofs.Looks.{reads_on, loads_err}
+use Rattle.spool_kept.proofs.Sound.{said_slot, slots_fit}
+use Rattle.spool_image.proofs.loading.load.Goals as goal
+
+pub returns-in_err-slots-clause-reads : goal.returns-in_err-slots-clause-reads
+returns-in_err-slots-clause-reads g c = reads_on c.load_fields.ensures.reads c.load_slots.ensures.reads
+
+pub returns-in_err-slots-clause-said : goal.returns-in_err-slots-clause-said
+returns-in_err-slots-clause-said g c honest bytes still v sound blocks says =
+    let first = c.load_fields.ensures.reads in
+    let loaded = c.in_err-slots.ensures.said (first.honest honest) bytes (first.still honest bytes still) v.slots sound.slot_count (slots_fit v sound) (said_slot bytes v c.args.layout blocks says) in
+    let handed = loads_err _ (λ (kept : Holding). KeepsAlone kept v) _ loaded in
+    search rules
+
+pub returns-then-not-are_sound-clause-reads : goal.returns-then-not-are_sound-clause-reads
+returns-then-not-are_sound-clause-reads g c = reads_on c.load_fields.ensures.reads c.load_slots.ensures.reads
+
+pub returns-then-not-are_sound-clause-said : goal.returns-then-not-are_sound-clause-said
+returns-then-not-are_sound-clause-said g c honest bytes still v sound blocks says =
+    let first = c.load_fields.ensures.reads in
+    let fields = c.in_ok-next.ensures.said honest bytes still v sound blocks says in
+    let slots : c.in_ok-slots.slots.items ≡ v.slots = c.in_ok-slots.ensures.said (first.honest honest) bytes (first.still honest bytes still) v.slots sound.slot_count (slots_fit v sound) (said_slot bytes v c.args.layout blocks says) in
+    let passes = c.are_sound.ensures v sound (search rules) fields.0 in
+    false≢true (sym c.if-not-are_sound.true ∙ passes)
+
+pub returns-in_err-blocks-clause-reads : goal.returns-in_err-blocks-clause-reads
+returns-in_err-blocks-clause-reads g c = reads_on (reads_on c.load_fields.ensures.reads c.load_slots.ensures.reads) c.load_blocks.ensures.reads
+
+pub returns-in_err-blocks-clause-said : goal.returns-in_err-blocks-clause-said
+returns-in_err-blocks-clause-said g c honest bytes still v sound blocks says =
+    let first = c.load_fields.ensures.reads in
+    let second = reads_on first c.load_slots.ensures.reads in
+    let slots : c.in_ok-slots.slots.items ≡ v.slots = c.in_ok-slots.ensures.said (first.honest honest) bytes (first.still honest bytes still) v.slots sound.slot_count (slots_fit v sound) (said_slot bytes v c.args.layout blocks says) in
+    let loaded = c.in_err-blocks.ensures.said (second.honest honest) bytes (second.still honest bytes still) v sound blocks says (search rules) in
+    let handed = loads_err _ (λ (kept : Holding). KeepsAlone kept v) _ loaded in
+    search rules
+
+pub returns-clause-reads : goal.returns-clause-reads
+returns-clause-reads g c = reads_on (reads_on c.load_fields.ensures.reads c.load_slots.ensures.reads) c.load_blocks.ensures.reads
+
+pub returns-clause-said : goal.returns-clause-said
+returns-clause-said g c honest bytes still v sound blocks says =
+    let first = c.load_fields.ensures.reads in
+    let second = reads_on first c.load_slots.ensures.reads in
+    let fields = c.in_ok-next.ensures.said honest bytes still v sound blocks says in
+    let slots : c.in_ok-slots.slots.items ≡ v.slots = c.in_ok-slots.ensures.said (first.honest honest) bytes (first.still honest bytes still) v.slots sound.slot_count (slots_fit v sound) (said_slot bytes v c.args.layout blocks says) in
+    let held = c.in_ok-blocks.ensures.said (second.honest honest) bytes (second.still honest bytes still) v sound blocks says (search rules) in
+    c.of.ensures.said v sound blocks fields.0 fields.1 slots held.0 held.1

@@ -1,0 +1,131 @@
+-- What is kept tells of the uploads that a view shows.
+use Rattle.std.proofs.Common.{◌≡◌, inl, inr, ℕ, ◌+◌, ◌*◌, ◌<◌, ◌≤◌, List, [], Option, None, Some, MatchOption, length, get_or, refl, sym, ◌∙◌, ap, subst, arith}
+use Rattle.std.proofs.lemmas.Bool.{cases_lt, cases_eq}
+use Rattle.enc_model.specs.Indexes.{IndexSet}
+use Rattle.spool_texts.specs.Reading.{IsRead as IsPieceRead}
+use Rattle.upload_rules.specs.Reading.{IsRead, no_such, text_at}
+use Rattle.upload_rules.specs.Records.{Keeps, TellsOf, above, with_number}
+use Rattle.upload_rules.specs.Store.{Upload, Store, find, upload_of, text_of}
+use Rattle.upload_rules.specs.declared.records.Record.{Record}
+use Rattle.spool_journal.specs.Image.{journal_pages}
+use Rattle.spool_texts.specs.TextOn.{text_on}
+use Rattle.spool_texts.proofs.Shown.{shown}
+use Rattle.spool_pages.specs.View.{SlotRecord, View, Says, slot_at, text_page}
+use Rattle.spool_kept.specs.Holding.{Holding, FitsTogether, IsUsedBy, Lists, IsPlaceFor, number_at}
+use Rattle.spool_kept.specs.Kept.{KeepsView}
+use Rattle.spool_kept.specs.Records.{said_of, IsUnpacked, IsTextOf, KeepsOf}
+use Rattle.spool_kept.specs.Shows.{Shows}
+use Rattle.spool_kept.proofs.Numbered.{above_is, above_none}
+use Rattle.spool_kept.proofs.Sound.{in_use}
+use Rattle.spool_kept.proofs.Told.{keeps}
+
+pub kept_none : (x : IndexSet) (n : ℕ) (o : Option Upload) → o ≡ None → KeepsOf x n o None
+kept_none x n o e = subst (λ (p : Option Upload). KeepsOf x n p None) (sym e) tt
+
+pub kept_some : (x : IndexSet) (n : ℕ) (o : Option Upload) (u : Upload) (r : Record) → o ≡ Some u → Keeps x n r u → KeepsOf x n o (Some r)
+kept_some x n o u r e k = subst (λ (p : Option Upload). KeepsOf x n p (Some r)) (sym e) k
+
+pub kept_tells : (x : IndexSet) (n : ℕ) (o : Option Upload) (r : Option Record) → KeepsOf x n o r → TellsOf x (with_number n o) r
+kept_tells x n None None k = tt
+kept_tells x n (Some u) (Some r) k = k.tells
+kept_tells x n None (Some r) k = absurd k
+kept_tells x n (Some u) None k = absurd k
+
+pub match_is_none : {A X : Type 0} (P : A → Type 0) (o : Option A) → o ≡ None → X → MatchOption o X P
+match_is_none P None e x = x
+match_is_none P (Some a) e x = absurd (some_none e)
+  where
+    some_none : {A : Type 0} {a : A} → Some a ≡ None → ⊥
+    some_none e = cc
+
+pub text_there : (m : Store) (o : Option Upload) (text : List ℕ) → IsTextOf m o text → (no_such o ≡ None) × (text_at m o ≡ text)
+text_there m None text is = absurd is
+text_there m (Some u) text is = (refl, sym is)
+
+pub same_read : (text : List ℕ) (at n : ℕ) (old new : List ℕ) → IsPieceRead text at n old new → IsRead text at n old new
+same_read text at n old new is = record { count = is.count; bytes = is.bytes }
+
+pub same_used : {q r : SlotRecord} {o : Option SlotRecord} → o ≡ Some q → o ≡ Some r → q ≡ r
+same_used e f = cc
+
+-- the slot of a number, by the order
+pub used_of : (h : Holding) → FitsTogether h → (number : ℕ) (o : Option ℕ) → MatchOption o ((s : ℕ) → Lists h.order number s → ⊥) (Lists h.order number)
+    → MatchOption o ((s : ℕ) → IsUsedBy h.slots s number → ⊥) (λ s. IsUsedBy h.slots s number)
+used_of h fits number None free = λ s used.
+    let lt : s < 512 = let inside = in_use h.slots s used.used used.there in omega (arith, inside, fits.slot_count) in
+    free s (subst (λ (n : ℕ). Lists h.order n s) used.is (fits.ordered.all s used.used lt used.there))
+used_of h fits number (Some s) there = fits.ordered.names number s there
+
+module _ (h : Holding) (v : View) (m : Store) (kept : KeepsView h v) (shows : Shows v m) where
+  -- a slot that is told of
+  pub slot_there : (s : ℕ) (q : SlotRecord) → get_or h.slots s None ≡ Some q → slot_at v s ≡ Some q
+  slot_there s q e = ap (λ (xs : List (Option SlotRecord)). get_or xs s None) (sym kept.slots) ∙ e
+
+  pub no_upload : (n : ℕ) → ((s : ℕ) → IsUsedBy h.slots s n → ⊥) → upload_of m n ≡ None
+  no_upload n free = go (upload_of m n) refl
+    where
+      go : (o : Option Upload) → upload_of m n ≡ o → upload_of m n ≡ None
+      go None e = e
+      go (Some u) e =
+          let has = shows.all n u e in
+          absurd (free has.slot (record {
+            used = has.used;
+            there = ap (λ (xs : List (Option SlotRecord)). get_or xs has.slot None) kept.slots ∙ has.there;
+            is = has.number;
+          }))
+
+  pub found : (s : ℕ) (q : SlotRecord) (n : ℕ) → get_or h.slots s None ≡ Some q → q.number ≡ n → (r : Record) → said_of r ≡ q → IsUnpacked r → (u : Upload) × (upload_of m n ≡ Some u) × Keeps m.indexes n r u
+  found s q n e number r said unpacked =
+      let told = shows.told s q (slot_there s q e) in
+      (told.upload, subst (λ (k : ℕ). find k m.uploads ≡ Some told.upload) number told.there, keeps m.indexes q (v.texts s) told.upload told.tells r said unpacked n number)
+
+  -- the text on a slot's blocks is its upload's
+  pub text_told : (bytes : ℕ → ℕ) → Says bytes v → (s : ℕ) (q : SlotRecord) (n : ℕ) → get_or h.slots s None ≡ Some q → q.number ≡ n
+      → IsTextOf m (upload_of m n) (text_on bytes (25 + 2 * journal_pages h.layout) (get_or h.lists s []) q.text_len)
+  text_told bytes says s q n e number =
+      let there = slot_there s q e in
+      let told = shows.told s q there in
+      let list = get_or h.lists s [] in
+      let upload : upload_of m n ≡ Some told.upload = subst (λ (k : ℕ). find k m.uploads ≡ Some told.upload) number told.there in
+      let same : text_on bytes (text_page v.blocks) list q.text_len ≡ text_of m.indexes told.upload = shown bytes (text_page v.blocks) v.rows s q.text_len list (kept.listed s q there) (kept.sizes s q there) ∙ sym (says.texts s q there) ∙ told.tells.text in
+      subst (λ (o : Option Upload). IsTextOf m o (text_on bytes (25 + 2 * journal_pages h.layout) list q.text_len)) (sym upload)
+      (subst (λ (b : ℕ). text_on bytes (25 + 2 * journal_pages b) list q.text_len ≡ text_of m.indexes told.upload) (sym kept.blocks) same)
+
+  -- each upload stands in the order
+  pub listed : (j : ℕ) (w : Upload) → find j m.uploads ≡ Some w → (i : ℕ) × (i < length h.order) × (number_at h.order i ≡ j)
+  listed j w e =
+      let has = shows.all j w e in
+      let lt : has.slot < 512 = let inside = in_use v.slots has.slot has.used has.there in omega (arith, inside, shows.sound.slot_count) in
+      let l = kept.ordered.all has.slot has.used lt has.there in
+      (l.place, l.below, ap (λ (p : ℕ × ℕ). p.0) l.here ∙ has.number)
+
+  module _ (n place : ℕ) (is : IsPlaceFor h.order n place) where
+    pub none_after : length h.order ≤ place → above n m.uploads ≡ None
+    none_after le = above_none m.uploads n
+        (λ j w over e.
+        let at = listed j w e in
+        let lt = at.1 in
+        let up = is.before at.0 (omega (arith, lt, le)) in
+        omega (arith, up, at.2, over))
+        shows.rising
+
+    pub some_after : (k s : ℕ) → place < length h.order → get_or h.order place (0, 0) ≡ (k, s) → (u : Upload) → upload_of m k ≡ Some u → above n m.uploads ≡ Some (k, u)
+    some_after k s lt e u there =
+        let here : number_at h.order place ≡ k = ap (λ (p : ℕ × ℕ). p.0) e in
+        let more = is.behind place (omega arith) lt in
+        above_is m.uploads shows.rising n k u (omega (arith, more, here)) there (λ j w over f.
+        let at = listed j w f in
+        let inside = at.1 in
+        elim (cases_lt at.0 place) [
+          | inl low ↦ let up = is.before at.0 low in absurd (omega (arith, up, at.2, over))
+          | inr high ↦ elim (cases_eq at.0 place) [
+            | inl same ↦ let e' : number_at h.order at.0 ≡ number_at h.order place = ap (number_at h.order) same in omega (arith, e', here, at.2)
+            | inr other ↦ let less = kept.ordered.rises place at.0 (omega (arith, high, other)) inside in omega (arith, less, here, at.2)
+          ]
+        ])
+
+    -- the entry names a slot in use
+    pub named : (k s : ℕ) → place < length h.order → get_or h.order place (0, 0) ≡ (k, s) → IsUsedBy h.slots s k
+    named k s lt e =
+        let used = kept.ordered.names k s (record { place = place; below = lt; here = e }) in
+        record { used = used.used; there = ap (λ (xs : List (Option SlotRecord)). get_or xs s None) kept.slots ∙ used.there; is = used.is }

@@ -1,0 +1,82 @@
+-- The record of a new upload.
+use Rattle.std.proofs.Common.{◌≡◌, ℕ, zero, suc, ◌+◌, ◌≤◌, List, [], ◌∷◌, All, length, refl, sym, ◌∙◌, ap, subst, arith}
+use Rattle.std.proofs.lemmas.List.{length-append}
+use Rattle.enc_model.specs.Indexes.{IndexSet}
+use Rattle.enc_model.specs.Transcode.{Transcoder}
+use Rattle.enc_stream.specs.StateBytes.{state_bytes, padded, phase_bytes, shift_number}
+use Rattle.upload_rules.specs.Records.{Keeps, IsWellFormed}
+use Rattle.upload_rules.specs.States.{state_with, transcoder_with}
+use Rattle.upload_rules.specs.Store.{New, new_upload, is_complete}
+use Rattle.upload_rules.specs.declared.records.Record.{Record}
+use Rattle.upload_rules.proofs.NewUploads.{new_text}
+use Rattle.spool_kept.specs.Creating.{IsNewRecord}
+use Rattle.spool_kept.specs.Records.{said_of, FitsMemory}
+use Rattle.spool_kept.specs.Shows.{IsRecordOf, IsSoundRecord}
+use Rattle.spool_kept.proofs.Told.{told_state, with_from, with_to, with_mode}
+
+length-padded : (n : ℕ) (bytes : List ℕ) → length (padded n bytes) ≡ n
+length-padded zero bytes = refl
+length-padded (suc n) [] = ap (λ (k : ℕ). suc k) (length-padded n [])
+length-padded (suc n) (b ∷ bytes) = ap (λ (k : ℕ). suc k) (length-padded n bytes)
+
+state_size : (s : Transcoder) → length (state_bytes s) ≡ 32
+state_size s =
+    let front = phase_bytes s.phase in
+    let shift = shift_number s.shift ∷ [] in
+    omega (arith, length-append (padded 12 front) (padded 16 shift), length-padded 12 front, length-padded 16 shift)
+
+module _ (x : IndexSet) (n : ℕ) (r : Record) (new : New) (keeps : Keeps x n r (new_upload new)) where
+  state_is : r.state ≡ state_bytes (transcoder_with x (new_upload new) [] (is_complete (new_upload new)))
+  unfolding state_with
+  state_is = keeps.tells.state
+
+  pub new_fits : IsWellFormed new → FitsMemory r
+  new_fits well =
+      let u = new_upload new in
+      record {
+        unpacked = record {
+          transcoder = transcoder_with x u [] (is_complete u);
+          sound = keeps.sound;
+          is = state_is;
+          from = keeps.tells.from ∙ sym (with_from x u (is_complete u));
+          to = keeps.tells.to ∙ sym (with_to x u (is_complete u));
+          mode = keeps.tells.mode ∙ sym (with_mode x u (is_complete u));
+        };
+        short = subst (λ (bytes : List ℕ). length bytes ≤ 1536) (sym keeps.tells.metadata) well.short;
+      }
+
+  tells_new : IsRecordOf x (said_of r) [] (new_upload new)
+  tells_new = record {
+    declared = keeps.tells.declared;
+    accepted = keeps.tells.accepted;
+    metadata = keeps.tells.metadata;
+    text_len = keeps.tells.text_len;
+    text = sym (new_text x new);
+    encodable = keeps.encodable;
+    sound = keeps.sound;
+    state = keeps.tells.state;
+  }
+
+  no_text : r.text_len ≡ 0
+  no_text = keeps.tells.text_len ∙ ap length (new_text x new)
+
+  sound_new : IsWellFormed new → 1 ≤ n → new.declared ≤ 1073741824 → IsSoundRecord (n + 1) (said_of r)
+  sound_new well some small = record {
+    some = omega (arith, keeps.tells.number_is, some);
+    below = omega (arith, keeps.tells.number_is);
+    accepted = omega (arith, keeps.tells.accepted);
+    declared = omega (arith, keeps.tells.declared, small);
+    text_fits = omega (arith, no_text);
+    state_size = ap length state_is ∙ state_size (transcoder_with x (new_upload new) [] (is_complete (new_upload new)));
+    state = told_state x (said_of r) [] (new_upload new) tells_new;
+    metadata_size = subst (λ (bytes : List ℕ). length bytes ≤ 1536) (sym keeps.tells.metadata) well.short;
+    printable = subst (λ (bytes : List ℕ). All (λ b. (0x20 ≤ b) × (b ≤ 0x7E)) bytes) (sym keeps.tells.metadata) well.printable;
+  }
+
+pub new_record : (x : IndexSet) (n : ℕ) (r : Record) (new : New) → ((y : IndexSet) → Keeps y n r (new_upload new)) → IsWellFormed new → IsNewRecord n new (said_of r)
+new_record x n r new keeps well = record {
+  number_is = (keeps x).tells.number_is;
+  tells = λ y. tells_new y n r new (keeps y);
+  no_text = no_text x n r new (keeps x);
+  sound = sound_new x n r new (keeps x) well;
+}

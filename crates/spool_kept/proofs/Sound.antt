@@ -1,0 +1,108 @@
+-- What a sound view says of a slot and of a row.
+use Rattle.std.proofs.Common.{◌≡◌, inl, inr, ℕ, ◌+◌, ◌-◌, ◌*◌, ◌^◌, ◌<◌, ◌≤◌, refl, subst, List, Option, None, Some, length, get_or, ltb, true, sym, ◌∙◌, ap, arith}
+use Rattle.std.proofs.lemmas.Bool.Decides.{nat_tests}
+use Rattle.upload_rules.specs.Room.{blocks_of}
+use Rattle.spool_pages.specs.View.{View, SlotRecord, Says, Stands, slot_at, slot_bytes, row_bytes, state_page, index_place, state_place, slot_place, row_place}
+use Rattle.spool_pages.specs.Fits.{FitsSlotOf, FitsRow}
+use Rattle.enc_index.specs.Area.{area_byte}
+use Rattle.spool_journal.specs.Image.{journal_pages}
+use Rattle.std.proofs.Math.ListN.{get_or-eq_default}
+use Rattle.std.proofs.lemmas.Bool.{cases_lt}
+use Rattle.spool_kept.specs.Records.{FitsKept}
+use Rattle.spool_kept.specs.Holding.{AreDistinct}
+use Rattle.spool_blocks.specs.Chains.{OwnsOneEach}
+use Rattle.spool_kept.specs.Shows.{IsSound, IsSoundRecord, IsOwned}
+
+module _ (v : View) (sound : IsSound v) (slots : List (Option SlotRecord)) (same : slots ≡ v.slots) where
+  there : (s : ℕ) (o : Option SlotRecord) → get_or slots s None ≡ o → slot_at v s ≡ o
+  there s o e = ap (λ (xs : List (Option SlotRecord)). get_or xs s None) (sym same) ∙ e
+
+  pub slot_sound : (s : ℕ) (r : SlotRecord) → get_or slots s None ≡ Some r → IsSoundRecord v.next r
+  slot_sound s r e = sound.records s r (there s (Some r) e)
+
+  pub slots_distinct : AreDistinct slots
+  slots_distinct s t r q e f same_number = sound.distinct s t r q (there s (Some r) e) (there t (Some q) f) same_number
+
+  pub slot_owns : (s : ℕ) (r : SlotRecord) → get_or slots s None ≡ Some r → OwnsOneEach v.rows s (blocks_of r.text_len)
+  slot_owns s r e = sound.lists s r (there s (Some r) e)
+
+  pub row_below : (b s k : ℕ) (r : SlotRecord) → get_or v.rows b None ≡ Some (s, k) → get_or slots s None ≡ Some r → k < blocks_of r.text_len
+  row_below b s k r owns e = (sound.lists s r (there s (Some r) e)).only b k owns
+
+  pub row_used : (b s k : ℕ) → get_or v.rows b None ≡ Some (s, k) → get_or slots s None ≡ None → ⊥
+  row_used b s k owns free =
+      let owned : IsOwned v s k = sound.owners b s k owns in
+      let e : slot_at v s ≡ None = there s None free in
+      clash (sym owned.there ∙ e)
+    where
+      clash : {r : SlotRecord} → Some r ≡ None → ⊥
+      clash e = cc
+
+pub is_less : (a b : ℕ) → a < b → ltb a b ≡ true
+is_less a b h = grind (arith, nat_tests)
+
+-- WHERE IT STANDS, for n blocks
+
+module _ (bytes : ℕ → ℕ) (v : View) (n : ℕ) (blocks : v.blocks ≡ n) (says : Says bytes v) where
+  pub said_state : Stands bytes (state_place n) 4096 (state_page v.version v.next)
+  said_state = subst (λ (m : ℕ). Stands bytes (state_place m) 4096 (state_page v.version v.next)) blocks says.state
+
+  pub said_area : (i : ℕ) → i < 90112 → bytes (index_place n + i) ≡ area_byte v.indexes i
+  said_area i lt = subst (λ (m : ℕ). bytes (index_place m + i) ≡ area_byte v.indexes i) blocks (says.area i lt)
+
+  pub said_slot : (s : ℕ) → s < 512 → Stands bytes (slot_place n s) 2048 (slot_bytes (slot_at v s))
+  said_slot s lt = subst (λ (m : ℕ). Stands bytes (slot_place m s) 2048 (slot_bytes (slot_at v s))) blocks (says.slots s lt)
+
+  pub said_row : (b : ℕ) → b < 512 * (journal_pages n - 257) → Stands bytes (row_place n b) 8 (row_bytes (get_or v.rows b None))
+  said_row b lt =
+      let P : ℕ → Type 0 = λ m. b < 512 * (journal_pages m - 257) → Stands bytes (row_place m b) 8 (row_bytes (get_or v.rows b None)) in
+      subst P blocks (says.rows b) lt
+
+-- WHAT FITS
+
+slot_from : (o : Option SlotRecord) → ((r : SlotRecord) → o ≡ Some r → FitsKept (Some r)) → FitsKept o
+slot_from None fits = tt
+slot_from (Some r) fits = fits r refl
+
+row_from : (o : Option (ℕ × ℕ)) → ((p : ℕ × ℕ) → o ≡ Some p → FitsRow (Some p)) → FitsRow o
+row_from None fits = tt
+row_from (Some p) fits = fits p refl
+
+pub fits_slot : (o : Option SlotRecord) → FitsKept o → FitsSlotOf o
+fits_slot None fits = tt
+fits_slot (Some r) fits = fits.0
+
+record_fits : (next : ℕ) → next ≤ 10 ^ 18 → (r : SlotRecord) → IsSoundRecord next r → FitsKept (Some r)
+record_fits next most r is = (
+  (
+    record {
+      some = is.some;
+      number = omega (arith, is.below, most);
+      declared = omega (arith, is.declared);
+      accepted = omega (arith, is.accepted, is.declared);
+      text_len = is.text_fits;
+      state = is.state_size;
+      metadata = is.metadata_size;
+    },
+    is.printable,
+  ),
+  is.state,
+)
+
+pub slots_fit : (v : View) → IsSound v → (s : ℕ) → FitsKept (slot_at v s)
+slots_fit v sound s = slot_from (slot_at v s) (λ r e. record_fits v.next sound.next_most r (sound.records s r e))
+
+pub in_use : (slots : List (Option SlotRecord)) (s : ℕ) (r : SlotRecord) → get_or slots s None ≡ Some r → s < length slots
+in_use slots s r e = elim (cases_lt s (length slots)) [
+  | inl lt ↦ lt
+  | inr over ↦ absurd (clash (sym e ∙ get_or-eq_default slots None over))
+]
+  where
+    clash : {q : SlotRecord} → Some q ≡ None → ⊥
+    clash e = cc
+
+pub rows_fit : (v : View) → IsSound v → (b : ℕ) → FitsRow (get_or v.rows b None)
+rows_fit v sound b = row_from (get_or v.rows b None) (λ p e.
+    let owned : IsOwned v p.0 p.1 = sound.owners b p.0 p.1 e in
+    let lt : p.0 < length v.slots = in_use v.slots p.0 owned.used owned.there in
+    (omega (arith, lt, sound.slot_count), owned.fits))

@@ -1,0 +1,32 @@
+-- A new upload comes into what is kept.
+use Rattle.std.specs.Prelude.{◌≡◌, ℕ, ◌^◌, ◌+◌, ◌<◌, ◌≤◌, [], None, Some, get_or, slice_set}
+use Rattle.enc_model.specs.Indexes.{IndexSet}
+use Rattle.upload_rules.specs.Store.{New, new_upload}
+use Rattle.spool_pages.specs.View.{SlotRecord}
+use Rattle.spool_kept.specs.Holding.{Holding, FitsTogether, Lists, IsAdded}
+use Rattle.spool_kept.specs.Shows.{IsSoundRecord, IsRecordOf}
+
+-- a free slot, and a next number that is none of those in use and may be followed by another
+pub record HasRoomAt (h : Holding) (slot : ℕ) : Type 0 where
+  pub within : slot < 512
+  pub free : get_or h.slots slot None ≡ None
+  pub next : h.next < 10 ^ 18
+  pub unused : (t : ℕ) → Lists h.order h.next t → ⊥
+
+-- the record is in the slot, under the next number, and all fits together
+pub record IsTakenIn (old : Holding) (slot : ℕ) (r : SlotRecord) (new : Holding) : Type 0 where
+  pub layout : new.layout ≡ old.layout
+  pub next : new.next ≡ old.next + 1
+  pub indexes : new.indexes ≡ old.indexes
+  pub slots : new.slots ≡ slice_set old.slots slot (Some r)
+  pub order : IsAdded old.order old.next slot new.order
+  pub lists : new.lists ≡ old.lists
+  pub blocks : new.blocks ≡ old.blocks
+  pub fits : FitsTogether new
+
+-- the record of a new upload, whatever the index set
+pub record IsNewRecord (number : ℕ) (new : New) (r : SlotRecord) : Type 0 where
+  pub number_is : r.number ≡ number
+  pub tells : (x : IndexSet) → IsRecordOf x r [] (new_upload new)
+  pub no_text : r.text_len ≡ 0
+  pub sound : 1 ≤ number → new.declared ≤ 1073741824 → IsSoundRecord (number + 1) r

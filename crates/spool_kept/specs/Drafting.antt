@@ -1,0 +1,95 @@
+-- The open drafts on a disk by their numbers, and the patches that they stand for.
+use Rattle.std.specs.Prelude.{◌≡◌, ◌≢◌, ◌<◌, ◌+◌, ◌*◌, ℕ, List, [], Option, None, Some, true, false, Result, Ok, Err, length, get_or}
+use Rattle.enc_model.specs.Indexes.{IndexSet}
+use Rattle.spool_blocks.specs.Blocks.{Row, Held}
+use Rattle.spool_blocks.specs.Chains.{Owns}
+use Rattle.spool_disk.specs.declared.disk.Disk.{Ghosts}
+use Rattle.spool_journal.specs.Image.{journal_pages}
+use Rattle.spool_texts.specs.Drafts.{IsReserved}
+use Rattle.spool_texts.specs.TextOn.{text_on}
+use Rattle.spool_texts.specs.Written.{NoneOf}
+use Rattle.spool_room.specs.Holdings.{IsInSome}
+use Rattle.spool_drafts.specs.Drafts.{Holds, Carries, IsBegun, IsPlaced, list_of, tail_of}
+use Rattle.spool_drafts.specs.declared.draft.SpoolDraft.{SpoolDraft}
+use Rattle.upload_rules.specs.Apart.{IsApart}
+use Rattle.upload_rules.specs.Calls.{first_patch}
+use Rattle.upload_rules.specs.Drafts.{DraftOf, draft_at}
+use Rattle.upload_rules.specs.Grown.{IsGrown}
+use Rattle.upload_rules.specs.Records.{Keeps}
+use Rattle.upload_rules.specs.Store.{Upload, Store, find, upload_of, text_of}
+use Rattle.upload_rules.specs.World.{Patch, World}
+use Rattle.upload_rules.specs.declared.records.Record.{Record}
+use Rattle.upload_rules.specs.declared.errors.UploadRefusal.{UploadRefusal}
+use Rattle.upload_rules.specs.declared.errors.UploadRefusal.TheVariants.{NoSuch}
+use Rattle.spool_pages.specs.View.{SlotRecord}
+use Rattle.spool_kept.specs.Holding.{Holding, IsUsedBy}
+use Rattle.spool_kept.specs.Stored.{Stored}
+
+-- WHAT HOLDS ALWAYS
+
+abbrev pub list_in : Option SpoolDraft → List ℕ
+list_in None = []
+list_in (Some o) = list_of o
+
+-- the reserved blocks of each draft number, none where there is no draft
+abbrev pub lists_at : List (Option SpoolDraft) → ℕ → List ℕ
+lists_at drafts d = list_in (draft_at drafts d)
+
+-- Each draft's blocks are reserved, and no other draft's, whatever the disk said. There are so many blocks.
+pub record DraftsFit (n : ℕ) (h : Held) (drafts : List (Option SpoolDraft)) : Type 0 where
+  pub reserved : (d : ℕ) → IsReserved h (lists_at drafts d)
+  pub placed : (d : ℕ) (o : SpoolDraft) → draft_at drafts d ≡ Some o → IsPlaced n o
+  pub distinct : (d e : ℕ) → d ≢ e → NoneOf (lists_at drafts d) (lists_at drafts e)
+
+-- all that is kept is as it was but for what is reserved
+pub record OnlyReserves (old new : Holding) : Type 0 where
+  pub same : new ≡ record old { blocks = new.blocks }
+  pub rows : new.blocks.rows ≡ old.blocks.rows
+
+-- WHAT THE DRAFTS STAND FOR
+
+-- the listed blocks are owned by the slot that the upload of this number is in
+pub record IsOwnedBy (slots : List (Option SlotRecord)) (rows : List Row) (number : ℕ) (list : List ℕ) : Type 0 where
+  pub slot : ℕ
+  pub used : IsUsedBy slots slot number
+  pub owned : (i : ℕ) → i < length list → (k : ℕ) × Owns rows (get_or list i 0) slot k
+
+-- The draft is the patch's. Once another draft made the upload longer, only its need matters: it can't be committed.
+pub record DraftStands (x : IndexSet) (seen : ℕ → ℕ) (first : ℕ) (slots : List (Option SlotRecord)) (rows : List Row) (m : Store) (p : Patch) (o : SpoolDraft) : Type 0 where
+  pub holds : Holds x p o
+  pub below : p.number < m.next
+  pub carries : upload_of m p.number ≡ Some p.began → Carries x seen first p o
+  pub tail : upload_of m p.number ≡ Some p.began → IsOwnedBy slots rows p.number (tail_of o)
+
+-- each patch has its draft, and the drafts reserve all blocks that are reserved
+pub record DraftsStand (x : IndexSet) (seen : ℕ → ℕ) (first : ℕ) (slots : List (Option SlotRecord)) (h : Held) (w : World) (drafts : List (Option SpoolDraft)) : Type 0 where
+  pub each : (d : ℕ) → DraftOf (DraftStands x seen first slots h.rows w.store) (find d w.patches) (draft_at drafts d)
+  pub apart : IsApart w.patches
+  pub grown : IsGrown w
+  pub limit : w.blocks ≡ Some (length h.rows)
+  pub all : (b : ℕ) → get_or h.reserved b false ≡ true → IsInSome (lists_at drafts) b
+
+-- the disk, what is kept of it and the drafts stand for the world
+pub record StandsFor {D : Type 0} (disk : Ghosts D) (d : D) (h : Holding) (drafts : List (Option SpoolDraft)) (w : World) : Type 0 where
+  pub stored : Stored disk d h w.store
+  pub stands : DraftsStand w.store.indexes (disk.seen d) (25 + 2 * journal_pages h.layout) h.slots h.blocks w drafts
+
+-- WHAT A DRAFT BEGINS BEHIND
+
+-- the record is the upload's, and its text is on the listed blocks
+pub record IsUploadOn (m : Store) (number : ℕ) (seen : ℕ → ℕ) (first : ℕ) (r : Record) (list : List ℕ) : Type 0 where
+  pub upload : Upload
+  pub there : upload_of m number ≡ Some upload
+  pub keeps : Keeps m.indexes number r upload
+  pub text : text_on seen first list r.text_len ≡ text_of m.indexes upload
+
+-- a draft of the upload as it is, or the rules' refusal
+abbrev pub OpensFor : Store → ℕ → ℕ → ℕ → (ℕ → ℕ) → ℕ → Option Upload → Result SpoolDraft UploadRefusal → Type 0
+OpensFor m number offset count seen first None (Ok o) = ⊥
+OpensFor m number offset count seen first None (Err e) = e ≡ NoSuch
+OpensFor m number offset count seen first (Some u) (Ok o) =
+    IsBegun m.indexes number offset count u (Ok o) × Carries m.indexes seen first (first_patch number count u) o
+OpensFor m number offset count seen first (Some u) (Err e) = IsBegun m.indexes number offset count u (Err e)
+
+abbrev pub OpensAs : Store → ℕ → ℕ → ℕ → (ℕ → ℕ) → ℕ → Result SpoolDraft UploadRefusal → Type 0
+OpensAs m number offset count seen first result = OpensFor m number offset count seen first (upload_of m number) result

@@ -1,0 +1,79 @@
+-- What an append makes of what is kept in memory.
+use Rattle.std.specs.Prelude.{◌≡◌, ◌≢◌, ℕ, ◌+◌, ◌-◌, ◌/◌, ◌%◌, ◌<◌, ◌≤◌, ◌++◌, List, [], Some, None, Bool, false, length, get_or, drop, slice_set}
+use Rattle.enc_model.specs.Indexes.{IndexSet}
+use Rattle.enc_model.specs.Transcode.{Transcoder}
+use Rattle.enc_stream.specs.StateBytes.{IsSound, state_bytes}
+use Rattle.spool_disk.specs.declared.disk.Disk.{Ghosts}
+use Rattle.spool_texts.specs.TextOn.{text_on}
+use Rattle.upload_rules.specs.Room.{blocks_of}
+use Rattle.upload_rules.specs.Store.{Upload, Store, upload_of, is_complete, text_of, text_with, with_bytes}
+use Rattle.upload_rules.specs.States.{state_of, transcoder_with}
+use Rattle.spool_pages.specs.View.{SlotRecord, text_page}
+use Rattle.spool_kept.specs.Changed.{HandsOver}
+use Rattle.spool_kept.specs.Holding.{Holding, IsUsedBy}
+use Rattle.spool_kept.specs.Stored.{Stored}
+use Rattle.spool_kept.specs.declared.extending.Longer.{Longer}
+
+-- the record with the new counts and the new state
+abbrev pub longer_record : SlotRecord → Longer → SlotRecord
+longer_record r longer = record r { accepted = longer.accepted; text_len = longer.text_len; state = longer.state }
+
+-- the states of two transcoders with the same encodings and the same mode
+pub record SameEncodings (old new : List ℕ) : Type 0 where
+  pub before : Transcoder
+  pub after : Transcoder
+  pub before_sound : IsSound before
+  pub after_sound : IsSound after
+  pub was : old ≡ state_bytes before
+  pub is : new ≡ state_bytes after
+  pub from : after.from ≡ before.from
+  pub to : after.to ≡ before.to
+  pub mode : after.mode ≡ before.mode
+
+-- how many bytes of a text are on full blocks
+abbrev pub full_bytes : ℕ → ℕ
+full_bytes len = len - len % 4096
+
+-- the slot's upload may become this with these blocks, or with none where its text stays
+pub record MayExtend (h : Holding) (longer : Longer) (more : List ℕ) : Type 0 where
+  pub used : SlotRecord
+  pub there : get_or h.slots longer.slot None ≡ Some used
+  pub state : SameEncodings used.state longer.state
+  pub same : length more ≡ 0 → longer.text_len ≡ used.text_len
+  pub blocks : 0 < length more → blocks_of longer.text_len ≡ used.text_len / 4096 + length more
+
+-- the listed blocks are reserved no more; the others are as they were
+pub record HandsOn (old new : List Bool) (list : List ℕ) : Type 0 where
+  pub handed : (i : ℕ) → i < length list → get_or new (get_or list i 0) false ≡ false
+  pub others : (b : ℕ) → ((i : ℕ) → i < length list → get_or list i 0 ≢ b) → get_or new b false ≡ get_or old b false
+
+-- what is kept has the longer upload, of which `used` was the record
+pub record IsLonger (h : Holding) (used : SlotRecord) (longer : Longer) (more : List ℕ) (new : Holding) : Type 0 where
+  pub layout : new.layout ≡ h.layout
+  pub next : new.next ≡ h.next
+  pub indexes : new.indexes ≡ h.indexes
+  pub slots : new.slots ≡ slice_set h.slots longer.slot (Some (longer_record used longer))
+  pub same : length more ≡ 0 → new.blocks ≡ h.blocks
+  pub rows : 0 < length more → HandsOver h.blocks.rows longer.slot (used.text_len / 4096) more new.blocks.rows
+
+-- with these bytes the upload's text has these behind it, and the blocks hold what is not on the old full ones
+pub record IsExtension (x : IndexSet) (u : Upload) (bytes added : List ℕ) (longer : Longer) (more : List ℕ) (seen : ℕ → ℕ) (first : ℕ) : Type 0 where
+  pub accepted : longer.accepted ≡ length (u.accepted ++ bytes)
+  pub few : length (u.accepted ++ bytes) ≤ u.declared
+  pub state : longer.state ≡ state_of x (with_bytes u bytes)
+  pub sound : IsSound (transcoder_with x (with_bytes u bytes) [] (is_complete (with_bytes u bytes)))
+  pub encodable : (text_with x (with_bytes u bytes) [] (is_complete (with_bytes u bytes))).fault ≡ None
+  pub text : text_of x (with_bytes u bytes) ≡ text_of x u ++ added
+  pub text_len : longer.text_len ≡ length (text_of x (with_bytes u bytes))
+  pub nothing : length more ≡ 0 → added ≡ []
+  pub content : 0 < length more
+      → text_on seen first more (longer.text_len - full_bytes (length (text_of x u))) ≡ drop (full_bytes (length (text_of x u))) (text_of x u) ++ added
+
+-- the disk and what is kept stand for the store, and this is an append to the slot's upload
+pub record IsAppend {D : Type 0} (disk : Ghosts D) (d : D) (h : Holding) (m : Store) (n : ℕ) (bytes : List ℕ) (longer : Longer) (more : List ℕ) : Type 0 where
+  pub stored : Stored disk d h m
+  pub used : IsUsedBy h.slots longer.slot n
+  pub upload : Upload
+  pub there : upload_of m n ≡ Some upload
+  pub added : List ℕ
+  pub extension : IsExtension m.indexes upload bytes added longer more (disk.seen d) (text_page h.layout)

@@ -1,0 +1,45 @@
+-- The record of an upload in memory.
+use Rattle.std.specs.Prelude.{◌≡◌, ◌≤◌, ℕ, List, Option, Some, None, length}
+use Rattle.enc_model.specs.Indexes.{IndexSet}
+use Rattle.enc_model.specs.Transcode.{Transcoder}
+use Rattle.enc_stream.specs.StateBytes.{IsSound, state_bytes}
+use Rattle.upload_rules.specs.declared.records.Record.{Record}
+use Rattle.upload_rules.specs.Records.{Keeps}
+use Rattle.upload_rules.specs.Store.{Upload, Store, text_of}
+use Rattle.spool_pages.specs.Fits.{FitsSlotOf}
+use Rattle.spool_pages.specs.View.{SlotRecord}
+use Rattle.spool_kept.specs.Shows.{HasState}
+
+-- what its slot says
+abbrev pub said_of : Record → SlotRecord
+said_of r = record { number = r.number; declared = r.declared; accepted = r.accepted; text_len = r.text_len; state = r.state; metadata = r.metadata.bytes.items }
+
+-- the encodings and the mode are those of its state
+pub record IsUnpacked (r : Record) : Type 0 where
+  pub transcoder : Transcoder
+  pub sound : IsSound transcoder
+  pub is : r.state ≡ state_bytes transcoder
+  pub from : r.from ≡ transcoder.from
+  pub to : r.to ≡ transcoder.to
+  pub mode : r.mode ≡ transcoder.mode
+
+-- and the metadata has room in a slot
+pub record FitsMemory (r : Record) : Type 0 where
+  pub unpacked : IsUnpacked r
+  pub short : length r.metadata.bytes.items ≤ 1536
+
+-- a free slot, or a record that fits its bytes, with the state of a transcoder
+abbrev pub FitsKept : Option SlotRecord → Type 0
+FitsKept None = Unit {0}
+FitsKept (Some r) = FitsSlotOf (Some r) × HasState r
+
+-- the record of an upload, none where there is none
+abbrev pub KeepsOf : IndexSet → ℕ → Option Upload → Option Record → Type 0
+KeepsOf x n None None = Unit {0}
+KeepsOf x n (Some u) (Some r) = Keeps x n r u
+KeepsOf x n _ _ = ⊥
+
+-- the text of the upload; there is one
+abbrev pub IsTextOf : Store → Option Upload → List ℕ → Type 0
+IsTextOf m None text = ⊥
+IsTextOf m (Some u) text = text ≡ text_of m.indexes u

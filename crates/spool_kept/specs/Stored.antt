@@ -1,0 +1,21 @@
+-- What a disk and what is kept of it stand for: a store of uploads.
+use Rattle.std.specs.Prelude.{◌⊎◌, ℕ}
+use Rattle.spool_disk.specs.declared.disk.Disk.{Ghosts}
+use Rattle.spool_pages.specs.Rests.{Rests}
+use Rattle.spool_pages.specs.View.{View}
+use Rattle.upload_rules.specs.Store.{Store}
+use Rattle.spool_kept.specs.Holding.{Holding}
+use Rattle.spool_kept.specs.Kept.{KeepsView}
+use Rattle.spool_kept.specs.Shows.{Shows, ImageShows}
+
+-- the disk is at rest with a view that shows the uploads, and this is kept of it
+pub record Stored {D : Type 0} (disk : Ghosts D) (d : D) (h : Holding) (m : Store) : Type 0 where
+  pub honest : disk.honest d
+  pub view : View
+  pub rests : Rests view (disk.seen d) (disk.loose d)
+  pub keeps : KeepsView h view
+  pub shows : Shows view m
+
+-- the image shows one of the two
+abbrev pub ShowsEither : Store → Store → (ℕ → ℕ) → Type 0
+ShowsEither before after image = ImageShows image before ⊎ ImageShows image after

@@ -1,0 +1,109 @@
+// What is told of the uploads.
+ghost use Rattle.std.specs.Prelude.{◌≡◌, ◌<◌, ◌≤◌, ◌↔◌, ◌+◌, ◌*◌, ℕ, None, length, IsErrOf, MatchOption, IfSome, option_copied};
+ghost use Rattle.spool_disk.specs.Disk.{Counts, IsImage, Keeps};
+ghost use Rattle.spool_disk.specs.Views.{Lasts};
+ghost use Rattle.spool_journal.specs.Image.{journal_pages, all_pages};
+ghost use Rattle.spool_texts.specs.TextOn.{text_on, AllBelow};
+ghost use Rattle.upload_rules.specs.Answers.{Answers};
+ghost use Rattle.upload_rules.specs.Reading.{no_such, text_at, IsRead};
+ghost use Rattle.upload_rules.specs.Records.{TellsOf, above, with_number};
+ghost use Rattle.upload_rules.specs.Store.{Store, upload_of};
+ghost use Rattle.spool_kept.specs.Holding.{IsUsedBy};
+ghost use Rattle.spool_kept.specs.Kept.{KeepsView};
+ghost use Rattle.spool_kept.specs.Records.{KeepsOf, IsTextOf};
+ghost use Rattle.spool_kept.specs.Shows.{Shows};
+ghost use Rattle.spool_pages.specs.View.{View, Says};
+
+use crate::kept::Kept;
+use crate::order::{places_to, slot_of};
+use crate::records::record_at;
+use enc_index::IndexSet;
+use spool_blocks::BlockNo;
+use spool_disk::Disk;
+use spool_texts::read_text;
+use upload_rules::{Record, UploadError, UploadRefusal};
+
+impl Kept {
+    /// The slot of a number.
+    pub fn slot_of(&self, number: u64) -> Option<u32>
+        ensures used { MatchOption result ((s : ℕ) → IsUsedBy self.now.slots s number → ⊥) (λ s. IsUsedBy self.now.slots s number) }
+        ensures below { IfSome result (λ s. s < 512) }
+    {
+        slot_of(&self.order, number)
+    }
+
+    /// The upload of a number.
+    pub fn record(&self, number: u64) -> Option<&Record>
+        ensures kept { (v : View) (m : Store) → KeepsView self.now v → Shows v m → KeepsOf m.indexes number (upload_of m number) (option_copied result) }
+        ensures told { (v : View) (m : Store) → KeepsView self.now v → Shows v m → TellsOf m.indexes (with_number number (upload_of m number)) (option_copied result) }
+    {
+        let slot = self.slot_of(number)?;
+        let kept = record_at(&self.slots, slot as usize)?;
+        Some(kept.record())
+    }
+
+    /// The blocks of an upload's text by ordinal, and its length in bytes.
+    pub(crate) fn text_of(&self, number: u64) -> Option<(&[BlockNo], u64)>
+        ensures below { IfSome result (λ t. AllBelow self.now.layout t.0.now) }
+        ensures long { IfSome result (λ t. t.1 ≤ 4096 * length t.0.now) }
+        ensures answer { (v : View) (m : Store) (bytes : ℕ → ℕ) → KeepsView self.now v → Shows v m → Says bytes v
+            → MatchOption result (upload_of m number ≡ None) (λ t. IsTextOf m (upload_of m number) (text_on bytes (25 + 2 * journal_pages self.now.layout) t.0.now t.1)) }
+    {
+        let slot = self.slot_of(number)?;
+        let kept = record_at(&self.slots, slot as usize)?;
+        let list = self.lists[slot as usize].blocks();
+        Some((list, kept.record().text_len))
+    }
+
+    /// Reads a text's bytes from `at` on, as many as there are and fit: refused with `NoSuch` or `DiskFault`.
+    pub fn read<D: Disk>(
+        &self,
+        disk: &mut D,
+        number: u64,
+        at: u64,
+        buf: &mut [u8],
+    ) -> Result<usize, UploadError>
+        requires { 4096 * all_pages self.now.layout ≤ D.size disk.old }
+        ensures size { D.size disk.new ≡ D.size disk.old }
+        ensures honest { D.honest disk.old ↔ D.honest disk.new }
+        ensures counts { Counts (IsErrOf result UploadError.DiskFault) (D.failures disk.old) (D.failures disk.new) }
+        ensures later { D.moment disk.old ≤ D.moment disk.new }
+        ensures no_memory { IsErrOf result UploadError.NoMemory → ⊥ }
+        ensures answer { D.honest disk.old → (m : Store) (v : View) → KeepsView self.now v → Shows v m → Says (D.seen disk.old) v
+            → Answers (no_such (upload_of m number)) result (λ n. IsRead (text_at m (upload_of m number)) at n buf.old buf.new) (Unit {0}) }
+        ensures keeps { D.honest disk.old → Keeps (D.seen disk.old) (D.seen disk.new) (D.loose disk.old) (D.loose disk.new) }
+        ensures lasts { D.honest disk.old → Lasts D.Disk disk.old disk.new (IsImage (D.seen disk.old) (D.loose disk.old)) }
+    {
+        let Some((list, len)) = self.text_of(number) else {
+            return Err(UploadError::Refused(UploadRefusal::NoSuch));
+        };
+        match read_text(disk, &self.layout, list, len, at, buf) {
+            Ok(count) => Ok(count),
+            Err(_) => Err(UploadError::DiskFault),
+        }
+    }
+
+    /// The upload of the least number above this one.
+    pub fn record_after(&self, number: u64) -> Option<&Record>
+        ensures { (v : View) (m : Store) → KeepsView self.now v → Shows v m → TellsOf m.indexes (above number m.uploads) (option_copied result) }
+    {
+        let place = places_to(&self.order, number);
+        let (_, slot) = *self.order.get(place)?;
+        let kept = record_at(&self.slots, slot as usize)?;
+        Some(kept.record())
+    }
+
+    /// The number that the next upload gets.
+    pub fn next_number(&self) -> u64
+        ensures { (v : View) (m : Store) → KeepsView self.now v → Shows v m → result ≡ m.next }
+    {
+        self.next
+    }
+
+    /// The index files.
+    pub fn indexes(&self) -> &IndexSet
+        ensures { (v : View) (m : Store) → KeepsView self.now v → Shows v m → result.now ≡ m.indexes }
+    {
+        &self.indexes
+    }
+}

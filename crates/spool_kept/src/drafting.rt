@@ -1,0 +1,140 @@
+// The open drafts of a spool by their numbers: begun, made longer and dropped.
+ghost use Rattle.std.specs.Prelude.{◌≡◌, ◌≤◌, ◌*◌, ◌+◌, ◌↔◌, ℕ, [], Some, None, length, IsErrOf, IfOk, IfSome, MatchOption};
+ghost use Rattle.spool_disk.specs.Disk.{Counts};
+ghost use Rattle.spool_disk.specs.Views.{Lasts};
+ghost use Rattle.spool_journal.specs.Image.{journal_pages, all_pages};
+ghost use Rattle.upload_rules.specs.Answers.{Answers};
+ghost use Rattle.upload_rules.specs.Calls.{appended, begin_refusal, begun, dropped};
+ghost use Rattle.upload_rules.specs.Store.{Store, find, upload_of};
+ghost use Rattle.upload_rules.specs.World.{Patch, World, free_number};
+ghost use Rattle.spool_drafts.specs.Drafts.{IsPlaced, list_of, tail_of};
+ghost use Rattle.spool_pages.specs.View.{View, Says};
+ghost use Rattle.spool_texts.specs.TextOn.{AllBelow};
+ghost use Rattle.spool_kept.specs.Kept.{KeepsView};
+ghost use Rattle.spool_kept.specs.Drafting.{DraftsFit, IsOwnedBy, IsUploadOn, OnlyReserves, OpensAs, StandsFor};
+ghost use Rattle.spool_kept.specs.Shows.{ImageShows, Shows};
+
+use crate::kept::Kept;
+use crate::records::record_at;
+use spool_blocks::BlockNo;
+use spool_disk::Disk;
+use spool_drafts::SpoolDraft;
+use std::alloc::Global;
+use upload_rules::{Record, UploadError, UploadRefusal, placed, put_back, taken};
+
+// An upload, and the blocks of its text by ordinal.
+fn upload_on(kept: &Kept, number: u64) -> Option<(&Record, &[BlockNo])>
+    ensures below { IfSome result (λ u. AllBelow kept.now.layout u.1.now) }
+    ensures long { IfSome result (λ u. u.0.now.text_len ≤ 4096 * length u.1.now) }
+    ensures few { IfSome result (λ u. length u.1.now ≤ 65536) }
+    ensures owned { IfSome result (λ u. IsOwnedBy kept.now.slots kept.now.blocks.rows number u.1.now) }
+    ensures told { (v : View) (m : Store) (bytes : ℕ → ℕ) → KeepsView kept.now v → Shows v m → Says bytes v
+        → MatchOption result (upload_of m number ≡ None) (λ u. IsUploadOn m number bytes (25 + 2 * journal_pages kept.now.layout) u.0.now u.1.now) }
+{
+    let slot = kept.slot_of(number)?;
+    let used = record_at(&kept.slots, slot as usize)?;
+    let list = kept.lists[slot as usize].blocks();
+    let _few = kept.layout.blocks();
+    Some((used.record(), list))
+}
+
+// The draft that `begin` opens: refused with `NoSuch`, `Offset`, `TooLong`.
+fn opened(
+    alloc: Global,
+    kept: &Kept,
+    number: u64,
+    offset: u64,
+    count: u64,
+) -> Result<SpoolDraft, UploadRefusal>
+    ensures none { IfOk result (λ o. list_of o ≡ []) }
+    ensures placed { IfOk result (λ o. IsPlaced kept.now.layout o) }
+    ensures owned { IfOk result (λ o. IsOwnedBy kept.now.slots kept.now.blocks.rows number (tail_of o)) }
+    ensures opened { (v : View) (m : Store) (bytes : ℕ → ℕ) → KeepsView kept.now v → Shows v m → Says bytes v
+        → OpensAs m number offset count bytes (25 + 2 * journal_pages kept.now.layout) result }
+{
+    let Some((upload, list)) = upload_on(kept, number) else {
+        return Err(UploadRefusal::NoSuch);
+    };
+    SpoolDraft::begin(alloc, upload, list, offset, count)
+}
+
+/// Opens a draft of `count` bytes at an offset, under the least number that is free: refused with `NoSuch`, `Offset`, `TooLong`,
+/// `NoMemory`.
+pub fn begin<D: Disk>(
+    alloc: Global,
+    kept: &Kept,
+    drafts: &mut Vec<Option<SpoolDraft>>,
+    number: u64,
+    offset: u64,
+    count: u64,
+) -> Result<usize, UploadError>
+    requires fits { DraftsFit kept.now.layout kept.now.blocks drafts.old.items }
+    ensures fits { DraftsFit kept.now.layout kept.now.blocks drafts.new.items }
+    ensures no_device { IsErrOf result UploadError.DiskFault → ⊥ }
+    ensures answer { (disk : D) (w : World) → StandsFor D.Disk disk kept.now drafts.old.items w
+        → Answers (begin_refusal w number offset count) result
+        (λ d. (d ≡ free_number w) × StandsFor D.Disk disk kept.now drafts.new.items (begun w number count))
+        (StandsFor D.Disk disk kept.now drafts.new.items w) }
+{
+    let draft = match opened(alloc, kept, number, offset, count) {
+        Ok(draft) => draft,
+        Err(refusal) => return Err(UploadError::Refused(refusal)),
+    };
+    match placed(drafts, draft) {
+        Ok(number) => Ok(number),
+        Err(_) => Err(UploadError::NoMemory),
+    }
+}
+
+/// Adds bytes to the draft of a number, at most its count in all: refused with `NoMemory`, after which it is as before, and
+/// `DiskFault`, after which it may only be dropped. No sync is made.
+pub fn append<D: Disk>(
+    alloc: Global,
+    disk: &mut D,
+    kept: &mut Kept,
+    drafts: &mut Vec<Option<SpoolDraft>>,
+    number: usize,
+    piece: &[u8],
+) -> Result<(), UploadError>
+    requires room { 4096 * all_pages kept.old.layout ≤ D.size disk.old }
+    requires fits { DraftsFit kept.old.layout kept.old.blocks drafts.old.items }
+    ensures fits { DraftsFit kept.new.layout kept.new.blocks drafts.new.items }
+    ensures same { OnlyReserves kept.old kept.new }
+    ensures size { D.size disk.new ≡ D.size disk.old }
+    ensures honest { D.honest disk.old ↔ D.honest disk.new }
+    ensures counts { Counts (IsErrOf result UploadError.DiskFault) (D.failures disk.old) (D.failures disk.new) }
+    ensures answer { (w : World) (p : Patch) → StandsFor D.Disk disk.old kept.old drafts.old.items w → find number w.patches ≡ Some p → length p.body + length piece.now ≤ p.count
+        → Answers None result
+        (λ done. StandsFor D.Disk disk.new kept.new drafts.new.items (appended w number piece.now))
+        (StandsFor D.Disk disk.new kept.new drafts.new.items w) }
+    // A crash during it leaves what shows the same.
+    ensures quiet { (w : World) (p : Patch) → StandsFor D.Disk disk.old kept.old drafts.old.items w → find number w.patches ≡ Some p
+        → Lasts D.Disk disk.old disk.new (λ image. (m : Store) → ImageShows (D.seen disk.old) m → ImageShows image m) }
+{
+    let Some(mut draft) = taken(drafts, number) else {
+        return Err(UploadError::Refused(UploadRefusal::NoSuch));
+    };
+    let _rows = kept.blocks.rows();
+    let answer = draft.append(
+        alloc,
+        disk,
+        &kept.layout,
+        &mut kept.blocks,
+        &kept.indexes,
+        piece,
+    );
+    put_back(drafts, number, draft);
+    answer
+}
+
+/// Gives the draft of a number up, and its blocks back.
+pub fn drop_open<D: Disk>(kept: &mut Kept, drafts: &mut Vec<Option<SpoolDraft>>, number: usize)
+    requires fits { DraftsFit kept.old.layout kept.old.blocks drafts.old.items }
+    ensures fits { DraftsFit kept.new.layout kept.new.blocks drafts.new.items }
+    ensures same { OnlyReserves kept.old kept.new }
+    ensures stands { (disk : D) (w : World) → StandsFor D.Disk disk kept.old drafts.old.items w → StandsFor D.Disk disk kept.new drafts.new.items (dropped w number) }
+{
+    if let Some(draft) = taken(drafts, number) {
+        draft.give_back(&mut kept.blocks);
+    }
+}

@@ -1,0 +1,193 @@
+// An upload gets longer: its record and its blocks, in memory and on the disk.
+ghost use Rattle.std.specs.Prelude.{◌≡◌, ◌↔◌, ◌≤◌, ◌<◌, ◌*◌, ◌/◌, ◌++◌, ℕ, List, [], Some, None, Ok, Err, length, get_or, drop, slice_set, IfOk, OnOk, OnErr, IsSome};
+ghost use Rattle.spool_disk.specs.Disk.{Counts};
+ghost use Rattle.spool_disk.specs.Views.{Lasts};
+ghost use Rattle.spool_journal.specs.Image.{all_pages, journal_pages, InArea};
+ghost use Rattle.spool_blocks.specs.Blocks.{Row as HeldRow};
+ghost use Rattle.spool_pages.specs.Changes.{ChangesButRows, with_record, SameRowsBut};
+ghost use Rattle.spool_pages.specs.View.{View, text_page};
+ghost use Rattle.spool_texts.specs.Drafts.{IsReserved};
+ghost use Rattle.upload_rules.specs.Store.{Store, appended_store};
+ghost use Rattle.spool_kept.specs.Extending.{SameEncodings, MayExtend, HandsOn, IsLonger, IsAppend, longer_record};
+ghost use Rattle.spool_kept.specs.Stored.{Stored, ShowsEither};
+ghost use Rattle.spool_pages.specs.View.{SlotRecord as Said};
+
+use crate::kept::Kept;
+use crate::records::{KeptRecord, record_at};
+use spool_blocks::BlockNo;
+use spool_disk::{Disk, DiskFault};
+use spool_journal::{Layout, Pages};
+use spool_pages::{SlotRecord, change, fill_rows, pages_of_change};
+use std::alloc::{AllocError, Global};
+
+/// What an upload becomes.
+pub struct Longer {
+    /// Its slot.
+    pub slot: u32,
+    /// How many bytes are accepted.
+    pub accepted: u64,
+    /// The length of the text in bytes.
+    pub text_len: u64,
+    /// Where transcoding stands, as `Transcoder::pack` writes it.
+    pub state: [u8; 32],
+}
+
+/// Why an upload gets no longer.
+#[derive(Clone, Copy, Debug, PartialEq, Eq)]
+pub enum ExtendError {
+    /// A growth was refused, and nothing has changed.
+    NoMemory,
+    /// The disk failed in this call.
+    DiskFault,
+}
+
+impl From<AllocError> for ExtendError {
+    ghost use Rattle.spool_kept.specs.declared.extending.ExtendError.{ExtendError};
+
+    ghost from_gives = { λ _ error. error ≡ ExtendError.NoMemory };
+
+    fn from(_error: AllocError) -> ExtendError {
+        ExtendError::NoMemory
+    }
+}
+
+impl From<DiskFault> for ExtendError {
+    ghost use Rattle.spool_kept.specs.declared.extending.ExtendError.{ExtendError};
+
+    ghost from_gives = { λ _ error. error ≡ ExtendError.DiskFault };
+
+    fn from(_fault: DiskFault) -> ExtendError {
+        ExtendError::DiskFault
+    }
+}
+
+// The blocks whose rows change: the new ones, and those that they replace. None where there are no new ones.
+fn changed_blocks(
+    alloc: Global,
+    replaced: &[BlockNo],
+    more: &[BlockNo],
+) -> Result<Vec<BlockNo>, AllocError>
+    ensures none { length more.now ≡ 0 → IfOk result (λ blocks. blocks.items ≡ []) }
+    ensures some { 0 < length more.now → IfOk result (λ blocks. blocks.items ≡ more.now ++ replaced.now) }
+{
+    let mut blocks = Vec::new(alloc);
+    if !more.is_empty() {
+        blocks.extend_from_slice(more)?;
+        blocks.extend_from_slice(replaced)?;
+    }
+    Ok(blocks)
+}
+
+// The slot's upload gets longer.
+fn set_record(slots: &mut Vec<Option<KeptRecord>>, longer: &Longer)
+    requires used { IsSome (get_or slots.old.items longer.now.slot None) }
+    requires state { (r : Said) → get_or slots.old.items longer.now.slot None ≡ Some r → SameEncodings r.state longer.now.state }
+    ensures { (r : Said) → get_or slots.old.items longer.now.slot None ≡ Some r → slots.new.items ≡ slice_set slots.old.items longer.now.slot (Some (longer_record r longer.now)) }
+{
+    if let Some(kept) = &mut slots[longer.slot as usize] {
+        kept.extend(longer);
+    }
+}
+
+impl Kept {
+    // How many full blocks a slot's text has.
+    fn full_blocks(&self, slot: u32) -> u32
+        requires { IsSome (get_or self.now.slots slot None) }
+        ensures full { (r : Said) → get_or self.now.slots slot None ≡ Some r → result ≡ r.text_len / 4096 }
+        ensures few { length self.now.blocks.rows ≤ 65536 }
+    {
+        let _few = self.blocks.rows();
+        let kept = record_at(&self.slots, slot as usize).unwrap();
+        (kept.record().text_len / 4096) as u32
+    }
+
+    // The pages that the change writes. Those with rows are blank.
+    fn change_pages(
+        &self,
+        alloc: Global,
+        longer: &Longer,
+        more: &[BlockNo],
+    ) -> Result<Pages, AllocError>
+        requires may { MayExtend self.now longer.now more.now }
+        requires reserved { IsReserved self.now.blocks more.now }
+        ensures area { IfOk result (λ pages. InArea (journal_pages self.now.layout) pages) }
+        ensures some { IfOk result (λ pages. 1 ≤ length pages) }
+        ensures changes { (v : View) → v.blocks ≡ self.now.layout → v.slots ≡ self.now.slots → (r : Said) → get_or self.now.slots longer.now.slot None ≡ Some r → (rows : List HeldRow)
+            → (length more.now ≡ 0 → SameRowsBut [] v.rows rows)
+            → (0 < length more.now → SameRowsBut (more.now ++ drop (r.text_len / 4096) (get_or self.now.lists longer.now.slot [])) v.rows rows)
+            → IfOk result (λ pages. ChangesButRows pages v (record (with_record v longer.now.slot (longer_record r longer.now)) { rows = rows })) }
+    {
+        let slot = longer.slot;
+        let full = self.full_blocks(slot) as usize;
+        let blocks = changed_blocks(alloc, self.lists[slot as usize].blocks_from(full), more)?;
+        let kept = record_at(&self.slots, slot as usize).unwrap();
+        let next = SlotRecord {
+            accepted: longer.accepted,
+            text_len: longer.text_len,
+            state: longer.state,
+            ..kept.slot_record()
+        };
+        let beside = self.beside(slot);
+        pages_of_change(alloc, &self.layout, slot, &next, beside.as_ref(), &blocks)
+    }
+
+    // What is kept gets longer. It changes nothing where memory runs out.
+    fn take_over(&mut self, longer: &Longer, more: &[BlockNo]) -> Result<(), AllocError>
+        requires may { MayExtend self.old longer.now more.now }
+        requires reserved { IsReserved self.old.blocks more.now }
+        ensures longer { OnOk result ((r : Said) → get_or self.old.slots longer.now.slot None ≡ Some r → IsLonger self.old r longer.now more.now self.new) }
+        ensures reserved { OnOk result (HandsOn self.old.blocks.reserved self.new.blocks.reserved more.now) }
+        ensures unmade { OnErr result (self.new ≡ self.old) }
+    {
+        if !more.is_empty() {
+            let full = self.full_blocks(longer.slot);
+            self.lists[longer.slot as usize].replace_from(full as usize, more)?;
+            self.blocks.own(longer.slot, full, more);
+        }
+        set_record(&mut self.slots, longer);
+        Ok(())
+    }
+}
+
+/// An upload gets longer, on the disk and in memory: its text by these reserved blocks, which have been written and replace its last,
+/// unfinished one. Where there are none its text stays. It syncs them too.
+///
+/// # Errors
+///
+/// `NoMemory` where a growth was refused, and then nothing has changed. `DiskFault` where the device failed: then what is kept is
+/// ahead of the disk, and the spool has to be opened again.
+pub fn extend<D: Disk>(
+    alloc: Global,
+    disk: &mut D,
+    kept: &mut Kept,
+    longer: &Longer,
+    more: &[BlockNo],
+) -> Result<(), ExtendError>
+    requires room { 4096 * all_pages kept.old.layout ≤ D.size disk.old }
+    requires may { MayExtend kept.old longer.now more.now }
+    requires reserved { IsReserved kept.old.blocks more.now }
+    ensures size { D.size disk.new ≡ D.size disk.old }
+    ensures honest { D.honest disk.old ↔ D.honest disk.new }
+    ensures counts { Counts (result ≡ Err ExtendError.DiskFault) (D.failures disk.old) (D.failures disk.new) }
+    ensures layout { kept.new.layout ≡ kept.old.layout }
+    ensures unmade { result ≡ Err ExtendError.NoMemory → (kept.new ≡ kept.old) × (disk.new ≡ disk.old) }
+    ensures blocks { (result ≡ Err ExtendError.NoMemory → ⊥) → HandsOn kept.old.blocks.reserved kept.new.blocks.reserved more.now }
+
+    // The disk and what is kept stand for the store with the longer upload.
+    ensures answer { (m : Store) (n : ℕ) (bytes : List ℕ) → IsAppend D.Disk disk.old kept.old m n bytes longer.now more.now
+        → OnOk result (Stored D.Disk disk.new kept.new (appended_store m n bytes)) }
+
+    // A crash during it leaves the store before or behind it.
+    ensures crash { (m : Store) (n : ℕ) (bytes : List ℕ) → IsAppend D.Disk disk.old kept.old m n bytes longer.now more.now
+        → Lasts D.Disk disk.old disk.new (ShowsEither m (appended_store m n bytes)) }
+
+    // No byte of a text block is another.
+    ensures texts { (m : Store) (n : ℕ) (bytes : List ℕ) → IsAppend D.Disk disk.old kept.old m n bytes longer.now more.now
+        → OnOk result ((p : ℕ) → 4096 * text_page kept.old.layout ≤ p → D.seen disk.new p ≡ D.seen disk.old p) }
+{
+    let mut pages = kept.change_pages(alloc, longer, more)?;
+    kept.take_over(longer, more)?;
+    fill_rows(&mut pages, &kept.layout, kept.blocks.rows());
+    change(disk, &kept.layout, &pages)?;
+    Ok(())
+}

@@ -1,0 +1,108 @@
+// What is kept of a spool in memory.
+ghost use Rattle.std.specs.Prelude.{◌≡◌, ◌≤◌, ◌<◌, ℕ, Err, None, false, replicate, length, get_or, IfOk, IfSome};
+ghost use Rattle.spool_kept.specs.Holding.{Holding, FitsTogether};
+ghost use Rattle.spool_kept.specs.Kept.{KeepsAlone};
+ghost use Rattle.spool_kept.specs.Loads.{LoadsAs};
+ghost use Rattle.spool_kept.specs.Shows.{IsSound};
+ghost use Rattle.spool_pages.specs.Changes.{neighbour};
+ghost use Rattle.spool_pages.specs.Fits.{FitsRow};
+ghost use Rattle.spool_pages.specs.View.{View};
+
+use crate::OpenFault;
+use crate::lists::{BlockList, lists_of};
+use crate::order::{NumberedSlot, order_of};
+use crate::records::{KeptRecord, record_at};
+use enc_index::IndexSet;
+use spool_blocks::Blocks;
+use spool_journal::Layout;
+use spool_pages::SlotRecord;
+use std::alloc::Global;
+use std::marker::Model;
+
+/// What is kept of a spool in memory: all but the texts.
+#[derive(Drop)]
+pub struct Kept {
+    pub(crate) layout: Layout,
+    /// The number of the next upload.
+    pub(crate) next: u64,
+    /// The index files.
+    pub(crate) indexes: IndexSet,
+    /// The 512 slots.
+    pub(crate) slots: Vec<Option<KeptRecord>>,
+    /// The slots in use, by ascending numbers.
+    pub(crate) order: Vec<NumberedSlot>,
+    /// Each slot's blocks by ordinal.
+    pub(crate) lists: Vec<BlockList>,
+    /// Who owns which text block.
+    pub(crate) blocks: Blocks,
+}
+
+impl Model for Kept {
+    ghost Value = { Holding };
+
+    ghost view = { λ k. record { layout = k.layout; next = k.next; indexes = k.indexes; slots = k.slots.items; order = k.order.items; lists = k.lists.items; blocks = k.blocks } };
+
+    ghost invariant = { λ k. FitsTogether (record { layout = k.layout; next = k.next; indexes = k.indexes; slots = k.slots.items; order = k.order.items; lists = k.lists.items; blocks = k.blocks }) };
+}
+
+impl Kept {
+    /// All that is kept, of what was read.
+    ///
+    /// # Errors
+    ///
+    /// `Damaged` where a number comes twice, or a slot's ordinals are not those of its text, each once; `NoMemory` where a growth
+    /// was refused.
+    pub fn of(
+        alloc: Global,
+        layout: Layout,
+        next: u64,
+        indexes: IndexSet,
+        slots: Vec<Option<KeptRecord>>,
+        blocks: Blocks,
+    ) -> Result<Kept, OpenFault>
+        requires slots { length slots.items ≡ 512 }
+        requires rows { length blocks.rows ≡ layout }
+        requires fits { (b : ℕ) → FitsRow (get_or blocks.rows b None) }
+        ensures layout { IfOk result (λ kept. kept.layout ≡ layout) }
+        ensures no_device { result ≡ Err OpenFault.DiskFault → ⊥ }
+        ensures said { (v : View) → IsSound v → v.blocks ≡ layout → next ≡ v.next → indexes ≡ v.indexes → slots.items ≡ v.slots → blocks.rows ≡ v.rows
+            → blocks.reserved ≡ replicate v.blocks false → LoadsAs result (λ kept. KeepsAlone kept v) }
+    {
+        let order = order_of(alloc, &slots)?;
+        let lists = lists_of(alloc, &blocks, &slots)?;
+        Ok(Kept {
+            layout,
+            next,
+            indexes,
+            slots,
+            order,
+            lists,
+            blocks,
+        })
+    }
+
+    /// How many text blocks the spool has, and where its pages are.
+    pub fn layout(&self) -> &Layout
+        ensures { result.now ≡ self.now.layout }
+    {
+        &self.layout
+    }
+
+    /// The record of the other slot on a slot's page.
+    pub(crate) fn beside(&self, slot: u32) -> Option<SlotRecord<'_>>
+        requires { slot < 512 }
+        ensures said { result ≡ get_or self.now.slots (neighbour slot) None }
+        ensures short { IfSome result (λ r. length r.metadata ≤ 1536) }
+    {
+        let kept = record_at(&self.slots, neighbour(slot) as usize)?;
+        Some(kept.slot_record())
+    }
+}
+
+// The slot whose record is on the same page.
+fn neighbour(slot: u32) -> u32
+    requires { slot < 512 }
+    ensures { result ≡ neighbour slot }
+{
+    if slot % 2 == 0 { slot + 1 } else { slot - 1 }
+}

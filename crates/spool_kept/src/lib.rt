@@ -1,0 +1,20 @@
+//! What is kept of a spool in memory, made of what was read, told of and changed together with the disk.
+#![tactic(auto)]
+
+mod answers;
+mod creating;
+mod drafting;
+mod error;
+mod extending;
+mod kept;
+mod lists;
+mod order;
+mod records;
+
+pub use creating::create;
+pub use drafting::{append, begin, drop_open};
+pub use error::OpenFault;
+pub use extending::{ExtendError, Longer, extend};
+pub use kept::Kept;
+pub use lists::blocks_of;
+pub use records::{KeptRecord, record_at};

@@ -1,0 +1,126 @@
+// The record of an upload, kept in memory.
+ghost use Rattle.std.specs.Prelude.{◌≡◌, ◌≤◌, All, Err, None, Some, length, get_or, option_copied, IfOk};
+ghost use Rattle.spool_kept.specs.Extending.{SameEncodings, longer_record};
+ghost use Rattle.spool_kept.specs.Loads.{LoadsAs};
+ghost use Rattle.spool_kept.specs.Records.{FitsKept, FitsMemory, IsUnpacked, said_of};
+ghost use Rattle.spool_pages.specs.View.{SlotRecord as Said};
+
+use crate::OpenFault;
+use crate::extending::Longer;
+use enc_stream::Transcoder;
+use spool_pages::SlotRecord;
+use std::alloc::Global;
+use std::marker::Model;
+use std::str;
+use upload_rules::Record;
+
+/// The record of an upload, with the encodings and the mode that its state says.
+#[derive(Drop)]
+pub struct KeptRecord {
+    record: Record,
+}
+
+impl Model for KeptRecord {
+    ghost Value = { Said };
+
+    ghost view = { λ k. said_of k.record };
+
+    ghost invariant = { λ k. FitsMemory k.record };
+}
+
+impl KeptRecord {
+    /// The record, with metadata of its own.
+    ///
+    /// # Errors
+    ///
+    /// `Damaged` where the state is none of a transcoder, or the metadata is no text; `NoMemory` where a growth was refused.
+    pub fn of(alloc: Global, record: &SlotRecord<'_>) -> Result<KeptRecord, OpenFault>
+        requires { length «record».now.metadata ≤ 1536 }
+        ensures said { FitsKept (Some «record».now) → LoadsAs result (λ kept. kept ≡ «record».now) }
+        ensures no_device { result ≡ Err OpenFault.DiskFault → ⊥ }
+    {
+        let Some(transcoder) = Transcoder::unpack(&record.state) else {
+            return Err(OpenFault::Damaged);
+        };
+        let metadata = text_of(alloc, record.metadata)?;
+        Ok(KeptRecord {
+            record: Record {
+                number: record.number,
+                declared: record.declared,
+                accepted: record.accepted,
+                text_len: record.text_len,
+                from: transcoder.from(),
+                to: transcoder.to(),
+                mode: transcoder.mode(),
+                state: record.state,
+                metadata,
+            },
+        })
+    }
+
+    /// What is told of the upload.
+    pub fn record(&self) -> &Record
+        ensures said { said_of result.now ≡ self.now }
+        ensures unpacked { IsUnpacked result.now }
+    {
+        &self.record
+    }
+
+    /// A record that is kept.
+    pub(crate) fn new(upload: Record) -> KeptRecord
+        requires { FitsMemory upload }
+        ensures { result ≡ said_of upload }
+    {
+        KeptRecord { record: upload }
+    }
+
+    /// The upload gets longer.
+    pub(crate) fn extend(&mut self, longer: &Longer)
+        requires { SameEncodings self.old.state longer.now.state }
+        ensures { self.new ≡ longer_record self.old longer.now }
+    {
+        self.record.accepted = longer.accepted;
+        self.record.text_len = longer.text_len;
+        self.record.state = longer.state;
+    }
+
+    /// The record as its slot's bytes say it.
+    pub(crate) fn slot_record(&self) -> SlotRecord<'_>
+        ensures said { result ≡ self.now }
+        ensures short { length result.metadata ≤ 1536 }
+    {
+        SlotRecord {
+            number: self.record.number,
+            declared: self.record.declared,
+            accepted: self.record.accepted,
+            text_len: self.record.text_len,
+            state: self.record.state,
+            metadata: self.record.metadata.as_bytes(),
+        }
+    }
+}
+
+/// The record of a slot, none where the slot is free or isn't there.
+pub fn record_at(slots: &[Option<KeptRecord>], slot: usize) -> Option<&KeptRecord>
+    ensures { option_copied result ≡ get_or slots.now slot None }
+{
+    match slots.get(slot) {
+        Some(record) => record.as_ref(),
+        None => None,
+    }
+}
+
+// The bytes as text.
+fn text_of(alloc: Global, bytes: &[u8]) -> Result<String, OpenFault>
+    ensures said { All (λ b. (0x20 ≤ b) × (b ≤ 0x7E)) bytes.now → LoadsAs result (λ text. text.bytes.items ≡ bytes.now) }
+    ensures same { IfOk result (λ text. text.bytes.items ≡ bytes.now) }
+    ensures no_device { result ≡ Err OpenFault.DiskFault → ⊥ }
+{
+    match str::from_utf8(bytes) {
+        Ok(text) => {
+            let text = String::from_str(alloc, text)?;
+            Ok(text)
+        }
+        Err(_) => Err(OpenFault::Damaged),
+    }
+}
