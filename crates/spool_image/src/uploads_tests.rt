@@ -6,8 +6,9 @@ ghost use Rattle.upload_rules.specs.Records.{IsWellFormed};
 use crate::{OpenFault, Spool, format};
 use enc_index::IndexSet;
 use enc_model::{Encoding, Mode};
-use spool_disk::{Crash, Disk, FuseDisk, MemoryDisk};
+use spool_disk::{Crash, Disk, FileDisk, FuseDisk, HiccupDisk, MemoryDisk};
 use std::alloc::Global;
+use std::fs;
 use std::test::Fail;
 use upload_rules::{New, UploadError, UploadRefusal, Uploads};
 
@@ -176,20 +177,29 @@ fn upload_is_made_or_not_where_the_disk_fails(rt: HostRuntime) -> Result<(), Fai
     Ok(())
 }
 
-// What an append of five bytes to the upload 1 answers on a disk that fails after some calls, and the disk.
-fn patched_until(
-    alloc: Global,
-    disk: MemoryDisk,
-    passed: u64,
-) -> (MemoryDisk, Result<u64, UploadError>) {
-    match Spool::open(alloc, FuseDisk::new(disk, passed)) {
+// What an append of five bytes to the upload 1 answers on a disk, and the disk.
+fn patched_on<D: Disk>(alloc: Global, disk: D) -> (D, Result<u64, UploadError>) {
+    match Spool::open(alloc, disk) {
         Ok(spool) => {
             let mut spool = spool;
             let answer = patched(&mut spool, 1, 0, b"hello");
-            (spool.into_disk().into_inner(), answer)
+            (spool.into_disk(), answer)
         }
-        Err((fuse, _)) => (fuse.into_inner(), Err(UploadError::DiskFault)),
+        Err((disk, _)) => (disk, Err(UploadError::DiskFault)),
     }
+}
+
+// How many bytes the upload 1 has after a crash, what a read of it answers, and the bytes.
+fn left_on(
+    alloc: Global,
+    disk: MemoryDisk,
+) -> Result<(Option<u64>, Result<usize, UploadError>, [u8; 6]), OpenFault> {
+    let mut spool = opened(alloc, disk.crash(Crash::Torn(9)))?;
+    let accepted = spool.record(1).map(|r| r.accepted);
+    let mut buf = [0; 6];
+    let read = spool.read_text(1, 0, &mut buf);
+    drop(spool.into_disk());
+    Ok((accepted, read, buf))
 }
 
 #[test]
@@ -197,12 +207,8 @@ fn append_is_committed_or_not_where_the_disk_fails(rt: HostRuntime) -> Result<()
     for passed in 539..570 {
         let (disk, made) = created_until(rt.alloc(), fresh(rt.alloc())?, 1000);
         assert_eq!(rt; made, Ok(1));
-        let (disk, answer) = patched_until(rt.alloc(), disk, passed);
-        let mut spool = opened(rt.alloc(), disk.crash(Crash::Torn(9)))?;
-        let accepted = spool.record(1).map(|r| r.accepted);
-        let mut buf = [0; 6];
-        let read = spool.read_text(1, 0, &mut buf);
-        drop(spool.into_disk());
+        let (fuse, answer) = patched_on(rt.alloc(), FuseDisk::new(disk, passed));
+        let (accepted, read, buf) = left_on(rt.alloc(), fuse.into_inner())?;
         if accepted == Some(5) {
             assert_eq!(rt; read, Ok(5), "{passed}");
             assert_eq!(rt; buf, [b'h', b'e', b'l', b'l', b'o', 0], "{passed}");
@@ -213,5 +219,102 @@ fn append_is_committed_or_not_where_the_disk_fails(rt: HostRuntime) -> Result<()
         assert!(rt; passed > 539 || accepted == Some(0), "{passed}");
         assert!(rt; passed < 569 || answer == Ok(5), "{passed}");
     }
+    Ok(())
+}
+
+#[test]
+fn append_is_committed_or_not_where_one_call_fails(rt: HostRuntime) -> Result<(), Fail> {
+    for call in 539..570 {
+        let (disk, made) = created_until(rt.alloc(), fresh(rt.alloc())?, 1000);
+        assert_eq!(rt; made, Ok(1));
+        let (hiccup, answer) = patched_on(rt.alloc(), HiccupDisk::new(disk, call, Some(0xA5)));
+        let (accepted, read, buf) = left_on(rt.alloc(), hiccup.into_inner())?;
+        if accepted == Some(5) {
+            assert_eq!(rt; read, Ok(5), "{call}");
+            assert_eq!(rt; buf, [b'h', b'e', b'l', b'l', b'o', 0], "{call}");
+        } else {
+            assert_eq!(rt; accepted, Some(0), "{call}");
+            assert_eq!(rt; answer, Err(UploadError::DiskFault), "{call}");
+        }
+    }
+    Ok(())
+}
+
+#[test]
+fn full_spool_refuses_a_byte_and_loses_nothing(rt: HostRuntime) -> Result<(), Fail> {
+    let text = vec![in rt.alloc(); b'a'; 61440]?;
+    let mut buf = vec![in rt.alloc(); 0; 61440]?;
+    let mut spool = opened(rt.alloc(), fresh(rt.alloc())?)?;
+    assert_eq!(rt; spool.create(plain(rt.alloc(), 4096)), Ok(1));
+    assert_eq!(rt; spool.create(plain(rt.alloc(), 61441)), Ok(2));
+    assert_eq!(rt; patched(&mut spool, 1, 0, &[b'b'; 4096]), Ok(4096));
+    assert_eq!(rt; patched(&mut spool, 2, 0, &text), Ok(61440));
+    assert_eq!(rt;
+        patched(&mut spool, 2, 61440, b"a"),
+        Err(UploadError::Refused(UploadRefusal::Full))
+    );
+    assert_eq!(rt; spool.record(2).map(|r| r.accepted), Some(61440));
+    assert_eq!(rt; spool.read_text(2, 0, &mut buf), Ok(61440));
+    assert!(rt; buf == text);
+    assert_eq!(rt; spool.read_text(1, 0, &mut buf), Ok(4096));
+    assert!(rt; buf.iter().take(4096).all(|b| *b == b'b'));
+    drop(spool.into_disk());
+    Ok(())
+}
+
+#[test]
+fn append_wants_no_block_for_what_is_stored(rt: HostRuntime) -> Result<(), Fail> {
+    let text = vec![in rt.alloc(); b'a'; 40960]?;
+    let mut spool = opened(rt.alloc(), fresh(rt.alloc())?)?;
+    assert_eq!(rt; spool.create(plain(rt.alloc(), 40961)), Ok(1));
+    assert_eq!(rt; patched(&mut spool, 1, 0, &text), Ok(40960));
+    assert_eq!(rt; patched(&mut spool, 1, 40960, b"a"), Ok(40961));
+    drop(spool.into_disk());
+    Ok(())
+}
+
+#[test]
+fn append_wants_a_block_for_the_unfinished_one(rt: HostRuntime) -> Result<(), Fail> {
+    let text = vec![in rt.alloc(); b'a'; 61000]?;
+    for between in [false, true] {
+        let mut spool = opened(rt.alloc(), fresh(rt.alloc())?)?;
+        assert_eq!(rt; spool.create(plain(rt.alloc(), 61001)), Ok(1));
+        assert_eq!(rt; spool.create(plain(rt.alloc(), 1)), Ok(2));
+        assert_eq!(rt; patched(&mut spool, 1, 0, &text), Ok(61000));
+        if between {
+            assert_eq!(rt; patched(&mut spool, 2, 0, b"b"), Ok(1));
+        }
+        let answer = patched(&mut spool, 1, 61000, b"a");
+        drop(spool.into_disk());
+        let full = Err(UploadError::Refused(UploadRefusal::Full));
+        assert_eq!(rt; answer, if between { full } else { Ok(61001) });
+    }
+    Ok(())
+}
+
+const FILE: &str = "spool_image_file_test";
+
+#[test]
+fn file_holds_its_uploads_when_opened_again(rt: HostRuntime) -> Result<(), Fail> {
+    let mut disk = FileDisk::create(&rt, FILE, 557 * 4096)?;
+    format(&mut disk, 16, &IndexSet::new(rt.alloc())?)?;
+    match Spool::open(rt.alloc(), disk) {
+        Ok(mut spool) => {
+            assert_eq!(rt; spool.create(plain(rt.alloc(), 5)), Ok(1));
+            assert_eq!(rt; patched(&mut spool, 1, 0, b"hello"), Ok(5));
+            drop(spool.into_disk());
+        }
+        Err((_, fault)) => panic!(rt; "{fault}"),
+    }
+    match Spool::open(rt.alloc(), FileDisk::open(&rt, FILE)?) {
+        Ok(mut spool) => {
+            let mut buf = [0; 6];
+            assert_eq!(rt; spool.read_text(1, 0, &mut buf), Ok(5));
+            assert_eq!(rt; buf, [b'h', b'e', b'l', b'l', b'o', 0]);
+            drop(spool.into_disk());
+        }
+        Err((_, fault)) => panic!(rt; "{fault}"),
+    }
+    fs::remove_file(&rt, FILE)?;
     Ok(())
 }
