@@ -3,6 +3,7 @@
 
 mod answers;
 mod checks;
+mod committing;
 mod creating;
 mod drafting;
 mod error;
