@@ -26,3 +26,6 @@ pub mod DraftLists
 pub mod Drafted
 pub mod DraftBegun
 pub mod DraftLonger
+pub mod CommitRefusals
+pub mod CommitTexts
+pub mod CommitEnded

@@ -51,12 +51,13 @@ fn is_state_of(record: &Record, state: &[u8; 32]) -> bool
     ensures same { result ≡ true → SameEncodings «record».now.state state.now }
     ensures passes { SameEncodings «record».now.state state.now → result ≡ true }
 {
-    match Transcoder::unpack(state) {
-        Some(next) => {
-            next.from() == record.from && next.to() == record.to && next.mode() == record.mode
-        }
-        None => false,
+    let Some(next) = Transcoder::unpack(state) else {
+        return false;
+    };
+    if next.from() != record.from || next.to() != record.to {
+        return false;
     }
+    next.mode() == record.mode
 }
 
 // What an upload becomes by a draft whose text has ended: none where it doesn't fit what is kept of the upload. That never happens
