@@ -161,7 +161,7 @@ still_stands x seen seen' first records rows m own p a same apart unowned is = r
   tail = is.tail;
 }
 
-held_both : (R S : Patch → SpoolDraft → Type 0) (q : Option Patch) (o : Option SpoolDraft) → ((p : Patch) (a : SpoolDraft) → q ≡ Some p → o ≡ Some a → R p a → S p a) → DraftOf R q o → DraftOf S q o
+pub held_both : (R S : Patch → SpoolDraft → Type 0) (q : Option Patch) (o : Option SpoolDraft) → ((p : Patch) (a : SpoolDraft) → q ≡ Some p → o ≡ Some a → R p a → S p a) → DraftOf R q o → DraftOf S q o
 held_both R S None None weaker h = tt
 held_both R S None (Some o) weaker h = absurd h
 held_both R S (Some p) None weaker h = absurd h
@@ -214,7 +214,7 @@ module _ (x : IndexSet) (seen seen' : ℕ → ℕ) (first n : ℕ) (records : Li
   unowned : Unowned h.rows own
   unowned i lt = ap (λ (r : List Row). get_or r (get_or own i 0) None) (sym grasp.takes.rows) ∙ grasp.reserved.no_owner i lt
 
-  other_stands : (e : ℕ) → d ≢ e → (r : Patch) (a : SpoolDraft) → draft_at old e ≡ Some a → DraftStands x seen first records h.rows w.store r a → DraftStands x seen' first records h'.rows w.store r a
+  pub other_stands : (e : ℕ) → d ≢ e → (r : Patch) (a : SpoolDraft) → draft_at old e ≡ Some a → DraftStands x seen first records h.rows w.store r a → DraftStands x seen' first records h'.rows w.store r a
   other_stands e other r a there is =
       subst (λ (z : List Row). DraftStands x seen' first records z w.store r a) (sym rows)
       (still_stands x seen seen' first records h.rows w.store own r a same

@@ -29,3 +29,5 @@ pub mod DraftLonger
 pub mod CommitRefusals
 pub mod CommitTexts
 pub mod CommitEnded
+pub mod DraftSpent
+pub mod CommitSpent
