@@ -11,11 +11,14 @@ use Rattle.spool_drafts.specs.Effect.{Effect}
 use Rattle.spool_drafts.specs.declared.draft.SpoolDraft.{SpoolDraft}
 use Rattle.spool_pages.specs.View.{SlotRecord, text_page}
 use Rattle.spool_texts.specs.Drafts.{GivesBack, IsReserved}
+use Rattle.upload_rules.specs.Answers.{Answers}
 use Rattle.upload_rules.specs.Calls.{commit_outcome, commit_refusal, committed, committed_store, dropped, outcome}
 use Rattle.upload_rules.specs.Drafts.{draft_at}
 use Rattle.upload_rules.specs.Grown.{IsGrown}
 use Rattle.upload_rules.specs.Store.{Store, Upload, appended_store, appended_to, find, replaced, upload_of, with_bytes, without}
 use Rattle.upload_rules.specs.World.{Patch, World}
+use Rattle.upload_rules.specs.declared.errors.UploadError.{UploadError}
+use Rattle.upload_rules.specs.declared.errors.UploadError.TheVariants.{NoMemory, DiskFault, Refused}
 use Rattle.upload_rules.specs.declared.errors.UploadRefusal.{UploadRefusal}
 use Rattle.upload_rules.proofs.Growing.{grown_dropped, grown_put}
 use Rattle.spool_image.specs.Committing.{IsCommit}
@@ -42,7 +45,18 @@ module _ {D : Type 0} (disk : Ghosts D) (d d' : D) (m : Store) where
   pub either_then : (d'' : D) (after after' : Store) → after' ≡ after → Lasts disk d d' (λ image. ImageShows image m) → Lasts disk d' d'' (ShowsEither m after) → Lasts disk d d'' (ShowsEither m after')
   either_then d'' after after' same lasts next = subst (λ (n : Store). Lasts disk d d'' (ShowsEither m n)) (sym same) (lasts_on (as_before after lasts) next)
 
+-- THE ANSWER
+
+-- the same refusal of another call, which leaves something else
+pub also_refused : {T U : Type 0} (refusal : Option UploadRefusal) (e : UploadError) (done : T → Type 0) (done' : U → Type 0) (X Y : Type 0) → Answers {T = T} refusal (Err e) done X → Y → Answers {T = U} refusal (Err e) done' Y
+also_refused refusal NoMemory done done' X Y is y = (is.0, y)
+also_refused refusal DiskFault done done' X Y is y = is
+also_refused refusal (Refused f) done done' X Y is y = (is.0, y)
+
 -- WHAT IT STANDS FOR
+
+pub on_disk : {D : Type 0} (disk : Ghosts D) (d d' : D) (h : Holding) (drafts : List (Option SpoolDraft)) (w : World) → d' ≡ d → StandsFor disk d h drafts w → StandsFor disk d' h drafts w
+on_disk disk d d' h drafts w same stands = subst (λ e. StandsFor disk e h drafts w) (sym same) stands
 
 module _ {D : Type 0} (disk : Ghosts D) (d d' : D) (h h' : Holding) (only : OnlyReserves h h') (drafts : List (Option SpoolDraft)) (number : ℕ) (o o' : SpoolDraft) (w : World) (p : Patch)
     (is : IsCommit disk d h drafts number o w p) (effect : Effect disk (journal_pages h.layout) (list_of o) (list_of o') d d' h.blocks h'.blocks)
