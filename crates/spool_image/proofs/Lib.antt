@@ -31,3 +31,4 @@ pub mod CommitTexts
 pub mod CommitEnded
 pub mod DraftSpent
 pub mod CommitSpent
+pub mod CommitHead
