@@ -161,7 +161,7 @@ still_stands x seen seen' first records rows m own p a same apart unowned is = r
   tail = is.tail;
 }
 
-held_both : (R S : Patch → SpoolDraft → Type 0) (q : Option Patch) (o : Option SpoolDraft) → ((p : Patch) (a : SpoolDraft) → q ≡ Some p → o ≡ Some a → R p a → S p a) → DraftOf R q o → DraftOf S q o
+pub held_both : (R S : Patch → SpoolDraft → Type 0) (q : Option Patch) (o : Option SpoolDraft) → ((p : Patch) (a : SpoolDraft) → q ≡ Some p → o ≡ Some a → R p a → S p a) → DraftOf R q o → DraftOf S q o
 held_both R S None None weaker h = tt
 held_both R S None (Some o) weaker h = absurd h
 held_both R S (Some p) None weaker h = absurd h
@@ -214,7 +214,7 @@ module _ (x : IndexSet) (seen seen' : ℕ → ℕ) (first n : ℕ) (records : Li
   unowned : Unowned h.rows own
   unowned i lt = ap (λ (r : List Row). get_or r (get_or own i 0) None) (sym grasp.takes.rows) ∙ grasp.reserved.no_owner i lt
 
-  other_stands : (e : ℕ) → d ≢ e → (r : Patch) (a : SpoolDraft) → draft_at old e ≡ Some a → DraftStands x seen first records h.rows w.store r a → DraftStands x seen' first records h'.rows w.store r a
+  pub other_stands : (e : ℕ) → d ≢ e → (r : Patch) (a : SpoolDraft) → draft_at old e ≡ Some a → DraftStands x seen first records h.rows w.store r a → DraftStands x seen' first records h'.rows w.store r a
   other_stands e other r a there is =
       subst (λ (z : List Row). DraftStands x seen' first records z w.store r a) (sym rows)
       (still_stands x seen seen' first records h.rows w.store own r a same
@@ -233,40 +233,47 @@ module _ (x : IndexSet) (seen seen' : ℕ → ℕ) (first n : ℕ) (records : Li
 module _ (w : World) (seen seen' : ℕ → ℕ) (first n : ℕ) (records : List (Option SlotRecord)) (h h' : Held) (old new : List (Option SpoolDraft)) (stand : DraftsStand w.store.indexes seen first records h w old) (fit : DraftsFit n h old)
     (d : ℕ) (o o' : SpoolDraft) (here : draft_at old d ≡ Some o) (own : List ℕ) (grasp : Regrasps h h' (list_of o) (list_of o') own) (changed : IsChanged old d (Some o') new)
     (rows : h'.rows ≡ h.rows) (v : View) (shows : Shows v w.store) (known : h.rows ≡ v.rows) (size : length h.reserved ≡ length h.rows)
-    (after : DraftsFit n h' new) (p : Patch) (piece : List ℕ) where
-  abbrev more : Patch
-  more = with_piece p piece
-
+    (after : DraftsFit n h' new) where
   size_after : length h'.reserved ≡ length h'.rows
   size_after = elim grasp.holds [
     | inl holds ↦ subst (λ (k : Held). length k.reserved ≡ length k.rows) holds.0 (omega (arith, grasp.takes.size, size, ap length grasp.takes.rows))
     | inr given ↦ omega (arith, given.0.size, grasp.takes.size, size, ap length given.0.rows, ap length grasp.takes.rows)
   ]
 
-  kept_short : Holds w.store.indexes more o' → is_short w d more false ≡ p.short
-  kept_short holds =
-      let swap = changed_lists old new d (Some o') changed in
-      went_on w d w.store.indexes more o' seen' first h' (lists_at new d) refl
-      (room_rule w w.store.indexes seen first records h old stand v shows h' d (list_of o') (lists_at new) rows known size_after swap after.reserved after.distinct (all_longer n h old fit d o here h' new o' own grasp changed stand.all))
-      swap.here holds
+  pub rule_after : RuleHolds w d (lists_at new d) h'
+  rule_after =
+      room_rule w w.store.indexes seen first records h old stand v shows h' d (list_of o') (lists_at new) rows known size_after (changed_lists old new d (Some o') changed) after.reserved after.distinct
+      (all_longer n h old fit d o here h' new o' own grasp changed stand.all)
 
-  ran_short : RunsShort h h' (list_of o) (wants w.store.indexes more false) → is_short w d more false ≡ true
-  ran_short short =
+  -- the draft holds all blocks that its patch wants
+  pub holds_all : (q : Patch) (done : Bool) → q.short ≡ false → length (list_of o') ≡ wants w.store.indexes q done → is_short w d q done ≡ false
+  holds_all q done roomy listed = rule_after.enough q done roomy (omega (arith, listed, ap length (changed_lists old new d (Some o') changed).here))
+
+  -- it ran short of blocks for its patch
+  pub lacks : (q : Patch) (done : Bool) → RunsShort h h' (list_of o) (wants w.store.indexes q done) → is_short w d q done ≡ true
+  lacks q done short =
       let lists : ℕ → List ℕ = λ e. if e == d then short.own else lists_at old e in
       let swap : IsSwapped (lists_at old) d short.own lists = record { here = rw (eq-eqb d d refl) refl; others = λ e other. rw (ne_eqb e d (λ s. other (sym s))) refl } in
       let rule = room_rule w w.store.indexes seen first records h old stand v shows short.held d short.own lists short.takes.rows known (omega (arith, short.takes.size, size, ap length short.takes.rows)) swap
       (all_reserved (lists_at old) lists d short.own swap short.held short.reserved (λ e other. taken_keeps (lists_at old e) short.takes (fit.reserved e)))
       (all_apart (lists_at old) lists d short.own swap (own_apart n h old fit d o here short.takes) fit.distinct)
       (taken_in n h old fit d o here lists short.takes swap stand.all) in
-      rule.lacking more false short.full (omega (arith, short.scarce, ap length swap.here))
+      rule.lacking q done short.full (omega (arith, short.scarce, ap length swap.here))
 
-  pub longer_holds : IsLonger w.store.indexes more o o' h h' → Holds w.store.indexes (longer w d p piece) o'
-  longer_holds (inl holds) = subst (λ (b : Bool). Holds w.store.indexes (record more { short = b }) o') (sym (kept_short holds)) holds
-  longer_holds (inr short) = subst (λ (b : Bool). Holds w.store.indexes (record more { short = b }) o') (sym (ran_short short.1)) short.0
+  module _ (p : Patch) (piece : List ℕ) where
+    abbrev more : Patch
+    more = with_piece p piece
 
-  pub longer_carries : IsLonger w.store.indexes more o o' h h' → Carries w.store.indexes seen' first more o' → Carries w.store.indexes seen' first (longer w d p piece) o'
-  longer_carries (inl holds) carries = subst (λ (b : Bool). Carries w.store.indexes seen' first (record more { short = b }) o') (sym (kept_short holds)) carries
-  longer_carries (inr short) carries = λ kept. absurd (both_ways o'.growth.short kept.roomy short.0.short)
+    kept_short : Holds w.store.indexes more o' → is_short w d more false ≡ p.short
+    kept_short holds = went_on w d w.store.indexes more o' seen' first h' (lists_at new d) refl rule_after (changed_lists old new d (Some o') changed).here holds
+
+    pub longer_holds : IsLonger w.store.indexes more o o' h h' → Holds w.store.indexes (longer w d p piece) o'
+    longer_holds (inl holds) = subst (λ (b : Bool). Holds w.store.indexes (record more { short = b }) o') (sym (kept_short holds)) holds
+    longer_holds (inr short) = subst (λ (b : Bool). Holds w.store.indexes (record more { short = b }) o') (sym (lacks more false short.1)) short.0
+
+    pub longer_carries : IsLonger w.store.indexes more o o' h h' → Carries w.store.indexes seen' first more o' → Carries w.store.indexes seen' first (longer w d p piece) o'
+    longer_carries (inl holds) carries = subst (λ (b : Bool). Carries w.store.indexes seen' first (record more { short = b }) o') (sym (kept_short holds)) carries
+    longer_carries (inr short) carries = λ kept. absurd (both_ways o'.growth.short kept.roomy short.0.short)
 
 -- THE DISK AND THE ANSWER
 

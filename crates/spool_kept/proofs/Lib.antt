@@ -22,3 +22,9 @@ pub mod Drafted
 pub mod DraftBegun
 pub mod DraftLonger
 pub mod SameView
+pub mod CommitRefusals
+pub mod CommitTexts
+pub mod CommitEnded
+pub mod DraftSpent
+pub mod CommitSpent
+pub mod CommitHead

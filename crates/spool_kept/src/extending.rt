@@ -21,6 +21,7 @@ use spool_pages::{SlotRecord, change, fill_rows, pages_of_change};
 use std::alloc::{AllocError, Global};
 
 /// What an upload becomes.
+#[derive(Drop)]
 pub struct Longer {
     /// Its slot.
     pub slot: u32,
@@ -172,6 +173,7 @@ pub fn extend<D: Disk>(
     ensures layout { kept.new.layout ≡ kept.old.layout }
     ensures unmade { result ≡ Err ExtendError.NoMemory → (kept.new ≡ kept.old) × (disk.new ≡ disk.old) }
     ensures blocks { (result ≡ Err ExtendError.NoMemory → ⊥) → HandsOn kept.old.blocks.reserved kept.new.blocks.reserved more.now }
+    ensures longer { (result ≡ Err ExtendError.NoMemory → ⊥) → (r : Said) → get_or kept.old.slots longer.now.slot None ≡ Some r → IsLonger kept.old r longer.now more.now kept.new }
 
     // The disk and what is kept stand for the store with the longer upload.
     ensures answer { (m : Store) (n : ℕ) (bytes : List ℕ) → IsAppend D.Disk disk.old kept.old m n bytes longer.now more.now

@@ -2,6 +2,7 @@
 #![tactic(auto)]
 
 mod answers;
+mod committing;
 mod creating;
 mod drafting;
 mod error;
@@ -11,6 +12,7 @@ mod lists;
 mod order;
 mod records;
 
+pub use committing::commit;
 pub use creating::create;
 pub use drafting::{append, begin, drop_open};
 pub use error::OpenFault;

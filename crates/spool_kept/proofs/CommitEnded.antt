@@ -1,0 +1,196 @@
+-- A draft whose text has ended: why it isn't put behind its upload's, and that it may be.
+use Rattle.std.proofs.Common.{Result, Ok, Err, OnOk, IsErrOf, ◌≡◌, inl, inr, ◌⊎◌, ℕ, ◌<◌, ◌≤◌, ◌+◌, ◌-◌, ◌*◌, ◌^◌, ◌==◌, Bool, true, false, List, [], Option, None, Some, length, get_or, set, min, refl, sym, ◌∙◌, ap, subst, arith}
+use Rattle.std.proofs.lemmas.Bool.{cases_lt}
+use Rattle.std.proofs.lemmas.List.{get_or_past}
+use Rattle.enc_model.specs.Indexes.{IndexSet}
+use Rattle.spool_blocks.specs.Blocks.{Row, Held}
+use Rattle.spool_disk.specs.declared.disk.Disk.{Ghosts}
+use Rattle.spool_disk.specs.Views.{Lasts}
+use Rattle.spool_disk.proofs.Firm.{lasts_more}
+use Rattle.spool_journal.specs.Image.{journal_pages}
+use Rattle.spool_drafts.specs.Drafts.{EndsAs, Holds, Carries, IsPlaced, IsWhole, committed_len_of, len_of, list_of, tail_of, number_of, offset_of, came_of, open_text}
+use Rattle.spool_drafts.specs.Effect.{Effect, RunsShort}
+use Rattle.spool_drafts.specs.declared.draft.SpoolDraft.{SpoolDraft}
+use Rattle.spool_pages.proofs.Resting.{rests_aside}
+use Rattle.spool_pages.specs.Rests.{Unowned}
+use Rattle.spool_pages.specs.View.{SlotRecord, View}
+use Rattle.spool_texts.specs.Drafts.{IsReserved}
+use Rattle.spool_texts.specs.TextOn.{AllBelow, text_on}
+use Rattle.upload_rules.specs.Answers.{Answers}
+use Rattle.upload_rules.specs.Calls.{commit_refusal, reached}
+use Rattle.upload_rules.specs.Drafts.{draft_at}
+use Rattle.upload_rules.specs.Room.{is_short, wants}
+use Rattle.upload_rules.specs.Store.{Upload, find, upload_of}
+use Rattle.upload_rules.specs.World.{Patch, World, completes, patch_text}
+use Rattle.upload_rules.specs.declared.errors.UploadError.{UploadError}
+use Rattle.upload_rules.specs.declared.errors.UploadError.TheVariants.{NoMemory, DiskFault, Refused}
+use Rattle.upload_rules.specs.declared.errors.UploadRefusal.TheVariants as refusals
+use Rattle.upload_rules.proofs.Patches.{draft_of}
+use Rattle.spool_kept.specs.Committing.{HasSameCount, IsCommit}
+use Rattle.spool_kept.specs.Drafting.{DraftsFit, DraftStands, OnlyReserves, StandsFor}
+use Rattle.spool_kept.specs.Extending.{IsAppend, MayExtend}
+use Rattle.spool_kept.specs.Holding.{Holding, IsUsedBy}
+use Rattle.spool_kept.specs.Shows.{ImageShows, IsRecordOf}
+use Rattle.spool_kept.specs.Stored.{Stored}
+use Rattle.spool_kept.specs.declared.extending.Longer.{Longer}
+use Rattle.spool_kept.proofs.Appended.{told_upload}
+use Rattle.spool_kept.proofs.CommitRefusals as rules
+use Rattle.spool_kept.proofs.CommitTexts as texts
+use Rattle.spool_kept.proofs.DraftLonger.{fit_longer, holds_all, lacks, moved, some_draft}
+use Rattle.spool_kept.proofs.Drafted.{IsChanged, changed_in}
+
+-- other reserved blocks
+pub only_blocks : (h : Holding) (blocks : Held) → blocks.rows ≡ h.blocks.rows → OnlyReserves h (record h { blocks = blocks })
+only_blocks h blocks rows = record { same = refl; rows = rows }
+
+-- what the draft began behind is placed as it was
+pub placed_still : (n : ℕ) (o o' : SpoolDraft) → committed_len_of o' ≡ committed_len_of o → tail_of o' ≡ tail_of o → IsPlaced n o → IsPlaced n o'
+placed_still n o o' len tail is = record {
+  below = subst (AllBelow n) (sym tail) is.below;
+  long = omega (arith, len, ap length tail, is.long);
+  few = omega (arith, len, is.few);
+}
+
+module _ {D : Type 0} (disk : Ghosts D) (d d' : D) (h h' : Holding) (only : OnlyReserves h h') (drafts : List (Option SpoolDraft)) (number : ℕ) (o o' : SpoolDraft) (w : World) (p : Patch)
+    (is : IsCommit disk d h drafts number o w p) (effect : Effect disk (journal_pages h.layout) (list_of o) (list_of o') d d' h.blocks h'.blocks) where
+  abbrev first : ℕ
+  first = 25 + 2 * journal_pages h.layout
+
+  abbrev s : Stored disk d h w.store
+  s = is.stands.stored
+
+  abbrev x : IndexSet
+  x = w.store.indexes
+
+  unowned : Unowned s.view.rows effect.own
+  unowned i lt = ap (λ (r : List Row). get_or r (get_or effect.own i 0) None) (sym (effect.grasp.takes.rows ∙ s.keeps.rows)) ∙ effect.grasp.reserved.no_owner i lt
+
+  -- THE DISK
+
+  pub stored_after : (disk.honest d → disk.honest d') → Stored disk d' h' w.store
+  stored_after honest = moved disk d d' h h' w.store h.layout s only (honest s.honest) effect.own unowned refl (effect.writes s.honest).writes
+
+  pub quiet_after : Lasts disk d d' (λ image. ImageShows image w.store)
+  quiet_after = lasts_more (effect.writes s.honest).lasts (λ image is'. record {
+    view = s.view;
+    is = rests_aside effect.own image (sym s.keeps.blocks) s.rests unowned is';
+    shows = s.shows;
+  })
+
+  -- THE DRAFT
+
+  pub own_draft : DraftStands w.store.indexes (disk.seen d) (25 + 2 * journal_pages h.layout) h.slots h.blocks.rows w.store p o
+  own_draft =
+      let R = DraftStands w.store.indexes (disk.seen d) (25 + 2 * journal_pages h.layout) h.slots h.blocks.rows w.store in
+      let at = draft_of R p (find number w.patches) (draft_at drafts number) is.patch (is.stands.stands.each number) in
+      subst (R p) (some_draft at.0 o (sym at.1 ∙ is.here)) at.2
+
+  held : Holds w.store.indexes p o
+  held = own_draft.holds
+
+  -- what its slot's record tells of its upload
+  module _ (slot : ℕ) (has : HasSameCount h.slots o slot) where
+    there : get_or s.view.slots slot None ≡ Some has.used
+    there = ap (λ (xs : List (Option SlotRecord)). get_or xs slot None) (sym s.keeps.slots) ∙ has.there
+
+    pub told : IsRecordOf w.store.indexes has.used (s.view.texts slot) p.began
+    told = told_upload s.view w.store s.shows slot has.used there p.began (ap (λ (k : ℕ). find k w.store.uploads) (has.number ∙ held.number) ∙ is.upload)
+
+    module _ (accepted : ℕ) (sum : accepted ≡ min (offset_of o + came_of o) (2 ^ 64 - 1)) (q : SlotRecord) (q_is : q ≡ has.used) where
+      pub all_came : accepted ≡ reached p
+      all_came = omega (arith, sum, held.offset, held.came, held.held, held.within, held.fits)
+
+      completes_is : (accepted == q.declared) ≡ completes p
+      completes_is = ap (λ (n : ℕ). n == q.declared) all_came ∙ ap (λ (n : ℕ). reached p == n) (ap (λ (r : SlotRecord). r.declared) q_is ∙ told.declared)
+
+      indexes_are : h.indexes ≡ w.store.indexes
+      indexes_are = s.keeps.indexes ∙ s.shows.indexes
+
+      module _ (result : Result (List ℕ) UploadError) where
+        -- how the text ended
+        pub ends_as : ((q' : Patch) → Holds h.indexes q' o → 0 < length q'.body → EndsAs h.indexes q' (accepted == q.declared) o o' h.blocks h'.blocks result)
+            → EndsAs w.store.indexes p (completes p) o o' h.blocks h'.blocks result
+        ends_as answer =
+            subst (λ (b : Bool). EndsAs w.store.indexes p b o o' h.blocks h'.blocks result) completes_is
+            (subst (λ (y : IndexSet). EndsAs y p (accepted == q.declared) o o' h.blocks h'.blocks result) indexes_are
+            (answer p (subst (λ (y : IndexSet). Holds y p o) (sym indexes_are) held) is.some))
+
+        -- and the bytes on its blocks
+        pub ends_on : ((q' : Patch) → disk.honest d → Holds h.indexes q' o → 0 < length q'.body → Carries h.indexes (disk.seen d) (25 + 2 * journal_pages h.layout) q' o
+            → OnOk result (1 ≤ length (list_of o') → text_on (disk.seen d') (25 + 2 * journal_pages h.layout) (list_of o') (length (open_text h.indexes q' (accepted == q.declared))) ≡ open_text h.indexes q' (accepted == q.declared)))
+            → OnOk result (1 ≤ length (list_of o') → text_on (disk.seen d') (25 + 2 * journal_pages h.layout) (list_of o') (length (open_text w.store.indexes p (completes p))) ≡ open_text w.store.indexes p (completes p))
+        ends_on content =
+            let P : IndexSet → Bool → Type 0 = λ y b. OnOk result (1 ≤ length (list_of o') → text_on (disk.seen d') (25 + 2 * journal_pages h.layout) (list_of o') (length (open_text y p b)) ≡ open_text y p b) in
+            subst (P w.store.indexes) completes_is (subst (λ (y : IndexSet). P y (accepted == q.declared)) indexes_are
+            (content p s.honest (subst (λ (y : IndexSet). Holds y p o) (sym indexes_are) held) is.some (subst (λ (y : IndexSet). Carries y (disk.seen d) (25 + 2 * journal_pages h.layout) p o) (sym indexes_are) (own_draft.carries is.upload))))
+
+  -- THE RULES
+
+  module _ (placed : IsPlaced h.layout o') (reserved : IsReserved h'.blocks (list_of o')) (size : length h.blocks.reserved ≡ length h.blocks.rows) where
+    inside : number < length drafts
+    inside = elim (cases_lt number (length drafts)) [ inl lt ↦ lt | inr ge ↦ absurd (let n = get_or_past drafts number None ge in let e = is.here in cc) ]
+
+    abbrev pub mid : List (Option SpoolDraft)
+    mid = set drafts number (Some o')
+
+    pub changed_mid : IsChanged drafts number (Some o') (set drafts number (Some o'))
+    changed_mid = changed_in drafts (set drafts number (Some o')) number o' inside refl
+
+    pub fit_mid : DraftsFit h.layout h'.blocks (set drafts number (Some o'))
+    fit_mid = fit_longer h.layout h.blocks drafts is.fits number o is.here h'.blocks (set drafts number (Some o')) o' effect.own effect.grasp changed_mid reserved placed
+
+    roomy : (done : Bool) → p.short ≡ false → length (list_of o') ≡ wants w.store.indexes p done → is_short w number p done ≡ false
+    roomy done =
+        holds_all w (disk.seen d) (disk.seen d') first h.layout h.slots h.blocks h'.blocks drafts (set drafts number (Some o')) is.stands.stands is.fits number o o' is.here effect.own effect.grasp changed_mid
+        only.rows s.view s.shows s.keeps.rows size fit_mid p done
+
+    short : (done : Bool) → RunsShort h.blocks h'.blocks (list_of o) (wants w.store.indexes p done) → is_short w number p done ≡ true
+    short done =
+        lacks w (disk.seen d) (disk.seen d') first h.layout h.slots h.blocks h'.blocks drafts (set drafts number (Some o')) is.stands.stands is.fits number o o' is.here effect.own effect.grasp changed_mid
+        only.rows s.view s.shows s.keeps.rows size fit_mid p done
+
+    stays_short : (done : Bool) → p.short ≡ true → is_short w number p done ≡ true
+    unfolding is_short
+    stays_short done e = rw e refl
+
+    pub refused : {T : Type 0} (done : T → Type 0) (e : UploadError) → EndsAs w.store.indexes p (completes p) o o' h.blocks h'.blocks (Err e) → Answers {T = T} (commit_refusal w number p) (Err e) done (Unit {0})
+    refused done NoMemory ends = (rules.late w number p is.upload, tt)
+    refused done DiskFault ends = rules.late w number p is.upload
+    refused done (Refused refusals.Unencodable) ends = (rules.no_code w number p is.upload is.some ends, tt)
+    refused done (Refused refusals.Full) ends =
+        (rules.no_room w number p is.upload is.some ends.0 (elim ends.1 [ inl before ↦ stays_short (completes p) before | inr ran ↦ short (completes p) ran ]), tt)
+    refused done (Refused refusals.NoSuch) ends = absurd ends
+    refused done (Refused refusals.Offset) ends = absurd ends
+    refused done (Refused refusals.TooLong) ends = absurd ends
+    refused done (Refused refusals.Slots) ends = absurd ends
+    refused done (Refused refusals.TooLarge) ends = absurd ends
+
+    pub not_ended : {T : Type 0} (done : T → Type 0) (r : Result T UploadError) (e : UploadError) → r ≡ Err e → (ended : Result (List ℕ) UploadError) → ended ≡ Err e
+        → EndsAs w.store.indexes p (completes p) o o' h.blocks h'.blocks ended → Answers (commit_refusal w number p) r done (Unit {0})
+    not_ended {T = T} done r e is_err ended was ends =
+        subst (λ (q : Result T UploadError). Answers (commit_refusal w number p) q done (Unit {0})) (sym is_err)
+        (refused done e (subst (λ (q : Result (List ℕ) UploadError). EndsAs w.store.indexes p (completes p) o o' h.blocks h'.blocks q) was ends))
+
+    module _ (state : List ℕ) (whole : IsWhole w.store.indexes p (completes p) o' state) (slot : ℕ) (has : HasSameCount h.slots o slot) where
+      pub allowed : commit_refusal w number p ≡ None
+      allowed = rules.allowed w number p is.upload is.some whole.encodable (roomy (completes p) whole.roomy whole.listed)
+
+      there_after : get_or h'.slots slot None ≡ Some has.used
+      there_after = ap (λ (k : Holding). get_or k.slots slot None) only.same ∙ has.there
+
+      pub may : (accepted : ℕ) → MayExtend h' (record { slot = slot; accepted = accepted; text_len = len_of o'; state = state }) (list_of o')
+      may = texts.may_extend w.store.indexes p o' state held.held held.within is.some whole h' slot has.used there_after (s.view.texts slot) (told slot has)
+
+      pub appends : (longer : Longer) → longer.slot ≡ slot → longer.accepted ≡ reached p → longer.text_len ≡ len_of o' → longer.state ≡ state → Stored disk d' h' w.store
+          → (1 ≤ length (list_of o') → text_on (disk.seen d') (25 + 2 * journal_pages h.layout) (list_of o') (length (open_text w.store.indexes p (completes p))) ≡ open_text w.store.indexes p (completes p))
+          → IsAppend disk d' h' w.store p.number p.body longer (list_of o')
+      appends longer at accepted len is_state stored content = record {
+        stored = stored;
+        used = record { used = has.used; there = ap (λ (k : ℕ). get_or h'.slots k None) at ∙ there_after; is = has.number ∙ held.number };
+        upload = p.began;
+        there = is.upload;
+        added = texts.more w.store.indexes p o' state held.held held.within is.some whole;
+        extension = texts.extension w.store.indexes p o' state held.held held.within is.some whole longer (disk.seen d') (25 + 2 * journal_pages h'.layout) accepted len is_state
+            (λ some. subst (λ (n : ℕ). text_on (disk.seen d') (25 + 2 * journal_pages n) (list_of o') (length (open_text w.store.indexes p (completes p))) ≡ open_text w.store.indexes p (completes p))
+            (sym (ap (λ (k : Holding). k.layout) only.same)) (content some));
+      }

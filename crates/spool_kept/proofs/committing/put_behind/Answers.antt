@@ -1,0 +1,130 @@
+use Rattle.std.proofs.Common.{◌≡◌, ◌∙◌, ap, refl, subst, sym, ℕ, List, Err, None, get_or, set}
+use Rattle.spool_drafts.specs.Drafts.{list_of}
+use Rattle.spool_texts.specs.Drafts.{GivesBack}
+use Rattle.spool_disk.specs.Views.{Lasts}
+use Rattle.upload_rules.specs.Calls.{commit_outcome, commit_refusal, dropped}
+use Rattle.upload_rules.specs.Store.{appended_store}
+use Rattle.spool_kept.specs.Drafting.{DraftsFit, StandsFor}
+use Rattle.spool_kept.specs.Extending.{HandsOn, IsAppend, IsLonger}
+use Rattle.spool_kept.specs.Holding.{Holding}
+use Rattle.spool_kept.specs.Shows.{ImageShows}
+use Rattle.spool_kept.specs.Stored.{ShowsEither}
+use Rattle.spool_kept.specs.declared.extending.ExtendError.{ExtendError}
+use Rattle.spool_kept.proofs.CommitRefusals.{late}
+use Rattle.spool_kept.proofs.CommitSpent as spent
+use Rattle.spool_kept.proofs.DraftSpent.{fit_given, fit_handed, rows_handed}
+use Rattle.spool_kept.proofs.Drafted.{reserves_only}
+use Rattle.spool_kept.proofs.committing.put_behind.Goals as goal
+
+-- THE DRAFTS THAT ARE LEFT
+
+pub returns-in-Err-clause-fits : goal.returns-in-Err-clause-fits
+returns-in-Err-clause-fits g c drafts number fit here =
+    let effect = c.ended.ensures.effect in
+    let layout : c.kept.inside.layout ≡ c.args.kept.now.layout = ap (λ (h : Holding). h.layout) (c.kept.view_is ∙ c.ended.ensures.same.same) in
+    let gives = subst (λ (h : Holding). GivesBack h.blocks c.give_back.new.blocks (list_of c.ended.new.draft)) c.kept.view_is c.give_back.ensures in
+    subst (λ (n : ℕ). DraftsFit n c.give_back.new.blocks (set drafts number None)) (sym layout)
+    (fit_given c.args.kept.now.layout c.args.kept.now.blocks c.ended.new.kept.blocks drafts fit number c.args.draft c.ended.new.draft here effect.own effect.grasp
+    c.ended.ensures.reserved c.ended.ensures.placed c.give_back.new.blocks gives)
+
+pub returns-in-Err-NoMemory-clause-fits : goal.returns-in-Err-NoMemory-clause-fits
+returns-in-Err-NoMemory-clause-fits g c drafts number fit here =
+    let effect = c.ended.ensures.effect in
+    let same = c.kept-2.view_is ∙ (c.extend.ensures.unmade (c.in-Err-NoMemory.is ∙ ap (λ (e : ExtendError). Err e) c.in-Err-NoMemory.field-0-is)).0 in
+    let layout : c.kept-2.inside.layout ≡ c.args.kept.now.layout = ap (λ (h : Holding). h.layout) (same ∙ c.ended.ensures.same.same) in
+    let gives = subst (λ (h : Holding). GivesBack h.blocks c.give_back-in-Err-NoMemory.new.blocks (list_of c.ended.new.draft)) same c.give_back-in-Err-NoMemory.ensures in
+    subst (λ (n : ℕ). DraftsFit n c.give_back-in-Err-NoMemory.new.blocks (set drafts number None)) (sym layout)
+    (fit_given c.args.kept.now.layout c.args.kept.now.blocks c.ended.new.kept.blocks drafts fit number c.args.draft c.ended.new.draft here effect.own effect.grasp
+    c.ended.ensures.reserved c.ended.ensures.placed c.give_back-in-Err-NoMemory.new.blocks gives)
+
+pub returns-in-Ok-extend-clause-fits : goal.returns-in-Ok-extend-clause-fits
+returns-in-Ok-extend-clause-fits g c drafts number fit here =
+    let effect = c.ended.ensures.effect in
+    let may = c.in-Ok.ensures.may in
+    let layout : c.extend.new.kept.layout ≡ c.args.kept.now.layout = c.extend.ensures.layout ∙ ap (λ (h : Holding). h.layout) c.ended.ensures.same.same in
+    let hands = subst (HandsOn c.ended.new.kept.blocks.reserved c.extend.new.kept.blocks.reserved) c.list.ensures.blocks (c.in-Ok-extend.ensures.blocks (λ e. cc)) in
+    let longer = subst (λ (more : List ℕ). IsLonger c.ended.new.kept may.used c.in-Ok.longer more c.extend.new.kept) c.list.ensures.blocks (c.in-Ok-extend.ensures.longer (λ e. cc) may.used may.there) in
+    subst (λ (n : ℕ). DraftsFit n c.extend.new.kept.blocks (set drafts number None)) (sym layout)
+    (fit_handed c.args.kept.now.layout c.args.kept.now.blocks c.ended.new.kept.blocks drafts fit number c.args.draft c.ended.new.draft here effect.own effect.grasp
+    c.ended.ensures.reserved c.ended.ensures.placed c.extend.new.kept.blocks hands (rows_handed c.ended.new.kept c.extend.new.kept may.used c.in-Ok.longer (list_of c.ended.new.draft) longer))
+
+pub returns-in-Err-DiskFault-clause-fits : goal.returns-in-Err-DiskFault-clause-fits
+returns-in-Err-DiskFault-clause-fits g c drafts number fit here =
+    let effect = c.ended.ensures.effect in
+    let may = c.in-Ok.ensures.may in
+    let fault : c.extend.result ≡ Err ExtendError.DiskFault = c.in-Err-DiskFault.is ∙ ap (λ (e : ExtendError). Err e) c.in-Err-DiskFault.field-0-is in
+    let layout : c.extend.new.kept.layout ≡ c.args.kept.now.layout = c.extend.ensures.layout ∙ ap (λ (h : Holding). h.layout) c.ended.ensures.same.same in
+    let hands = subst (HandsOn c.ended.new.kept.blocks.reserved c.extend.new.kept.blocks.reserved) c.list.ensures.blocks (c.extend.ensures.blocks (λ e. cc)) in
+    let longer = subst (λ (more : List ℕ). IsLonger c.ended.new.kept may.used c.in-Ok.longer more c.extend.new.kept) c.list.ensures.blocks (c.extend.ensures.longer (λ e. cc) may.used may.there) in
+    subst (λ (n : ℕ). DraftsFit n c.extend.new.kept.blocks (set drafts number None)) (sym layout)
+    (fit_handed c.args.kept.now.layout c.args.kept.now.blocks c.ended.new.kept.blocks drafts fit number c.args.draft c.ended.new.draft here effect.own effect.grasp
+    c.ended.ensures.reserved c.ended.ensures.placed c.extend.new.kept.blocks hands (rows_handed c.ended.new.kept c.extend.new.kept may.used c.in-Ok.longer (list_of c.ended.new.draft) longer))
+
+-- WHAT A CRASH MAY LEAVE
+
+pub returns-in-Err-clause-crash : goal.returns-in-Err-clause-crash
+returns-in-Err-clause-crash g c drafts number w p is = spent.as_before g.D.Disk c.args.disk.now c.ended.new.disk w.store (commit_outcome w number p) (c.ended.ensures.quiet drafts number w p is)
+
+pub returns-in-Err-clause-unmade : goal.returns-in-Err-clause-unmade
+returns-in-Err-clause-unmade g c drafts number w p is short = c.ended.ensures.quiet drafts number w p is
+
+pub returns-in-Err-NoMemory-clause-unmade : goal.returns-in-Err-NoMemory-clause-unmade
+returns-in-Err-NoMemory-clause-unmade g c drafts number w p is short =
+    let unmade = c.extend.ensures.unmade (c.in-Err-NoMemory.is ∙ ap (λ (e : ExtendError). Err e) c.in-Err-NoMemory.field-0-is) in
+    subst (λ d. Lasts g.D.Disk c.args.disk.now d (λ image. ImageShows image w.store)) (sym unmade.1) (c.ended.ensures.quiet drafts number w p is)
+
+pub returns-in-Err-NoMemory-clause-crash : goal.returns-in-Err-NoMemory-clause-crash
+returns-in-Err-NoMemory-clause-crash g c drafts number w p is =
+    let unmade = c.extend.ensures.unmade (c.in-Err-NoMemory.is ∙ ap (λ (e : ExtendError). Err e) c.in-Err-NoMemory.field-0-is) in
+    subst (λ d. Lasts g.D.Disk c.args.disk.now d (ShowsEither w.store (commit_outcome w number p))) (sym unmade.1)
+    (spent.as_before g.D.Disk c.args.disk.now c.ended.new.disk w.store (commit_outcome w number p) (c.ended.ensures.quiet drafts number w p is))
+
+pub returns-in-Ok-extend-clause-crash : goal.returns-in-Ok-extend-clause-crash
+returns-in-Ok-extend-clause-crash g c drafts number w p is =
+    let answer = c.in-Ok.ensures.answer drafts number w p is in
+    let append = subst (IsAppend g.D.Disk c.ended.new.disk c.ended.new.kept w.store p.number p.body c.in-Ok.longer) (sym c.list.ensures.blocks) answer.1.1 in
+    spent.either_then g.D.Disk c.args.disk.now c.ended.new.disk w.store c.extend.new.disk (appended_store w.store p.number p.body) (commit_outcome w number p) (spent.outcome_is w number p answer.0 is.some)
+    (c.ended.ensures.quiet drafts number w p is) (c.extend.ensures.crash w.store p.number p.body append)
+
+pub returns-in-Err-DiskFault-clause-crash : goal.returns-in-Err-DiskFault-clause-crash
+returns-in-Err-DiskFault-clause-crash g c drafts number w p is =
+    let answer = c.in-Ok.ensures.answer drafts number w p is in
+    let append = subst (IsAppend g.D.Disk c.ended.new.disk c.ended.new.kept w.store p.number p.body c.in-Ok.longer) (sym c.list.ensures.blocks) answer.1.1 in
+    spent.either_then g.D.Disk c.args.disk.now c.ended.new.disk w.store c.extend.new.disk (appended_store w.store p.number p.body) (commit_outcome w number p) (spent.outcome_is w number p answer.0 is.some)
+    (c.ended.ensures.quiet drafts number w p is) (c.extend.ensures.crash w.store p.number p.body append)
+
+-- THE ANSWER
+
+pub returns-in-Err-clause-answer : goal.returns-in-Err-clause-answer
+returns-in-Err-clause-answer g c drafts number w p is =
+    let gives = subst (λ (h : Holding). GivesBack h.blocks c.give_back.new.blocks (list_of c.ended.new.draft)) c.kept.view_is c.give_back.ensures in
+    let stands = spent.stands_dropped g.D.Disk c.args.disk.now c.ended.new.disk c.args.kept.now c.ended.new.kept c.ended.ensures.same drafts number c.args.draft c.ended.new.draft w p is c.ended.ensures.effect
+    c.ended.ensures.reserved c.ended.ensures.placed _ (reserves_only c.ended.new.kept _ _ c.kept.view_is refl c.give_back.ensures.rows) gives (c.ended.ensures.stored drafts number w p is) in
+    spent.also_refused (commit_refusal w number p) c.in-Err.error _ _ _ _ (c.in-Err.ensures.answer drafts number w p is) stands
+
+pub returns-in-Err-NoMemory-clause-answer : goal.returns-in-Err-NoMemory-clause-answer
+returns-in-Err-NoMemory-clause-answer g c drafts number w p is =
+    let unmade = c.extend.ensures.unmade (c.in-Err-NoMemory.is ∙ ap (λ (e : ExtendError). Err e) c.in-Err-NoMemory.field-0-is) in
+    let same = c.kept-2.view_is ∙ unmade.0 in
+    let gives = subst (λ (h : Holding). GivesBack h.blocks c.give_back-in-Err-NoMemory.new.blocks (list_of c.ended.new.draft)) same c.give_back-in-Err-NoMemory.ensures in
+    let stands = spent.stands_dropped g.D.Disk c.args.disk.now c.ended.new.disk c.args.kept.now c.ended.new.kept c.ended.ensures.same drafts number c.args.draft c.ended.new.draft w p is c.ended.ensures.effect
+    c.ended.ensures.reserved c.ended.ensures.placed _ (reserves_only c.ended.new.kept _ _ same refl c.give_back-in-Err-NoMemory.ensures.rows) gives (c.ended.ensures.stored drafts number w p is) in (
+      late w number p is.upload,
+      spent.on_disk g.D.Disk c.ended.new.disk c.extend.new.disk _ (set drafts number None) (dropped w number) unmade.1 stands,
+    )
+
+pub returns-in-Ok-extend-clause-answer : goal.returns-in-Ok-extend-clause-answer
+returns-in-Ok-extend-clause-answer g c drafts number w p is =
+    let answer = c.in-Ok.ensures.answer drafts number w p is in
+    let may = c.in-Ok.ensures.may in
+    let append = subst (IsAppend g.D.Disk c.ended.new.disk c.ended.new.kept w.store p.number p.body c.in-Ok.longer) (sym c.list.ensures.blocks) answer.1.1 in
+    let hands = subst (HandsOn c.ended.new.kept.blocks.reserved c.extend.new.kept.blocks.reserved) c.list.ensures.blocks (c.in-Ok-extend.ensures.blocks (λ e. cc)) in
+    let longer = subst (λ (more : List ℕ). IsLonger c.ended.new.kept may.used c.in-Ok.longer more c.extend.new.kept) c.list.ensures.blocks (c.in-Ok-extend.ensures.longer (λ e. cc) may.used may.there) in (
+      answer.0,
+      (
+          answer.1.0,
+          spent.stands_committed g.D.Disk c.args.disk.now c.ended.new.disk c.args.kept.now c.ended.new.kept c.ended.ensures.same drafts number c.args.draft c.ended.new.draft w p is c.ended.ensures.effect
+              c.ended.ensures.reserved c.ended.ensures.placed c.in-Ok.longer answer.1.1 may.used c.extend.new.disk c.extend.new.kept longer hands
+              (c.in-Ok-extend.ensures.texts w.store p.number p.body append) (c.in-Ok-extend.ensures.answer w.store p.number p.body append),
+      ),
+    )
