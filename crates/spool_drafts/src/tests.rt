@@ -1,6 +1,6 @@
 //! Drafts in use, on a disk in memory.
 
-ghost use Rattle.std.specs.Prelude.{◌≡◌, ◌≤◌, ◌*◌, IfOk, length};
+ghost use Rattle.std.specs.Prelude.{◌≡◌, ◌≤◌, ◌*◌, IfOk, [], length};
 ghost use Rattle.spool_drafts.specs.Drafts.{IsPlaced, list_of};
 ghost use Rattle.spool_journal.specs.Image.{all_pages};
 ghost use Rattle.spool_texts.specs.Drafts.{IsReserved};
@@ -44,6 +44,24 @@ fn upload_of(alloc: Global, declared: u64) -> Record {
         metadata: String::new(alloc),
     };
     Record::first(7, fields)
+}
+
+// A draft of so many bytes, behind the upload's text on the listed blocks.
+fn begun(
+    rt: &impl Abort,
+    alloc: Global,
+    layout: &Layout,
+    upload: &Record,
+    list: &[BlockNo],
+    count: u64,
+) -> SpoolDraft
+    requires long { upload.now.text_len ≤ 4096 * length list.now }
+    requires few { length list.now ≤ 65536 }
+    requires listed { AllBelow layout.now list.now }
+    ensures none { list_of result ≡ [] }
+    ensures placed { IsPlaced layout.now result }
+{
+    SpoolDraft::begin(alloc, upload, list, upload.accepted, count).expect(rt, "it may begin")
 }
 
 // Appends 5,000 bytes in pieces: a few, one that ends behind the first block, and the rest.
@@ -93,10 +111,7 @@ fn appended<D: Disk>(
     ensures listed { IfOk result (λ r. AllBelow layout.now r.0.items) }
 {
     let indexes = IndexSet::new(alloc)?;
-    let mut draft = SpoolDraft::begin(alloc, upload, list, upload.accepted, 5000).expect(
-        rt,
-        "it may begin",
-    );
+    let mut draft = begun(rt, alloc, layout, upload, list, 5000);
     append_pieces(&mut draft, alloc, disk, layout, blocks, &indexes, text)?;
     let state = draft.end(alloc, disk, layout, blocks, &indexes, false)?;
     assert_eq!(rt;
@@ -182,10 +197,7 @@ fn reserved_blocks_are_given_back(rt: HostRuntime) -> Result<(), Fail> {
     assert_eq!(rt; text.len(), 5000);
     let upload = upload_of(rt.alloc(), 5000);
     assert_eq!(rt; upload.text_len, 0);
-    let mut draft = SpoolDraft::begin(rt.alloc(), &upload, &[], 0, 5000).expect(
-        &rt,
-        "it may begin",
-    );
+    let mut draft = begun(&rt, rt.alloc(), &layout, &upload, &[], 5000);
     let put = append_pieces(
         &mut draft,
         rt.alloc(),
@@ -196,7 +208,7 @@ fn reserved_blocks_are_given_back(rt: HostRuntime) -> Result<(), Fail> {
         &text,
     );
     assert_eq!(rt; put, Ok(()));
-    assert_eq!(rt; blocks.take(), None);
+    assert_eq!(rt; draft.list().len(), 2);
     draft.give_back(&mut blocks);
     assert!(rt; blocks.take().is_some());
     assert!(rt; blocks.take().is_some());
@@ -220,7 +232,7 @@ fn short_end(
     let text = text_of(alloc, 5000)?;
     let upload = upload_of(alloc, 6000);
     assert_eq!(rt; upload.text_len, 0);
-    let mut draft = SpoolDraft::begin(alloc, &upload, &[], 0, 6000).expect(rt, "it may begin");
+    let mut draft = begun(rt, alloc, &layout, &upload, &[], 6000);
     draft.append(alloc, &mut disk, &layout, &mut blocks, &indexes, &text)?;
     assert_eq!(rt; draft.came(), 5000);
     assert_eq!(rt; draft.list().len(), 0);
