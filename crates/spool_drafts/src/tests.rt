@@ -1,6 +1,6 @@
 //! Drafts in use, on a disk in memory.
 
-ghost use Rattle.std.specs.Prelude.{◌≡◌, ◌≤◌, ◌*◌, IfOk, length};
+ghost use Rattle.std.specs.Prelude.{◌≡◌, ◌≤◌, ◌*◌, IfOk, [], length};
 ghost use Rattle.spool_drafts.specs.Drafts.{IsPlaced, list_of};
 ghost use Rattle.spool_journal.specs.Image.{all_pages};
 ghost use Rattle.spool_texts.specs.Drafts.{IsReserved};
@@ -44,6 +44,24 @@ fn upload_of(alloc: Global, declared: u64) -> Record {
         metadata: String::new(alloc),
     };
     Record::first(7, fields)
+}
+
+// A draft of so many bytes, behind the upload's text on the listed blocks.
+fn begun(
+    rt: &impl Abort,
+    alloc: Global,
+    layout: &Layout,
+    upload: &Record,
+    list: &[BlockNo],
+    count: u64,
+) -> SpoolDraft
+    requires long { upload.now.text_len ≤ 4096 * length list.now }
+    requires few { length list.now ≤ 65536 }
+    requires listed { AllBelow layout.now list.now }
+    ensures none { list_of result ≡ [] }
+    ensures placed { IsPlaced layout.now result }
+{
+    SpoolDraft::begin(alloc, upload, list, upload.accepted, count).expect(rt, "it may begin")
 }
 
 // Appends 5,000 bytes in pieces: a few, one that ends behind the first block, and the rest.
@@ -93,10 +111,7 @@ fn appended<D: Disk>(
     ensures listed { IfOk result (λ r. AllBelow layout.now r.0.items) }
 {
     let indexes = IndexSet::new(alloc)?;
-    let mut draft = SpoolDraft::begin(alloc, upload, list, upload.accepted, 5000).expect(
-        rt,
-        "it may begin",
-    );
+    let mut draft = begun(rt, alloc, layout, upload, list, 5000);
     append_pieces(&mut draft, alloc, disk, layout, blocks, &indexes, text)?;
     let state = draft.end(alloc, disk, layout, blocks, &indexes, false)?;
     assert_eq!(rt;
@@ -109,45 +124,64 @@ fn appended<D: Disk>(
     Ok((draft.into_list(alloc), state))
 }
 
+// Reads back what two appends of these 5,000 bytes left: a block of the first one, and those of the second.
+fn read_back<D: Disk>(
+    rt: &impl Abort,
+    disk: &mut D,
+    layout: &Layout,
+    first: &[BlockNo],
+    second: &[BlockNo],
+    text: &[u8],
+) -> Result<(), Fail>
+    requires room { 4096 * all_pages layout.now ≤ D.size disk.old }
+    requires first { AllBelow layout.now first.now }
+    requires second { AllBelow layout.now second.now }
+    requires counts { (length first.now ≡ 2) × (length second.now ≡ 2) }
+    requires text { length text.now ≡ 5000 }
+{
+    let mut front = [0; 4096];
+    read_text(disk, layout, first, 4096, 0, &mut front)?;
+    let mut rest = [0; 5904];
+    read_text(disk, layout, second, 5904, 0, &mut rest)?;
+    let (head, tail) = text.split_at(4096);
+    let (begun, more) = rest.split_at(904);
+    assert!(rt; front.as_slice() == head);
+    assert!(rt; begun == tail);
+    assert!(rt; more == text);
+    Ok(())
+}
+
+// Appends the same 5,000 bytes twice, and reads both back.
+fn append_twice<D: Disk>(
+    rt: &impl Abort,
+    alloc: Global,
+    disk: &mut D,
+    layout: &Layout,
+    blocks: &mut Blocks,
+) -> Result<(), Fail>
+    requires room { 4096 * all_pages layout.now ≤ D.size disk.old }
+    requires blocks { length blocks.old.rows ≡ layout.now }
+{
+    let text = text_of(alloc, 5000)?;
+    assert_eq!(rt; text.len(), 5000);
+    let mut upload = upload_of(alloc, 10_000);
+    assert_eq!(rt; upload.text_len, 0);
+    let (first, state) = appended(rt, alloc, disk, layout, blocks, &upload, &[], &text)?;
+    assert_eq!(rt; first.len(), 2);
+    upload.accepted = 5000;
+    upload.text_len = 5000;
+    upload.state = state;
+    let (second, _) = appended(rt, alloc, disk, layout, blocks, &upload, &first, &text)?;
+    assert_eq!(rt; second.len(), 2);
+    read_back(rt, disk, layout, &first, &second, &text)
+}
+
 #[test]
 fn text_is_gone_on_with_behind_its_unfinished_block(rt: HostRuntime) -> Result<(), Fail> {
     let layout = Layout::of(16).ok_or("few blocks")?;
     let mut disk = disk_of(rt.alloc(), layout.pages())?;
     let mut blocks = Blocks::of(rt.alloc(), vec![in rt.alloc(); None; 16]?)?;
-    let text = text_of(rt.alloc(), 10_000)?;
-    assert_eq!(rt; text.len(), 10_000);
-    let mut upload = upload_of(rt.alloc(), 10_000);
-    assert_eq!(rt; upload.text_len, 0);
-    let (first, state) = appended(
-        &rt,
-        rt.alloc(),
-        &mut disk,
-        &layout,
-        &mut blocks,
-        &upload,
-        &[],
-        &text[..5000],
-    )?;
-    assert_eq!(rt; first.len(), 2);
-    upload.accepted = 5000;
-    upload.text_len = 5000;
-    upload.state = state;
-    let (behind, _) = appended(
-        &rt,
-        rt.alloc(),
-        &mut disk,
-        &layout,
-        &mut blocks,
-        &upload,
-        &first,
-        &text[5000..],
-    )?;
-    assert_eq!(rt; behind.len(), 2);
-    let mut buf = vec![in rt.alloc(); 0; 10_000]?;
-    read_text(&mut disk, &layout, &first, 4096, 0, &mut buf[..4096])?;
-    read_text(&mut disk, &layout, &behind, 5904, 0, &mut buf[4096..])?;
-    assert!(rt; buf == text);
-    Ok(())
+    append_twice(&rt, rt.alloc(), &mut disk, &layout, &mut blocks)
 }
 
 #[test]
@@ -163,10 +197,7 @@ fn reserved_blocks_are_given_back(rt: HostRuntime) -> Result<(), Fail> {
     assert_eq!(rt; text.len(), 5000);
     let upload = upload_of(rt.alloc(), 5000);
     assert_eq!(rt; upload.text_len, 0);
-    let mut draft = SpoolDraft::begin(rt.alloc(), &upload, &[], 0, 5000).expect(
-        &rt,
-        "it may begin",
-    );
+    let mut draft = begun(&rt, rt.alloc(), &layout, &upload, &[], 5000);
     let put = append_pieces(
         &mut draft,
         rt.alloc(),
@@ -177,7 +208,7 @@ fn reserved_blocks_are_given_back(rt: HostRuntime) -> Result<(), Fail> {
         &text,
     );
     assert_eq!(rt; put, Ok(()));
-    assert_eq!(rt; blocks.take(), None);
+    assert_eq!(rt; draft.list().len(), 2);
     draft.give_back(&mut blocks);
     assert!(rt; blocks.take().is_some());
     assert!(rt; blocks.take().is_some());
@@ -201,7 +232,7 @@ fn short_end(
     let text = text_of(alloc, 5000)?;
     let upload = upload_of(alloc, 6000);
     assert_eq!(rt; upload.text_len, 0);
-    let mut draft = SpoolDraft::begin(alloc, &upload, &[], 0, 6000).expect(rt, "it may begin");
+    let mut draft = begun(rt, alloc, &layout, &upload, &[], 6000);
     draft.append(alloc, &mut disk, &layout, &mut blocks, &indexes, &text)?;
     assert_eq!(rt; draft.came(), 5000);
     assert_eq!(rt; draft.list().len(), 0);
