@@ -1,10 +1,10 @@
 -- The fault of a call as that of its run.
 use Rattle.gateway_engine.specs.declared.faults.CallFault.{CallFault}
 use Rattle.gateway_engine.specs.declared.faults.CallFault.TheVariants as calls
-use Rattle.gateway_engine.specs.declared.faults.RunFault.{RunFault}
-use Rattle.gateway_engine.specs.declared.faults.RunFault.TheVariants as runs
+use Rattle.gateway_engine.specs.declared.faults.ScriptFault.{ScriptFault}
+use Rattle.gateway_engine.specs.declared.faults.ScriptFault.TheVariants as runs
 
-abbrev pub run_fault : CallFault → RunFault
-run_fault calls.NoMemory = runs.NoMemory
-run_fault calls.DiskFault = runs.DiskFault
-run_fault calls.Io = runs.Io
+abbrev pub script_fault : CallFault → ScriptFault
+script_fault calls.NoMemory = runs.NoMemory
+script_fault calls.DiskFault = runs.DiskFault
+script_fault calls.Io = runs.Io

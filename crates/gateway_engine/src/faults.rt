@@ -1,6 +1,6 @@
 //! Why a run ends before its script does.
 ghost use Rattle.std.specs.Prelude.{◌≡◌};
-ghost use Rattle.gateway_engine.specs.Faults.{run_fault};
+ghost use Rattle.gateway_engine.specs.Faults.{script_fault};
 
 /// Why a call of a script's line isn't done.
 #[derive(Clone, Copy, Debug, PartialEq, Eq, Drop)]
@@ -15,7 +15,7 @@ pub enum CallFault {
 
 /// Why a run ends before its script does.
 #[derive(Clone, Copy, Debug, PartialEq, Eq, Drop)]
-pub enum RunFault {
+pub enum ScriptFault {
     /// A growth was refused outside the calls of the connections.
     NoMemory,
     /// The device failed.
@@ -26,14 +26,14 @@ pub enum RunFault {
     Io,
 }
 
-impl From<CallFault> for RunFault {
+impl From<CallFault> for ScriptFault {
     fn from(fault: CallFault) -> Self
-        ensures { result ≡ run_fault fault }
+        ensures { result ≡ script_fault fault }
     {
         match fault {
-            CallFault::NoMemory => RunFault::NoMemory,
-            CallFault::DiskFault => RunFault::DiskFault,
-            CallFault::Io => RunFault::Io,
+            CallFault::NoMemory => ScriptFault::NoMemory,
+            CallFault::DiskFault => ScriptFault::DiskFault,
+            CallFault::Io => ScriptFault::Io,
         }
     }
 }

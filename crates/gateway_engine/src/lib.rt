@@ -14,6 +14,6 @@ mod tests;
 mod writing;
 
 pub use connections::Connections;
-pub use faults::{CallFault, RunFault};
+pub use faults::{CallFault, ScriptFault};
 pub use gateway::Gateway;
 pub use scripts::run_over;
