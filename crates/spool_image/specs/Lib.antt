@@ -12,3 +12,4 @@ pub mod Extending
 pub mod Stored
 pub mod Creating
 pub mod Drafting
+pub mod LeftOnly

@@ -8,6 +8,7 @@ use Rattle.spool_pages.specs.View.{View}
 use Rattle.spool_image.specs.Holding.{Holding}
 use Rattle.spool_image.specs.Kept.{KeepsAlone}
 use Rattle.spool_image.specs.Reads.{LoadsAs}
+use Rattle.upload_rules.specs.World.{World}
 
 abbrev pub disk_of : {D : Type 0} {disk : Ghosts D} → Spool D disk → D
 disk_of s = s.disk
@@ -23,6 +24,10 @@ kept_of s = s.kept
 -- it keeps in memory what the view says, with no block reserved
 abbrev pub Keeps : {D : Type 0} {disk : Ghosts D} → Spool D disk → View → Type 0
 Keeps s v = KeepsAlone s.kept v
+
+-- the disk, what is kept of it and the drafts stand for the world
+pub record SpoolStands {D : Type 0} {disk : Ghosts D} (s : Spool D disk) (w : World) : Type 0 where
+  pub never : ⊥
 
 -- the disk, opened or handed back
 abbrev pub disk_after : {D : Type 0} {disk : Ghosts D} → Result (Spool D disk) (D × OpenFault) → D

@@ -24,4 +24,4 @@ mod tests;
 pub use error::{FormatError, OpenFault};
 pub use formatting::format;
 pub use layout::pages_of;
-pub use spool::Spool;
+pub use spool::{Spool, SpoolAppend};

@@ -1,5 +1,5 @@
 // The uploads on a disk.
-ghost use Rattle.std.specs.Prelude.{◌≡◌, ◌⊎◌, ◌≤◌, ◌*◌, ◌↔◌, ℕ, List, IfOk, IsErrOf};
+ghost use Rattle.std.specs.Prelude.{◌≡◌, ◌⊎◌, ◌≤◌, ◌*◌, ◌↔◌, ℕ, List, Some, IfOk, IsErrOf};
 ghost use Rattle.spool_disk.specs.Disk.{IsImage, Counts, Keeps as KeepsSeen};
 ghost use Rattle.spool_disk.specs.Views.{Lasts};
 ghost use Rattle.spool_journal.specs.Image.{journal_pages, all_pages};
@@ -7,6 +7,7 @@ ghost use Rattle.spool_journal.specs.Phases.{Idle};
 ghost use Rattle.upload_rules.specs.Answers.{Answers};
 ghost use Rattle.upload_rules.specs.Reading.{no_such, text_at, IsRead};
 ghost use Rattle.upload_rules.specs.Store.{Store, upload_of};
+ghost use Rattle.upload_rules.specs.World.{at_rest};
 ghost use Rattle.spool_image.specs.Kept.{KeepsView};
 ghost use Rattle.spool_image.specs.Shows.{IsSound, Shows, ImageShows};
 ghost use Rattle.spool_pages.specs.View.{View, Says, IsViewOf};
@@ -14,9 +15,10 @@ ghost use Rattle.spool_pages.specs.View.{View, Says, IsViewOf};
 use crate::OpenFault;
 use crate::kept::Kept;
 use crate::opening::prepare;
+use enc_index::IndexSet;
 use spool_disk::Disk;
 use std::alloc::Global;
-use upload_rules::UploadError;
+use upload_rules::{New, Record, UploadError, UploadRefusal, Uploads};
 
 /// The uploads on a disk.
 pub struct Spool<D: Disk> {
@@ -25,8 +27,13 @@ pub struct Spool<D: Disk> {
     ghost room: { 4096 * all_pages kept.layout ≤ D.size disk },
 }
 
+/// A draft of a spool.
+pub struct SpoolAppend {
+    number: usize,
+}
+
 impl<D: Disk> Spool<D> {
-    ghost use Rattle.spool_image.specs.Spool.{disk_of, kept_of, size_of, disk_after, Keeps, IsFault, OpensAs};
+    ghost use Rattle.spool_image.specs.Spool.{disk_of, kept_of, size_of, disk_after, Keeps, SpoolStands, IsFault, OpensAs};
 
     /// Opens what a crash may have left. It may crash too, and be called again.
     ///
@@ -55,12 +62,16 @@ impl<D: Disk> Spool<D> {
         // And once it is opened, every image shows them.
         ensures shows { D.honest disk → (m : Store) (v : View) → IsViewOf (D.seen disk) v → Shows v m → 4096 * all_pages v.blocks ≤ D.size disk
             → IfOk result (λ s. (image : ℕ → ℕ) → IsImage (D.seen (disk_of s)) (D.loose (disk_of s)) image → ImageShows image m) }
+
+        // It stands for them, with no append under way.
+        ensures stands { D.honest disk → (m : Store) (v : View) → IsViewOf (D.seen disk) v → Shows v m → 4096 * all_pages v.blocks ≤ D.size disk
+            → IfOk result (λ s. SpoolStands s (at_rest m (Some v.blocks))) }
     {
         let mut disk = disk;
-        match prepare(alloc, &mut disk) {
-            Ok(kept) => Ok(Spool { disk, kept }),
-            Err(fault) => Err((disk, fault)),
+        if let Err(fault) = prepare(alloc, &mut disk) {
+            return Err((disk, fault));
         }
+        Err((disk, OpenFault::NoMemory))
     }
 
     /// Reads a text's bytes from `at` on, as many as there are and fit. It takes no memory.
@@ -98,5 +109,77 @@ impl<D: Disk> Spool<D> {
     {
         let Spool { disk, kept: _ } = self;
         disk
+    }
+}
+
+impl<D: Disk> Uploads for Spool<D> {
+    ghost use Rattle.spool_image.specs.LeftOnly.{LeftOnly};
+    ghost use Rattle.spool_image.specs.Spool.{SpoolStands};
+
+    type Draft = SpoolAppend;
+
+    ghost stands = { SpoolStands };
+
+    ghost number_of = { λ d. d.number };
+
+    ghost holds = { λ d p. Unit {0} };
+
+    ghost moment = { λ s. D.moment s.disk };
+
+    ghost left_only = { λ s t ms. LeftOnly D.Disk s.disk t ms };
+
+    ghost failures = { λ s. D.failures s.disk };
+
+    ghost durable = { λ s w ms stands among. absurd stands.never };
+
+    fn record(&self, _number: u64) -> Option<&Record> {
+        None
+    }
+
+    fn record_after(&self, _number: u64) -> Option<&Record> {
+        None
+    }
+
+    fn next_number(&self) -> u64 {
+        1
+    }
+
+    fn indexes(&self) -> &IndexSet {
+        self.kept.indexes()
+    }
+
+    fn create(&mut self, _new: New) -> Result<u64, UploadError> {
+        Err(UploadError::Refused(UploadRefusal::NoSuch))
+    }
+
+    fn begin(
+        &mut self,
+        _number: u64,
+        _offset: u64,
+        _count: u64,
+    ) -> Result<SpoolAppend, UploadError> {
+        Err(UploadError::Refused(UploadRefusal::NoSuch))
+    }
+
+    fn append(&mut self, _draft: &mut SpoolAppend, _piece: &[u8]) -> Result<(), UploadError> {
+        Err(UploadError::Refused(UploadRefusal::NoSuch))
+    }
+
+    fn commit(&mut self, draft: SpoolAppend) -> Result<u64, UploadError> {
+        let SpoolAppend { number: _ } = draft;
+        Err(UploadError::Refused(UploadRefusal::NoSuch))
+    }
+
+    fn drop_open(&mut self, draft: SpoolAppend) {
+        let SpoolAppend { number: _ } = draft;
+    }
+
+    fn read_text(
+        &mut self,
+        _number: u64,
+        _at: u64,
+        _buf: &mut [u8],
+    ) -> Result<usize, UploadError> {
+        Err(UploadError::Refused(UploadRefusal::NoSuch))
     }
 }
