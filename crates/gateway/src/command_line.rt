@@ -3,9 +3,6 @@
 use clap::{Arg, ArgAction, ArgMatches, Command, Error};
 use std::alloc::{AllocError, Global};
 
-// The spools that a script may run over: `-` stands for uploads in memory.
-static SCRIPT_SPOOLS: [&str; 1] = ["-"];
-
 /// What the command line asks for.
 pub(crate) enum Order<'a> {
     /// A new spool at this path, of so many text blocks, with the index files of this folder.
@@ -14,8 +11,14 @@ pub(crate) enum Order<'a> {
         blocks: u32,
         indexes: &'a str,
     },
-    /// Standard input, run as a script.
-    Script,
+    /// Standard input, run as a script over the spool at this path: `-` stands for a fresh one in memory.
+    Script {
+        spool: &'a str,
+    },
+    /// The uploads of the spool at this path.
+    List {
+        spool: &'a str,
+    },
     /// Nothing that there is.
     Nothing,
 }
@@ -25,7 +28,14 @@ pub(crate) fn read_order<'a>(alloc: Global, words: &'a [String]) -> Result<Order
     let matches = gateway(alloc)?.try_get_matches_from(words)?;
     Ok(match matches.subcommand() {
         Some(("format", given)) => format_order(given),
-        Some(("script", _)) => Order::Script,
+        Some(("script", given)) => match given.get_str("SPOOL") {
+            Some(spool) => Order::Script { spool },
+            None => Order::Nothing,
+        },
+        Some(("list", given)) => match given.get_str("SPOOL") {
+            Some(spool) => Order::List { spool },
+            None => Order::Nothing,
+        },
         _ => Order::Nothing,
     })
 }
@@ -51,7 +61,8 @@ fn gateway<'a>(alloc: Global) -> Result<Command<'a>, AllocError> {
         .about("A gateway for resumable uploads (tus 1.0.0) of text in old and new encodings")
         .subcommand_required(true)
         .subcommand(format(alloc)?)?
-        .subcommand(script(alloc)?)
+        .subcommand(script(alloc)?)?
+        .subcommand(list(alloc)?)
 }
 
 fn format<'a>(alloc: Global) -> Result<Command<'a>, AllocError> {
@@ -79,11 +90,19 @@ fn format<'a>(alloc: Global) -> Result<Command<'a>, AllocError> {
 }
 
 fn script<'a>(alloc: Global) -> Result<Command<'a>, AllocError> {
-    let spool = Arg::new(alloc, "SPOOL")
-        .required(true)
-        .value_parser(SCRIPT_SPOOLS.as_slice())
-        .help("`-`: uploads in memory, gone when the script ends");
+    let spool = Arg::new(alloc, "SPOOL").required(true).help(
+        "The file with the spool; `-`: a fresh one in memory, gone when the script ends",
+    );
     Command::new(alloc, "script")
         .about("Runs standard input as a script of connections")
+        .arg(spool)
+}
+
+fn list<'a>(alloc: Global) -> Result<Command<'a>, AllocError> {
+    let spool = Arg::new(alloc, "SPOOL")
+        .required(true)
+        .help("The file with the spool");
+    Command::new(alloc, "list")
+        .about("Prints the uploads of a spool, by number")
         .arg(spool)
 }

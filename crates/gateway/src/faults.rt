@@ -3,7 +3,7 @@
 use enc_index::ReadError;
 use gateway_engine::RunFault;
 use spool_disk::DiskFault;
-use spool_image::FormatError;
+use spool_image::{FormatError, OpenFault};
 use std::alloc::AllocError;
 use std::{fmt, io};
 
@@ -14,12 +14,18 @@ pub(crate) enum Fault {
     NoMemory,
     /// The device failed.
     Device,
+    /// The bytes of the file are none that are ever written to a spool.
+    Damaged,
     /// A line of this index file isn't of the form, is out of range, or gives a pointer again.
     Index(&'static str, ReadError),
     /// The file is a spool already.
     AlreadySpool,
     /// The number of text blocks isn't 16 to 65,536.
     Size,
+    /// The file is no spool.
+    NotASpool,
+    /// The spool has another version.
+    Version,
     /// A line of the script.
     Script(u64),
     /// A reader, a writer or a file failed.
@@ -31,6 +37,7 @@ impl fmt::Display for Fault {
         match self {
             Fault::NoMemory => f.write_str("refused: 0 NoMemory"),
             Fault::Device => f.write_str("device fault"),
+            Fault::Damaged => f.write_str("refused: 2 Damaged"),
             Fault::Index(file, ReadError::Line(line)) => write!(f, "refused: 3 Line {file} {line}"),
             Fault::Index(file, ReadError::Range(line)) => write!(
                 f,
@@ -43,6 +50,8 @@ impl fmt::Display for Fault {
             Fault::Index(_, ReadError::NoMemory) => f.write_str("refused: 0 NoMemory"),
             Fault::AlreadySpool => f.write_str("refused: 13 AlreadySpool"),
             Fault::Size => f.write_str("refused: 14 Size"),
+            Fault::NotASpool => f.write_str("refused: 15 NotASpool"),
+            Fault::Version => f.write_str("refused: 16 Version"),
             Fault::Script(line) => write!(f, "refused: 32 Script {line}"),
             Fault::Io => f.write_str("refused: 33 Io"),
         }
@@ -90,9 +99,22 @@ impl From<FormatError> for Fault {
     }
 }
 
+impl From<OpenFault> for Fault {
+    fn from(fault: OpenFault) -> Self {
+        match fault {
+            OpenFault::NotASpool => Fault::NotASpool,
+            OpenFault::DiskFault => Fault::Device,
+            OpenFault::Damaged => Fault::Damaged,
+            OpenFault::Version => Fault::Version,
+            OpenFault::NoMemory => Fault::NoMemory,
+        }
+    }
+}
+
 impl From<RunFault> for Fault {
     fn from(fault: RunFault) -> Self {
         match fault {
+            RunFault::Open(fault) => Fault::from(fault),
             RunFault::NoMemory => Fault::NoMemory,
             RunFault::DiskFault => Fault::Device,
             RunFault::Script(line) => Fault::Script(line),

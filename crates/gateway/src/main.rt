@@ -5,18 +5,19 @@ mod command_line;
 mod faults;
 mod formatting;
 mod index_files;
+mod listing;
+mod scripting;
 
 use clap::Error;
 use clap::error::ErrorKind;
 use command_line::{Order, read_order};
-use enc_index::IndexSet;
 use faults::Fault;
 use formatting::format_file;
-use gateway_engine::run_over;
+use listing::list_file;
+use scripting::run_script;
 use std::alloc::Global;
 use std::process::ExitCode;
 use std::{env, io};
-use upload_rules::Table;
 
 // The status of a command line that is none.
 const USAGE: u8 = 1;
@@ -52,7 +53,14 @@ fn run(rt: &HostRuntime) -> Result<ExitCode, Fault> {
             println!(rt; "formatted {blocks} blocks, {pages} pages")?;
             Ok(ExitCode::SUCCESS)
         }
-        Ok(Order::Script) => script(rt, alloc),
+        Ok(Order::Script { spool }) => {
+            run_script(rt, alloc, spool)?;
+            Ok(ExitCode::SUCCESS)
+        }
+        Ok(Order::List { spool }) => {
+            list_file(rt, alloc, spool)?;
+            Ok(ExitCode::SUCCESS)
+        }
         Ok(Order::Nothing) => Ok(ExitCode::from(USAGE)),
         Err(error) => told(rt, error),
     }
@@ -87,15 +95,4 @@ fn told(rt: &HostRuntime, error: Error) -> Result<ExitCode, Fault> {
     } else {
         ExitCode::SUCCESS
     })
-}
-
-// Runs standard input as a script over uploads in memory.
-fn script(rt: &HostRuntime, alloc: Global) -> Result<ExitCode, Fault> {
-    let indexes = IndexSet::new(alloc)?;
-    let mut reader = rt.reader();
-    let mut writer = io::writer(rt);
-    match run_over(alloc, &mut reader, &mut writer, Table::new(alloc, indexes)) {
-        Ok(_uploads) => Ok(ExitCode::SUCCESS),
-        Err((_uploads, fault)) => Err(Fault::from(fault)),
-    }
 }

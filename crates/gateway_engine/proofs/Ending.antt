@@ -10,10 +10,10 @@ use Rattle.gateway_engine.specs.Script as script
 use Rattle.gateway_engine.specs.Script.{Run, call, Order, obeyed, order_of, bared, is_long, is_bad, cut_next, cut_from, run_lines, script_lines, onto_line, ended_as, finished, Ran, Faulted, AtLine}
 use Rattle.gateway_engine.specs.declared.faults.CallFault.{CallFault}
 use Rattle.gateway_engine.specs.declared.faults.CallFault.TheVariants as faults
-use Rattle.gateway_engine.specs.declared.faults.RunFault.{RunFault}
-use Rattle.gateway_engine.specs.declared.faults.RunFault.TheVariants as runs
+use Rattle.gateway_engine.specs.declared.faults.ScriptFault.{ScriptFault}
+use Rattle.gateway_engine.specs.declared.faults.ScriptFault.TheVariants as runs
 use Rattle.tus_request.specs.Reading.{before, behind}
-use Rattle.gateway_engine.specs.Faults.{run_fault}
+use Rattle.gateway_engine.specs.Faults.{script_fault}
 use Rattle.gateway_engine.specs.Runs.{View, with_marks, IsAt, Reaches, Leads, run_past, script_past, Stops, Went, Refuses, CutOne, Ends, LineRan}
 use Rattle.gateway_engine.proofs.Turns.{done_went, refused_went}
 use Rattle.gateway_engine.proofs.Reaching.{reach_both, reach_none, stops_behind}
@@ -201,7 +201,7 @@ line_wants v number start line lines r at = (
 
 pub line_stops : {C : Type 0} (v : View C) (fault : CallFault) (number start : ℕ) (line : List ℕ) (lines : List (List ℕ)) (r : Run) (o : Order)
     → o ≡ order_of (bared line) → r.down ≡ false → (is_long start line || is_bad (order_of (bared line))) ≡ false
-    → Went v (Err fault) (obeyed o) r → LineRan v (Err (run_fault fault)) number start line lines r
+    → Went v (Err fault) (obeyed o) r → LineRan v (Err (script_fault fault)) number start line lines r
 line_stops v faults.DiskFault number start line lines r o is up good p = (
   p.0,
   (
@@ -286,14 +286,14 @@ end_breaks v fault number start r p = (
 )
 
 pub lines_stop : {C : Type 0} (v : View C) (fault : CallFault) (number start : ℕ) (r : Run) → Went v (Err fault) (cut_from 16 0) r
-    → Ends v (Err (run_fault fault)) (run_lines number start []) r
+    → Ends v (Err (script_fault fault)) (run_lines number start []) r
 lines_stop v faults.DiskFault number start r p =
     (p.0, (p.1.0, λ rest. end_step number start (with_marks r (p.1.0 ++ rest)) ∙ (ap finished (p.1.1 rest) ∙ ap (λ d. ended_as (with_marks p.0 rest) (if d then Faulted else Ran)) p.2.down)), p.2)
 lines_stop v faults.NoMemory number start r p = end_breaks v faults.NoMemory number start r p
 lines_stop v faults.Io number start r p = end_breaks v faults.Io number start r p
 
 -- behind some lines
-pub ends_behind : {C : Type 0} (v : View C) (result : Result (Unit {0}) RunFault) (f g : Run → script.Result) (r s : Run)
+pub ends_behind : {C : Type 0} (v : View C) (result : Result (Unit {0}) ScriptFault) (f g : Run → script.Result) (r s : Run)
     → Reaches f r g s → Ends v result g s → Ends v result f r
 ends_behind v (Ok x) f g r s p q = (q.0, reach_both f g (λ x. ended_as x Ran) r s q.0 p q.1, q.2)
 ends_behind v (Err runs.DiskFault) f g r s p q = (q.0, reach_both f g (λ x. ended_as x Faulted) r s q.0 p q.1, q.2)
@@ -308,7 +308,7 @@ cut_fails v faults.NoMemory k n r p = p
 cut_fails v faults.Io k n r p = p
 
 -- the fault of a line is that of its run
-pub line_fails : {C : Type 0} (v : View C) (fault : RunFault) (number start : ℕ) (bytes : List ℕ) (r : Run) → (bytes ≡ [] → ⊥)
+pub line_fails : {C : Type 0} (v : View C) (fault : ScriptFault) (number start : ℕ) (bytes : List ℕ) (r : Run) → (bytes ≡ [] → ⊥)
     → LineRan v (Err fault) number start (before 10 bytes) (script_lines (behind 10 bytes)) r → Ends v (Err fault) (run_lines number start (script_lines bytes)) r
 line_fails v fault number start bytes r some p =
     subst (λ l. Ends v (Err fault) (run_lines number start l) r) (sym (lines_split bytes some)) p

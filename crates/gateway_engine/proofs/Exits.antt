@@ -15,8 +15,8 @@ use Rattle.gateway_engine.specs.Runs.{View, with_marks, IsHistory, IsAt, Reaches
 use Rattle.gateway_engine.specs.Ran.{Shows, Rests, EndedSo, RestsSo, StoppedSo, HasRun, IsScript, HasFailed}
 use Rattle.gateway_engine.specs.declared.faults.CallFault.{CallFault}
 use Rattle.gateway_engine.specs.declared.faults.CallFault.TheVariants as faults
-use Rattle.gateway_engine.specs.declared.faults.RunFault.{RunFault}
-use Rattle.gateway_engine.specs.declared.faults.RunFault.TheVariants as runs
+use Rattle.gateway_engine.specs.declared.faults.ScriptFault.{ScriptFault}
+use Rattle.gateway_engine.specs.declared.faults.ScriptFault.TheVariants as runs
 
 -- nothing happened so far
 limits_none : (moment : ℕ) (left_only : ℕ → List Store → Type 0) (stores : List Store) → LimitsTo moment moment left_only left_only stores
@@ -96,7 +96,7 @@ module _ {U B C : Type 0} (u : Ghosts U B) (v : View C) (before store : U) (byte
   pub ran : Ends v (Ok (tt {0})) lines begun → HasRun u before (Ok store) v.held v.front v.st bytes
   ran p = rests_so p.0 Ran p.1 p.2
 
-  pub stopped : (fault : RunFault) → Ends v (Err fault) lines begun → HasRun u before (Err (store, fault)) v.held v.front v.st bytes
+  pub stopped : (fault : ScriptFault) → Ends v (Err fault) lines begun → HasRun u before (Err (store, fault)) v.held v.front v.st bytes
   stopped runs.NoMemory p = stopped_so faults.NoMemory p
   stopped runs.DiskFault p = (p.1.0 ++ [], ended_so p.0 Faulted p.1 p.2.wrote p.2.history)
   stopped (runs.Script n) p = rests_so p.0 (AtLine n) p.1 p.2
@@ -107,7 +107,7 @@ module _ {U B : Type 0} (u : Ghosts U B) (store : U) (held : Option (List ℕ)) 
   all_follow : (past : List Marked) → IsFirst [] past
   all_follow past = (past, sym (append-nil past))
 
-  pub unbegun : (fault : RunFault) → (fault ≡ runs.NoMemory) ⊎ (fault ≡ runs.Io) → HasRun u store (Err (store, fault)) held held st bytes
+  pub unbegun : (fault : ScriptFault) → (fault ≡ runs.NoMemory) ⊎ (fault ≡ runs.Io) → HasRun u store (Err (store, fault)) held held st bytes
   unbegun fault (inl e) = subst (λ f. HasRun u store (Err (store, f)) held held st bytes) (sym e) (
     [],
     record {
@@ -134,13 +134,13 @@ module _ {U B : Type 0} (u : Ghosts U B) (store : U) (held : Option (List ℕ)) 
   )
 
 -- THE COUNT OF FAULTS
-pub counts_as : {U : Type 0} {a b : ℕ} (store : U) (fault : RunFault) → Counts (IsErrOf {T = Unit {0}} (Err fault) runs.DiskFault) a b → Counts (HasFailed (Err (store, fault))) a b
+pub counts_as : {U : Type 0} {a b : ℕ} (store : U) (fault : ScriptFault) → Counts (IsErrOf {T = Unit {0}} (Err fault) runs.DiskFault) a b → Counts (HasFailed (Err (store, fault))) a b
 counts_as store runs.NoMemory c = record { later = c.later; counted = λ f. absurd f; nothing_else = λ less. let e : Err runs.NoMemory ≡ Err runs.DiskFault = c.nothing_else less in absurd (cc) }
 counts_as store runs.DiskFault c = record { later = c.later; counted = λ f. c.counted refl; nothing_else = λ less. tt {0} }
 counts_as store (runs.Script n) c = record { later = c.later; counted = λ f. absurd f; nothing_else = λ less. let e : Err (runs.Script n) ≡ Err runs.DiskFault = c.nothing_else less in absurd (cc) }
 counts_as store runs.Io c = record { later = c.later; counted = λ f. absurd f; nothing_else = λ less. let e : Err runs.Io ≡ Err runs.DiskFault = c.nothing_else less in absurd (cc) }
 
-pub counts_nothing : {U : Type 0} (a : ℕ) (store : U) (fault : RunFault) → (fault ≡ runs.NoMemory) ⊎ (fault ≡ runs.Io) → Counts (HasFailed (Err (store, fault))) a a
+pub counts_nothing : {U : Type 0} (a : ℕ) (store : U) (fault : ScriptFault) → (fault ≡ runs.NoMemory) ⊎ (fault ≡ runs.Io) → Counts (HasFailed (Err (store, fault))) a a
 counts_nothing a store fault (inl e) = subst (λ f. Counts (HasFailed (Err (store, f))) a a) (sym e) (record { later = omega arith; counted = λ f. absurd f; nothing_else = λ less. absurd (omega arith) })
 counts_nothing a store fault (inr e) = subst (λ f. Counts (HasFailed (Err (store, f))) a a) (sym e) (record { later = omega arith; counted = λ f. absurd f; nothing_else = λ less. absurd (omega arith) })
 

@@ -7,3 +7,4 @@ pub mod Reaching
 pub mod Ending
 pub mod Sessions
 pub mod Exits
+pub mod OnDisk

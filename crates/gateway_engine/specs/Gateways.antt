@@ -1,4 +1,9 @@
 -- What a gateway stands for.
+use Rattle.std.specs.Prelude.{Result, Ok, Err}
+use Rattle.spool_disk.specs.declared.disk.Disk as disks
+use Rattle.spool_image.specs.Spool.{disk_of}
+use Rattle.spool_image.specs.declared.error.OpenFault.{OpenFault}
+use Rattle.spool_image.specs.declared.spool.Spool.{Spool}
 use Rattle.upload_rules.specs.declared.uploads.Uploads.{Ghosts}
 use Rattle.tus_session.specs.History.{State}
 use Rattle.tus_session.specs.Places.{places_of}
@@ -22,3 +27,12 @@ as_connections u = record {
   left_only = λ g t ms. u.left_only (store_of g) t ms;
   failures = λ g. u.failures (store_of g);
 }
+
+-- OVER A SPOOL: the disk that it is on
+abbrev pub disk_in : {D B : Type 0} {disk : disks.Ghosts D} → Gateway (Spool D disk) B → D
+disk_in g = disk_of (store_of g)
+
+-- the disk, opened or handed back
+abbrev pub disk_after : {D B : Type 0} {disk : disks.Ghosts D} → Result (Gateway (Spool D disk) B) (D × OpenFault) → D
+disk_after (Ok g) = disk_in g
+disk_after (Err e) = e.0

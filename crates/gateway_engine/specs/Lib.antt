@@ -7,3 +7,4 @@ pub mod Ran
 pub mod Shown
 pub mod Runs
 pub mod Outputs
+pub mod RanOn

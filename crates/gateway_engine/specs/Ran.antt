@@ -9,8 +9,8 @@ use Rattle.gateway_engine.specs.Script.{script as the_script, Exit, Ran, AtLine,
 use Rattle.gateway_engine.specs.Images.{IsFirst, output_of, stores_of, LimitsTo, WroteMost}
 use Rattle.gateway_engine.specs.declared.faults.CallFault.{CallFault}
 use Rattle.gateway_engine.specs.declared.faults.CallFault.TheVariants as calls
-use Rattle.gateway_engine.specs.declared.faults.RunFault.{RunFault}
-use Rattle.gateway_engine.specs.declared.faults.RunFault.TheVariants.{DiskFault, Script, NoMemory, Io}
+use Rattle.gateway_engine.specs.declared.faults.ScriptFault.{ScriptFault}
+use Rattle.gateway_engine.specs.declared.faults.ScriptFault.TheVariants.{DiskFault, Script, NoMemory, Io}
 
 -- From the uploads before to the uploads now. What a crash at any moment since the run began might have left shows the uploads of the history
 -- behind all these events, all but the latest, and so on; and images of earlier moments show them, or what they showed
@@ -46,7 +46,7 @@ pub record StoppedSo {U B : Type 0} (u : Ghosts U B) (before now : U) (st : Stat
   pub shows : Shows u before now st past
 
 -- behind a device's fault nothing is known of the store but its images
-abbrev pub HasRun : {U B : Type 0} → Ghosts U B → U → Result U (U × RunFault) → Option (List ℕ) → Option (List ℕ) → State → List ℕ → Type 0
+abbrev pub HasRun : {U B : Type 0} → Ghosts U B → U → Result U (U × ScriptFault) → Option (List ℕ) → Option (List ℕ) → State → List ℕ → Type 0
 HasRun u before (Ok store) held front st bytes = (marks : List Mark) × RestsSo u before store st (the_script st marks bytes) held front Ran
 HasRun u before (Err (store, Script n)) held front st bytes = (marks : List Mark) × RestsSo u before store st (the_script st marks bytes) held front (AtLine n)
 HasRun u before (Err (store, DiskFault)) held front st bytes = (marks : List Mark) × EndedSo u before store st (the_script st marks bytes) held front Faulted
@@ -59,11 +59,11 @@ IsScript None script = Unit {0}
 IsScript (Some bytes) script = script ≡ bytes
 
 -- the device failed
-abbrev pub HasFailed : {U : Type 0} → Result U (U × RunFault) → Type 0
+abbrev pub HasFailed : {U : Type 0} → Result U (U × ScriptFault) → Type 0
 HasFailed (Err (store, DiskFault)) = Unit {0}
 HasFailed result = ⊥
 
 -- the uploads that are handed back
-abbrev pub store_of : {U : Type 0} → Result U (U × RunFault) → U
+abbrev pub store_of : {U : Type 0} → Result U (U × ScriptFault) → U
 store_of (Ok store) = store
 store_of (Err (store, fault)) = store

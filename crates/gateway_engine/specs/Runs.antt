@@ -12,8 +12,8 @@ use Rattle.gateway_engine.specs.Images.{IsFirst, output_of, stores_of, LimitsTo,
 use Rattle.gateway_engine.specs.declared.connections.Connections.{Ghosts}
 use Rattle.gateway_engine.specs.declared.faults.CallFault.{CallFault}
 use Rattle.gateway_engine.specs.declared.faults.CallFault.TheVariants.{DiskFault, NoMemory, Io}
-use Rattle.gateway_engine.specs.declared.faults.RunFault.{RunFault}
-use Rattle.gateway_engine.specs.declared.faults.RunFault.TheVariants as runs
+use Rattle.gateway_engine.specs.declared.faults.ScriptFault.{ScriptFault}
+use Rattle.gateway_engine.specs.declared.faults.ScriptFault.TheVariants as runs
 
 -- the run with these marks to come
 abbrev pub with_marks : Run → List Mark → Run
@@ -148,7 +148,7 @@ CutOne v (Err DiskFault) k n r = (s : Run) × Leads (cut_from (suc k) n) r s × 
 CutOne v (Err e) k n r = Stops v e run_past (cut_from (suc k) n) r
 
 -- how the lines end: all of them ran, or the device failed, or a line is none, or the run was broken off
-abbrev pub Ends : {C : Type 0} → View C → Result (Unit {0}) RunFault → (Run → script.Result) → Run → Type 0
+abbrev pub Ends : {C : Type 0} → View C → Result (Unit {0}) ScriptFault → (Run → script.Result) → Run → Type 0
 Ends v (Ok x) f r = (s : Run) × Reaches f r (λ x. ended_as x Ran) s × IsAt v s
 Ends v (Err runs.DiskFault) f r = (s : Run) × Reaches f r (λ x. ended_as x Faulted) s × IsDown v s
 Ends v (Err (runs.Script n)) f r = (s : Run) × Reaches f r (λ x. ended_as x (AtLine n)) s × IsAt v s
@@ -156,7 +156,7 @@ Ends v (Err runs.NoMemory) f r = Stops v NoMemory script_past f r
 Ends v (Err runs.Io) f r = Stops v Io script_past f r
 
 -- one line, with these behind it
-abbrev pub LineRan : {C : Type 0} → View C → Result (Unit {0}) RunFault → ℕ → ℕ → List ℕ → List (List ℕ) → Run → Type 0
+abbrev pub LineRan : {C : Type 0} → View C → Result (Unit {0}) ScriptFault → ℕ → ℕ → List ℕ → List (List ℕ) → Run → Type 0
 LineRan v (Ok x) number start line lines r =
     (s : Run) × Reaches (run_lines number start (line ∷ lines)) r (run_lines (number + 1) (start + length line + 1) lines) s × IsAt v s
 LineRan v (Err e) number start line lines r = Ends v (Err e) (run_lines number start (line ∷ lines)) r

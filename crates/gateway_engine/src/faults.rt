@@ -1,6 +1,8 @@
 //! Why a run ends before its script does.
 ghost use Rattle.std.specs.Prelude.{◌≡◌};
-ghost use Rattle.gateway_engine.specs.Faults.{run_fault};
+ghost use Rattle.gateway_engine.specs.Faults.{script_fault, run_fault};
+
+use spool_image::OpenFault;
 
 /// Why a call of a script's line isn't done.
 #[derive(Clone, Copy, Debug, PartialEq, Eq, Drop)]
@@ -13,9 +15,9 @@ pub enum CallFault {
     Io,
 }
 
-/// Why a run ends before its script does.
+/// Why a run over uploads ends before its script does.
 #[derive(Clone, Copy, Debug, PartialEq, Eq, Drop)]
-pub enum RunFault {
+pub enum ScriptFault {
     /// A growth was refused outside the calls of the connections.
     NoMemory,
     /// The device failed.
@@ -26,14 +28,42 @@ pub enum RunFault {
     Io,
 }
 
-impl From<CallFault> for RunFault {
+impl From<CallFault> for ScriptFault {
     fn from(fault: CallFault) -> Self
+        ensures { result ≡ script_fault fault }
+    {
+        match fault {
+            CallFault::NoMemory => ScriptFault::NoMemory,
+            CallFault::DiskFault => ScriptFault::DiskFault,
+            CallFault::Io => ScriptFault::Io,
+        }
+    }
+}
+
+/// Why a run over a disk ends before its script does.
+#[derive(Clone, Copy, Debug, PartialEq, Eq, Drop)]
+pub enum RunFault {
+    /// The disk wasn't opened as a spool: nothing was read or written.
+    Open(OpenFault),
+    /// A growth was refused outside the calls of the connections.
+    NoMemory,
+    /// The device failed.
+    DiskFault,
+    /// The line of this number, counted from 1, is no line of a script, or it or the script is too long.
+    Script(u64),
+    /// The reader or the writer failed, or the writer took nothing.
+    Io,
+}
+
+impl From<ScriptFault> for RunFault {
+    fn from(fault: ScriptFault) -> Self
         ensures { result ≡ run_fault fault }
     {
         match fault {
-            CallFault::NoMemory => RunFault::NoMemory,
-            CallFault::DiskFault => RunFault::DiskFault,
-            CallFault::Io => RunFault::Io,
+            ScriptFault::NoMemory => RunFault::NoMemory,
+            ScriptFault::DiskFault => RunFault::DiskFault,
+            ScriptFault::Script(line) => RunFault::Script(line),
+            ScriptFault::Io => RunFault::Io,
         }
     }
 }

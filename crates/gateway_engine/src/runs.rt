@@ -8,7 +8,7 @@ ghost use Rattle.gateway_engine.specs.Runs.{view, IsAt, Went, CutOne, LineRan, E
 
 use crate::calls::{cut, open, refused};
 use crate::connections::Connections;
-use crate::faults::{CallFault, RunFault};
+use crate::faults::{CallFault, ScriptFault};
 use crate::lines::give;
 use crate::orders::{Order, read_order};
 use std::alloc::Global;
@@ -83,23 +83,23 @@ fn run_line<C: Connections, W: Write>(
     number: u64,
     start: u64,
     line: &[u8],
-) -> Result<(), RunFault>
+) -> Result<(), ScriptFault>
     ensures does { (before : C) (st : State) (r : Run) (front : Option (List ℕ)) (lines : List (List ℕ)) → IsAt (view C.Connections before core.old st (W.contents writer.old) front) r
         → LineRan (view C.Connections before core.new st (W.contents writer.new) front) result number start line.now lines r }
-    ensures counts { Counts (IsErrOf result RunFault.DiskFault) (C.failures core.old) (C.failures core.new) }
+    ensures counts { Counts (IsErrOf result ScriptFault.DiskFault) (C.failures core.old) (C.failures core.new) }
 {
     if too_long(start, line) {
-        return Err(RunFault::Script(number));
+        return Err(ScriptFault::Script(number));
     }
     let Ok(order) = read_order(alloc, line) else {
-        return Err(RunFault::NoMemory);
+        return Err(ScriptFault::NoMemory);
     };
     if is_no_order(&order) {
-        return Err(RunFault::Script(number));
+        return Err(ScriptFault::Script(number));
     }
     match obey(alloc, core, writer, &order) {
         Ok(()) => Ok(()),
-        Err(fault) => Err(RunFault::from(fault)),
+        Err(fault) => Err(ScriptFault::from(fault)),
     }
 }
 
@@ -130,10 +130,10 @@ pub(crate) fn run_script<C: Connections, W: Write>(
     core: &mut C,
     writer: &mut W,
     script: &[u8],
-) -> Result<(), RunFault>
+) -> Result<(), ScriptFault>
     ensures does { (before : C) (st : State) (r : Run) (front : Option (List ℕ)) → IsAt (view C.Connections before core.old st (W.contents writer.old) front) r
         → Ends (view C.Connections before core.new st (W.contents writer.new) front) result (run_lines 1 0 (script_lines script.now)) r }
-    ensures counts { Counts (IsErrOf result RunFault.DiskFault) (C.failures core.old) (C.failures core.new) }
+    ensures counts { Counts (IsErrOf result ScriptFault.DiskFault) (C.failures core.old) (C.failures core.new) }
 {
     let mut rest = script;
     let mut number = 1;
@@ -150,6 +150,6 @@ pub(crate) fn run_script<C: Connections, W: Write>(
     }
     match cut_all(alloc, core, writer) {
         Ok(()) => Ok(()),
-        Err(fault) => Err(RunFault::from(fault)),
+        Err(fault) => Err(ScriptFault::from(fault)),
     }
 }

@@ -6,7 +6,7 @@ ghost use Rattle.upload_rules.specs.Answers.{Counts};
 ghost use Rattle.tus_session.specs.History.{beginning};
 ghost use Rattle.gateway_engine.specs.Ran.{HasRun, IsScript, HasFailed, store_of};
 
-use crate::faults::RunFault;
+use crate::faults::ScriptFault;
 use crate::gateway::Gateway;
 use crate::runs::run_script;
 use std::alloc::Global;
@@ -14,17 +14,17 @@ use std::io::{ErrorKind, Read, Write};
 use upload_rules::Uploads;
 
 /// Reads a script to its end. An interrupted read is tried again.
-fn read_script<R: Read>(alloc: Global, reader: &mut R) -> Result<Vec<u8>, RunFault>
+fn read_script<R: Read>(alloc: Global, reader: &mut R) -> Result<Vec<u8>, ScriptFault>
     ensures ok { IfOk result (λ script. IsScript (R.remaining reader.old) script.items) }
-    ensures err { IfErr result (λ fault. (fault ≡ RunFault.NoMemory) ⊎ (fault ≡ RunFault.Io)) }
+    ensures err { IfErr result (λ fault. (fault ≡ ScriptFault.NoMemory) ⊎ (fault ≡ ScriptFault.Io)) }
 {
     let mut script = Vec::new(alloc);
     match reader.read_to_end(&mut script) {
         Ok(_count) => Ok(script),
         Err(error) => Err(if error.kind() == ErrorKind::OutOfMemory {
-            RunFault::NoMemory
+            ScriptFault::NoMemory
         } else {
-            RunFault::Io
+            ScriptFault::Io
         }),
     }
 }
@@ -40,7 +40,7 @@ pub fn run_over<U: Uploads, R: Read, W: Write>(
     reader: &mut R,
     writer: &mut W,
     store: U,
-) -> Result<U, (U, RunFault)>
+) -> Result<U, (U, ScriptFault)>
     // What is written is the script's output, with a mark for each call that was refused for memory. Images show the uploads of its history.
     ensures output { (m : Store) (blocks : Option ℕ) → U.stands store (at_rest m blocks)
         → (script : List ℕ) × IsScript (R.remaining reader.old) script
@@ -53,7 +53,7 @@ pub fn run_over<U: Uploads, R: Read, W: Write>(
     };
     let mut gateway = match Gateway::new(alloc, store) {
         Ok(gateway) => gateway,
-        Err((store, _)) => return Err((store, RunFault::NoMemory)),
+        Err((store, _)) => return Err((store, ScriptFault::NoMemory)),
     };
     match run_script(alloc, &mut gateway, writer, &script) {
         Ok(()) => Ok(gateway.close()),

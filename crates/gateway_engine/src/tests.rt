@@ -1,6 +1,6 @@
 //! Scripts whose output is known from outside.
 
-use crate::{RunFault, run_over};
+use crate::{ScriptFault, run_over};
 use enc_index::{Index, IndexSet, Kind};
 use enc_model::Encoding;
 use std::alloc::{AllocError, Global};
@@ -15,7 +15,7 @@ enum Ended {
     /// The script ran, and what was wanted was written.
     Ran,
     /// The run was refused, and what was wanted was written.
-    Refused(RunFault),
+    Refused(ScriptFault),
     /// This was written in its place.
     Wrote(Vec<u8>),
 }
@@ -425,7 +425,7 @@ fn calls_that_are_refused(rt: HostRuntime) -> Result<(), Fail> {
     talk.line("came 4 00")?;
     talk.line("opne 1")?;
     talk.told("! 4 30")?;
-    assert_eq!(rt; talk.ended()?, Ended::Refused(RunFault::Script(2)));
+    assert_eq!(rt; talk.ended()?, Ended::Refused(ScriptFault::Script(2)));
     Ok(())
 }
 
@@ -528,7 +528,7 @@ fn refusal<R: Read, W: Write>(
     alloc: Global,
     reader: &mut R,
     writer: &mut W,
-) -> Result<Option<RunFault>, Fail> {
+) -> Result<Option<ScriptFault>, Fail> {
     let table = Table::new(alloc, IndexSet::new(alloc)?);
     Ok(match run_over(alloc, reader, writer, table) {
         Ok(_uploads) => None,
@@ -569,7 +569,7 @@ fn writers_that_fail(rt: HostRuntime) -> Result<(), Fail> {
             calls,
         };
         let fault = refusal(rt.alloc(), &mut talk.script.as_slice(), &mut writer)?;
-        assert_eq!(rt; fault, Some(RunFault::Io), "at {step}, {calls}");
+        assert_eq!(rt; fault, Some(ScriptFault::Io), "at {step}, {calls}");
         assert!(rt;
             talk.wanted.starts_with(&writer.bytes),
             "at {step}, {calls}"
@@ -593,7 +593,7 @@ fn readers_that_fail(rt: HostRuntime) -> Result<(), Fail> {
         };
         let mut writer = Vec::new(rt.alloc());
         let fault = refusal(rt.alloc(), &mut reader, &mut writer)?;
-        assert_eq!(rt; fault, Some(RunFault::Io), "at {calls}");
+        assert_eq!(rt; fault, Some(ScriptFault::Io), "at {calls}");
         assert!(rt; writer.is_empty(), "at {calls}");
     }
     let mut reader = SlowReader {

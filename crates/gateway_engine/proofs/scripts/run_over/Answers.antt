@@ -6,7 +6,7 @@ use Rattle.gateway_engine.specs.Gateways.{store_of, as_connections}
 use Rattle.gateway_engine.specs.Images.{stores_of}
 use Rattle.gateway_engine.specs.Runs.{view, IsAt, Ends}
 use Rattle.gateway_engine.specs.Ran.{HasRun}
-use Rattle.gateway_engine.specs.declared.faults.RunFault.TheVariants as runs
+use Rattle.gateway_engine.specs.declared.faults.ScriptFault.TheVariants as runs
 use Rattle.gateway_engine.proofs.Exits.{begins, ran, stopped, unbegun, some_script, counts_nothing, shows_since, shows_through}
 use Rattle.gateway_engine.proofs.scripts.run_over.Goals as goal
 

@@ -1,0 +1,98 @@
+//! A gateway over a spool on a disk.
+ghost use Rattle.std.specs.Prelude.{◌≡◌, ◌≤◌, ◌*◌, ◌↔◌, ℕ, List, Option, Some, IfOk};
+ghost use Rattle.spool_disk.specs.Disk.{IsImage, Counts};
+ghost use Rattle.spool_disk.specs.Views.{Lasts};
+ghost use Rattle.spool_journal.specs.Image.{all_pages};
+ghost use Rattle.spool_pages.specs.View.{View, IsViewOf};
+ghost use Rattle.spool_image.specs.LeftOnly.{LeftOnly};
+ghost use Rattle.spool_image.specs.Shows.{Shows, ImageShows};
+ghost use Rattle.spool_image.specs.Spool.{IsFault, OpensAs};
+ghost use Rattle.upload_rules.specs.Store.{Store};
+ghost use Rattle.upload_rules.specs.Answers.{Quiet};
+ghost use Rattle.tus_session.specs.History.{State, beginning};
+ghost use Rattle.gateway_engine.specs.Gateways.{GatewayStands, disk_in, disk_after};
+ghost use Rattle.gateway_engine.specs.Ran.{IsScript};
+ghost use Rattle.gateway_engine.specs.RanOn.{AllShow, LeftOrShows, HasRunOn, HasFailedOn, Unopened, disk_back};
+
+use crate::faults::RunFault;
+use crate::gateway::Gateway;
+use crate::scripts::run_over;
+use spool_disk::Disk;
+use spool_image::{OpenFault, Spool};
+use std::alloc::Global;
+use std::io::{Read, Write};
+use upload_rules::Uploads;
+
+impl<D: Disk> Gateway<Spool<D>> {
+    /// Opens the spool on a disk: no connection is open.
+    ///
+    /// # Errors
+    ///
+    /// As `Spool::open`, and the disk comes back with each.
+    pub fn open(alloc: Global, disk: D) -> Result<Self, (D, OpenFault)>
+        ensures size { D.size (disk_after result) ≡ D.size disk }
+        ensures honest { D.honest disk ↔ D.honest (disk_after result) }
+        ensures counts { Counts (IsFault result) (D.failures disk) (D.failures (disk_after result)) }
+
+        // A disk of which a read shows uploads is opened, and no event came so far, or memory or the device refuses it.
+        ensures opened { D.honest disk → (m : Store) (v : View) → IsViewOf (D.seen disk) v → Shows v m → 4096 * all_pages v.blocks ≤ D.size disk
+            → OpensAs result (λ g. GatewayStands ⟦<Spool<D> as Uploads>⟧ g (beginning m (Some v.blocks))) }
+
+        // Every image then shows them.
+        ensures shows { D.honest disk → (m : Store) (v : View) → IsViewOf (D.seen disk) v → Shows v m → 4096 * all_pages v.blocks ≤ D.size disk
+            → IfOk result (λ g. AllShow D.Disk (disk_in g) m) }
+
+        // A crash during it leaves what it might have left before, or what shows the same uploads.
+        ensures lasts { D.honest disk → (m : Store) (v : View) → IsViewOf (D.seen disk) v → Shows v m → 4096 * all_pages v.blocks ≤ D.size disk
+            → Lasts D.Disk disk (disk_after result) (LeftOrShows D.Disk disk m) }
+    {
+        let spool = match Spool::open(alloc, disk) {
+            Ok(spool) => spool,
+            Err((disk, fault)) => return Err((disk, fault)),
+        };
+        match Gateway::new(alloc, spool) {
+            Ok(gateway) => Ok(gateway),
+            Err((spool, _)) => Err((spool.into_disk(), OpenFault::NoMemory)),
+        }
+    }
+
+    /// Ends the session: the drafts that are open are dropped. The disk has the uploads.
+    pub fn into_disk(self) -> D
+        ensures shows { (st : State) → GatewayStands ⟦<Spool<D> as Uploads>⟧ self st → AllShow D.Disk result st.world.store }
+        ensures crash { Quiet (D.moment (disk_in self)) (D.moment result) (LeftOnly D.Disk (disk_in self)) (LeftOnly D.Disk result) }
+        ensures counts { D.failures result ≡ D.failures (disk_in self) }
+    {
+        self.close().into_disk()
+    }
+}
+
+/// Runs a script from `reader` over the spool on a disk, and writes to `writer` what its calls give. The disk is handed back.
+///
+/// The script is read whole before its first line is run, and behind the opening of the spool.
+///
+/// Refused with `Open` where the disk isn't opened, then with `NoMemory` where a growth outside the calls was refused, `DiskFault`, `Script` of the
+/// first line that is none or too long, and `Io`. What was committed and written before stands.
+pub fn run<D: Disk, R: Read, W: Write>(
+    alloc: Global,
+    reader: &mut R,
+    writer: &mut W,
+    disk: D,
+) -> Result<D, (D, RunFault)>
+    // Over a disk of which a read shows uploads: the exit and the output are the script's, by a mark for each call, and images show the uploads of its history.
+    ensures runs { D.honest disk → (m : Store) (v : View) → IsViewOf (D.seen disk) v → Shows v m → 4096 * all_pages v.blocks ≤ D.size disk
+        → (script : List ℕ) × IsScript (R.remaining reader.old) script
+        × HasRunOn D.Disk disk result (W.contents writer.new) (W.contents writer.old) (beginning m (Some v.blocks)) script }
+
+    // A disk that isn't opened: nothing is read and nothing written.
+    ensures unopened { Unopened result ((R.remaining reader.new ≡ R.remaining reader.old) × (W.contents writer.new ≡ W.contents writer.old)) }
+    ensures counts { Counts (HasFailedOn result) (D.failures disk) (D.failures (disk_back result)) }
+{
+    let spool = match Spool::open(alloc, disk) {
+        Ok(spool) => spool,
+        Err((disk, fault)) => return Err((disk, RunFault::Open(fault))),
+    };
+    match run_over(alloc, reader, writer, spool) {
+        Ok(spool) => Ok(spool.into_disk()),
+        Err((spool, fault)) => Err((spool.into_disk(), RunFault::from(fault))),
+    }
+}
