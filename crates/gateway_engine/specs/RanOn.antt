@@ -5,8 +5,8 @@ use Rattle.spool_disk.specs.Disk.{IsImage}
 use Rattle.spool_disk.specs.Views.{Lasts}
 use Rattle.spool_disk.specs.declared.disk.Disk.{Ghosts}
 use Rattle.spool_image.specs.LeftOnly.{LeftOnly}
-use Rattle.spool_image.specs.Shows.{ImageShows}
-use Rattle.spool_image.specs.declared.error.OpenFault.TheVariants as opens
+use Rattle.spool_kept.specs.Shows.{ImageShows}
+use Rattle.spool_kept.specs.declared.error.OpenFault.TheVariants as opens
 use Rattle.upload_rules.specs.Store.{Store}
 use Rattle.tus_session.specs.History.{State, Mark, Marked, history}
 use Rattle.gateway_engine.specs.Script as script

@@ -5,7 +5,7 @@ ghost use Rattle.spool_disk.specs.Views.{Lasts};
 ghost use Rattle.spool_journal.specs.Image.{all_pages};
 ghost use Rattle.spool_pages.specs.View.{View, IsViewOf};
 ghost use Rattle.spool_image.specs.LeftOnly.{LeftOnly};
-ghost use Rattle.spool_image.specs.Shows.{Shows, ImageShows};
+ghost use Rattle.spool_kept.specs.Shows.{Shows, ImageShows};
 ghost use Rattle.spool_image.specs.Spool.{IsFault, OpensAs};
 ghost use Rattle.upload_rules.specs.Store.{Store};
 ghost use Rattle.upload_rules.specs.Answers.{Quiet};
