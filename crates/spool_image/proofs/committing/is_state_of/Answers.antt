@@ -1,4 +1,4 @@
-use Rattle.std.proofs.Common.{rules, ◌≡◌, ◌∙◌, true, ap, sym}
+use Rattle.std.proofs.Common.{rules, ◌∙◌, sym}
 use denote.Enum.Bare.{same_true, differs_true, differs_false}
 use Rattle.enc_model.specs.contracts.Encoding as Encoding
 use Rattle.enc_model.specs.contracts.Mode as Mode
