@@ -1,5 +1,5 @@
 -- A draft whose text has ended: why it isn't put behind its upload's, and that it may be.
-use Rattle.std.proofs.Common.{Result, Ok, Err, OnOk, IsErrOf, ◌≡◌, inl, inr, ◌⊎◌, ℕ, ◌<◌, ◌≤◌, ◌+◌, ◌-◌, ◌*◌, ◌^◌, ◌==◌, Bool, true, false, List, [], Option, None, Some, length, get_or, set, min, refl, sym, ◌∙◌, ap, subst, arith}
+use Rattle.std.proofs.Common.{Result, Err, OnOk, ◌≡◌, inl, inr, ℕ, ◌<◌, ◌≤◌, ◌+◌, ◌-◌, ◌*◌, ◌^◌, ◌==◌, Bool, true, false, List, Option, None, Some, length, get_or, set, min, refl, sym, ◌∙◌, ap, subst, arith}
 use Rattle.std.proofs.lemmas.Bool.{cases_lt}
 use Rattle.std.proofs.lemmas.List.{get_or_past}
 use Rattle.enc_model.specs.Indexes.{IndexSet}
@@ -8,28 +8,28 @@ use Rattle.spool_disk.specs.declared.disk.Disk.{Ghosts}
 use Rattle.spool_disk.specs.Views.{Lasts}
 use Rattle.spool_disk.proofs.Firm.{lasts_more}
 use Rattle.spool_journal.specs.Image.{journal_pages}
-use Rattle.spool_drafts.specs.Drafts.{EndsAs, Holds, Carries, IsPlaced, IsWhole, committed_len_of, len_of, list_of, tail_of, number_of, offset_of, came_of, open_text}
+use Rattle.spool_drafts.specs.Drafts.{EndsAs, Holds, Carries, IsPlaced, IsWhole, committed_len_of, len_of, list_of, tail_of, offset_of, came_of, open_text}
 use Rattle.spool_drafts.specs.Effect.{Effect, RunsShort}
 use Rattle.spool_drafts.specs.declared.draft.SpoolDraft.{SpoolDraft}
 use Rattle.spool_pages.proofs.Resting.{rests_aside}
 use Rattle.spool_pages.specs.Rests.{Unowned}
-use Rattle.spool_pages.specs.View.{SlotRecord, View}
+use Rattle.spool_pages.specs.View.{SlotRecord}
 use Rattle.spool_texts.specs.Drafts.{IsReserved}
 use Rattle.spool_texts.specs.TextOn.{AllBelow, text_on}
 use Rattle.upload_rules.specs.Answers.{Answers}
 use Rattle.upload_rules.specs.Calls.{commit_refusal, reached}
 use Rattle.upload_rules.specs.Drafts.{draft_at}
 use Rattle.upload_rules.specs.Room.{is_short, wants}
-use Rattle.upload_rules.specs.Store.{Upload, find, upload_of}
-use Rattle.upload_rules.specs.World.{Patch, World, completes, patch_text}
+use Rattle.upload_rules.specs.Store.{find}
+use Rattle.upload_rules.specs.World.{Patch, World, completes}
 use Rattle.upload_rules.specs.declared.errors.UploadError.{UploadError}
 use Rattle.upload_rules.specs.declared.errors.UploadError.TheVariants.{NoMemory, DiskFault, Refused}
 use Rattle.upload_rules.specs.declared.errors.UploadRefusal.TheVariants as refusals
 use Rattle.upload_rules.proofs.Patches.{draft_of}
 use Rattle.spool_kept.specs.Committing.{HasSameCount, IsCommit}
-use Rattle.spool_kept.specs.Drafting.{DraftsFit, DraftStands, OnlyReserves, StandsFor}
+use Rattle.spool_kept.specs.Drafting.{DraftsFit, DraftStands, OnlyReserves}
 use Rattle.spool_kept.specs.Extending.{IsAppend, MayExtend}
-use Rattle.spool_kept.specs.Holding.{Holding, IsUsedBy}
+use Rattle.spool_kept.specs.Holding.{Holding}
 use Rattle.spool_kept.specs.Shows.{ImageShows, IsRecordOf}
 use Rattle.spool_kept.specs.Stored.{Stored}
 use Rattle.spool_kept.specs.declared.extending.Longer.{Longer}

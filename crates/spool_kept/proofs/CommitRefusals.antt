@@ -1,10 +1,10 @@
 -- Why a commit is refused.
-use Rattle.std.proofs.Common.{◌≡◌, ℕ, ◌<◌, Bool, true, false, List, [], ◌∷◌, length, Option, Some, None, if◌then◌else◌, refl, sym, ◌∙◌, ap, subst, arith, eq-eqb}
-use Rattle.upload_rules.specs.declared.errors.UploadRefusal.TheVariants.{Offset, Unencodable, Full}
+use Rattle.std.proofs.Common.{◌≡◌, ℕ, ◌<◌, Bool, true, false, List, [], ◌∷◌, length, Some, None, if◌then◌else◌, refl, sym, ◌∙◌, ap, subst, arith, eq-eqb}
+use Rattle.upload_rules.specs.declared.errors.UploadRefusal.TheVariants.{Unencodable, Full}
 use Rattle.upload_rules.specs.Answers.{IsLate}
-use Rattle.upload_rules.specs.Calls.{commit_outcome, commit_refusal, committed, committed_store, dropped, is_empty, offset_refusal, or_else, refuse_if, text_refusal}
+use Rattle.upload_rules.specs.Calls.{commit_refusal, committed, committed_store, dropped, is_empty, offset_refusal, or_else, refuse_if, text_refusal}
 use Rattle.upload_rules.specs.Room.{is_short}
-use Rattle.upload_rules.specs.Store.{Upload, Store, appended_store, find, upload_of}
+use Rattle.upload_rules.specs.Store.{Upload, Store, appended_store, upload_of}
 use Rattle.upload_rules.specs.World.{Patch, World, completes, is_there, patch_text}
 
 refusal_is : (w : World) (d : ℕ) (p : Patch) → commit_refusal w d p ≡ or_else (offset_refusal p (upload_of w.store p.number)) (text_refusal w d p)

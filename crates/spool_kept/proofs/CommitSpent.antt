@@ -1,7 +1,7 @@
 -- A commit's draft is spent: what the disk and what is kept stand for then.
-use Rattle.std.proofs.Common.{Result, Ok, Err, OnOk, ◌≡◌, ◌≢◌, inl, inr, ℕ, ◌+◌, ◌*◌, ◌<◌, ◌≤◌, Bool, true, false, List, [], Option, None, Some, length, get_or, set, refl, sym, ◌∙◌, ap, subst, arith}
+use Rattle.std.proofs.Common.{Err, ◌≡◌, ◌≢◌, inl, ℕ, ◌+◌, ◌*◌, ◌<◌, ◌≤◌, List, Option, None, Some, length, set, refl, sym, ◌∙◌, ap, subst, arith}
 use Rattle.enc_model.specs.Indexes.{IndexSet}
-use Rattle.spool_blocks.specs.Blocks.{Row, Held}
+use Rattle.spool_blocks.specs.Blocks.{Row}
 use Rattle.spool_disk.specs.declared.disk.Disk.{Ghosts}
 use Rattle.spool_disk.specs.Views.{Lasts}
 use Rattle.spool_disk.proofs.Firm.{lasts_more, lasts_on}
@@ -15,22 +15,22 @@ use Rattle.upload_rules.specs.Answers.{Answers}
 use Rattle.upload_rules.specs.Calls.{commit_outcome, commit_refusal, committed, committed_store, dropped, outcome}
 use Rattle.upload_rules.specs.Drafts.{draft_at}
 use Rattle.upload_rules.specs.Grown.{IsGrown}
-use Rattle.upload_rules.specs.Store.{Store, Upload, appended_store, appended_to, find, replaced, upload_of, with_bytes, without}
+use Rattle.upload_rules.specs.Store.{Store, appended_store, appended_to, find, replaced, with_bytes, without}
 use Rattle.upload_rules.specs.World.{Patch, World}
 use Rattle.upload_rules.specs.declared.errors.UploadError.{UploadError}
 use Rattle.upload_rules.specs.declared.errors.UploadError.TheVariants.{NoMemory, DiskFault, Refused}
 use Rattle.upload_rules.specs.declared.errors.UploadRefusal.{UploadRefusal}
 use Rattle.upload_rules.proofs.Growing.{grown_dropped, grown_put}
 use Rattle.spool_kept.specs.Committing.{IsCommit}
-use Rattle.spool_kept.specs.Drafting.{DraftStands, DraftsFit, DraftsStand, IsOwnedBy, OnlyReserves, StandsFor}
+use Rattle.spool_kept.specs.Drafting.{DraftStands, DraftsStand, IsOwnedBy, OnlyReserves, StandsFor}
 use Rattle.spool_kept.specs.Extending.{HandsOn, IsAppend, IsLonger}
-use Rattle.spool_kept.specs.Holding.{Holding, IsUsedBy}
+use Rattle.spool_kept.specs.Holding.{Holding}
 use Rattle.spool_kept.specs.Shows.{ImageShows}
 use Rattle.spool_kept.specs.Stored.{ShowsEither, Stored}
 use Rattle.spool_kept.specs.declared.extending.Longer.{Longer}
 use Rattle.spool_kept.proofs.CommitRefusals as rules
 use Rattle.spool_kept.proofs.DraftLonger.{other_stands}
-use Rattle.spool_kept.proofs.DraftSpent.{StaysFree, all_given, all_handed, bytes_same, inside_of, other_upload, rows_handed, stand_spent, tail_still}
+use Rattle.spool_kept.proofs.DraftSpent.{all_given, all_handed, bytes_same, inside_of, other_upload, rows_handed, stand_spent, tail_still}
 use Rattle.spool_kept.proofs.Drafted.{IsChanged, changed_in, stored_on}
 
 -- THE STORES THAT A CRASH MAY LEAVE

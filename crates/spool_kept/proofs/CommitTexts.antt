@@ -6,13 +6,13 @@ use Rattle.enc_model.specs.Decode.{text}
 use Rattle.enc_model.specs.Indexes.{IndexSet, tables}
 use Rattle.enc_stream.specs.StateBytes.{IsSound, state_bytes}
 use Rattle.upload_rules.specs.Calls.{reached}
-use Rattle.upload_rules.specs.Room.{blocks_of, wants}
+use Rattle.upload_rules.specs.Room.{wants}
 use Rattle.upload_rules.specs.States.{state_of, state_with, transcoder_over, transcoder_with}
 use Rattle.upload_rules.specs.Store.{Upload, text_of, text_with, with_bytes, is_complete}
 use Rattle.upload_rules.specs.World.{Patch, completes, patch_text}
 use Rattle.upload_rules.proofs.Commits.{text_with_bytes}
 use Rattle.upload_rules.proofs.Longer.{text_in_front}
-use Rattle.spool_drafts.specs.Drafts.{Holds, IsWhole, len_of, list_of, open_text}
+use Rattle.spool_drafts.specs.Drafts.{IsWhole, len_of, list_of, open_text}
 use Rattle.spool_drafts.specs.declared.draft.SpoolDraft.{SpoolDraft}
 use Rattle.spool_drafts.proofs.Patches.{value_before}
 use Rattle.spool_pages.specs.View.{SlotRecord}

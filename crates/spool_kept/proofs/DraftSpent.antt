@@ -1,19 +1,19 @@
 -- A draft that is spent after a call on it: its blocks are given back, or its upload's.
-use Rattle.std.proofs.Common.{◌≡◌, ◌≢◌, inl, inr, ℕ, zero, suc, ◌+◌, ◌*◌, ◌/◌, ◌%◌, ◌<◌, ◌≤◌, ◌++◌, Bool, true, false, List, [], ◌∷◌, Option, None, Some, length, get_or, set, take, refl, sym, ◌∙◌, ap, subst, arith, get_or-set_same, length-append, length-take}
+use Rattle.std.proofs.Common.{◌≡◌, ◌≢◌, inl, inr, ℕ, zero, suc, ◌*◌, ◌/◌, ◌%◌, ◌<◌, ◌≤◌, ◌++◌, true, false, List, [], ◌∷◌, Option, None, Some, length, get_or, set, take, refl, sym, ◌∙◌, ap, subst, arith, length-append}
 use Rattle.std.proofs.lemmas.Bool.{both_ways, cases_eq, cases_lt}
-use Rattle.std.proofs.lemmas.List.{get_or_past, get_or-take}
+use Rattle.std.proofs.lemmas.List.{get_or_past}
 use Rattle.enc_model.specs.Indexes.{IndexSet}
 use Rattle.spool_blocks.specs.Blocks.{Row, Held}
 use Rattle.spool_blocks.specs.Chains.{Owns}
-use Rattle.spool_drafts.specs.Drafts.{Carries, IsPlaced, list_of, tail_of}
+use Rattle.spool_drafts.specs.Drafts.{IsPlaced, list_of}
 use Rattle.spool_drafts.specs.Effect.{Regrasps}
-use Rattle.spool_drafts.specs.Growth.{bytes_on, list_on, tail_list}
+use Rattle.spool_drafts.specs.Growth.{bytes_on, tail_list}
 use Rattle.spool_drafts.specs.declared.draft.SpoolDraft.{SpoolDraft}
 use Rattle.spool_drafts.specs.declared.growth.Growth.{Growth}
 use Rattle.spool_pages.specs.View.{SlotRecord}
 use Rattle.spool_room.specs.Holdings.{IsInSome}
 use Rattle.spool_texts.specs.Drafts.{Draft, GivesBack, IsReserved, full_count}
-use Rattle.spool_texts.specs.Written.{NoneOf, SameOutside}
+use Rattle.spool_texts.specs.Written.{NoneOf}
 use Rattle.spool_texts.proofs.Fronts.{blocks_same}
 use Rattle.upload_rules.specs.Drafts.{DraftOf, draft_at}
 use Rattle.upload_rules.specs.Grown.{GrewFrom, IsGrown}
@@ -21,14 +21,13 @@ use Rattle.upload_rules.specs.Store.{Store, Upload, find, replaced, upload_of, w
 use Rattle.upload_rules.specs.World.{Patch, World}
 use Rattle.upload_rules.proofs.Finds.{find_replaced_other, find_replaced_same, find_without_other, find_without_same}
 use Rattle.upload_rules.proofs.Patches.{apart_without, carried}
-use Rattle.spool_kept.specs.Changed.{HandsOver}
 use Rattle.spool_kept.specs.Drafting.{DraftStands, DraftsFit, DraftsStand, IsOwnedBy, list_in, lists_at}
 use Rattle.spool_kept.specs.Extending.{HandsOn, IsLonger, longer_record}
 use Rattle.spool_kept.specs.Holding.{Holding, IsUsedBy}
 use Rattle.spool_kept.specs.declared.extending.Longer.{Longer}
 use Rattle.spool_kept.proofs.ChangedSlots.{clash, one_value, slot_else}
-use Rattle.spool_kept.proofs.DraftLists.{IsOut, IsSwapped, in_other, kept_out, none_in_nothing, nothing_reserved}
-use Rattle.spool_kept.proofs.DraftLonger.{all_longer, fit_longer, held_both, other_stands}
+use Rattle.spool_kept.proofs.DraftLists.{IsOut, in_other, kept_out, none_in_nothing, nothing_reserved}
+use Rattle.spool_kept.proofs.DraftLonger.{all_longer, fit_longer, held_both}
 use Rattle.spool_kept.proofs.Drafted.{IsChanged, changed_in, changed_lists, changed_out, fit_changed, fit_dropped}
 use Rattle.spool_kept.proofs.HandedOver.{others_same}
 

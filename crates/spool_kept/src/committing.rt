@@ -61,8 +61,8 @@ fn is_state_of(record: &Record, state: &[u8; 32]) -> bool
     next.mode() == record.mode
 }
 
-// What an upload becomes by a draft whose text has ended: none where it doesn't fit what is kept of the upload. That never happens
-// on a disk that gives back what was written, and on another all that is kept still fits together.
+// What an upload becomes by a draft whose text has ended: none where it doesn't fit what is kept of the upload. On a disk that gives
+// back what was written it always fits; it is compared so that what is kept fits together whatever the device said.
 fn longer_by(
     kept: &Kept,
     slot: u32,

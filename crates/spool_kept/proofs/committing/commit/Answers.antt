@@ -1,4 +1,4 @@
-use Rattle.std.proofs.Common.{◌≡◌, ◌∙◌, List, None, Option, ap, refl, set, subst, sym}
+use Rattle.std.proofs.Common.{◌≡◌, ◌∙◌, List, Option, ap, refl, subst, sym}
 use Rattle.spool_drafts.specs.declared.draft.SpoolDraft.{SpoolDraft}
 use Rattle.spool_texts.specs.Drafts.{GivesBack}
 use Rattle.upload_rules.specs.Answers.{Answers}
@@ -46,10 +46,10 @@ returns-then-came-eq0-clause-answer g c w p s there =
     (subst (GivesBack c.kept.inside.blocks c.give_back-then-came-eq0.new.blocks) (ap list_in c.in-Some.ensures.taken) c.give_back-then-came-eq0.ensures) in (
       head.empty_allowed g.D.Disk c.args.disk.now c.args.kept.now before c.args.number c.in-Some.draft w p s there here c.in-Ok.slot c.in-Ok.ensures none,
       (
-          head.empty_reached g.D.Disk c.args.disk.now c.args.kept.now before c.args.number c.in-Some.draft w p s there here c.in-Ok.slot c.in-Ok.ensures none c.offset-offset.result c.offset-offset.ensures,
-          head.empty_stands g.D.Disk c.args.disk.now c.args.kept.now before c.args.number c.in-Some.draft w p s there here c.in-Ok.slot c.in-Ok.ensures none _ _
-              (drops g.D.Disk c.args.disk.now c.args.kept.now _ before c.taken.new.drafts.items c.args.number w
-              (reserves_only c.args.kept.now _ _ c.kept.view_is refl c.give_back-then-came-eq0.ensures.rows) c.taken.ensures.after gives s),
+        head.empty_reached g.D.Disk c.args.disk.now c.args.kept.now before c.args.number c.in-Some.draft w p s there here c.in-Ok.slot c.in-Ok.ensures none c.offset-offset.result c.offset-offset.ensures,
+        head.empty_stands g.D.Disk c.args.disk.now c.args.kept.now before c.args.number c.in-Some.draft w p s there here c.in-Ok.slot c.in-Ok.ensures none _ _
+            (drops g.D.Disk c.args.disk.now c.args.kept.now _ before c.taken.new.drafts.items c.args.number w
+            (reserves_only c.args.kept.now _ _ c.kept.view_is refl c.give_back-then-came-eq0.ensures.rows) c.taken.ensures.after gives s),
       ),
     )
 

@@ -110,6 +110,9 @@ returns-in-Some-clause-answer g c drafts number w p is =
     let allowed = lemmas.allowed g.D.Disk c.args.disk.now c.end.new.disk _ _ only drafts number o o' w p is' effect placed c.end.ensures.reserved c.rows-rows.ensures.reserved c.in_ok-state.state whole c.args.slot has in
     let stored = lemmas.stored_after g.D.Disk c.args.disk.now c.end.new.disk _ _ only drafts number o o' w p is' effect c.end.ensures.honest.0 in (
       allowed,
-      (accepted, lemmas.appends g.D.Disk c.args.disk.now c.end.new.disk _ _ only drafts number o o' w p is' effect placed c.end.ensures.reserved c.rows-rows.ensures.reserved c.in_ok-state.state whole c.args.slot has
-          c.in-Some.longer (ap (λ (l : Longer). l.slot) c.in-Some.ensures.is) accepted (ap (λ (l : Longer). l.text_len) c.in-Some.ensures.is) (ap (λ (l : Longer). l.state) c.in-Some.ensures.is) stored content),
+      (
+        accepted,
+        lemmas.appends g.D.Disk c.args.disk.now c.end.new.disk _ _ only drafts number o o' w p is' effect placed c.end.ensures.reserved c.rows-rows.ensures.reserved c.in_ok-state.state whole c.args.slot has
+            c.in-Some.longer (ap (λ (l : Longer). l.slot) c.in-Some.ensures.is) accepted (ap (λ (l : Longer). l.text_len) c.in-Some.ensures.is) (ap (λ (l : Longer). l.state) c.in-Some.ensures.is) stored content,
+      ),
     )

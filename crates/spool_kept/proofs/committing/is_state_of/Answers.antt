@@ -1,4 +1,4 @@
-use Rattle.std.proofs.Common.{rules, ◌≡◌, ◌∙◌, true, ap, sym}
+use Rattle.std.proofs.Common.{◌∙◌, sym}
 use denote.Enum.Bare.{same_true, differs_true, differs_false}
 use Rattle.enc_model.specs.contracts.Encoding as Encoding
 use Rattle.enc_model.specs.contracts.Mode as Mode
@@ -10,9 +10,9 @@ use Rattle.spool_kept.proofs.committing.is_state_of.Goals.{then-ne-via-then-ne, 
 pub returns-clause-same : goal.returns-clause-same
 returns-clause-same c e =
     let told = c.in-Some.ensures.unpacked in
-    let from = differs_false Encoding.the_type (search rules) _ _ (sym c.ne.ensures ∙ c.if-ne.false) in
-    let to = differs_false Encoding.the_type (search rules) _ _ (sym c.ne-else-ne.ensures ∙ c.if-ne-2.false) in
-    let mode = same_true Mode.the_type (search rules) _ _ (sym c.eq.ensures ∙ e) in
+    let from = differs_false Encoding.the_type tt _ _ (sym c.ne.ensures ∙ c.if-ne.false) in
+    let to = differs_false Encoding.the_type tt _ _ (sym c.ne-else-ne.ensures ∙ c.if-ne-2.false) in
+    let mode = same_true Mode.the_type tt _ _ (sym c.eq.ensures ∙ e) in
     record {
       before = c.requires.transcoder;
       after = c.in-Some.next.transcoder;

@@ -1,10 +1,10 @@
-use Rattle.std.proofs.Common.{◌≡◌, ◌∙◌, ap, refl, subst, sym, ℕ, List, Err, None, get_or, set}
+use Rattle.std.proofs.Common.{◌≡◌, ◌∙◌, ap, refl, subst, sym, ℕ, List, Err, None, set}
 use Rattle.spool_drafts.specs.Drafts.{list_of}
 use Rattle.spool_texts.specs.Drafts.{GivesBack}
 use Rattle.spool_disk.specs.Views.{Lasts}
 use Rattle.upload_rules.specs.Calls.{commit_outcome, commit_refusal, dropped}
 use Rattle.upload_rules.specs.Store.{appended_store}
-use Rattle.spool_kept.specs.Drafting.{DraftsFit, StandsFor}
+use Rattle.spool_kept.specs.Drafting.{DraftsFit}
 use Rattle.spool_kept.specs.Extending.{HandsOn, IsAppend, IsLonger}
 use Rattle.spool_kept.specs.Holding.{Holding}
 use Rattle.spool_kept.specs.Shows.{ImageShows}
@@ -122,9 +122,9 @@ returns-in-Ok-extend-clause-answer g c drafts number w p is =
     let longer = subst (λ (more : List ℕ). IsLonger c.ended.new.kept may.used c.in-Ok.longer more c.extend.new.kept) c.list.ensures.blocks (c.in-Ok-extend.ensures.longer (λ e. cc) may.used may.there) in (
       answer.0,
       (
-          answer.1.0,
-          spent.stands_committed g.D.Disk c.args.disk.now c.ended.new.disk c.args.kept.now c.ended.new.kept c.ended.ensures.same drafts number c.args.draft c.ended.new.draft w p is c.ended.ensures.effect
-              c.ended.ensures.reserved c.ended.ensures.placed c.in-Ok.longer answer.1.1 may.used c.extend.new.disk c.extend.new.kept longer hands
-              (c.in-Ok-extend.ensures.texts w.store p.number p.body append) (c.in-Ok-extend.ensures.answer w.store p.number p.body append),
+        answer.1.0,
+        spent.stands_committed g.D.Disk c.args.disk.now c.ended.new.disk c.args.kept.now c.ended.new.kept c.ended.ensures.same drafts number c.args.draft c.ended.new.draft w p is c.ended.ensures.effect
+            c.ended.ensures.reserved c.ended.ensures.placed c.in-Ok.longer answer.1.1 may.used c.extend.new.disk c.extend.new.kept longer hands
+            (c.in-Ok-extend.ensures.texts w.store p.number p.body append) (c.in-Ok-extend.ensures.answer w.store p.number p.body append),
       ),
     )

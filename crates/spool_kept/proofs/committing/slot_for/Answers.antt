@@ -1,4 +1,4 @@
-use Rattle.std.proofs.Common.{ℕ, ap, subst, sym}
+use Rattle.std.proofs.Common.{ℕ, subst, sym}
 use Rattle.spool_kept.specs.Holding.{IsUsedBy}
 use Rattle.spool_kept.proofs.committing.slot_for.Goals as goal
 
