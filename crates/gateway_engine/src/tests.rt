@@ -1,5 +1,7 @@
 //! Scripts whose output is known from outside.
 
+mod spools;
+
 use crate::{ScriptFault, run_over};
 use enc_index::{Index, IndexSet, Kind};
 use enc_model::Encoding;
