@@ -6,7 +6,7 @@ use enc_model::Mode;
 use spool_disk::FileDisk;
 use spool_image::Spool;
 use std::alloc::Global;
-use std::io;
+use std::io::{self, Write};
 use upload_rules::Uploads;
 
 // The most uploads of a spool.
@@ -16,7 +16,7 @@ const MOST_UPLOADS: usize = 512;
 pub(crate) fn list_file(rt: &HostRuntime, alloc: Global, spool: &str) -> Result<(), Fault> {
     match Spool::open(alloc, FileDisk::open(rt, spool)?) {
         Ok(spool) => {
-            let printed = print_uploads(rt, &spool);
+            let printed = print_uploads(&mut io::writer(rt), &spool);
             drop(spool.into_disk());
             Ok(printed?)
         }
@@ -24,8 +24,8 @@ pub(crate) fn list_file(rt: &HostRuntime, alloc: Global, spool: &str) -> Result<
     }
 }
 
-// Prints a line for each upload, by number.
-fn print_uploads<U: Uploads>(rt: &HostRuntime, uploads: &U) -> io::Result<()> {
+/// Prints a line for each upload, by number.
+pub(crate) fn print_uploads<W: Write, U: Uploads>(writer: &mut W, uploads: &U) -> io::Result<()> {
     let mut number = 0;
     for _ in 0..MOST_UPLOADS {
         let Some(record) = uploads.record_after(number) else {
@@ -34,7 +34,8 @@ fn print_uploads<U: Uploads>(rt: &HostRuntime, uploads: &U) -> io::Result<()> {
         let from = name_of(record.from);
         let to = name_of(record.to);
         let mode = mode_name(record.mode);
-        println!(rt;
+        writeln!(
+            writer,
             "{} {}/{} {} {from} {to} {mode}",
             record.number, record.accepted, record.declared, record.text_len
         )?;

@@ -7,6 +7,8 @@ mod formatting;
 mod index_files;
 mod listing;
 mod scripting;
+#[cfg(test)]
+mod tests;
 
 use clap::Error;
 use clap::error::ErrorKind;

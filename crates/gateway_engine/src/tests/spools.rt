@@ -6,6 +6,7 @@ use enc_index::IndexSet;
 use spool_disk::{Crash, Disk, FuseDisk, MemoryDisk};
 use spool_image::{OpenFault, Spool, format};
 use std::alloc::Global;
+use std::process::Abort;
 use std::test::Fail;
 use upload_rules::Uploads;
 
@@ -79,20 +80,18 @@ fn all_blocks_are_owned(rt: HostRuntime) -> Result<(), Fail> {
     Ok(())
 }
 
-#[test]
-fn stop_at_each_call_of_the_disk(rt: HostRuntime) -> Result<(), Fail> {
-    let mut talk = Talk::new(rt.alloc());
+/// An upload of five bytes is made and filled, the disk stops at each of its calls in turn, and then a crash of this kind comes.
+fn stop_at_each_call(rt: &impl Abort, alloc: Global, kind: Crash) -> Result<(), Fail> {
+    let mut talk = Talk::new(alloc);
     talk.open(1)?;
     talk.made(1, 5, "")?;
     let made = talk.wanted.len();
     talk.added(1, 0, b"hello", 5)?;
-    let kinds = [Crash::Old, Crash::New, Crash::Torn(0), Crash::Torn(165)];
     // opening makes 539 calls
     for calls in 537..700u64 {
-        let fuse = FuseDisk::new(fresh(rt.alloc())?, calls);
-        let (fuse, fault, written) = ran(rt.alloc(), &talk, fuse);
-        let crashed = fuse.into_inner().crash(kinds[(calls % 4) as usize]);
-        let left = accepted(rt.alloc(), crashed)?;
+        let fuse = FuseDisk::new(fresh(alloc)?, calls);
+        let (fuse, fault, written) = ran(alloc, &talk, fuse);
+        let left = accepted(alloc, fuse.into_inner().crash(kind))?;
         if written.len() == talk.wanted.len() {
             assert_eq!(rt; left, Some(5), "at {calls}");
         } else if written.len() == made {
@@ -111,6 +110,26 @@ fn stop_at_each_call_of_the_disk(rt: HostRuntime) -> Result<(), Fail> {
         }
     }
     panic!(rt; "the run makes too many calls")
+}
+
+#[test]
+fn stop_at_each_call_leaves_old_bytes(rt: HostRuntime) -> Result<(), Fail> {
+    stop_at_each_call(&rt, rt.alloc(), Crash::Old)
+}
+
+#[test]
+fn stop_at_each_call_leaves_new_bytes(rt: HostRuntime) -> Result<(), Fail> {
+    stop_at_each_call(&rt, rt.alloc(), Crash::New)
+}
+
+#[test]
+fn stop_at_each_call_leaves_zeros(rt: HostRuntime) -> Result<(), Fail> {
+    stop_at_each_call(&rt, rt.alloc(), Crash::Torn(0))
+}
+
+#[test]
+fn stop_at_each_call_leaves_open_gates(rt: HostRuntime) -> Result<(), Fail> {
+    stop_at_each_call(&rt, rt.alloc(), Crash::Torn(165))
 }
 
 #[test]
