@@ -18,7 +18,7 @@ use Rattle.gateway_engine.specs.Runs.{View, with_marks, IsAt, Reaches, Leads, ru
 use Rattle.gateway_engine.proofs.Turns.{done_went, refused_went}
 use Rattle.gateway_engine.proofs.Reaching.{reach_both, reach_none, stops_behind}
 use Rattle.gateway_engine.proofs.Passing.{passes_by, passes_on, passes_as, cut_adds, lines_add, first_same}
-use Rattle.gateway_engine.proofs.Seen.{seen_behind, Leaves, history_same}
+use Rattle.gateway_engine.proofs.Seen.{seen_behind, Leaves, OnDevice, history_same}
 
 -- WHETHER A CONNECTION IS OPEN, BY WHAT ITS END IS ANSWERED
 closed_case : (st : State) (c : ℕ) (o : Option Conn) → (ended_at st c o).outcome ≡ Refused errors.Closed → (is_closed o ≡ true) × ((ended_at st c o).state ≡ st)
@@ -121,15 +121,15 @@ cut_skipped v now k n r at leaves does =
     )
 
 pub cut_refused : {C : Type 0} (v : View C) (now : C) (held : Option (List ℕ)) (k n : ℕ) (r : Run) (f : SessionError) (result : Result (Unit {0}) CallFault)
-    → IsAt v r → Leaves v now r.state.world.store (shown_by r.state (Ended n) (mark_of {T = Unit {0}} (Err f))) → Does (v.u.stands now) (Err f) r.state (Ended n)
+    → IsAt v r → OnDevice v r → Leaves v now r.state.world.store (shown_by r.state (Ended n) (mark_of {T = Unit {0}} (Err f))) → Does (v.u.stands now) (Err f) r.state (Ended n)
     → (f ≡ errors.Closed → ⊥) → (f ≡ errors.DiskFault → is_closed (r.state.conns n) ≡ false)
     → Refuses v.held held result n f → CutOne (seen_behind v now held) result k n r
-cut_refused v now held k n r errors.NoMemory result at leaves does other is_open refuses =
-    went_cut (seen_behind v now held) result k n r (ended_lost r.state n does.answer) at.up (refused_went v now held r (Ended n) errors.NoMemory result at leaves does refuses)
-cut_refused v now held k n r errors.DiskFault result at leaves does other is_open refuses =
-    went_cut (seen_behind v now held) result k n r (is_open refl) at.up (refused_went v now held r (Ended n) errors.DiskFault result at leaves does refuses)
-cut_refused v now held k n r errors.TooMany result at leaves does other is_open refuses = absurd (ended_many r.state n does.answer)
-cut_refused v now held k n r errors.Closed result at leaves does other is_open refuses = absurd (other refl)
+cut_refused v now held k n r errors.NoMemory result at durable leaves does other is_open refuses =
+    went_cut (seen_behind v now held) result k n r (ended_lost r.state n does.answer) at.up (refused_went v now held r (Ended n) errors.NoMemory result at durable leaves does refuses)
+cut_refused v now held k n r errors.DiskFault result at durable leaves does other is_open refuses =
+    went_cut (seen_behind v now held) result k n r (is_open refl) at.up (refused_went v now held r (Ended n) errors.DiskFault result at durable leaves does refuses)
+cut_refused v now held k n r errors.TooMany result at durable leaves does other is_open refuses = absurd (ended_many r.state n does.answer)
+cut_refused v now held k n r errors.Closed result at durable leaves does other is_open refuses = absurd (other refl)
 
 -- A LINE
 line_step : (number start : ℕ) (line : List ℕ) (lines : List (List ℕ)) (r : Run) (down bad : Bool) → r.down ≡ down → (is_long start line || is_bad (order_of (bared line))) ≡ bad

@@ -10,9 +10,9 @@ use Rattle.tus_session.specs.History.{State, Mark, Marked}
 use Rattle.gateway_engine.proofs.Outputs.{appends_nothing}
 use Rattle.gateway_engine.specs.Script as script
 use Rattle.gateway_engine.specs.Script.{script as the_script, Run, run_lines, script_lines, run_from, ended_as, Exit, Ran, AtLine, Faulted}
-use Rattle.gateway_engine.specs.Images.{IsFirst, stores_of, LimitsTo}
-use Rattle.gateway_engine.specs.Runs.{View, with_marks, IsHistory, IsAt, Reaches, Stops, script_past, Ends}
-use Rattle.gateway_engine.specs.Ran.{Shows, Rests, EndedSo, RestsSo, StoppedSo, HasRun, IsScript, HasFailed}
+use Rattle.gateway_engine.specs.Images.{IsFirst, stores_of, last_stores, ShowsLast, LimitsTo}
+use Rattle.gateway_engine.specs.Runs.{View, with_marks, IsHistory, IsAt, IsDown, Reaches, Stops, script_past, Ends}
+use Rattle.gateway_engine.specs.Ran.{Shows, Rests, EndedSo, RestsSo, FailedSo, StoppedSo, HasRun, IsScript, HasFailed}
 use Rattle.gateway_engine.specs.declared.faults.CallFault.{CallFault}
 use Rattle.gateway_engine.specs.declared.faults.CallFault.TheVariants as faults
 use Rattle.gateway_engine.specs.declared.faults.ScriptFault.{ScriptFault}
@@ -51,8 +51,12 @@ shows_since u before now st past durable limits = record {
 abbrev pub ShowsIn : {C : Type 0} → View C → List Marked → Type 0
 ShowsIn v past = LimitsTo (v.u.moment v.before) (v.u.moment v.now) (v.u.left_only v.before) (v.u.left_only v.now) (stores_of v.st past)
 
+abbrev pub LastIn : {C : Type 0} → View C → List Marked → Type 0
+LastIn v past = ShowsLast (v.u.moment v.now) (v.u.left_only v.now) v.st past
+
 module _ {U B C : Type 0} (u : Ghosts U B) (v : View C) (before store : U) (bytes : List ℕ)
-    (closes : (now : State) → v.u.stands v.now now → Rests u store now) (shows : (past : List Marked) → ShowsIn v past → Shows u before store v.st past) where
+    (closes : (now : State) → v.u.stands v.now now → Rests u store now) (shows : (past : List Marked) → ShowsIn v past → Shows u before store v.st past)
+    (last : (past : List Marked) → LastIn v past → ShowsLast (u.moment store) (u.left_only store) v.st past) where
   abbrev lines : Run → script.Result
   lines = run_lines 1 0 (script_lines bytes)
 
@@ -79,6 +83,15 @@ module _ {U B C : Type 0} (u : Ghosts U B) (v : View C) (before store : U) (byte
     },
   )
 
+  failed_so : (s : Run) → (p : Reaches lines begun (λ x. ended_as x Faulted) s) → IsDown v s → (marks : List Mark) × FailedSo u before store v.st (the_script v.st marks bytes) v.held v.front
+  failed_so s p down = (
+    p.0 ++ [],
+    record {
+      ended = ended_so s Faulted p down.wrote down.history;
+      last = subst (λ r. ShowsLast (u.moment store) (u.left_only store) v.st r.run.past) (sym (ends_as s Faulted p)) (last s.past down.last);
+    },
+  )
+
   stopped_so : (fault : CallFault) → Stops v fault script_past lines begun → (marks : List Mark) × StoppedSo u before store v.st (the_script v.st marks bytes) v.held v.front fault
   stopped_so fault p = (
     p.1.0 ++ [],
@@ -98,7 +111,7 @@ module _ {U B C : Type 0} (u : Ghosts U B) (v : View C) (before store : U) (byte
 
   pub stopped : (fault : ScriptFault) → Ends v (Err fault) lines begun → HasRun u before (Err (store, fault)) v.held v.front v.st bytes
   stopped runs.NoMemory p = stopped_so faults.NoMemory p
-  stopped runs.DiskFault p = (p.1.0 ++ [], ended_so p.0 Faulted p.1 p.2.wrote p.2.history)
+  stopped runs.DiskFault p = failed_so p.0 p.1 p.2
   stopped (runs.Script n) p = rests_so p.0 (AtLine n) p.1 p.2
   stopped runs.Io p = stopped_so faults.Io p
 
@@ -154,6 +167,14 @@ shows_through u before first last now stores same quiet shows = subst (λ b. Lim
   later = omega (arith, shows.later, quiet.later);
   limits = λ t ms le left among. quiet.keeps t ms (omega (arith, shows.later)) (shows.limits t ms le left among);
 })
+
+pub last_through : {U B : Type 0} (u : Ghosts U B) (last now : U) (st : State) (past : List Marked) → Quiet (u.moment last) (u.moment now) (u.left_only last) (u.left_only now)
+    → ShowsLast (u.moment last) (u.left_only last) st past → ShowsLast (u.moment now) (u.left_only now) st past
+last_through u last now st past quiet shows = record {
+  since = shows.since;
+  reached = omega (arith, shows.reached, quiet.later);
+  left = quiet.keeps shows.since (last_stores st past) shows.reached shows.left;
+}
 
 -- of an unread script nothing is told
 pub some_script : (known : Option (List ℕ)) → (bytes : List ℕ) × IsScript known bytes

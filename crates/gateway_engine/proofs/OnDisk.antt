@@ -13,11 +13,11 @@ use Rattle.upload_rules.specs.World.{Patch, World}
 use Rattle.upload_rules.specs.declared.uploads.Uploads as uploads
 use Rattle.tus_session.specs.History.{State, Marked, history}
 use Rattle.gateway_engine.specs.Faults.{run_fault}
-use Rattle.gateway_engine.specs.Images.{stores_of}
+use Rattle.gateway_engine.specs.Images.{stores_of, last_stores}
 use Rattle.gateway_engine.specs.Script as script
-use Rattle.gateway_engine.specs.Script.{Exit}
-use Rattle.gateway_engine.specs.Ran.{Shows, Rests, EndedSo, RestsSo, StoppedSo, HasRun}
-use Rattle.gateway_engine.specs.RanOn.{AllShow, LeftOrShows, LastsOver, EndedOn, RestsOn, StoppedOn, HasRunOn}
+use Rattle.gateway_engine.specs.Script.{Exit, Faulted}
+use Rattle.gateway_engine.specs.Ran.{Shows, Rests, EndedSo, RestsSo, FailedSo, StoppedSo, HasRun}
+use Rattle.gateway_engine.specs.RanOn.{AllShow, AllShowOne, LeftOrShows, LastsOver, EndedOn, RestsOn, FailedOn, StoppedOn, HasRunOn}
 use Rattle.gateway_engine.specs.declared.faults.CallFault.{CallFault}
 use Rattle.gateway_engine.specs.declared.faults.RunFault.TheVariants.{Open}
 use Rattle.gateway_engine.specs.declared.faults.ScriptFault.{ScriptFault}
@@ -30,13 +30,19 @@ shows_one m image one = elim one.among [
   | inr never ↦ absurd never
 ]
 
+-- an image of now is one that might have been left since any moment that isn't to come
+abbrev pub CountsNow : {D : Type 0} → Ghosts D → D → Type 0
+CountsNow disk d = (t : ℕ) (image : ℕ → ℕ) → t ≤ disk.moment d → IsImage (disk.seen d) (disk.loose d) image → disk.left_since d t image
+
+-- where one of these is left since such a moment, each image of now shows one of them
+all_show_one : {D : Type 0} (disk : Ghosts D) (d : D) (t : ℕ) (stores : List Store) → CountsNow disk d → t ≤ disk.moment d → LeftOnly disk d t stores → AllShowOne disk d stores
+all_show_one disk d t stores now reached left = record { honest = left.honest; each = λ image is. left.each image (now t image reached is) }
+
 -- where only these uploads are left since now, each image of now shows them
-pub all_show : {D : Type 0} (disk : Ghosts D) (d : D) (m : Store) → ((t : ℕ) (image : ℕ → ℕ) → t ≤ disk.moment d → IsImage (disk.seen d) (disk.loose d) image → disk.left_since d t image)
-    → LeftOnly disk d (disk.moment d) (m ∷ []) → AllShow disk d m
-all_show disk d m now left = record {
-  honest = left.honest;
-  each = λ image is. shows_one m image (left.each image (now (disk.moment d) image (omega arith) is));
-}
+pub all_show : {D : Type 0} (disk : Ghosts D) (d : D) (m : Store) → CountsNow disk d → LeftOnly disk d (disk.moment d) (m ∷ []) → AllShow disk d m
+all_show disk d m now left =
+    let one : AllShowOne disk d (m ∷ []) = all_show_one disk d (disk.moment d) (m ∷ []) now (omega arith) left in
+    record { honest = one.honest; each = λ image is. shows_one m image (one.each image is) }
 
 -- UPLOADS ON A DISK
 module _ {D U B : Type 0} (disk : Ghosts D) (disk_of : U → D) (stands : U → World → Type 0) (number_of : B → ℕ) (holds : B → Patch → Type 0) where
@@ -72,12 +78,18 @@ module _ {D U B : Type 0} (disk : Ghosts D) (disk_of : U → D) (stands : U → 
       always = λ all. shows.limits.limits (disk.moment before) (stores_of st past) opening.later (first_only past all) (all_themselves (stores_of st past));
     }
 
-    module _ (rests : (st : State) → Rests u now st → AllShow disk (disk_of now) st.world.store) (held front : Option (List ℕ)) where
+    module _ (counts_now : CountsNow disk (disk_of now)) (rests : (st : State) → Rests u now st → AllShow disk (disk_of now) st.world.store) (held front : Option (List ℕ)) where
       ended_on : (r : script.Result) (exit : Exit) → EndedSo u opened now st r held front exit → EndedOn disk before (disk_of now) st r held front exit
       ended_on r exit is = record { exits = is.exits; wrote = is.wrote; output = is.output; state = is.state; lasts = lasts_over r.run.past is.shows }
 
       rests_on : (r : script.Result) (exit : Exit) → RestsSo u opened now st r held front exit → RestsOn disk before (disk_of now) st r held front exit
       rests_on r exit is = record { ended = ended_on r exit is.ended; shows = rests r.run.state is.rests }
+
+      failed_on : (r : script.Result) → FailedSo u opened now st r held front → FailedOn disk before (disk_of now) st r held front
+      failed_on r is = record {
+        ended = ended_on r Faulted is.ended;
+        shows = all_show_one disk (disk_of now) is.last.since (last_stores st r.run.past) counts_now is.last.reached is.last.left;
+      }
 
       stopped_on : (r : script.Result) (fault : CallFault) → StoppedSo u opened now st r held front fault → StoppedOn disk before (disk_of now) st r held front fault
       stopped_on r fault is = record {
@@ -95,7 +107,7 @@ module _ {D U B : Type 0} (disk : Ghosts D) (disk_of : U → D) (stands : U → 
 
       pub broke_on : (bytes : List ℕ) (fault : ScriptFault) → HasRun u opened (Err (now, fault)) held front st bytes → HasRunOn disk before (Err (disk_of now, run_fault fault)) held front st bytes
       broke_on bytes runs.NoMemory has = (has.0, stopped_on _ _ has.1)
-      broke_on bytes runs.DiskFault has = (has.0, ended_on _ _ has.1)
+      broke_on bytes runs.DiskFault has = (has.0, failed_on _ has.1)
       broke_on bytes (runs.Script n) has = (has.0, rests_on _ _ has.1)
       broke_on bytes runs.Io has = (has.0, stopped_on _ _ has.1)
 

@@ -4,7 +4,7 @@ use Rattle.upload_rules.specs.Store.{Store}
 use Rattle.upload_rules.specs.Answers.{Among, Limits}
 use Rattle.tus_session.specs.History.{State, Event, Mark, Marked, Served, OutOfMemory, Failed, step, history, conn_in}
 use Rattle.gateway_engine.specs.Script.{Run, written}
-use Rattle.gateway_engine.specs.Images.{shown_by, stores_of, AllAmong, LimitsTo, last_output, output_of}
+use Rattle.gateway_engine.specs.Images.{shown_by, stores_of, ShowsLast, AllAmong, LimitsTo, last_output, output_of}
 use Rattle.gateway_engine.specs.Runs.{View, IsHistory, stepped}
 
 failed_stays : (st : State) (e : Event) → (step st e Failed).state ≡ st
@@ -40,6 +40,22 @@ seen_behind v now held = record v { now = now; held = held }
 -- what images may show behind a call with these two stores
 abbrev pub Leaves : {C : Type 0} → View C → C → Store → Store → Type 0
 Leaves v now before after = Limits (v.u.moment v.now) (v.u.moment now) (v.u.left_only v.now) (v.u.left_only now) before after
+
+-- the uploads of a run are on the device
+abbrev pub OnDevice : {C : Type 0} → View C → Run → Type 0
+OnDevice v r = (ms : List Store) → Among r.state.world.store ms → v.u.left_only v.now (v.u.moment v.now) ms
+
+-- behind a call the latest uploads are those behind it and those before it
+pub shows_last : {C : Type 0} (v : View C) (now : C) (held : Option (List ℕ)) (r : Run) (e : Event) (m : Mark) → IsHistory v r → OnDevice v r
+    → Leaves v now r.state.world.store (shown_by r.state e m) → ShowsLast (v.u.moment now) (v.u.left_only now) v.st (stepped r (conn_in e) e m).past
+shows_last v now held r e m is durable leaves =
+    let two : State → List Store = λ s. shown_by s e m ∷ s.world.store ∷ [] in
+    record {
+      since = v.u.moment v.now;
+      reached = leaves.later;
+      left = subst (λ s. v.u.left_only now (v.u.moment v.now) (two s)) is.state
+          (leaves.limits (v.u.moment v.now) (two r.state) (omega arith) (durable (two r.state) (inr (inl refl))) (inr (inl refl)) (inl refl));
+    }
 
 -- what was written last
 pub last_is : {C : Type 0} (v : View C) (r : Run) (e : Event) (m : Mark) → IsHistory v r → written (conn_in e) (step r.state e m).outcome ≡ last_output v.st ((e, m) ∷ r.past)

@@ -14,7 +14,7 @@ use Rattle.gateway_engine.specs.Script.{Run, call, is_fault, written}
 use Rattle.gateway_engine.specs.Runs.{View, with_marks, stepped, Calls, Called, IsAt, IsDown, IsStopped, Leads, Stops, run_past, Went, Refuses, Tells}
 use Rattle.gateway_engine.proofs.Outputs.{appends_both, appends_nothing}
 use Rattle.gateway_engine.proofs.Passing.{passes_by, first_same}
-use Rattle.gateway_engine.proofs.Seen.{seen_behind, Leaves, history_on, last_is}
+use Rattle.gateway_engine.proofs.Seen.{seen_behind, Leaves, OnDevice, history_on, shows_last, last_is}
 
 -- a call is the step with its mark
 pub leads_call : (r : Run) (n : ℕ) (e : Event) (m : Mark) (rest : List Mark)
@@ -53,12 +53,13 @@ module _ {C : Type 0} (v : View C) (now : C) (held : Option (List ℕ)) (r : Run
   }
 
   -- the device failed: nothing was written
-  goes_down : held ≡ v.held → (step r.state e m).outcome ≡ Refused errors.DiskFault → IsDown (seen_behind v now held) (stepped r (conn_in e) e m)
-  goes_down same is = record {
+  goes_down : OnDevice v r → held ≡ v.held → (step r.state e m).outcome ≡ Refused errors.DiskFault → IsDown (seen_behind v now held) (stepped r (conn_in e) e m)
+  goes_down durable same is = record {
     wrote = subst (λ h. Appends v.front h (r.out ++ written (conn_in e) (step r.state e m).outcome)) (sym same)
         (subst (Appends v.front v.held) (sym (ap (λ o. r.out ++ written (conn_in e) o) is ∙ append-nil r.out)) at.wrote);
     down = ap is_fault is;
     history = history_on v now held r e m at.history leaves;
+    last = shows_last v now held r e m at.history durable leaves;
   }
 
   -- memory was wanting for the reply: nothing was written
@@ -93,18 +94,18 @@ stops_at v fault r n e m is =
     (stepped r n e m, passes_by run_past (λ x. (call x n e).run) (λ x. x) r (stepped r n e m) (leads r n e m) (λ x. first_same x.past), is)
 
 pub refused_went : {C : Type 0} (v : View C) (now : C) (held : Option (List ℕ)) (r : Run) (e : Event) (f : SessionError) (result : Result (Unit {0}) CallFault)
-    → IsAt v r → Leaves v now r.state.world.store (shown_by r.state e (mark_of {T = Unit {0}} (Err f))) → Does (v.u.stands now) (Err f) r.state e
+    → IsAt v r → OnDevice v r → Leaves v now r.state.world.store (shown_by r.state e (mark_of {T = Unit {0}} (Err f))) → Does (v.u.stands now) (Err f) r.state e
     → Refuses v.held held result (conn_in e) f → Went (seen_behind v now held) result (λ x. (call x (conn_in e) e).run) r
-refused_went v now held r e f (Ok x) at leaves does refuses =
+refused_went v now held r e f (Ok x) at durable leaves does refuses =
     let m : Mark = mark_of {T = Unit {0}} (Err f) in
     (stepped r (conn_in e) e m, leads r (conn_in e) e m, stays_at v now held r e m at leaves (Refused f) (unless (Unit {0}) f _ refuses.1 does.keeps) does.answer (no_fault f refuses.1) refuses.0)
-refused_went v now held r e f (Err faults.DiskFault) at leaves does refuses =
+refused_went v now held r e f (Err faults.DiskFault) at durable leaves does refuses =
     let m : Mark = mark_of {T = Unit {0}} (Err f) in
-    (stepped r (conn_in e) e m, leads r (conn_in e) e m, goes_down v now held r e m at leaves refuses.1 (does.answer ∙ ap Refused refuses.0))
-refused_went v now held r e f (Err faults.NoMemory) at leaves does refuses =
+    (stepped r (conn_in e) e m, leads r (conn_in e) e m, goes_down v now held r e m at leaves durable refuses.1 (does.answer ∙ ap Refused refuses.0))
+refused_went v now held r e f (Err faults.NoMemory) at durable leaves does refuses =
     let m : Mark = mark_of {T = Unit {0}} (Err f) in
     stops_at (seen_behind v now held) faults.NoMemory r (conn_in e) e m (wants_memory v now held r e m at leaves (unless (Unit {0}) f _ refuses.1 does.keeps) refuses.0)
-refused_went v now held r e f (Err faults.Io) at leaves does refuses =
+refused_went v now held r e f (Err faults.Io) at durable leaves does refuses =
     let m : Mark = mark_of {T = Unit {0}} (Err f) in
     stops_at (seen_behind v now held) faults.Io r (conn_in e) e m (breaks_off v now held r e m at leaves (Refused f) (unless (Unit {0}) f _ refuses.1 does.keeps) does.answer refuses.0)
 
@@ -151,17 +152,17 @@ module _ {C : Type 0} (v : View C) (now : C) (held : Option (List ℕ)) (r : Run
       stays_at v now held r e m at leaves (Refused f) (unless Answer f _ refuses.1 gives.1.keeps) gives.1.answer (no_fault f refuses.1) refuses.0,
     )
 
-    pub refuse_stopped : (fault : CallFault) → Refuses v.held held (Err fault) (conn_in e) f → Called (seen_behind v now held) (Err fault) (conn_in e) e r
-    refuse_stopped faults.DiskFault refuses =
+    pub refuse_stopped : OnDevice v r → (fault : CallFault) → Refuses v.held held (Err fault) (conn_in e) f → Called (seen_behind v now held) (Err fault) (conn_in e) e r
+    refuse_stopped durable faults.DiskFault refuses =
         let is : (step r.state e m).outcome ≡ Refused errors.DiskFault = gives.1.answer ∙ ap Refused refuses.0 in
-        (stepped r (conn_in e) e m, calls r (conn_in e) e m (Refused errors.DiskFault) is, goes_down v now held r e m at leaves refuses.1 is)
-    refuse_stopped faults.NoMemory refuses = (
+        (stepped r (conn_in e) e m, calls r (conn_in e) e m (Refused errors.DiskFault) is, goes_down v now held r e m at leaves durable refuses.1 is)
+    refuse_stopped durable faults.NoMemory refuses = (
       stepped r (conn_in e) e m,
       Refused f,
       calls r (conn_in e) e m (Refused f) gives.1.answer,
       wants_memory v now held r e m at leaves (unless Answer f _ refuses.1 gives.1.keeps) refuses.0,
     )
-    refuse_stopped faults.Io refuses = (
+    refuse_stopped durable faults.Io refuses = (
       stepped r (conn_in e) e m,
       Refused f,
       calls r (conn_in e) e m (Refused f) gives.1.answer,

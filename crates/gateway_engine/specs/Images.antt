@@ -18,6 +18,17 @@ abbrev pub stores_of : State → List Marked → List Store
 stores_of st [] = st.world.store ∷ []
 stores_of st (e ∷ past) = shown_by (history st past) e.0 e.1 ∷ stores_of st past
 
+-- the uploads behind all events, and behind all but the latest
+abbrev pub last_stores : State → List Marked → List Store
+last_stores st [] = st.world.store ∷ []
+last_stores st (e ∷ past) = shown_by (history st past) e.0 e.1 ∷ (history st past).world.store ∷ []
+
+-- since some moment that isn't to come, images show the uploads behind all events, or behind all but the latest
+pub record ShowsLast (moment : ℕ) (left_only : ℕ → List Store → Type 0) (st : State) (past : List Marked) : Type 0 where
+  pub since : ℕ
+  pub reached : since ≤ moment
+  pub left : left_only since (last_stores st past)
+
 abbrev pub AllAmong : List Store → List Store → Type 0
 AllAmong [] ms = Unit {0}
 AllAmong (m ∷ stores) ms = Among m ms × AllAmong stores ms

@@ -6,7 +6,7 @@ use Rattle.upload_rules.specs.declared.uploads.Uploads.{Ghosts}
 use Rattle.tus_session.specs.History.{State, Mark, Marked, history}
 use Rattle.gateway_engine.specs.Script as script
 use Rattle.gateway_engine.specs.Script.{script as the_script, Exit, Ran, AtLine, Faulted}
-use Rattle.gateway_engine.specs.Images.{IsFirst, output_of, stores_of, LimitsTo, WroteMost}
+use Rattle.gateway_engine.specs.Images.{IsFirst, output_of, stores_of, ShowsLast, LimitsTo, WroteMost}
 use Rattle.gateway_engine.specs.declared.faults.CallFault.{CallFault}
 use Rattle.gateway_engine.specs.declared.faults.CallFault.TheVariants as calls
 use Rattle.gateway_engine.specs.declared.faults.ScriptFault.{ScriptFault}
@@ -35,6 +35,11 @@ pub record RestsSo {U B : Type 0} (u : Ghosts U B) (before now : U) (st : State)
   pub ended : EndedSo u before now st r held front exit
   pub rests : Rests u now r.run.state
 
+-- the script ended at an event at which the device failed: images show the uploads behind it, or before it
+pub record FailedSo {U B : Type 0} (u : Ghosts U B) (before now : U) (st : State) (r : script.Result) (held front : Option (List ℕ)) : Type 0 where
+  pub ended : EndedSo u before now st r held front Faulted
+  pub last : ShowsLast (u.moment now) (u.left_only now) st r.run.past
+
 -- The run was broken off behind these events, the first of the script's. The store has the uploads of their history, no draft open
 pub record StoppedSo {U B : Type 0} (u : Ghosts U B) (before now : U) (st : State) (r : script.Result) (held front : Option (List ℕ)) (fault : CallFault) : Type 0 where
   pub past : List Marked
@@ -49,7 +54,7 @@ pub record StoppedSo {U B : Type 0} (u : Ghosts U B) (before now : U) (st : Stat
 abbrev pub HasRun : {U B : Type 0} → Ghosts U B → U → Result U (U × ScriptFault) → Option (List ℕ) → Option (List ℕ) → State → List ℕ → Type 0
 HasRun u before (Ok store) held front st bytes = (marks : List Mark) × RestsSo u before store st (the_script st marks bytes) held front Ran
 HasRun u before (Err (store, Script n)) held front st bytes = (marks : List Mark) × RestsSo u before store st (the_script st marks bytes) held front (AtLine n)
-HasRun u before (Err (store, DiskFault)) held front st bytes = (marks : List Mark) × EndedSo u before store st (the_script st marks bytes) held front Faulted
+HasRun u before (Err (store, DiskFault)) held front st bytes = (marks : List Mark) × FailedSo u before store st (the_script st marks bytes) held front
 HasRun u before (Err (store, NoMemory)) held front st bytes = (marks : List Mark) × StoppedSo u before store st (the_script st marks bytes) held front calls.NoMemory
 HasRun u before (Err (store, Io)) held front st bytes = (marks : List Mark) × StoppedSo u before store st (the_script st marks bytes) held front calls.Io
 

@@ -4,14 +4,14 @@ use Rattle.std.specs.Io.KnownBytes.{Appends}
 use Rattle.spool_disk.specs.Disk.{IsImage}
 use Rattle.spool_disk.specs.Views.{Lasts}
 use Rattle.spool_disk.specs.declared.disk.Disk.{Ghosts}
-use Rattle.spool_image.specs.LeftOnly.{LeftOnly}
+use Rattle.spool_image.specs.LeftOnly.{LeftOnly, ShowsOne}
 use Rattle.spool_kept.specs.Shows.{ImageShows}
 use Rattle.spool_kept.specs.declared.error.OpenFault.TheVariants as opens
 use Rattle.upload_rules.specs.Store.{Store}
 use Rattle.tus_session.specs.History.{State, Mark, Marked, history}
 use Rattle.gateway_engine.specs.Script as script
 use Rattle.gateway_engine.specs.Script.{script as the_script, Exit, Ran, AtLine, Faulted}
-use Rattle.gateway_engine.specs.Images.{IsFirst, output_of, stores_of, WroteMost}
+use Rattle.gateway_engine.specs.Images.{IsFirst, output_of, stores_of, last_stores, WroteMost}
 use Rattle.gateway_engine.specs.declared.faults.CallFault.{CallFault}
 use Rattle.gateway_engine.specs.declared.faults.CallFault.TheVariants as calls
 use Rattle.gateway_engine.specs.declared.faults.RunFault.{RunFault}
@@ -23,6 +23,11 @@ use Rattle.gateway_engine.specs.declared.faults.RunFault.TheVariants.{Open, NoMe
 pub record AllShow {D : Type 0} (disk : Ghosts D) (d : D) (m : Store) : Type 0 where
   pub honest : disk.honest d
   pub each : (image : ℕ → ℕ) → IsImage (disk.seen d) (disk.loose d) image → ImageShows image m
+
+-- every image that a crash may leave now shows one of these
+pub record AllShowOne {D : Type 0} (disk : Ghosts D) (d : D) (stores : List Store) : Type 0 where
+  pub honest : disk.honest d
+  pub each : (image : ℕ → ℕ) → IsImage (disk.seen d) (disk.loose d) image → ShowsOne stores image
 
 -- what a crash may leave while the disk is opened: what it may have left before, or what shows the uploads
 abbrev pub LeftOrShows : {D : Type 0} → Ghosts D → D → Store → (ℕ → ℕ) → Type 0
@@ -54,6 +59,11 @@ pub record RestsOn {D : Type 0} (disk : Ghosts D) (before now : D) (st : State) 
   pub ended : EndedOn disk before now st r held front exit
   pub shows : AllShow disk now r.run.state.world.store
 
+-- the script ended at an event at which the device failed, and the disk has the uploads behind all events, or behind all but this latest one
+pub record FailedOn {D : Type 0} (disk : Ghosts D) (before now : D) (st : State) (r : script.Result) (held front : Option (List ℕ)) : Type 0 where
+  pub ended : EndedOn disk before now st r held front Faulted
+  pub shows : AllShowOne disk now (last_stores st r.run.past)
+
 -- The run was broken off behind these events, the first of the script's. The disk has the uploads of their history
 pub record StoppedOn {D : Type 0} (disk : Ghosts D) (before now : D) (st : State) (r : script.Result) (held front : Option (List ℕ)) (fault : CallFault) : Type 0 where
   pub past : List Marked
@@ -64,11 +74,11 @@ pub record StoppedOn {D : Type 0} (disk : Ghosts D) (before now : D) (st : State
   pub shows : AllShow disk now (history st past).world.store
   pub lasts : LastsOver disk before now st.world.store (stores_of st past)
 
--- A disk of which a read shows uploads is opened, but for memory and the device. Behind a device's fault nothing is known of it but its images
+-- A disk of which a read shows uploads is opened, but for memory and the device
 abbrev pub HasRunOn : {D : Type 0} → Ghosts D → D → Result D (D × RunFault) → Option (List ℕ) → Option (List ℕ) → State → List ℕ → Type 0
 HasRunOn disk before (Ok d) held front st bytes = (marks : List Mark) × RestsOn disk before d st (the_script st marks bytes) held front Ran
 HasRunOn disk before (Err (d, Script n)) held front st bytes = (marks : List Mark) × RestsOn disk before d st (the_script st marks bytes) held front (AtLine n)
-HasRunOn disk before (Err (d, DiskFault)) held front st bytes = (marks : List Mark) × EndedOn disk before d st (the_script st marks bytes) held front Faulted
+HasRunOn disk before (Err (d, DiskFault)) held front st bytes = (marks : List Mark) × FailedOn disk before d st (the_script st marks bytes) held front
 HasRunOn disk before (Err (d, NoMemory)) held front st bytes = (marks : List Mark) × StoppedOn disk before d st (the_script st marks bytes) held front calls.NoMemory
 HasRunOn disk before (Err (d, Io)) held front st bytes = (marks : List Mark) × StoppedOn disk before d st (the_script st marks bytes) held front calls.Io
 HasRunOn disk before (Err (d, Open opens.NoMemory)) held front st bytes = Lasts disk before d (LeftOrShows disk before st.world.store)

@@ -8,7 +8,7 @@ use Rattle.tus_session.specs.declared.errors.SessionError.TheVariants as errors
 use Rattle.gateway_engine.specs.Script as script
 use Rattle.gateway_engine.specs.Script.{Run, Flow, flow, call, give_within, cut_from, run_lines, ended_as, Ran, Faulted, AtLine, is_fault, written, written_bytes, written_close, written_refusal}
 use Rattle.gateway_engine.specs.Outputs.{AppendsPart}
-use Rattle.gateway_engine.specs.Images.{IsFirst, output_of, stores_of, LimitsTo, WroteMost}
+use Rattle.gateway_engine.specs.Images.{IsFirst, output_of, stores_of, ShowsLast, LimitsTo, WroteMost}
 use Rattle.gateway_engine.specs.declared.connections.Connections.{Ghosts}
 use Rattle.gateway_engine.specs.declared.faults.CallFault.{CallFault}
 use Rattle.gateway_engine.specs.declared.faults.CallFault.TheVariants.{DiskFault, NoMemory, Io}
@@ -44,11 +44,12 @@ pub record IsAt {C : Type 0} (v : View C) (r : Run) : Type 0 where
   pub up : r.down ≡ false
   pub history : IsHistory v r
 
--- the device failed behind what the run wrote
+-- the device failed at the latest event, behind what the run wrote
 pub record IsDown {C : Type 0} (v : View C) (r : Run) : Type 0 where
   pub wrote : Appends v.front v.held r.out
   pub down : r.down ≡ true
   pub history : IsHistory v r
+  pub last : ShowsLast (v.u.moment v.now) (v.u.left_only v.now) v.st r.past
 
 -- the writer failed or memory was wanting, and the connections are where the run is; what it gave last may not be written
 pub record IsStopped {C : Type 0} (v : View C) (fault : CallFault) (r : Run) : Type 0 where

@@ -1,7 +1,7 @@
 //! Connections, as a script drives them.
 ghost use Rattle.std.specs.Prelude.{◌≡◌, ℕ, List, false, IsErrOf};
 ghost use Rattle.upload_rules.specs.Store.{Store};
-ghost use Rattle.upload_rules.specs.Answers.{Limits, Quiet, Counts};
+ghost use Rattle.upload_rules.specs.Answers.{Among, Limits, Quiet, Counts};
 ghost use Rattle.tus_session.specs.History.{State, Opened, Came, More, Ended, is_closed};
 ghost use Rattle.gateway_engine.specs.Connections.{Gives, Does, mark_of};
 ghost use Rattle.gateway_engine.specs.Images.{shown_by};
@@ -48,4 +48,7 @@ pub trait Connections {
         ensures crash { (st : State) → stands self.old st
             → Limits (moment self.old) (moment self.new) (left_only self.old) (left_only self.new) st.world.store (shown_by st (Ended conn) (mark_of result)) }
         ensures counts { Counts (IsErrOf result SessionError.DiskFault) (failures self.old) (failures self.new) };
+
+    /// Where connections are where a history is, its uploads are on the device.
+    ghost durable: { (core : Self) (st : State) (ms : List Store) → stands core st → Among st.world.store ms → left_only core (moment core) ms };
 }

@@ -54,6 +54,8 @@ impl<U: Uploads> Connections for Gateway<U> {
 
     ghost failures = { λ g. U.failures (store_of g) };
 
+    ghost durable = { λ g st ms stands among. U.durable (store_of g) st.world ms stands.shown among };
+
     fn opened(&mut self, conn: usize) -> Result<(), SessionError> {
         self.session.opened(conn)
     }

@@ -50,4 +50,4 @@ returns-clause-does g c = λ before st r front at.
     let given : List ℕ = c.more.new.out.items in
     let none : c.new-out.result.items ≡ [] = c.new-out.ensures.items in
     refuse_stopped (view g.C.Connections before c.args.core.now st (g.W.Write.contents c.args.writer.now) front) c.more.new.self (g.W.Write.contents c.refused.new.writer) r e at f given (quiet_limits _ _ c.more.ensures.crash)
-    (subst (λ o. Gives s' (Err f) o given r.state e) none (c.in-Err.ensures.gives r.state at.keeps)) c.in-Err-refused.fault c.in-Err-refused.ensures
+    (subst (λ o. Gives s' (Err f) o given r.state e) none (c.in-Err.ensures.gives r.state at.keeps)) (λ ms among. g.met.C.Connections.durable c.args.core.now r.state ms at.keeps among) c.in-Err-refused.fault c.in-Err-refused.ensures

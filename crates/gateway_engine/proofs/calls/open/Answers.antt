@@ -12,4 +12,5 @@ returns-in-Ok-clause-does g c = λ before st r front at.
 pub returns-in-Err-clause-does : goal.returns-in-Err-clause-does
 returns-in-Err-clause-does g c = λ before st r front at.
     refused_went (view g.C.Connections before c.args.core.now st (g.W.Write.contents c.args.writer.now) front) c.opened.new.self (g.W.Write.contents c.refused.new.writer) r (Opened c.args.conn)
-    c.in-Err.error c.refused.result at (quiet_limits _ _ c.opened.ensures.crash) (c.in-Err.ensures.does r.state at.keeps) c.refused.ensures
+    c.in-Err.error c.refused.result at (λ ms among. g.met.C.Connections.durable c.args.core.now r.state ms at.keeps among)
+    (quiet_limits _ _ c.opened.ensures.crash) (c.in-Err.ensures.does r.state at.keeps) c.refused.ensures

@@ -23,5 +23,6 @@ returns-in-Closed-clause-does g c = λ before st r front k at.
 pub returns-in_default-clause-does : goal.returns-in_default-clause-does
 returns-in_default-clause-does g c = λ before st r front k at.
     cut_refused (view g.C.Connections before c.args.core.now st (g.W.Write.contents c.args.writer.now) front) c.ended.new.self (g.W.Write.contents c.refused.new.writer)
-    k c.args.conn r c.in-Err.error c.refused.result at (c.in-Err.ensures.crash r.state at.keeps) (c.in-Err.ensures.does r.state at.keeps) c.in_default.not-Closed
+    k c.args.conn r c.in-Err.error c.refused.result at (λ ms among. g.met.C.Connections.durable c.args.core.now r.state ms at.keeps among)
+    (c.in-Err.ensures.crash r.state at.keeps) (c.in-Err.ensures.does r.state at.keeps) c.in_default.not-Closed
     (λ is. c.in-Err.ensures.open r.state at.keeps (ap Err is)) c.refused.ensures

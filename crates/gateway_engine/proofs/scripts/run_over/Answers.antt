@@ -7,7 +7,7 @@ use Rattle.gateway_engine.specs.Images.{stores_of}
 use Rattle.gateway_engine.specs.Runs.{view, IsAt, Ends}
 use Rattle.gateway_engine.specs.Ran.{HasRun}
 use Rattle.gateway_engine.specs.declared.faults.ScriptFault.TheVariants as runs
-use Rattle.gateway_engine.proofs.Exits.{begins, ran, stopped, unbegun, some_script, counts_nothing, shows_since, shows_through}
+use Rattle.gateway_engine.proofs.Exits.{begins, ran, stopped, unbegun, some_script, counts_nothing, shows_since, shows_through, last_through}
 use Rattle.gateway_engine.proofs.scripts.run_over.Goals as goal
 
 pub returns-in-Err : goal.returns-in-Err
@@ -45,6 +45,7 @@ returns-in-Ok-run_script-clause-output g c = λ m blocks stands.
       ran u v c.args.store c.close.result script (λ s is. c.close.ensures.kept s is)
           (λ past shown. shows_since u c.args.store c.close.result st past (λ ms among. g.met.U.Uploads.durable c.args.store (at_rest m blocks) ms stands among)
           (shows_through u c.args.store (store_of gateway) (store_of now) c.close.result (stores_of st past) c.in-Ok-new.ensures.same c.close.ensures.crash shown))
+          (λ past last. last_through u (store_of now) c.close.result st past c.close.ensures.crash last)
           (subst (λ b. Ends v (Ok (tt {0})) (run_lines 1 0 (script_lines b)) (run_from st [])) c.deref.ensures.value (c.in-Ok-run_script.ensures.does gateway st (run_from st []) front at)),
     )
 
@@ -66,5 +67,6 @@ returns-clause-output g c = λ m blocks stands.
       stopped u v c.args.store back script (λ s is. c.close-in-Err-run_script.ensures.kept s is)
           (λ past shown. shows_since u c.args.store back st past (λ ms among. g.met.U.Uploads.durable c.args.store (at_rest m blocks) ms stands among)
           (shows_through u c.args.store (store_of gateway) (store_of now) back (stores_of st past) c.in-Ok-new.ensures.same c.close-in-Err-run_script.ensures.crash shown))
+          (λ past last. last_through u (store_of now) back st past c.close-in-Err-run_script.ensures.crash last)
           fault (subst (λ b. Ends v (Err fault) (run_lines 1 0 (script_lines b)) (run_from st [])) c.deref.ensures.value (c.in-Err-run_script.ensures.does gateway st (run_from st []) front at)),
     )

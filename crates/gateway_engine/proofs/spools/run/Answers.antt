@@ -32,7 +32,7 @@ returns-in-Ok-run_over-clause-runs g c = λ honest m v is shows room.
       subst (λ d. HasRunOn g.D.Disk disk (Ok d) held front st has.0) (sym c.into_disk.ensures)
           (ran_on g.D.Disk disk_of _ _ _ disk opened now st (λ image left. g.met.D.Disk.only_now disk image left) (c.in-Ok.ensures.lasts honest m v is shows room)
           (record { honest = c.in-Ok.ensures.honest.0 honest; each = c.in-Ok.ensures.shows honest m v is shows room })
-          (λ st rests. all_show g.D.Disk (disk_of now) st.world.store (g.met.D.Disk.counts_now (disk_of now))
+          (g.met.D.Disk.counts_now (disk_of now)) (λ st rests. all_show g.D.Disk (disk_of now) st.world.store (g.met.D.Disk.counts_now (disk_of now))
           (durable-law g.row.D g.D.Disk g.D.Disk-dict (record { counts_now = g.met.D.Disk.counts_now; only_now = g.met.D.Disk.only_now }) now
           (at_rest st.world.store st.world.blocks) (st.world.store ∷ []) rests (inl refl)))
           held front has.0 has.2),
@@ -54,7 +54,7 @@ returns-in-Err-run_over-clause-runs g c = λ honest m v is shows room.
           (subst (λ d. HasRunOn g.D.Disk disk (Err (d, run_fault fault)) held front st has.0) (sym c.into_disk-in-Err-run_over.ensures)
           (broke_on g.D.Disk disk_of _ _ _ disk opened now st (λ image left. g.met.D.Disk.only_now disk image left) (c.in-Ok.ensures.lasts honest m v is shows room)
           (record { honest = c.in-Ok.ensures.honest.0 honest; each = c.in-Ok.ensures.shows honest m v is shows room })
-          (λ st rests. all_show g.D.Disk (disk_of now) st.world.store (g.met.D.Disk.counts_now (disk_of now))
+          (g.met.D.Disk.counts_now (disk_of now)) (λ st rests. all_show g.D.Disk (disk_of now) st.world.store (g.met.D.Disk.counts_now (disk_of now))
           (durable-law g.row.D g.D.Disk g.D.Disk-dict (record { counts_now = g.met.D.Disk.counts_now; only_now = g.met.D.Disk.only_now }) now
           (at_rest st.world.store st.world.blocks) (st.world.store ∷ []) rests (inl refl)))
           held front has.0 fault has.2)),
