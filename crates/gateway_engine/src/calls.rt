@@ -100,14 +100,14 @@ pub(crate) fn came<C: Connections, W: Write>(
 {
     let mut out = Vec::new(alloc);
     match core.came(conn, bytes, &mut out) {
-        Ok(answer) => match tell(alloc, writer, conn, &out, answer.closes) {
-            Ok(()) => Ok(Some(answer)),
-            Err(fault) => Err(fault),
-        },
-        Err(error) => match refused(alloc, writer, conn, error) {
-            Ok(()) => Ok(None),
-            Err(fault) => Err(fault),
-        },
+        Ok(answer) => {
+            tell(alloc, writer, conn, &out, answer.closes)?;
+            Ok(Some(answer))
+        }
+        Err(error) => {
+            refused(alloc, writer, conn, error)?;
+            Ok(None)
+        }
     }
 }
 
@@ -124,13 +124,13 @@ pub(crate) fn more<C: Connections, W: Write>(
 {
     let mut out = Vec::new(alloc);
     match core.more(conn, &mut out) {
-        Ok(answer) => match tell(alloc, writer, conn, &out, answer.closes) {
-            Ok(()) => Ok(Some(answer)),
-            Err(fault) => Err(fault),
-        },
-        Err(error) => match refused(alloc, writer, conn, error) {
-            Ok(()) => Ok(None),
-            Err(fault) => Err(fault),
-        },
+        Ok(answer) => {
+            tell(alloc, writer, conn, &out, answer.closes)?;
+            Ok(Some(answer))
+        }
+        Err(error) => {
+            refused(alloc, writer, conn, error)?;
+            Ok(None)
+        }
     }
 }

@@ -37,13 +37,9 @@ fn give_text<C: Connections, W: Write>(
 {
     let mut left = u64::MAX;
     while left > 0 {
-        match more(alloc, core, writer, conn) {
-            Err(fault) => return Err(fault),
-            Ok(answer) => {
-                if let Some(on) = goes_on(answer) {
-                    return Ok(on);
-                }
-            }
+        let answer = more(alloc, core, writer, conn)?;
+        if let Some(on) = goes_on(answer) {
+            return Ok(on);
         }
         left -= 1;
     }
@@ -81,14 +77,13 @@ fn give_once<C: Connections, W: Write>(
         → GivenOnce (view C.Connections before core.new st (W.contents writer.new) front) result k conn bytes.now r }
     ensures counts { Counts (IsErrOf result CallFault.DiskFault) (C.failures core.old) (C.failures core.new) }
 {
-    match came(alloc, core, writer, conn, bytes) {
-        Err(fault) => Err(fault),
-        Ok(None) => Ok(None),
-        Ok(Some(answer)) => match go_on(alloc, core, writer, conn, answer) {
-            Ok(true) => Ok(Some(answer.taken)),
-            Ok(false) => Ok(None),
-            Err(fault) => Err(fault),
-        },
+    let Some(answer) = came(alloc, core, writer, conn, bytes)? else {
+        return Ok(None);
+    };
+    if go_on(alloc, core, writer, conn, answer)? {
+        Ok(Some(answer.taken))
+    } else {
+        Ok(None)
     }
 }
 
@@ -117,10 +112,8 @@ pub(crate) fn give<C: Connections, W: Write>(
     let mut rest = bytes;
     let mut left = bytes.len();
     while left > 0 && !rest.is_empty() {
-        let taken = match give_once(alloc, core, writer, conn, rest) {
-            Err(fault) => return Err(fault),
-            Ok(None) => return Ok(()),
-            Ok(Some(taken)) => taken,
+        let Some(taken) = give_once(alloc, core, writer, conn, rest)? else {
+            return Ok(());
         };
         rest = untaken(rest, taken);
         left -= 1;

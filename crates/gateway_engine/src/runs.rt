@@ -115,10 +115,7 @@ fn cut_all<C: Connections, W: Write>(
 {
     let mut left = 16;
     while left > 0 {
-        match cut_open(alloc, core, writer, 16 - left) {
-            Ok(()) => {}
-            Err(fault) => return Err(fault),
-        }
+        cut_open(alloc, core, writer, 16 - left)?;
         left -= 1;
     }
     Ok(())
@@ -140,10 +137,7 @@ pub(crate) fn run_script<C: Connections, W: Write>(
     let mut start = 0;
     while !rest.is_empty() {
         let line = front(rest, b'\n');
-        match run_line(alloc, core, writer, number, start, line) {
-            Ok(()) => {}
-            Err(fault) => return Err(fault),
-        }
+        run_line(alloc, core, writer, number, start, line)?;
         rest = behind(rest, b'\n');
         number += 1;
         start += line.len() as u64 + 1;

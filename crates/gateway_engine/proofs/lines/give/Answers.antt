@@ -1,4 +1,5 @@
 use Rattle.std.proofs.Common.{◌≡◌, ◌-◌, suc, ℕ, [], length, subst, sym, ◌∙◌, arith, Some, None, Ok, Err}
+use Rattle.std.proofs.lemmas.Result.{err_from_is_err_and}
 use Rattle.gateway_engine.specs.Script.{give_within}
 use Rattle.gateway_engine.specs.Runs.{view, Reaches, GivenOnce}
 use Rattle.gateway_engine.proofs.Counting.{uncounted}
@@ -6,20 +7,22 @@ use Rattle.gateway_engine.proofs.Outputs.{some_list, no_list}
 use Rattle.gateway_engine.proofs.Reaching.{reach_both, went_behind, once_fails, give_none, give_stop}
 use Rattle.gateway_engine.proofs.lines.give.Goals as goal
 
-pub returns-in-Err-clause-does : goal.returns-in-Err-clause-does
-returns-in-Err-clause-does g c = λ before st r front at.
+pub returns-in_err-taken-clause-does : goal.returns-in_err-taken-clause-does
+returns-in_err-taken-clause-does g c = λ before st r front at.
     let i = c.loop-left.invariant.1 before st r front at in
     let n = c.args.conn in
     let k : ℕ = c.loop-left.left - 1 in
     let rest = c.loop-left.rest.now in
     let step : c.loop-left.left ≡ suc k = omega (arith, c.loop-left-test.true) in
     let v = view g.C.Connections before c.give_once.new.core st (g.W.Write.contents c.give_once.new.writer) front in
-    went_behind v (Err c.in-Err.fault) (give_within (length c.args.bytes.now) n c.args.bytes.now) (give_within (suc k) n rest) r i.0
+    let p = err_from_is_err_and c.from_residual.result c.from_residual.ensures.1 in
+    let fault = c.in_err-taken.field-0.0 in
+    rw (p.1, p.2) (went_behind v (Err fault) (give_within (length c.args.bytes.now) n c.args.bytes.now) (give_within (suc k) n rest) r i.0
     (subst (λ k. Reaches (give_within (length c.args.bytes.now) n c.args.bytes.now) r (give_within k n rest) i.0) step i.1)
-    (once_fails v c.in-Err.fault k n rest i.0 (c.in-Err.ensures.does before st i.0 front k (some_list _ rest c.is_empty.ensures c.if-not-is_empty.true) i.2))
+    (once_fails v fault k n rest i.0 (c.in_err-taken.ensures.does before st i.0 front k (some_list _ rest c.is_empty.ensures c.if-not-is_empty.true) i.2)))
 
-pub returns-in-Ok-None-clause-does : goal.returns-in-Ok-None-clause-does
-returns-in-Ok-None-clause-does g c = λ before st r front at.
+pub returns-in_default-clause-does : goal.returns-in_default-clause-does
+returns-in_default-clause-does g c = λ before st r front at.
     let i = c.loop-left.invariant.1 before st r front at in
     let n = c.args.conn in
     let k : ℕ = c.loop-left.left - 1 in
@@ -27,8 +30,8 @@ returns-in-Ok-None-clause-does g c = λ before st r front at.
     let step : c.loop-left.left ≡ suc k = omega (arith, c.loop-left-test.true) in
     let v = view g.C.Connections before c.give_once.new.core st (g.W.Write.contents c.give_once.new.writer) front in
     let p : GivenOnce v (Ok None) k n rest i.0 =
-    subst (λ o. GivenOnce v (Ok o) k n rest i.0) c.in-Ok-None.field-0-is
-    (c.in-Ok-None.ensures.does before st i.0 front k (some_list _ rest c.is_empty.ensures c.if-not-is_empty.true) i.2) in (
+    subst (λ o. GivenOnce v (Ok o) k n rest i.0) c.in_default.is
+    (c.in_ok-taken.ensures.does before st i.0 front k (some_list _ rest c.is_empty.ensures c.if-not-is_empty.true) i.2) in (
       p.0,
       reach_both (give_within (length c.args.bytes.now) n c.args.bytes.now) (give_within (suc k) n rest) (λ x. x) r i.0 p.0
           (subst (λ k. Reaches (give_within (length c.args.bytes.now) n c.args.bytes.now) r (give_within k n rest) i.0) step i.1) p.1,
@@ -37,7 +40,7 @@ returns-in-Ok-None-clause-does g c = λ before st r front at.
 
 pub loop-left-preserved : goal.loop-left-preserved
 loop-left-preserved g c = (
-  uncounted (λ fails. absurd (cc)) c.in-Ok-Some.ensures.counts ∙ c.loop-left.invariant.0,
+  uncounted (λ fails. absurd (cc)) c.in_ok-taken.ensures.counts ∙ c.loop-left.invariant.0,
   λ before st r front at.
       let i = c.loop-left.invariant.1 before st r front at in
       let n = c.args.conn in
@@ -45,9 +48,9 @@ loop-left-preserved g c = (
       let rest = c.loop-left.rest.now in
       let step : c.loop-left.left ≡ suc k = omega (arith, c.loop-left-test.true) in
       let v = view g.C.Connections before c.give_once.new.core st (g.W.Write.contents c.give_once.new.writer) front in
-      let p : GivenOnce v (Ok (Some c.in-Ok-Some.taken)) k n rest i.0 =
-      subst (λ o. GivenOnce v (Ok o) k n rest i.0) c.in-Ok-Some.field-0-is
-      (c.in-Ok-Some.ensures.does before st i.0 front k (some_list _ rest c.is_empty.ensures c.if-not-is_empty.true) i.2) in (
+      let p : GivenOnce v (Ok (Some c.in-Some.taken)) k n rest i.0 =
+      subst (λ o. GivenOnce v (Ok o) k n rest i.0) c.in-Some.is
+      (c.in_ok-taken.ensures.does before st i.0 front k (some_list _ rest c.is_empty.ensures c.if-not-is_empty.true) i.2) in (
         p.0,
         reach_both (give_within (length c.args.bytes.now) n c.args.bytes.now) (give_within (suc k) n rest) (give_within k n c.untaken-rest.result.now) r i.0 p.0
             (subst (λ k. Reaches (give_within (length c.args.bytes.now) n c.args.bytes.now) r (give_within k n rest) i.0) step i.1)

@@ -1,4 +1,5 @@
 use Rattle.std.proofs.Common.{◌≡◌, ◌-◌, suc, ℕ, refl, subst, sym, ◌∙◌, arith, Some, None, Err, true}
+use Rattle.std.proofs.lemmas.Result.{err_from_is_err_and}
 use Rattle.gateway_engine.specs.Script.{Run, flow, mores, most_calls}
 use Rattle.gateway_engine.specs.Runs.{view, Reaches}
 use Rattle.gateway_engine.proofs.Counting.{uncounted}
@@ -12,16 +13,18 @@ loop-left-init g c = (
       (r, subst (λ k. Reaches (mores most_calls c.args.conn) r (mores k c.args.conn) r) most_is (reach_none (mores most_calls c.args.conn) r), at),
 )
 
-pub returns-in-Err-clause-does : goal.returns-in-Err-clause-does
-returns-in-Err-clause-does g c = λ before st r front at.
+pub returns-in_err-answer-clause-does : goal.returns-in_err-answer-clause-does
+returns-in_err-answer-clause-does g c = λ before st r front at.
     let i = c.loop-left.invariant.1 before st r front at in
     let n = c.args.conn in
     let s : Run = i.0 in
     let step : c.loop-left.left ≡ suc (c.loop-left.left - 1) = omega (arith, c.loop-left-test.true) in
     let v = view g.C.Connections before c.more.new.core st (g.W.Write.contents c.more.new.writer) front in
-    flow_behind v (Err c.in-Err.fault) (mores most_calls n) (mores (suc (c.loop-left.left - 1)) n) r s
+    let p = err_from_is_err_and c.from_residual.result c.from_residual.ensures.1 in
+    let fault = c.in_err-answer.field-0.0 in
+    rw (p.1, p.2) (flow_behind v (Err fault) (mores most_calls n) (mores (suc (c.loop-left.left - 1)) n) r s
     (subst (λ k. Reaches (mores most_calls n) r (mores k n) s) step i.1)
-    (more_fails v c.in-Err.fault n (c.loop-left.left - 1) s (c.in-Err.ensures.does before st s front i.2))
+    (more_fails v fault n (c.loop-left.left - 1) s (c.in_err-answer.ensures.does before st s front i.2)))
 
 pub returns-in-Some-clause-does : goal.returns-in-Some-clause-does
 returns-in-Some-clause-does g c = λ before st r front at.
@@ -32,7 +35,7 @@ returns-in-Some-clause-does g c = λ before st r front at.
     let step : c.loop-left.left ≡ suc k = omega (arith, c.loop-left-test.true) in
     let v = view g.C.Connections before c.more.new.core st (g.W.Write.contents c.more.new.writer) front in
     let says : MoreSays v (Some c.in-Some.on) k n s =
-    subst (λ o. MoreSays v o k n s) (sym c.in-Some.ensures) (more_says v c.in-Ok.answer n k s (c.in-Ok.ensures.does before st s front i.2)) in (
+    subst (λ o. MoreSays v o k n s) (sym c.in-Some.ensures) (more_says v c.in_ok-answer.answer n k s (c.in_ok-answer.ensures.does before st s front i.2)) in (
       says.0,
       reach_both (mores most_calls n) (mores (suc k) n) (λ x. flow x c.in-Some.on) r s says.0
           (subst (λ k. Reaches (mores most_calls n) r (mores k n) s) step i.1) says.1,
@@ -41,7 +44,7 @@ returns-in-Some-clause-does g c = λ before st r front at.
 
 pub loop-left-preserved : goal.loop-left-preserved
 loop-left-preserved g c = (
-  uncounted (λ fails. absurd (cc)) c.in-Ok.ensures.counts ∙ c.loop-left.invariant.0,
+  uncounted (λ fails. absurd (cc)) c.in_ok-answer.ensures.counts ∙ c.loop-left.invariant.0,
   λ before st r front at.
       let i = c.loop-left.invariant.1 before st r front at in
       let n = c.args.conn in
@@ -50,7 +53,7 @@ loop-left-preserved g c = (
       let step : c.loop-left.left ≡ suc k = omega (arith, c.loop-left-test.true) in
       let v = view g.C.Connections before c.more.new.core st (g.W.Write.contents c.more.new.writer) front in
       let says : MoreSays v None k n s =
-      subst (λ o. MoreSays v o k n s) (sym c.in_default.ensures) (more_says v c.in-Ok.answer n k s (c.in-Ok.ensures.does before st s front i.2)) in (
+      subst (λ o. MoreSays v o k n s) (sym c.in_default.ensures) (more_says v c.in_ok-answer.answer n k s (c.in_ok-answer.ensures.does before st s front i.2)) in (
         says.0,
         reach_both (mores most_calls n) (mores (suc k) n) (mores k n) r s says.0
             (subst (λ k. Reaches (mores most_calls n) r (mores k n) s) step i.1) says.1,
