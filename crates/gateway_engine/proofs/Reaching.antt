@@ -1,5 +1,6 @@
 -- Runs that lead on from one another.
 use Rattle.std.proofs.Common.{◌≡◌, Bool, true, false, ℕ, zero, suc, List, [], ◌∷◌, ◌++◌, Option, Some, None, Result, Ok, Err, refl, sym, ap, ◌∙◌, append_assoc, drop, if◌then◌else◌}
+use Rattle.std.proofs.lemmas.Option.{same_Some}
 use Rattle.gateway_engine.proofs.Passing.{passes_by, passes_behind, passes_on, after_adds, mores_adds, onward_adds, give_adds, given_adds}
 use Rattle.tus_session.specs.History.{Event, Marked, Came, More, Outcome, Gave, Refused}
 use Rattle.tus_session.specs.declared.answers.Answer.{Answer}
@@ -99,12 +100,9 @@ give_step k n b bytes r = refl
 
 settled_flow : (a : Answer) (given : List ℕ) (n : ℕ) (b closes more : Bool) → (if closes then Some false else if more then None else Some true) ≡ Some b
     → (x : Run) → mores_after (mores most_calls n) (record { run = x; outcome = Gave given a.taken closes more }) ≡ flow x b
-settled_flow a given n b true more e x = ap (flow x) (some_is e)
-  where
-    some_is : {c d : Bool} → Some c ≡ Some d → c ≡ d
-    some_is {c = c} {d = d} q = ap (λ o. elim o as (λ _. Bool) [ None ↦ c | Some y ↦ y ]) q
+settled_flow a given n b true more e x = ap (flow x) (same_Some _ _ e)
 settled_flow a given n b false true e x = absurd (cc)
-settled_flow a given n b false false e x = ap (flow x) (ap (λ o. elim o as (λ _. Bool) [ None ↦ true | Some y ↦ y ]) e)
+settled_flow a given n b false false e x = ap (flow x) (same_Some _ _ e)
 
 -- a call with bytes that was served
 pub given_reaches : (k n : ℕ) (bytes : List ℕ) (r s : Run) (given : List ℕ) (a : Answer) → (bytes ≡ [] → ⊥) → Calls r n (Came n bytes) s (Gave given a.taken a.closes a.more)
