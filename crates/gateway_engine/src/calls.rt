@@ -29,9 +29,7 @@ pub(crate) fn refused<W: Write>(
         SessionError::DiskFault => return Err(CallFault::DiskFault),
     };
     let mut out = Vec::new(alloc);
-    let Ok(()) = report_refusal(alloc, conn, number, &mut out) else {
-        return Err(CallFault::NoMemory);
-    };
+    report_refusal(alloc, conn, number, &mut out)?;
     write_out(writer, &out)
 }
 
@@ -46,9 +44,7 @@ fn tell<W: Write>(
     ensures { Tells (W.contents writer.old) (W.contents writer.new) result conn bytes.now closes }
 {
     let mut out = Vec::new(alloc);
-    let Ok(()) = report(alloc, conn, bytes, closes, &mut out) else {
-        return Err(CallFault::NoMemory);
-    };
+    report(alloc, conn, bytes, closes, &mut out)?;
     write_out(writer, &out)
 }
 

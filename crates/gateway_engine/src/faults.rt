@@ -3,6 +3,7 @@ ghost use Rattle.std.specs.Prelude.{◌≡◌};
 ghost use Rattle.gateway_engine.specs.Faults.{script_fault, run_fault};
 
 use spool_image::OpenFault;
+use std::alloc::AllocError;
 
 /// Why a call of a script's line isn't done.
 #[derive(Clone, Copy, Debug, PartialEq, Eq, Drop)]
@@ -28,10 +29,30 @@ pub enum ScriptFault {
     Io,
 }
 
+impl From<AllocError> for CallFault {
+    ghost use Rattle.gateway_engine.specs.declared.faults.CallFault.{CallFault};
+
+    ghost from_gives = { λ _ fault. fault ≡ CallFault.NoMemory };
+
+    fn from(_error: AllocError) -> CallFault {
+        CallFault::NoMemory
+    }
+}
+
+impl From<AllocError> for ScriptFault {
+    ghost use Rattle.gateway_engine.specs.declared.faults.ScriptFault.{ScriptFault};
+
+    ghost from_gives = { λ _ fault. fault ≡ ScriptFault.NoMemory };
+
+    fn from(_error: AllocError) -> ScriptFault {
+        ScriptFault::NoMemory
+    }
+}
+
 impl From<CallFault> for ScriptFault {
-    fn from(fault: CallFault) -> Self
-        ensures { result ≡ script_fault fault }
-    {
+    ghost from_gives = { λ call fault. fault ≡ script_fault call };
+
+    fn from(fault: CallFault) -> ScriptFault {
         match fault {
             CallFault::NoMemory => ScriptFault::NoMemory,
             CallFault::DiskFault => ScriptFault::DiskFault,

@@ -91,16 +91,12 @@ fn run_line<C: Connections, W: Write>(
     if too_long(start, line) {
         return Err(ScriptFault::Script(number));
     }
-    let Ok(order) = read_order(alloc, line) else {
-        return Err(ScriptFault::NoMemory);
-    };
+    let order = read_order(alloc, line)?;
     if is_no_order(&order) {
         return Err(ScriptFault::Script(number));
     }
-    match obey(alloc, core, writer, &order) {
-        Ok(()) => Ok(()),
-        Err(fault) => Err(ScriptFault::from(fault)),
-    }
+    obey(alloc, core, writer, &order)?;
+    Ok(())
 }
 
 /// Cuts the open connections, in order.
@@ -142,8 +138,6 @@ pub(crate) fn run_script<C: Connections, W: Write>(
         number += 1;
         start += line.len() as u64 + 1;
     }
-    match cut_all(alloc, core, writer) {
-        Ok(()) => Ok(()),
-        Err(fault) => Err(ScriptFault::from(fault)),
-    }
+    cut_all(alloc, core, writer)?;
+    Ok(())
 }

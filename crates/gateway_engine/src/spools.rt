@@ -46,10 +46,7 @@ impl<D: Disk> Gateway<Spool<D>> {
         ensures lasts { D.honest disk → (m : Store) (v : View) → IsViewOf (D.seen disk) v → Shows v m → 4096 * all_pages v.blocks ≤ D.size disk
             → Lasts D.Disk disk (disk_after result) (LeftOrShows D.Disk disk m) }
     {
-        let spool = match Spool::open(alloc, disk) {
-            Ok(spool) => spool,
-            Err((disk, fault)) => return Err((disk, fault)),
-        };
+        let spool = Spool::open(alloc, disk)?;
         match Gateway::new(alloc, spool) {
             Ok(gateway) => Ok(gateway),
             Err((spool, _)) => Err((spool.into_disk(), OpenFault::NoMemory)),

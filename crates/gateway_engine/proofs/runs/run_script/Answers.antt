@@ -1,8 +1,9 @@
 use Rattle.std.proofs.Common.{◌≡◌, ◌+◌, ◌<◌, ◌≤◌, ℕ, List, [], length, arith, Ok, Err, subst, sym, ap, ◌∙◌}
 use Rattle.std.proofs.lemmas.Result.{err_from_is_err_and}
+use Rattle.gateway_engine.specs.Faults.{script_fault}
 use Rattle.tus_request.specs.Reading.{before, behind}
 use Rattle.gateway_engine.specs.Script.{run_lines, script_lines}
-use Rattle.gateway_engine.specs.Runs.{view, Reaches, Ends, LineRan}
+use Rattle.gateway_engine.specs.Runs.{view, Reaches, LineRan}
 use Rattle.gateway_engine.proofs.Counting.{uncounted}
 use Rattle.gateway_engine.proofs.Outputs.{some_list, no_list}
 use Rattle.gateway_engine.proofs.Ending.{ends_behind, line_fails, lines_on, lines_size, lines_room, list_size, behind_less, lines_end, lines_stop}
@@ -52,23 +53,24 @@ loop-rest-preserved g c =
           lines_on v number start rest c.front-line.result.now c.behind-rest.result.now (run_lines 1 0 (script_lines c.args.script.now)) r i.0 some line more i.1 p,
     )
 
-pub returns-in-Ok-clause-does : goal.returns-in-Ok-clause-does
-returns-in-Ok-clause-does g c = λ before st r front at.
+pub returns-clause-does : goal.returns-clause-does
+returns-clause-does g c = λ before st r front at.
     let i = c.loop-rest.invariant.4 before st r front at in
     let rest = c.loop-rest.rest.now in
     let none : rest ≡ [] = no_list _ rest c.is_empty.ensures c.loop-rest-test.false in
     let v = view g.C.Connections before c.cut_all.new.core st (g.W.Write.contents c.cut_all.new.writer) front in
     ends_behind v (Ok (tt {0})) (run_lines 1 0 (script_lines c.args.script.now)) (run_lines c.loop-rest.number c.loop-rest.start []) r i.0
     (subst (λ l. Reaches (run_lines 1 0 (script_lines c.args.script.now)) r (run_lines c.loop-rest.number c.loop-rest.start (script_lines l)) i.0) none i.1)
-    (lines_end v c.loop-rest.number c.loop-rest.start i.0 (c.in-Ok.ensures.does before st i.0 front i.2))
+    (lines_end v c.loop-rest.number c.loop-rest.start i.0 (c.in_ok-cut_all.ensures.does before st i.0 front i.2))
 
-pub returns-in-Err-clause-does : goal.returns-in-Err-clause-does
-returns-in-Err-clause-does g c = λ before st r front at.
+pub returns-in_err-cut_all-clause-does : goal.returns-in_err-cut_all-clause-does
+returns-in_err-cut_all-clause-does g c = λ before st r front at.
     let i = c.loop-rest.invariant.4 before st r front at in
     let rest = c.loop-rest.rest.now in
     let none : rest ≡ [] = no_list _ rest c.is_empty.ensures c.loop-rest-test.false in
     let v = view g.C.Connections before c.cut_all.new.core st (g.W.Write.contents c.cut_all.new.writer) front in
-    ends_behind v (Err c.from.result) (run_lines 1 0 (script_lines c.args.script.now)) (run_lines c.loop-rest.number c.loop-rest.start []) r i.0
+    let p = err_from_is_err_and c.from_residual-in_err-cut_all.result c.from_residual-in_err-cut_all.ensures.1 in
+    let fault = c.in_err-cut_all.field-0.0 in
+    rw (p.1, p.2) (ends_behind v (Err (script_fault fault)) (run_lines 1 0 (script_lines c.args.script.now)) (run_lines c.loop-rest.number c.loop-rest.start []) r i.0
     (subst (λ l. Reaches (run_lines 1 0 (script_lines c.args.script.now)) r (run_lines c.loop-rest.number c.loop-rest.start (script_lines l)) i.0) none i.1)
-    (subst (λ e. Ends v (Err e) (run_lines c.loop-rest.number c.loop-rest.start []) i.0) (sym c.from.ensures)
-    (lines_stop v c.in-Err.fault c.loop-rest.number c.loop-rest.start i.0 (c.in-Err.ensures.does before st i.0 front i.2)))
+    (lines_stop v fault c.loop-rest.number c.loop-rest.start i.0 (c.in_err-cut_all.ensures.does before st i.0 front i.2)))
