@@ -11,7 +11,8 @@ use Rattle.spool_journal.specs.Image.{journal_pages}
 use Rattle.spool_texts.specs.TextOn.{text_on}
 use Rattle.spool_texts.proofs.Shown.{shown}
 use Rattle.spool_pages.specs.View.{SlotRecord, View, Says, slot_at, text_page}
-use Rattle.spool_kept.specs.Holding.{Holding, FitsTogether, IsUsedBy, Lists, IsPlaceFor, number_at}
+use Rattle.spool_kept.specs.declared.order.NumberedSlot.{NumberedSlot}
+use Rattle.spool_kept.specs.Holding.{Holding, FitsTogether, IsUsedBy, Lists, IsPlaceFor, numbered, number_at}
 use Rattle.spool_kept.specs.Kept.{KeepsView}
 use Rattle.spool_kept.specs.Records.{said_of, IsUnpacked, IsTextOf, KeepsOf}
 use Rattle.spool_kept.specs.Shows.{Shows}
@@ -97,7 +98,7 @@ module _ (h : Holding) (v : View) (m : Store) (kept : KeepsView h v) (shows : Sh
       let has = shows.all j w e in
       let lt : has.slot < 512 = let inside = in_use v.slots has.slot has.used has.there in omega (arith, inside, shows.sound.slot_count) in
       let l = kept.ordered.all has.slot has.used lt has.there in
-      (l.place, l.below, ap (λ (p : ℕ × ℕ). p.0) l.here ∙ has.number)
+      (l.place, l.below, ap (λ (p : NumberedSlot). p.number) l.here ∙ has.number)
 
   module _ (n place : ℕ) (is : IsPlaceFor h.order n place) where
     pub none_after : length h.order ≤ place → above n m.uploads ≡ None
@@ -109,9 +110,9 @@ module _ (h : Holding) (v : View) (m : Store) (kept : KeepsView h v) (shows : Sh
         omega (arith, up, at.2, over))
         shows.rising
 
-    pub some_after : (k s : ℕ) → place < length h.order → get_or h.order place (0, 0) ≡ (k, s) → (u : Upload) → upload_of m k ≡ Some u → above n m.uploads ≡ Some (k, u)
+    pub some_after : (k s : ℕ) → place < length h.order → get_or h.order place (numbered 0 0) ≡ numbered k s → (u : Upload) → upload_of m k ≡ Some u → above n m.uploads ≡ Some (k, u)
     some_after k s lt e u there =
-        let here : number_at h.order place ≡ k = ap (λ (p : ℕ × ℕ). p.0) e in
+        let here : number_at h.order place ≡ k = ap (λ (p : NumberedSlot). p.number) e in
         let more = is.behind place (omega arith) lt in
         above_is m.uploads shows.rising n k u (omega (arith, more, here)) there (λ j w over f.
         let at = listed j w f in
@@ -125,7 +126,7 @@ module _ (h : Holding) (v : View) (m : Store) (kept : KeepsView h v) (shows : Sh
         ])
 
     -- the entry names a slot in use
-    pub named : (k s : ℕ) → place < length h.order → get_or h.order place (0, 0) ≡ (k, s) → IsUsedBy h.slots s k
+    pub named : (k s : ℕ) → place < length h.order → get_or h.order place (numbered 0 0) ≡ numbered k s → IsUsedBy h.slots s k
     named k s lt e =
         let used = kept.ordered.names k s (record { place = place; below = lt; here = e }) in
         record { used = used.used; there = ap (λ (xs : List (Option SlotRecord)). get_or xs s None) kept.slots ∙ used.there; is = used.is }

@@ -23,6 +23,7 @@ use Rattle.upload_rules.proofs.Patches.{apart_without, dropped_stand}
 use Rattle.upload_rules.proofs.Growing.{grown_dropped}
 use Rattle.spool_texts.specs.TextOn.{IsListed}
 use Rattle.upload_rules.specs.Room.{blocks_of}
+use Rattle.spool_kept.specs.declared.order.NumberedSlot.{NumberedSlot}
 use Rattle.spool_kept.specs.Holding.{Holding, Orders, FitsTogether, IsListOf, IsUsedBy}
 use Rattle.spool_kept.specs.Kept.{KeepsView}
 use Rattle.spool_kept.specs.Stored.{Stored}
@@ -81,7 +82,7 @@ keeps_on old new v same keeps = record {
   indexes = ap (λ (h : Holding). h.indexes) same.same ∙ keeps.indexes;
   slots = ap (λ (h : Holding). h.slots) same.same ∙ keeps.slots;
   rows = same.rows ∙ keeps.rows;
-  ordered = subst (λ (xs : List (ℕ × ℕ)). Orders v.slots xs 512) (sym (ap (λ (h : Holding). h.order) same.same)) keeps.ordered;
+  ordered = subst (λ (xs : List NumberedSlot). Orders v.slots xs 512) (sym (ap (λ (h : Holding). h.order) same.same)) keeps.ordered;
   listed = λ s r e. subst (λ (xs : List (List ℕ)). IsListed v.rows s (get_or xs s [])) (sym (ap (λ (h : Holding). h.lists) same.same)) (keeps.listed s r e);
   sizes = λ s r e. subst (λ (xs : List (List ℕ)). length (get_or xs s []) ≡ blocks_of r.text_len) (sym (ap (λ (h : Holding). h.lists) same.same)) (keeps.sizes s r e);
 }

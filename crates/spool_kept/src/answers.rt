@@ -15,7 +15,7 @@ ghost use Rattle.spool_kept.specs.Shows.{Shows};
 ghost use Rattle.spool_pages.specs.View.{View, Says};
 
 use crate::kept::Kept;
-use crate::order::{places_to, slot_of};
+use crate::order::{NumberedSlot, places_to, slot_of};
 use crate::records::record_at;
 use enc_index::IndexSet;
 use spool_blocks::BlockNo;
@@ -88,7 +88,7 @@ impl Kept {
         ensures { (v : View) (m : Store) → KeepsView self.now v → Shows v m → TellsOf m.indexes (above number m.uploads) (option_copied result) }
     {
         let place = places_to(&self.order, number);
-        let (_, slot) = *self.order.get(place)?;
+        let NumberedSlot { slot, .. } = *self.order.get(place)?;
         let kept = record_at(&self.slots, slot as usize)?;
         Some(kept.record())
     }
