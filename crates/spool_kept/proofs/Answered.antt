@@ -1,6 +1,7 @@
 -- What is kept tells of the uploads that a view shows.
 use Rattle.std.proofs.Common.{◌≡◌, inl, inr, ℕ, ◌+◌, ◌*◌, ◌<◌, ◌≤◌, List, [], Option, None, Some, MatchOption, length, get_or, refl, sym, ◌∙◌, ap, subst, arith}
 use Rattle.std.proofs.lemmas.Bool.{cases_lt, cases_eq}
+use Rattle.std.proofs.lemmas.Option.{same_Some}
 use Rattle.enc_model.specs.Indexes.{IndexSet}
 use Rattle.spool_texts.specs.Reading.{IsRead as IsPieceRead}
 use Rattle.upload_rules.specs.Reading.{IsRead, no_such, text_at}
@@ -14,7 +15,7 @@ use Rattle.spool_pages.specs.View.{SlotRecord, View, Says, slot_at, text_page}
 use Rattle.spool_kept.specs.declared.order.NumberedSlot.{NumberedSlot}
 use Rattle.spool_kept.specs.Holding.{Holding, FitsTogether, IsUsedBy, Lists, IsPlaceFor, numbered, number_at}
 use Rattle.spool_kept.specs.Kept.{KeepsView}
-use Rattle.spool_kept.specs.Records.{said_of, IsUnpacked, IsTextOf, KeepsOf}
+use Rattle.spool_kept.specs.Records.{said_of, IsUnpacked, KeepsOf}
 use Rattle.spool_kept.specs.Shows.{Shows}
 use Rattle.spool_kept.proofs.Numbered.{above_is, above_none}
 use Rattle.spool_kept.proofs.Sound.{in_use}
@@ -39,9 +40,9 @@ match_is_none P (Some a) e x = absurd (some_none e)
     some_none : {A : Type 0} {a : A} → Some a ≡ None → ⊥
     some_none e = cc
 
-pub text_there : (m : Store) (o : Option Upload) (text : List ℕ) → IsTextOf m o text → (no_such o ≡ None) × (text_at m o ≡ text)
-text_there m None text is = absurd is
-text_there m (Some u) text is = (refl, sym is)
+pub text_there : (m : Store) (o : Option Upload) (u : Upload) (text : List ℕ) → o ≡ Some u → text ≡ text_of m.indexes u → (no_such o ≡ None) × (text_at m o ≡ text)
+text_there m None u text there is = absurd cc
+text_there m (Some w) u text there is = (refl, ap (text_of m.indexes) (same_Some w u there) ∙ sym is)
 
 pub same_read : (text : List ℕ) (at n : ℕ) (old new : List ℕ) → IsPieceRead text at n old new → IsRead text at n old new
 same_read text at n old new is = record { count = is.count; bytes = is.bytes }
@@ -82,15 +83,15 @@ module _ (h : Holding) (v : View) (m : Store) (kept : KeepsView h v) (shows : Sh
 
   -- the text on a slot's blocks is its upload's
   pub text_told : (bytes : ℕ → ℕ) → Says bytes v → (s : ℕ) (q : SlotRecord) (n : ℕ) → get_or h.slots s None ≡ Some q → q.number ≡ n
-      → IsTextOf m (upload_of m n) (text_on bytes (25 + 2 * journal_pages h.layout) (get_or h.lists s []) q.text_len)
-  text_told bytes says s q n e number =
+      → (u : Upload) → upload_of m n ≡ Some u → text_on bytes (25 + 2 * journal_pages h.layout) (get_or h.lists s []) q.text_len ≡ text_of m.indexes u
+  text_told bytes says s q n e number u found_there =
       let there = slot_there s q e in
       let told = shows.told s q there in
       let list = get_or h.lists s [] in
       let upload : upload_of m n ≡ Some told.upload = subst (λ (k : ℕ). find k m.uploads ≡ Some told.upload) number told.there in
       let same : text_on bytes (text_page v.blocks) list q.text_len ≡ text_of m.indexes told.upload = shown bytes (text_page v.blocks) v.rows s q.text_len list (kept.listed s q there) (kept.sizes s q there) ∙ sym (says.texts s q there) ∙ told.tells.text in
-      subst (λ (o : Option Upload). IsTextOf m o (text_on bytes (25 + 2 * journal_pages h.layout) list q.text_len)) (sym upload)
-      (subst (λ (b : ℕ). text_on bytes (25 + 2 * journal_pages b) list q.text_len ≡ text_of m.indexes told.upload) (sym kept.blocks) same)
+      let here : text_on bytes (25 + 2 * journal_pages h.layout) list q.text_len ≡ text_of m.indexes told.upload = subst (λ (b : ℕ). text_on bytes (25 + 2 * journal_pages b) list q.text_len ≡ text_of m.indexes told.upload) (sym kept.blocks) same in
+      here ∙ ap (text_of m.indexes) (same_Some told.upload u (sym upload ∙ found_there))
 
   -- each upload stands in the order
   pub listed : (j : ℕ) (w : Upload) → find j m.uploads ≡ Some w → (i : ℕ) × (i < length h.order) × (number_at h.order i ≡ j)

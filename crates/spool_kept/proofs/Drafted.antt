@@ -15,9 +15,8 @@ use Rattle.spool_pages.specs.View.{SlotRecord, View}
 use Rattle.enc_model.specs.Indexes.{IndexSet}
 use Rattle.upload_rules.specs.Calls.{dropped, first_patch, begun}
 use Rattle.upload_rules.specs.Drafts.{DraftOf, draft_at}
-use Rattle.upload_rules.specs.Store.{Upload, Store, find, text_of}
+use Rattle.upload_rules.specs.Store.{Upload, Store, find}
 use Rattle.upload_rules.specs.declared.errors.UploadRefusal.{UploadRefusal}
-use Rattle.spool_kept.specs.Records.{IsTextOf}
 use Rattle.upload_rules.specs.World.{World}
 use Rattle.upload_rules.proofs.Patches.{apart_without, dropped_stand}
 use Rattle.upload_rules.proofs.Growing.{grown_dropped}
@@ -183,9 +182,6 @@ list_owned h fits s lt number used list is =
       used = used;
       owned = λ i lt. (i, ap (λ (xs : List ℕ). get_or h.blocks.rows (get_or xs i 0) None) is ∙ has.owned i (omega (arith, lt, ap length is)));
     }
-
-pub told_text : (m : Store) (o : Option Upload) (u : Upload) (text : List ℕ) → o ≡ Some u → IsTextOf m o text → text ≡ text_of m.indexes u
-told_text m o u text e is = subst (λ (p : Option Upload). IsTextOf m p text) e is
 
 pub opens_for : (m : Store) (number offset count : ℕ) (seen : ℕ → ℕ) (first : ℕ) (u : Upload) (r : Result SpoolDraft UploadRefusal) → IsBegun m.indexes number offset count u r
     → IfOk r (λ d. Carries m.indexes seen first (first_patch number count u) d) → OpensFor m number offset count seen first (Some u) r
