@@ -4,3 +4,4 @@ pub mod Sniff
 pub mod Stage
 pub mod Standing
 pub mod StateBytes
+pub mod Progress

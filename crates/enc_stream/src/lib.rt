@@ -4,6 +4,7 @@
 mod decoder;
 mod error;
 mod numbers;
+mod progress;
 mod sniff;
 mod stage;
 mod states;
@@ -11,6 +12,7 @@ mod transcoder;
 mod written;
 
 pub use error::TranscodeError;
+pub use progress::Progress;
 pub use transcoder::Transcoder;
 
 #[cfg(test)]

@@ -12,6 +12,7 @@ ghost use Rattle.enc_stream.specs.StateBytes.{IsInEffect};
 
 use crate::decoder::AnyDecoder;
 use crate::numbers::{encoding_at, number_of_encoding};
+use crate::progress::Progress;
 use crate::sniff::{Held, Sniffed, bytes_of, held_at, held_packed, sniff};
 use enc_index::IndexSet;
 use enc_model::{Encoding, Sink};
@@ -33,6 +34,7 @@ impl Stage {
     ghost use Rattle.std.specs.Prelude.{◌≡◌, false, IfSome, MatchOption};
     ghost use Rattle.enc_model.specs.Transcode.{Phase};
     ghost use Rattle.enc_stream.specs.Stage.{phase_at, is_spent_at};
+    ghost use Rattle.enc_stream.specs.Progress.{progress_of};
     ghost use Rattle.enc_stream.specs.StateBytes.{IsPhaseOf, IsReachedIn, phase_number, phase_bytes, padded};
 
     /// The same stage once more.
@@ -45,6 +47,17 @@ impl Stage {
             Stage::During(decoder) => Stage::During(decoder.copy()),
             Stage::Over => Stage::Over,
             Stage::Spent => Stage::Spent,
+        }
+    }
+
+    /// How far it has come.
+    pub fn progress(&self) -> Progress
+        ensures { result ≡ progress_of (phase_at self.now) }
+    {
+        match self {
+            Stage::Before(held) => Progress::Holding(bytes_of(*held).len()),
+            Stage::During(_) => Progress::Decoding,
+            Stage::Over | Stage::Spent => Progress::Ended,
         }
     }
 

@@ -208,6 +208,7 @@ fn spent_behind_a_refusal_and_done_behind_the_end(rt: HostRuntime) -> Result<(),
     let mut html = Transcoder::new(Encoding::Utf8, Encoding::Windows1252, Mode::Html);
     html.feed(&set, "\u{E9}".as_bytes(), &mut out)?;
     html.finish(&set, &mut out)?;
+    assert_eq!(rt; html.progress(), Progress::Ended);
     assert!(rt; !html.is_spent());
     assert_eq!(rt; html.feed(&set, b"A", &mut out), Err(TranscodeError::Spent));
     assert_eq!(rt; html.finish(&set, &mut out), Err(TranscodeError::Spent));

@@ -6,6 +6,7 @@ ghost use Rattle.enc_model.specs.Encode.{Tables};
 ghost use Rattle.enc_model.specs.Indexes.{tables};
 ghost use Rattle.enc_model.specs.Transcode.{Transcoder as State, IsAt, added, added_end, so_far};
 ghost use Rattle.enc_encode.specs.State.{EncoderState};
+ghost use Rattle.enc_stream.specs.Progress.{progress_of};
 ghost use Rattle.enc_stream.specs.Stage.{phase_at};
 ghost use Rattle.enc_stream.specs.Standing.{is_done, start, stepped_on, finished, IsOutput, Answers};
 ghost use Rattle.enc_stream.specs.StateBytes.{IsShiftIn, IsSound, encoding_number, mode_number, shift_number, standing, state_bytes};
@@ -14,6 +15,7 @@ use crate::error::TranscodeError;
 use crate::numbers::{
     encoding_at, mode_at, number_of_encoding, number_of_mode, number_of_shift, shift_at,
 };
+use crate::progress::Progress;
 use crate::sniff::Held;
 use crate::stage::Stage;
 use crate::written::{transcode, write_end};
@@ -134,6 +136,13 @@ impl Transcoder {
         ensures { result ≡ self.now.spent }
     {
         matches!(self.stage, Stage::Spent)
+    }
+
+    /// How far it has come. A spent one is told as behind the end.
+    pub fn progress(&self) -> Progress
+        ensures { result ≡ progress_of self.now.transcoder.phase }
+    {
+        self.stage.progress()
     }
 
     /// Whether it takes no more.

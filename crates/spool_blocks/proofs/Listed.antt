@@ -1,10 +1,11 @@
 -- A slot's blocks are listed along the links.
 use Rattle.std.proofs.Common.{◌≡◌, inl, inr, ℕ, ◌<◌, ◌≤◌, List, Option, None, Some, length, get_or, refl, sym, ◌∙◌, ap, subst, arith, ⊎_elim}
 use Rattle.std.proofs.lemmas.Bool.{cases_eq}
+use Rattle.std.proofs.lemmas.Option.{same_Some, none-some}
 use Rattle.spool_blocks.specs.Blocks.{Row, IsWhole, slot_count}
 use Rattle.spool_blocks.specs.Chains.{Owns, rank, Reaches, Links, Linked, ListedFrom, ordinal_in, links_left}
 use Rattle.spool_blocks.proofs.Counts.{within}
-use Rattle.spool_blocks.proofs.Links.{same_slot, same_ordinal, same_block, lower, none_some, was_read}
+use Rattle.spool_blocks.proofs.Links.{same_slot, same_ordinal, lower, was_read}
 
 module _ {rows : List Row} {below : List (Option ℕ)} {slot block : ℕ} {list : List ℕ} (few : length rows ≤ 65536) (links : Links rows below) (from : ListedFrom rows slot (Some block) list) where
   held : (k : ℕ) × Owns rows block slot k
@@ -24,7 +25,7 @@ module _ {rows : List Row} {below : List (Option ℕ)} {slot block : ℕ} {list 
         inr (λ lt whole. placed slot i (subst (λ (x : ℕ). Owns rows x slot i) e own) (omega (arith, lt, size)) ∙ sym e))
         (λ (ne : b ≡ block → ⊥). ⊎_elim
         (λ (r : Reaches rows slot (Some block) b i).
-        let at : r.top ≡ block = sym (same_block r.is) in
+        let at : r.top ≡ block = sym (same_Some block r.top r.is) in
         let ordinal : r.high ≡ held.0 = same_ordinal rows block slot r.high slot held.0 (subst (λ (x : ℕ). Owns rows x slot r.high) at r.owned) held.1 in
         let lt : rank b i < rank block held.0 = lower rows block b held.0 i few block_in (within rows b (slot, i) own) ne (omega (arith, r.least, at, ordinal)) in
         let on : Reaches rows slot (get_or below block None) b i = links.next slot block held.0 b i held.1 own lt in
@@ -47,7 +48,7 @@ module _ {rows : List Row} {below : List (Option ℕ)} {slot block : ℕ} {list 
       omega (arith, low.less, ordinal_is (get_or rows t None) low.ordinal low.owned, ordinal_is (get_or rows block None) held.0 held.1)
 
 pub all_listed : {rows : List Row} {slot : ℕ} {list : List ℕ} → ListedFrom rows slot None list → (b i : ℕ) → Owns rows b slot i → i < length list → IsWhole slot rows → get_or list i 0 ≡ b
-all_listed from b i own lt whole = ⊎_elim (λ r. none_some r.top r.is) (λ done. done lt whole) (from.each b i own)
+all_listed from b i own lt whole = ⊎_elim (λ r. absurd (none-some r.top r.is)) (λ done. done lt whole) (from.each b i own)
 
 -- from the slot's highest block on, nothing is listed yet
 pub none_listed : {rows : List Row} {below tops : List (Option ℕ)} {counts : List ℕ} → Linked rows below tops counts → (slot : ℕ) (next : Option ℕ) (list : List ℕ) → get_or tops slot None ≡ next → ListedFrom rows slot next list

@@ -1,10 +1,11 @@
 -- What the counts come to: a slot's own blocks, the owned and the reserved ones without some, and none at all.
 use Rattle.std.proofs.Common.{◌≡◌, ℕ, zero, suc, ◌+◌, ◌<◌, List, [], ◌∷◌, Bool, true, false, None, Some, length, get_or, slice_set, refl, sym, ◌∙◌, ap, subst, arith, ⊎_elim, ◌==◌, if◌then◌else◌, eq-eqb}
 use Rattle.std.proofs.lemmas.Bool.{cases_eq, ne_eqb}
+use Rattle.std.proofs.lemmas.Option.{none-some}
 use Rattle.spool_blocks.specs.Blocks.{Row, IsFree, free_count, reserved_count, owned_count, one_if, is_slots, slot_count, IsWhole}
 use Rattle.spool_blocks.specs.Chains.{Owns, OwnsOneEach}
 use Rattle.spool_blocks.proofs.Counts.{within}
-use Rattle.spool_blocks.proofs.Links.{same_ordinal, none_some, count_less, owns_else, owned_else, not_taken}
+use Rattle.spool_blocks.proofs.Links.{same_ordinal, count_less, owns_else, owned_else, not_taken}
 
 -- A SLOT
 
@@ -92,7 +93,7 @@ owned_with slot rows b s k own = of (get_or rows b None) (sym (row_at slot rows 
     of : (row : Row) → row_without slot row ≡ Some (s, k) → (s ≡ slot → ⊥) × (row ≡ Some (s, k))
     of None e = absurd cc
     of (Some o) e = ⊎_elim
-        (λ (same : o.0 ≡ slot). none_some (s, k) (sym (rw (eq-eqb o.0 slot same) refl) ∙ e))
+        (λ (same : o.0 ≡ slot). absurd (none-some (s, k) (sym (rw (eq-eqb o.0 slot same) refl) ∙ e)))
         (λ (ne : o.0 ≡ slot → ⊥). let is : Some o ≡ Some (s, k) = sym (rw (ne_eqb o.0 slot ne) refl) ∙ e in ((λ f. ne (first is ∙ f)), is))
         (cases_eq o.0 slot)
       where

@@ -1,32 +1,40 @@
 // What is read is checked: only what a spool may say passes.
-ghost use Rattle.std.specs.Prelude.{◌≡◌, ◌<◌, ℕ, true, false, Some, None, length, get_or};
+ghost use Rattle.std.specs.Prelude.{◌≡◌, ◌<◌, ◌↔◌, ℕ, IsTrue, true, false, Some, None, length, get_or};
+ghost use Rattle.enc_model.specs.Transcode.{Phase};
+ghost use Rattle.enc_stream.specs.Progress.{progress_of};
 ghost use Rattle.spool_blocks.specs.Chains.{Owns};
 ghost use Rattle.upload_rules.specs.Room.{blocks_of};
-ghost use Rattle.spool_kept.specs.Shows.{HasState, IsSoundRecord, IsSound};
+ghost use Rattle.spool_kept.specs.Shows.{FitsPhase, HasState, IsSoundRecord, IsSound};
 ghost use Rattle.spool_kept.specs.Records.{said_of};
 ghost use Rattle.spool_pages.specs.Fits.{FitsRow};
 ghost use Rattle.spool_pages.specs.View.{View};
 
+use enc_stream::{Progress, Transcoder};
 use spool_blocks::Row;
 use spool_kept::{KeptRecord, blocks_of, record_at};
 use upload_rules::{LENGTH_LIMIT, NUMBERS_END, Record};
 
-/// Where the state bytes say the phase: 0 before a byte order mark is decided, 1 from then on, 2 behind the end.
-const PHASE_AT: usize = 3;
-
-/// Where they say how many bytes are held before it is decided.
-const HELD_AT: usize = 4;
-
-// Whether the phase of the state fits the counts: behind the end exactly where all declared bytes were accepted, and before a byte
-// order mark is decided all accepted bytes are held.
-fn is_phase_sound(record: &Record) -> bool
-    ensures { HasState (said_of «record».now) → result ≡ true }
+// Whether a transcoder may have come so far behind so many bytes: it has ended exactly where all declared bytes were accepted, and
+// before a byte order mark is decided all accepted bytes are held.
+fn fits_progress(progress: Progress, accepted: u64, declared: u64) -> bool
+    ensures { (p : Phase) → progress_of p ≡ progress → IsTrue result ↔ FitsPhase p accepted declared }
 {
-    let is_complete = record.accepted == record.declared;
-    match record.state[PHASE_AT] {
-        0 => !is_complete && record.accepted == record.state[HELD_AT] as u64,
-        1 => !is_complete && record.accepted >= 1,
-        _ => is_complete,
+    match progress {
+        Progress::Holding(count) => accepted == count as u64 && accepted != declared,
+        Progress::Decoding => accepted >= 1 && accepted != declared,
+        Progress::Ended => accepted == declared,
+    }
+}
+
+// Whether the state is that of a transcoder that may stand behind so many bytes.
+fn is_state_sound(record: &Record) -> bool
+    ensures { IsTrue result ↔ HasState (said_of «record».now) }
+{
+    match Transcoder::unpack(&record.state) {
+        Some(transcoder) => {
+            fits_progress(transcoder.progress(), record.accepted, record.declared)
+        }
+        None => false,
     }
 }
 
@@ -37,7 +45,7 @@ fn is_record_sound(record: &Record, next: u64) -> bool
     record.number < next
         && record.accepted <= record.declared
         && record.declared <= LENGTH_LIMIT
-        && is_phase_sound(record)
+        && is_state_sound(record)
 }
 
 // Whether a slot is free, or its record is one that may be there.
@@ -52,7 +60,7 @@ fn is_sound_at(slots: &[Option<KeptRecord>], slot: usize, next: u64) -> bool
 }
 
 /// Whether the next number and all records may be there: numbers are below the next number, which is 1 to 10^18, the accepted
-/// bytes are no more than the declared ones, which are at most 1,073,741,824, and the state's phase fits them.
+/// bytes are no more than the declared ones, which are at most 1,073,741,824, and the state is that of a transcoder that has come so far.
 pub(crate) fn are_sound(slots: &[Option<KeptRecord>], next: u64) -> bool
     ensures { (v : View) → IsSound v → slots.now ≡ v.slots → next ≡ v.next → result ≡ true }
 {

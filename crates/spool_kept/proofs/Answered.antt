@@ -1,6 +1,7 @@
 -- What is kept tells of the uploads that a view shows.
 use Rattle.std.proofs.Common.{◌≡◌, inl, inr, ℕ, ◌+◌, ◌*◌, ◌<◌, ◌≤◌, List, [], Option, None, Some, MatchOption, length, get_or, refl, sym, ◌∙◌, ap, subst, arith}
 use Rattle.std.proofs.lemmas.Bool.{cases_lt, cases_eq}
+use Rattle.std.proofs.lemmas.Option.{same_Some}
 use Rattle.enc_model.specs.Indexes.{IndexSet}
 use Rattle.spool_texts.specs.Reading.{IsRead as IsPieceRead}
 use Rattle.upload_rules.specs.Reading.{IsRead, no_such, text_at}
@@ -11,9 +12,10 @@ use Rattle.spool_journal.specs.Image.{journal_pages}
 use Rattle.spool_texts.specs.TextOn.{text_on}
 use Rattle.spool_texts.proofs.Shown.{shown}
 use Rattle.spool_pages.specs.View.{SlotRecord, View, Says, slot_at, text_page}
-use Rattle.spool_kept.specs.Holding.{Holding, FitsTogether, IsUsedBy, Lists, IsPlaceFor, number_at}
+use Rattle.spool_kept.specs.declared.order.NumberedSlot.{NumberedSlot}
+use Rattle.spool_kept.specs.Holding.{Holding, FitsTogether, IsUsedBy, Lists, IsPlaceFor, numbered, number_at}
 use Rattle.spool_kept.specs.Kept.{KeepsView}
-use Rattle.spool_kept.specs.Records.{said_of, IsUnpacked, IsTextOf, KeepsOf}
+use Rattle.spool_kept.specs.Records.{said_of, IsUnpacked, KeepsOf}
 use Rattle.spool_kept.specs.Shows.{Shows}
 use Rattle.spool_kept.proofs.Numbered.{above_is, above_none}
 use Rattle.spool_kept.proofs.Sound.{in_use}
@@ -38,9 +40,9 @@ match_is_none P (Some a) e x = absurd (some_none e)
     some_none : {A : Type 0} {a : A} → Some a ≡ None → ⊥
     some_none e = cc
 
-pub text_there : (m : Store) (o : Option Upload) (text : List ℕ) → IsTextOf m o text → (no_such o ≡ None) × (text_at m o ≡ text)
-text_there m None text is = absurd is
-text_there m (Some u) text is = (refl, sym is)
+pub text_there : (m : Store) (o : Option Upload) (u : Upload) (text : List ℕ) → o ≡ Some u → text ≡ text_of m.indexes u → (no_such o ≡ None) × (text_at m o ≡ text)
+text_there m None u text there is = absurd cc
+text_there m (Some w) u text there is = (refl, ap (text_of m.indexes) (same_Some w u there) ∙ sym is)
 
 pub same_read : (text : List ℕ) (at n : ℕ) (old new : List ℕ) → IsPieceRead text at n old new → IsRead text at n old new
 same_read text at n old new is = record { count = is.count; bytes = is.bytes }
@@ -81,15 +83,15 @@ module _ (h : Holding) (v : View) (m : Store) (kept : KeepsView h v) (shows : Sh
 
   -- the text on a slot's blocks is its upload's
   pub text_told : (bytes : ℕ → ℕ) → Says bytes v → (s : ℕ) (q : SlotRecord) (n : ℕ) → get_or h.slots s None ≡ Some q → q.number ≡ n
-      → IsTextOf m (upload_of m n) (text_on bytes (25 + 2 * journal_pages h.layout) (get_or h.lists s []) q.text_len)
-  text_told bytes says s q n e number =
+      → (u : Upload) → upload_of m n ≡ Some u → text_on bytes (25 + 2 * journal_pages h.layout) (get_or h.lists s []) q.text_len ≡ text_of m.indexes u
+  text_told bytes says s q n e number u found_there =
       let there = slot_there s q e in
       let told = shows.told s q there in
       let list = get_or h.lists s [] in
       let upload : upload_of m n ≡ Some told.upload = subst (λ (k : ℕ). find k m.uploads ≡ Some told.upload) number told.there in
       let same : text_on bytes (text_page v.blocks) list q.text_len ≡ text_of m.indexes told.upload = shown bytes (text_page v.blocks) v.rows s q.text_len list (kept.listed s q there) (kept.sizes s q there) ∙ sym (says.texts s q there) ∙ told.tells.text in
-      subst (λ (o : Option Upload). IsTextOf m o (text_on bytes (25 + 2 * journal_pages h.layout) list q.text_len)) (sym upload)
-      (subst (λ (b : ℕ). text_on bytes (25 + 2 * journal_pages b) list q.text_len ≡ text_of m.indexes told.upload) (sym kept.blocks) same)
+      let here : text_on bytes (25 + 2 * journal_pages h.layout) list q.text_len ≡ text_of m.indexes told.upload = subst (λ (b : ℕ). text_on bytes (25 + 2 * journal_pages b) list q.text_len ≡ text_of m.indexes told.upload) (sym kept.blocks) same in
+      here ∙ ap (text_of m.indexes) (same_Some told.upload u (sym upload ∙ found_there))
 
   -- each upload stands in the order
   pub listed : (j : ℕ) (w : Upload) → find j m.uploads ≡ Some w → (i : ℕ) × (i < length h.order) × (number_at h.order i ≡ j)
@@ -97,7 +99,7 @@ module _ (h : Holding) (v : View) (m : Store) (kept : KeepsView h v) (shows : Sh
       let has = shows.all j w e in
       let lt : has.slot < 512 = let inside = in_use v.slots has.slot has.used has.there in omega (arith, inside, shows.sound.slot_count) in
       let l = kept.ordered.all has.slot has.used lt has.there in
-      (l.place, l.below, ap (λ (p : ℕ × ℕ). p.0) l.here ∙ has.number)
+      (l.place, l.below, ap (λ (p : NumberedSlot). p.number) l.here ∙ has.number)
 
   module _ (n place : ℕ) (is : IsPlaceFor h.order n place) where
     pub none_after : length h.order ≤ place → above n m.uploads ≡ None
@@ -109,9 +111,9 @@ module _ (h : Holding) (v : View) (m : Store) (kept : KeepsView h v) (shows : Sh
         omega (arith, up, at.2, over))
         shows.rising
 
-    pub some_after : (k s : ℕ) → place < length h.order → get_or h.order place (0, 0) ≡ (k, s) → (u : Upload) → upload_of m k ≡ Some u → above n m.uploads ≡ Some (k, u)
+    pub some_after : (k s : ℕ) → place < length h.order → get_or h.order place (numbered 0 0) ≡ numbered k s → (u : Upload) → upload_of m k ≡ Some u → above n m.uploads ≡ Some (k, u)
     some_after k s lt e u there =
-        let here : number_at h.order place ≡ k = ap (λ (p : ℕ × ℕ). p.0) e in
+        let here : number_at h.order place ≡ k = ap (λ (p : NumberedSlot). p.number) e in
         let more = is.behind place (omega arith) lt in
         above_is m.uploads shows.rising n k u (omega (arith, more, here)) there (λ j w over f.
         let at = listed j w f in
@@ -125,7 +127,7 @@ module _ (h : Holding) (v : View) (m : Store) (kept : KeepsView h v) (shows : Sh
         ])
 
     -- the entry names a slot in use
-    pub named : (k s : ℕ) → place < length h.order → get_or h.order place (0, 0) ≡ (k, s) → IsUsedBy h.slots s k
+    pub named : (k s : ℕ) → place < length h.order → get_or h.order place (numbered 0 0) ≡ numbered k s → IsUsedBy h.slots s k
     named k s lt e =
         let used = kept.ordered.names k s (record { place = place; below = lt; here = e }) in
         record { used = used.used; there = ap (λ (xs : List (Option SlotRecord)). get_or xs s None) kept.slots ∙ used.there; is = used.is }

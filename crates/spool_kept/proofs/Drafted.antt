@@ -15,14 +15,14 @@ use Rattle.spool_pages.specs.View.{SlotRecord, View}
 use Rattle.enc_model.specs.Indexes.{IndexSet}
 use Rattle.upload_rules.specs.Calls.{dropped, first_patch, begun}
 use Rattle.upload_rules.specs.Drafts.{DraftOf, draft_at}
-use Rattle.upload_rules.specs.Store.{Upload, Store, find, text_of}
+use Rattle.upload_rules.specs.Store.{Upload, Store, find}
 use Rattle.upload_rules.specs.declared.errors.UploadRefusal.{UploadRefusal}
-use Rattle.spool_kept.specs.Records.{IsTextOf}
 use Rattle.upload_rules.specs.World.{World}
 use Rattle.upload_rules.proofs.Patches.{apart_without, dropped_stand}
 use Rattle.upload_rules.proofs.Growing.{grown_dropped}
 use Rattle.spool_texts.specs.TextOn.{IsListed}
 use Rattle.upload_rules.specs.Room.{blocks_of}
+use Rattle.spool_kept.specs.declared.order.NumberedSlot.{NumberedSlot}
 use Rattle.spool_kept.specs.Holding.{Holding, Orders, FitsTogether, IsListOf, IsUsedBy}
 use Rattle.spool_kept.specs.Kept.{KeepsView}
 use Rattle.spool_kept.specs.Stored.{Stored}
@@ -81,7 +81,7 @@ keeps_on old new v same keeps = record {
   indexes = ap (λ (h : Holding). h.indexes) same.same ∙ keeps.indexes;
   slots = ap (λ (h : Holding). h.slots) same.same ∙ keeps.slots;
   rows = same.rows ∙ keeps.rows;
-  ordered = subst (λ (xs : List (ℕ × ℕ)). Orders v.slots xs 512) (sym (ap (λ (h : Holding). h.order) same.same)) keeps.ordered;
+  ordered = subst (λ (xs : List NumberedSlot). Orders v.slots xs 512) (sym (ap (λ (h : Holding). h.order) same.same)) keeps.ordered;
   listed = λ s r e. subst (λ (xs : List (List ℕ)). IsListed v.rows s (get_or xs s [])) (sym (ap (λ (h : Holding). h.lists) same.same)) (keeps.listed s r e);
   sizes = λ s r e. subst (λ (xs : List (List ℕ)). length (get_or xs s []) ≡ blocks_of r.text_len) (sym (ap (λ (h : Holding). h.lists) same.same)) (keeps.sizes s r e);
 }
@@ -182,9 +182,6 @@ list_owned h fits s lt number used list is =
       used = used;
       owned = λ i lt. (i, ap (λ (xs : List ℕ). get_or h.blocks.rows (get_or xs i 0) None) is ∙ has.owned i (omega (arith, lt, ap length is)));
     }
-
-pub told_text : (m : Store) (o : Option Upload) (u : Upload) (text : List ℕ) → o ≡ Some u → IsTextOf m o text → text ≡ text_of m.indexes u
-told_text m o u text e is = subst (λ (p : Option Upload). IsTextOf m p text) e is
 
 pub opens_for : (m : Store) (number offset count : ℕ) (seen : ℕ → ℕ) (first : ℕ) (u : Upload) (r : Result SpoolDraft UploadRefusal) → IsBegun m.indexes number offset count u r
     → IfOk r (λ d. Carries m.indexes seen first (first_patch number count u) d) → OpensFor m number offset count seen first (Some u) r

@@ -3,7 +3,8 @@ use Rattle.std.proofs.Common.{◌≡◌, inl, inr, ℕ, zero, suc, ◌<◌, ◌�
 use Rattle.std.proofs.lemmas.Bool.{cases_eq, cases_order, ne_eqb}
 use Rattle.upload_rules.specs.Store.{Store}
 use Rattle.spool_pages.specs.View.{SlotRecord, View}
-use Rattle.spool_kept.specs.Holding.{Holding, FitsTogether, IsUsedBy, Lists, Orders, number_at}
+use Rattle.spool_kept.specs.declared.order.NumberedSlot.{NumberedSlot}
+use Rattle.spool_kept.specs.Holding.{Holding, FitsTogether, IsUsedBy, Lists, Orders, numbered, number_at}
 use Rattle.spool_kept.specs.Creating.{HasRoomAt}
 use Rattle.spool_kept.specs.Kept.{KeepsView}
 use Rattle.spool_kept.specs.Shows.{Shows}
@@ -36,12 +37,12 @@ pigeons (suc n) (suc k) P there one =
     stays j l other = rw (ne_eqb j l other) refl
 
 -- where no slot is free there are 512 in the order
-pub all_listed : (slots : List (Option SlotRecord)) (order : List (ℕ × ℕ)) → Orders slots order 512 → ((s : ℕ) → s < 512 → IsSome (get_or slots s None)) → 512 ≤ length order
-all_listed slots order orders full = pigeons 512 (length order) (λ s i. (get_or order i (0, 0)).1 ≡ s) (λ s lt. at s lt (get_or slots s None) refl (full s lt)) (λ a b j p q. sym p ∙ q)
+pub all_listed : (slots : List (Option SlotRecord)) (order : List NumberedSlot) → Orders slots order 512 → ((s : ℕ) → s < 512 → IsSome (get_or slots s None)) → 512 ≤ length order
+all_listed slots order orders full = pigeons 512 (length order) (λ s i. (get_or order i (numbered 0 0)).slot ≡ s) (λ s lt. at s lt (get_or slots s None) refl (full s lt)) (λ a b j p q. sym p ∙ q)
   where
-    at : (s : ℕ) → s < 512 → (o : Option SlotRecord) → get_or slots s None ≡ o → IsSome o → (i : ℕ) × (i < length order) × ((get_or order i (0, 0)).1 ≡ s)
+    at : (s : ℕ) → s < 512 → (o : Option SlotRecord) → get_or slots s None ≡ o → IsSome o → (i : ℕ) × (i < length order) × ((get_or order i (numbered 0 0)).slot ≡ s)
     at s lt None e some = absurd cc
-    at s lt (Some r) e some = let l = orders.all s r lt e in (l.place, l.below, ap (λ (p : ℕ × ℕ). p.1) l.here)
+    at s lt (Some r) e some = let l = orders.all s r lt e in (l.place, l.below, ap (λ (p : NumberedSlot). p.slot) l.here)
 
 module _ (h : Holding) (v : View) (m : Store) (kept : KeepsView h v) (shows : Shows v m) where
   pub not_more : length h.order ≤ length m.uploads
@@ -50,9 +51,9 @@ module _ (h : Holding) (v : View) (m : Store) (kept : KeepsView h v) (shows : Sh
     where
       at : (i : ℕ) → i < length h.order → (j : ℕ) × (j < length (numbers m.uploads)) × ((i < length h.order) × (slice_index (numbers m.uploads) j ≡ number_at h.order i))
       at i lt =
-          let l : Lists h.order (get_or h.order i (0, 0)).0 (get_or h.order i (0, 0)).1 = record { place = i; below = lt; here = refl } in
-          let used = kept.ordered.names (get_or h.order i (0, 0)).0 (get_or h.order i (0, 0)).1 l in
-          let told = shows.told (get_or h.order i (0, 0)).1 used.used used.there in
+          let l : Lists h.order (get_or h.order i (numbered 0 0)).number (get_or h.order i (numbered 0 0)).slot = record { place = i; below = lt; here = refl } in
+          let used = kept.ordered.names (get_or h.order i (numbered 0 0)).number (get_or h.order i (numbered 0 0)).slot l in
+          let told = shows.told (get_or h.order i (numbered 0 0)).slot used.used used.there in
           let place = found_at m.uploads used.used.number told.upload told.there in
           (place.0, place.1, (lt, place.2 ∙ used.is))
 

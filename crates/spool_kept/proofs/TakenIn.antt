@@ -4,6 +4,7 @@ use Rattle.std.proofs.lemmas.Bool.{cases_eq}
 use Rattle.std.proofs.lemmas.List.{length-set}
 use Rattle.spool_pages.specs.View.{SlotRecord}
 use Rattle.spool_kept.specs.Creating.{HasRoomAt}
+use Rattle.spool_kept.specs.declared.order.NumberedSlot.{NumberedSlot}
 use Rattle.spool_kept.specs.Holding.{Holding, FitsTogether, HasBlocks, IsListOf, AreListsTo, IsAdded, Lists, Orders}
 use Rattle.spool_kept.proofs.ChangedSlots.{clash, slot_here, slot_else, slot_is}
 
@@ -11,7 +12,7 @@ module _ (h : Holding) (slot : ℕ) (r : SlotRecord) (fits : FitsTogether h) (ro
   inside : slot < length h.slots
   inside = omega (arith, room.within, fits.slot_count)
 
-  orders : (order : List (ℕ × ℕ)) → IsAdded h.order h.next slot order → Orders (slice_set h.slots slot (Some r)) order 512
+  orders : (order : List NumberedSlot) → IsAdded h.order h.next slot order → Orders (slice_set h.slots slot (Some r)) order 512
   orders order is = record {
     rises = is.rises;
     below = λ n t l. elim (is.only n t l) [
@@ -45,7 +46,7 @@ module _ (h : Holding) (slot : ℕ) (r : SlotRecord) (fits : FitsTogether h) (ro
     | inr other ↦ subst (λ (o : Option SlotRecord). IsListOf h.blocks.rows s o (get_or h.lists s [])) (sym (slot_else h.slots slot r s other)) (fits.listed s lt)
   ]
 
-  pub taken_fits : (order : List (ℕ × ℕ)) → IsAdded h.order h.next slot order
+  pub taken_fits : (order : List NumberedSlot) → IsAdded h.order h.next slot order
       → FitsTogether (record { layout = h.layout; next = h.next + 1; indexes = h.indexes; slots = slice_set h.slots slot (Some r); order = order; lists = h.lists; blocks = h.blocks })
   taken_fits order is = record {
     slot_count = length-set h.slots slot (Some r) ∙ fits.slot_count;

@@ -6,7 +6,6 @@ use Rattle.spool_blocks.specs.Chains.{Owns}
 use Rattle.spool_disk.specs.declared.disk.Disk.{Ghosts}
 use Rattle.spool_journal.specs.Image.{journal_pages}
 use Rattle.spool_texts.specs.Drafts.{IsReserved}
-use Rattle.spool_texts.specs.TextOn.{text_on}
 use Rattle.spool_texts.specs.Written.{NoneOf}
 use Rattle.spool_room.specs.Holdings.{IsInSome}
 use Rattle.spool_drafts.specs.Drafts.{Holds, Carries, IsBegun, IsPlaced, list_of, tail_of}
@@ -15,10 +14,8 @@ use Rattle.upload_rules.specs.Apart.{IsApart}
 use Rattle.upload_rules.specs.Calls.{first_patch}
 use Rattle.upload_rules.specs.Drafts.{DraftOf, draft_at}
 use Rattle.upload_rules.specs.Grown.{IsGrown}
-use Rattle.upload_rules.specs.Records.{Keeps}
-use Rattle.upload_rules.specs.Store.{Upload, Store, find, upload_of, text_of}
+use Rattle.upload_rules.specs.Store.{Upload, Store, find, upload_of}
 use Rattle.upload_rules.specs.World.{Patch, World}
-use Rattle.upload_rules.specs.declared.records.Record.{Record}
 use Rattle.upload_rules.specs.declared.errors.UploadRefusal.{UploadRefusal}
 use Rattle.upload_rules.specs.declared.errors.UploadRefusal.TheVariants.{NoSuch}
 use Rattle.spool_pages.specs.View.{SlotRecord}
@@ -75,13 +72,6 @@ pub record StandsFor {D : Type 0} (disk : Ghosts D) (d : D) (h : Holding) (draft
   pub stands : DraftsStand w.store.indexes (disk.seen d) (25 + 2 * journal_pages h.layout) h.slots h.blocks w drafts
 
 -- WHAT A DRAFT BEGINS BEHIND
-
--- the record is the upload's, and its text is on the listed blocks
-pub record IsUploadOn (m : Store) (number : ℕ) (seen : ℕ → ℕ) (first : ℕ) (r : Record) (list : List ℕ) : Type 0 where
-  pub upload : Upload
-  pub there : upload_of m number ≡ Some upload
-  pub keeps : Keeps m.indexes number r upload
-  pub text : text_on seen first list r.text_len ≡ text_of m.indexes upload
 
 -- a draft of the upload as it is, or the rules' refusal
 abbrev pub OpensFor : Store → ℕ → ℕ → ℕ → (ℕ → ℕ) → ℕ → Option Upload → Result SpoolDraft UploadRefusal → Type 0

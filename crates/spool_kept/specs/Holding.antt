@@ -5,21 +5,25 @@ use Rattle.spool_blocks.specs.Blocks.{Row, Held}
 use Rattle.upload_rules.specs.Room.{blocks_of}
 use Rattle.spool_pages.specs.Fits.{FitsRow}
 use Rattle.spool_pages.specs.View.{SlotRecord}
+use Rattle.spool_kept.specs.declared.order.NumberedSlot.{NumberedSlot}
 
 -- THE ORDER: numbers of uploads with their slots
 
-abbrev pub number_at : List (ℕ × ℕ) → ℕ → ℕ
-number_at order k = (get_or order k (0, 0)).0
+abbrev pub numbered : ℕ → ℕ → NumberedSlot
+numbered number slot = record { number = number; slot = slot }
+
+abbrev pub number_at : List NumberedSlot → ℕ → ℕ
+number_at order k = (get_or order k (numbered 0 0)).number
 
 -- each number is above those before it
-abbrev pub Rises : List (ℕ × ℕ) → Type 0
+abbrev pub Rises : List NumberedSlot → Type 0
 Rises order = (i k : ℕ) → i < k → k < length order → number_at order i < number_at order k
 
 -- the number stands there with this slot
-pub record Lists (order : List (ℕ × ℕ)) (number slot : ℕ) : Type 0 where
+pub record Lists (order : List NumberedSlot) (number slot : ℕ) : Type 0 where
   pub place : ℕ
   pub below : place < length order
-  pub here : get_or order place (0, 0) ≡ (number, slot)
+  pub here : get_or order place (numbered 0 0) ≡ numbered number slot
 
 -- the slot is in use, by the upload of this number
 pub record IsUsedBy (slots : List (Option SlotRecord)) (slot number : ℕ) : Type 0 where
@@ -28,7 +32,7 @@ pub record IsUsedBy (slots : List (Option SlotRecord)) (slot number : ℕ) : Typ
   pub is : used.number ≡ number
 
 -- these are the slots in use below this one, by ascending numbers
-pub record Orders (slots : List (Option SlotRecord)) (order : List (ℕ × ℕ)) (end : ℕ) : Type 0 where
+pub record Orders (slots : List (Option SlotRecord)) (order : List NumberedSlot) (end : ℕ) : Type 0 where
   pub rises : Rises order
   pub below : (n s : ℕ) → Lists order n s → s < end
   pub names : (n s : ℕ) → Lists order n s → IsUsedBy slots s n
@@ -39,13 +43,13 @@ abbrev pub AreDistinct : List (Option SlotRecord) → Type 0
 AreDistinct slots = (s t : ℕ) (r q : SlotRecord) → get_or slots s None ≡ Some r → get_or slots t None ≡ Some q → r.number ≡ q.number → s ≡ t
 
 -- the numbers up to this one are before the place, the greater ones from it on
-pub record IsPlaceFor (order : List (ℕ × ℕ)) (number place : ℕ) : Type 0 where
+pub record IsPlaceFor (order : List NumberedSlot) (number place : ℕ) : Type 0 where
   pub within : place ≤ length order
   pub before : (k : ℕ) → k < place → number_at order k ≤ number
   pub behind : (k : ℕ) → place ≤ k → k < length order → number < number_at order k
 
 -- the number came to the others, with this slot
-pub record IsAdded (old : List (ℕ × ℕ)) (number slot : ℕ) (new : List (ℕ × ℕ)) : Type 0 where
+pub record IsAdded (old : List NumberedSlot) (number slot : ℕ) (new : List NumberedSlot) : Type 0 where
   pub rises : Rises new
   pub there : Lists new number slot
   pub kept : (n s : ℕ) → Lists old n s → Lists new n s
@@ -74,7 +78,7 @@ pub record Holding : Type 0 where
   pub next : ℕ
   pub indexes : IndexSet
   pub slots : List (Option SlotRecord)
-  pub order : List (ℕ × ℕ)
+  pub order : List NumberedSlot
   pub lists : List (List ℕ)
   pub blocks : Held
 

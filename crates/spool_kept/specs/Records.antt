@@ -5,7 +5,8 @@ use Rattle.enc_model.specs.Transcode.{Transcoder}
 use Rattle.enc_stream.specs.StateBytes.{IsSound, state_bytes}
 use Rattle.upload_rules.specs.declared.records.Record.{Record}
 use Rattle.upload_rules.specs.Records.{Keeps}
-use Rattle.upload_rules.specs.Store.{Upload, Store, text_of}
+use Rattle.upload_rules.specs.Store.{Upload, Store, upload_of, text_of}
+use Rattle.spool_texts.specs.TextOn.{text_on}
 use Rattle.spool_pages.specs.Fits.{FitsSlotOf}
 use Rattle.spool_pages.specs.View.{SlotRecord}
 use Rattle.spool_kept.specs.Shows.{HasState}
@@ -39,7 +40,9 @@ KeepsOf x n None None = Unit {0}
 KeepsOf x n (Some u) (Some r) = Keeps x n r u
 KeepsOf x n _ _ = ⊥
 
--- the text of the upload; there is one
-abbrev pub IsTextOf : Store → Option Upload → List ℕ → Type 0
-IsTextOf m None text = ⊥
-IsTextOf m (Some u) text = text ≡ text_of m.indexes u
+-- the record is the upload's, and its text is on the listed blocks
+pub record IsUploadOn (m : Store) (number : ℕ) (seen : ℕ → ℕ) (first : ℕ) (r : Record) (list : List ℕ) : Type 0 where
+  pub upload : Upload
+  pub there : upload_of m number ≡ Some upload
+  pub keeps : Keeps m.indexes number r upload
+  pub text : text_on seen first list r.text_len ≡ text_of m.indexes upload

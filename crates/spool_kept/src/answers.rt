@@ -3,25 +3,35 @@ ghost use Rattle.std.specs.Prelude.{◌≡◌, ◌<◌, ◌≤◌, ◌↔◌, �
 ghost use Rattle.spool_disk.specs.Disk.{Counts, IsImage, Keeps};
 ghost use Rattle.spool_disk.specs.Views.{Lasts};
 ghost use Rattle.spool_journal.specs.Image.{journal_pages, all_pages};
-ghost use Rattle.spool_texts.specs.TextOn.{text_on, AllBelow};
+ghost use Rattle.spool_texts.specs.TextOn.{AllBelow};
 ghost use Rattle.upload_rules.specs.Answers.{Answers};
 ghost use Rattle.upload_rules.specs.Reading.{no_such, text_at, IsRead};
 ghost use Rattle.upload_rules.specs.Records.{TellsOf, above, with_number};
 ghost use Rattle.upload_rules.specs.Store.{Store, upload_of};
+ghost use Rattle.spool_kept.specs.Drafting.{IsOwnedBy};
 ghost use Rattle.spool_kept.specs.Holding.{IsUsedBy};
 ghost use Rattle.spool_kept.specs.Kept.{KeepsView};
-ghost use Rattle.spool_kept.specs.Records.{KeepsOf, IsTextOf};
+ghost use Rattle.spool_kept.specs.Records.{KeepsOf, IsUploadOn};
 ghost use Rattle.spool_kept.specs.Shows.{Shows};
 ghost use Rattle.spool_pages.specs.View.{View, Says};
 
 use crate::kept::Kept;
-use crate::order::{places_to, slot_of};
+use crate::order::{NumberedSlot, places_to, slot_of};
 use crate::records::record_at;
 use enc_index::IndexSet;
 use spool_blocks::BlockNo;
 use spool_disk::Disk;
 use spool_texts::read_text;
 use upload_rules::{Record, UploadError, UploadRefusal};
+
+/// An upload as it is kept.
+#[derive(Clone, Copy)]
+pub(crate) struct KeptUpload<'a> {
+    /// Its record.
+    pub upload: &'a Record,
+    /// The blocks of its text by ordinal.
+    pub list: &'a [BlockNo],
+}
 
 impl Kept {
     /// The slot of a number.
@@ -42,17 +52,23 @@ impl Kept {
         Some(kept.record())
     }
 
-    /// The blocks of an upload's text by ordinal, and its length in bytes.
-    pub(crate) fn text_of(&self, number: u64) -> Option<(&[BlockNo], u64)>
-        ensures below { IfSome result (λ t. AllBelow self.now.layout t.0.now) }
-        ensures long { IfSome result (λ t. t.1 ≤ 4096 * length t.0.now) }
-        ensures answer { (v : View) (m : Store) (bytes : ℕ → ℕ) → KeepsView self.now v → Shows v m → Says bytes v
-            → MatchOption result (upload_of m number ≡ None) (λ t. IsTextOf m (upload_of m number) (text_on bytes (25 + 2 * journal_pages self.now.layout) t.0.now t.1)) }
+    /// The upload of a number, with the blocks of its text.
+    pub(crate) fn upload(&self, number: u64) -> Option<KeptUpload<'_>>
+        ensures below { IfSome result (λ u. AllBelow self.now.layout u.list.now) }
+        ensures long { IfSome result (λ u. u.upload.now.text_len ≤ 4096 * length u.list.now) }
+        ensures few { IfSome result (λ u. length u.list.now ≤ 65536) }
+        ensures owned { IfSome result (λ u. IsOwnedBy self.now.slots self.now.blocks.rows number u.list.now) }
+        ensures told { (v : View) (m : Store) (bytes : ℕ → ℕ) → KeepsView self.now v → Shows v m → Says bytes v
+            → MatchOption result (upload_of m number ≡ None) (λ u. IsUploadOn m number bytes (25 + 2 * journal_pages self.now.layout) u.upload.now u.list.now) }
     {
         let slot = self.slot_of(number)?;
-        let kept = record_at(&self.slots, slot as usize)?;
+        let used = record_at(&self.slots, slot as usize)?;
         let list = self.lists[slot as usize].blocks();
-        Some((list, kept.record().text_len))
+        let _few = self.layout.blocks();
+        Some(KeptUpload {
+            upload: used.record(),
+            list,
+        })
     }
 
     /// Reads a text's bytes from `at` on, as many as there are and fit: refused with `NoSuch` or `DiskFault`.
@@ -74,10 +90,17 @@ impl Kept {
         ensures keeps { D.honest disk.old → Keeps (D.seen disk.old) (D.seen disk.new) (D.loose disk.old) (D.loose disk.new) }
         ensures lasts { D.honest disk.old → Lasts D.Disk disk.old disk.new (IsImage (D.seen disk.old) (D.loose disk.old)) }
     {
-        let Some((list, len)) = self.text_of(number) else {
+        let Some(found) = self.upload(number) else {
             return Err(UploadError::Refused(UploadRefusal::NoSuch));
         };
-        match read_text(disk, &self.layout, list, len, at, buf) {
+        match read_text(
+            disk,
+            &self.layout,
+            found.list,
+            found.upload.text_len,
+            at,
+            buf,
+        ) {
             Ok(count) => Ok(count),
             Err(_) => Err(UploadError::DiskFault),
         }
@@ -88,7 +111,7 @@ impl Kept {
         ensures { (v : View) (m : Store) → KeepsView self.now v → Shows v m → TellsOf m.indexes (above number m.uploads) (option_copied result) }
     {
         let place = places_to(&self.order, number);
-        let (_, slot) = *self.order.get(place)?;
+        let NumberedSlot { slot, .. } = *self.order.get(place)?;
         let kept = record_at(&self.slots, slot as usize)?;
         Some(kept.record())
     }

@@ -1,42 +1,23 @@
 // The open drafts of a spool by their numbers: begun, made longer and dropped.
-ghost use Rattle.std.specs.Prelude.{◌≡◌, ◌≤◌, ◌*◌, ◌+◌, ◌↔◌, ℕ, [], Some, None, length, IsErrOf, IfOk, IfSome, MatchOption};
+ghost use Rattle.std.specs.Prelude.{◌≡◌, ◌≤◌, ◌*◌, ◌+◌, ◌↔◌, ℕ, [], Some, None, length, IsErrOf, IfOk};
 ghost use Rattle.spool_disk.specs.Disk.{Counts};
 ghost use Rattle.spool_disk.specs.Views.{Lasts};
 ghost use Rattle.spool_journal.specs.Image.{journal_pages, all_pages};
 ghost use Rattle.upload_rules.specs.Answers.{Answers};
 ghost use Rattle.upload_rules.specs.Calls.{appended, begin_refusal, begun, dropped};
-ghost use Rattle.upload_rules.specs.Store.{Store, find, upload_of};
+ghost use Rattle.upload_rules.specs.Store.{Store, find};
 ghost use Rattle.upload_rules.specs.World.{Patch, World, free_number};
 ghost use Rattle.spool_drafts.specs.Drafts.{IsPlaced, list_of, tail_of};
 ghost use Rattle.spool_pages.specs.View.{View, Says};
-ghost use Rattle.spool_texts.specs.TextOn.{AllBelow};
 ghost use Rattle.spool_kept.specs.Kept.{KeepsView};
-ghost use Rattle.spool_kept.specs.Drafting.{DraftsFit, IsOwnedBy, IsUploadOn, OnlyReserves, OpensAs, StandsFor};
+ghost use Rattle.spool_kept.specs.Drafting.{DraftsFit, IsOwnedBy, OnlyReserves, OpensAs, StandsFor};
 ghost use Rattle.spool_kept.specs.Shows.{ImageShows, Shows};
 
 use crate::kept::Kept;
-use crate::records::record_at;
-use spool_blocks::BlockNo;
 use spool_disk::Disk;
 use spool_drafts::SpoolDraft;
 use std::alloc::Global;
-use upload_rules::{Record, UploadError, UploadRefusal, placed, put_back, taken};
-
-// An upload, and the blocks of its text by ordinal.
-fn upload_on(kept: &Kept, number: u64) -> Option<(&Record, &[BlockNo])>
-    ensures below { IfSome result (λ u. AllBelow kept.now.layout u.1.now) }
-    ensures long { IfSome result (λ u. u.0.now.text_len ≤ 4096 * length u.1.now) }
-    ensures few { IfSome result (λ u. length u.1.now ≤ 65536) }
-    ensures owned { IfSome result (λ u. IsOwnedBy kept.now.slots kept.now.blocks.rows number u.1.now) }
-    ensures told { (v : View) (m : Store) (bytes : ℕ → ℕ) → KeepsView kept.now v → Shows v m → Says bytes v
-        → MatchOption result (upload_of m number ≡ None) (λ u. IsUploadOn m number bytes (25 + 2 * journal_pages kept.now.layout) u.0.now u.1.now) }
-{
-    let slot = kept.slot_of(number)?;
-    let used = record_at(&kept.slots, slot as usize)?;
-    let list = kept.lists[slot as usize].blocks();
-    let _few = kept.layout.blocks();
-    Some((used.record(), list))
-}
+use upload_rules::{UploadError, UploadRefusal, placed, put_back, taken};
 
 // The draft that `begin` opens: refused with `NoSuch`, `Offset`, `TooLong`.
 fn opened(
@@ -52,10 +33,10 @@ fn opened(
     ensures opened { (v : View) (m : Store) (bytes : ℕ → ℕ) → KeepsView kept.now v → Shows v m → Says bytes v
         → OpensAs m number offset count bytes (25 + 2 * journal_pages kept.now.layout) result }
 {
-    let Some((upload, list)) = upload_on(kept, number) else {
+    let Some(found) = kept.upload(number) else {
         return Err(UploadRefusal::NoSuch);
     };
-    SpoolDraft::begin(alloc, upload, list, offset, count)
+    SpoolDraft::begin(alloc, found.upload, found.list, offset, count)
 }
 
 /// Opens a draft of `count` bytes at an offset, under the least number that is free: refused with `NoSuch`, `Offset`, `TooLong`,

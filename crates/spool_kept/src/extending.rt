@@ -22,7 +22,7 @@ use std::alloc::{AllocError, Global};
 
 /// What an upload becomes.
 #[derive(Drop)]
-pub struct Longer {
+pub(crate) struct Longer {
     /// Its slot.
     pub slot: u32,
     /// How many bytes are accepted.
@@ -35,7 +35,7 @@ pub struct Longer {
 
 /// Why an upload gets no longer.
 #[derive(Clone, Copy, Debug, PartialEq, Eq)]
-pub enum ExtendError {
+pub(crate) enum ExtendError {
     /// A growth was refused, and nothing has changed.
     NoMemory,
     /// The disk failed in this call.
@@ -157,7 +157,7 @@ impl Kept {
 ///
 /// `NoMemory` where a growth was refused, and then nothing has changed. `DiskFault` where the device failed: then what is kept is
 /// ahead of the disk, and the spool has to be opened again.
-pub fn extend<D: Disk>(
+pub(crate) fn extend<D: Disk>(
     alloc: Global,
     disk: &mut D,
     kept: &mut Kept,

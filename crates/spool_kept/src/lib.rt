@@ -16,7 +16,6 @@ pub use committing::commit;
 pub use creating::create;
 pub use drafting::{append, begin, drop_open};
 pub use error::OpenFault;
-pub use extending::{ExtendError, Longer, extend};
 pub use kept::Kept;
 pub use lists::blocks_of;
 pub use records::{KeptRecord, record_at};

@@ -22,7 +22,8 @@ pub(crate) fn put(page: &mut [u8], at: usize, bytes: &[u8])
 #[tactic(auto, using(crate::proofs::Numbers::two_are))]
 pub(crate) fn get_u16(page: &[u8], at: usize) -> u16
     requires { at + 2 ≤ length page.now }
-    ensures { (n : ℕ) → n < 2 ^ 16 → Stands (byte_of page.now) at 2 (to_be_bytes w16 n) → result ≡ n }
+    ensures is { (n : ℕ) → n < 2 ^ 16 → Stands (byte_of page.now) at 2 (to_be_bytes w16 n) → result ≡ n }
+    ensures there { Stands (byte_of page.now) at 2 (to_be_bytes w16 result) }
 {
     u16::from_be_bytes([page[at], page[at + 1]])
 }
@@ -31,7 +32,8 @@ pub(crate) fn get_u16(page: &[u8], at: usize) -> u16
 #[tactic(auto, using(crate::proofs::Numbers::four_are))]
 pub(crate) fn get_u32(page: &[u8], at: usize) -> u32
     requires { at + 4 ≤ length page.now }
-    ensures { (n : ℕ) → n < 2 ^ 32 → Stands (byte_of page.now) at 4 (to_be_bytes w32 n) → result ≡ n }
+    ensures is { (n : ℕ) → n < 2 ^ 32 → Stands (byte_of page.now) at 4 (to_be_bytes w32 n) → result ≡ n }
+    ensures there { Stands (byte_of page.now) at 4 (to_be_bytes w32 result) }
 {
     u32::from_be_bytes([page[at], page[at + 1], page[at + 2], page[at + 3]])
 }
@@ -40,7 +42,8 @@ pub(crate) fn get_u32(page: &[u8], at: usize) -> u32
 #[tactic(auto, using(crate::proofs::Numbers::eight_are))]
 pub(crate) fn get_u64(page: &[u8], at: usize) -> u64
     requires { at + 8 ≤ length page.now }
-    ensures { (n : ℕ) → n < 2 ^ 64 → Stands (byte_of page.now) at 8 (to_be_bytes w64 n) → result ≡ n }
+    ensures is { (n : ℕ) → n < 2 ^ 64 → Stands (byte_of page.now) at 8 (to_be_bytes w64 n) → result ≡ n }
+    ensures there { Stands (byte_of page.now) at 8 (to_be_bytes w64 result) }
 {
     u64::from_be_bytes([
         page[at],

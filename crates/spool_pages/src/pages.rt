@@ -1,5 +1,5 @@
 // The pages of a spool that are neither records nor rows.
-ghost use Rattle.std.specs.Prelude.{◌≡◌, ◌<◌, ◌≤◌, ◌^◌, ℕ, [], Some, get_or};
+ghost use Rattle.std.specs.Prelude.{◌≡◌, ◌<◌, ◌≤◌, ◌^◌, ℕ, [], Some, IfSome, get_or};
 ghost use Rattle.spool_pages.specs.Bytes.{IsPadded};
 ghost use Rattle.spool_pages.specs.View.{magic, first_page, state_page};
 
@@ -48,7 +48,8 @@ pub fn version_and_next(page: &[u8; PAGE]) -> (u32, u64)
 
 /// The number of text blocks that the front of page 0 says, or none where it is not a spool's.
 pub fn blocks_said(front: &[u8; 12]) -> Option<u32>
-    ensures { (blocks : ℕ) → blocks < 2 ^ 32 → ((i : ℕ) → i < 12 → get_or front.now i 0 ≡ get_or (first_page blocks) i 0) → result ≡ Some blocks }
+    ensures said { (blocks : ℕ) → blocks < 2 ^ 32 → ((i : ℕ) → i < 12 → get_or front.now i 0 ≡ get_or (first_page blocks) i 0) → result ≡ Some blocks }
+    ensures only { IfSome result (λ blocks. (i : ℕ) → i < 12 → get_or front.now i 0 ≡ get_or (first_page blocks) i 0) }
 {
     if !front.starts_with(&MAGIC) {
         return None;

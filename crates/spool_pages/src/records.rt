@@ -1,8 +1,10 @@
 // The record of an upload as its slot keeps it.
-ghost use Rattle.std.specs.Prelude.{◌≡◌, ◌≤◌, [], length, Ok, Some, None, IfOk, IfSome};
+ghost use Rattle.std.specs.Prelude.{◌≡◌, ◌<◌, ◌≤◌, ℕ, [], length, Ok, Some, None, IsErr, IfOk, IfSome};
+ghost use Rattle.std.specs.Int.{to_be_bytes, w16, w64};
+ghost use Rattle.spool_journal.specs.Image.{byte_of};
 ghost use Rattle.spool_pages.specs.Bytes.{IsPadded};
 ghost use Rattle.spool_pages.specs.Fits.{FitsSlot};
-ghost use Rattle.spool_pages.specs.View.{SlotRecord as Said, record_bytes};
+ghost use Rattle.spool_pages.specs.View.{SlotRecord as Said, Stands, record_bytes};
 
 use crate::Damaged;
 use crate::fields::{get_u16, get_u64, put};
@@ -58,6 +60,10 @@ impl<'a> SlotRecord<'a> {
     pub fn from_bytes(bytes: &'a [u8; RECORD]) -> Result<Option<SlotRecord<'a>>, Damaged>
         ensures free { IsPadded bytes.now [] → result ≡ Ok None }
         ensures used { (r : Said) → FitsSlot r → IsPadded bytes.now (record_bytes r) → result ≡ Ok (Some r) }
+
+        // It answers 'free' only where the number is 0, and `Damaged` only where a record has this length of metadata.
+        ensures free_only { result ≡ Ok None → Stands (byte_of bytes.now) 0 8 (to_be_bytes w64 0) }
+        ensures damaged_only { IsErr result → (len : ℕ) × (1536 < len × Stands (byte_of bytes.now) 64 2 (to_be_bytes w16 len)) }
         ensures few { IfOk result (λ found. IfSome found (λ r. length r.metadata ≤ 1536)) }
     {
         let number = get_u64(bytes, 0);

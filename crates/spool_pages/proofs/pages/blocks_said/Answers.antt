@@ -1,9 +1,12 @@
-use Rattle.std.proofs.Common.{◌≡◌, ◌+◌, ◌<◌, Some, eqb, ℕ, List, length, take, get_or, true, refl, sym, ◌∙◌, ap, subst, arith, rules}
+use Rattle.std.proofs.Common.{inl, inr, drop, ◌++◌, ◌-◌, ◌≡◌, ◌+◌, ◌<◌, Some, eqb, ℕ, List, length, take, get_or, true, refl, sym, ◌∙◌, ap, subst, arith, rules}
 use Rattle.std.specs.Int.{to_be_bytes, w32}
 use Rattle.std.specs.List.{starts_with}
 use Rattle.std.specs.Cmp.Lexicographic.{pointwise}
 use Rattle.std.proofs.Math.ListN.{get_or-append, length-take}
-use Rattle.std.proofs.lemmas.List.{get_or-take, ext_get_or}
+use Rattle.std.proofs.lemmas.Bool.{cases_lt}
+use Rattle.std.proofs.lemmas.Bool.Decides.{Decides-eqb}
+use Rattle.std.proofs.lemmas.Slice.Eq.{starts_is}
+use Rattle.std.proofs.lemmas.List.{get_or-append-add, get_or-take, ext_get_or}
 use Rattle.spool_journal.specs.Image.{byte_of}
 use Rattle.spool_pages.specs.View.{Stands, magic, first_page}
 use Rattle.spool_pages.proofs.RecordBytes.{stands_behind}
@@ -29,12 +32,32 @@ module _ (front : List ℕ) (blocks : ℕ) (long : length front ≡ 12) (same : 
   begins : starts_with eqb front magic ≡ true
   begins = subst (λ (xs : List ℕ). pointwise eqb magic xs ≡ true) (sym taken) refl
 
-pub returns-then-not-starts_with : goal.returns-then-not-starts_with
-returns-then-not-starts_with c blocks fits same =
+module _ (front : List ℕ) (blocks : ℕ) (begun : starts_with eqb front magic ≡ true) (number : Stands (byte_of front) 8 4 (to_be_bytes w32 blocks)) where
+  front_is : front ≡ magic ++ drop 8 front
+  front_is = (starts_is Decides-eqb front magic (starts_with eqb front magic) refl).0 begun
+
+  is_first : (i : ℕ) → i < 12 → get_or front i 0 ≡ get_or (first_page blocks) i 0
+  unfolding first_page
+  is_first i lt = elim (cases_lt i 8) [
+    | inl below ↦ ap (λ (xs : List ℕ). get_or xs i 0) front_is ∙ get_or-append magic (drop 8 front) 0 i below ∙ sym (get_or-append magic (to_be_bytes w32 blocks) 0 i below)
+    | inr from ↦
+        let at : 8 + (i - 8) ≡ i = omega (arith, from) in
+        let here : get_or front (8 + (i - 8)) 0 ≡ get_or (magic ++ to_be_bytes w32 blocks) (8 + (i - 8)) 0 = number.each (i - 8) (omega (arith, lt, from)) ∙ sym (get_or-append-add magic (to_be_bytes w32 blocks) (i - 8) 0) in
+        subst (λ (p : ℕ). get_or front p 0 ≡ get_or (magic ++ to_be_bytes w32 blocks) p 0) at here
+  ]
+
+pub returns-then-not-starts_with-clause-said : goal.returns-then-not-starts_with-clause-said
+returns-then-not-starts_with-clause-said c blocks fits same =
     let v = c.starts_with.ensures.value in
     let b = c.if-not-starts_with.true in
     let yes = begins c.args.front.now blocks (search rules) same in
     cc
 
-pub returns : goal.returns
-returns c blocks fits same = ap Some (c.get_u32.ensures blocks fits (number_at c.args.front.now blocks (search rules) same))
+pub returns-clause-said : goal.returns-clause-said
+returns-clause-said c blocks fits same = ap Some (c.get_u32.ensures.is blocks fits (number_at c.args.front.now blocks (search rules) same))
+
+pub returns-clause-only : goal.returns-clause-only
+returns-clause-only c =
+    let v = c.starts_with.ensures.value in
+    let b = c.if-not-starts_with.false in
+    is_first c.args.front.now c.get_u32.result (cc) c.get_u32.ensures.there

@@ -20,4 +20,4 @@ module _ (page : List ℕ) (version next : ℕ) (padded : IsPadded page (state_p
 
 pub returns : goal.returns
 returns c version next fits fits' padded =
-    pair_eq c.get_u32.result c.get_u64.result version next (c.get_u32.ensures version fits (version_at c.args.page.now version next padded)) (c.get_u64.ensures next fits' (next_at c.args.page.now version next padded))
+    pair_eq c.get_u32.result c.get_u64.result version next (c.get_u32.ensures.is version fits (version_at c.args.page.now version next padded)) (c.get_u64.ensures.is next fits' (next_at c.args.page.now version next padded))

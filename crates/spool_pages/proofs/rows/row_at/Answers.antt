@@ -23,7 +23,7 @@ module _ (page : List ℕ) (at slot : ℕ) (slot_is : (n : ℕ) → n < 2 ^ 32 �
       pair_eq (slot - 1) ordinal o (omega (arith, is)) (ordinal_is o.1 fits.1 (ordinal_at (byte_of page) at o.0 o.1 stands))
 
 pub returns-then-slot-eq0 : goal.returns-then-slot-eq0
-returns-then-slot-eq0 c = when_free c.args.page.now c.args.at c.get_u32-slot.result c.get_u32-slot.ensures c.if-slot-eq0.true
+returns-then-slot-eq0 c = when_free c.args.page.now c.args.at c.get_u32-slot.result c.get_u32-slot.ensures.is c.if-slot-eq0.true
 
 pub returns : goal.returns
-returns c = when_owned c.args.page.now c.args.at c.get_u32-slot.result c.get_u32-slot.ensures c.get_u32.result c.if-slot-eq0.false c.get_u32.ensures
+returns c = when_owned c.args.page.now c.args.at c.get_u32-slot.result c.get_u32-slot.ensures.is c.get_u32.result c.if-slot-eq0.false c.get_u32.ensures.is
