@@ -1,5 +1,5 @@
 -- What a bitmask says of the lanes that were tested.
-use Rattle.std.proofs.Common.{◌≡◌, ℕ, ◌+◌, ◌-◌, ◌%◌, ◌^◌, ◌<◌, ◌≤◌, Bool, true, false, not, ◌||◌, cond, List, [], ◌∷◌, map, length, replicate, refl, sym, ap, ap₂, ◌∙◌, arith, bit_or}
+use Rattle.std.proofs.Common.{◌≡◌, ℕ, ◌-◌, ◌%◌, ◌^◌, ◌≤◌, Bool, true, false, not, ◌||◌, cond, List, [], ◌∷◌, map, length, replicate, refl, ap, ap₂, ◌∙◌, ◌&&◌, arith, bit_or, bit_and}
 use Rattle.std.proofs.lemmas.Simd.{mask_l-mod, first_set_mask_l, zip2_splat, zip2_splat_left, zip2_of_maps}
 use Rattle.std.proofs.lemmas.List.{length-map}
 use Rattle.std.specs.List.{prefix_len}
@@ -64,3 +64,18 @@ compared w t v n y long = zip2_splat (λ a b. hit w (t a b)) v n y long
 pub compared_with : (w : Width) (t : ℕ → ℕ → Bool) (v : List ℕ) (n y : ℕ) → length v ≡ n →
     zip2 (λ a b. hit w (t a b)) (replicate n y) v ≡ map (λ x. hit w (t y x)) v
 compared_with w t v n y long = zip2_splat_left (λ a b. hit w (t a b)) y n v long
+
+and_hit : (a b : Bool) → bit_and (hit w16 a) (hit w16 b) ≡ hit w16 (a && b)
+and_hit true true = refl
+and_hit true false = refl
+and_hit false true = refl
+and_hit false false = refl
+
+and_hits : (t u : ℕ → Bool) (v : List ℕ) → map (λ x. bit_and (hit w16 (t x)) (hit w16 (u x))) v ≡ map (λ x. hit w16 (t x && u x)) v
+and_hits t u [] = refl
+and_hits t u (x ∷ v) = ap₂ (λ y ys. y ∷ ys) (and_hit (t x) (u x)) (and_hits t u v)
+
+-- the same of units, where both tests are to hold
+pub both_hit : (t u : ℕ → Bool) (v : List ℕ) {a b : List ℕ} → a ≡ map (λ x. hit w16 (t x)) v → b ≡ map (λ x. hit w16 (u x)) v →
+    zip2 bit_and a b ≡ map (λ x. hit w16 (t x && u x)) v
+both_hit t u v p q = zip2_of_maps bit_and (λ x. hit w16 (t x)) (λ x. hit w16 (u x)) v p q ∙ and_hits t u v

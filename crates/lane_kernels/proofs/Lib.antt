@@ -1,2 +1,6 @@
 pub mod Hits
 pub mod Fronts
+pub mod Written
+pub mod Made
+pub mod Pairs
+pub mod Tails

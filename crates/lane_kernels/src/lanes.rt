@@ -95,8 +95,8 @@ impl Class for Range {
     #[inline(always)]
     fn run(&self, bytes: &[u8], at: usize) -> usize {
         let lanes = u8x32::from_slice(&bytes[at..]);
-        let stops =
-            lanes.simd_lt(u8x32::splat(self.lowest)) | lanes.simd_gt(u8x32::splat(self.highest));
+        let stops = lanes.simd_lt(u8x32::splat(self.lowest))
+            | lanes.simd_gt(u8x32::splat(self.highest));
         first_set(stops.to_bitmask(), LANES)
     }
 }

@@ -1,9 +1,14 @@
-//! Runs and UTF-16 units found many bytes at a time, each the same as a plain definition. No memory is taken.
+//! Runs of bytes and UTF-16 units, found many at a time, each the same as a plain definition. No memory is taken.
 #![tactic(auto)]
 
 mod front;
 mod lanes;
 mod narrowing;
+mod order;
+mod pairing;
+mod units;
 
 pub use front::{ascii_front, plain_front_2022, range_front};
 pub use narrowing::narrow;
+pub use order::Order;
+pub use pairing::{Pairing, Step};
