@@ -12,3 +12,6 @@ pub use front::{ascii_front, plain_front_2022, range_front};
 pub use narrowing::narrow;
 pub use order::Order;
 pub use pairing::{Pairing, Step};
+
+#[cfg(test)]
+mod tests;
