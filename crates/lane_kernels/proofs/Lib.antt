@@ -4,3 +4,5 @@ pub mod Written
 pub mod Made
 pub mod Pairs
 pub mod Tails
+pub mod Walks
+pub mod Rows

@@ -3,12 +3,14 @@
 
 mod front;
 mod lanes;
+mod laws;
 mod narrowing;
 mod order;
 mod pairing;
 mod units;
 
 pub use front::{ascii_front, plain_front_2022, range_front};
+pub use laws::paired_units_decode;
 pub use narrowing::narrow;
 pub use order::Order;
 pub use pairing::{Pairing, Step};
