@@ -1,0 +1,8 @@
+pub mod Hits
+pub mod Fronts
+pub mod Written
+pub mod Made
+pub mod Pairs
+pub mod Tails
+pub mod Walks
+pub mod Rows

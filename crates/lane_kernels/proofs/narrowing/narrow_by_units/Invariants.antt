@@ -1,0 +1,14 @@
+use Rattle.std.proofs.Common.{◌≡◌, ◌-◌, ◌≤◌, ◌++◌, length, take, drop}
+use Rattle.std.specs.List.{prefix_len}
+use Rattle.lane_kernels.specs.Front.{is_ascii_byte}
+use Rattle.lane_kernels.proofs.narrowing.narrow_by_units.Given as goal
+
+abbrev pub invariant-loop-end : goal.invariant-loop-end
+invariant-loop-end l = record {
+  front : l.end ≤ prefix_len is_ascii_byte l.units;
+  room : l.end ≤ length l.initial.out;
+  written : l.out ≡ take l.end l.units ++ drop l.end l.initial.out;
+}
+
+abbrev pub decreases-loop-end : goal.decreases-loop-end
+decreases-loop-end l = length l.units - l.end

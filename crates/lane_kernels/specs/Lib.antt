@@ -1,0 +1,4 @@
+pub mod Front
+pub mod Orders
+pub mod Units
+pub mod Steps

@@ -1,0 +1,55 @@
+//! The longest prefix of bytes of a class.
+
+ghost use Rattle.std.specs.Prelude.{◌≡◌};
+ghost use Rattle.std.specs.List.{prefix_len};
+ghost use Rattle.enc_model.specs.Index.{within};
+ghost use Rattle.lane_kernels.specs.Front.{is_ascii_byte, is_plain_2022};
+
+use crate::lanes::{Ascii, Class, LANES, Plain2022, Range};
+
+/// The front of the bytes, one byte at a time.
+fn front_by_bytes<C: Class>(class: &C, bytes: &[u8]) -> usize
+    ensures { result ≡ prefix_len (C.has class.now) bytes.now }
+{
+    let mut at = 0;
+    while at < bytes.len() && class.has(bytes[at]) {
+        at += 1;
+    }
+    at
+}
+
+/// The front of the bytes, a load at a time.
+fn front<C: Class>(class: &C, bytes: &[u8]) -> usize
+    ensures { result ≡ prefix_len (C.has class.now) bytes.now }
+{
+    let mut at = 0;
+    'by_lanes: while bytes.len() - at >= LANES {
+        let run = class.run(bytes, at);
+        if run < LANES {
+            return at + run;
+        }
+        at += LANES;
+    }
+    at + front_by_bytes(class, &bytes[at..])
+}
+
+/// How many bytes are below 80 before the first that isn't.
+pub fn ascii_front(bytes: &[u8]) -> usize
+    ensures { result ≡ prefix_len is_ascii_byte bytes.now }
+{
+    front(&Ascii, bytes)
+}
+
+/// How many bytes are below 80 and none of 0E, 0F and 1B before the first that isn't so.
+pub fn plain_front_2022(bytes: &[u8]) -> usize
+    ensures { result ≡ prefix_len is_plain_2022 bytes.now }
+{
+    front(&Plain2022, bytes)
+}
+
+/// How many bytes are from the lowest to the highest, both included, before the first that isn't.
+pub fn range_front(bytes: &[u8], lowest: u8, highest: u8) -> usize
+    ensures { result ≡ prefix_len (within lowest highest) bytes.now }
+{
+    front(&Range { lowest, highest }, bytes)
+}

@@ -1,0 +1,102 @@
+//! How many lanes of one load, from the first, are of a class of bytes.
+
+ghost use Rattle.std.specs.Prelude.{◌≡◌, ℕ, Bool, ◌+◌, ◌≤◌, length};
+ghost use Rattle.std.specs.Simd.Lanes.{chunk};
+ghost use Rattle.std.specs.List.{prefix_len};
+ghost use Rattle.enc_model.specs.Index.{within};
+ghost use Rattle.lane_kernels.specs.Front.{is_ascii_byte, is_plain_2022, first_set};
+
+use std::simd::prelude::*;
+
+/// How many bytes are loaded at a time.
+pub(crate) const LANES: usize = 32;
+
+/// The place of the lowest bit that is set, or that of the last lane's end where none is.
+#[inline(always)]
+pub(crate) fn first_set(mask: u64, lanes: usize) -> usize
+    ensures { result ≡ first_set mask lanes }
+{
+    if mask == 0 {
+        lanes
+    } else {
+        mask.trailing_zeros() as usize
+    }
+}
+
+/// A class of bytes.
+pub(crate) trait Class {
+    // the bytes that are of the class
+    ghost has: { Self → ℕ → Bool };
+
+    /// Whether a byte is of the class.
+    fn has(&self, byte: u8) -> bool
+        ensures { result ≡ has self.now byte };
+
+    /// How many of the lanes at a place are of the class before the first that isn't.
+    fn run(&self, bytes: &[u8], at: usize) -> usize
+        requires { at + LANES ≤ length bytes.now }
+        ensures { result ≡ prefix_len (has self.now) (chunk at LANES bytes.now) };
+}
+
+/// The bytes below 80.
+#[derive(Clone, Copy)]
+pub(crate) struct Ascii;
+
+impl Class for Ascii {
+    ghost has = { λ _. is_ascii_byte };
+
+    fn has(&self, byte: u8) -> bool {
+        byte < 0x80
+    }
+
+    #[inline(always)]
+    fn run(&self, bytes: &[u8], at: usize) -> usize {
+        let lanes = u8x32::from_slice(&bytes[at..]);
+        first_set(lanes.simd_ge(u8x32::splat(0x80)).to_bitmask(), LANES)
+    }
+}
+
+/// The bytes below 80 but for 0E, 0F and 1B.
+#[derive(Clone, Copy)]
+pub(crate) struct Plain2022;
+
+impl Class for Plain2022 {
+    ghost has = { λ _. is_plain_2022 };
+
+    fn has(&self, byte: u8) -> bool {
+        byte < 0x80 && byte != 0x0E && byte != 0x0F && byte != 0x1B
+    }
+
+    #[inline(always)]
+    fn run(&self, bytes: &[u8], at: usize) -> usize {
+        let lanes = u8x32::from_slice(&bytes[at..]);
+        let stops = lanes.simd_ge(u8x32::splat(0x80))
+            | lanes.simd_eq(u8x32::splat(0x0E))
+            | lanes.simd_eq(u8x32::splat(0x0F))
+            | lanes.simd_eq(u8x32::splat(0x1B));
+        first_set(stops.to_bitmask(), LANES)
+    }
+}
+
+/// The bytes from the lowest to the highest.
+#[derive(Clone, Copy)]
+pub(crate) struct Range {
+    pub(crate) lowest: u8,
+    pub(crate) highest: u8,
+}
+
+impl Class for Range {
+    ghost has = { λ range. within range.lowest range.highest };
+
+    fn has(&self, byte: u8) -> bool {
+        self.lowest <= byte && byte <= self.highest
+    }
+
+    #[inline(always)]
+    fn run(&self, bytes: &[u8], at: usize) -> usize {
+        let lanes = u8x32::from_slice(&bytes[at..]);
+        let stops = lanes.simd_lt(u8x32::splat(self.lowest))
+            | lanes.simd_gt(u8x32::splat(self.highest));
+        first_set(stops.to_bitmask(), LANES)
+    }
+}

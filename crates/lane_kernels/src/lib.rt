@@ -1,0 +1,19 @@
+//! Runs of bytes and UTF-16 units, found many at a time, each the same as a plain definition. No memory is taken.
+#![tactic(auto)]
+
+mod front;
+mod lanes;
+mod laws;
+mod narrowing;
+mod order;
+mod pairing;
+mod units;
+
+pub use front::{ascii_front, plain_front_2022, range_front};
+pub use laws::paired_units_decode;
+pub use narrowing::narrow;
+pub use order::Order;
+pub use pairing::{Pairing, Step};
+
+#[cfg(test)]
+mod tests;

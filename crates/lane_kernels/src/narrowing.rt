@@ -1,0 +1,63 @@
+//! Units below 80 as bytes.
+
+ghost use Rattle.std.specs.Prelude.{◌≡◌, ◌+◌, ◌<◌, ◌≤◌, ◌++◌, length, take, drop, min, All};
+ghost use Rattle.std.specs.Simd.Lanes.{chunk, put_chunk};
+ghost use Rattle.std.specs.List.{prefix_len};
+ghost use Rattle.lane_kernels.specs.Front.{is_ascii_byte};
+
+use crate::lanes::{LANES, first_set};
+use std::simd::prelude::*;
+
+/// How many of the lanes at a place are below 80 before the first that isn't.
+#[inline(always)]
+fn narrow_run(units: &[u16], at: usize) -> usize
+    requires { at + LANES ≤ length units.now }
+    ensures { result ≡ prefix_len is_ascii_byte (chunk at LANES units.now) }
+{
+    let lanes = u16x32::from_slice(&units[at..]);
+    first_set(lanes.simd_ge(u16x32::splat(0x80)).to_bitmask(), LANES)
+}
+
+/// Writes the lanes at a place, which are all below 80, as bytes at the same place.
+#[inline(always)]
+fn write_lanes(units: &[u16], out: &mut [u8], at: usize)
+    requires units { at + LANES ≤ length units.now }
+    requires room { at + LANES ≤ length out.old }
+    requires below { prefix_len is_ascii_byte (chunk at LANES units.now) ≡ LANES }
+    ensures { out.new ≡ put_chunk at out.old (chunk at LANES units.now) }
+{
+    let lanes = u16x32::from_slice(&units[at..]);
+    lanes.cast::<u8>().copy_to_slice(&mut out[at..]);
+}
+
+/// Writes units below 80 from a place on, one at a time, up to the first that isn't or the end of the output.
+fn narrow_by_units(units: &[u16], out: &mut [u8], at: usize) -> usize
+    requires front { at ≤ prefix_len is_ascii_byte units.now }
+    requires room { at ≤ length out.old }
+    requires written { take at out.old ≡ take at units.now }
+    ensures length { result ≡ min (prefix_len is_ascii_byte units.now) (length out.old) }
+    ensures written { out.new ≡ take result units.now ++ drop result out.old }
+{
+    let mut end = at;
+    while end < units.len() && end < out.len() && units[end] < 0x80 {
+        out[end] = units[end] as u8;
+        end += 1;
+    }
+    end
+}
+
+/// Writes the longest prefix of units below 80 that fits as bytes, and says how many. The rest of the output is unchanged.
+pub fn narrow(units: &[u16], out: &mut [u8]) -> usize
+    ensures length { result ≡ min (prefix_len is_ascii_byte units.now) (length out.old) }
+    ensures written { out.new ≡ take result units.now ++ drop result out.old }
+{
+    let mut at = 0;
+    'by_lanes: while units.len() - at >= LANES
+        && out.len() - at >= LANES
+        && narrow_run(units, at) == LANES
+    {
+        write_lanes(units, out, at);
+        at += LANES;
+    }
+    narrow_by_units(units, out, at)
+}

@@ -1,0 +1,161 @@
+//! UTF-16 across pieces.
+
+ghost use Rattle.std.specs.Prelude.{◌≡◌, ◌↔◌, ◌+◌, ◌-◌, ◌*◌, [], ◌∷◌, IsTrue, true, false, Option, Some, None};
+ghost use Rattle.std.specs.Bool.{OnTrue, OnFalse};
+ghost use Rattle.enc_model.specs.Stream.{steps};
+ghost use Rattle.enc_model.specs.declared.Answer.TheVariants.{Error};
+ghost use Rattle.enc_model.specs.Utf16.{Utf16, utf16, utf16_start, unit_of};
+ghost use Rattle.lane_kernels.specs.Orders.{is_big};
+ghost use Rattle.lane_kernels.specs.Units.{IsCarried, is_lead, is_trail, ArePaired, last_lead, lead_of, left_over, units_of, with_carried};
+ghost use Rattle.lane_kernels.specs.Steps.{step_text, unit_fault, unit_scalar};
+
+use crate::order::Order;
+use crate::units::{are_paired, joined, lead_in, left_behind, units_in};
+use std::marker::Model;
+use std::simd::prelude::*;
+
+/// What one byte makes of UTF-16.
+#[derive(Clone, Copy, Debug, PartialEq, Eq)]
+pub struct Step {
+    /// Whether a surrogate was found without its other half. It comes before the scalar.
+    pub fault: bool,
+    /// The character that the byte completes.
+    pub scalar: Option<char>,
+}
+
+/// What is carried of UTF-16 from one piece to the next: the first byte of a unit, and a lead surrogate.
+#[derive(Drop)]
+pub struct Pairing {
+    odd: Option<u8>,
+    lead: Option<u16>,
+}
+
+impl Model for Pairing {
+    ghost Value = { Utf16 };
+
+    ghost view = { λ s. record { byte = s.odd; lead = s.lead } };
+
+    ghost invariant = { λ s. IsCarried s.lead };
+}
+
+/// The unit of two bytes.
+fn unit_in(order: Order, first: u8, second: u8) -> u16
+    ensures { result ≡ unit_of (is_big order) first second }
+{
+    match order {
+        Order::Big => first as u16 * 256 + second as u16,
+        Order::Little => second as u16 * 256 + first as u16,
+    }
+}
+
+/// The character of a pair of surrogates.
+fn paired(lead: u16, trail: u16) -> char
+    requires lead { is_lead lead ≡ true }
+    requires trail { is_trail trail ≡ true }
+    ensures { result ≡ 0x10000 + (lead - 0xD800) * 0x400 + (trail - 0xDC00) }
+{
+    match char::from_u32(0x10000 + (lead as u32 - 0xD800) * 0x400 + (trail as u32 - 0xDC00)) {
+        Some(c) => c,
+        None => unreachable!(),
+    }
+}
+
+impl Pairing {
+    /// Nothing is carried.
+    pub fn new() -> Self
+        ensures { result ≡ utf16_start }
+    {
+        Pairing {
+            odd: None,
+            lead: None,
+        }
+    }
+
+    /// This is carried: the first byte of a unit, and a lead surrogate.
+    pub fn carrying(odd: Option<u8>, lead: Option<u16>) -> Self
+        requires { IsCarried lead }
+        ensures { result ≡ record { byte = odd; lead = lead } }
+    {
+        Pairing { odd, lead }
+    }
+
+    /// The byte that is carried, the first of a unit.
+    pub fn odd(&self) -> Option<u8>
+        ensures { result ≡ self.now.byte }
+    {
+        self.odd
+    }
+
+    /// The lead surrogate that is carried.
+    pub fn lead(&self) -> Option<u16>
+        ensures value { result ≡ self.now.lead }
+        ensures surrogate { IsCarried result }
+    {
+        self.lead
+    }
+
+    /// Makes 32 units of the carried byte, where there is one, and the 64 bytes, and says whether they are paired behind the carried
+    /// lead. Where they are, a byte left over and a last lead are carried on; where they aren't, what is carried stays. The units are
+    /// written in either case.
+    pub fn block(&mut self, order: Order, bytes: &[u8; 64], units: &mut [u16; 32]) -> bool
+        ensures units { units.new ≡ units_of (is_big order) (with_carried self.old.byte bytes.now) }
+        ensures paired { IsTrue result ↔ ArePaired self.old.lead (units_of (is_big order) (with_carried self.old.byte bytes.now)) }
+        ensures carried { OnTrue result (self.new ≡ record { byte = left_over (with_carried self.old.byte bytes.now); lead = last_lead (units_of (is_big order) (with_carried self.old.byte bytes.now)) }) }
+        ensures kept { OnFalse result (self.new ≡ self.old) }
+    {
+        let lanes = units_in(order, u8x64::from_array(joined(self.odd, bytes)));
+        *units = lanes.to_array();
+        if !are_paired(self.lead, lanes) {
+            return false;
+        }
+        self.odd = left_behind(self.odd, bytes);
+        self.lead = lead_in(units[31]);
+        true
+    }
+
+    /// Takes a unit behind what is carried as a lead.
+    fn unit(&mut self, unit: u16) -> Step
+        requires { self.old.byte ≡ None }
+        ensures fault { result.fault ≡ unit_fault self.old.lead unit }
+        ensures scalar { result.scalar ≡ unit_scalar self.old.lead unit }
+        ensures state { self.new ≡ record { byte = None; lead = lead_of unit } }
+    {
+        let before = self.lead;
+        self.lead = lead_in(unit);
+        match (before, unit) {
+            (Some(lead), 0xDC00..=0xDFFF) => Step {
+                fault: false,
+                scalar: Some(paired(lead, unit)),
+            },
+            (None, 0xDC00..=0xDFFF) => Step {
+                fault: true,
+                scalar: None,
+            },
+            (_, 0xD800..=0xDBFF) => Step {
+                fault: before.is_some(),
+                scalar: None,
+            },
+            _ => Step {
+                fault: before.is_some(),
+                scalar: char::from_u32(unit as u32),
+            },
+        }
+    }
+
+    /// Takes one byte by the rule of the decoder, restored bytes read again.
+    pub fn tail(&mut self, order: Order, byte: u8) -> Step
+        ensures fault { IsTrue result.fault ↔ (utf16 (is_big order) self.old (Some byte)).answer ≡ Error }
+        ensures text { step_text result ≡ (steps (utf16 (is_big order)) false self.old (byte ∷ [])).text }
+        ensures state { self.new ≡ (steps (utf16 (is_big order)) false self.old (byte ∷ [])).state }
+    {
+        let Some(first) = self.odd else {
+            self.odd = Some(byte);
+            return Step {
+                fault: false,
+                scalar: None,
+            };
+        };
+        self.odd = None;
+        self.unit(unit_in(order, first, byte))
+    }
+}
