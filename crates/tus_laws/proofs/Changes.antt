@@ -1,8 +1,8 @@
 -- What an event makes of the uploads.
-use Rattle.std.proofs.Common.{◌≡◌, ◌-◌, ℕ, Bool, true, false, List, [], ◌∷◌, ◌++◌, length, Option, Some, None, refl, sym, ◌∙◌, ap, subst, if◌then◌else◌, nat_lt}
+use Rattle.std.proofs.Common.{◌≡◌, ◌-◌, ℕ, Bool, true, false, List, length, Option, Some, None, refl, sym, ◌∙◌, ap, subst, if◌then◌else◌, nat_lt}
 use Rattle.std.proofs.lemmas.Option.{none-some}
 use Rattle.upload_rules.specs.declared.errors.UploadRefusal.{UploadRefusal}
-use Rattle.upload_rules.specs.Store.{New, Upload, Store, find, upload_of, appended_store}
+use Rattle.upload_rules.specs.Store.{New, Upload, find, upload_of, appended_store}
 use Rattle.upload_rules.specs.World.{Patch, World}
 use Rattle.upload_rules.specs.Calls.{create_refusal, begin_refusal, begun_at, is_empty, commit_refusal, spent}
 use Rattle.tus_request.specs.Requests.{Request, Action, Options, Create, Head, Get, Asks, Refuses, Verdict}
@@ -10,11 +10,11 @@ use Rattle.tus_request.specs.Requests.{Patch as Patches}
 use Rattle.tus_action.specs.Acts.{Acted, Giving, acted, acted_on, post, new_of, head, get, patch, is_pending, fed, commit_with}
 use Rattle.tus_session.specs.Streams.{Asked, Moments, taken}
 use Rattle.tus_session.specs.Turns.{Conn, Turn, reader, at_head, at_body, body_step, turn_of, came_with, came_on, came_turn, more_on, more_turn, ended_with, ended_on, ended_world, left_world, fresh}
-use Rattle.tus_session.specs.History.{State, Step, Event, Mark, Opened, Came, More, Ended, Served, OutOfMemory, Failed, Done, put, kept, opened_at, came_at, more_at, ended_at, lost_at, conn_in, step}
+use Rattle.tus_session.specs.History.{State, Event, Opened, Came, More, Ended, Served, OutOfMemory, Failed, Done, put, kept, opened_at, came_at, more_at, ended_at, lost_at, conn_in, step}
 use Rattle.tus_session.specs.declared.errors.SessionError.TheVariants.{TooMany}
 use Rattle.tus_session.proofs.Feeding.{fed_store}
 use Rattle.tus_session.proofs.RequestLeaves.{Leaves, Nothing as Idle, Text, Patching, leaves}
-use Rattle.tus_laws.specs.Patches.{moments_in, at_its_head, BodyCame, BodyCut, IsDoneOn, DonePatch, IsAccepted, IsRefused, HasBody, Changed, Nothing, Made, Put}
+use Rattle.tus_laws.specs.Patches.{moments_in, at_its_head, BodyCame, BodyCut, IsDoneOn, DonePatch, IsAccepted, IsRefused, Changed, Nothing, Made, Put}
 
 -- A HEAD
 

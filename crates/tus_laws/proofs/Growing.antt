@@ -4,7 +4,7 @@ use Rattle.std.proofs.lemmas.Option.{none-some, same_Some}
 use Rattle.std.proofs.lemmas.List.{length-append}
 use Rattle.std.proofs.lemmas.Bool.{cases_eq}
 use Rattle.std.proofs.lemmas.Bool.Decides.{nat_tests}
-use Rattle.upload_rules.specs.Store.{New, Upload, Store, find, replaced, upload_of, with_bytes, new_upload, created_store, appended_to, appended_store}
+use Rattle.upload_rules.specs.Store.{New, Upload, Store, find, upload_of, with_bytes, new_upload, created_store, appended_to, appended_store}
 use Rattle.upload_rules.proofs.Finds.{find_replaced_same, find_replaced_other}
 use Rattle.tus_session.specs.History.{State, Event, Mark, Marked, Served, OutOfMemory, Failed, step, history}
 use Rattle.tus_laws.specs.Patches.{Changed, Nothing, Made, Put, IsAbove}

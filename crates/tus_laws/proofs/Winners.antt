@@ -1,5 +1,5 @@
 -- Of two PATCHes that began at one offset of one upload at most one is accepted.
-use Rattle.std.proofs.Common.{◌≡◌, inl, inr, ◌==◌, ℕ, ◌+◌, Bool, true, false, List, [], ◌∷◌, ◌++◌, length, Option, Some, None, refl, sym, ◌∙◌, ap, subst, arith, if◌then◌else◌}
+use Rattle.std.proofs.Common.{◌≡◌, inl, inr, ◌==◌, ℕ, ◌+◌, true, false, List, [], ◌∷◌, ◌++◌, length, Option, Some, None, refl, sym, ◌∙◌, ap, subst, arith, if◌then◌else◌}
 use Rattle.std.proofs.lemmas.Option.{none-some}
 use Rattle.std.proofs.lemmas.List.{length-append}
 use Rattle.std.proofs.lemmas.Bool.{cases_eq, ne_eqb}
@@ -7,8 +7,8 @@ use Rattle.upload_rules.specs.declared.errors.UploadRefusal.{UploadRefusal}
 use Rattle.upload_rules.specs.declared.errors.UploadRefusal.TheVariants.{NoSuch, Offset}
 use Rattle.upload_rules.specs.Store.{Upload, Store, upload_of, with_bytes, appended_store}
 use Rattle.upload_rules.specs.World.{Patch, World}
-use Rattle.upload_rules.specs.Calls.{is_empty, or_else, refuse_if, offset_refusal, text_refusal, commit_refusal, committed_store, spent}
-use Rattle.tus_session.specs.History.{State, Event, Marked, Served, step, history}
+use Rattle.upload_rules.specs.Calls.{is_empty, or_else, refuse_if, offset_refusal, text_refusal, commit_refusal, spent}
+use Rattle.tus_session.specs.History.{State, Event, Marked, Served, history}
 use Rattle.tus_laws.specs.Patches.{DonePatch, IsAccepted, IsRefused, HasBody, SamePlace}
 use Rattle.tus_laws.proofs.Changes.{done_uploads, done_world}
 use Rattle.tus_laws.proofs.Growing.{store_at, put_there, later_keeps}
