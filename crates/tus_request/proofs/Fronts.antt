@@ -2,6 +2,7 @@
 use Rattle.std.proofs.Common.{◌≡◌, ℕ, ◌+◌, ◌-◌, ◌<◌, ◌≤◌, Bool, true, false, List, [], ◌∷◌, ◌++◌, length, take, drop, refl, sym, ◌∙◌, ap, subst, arith, Option, Some, None, option_map, nat_lt, if◌then◌else◌, ◌==◌, zero, suc}
 use Rattle.std.proofs.lemmas.List.{length-append, length-take-le, take-append-le, take-append-drop, take_all}
 use Rattle.std.proofs.lemmas.Bool.{ltb-false, le-ltb}
+use Rattle.std.proofs.lemmas.Option.{same_Some}
 use Rattle.enc_model.specs.declared.Encoding.{Encoding}
 use Rattle.tus_request.specs.Lines.{lines, onto_first, is_empty_line, up_to_empty, head_lines, bytes_in, Extent, extent_of, head_extent}
 use Rattle.tus_request.specs.declared.faults.Fault.TheVariants.{HeadTooLong}
@@ -9,9 +10,6 @@ use Rattle.tus_request.specs.Requests.{Verdict}
 use Rattle.tus_request.specs.Checks.{no_head}
 use Rattle.tus_request.specs.Answers.{Answer, More, Judged, answer_with, whole_answer, answer_of}
 use Rattle.tus_request.specs.Steady.{IsSteady}
-
-some_eq : {A : Type 0} (x y : A) → Some x ≡ Some y → x ≡ y
-some_eq {A} x y e = ap (λ o. elim o as (λ _. A) [ None ↦ x | Some z ↦ z ]) e
 
 -- LINES WITH MORE BEHIND THEM
 
@@ -82,14 +80,14 @@ joined_fine line ls None h hs e = absurd (cc)
 joined_fine line ls (Some x) h hs e =
     let f = h x refl in
     let g : Fine (line ∷ ls) (line ∷ x) = record { bound = let k = f.bound in omega arith; some = let k = f.some in omega arith } in
-    subst (λ y. Fine (line ∷ ls) y) (some_eq (line ∷ x) hs e) g
+    subst (λ y. Fine (line ∷ ls) y) (same_Some (line ∷ x) hs e) g
 
 up_fine_case : (line : List ℕ) (ls : Lines) (c : Bool) → is_empty_line line ≡ c → (o : Option Lines) → ((x : Lines) → o ≡ Some x → Fine ls x) → (hs : Lines)
     → (if c then Some (line ∷ []) else option_map (λ more. line ∷ more) o) ≡ Some hs → Fine (line ∷ ls) hs
 up_fine_case line ls true t o h hs e =
     let n = empty_has line t in
     let g : Fine (line ∷ ls) (line ∷ []) = record { bound = omega arith; some = omega arith } in
-    subst (λ y. Fine (line ∷ ls) y) (some_eq (line ∷ []) hs e) g
+    subst (λ y. Fine (line ∷ ls) y) (same_Some (line ∷ []) hs e) g
 up_fine_case line ls false t o h hs e = joined_fine line ls o h hs e
 
 up_fine : (ls hs : Lines) → up_to_empty ls ≡ Some hs → Fine ls hs
@@ -132,7 +130,7 @@ extent_fits_case s (Some x) h e q =
     let b = f.some in
     let c = lines_size s in
     let g : Fits s (extent_of x) = record { bound = omega arith; some = omega arith } in
-    subst (λ y. Fits s y) (some_eq (extent_of x) e q) g
+    subst (λ y. Fits s y) (same_Some (extent_of x) e q) g
 
 extent_fits : (s : List ℕ) (e : Extent) → head_extent s ≡ Some e → Fits s e
 extent_fits s e q = extent_fits_case s (head_lines (lines s)) (λ x h. head_fine (lines s) x h) e q
@@ -193,7 +191,7 @@ up_own_case : (line : List ℕ) (ls : Lines) (c : Bool) → is_empty_line line �
 up_own_case line ls true t o h hs e =
     let g : IsOwn up_to_empty (line ∷ ls) (line ∷ []) =
     (ls, (refl, ap (λ b. if b then Some (line ∷ []) else option_map (λ more. line ∷ more) (up_to_empty [])) t)) in
-    subst (λ y. IsOwn up_to_empty (line ∷ ls) y) (some_eq (line ∷ []) hs e) g
+    subst (λ y. IsOwn up_to_empty (line ∷ ls) y) (same_Some (line ∷ []) hs e) g
 up_own_case line ls false t None h hs e = absurd (cc)
 up_own_case line ls false t (Some x) h hs e =
     let r = h x refl in
@@ -204,7 +202,7 @@ up_own_case line ls false t (Some x) h hs e =
         ap (λ b. if b then Some (line ∷ []) else option_map (λ more. line ∷ more) (up_to_empty x)) t ∙ ap (option_map (λ more. line ∷ more)) r.1.1,
       ),
     ) in
-    subst (λ y. IsOwn up_to_empty (line ∷ ls) y) (some_eq (line ∷ x) hs e) g
+    subst (λ y. IsOwn up_to_empty (line ∷ ls) y) (same_Some (line ∷ x) hs e) g
 
 up_own : (ls hs : Lines) → up_to_empty ls ≡ Some hs → IsOwn up_to_empty ls hs
 up_own [] hs e = absurd (cc)
@@ -223,7 +221,7 @@ head_own_case line ls true t (Some x) p f g hs e =
         ap (λ b. option_map (λ more. line ∷ more) (if b then head_lines x else up_to_empty x)) t ∙ ap (option_map (λ more. line ∷ more)) r.1.1,
       ),
     ) in
-    subst (λ y. IsOwn head_lines (line ∷ ls) y) (some_eq (line ∷ x) hs e) k
+    subst (λ y. IsOwn head_lines (line ∷ ls) y) (same_Some (line ∷ x) hs e) k
 head_own_case line ls false t o None f g hs e = absurd (cc)
 head_own_case line ls false t o (Some x) f g hs e =
     let r = g x refl in
@@ -234,7 +232,7 @@ head_own_case line ls false t o (Some x) f g hs e =
         ap (λ b. option_map (λ more. line ∷ more) (if b then head_lines x else up_to_empty x)) t ∙ ap (option_map (λ more. line ∷ more)) r.1.1,
       ),
     ) in
-    subst (λ y. IsOwn head_lines (line ∷ ls) y) (some_eq (line ∷ x) hs e) k
+    subst (λ y. IsOwn head_lines (line ∷ ls) y) (same_Some (line ∷ x) hs e) k
 
 head_own : (ls hs : Lines) → head_lines ls ≡ Some hs → IsOwn head_lines ls hs
 head_own [] hs e = absurd (cc)
@@ -248,7 +246,7 @@ extent_own_case s (Some x) h e q =
     let r = h x refl in
     let k : head_extent (take (bytes_in x) s) ≡ Some (extent_of x) =
     ap (λ y. option_map extent_of (head_lines y)) (first_lines s x r.0 r.1.0) ∙ ap (option_map extent_of) r.1.1 in
-    subst (λ y. head_extent (take y.len s) ≡ Some y) (some_eq (extent_of x) e q) k
+    subst (λ y. head_extent (take y.len s) ≡ Some y) (same_Some (extent_of x) e q) k
 
 pub extent_own : (s : List ℕ) (e : Extent) → head_extent s ≡ Some e → head_extent (take e.len s) ≡ Some e
 extent_own s e q = extent_own_case s (head_lines (lines s)) (λ x h. head_own (lines s) x h) e q

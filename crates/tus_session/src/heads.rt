@@ -1,5 +1,6 @@
 // What came on a connection: the bytes of a head, or of a body.
-ghost use Rattle.std.specs.Prelude.{◌≡◌, ◌+◌, ◌<◌, ◌≤◌, ◌^◌, ℕ, List, [], length, Some, IsErrOf};
+ghost use Rattle.std.specs.Prelude.{◌≡◌, ◌+◌, ◌-◌, ◌<◌, ◌≤◌, ◌^◌, ℕ, List, [], length, min, true, false, None, Some, IsErrOf, if◌then◌else◌};
+ghost use Rattle.tus_session.specs.Bodies.{took};
 ghost use Rattle.tus_request.specs.Requests.{Asks};
 ghost use Rattle.upload_rules.specs.World.{World};
 ghost use Rattle.upload_rules.specs.Answers.{Limits, Counts};
@@ -12,10 +13,10 @@ ghost use Rattle.tus_session.specs.Heads.{InsideHead, IsWhole, IsSmall, ReachedI
 
 use crate::bodies::{body_of, skip};
 use crate::conns::{Link, Patching, Place, Task};
-use crate::turns::unmoved;
+use crate::turns::{unmoved, waits};
 use crate::{Answer, SessionError};
 use std::alloc::Global;
-use tus_action::{Acted, Stop, act};
+use tus_action::{Acted, Giving, Stop, act};
 use tus_request::replies::reply_refused;
 use tus_request::{Action, Parsed, Request, parse};
 use upload_rules::Uploads;
@@ -27,6 +28,35 @@ fn reached_by(request: &Request) -> u64
     match request.action {
         Action::Patch { offset, .. } => offset.saturating_add(request.length),
         _ => 0,
+    }
+}
+
+// A request that opened no patch: a text is still to be given, behind which its body is dropped, or what came of the body is dropped at once.
+fn without_patch<B>(
+    head: Vec<u8>,
+    giving: Option<Giving>,
+    length: u64,
+    before: usize,
+    behind: usize,
+    closes: bool,
+) -> (Place<B>, Answer)
+    requires { before + behind < 2 ^ 64 }
+    ensures text { (g : Giving) → giving ≡ Some g
+        → (result.0 ≡ Place.Open (record { head = head; left = length; task = Task.Text g })) × (result.1 ≡ record { taken = before; closes = false; more = true }) }
+    ensures nothing { giving ≡ None
+        → (result.0 ≡ (if closes then Place.Closed else Place.Open (record { head = head; left = length - min length behind; task = Task.Idle })))
+        × (result.1 ≡ took (before + min length behind) closes) }
+{
+    match giving {
+        Some(giving) => {
+            let link = Link {
+                head,
+                left: length,
+                task: Task::Text(giving),
+            };
+            (Place::Open(link), waits(before, true))
+        }
+        None => skip(head, length, before, behind, closes),
     }
 }
 
@@ -86,24 +116,10 @@ fn request_of<U: Uploads>(
                 }
             }
         }
-        None => match giving {
-            Some(giving) => (
-                Place::Open(Link {
-                    head,
-                    left: length,
-                    task: Task::Text(giving),
-                }),
-                Ok(Answer {
-                    taken: before,
-                    closes: false,
-                    more: true,
-                }),
-            ),
-            None => {
-                let (place, answer) = skip(head, length, before, behind.len(), over);
-                (place, Ok(answer))
-            }
-        },
+        None => {
+            let (place, answer) = without_patch(head, giving, length, before, behind.len(), over);
+            (place, Ok(answer))
+        }
     }
 }
 
@@ -138,12 +154,7 @@ fn head_of<U: Uploads>(
                 left: 0,
                 task: Task::Idle,
             };
-            let answer = Answer {
-                taken: bytes.len(),
-                closes: false,
-                more: false,
-            };
-            (Place::Open(link), Ok(answer))
+            (Place::Open(link), Ok(waits(bytes.len(), false)))
         }
         Parsed::Refused {
             taken,
@@ -156,13 +167,11 @@ fn head_of<U: Uploads>(
             let before = taken.saturating_sub(had);
             let behind = &bytes[before..];
             head.clear();
-            match reply_refused(alloc, fault, on_files, bare, closes, out) {
-                Ok(()) => {
-                    let (place, answer) = skip(head, length, before, behind.len(), closes);
-                    (place, Ok(answer))
-                }
-                Err(_) => (Place::Closed, Err(SessionError::NoMemory)),
-            }
+            let Ok(()) = reply_refused(alloc, fault, on_files, bare, closes, out) else {
+                return (Place::Closed, Err(SessionError::NoMemory));
+            };
+            let (place, answer) = skip(head, length, before, behind.len(), closes);
+            (place, Ok(answer))
         }
         Parsed::Head { taken, request } => {
             let before = taken.saturating_sub(had);

@@ -17,12 +17,18 @@ pub(crate) fn unmoved<B>(link: Link<B>, more: bool) -> (Place<B>, Result<Answer,
     ensures place { result.0 ≡ Place.Open link }
     ensures answer { result.1 ≡ Ok (record { taken = 0; closes = false; more = more }) }
 {
-    let answer = Answer {
-        taken: 0,
+    (Place::Open(link), Ok(waits(0, more)))
+}
+
+// What is answered where the connection stays open and nothing was given.
+pub(crate) fn waits(taken: usize, more: bool) -> Answer
+    ensures { result ≡ record { taken = taken; closes = false; more = more } }
+{
+    Answer {
+        taken,
         closes: false,
         more,
-    };
-    (Place::Open(link), Ok(answer))
+    }
 }
 
 // The next piece of the text that is still to be given, if there is one.

@@ -1,15 +1,13 @@
 -- Worlds that stay grown.
 use Rattle.std.proofs.Common.{◌≡◌, ℕ, ◌<◌, List, [], ◌∷◌, ◌++◌, Option, Some, None, refl, sym, ◌∙◌, ap, subst, arith, Bool, inl, inr, ◌⊎◌, eq-eqb, append_assoc, append-nil}
 use Rattle.std.proofs.lemmas.Bool.{cases_eq, ne_eqb}
+use Rattle.std.proofs.lemmas.Option.{same_Some}
 use Rattle.upload_rules.specs.Store.{New, Upload, find, upload_of, replaced, without, with_bytes, created_store}
 use Rattle.upload_rules.specs.World.{Patch, World}
 use Rattle.upload_rules.specs.Calls.{created, first_patch, dropped}
 use Rattle.upload_rules.specs.Grown.{GrewFrom, IsGrown}
 use Rattle.upload_rules.specs.Apart.{IsApart}
 use Rattle.upload_rules.proofs.Finds.{find_push_other, find_without_other, find_without_same, find_replaced_same, find_replaced_other}
-
-pub same_patch : (p q : Patch) → Some p ≡ Some q → p ≡ q
-same_patch p q e = ap (λ o. elim o as (λ _. Patch) [ None ↦ p | Some r ↦ r ]) e
 
 grew_along : (p : Patch) (a b : Option Upload) → a ≡ b → GrewFrom p a → GrewFrom p b
 grew_along p a b e h = subst (GrewFrom p) e h
@@ -33,14 +31,14 @@ kept_replaced : (d e : ℕ) (p q r : Patch) (ps : List (ℕ × Patch)) → find 
     → ((d ≡ e) × (q ≡ r)) ⊎ (find e ps ≡ Some r)
 kept_replaced d e p q r ps there h =
     elim (cases_eq d e) [
-      | inl same ↦ inl (same, same_patch q r (sym (subst (λ k. find k (replaced d q ps) ≡ Some q) same (find_replaced_same d p q ps there)) ∙ h))
+      | inl same ↦ inl (same, same_Some q r (sym (subst (λ k. find k (replaced d q ps) ≡ Some q) same (find_replaced_same d p q ps there)) ∙ h))
       | inr other ↦ inr (sym (find_replaced_other d e q ps other) ∙ h)
     ]
 
 kept_more : (d e : ℕ) (q r : Patch) (ps : List (ℕ × Patch)) → find e ((d, q) ∷ ps) ≡ Some r → (q ≡ r) ⊎ (find e ps ≡ Some r)
 kept_more d e q r ps h =
     elim (cases_eq d e) [
-      | inl same ↦ (let f : find e ((d, q) ∷ ps) ≡ Some q = rw (eq-eqb d e same) refl in inl (same_patch q r (sym f ∙ h)))
+      | inl same ↦ (let f : find e ((d, q) ∷ ps) ≡ Some q = rw (eq-eqb d e same) refl in inl (same_Some q r (sym f ∙ h)))
       | inr other ↦ (let f : find e ((d, q) ∷ ps) ≡ find e ps = rw (ne_eqb d e other) refl in inr (sym f ∙ h))
     ]
 

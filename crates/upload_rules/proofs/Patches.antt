@@ -2,6 +2,7 @@
 use Rattle.std.proofs.Common.{◌≡◌, ℕ, ◌<◌, true, List, [], ◌∷◌, length, set, Option, Some, None, refl, sym, ◌∙◌, ap, subst, arith, inl, inr, eq-eqb, get_or-set_same, get_or-set_other}
 use Rattle.std.proofs.lemmas.List.{get_or_past, length-set}
 use Rattle.std.proofs.lemmas.Bool.{cases_eq, cases_lt, ne_eqb}
+use Rattle.std.proofs.lemmas.Option.{same_Some}
 use Rattle.upload_rules.specs.Store.{find, replaced, without}
 use Rattle.upload_rules.specs.World.{Patch, is_there}
 use Rattle.upload_rules.specs.Apart.{IsApart}
@@ -43,10 +44,7 @@ held_on R S (Some p) (Some o) weaker h = weaker p o refl h
 pub draft_of : {A : Type 0} (R : Patch → A → Type 0) (p : Patch) (q : Option Patch) (o : Option A) → q ≡ Some p → DraftOf R q o → (a : A) × (o ≡ Some a) × R p a
 draft_of R p None o e h = absurd cc
 draft_of R p (Some q) None e h = absurd h
-draft_of R p (Some q) (Some a) e h = (a, refl, subst (λ r. R r a) (some_same q p e) h)
-  where
-    some_same : (q p : Patch) → Some q ≡ Some p → q ≡ p
-    some_same q p e = ap (λ o. elim o as (λ _. Patch) [ None ↦ q | Some r ↦ r ]) e
+draft_of R p (Some q) (Some a) e h = (a, refl, subst (λ r. R r a) (same_Some q p e) h)
 
 -- and the patch of a draft
 pub patch_there : {A : Type 0} (R : Patch → A → Type 0) (q : Option Patch) (o : Option A) → DraftOf R q o → (is_there q ≡ true → is_there o ≡ true) × (is_there o ≡ true → is_there q ≡ true)

@@ -2,6 +2,7 @@
 use Rattle.std.proofs.Common.{◌≡◌, ℕ, zero, suc, ◌<◌, Bool, true, false, List, [], ◌∷◌, ◌++◌, length, get_or, set, Option, Some, None, Result, Ok, Err, refl, sym, ◌∙◌, ap, subst, arith, eq-eqb, append-nil, inl, inr, if◌then◌else◌, Vec, Global}
 use Rattle.std.proofs.lemmas.Bool.{ne_eqb, cases_lt}
 use Rattle.std.proofs.lemmas.List.{get_or_past}
+use Rattle.std.proofs.lemmas.Option.{same_Some}
 use Rattle.upload_rules.specs.declared.errors.UploadError.{UploadError}
 use Rattle.upload_rules.specs.declared.errors.UploadError.TheVariants.{NoMemory, DiskFault, Refused}
 use Rattle.upload_rules.specs.declared.errors.UploadRefusal.TheVariants as refusals
@@ -28,9 +29,6 @@ set_set : {A : Type 0} (xs : List A) (i : ℕ) (a b : A) → set (set xs i a) i 
 set_set [] i a b = refl
 set_set (x ∷ xs) zero a b = refl
 set_set (x ∷ xs) (suc i) a b = ap (λ l. x ∷ l) (set_set xs i a b)
-
-some_same : (a b : OpenAppend) → Some a ≡ Some b → a ≡ b
-some_same a b e = ap (λ o. elim o as (λ _. OpenAppend) [ None ↦ a | Some r ↦ r ]) e
 
 nothing_in : (body : List ℕ) → length body ≡ 0 → body ≡ []
 nothing_in [] e = refl
@@ -120,7 +118,7 @@ module _ (t : Table) (w : World) (stands : TableStands t w) (d : ℕ) (p : Patch
   pub append_is : (o : OpenAppend) → Some o ≡ draft_at t.appends.items d → AppendStands w.store.indexes w.store.next p o
   append_is o is =
       let a = draft_of (AppendStands w.store.indexes w.store.next) p (find d w.patches) (draft_at t.appends.items d) there (stands.appends d) in
-      subst (AppendStands w.store.indexes w.store.next p) (some_same a.0 o (sym a.1 ∙ sym is)) a.2
+      subst (AppendStands w.store.indexes w.store.next p) (same_Some a.0 o (sym a.1 ∙ sym is)) a.2
 
   -- the append was taken out and is put back with more of its body
   module _ (o : OpenAppend) (is : Some o ≡ draft_at t.appends.items d) (taken v : Appends) (new : OpenAppend) (gone : taken.items ≡ set t.appends.items d None)

@@ -1,6 +1,7 @@
 -- The same number and offset mean the same accepted bytes.
 use Rattle.std.proofs.Common.{◌≡◌, ℕ, ◌+◌, List, [], ◌∷◌, ◌++◌, length, Option, Some, None, sym, ◌∙◌, ap, arith, append-nil}
 use Rattle.std.proofs.lemmas.List.{length-append}
+use Rattle.std.proofs.lemmas.Option.{none-some, same_Some}
 use Rattle.upload_rules.specs.Store.{Upload, upload_of, find, with_bytes}
 use Rattle.upload_rules.specs.World.{Patch, World}
 use Rattle.upload_rules.specs.Grown.{GrewFrom, IsGrown}
@@ -12,9 +13,9 @@ same_bytes began (b ∷ more) e =
     absurd (omega arith)
 
 grew_same : (p : Patch) (o : Option Upload) (u : Upload) → GrewFrom p o → o ≡ Some u → length u.accepted ≡ length p.began.accepted → u ≡ p.began
-grew_same p None u g f e = absurd (cc)
+grew_same p None u g f e = absurd (none-some u f)
 grew_same p (Some v) u g f e =
-    let h : v ≡ u = ap (λ o. elim o as (λ _. Upload) [ None ↦ v | Some x ↦ x ]) f in
+    let h : v ≡ u = same_Some v u f in
     let k : u ≡ with_bytes p.began g.0 = sym h ∙ g.1 in
     let l : length (p.began.accepted ++ g.0) ≡ length p.began.accepted = sym (ap (λ x. length x.accepted) k) ∙ e in
     k ∙ same_bytes p.began g.0 l

@@ -50,7 +50,7 @@ returns-in-More-clause-answer g c w conn stands inside =
     let items = c.deref.ensures.value ∙ c.in-Ok.ensures.items in
     let j = judged_by c.indexes.result.now _ c.args.head.items c.args.bytes.now _ _ items c.in-Ok-parse.ensures.function c.in-More.is in
     more_told g.U.Uploads _ _ _ _ w conn c.args.head.items c.args.bytes.now (record { head = c.extend_from_slice.new.self; left = 0; task = Idle }) stands inside
-    (in_world w c.indexes.result.now _ _ (c.indexes.ensures w stands) j) refl c.in-Ok.ensures.items refl refl
+    (in_world w c.indexes.result.now _ _ (c.indexes.ensures w stands) j) refl c.in-Ok.ensures.items refl c.waits.ensures
 
 pub returns-in-Ok-reply_refused-clause-answer : goal.returns-in-Ok-reply_refused-clause-answer
 returns-in-Ok-reply_refused-clause-answer g c w conn stands inside =

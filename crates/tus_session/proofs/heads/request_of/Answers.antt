@@ -1,9 +1,10 @@
-use Rattle.std.proofs.Common.{◌≡◌, ◌+◌, refl, sym, subst, arith}
+use Rattle.std.proofs.Common.{◌≡◌, ◌+◌, ◌⊎◌, inl, inr, Option, None, Some, Ok, refl, sym, ap, subst, arith}
 use Rattle.tus_session.specs.declared.conns.Patching.{Patching}
 use Rattle.tus_session.specs.declared.conns.Link.{Link}
 use Rattle.tus_session.specs.declared.conns.Task.TheVariants.{Idle}
 use Rattle.tus_session.proofs.RequestTold.{head_limits, nothing_told, text_told}
 use Rattle.tus_session.proofs.HeadTold.{slice_rest}
+use Rattle.tus_session.proofs.Mores.{turned_ok}
 use Rattle.tus_session.proofs.PatchTold.{patch_opened, patch_limits, draft_first, opens, own_opened, slice_is, taken_back, reached_whole, first_as, OutIs, v, p0}
 use Rattle.tus_request.specs.Requests.{Asks}
 use Rattle.tus_request.specs.Shown.{request_shown}
@@ -17,18 +18,26 @@ returns-in-Err-NoMemory-clause-crash g c w conn h n stands is = head_limits w co
 pub returns-in-Err-DiskFault-clause-crash : goal.returns-in-Err-DiskFault-clause-crash
 returns-in-Err-DiskFault-clause-crash g c w conn h n stands is = head_limits w conn h _ n _ _ is (c.act.ensures.crash w stands)
 
-pub returns-in-None-giving-clause-crash : goal.returns-in-None-giving-clause-crash
-returns-in-None-giving-clause-crash g c w conn h n stands is = head_limits w conn h _ n _ _ is (c.act.ensures.crash w stands)
+pub returns-in-None-clause-crash : goal.returns-in-None-clause-crash
+returns-in-None-clause-crash g c w conn h n stands is = head_limits w conn h _ n _ _ is (c.act.ensures.crash w stands)
 
-pub returns-in-None-giving-clause-answer : goal.returns-in-None-giving-clause-answer
-returns-in-None-giving-clause-answer g c w conn h n stands is =
-    nothing_told w conn h c.args.bytes.now n c.args.before _ is g.U.Uploads _ _ _ c.in-Ok.acted _ _ (record { head = c.args.head; left = 0; task = Idle }) _
-    (c.in-Ok.ensures.answer w stands) c.in-None.is c.in-None-giving.is (slice_rest c.args.before c.args.bytes.now) c.skip-place.ensures.place c.requires.cleared c.skip-place.ensures.answer
-
-pub returns-in-Some-giving-clause-answer : goal.returns-in-Some-giving-clause-answer
-returns-in-Some-giving-clause-answer g c w conn h n stands is =
-    text_told w conn h c.args.bytes.now n c.args.before _ is g.U.Uploads _ c.in-Ok.acted c.in-Some-giving.giving _ _ (record { head = c.args.head; left = 0; task = Idle })
-    (c.in-Ok.ensures.answer w stands) c.in-None.is c.in-Some-giving.is c.requires.cleared
+pub returns-in-None-clause-answer : goal.returns-in-None-clause-answer
+returns-in-None-clause-answer g c w conn h n stands is =
+    elim (none_or c.in-Ok.acted.giving) [
+      | inl none ↦
+          let left = c.without_patch-place.ensures.nothing none in
+          nothing_told w conn h c.args.bytes.now n c.args.before _ is g.U.Uploads _ _ _ c.in-Ok.acted _ _ (record { head = c.args.head; left = 0; task = Idle }) _
+          (c.in-Ok.ensures.answer w stands) c.in-None.is none (slice_rest c.args.before c.args.bytes.now) left.0 c.requires.cleared left.1
+      | inr some ↦
+          let left = c.without_patch-place.ensures.text some.0 some.1 in
+          let turn = text_told w conn h c.args.bytes.now n c.args.before _ is g.U.Uploads _ c.in-Ok.acted some.0 _ _ (record { head = c.args.head; left = 0; task = Idle })
+          (c.in-Ok.ensures.answer w stands) c.in-None.is some.1 c.requires.cleared in
+          turned_ok g.U.Uploads _ _ _ _ _ _ _ w conn.draft _ left.0 (ap Ok left.1) turn
+    ]
+  where
+    none_or : {A : Type 0} (o : Option A) → (o ≡ None) ⊎ ((x : A) × (o ≡ Some x))
+    none_or None = inl refl
+    none_or (Some x) = inr (x, refl)
 
 pub returns-in-Ok-answer-clause-answer : goal.returns-in-Ok-answer-clause-answer
 returns-in-Ok-answer-clause-answer g c w conn h n stands is =

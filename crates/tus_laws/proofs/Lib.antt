@@ -1,0 +1,3 @@
+pub mod Changes
+pub mod Growing
+pub mod Winners

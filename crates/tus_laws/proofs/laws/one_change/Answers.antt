@@ -1,0 +1,5 @@
+use Rattle.tus_laws.proofs.Changes.{served_changed, memory_same, fault_same}
+use Rattle.tus_laws.proofs.laws.one_change.Goals as goal
+
+pub returns : goal.returns
+returns c = record { served = served_changed; memory = memory_same; fault = fault_same }

@@ -1,0 +1,82 @@
+-- The PATCHes of a history: the event at which one is done, and what becomes of it.
+--
+-- An example. Upload 1 is to have five bytes, and has none. Two connections PATCH it at offset 0, with five bytes each:
+--   the first sends its head and `he`: its PATCH is open, and began at an upload without accepted bytes;
+--   the second sends its head and `hello`: its PATCH is done, and accepted, and the upload has the five bytes;
+--   the first sends `LLO`: its PATCH is done with the body `heLLO`. It began at offset 0, and the upload has five bytes by now:
+--   it is refused with `Offset`, which is answered 409, and the upload has the same five bytes as before.
+use Rattle.std.specs.Prelude.{◌≡◌, ◌<◌, ℕ, false, List, length, take, Some, None}
+use Rattle.upload_rules.specs.declared.errors.UploadRefusal.{UploadRefusal}
+use Rattle.upload_rules.specs.Store.{New, Upload, Store, find, upload_of, created_store, appended_store}
+use Rattle.upload_rules.specs.World.{Patch, World}
+use Rattle.upload_rules.specs.Calls.{is_empty, commit_refusal}
+use Rattle.tus_request.specs.Requests.{Request, Asks}
+use Rattle.tus_action.specs.Acts.{Acted, fed}
+use Rattle.tus_session.specs.Streams.{Asked, Moments, moments, taken}
+use Rattle.tus_session.specs.Turns.{Conn, reader, at_head}
+use Rattle.tus_session.specs.History.{State, Event, Opened, Came, More, Ended}
+
+-- the moments among the bytes that a call takes
+abbrev pub moments_in : World → Conn → List ℕ → Moments
+moments_in w k piece = moments (reader w) k.stream (take (taken (reader w) k.stream piece) piece)
+
+-- what the head moment among them does, if there is one
+abbrev pub at_its_head : World → Conn → List ℕ → Acted
+at_its_head w k piece = at_head w k.draft (moments_in w k piece).head
+
+-- The last byte of a PATCH's body comes on a connection. The PATCH was open, or its head is in the same call; the bytes of its body
+-- that came with it are given to it, and in the world v that this makes it is committed or refused.
+pub record BodyCame (w : World) (k : Conn) (piece : List ℕ) (v : World) (d : ℕ) (p : Patch) : Type 0 where
+  pub nothing_to_give : k.pending ≡ None
+  pub asked : Asked
+  pub request : Request
+  pub body_moment : (moments_in w k piece).body ≡ Some asked
+  pub asks : asked.verdict ≡ Asks request
+  pub draft_open : (at_its_head w k piece).draft ≡ Some d
+  pub world : v ≡ fed (at_its_head w k piece).world d (moments_in w k piece).came
+  pub found : find d v.patches ≡ Some p
+
+-- the connection of an open PATCH ended: its body is cut there
+pub record BodyCut (w : World) (k : Conn) (v : World) (d : ℕ) (p : Patch) : Type 0 where
+  pub draft_open : k.draft ≡ Some d
+  pub world : v ≡ w
+  pub found : find d v.patches ≡ Some p
+
+abbrev pub IsDoneOn : State → Event → Conn → World → ℕ → Patch → Type 0
+IsDoneOn st (Opened c) k v d p = ⊥
+IsDoneOn st (Came c piece) k v d p = (st.conns c ≡ Some k) × BodyCame st.world k piece v d p
+IsDoneOn st (More c) k v d p = ⊥
+IsDoneOn st (Ended c) k v d p = (st.conns c ≡ Some k) × BodyCut st.world k v d p
+
+-- A PATCH IS DONE at an event that is served: on this connection, in this world, under this draft number, with its whole body
+pub record DonePatch (st : State) (e : Event) : Type 0 where
+  pub conn : Conn
+  pub world : World
+  pub draft : ℕ
+  pub patch : Patch
+  pub done : IsDoneOn st e conn world draft patch
+
+abbrev pub IsAccepted : {st : State} {e : Event} → DonePatch st e → Type 0
+IsAccepted x = commit_refusal x.world x.draft x.patch ≡ None
+
+abbrev pub IsRefused : {st : State} {e : Event} → DonePatch st e → UploadRefusal → Type 0
+IsRefused x why = commit_refusal x.world x.draft x.patch ≡ Some why
+
+-- its body isn't empty
+abbrev pub HasBody : {st : State} {e : Event} → DonePatch st e → Type 0
+HasBody x = is_empty x.patch.body ≡ false
+
+-- they began at one offset of one upload
+pub record SamePlace {st st' : State} {e e' : Event} (x : DonePatch st e) (y : DonePatch st' e') : Type 0 where
+  pub number : x.patch.number ≡ y.patch.number
+  pub offset : length x.patch.began.accepted ≡ length y.patch.began.accepted
+
+-- WHAT A SERVED EVENT MAKES of the uploads: nothing; a new upload; or the body of a PATCH that is accepted, behind its upload's bytes
+pub data Changed (st : State) (e : Event) (after : Store) : Type 0 where
+  Nothing : after ≡ st.world.store → Changed st e after
+  Made : (new : New) → after ≡ created_store st.world.store new → Changed st e after
+  Put : (x : DonePatch st e) → HasBody x → IsAccepted x → after ≡ appended_store st.world.store x.patch.number x.patch.body → Changed st e after
+
+-- the next number is above those of the uploads
+abbrev pub IsAbove : Store → Type 0
+IsAbove m = (n : ℕ) (u : Upload) → upload_of m n ≡ Some u → n < m.next

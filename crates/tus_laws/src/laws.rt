@@ -1,0 +1,47 @@
+//! The laws, each as the contract of a function that does nothing.
+
+ghost use Rattle.std.specs.Prelude.{◌≡◌, ◌<◌, ◌≤◌, ◌++◌, ◌∷◌, ℕ, List, Option, Some, None, length};
+ghost use Rattle.upload_rules.specs.declared.errors.UploadRefusal.{UploadRefusal};
+ghost use Rattle.upload_rules.specs.declared.errors.UploadRefusal.TheVariants.{Offset};
+ghost use Rattle.upload_rules.specs.Store.{Upload, upload_of, with_bytes};
+ghost use Rattle.upload_rules.specs.World.{World};
+ghost use Rattle.upload_rules.specs.Calls.{first_patch};
+ghost use Rattle.upload_rules.specs.Store.{find};
+ghost use Rattle.tus_request.specs.Requests.{Request, Patch, Asks};
+ghost use Rattle.tus_action.specs.Acts.{acted};
+ghost use Rattle.tus_session.specs.History.{State, Event, Mark, Marked, Served, OutOfMemory, Failed, step, history};
+ghost use Rattle.tus_laws.specs.Patches.{DonePatch, IsAccepted, IsRefused, HasBody, SamePlace, Changed, IsAbove};
+
+/// Of two PATCHes with bodies that aren't empty and that began at one offset of one upload at most one is accepted, and the other
+/// changes nothing: behind one that is accepted, each later one is refused with `Offset`. A PATCH began at the offset that it named.
+pub fn one_winner()
+    ensures begins { (w : World) (r : Request) (number offset d : ℕ) → r.action ≡ Patch number offset → (acted w (Asks r)).draft ≡ Some d
+        → (u : Upload) × (upload_of w.store number ≡ Some u) × (length u.accepted ≡ offset) × (find d (acted w (Asks r)).world.patches ≡ Some (first_patch number r.length u)) }
+    ensures one { (start : State) (past between : List Marked) (e f : Event) (x : DonePatch (history start past) e)
+        (y : DonePatch (history start (between ++ (e, Served) ∷ past)) f) → SamePlace x y → HasBody x → HasBody y → IsAccepted x → IsAccepted y → ⊥ }
+    ensures later { (start : State) (past between : List Marked) (e f : Event) (x : DonePatch (history start past) e)
+        (y : DonePatch (history start (between ++ (e, Served) ∷ past)) f) → SamePlace x y → HasBody x → IsAccepted x → IsRefused y Offset }
+    ensures loser { (st : State) (e : Event) (x : DonePatch st e) (why : UploadRefusal) → IsRefused x why → (step st e Served).state.world.store ≡ st.world.store }
+{}
+
+/// An event makes at most one change: an upload, or the body of a PATCH that is accepted, behind the bytes of its upload.
+/// An event that isn't served makes none.
+pub fn one_change()
+    ensures served { (st : State) (e : Event) → Changed st e (step st e Served).state.world.store }
+    ensures memory { (st : State) (e : Event) → (step st e OutOfMemory).state.world.store ≡ st.world.store }
+    ensures fault { (st : State) (e : Event) → (step st e Failed).state.world.store ≡ st.world.store }
+{}
+
+/// Accepted bytes only grow, so at two moments of a history the same upload with the same count of accepted bytes has the same accepted bytes.
+pub fn same_offset()
+    ensures grows { (start : State) (past later : List Marked) (n : ℕ) (u : Upload) → upload_of (history start past).world.store n ≡ Some u
+        → (more : List ℕ) × (upload_of (history start (later ++ past)).world.store n ≡ Some (with_bytes u more)) }
+    ensures same { (start : State) (past later : List Marked) (n : ℕ) (u v : Upload) → upload_of (history start past).world.store n ≡ Some u
+        → upload_of (history start (later ++ past)).world.store n ≡ Some v → length u.accepted ≡ length v.accepted → v ≡ u }
+{}
+
+/// A number is never used again: the next number is above those of all uploads, and only grows.
+pub fn new_numbers()
+    ensures above { (start : State) (past : List Marked) → IsAbove start.world.store → IsAbove (history start past).world.store }
+    ensures grows { (start : State) (past later : List Marked) → (history start past).world.store.next ≤ (history start (later ++ past)).world.store.next }
+{}
