@@ -3,12 +3,13 @@ use Rattle.std.proofs.Common.{◌≡◌, ℕ, ◌+◌, ◌<◌, slice_index, fal
 use Rattle.std.proofs.lemmas.Bool.{true≢false}
 use Rattle.std.specs.List.{prefix_len}
 use Rattle.enc_model.specs.Index.{within}
-use Rattle.lane_kernels.specs.Front.{is_ascii_byte, is_plain_2022}
+use Rattle.std.specs.Char.{is_ascii}
+use Rattle.lane_kernels.specs.Front.{is_plain_2022}
 use Rattle.lane_kernels.specs.Units.{ArePaired, is_lead, is_trail, last_lead, left_over, units_of}
 use Rattle.lane_kernels.specs.Steps.{scalars_of}
 
 -- the front ends at 80, and before an escape
-ends_at_80 : prefix_len is_ascii_byte (0x41 ∷ 0x1B ∷ 0x7F ∷ 0x80 ∷ 0x41 ∷ []) ≡ 3
+ends_at_80 : prefix_len is_ascii (0x41 ∷ 0x1B ∷ 0x7F ∷ 0x80 ∷ 0x41 ∷ []) ≡ 3
 ends_at_80 = refl
 
 ends_at_escape : prefix_len is_plain_2022 (0x41 ∷ 0x1B ∷ 0x7F ∷ []) ≡ 1

@@ -1,14 +1,12 @@
 -- The classes of bytes whose runs are looked for. The front of a list is std's prefix_len, the length of its longest prefix whose
 -- members all pass a test.
-use Rattle.std.specs.Prelude.{ℕ, Bool, nat_lt, ◌==◌, ◌&&◌, not, if◌then◌else◌}
+use Rattle.std.specs.Prelude.{ℕ, Bool, ◌==◌, ◌&&◌, not, if◌then◌else◌}
+use Rattle.std.specs.Char.{is_ascii}
 use Rattle.std.specs.Int.{w64, trailing_zeros}
-
-abbrev pub is_ascii_byte : ℕ → Bool
-is_ascii_byte b = nat_lt b 0x80
 
 -- ASCII that leaves the state of ISO-2022-JP alone
 abbrev pub is_plain_2022 : ℕ → Bool
-is_plain_2022 b = is_ascii_byte b && not (b == 0x0E) && not (b == 0x0F) && not (b == 0x1B)
+is_plain_2022 b = is_ascii b && not (b == 0x0E) && not (b == 0x0F) && not (b == 0x1B)
 
 -- the place of the lowest bit that is set, or n
 abbrev pub first_set : ℕ → ℕ → ℕ

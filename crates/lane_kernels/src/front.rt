@@ -3,7 +3,8 @@
 ghost use Rattle.std.specs.Prelude.{◌≡◌};
 ghost use Rattle.std.specs.List.{prefix_len};
 ghost use Rattle.enc_model.specs.Index.{within};
-ghost use Rattle.lane_kernels.specs.Front.{is_ascii_byte, is_plain_2022};
+ghost use Rattle.std.specs.Char.{is_ascii};
+ghost use Rattle.lane_kernels.specs.Front.{is_plain_2022};
 
 use crate::lanes::{Ascii, Class, LANES, Plain2022, Range};
 
@@ -35,7 +36,7 @@ fn front<C: Class>(class: &C, bytes: &[u8]) -> usize
 
 /// How many bytes are below 80 before the first that isn't.
 pub fn ascii_front(bytes: &[u8]) -> usize
-    ensures { result ≡ prefix_len is_ascii_byte bytes.now }
+    ensures { result ≡ prefix_len is_ascii bytes.now }
 {
     front(&Ascii, bytes)
 }

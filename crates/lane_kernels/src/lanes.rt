@@ -4,7 +4,8 @@ ghost use Rattle.std.specs.Prelude.{◌≡◌, ℕ, Bool, ◌+◌, ◌≤◌, le
 ghost use Rattle.std.specs.Simd.Lanes.{chunk};
 ghost use Rattle.std.specs.List.{prefix_len};
 ghost use Rattle.enc_model.specs.Index.{within};
-ghost use Rattle.lane_kernels.specs.Front.{is_ascii_byte, is_plain_2022, first_set};
+ghost use Rattle.std.specs.Char.{is_ascii};
+ghost use Rattle.lane_kernels.specs.Front.{is_plain_2022, first_set};
 
 use std::simd::prelude::*;
 
@@ -43,7 +44,7 @@ pub(crate) trait Class {
 pub(crate) struct Ascii;
 
 impl Class for Ascii {
-    ghost has = { λ _. is_ascii_byte };
+    ghost has = { λ _. is_ascii };
 
     fn has(&self, byte: u8) -> bool {
         byte < 0x80

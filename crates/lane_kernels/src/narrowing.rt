@@ -1,9 +1,9 @@
 //! Units below 80 as bytes.
 
-ghost use Rattle.std.specs.Prelude.{◌≡◌, ◌+◌, ◌<◌, ◌≤◌, ◌++◌, length, take, drop, min, All};
+ghost use Rattle.std.specs.Prelude.{◌≡◌, ◌+◌, ◌≤◌, ◌++◌, length, take, drop, min};
 ghost use Rattle.std.specs.Simd.Lanes.{chunk, put_chunk};
 ghost use Rattle.std.specs.List.{prefix_len};
-ghost use Rattle.lane_kernels.specs.Front.{is_ascii_byte};
+ghost use Rattle.std.specs.Char.{is_ascii};
 
 use crate::lanes::{LANES, first_set};
 use std::simd::prelude::*;
@@ -12,7 +12,7 @@ use std::simd::prelude::*;
 #[inline(always)]
 fn narrow_run(units: &[u16], at: usize) -> usize
     requires { at + LANES ≤ length units.now }
-    ensures { result ≡ prefix_len is_ascii_byte (chunk at LANES units.now) }
+    ensures { result ≡ prefix_len is_ascii (chunk at LANES units.now) }
 {
     let lanes = u16x32::from_slice(&units[at..]);
     first_set(lanes.simd_ge(u16x32::splat(0x80)).to_bitmask(), LANES)
@@ -23,7 +23,7 @@ fn narrow_run(units: &[u16], at: usize) -> usize
 fn write_lanes(units: &[u16], out: &mut [u8], at: usize)
     requires units { at + LANES ≤ length units.now }
     requires room { at + LANES ≤ length out.old }
-    requires below { prefix_len is_ascii_byte (chunk at LANES units.now) ≡ LANES }
+    requires below { prefix_len is_ascii (chunk at LANES units.now) ≡ LANES }
     ensures { out.new ≡ put_chunk at out.old (chunk at LANES units.now) }
 {
     let lanes = u16x32::from_slice(&units[at..]);
@@ -32,10 +32,10 @@ fn write_lanes(units: &[u16], out: &mut [u8], at: usize)
 
 /// Writes units below 80 from a place on, one at a time, up to the first that isn't or the end of the output.
 fn narrow_by_units(units: &[u16], out: &mut [u8], at: usize) -> usize
-    requires front { at ≤ prefix_len is_ascii_byte units.now }
+    requires front { at ≤ prefix_len is_ascii units.now }
     requires room { at ≤ length out.old }
     requires written { take at out.old ≡ take at units.now }
-    ensures length { result ≡ min (prefix_len is_ascii_byte units.now) (length out.old) }
+    ensures length { result ≡ min (prefix_len is_ascii units.now) (length out.old) }
     ensures written { out.new ≡ take result units.now ++ drop result out.old }
 {
     let mut end = at;
@@ -48,7 +48,7 @@ fn narrow_by_units(units: &[u16], out: &mut [u8], at: usize) -> usize
 
 /// Writes the longest prefix of units below 80 that fits as bytes, and says how many. The rest of the output is unchanged.
 pub fn narrow(units: &[u16], out: &mut [u8]) -> usize
-    ensures length { result ≡ min (prefix_len is_ascii_byte units.now) (length out.old) }
+    ensures length { result ≡ min (prefix_len is_ascii units.now) (length out.old) }
     ensures written { out.new ≡ take result units.now ++ drop result out.old }
 {
     let mut at = 0;

@@ -1,9 +1,9 @@
 //! 32 units at a time.
 
-ghost use Rattle.std.specs.Prelude.{◌≡◌, ◌↔◌, ℕ, ◌+◌, ◌*◌, ◌/◌, ◌%◌, false, ◌<◌, ◌≤◌, ◌∷◌, length, take, map, IsTrue, Option};
+ghost use Rattle.std.specs.Prelude.{◌≡◌, ◌↔◌, ◌+◌, ◌*◌, ◌/◌, ◌%◌, false, take, map, IsTrue};
 ghost use Rattle.std.specs.Simd.Lanes.{mask_l};
 ghost use Rattle.enc_model.specs.Index.{within};
-ghost use Rattle.lane_kernels.specs.Units.{ArePaired, IsCarried, is_lead, is_trail, lead_of, left_over, units_of, with_carried};
+ghost use Rattle.lane_kernels.specs.Units.{ArePaired, IsCarried, lead_of, left_over, units_of, with_carried};
 ghost use Rattle.lane_kernels.specs.Orders.{is_big};
 
 use crate::order::Order;

@@ -1,11 +1,11 @@
 use Rattle.std.proofs.Common.{◌≡◌, ◌-◌, ◌≤◌, ◌++◌, length, take, drop}
 use Rattle.std.specs.List.{prefix_len}
-use Rattle.lane_kernels.specs.Front.{is_ascii_byte}
+use Rattle.std.specs.Char.{is_ascii}
 use Rattle.lane_kernels.proofs.narrowing.narrow.Given as goal
 
 abbrev pub invariant-by_lanes : goal.invariant-by_lanes
 invariant-by_lanes l = record {
-  front : l.at ≤ prefix_len is_ascii_byte l.units;
+  front : l.at ≤ prefix_len is_ascii l.units;
   room : l.at ≤ length l.initial.out;
   written : l.out ≡ take l.at l.units ++ drop l.at l.initial.out;
 }

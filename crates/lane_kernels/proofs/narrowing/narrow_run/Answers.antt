@@ -2,7 +2,7 @@ use Rattle.std.proofs.Common.{◌∙◌, leb, not, arith, w16}
 use Rattle.std.proofs.lemmas.Simd.{length-chunk}
 use Rattle.std.proofs.lemmas.Bool.Decides.{nat_tests}
 use lib.Lanes.{chunk}
-use Rattle.lane_kernels.specs.Front.{is_ascii_byte}
+use Rattle.std.specs.Char.{is_ascii}
 use Rattle.lane_kernels.proofs.Hits.{first_hit, compared_with}
 use Rattle.lane_kernels.proofs.Fronts.{same_front}
 use Rattle.lane_kernels.proofs.narrowing.narrow_run.Goals as goal
@@ -13,4 +13,4 @@ returns c =
     let long = length-chunk c.args.at 32 c.args.units.now c.requires in
     c.first_set.ensures
     ∙ first_hit w16 (λ x. leb 128 x) v 32 long (omega arith) (compared_with w16 leb v 32 128 long)
-    ∙ same_front (λ x. not (leb 128 x)) is_ascii_byte (λ x. grind (arith, nat_tests)) v
+    ∙ same_front (λ x. not (leb 128 x)) is_ascii (λ x. grind (arith, nat_tests)) v
