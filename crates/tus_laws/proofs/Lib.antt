@@ -1,3 +1,6 @@
 pub mod Changes
 pub mod Growing
 pub mod Winners
+pub mod Bare
+pub mod Bodies
+pub mod Turning

@@ -10,6 +10,9 @@ ghost use Rattle.upload_rules.specs.Store.{find};
 ghost use Rattle.tus_request.specs.Requests.{Request, Patch, Asks};
 ghost use Rattle.tus_action.specs.Acts.{acted};
 ghost use Rattle.tus_session.specs.History.{State, Event, Mark, Marked, Served, OutOfMemory, Failed, step, history};
+ghost use Rattle.tus_session.specs.History.{beginning};
+ghost use Rattle.upload_rules.specs.Store.{Store};
+ghost use Rattle.tus_laws.specs.Cuts.{all_moments, given, still_to_give, AllSmooth};
 ghost use Rattle.tus_laws.specs.Patches.{DonePatch, IsAccepted, IsRefused, HasBody, SamePlace, Changed, IsAbove};
 
 /// Of two PATCHes with bodies that aren't empty and that began at one offset of one upload at most one is accepted, and the other
@@ -44,4 +47,17 @@ pub fn same_offset()
 pub fn new_numbers()
     ensures above { (start : State) (past : List Marked) → IsAbove start.world.store → IsAbove (history start past).world.store }
     ensures grows { (start : State) (past later : List Marked) → (history start past).world.store.next ≤ (history start (later ++ past)).world.store.next }
+{}
+
+/// How the streams are cut doesn't matter: two histories from one store, with the same moments in the same order, give each connection
+/// the same bytes, the text that it is still to be given with them, and leave the same uploads. Every event is served, no PATCH is
+/// refused for room, and no connection ends before its text is taken.
+pub fn any_cut()
+    ensures bytes { (m : Store) (blocks : Option ℕ) (past other : List Marked) (c : ℕ) → AllSmooth (beginning m blocks) past → AllSmooth (beginning m blocks) other
+        → all_moments (beginning m blocks) past ≡ all_moments (beginning m blocks) other
+        → given (beginning m blocks) c past ++ still_to_give ((history (beginning m blocks) past).conns c)
+        ≡ given (beginning m blocks) c other ++ still_to_give ((history (beginning m blocks) other).conns c) }
+    ensures uploads { (m : Store) (blocks : Option ℕ) (past other : List Marked) → AllSmooth (beginning m blocks) past → AllSmooth (beginning m blocks) other
+        → all_moments (beginning m blocks) past ≡ all_moments (beginning m blocks) other
+        → (history (beginning m blocks) past).world.store ≡ (history (beginning m blocks) other).world.store }
 {}

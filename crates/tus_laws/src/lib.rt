@@ -3,4 +3,4 @@
 
 mod laws;
 
-pub use laws::{new_numbers, one_change, one_winner, same_offset};
+pub use laws::{any_cut, new_numbers, one_change, one_winner, same_offset};
