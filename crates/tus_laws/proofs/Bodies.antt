@@ -55,8 +55,10 @@ pub record Brings (w : World) (k : Conn) (piece : List ℕ) (n : ℕ) (m : Momen
   pub whole : (r : Asked) → m.body ≡ Some r → r.body ≡ patch.body ++ m.came
   pub part : m.body ≡ None → (r : Asked) × ((cut (reader w) (k.stream ++ take n piece)).rest ≡ InBody r) × (r.body ≡ patch.body ++ m.came)
 
-abbrev pub BringsAll : World → Conn → List ℕ → ℕ → Moments → Type 0
-BringsAll w k piece n m = (d : ℕ) → (at_head w k.draft m.head).draft ≡ Some d → Brings w k piece n m d
+-- and a head comes only where none was open
+pub record BringsAll (w : World) (k : Conn) (piece : List ℕ) (n : ℕ) (m : Moments) : Type 0 where
+  pub each : (d : ℕ) → (at_head w k.draft m.head).draft ≡ Some d → Brings w k piece n m d
+  pub first : (r : Asked) → m.head ≡ Some r → k.draft ≡ None
 
 module _ (w : World) (k : Conn) (holds : DraftHolds w k) where
   is_steady : IsSteady (reader w)
@@ -91,14 +93,17 @@ module _ (w : World) (k : Conn) (holds : DraftHolds w k) where
         ap (moments (reader w) k.stream) t ∙ (moments_alone (reader w) is_steady k.stream piece ∙ part_came (reader w) is_steady u piece b.0 asked b.1 only few) in
         let r : (cut (reader w) (k.stream ++ take (length piece) piece)).rest ≡ InBody (longer asked piece) =
         ap (λ q. (cut (reader w) (k.stream ++ q)).rest) t ∙ body_part_rest (reader w) is_steady k.stream piece asked rest few in
-        along piece (length piece) (bytes_came piece) n m (λ d e.
-            let h = holds d e in
-            record {
-              patch = h.patch;
-              found = h.found;
-              whole = λ x none. absurd (none-some x none);
-              part = λ none. (longer asked piece, r, ap (λ x. x ++ piece) (sym (body_is d h)));
-            })
+        along piece (length piece) (bytes_came piece) n m (record {
+          each = λ d e.
+              let h = holds d e in
+              record {
+                patch = h.patch;
+                found = h.found;
+                whole = λ x none. absurd (none-some x none);
+                part = λ none. (longer asked piece, r, ap (λ x. x ++ piece) (sym (body_is d h)));
+              };
+          first = λ x none. absurd (none-some x none);
+        })
 
     rest_brings : body_length asked.verdict ≤ length asked.body + length piece
         → BringsAll w k piece (taken (reader w) k.stream piece) (moments (reader w) k.stream (take (taken (reader w) k.stream piece) piece))
@@ -112,14 +117,17 @@ module _ (w : World) (k : Conn) (holds : DraftHolds w k) where
         let all : length asked.body + length q ≡ body_length asked.verdict = omega arith in
         let m : moments (reader w) k.stream q ≡ body_ended asked q =
         moments_alone (reader w) is_steady k.stream q ∙ rest_came (reader w) is_steady u q b.0 asked b.1 only all in
-        along piece c (body_ended asked q) n m (λ d e.
-            let h = holds d e in
-            record {
-              patch = h.patch;
-              found = h.found;
-              whole = λ x is. ap (λ r. r.body) (sym (same_Some (longer asked q) x is)) ∙ ap (λ y. y ++ q) (sym (body_is d h));
-              part = λ none. absurd (none-some (longer asked q) (sym none));
-            })
+        along piece c (body_ended asked q) n m (record {
+          each = λ d e.
+              let h = holds d e in
+              record {
+                patch = h.patch;
+                found = h.found;
+                whole = λ x is. ap (λ r. r.body) (sym (same_Some (longer asked q) x is)) ∙ ap (λ y. y ++ q) (sym (body_is d h));
+                part = λ none. absurd (none-some (longer asked q) (sym none));
+              };
+          first = λ x none. absurd (none-some x none);
+        })
 
     pub body_brings : BringsAll w k piece (taken (reader w) k.stream piece) (moments (reader w) k.stream (take (taken (reader w) k.stream piece) piece))
     body_brings = elim (cases_lt (length asked.body + length piece) (body_length asked.verdict)) [ inl few ↦ part_brings few | inr enough ↦ rest_brings enough ]
@@ -151,7 +159,7 @@ module _ (w : World) (k : Conn) (holds : DraftHolds w k) where
         let p = head_part (reader w) is_steady h piece only_h e in
         let t : take (length piece) piece ≡ piece = take_all (length piece) piece (omega arith) in
         by_head (length piece) (record { head = None; body = None; came = [] }) p.1 (ap (moments (reader w) h) t ∙ p.0)
-        (λ d is. absurd (none-some d (sym no_draft ∙ is)))
+        (record { each = λ d is. absurd (none-some d (sym no_draft ∙ is)); first = λ x is. no_draft })
 
     module _ (n : ℕ) (v : Verdict) (judged : reader w (h ++ piece) ≡ Judged n v) where
       few_brings : length (drop n (h ++ piece)) < body_length v
@@ -162,14 +170,17 @@ module _ (w : World) (k : Conn) (holds : DraftHolds w k) where
           let r : (cut (reader w) (k.stream ++ take (length piece) piece)).rest ≡ InBody (judged_as (h ++ piece) n v) =
           ap (λ q. (cut (reader w) (k.stream ++ q)).rest) t ∙ head_part_rest (reader w) is_steady k.stream h inside piece n v judged few in
           by_head (length piece) (record { head = Some (judged_as (h ++ piece) n v); body = None; came = drop n (h ++ piece) }) p.1 (ap (moments (reader w) h) t ∙ p.0)
-          (λ d is.
-              let f = opened_first w v d is in
-              record {
-                patch = f.0;
-                found = f.1;
-                whole = λ x none. absurd (none-some x none);
-                part = λ none. (judged_as (h ++ piece) n v, r, ap (λ b. b ++ drop n (h ++ piece)) (sym f.2));
-              })
+          (record {
+            each = λ d is.
+                let f = opened_first w v d is in
+                record {
+                  patch = f.0;
+                  found = f.1;
+                  whole = λ x none. absurd (none-some x none);
+                  part = λ none. (judged_as (h ++ piece) n v, r, ap (λ b. b ++ drop n (h ++ piece)) (sym f.2));
+                };
+            first = λ x is. no_draft;
+          })
 
       enough_brings : body_length v ≤ length (drop n (h ++ piece))
           → BringsAll w k piece (taken (reader w) k.stream piece) (moments (reader w) k.stream (take (taken (reader w) k.stream piece) piece))
@@ -187,14 +198,17 @@ module _ (w : World) (k : Conn) (holds : DraftHolds w k) where
           let t : taken (reader w) h piece ≡ before + m = whole_taken (reader w) is_steady h piece n v only_h judged enough ∙ count in
           let j = judged_as (h ++ q) n v in
           by_head (before + m) (record { head = Some j; body = Some j; came = drop n (h ++ q) }) t (both_whole (reader w) is_steady h q n v only_h here all)
-          (λ d is.
-              let f = opened_first w v d is in
-              record {
-                patch = f.0;
-                found = f.1;
-                whole = λ x same. ap (λ r. r.body) (sym (same_Some j x same)) ∙ ap (λ y. y ++ drop n (h ++ q)) (sym f.2);
-                part = λ none. absurd (none-some j (sym none));
-              })
+          (record {
+            each = λ d is.
+                let f = opened_first w v d is in
+                record {
+                  patch = f.0;
+                  found = f.1;
+                  whole = λ x same. ap (λ r. r.body) (sym (same_Some j x same)) ∙ ap (λ y. y ++ drop n (h ++ q)) (sym f.2);
+                  part = λ none. absurd (none-some j (sym none));
+                };
+            first = λ x is. no_draft;
+          })
 
     by_answer : (a : Answer) → reader w (h ++ piece) ≡ a
         → BringsAll w k piece (taken (reader w) k.stream piece) (moments (reader w) k.stream (take (taken (reader w) k.stream piece) piece))

@@ -4,3 +4,5 @@ pub mod Winners
 pub mod Bare
 pub mod Bodies
 pub mod Turning
+pub mod Replays
+pub mod Histories

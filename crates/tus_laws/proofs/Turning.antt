@@ -79,7 +79,7 @@ commit_else w d e (Asks r) None ne = refl
 commit_else w d e (Refuses x) (Some p) ne = refl
 commit_else w d e (Refuses x) None ne = refl
 
-commit_idle : (w : World) (d : ℕ) (v : Verdict) (o : Option Patch) → ((commit_with w d v o).draft ≡ None) × ((commit_with w d v o).pending ≡ None)
+pub commit_idle : (w : World) (d : ℕ) (v : Verdict) (o : Option Patch) → ((commit_with w d v o).draft ≡ None) × ((commit_with w d v o).pending ≡ None)
 commit_idle w d (Asks r) (Some p) = (refl, refl)
 commit_idle w d (Asks r) None = (refl, refl)
 commit_idle w d (Refuses x) (Some p) = (refl, refl)
