@@ -1,13 +1,13 @@
 -- Worlds without the bodies of their open patches, and without a limit of blocks.
-use Rattle.std.proofs.Common.{◌≡◌, ◌⊎◌, inl, inr, ◌==◌, ℕ, zero, suc, ◌+◌, Bool, true, false, List, [], ◌∷◌, ◌++◌, length, map, if◌then◌else◌, Option, Some, None, option_map, refl, sym, ◌∙◌, ap, subst, arith}
-use Rattle.std.proofs.lemmas.Option.{none-some, same_Some}
+use Rattle.std.proofs.Common.{◌≡◌, ◌==◌, ℕ, zero, suc, ◌+◌, Bool, true, false, List, [], ◌∷◌, length, if◌then◌else◌, Option, Some, None, option_map, refl, sym, ◌∙◌, ap, arith}
+use Rattle.std.proofs.lemmas.Option.{same_Some}
 use Rattle.std.proofs.lemmas.Bool.Decides.{nat_tests}
 use Rattle.upload_rules.specs.declared.errors.UploadRefusal.{UploadRefusal}
-use Rattle.upload_rules.specs.declared.errors.UploadRefusal.TheVariants.{NoSuch, Offset, Unencodable, Full}
-use Rattle.upload_rules.specs.Store.{New, Upload, Store, find, replaced, without, upload_of}
+use Rattle.upload_rules.specs.declared.errors.UploadRefusal.TheVariants.{Unencodable, Full}
+use Rattle.upload_rules.specs.Store.{New, Upload, find, replaced, without, upload_of}
 use Rattle.upload_rules.specs.World.{Patch, World, is_there, least_from, free_number, completes, patch_text}
 use Rattle.upload_rules.specs.Room.{is_short, exceeds, used, needs_but, wants}
-use Rattle.upload_rules.specs.Calls.{or_else, refuse_if, create_refusal, begin_refusal, begun_at, first_patch, longer, appended_at, is_empty, text_refusal, offset_refusal, commit_refusal, committed_store, spent}
+use Rattle.upload_rules.specs.Calls.{or_else, refuse_if, create_refusal, begin_refusal, begun_at, first_patch, longer, appended_at, is_empty, offset_refusal, commit_refusal, committed_store, spent}
 use Rattle.upload_rules.proofs.Finds.{find_replaced_same}
 use Rattle.tus_request.specs.Requests.{Request, Action, Options, Create, Head, Get, Asks, Refuses, Verdict}
 use Rattle.tus_request.specs.Requests.{Patch as Patches}

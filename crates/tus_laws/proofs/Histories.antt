@@ -1,15 +1,15 @@
 -- A history gives what the replay of its moments gives.
-use Rattle.std.proofs.Common.{◌≡◌, ◌-◌, ◌⊎◌, inl, inr, ◌==◌, ℕ, Bool, true, false, List, [], ◌∷◌, ◌++◌, length, take, drop, if◌then◌else◌, nat_lt, Option, Some, None, refl, sym, ◌∙◌, ap, subst, arith, append-nil, append_assoc}
+use Rattle.std.proofs.Common.{◌≡◌, ◌-◌, inl, ℕ, Bool, true, false, List, [], ◌∷◌, ◌++◌, length, take, drop, if◌then◌else◌, nat_lt, Option, Some, None, refl, sym, ◌∙◌, ap, subst, append-nil, append_assoc}
 use Rattle.std.proofs.lemmas.Option.{none-some, same_Some}
 use Rattle.std.proofs.lemmas.List.{take-append-drop}
-use Rattle.upload_rules.specs.Store.{Upload, Store, find, upload_of, appended_to, created_store}
+use Rattle.upload_rules.specs.Store.{Upload, Store, find, upload_of, appended_to}
 use Rattle.upload_rules.specs.World.{Patch, World, at_rest}
 use Rattle.upload_rules.specs.Calls.{commit_refusal, spent}
 use Rattle.upload_rules.specs.declared.errors.UploadRefusal.TheVariants.{Full}
 use Rattle.tus_request.specs.Requests.{Request, Asks}
 use Rattle.tus_action.specs.Acts.{Acted, Giving, is_pending, pending_of, piece_size, fed, fed_patch}
-use Rattle.tus_session.specs.Streams.{Asked, InBody, Moments, cut, rest_body, taken}
-use Rattle.tus_session.specs.Turns.{Conn, Turn, fresh, reader, body_step, turn_of, conn_of, came_with, came_turn, given_up, more_on, more_turn, ended_with, ended_world}
+use Rattle.tus_session.specs.Streams.{Asked, Moments, cut, rest_body, taken}
+use Rattle.tus_session.specs.Turns.{Conn, Turn, fresh, reader, body_step, turn_of, came_with, came_turn, given_up, more_on, more_turn, ended_with, ended_world}
 use Rattle.tus_session.specs.Turns.{came_on as came_turn_on}
 use Rattle.tus_session.specs.Turns.{ended_on as ended_world_on}
 use Rattle.tus_session.specs.History.{State, Step, Event, Opened, Came, More, Ended, Marked, Served, Done, put, kept, turned, opened_at, came_at, more_at, ended_at, conn_in, step, history, beginning}
@@ -20,11 +20,11 @@ use Rattle.tus_session.proofs.Tolds.{came_is, ended_step}
 use Rattle.tus_session.proofs.BodyTold.{rest_same}
 use Rattle.tus_session.proofs.Feeding.{fed_body}
 use Rattle.tus_laws.specs.Patches.{moments_in, at_its_head, BodyCame, BodyCut, DonePatch, IsRefused, Changed, Nothing, Made, Put}
-use Rattle.tus_laws.specs.Cuts.{Moment, BodyWhole, head_moment, body_moment, came_moments, cut_moment, came_on, ended_on, event_moments, all_moments, bytes_of, given, text_left, still_to_give, KeepsText, IsSmooth, AllSmooth}
+use Rattle.tus_laws.specs.Cuts.{head_moment, body_moment, came_moments, cut_moment, came_on, ended_on, event_moments, all_moments, bytes_of, given, text_left, still_to_give, KeepsText, AllSmooth}
 use Rattle.tus_laws.proofs.Changes.{served_changed, ended_spent}
 use Rattle.tus_laws.proofs.Bare.{bared, fed_there, ended_calm}
 use Rattle.tus_laws.proofs.Bodies.{Holds, DraftHolds, Brings, BringsAll, brings_all}
-use Rattle.tus_laws.proofs.Turning.{Opens, head_opens, body_opens, commit_idle, spent_else, Rep, replay, replay_both, act_body, act_cut, set_at, here_set, else_set, Did, did_head, part_did, whole_did, found_u, store_u, blocks_u, patches_u}
+use Rattle.tus_laws.proofs.Turning.{Opens, head_opens, body_opens, commit_idle, spent_else, Rep, replay, replay_both, act_cut, here_set, else_set, Did, did_head, part_did, whole_did, found_u, store_u, blocks_u, patches_u}
 use Rattle.tus_laws.proofs.Replays.{Sound, Sim, Keeps, Replays, sound_put, sim_put, sim_same, more_given, came_after}
 
 -- THE INDEXES stay
@@ -280,18 +280,18 @@ module _ (st : State) (sound : Sound st) (g : ℕ → List ℕ) (r : Rep) (sim :
             let turn : came_turn st.world k piece ≡ turn_of k piece n z =
             turn_body no_text ∙ (ap (λ o. turn_of k piece n (body_step a m.came m.body o)) is ∙ ap (λ y. turn_of k piece n (body_step a m.came y (Some d))) ends) in
             let enough : (y : Request) → x.verdict ≡ Asks y → commit_refusal v d q ≡ Some Full → ⊥ = λ y asks full.
-                let came : BodyCame st.world k piece v d q = record {
-                  nothing_to_give = idle;
-                  asked = x;
-                  request = y;
-                  body_moment = ends;
-                  asks = asks;
-                  draft_open = is;
-                  world = refl;
-                  found = fed_there a.world d b.patch m.came b.found;
-                } in
-                let done : DonePatch st (Came c piece) = record { conn = k; world = v; draft = d; patch = q; done = (here, came) } in
-                roomy done full in
+            let came : BodyCame st.world k piece v d q = record {
+              nothing_to_give = idle;
+              asked = x;
+              request = y;
+              body_moment = ends;
+              asks = asks;
+              draft_open = is;
+              world = refl;
+              found = fed_there a.world d b.patch m.came b.found;
+            } in
+            let done : DonePatch st (Came c piece) = record { conn = k; world = v; draft = d; patch = q; done = (here, came) } in
+            roomy done full in
             let none = (commit_idle v d x.verdict (find d v.patches)).0 in
             conclude n z (Some d) (Some x) turn is ends (body_opens st.world k.draft a first_opens m.came (Some x) (Some d) is)
             (whole_did st.world r r1 c a first_did d b.patch m.came x is no_text b.found (b.whole x ends) enough)

@@ -1,18 +1,17 @@
 -- The replay of a history's moments gives what the history gives.
-use Rattle.std.proofs.Common.{◌≡◌, ◌≢◌, ◌⊎◌, inl, inr, ◌==◌, ℕ, Bool, true, false, List, [], ◌∷◌, ◌++◌, length, take, drop, if◌then◌else◌, nat_lt, Option, Some, None, refl, sym, ◌∙◌, ap, subst, arith, append-nil, append_assoc}
+use Rattle.std.proofs.Common.{◌≡◌, ◌≢◌, ◌⊎◌, inl, inr, ◌==◌, ℕ, Bool, true, false, List, [], ◌++◌, if◌then◌else◌, Option, Some, None, refl, sym, ◌∙◌, ap, subst, arith, append-nil, append_assoc}
 use Rattle.std.proofs.lemmas.Option.{none-some, same_Some}
 use Rattle.std.proofs.lemmas.Bool.{cases_eq}
 use Rattle.std.proofs.lemmas.Bool.Decides.{nat_tests}
 use Rattle.upload_rules.specs.Store.{find}
 use Rattle.upload_rules.specs.World.{Patch, World}
-use Rattle.tus_session.specs.Turns.{Conn, Turn, fresh, reader, conn_of}
-use Rattle.tus_session.specs.Streams.{cut}
-use Rattle.tus_session.specs.History.{State, Step, with_conn, put}
+use Rattle.tus_session.specs.Turns.{Conn, conn_of}
+use Rattle.tus_session.specs.History.{State, with_conn, put}
 use Rattle.tus_session.specs.Stands.{draft_at}
 use Rattle.tus_session.proofs.InPlace.{conns_here, conns_else}
 use Rattle.tus_session.proofs.BodyTold.{rest_same}
-use Rattle.tus_action.specs.Acts.{Acted, Giving}
-use Rattle.tus_laws.specs.Cuts.{bytes_of, text_left, still_to_give}
+use Rattle.tus_action.specs.Acts.{Acted}
+use Rattle.tus_laws.specs.Cuts.{text_left, still_to_give}
 use Rattle.tus_laws.proofs.Bare.{bared}
 use Rattle.tus_laws.proofs.Bodies.{Holds, DraftHolds}
 use Rattle.tus_laws.proofs.Turning.{Opens, Rep, Did}

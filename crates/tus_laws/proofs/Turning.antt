@@ -1,23 +1,21 @@
 -- What a call that brings bytes leaves, and what its moments make of a bare world.
-use Rattle.std.proofs.Common.{◌≡◌, ◌⊎◌, inl, inr, ◌==◌, ℕ, Bool, true, false, List, [], ◌∷◌, ◌++◌, length, take, if◌then◌else◌, Option, Some, None, option_map, refl, sym, ◌∙◌, ap, subst, arith, append-nil, append_assoc}
+use Rattle.std.proofs.Common.{◌≡◌, ◌⊎◌, inl, inr, ◌==◌, ℕ, true, false, List, [], ◌∷◌, ◌++◌, if◌then◌else◌, Option, Some, None, option_map, refl, sym, ◌∙◌, ap, subst, arith, append-nil, append_assoc}
 use Rattle.std.proofs.lemmas.Option.{none-some, same_Some}
-use Rattle.std.proofs.lemmas.Bool.{cases_eq}
 use Rattle.std.proofs.lemmas.Bool.Decides.{nat_tests}
 use Rattle.upload_rules.specs.declared.errors.UploadRefusal.{UploadRefusal}
 use Rattle.upload_rules.specs.declared.errors.UploadRefusal.TheVariants.{Full}
-use Rattle.upload_rules.specs.Store.{find, without}
+use Rattle.upload_rules.specs.Store.{find}
 use Rattle.upload_rules.specs.World.{Patch, World}
 use Rattle.upload_rules.specs.Calls.{first_patch, longer, appended_at, commit_refusal, spent}
 use Rattle.upload_rules.proofs.Finds.{find_without_other, find_replaced_other}
 use Rattle.tus_request.specs.Requests.{Request, Verdict, Asks, Refuses}
-use Rattle.tus_action.specs.Acts.{Acted, Giving, acted, fed, fed_patch, commit_with}
-use Rattle.tus_session.specs.Streams.{Asked, InBody, cut, Moments}
-use Rattle.tus_session.specs.Turns.{Conn, reader, at_head, at_body, body_step, ended_with}
-use Rattle.tus_session.proofs.Feeding.{fed_store, fed_body}
+use Rattle.tus_action.specs.Acts.{Acted, acted, fed, fed_patch, commit_with}
+use Rattle.tus_session.specs.Streams.{Asked}
+use Rattle.tus_session.specs.Turns.{at_head, body_step, ended_with}
+use Rattle.tus_session.proofs.Feeding.{fed_store}
 use Rattle.tus_session.proofs.RequestLeaves.{Leaves, Nothing, Text, Patching, leaves}
-use Rattle.tus_laws.specs.Cuts.{Moment, HeadWhole, BodyWhole, BodyCut, head_moment, body_moment, text_left}
-use Rattle.tus_laws.proofs.Bare.{bare, bares, bared, with_world, find_bares, bares_twice, acted_bare, fed_there, fed_bare, fed_calm, done_calm, ended_calm}
-use Rattle.tus_laws.proofs.Bodies.{Brings, BringsAll}
+use Rattle.tus_laws.specs.Cuts.{Moment, HeadWhole, BodyWhole, BodyCut, head_moment, text_left}
+use Rattle.tus_laws.proofs.Bare.{bare, bares, bared, with_world, find_bares, bares_twice, acted_bare, fed_there, fed_bare, fed_calm, done_calm}
 
 -- WHAT IS LEFT OPEN
 
