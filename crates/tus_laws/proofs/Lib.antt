@@ -6,3 +6,4 @@ pub mod Bodies
 pub mod Turning
 pub mod Replays
 pub mod Histories
+pub mod Streams
