@@ -1,1 +1,2 @@
 pub mod Patches
+pub mod Cuts

@@ -1,16 +1,18 @@
 //! The laws, each as the contract of a function that does nothing.
 
-ghost use Rattle.std.specs.Prelude.{◌≡◌, ◌<◌, ◌≤◌, ◌++◌, ◌∷◌, ℕ, List, Option, Some, None, length};
+ghost use Rattle.std.specs.Prelude.{◌≡◌, ◌<◌, ◌≤◌, ◌++◌, ◌∷◌, ℕ, List, Option, Some, None, length, slice_get};
 ghost use Rattle.upload_rules.specs.declared.errors.UploadRefusal.{UploadRefusal};
 ghost use Rattle.upload_rules.specs.declared.errors.UploadRefusal.TheVariants.{Offset};
-ghost use Rattle.upload_rules.specs.Store.{Upload, upload_of, with_bytes};
+ghost use Rattle.upload_rules.specs.Store.{Upload, Store, find, upload_of, with_bytes};
 ghost use Rattle.upload_rules.specs.World.{World};
 ghost use Rattle.upload_rules.specs.Calls.{first_patch};
-ghost use Rattle.upload_rules.specs.Store.{find};
 ghost use Rattle.tus_request.specs.Requests.{Request, Patch, Asks};
 ghost use Rattle.tus_action.specs.Acts.{acted};
-ghost use Rattle.tus_session.specs.History.{State, Event, Mark, Marked, Served, OutOfMemory, Failed, step, history};
+ghost use Rattle.tus_session.specs.Streams.{Asked, cut, heads_of, moments};
+ghost use Rattle.tus_session.specs.Turns.{reader};
+ghost use Rattle.tus_session.specs.History.{State, Event, Marked, Served, OutOfMemory, Failed, step, history, beginning};
 ghost use Rattle.tus_laws.specs.Patches.{DonePatch, IsAccepted, IsRefused, HasBody, SamePlace, Changed, IsAbove};
+ghost use Rattle.tus_laws.specs.Cuts.{all_moments, given, still_to_give, AllSmooth};
 
 /// Of two PATCHes with bodies that aren't empty and that began at one offset of one upload at most one is accepted, and the other
 /// changes nothing: behind one that is accepted, each later one is refused with `Offset`. A PATCH began at the offset that it named.
@@ -44,4 +46,27 @@ pub fn same_offset()
 pub fn new_numbers()
     ensures above { (start : State) (past : List Marked) → IsAbove start.world.store → IsAbove (history start past).world.store }
     ensures grows { (start : State) (past later : List Marked) → (history start past).world.store.next ≤ (history start (later ++ past)).world.store.next }
+{}
+
+/// A call's moments are those of its stream, whatever comes behind it: with `i` whole requests before the call, the request of its body
+/// moment is the stream's request number `i`; and likewise for the head, whose bytes and verdict stay, among the requests with whole heads.
+pub fn moments_of_streams()
+    ensures body { (w : World) (s piece more : List ℕ) (r : Asked) → (moments (reader w) s piece).body ≡ Some r
+        → slice_get (cut (reader w) ((s ++ piece) ++ more)).whole (length (cut (reader w) s).whole) ≡ Some r }
+    ensures head { (w : World) (s piece more : List ℕ) (r : Asked) → (moments (reader w) s piece).head ≡ Some r
+        → (x : Asked) × (slice_get (heads_of (cut (reader w) ((s ++ piece) ++ more))) (length (heads_of (cut (reader w) s))) ≡ Some x)
+        × (x.head ≡ r.head) × (x.verdict ≡ r.verdict) }
+{}
+
+/// How the streams are cut doesn't matter: two histories from one store, with the same moments in the same order, give each connection
+/// the same bytes, the text that it is still to be given with them, and leave the same uploads. Every event is served, no PATCH is
+/// refused for room, and no connection ends before its text is taken.
+pub fn any_cut()
+    ensures bytes { (m : Store) (blocks : Option ℕ) (past other : List Marked) (c : ℕ) → AllSmooth (beginning m blocks) past → AllSmooth (beginning m blocks) other
+        → all_moments (beginning m blocks) past ≡ all_moments (beginning m blocks) other
+        → given (beginning m blocks) c past ++ still_to_give ((history (beginning m blocks) past).conns c)
+        ≡ given (beginning m blocks) c other ++ still_to_give ((history (beginning m blocks) other).conns c) }
+    ensures uploads { (m : Store) (blocks : Option ℕ) (past other : List Marked) → AllSmooth (beginning m blocks) past → AllSmooth (beginning m blocks) other
+        → all_moments (beginning m blocks) past ≡ all_moments (beginning m blocks) other
+        → (history (beginning m blocks) past).world.store ≡ (history (beginning m blocks) other).world.store }
 {}
