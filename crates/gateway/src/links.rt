@@ -1,4 +1,8 @@
 //! A socket and its connection of the gateway.
+ghost use Rattle.std.specs.Prelude.{◌↔◌, IsErr, IsErrOf};
+ghost use Rattle.upload_rules.specs.Answers.{Counts};
+ghost use Rattle.tus_session.specs.History.{State};
+ghost use Rattle.gateway.specs.Served.{WentOn, Serves};
 
 use crate::buffers::{Input, Output, PIECE};
 use gateway_engine::Connections;
@@ -56,7 +60,10 @@ impl<S: Read + Write> Link<S> {
         &mut self,
         gateway: &mut C,
         conn: usize,
-    ) -> Result<Left, DiskFault> {
+    ) -> Result<Left, DiskFault>
+        ensures serves { (before : C) (st : State) → WentOn C.Connections before gateway.old st → Serves C.Connections before gateway.new st result }
+        ensures counts { Counts (IsErr result) (C.failures gateway.old) (C.failures gateway.new) }
+    {
         if !self.output.left().is_empty() {
             return Ok(self.write());
         }
@@ -77,7 +84,10 @@ impl<S: Read + Write> Link<S> {
     }
 
     // Asks the session for the next piece of a text.
-    fn more<C: Connections>(&mut self, gateway: &mut C, conn: usize) -> Result<Left, DiskFault> {
+    fn more<C: Connections>(&mut self, gateway: &mut C, conn: usize) -> Result<Left, DiskFault>
+        ensures serves { (before : C) (st : State) → WentOn C.Connections before gateway.old st → Serves C.Connections before gateway.new st result }
+        ensures counts { Counts (IsErr result) (C.failures gateway.old) (C.failures gateway.new) }
+    {
         let answer = gateway.more(conn, self.output.space());
         match self.answered(answer) {
             Ok(_taken) => Ok(Left::Open),
@@ -86,7 +96,10 @@ impl<S: Read + Write> Link<S> {
     }
 
     // Gives the session what was read, or else what the socket has now.
-    fn take<C: Connections>(&mut self, gateway: &mut C, conn: usize) -> Result<Left, DiskFault> {
+    fn take<C: Connections>(&mut self, gateway: &mut C, conn: usize) -> Result<Left, DiskFault>
+        ensures serves { (before : C) (st : State) → WentOn C.Connections before gateway.old st → Serves C.Connections before gateway.new st result }
+        ensures counts { Counts (IsErr result) (C.failures gateway.old) (C.failures gateway.new) }
+    {
         if self.input.left().is_empty() {
             match self.input.read(&mut self.stream) {
                 Ok(0) => return Ok(Left::Lost),
@@ -101,7 +114,10 @@ impl<S: Read + Write> Link<S> {
     }
 
     // Gives the session what was read, until all is taken, a text is to be given or the connection is closed.
-    fn give<C: Connections>(&mut self, gateway: &mut C, conn: usize) -> Result<(), DiskFault> {
+    fn give<C: Connections>(&mut self, gateway: &mut C, conn: usize) -> Result<(), DiskFault>
+        ensures serves { (before : C) (st : State) → WentOn C.Connections before gateway.old st → Serves C.Connections before gateway.new st result }
+        ensures counts { Counts (IsErr result) (C.failures gateway.old) (C.failures gateway.new) }
+    {
         let mut calls = PIECE;
         while calls > 0 && self.stage == Stage::Taking && !self.input.left().is_empty() {
             match self.came(gateway, conn) {
@@ -114,7 +130,10 @@ impl<S: Read + Write> Link<S> {
     }
 
     // Gives the session what was read once: it takes the bytes of at most one request.
-    fn came<C: Connections>(&mut self, gateway: &mut C, conn: usize) -> Result<(), DiskFault> {
+    fn came<C: Connections>(&mut self, gateway: &mut C, conn: usize) -> Result<(), DiskFault>
+        ensures serves { (before : C) (st : State) → WentOn C.Connections before gateway.old st → Serves C.Connections before gateway.new st result }
+        ensures counts { Counts (IsErr result) (C.failures gateway.old) (C.failures gateway.new) }
+    {
         let answer = gateway.came(conn, self.input.left(), self.output.space());
         match self.answered(answer) {
             Ok(taken) => {
@@ -126,11 +145,15 @@ impl<S: Read + Write> Link<S> {
     }
 
     // What follows an answer of the session: how many bytes it took. A call that is refused closes the connection.
-    fn answered(&mut self, answer: Result<Answer, SessionError>) -> Result<usize, DiskFault> {
+    fn answered(&mut self, answer: Result<Answer, SessionError>) -> Result<usize, DiskFault>
+        ensures { IsErr result ↔ IsErrOf answer SessionError.DiskFault }
+    {
         let (stage, taken) = match answer {
             Ok(answer) => (stage_behind(answer), answer.taken),
             Err(SessionError::DiskFault) => return Err(DiskFault),
-            Err(_) => (Stage::Closed, 0),
+            Err(SessionError::NoMemory | SessionError::TooMany | SessionError::Closed) => {
+                (Stage::Closed, 0)
+            }
         };
         self.stage = stage;
         Ok(taken)

@@ -1,4 +1,8 @@
 //! A place for a connection.
+ghost use Rattle.std.specs.Prelude.{◌↔◌, IsErr, IsErrOf};
+ghost use Rattle.upload_rules.specs.Answers.{Counts};
+ghost use Rattle.tus_session.specs.History.{State};
+ghost use Rattle.gateway.specs.Served.{WentOn, Serves};
 
 use crate::links::{Left, Link};
 use gateway_engine::Connections;
@@ -34,17 +38,25 @@ impl<S: Read + Write + Drop> Place<S> {
         &mut self,
         gateway: &mut C,
         conn: usize,
-    ) -> Result<bool, DiskFault> {
+    ) -> Result<bool, DiskFault>
+        ensures serves { (before : C) (st : State) → WentOn C.Connections before gateway.old st → Serves C.Connections before gateway.new st result }
+        ensures counts { Counts (IsErr result) (C.failures gateway.old) (C.failures gateway.new) }
+    {
         let Place::Open(link) = self else {
             return Ok(false);
         };
-        match link.turn(gateway, conn)? {
-            Left::Open => return Ok(false),
-            Left::Closed => {}
-            Left::Lost => ended(gateway, conn)?,
+        match link.turn(gateway, conn) {
+            Ok(Left::Open) => Ok(false),
+            Ok(Left::Closed) => {
+                *self = Place::Free;
+                Ok(true)
+            }
+            Ok(Left::Lost) => match self.end(gateway, conn) {
+                Ok(()) => Ok(true),
+                Err(fault) => Err(fault),
+            },
+            Err(fault) => Err(fault),
         }
-        *self = Place::Free;
-        Ok(true)
     }
 
     /// Ends the connection, if one is open.
@@ -54,7 +66,10 @@ impl<S: Read + Write + Drop> Place<S> {
         &mut self,
         gateway: &mut C,
         conn: usize,
-    ) -> Result<(), DiskFault> {
+    ) -> Result<(), DiskFault>
+        ensures serves { (before : C) (st : State) → WentOn C.Connections before gateway.old st → Serves C.Connections before gateway.new st result }
+        ensures counts { Counts (IsErr result) (C.failures gateway.old) (C.failures gateway.new) }
+    {
         if self.is_free() {
             return Ok(());
         }
@@ -63,10 +78,22 @@ impl<S: Read + Write + Drop> Place<S> {
     }
 }
 
-// Tells the session that a connection ended: that it is closed already, or that memory was short, is all the same.
-fn ended<C: Connections>(gateway: &mut C, conn: usize) -> Result<(), DiskFault> {
-    match gateway.ended(conn) {
+// Tells the session that a connection ended.
+fn ended<C: Connections>(gateway: &mut C, conn: usize) -> Result<(), DiskFault>
+    ensures serves { (before : C) (st : State) → WentOn C.Connections before gateway.old st → Serves C.Connections before gateway.new st result }
+    ensures counts { Counts (IsErr result) (C.failures gateway.old) (C.failures gateway.new) }
+{
+    unless_failed(gateway.ended(conn))
+}
+
+/// What a call of the session comes to for serving, which goes on behind every refusal but the device's fault.
+pub(crate) fn unless_failed(answer: Result<(), SessionError>) -> Result<(), DiskFault>
+    ensures { IsErr result ↔ IsErrOf answer SessionError.DiskFault }
+{
+    match answer {
         Err(SessionError::DiskFault) => Err(DiskFault),
-        _ => Ok(()),
+        Ok(()) | Err(SessionError::NoMemory | SessionError::TooMany | SessionError::Closed) => {
+            Ok(())
+        }
     }
 }

@@ -1,14 +1,17 @@
 //! Connections over sockets, turn by turn in one thread.
+ghost use Rattle.std.specs.Prelude.{IsErr};
+ghost use Rattle.upload_rules.specs.Answers.{Counts};
+ghost use Rattle.tus_session.specs.History.{State};
+ghost use Rattle.gateway.specs.Served.{WentOn, Serves, HasServed, handed_back};
 
 use crate::faults::Fault;
-use crate::places::Place;
+use crate::places::{Place, unless_failed};
 use gateway_engine::{Connections, Gateway};
 use spool_disk::{DiskFault, FileDisk};
 use spool_image::Spool;
 use std::alloc::Global;
 use std::io::{Read, Write};
 use std::net::{Ipv4Addr, OpenListener, OpenStream, TcpListener};
-use tus_session::SessionError;
 
 /// How many connections may be open at once.
 const MOST_OPEN: usize = 16;
@@ -52,7 +55,10 @@ impl<S: Read + Write + OpenStream + Drop> Server<S> {
         gateway: &mut C,
         connections: u64,
         turns: u64,
-    ) -> Result<(), DiskFault> {
+    ) -> Result<(), DiskFault>
+        ensures serves { (before : C) (st : State) → WentOn C.Connections before gateway.old st → Serves C.Connections before gateway.new st result }
+        ensures counts { Counts (IsErr result) (C.failures gateway.old) (C.failures gateway.new) }
+    {
         let mut left = turns;
         while left > 0 && self.closed < connections {
             self.turn(listener, gateway, connections)?;
@@ -67,14 +73,19 @@ impl<S: Read + Write + OpenStream + Drop> Server<S> {
         listener: &L,
         gateway: &mut C,
         connections: u64,
-    ) -> Result<(), DiskFault> {
+    ) -> Result<(), DiskFault>
+        ensures serves { (before : C) (st : State) → WentOn C.Connections before gateway.old st → Serves C.Connections before gateway.new st result }
+        ensures counts { Counts (IsErr result) (C.failures gateway.old) (C.failures gateway.new) }
+    {
         self.accept(listener, gateway)?;
-        let mut conn = 0;
-        while conn < self.places.len() && self.closed < connections {
-            if self.places[conn].turn(gateway, conn)? {
-                self.closed += 1;
+        for (conn, place) in self.places.iter_mut().enumerate() {
+            if self.closed == connections {
+                return Ok(());
             }
-            conn += 1;
+            match place.turn(gateway, conn) {
+                Ok(closed) => self.closed = self.closed.saturating_add(u64::from(closed)),
+                Err(fault) => return Err(fault),
+            }
         }
         Ok(())
     }
@@ -84,21 +95,21 @@ impl<S: Read + Write + OpenStream + Drop> Server<S> {
         &mut self,
         listener: &L,
         gateway: &mut C,
-    ) -> Result<(), DiskFault> {
+    ) -> Result<(), DiskFault>
+        ensures serves { (before : C) (st : State) → WentOn C.Connections before gateway.old st → Serves C.Connections before gateway.new st result }
+        ensures counts { Counts (IsErr result) (C.failures gateway.old) (C.failures gateway.new) }
+    {
         let Some(conn) = self.free_place() else {
             return Ok(());
         };
         let Some(stream) = next_stream(listener) else {
             return Ok(());
         };
-        match gateway.opened(conn) {
-            Ok(()) => {
-                self.places[conn] = Place::open(self.alloc, stream);
-                Ok(())
-            }
-            Err(SessionError::DiskFault) => Err(DiskFault),
-            Err(_) => Ok(()),
+        let opened = gateway.opened(conn);
+        if opened.is_ok() {
+            self.put(conn, Place::open(self.alloc, stream));
         }
+        unless_failed(opened)
     }
 
     // The number of the first place that is free.
@@ -121,12 +132,20 @@ impl<S: Read + Write + OpenStream + Drop> Server<S> {
         }
     }
 
+    // Puts a connection in its place.
+    fn put(&mut self, conn: usize, open: Place<S>) {
+        if let Some(place) = self.places.get_mut(conn) {
+            *place = open;
+        }
+    }
+
     // Ends the connections that are open, in order.
-    fn end_all<C: Connections>(&mut self, gateway: &mut C) -> Result<(), DiskFault> {
-        let mut conn = 0;
-        while conn < self.places.len() {
-            self.places[conn].end(gateway, conn)?;
-            conn += 1;
+    fn end_all<C: Connections>(&mut self, gateway: &mut C) -> Result<(), DiskFault>
+        ensures serves { (before : C) (st : State) → WentOn C.Connections before gateway.old st → Serves C.Connections before gateway.new st result }
+        ensures counts { Counts (IsErr result) (C.failures gateway.old) (C.failures gateway.new) }
+    {
+        for (conn, place) in self.places.iter_mut().enumerate() {
+            place.end(gateway, conn)?;
         }
         Ok(())
     }
@@ -167,6 +186,10 @@ pub fn serve_on<L: OpenListener, C: Connections>(
 ) -> Result<C, (C, DiskFault)>
 where
     L::Stream: Read + Write + OpenStream,
+
+    // It is where the history of some events is; behind a fault of the device only its images are known. They show the uploads behind these events.
+    ensures serves { (st : State) → C.stands gateway st → HasServed C.Connections gateway st result }
+    ensures counts { Counts (IsErr result) (C.failures gateway) (C.failures (handed_back result)) }
 {
     let mut gateway = gateway;
     if listener.set_nonblocking(true).is_err() {
