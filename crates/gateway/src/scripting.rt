@@ -35,8 +35,8 @@ pub(crate) fn run_over_disk<D: Disk + Drop, R: Read, W: Write>(
     }
 }
 
-// A spool without uploads and without index files, gone when the script ends.
-fn spool_in_memory(alloc: Global) -> Result<MemoryDisk, Fault> {
+/// A spool in memory, without uploads and without index files.
+pub(crate) fn spool_in_memory(alloc: Global) -> Result<MemoryDisk, Fault> {
     let indexes = IndexSet::new(alloc)?;
     let Some(pages) = pages_of(MEMORY_BLOCKS) else {
         return Err(Fault::Size);
