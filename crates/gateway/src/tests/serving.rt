@@ -3,7 +3,7 @@
 use crate::scripting::spool_in_memory;
 use crate::serving::serve_on;
 use gateway_engine::Gateway;
-use spool_disk::MemoryDisk;
+use spool_disk::{FuseDisk, MemoryDisk};
 use std::alloc::Global;
 use std::io::{self, Read, Write};
 use std::net::{Ipv4Addr, Shutdown, TcpListener, TcpStream};
@@ -117,5 +117,35 @@ fn close_is_told_before_the_socket_closes(rt: HostRuntime) -> Result<(), Fail> {
     let disk = spool_in_memory(rt.alloc())?;
     drop(serve(&rt, rt.alloc(), &listener, disk, 1));
     assert_eq!(rt; told(rt.alloc(), &mut client)?.as_slice(), MALFORMED);
+    Ok(())
+}
+
+/// Serves a connection over a spool whose disk fails at the first call behind its opening: whether serving stopped for that.
+fn stops_at_a_fault(alloc: Global, listener: &TcpListener, disk: MemoryDisk) -> bool {
+    let mut disk = disk;
+    // opening makes more than 500 calls, and fewer than 700
+    for calls in 500..700 {
+        match Gateway::open(alloc, FuseDisk::new(disk, calls)) {
+            Ok(gateway) => {
+                let (gateway, stopped) = match serve_on(alloc, listener, gateway, 1, 1000) {
+                    Ok(gateway) => (gateway, false),
+                    Err((gateway, _fault)) => (gateway, true),
+                };
+                drop(gateway.into_disk().into_inner());
+                return stopped;
+            }
+            Err((fuse, _fault)) => disk = fuse.into_inner(),
+        }
+    }
+    false
+}
+
+#[test]
+fn nothing_is_told_behind_a_fault_of_the_device(rt: HostRuntime) -> Result<(), Fail> {
+    let listener = listen(&rt)?;
+    let mut client = client(&rt, &listener, POST)?;
+    let disk = spool_in_memory(rt.alloc())?;
+    assert!(rt; stops_at_a_fault(rt.alloc(), &listener, disk));
+    assert!(rt; told(rt.alloc(), &mut client)?.is_empty());
     Ok(())
 }
