@@ -1,5 +1,6 @@
 //! The command line.
 
+use crate::serving::Service;
 use clap::{Arg, ArgAction, ArgMatches, Command, Error};
 use std::alloc::{AllocError, Global};
 
@@ -15,6 +16,8 @@ pub(crate) enum Order<'a> {
     Script {
         spool: &'a str,
     },
+    /// Connections over sockets to the spool at this path.
+    Serve(Service<'a>),
     /// The uploads of the spool at this path.
     List {
         spool: &'a str,
@@ -32,6 +35,7 @@ pub(crate) fn read_order<'a>(alloc: Global, words: &'a [String]) -> Result<Order
             Some(spool) => Order::Script { spool },
             None => Order::Nothing,
         },
+        Some(("serve", given)) => serve_order(given),
         Some(("list", given)) => match given.get_str("SPOOL") {
             Some(spool) => Order::List { spool },
             None => Order::Nothing,
@@ -55,6 +59,23 @@ fn format_order<'a>(given: &ArgMatches<'a>) -> Order<'a> {
     }
 }
 
+// All arguments of `serve` are required.
+fn serve_order<'a>(given: &ArgMatches<'a>) -> Order<'a> {
+    let spool = given.get_str("SPOOL");
+    let port = given.get_one::<u16>("port");
+    let connections = given.get_one::<u64>("connections");
+    let turns = given.get_one::<u64>("turns");
+    match (spool, port, connections, turns) {
+        (Some(spool), Some(port), Some(connections), Some(turns)) => Order::Serve(Service {
+            spool,
+            port,
+            connections,
+            turns,
+        }),
+        _ => Order::Nothing,
+    }
+}
+
 // The program's commands.
 fn gateway<'a>(alloc: Global) -> Result<Command<'a>, AllocError> {
     Command::new(alloc, "gateway")
@@ -62,6 +83,7 @@ fn gateway<'a>(alloc: Global) -> Result<Command<'a>, AllocError> {
         .subcommand_required(true)
         .subcommand(format(alloc)?)?
         .subcommand(script(alloc)?)?
+        .subcommand(serve(alloc)?)?
         .subcommand(list(alloc)?)
 }
 
@@ -96,6 +118,39 @@ fn script<'a>(alloc: Global) -> Result<Command<'a>, AllocError> {
     Command::new(alloc, "script")
         .about("Runs standard input as a script of connections")
         .arg(spool)
+}
+
+fn serve<'a>(alloc: Global) -> Result<Command<'a>, AllocError> {
+    let spool = Arg::new(alloc, "SPOOL")
+        .required(true)
+        .help("The file with the spool");
+    let port = Arg::new(alloc, "port")
+        .long("port")
+        .required(true)
+        .action(ArgAction::Set)
+        .value_name("P")
+        .value_parser(clap::value_parser!(u16))
+        .help("The port of 127.0.0.1 to listen at; 0: any, which is printed");
+    let connections = Arg::new(alloc, "connections")
+        .long("connections")
+        .required(true)
+        .action(ArgAction::Set)
+        .value_name("K")
+        .value_parser(clap::value_parser!(u64))
+        .help("It ends once so many connections were closed");
+    let turns = Arg::new(alloc, "turns")
+        .long("turns")
+        .required(true)
+        .action(ArgAction::Set)
+        .value_name("T")
+        .value_parser(clap::value_parser!(u64))
+        .help("It ends behind so many turns over the open connections");
+    Command::new(alloc, "serve")
+        .about("Serves connections over sockets")
+        .arg(spool)?
+        .arg(port)?
+        .arg(connections)?
+        .arg(turns)
 }
 
 fn list<'a>(alloc: Global) -> Result<Command<'a>, AllocError> {

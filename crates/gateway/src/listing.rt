@@ -3,29 +3,38 @@
 use crate::faults::Fault;
 use enc_labels::name_of;
 use enc_model::Mode;
-use spool_disk::FileDisk;
+use spool_disk::{Disk, FileDisk};
 use spool_image::Spool;
 use std::alloc::Global;
 use std::io::{self, Write};
 use upload_rules::Uploads;
 
-// The most uploads of a spool.
+// The most uploads of a spool: the rules of uploads refuse one more with `Slots`, since a spool has so many slots.
 const MOST_UPLOADS: usize = 512;
 
 /// Prints the uploads of the spool in a file, by number.
 pub(crate) fn list_file(rt: &HostRuntime, alloc: Global, spool: &str) -> Result<(), Fault> {
-    match Spool::open(alloc, FileDisk::open(rt, spool)?) {
+    list_on(alloc, &mut io::writer(rt), FileDisk::open(rt, spool)?)
+}
+
+/// Writes a line for each upload of the spool on a disk, by number.
+pub(crate) fn list_on<D: Disk + Drop, W: Write>(
+    alloc: Global,
+    writer: &mut W,
+    disk: D,
+) -> Result<(), Fault> {
+    match Spool::open(alloc, disk) {
         Ok(spool) => {
-            let printed = print_uploads(&mut io::writer(rt), &spool);
+            let written = write_uploads(writer, &spool);
             drop(spool.into_disk());
-            Ok(printed?)
+            Ok(written?)
         }
         Err((_disk, fault)) => Err(Fault::from(fault)),
     }
 }
 
-/// Prints a line for each upload, by number.
-pub(crate) fn print_uploads<W: Write, U: Uploads>(writer: &mut W, uploads: &U) -> io::Result<()> {
+// Writes a line for each upload, by number.
+fn write_uploads<W: Write, U: Uploads>(writer: &mut W, uploads: &U) -> io::Result<()> {
     let mut number = 0;
     for _ in 0..MOST_UPLOADS {
         let Some(record) = uploads.record_after(number) else {

@@ -1,12 +1,16 @@
 //! A gateway for resumable uploads of text in old and new encodings.
 #![tactic(auto)]
 
+mod buffers;
 mod command_line;
 mod faults;
 mod formatting;
 mod index_files;
+mod links;
 mod listing;
+mod places;
 mod scripting;
+mod serving;
 #[cfg(test)]
 mod tests;
 
@@ -17,6 +21,7 @@ use faults::Fault;
 use formatting::format_file;
 use listing::list_file;
 use scripting::run_script;
+use serving::serve_file;
 use std::alloc::Global;
 use std::process::ExitCode;
 use std::{env, io};
@@ -57,6 +62,10 @@ fn run(rt: &HostRuntime) -> Result<ExitCode, Fault> {
         }
         Ok(Order::Script { spool }) => {
             run_script(rt, alloc, spool)?;
+            Ok(ExitCode::SUCCESS)
+        }
+        Ok(Order::Serve(service)) => {
+            serve_file(rt, alloc, service)?;
             Ok(ExitCode::SUCCESS)
         }
         Ok(Order::List { spool }) => {
