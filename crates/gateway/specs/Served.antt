@@ -1,8 +1,8 @@
 -- What serving makes of connections.
-use Rattle.std.specs.Prelude.{ℕ, List, ◌∷◌, Result, Ok, Err}
+use Rattle.std.specs.Prelude.{List, ◌∷◌, Result, Ok, Err}
 use Rattle.spool_disk.specs.declared.disk.DiskFault.{DiskFault}
 use Rattle.tus_session.specs.History.{State, Event, Marked, Failed, history}
-use Rattle.gateway_engine.specs.Images.{stores_of, LimitsTo}
+use Rattle.gateway_engine.specs.Images.{stores_of, ShowsLast, LimitsTo}
 use Rattle.gateway_engine.specs.declared.connections.Connections.{Ghosts}
 
 -- from the connections before these events to those now, images are limited to the uploads behind all of the events, all but the latest, and so on
@@ -13,9 +13,11 @@ ImagesShow c before now st past = LimitsTo (c.moment before) (c.moment now) (c.l
 abbrev pub WentOn : {C : Type 0} → Ghosts C → C → C → State → Type 0
 WentOn c before now st = (past : List Marked) × c.stands now (history st past) × ImagesShow c before now st past
 
--- events came, and at the latest of them the device failed: of the connections nothing is known but their images
+-- events came, and at the latest of them the device failed: of the connections nothing is known but their images, which now show the uploads
+-- behind all events, or behind all but this latest one
 abbrev pub WentDown : {C : Type 0} → Ghosts C → C → C → State → Type 0
 WentDown c before now st = (past : List Marked) × (e : Event) × ImagesShow c before now st ((e, Failed) ∷ past)
+    × ShowsLast (c.moment now) (c.left_only now) st ((e, Failed) ∷ past)
 
 -- what a part of serving did
 abbrev pub Serves : {C T : Type 0} → Ghosts C → C → C → State → Result T DiskFault → Type 0

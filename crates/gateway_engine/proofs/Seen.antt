@@ -4,7 +4,7 @@ use Rattle.upload_rules.specs.Store.{Store}
 use Rattle.upload_rules.specs.Answers.{Among, Limits}
 use Rattle.tus_session.specs.History.{State, Event, Mark, Marked, Served, OutOfMemory, Failed, step, history, conn_in}
 use Rattle.gateway_engine.specs.Script.{Run, written}
-use Rattle.gateway_engine.specs.Images.{shown_by, stores_of, ShowsLast, AllAmong, LimitsTo, last_output, output_of}
+use Rattle.gateway_engine.specs.Images.{shown_by, stores_of, last_stores, ShowsLast, AllAmong, LimitsTo, last_output, output_of}
 use Rattle.gateway_engine.specs.Runs.{View, IsHistory, stepped}
 
 failed_stays : (st : State) (e : Event) → (step st e Failed).state ≡ st
@@ -46,16 +46,18 @@ abbrev pub OnDevice : {C : Type 0} → View C → Run → Type 0
 OnDevice v r = (ms : List Store) → Among r.state.world.store ms → v.u.left_only v.now (v.u.moment v.now) ms
 
 -- behind a call the latest uploads are those behind it and those before it
+pub last_step : {m1 m2 : ℕ} {l1 l2 : ℕ → List Store → Type 0} (st : State) (past : List Marked) (e : Event) (m : Mark)
+    → ((ms : List Store) → Among (history st past).world.store ms → l1 m1 ms) → Limits m1 m2 l1 l2 (history st past).world.store (shown_by (history st past) e m)
+    → ShowsLast m2 l2 st ((e, m) ∷ past)
+last_step {m1} {m2} {l1} {l2} st past e m durable leaves =
+    let two : List Store = last_stores st ((e, m) ∷ past) in
+    record { since = m1; reached = leaves.later; left = leaves.limits m1 two (omega arith) (durable two (inr (inl refl))) (inr (inl refl)) (inl refl) }
+
 pub shows_last : {C : Type 0} (v : View C) (now : C) (held : Option (List ℕ)) (r : Run) (e : Event) (m : Mark) → IsHistory v r → OnDevice v r
     → Leaves v now r.state.world.store (shown_by r.state e m) → ShowsLast (v.u.moment now) (v.u.left_only now) v.st (stepped r (conn_in e) e m).past
 shows_last v now held r e m is durable leaves =
-    let two : State → List Store = λ s. shown_by s e m ∷ s.world.store ∷ [] in
-    record {
-      since = v.u.moment v.now;
-      reached = leaves.later;
-      left = subst (λ s. v.u.left_only now (v.u.moment v.now) (two s)) is.state
-          (leaves.limits (v.u.moment v.now) (two r.state) (omega arith) (durable (two r.state) (inr (inl refl))) (inr (inl refl)) (inl refl));
-    }
+    last_step v.st r.past e m (subst (λ s. (ms : List Store) → Among s.world.store ms → v.u.left_only v.now (v.u.moment v.now) ms) is.state durable)
+    (subst (λ s. Leaves v now s.world.store (shown_by s e m)) is.state leaves)
 
 -- what was written last
 pub last_is : {C : Type 0} (v : View C) (r : Run) (e : Event) (m : Mark) → IsHistory v r → written (conn_in e) (step r.state e m).outcome ≡ last_output v.st ((e, m) ∷ r.past)
