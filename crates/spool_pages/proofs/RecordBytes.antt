@@ -1,9 +1,11 @@
 -- The bytes of a record.
-use Rattle.std.proofs.Common.{◌≡◌, ℕ, ◌+◌, ◌-◌, ◌≤◌, ◌++◌, List, [], Option, Some, None, length, get_or, drop, refl, sym, ◌∙◌, ap, subst, arith}
+use Rattle.std.proofs.Common.{◌≡◌, inl, inr, ℕ, ◌+◌, ◌-◌, ◌≤◌, ◌++◌, List, [], Option, Some, None, length, get_or, drop, refl, sym, ◌∙◌, ap, subst, arith}
 use Rattle.std.specs.Int.{to_be_bytes, w16, w64}
 use Rattle.std.specs.List.{slice_range}
 use Rattle.std.proofs.Common.{length-drop}
 use Rattle.std.proofs.Math.ListN.{get_or-append, length-append, length-take}
+use Rattle.std.proofs.Math.Seq.{get_or-append_right}
+use Rattle.std.proofs.lemmas.Bool.{cases_lt}
 use Rattle.std.proofs.lemmas.List.{get_or-append-add, get_or-take, get_or-drop, ext_get_or}
 use Rattle.spool_journal.specs.Image.{byte_of}
 use Rattle.spool_pages.specs.Bytes.{IsPadded}
@@ -54,6 +56,26 @@ stands_behind {f = f} {place = place} xs ys k m long fits stands = record {
       subst (λ (p : ℕ). f p ≡ get_or ys i 0) at (here ∙ there);
 }
 
+pub stands_both : {f : ℕ → ℕ} {place : ℕ} (xs ys : List ℕ) (k m : ℕ) → length xs ≡ k → Stands f place k xs → Stands f (place + k) m ys → Stands f place (k + m) (xs ++ ys)
+stands_both {f = f} {place = place} xs ys k m long first second = record {
+  each = λ i lt. elim (cases_lt i k) [
+    | inl below ↦ first.each i below ∙ sym (get_or-append xs ys 0 i (omega (arith, below, long)))
+    | inr from ↦
+        let at : place + k + (i - k) ≡ place + i = omega (arith, from) in
+        let there : get_or ys (i - k) 0 ≡ get_or (xs ++ ys) i 0 = subst (λ (n : ℕ). get_or ys (i - n) 0 ≡ get_or (xs ++ ys) i 0) long (sym (get_or-append_right xs ys i 0 (omega (arith, from, long)))) in
+        subst (λ (p : ℕ). f p ≡ get_or (xs ++ ys) i 0) at (second.each (i - k) (omega (arith, lt, from)) ∙ there)
+  ];
+}
+
+pub length-range : (bytes : List ℕ) (at end : ℕ) → end ≤ length bytes → length (slice_range bytes at end) ≡ end - at
+length-range bytes at end fits = omega (arith, length-take (end - at) (drop at bytes), length-drop at bytes, fits)
+
+-- the bytes of a range stand there
+pub range_stands : (bytes : List ℕ) (at end size : ℕ) → at + size ≡ end → Stands (byte_of bytes) at size (slice_range bytes at end)
+range_stands bytes at end size is = record {
+  each = λ i lt. sym (get_or-take (end - at) (drop at bytes) i 0 (omega (arith, lt, is)) ∙ get_or-drop at bytes i 0);
+}
+
 pub padded_stands : {page xs : List ℕ} (size : ℕ) → IsPadded page xs → Stands (byte_of page) 0 size xs
 padded_stands {page = page} {xs = xs} size padded = record {
   each = λ i lt. let at : i ≡ 0 + i = omega arith in subst (λ (p : ℕ). get_or page p 0 ≡ get_or xs i 0) at (padded.each i);
@@ -87,6 +109,18 @@ parts_of f r size whole =
       metadata = stands_behind (head_of r) _ 66 1982 (length-head r size) (omega arith) all;
     }
 
+pub of_parts : (f : ℕ → ℕ) (r : SlotRecord) → length r.state ≡ 32
+    → Stands f 0 8 (to_be_bytes w64 r.number) → Stands f 8 8 (to_be_bytes w64 r.declared) → Stands f 16 8 (to_be_bytes w64 r.accepted) → Stands f 24 8 (to_be_bytes w64 r.text_len)
+    → Stands f 32 32 r.state → Stands f 64 2 (to_be_bytes w16 (length r.metadata)) → Stands f 66 (length r.metadata) r.metadata
+    → Stands f 0 (66 + length r.metadata) (record_bytes r)
+of_parts f r size number declared accepted text_len state metadata_len metadata =
+    let two = stands_both (to_be_bytes w64 r.number) _ 8 8 refl number declared in
+    let three = stands_both (two_of r) _ 16 8 refl two accepted in
+    let four = stands_both (three_of r) _ 24 8 refl three text_len in
+    let more = stands_both (four_of r) _ 32 32 refl four state in
+    let head = stands_both (state_end r) _ 64 2 (length-state_end r size) more metadata_len in
+    subst (λ (xs : List ℕ). Stands f 0 (66 + length r.metadata) xs) (record_is r) (stands_both (head_of r) r.metadata 66 (length r.metadata) (length-head r size) head metadata)
+
 -- the bytes of a range
 pub range_is : (bytes xs : List ℕ) (at end size : ℕ) → Stands (byte_of bytes) at size xs → length xs ≤ size → at + length xs ≡ end → end ≤ length bytes → slice_range bytes at end ≡ xs
 range_is bytes xs at end size stands few is fits =
@@ -94,7 +128,7 @@ range_is bytes xs at end size stands few is fits =
     get_or-take (end - at) (drop at bytes) i 0 (omega (arith, lt, long)) ∙ get_or-drop at bytes i 0 ∙ stands.each i (omega (arith, lt, long, is, few)))
   where
     long : length (slice_range bytes at end) ≡ end - at
-    long = omega (arith, length-take (end - at) (drop at bytes), length-drop at bytes, is, fits)
+    long = length-range bytes at end fits
 
 pub no_number : (bytes : List ℕ) → IsPadded bytes [] → Stands (byte_of bytes) 0 8 (to_be_bytes w64 0)
 no_number bytes padded = record {

@@ -1,12 +1,12 @@
 -- The bytes of a row.
-use Rattle.std.proofs.Common.{◌≡◌, ℕ, ◌+◌, ◌<◌, ◌≤◌, ◌++◌, List, Option, Some, None, length, get_or, replicate, refl, sym, ◌∙◌, arith}
+use Rattle.std.proofs.Common.{◌≡◌, ℕ, ◌+◌, ◌<◌, ◌≤◌, ◌++◌, List, Option, Some, None, length, get_or, replicate, refl, sym, ◌∙◌, subst, arith}
 use Rattle.std.specs.Int.{to_be_bytes, w32}
 use Rattle.spool_disk.specs.Disk.{In}
 use Rattle.spool_journal.specs.Image.{byte_of}
 use Rattle.spool_pages.specs.Bytes.{IsPadded}
 use Rattle.spool_pages.specs.View.{Stands, row_bytes}
 use Rattle.spool_pages.proofs.Bytes.{padded_zeros}
-use Rattle.spool_pages.proofs.RecordBytes.{stands_front, stands_behind}
+use Rattle.spool_pages.proofs.RecordBytes.{stands_front, stands_behind, stands_both}
 
 pub owned_is : (slot ordinal : ℕ) → to_be_bytes w32 (slot + 1) ++ to_be_bytes w32 ordinal ≡ row_bytes (Some (slot, ordinal))
 unfolding row_bytes
@@ -28,6 +28,9 @@ module _ (f : ℕ → ℕ) (at : ℕ) where
   pub free_at : Stands f at 8 (row_bytes None) → Stands f at 4 (to_be_bytes w32 0)
   unfolding row_bytes
   free_at stands = record { each = λ i lt. stands.each i (omega (arith, lt)) ∙ sym ((padded_zeros 4).each i) }
+
+  pub owned_at : (slot ordinal : ℕ) → Stands f at 4 (to_be_bytes w32 (slot + 1)) → Stands f (at + 4) 4 (to_be_bytes w32 ordinal) → Stands f at 8 (row_bytes (Some (slot, ordinal)))
+  owned_at slot ordinal first second = subst (λ (xs : List ℕ). Stands f at 8 xs) (owned_is slot ordinal) (stands_both (to_be_bytes w32 (slot + 1)) _ 4 4 refl first second)
 
 -- a row put into a page
 pub row_there : (new bytes : List ℕ) (at : ℕ) (row : Option (ℕ × ℕ)) → ((k : ℕ) → k < length bytes → get_or new (at + k) 0 ≡ get_or bytes k 0) → length bytes ≡ 8 → IsPadded bytes (row_bytes row) → Stands (byte_of new) at 8 (row_bytes row)

@@ -1,7 +1,8 @@
 // The pages of a spool that are neither records nor rows.
 ghost use Rattle.std.specs.Prelude.{◌≡◌, ◌<◌, ◌≤◌, ◌^◌, ℕ, [], Some, IfSome, get_or};
+ghost use Rattle.spool_journal.specs.Image.{byte_of};
 ghost use Rattle.spool_pages.specs.Bytes.{IsPadded};
-ghost use Rattle.spool_pages.specs.View.{magic, first_page, state_page};
+ghost use Rattle.spool_pages.specs.View.{Stands, magic, first_page, state_page};
 
 use crate::fields::{get_u32, get_u64, put};
 use spool_journal::PAGE;
@@ -41,7 +42,8 @@ pub fn state_page(next: u64) -> [u8; PAGE]
 
 /// What a state page says: the version and the next number.
 pub fn version_and_next(page: &[u8; PAGE]) -> (u32, u64)
-    ensures { (version next : ℕ) → version < 2 ^ 32 → next < 2 ^ 64 → IsPadded page.now (state_page version next) → result ≡ (version, next) }
+    ensures said { (version next : ℕ) → version < 2 ^ 32 → next < 2 ^ 64 → IsPadded page.now (state_page version next) → result ≡ (version, next) }
+    ensures there { Stands (byte_of page.now) 0 12 (state_page result.0 result.1) }
 {
     (get_u32(page, 0), get_u64(page, 4))
 }

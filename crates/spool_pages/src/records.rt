@@ -1,5 +1,5 @@
 // The record of an upload as its slot keeps it.
-ghost use Rattle.std.specs.Prelude.{◌≡◌, ◌<◌, ◌≤◌, ℕ, [], length, Ok, Some, None, IsErr, IfOk, IfSome};
+ghost use Rattle.std.specs.Prelude.{◌≡◌, ◌<◌, ◌≤◌, ◌+◌, ℕ, [], length, Ok, Some, None, IsErr, IfOk, IfSome};
 ghost use Rattle.std.specs.Int.{to_be_bytes, w16, w64};
 ghost use Rattle.spool_journal.specs.Image.{byte_of};
 ghost use Rattle.spool_pages.specs.Bytes.{IsPadded};
@@ -61,8 +61,10 @@ impl<'a> SlotRecord<'a> {
         ensures free { IsPadded bytes.now [] → result ≡ Ok None }
         ensures used { (r : Said) → FitsSlot r → IsPadded bytes.now (record_bytes r) → result ≡ Ok (Some r) }
 
-        // It answers 'free' only where the number is 0, and `Damaged` only where a record has this length of metadata.
+        // Whatever the bytes are, 'free' says that the number is 0, a record that its bytes stand in front, and `Damaged` that the
+        // metadata would be so long.
         ensures free_only { result ≡ Ok None → Stands (byte_of bytes.now) 0 8 (to_be_bytes w64 0) }
+        ensures used_only { IfOk result (λ found. IfSome found (λ r. Stands (byte_of bytes.now) 0 (66 + length r.metadata) (record_bytes r))) }
         ensures damaged_only { IsErr result → (len : ℕ) × (1536 < len × Stands (byte_of bytes.now) 64 2 (to_be_bytes w16 len)) }
         ensures few { IfOk result (λ found. IfSome found (λ r. length r.metadata ≤ 1536)) }
     {

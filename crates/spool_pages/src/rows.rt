@@ -1,5 +1,6 @@
 // The rows of the text blocks: who owns each.
-ghost use Rattle.std.specs.Prelude.{◌≡◌, ◌≤◌, ◌<◌, ◌+◌, ◌*◌, ◌^◌, ℕ, Option, None, Some, length, get_or};
+ghost use Rattle.std.specs.Prelude.{◌≡◌, ◌≤◌, ◌<◌, ◌+◌, ◌*◌, ◌^◌, ℕ, Option, None, Some, IfSome, length, get_or};
+ghost use Rattle.std.specs.Int.{to_be_bytes, w32};
 ghost use Rattle.spool_journal.specs.Image.{byte_of};
 ghost use Rattle.spool_pages.specs.Bytes.{IsPadded};
 ghost use Rattle.spool_pages.specs.Fits.{FitsRow};
@@ -48,7 +49,11 @@ fn row_of(rows: &[Row], block: usize) -> Row
 /// The row at a place of a page.
 pub fn row_at(page: &[u8], at: usize) -> Row
     requires { at + 8 ≤ length page.now }
-    ensures { (row : Option (ℕ × ℕ)) → FitsRow row → Stands (byte_of page.now) at 8 (row_bytes row) → result ≡ row }
+    ensures said { (row : Option (ℕ × ℕ)) → FitsRow row → Stands (byte_of page.now) at 8 (row_bytes row) → result ≡ row }
+
+    // Whatever the bytes are, 'free' says that the slot's number is 0, and an owner that its bytes stand there.
+    ensures free_only { result ≡ None → Stands (byte_of page.now) at 4 (to_be_bytes w32 0) }
+    ensures owned_only { IfSome result (λ owner. Stands (byte_of page.now) at 8 (row_bytes (Some owner))) }
 {
     let slot = get_u32(page, at);
     if slot == 0 {

@@ -13,7 +13,7 @@ loop-k-preserved c all long fits stands was =
     let now = c.loop-k.invariant all long fits stands was in
     elim c.if-first-k.branch [
       | then-first-k w ↦
-          let is = w.row_at.ensures (get_or all (c.args.first + k) None) (fits (c.args.first + k)) (stands k (search rules)) in
+          let is = w.row_at.ensures.said (get_or all (c.args.first + k) None) (fits (c.args.first + k)) (stands k (search rules)) in
           let set_now = same_set (c.args.first + k) all c.loop-k.rows w.row_at.result now w.if-first-k.true is in
           subst (λ (rows : List (Option (ℕ × ℕ))). IsSameTo (c.args.first + (k + 1)) all rows) (sym w.rows-is) (step_on c.args.first k all _ set_now)
       | else-first-k w ↦

@@ -1,9 +1,11 @@
-use Rattle.std.proofs.Common.{rules, ◌≡◌, ◌+◌, ℕ, length, Ok, Some, List, ◌∙◌, ap, arith}
+use Rattle.std.proofs.Common.{rules, sym, subst, ◌≤◌, ◌≡◌, ◌+◌, ℕ, length, Ok, Some, List, ◌∙◌, ap, arith}
+use Rattle.std.specs.Int.{to_be_bytes, w16}
+use Rattle.std.specs.List.{slice_range}
 use Rattle.spool_journal.specs.Image.{byte_of}
 use Rattle.spool_pages.specs.Bytes.{IsPadded}
 use Rattle.spool_pages.specs.Fits.{FitsSlot}
-use Rattle.spool_pages.specs.View.{SlotRecord, record_bytes}
-use Rattle.spool_pages.proofs.RecordBytes.{PartsAt, parts_of, padded_stands, range_is, no_number, record_eq}
+use Rattle.spool_pages.specs.View.{SlotRecord, Stands, record_bytes}
+use Rattle.spool_pages.proofs.RecordBytes.{PartsAt, parts_of, padded_stands, length-range, of_parts, range_is, range_stands, no_number, record_eq}
 use Rattle.spool_pages.proofs.records.SlotRecord.from_bytes.Goals as goal
 
 parts : (bytes : List ℕ) (r : SlotRecord) → FitsSlot r → IsPadded bytes (record_bytes r) → PartsAt (byte_of bytes) r
@@ -40,3 +42,17 @@ returns-clause-used c r fits padded =
     ap (λ (x : SlotRecord). Ok (Some x)) (record_eq r c.get_u64-number.result c.get_u64.result c.get_u64-2.result c.get_u64-3.result c.copy_from_slice.new.self _
     (c.get_u64-number.ensures.is r.number fits.number at.number) (c.get_u64.ensures.is r.declared fits.declared at.declared) (c.get_u64-2.ensures.is r.accepted fits.accepted at.accepted) (c.get_u64-3.ensures.is r.text_len fits.text_len at.text_len)
     state_is metadata_is)
+
+pub returns-clause-used_only : goal.returns-clause-used_only
+returns-clause-used_only c =
+    let bytes = c.args.bytes.now in
+    let len = c.get_u16.result in
+    let long : length bytes ≡ 2048 = search rules in
+    let few : len ≤ 1536 = omega (arith, c.if-metadata_end.false) in
+    let state : c.copy_from_slice.new.self ≡ slice_range bytes 32 64 = c.copy_from_slice.ensures.after in
+    let size : length c.copy_from_slice.new.self ≡ 32 = ap length state ∙ length-range bytes 32 64 (omega (arith, long)) in
+    let metadata_size : length (slice_range bytes 66 (66 + len)) ≡ len = omega (arith, length-range bytes 66 (66 + len) (omega (arith, long, few))) in
+    of_parts (byte_of bytes) _ size c.get_u64-number.ensures.there c.get_u64.ensures.there c.get_u64-2.ensures.there c.get_u64-3.ensures.there
+    (subst (λ (xs : List ℕ). Stands (byte_of bytes) 32 32 xs) (sym state) (range_stands bytes 32 64 32 (omega arith)))
+    (subst (λ (n : ℕ). Stands (byte_of bytes) 64 2 (to_be_bytes w16 n)) (sym metadata_size) c.get_u16.ensures.there)
+    (range_stands bytes 66 (66 + len) (length (slice_range bytes 66 (66 + len))) (omega (arith, metadata_size)))
