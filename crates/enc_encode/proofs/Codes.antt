@@ -1,5 +1,8 @@
 -- What an encoder gives for one character is written in the end, since its state takes the reference's characters as they are.
-use Rattle.std.proofs.Common.{ℕ, zero, suc, ◌<◌, ◌≤◌, ◌≡◌, true, false, List, [], ◌∷◌, ◌++◌, Option, Some, None, refl, sym, ◌∙◌, ap, arith, append_assoc, append-nil, lit≤, lit<, ◌/◌, ◌%◌, ◌==◌, if◌then◌else◌}
+use Rattle.std.proofs.Common.{ℕ, zero, suc, ◌<◌, ◌≤◌, ◌≡◌, true, false, List, [], ◌∷◌, ◌++◌, Option, Some, None, refl, sym, ◌∙◌, ap, arith, append_assoc, append-nil, lit≤, lit<, ◌/◌, ◌%◌, ◌==◌, if◌then◌else◌, ◌⊎◌, inl, inr}
+use Rattle.std.specs.Str.{IsUtf8, chars}
+use Rattle.std.proofs.lemmas.Str.{encodes-chars}
+use lib.Utf8.{encode, encodes}
 use Rattle.std.specs.Fmt.{decimal, digits, digits_onto, digit_glyph}
 use Rattle.std.proofs.lemmas.Bool.Decides.{nat_tests}
 use Rattle.std.proofs.lemmas.List.Elements.{All-head, All-tail}
@@ -9,7 +12,7 @@ use Rattle.enc_model.specs.declared.Encoding.TheVariants as encodings
 use Rattle.enc_model.specs.declared.Mode.{Mode}
 use Rattle.enc_model.specs.declared.Mode.TheVariants.{Html, Fatal}
 use Rattle.enc_model.specs.Index.{Index}
-use Rattle.enc_model.specs.Encode.{Shift, InAscii, InRoman, InJis, Written, Wrote, Again, Lacks, Encoder, Coded, behind, reference, coded, joined, all_codes, behind_written, settled, code_within, plain_code, code_of, IsNoAgain, Tables, is_jis, shift_jis_encoder, euc_jp_encoder, iso2022_encoder, single_encoder, utf8_encoder, encoder}
+use Rattle.enc_model.specs.Encode.{Shift, InAscii, InRoman, InJis, Written, Wrote, Again, Lacks, Encoder, Coded, behind, reference, coded, joined, all_codes, behind_written, settled, code_within, plain_code, code_of, IsNoAgain, Tables, is_jis, shift_jis_encoder, euc_jp_encoder, iso2022_encoder, single_encoder, utf8_bytes, utf8_encoder, encoder}
 use Rattle.enc_model.proofs.Coding.{coded_is}
 use Rattle.enc_model.proofs.Steady.{encoder_steady}
 use Rattle.enc_encode.specs.declared.shift.ShiftState.{ShiftState}
@@ -195,3 +198,28 @@ pub ascii_code : (t : Tables) (e : Encoding) (mode : Mode) (s : Shift) (xs : Lis
     coded (encoder t e) mode s xs ≡ record { bytes = xs; state = s; fault = None }
 ascii_code t e mode s xs n a =
     coded_is (encoder t e) (encoder_steady t e) mode s xs ∙ ascii_run (encoder t e) mode s xs (λ x l. ascii_stands t e s x n l) a
+
+-- A TEXT IN UTF-8
+
+bytes_are : (c : ℕ) → utf8_bytes c ≡ encode c
+unfolding encode
+bytes_are c = refl
+
+text_run : (mode : Mode) (s : Shift) (cs : List ℕ) → all_codes (code_of utf8_encoder mode) s cs ≡ record { bytes = encodes cs; state = s; fault = None }
+text_run mode s [] = refl
+text_run mode s (c ∷ cs) = ap (λ b. behind b (all_codes (code_of utf8_encoder mode) s cs)) (bytes_are c) ∙ ap (behind (encode c)) (text_run mode s cs)
+
+-- the encodings whose texts are in UTF-8
+pub utf8_texts : (t : Tables) (e : Encoding) → (e ≡ encodings.Utf8) ⊎ ((e ≡ encodings.Utf16Be) ⊎ (e ≡ encodings.Utf16Le)) → encoder t e ≡ utf8_encoder
+utf8_texts t e (inl h) = rw h refl
+utf8_texts t e (inr (inl h)) = rw h refl
+utf8_texts t e (inr (inr h)) = rw h refl
+
+-- its characters' code is the text itself
+pub text_code : (t : Tables) (e : Encoding) (mode : Mode) (s : Shift) (bs : List ℕ) → encoder t e ≡ utf8_encoder → IsUtf8 bs →
+    coded (encoder t e) mode s (chars bs) ≡ record { bytes = bs; state = s; fault = None }
+text_code t e mode s bs is u =
+    ap (λ f. coded f mode s (chars bs)) is
+    ∙ coded_is utf8_encoder (encoder_steady t encodings.Utf8) mode s (chars bs)
+    ∙ text_run mode s (chars bs)
+    ∙ ap (λ b. record { bytes = b; state = s; fault = None }) (encodes-chars bs u)

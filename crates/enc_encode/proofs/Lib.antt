@@ -1,5 +1,8 @@
 pub mod Growth
+pub mod Helds
 pub mod Final
 pub mod Codes
 pub mod Runs
 mod Rows
+mod Fronts
+mod Given

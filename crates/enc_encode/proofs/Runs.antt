@@ -8,8 +8,9 @@ use Rattle.enc_encode.specs.declared.error.EncodeError.{EncodeError}
 use Rattle.enc_encode.specs.declared.error.EncodeError.TheVariants.{NoMemory, Unencodable}
 use Rattle.enc_encode.specs.declared.shift.ShiftState.{ShiftState}
 use Rattle.enc_encode.specs.Growth.{Stopped}
-use Rattle.enc_encode.specs.Reasons.{Gave}
-use Rattle.enc_encode.specs.State.{shift_of, EncoderState, code_from}
+use Rattle.enc_model.specs.Transcode.{Refused}
+use Rattle.enc_encode.specs.Reasons.{Gave, Explains, reason_of}
+use Rattle.enc_encode.specs.State.{shift_of, EncoderState, coder, code_from}
 use Rattle.enc_encode.proofs.Growth.{front}
 use Rattle.enc_encode.proofs.Final.{gave_behind}
 
@@ -44,3 +45,15 @@ module _ (t : Tables) (e : EncoderState) where
       rw (coded_append (encoder t e.to) (encoder_steady t e.to) e.mode e.shift x y)
       (stopped_more old new (code_from t e x) (λ next. coded (encoder t e.to) e.mode next y) p)
   gave_stop x y old new (Unencodable c) p = rw (coded_fault (encoder t e.to) (encoder_steady t e.to) e.mode e.shift x y c p.0) p
+
+  -- an error is a refusal
+  pub gave_refused : {Z : Type 0} (x : List ℕ) (old new : Vec ℕ Z) (d : EncodeError) → Gave (code_from t e x) old new (Err d) →
+      Refused (encoder t e.to) e.mode (coder e old.items) x (reason_of d) (coder e new.items)
+  gave_refused x old new NoMemory p = record { front = p.items.front; rest = p.items.rest; parts = p.items.parts; out = p.items.out; reason = tt }
+  gave_refused x old new (Unencodable c) p =
+      record { front = (code_from t e x).bytes; rest = []; parts = sym (append-nil (code_from t e x).bytes); out = p.1.items; reason = p.0 }
+
+  pub gave_explains : {Z : Type 0} (X : Type 0) (x : List ℕ) (old new : Vec ℕ Z) (d : EncodeError) → Gave (code_from t e x) old new (Err d) →
+      Explains {X = X} (code_from t e x) old new (Err d)
+  gave_explains X x old new NoMemory p = p.full
+  gave_explains X x old new (Unencodable c) p = p.1.items

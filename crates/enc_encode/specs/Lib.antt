@@ -1,4 +1,5 @@
 pub mod Growth
+pub mod Held
 pub mod Code
 pub mod State
 pub mod Reasons

@@ -1,23 +1,27 @@
 //! The encoder.
 
-ghost use Rattle.std.specs.Prelude.{◌≡◌, ◌<◌, ◌≤◌, ◌++◌, ◌∷◌, [], vec_capacity, OnOk, OnErr, IsOk, All};
+ghost use Rattle.std.specs.Prelude.{◌≡◌, ◌⊎◌, ◌<◌, ◌≤◌, ◌++◌, ◌∷◌, [], ℕ, List, Ok, Err, vec_capacity, length, OnOk, OnErr, IfOk, IfErr, IfSome, IsOk, All};
+ghost use Rattle.std.specs.Str.{chars};
 ghost use Rattle.enc_encode.specs.State.{EncoderState, shift_of, code_of_shift, code_of_shift_of, shifted, coder, code_from};
 ghost use Rattle.enc_encode.specs.Growth.{NoRoom};
+ghost use Rattle.enc_encode.specs.Held.{Kept, HeldFront, IsOwnFront};
 ghost use Rattle.enc_encode.specs.Reasons.{Gave, Explains, reason_of};
-ghost use Rattle.enc_model.specs.Encode.{coded, encoder, encoder_end, InAscii};
+ghost use Rattle.enc_model.specs.Encode.{Tables, coded, encoder, encoder_end, InAscii};
 ghost use Rattle.enc_model.specs.Transcode.{Took, Refused};
 ghost use Rattle.enc_model.specs.Sink.{Given};
 ghost use Rattle.enc_model.specs.Indexes.{tables};
 
 use crate::append::append;
+use crate::buffer::{Buffer, LANES};
 use crate::encoders::written;
 use crate::error::EncodeError;
-use crate::iso2022::TO_ASCII;
+use crate::iso2022::{TO_ASCII, iso2022_ascii};
 use crate::shift::ShiftState;
 use crate::written::Written;
 use crate::written_out::write_out;
 use enc_index::IndexSet;
 use enc_model::{Encoding, Mode};
+use lane_kernels::ascii_front;
 use std::alloc::AllocError;
 use std::marker::Model;
 
@@ -37,6 +41,21 @@ impl Model for Encoder {
     ghost inverse = { λ v. record { to = v.to; mode = v.mode; shift = code_of_shift v.shift } };
 
     ghost inverse_ok = { λ e h. code_of_shift_of e.shift (λ s. record { to = e.to; mode = e.mode; shift = s }) };
+}
+
+/// Whole lanes at the front of a text that begins with ASCII, and how much of it there is, where it stands for itself.
+#[inline(always)]
+fn own_front(to: Encoding, text: &str) -> Option<(&[u8; LANES], usize)>
+    ensures { IfSome result (λ r. IsOwnFront to text.now r.0.now r.1) }
+{
+    if let Encoding::Iso2022Jp = to {
+        return None;
+    }
+    let lanes = text.as_bytes().first_chunk::<LANES>()?;
+    if lanes[0] >= 0x80 {
+        return None;
+    }
+    Some((lanes, ascii_front(lanes)))
 }
 
 impl Encoder {
@@ -116,35 +135,46 @@ impl Encoder {
         Ok(())
     }
 
-    /// Appends the codes of a run of ASCII one by one, and gives the state that they lead to.
-    fn encode_each(
+    /// Appends the code of an ASCII character in ISO-2022-JP from a state, and gives the state that it leads to.
+    fn encode_iso2022_ascii(
         &self,
-        set: &IndexSet,
-        run: &[u8],
+        shift: ShiftState,
+        b: u8,
         out: &mut Vec<u8>,
     ) -> Result<ShiftState, EncodeError>
-        requires { All (λ b. b < 128) run.now }
-        ensures { Gave (code_from (tables set.now) self.now run.now) out.old out.new result }
+        requires to { self.now.to ≡ Encoding.Iso2022Jp }
+        requires ascii { b < 128 }
+        ensures { (t : Tables) → Gave (coded (encoder t self.now.to) self.now.mode (shift_of shift) (b ∷ [])) out.old out.new result }
+    {
+        match iso2022_ascii(shift, b) {
+            Written::Again(bytes, next) => {
+                append(bytes.as_slice(), out)?;
+                write_out(self.mode, iso2022_ascii(next, b), out)
+            }
+            once => write_out(self.mode, once, out),
+        }
+    }
+
+    /// Appends the codes of a run of ASCII in ISO-2022-JP one by one, and gives the state that they lead to.
+    fn encode_each(&self, run: &[u8], out: &mut Vec<u8>) -> Result<ShiftState, EncodeError>
+        requires to { self.now.to ≡ Encoding.Iso2022Jp }
+        requires ascii { All (λ b. b < 128) run.now }
+        ensures { (t : Tables) → Gave (code_from t self.now run.now) out.old out.new result }
     {
         let mut shift = self.shift;
         for byte in run {
-            shift = self.encode(set, shift, *byte as char, out)?;
+            shift = self.encode_iso2022_ascii(shift, *byte, out)?;
         }
         Ok(shift)
     }
 
     /// Appends the code of a run of ASCII, which stands for itself outside ISO-2022-JP.
-    fn encode_ascii(
-        &self,
-        set: &IndexSet,
-        run: &[u8],
-        out: &mut Vec<u8>,
-    ) -> Result<ShiftState, EncodeError>
+    fn encode_ascii(&self, run: &[u8], out: &mut Vec<u8>) -> Result<ShiftState, EncodeError>
         requires { All (λ b. b < 128) run.now }
-        ensures { Gave (code_from (tables set.now) self.now run.now) out.old out.new result }
+        ensures { (t : Tables) → Gave (code_from t self.now run.now) out.old out.new result }
     {
         match self.to {
-            Encoding::Iso2022Jp => self.encode_each(set, run, out),
+            Encoding::Iso2022Jp => self.encode_each(run, out),
             _ => {
                 append(run, out)?;
                 Ok(self.shift)
@@ -152,27 +182,172 @@ impl Encoder {
         }
     }
 
-    /// Appends the code of a run of ASCII.
+    /// Appends the code of a run of ASCII, in which no index file has a part.
     ///
     /// # Errors
     ///
     /// As `put`, for the first character of the run that has one.
-    pub fn put_ascii(
-        &mut self,
-        set: &IndexSet,
-        run: &[u8],
-        out: &mut Vec<u8>,
-    ) -> Result<(), EncodeError>
+    pub fn put_ascii(&mut self, run: &[u8], out: &mut Vec<u8>) -> Result<(), EncodeError>
         requires { All (λ b. b < 128) run.now }
-        ensures given { let f = encoder (tables set.now) self.old.to in
+        ensures given { (t : Tables) → let f = encoder t self.old.to in
             Given (Took f self.old.mode) (λ a x e b. Refused f self.old.mode a x (reason_of e) b)
             (coder self.old out.old.items) run.now (coder self.new out.new.items) result }
         ensures kept { (self.new.to ≡ self.old.to) × (self.new.mode ≡ self.old.mode) }
         ensures unchanged { OnErr result (self.new ≡ self.old) }
-        ensures errors { Explains (code_from (tables set.now) self.old run.now) out.old out.new result }
+        ensures errors { (t : Tables) → Explains (code_from t self.old run.now) out.old out.new result }
         ensures capacity { OnOk result (vec_capacity out.old ≤ vec_capacity out.new) }
     {
-        self.shift = self.encode_ascii(set, run, out)?;
+        self.shift = self.encode_ascii(run, out)?;
+        Ok(())
+    }
+
+    /// Puts a character's code behind bytes that are held, or appends both, and gives the state that it leads to.
+    #[inline(always)]
+    fn hold(
+        &self,
+        to: Encoding,
+        set: &IndexSet,
+        shift: ShiftState,
+        c: char,
+        held: &mut Buffer,
+        out: &mut Vec<u8>,
+    ) -> Result<ShiftState, EncodeError>
+        requires { to ≡ self.now.to }
+        ensures { Kept (coded (encoder (tables set.now) self.now.to) self.now.mode (shift_of shift) (c ∷ [])) out.old held.old out.new held.new result }
+    {
+        if let Written::Wrote(bytes, next) = written(set, to, shift, c) {
+            held.make_room(out)?;
+            held.push(bytes);
+            return Ok(next);
+        }
+        held.flush(out)?;
+        self.encode(set, shift, c, out)
+    }
+
+    /// Puts the code of a text's front behind bytes that are held, or appends both: of ASCII in lanes, or else of one character.
+    /// Gives the state that it leads to, and the rest of the text.
+    #[inline(always)]
+    fn hold_front<'a>(
+        &self,
+        to: Encoding,
+        set: &IndexSet,
+        shift: ShiftState,
+        text: &'a str,
+        held: &mut Buffer,
+        out: &mut Vec<u8>,
+    ) -> Result<(ShiftState, &'a str), EncodeError>
+        requires same { to ≡ self.now.to }
+        requires some { 0 < length text.now }
+        ensures shorter { IfOk result (λ r. length r.1.now < length text.now) }
+        ensures ok { IfOk result (λ r. HeldFront (code_from (tables set.now) (shifted self.now (shift_of shift))) text.now r.1.now out.old held.old out.new held.new (Ok r.0)) }
+        ensures err { IfErr result (λ e. (rest : List ℕ) × HeldFront (code_from (tables set.now) (shifted self.now (shift_of shift))) text.now rest out.old held.old out.new held.new (Err e)) }
+    {
+        if let Some((lanes, front)) = own_front(to, text) {
+            held.make_room(out)?;
+            held.push_front(*lanes, front);
+            return Ok((shift, &text[front..]));
+        }
+        let mut chars = text.chars();
+        match chars.next() {
+            Some(c) => {
+                let next = self.hold(to, set, shift, c, held, out)?;
+                Ok((next, chars.as_str()))
+            }
+            None => unreachable!(),
+        }
+    }
+
+    /// Appends the codes of a text's characters, and gives the state that they lead to.
+    #[inline(always)]
+    fn encode_chars(
+        &self,
+        to: Encoding,
+        set: &IndexSet,
+        run: &str,
+        out: &mut Vec<u8>,
+    ) -> Result<ShiftState, EncodeError>
+        requires { to ≡ self.now.to }
+        ensures { Gave (code_from (tables set.now) self.now (chars run.now)) out.old out.new result }
+    {
+        let mut held = Buffer::new();
+        let mut shift = self.shift;
+        let mut rest = run;
+        while !rest.is_empty() {
+            let (next, behind) = self.hold_front(to, set, shift, rest, &mut held, out)?;
+            shift = next;
+            rest = behind;
+        }
+        held.flush(out)?;
+        Ok(shift)
+    }
+
+    /// Appends a text as it is, where texts are in UTF-8.
+    fn encode_utf8(&self, run: &str, out: &mut Vec<u8>) -> Result<ShiftState, EncodeError>
+        requires { (self.now.to ≡ Encoding.Utf8) ⊎ ((self.now.to ≡ Encoding.Utf16Be) ⊎ (self.now.to ≡ Encoding.Utf16Le)) }
+        ensures { (t : Tables) → Gave (code_from t self.now (chars run.now)) out.old out.new result }
+    {
+        append(run.as_bytes(), out)?;
+        Ok(self.shift)
+    }
+
+    /// Appends the codes of a text's characters. The choice of the encoding is made once a text.
+    fn encode_each_char(
+        &self,
+        set: &IndexSet,
+        run: &str,
+        out: &mut Vec<u8>,
+    ) -> Result<ShiftState, EncodeError>
+        ensures { Gave (code_from (tables set.now) self.now (chars run.now)) out.old out.new result }
+    {
+        match self.to {
+            Encoding::Utf8 | Encoding::Utf16Be | Encoding::Utf16Le => self.encode_utf8(run, out),
+            Encoding::ShiftJis => self.encode_chars(Encoding::ShiftJis, set, run, out),
+            Encoding::EucJp => self.encode_chars(Encoding::EucJp, set, run, out),
+            Encoding::Iso2022Jp => self.encode_chars(Encoding::Iso2022Jp, set, run, out),
+            single => self.encode_chars(single, set, run, out),
+        }
+    }
+
+    /// Appends the code of a text, which stands for itself where texts are in UTF-8.
+    fn encode_text(
+        &self,
+        set: &IndexSet,
+        run: &str,
+        out: &mut Vec<u8>,
+    ) -> Result<ShiftState, EncodeError>
+        ensures { Gave (code_from (tables set.now) self.now (chars run.now)) out.old out.new result }
+    {
+        match self.to {
+            Encoding::Utf8 | Encoding::Utf16Be | Encoding::Utf16Le => self.encode_utf8(run, out),
+            _ => {
+                if run.is_ascii() {
+                    return self.encode_ascii(run.as_bytes(), out);
+                }
+                self.encode_each_char(set, run, out)
+            }
+        }
+    }
+
+    /// Appends the code of a text.
+    ///
+    /// # Errors
+    ///
+    /// As `put`, for the first character of the text that has one.
+    pub fn put_text(
+        &mut self,
+        set: &IndexSet,
+        run: &str,
+        out: &mut Vec<u8>,
+    ) -> Result<(), EncodeError>
+        ensures given { let f = encoder (tables set.now) self.old.to in
+            Given (Took f self.old.mode) (λ a x e b. Refused f self.old.mode a x (reason_of e) b)
+            (coder self.old out.old.items) (chars run.now) (coder self.new out.new.items) result }
+        ensures kept { (self.new.to ≡ self.old.to) × (self.new.mode ≡ self.old.mode) }
+        ensures unchanged { OnErr result (self.new ≡ self.old) }
+        ensures errors { Explains (code_from (tables set.now) self.old (chars run.now)) out.old out.new result }
+        ensures capacity { OnOk result (vec_capacity out.old ≤ vec_capacity out.new) }
+    {
+        self.shift = self.encode_text(set, run, out)?;
         Ok(())
     }
 

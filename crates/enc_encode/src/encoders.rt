@@ -37,6 +37,7 @@ fn utf8(c: char) -> Bytes
 
 /// The single-byte encoder.
 #[tactic(auto, unfolding(enc_model::specs::Encode::single_encoder))]
+#[inline(always)]
 fn single_byte(set: &IndexSet, to: Encoding, shift: ShiftState, c: char) -> Written
     ensures { written_of result ≡ single_encoder ((tables set.now).single to) (shift_of shift) c }
 {
@@ -50,6 +51,7 @@ fn single_byte(set: &IndexSet, to: Encoding, shift: ShiftState, c: char) -> Writ
 }
 
 /// The character that the Japanese encoders look up: U+FF0D for the minus sign U+2212.
+#[inline(always)]
 pub fn without_minus(c: char) -> char
     ensures { result ≡ minus c }
 {
@@ -57,6 +59,7 @@ pub fn without_minus(c: char) -> char
 }
 
 /// The two bytes of a pointer in Shift_JIS.
+#[inline(always)]
 fn shift_jis_pair(pointer: u32) -> Bytes
     requires { pointer < 11280 }
     ensures { bytes_of result ≡ shift_jis_pointer pointer }
@@ -70,6 +73,7 @@ fn shift_jis_pair(pointer: u32) -> Bytes
 
 /// The Shift_JIS encoder.
 #[tactic(auto, unfolding(enc_model::specs::Encode::shift_jis_encoder))]
+#[inline(always)]
 fn shift_jis(set: &IndexSet, shift: ShiftState, c: char) -> Written
     ensures { written_of result ≡ shift_jis_encoder (tables set.now).jis0208 (shift_of shift) c }
 {
@@ -91,6 +95,7 @@ fn shift_jis(set: &IndexSet, shift: ShiftState, c: char) -> Written
 }
 
 /// The least pointer of a character in jis0208, where the encoders of EUC-JP and ISO-2022-JP may use it.
+#[inline(always)]
 pub fn pointer_below_8836(set: &IndexSet, c: char) -> Option<u32>
     ensures value { result ≡ below_8836 (pointer (tables set.now).jis0208 c) }
     ensures bounded { IfSome result (λ p. p < 8836) }
@@ -101,6 +106,7 @@ pub fn pointer_below_8836(set: &IndexSet, c: char) -> Option<u32>
 
 /// The EUC-JP encoder.
 #[tactic(auto, unfolding(enc_model::specs::Encode::euc_jp_encoder))]
+#[inline(always)]
 fn euc_jp(set: &IndexSet, shift: ShiftState, c: char) -> Written
     ensures { written_of result ≡ euc_jp_encoder (tables set.now).jis0208 (shift_of shift) c }
 {
@@ -126,6 +132,7 @@ fn euc_jp(set: &IndexSet, shift: ShiftState, c: char) -> Written
 }
 
 /// What the encoder of an encoding gives for a character. UTF-16 has none, and its texts are in UTF-8.
+#[inline(always)]
 pub fn written(set: &IndexSet, to: Encoding, shift: ShiftState, c: char) -> Written
     ensures { written_of result ≡ encoder (tables set.now) to (shift_of shift) c }
 {

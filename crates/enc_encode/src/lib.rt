@@ -5,14 +5,13 @@
 #![tactic(auto)]
 
 mod append;
+mod buffer;
 mod encoder;
 mod encoders;
 mod error;
 mod iso2022;
 mod shift;
 mod sink;
-#[cfg(test)]
-mod tests;
 mod written;
 mod written_out;
 

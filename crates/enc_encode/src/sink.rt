@@ -60,7 +60,11 @@ impl Sink for EncoderSink<'_> {
     }
 
     fn ascii(&mut self, run: &[u8]) -> Result<(), EncodeError> {
-        self.encoder.put_ascii(self.set, run, &mut self.out)
+        self.encoder.put_ascii(run, &mut self.out)
+    }
+
+    fn text(&mut self, run: &str) -> Result<(), EncodeError> {
+        self.encoder.put_text(self.set, run, &mut self.out)
     }
 
     ghost is_sink = { encoder_sink };

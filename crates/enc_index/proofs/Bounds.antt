@@ -1,6 +1,7 @@
 -- A pointer that is found is one of its kind.
-use Rattle.std.proofs.Common.{ℕ, suc, ◌<◌, ◌≡◌, [], ◌∷◌, Bool, true, false, Option, Some, None, refl, arith, subst, sym, nat_le, nat_lt, ◌==◌, ◌&&◌, if◌then◌else◌}
+use Rattle.std.proofs.Common.{ℕ, zero, suc, ◌<◌, ◌≡◌, List, [], ◌∷◌, Bool, true, false, Option, Some, None, refl, arith, subst, sym, ◌∙◌, nat_le, nat_lt, ◌==◌, ◌&&◌, if◌then◌else◌, slice_index_or, set}
 use Rattle.std.specs.Prelude.{IfSome}
+use Rattle.std.proofs.lemmas.List.{length-set}
 use Rattle.std.proofs.lemmas.Bool.Decides.{nat_tests}
 use Rattle.enc_model.specs.Index.{Index, pointer_where, least}
 use Rattle.enc_model.specs.Indexes.{IndexSet, place_of, at_place}
@@ -63,3 +64,21 @@ pub below_found : (keeps : ℕ → Bool) (x : IndexSet) (kind : Kind) (c : ℕ) 
 below_found keeps x kind c index is e =
     let h : IsIndex (pointers_of kind) index = subst (λ y. IfSome y (IsIndex (pointers_of kind))) (sym e) (index_in x is kind) in
     below_in keeps 0 (pointers_of kind) index c h
+
+set_keeps : (single : List (Option Index)) (place : ℕ) (index : Index) → IsIndex 128 index → ((k : ℕ) → IfSome (slice_index_or single k None) (IsIndex 128)) →
+    (k : ℕ) → IfSome (slice_index_or (set single place (Some index)) k None) (IsIndex 128)
+set_keeps [] place index valid is k = is k
+set_keeps (first ∷ single) zero index valid is zero = valid
+set_keeps (first ∷ single) zero index valid is (suc k) = is (suc k)
+set_keeps (first ∷ single) (suc place) index valid is zero = is zero
+set_keeps (first ∷ single) (suc place) index valid is (suc k) = set_keeps single place index valid (λ n. is (suc n)) k
+
+-- a set into which an index of a single-byte encoding was put
+pub put_single : (x : IndexSet) (place : ℕ) (index : Index) → IsIndexSet x → IsIndex 128 index → IsIndexSet (record x { single = set x.single place (Some index) })
+put_single x place index is valid = record {
+  jis0208 = is.jis0208;
+  jis0212 = is.jis0212;
+  katakana = is.katakana;
+  single = set_keeps x.single place index valid is.single;
+  places = length-set x.single place (Some index) ∙ is.places;
+}

@@ -1,12 +1,9 @@
 -- The least pointers, from the last entry to the first.
-use Rattle.std.proofs.Common.{◌≡◌, ℕ, suc, ◌+◌, ◌<◌, Bool, true, false, cond, ◌&&◌, List, [], ◌∷◌, length, drop, Option, Some, None, refl, arith, slice_index_or, ◌==◌, add-one}
+use Rattle.std.proofs.Common.{◌≡◌, ℕ, zero, suc, ◌+◌, ◌<◌, Bool, true, false, cond, ◌&&◌, List, [], ◌∷◌, length, drop, Option, Some, None, refl, arith, slice_index_or, ◌==◌, add-one, ◌≢◌, set, replicate}
 use Rattle.std.proofs.lemmas.Bool.Decides.{nat_tests}
-use Rattle.std.proofs.lemmas.List.{drop_more, drop_all}
-use Rattle.std.specs.BTreeMap.{is_at}
-use Rattle.std.specs.Ordering.{nat_cmp}
-use Rattle.std.specs.Cmp.{unsigned_tied}
+use Rattle.std.proofs.lemmas.List.{drop_more, drop_all, get_or-set_same, get_or-set_other}
 use Rattle.enc_model.specs.Index.{Index, pointer_where, least}
-use Rattle.enc_index.specs.Entries.{pairs_from}
+use Rattle.enc_index.specs.Entries.{pairs_from, entry, found}
 
 -- a pointer below the least of two is the least of three
 below_both : (p q : ℕ) (r : Option ℕ) → p < q → least p r ≡ Some p → least p (least q r) ≡ Some p
@@ -46,14 +43,36 @@ module _ (keeps : ℕ → Bool) (entries : List (Option ℕ)) (i j : ℕ) (next 
   pub past_unusable : (d : ℕ) → slice_index_or entries i None ≡ Some d → keeps i ≡ false → (c : ℕ) → from i c ≡ from j c
   past_unusable d e k c = rw (from_some entries i d h e, next) (skipped d c _ k)
 
-  taken : (d c : ℕ) (rest : Index) → keeps i ≡ true → least i (pointer_where keeps rest c) ≡ Some i → pointer_where keeps ((i, d) ∷ rest) c ≡ cond (is_at (nat_cmp d) c) (Some i) (pointer_where keeps rest c)
+  taken : (d c : ℕ) (rest : Index) → keeps i ≡ true → least i (pointer_where keeps rest c) ≡ Some i → pointer_where keeps ((i, d) ∷ rest) c ≡ cond (d == c) (Some i) (pointer_where keeps rest c)
   unfolding pointer_where
-  taken d c rest k l = rw (k, unsigned_tied d c) (elim (d == c) as (λ b. cond (b && true) (least i (pointer_where keeps rest c)) (pointer_where keeps rest c) ≡ cond b (Some i) (pointer_where keeps rest c)) [ true ↦ l | false ↦ refl ])
+  taken d c rest k l = rw k (elim (d == c) as (λ b. cond (b && true) (least i (pointer_where keeps rest c)) (pointer_where keeps rest c) ≡ cond b (Some i) (pointer_where keeps rest c)) [ true ↦ l | false ↦ refl ])
 
-  pub past_taken : (d : ℕ) → slice_index_or entries i None ≡ Some d → keeps i ≡ true → (c : ℕ) → from i c ≡ cond (is_at (nat_cmp d) c) (Some i) (from j c)
+  pub past_taken : (d : ℕ) → slice_index_or entries i None ≡ Some d → keeps i ≡ true → (c : ℕ) → from i c ≡ cond (d == c) (Some i) (from j c)
   past_taken d e k c = rw (from_some entries i d h e, next) (taken d c _ k (least_below keeps c i j _ (omega arith)))
 
 -- behind the last entry there is nothing
 pub from_nothing : (keeps : ℕ → Bool) (entries : List (Option ℕ)) (c : ℕ) → pointer_where keeps (pairs_from (length entries) (drop (length entries) entries)) c ≡ None
 unfolding pairs_from pointer_where
 from_nothing keeps entries c = rw (drop_all (length entries) entries (omega arith)) refl
+
+-- TABLES BY CODE POINT
+
+nowhere : (n c d : ℕ) → slice_index_or (replicate n d) c d ≡ d
+nowhere zero c d = refl
+nowhere (suc n) zero d = refl
+nowhere (suc n) (suc c) d = nowhere n c d
+
+-- an empty table gives nothing
+pub found_none : (n c : ℕ) → found (replicate n 0xFFFF) c ≡ None
+found_none n c = rw (nowhere n c 0xFFFF) refl
+
+entry_some : (p : ℕ) → p < 0xFFFF → entry p ≡ Some p
+entry_some p below = grind (arith, nat_tests)
+
+-- an entry that is written is given, and the others are as before
+pub found_set : (pointers : List ℕ) (d p c : ℕ) → d < length pointers → p < 0xFFFF → found (set pointers d p) c ≡ cond (d == c) (Some p) (found pointers c)
+found_set pointers d p c inside below = go (d == c) refl
+  where
+    go : (b : Bool) → (d == c) ≡ b → found (set pointers d p) c ≡ cond b (Some p) (found pointers c)
+    go true e = let same : d ≡ c = grind (arith, nat_tests, e) in rw (← same, get_or-set_same pointers d p 0xFFFF inside) (entry_some p below)
+    go false e = let other : c ≢ d = grind (arith, nat_tests, e) in rw (get_or-set_other pointers d c p 0xFFFF other) refl

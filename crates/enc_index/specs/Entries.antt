@@ -1,8 +1,7 @@
 -- An index as a table: at each pointer a code point or none.
-use Rattle.std.specs.Prelude.{◌≡◌, ℕ, suc, Bool, true, ◌&&◌, List, [], ◌∷◌, Option, Some, None, IfSome, slice_index_or, nat_le, nat_lt}
-use Rattle.std.specs.BTreeMap.{BTreeMap, get}
-use Rattle.std.specs.Ordering.{nat_cmp}
+use Rattle.std.specs.Prelude.{◌≡◌, ℕ, suc, Bool, true, ◌&&◌, ◌==◌, List, [], ◌∷◌, Option, Some, None, IfSome, length, slice_index, slice_index_or, ◌<◌, nat_le, nat_lt, if◌then◌else◌}
 use Rattle.enc_model.specs.Index.{Index, pointer, pointer_where, pointer_sjis}
+use Rattle.enc_index.specs.Bytes.{byte_char}
 use Rattle.enc_index.specs.Scalars.{is_scalar}
 
 -- the pairs of entries that begin at a pointer
@@ -11,14 +10,25 @@ pairs_from p [] = []
 pairs_from p (None ∷ entries) = pairs_from (suc p) entries
 pairs_from p (Some c ∷ entries) = (p, c) ∷ pairs_from (suc p) entries
 
--- a map from code points to pointers gives the least pointers, of those that a test lets through
-abbrev pub GivesLeast : (ℕ → Bool) → List (Option ℕ) → BTreeMap ℕ ℕ → Type 0
-GivesLeast keeps entries map = (c : ℕ) → get nat_cmp map c ≡ pointer_where keeps (pairs_from 0 entries) c
+-- the pointer at a code point; FFFF for none
+abbrev pub entry : ℕ → Option ℕ
+entry p = if p == 0xFFFF then None else Some p
 
--- the maps from code points to pointers agree with the entries
-pub record AreAgreed (entries : List (Option ℕ)) (pointers sjis_pointers : BTreeMap ℕ ℕ) : Type 0 where
-  pub least : (c : ℕ) → get nat_cmp pointers c ≡ pointer (pairs_from 0 entries) c
-  pub least_sjis : (c : ℕ) → get nat_cmp sjis_pointers c ≡ pointer_sjis (pairs_from 0 entries) c
+-- what a table by code point gives: at each code point its pointer, and none behind the table's end
+abbrev pub found : List ℕ → ℕ → Option ℕ
+found pointers c = entry (slice_index_or pointers c 0xFFFF)
+
+-- a table by code point gives the least pointers, of those that a test lets through
+abbrev pub GivesLeast : (ℕ → Bool) → List (Option ℕ) → List ℕ → Type 0
+GivesLeast keeps entries pointers = (c : ℕ) → found pointers c ≡ pointer_where keeps (pairs_from 0 entries) c
+
+-- the other tables agree with the entries
+pub record AreAgreed (entries in_utf8 : List (Option ℕ)) (bytes_in_utf8 pointers sjis_pointers : List ℕ) : Type 0 where
+  pub ready : in_utf8 ≡ entries
+  pub bytes : length bytes_in_utf8 ≡ 256
+  pub chars : (b : ℕ) → b < 256 → slice_index bytes_in_utf8 b ≡ byte_char (pairs_from 0 entries) b
+  pub least : (c : ℕ) → found pointers c ≡ pointer (pairs_from 0 entries) c
+  pub least_sjis : (c : ℕ) → found sjis_pointers c ≡ pointer_sjis (pairs_from 0 entries) c
 
 -- each entry is none or a scalar value
 abbrev pub AreScalars : List (Option ℕ) → Type 0

@@ -1,4 +1,5 @@
 pub mod Area
+pub mod Bytes
 pub mod Entries
 pub mod Files
 pub mod Kinds

@@ -142,7 +142,7 @@ fn set_of(alloc: Global, area: &[u8]) -> Result<IndexSet, AllocError>
     let jis0212 = table_of(alloc, area, 1, 11280, 8836)?;
     let katakana = table_of(alloc, area, 2, 20116, 63)?;
     let single = single_of(alloc, area)?;
-    Ok(IndexSet::of_tables(jis0208, jis0212, katakana, single))
+    IndexSet::of_tables(alloc, jis0208, jis0212, katakana, single)
 }
 
 /// Whether an area is the set's.

@@ -5,10 +5,10 @@ mod area;
 mod file;
 mod index;
 mod kind;
+mod pointers;
+mod ready;
 mod set;
 mod table;
-#[cfg(test)]
-mod tests;
 mod usable;
 
 pub use area::AREA_SIZE;

@@ -1,31 +1,40 @@
 //! The index files that were set.
 
-ghost use Rattle.std.specs.Prelude.{◌≡◌, ◌<◌, ℕ, Option, IfOk, IfSome, option_copied, length, slice_index_or, replicate};
+ghost use Rattle.std.specs.Prelude.{◌≡◌, ◌<◌, ℕ, Option, None, IfOk, IfSome, MatchOption, option_copied, length, slice_index, slice_index_or, replicate};
 ghost use Rattle.enc_model.specs.Index.{code, pointer, pointer_sjis};
 ghost use Rattle.enc_model.specs.Indexes.{no_indexes, tables, offers, place_of, single_of};
 ghost use Rattle.enc_index.specs.Files.{pointers_of};
 ghost use Rattle.enc_index.specs.Kinds.{table_of, index_of, with_index};
 ghost use Rattle.enc_index.specs.Sets.{IsIndexSet};
 ghost use Rattle.enc_index.specs.Area.{nth_file};
+ghost use Rattle.enc_index.specs.Entries.{found};
+ghost use Rattle.enc_index.specs.Bytes.{byte_char};
 
 use crate::index::Index;
 use crate::kind::Kind;
+use crate::pointers::Pointers;
 use crate::table::Table;
-use enc_model::Encoding;
+use enc_model::{Encoding, Utf8Char};
 use std::alloc::{AllocError, Global};
 use std::marker::Model;
 
 /// How many encodings have a single-byte index.
 const SINGLE_BYTE_ENCODINGS: usize = 15;
 
-/// The index files that were set.
+/// The tables of the files that were set.
 #[derive(Drop)]
-pub struct IndexSet {
+struct Tables {
     jis0208: Option<Table>,
     jis0212: Option<Table>,
     katakana: Option<Table>,
     /// of the fifteen single-byte encodings, in their order
     single: Vec<Option<Table>>,
+}
+
+/// The index files that were set. It is one pointer, so that it is cheap to hand on.
+#[derive(Drop)]
+pub struct IndexSet {
+    tables: Box<Tables>,
 }
 
 impl Model for IndexSet {
@@ -34,9 +43,9 @@ impl Model for IndexSet {
 
     ghost Value = { IndexSet };
 
-    ghost view = { λ s. record { jis0208 = s.jis0208; jis0212 = s.jis0212; katakana = s.katakana; single = s.single.items } };
+    ghost view = { λ s. record { jis0208 = s.tables.value.jis0208; jis0212 = s.tables.value.jis0212; katakana = s.tables.value.katakana; single = s.tables.value.single.items } };
 
-    ghost invariant = { λ s. IsIndexSet (record { jis0208 = s.jis0208; jis0212 = s.jis0212; katakana = s.katakana; single = s.single.items }) };
+    ghost invariant = { λ s. IsIndexSet (record { jis0208 = s.tables.value.jis0208; jis0212 = s.tables.value.jis0212; katakana = s.tables.value.katakana; single = s.tables.value.single.items }) };
 }
 
 /// The place of a single-byte encoding among the fifteen.
@@ -76,37 +85,39 @@ impl IndexSet {
         for _place in 0..SINGLE_BYTE_ENCODINGS {
             single.push(None)?;
         }
-        Ok(IndexSet {
-            jis0208: None,
-            jis0212: None,
-            katakana: None,
-            single,
-        })
+        IndexSet::of_tables(alloc, None, None, None, single)
     }
 
     /// Each index that was set is one of its kind.
     pub(crate) fn valid(&self)
         ensures { IsIndexSet self.now }
     {
-        let _ = &self.jis0208;
+        let _ = &self.tables.jis0208;
     }
 
     /// The set of these tables.
+    ///
+    /// # Errors
+    ///
+    /// `AllocError` if the memory for it is refused.
     pub(crate) fn of_tables(
+        alloc: Global,
         jis0208: Option<Table>,
         jis0212: Option<Table>,
         katakana: Option<Table>,
         single: Vec<Option<Table>>,
-    ) -> IndexSet
+    ) -> Result<IndexSet, AllocError>
         requires { IsIndexSet (record { jis0208 = jis0208; jis0212 = jis0212; katakana = katakana; single = single.items }) }
-        ensures { result ≡ record { jis0208 = jis0208; jis0212 = jis0212; katakana = katakana; single = single.items } }
+        ensures { IfOk result (λ set. set ≡ record { jis0208 = jis0208; jis0212 = jis0212; katakana = katakana; single = single.items }) }
     {
-        IndexSet {
+        let tables = Tables {
             jis0208,
             jis0212,
             katakana,
             single,
-        }
+        };
+        let tables = Box::new(alloc, tables)?;
+        Ok(IndexSet { tables })
     }
 
     /// The table of the n-th of the eighteen files, where it was set.
@@ -114,10 +125,10 @@ impl IndexSet {
         ensures { option_copied result ≡ nth_file self.now n }
     {
         match n {
-            0 => self.jis0208.as_ref(),
-            1 => self.jis0212.as_ref(),
-            2 => self.katakana.as_ref(),
-            _ => match self.single.get(n - 3) {
+            0 => self.tables.jis0208.as_ref(),
+            1 => self.tables.jis0212.as_ref(),
+            2 => self.tables.katakana.as_ref(),
+            _ => match self.tables.single.get(n - 3) {
                 Some(table) => table.as_ref(),
                 None => None,
             },
@@ -131,33 +142,35 @@ impl IndexSet {
     {
         let (kind, table) = index.into_parts();
         match kind {
-            Kind::Jis0208 => self.jis0208 = Some(table),
-            Kind::Jis0212 => self.jis0212 = Some(table),
-            Kind::Katakana => self.katakana = Some(table),
+            Kind::Jis0208 => self.tables.jis0208 = Some(table),
+            Kind::Jis0212 => self.tables.jis0212 = Some(table),
+            Kind::Katakana => self.tables.katakana = Some(table),
             Kind::Single(encoding) => {
                 if let Some(place) = place_of(encoding) {
-                    self.single[place] = Some(table);
+                    self.tables.single[place] = Some(table);
                 }
             }
         }
     }
 
     /// The index of a single-byte encoding, where its file was set.
+    #[inline(always)]
     fn single_table(&self, encoding: Encoding) -> Option<&Table>
         ensures { option_copied result ≡ single_of self.now encoding }
     {
         let place = place_of(encoding)?;
-        self.single[place].as_ref()
+        self.tables.single[place].as_ref()
     }
 
     /// The index of a kind, where its file was set.
+    #[inline(always)]
     fn table(&self, kind: Kind) -> Option<&Table>
         ensures { option_copied result ≡ index_of self.now kind }
     {
         match kind {
-            Kind::Jis0208 => self.jis0208.as_ref(),
-            Kind::Jis0212 => self.jis0212.as_ref(),
-            Kind::Katakana => self.katakana.as_ref(),
+            Kind::Jis0208 => self.tables.jis0208.as_ref(),
+            Kind::Jis0212 => self.tables.jis0212.as_ref(),
+            Kind::Katakana => self.tables.katakana.as_ref(),
             Kind::Single(encoding) => self.single_table(encoding),
         }
     }
@@ -169,37 +182,76 @@ impl IndexSet {
     {
         match encoding {
             Encoding::Utf8 | Encoding::Utf16Be | Encoding::Utf16Le => true,
-            Encoding::ShiftJis => self.jis0208.is_some(),
-            Encoding::EucJp => self.jis0208.is_some() && self.jis0212.is_some(),
-            Encoding::Iso2022Jp => self.jis0208.is_some() && self.katakana.is_some(),
+            Encoding::ShiftJis => self.tables.jis0208.is_some(),
+            Encoding::EucJp => self.tables.jis0208.is_some() && self.tables.jis0212.is_some(),
+            Encoding::Iso2022Jp => self.tables.jis0208.is_some() && self.tables.katakana.is_some(),
             single => self.single_table(single).is_some(),
         }
     }
 
     /// The code point at a pointer of an index. A file that is not set maps nothing.
     #[tactic(auto, using(crate::proofs::Lookups::code_of_none, crate::proofs::Lookups::table_is))]
+    #[inline(always)]
     pub fn code(&self, kind: Kind, pointer: u32) -> Option<char>
         ensures { result ≡ code (table_of (tables self.now) kind) pointer }
     {
         self.table(kind)?.code(pointer)
     }
 
-    /// The least pointer of a code point in an index.
+    /// The code points of an index at their pointers, in UTF-8, where its file was set.
+    #[tactic(auto, using(crate::proofs::Lookups::table_is))]
+    #[inline(always)]
+    pub fn ready(&self, kind: Kind) -> Option<&[Option<Utf8Char>]>
+        ensures { IfSome result (λ s. (p : ℕ) → slice_index_or s.now p None ≡ code (table_of (tables self.now) kind) p) }
+    {
+        Some(self.table(kind)?.ready())
+    }
+
+    /// What the bytes of a single-byte encoding stand for, in UTF-8, where its file was set.
+    #[inline(always)]
+    pub fn ready_bytes(&self, encoding: Encoding) -> Option<&[Utf8Char]>
+        ensures long { IfSome result (λ s. length s.now ≡ 256) }
+        ensures chars { IfSome result (λ s. (b : ℕ) → b < 256 → slice_index s.now b ≡ byte_char ((tables self.now).single encoding) b) }
+    {
+        Some(self.single_table(encoding)?.ready_bytes())
+    }
+
+    /// The least pointers of an index by code point, where its file was set.
     #[tactic(auto, using(crate::proofs::Lookups::pointer_of_none, crate::proofs::Lookups::table_is))]
+    #[inline(always)]
+    fn pointers(&self, kind: Kind) -> Option<&Pointers>
+        ensures value { MatchOption result ((c : ℕ) → pointer (table_of (tables self.now) kind) c ≡ None) (λ p. (c : ℕ) → found p.now c ≡ pointer (table_of (tables self.now) kind) c) }
+        ensures bounded { IfSome result (λ p. (c : ℕ) → IfSome (found p.now c) (λ n. n < pointers_of kind)) }
+    {
+        let _ = &self.tables.jis0208;
+        Some(self.table(kind)?.pointers())
+    }
+
+    /// The least pointers of jis0208 by code point outside 8272..8835, which the encoder of Shift_JIS leaves out.
+    #[tactic(auto, using(crate::proofs::Lookups::pointer_of_none))]
+    #[inline(always)]
+    fn pointers_sjis(&self) -> Option<&Pointers>
+        ensures value { MatchOption result ((c : ℕ) → pointer_sjis (tables self.now).jis0208 c ≡ None) (λ p. (c : ℕ) → found p.now c ≡ pointer_sjis (tables self.now).jis0208 c) }
+        ensures bounded { IfSome result (λ p. (c : ℕ) → IfSome (found p.now c) (λ n. n < 11280)) }
+    {
+        Some(self.tables.jis0208.as_ref()?.pointers_sjis())
+    }
+
+    /// The least pointer of a code point in an index.
+    #[inline(always)]
     pub fn pointer(&self, kind: Kind, c: char) -> Option<u32>
         ensures value { result ≡ pointer (table_of (tables self.now) kind) c }
         ensures bounded { IfSome result (λ p. p < pointers_of kind) }
     {
-        let _ = &self.jis0208;
-        self.table(kind)?.pointer(c)
+        self.pointers(kind)?.find(c)
     }
 
     /// The least pointer of a code point in jis0208 outside 8272..8835, which the encoder of Shift_JIS leaves out.
-    #[tactic(auto, using(crate::proofs::Lookups::pointer_of_none))]
+    #[inline(always)]
     pub fn pointer_sjis(&self, c: char) -> Option<u32>
         ensures value { result ≡ pointer_sjis (tables self.now).jis0208 c }
         ensures bounded { IfSome result (λ p. p < 11280) }
     {
-        self.jis0208.as_ref()?.pointer_sjis(c)
+        self.pointers_sjis()?.find(c)
     }
 }

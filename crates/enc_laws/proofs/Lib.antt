@@ -9,3 +9,8 @@ pub mod Sequences
 pub mod Texts
 pub mod Longest
 pub mod Back
+pub mod Packed
+pub mod Resuming
+pub mod ByAnswers
+pub mod Codes
+pub mod Kept

@@ -1,2 +1,5 @@
 pub mod Subparts
 pub mod WellFormed
+pub mod Resumed
+pub mod Equations
+pub mod IndexFiles

@@ -1,1 +1,3 @@
 pub mod SinglesSteps
+pub mod Fronts
+pub mod Strides

@@ -1,10 +1,17 @@
 -- The steps of the single-byte decoders in one handler are those of each encoding's own.
-use Rattle.std.proofs.Common.{ℕ, zero, suc, ◌≡◌, ◌+◌, ◌*◌, List, [], ◌∷◌, Bool, true, false, Some, Result, Ok, Err, OnOk, length, refl, ap, ◌∙◌}
+use Rattle.std.proofs.Common.{◌++◌, ◌-◌, ◌<◌, None, Option, All, map, slice_index, sym, nat_lt, if◌then◌else◌, ℕ, zero, suc, ◌≡◌, ◌+◌, ◌*◌, List, [], ◌∷◌, Bool, true, false, Some, Result, Ok, Err, OnOk, length, refl, ap, ◌∙◌}
 use Rattle.enc_model.specs.declared.Encoding.{Encoding}
 use Rattle.enc_model.specs.Encode.{Tables}
-use Rattle.enc_model.specs.Stream.{said, after, steps, steps_within}
-use Rattle.enc_model.specs.Japanese.{single}
+use Rattle.std.specs.Prelude.{unwrap_or}
+use Rattle.std.proofs.lemmas.List.Elements.{All-head, All-tail}
+use Rattle.enc_model.specs.declared.Answer.TheVariants.{Point}
+use Rattle.enc_model.specs.Index.{code}
+use Rattle.enc_model.specs.Stream.{Run, said, after, steps, steps_within, all_bytes, byte_of}
+use Rattle.enc_model.proofs.Steps.{steps_bytes}
+use Rattle.enc_index.specs.Bytes.{byte_char}
+use Rattle.enc_model.specs.Japanese.{single, answer_of}
 use Rattle.enc_legacy.specs.Singles.{single_in, single_start}
+use Rattle.enc_legacy.specs.SinglesCalm.{single_in_calm}
 
 in_within : (t : Tables) (n : ℕ) (ended : Bool) (e : Encoding) (bytes : List ℕ) →
     steps_within n (single_in t) ended e bytes ≡ record { text = (steps_within n (single (t.single e)) ended single_start bytes).text; state = e }
@@ -24,3 +31,27 @@ pub same_encoding : {X E : Type 0} (t : Tables) (ended : Bool) (e new : Encoding
     OnOk res (new ≡ (steps (single_in t) ended e bytes).state) → OnOk res (new ≡ e)
 same_encoding t ended e new bytes (Ok x) is = is ∙ ap (λ run. run.state) (single_in_steps t ended e bytes)
 same_encoding t ended e new bytes (Err x) is = tt
+
+-- WHAT THE BYTES STAND FOR
+
+char_said : (t : Bool) (b : ℕ) (o : Option ℕ) → said (if t then Point b else answer_of o) ++ [] ≡ (if t then b else unwrap_or o 0xFFFD) ∷ []
+char_said true b o = refl
+char_said false b None = refl
+char_said false b (Some c) = refl
+
+byte_given : (t : Tables) (e : Encoding) (b : ℕ) → byte_of (single_in t) e b ≡ record { text = byte_char (t.single e) b ∷ []; state = e }
+unfolding single_in
+byte_given t e b = ap (λ z. record { text = z; state = e }) (char_said (nat_lt b 0x80) b (code (t.single e) (b - 0x80)))
+
+-- where a table has at each byte what it stands for
+pub single_chars : (t : Tables) (e : Encoding) (chars bytes : List ℕ) → ((b : ℕ) → b < 256 → slice_index chars b ≡ byte_char (t.single e) b) →
+    All (λ b. b < 256) bytes → map (λ b. slice_index chars b) bytes ≡ (steps (single_in t) false e bytes).text
+single_chars t e chars bytes table all = sym (ap (λ run. run.text) (steps_bytes (single_in t) (single_in_calm t) e bytes) ∙ go bytes all)
+  where
+    go : (bytes : List ℕ) → All (λ b. b < 256) bytes → (all_bytes (byte_of (single_in t)) e bytes).text ≡ map (λ b. slice_index chars b) bytes
+    go [] a = refl
+    go (b ∷ bytes) a =
+        let f = byte_of (single_in t) in
+        ap (λ (r : Run Encoding). r.text ++ (all_bytes f r.state bytes).text) (byte_given t e b)
+        ∙ ap (λ z. byte_char (t.single e) b ∷ z) (go bytes (All-tail (λ x. x < 256) b bytes a))
+        ∙ ap (λ z. z ∷ map (λ x. slice_index chars x) bytes) (sym (table b (All-head (λ x. x < 256) b bytes a)))

@@ -1,7 +1,7 @@
 //! The decoder of EUC-JP.
 
-ghost use Rattle.std.specs.Prelude.{◌≡◌, OnOk, true, false, ◌<◌, ◌≤◌, ◌+◌, [], ◌∷◌, Some, None};
-ghost use Rattle.enc_legacy.specs.EucJpState.{IsEucJpState};
+ghost use Rattle.std.specs.Prelude.{◌≡◌, OnOk, OnSome, IfSome, true, false, ◌<◌, ◌≤◌, ◌+◌, [], ◌∷◌, Some, None};
+ghost use Rattle.enc_legacy.specs.EucJpState.{IsEucJpState, IsRow};
 ghost use Rattle.enc_model.specs.Stream.{restored_bytes, IsCalm, steps};
 ghost use Rattle.enc_model.specs.Sink.{Given};
 ghost use Rattle.enc_model.specs.Japanese.{EucJp, euc_jp, euc_jp_start, euc_jp_pair};
@@ -9,8 +9,10 @@ ghost use Rattle.enc_model.specs.Indexes.{tables};
 ghost use Rattle.enc_model.proofs.Calm.{euc_jp_calm};
 
 use crate::kana::{half_width, pair_answer};
+use crate::stride::{PairReader, Strider, decode_strides, read_pair};
 use enc_index::{IndexSet, Kind};
-use enc_model::{Answer, Decoder, Restored, Sink, feed, finish};
+use enc_model::{Answer, Batch, BlockDecoder, Decoder, Restored, Sink, Utf8Char, feed, finish};
+use lane_kernels::ascii_front;
 use std::marker::Model;
 
 /// A decoder of EUC-JP (Encoding Standard, section 12.1.1): the lead that is kept, or 0, and whether it is one of jis0212.
@@ -60,6 +62,7 @@ impl Decoder for EucJpState {
 
     ghost handler = { λ t. euc_jp (tables t).jis0208 (tables t).jis0212 };
 
+    #[inline(always)]
     #[tactic(auto, unfolding(enc_model::specs::Japanese::euc_jp))]
     fn read(&mut self, indexes: &IndexSet, byte: Option<u8>) -> (Answer, Restored) {
         let (lead, flag) = self.kept();
@@ -88,6 +91,56 @@ impl Decoder for EucJpState {
     }
 
     ghost calm = { λ t. euc_jp_calm (tables t).jis0208 (tables t).jis0212 };
+}
+
+/// The character of jis0208 that two bytes stand for where none is kept.
+#[inline(always)]
+fn ready_pair(indexes: &IndexSet, lead: u8, b: u8) -> Option<&Utf8Char>
+    ensures lead { OnSome result (IsRow lead) }
+    ensures char { IfSome result (λ c. euc_jp_pair (tables indexes.now).jis0208 (tables indexes.now).jis0212 false lead b ≡ Some c.now) }
+{
+    if lead < 0xA1 || 0xFE < lead || b < 0xA1 || 0xFE < b {
+        return None;
+    }
+    let pointer = (lead as usize - 0xA1) * 94 + (b as usize - 0xA1);
+    indexes.ready(Kind::Jis0208)?.get(pointer)?.as_ref()
+}
+
+impl PairReader for EucJpState {
+    #[inline(always)]
+    fn takes_ascii(&self, _indexes: &IndexSet) -> bool {
+        self.lead == 0
+    }
+
+    #[inline(always)]
+    fn ready_pair<'a>(&self, indexes: &'a IndexSet, first: u8, second: u8) -> Option<&'a Utf8Char> {
+        if self.lead != 0 {
+            return None;
+        }
+        ready_pair(indexes, first, second)
+    }
+}
+
+impl Strider for EucJpState {
+    #[inline(always)]
+    fn stride(&mut self, indexes: &IndexSet, rest: &[u8], batch: &mut Batch) -> usize {
+        read_pair(self, indexes, rest, batch)
+    }
+}
+
+impl BlockDecoder for EucJpState {
+    #[tactic(auto, using(enc_model::proofs::Fronts::front_none, crate::proofs::Fronts::euc_front))]
+    fn front(&self, _indexes: &IndexSet, bytes: &[u8]) -> usize {
+        if self.lead == 0 {
+            ascii_front(bytes)
+        } else {
+            0
+        }
+    }
+
+    fn decode_block(&mut self, indexes: &IndexSet, block: &[u8], batch: &mut Batch) {
+        decode_strides(self, indexes, block, batch);
+    }
 }
 
 impl EucJpState {

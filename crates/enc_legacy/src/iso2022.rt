@@ -1,6 +1,6 @@
 //! The decoder of ISO-2022-JP.
 
-ghost use Rattle.std.specs.Prelude.{◌≡◌, OnOk, true, ◌≤◌, ℕ, false, [], ◌∷◌, Some, None};
+ghost use Rattle.std.specs.Prelude.{◌≡◌, OnOk, OnSome, IfSome, ◌+◌, ◌-◌, ◌*◌, true, ◌≤◌, ℕ, false, [], ◌∷◌, Some, None};
 ghost use Rattle.enc_legacy.specs.Iso2022State.{IsStand};
 ghost use Rattle.enc_model.specs.Stream.{restored_bytes, IsCalm, steps};
 ghost use Rattle.enc_model.specs.Sink.{Given};
@@ -10,8 +10,13 @@ ghost use Rattle.enc_model.proofs.Calm.{iso2022_calm};
 ghost use Rattle.enc_model.specs.Indexes.{tables};
 
 use crate::kana::{answer_for, half_width};
+use crate::stride::{Strider, decode_strides};
 use enc_index::{IndexSet, Kind};
-use enc_model::{Answer, Charset, Decoder, Introducer, Place, Restored, Sink, feed, finish};
+use enc_model::{
+    Answer, Batch, BlockDecoder, Charset, Decoder, Introducer, Place, Restored, Sink, Utf8Char,
+    decode_each, feed, finish,
+};
+use lane_kernels::plain_front_2022;
 use std::marker::Model;
 
 /// A decoder of ISO-2022-JP (Encoding Standard, section 12.2.1): where it stands, the output state, to which an escape that
@@ -174,6 +179,7 @@ impl Decoder for Iso2022State {
 
     ghost handler = { λ t. iso2022 (tables t).jis0208 };
 
+    #[inline(always)]
     #[tactic(auto, unfolding(enc_model::specs::Japanese::iso2022))]
     fn read(&mut self, indexes: &IndexSet, byte: Option<u8>) -> (Answer, Restored) {
         let Some(b) = byte else {
@@ -220,6 +226,57 @@ impl Decoder for Iso2022State {
     }
 
     ghost calm = { λ t. iso2022_calm (tables t).jis0208 };
+}
+
+/// The character of jis0208 that two bytes stand for.
+#[inline(always)]
+fn ready_pair(indexes: &IndexSet, lead: u8, b: u8) -> Option<&Utf8Char>
+    ensures lead { OnSome result ((0x21 ≤ lead) × (lead ≤ 0x7E)) }
+    ensures trail { OnSome result ((0x21 ≤ b) × (b ≤ 0x7E)) }
+    ensures char { IfSome result (λ c. code (tables indexes.now).jis0208 ((lead - 0x21) * 94 + (b - 0x21)) ≡ Some c.now) }
+{
+    if lead < 0x21 || 0x7E < lead || b < 0x21 || 0x7E < b {
+        return None;
+    }
+    let pointer = (lead as usize - 0x21) * 94 + (b as usize - 0x21);
+    indexes.ready(Kind::Jis0208)?.get(pointer)?.as_ref()
+}
+
+impl Strider for Iso2022State {
+    #[inline(always)]
+    fn stride(&mut self, indexes: &IndexSet, rest: &[u8], batch: &mut Batch) -> usize {
+        match self.place {
+            Place::In(Charset::Ascii) => {
+                let run = plain_front_2022(rest);
+                if run > 0 {
+                    batch.push_ascii(&rest[..run]);
+                    self.flag = false;
+                    return run;
+                }
+            }
+            Place::In(Charset::Lead) if rest.len() >= 2 => {
+                if let Some(code) = ready_pair(indexes, rest[0], rest[1]) {
+                    batch.push_code(code);
+                    self.flag = false;
+                    return 2;
+                }
+            }
+            _ => {}
+        }
+        decode_each(self, indexes, &rest[..1], batch);
+        1
+    }
+}
+
+impl BlockDecoder for Iso2022State {
+    #[tactic(auto, using(enc_model::proofs::Fronts::front_none))]
+    fn front(&self, _indexes: &IndexSet, _bytes: &[u8]) -> usize {
+        0
+    }
+
+    fn decode_block(&mut self, indexes: &IndexSet, block: &[u8], batch: &mut Batch) {
+        decode_strides(self, indexes, block, batch);
+    }
 }
 
 impl Iso2022State {

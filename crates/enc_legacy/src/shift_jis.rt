@@ -1,6 +1,6 @@
 //! The decoder of Shift_JIS.
 
-ghost use Rattle.std.specs.Prelude.{◌≡◌, OnOk, true, false, ◌⊎◌, ◌<◌, ◌≤◌, ◌+◌, ℕ, [], ◌∷◌, Some, None};
+ghost use Rattle.std.specs.Prelude.{◌≡◌, OnOk, OnSome, IfSome, true, false, ◌⊎◌, ◌<◌, ◌≤◌, ◌+◌, ℕ, [], ◌∷◌, Some, None};
 ghost use Rattle.enc_legacy.specs.ShiftJis.{IsShiftJisLead, IsShiftJisState};
 ghost use Rattle.enc_model.specs.Stream.{restored_bytes, IsCalm, steps};
 ghost use Rattle.enc_model.specs.Sink.{Given};
@@ -9,8 +9,10 @@ ghost use Rattle.enc_model.specs.Indexes.{tables};
 ghost use Rattle.enc_model.proofs.Calm.{shift_jis_calm};
 
 use crate::kana::{half_width, pair_answer};
+use crate::stride::{PairReader, Strider, decode_strides, read_pair};
 use enc_index::{IndexSet, Kind};
-use enc_model::{Answer, Decoder, Restored, Sink, feed, finish};
+use enc_model::{Answer, Batch, BlockDecoder, Decoder, Restored, Sink, Utf8Char, feed, finish};
+use lane_kernels::ascii_front;
 use std::marker::Model;
 
 /// A decoder of Shift_JIS (Encoding Standard, section 12.3.1): the lead that is kept, or 0.
@@ -58,6 +60,7 @@ impl Decoder for ShiftJisState {
 
     ghost handler = { λ t. shift_jis (tables t).jis0208 };
 
+    #[inline(always)]
     #[tactic(auto, unfolding(enc_model::specs::Japanese::shift_jis))]
     fn read(&mut self, indexes: &IndexSet, byte: Option<u8>) -> (Answer, Restored) {
         let lead = self.lead();
@@ -84,6 +87,65 @@ impl Decoder for ShiftJisState {
     }
 
     ghost calm = { λ t. shift_jis_calm (tables t).jis0208 };
+}
+
+/// The character of jis0208 that two bytes stand for where none is kept.
+#[inline(always)]
+fn ready_pair(indexes: &IndexSet, lead: u8, b: u8) -> Option<&Utf8Char>
+    ensures lead { OnSome result (IsShiftJisLead lead) }
+    ensures char { IfSome result (λ c. shift_jis_pair (tables indexes.now).jis0208 lead b ≡ Some c.now) }
+{
+    if !(0x81 <= lead && lead <= 0x9F || 0xE0 <= lead && lead <= 0xFC) {
+        return None;
+    }
+    if b < 0x40 || b == 0x7F || 0xFC < b {
+        return None;
+    }
+    let pointer = shift_jis_pointer(lead, b);
+    if 8836 <= pointer && pointer <= 10715 {
+        return None;
+    }
+    indexes
+        .ready(Kind::Jis0208)?
+        .get(pointer as usize)?
+        .as_ref()
+}
+
+impl PairReader for ShiftJisState {
+    #[inline(always)]
+    fn takes_ascii(&self, _indexes: &IndexSet) -> bool {
+        self.lead == 0
+    }
+
+    #[inline(always)]
+    fn ready_pair<'a>(&self, indexes: &'a IndexSet, first: u8, second: u8) -> Option<&'a Utf8Char> {
+        if self.lead != 0 {
+            return None;
+        }
+        ready_pair(indexes, first, second)
+    }
+}
+
+impl Strider for ShiftJisState {
+    #[inline(always)]
+    fn stride(&mut self, indexes: &IndexSet, rest: &[u8], batch: &mut Batch) -> usize {
+        read_pair(self, indexes, rest, batch)
+    }
+}
+
+impl BlockDecoder for ShiftJisState {
+    #[tactic(auto, using(enc_model::proofs::Fronts::front_none, crate::proofs::Fronts::sjis_front))]
+    fn front(&self, _indexes: &IndexSet, bytes: &[u8]) -> usize {
+        if self.lead == 0 {
+            ascii_front(bytes)
+        } else {
+            0
+        }
+    }
+
+    fn decode_block(&mut self, indexes: &IndexSet, block: &[u8], batch: &mut Batch) {
+        decode_strides(self, indexes, block, batch);
+    }
 }
 
 impl ShiftJisState {

@@ -9,8 +9,12 @@ ghost use Rattle.enc_legacy.specs.Singles.{single_in, single_start};
 ghost use Rattle.enc_legacy.specs.SinglesCalm.{single_in_calm};
 
 use crate::kana::answer_for;
+use crate::stride::{Strider, decode_strides};
 use enc_index::{IndexSet, Kind};
-use enc_model::{Answer, Decoder, Encoding, Restored, Sink, feed, finish};
+use enc_model::{
+    Answer, Batch, BlockDecoder, Decoder, Encoding, Restored, Sink, decode_each, feed, finish,
+};
+use lane_kernels::ascii_front;
 use std::marker::Model;
 
 /// A decoder of a single-byte encoding (Encoding Standard, section 9.1), which keeps nothing but which one it is.
@@ -32,6 +36,7 @@ impl Decoder for SingleState {
 
     ghost handler = { λ t. single_in (tables t) };
 
+    #[inline(always)]
     #[tactic(auto, unfolding(crate::specs::Singles::single_in))]
     fn read(&mut self, indexes: &IndexSet, byte: Option<u8>) -> (Answer, Restored) {
         let answer = match byte {
@@ -43,6 +48,36 @@ impl Decoder for SingleState {
     }
 
     ghost calm = { λ t. single_in_calm (tables t) };
+}
+
+/// How many bytes of ASCII are taken at once.
+const LANES: usize = 32;
+
+impl Strider for SingleState {
+    #[inline(always)]
+    fn stride(&mut self, indexes: &IndexSet, rest: &[u8], batch: &mut Batch) -> usize {
+        if rest.len() >= LANES && ascii_front(&rest[..LANES]) == LANES {
+            batch.push_ascii(&rest[..LANES]);
+            return LANES;
+        }
+        let end = LANES.min(rest.len());
+        match indexes.ready_bytes(self.encoding) {
+            Some(chars) => batch.push_each(chars, &rest[..end]),
+            None => decode_each(self, indexes, &rest[..end], batch),
+        }
+        end
+    }
+}
+
+impl BlockDecoder for SingleState {
+    #[tactic(auto, using(enc_model::proofs::Fronts::front_none, crate::proofs::Fronts::single_front))]
+    fn front(&self, _indexes: &IndexSet, bytes: &[u8]) -> usize {
+        ascii_front(bytes)
+    }
+
+    fn decode_block(&mut self, indexes: &IndexSet, block: &[u8], batch: &mut Batch) {
+        decode_strides(self, indexes, block, batch);
+    }
 }
 
 impl SingleState {

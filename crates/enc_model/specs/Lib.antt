@@ -6,6 +6,10 @@ pub mod Japanese
 pub mod Encode
 pub mod Decode
 pub mod Sink
+pub mod Front
+pub mod Utf8Chars
+pub mod Batches
+pub mod BatchLaws
 pub mod Transcode
 pub mod Indexes
 pub mod Prefix

@@ -1,10 +1,19 @@
 //! A handler over pieces.
 
-ghost use Rattle.std.specs.Prelude.{◌≡◌, ℕ, ◌<◌, List, [], ◌∷◌, true, false, Option, None, OnOk};
+ghost use Rattle.std.specs.Prelude.{◌≡◌, ◌≤◌, length, ℕ, ◌<◌, List, [], ◌∷◌, true, false, Option, None, OnOk, IfOk, IfErr, take, ◌+◌, ◌*◌};
+ghost use Rattle.enc_model.specs.Front.{IsFront};
+ghost use Rattle.enc_model.specs.Batches.{BatchTook};
 ghost use Rattle.enc_model.specs.Stream.{Step, Handler, Run, IsCalm, restored_bytes, said, steps, quick, all_bytes, end_to};
 ghost use Rattle.enc_model.specs.Sink.{Given};
 
+use crate::batch::{BLOCK, Batch, ROOM};
 use crate::{Answer, Restored, Sink};
+
+/// From how many bytes on an ASCII front is given to the sink as it is.
+const LONG_FRONT: usize = 64;
+
+/// How much of one is given at once: so little that it is still in the nearest cache when the sink copies it.
+const FRONT_STEP: usize = 512;
 
 /// A decoder's state, and its handler.
 pub trait Decoder {
@@ -22,7 +31,21 @@ pub trait Decoder {
     ghost calm: { (t : Self.Tables) → IsCalm (handler t) };
 }
 
+/// A decoder that reads a block of bytes at once. It stands apart from `Decoder`, since its bodies call functions over that.
+pub trait BlockDecoder: Decoder {
+    /// How many bytes at the front are ASCII and stand for themselves from here, as far as it looks.
+    fn front(&self, tables: &Self::Tables, bytes: &[u8]) -> usize
+        ensures { IsFront (Self.handler tables.now) self.now bytes.now result };
+
+    /// The steps over a block, for whose text a batch surely has room. `decode_each` does this for every decoder.
+    fn decode_block(&mut self, tables: &Self::Tables, block: &[u8], batch: &mut Batch)
+        requires { length batch.old + 12 * length block.now ≤ ROOM }
+        ensures text { BatchTook batch.old (steps (Self.handler tables.now) false self.old block.now).text batch.new }
+        ensures state { self.new ≡ (steps (Self.handler tables.now) false self.old block.now).state };
+}
+
 /// Gives the sink what an answer says.
+#[inline(always)]
 fn say<S: Sink>(answer: Answer, sink: &mut S) -> Result<(), S::Refusal>
     ensures { Given S.takes S.refuses sink.old (said answer) sink.new result }
 {
@@ -34,6 +57,7 @@ fn say<S: Sink>(answer: Answer, sink: &mut S) -> Result<(), S::Refusal>
 }
 
 /// Reads a byte that restores nothing.
+#[cold]
 fn again<D: Decoder, S: Sink>(
     state: &mut D,
     tables: &D::Tables,
@@ -48,6 +72,7 @@ fn again<D: Decoder, S: Sink>(
 }
 
 /// Reads restored bytes, which restore nothing.
+#[inline(always)]
 fn reread<D: Decoder, S: Sink>(
     state: &mut D,
     tables: &D::Tables,
@@ -68,6 +93,7 @@ fn reread<D: Decoder, S: Sink>(
 }
 
 /// Reads a byte, and what it restores.
+#[inline(always)]
 fn step<D: Decoder, S: Sink>(
     state: &mut D,
     tables: &D::Tables,
@@ -82,8 +108,8 @@ fn step<D: Decoder, S: Sink>(
     reread(state, tables, restored, sink)
 }
 
-/// The steps over a piece, from any state.
-pub fn feed<D: Decoder, S: Sink>(
+/// The steps over a piece, from any state, each character given to the sink alone.
+pub fn feed_each<D: Decoder, S: Sink>(
     state: &mut D,
     tables: &D::Tables,
     piece: &[u8],
@@ -96,6 +122,114 @@ pub fn feed<D: Decoder, S: Sink>(
         step(state, tables, *byte, sink)?;
     }
     Ok(())
+}
+
+/// The steps over bytes, for whose text a batch surely has room, character by character.
+#[inline(always)]
+pub fn decode_each<D: Decoder>(state: &mut D, tables: &D::Tables, bytes: &[u8], batch: &mut Batch)
+    requires { length batch.old + 12 * length bytes.now ≤ ROOM }
+    ensures text { BatchTook batch.old (steps (D.handler tables.now) false state.old bytes.now).text batch.new }
+    ensures state { state.new ≡ (steps (D.handler tables.now) false state.old bytes.now).state }
+{
+    match feed_each(state, tables, bytes, batch) {
+        Ok(()) => {}
+        Err(_) => unreachable!(),
+    }
+}
+
+/// How many bytes at the front, as far as is given at once, are ASCII and stand for themselves from here.
+#[inline(always)]
+fn next_front<D: BlockDecoder>(state: &D, tables: &D::Tables, rest: &[u8]) -> usize
+    ensures { IsFront (D.handler tables.now) state.now rest.now result }
+{
+    let end = FRONT_STEP.min(rest.len());
+    state.front(tables, &rest[..end])
+}
+
+/// Goes on at the rest of a piece, and says how far: over a long front of ASCII, or else over a block.
+fn advance<D: BlockDecoder, S: Sink>(
+    state: &mut D,
+    tables: &D::Tables,
+    rest: &[u8],
+    batch: &mut Batch,
+    sink: &mut S,
+) -> Result<usize, S::Refusal>
+    requires { 0 < length rest.now }
+    ensures some { IfOk result (λ n. (0 < n) × (n ≤ length rest.now)) }
+    ensures taken { IfOk result (λ n. S.takes sink.old (steps (D.handler tables.now) false state.old (take n rest.now)).text sink.new) }
+    ensures refused { IfErr result (λ e. S.refuses sink.old (steps (D.handler tables.now) false state.old rest.now).text e sink.new) }
+    ensures state { IfOk result (λ n. state.new ≡ (steps (D.handler tables.now) false state.old (take n rest.now)).state) }
+{
+    let front = next_front(state, tables, rest);
+    if LONG_FRONT <= front {
+        sink.ascii(&rest[..front])?;
+        return Ok(front);
+    }
+    let end = BLOCK.min(rest.len());
+    batch.clear();
+    state.decode_block(tables, &rest[..end], batch);
+    sink.text(batch.as_str())?;
+    Ok(end)
+}
+
+/// The steps over a piece, by long fronts and blocks.
+fn feed_blocks<D: BlockDecoder, S: Sink>(
+    state: &mut D,
+    tables: &D::Tables,
+    piece: &[u8],
+    sink: &mut S,
+) -> Result<(), S::Refusal>
+    ensures given { Given S.takes S.refuses sink.old (steps (D.handler tables.now) false state.old piece.now).text sink.new result }
+    ensures state { OnOk result (state.new ≡ (steps (D.handler tables.now) false state.old piece.now).state) }
+{
+    let mut batch = Batch::new();
+    let mut at = 0;
+    while at < piece.len() {
+        at += advance(state, tables, &piece[at..], &mut batch, sink)?;
+    }
+    Ok(())
+}
+
+/// Gives the sink the long fronts of ASCII that a piece begins with, and says how long they are together.
+fn give_fronts<D: BlockDecoder, S: Sink>(
+    state: &D,
+    tables: &D::Tables,
+    piece: &[u8],
+    sink: &mut S,
+) -> Result<usize, S::Refusal>
+    ensures within { IfOk result (λ n. n ≤ length piece.now) }
+    ensures taken { IfOk result (λ n. S.takes sink.old (steps (D.handler tables.now) false state.now (take n piece.now)).text sink.new) }
+    ensures refused { IfErr result (λ e. S.refuses sink.old (steps (D.handler tables.now) false state.now piece.now).text e sink.new) }
+    ensures state { IfOk result (λ n. state.now ≡ (steps (D.handler tables.now) false state.now (take n piece.now)).state) }
+{
+    let mut at = 0;
+    while at < piece.len() {
+        let rest = &piece[at..];
+        let front = next_front(state, tables, rest);
+        if front < LONG_FRONT {
+            return Ok(at);
+        }
+        sink.ascii(&rest[..front])?;
+        at += front;
+    }
+    Ok(at)
+}
+
+/// The steps over a piece, from any state. Where all of it is ASCII, nothing is made ready for blocks.
+pub fn feed<D: BlockDecoder, S: Sink>(
+    state: &mut D,
+    tables: &D::Tables,
+    piece: &[u8],
+    sink: &mut S,
+) -> Result<(), S::Refusal>
+    ensures given { Given S.takes S.refuses sink.old (steps (D.handler tables.now) false state.old piece.now).text sink.new result }
+    ensures state { OnOk result (state.new ≡ (steps (D.handler tables.now) false state.old piece.now).state) }
+{
+    let front = give_fronts(state, tables, piece, sink)?;
+    if front == piece.len() {
+        return Ok(());
+    }
+    feed_blocks(state, tables, &piece[front..], sink)
 }
 
 /// The end, with so many answers at most.

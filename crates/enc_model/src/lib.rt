@@ -1,14 +1,19 @@
 //! The encodings and their decoders, as definitions.
 #![tactic(auto)]
 
+mod batch;
 mod decoder;
 mod laws;
+mod utf8_char;
 
 ghost use Rattle.std.specs.Prelude.{ℕ, ◌<◌, List, [], ◌∷◌, All};
+ghost use Rattle.std.specs.Str.{chars};
 ghost use Rattle.enc_model.specs.Sink.{Given, IsSink};
 
-pub use decoder::{Decoder, feed, finish};
+pub use batch::{BLOCK, Batch, ROOM};
+pub use decoder::{BlockDecoder, Decoder, decode_each, feed, feed_each, finish};
 pub use laws::{in_any_cut, restored_in_front, text_grows, with_a_bom};
+pub use utf8_char::Utf8Char;
 
 /// An encoding of the profile.
 #[derive(Clone, Copy, Debug, PartialEq, Eq)]
@@ -83,6 +88,10 @@ pub trait Sink {
     fn ascii(&mut self, run: &[u8]) -> Result<(), Self::Refusal>
         requires { All (λ b. b < 128) run.now }
         ensures { Given takes refuses self.old run.now self.new result };
+
+    /// Takes a text.
+    fn text(&mut self, run: &str) -> Result<(), Self::Refusal>
+        ensures { Given takes refuses self.old (chars run.now) self.new result };
 
     ghost is_sink: { IsSink takes refuses };
 }

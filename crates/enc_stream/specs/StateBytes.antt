@@ -17,7 +17,7 @@ use Rattle.enc_model.specs.Encode.{Shift, InAscii, InRoman, InJis}
 use Rattle.enc_model.specs.Decode.{Decoding, OfUtf8, OfUtf16, OfShiftJis, OfEucJp, OfIso2022, OfSingle, undecided}
 use Rattle.enc_model.specs.Transcode.{Transcoder, Phase, Before, During, Over}
 use Rattle.enc_unicode.specs.Utf8State.{IsBehind}
-use Rattle.enc_unicode.specs.Utf16State.{IsKept}
+use Rattle.lane_kernels.specs.Units.{IsCarried}
 use Rattle.enc_legacy.specs.ShiftJis.{IsShiftJisState}
 use Rattle.enc_legacy.specs.EucJpState.{IsEucJpState}
 use Rattle.enc_legacy.specs.Iso2022State.{IsStand}
@@ -183,7 +183,7 @@ IsByte (Some b) = b < 256
 -- a decoder's state is one that it can be in
 abbrev pub IsReached : Decoding → Type 0
 IsReached (OfUtf8 s) = IsBehind s × (length s.kept ≤ 3)
-IsReached (OfUtf16 big s) = IsByte s.byte × IsKept s.lead
+IsReached (OfUtf16 big s) = IsByte s.byte × IsCarried s.lead
 IsReached (OfShiftJis lead) = IsShiftJisState lead
 IsReached (OfEucJp s) = IsEucJpState s.lead s.flag
 IsReached (OfIso2022 s) = IsStand s.place s.output s.flag

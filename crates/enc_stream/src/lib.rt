@@ -14,8 +14,3 @@ mod written;
 pub use error::TranscodeError;
 pub use progress::Progress;
 pub use transcoder::Transcoder;
-
-#[cfg(test)]
-mod data_tests;
-#[cfg(test)]
-mod tests;

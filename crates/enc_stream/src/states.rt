@@ -8,7 +8,7 @@ ghost use Rattle.enc_model.specs.Decode.{OfUtf8, OfUtf16, OfShiftJis, OfEucJp, O
 ghost use Rattle.enc_legacy.specs.ShiftJis.{IsShiftJisState};
 ghost use Rattle.enc_legacy.specs.EucJpState.{IsEucJpState};
 ghost use Rattle.enc_legacy.specs.Iso2022State.{IsStand};
-ghost use Rattle.enc_unicode.specs.Orders.{is_big};
+ghost use Rattle.lane_kernels.specs.Orders.{is_big};
 ghost use Rattle.enc_stream.specs.StateBytes.{IsReached, padded, decoder_bytes};
 
 use crate::numbers::{charset_at, number_of_charset};

@@ -1,2 +1,5 @@
 pub mod Behind
 pub mod Rows
+pub mod Advances
+pub mod Scalars
+pub mod Scans

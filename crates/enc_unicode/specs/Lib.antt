@@ -1,4 +1,3 @@
 pub mod Nowhere
-pub mod Orders
 pub mod Utf8State
 pub mod Utf16State

@@ -1,38 +1,18 @@
 //! The decoder of UTF-16.
 
 ghost use Rattle.std.specs.Prelude.{◌≡◌, OnOk, true, false, ◌<◌, ◌≤◌, ◌+◌, ◌-◌, ◌*◌, [], ◌∷◌, Some, None};
-ghost use Rattle.enc_unicode.specs.Utf16State.{IsLead, IsTrail, IsKept, InOrder};
-ghost use Rattle.enc_unicode.specs.Orders.{is_big};
+ghost use Rattle.enc_unicode.specs.Utf16State.{InOrder};
+ghost use Rattle.lane_kernels.specs.Orders.{is_big};
+ghost use Rattle.lane_kernels.specs.Units.{IsCarried};
 ghost use Rattle.enc_model.specs.Stream.{restored_bytes, IsCalm, steps};
 ghost use Rattle.enc_model.specs.Sink.{Given};
 ghost use Rattle.enc_model.specs.Utf16.{Utf16, utf16, utf16_start, unit_of, utf16_unit, utf16_end};
 ghost use Rattle.enc_model.proofs.Calm.{utf16_calm};
 
-use crate::order::Order;
-use enc_model::{Answer, Decoder, Restored, Sink, feed, finish};
+use crate::blocks::decode_block;
+use enc_model::{Answer, Batch, BlockDecoder, Decoder, Restored, Sink, feed, finish};
+use lane_kernels::{Order, Pairing, paired, unit_in};
 use std::marker::Model;
-
-/// The unit of two bytes.
-fn unit_in(order: Order, first: u8, second: u8) -> u16
-    ensures { result ≡ unit_of (is_big order) first second }
-{
-    match order {
-        Order::Big => first as u16 * 256 + second as u16,
-        Order::Little => second as u16 * 256 + first as u16,
-    }
-}
-
-/// The code point of a pair of surrogates.
-fn paired(lead: u16, trail: u16) -> char
-    requires lead { IsLead lead }
-    requires trail { IsTrail trail }
-    ensures { result ≡ 0x10000 + (lead - 0xD800) * 0x400 + (trail - 0xDC00) }
-{
-    match char::from_u32(0x10000 + (lead as u32 - 0xD800) * 0x400 + (trail as u32 - 0xDC00)) {
-        Some(c) => c,
-        None => unreachable!(),
-    }
-}
 
 /// What is kept of the bytes so far: the first byte of a unit, and a lead surrogate.
 #[derive(Drop)]
@@ -46,7 +26,7 @@ impl Model for Units {
 
     ghost view = { λ s. record { byte = s.byte; lead = s.lead } };
 
-    ghost invariant = { λ s. IsKept s.lead };
+    ghost invariant = { λ s. IsCarried s.lead };
 }
 
 impl Units {
@@ -137,6 +117,20 @@ impl Decoder for Units {
     ghost calm = { λ order. utf16_calm (is_big order) };
 }
 
+impl BlockDecoder for Units {
+    #[tactic(auto, using(enc_model::proofs::Fronts::front_none))]
+    fn front(&self, _order: &Order, _bytes: &[u8]) -> usize {
+        0
+    }
+
+    fn decode_block(&mut self, order: &Order, block: &[u8], batch: &mut Batch) {
+        let mut pairing = Pairing::carrying(self.byte, self.lead);
+        decode_block(&mut pairing, *order, block, batch);
+        self.byte = pairing.odd();
+        self.lead = pairing.lead();
+    }
+}
+
 /// A decoder of UTF-16 (Encoding Standard, section 14.2.1), in the order that it was made with.
 #[derive(Drop)]
 pub struct Utf16State {
@@ -163,7 +157,7 @@ impl Utf16State {
 
     /// A decoder that keeps this: the first byte of a unit, and a lead surrogate.
     pub fn keeping(order: Order, byte: Option<u8>, lead: Option<u16>) -> Self
-        requires { IsKept lead }
+        requires { IsCarried lead }
         ensures { result ≡ record { big = is_big order; state = record { byte = byte; lead = lead } } }
     {
         Utf16State {
@@ -189,7 +183,7 @@ impl Utf16State {
     /// The lead surrogate that is kept.
     pub fn lead(&self) -> Option<u16>
         ensures value { result ≡ self.now.state.lead }
-        ensures surrogate { IsKept result }
+        ensures surrogate { IsCarried result }
     {
         self.units.lead
     }

@@ -1,14 +1,18 @@
 //! The decoder of UTF-8.
 
-ghost use Rattle.std.specs.Prelude.{◌≡◌, ◌≢◌, IfSome, IfNone, OnOk, true, false, ◌<◌, ◌≤◌, ◌+◌, [], ◌∷◌, length, take, Some};
+ghost use Rattle.std.specs.Prelude.{◌≡◌, ◌≢◌, IfSome, IfNone, IfOk, IfErr, OnOk, true, false, ◌<◌, ◌≤◌, ◌+◌, ◌*◌, [], ◌∷◌, length, take, Some};
 ghost use Rattle.enc_unicode.specs.Utf8State.{IsUtf8State, IsBehind, utf8_behind};
 ghost use Rattle.enc_model.specs.Stream.{restored_bytes, IsCalm, steps};
 ghost use Rattle.enc_model.specs.Sink.{Given};
+ghost use Rattle.enc_model.specs.Batches.{BatchTook};
 ghost use Rattle.enc_model.specs.Utf8.{Utf8, utf8, utf8_start, utf8_first, utf8_next};
 ghost use Rattle.enc_unicode.specs.Nowhere.{nowhere_sink};
 ghost use Rattle.enc_model.proofs.Calm.{utf8_calm};
 
-use enc_model::{Answer, Decoder, Restored, Sink, feed, finish};
+use crate::well_formed::{
+    FIRST_REACH, block_len, next_reach, reach_behind_text, text_before_fault, text_within,
+};
+use enc_model::{Answer, BLOCK, Batch, Decoder, ROOM, Restored, Sink, decode_each, finish};
 use std::convert::Infallible;
 use std::marker::Model;
 
@@ -166,6 +170,10 @@ impl Sink for Nowhere {
         Ok(())
     }
 
+    fn text(&mut self, _run: &str) -> Result<(), Infallible> {
+        Ok(())
+    }
+
     ghost is_sink = { nowhere_sink };
 }
 
@@ -174,6 +182,7 @@ impl Decoder for Utf8State {
 
     ghost handler = { λ t. utf8 };
 
+    #[inline(always)]
     #[tactic(auto, unfolding(enc_model::specs::Utf8::utf8))]
     fn read(&mut self, _tables: &(), byte: Option<u8>) -> (Answer, Restored) {
         let Some(b) = byte else {
@@ -206,7 +215,132 @@ impl Utf8State {
         ensures given { Given S.takes S.refuses sink.old (steps utf8 false self.old piece.now).text sink.new result }
         ensures state { OnOk result (self.new ≡ (steps utf8 false self.old piece.now).state) }
     {
-        feed(self, &(), piece, sink)
+        let front = self.give_texts(piece, sink)?;
+        if front == piece.len() {
+            return Ok(());
+        }
+        self.feed_parts(&piece[front..], sink)
+    }
+
+    /// Gives the sink the texts that bytes begin with, one window after the other, and says how far they go.
+    fn give_texts<S: Sink>(&self, bytes: &[u8], sink: &mut S) -> Result<usize, S::Refusal>
+        ensures within { IfOk result (λ n. n ≤ length bytes.now) }
+        ensures taken { IfOk result (λ n. S.takes sink.old (steps utf8 false self.now (take n bytes.now)).text sink.new) }
+        ensures refused { IfErr result (λ e. S.refuses sink.old (steps utf8 false self.now bytes.now).text e sink.new) }
+        ensures state { IfOk result (λ n. self.now ≡ (steps utf8 false self.now (take n bytes.now)).state) }
+    {
+        let mut at = 0;
+        let mut reach = FIRST_REACH;
+        'by_windows: while at < bytes.len() {
+            let found = self.text_in_front(&bytes[at..], reach);
+            if found.is_empty() {
+                break;
+            }
+            sink.text(found)?;
+            at += found.len();
+            reach = reach_behind_text(reach, found.len());
+        }
+        Ok(at)
+    }
+
+    /// The steps over a piece, at whose front a text was looked for already where nothing is kept. Where no text begins, a
+    /// block is gathered first.
+    fn feed_parts<S: Sink>(&mut self, piece: &[u8], sink: &mut S) -> Result<(), S::Refusal>
+        ensures given { Given S.takes S.refuses sink.old (steps utf8 false self.old piece.now).text sink.new result }
+        ensures state { OnOk result (self.new ≡ (steps utf8 false self.old piece.now).state) }
+    {
+        let mut batch = Batch::new();
+        let mut at = 0;
+        let mut reach = if self.needed == 0 { 0 } else { FIRST_REACH };
+        while at < piece.len() {
+            let text = self.text_in_front(&piece[at..], reach);
+            let start = at;
+            at += self.advance(&piece[at..], text, &mut batch, sink)?;
+            reach = next_reach(reach, text.len(), at - start, batch.as_str().len());
+        }
+        Ok(())
+    }
+
+    /// A well-formed text that bytes begin with, empty within a character.
+    fn text_in_front<'a>(&self, bytes: &'a [u8], reach: usize) -> &'a str
+        ensures front { result.now ≡ take (length result.now) bytes.now }
+        ensures start { 0 < length result.now → self.now ≡ utf8_start }
+    {
+        if self.needed == 0 && 0 < reach {
+            text_within(bytes, reach)
+        } else {
+            ""
+        }
+    }
+
+    /// Goes on at the rest of a piece, and says how far: over the text at its front, or over a block where that is empty.
+    fn advance<S: Sink>(
+        &mut self,
+        rest: &[u8],
+        text: &str,
+        batch: &mut Batch,
+        sink: &mut S,
+    ) -> Result<usize, S::Refusal>
+        requires some { 0 < length rest.now }
+        requires front { text.now ≡ take (length text.now) rest.now }
+        requires start { 0 < length text.now → self.old ≡ utf8_start }
+        ensures some { IfOk result (λ n. (0 < n) × (n ≤ length rest.now)) }
+        ensures taken { IfOk result (λ n. S.takes sink.old (steps utf8 false self.old (take n rest.now)).text sink.new) }
+        ensures refused { IfErr result (λ e. S.refuses sink.old (steps utf8 false self.old rest.now).text e sink.new) }
+        ensures state { IfOk result (λ n. self.new ≡ (steps utf8 false self.old (take n rest.now)).state) }
+    {
+        if !text.is_empty() {
+            sink.text(text)?;
+            return Ok(text.len());
+        }
+        let count = self.count(rest);
+        batch.clear();
+        self.decode_block(&rest[..count], batch);
+        sink.text(batch.as_str())?;
+        Ok(count)
+    }
+
+    /// How many bytes are read at once where no text begins: those that a character needs yet, or else a block.
+    fn count(&self, rest: &[u8]) -> usize
+        requires { 0 < length rest.now }
+        ensures some { (0 < result) × (result ≤ length rest.now) }
+        ensures few { result ≤ BLOCK }
+    {
+        match self.needed {
+            0 => block_len(rest),
+            needed => rest.len().min(needed as usize),
+        }
+    }
+
+    /// The steps over a block, for whose text a batch surely has room.
+    fn decode_block(&mut self, block: &[u8], batch: &mut Batch)
+        requires { length batch.old + 12 * length block.now ≤ ROOM }
+        ensures text { BatchTook batch.old (steps utf8 false self.old block.now).text batch.new }
+        ensures state { self.new ≡ (steps utf8 false self.old block.now).state }
+    {
+        let mut at = 0;
+        while at < block.len() {
+            at += self.decode_some(&block[at..], batch);
+        }
+    }
+
+    /// Goes on in a block, and says how far: over the well-formed text at its front, or else over a byte.
+    fn decode_some(&mut self, rest: &[u8], batch: &mut Batch) -> usize
+        requires some { 0 < length rest.now }
+        requires room { length batch.old + 12 * length rest.now ≤ ROOM }
+        ensures some { (0 < result) × (result ≤ length rest.now) }
+        ensures text { BatchTook batch.old (steps utf8 false self.old (take result rest.now)).text batch.new }
+        ensures state { self.new ≡ (steps utf8 false self.old (take result rest.now)).state }
+    {
+        if self.needed == 0 {
+            let text = text_before_fault(rest);
+            if !text.is_empty() {
+                batch.push_str(text);
+                return text.len();
+            }
+        }
+        decode_each(self, &(), &rest[..1], batch);
+        1
     }
 
     /// The steps of the end.

@@ -1,1 +1,6 @@
+mod Steps
+mod Talks
 mod Behind
+mod Joints
+mod Freed
+mod All

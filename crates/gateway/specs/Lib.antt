@@ -1,1 +1,5 @@
+pub mod Conversations
+pub mod Sockets
+pub mod Bytes
 pub mod Served
+pub mod Joined

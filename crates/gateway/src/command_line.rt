@@ -88,9 +88,9 @@ fn gateway<'a>(alloc: Global) -> Result<Command<'a>, AllocError> {
 }
 
 fn format<'a>(alloc: Global) -> Result<Command<'a>, AllocError> {
-    let spool = Arg::new(alloc, "SPOOL")
-        .required(true)
-        .help("The file to be made or lengthened");
+    let spool = Arg::new(alloc, "SPOOL").required(true).help(
+        "The file to be made. One that is there and is no spool is overwritten",
+    );
     let blocks = Arg::new(alloc, "blocks")
         .long("blocks")
         .required(true)

@@ -1,11 +1,12 @@
 //! The operator's index files.
 
+use crate::failures::{Failure, Task};
 use crate::faults::Fault;
 use enc_index::{Index, IndexSet, Kind};
 use enc_model::Encoding;
 use std::alloc::Global;
-use std::fs::File;
-use std::io::{self, Read};
+use std::fs::{self, File};
+use std::io::{self, ErrorKind, Read};
 
 // The most bytes of an index file.
 const MOST: u64 = 1_048_576;
@@ -59,22 +60,53 @@ static FILES: [(&str, Kind); 18] = [
     ),
 ];
 
-/// Reads the index files that stand in a folder. A file that isn't there isn't set.
-pub(crate) fn read_indexes(
+/// The index files of a folder.
+pub(crate) struct IndexFiles {
+    /// What they say.
+    pub(crate) set: IndexSet,
+    /// The names of those that were there.
+    pub(crate) read: Vec<&'static str>,
+}
+
+/// Reads the index files that stand in a folder, which has to be there. A file that isn't there isn't set.
+pub(crate) fn read_indexes<'a>(
     rt: &HostRuntime,
     alloc: Global,
-    folder: &str,
-) -> Result<IndexSet, Fault> {
+    folder: &'a str,
+) -> Result<IndexFiles, Failure<'a>> {
+    if let Err(error) = find_folder(rt, folder) {
+        return Err(Failure::new(Fault::from(error), Task::FindFolder(folder), error));
+    }
     let mut set = IndexSet::new(alloc)?;
+    let mut read = Vec::new(alloc);
     for (name, kind) in FILES.iter() {
-        if let Some(bytes) = read_file(rt, alloc, folder, name)? {
+        let found = match read_file(rt, alloc, folder, name) {
+            Ok(found) => found,
+            Err(error) => {
+                let task = Task::ReadIndex(folder, name);
+                return Err(Failure::new(Fault::from(error), task, error));
+            }
+        };
+        if let Some(bytes) = found {
             match Index::read(alloc, &bytes, *kind) {
                 Ok(index) => set.set(index),
-                Err(error) => return Err(Fault::Index(name, error)),
+                Err(error) => return Err(Failure::from(Fault::Index(name, error))),
+            }
+            if read.push(*name).is_err() {
+                return Err(Failure::from(Fault::NoMemory));
             }
         }
     }
-    Ok(set)
+    Ok(IndexFiles { set, read })
+}
+
+// The folder is there.
+fn find_folder(rt: &HostRuntime, folder: &str) -> io::Result<()> {
+    if fs::metadata(rt, folder)?.is_dir() {
+        Ok(())
+    } else {
+        Err(io::Error::from(ErrorKind::NotADirectory))
+    }
 }
 
 // The bytes of a file, where it is there. One that is too long is a fault, as one that can't be read.
@@ -83,21 +115,17 @@ fn read_file(
     alloc: Global,
     folder: &str,
     name: &str,
-) -> Result<Option<Vec<u8>>, Fault> {
+) -> io::Result<Option<Vec<u8>>> {
     let path = format!(in alloc; "{folder}/{name}")?;
     let file = match File::open(rt, path.as_str()) {
         Ok(file) => file,
-        Err(error) => {
-            return match error.kind() {
-                io::ErrorKind::NotFound => Ok(None),
-                _ => Err(Fault::from(error)),
-            };
-        }
+        Err(error) if error.kind() == ErrorKind::NotFound => return Ok(None),
+        Err(error) => return Err(error),
     };
     let mut bytes = Vec::new(alloc);
     file.take(MOST + 1).read_to_end(&mut bytes)?;
     if bytes.len() as u64 > MOST {
-        return Err(Fault::Io);
+        return Err(io::Error::new(ErrorKind::FileTooLarge, "it has more than 1,048,576 bytes"));
     }
     Ok(Some(bytes))
 }

@@ -1,9 +1,11 @@
 //! The uploads of a spool, line by line.
 
+use crate::failures::Failure;
 use crate::faults::Fault;
+use crate::spool_files::open_spool;
 use enc_labels::name_of;
 use enc_model::Mode;
-use spool_disk::{Disk, FileDisk};
+use spool_disk::Disk;
 use spool_image::Spool;
 use std::alloc::Global;
 use std::io::{self, Write};
@@ -13,23 +15,30 @@ use upload_rules::Uploads;
 const MOST_UPLOADS: usize = 512;
 
 /// Prints the uploads of the spool in a file, by number.
-pub(crate) fn list_file(rt: &HostRuntime, alloc: Global, spool: &str) -> Result<(), Fault> {
-    list_on(alloc, &mut io::writer(rt), FileDisk::open(rt, spool)?)
+pub(crate) fn list_file<'a>(
+    rt: &HostRuntime,
+    alloc: Global,
+    spool: &'a str,
+) -> Result<(), Failure<'a>> {
+    let (disk, listed) = list_on(alloc, &mut io::writer(rt), open_spool(rt, spool)?);
+    match listed {
+        Ok(()) => Ok(()),
+        Err(fault) => Err(Failure::on_spool(fault, spool, &disk)),
+    }
 }
 
-/// Writes a line for each upload of the spool on a disk, by number.
+/// Writes a line for each upload of the spool on a disk, by number. The disk is handed back.
 pub(crate) fn list_on<D: Disk + Drop, W: Write>(
     alloc: Global,
     writer: &mut W,
     disk: D,
-) -> Result<(), Fault> {
+) -> (D, Result<(), Fault>) {
     match Spool::open(alloc, disk) {
         Ok(spool) => {
             let written = write_uploads(writer, &spool);
-            drop(spool.into_disk());
-            Ok(written?)
+            (spool.into_disk(), written.map_err(Fault::from))
         }
-        Err((_disk, fault)) => Err(Fault::from(fault)),
+        Err((disk, fault)) => (disk, Err(Fault::from(fault))),
     }
 }
 

@@ -3,20 +3,25 @@
 
 mod buffers;
 mod command_line;
+mod failures;
 mod faults;
 mod formatting;
+mod idle;
 mod index_files;
 mod links;
 mod listing;
 mod places;
 mod scripting;
 mod serving;
+mod sockets;
+mod spool_files;
 #[cfg(test)]
 mod tests;
 
 use clap::Error;
 use clap::error::ErrorKind;
 use command_line::{Order, read_order};
+use failures::Failure;
 use faults::Fault;
 use formatting::format_file;
 use listing::list_file;
@@ -30,51 +35,64 @@ use std::{env, io};
 const USAGE: u8 = 1;
 
 fn main(rt: HostRuntime) -> ExitCode {
-    match run(&rt) {
+    match words(&rt, rt.alloc()) {
+        Ok(words) => run(&rt, &words),
+        Err(error) => ended(&rt, no_words(&rt, error)),
+    }
+}
+
+// Does what the command line asks for: the status that the program ends with.
+fn run(rt: &HostRuntime, words: &[String]) -> ExitCode {
+    match read_order(rt.alloc(), words) {
+        Ok(Order::Nothing) => ExitCode::from(USAGE),
+        Ok(order) => ended(rt, obey(rt, order)),
+        Err(error) => ended(rt, told(rt, error)),
+    }
+}
+
+// The status that the program ends with. A failure is told.
+fn ended(rt: &HostRuntime, outcome: Result<ExitCode, Failure>) -> ExitCode {
+    match outcome {
         Ok(code) => code,
-        Err(fault) => {
+        Err(failure) => {
             // Where standard error takes nothing, the status alone says it.
-            let told = eprintln!(rt; "{fault}");
+            let told = eprintln!(rt; "{failure}");
             drop(told);
-            ExitCode::from(fault.status())
+            ExitCode::from(failure.status())
         }
     }
 }
 
-// Does what the command line asks for.
-fn run(rt: &HostRuntime) -> Result<ExitCode, Fault> {
+// Does what there is to do.
+fn obey<'a>(rt: &HostRuntime, order: Order<'a>) -> Result<ExitCode, Failure<'a>> {
     let alloc = rt.alloc();
-    let words = match words(rt, alloc) {
-        Ok(words) => words,
-        Err(error) => return no_words(rt, error),
-    };
-    match read_order(alloc, &words) {
-        Ok(
-            Order::Format {
-                spool,
-                blocks,
-                indexes,
-            },
-        ) => {
-            let pages = format_file(rt, alloc, spool, blocks, indexes)?;
-            println!(rt; "formatted {blocks} blocks, {pages} pages")?;
-            Ok(ExitCode::SUCCESS)
+    match order {
+        Order::Format {
+            spool,
+            blocks,
+            indexes,
+        } => {
+            let made = format_file(rt, alloc, spool, blocks, indexes)?;
+            println!(rt; "formatted {blocks} blocks, {} pages", made.pages)?;
+            // Where standard error takes nothing, the index files aren't told.
+            let told = tell_read(rt, &made.read);
+            drop(told);
         }
-        Ok(Order::Script { spool }) => {
-            run_script(rt, alloc, spool)?;
-            Ok(ExitCode::SUCCESS)
-        }
-        Ok(Order::Serve(service)) => {
-            serve_file(rt, alloc, service)?;
-            Ok(ExitCode::SUCCESS)
-        }
-        Ok(Order::List { spool }) => {
-            list_file(rt, alloc, spool)?;
-            Ok(ExitCode::SUCCESS)
-        }
-        Ok(Order::Nothing) => Ok(ExitCode::from(USAGE)),
-        Err(error) => told(rt, error),
+        Order::Script { spool } => run_script(rt, alloc, spool)?,
+        Order::Serve(service) => serve_file(rt, alloc, service)?,
+        Order::List { spool } => list_file(rt, alloc, spool)?,
+        Order::Nothing => {}
     }
+    Ok(ExitCode::SUCCESS)
+}
+
+// Tells which index files were read, on standard error.
+fn tell_read(rt: &HostRuntime, names: &[&str]) -> io::Result<()> {
+    eprintln!(rt; "index files read: {}", names.len())?;
+    for name in names.iter() {
+        eprintln!(rt; "{name}")?;
+    }
+    Ok(())
 }
 
 // The words of the command line.
@@ -87,18 +105,18 @@ fn words(rt: &HostRuntime, alloc: Global) -> io::Result<Vec<String>> {
 }
 
 // Why the command line has no words: one that isn't UTF-8 is a usage fault.
-fn no_words(rt: &HostRuntime, error: io::Error) -> Result<ExitCode, Fault> {
+fn no_words<'a>(rt: &HostRuntime, error: io::Error) -> Result<ExitCode, Failure<'a>> {
     if error.kind() != io::ErrorKind::InvalidData {
-        return Err(Fault::from(error));
+        return Err(Failure::from(Fault::from(error)));
     }
     eprintln!(rt; "error: invalid UTF-8 was detected in one or more arguments")?;
     Ok(ExitCode::from(USAGE))
 }
 
 // Prints help, or what is wrong with the command line. Want of memory is no fault of the command line.
-fn told(rt: &HostRuntime, error: Error) -> Result<ExitCode, Fault> {
+fn told<'a>(rt: &HostRuntime, error: Error) -> Result<ExitCode, Failure<'a>> {
     if error.kind() == ErrorKind::OutOfMemory {
-        return Err(Fault::NoMemory);
+        return Err(Failure::from(Fault::NoMemory));
     }
     error.print(rt)?;
     Ok(if error.use_stderr() {

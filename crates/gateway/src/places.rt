@@ -1,14 +1,16 @@
 //! A place for a connection.
-ghost use Rattle.std.specs.Prelude.{◌↔◌, IsErr, IsErrOf};
+ghost use Rattle.std.specs.Prelude.{◌≡◌, ◌↔◌, IsTrue, IsErr, IsErrOf};
 ghost use Rattle.upload_rules.specs.Answers.{Counts};
-ghost use Rattle.tus_session.specs.History.{State};
-ghost use Rattle.gateway.specs.Served.{WentOn, Serves};
+ghost use Rattle.gateway.specs.Joined.{GoesAt, OthersStay, IsNew, with_place};
 
+use crate::idle::Tick;
 use crate::links::{Left, Link};
+use crate::sockets::Ended;
 use gateway_engine::Connections;
 use spool_disk::DiskFault;
 use std::alloc::Global;
 use std::io::{Read, Write};
+use std::time::Duration;
 use tus_session::SessionError;
 
 /// A place for a connection, whose number it has.
@@ -20,70 +22,97 @@ pub(crate) enum Place<S> {
     Open(Link<S>),
 }
 
+/// What a turn came to at a place.
+#[derive(Clone, Copy, Debug, PartialEq, Eq, Drop)]
+pub(crate) enum Turned {
+    /// No connection is open there, or its socket had nothing to do.
+    Idle,
+    /// The connection went on.
+    Moved,
+    /// The connection was closed.
+    Closed,
+}
+
 impl<S: Read + Write + Drop> Place<S> {
-    /// A connection that was opened for a socket, which doesn't wait.
-    pub(crate) fn open(alloc: Global, stream: S) -> Self {
-        Place::Open(Link::new(alloc, stream))
+    /// A connection that was opened now for a socket, which doesn't wait.
+    pub(crate) fn open(alloc: Global, stream: S, now: Duration) -> Self
+        ensures { IsNew result }
+    {
+        Place::Open(Link::new(alloc, stream, now))
     }
 
     /// Whether no connection is open there.
-    pub(crate) fn is_free(&self) -> bool {
+    pub(crate) fn is_free(&self) -> bool
+        ensures { IsTrue result ↔ (self.now ≡ Place.Free) }
+    {
         matches!(self, Place::Free)
     }
 
-    /// The turn of the connection, if one is open: whether it was closed.
+    /// The turn of the connection, if one is open. Where it ends there, its socket is put to those that ended.
     ///
     /// Refused with `DiskFault` where a call of the session was.
     pub(crate) fn turn<C: Connections>(
         &mut self,
         gateway: &mut C,
         conn: usize,
-    ) -> Result<bool, DiskFault>
-        ensures serves { (before : C) (st : State) → WentOn C.Connections before gateway.old st → Serves C.Connections before gateway.new st result }
+        tick: Tick,
+        ended: &mut Ended,
+    ) -> Result<Turned, DiskFault>
+        ensures serves { GoesAt C.Connections gateway.old gateway.new result self.old self.new
+            ended.old.sockets ended.new.sockets conn }
+        ensures others { OthersStay conn ended.old.sockets ended.new.sockets }
         ensures counts { Counts (IsErr result) (C.failures gateway.old) (C.failures gateway.new) }
     {
         let Place::Open(link) = self else {
-            return Ok(false);
+            return Ok(Turned::Idle);
         };
-        match link.turn(gateway, conn) {
-            Ok(Left::Open) => Ok(false),
+        match link.turn(gateway, conn, tick) {
+            Ok(Left::Open) => Ok(Turned::Moved),
+            Ok(Left::Idle) => Ok(Turned::Idle),
             Ok(Left::Closed) => {
-                *self = Place::Free;
-                Ok(true)
+                self.free(conn, ended);
+                Ok(Turned::Closed)
             }
-            Ok(Left::Lost) => match self.end(gateway, conn) {
-                Ok(()) => Ok(true),
+            Ok(Left::Lost) => match self.end(gateway, conn, ended) {
+                Ok(()) => Ok(Turned::Closed),
                 Err(fault) => Err(fault),
             },
             Err(fault) => Err(fault),
         }
     }
 
-    /// Ends the connection, if one is open.
+    /// Ends the connection, if one is open: the session is told.
     ///
     /// Refused with `DiskFault` where the session was.
     pub(crate) fn end<C: Connections>(
         &mut self,
         gateway: &mut C,
         conn: usize,
+        ended: &mut Ended,
     ) -> Result<(), DiskFault>
-        ensures serves { (before : C) (st : State) → WentOn C.Connections before gateway.old st → Serves C.Connections before gateway.new st result }
+        ensures serves { GoesAt C.Connections gateway.old gateway.new result self.old self.new
+            ended.old.sockets ended.new.sockets conn }
+        ensures free { self.new ≡ Place.Free }
+        ensures others { OthersStay conn ended.old.sockets ended.new.sockets }
         ensures counts { Counts (IsErr result) (C.failures gateway.old) (C.failures gateway.new) }
     {
         if self.is_free() {
             return Ok(());
         }
-        *self = Place::Free;
-        ended(gateway, conn)
+        self.free(conn, ended);
+        unless_failed(gateway.ended(conn))
     }
-}
 
-// Tells the session that a connection ended.
-fn ended<C: Connections>(gateway: &mut C, conn: usize) -> Result<(), DiskFault>
-    ensures serves { (before : C) (st : State) → WentOn C.Connections before gateway.old st → Serves C.Connections before gateway.new st result }
-    ensures counts { Counts (IsErr result) (C.failures gateway.old) (C.failures gateway.new) }
-{
-    unless_failed(gateway.ended(conn))
+    /// Lets the socket go, if one is there: the session isn't told.
+    pub(crate) fn free(&mut self, conn: usize, ended: &mut Ended)
+        ensures free { self.new ≡ Place.Free }
+        ensures ended { ended.new.sockets ≡ with_place conn self.old ended.old.sockets }
+    {
+        if let Place::Open(link) = self {
+            link.end(conn, ended);
+        }
+        *self = Place::Free;
+    }
 }
 
 /// What a call of the session comes to for serving, which goes on behind every refusal but the device's fault.

@@ -1,9 +1,11 @@
 //! Standard input as a script over a spool.
 
+use crate::failures::Failure;
 use crate::faults::Fault;
+use crate::spool_files::open_spool;
 use enc_index::IndexSet;
 use gateway_engine::run;
-use spool_disk::{Disk, FileDisk, MemoryDisk};
+use spool_disk::{Disk, MemoryDisk};
 use spool_image::{format, pages_of};
 use std::alloc::Global;
 use std::io::{self, Read, Write};
@@ -12,26 +14,36 @@ use std::io::{self, Read, Write};
 const MEMORY_BLOCKS: u32 = 64;
 
 /// Runs standard input as a script over the spool in a file, or over a fresh one in memory where `-` stands for it.
-pub(crate) fn run_script(rt: &HostRuntime, alloc: Global, spool: &str) -> Result<(), Fault> {
+pub(crate) fn run_script<'a>(
+    rt: &HostRuntime,
+    alloc: Global,
+    spool: &'a str,
+) -> Result<(), Failure<'a>> {
     let mut reader = rt.reader();
     let mut writer = io::writer(rt);
     if spool == "-" {
-        run_over_disk(alloc, &mut reader, &mut writer, spool_in_memory(alloc)?)
-    } else {
-        run_over_disk(alloc, &mut reader, &mut writer, FileDisk::open(rt, spool)?)
+        let disk = spool_in_memory(alloc)?;
+        let (_disk, ran) = run_over_disk(alloc, &mut reader, &mut writer, disk);
+        return Ok(ran?);
+    }
+    let disk = open_spool(rt, spool)?;
+    let (disk, ran) = run_over_disk(alloc, &mut reader, &mut writer, disk);
+    match ran {
+        Ok(()) => Ok(()),
+        Err(fault) => Err(Failure::on_spool(fault, spool, &disk)),
     }
 }
 
-/// Runs a script from `reader` over the spool on a disk, and writes to `writer` what its calls give.
+/// Runs a script from `reader` over the spool on a disk, and writes to `writer` what its calls give. The disk is handed back.
 pub(crate) fn run_over_disk<D: Disk + Drop, R: Read, W: Write>(
     alloc: Global,
     reader: &mut R,
     writer: &mut W,
     disk: D,
-) -> Result<(), Fault> {
+) -> (D, Result<(), Fault>) {
     match run(alloc, reader, writer, disk) {
-        Ok(_disk) => Ok(()),
-        Err((_disk, fault)) => Err(Fault::from(fault)),
+        Ok(disk) => (disk, Ok(())),
+        Err((disk, fault)) => (disk, Err(Fault::from(fault))),
     }
 }
 

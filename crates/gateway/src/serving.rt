@@ -1,17 +1,22 @@
 //! Connections over sockets, turn by turn in one thread.
-ghost use Rattle.std.specs.Prelude.{IsErr};
+ghost use Rattle.std.specs.Prelude.{◌≡◌, List, [], IsErr, IfSome};
 ghost use Rattle.upload_rules.specs.Answers.{Counts};
-ghost use Rattle.tus_session.specs.History.{State};
-ghost use Rattle.gateway.specs.Served.{WentOn, Serves, HasServed, handed_back};
+ghost use Rattle.tus_session.specs.History.{State, Marked};
+ghost use Rattle.gateway.specs.Served.{Serves, AllServed, AllLeft};
+ghost use Rattle.gateway.specs.Joined.{AllFell, GoesOn, Ends, Finishes, IsFreeAt, SamePlaces, places_of, ended_of};
 
+use crate::failures::{Failure, Task};
 use crate::faults::Fault;
-use crate::places::{Place, unless_failed};
+use crate::idle::{Tick, Watch};
+use crate::places::{Place, Turned, unless_failed};
+use crate::sockets::Ended;
+use crate::spool_files::open_spool;
 use gateway_engine::{Connections, Gateway};
-use spool_disk::{DiskFault, FileDisk};
-use spool_image::Spool;
+use spool_disk::DiskFault;
 use std::alloc::Global;
-use std::io::{Read, Write};
-use std::net::{Ipv4Addr, OpenListener, OpenStream, TcpListener};
+use std::io::{self, Read, Write};
+use std::net::{Ipv4Addr, OpenListener, OpenStream, SocketAddr, TcpListener};
+use std::time::Clock;
 
 /// How many connections may be open at once.
 const MOST_OPEN: usize = 16;
@@ -29,42 +34,92 @@ pub(crate) struct Service<'a> {
     pub(crate) turns: u64,
 }
 
-/// The connections that are open, and how many were closed.
+/// What serving came to.
+pub struct Outcome<C> {
+    /// The gateway, which is handed back.
+    pub gateway: C,
+    /// How many connections were accepted.
+    pub connections: u64,
+    /// The sockets that served them, which only clauses read.
+    pub ended: Ended,
+    /// `DiskFault` where a call of the session was refused with it: serving stopped there.
+    pub served: Result<(), DiskFault>,
+}
+
+/// The connections that are open, and how many were accepted and closed.
 #[derive(Drop)]
 struct Server<S> {
     alloc: Global,
     /// By the connections' numbers. There are at most 16 places; another one is made when it is needed.
     places: Vec<Place<S>>,
+    ended: Ended,
+    accepted: u64,
     closed: u64,
+    /// whether anything was done in the latest turn
+    busy: bool,
+    watch: Watch,
 }
 
 impl<S: Read + Write + OpenStream + Drop> Server<S> {
-    // No connection is open, and none was closed.
-    fn new(alloc: Global) -> Self {
+    // No connection is open, and none was accepted.
+    fn new(alloc: Global, watch: Watch) -> Self
+        ensures places { places_of result ≡ [] }
+        ensures ended { ended_of result ≡ [] }
+    {
         Server {
             alloc,
             places: Vec::new(alloc),
+            ended: Ended::new(),
+            accepted: 0,
             closed: 0,
+            busy: false,
+            watch,
         }
     }
 
-    // Takes turns until so many connections were closed, at most so many turns. Then the open connections are ended, in order.
-    fn serve<L: OpenListener<Stream = S>, C: Connections>(
+    // Takes turns until so many connections were closed, at most so many turns. Then the open connections are ended,
+    // in order. Behind a fault of the device their sockets are let go.
+    fn serve<L: OpenListener<Stream = S>, C: Connections, T: Clock>(
         &mut self,
+        clock: &T,
         listener: &L,
         gateway: &mut C,
         connections: u64,
         turns: u64,
     ) -> Result<(), DiskFault>
-        ensures serves { (before : C) (st : State) → WentOn C.Connections before gateway.old st → Serves C.Connections before gateway.new st result }
+        ensures serves { Finishes C.Connections gateway.old gateway.new result (places_of self.old)
+            (ended_of self.old) (ended_of self.new) }
+        ensures counts { Counts (IsErr result) (C.failures gateway.old) (C.failures gateway.new) }
+    {
+        match self.take_turns(clock, listener, gateway, connections, turns) {
+            Ok(()) => Ok(()),
+            Err(fault) => {
+                free_each(&mut self.places, &mut self.ended);
+                Err(fault)
+            }
+        }
+    }
+
+    // Takes turns, then ends the open connections.
+    fn take_turns<L: OpenListener<Stream = S>, C: Connections, T: Clock>(
+        &mut self,
+        clock: &T,
+        listener: &L,
+        gateway: &mut C,
+        connections: u64,
+        turns: u64,
+    ) -> Result<(), DiskFault>
+        ensures serves { Ends C.Connections gateway.old gateway.new result (places_of self.old) (places_of self.new)
+            (ended_of self.old) (ended_of self.new) }
         ensures counts { Counts (IsErr result) (C.failures gateway.old) (C.failures gateway.new) }
     {
         let mut left = turns;
         while left > 0 && self.closed < connections {
             self.turn(listener, gateway, connections)?;
+            self.watch.rest(clock, self.busy);
             left -= 1;
         }
-        self.end_all(gateway)
+        end_each(&mut self.places, gateway, &mut self.ended)
     }
 
     // A turn: a connection is accepted where fewer than 16 are open, then each has its turn, in order.
@@ -74,20 +129,25 @@ impl<S: Read + Write + OpenStream + Drop> Server<S> {
         gateway: &mut C,
         connections: u64,
     ) -> Result<(), DiskFault>
-        ensures serves { (before : C) (st : State) → WentOn C.Connections before gateway.old st → Serves C.Connections before gateway.new st result }
+        ensures serves { GoesOn C.Connections gateway.old gateway.new result (places_of self.old) (places_of self.new)
+            (ended_of self.old) (ended_of self.new) }
         ensures counts { Counts (IsErr result) (C.failures gateway.old) (C.failures gateway.new) }
     {
+        let accepted = self.accepted;
         self.accept(listener, gateway)?;
-        for (conn, place) in self.places.iter_mut().enumerate() {
-            if self.closed == connections {
-                return Ok(());
-            }
-            match place.turn(gateway, conn) {
-                Ok(closed) => self.closed = self.closed.saturating_add(u64::from(closed)),
-                Err(fault) => return Err(fault),
-            }
-        }
-        Ok(())
+        let mut round = Round {
+            tick: Tick {
+                now: self.watch.now,
+                full: self.free_place().is_none(),
+            },
+            busy: self.accepted > accepted,
+            closed: self.closed,
+            connections,
+        };
+        let taken = turn_each(&mut self.places, gateway, &mut self.ended, &mut round);
+        self.busy = round.busy;
+        self.closed = round.closed;
+        taken
     }
 
     // Accepts a connection where fewer than 16 are open. Where the session refuses it, the socket is closed.
@@ -96,7 +156,8 @@ impl<S: Read + Write + OpenStream + Drop> Server<S> {
         listener: &L,
         gateway: &mut C,
     ) -> Result<(), DiskFault>
-        ensures serves { (before : C) (st : State) → WentOn C.Connections before gateway.old st → Serves C.Connections before gateway.new st result }
+        ensures serves { GoesOn C.Connections gateway.old gateway.new result (places_of self.old) (places_of self.new)
+            (ended_of self.old) (ended_of self.new) }
         ensures counts { Counts (IsErr result) (C.failures gateway.old) (C.failures gateway.new) }
     {
         let Some(conn) = self.free_place() else {
@@ -105,25 +166,34 @@ impl<S: Read + Write + OpenStream + Drop> Server<S> {
         let Some(stream) = next_stream(listener) else {
             return Ok(());
         };
-        let opened = gateway.opened(conn);
-        if opened.is_ok() {
-            self.put(conn, Place::open(self.alloc, stream));
+        match gateway.opened(conn) {
+            Ok(()) => {
+                self.places[conn] = Place::open(self.alloc, stream, self.watch.now);
+                self.accepted = self.accepted.saturating_add(1);
+                Ok(())
+            }
+            Err(error) => unless_failed(Err(error)),
         }
-        unless_failed(opened)
     }
 
     // The number of the first place that is free.
-    fn free_place(&mut self) -> Option<usize> {
-        for (conn, place) in self.places.iter().enumerate() {
-            if place.is_free() {
-                return Some(conn);
-            }
+    fn free_place(&mut self) -> Option<usize>
+        ensures free { IfSome result (λ conn. IsFreeAt (places_of self.new) conn) }
+        ensures same { SamePlaces (places_of self.old) (places_of self.new) }
+        ensures ended { ended_of self.new ≡ ended_of self.old }
+    {
+        match first_free(&self.places) {
+            Some(conn) => Some(conn),
+            None => self.new_place(),
         }
-        self.new_place()
     }
 
     // The number of another place, where there are fewer than 16 and memory for it is there.
-    fn new_place(&mut self) -> Option<usize> {
+    fn new_place(&mut self) -> Option<usize>
+        ensures free { IfSome result (λ conn. IsFreeAt (places_of self.new) conn) }
+        ensures same { SamePlaces (places_of self.old) (places_of self.new) }
+        ensures ended { ended_of self.new ≡ ended_of self.old }
+    {
         let conn = self.places.len();
         if conn < MOST_OPEN && self.places.push(Place::Free).is_ok() {
             Some(conn)
@@ -131,23 +201,91 @@ impl<S: Read + Write + OpenStream + Drop> Server<S> {
             None
         }
     }
+}
 
-    // Puts a connection in its place.
-    fn put(&mut self, conn: usize, open: Place<S>) {
-        if let Some(place) = self.places.get_mut(conn) {
-            *place = open;
+/// A turn of all places.
+#[derive(Drop)]
+struct Round {
+    tick: Tick,
+    /// whether anything was done
+    busy: bool,
+    /// how many connections were closed
+    closed: u64,
+    /// it ends once so many were
+    connections: u64,
+}
+
+impl Round {
+    // The turn of a place came to this.
+    fn add(&mut self, turned: Turned) {
+        let closed = turned == Turned::Closed;
+        self.closed = self.closed.saturating_add(u64::from(closed));
+        self.tick.full = self.tick.full && !closed;
+        self.busy = self.busy || turned != Turned::Idle;
+    }
+}
+
+// The first place that is free.
+fn first_free<S: Read + Write + Drop>(places: &[Place<S>]) -> Option<usize>
+    ensures { IfSome result (λ conn. IsFreeAt places.now conn) }
+{
+    for (conn, place) in places.iter().enumerate() {
+        if place.is_free() {
+            return Some(conn);
         }
     }
+    None
+}
 
-    // Ends the connections that are open, in order.
-    fn end_all<C: Connections>(&mut self, gateway: &mut C) -> Result<(), DiskFault>
-        ensures serves { (before : C) (st : State) → WentOn C.Connections before gateway.old st → Serves C.Connections before gateway.new st result }
-        ensures counts { Counts (IsErr result) (C.failures gateway.old) (C.failures gateway.new) }
-    {
-        for (conn, place) in self.places.iter_mut().enumerate() {
-            place.end(gateway, conn)?;
+// Each open connection has its turn, in order, until so many were closed.
+fn turn_each<S: Read + Write + Drop, C: Connections>(
+    places: &mut [Place<S>],
+    gateway: &mut C,
+    ended: &mut Ended,
+    round: &mut Round,
+) -> Result<(), DiskFault>
+    ensures serves { GoesOn C.Connections gateway.old gateway.new result places.old places.new
+        ended.old.sockets ended.new.sockets }
+    ensures counts { Counts (IsErr result) (C.failures gateway.old) (C.failures gateway.new) }
+{
+    for (conn, place) in places.iter_mut().enumerate() {
+        if round.closed == round.connections {
+            return Ok(());
         }
-        Ok(())
+        match place.turn(gateway, conn, round.tick, ended) {
+            Ok(turned) => round.add(turned),
+            Err(fault) => return Err(fault),
+        }
+    }
+    Ok(())
+}
+
+// Ends the connections that are open, in order.
+fn end_each<S: Read + Write + Drop, C: Connections>(
+    places: &mut [Place<S>],
+    gateway: &mut C,
+    ended: &mut Ended,
+) -> Result<(), DiskFault>
+    ensures serves { Ends C.Connections gateway.old gateway.new result places.old places.new
+        ended.old.sockets ended.new.sockets }
+    ensures counts { Counts (IsErr result) (C.failures gateway.old) (C.failures gateway.new) }
+{
+    for (conn, place) in places.iter_mut().enumerate() {
+        match place.end(gateway, conn, ended) {
+            Ok(()) => {}
+            Err(fault) => return Err(fault),
+        }
+    }
+    Ok(())
+}
+
+// Lets all sockets go: the session isn't told.
+fn free_each<S: Read + Write + Drop>(places: &mut [Place<S>], ended: &mut Ended)
+    ensures { (st : State) (past : List Marked) → AllFell places.old ended.old.sockets st past
+        → AllLeft ended.new.sockets st past }
+{
+    for (conn, place) in places.iter_mut().enumerate() {
+        place.free(conn, ended);
     }
 }
 
@@ -166,80 +304,119 @@ where
     }
 }
 
-/// Serves the connections of a listener, until so many were closed or so many turns were taken. The gateway is handed back.
+/// Serves the connections of a listener, until so many were closed or so many turns were taken.
 ///
-/// Each turn accepts a connection, where fewer than 16 are open, and then goes on at each open one, in order: what is left to write is written, else
-/// the next piece of a text is asked for, else up to 4,096 bytes are read and given to the session. A socket that fails or is at its end ends its
-/// connection. One that the session closed is closed once all is written. At the end the open connections are ended.
+/// Each turn accepts a connection, where fewer than 16 are open, and then goes on at each open one, in order: what is
+/// left to write is written, else the next piece of a text is asked for, else up to 4,096 bytes are read and given to
+/// the session. A socket that fails or is at its end ends its connection, and so does one over which nothing came or
+/// went for a minute; where 16 are open, a second is enough if no reply is owed. One that the session closed is
+/// closed once all is written. At the end the open connections are ended.
 ///
-/// The listener and its sockets are made not to wait; of a listener that can't be no connection is accepted.
-///
-/// # Errors
-///
-/// `DiskFault` where a call of the session was refused with it: serving stops there.
-pub fn serve_on<L: OpenListener, C: Connections>(
+/// The listener and its sockets are made not to wait; of a listener that can't be no connection is accepted. Behind
+/// turns in which no socket had anything to do it rests, at most 10 milliseconds.
+pub fn serve_on<L: OpenListener, C: Connections, T: Clock>(
     alloc: Global,
+    clock: &T,
     listener: &L,
     gateway: C,
     connections: u64,
     turns: u64,
-) -> Result<C, (C, DiskFault)>
+) -> Outcome<C>
 where
     L::Stream: Read + Write + OpenStream,
 
-    // It is where the history of some events is; behind a fault of the device only its images are known. They show the uploads behind these events.
-    ensures serves { (st : State) → C.stands gateway st → HasServed C.Connections gateway st result }
-    ensures counts { Counts (IsErr result) (C.failures gateway) (C.failures (handed_back result)) }
+    // It is where the history of some events is; behind a fault of the device only its images are known. They show
+    // the uploads behind these events.
+    //
+    // Each connection's sockets are one for each time that these events opened it, in order. The session took what
+    // came from the socket, but for at most 4,096 bytes at its end, and what went to it is the front of what the
+    // session gave; all of that, unless the session was told that the client is gone. Each connection is closed
+    // again. Behind a fault of the device the last two are not promised.
+    ensures serves { (st : State) → C.stands gateway st
+        → Serves C.Connections gateway result.gateway st result.served
+        (AllServed result.ended.sockets st) (AllLeft result.ended.sockets st) }
+    ensures counts { Counts (IsErr result.served) (C.failures gateway) (C.failures result.gateway) }
 {
     let mut gateway = gateway;
     if listener.set_nonblocking(true).is_err() {
-        return Ok(gateway);
+        return Outcome {
+            gateway,
+            connections: 0,
+            ended: Ended::new(),
+            served: Ok(()),
+        };
     }
-    let mut server = Server::new(alloc);
-    match server.serve(listener, &mut gateway, connections, turns) {
-        Ok(()) => Ok(gateway),
-        Err(fault) => Err((gateway, fault)),
+    let mut server = Server::new(alloc, Watch::new(clock));
+    let served = server.serve(clock, listener, &mut gateway, connections, turns);
+    let Server {
+        ended,
+        accepted,
+        ..
+    } = server;
+    Outcome {
+        gateway,
+        connections: accepted,
+        ended,
+        served,
     }
 }
 
-/// Serves the spool in a file, at a port of 127.0.0.1 that is printed.
-pub(crate) fn serve_file(rt: &HostRuntime, alloc: Global, service: Service) -> Result<(), Fault> {
-    let gateway = match Gateway::open(alloc, FileDisk::open(rt, service.spool)?) {
-        Ok(gateway) => gateway,
-        Err((_disk, fault)) => return Err(Fault::from(fault)),
-    };
-    let (gateway, served) = serve_at(rt, alloc, gateway, service);
-    drop(gateway.into_disk());
-    served
-}
-
-// Listens and serves. The gateway is handed back.
-fn serve_at(
+/// Serves the spool in a file, at a port of 127.0.0.1 that is printed. At the end the number of connections is told
+/// on standard error.
+pub(crate) fn serve_file<'a>(
     rt: &HostRuntime,
     alloc: Global,
-    gateway: Gateway<Spool<FileDisk>>,
-    service: Service,
-) -> (Gateway<Spool<FileDisk>>, Result<(), Fault>) {
+    service: Service<'a>,
+) -> Result<(), Failure<'a>> {
+    let spool = service.spool;
+    let gateway = match Gateway::open(alloc, open_spool(rt, spool)?) {
+        Ok(gateway) => gateway,
+        Err((disk, fault)) => return Err(Failure::on_spool(Fault::from(fault), spool, &disk)),
+    };
     let listener = match listen(rt, service.port) {
         Ok(listener) => listener,
-        Err(fault) => return (gateway, Err(fault)),
+        Err(failure) => {
+            drop(gateway.into_disk());
+            return Err(failure);
+        }
     };
-    match serve_on(
+    let Outcome {
+        gateway,
+        connections,
+        ended: _,
+        served,
+    } = serve_on(
         alloc,
+        rt,
         &listener,
         gateway,
         service.connections,
         service.turns,
-    ) {
-        Ok(gateway) => (gateway, Ok(())),
-        Err((gateway, fault)) => (gateway, Err(Fault::from(fault))),
+    );
+    let disk = gateway.into_disk();
+    // Where standard error takes nothing, the count isn't told.
+    let told = eprintln!(rt; "served {connections} connections");
+    drop(told);
+    match served {
+        Ok(()) => Ok(()),
+        Err(fault) => Err(Failure::on_spool(Fault::from(fault), spool, &disk)),
     }
 }
 
 // Listens at a port of 127.0.0.1, and prints which one.
-fn listen(rt: &HostRuntime, port: u16) -> Result<TcpListener, Fault> {
+fn listen<'a>(rt: &HostRuntime, port: u16) -> Result<TcpListener, Failure<'a>> {
+    match bind(rt, port) {
+        Ok((listener, address)) => {
+            println!(rt; "listening {address}")?;
+            Ok(listener)
+        }
+        Err(error) => Err(Failure::new(Fault::from(error), Task::Listen(port), error)),
+    }
+}
+
+// A listener at a port of 127.0.0.1, and its address.
+fn bind(rt: &HostRuntime, port: u16) -> io::Result<(TcpListener, SocketAddr)> {
     let listener = TcpListener::bind(rt, (Ipv4Addr::LOCALHOST, port))?;
     let address = listener.local_addr()?;
-    println!(rt; "listening {address}")?;
-    Ok(listener)
+    Ok((listener, address))
 }

@@ -2,10 +2,13 @@
 
 mod serving;
 
+use crate::failures::Failure;
 use crate::formatting::format_file;
 use crate::listing::list_on;
 use crate::scripting::run_over_disk;
+use crate::spool_files::open_spool;
 use spool_disk::FileDisk;
+use std::alloc::{AllocError, Global};
 use std::fs;
 use std::test::Fail;
 
@@ -33,19 +36,56 @@ const LISTED: &[u8] = b"1 5/6 5 UTF-8 UTF-8 html\n2 0/0 0 UTF-16LE UTF-8 fatal\n
 fn spool_is_made_used_and_listed(rt: HostRuntime) -> Result<(), Fail> {
     let _ = fs::remove_dir_all(&rt, FOLDER);
     fs::create_dir(&rt, FOLDER)?;
-    assert_eq!(rt; format_file(&rt, rt.alloc(), SPOOL, 16, FOLDER)?, 557);
+    let made = format_file(&rt, rt.alloc(), SPOOL, 16, FOLDER)?;
+    assert_eq!(rt; made.pages, 557);
+    assert!(rt; made.read.is_empty());
     let mut script = SCRIPT;
     let mut written = Vec::new(rt.alloc());
-    run_over_disk(
-        rt.alloc(),
-        &mut script,
-        &mut written,
-        FileDisk::open(&rt, SPOOL)?,
-    )?;
+    let disk = FileDisk::open(&rt, SPOOL)?;
+    let (disk, ran) = run_over_disk(rt.alloc(), &mut script, &mut written, disk);
+    ran?;
     assert_eq!(rt; written.as_slice(), WRITTEN);
     let mut lines = Vec::new(rt.alloc());
-    list_on(rt.alloc(), &mut lines, FileDisk::open(&rt, SPOOL)?)?;
+    let (disk, listed) = list_on(rt.alloc(), &mut lines, disk);
+    listed?;
     assert_eq!(rt; lines.as_slice(), LISTED);
+    drop(disk);
     fs::remove_dir_all(&rt, FOLDER)?;
+    Ok(())
+}
+
+/// What the program says of a failure.
+fn said(alloc: Global, failure: &Failure) -> Result<String, AllocError> {
+    format!(in alloc; "{failure}")
+}
+
+#[test]
+fn failure_says_what_the_system_said(rt: HostRuntime) -> Result<(), Fail> {
+    let alloc = rt.alloc();
+    match open_spool(&rt, "no_such_folder/spool") {
+        Ok(_disk) => panic!(rt; "opened"),
+        Err(failure) => assert_eq!(rt;
+            said(alloc, &failure)?.as_str(),
+            "device fault\ncannot open the spool no_such_folder/spool: No such file or directory (os error 2)"
+        ),
+    }
+    match format_file(&rt, alloc, "gateway_unmade_test", 16, "no_such_folder") {
+        Ok(_made) => panic!(rt; "formatted"),
+        Err(failure) => assert_eq!(rt;
+            said(alloc, &failure)?.as_str(),
+            "refused: 33 Io\ncannot look into the folder no_such_folder: No such file or directory (os error 2)"
+        ),
+    }
+    assert!(rt; !fs::exists(&rt, "gateway_unmade_test")?);
+    let used = FileDisk::create(&rt, "gateway_used_test", 4)?;
+    match open_spool(&rt, "gateway_used_test") {
+        Ok(_disk) => panic!(rt; "opened twice"),
+        Err(failure) => assert_eq!(rt;
+            said(alloc, &failure)?.as_str(),
+            "device fault\ncannot open the spool gateway_used_test: it is in use"
+        ),
+    }
+    drop(used);
+    fs::remove_file(&rt, "gateway_used_test")?;
     Ok(())
 }

@@ -1,26 +1,27 @@
 -- From the lines' end to the script's.
-use Rattle.std.proofs.Common.{◌≡◌, ◌⊎◌, inl, inr, ℕ, List, [], ◌++◌, Option, Some, None, Ok, Err, refl, sym, subst, ◌∙◌, append-nil, arith}
+use Rattle.std.proofs.Common.{◌≡◌, ◌⊎◌, inl, inr, ℕ, List, [], ◌++◌, take, Option, Some, None, Ok, Err, refl, sym, subst, ◌∙◌, append-nil, arith}
 use Rattle.std.specs.Prelude.{IsErrOf}
 use Rattle.std.specs.Io.KnownBytes.{Appends}
 use Rattle.upload_rules.specs.Store.{Store}
 use Rattle.upload_rules.specs.Answers.{Among, Quiet, Counts}
 use Rattle.upload_rules.specs.declared.uploads.Uploads.{Ghosts}
-use Rattle.gateway_engine.proofs.Seen.{first_store, all_themselves}
+use Rattle.gateway_script.proofs.Seen.{first_store, all_themselves}
 use Rattle.tus_session.specs.History.{State, Mark, Marked}
-use Rattle.gateway_engine.proofs.Outputs.{appends_nothing}
-use Rattle.gateway_engine.specs.Script as script
-use Rattle.gateway_engine.specs.Script.{script as the_script, Run, run_lines, script_lines, run_from, ended_as, Exit, Ran, AtLine, Faulted}
-use Rattle.gateway_engine.specs.Images.{IsFirst, stores_of, last_stores, ShowsLast, LimitsTo}
-use Rattle.gateway_engine.specs.Runs.{View, with_marks, IsHistory, IsAt, IsDown, Reaches, Stops, script_past, Ends}
-use Rattle.gateway_engine.specs.Ran.{Shows, Rests, EndedSo, RestsSo, FailedSo, StoppedSo, HasRun, IsScript, HasFailed}
-use Rattle.gateway_engine.specs.declared.faults.CallFault.{CallFault}
-use Rattle.gateway_engine.specs.declared.faults.CallFault.TheVariants as faults
-use Rattle.gateway_engine.specs.declared.faults.ScriptFault.{ScriptFault}
-use Rattle.gateway_engine.specs.declared.faults.ScriptFault.TheVariants as runs
+use Rattle.gateway_script.proofs.Outputs.{appends_nothing}
+use Rattle.gateway_script.specs.Script as script
+use Rattle.gateway_script.specs.Script.{script as the_script, Run, run_lines, script_lines, run_from, ended_as, Exit, Ran, AtLine, Faulted}
+use Rattle.gateway_script.specs.Images.{IsFirst, stores_of, last_stores, last_blocks, ShowsLast, LimitsTo}
+use Rattle.gateway_script.specs.Runs.{View, with_marks, IsHistory, IsAt, IsDown, Reaches, Stops, script_past, Ends}
+use Rattle.gateway_script.specs.Script.{IsScript}
+use Rattle.gateway_engine.specs.Ran.{Shows, Rests, EndedSo, RestsSo, FailedSo, StoppedSo, HasRun, HasFailed}
+use Rattle.gateway_script.specs.declared.faults.CallFault.{CallFault}
+use Rattle.gateway_script.specs.declared.faults.CallFault.TheVariants as faults
+use Rattle.gateway_script.specs.declared.faults.ScriptFault.{ScriptFault}
+use Rattle.gateway_script.specs.declared.faults.ScriptFault.TheVariants as runs
 
 -- nothing happened so far
-limits_none : (moment : ℕ) (left_only : ℕ → List Store → Type 0) (stores : List Store) → LimitsTo moment moment left_only left_only stores
-limits_none moment left_only stores = record { later = omega arith; limits = λ t ms le left among. left }
+limits_none : (moment : ℕ) (left_only : Option ℕ → ℕ → List Store → Type 0) (stores : List Store) → LimitsTo moment moment left_only left_only stores
+limits_none moment left_only stores = record { later = omega arith; limits = λ n t ms le left among. left }
 
 pub begins : {C : Type 0} (v : View C) → v.before ≡ v.now → v.u.stands v.now v.st → v.held ≡ v.front → IsAt v (run_from v.st [])
 begins v same stands is = record {
@@ -37,13 +38,13 @@ script_is st marks bytes = refl
 
 -- the uploads are on the device
 abbrev pub IsDurable : {U B : Type 0} → Ghosts U B → U → State → Type 0
-IsDurable u store st = (ms : List Store) → Among st.world.store ms → u.left_only store (u.moment store) ms
+IsDurable u store st = (ms : List Store) → Among st.world.store ms → u.left_only store st.world.blocks (u.moment store) ms
 
 -- what images may show since the run began
 pub shows_since : {U B : Type 0} (u : Ghosts U B) (before now : U) (st : State) (past : List Marked) → IsDurable u before st
     → LimitsTo (u.moment before) (u.moment now) (u.left_only before) (u.left_only now) (stores_of st past) → Shows u before now st past
 shows_since u before now st past durable limits = record {
-  since = limits.limits (u.moment before) (stores_of st past) (omega arith) (durable (stores_of st past) (first_store st past)) (all_themselves (stores_of st past));
+  since = limits.limits st.world.blocks (u.moment before) (stores_of st past) (omega arith) (durable (stores_of st past) (first_store st past)) (all_themselves (stores_of st past));
   limits = limits;
 }
 
@@ -165,7 +166,7 @@ pub shows_through : {U B : Type 0} (u : Ghosts U B) (before first last now : U) 
     → LimitsTo (u.moment first) (u.moment last) (u.left_only first) (u.left_only last) stores → LimitsTo (u.moment before) (u.moment now) (u.left_only before) (u.left_only now) stores
 shows_through u before first last now stores same quiet shows = subst (λ b. LimitsTo (u.moment b) (u.moment now) (u.left_only b) (u.left_only now) stores) same (record {
   later = omega (arith, shows.later, quiet.later);
-  limits = λ t ms le left among. quiet.keeps t ms (omega (arith, shows.later)) (shows.limits t ms le left among);
+  limits = λ n t ms le left among. quiet.keeps n t ms (omega (arith, shows.later)) (shows.limits n t ms le left among);
 })
 
 pub last_through : {U B : Type 0} (u : Ghosts U B) (last now : U) (st : State) (past : List Marked) → Quiet (u.moment last) (u.moment now) (u.left_only last) (u.left_only now)
@@ -173,10 +174,10 @@ pub last_through : {U B : Type 0} (u : Ghosts U B) (last now : U) (st : State) (
 last_through u last now st past quiet shows = record {
   since = shows.since;
   reached = omega (arith, shows.reached, quiet.later);
-  left = quiet.keeps shows.since (last_stores st past) shows.reached shows.left;
+  left = quiet.keeps (last_blocks st past) shows.since (last_stores st past) shows.reached shows.left;
 }
 
 -- of an unread script nothing is told
 pub some_script : (known : Option (List ℕ)) → (bytes : List ℕ) × IsScript known bytes
 some_script None = ([], tt {0})
-some_script (Some bytes) = (bytes, refl)
+some_script (Some bytes) = (take 1073741825 bytes, refl)

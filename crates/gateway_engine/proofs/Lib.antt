@@ -1,10 +1,3 @@
-pub mod Outputs
-pub mod Passing
-pub mod Counting
-pub mod Seen
-pub mod Turns
-pub mod Reaching
-pub mod Ending
 pub mod Sessions
 pub mod Exits
 pub mod OnDisk

@@ -8,18 +8,14 @@ use Rattle.tus_session.specs.Turns.{Conn, fresh}
 use Rattle.tus_session.specs.History.{State, Event, Opened, Came, More, Ended, Served, Failed, Done, Refused, Step, step, put, kept, opened_at, came_at, more_at, ended_at}
 use Rattle.tus_session.specs.Stands.{SessionStands}
 use Rattle.tus_session.specs.Told as told
-use Rattle.tus_session.specs.Told.{IsOpen, Told, Opens}
+use Rattle.tus_session.specs.Told.{Told, Opens}
 use Rattle.tus_session.specs.declared.answers.Answer.{Answer}
 use Rattle.tus_session.specs.declared.conns.Place.{Place}
 use Rattle.tus_session.specs.declared.errors.SessionError.{SessionError}
 use Rattle.tus_session.specs.declared.errors.SessionError.TheVariants.{NoMemory, DiskFault, TooMany, Closed}
 use Rattle.tus_session.proofs.Limiting.{still_limits}
-use Rattle.gateway_engine.specs.Connections.{Gives, Does, mark_of}
-use Rattle.gateway_engine.specs.Images.{shown_by}
-
-failed_outcome : (st : State) (e : Event) → (step st e Failed).outcome ≡ Refused DiskFault
-unfolding step
-failed_outcome st e = refl
+use Rattle.gateway_script.specs.Connections.{Gives, Does, mark_of}
+use Rattle.gateway_script.specs.Images.{shown_by}
 
 -- A REFUSED EVENT LEAVES THE STATE AS IT WAS
 abbrev RefusedStays : State → Step → Type 0
@@ -74,17 +70,17 @@ module _ {U B : Type 0} (u : Ghosts U B) (places : List (Place B)) (store : U) (
 
   pub told_gives : (result : Result Answer SessionError) (old new : List ℕ) → RefusedStays st (step st e Served) → Told u places store result old new st e → Gives stands result old new st e
   told_gives (Ok a) old new stays t = (t.0, record { answer = t.1.outcome; keeps = t.1.stands }, t.2)
-  told_gives (Err NoMemory) old new stays t = ([], record { answer = t.0.outcome; keeps = t.0.stands }, t.1 ∙ sym (append-nil old))
-  told_gives (Err DiskFault) old new stays t = ([], record { answer = failed_outcome st e; keeps = tt {0} }, t.1 ∙ sym (append-nil old))
+  told_gives (Err NoMemory) old new stays t = ([], record { answer = t.0.outcome; keeps = t.0.stands }, t.1)
+  told_gives (Err DiskFault) old new stays t = ([], record { answer = t.0; keeps = tt {0} }, t.1)
   told_gives (Err TooMany) old new stays t =
-      ([], record { answer = t.0.outcome; keeps = subst stands (sym (stays TooMany t.0.outcome)) t.0.stands }, t.1 ∙ sym (append-nil old))
+      ([], record { answer = t.0.outcome; keeps = subst stands (sym (stays TooMany t.0.outcome)) t.0.stands }, t.1)
   told_gives (Err Closed) old new stays t =
-      ([], record { answer = t.0.outcome; keeps = subst stands (sym (stays Closed t.0.outcome)) t.0.stands }, t.1 ∙ sym (append-nil old))
+      ([], record { answer = t.0.outcome; keeps = subst stands (sym (stays Closed t.0.outcome)) t.0.stands }, t.1)
 
   pub ends_does : (result : Result (Unit {0}) SessionError) → RefusedStays st (step st e Served) → told.Ends u places store result st e → Does stands result st e
   ends_does (Ok x) stays t = record { answer = t.outcome; keeps = t.stands }
   ends_does (Err NoMemory) stays t = record { answer = t.outcome; keeps = t.stands }
-  ends_does (Err DiskFault) stays t = record { answer = failed_outcome st e; keeps = tt {0} }
+  ends_does (Err DiskFault) stays t = record { answer = t; keeps = tt {0} }
   ends_does (Err TooMany) stays t = record { answer = t.outcome; keeps = subst stands (sym (stays TooMany t.outcome)) t.stands }
   ends_does (Err Closed) stays t = record { answer = t.outcome; keeps = subst stands (sym (stays Closed t.outcome)) t.stands }
 
@@ -96,7 +92,7 @@ module _ {U B : Type 0} (u : Ghosts U B) (places : List (Place B)) (store : U) (
   opens_does (Err Closed) stays t = let f : Closed ≡ TooMany = (stays Closed t.outcome).0 in absurd (cc)
 
 -- what images may show behind a call
-module _ {before now : ℕ} {left_only left_only' : ℕ → List Store → Type 0} {T : Type 0} (st : State) (e : Event) where
+module _ {before now : ℕ} {left_only left_only' : Option ℕ → ℕ → List Store → Type 0} {T : Type 0} (st : State) (e : Event) where
   pub shown_behind : (result : Result T SessionError) → Limits before now left_only left_only' st.world.store (step st e Served).state.world.store
       → (IsErrOf result NoMemory → Limits before now left_only left_only' st.world.store st.world.store)
       → Limits before now left_only left_only' st.world.store (shown_by st e (mark_of result))

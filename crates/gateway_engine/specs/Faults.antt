@@ -1,15 +1,8 @@
--- The fault of a call as that of its script, and that of a script as that of its run.
-use Rattle.gateway_engine.specs.declared.faults.CallFault.{CallFault}
-use Rattle.gateway_engine.specs.declared.faults.CallFault.TheVariants as calls
-use Rattle.gateway_engine.specs.declared.faults.ScriptFault.{ScriptFault}
-use Rattle.gateway_engine.specs.declared.faults.ScriptFault.TheVariants as scripts
+-- The fault of a script as that of its run over a disk.
+use Rattle.gateway_script.specs.declared.faults.ScriptFault.{ScriptFault}
+use Rattle.gateway_script.specs.declared.faults.ScriptFault.TheVariants as scripts
 use Rattle.gateway_engine.specs.declared.faults.RunFault.{RunFault}
 use Rattle.gateway_engine.specs.declared.faults.RunFault.TheVariants as runs
-
-abbrev pub script_fault : CallFault → ScriptFault
-script_fault calls.NoMemory = scripts.NoMemory
-script_fault calls.DiskFault = scripts.DiskFault
-script_fault calls.Io = scripts.Io
 
 abbrev pub run_fault : ScriptFault → RunFault
 run_fault scripts.NoMemory = runs.NoMemory

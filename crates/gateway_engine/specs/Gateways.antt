@@ -1,14 +1,14 @@
 -- What a gateway stands for.
-use Rattle.std.specs.Prelude.{Result, Ok, Err}
+use Rattle.std.specs.Prelude.{ℕ, Result, Ok, Err}
 use Rattle.spool_disk.specs.declared.disk.Disk as disks
-use Rattle.spool_image.specs.Spool.{disk_of}
+use Rattle.spool_image.specs.Spool.{disk_of, size_of}
 use Rattle.spool_kept.specs.declared.error.OpenFault.{OpenFault}
 use Rattle.spool_image.specs.declared.spool.Spool.{Spool}
 use Rattle.upload_rules.specs.declared.uploads.Uploads.{Ghosts}
 use Rattle.tus_session.specs.History.{State}
 use Rattle.tus_session.specs.Places.{places_of}
 use Rattle.tus_session.specs.Stands.{SessionStands}
-use Rattle.gateway_engine.specs.declared.connections.Connections as connections
+use Rattle.gateway_script.specs.declared.connections.Connections as connections
 use Rattle.gateway_engine.specs.declared.gateway.Gateway.{Gateway}
 
 -- the uploads that it has
@@ -24,13 +24,17 @@ abbrev pub as_connections : {U B : Type 0} → Ghosts U B → connections.Ghosts
 as_connections u = record {
   stands = λ g st. GatewayStands u g st;
   moment = λ g. u.moment (store_of g);
-  left_only = λ g t ms. u.left_only (store_of g) t ms;
+  left_only = λ g blocks t ms. u.left_only (store_of g) blocks t ms;
   failures = λ g. u.failures (store_of g);
 }
 
 -- OVER A SPOOL: the disk that it is on
 abbrev pub disk_in : {D B : Type 0} {disk : disks.Ghosts D} → Gateway (Spool D disk) B → D
 disk_in g = disk_of (store_of g)
+
+-- how many text blocks the spool has
+abbrev pub size_in : {D B : Type 0} {disk : disks.Ghosts D} → Gateway (Spool D disk) B → ℕ
+size_in g = size_of (store_of g)
 
 -- the disk, opened or handed back
 abbrev pub disk_after : {D B : Type 0} {disk : disks.Ghosts D} → Result (Gateway (Spool D disk) B) (D × OpenFault) → D

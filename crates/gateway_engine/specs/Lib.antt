@@ -1,10 +1,7 @@
+pub use Rattle.gateway_script.specs.Script
+pub use Rattle.gateway_script.specs.Images
+pub use Rattle.gateway_script.specs.Connections
 pub mod Faults
-pub mod Script
-pub mod Images
-pub mod Connections
 pub mod Gateways
 pub mod Ran
-pub mod Shown
-pub mod Runs
-pub mod Outputs
 pub mod RanOn

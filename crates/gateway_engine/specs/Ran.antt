@@ -4,18 +4,18 @@ use Rattle.std.specs.Io.KnownBytes.{Appends}
 use Rattle.upload_rules.specs.World.{at_rest}
 use Rattle.upload_rules.specs.declared.uploads.Uploads.{Ghosts}
 use Rattle.tus_session.specs.History.{State, Mark, Marked, history}
-use Rattle.gateway_engine.specs.Script as script
-use Rattle.gateway_engine.specs.Script.{script as the_script, Exit, Ran, AtLine, Faulted}
-use Rattle.gateway_engine.specs.Images.{IsFirst, output_of, stores_of, ShowsLast, LimitsTo, WroteMost}
-use Rattle.gateway_engine.specs.declared.faults.CallFault.{CallFault}
-use Rattle.gateway_engine.specs.declared.faults.CallFault.TheVariants as calls
-use Rattle.gateway_engine.specs.declared.faults.ScriptFault.{ScriptFault}
-use Rattle.gateway_engine.specs.declared.faults.ScriptFault.TheVariants.{DiskFault, Script, NoMemory, Io}
+use Rattle.gateway_script.specs.Script as script
+use Rattle.gateway_script.specs.Script.{script as the_script, Exit, Ran, AtLine, Faulted}
+use Rattle.gateway_script.specs.Images.{IsFirst, output_of, stores_of, ShowsLast, LimitsTo, WroteMost}
+use Rattle.gateway_script.specs.declared.faults.CallFault.{CallFault}
+use Rattle.gateway_script.specs.declared.faults.CallFault.TheVariants as calls
+use Rattle.gateway_script.specs.declared.faults.ScriptFault.{ScriptFault}
+use Rattle.gateway_script.specs.declared.faults.ScriptFault.TheVariants.{DiskFault, Script, NoMemory, Io}
 
 -- From the uploads before to the uploads now. What a crash at any moment since the run began might have left shows the uploads of the history
 -- behind all these events, all but the latest, and so on; and images of earlier moments show them, or what they showed
 pub record Shows {U B : Type 0} (u : Ghosts U B) (before now : U) (st : State) (past : List Marked) : Type 0 where
-  pub since : u.left_only now (u.moment before) (stores_of st past)
+  pub since : u.left_only now st.world.blocks (u.moment before) (stores_of st past)
   pub limits : LimitsTo (u.moment before) (u.moment now) (u.left_only before) (u.left_only now) (stores_of st past)
 
 -- the uploads are those of the history, and no draft is open
@@ -57,11 +57,6 @@ HasRun u before (Err (store, Script n)) held front st bytes = (marks : List Mark
 HasRun u before (Err (store, DiskFault)) held front st bytes = (marks : List Mark) × FailedSo u before store st (the_script st marks bytes) held front
 HasRun u before (Err (store, NoMemory)) held front st bytes = (marks : List Mark) × StoppedSo u before store st (the_script st marks bytes) held front calls.NoMemory
 HasRun u before (Err (store, Io)) held front st bytes = (marks : List Mark) × StoppedSo u before store st (the_script st marks bytes) held front calls.Io
-
--- the script is what the reader had left, where that is known
-abbrev pub IsScript : Option (List ℕ) → List ℕ → Type 0
-IsScript None script = Unit {0}
-IsScript (Some bytes) script = script ≡ bytes
 
 -- the device failed
 abbrev pub HasFailed : {U : Type 0} → Result U (U × ScriptFault) → Type 0

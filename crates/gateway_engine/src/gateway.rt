@@ -8,7 +8,7 @@ ghost use Rattle.tus_session.specs.Places.{places_of};
 ghost use Rattle.tus_session.specs.Stands.{SessionStands};
 ghost use Rattle.gateway_engine.specs.Gateways.{GatewayStands, store_of};
 
-use crate::connections::Connections;
+use gateway_script::Connections;
 use std::alloc::{AllocError, Global};
 use tus_session::{Answer, Session, SessionError};
 use upload_rules::Uploads;
@@ -50,7 +50,7 @@ impl<U: Uploads> Connections for Gateway<U> {
 
     ghost moment = { λ g. U.moment (store_of g) };
 
-    ghost left_only = { λ g t ms. U.left_only (store_of g) t ms };
+    ghost left_only = { λ g blocks t ms. U.left_only (store_of g) blocks t ms };
 
     ghost failures = { λ g. U.failures (store_of g) };
 

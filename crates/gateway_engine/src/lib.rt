@@ -1,21 +1,13 @@
-//! Scripts over the connections of a gateway.
+//! A gateway over a spool, and scripts over it.
 #![tactic(auto)]
 
-mod calls;
-mod connections;
 mod faults;
 mod gateway;
-mod lines;
-mod orders;
-mod runs;
 mod scripts;
 mod spools;
-#[cfg(test)]
-mod tests;
-mod writing;
 
-pub use connections::Connections;
-pub use faults::{CallFault, RunFault, ScriptFault};
+pub use faults::RunFault;
 pub use gateway::Gateway;
+pub use gateway_script::{CallFault, Connections, ScriptFault};
 pub use scripts::run_over;
 pub use spools::run;

@@ -1,33 +1,17 @@
 //! A script over a store of uploads.
-ghost use Rattle.std.specs.Prelude.{◌≡◌, ℕ, List, Option, IfOk, IfErr, ◌⊎◌};
+ghost use Rattle.std.specs.Prelude.{ℕ, List, Option};
 ghost use Rattle.upload_rules.specs.Store.{Store};
 ghost use Rattle.upload_rules.specs.World.{at_rest};
 ghost use Rattle.upload_rules.specs.Answers.{Counts};
 ghost use Rattle.tus_session.specs.History.{beginning};
-ghost use Rattle.gateway_engine.specs.Ran.{HasRun, IsScript, HasFailed, store_of};
+ghost use Rattle.gateway_script.specs.Script.{IsScript};
+ghost use Rattle.gateway_engine.specs.Ran.{HasRun, HasFailed, store_of};
 
-use crate::faults::ScriptFault;
 use crate::gateway::Gateway;
-use crate::runs::run_script;
+use gateway_script::{ScriptFault, read_script, run_script};
 use std::alloc::Global;
-use std::io::{ErrorKind, Read, Write};
+use std::io::{Read, Write};
 use upload_rules::Uploads;
-
-/// Reads a script to its end. An interrupted read is tried again.
-fn read_script<R: Read>(alloc: Global, reader: &mut R) -> Result<Vec<u8>, ScriptFault>
-    ensures ok { IfOk result (λ script. IsScript (R.remaining reader.old) script.items) }
-    ensures err { IfErr result (λ fault. (fault ≡ ScriptFault.NoMemory) ⊎ (fault ≡ ScriptFault.Io)) }
-{
-    let mut script = Vec::new(alloc);
-    match reader.read_to_end(&mut script) {
-        Ok(_count) => Ok(script),
-        Err(error) => Err(if error.kind() == ErrorKind::OutOfMemory {
-            ScriptFault::NoMemory
-        } else {
-            ScriptFault::Io
-        }),
-    }
-}
 
 /// Runs a script from `reader` over uploads, and writes to `writer` what its calls give. The uploads are handed back, with no draft open.
 ///

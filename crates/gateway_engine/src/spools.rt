@@ -1,18 +1,15 @@
 //! A gateway over a spool on a disk.
-ghost use Rattle.std.specs.Prelude.{◌≡◌, ◌≤◌, ◌*◌, ◌↔◌, ℕ, List, Option, Some, IfOk};
-ghost use Rattle.spool_disk.specs.Disk.{IsImage, Counts};
+ghost use Rattle.std.specs.Prelude.{◌≡◌, ◌↔◌, ℕ, List, Option, Some, IfOk};
+ghost use Rattle.spool_disk.specs.Disk.{Counts};
 ghost use Rattle.spool_disk.specs.Views.{Lasts};
-ghost use Rattle.spool_journal.specs.Image.{all_pages};
-ghost use Rattle.spool_pages.specs.View.{View, IsViewOf};
-ghost use Rattle.spool_image.specs.LeftOnly.{LeftOnly};
-ghost use Rattle.spool_kept.specs.Shows.{Shows, ImageShows};
+ghost use Rattle.spool_image.specs.LeftOnly.{AllShow, IsSpool, LeftOrShows, SpoolLeft};
 ghost use Rattle.spool_image.specs.Spool.{IsFault, OpensAs};
 ghost use Rattle.upload_rules.specs.Store.{Store};
 ghost use Rattle.upload_rules.specs.Answers.{Quiet};
 ghost use Rattle.tus_session.specs.History.{State, beginning};
-ghost use Rattle.gateway_engine.specs.Gateways.{GatewayStands, disk_in, disk_after};
-ghost use Rattle.gateway_engine.specs.Ran.{IsScript};
-ghost use Rattle.gateway_engine.specs.RanOn.{AllShow, LeftOrShows, HasRunOn, HasFailedOn, Unopened, disk_back};
+ghost use Rattle.gateway_engine.specs.Gateways.{GatewayStands, disk_in, size_in, disk_after};
+ghost use Rattle.gateway_script.specs.Script.{IsScript};
+ghost use Rattle.gateway_engine.specs.RanOn.{HasRunOn, HasFailedOn, Unopened, disk_back};
 
 use crate::faults::RunFault;
 use crate::gateway::Gateway;
@@ -35,16 +32,15 @@ impl<D: Disk> Gateway<Spool<D>> {
         ensures counts { Counts (IsFault result) (D.failures disk) (D.failures (disk_after result)) }
 
         // A disk of which a read shows uploads is opened, and no event came so far, or memory or the device refuses it.
-        ensures opened { D.honest disk → (m : Store) (v : View) → IsViewOf (D.seen disk) v → Shows v m → 4096 * all_pages v.blocks ≤ D.size disk
-            → OpensAs result (λ g. GatewayStands ⟦<Spool<D> as Uploads>⟧ g (beginning m (Some v.blocks))) }
+        ensures opened { (n : ℕ) (m : Store) → IsSpool D.Disk disk n m
+            → OpensAs result (λ g. GatewayStands ⟦<Spool<D> as Uploads>⟧ g (beginning m (Some n))) }
 
         // Every image then shows them.
-        ensures shows { D.honest disk → (m : Store) (v : View) → IsViewOf (D.seen disk) v → Shows v m → 4096 * all_pages v.blocks ≤ D.size disk
-            → IfOk result (λ g. AllShow D.Disk (disk_in g) m) }
+        ensures shows { (n : ℕ) (m : Store) → IsSpool D.Disk disk n m → IfOk result (λ g. AllShow D.Disk (disk_in g) n m) }
 
-        // A crash during it leaves what it might have left before, or what shows the same uploads.
-        ensures lasts { D.honest disk → (m : Store) (v : View) → IsViewOf (D.seen disk) v → Shows v m → 4096 * all_pages v.blocks ≤ D.size disk
-            → Lasts D.Disk disk (disk_after result) (LeftOrShows D.Disk disk m) }
+        // A crash during it leaves what it might have left before, or what shows the same uploads and so many blocks.
+        ensures lasts { (n : ℕ) (m : Store) → IsSpool D.Disk disk n m
+            → Lasts D.Disk disk (disk_after result) (LeftOrShows D.Disk disk n m) }
     {
         let spool = Spool::open(alloc, disk)?;
         match Gateway::new(alloc, spool) {
@@ -55,8 +51,10 @@ impl<D: Disk> Gateway<Spool<D>> {
 
     /// Ends the session: the drafts that are open are dropped. The disk has the uploads.
     pub fn into_disk(self) -> D
-        ensures shows { (st : State) → GatewayStands ⟦<Spool<D> as Uploads>⟧ self st → AllShow D.Disk result st.world.store }
-        ensures crash { Quiet (D.moment (disk_in self)) (D.moment result) (LeftOnly D.Disk (disk_in self)) (LeftOnly D.Disk result) }
+        ensures shows { (st : State) (n : ℕ) → GatewayStands ⟦<Spool<D> as Uploads>⟧ self st → st.world.blocks ≡ Some n
+            → AllShow D.Disk result n st.world.store }
+        ensures crash { Quiet (D.moment (disk_in self)) (D.moment result)
+            (SpoolLeft D.Disk (disk_in self) (size_in self)) (SpoolLeft D.Disk result (size_in self)) }
         ensures counts { D.failures result ≡ D.failures (disk_in self) }
     {
         self.close().into_disk()
@@ -76,9 +74,9 @@ pub fn run<D: Disk, R: Read, W: Write>(
     disk: D,
 ) -> Result<D, (D, RunFault)>
     // Over a disk of which a read shows uploads: the exit and the output are the script's, by a mark for each call, and images show the uploads of its history.
-    ensures runs { D.honest disk → (m : Store) (v : View) → IsViewOf (D.seen disk) v → Shows v m → 4096 * all_pages v.blocks ≤ D.size disk
+    ensures runs { (n : ℕ) (m : Store) → IsSpool D.Disk disk n m
         → (script : List ℕ) × IsScript (R.remaining reader.old) script
-        × HasRunOn D.Disk disk result (W.contents writer.new) (W.contents writer.old) (beginning m (Some v.blocks)) script }
+        × HasRunOn D.Disk disk result (W.contents writer.new) (W.contents writer.old) n (beginning m (Some n)) script }
 
     // A disk that isn't opened: nothing is read and nothing written.
     ensures unopened { Unopened result ((R.remaining reader.new ≡ R.remaining reader.old) × (W.contents writer.new ≡ W.contents writer.old)) }

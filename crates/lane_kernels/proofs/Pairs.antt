@@ -1,9 +1,14 @@
 -- The places right behind leads, as a mask: the leads' mask a place further, and the carried lead at the first place.
-use Rattle.std.proofs.Common.{◌≡◌, ℕ, zero, suc, ◌+◌, ◌*◌, ◌%◌, ◌^◌, ◌<◌, ◌≤◌, Bool, true, false, List, [], ◌∷◌, map, length, take, get_or, refl, ap, subst, sym, ◌∙◌, arith, bit_or, Option, lit<}
+use Rattle.std.proofs.Common.{◌≡◌, ℕ, zero, suc, ◌+◌, ◌*◌, ◌%◌, ◌^◌, ◌<◌, ◌≤◌, Bool, true, false, not, List, [], ◌∷◌, map, length, take, get_or, refl, ap, subst, sym, ◌∙◌, arith, bit_or, Option, lit<}
 use Rattle.std.proofs.lemmas.List.{length-map, length-take-le, get_or-map, get_or-take, get_or_default, same_lists}
 use Rattle.std.proofs.lemmas.Nat.{or_shifted}
 use Rattle.std.proofs.Math.Nat.{pow-succ', mul_assoc, mul-zero, add-mul-mod_self_left}
-use Rattle.std.proofs.lemmas.Simd.{mask_l-lt, mask_l-mod}
+use Rattle.std.proofs.lemmas.Simd.{mask_l-lt, mask_l-mod, first_set_mask_l}
+use Rattle.std.proofs.lemmas.Bool.Decides.{nat_tests}
+use Rattle.std.proofs.lemmas.List.Sums.{prefix_len_passes}
+use Rattle.std.specs.List.{prefix_len}
+use Rattle.enc_model.specs.Index.{within}
+use Rattle.lane_kernels.specs.Front.{first_set}
 use Rattle.std.specs.Option.{is_some}
 use mir.Val.{bool_byte}
 use lib.Lanes.{mask_l}
@@ -92,3 +97,23 @@ module _ (carried : Option ℕ) (units : List ℕ) (long : length units ≡ 32) 
   pub lanes_from_paired : ArePaired carried units → map is_trail units ≡ behind_leads carried units
   lanes_from_paired paired =
       same_lists _ _ (length-map units is_trail ∙ long ∙ sym behind_long) (λ k d inside. at_place paired k d (omega (arith, length-map units is_trail, long, inside)))
+
+-- units without surrogates are paired where no lead is carried
+no_trail : (unit : ℕ) → not (within 0xD800 0xDFFF unit) ≡ true → is_trail unit ≡ false
+no_trail unit e = grind (arith, nat_tests, e)
+
+no_lead : (unit : ℕ) → not (within 0xD800 0xDFFF unit) ≡ true → is_lead unit ≡ false
+no_lead unit e = grind (arith, nat_tests, e)
+
+pub scalars_paired : (carried : Option ℕ) (units : List ℕ) → length units ≡ 32 → is_some carried ≡ false → mask_l (map (within 0xD800 0xDFFF) units) ≡ 0 →
+    ArePaired carried units
+scalars_paired carried units long none mask =
+    let scalar : ℕ → Bool = λ unit. not (within 0xD800 0xDFFF unit) in
+    let all : prefix_len scalar units ≡ 32 =
+    sym (first_set_mask_l (within 0xD800 0xDFFF) units 32 long (omega arith)) ∙ ap (λ m. first_set m 32) mask in
+    record {
+      first = λ some. no_trail (get_or units 0 0) (prefix_len_passes scalar units 0 0 (omega (arith, all))) ∙ sym none;
+      next = λ k inside.
+          no_trail (get_or units (k + 1) 0) (prefix_len_passes scalar units (k + 1) 0 (omega (arith, all, inside, long)))
+          ∙ sym (no_lead (get_or units k 0) (prefix_len_passes scalar units k 0 (omega (arith, all, inside, long))));
+    }

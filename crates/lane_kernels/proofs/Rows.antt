@@ -2,7 +2,6 @@
 use Rattle.std.proofs.Common.{◌≡◌, ℕ, ◌+◌, ◌<◌, slice_index, false, true, [], ◌∷◌, Some, None, refl, arith, sym, zero, suc}
 use Rattle.std.proofs.lemmas.Bool.{true≢false}
 use Rattle.std.specs.List.{prefix_len}
-use Rattle.enc_model.specs.Index.{within}
 use Rattle.std.specs.Char.{is_ascii}
 use Rattle.lane_kernels.specs.Front.{is_plain_2022}
 use Rattle.lane_kernels.specs.Units.{ArePaired, is_lead, is_trail, last_lead, left_over, units_of}
@@ -14,9 +13,6 @@ ends_at_80 = refl
 
 ends_at_escape : prefix_len is_plain_2022 (0x41 ∷ 0x1B ∷ 0x7F ∷ []) ≡ 1
 ends_at_escape = refl
-
-holds_both_ends : prefix_len (within 0xA1 0xFE) (0xA1 ∷ 0xFE ∷ 0xFF ∷ []) ≡ 2
-holds_both_ends = refl
 
 -- a pair in either order, and a byte left over
 little : units_of false (0x3D ∷ 0xD8 ∷ 0x00 ∷ 0xDE ∷ 0x41 ∷ []) ≡ 0xD83D ∷ 0xDE00 ∷ []

@@ -1,5 +1,5 @@
 -- UTF-16 units: those that bytes make, and whether their surrogates stand in pairs.
-use Rattle.std.specs.Prelude.{ℕ, ◌+◌, ◌-◌, ◌<◌, ◌≡◌, Bool, true, List, [], ◌∷◌, length, slice_index, Option, Some, None, if◌then◌else◌}
+use Rattle.std.specs.Prelude.{ℕ, ◌+◌, ◌-◌, ◌<◌, ◌≡◌, Bool, true, not, List, [], ◌∷◌, length, slice_index, Option, Some, None, if◌then◌else◌}
 use Rattle.std.specs.Option.{is_some}
 use Rattle.enc_model.specs.Index.{within}
 use Rattle.enc_model.specs.Utf16.{unit_of}
@@ -10,6 +10,10 @@ is_lead unit = within 0xD800 0xDBFF unit
 
 abbrev pub is_trail : ℕ → Bool
 is_trail unit = within 0xDC00 0xDFFF unit
+
+-- a unit that is a scalar of its own: no surrogate
+abbrev pub is_scalar_unit : ℕ → Bool
+is_scalar_unit unit = not (within 0xD800 0xDFFF unit)
 
 -- what is carried as a lead is one
 abbrev pub IsCarried : Option ℕ → Type 0

@@ -1,12 +1,11 @@
 //! The longest prefix of bytes of a class.
 
-ghost use Rattle.std.specs.Prelude.{◌≡◌};
+ghost use Rattle.std.specs.Prelude.{◌≡◌, ◌≤◌, ◌+◌, length, drop};
 ghost use Rattle.std.specs.List.{prefix_len};
-ghost use Rattle.enc_model.specs.Index.{within};
 ghost use Rattle.std.specs.Char.{is_ascii};
 ghost use Rattle.lane_kernels.specs.Front.{is_plain_2022};
 
-use crate::lanes::{Ascii, Class, LANES, Plain2022, Range};
+use crate::lanes::{Ascii, Class, LANES, Plain2022, WIDE, wide_ascii};
 
 /// The front of the bytes, one byte at a time.
 fn front_by_bytes<C: Class>(class: &C, bytes: &[u8]) -> usize
@@ -34,11 +33,25 @@ fn front<C: Class>(class: &C, bytes: &[u8]) -> usize
     at + front_by_bytes(class, &bytes[at..])
 }
 
+/// How many bytes are below 80 as far as many lanes at a time show it.
+#[inline(always)]
+fn skip_ascii(bytes: &[u8]) -> usize
+    ensures within { result ≤ length bytes.now }
+    ensures passed { prefix_len is_ascii bytes.now ≡ result + prefix_len is_ascii (drop result bytes.now) }
+{
+    let mut at = 0;
+    while bytes.len() - at >= WIDE && wide_ascii(bytes, at) == WIDE {
+        at += WIDE;
+    }
+    at
+}
+
 /// How many bytes are below 80 before the first that isn't.
 pub fn ascii_front(bytes: &[u8]) -> usize
     ensures { result ≡ prefix_len is_ascii bytes.now }
 {
-    front(&Ascii, bytes)
+    let skipped = skip_ascii(bytes);
+    skipped + front(&Ascii, &bytes[skipped..])
 }
 
 /// How many bytes are below 80 and none of 0E, 0F and 1B before the first that isn't so.
@@ -46,11 +59,4 @@ pub fn plain_front_2022(bytes: &[u8]) -> usize
     ensures { result ≡ prefix_len is_plain_2022 bytes.now }
 {
     front(&Plain2022, bytes)
-}
-
-/// How many bytes are from the lowest to the highest, both included, before the first that isn't.
-pub fn range_front(bytes: &[u8], lowest: u8, highest: u8) -> usize
-    ensures { result ≡ prefix_len (within lowest highest) bytes.now }
-{
-    front(&Range { lowest, highest }, bytes)
 }

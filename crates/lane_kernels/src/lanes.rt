@@ -3,7 +3,6 @@
 ghost use Rattle.std.specs.Prelude.{◌≡◌, ℕ, Bool, ◌+◌, ◌≤◌, length};
 ghost use Rattle.std.specs.Simd.Lanes.{chunk};
 ghost use Rattle.std.specs.List.{prefix_len};
-ghost use Rattle.enc_model.specs.Index.{within};
 ghost use Rattle.std.specs.Char.{is_ascii};
 ghost use Rattle.lane_kernels.specs.Front.{is_plain_2022, first_set};
 
@@ -11,6 +10,9 @@ use std::simd::prelude::*;
 
 /// How many bytes are loaded at a time.
 pub(crate) const LANES: usize = 32;
+
+/// How many bytes are loaded at a time where ASCII is skipped.
+pub(crate) const WIDE: usize = 64;
 
 /// The place of the lowest bit that is set, or that of the last lane's end where none is.
 #[inline(always)]
@@ -57,6 +59,16 @@ impl Class for Ascii {
     }
 }
 
+/// How many of many lanes at a place are below 80 before the first that isn't.
+#[inline(always)]
+pub(crate) fn wide_ascii(bytes: &[u8], at: usize) -> usize
+    requires { at + WIDE ≤ length bytes.now }
+    ensures { result ≡ prefix_len is_ascii (chunk at WIDE bytes.now) }
+{
+    let lanes = u8x64::from_slice(&bytes[at..]);
+    first_set(lanes.simd_ge(u8x64::splat(0x80)).to_bitmask(), WIDE)
+}
+
 /// The bytes below 80 but for 0E, 0F and 1B.
 #[derive(Clone, Copy)]
 pub(crate) struct Plain2022;
@@ -75,29 +87,6 @@ impl Class for Plain2022 {
             | lanes.simd_eq(u8x32::splat(0x0E))
             | lanes.simd_eq(u8x32::splat(0x0F))
             | lanes.simd_eq(u8x32::splat(0x1B));
-        first_set(stops.to_bitmask(), LANES)
-    }
-}
-
-/// The bytes from the lowest to the highest.
-#[derive(Clone, Copy)]
-pub(crate) struct Range {
-    pub(crate) lowest: u8,
-    pub(crate) highest: u8,
-}
-
-impl Class for Range {
-    ghost has = { λ range. within range.lowest range.highest };
-
-    fn has(&self, byte: u8) -> bool {
-        self.lowest <= byte && byte <= self.highest
-    }
-
-    #[inline(always)]
-    fn run(&self, bytes: &[u8], at: usize) -> usize {
-        let lanes = u8x32::from_slice(&bytes[at..]);
-        let stops = lanes.simd_lt(u8x32::splat(self.lowest))
-            | lanes.simd_gt(u8x32::splat(self.highest));
         first_set(stops.to_bitmask(), LANES)
     }
 }

@@ -9,11 +9,9 @@ mod order;
 mod pairing;
 mod units;
 
-pub use front::{ascii_front, plain_front_2022, range_front};
+pub use front::{ascii_front, plain_front_2022};
 pub use laws::paired_units_decode;
 pub use narrowing::narrow;
 pub use order::Order;
 pub use pairing::{Pairing, Step};
-
-#[cfg(test)]
-mod tests;
+pub use units::{lead_in, paired, scalar_front, unit_in};

@@ -31,6 +31,9 @@ fn write_lanes(units: &[u16], out: &mut [u8], at: usize)
 }
 
 /// Writes units below 80 from a place on, one at a time, up to the first that isn't or the end of the output.
+///
+/// Never inlined: a caller that has the units in lanes would take each out of them first, also where all go by lanes.
+#[inline(never)]
 fn narrow_by_units(units: &[u16], out: &mut [u8], at: usize) -> usize
     requires front { at ≤ prefix_len is_ascii units.now }
     requires room { at ≤ length out.old }
@@ -47,6 +50,7 @@ fn narrow_by_units(units: &[u16], out: &mut [u8], at: usize) -> usize
 }
 
 /// Writes the longest prefix of units below 80 that fits as bytes, and says how many. The rest of the output is unchanged.
+#[inline(always)]
 pub fn narrow(units: &[u16], out: &mut [u8]) -> usize
     ensures length { result ≡ min (prefix_len is_ascii units.now) (length out.old) }
     ensures written { out.new ≡ take result units.now ++ drop result out.old }

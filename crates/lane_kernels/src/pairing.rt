@@ -10,7 +10,7 @@ ghost use Rattle.lane_kernels.specs.Units.{IsCarried, is_lead, is_trail, ArePair
 ghost use Rattle.lane_kernels.specs.Steps.{step_text, unit_fault, unit_scalar};
 
 use crate::order::Order;
-use crate::units::{are_paired, joined, lead_in, left_behind, units_in};
+use crate::units::{are_paired, lead_in, left_behind, paired, unit_in, units_behind};
 use std::marker::Model;
 use std::simd::prelude::*;
 
@@ -36,28 +36,6 @@ impl Model for Pairing {
     ghost view = { λ s. record { byte = s.odd; lead = s.lead } };
 
     ghost invariant = { λ s. IsCarried s.lead };
-}
-
-/// The unit of two bytes.
-fn unit_in(order: Order, first: u8, second: u8) -> u16
-    ensures { result ≡ unit_of (is_big order) first second }
-{
-    match order {
-        Order::Big => first as u16 * 256 + second as u16,
-        Order::Little => second as u16 * 256 + first as u16,
-    }
-}
-
-/// The character of a pair of surrogates.
-fn paired(lead: u16, trail: u16) -> char
-    requires lead { is_lead lead ≡ true }
-    requires trail { is_trail trail ≡ true }
-    ensures { result ≡ 0x10000 + (lead - 0xD800) * 0x400 + (trail - 0xDC00) }
-{
-    match char::from_u32(0x10000 + (lead as u32 - 0xD800) * 0x400 + (trail as u32 - 0xDC00)) {
-        Some(c) => c,
-        None => unreachable!(),
-    }
 }
 
 impl Pairing {
@@ -103,7 +81,7 @@ impl Pairing {
         ensures carried { OnTrue result (self.new ≡ record { byte = left_over (with_carried self.old.byte bytes.now); lead = last_lead (units_of (is_big order) (with_carried self.old.byte bytes.now)) }) }
         ensures kept { OnFalse result (self.new ≡ self.old) }
     {
-        let lanes = units_in(order, u8x64::from_array(joined(self.odd, bytes)));
+        let lanes = units_behind(order, self.odd, bytes);
         *units = lanes.to_array();
         if !are_paired(self.lead, lanes) {
             return false;

@@ -1,21 +1,46 @@
 //! 32 units at a time.
 
-ghost use Rattle.std.specs.Prelude.{◌≡◌, ◌↔◌, ◌+◌, ◌*◌, ◌/◌, ◌%◌, false, take, map, IsTrue};
+ghost use Rattle.std.specs.Prelude.{◌≡◌, ◌↔◌, ◌+◌, ◌-◌, ◌*◌, ◌/◌, ◌%◌, true, false, ◌∷◌, take, map, IsTrue};
+ghost use Rattle.std.specs.List.{prefix_len};
 ghost use Rattle.std.specs.Simd.Lanes.{mask_l};
 ghost use Rattle.enc_model.specs.Index.{within};
-ghost use Rattle.lane_kernels.specs.Units.{ArePaired, IsCarried, lead_of, left_over, units_of, with_carried};
+ghost use Rattle.enc_model.specs.Utf16.{unit_of};
+ghost use Rattle.lane_kernels.specs.Units.{ArePaired, IsCarried, is_lead, is_scalar_unit, is_trail, lead_of, left_over, units_of, with_carried};
 ghost use Rattle.lane_kernels.specs.Orders.{is_big};
 
+use crate::lanes::{LANES, first_set};
 use crate::order::Order;
 use std::simd::prelude::*;
 
-/// The first 64 of the bytes behind what is carried.
-pub(crate) fn joined(odd: Option<u8>, bytes: &[u8; 64]) -> [u8; 64]
-    ensures { result ≡ take 64 (with_carried odd bytes.now) }
+/// The unit of two bytes.
+#[inline(always)]
+pub fn unit_in(order: Order, first: u8, second: u8) -> u16
+    ensures { result ≡ unit_of (is_big order) first second }
 {
-    let Some(first) = odd else {
-        return *bytes;
-    };
+    match order {
+        Order::Big => first as u16 * 256 + second as u16,
+        Order::Little => second as u16 * 256 + first as u16,
+    }
+}
+
+/// The character of a pair of surrogates.
+#[inline(always)]
+pub fn paired(lead: u16, trail: u16) -> char
+    requires lead { is_lead lead ≡ true }
+    requires trail { is_trail trail ≡ true }
+    ensures { result ≡ 0x10000 + (lead - 0xD800) * 0x400 + (trail - 0xDC00) }
+{
+    match char::from_u32(0x10000 + (lead as u32 - 0xD800) * 0x400 + (trail as u32 - 0xDC00)) {
+        Some(c) => c,
+        None => unreachable!(),
+    }
+}
+
+/// The first 64 of a byte and those behind it. It is rarely called, and kept apart so that its moves aren't mixed with plain loads.
+#[inline(never)]
+fn joined(first: u8, bytes: &[u8; 64]) -> [u8; 64]
+    ensures { result ≡ take 64 (first ∷ bytes.now) }
+{
     let mut joined = [first; 64];
     joined[1..].copy_from_slice(&bytes[..63]);
     joined
@@ -32,7 +57,8 @@ pub(crate) fn left_behind(odd: Option<u8>, bytes: &[u8; 64]) -> Option<u8>
 }
 
 /// The unit, if it is a lead.
-pub(crate) fn lead_in(unit: u16) -> Option<u16>
+#[inline(always)]
+pub fn lead_in(unit: u16) -> Option<u16>
     ensures value { result ≡ lead_of unit }
     ensures carried { IsCarried result }
 {
@@ -60,13 +86,24 @@ fn turned_round(units: u16x32) -> u16x32
 
 /// The units of 64 bytes.
 #[inline(always)]
-pub(crate) fn units_in(order: Order, bytes: u8x64) -> u16x32
+fn units_in(order: Order, bytes: u8x64) -> u16x32
     ensures { result ≡ units_of (is_big order) bytes }
 {
     let units = low_first(bytes);
     match order {
         Order::Big => turned_round(units),
         Order::Little => units,
+    }
+}
+
+/// The units of the first 64 of the bytes behind what is carried.
+#[inline(always)]
+pub(crate) fn units_behind(order: Order, odd: Option<u8>, bytes: &[u8; 64]) -> u16x32
+    ensures { result ≡ units_of (is_big order) (take 64 (with_carried odd bytes.now)) }
+{
+    match odd {
+        None => units_in(order, u8x64::from_array(*bytes)),
+        Some(first) => units_in(order, u8x64::from_array(joined(first, bytes))),
     }
 }
 
@@ -78,13 +115,37 @@ fn mask_within(units: u16x32, lowest: u16, highest: u16) -> u64
     (units.simd_ge(u16x32::splat(lowest)) & units.simd_le(u16x32::splat(highest))).to_bitmask()
 }
 
-/// Whether the units are paired, behind a carried lead or none: the trails are the places right behind leads.
+/// How many units are scalars of their own before the first that is a surrogate.
 #[inline(always)]
-pub(crate) fn are_paired(carried: Option<u16>, units: u16x32) -> bool
+pub fn scalar_front(units: &[u16; 32]) -> usize
+    ensures { result ≡ prefix_len is_scalar_unit units.now }
+{
+    first_set(
+        mask_within(u16x32::from_array(*units), 0xD800, 0xDFFF),
+        LANES,
+    )
+}
+
+/// Whether the units are paired, behind a carried lead or none: the trails are the places right behind leads.
+#[inline(never)]
+fn surrogates_are_paired(carried: Option<u16>, units: u16x32) -> bool
     ensures { IsTrue result ↔ ArePaired carried units }
 {
     let leads = mask_within(units, 0xD800, 0xDBFF);
     let trails = mask_within(units, 0xDC00, 0xDFFF);
     let behind_leads = (leads << 1) | carried.is_some() as u64;
     trails == behind_leads % (1 << 32)
+}
+
+/// Whether the units are paired, behind a carried lead or none, seen at once where none is a surrogate.
+#[inline(always)]
+pub(crate) fn are_paired(carried: Option<u16>, units: u16x32) -> bool
+    ensures { IsTrue result ↔ ArePaired carried units }
+{
+    if carried.is_none() {
+        if mask_within(units, 0xD800, 0xDFFF) == 0 {
+            return true;
+        }
+    }
+    surrogates_are_paired(carried, units)
 }

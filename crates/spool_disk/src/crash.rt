@@ -1,4 +1,8 @@
-// What a crash makes of bytes that were written and not synced.
+// What a crash makes of bytes that were written and not synced, and disks that go on behind one.
+ghost use Rattle.std.specs.Prelude.{◌≡◌, ◌↔◌, ℕ};
+ghost use Rattle.spool_disk.specs.Disk.{IsImage};
+
+use crate::Disk;
 
 /// What a crash of a disk in memory makes of the bytes that were written since its last sync.
 #[derive(Clone, Copy, Debug, PartialEq, Eq)]
@@ -9,4 +13,22 @@ pub enum Crash {
     New,
     /// They all have this value.
     Torn(u8),
+}
+
+/// A disk that can crash: it goes on with one of the images of this moment, all of it synced.
+pub trait CrashDisk: Disk {
+    /// What is chosen of a crash.
+    type How;
+
+    /// What the choice says, from the disk before the crash to the disk behind it.
+    ghost chosen: { Self.How → Self → Self → Type 0 };
+
+    /// The disk behind a crash. A crash is no call that fails.
+    fn restart(self, how: &Self::How) -> Self
+        ensures size { Self.size result ≡ Self.size self }
+        ensures honest { Self.honest self ↔ Self.honest result }
+        ensures image { Self.honest self → IsImage (Self.seen self) (Self.loose self) (Self.seen result) }
+        ensures firm { Self.honest self → (p : ℕ) → Self.loose result p → ⊥ }
+        ensures counts { Self.failures result ≡ Self.failures self }
+        ensures chosen { chosen how.now self result };
 }

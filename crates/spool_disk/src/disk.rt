@@ -41,6 +41,9 @@ pub trait Disk {
     /// How many calls failed, or 2^64 - 1 where they were more.
     ghost failures: { Self → ℕ };
 
+    /// Which calls fail, as far as this kind of disk tells: whether one did, the disk before it and the disk behind it.
+    ghost tells: { Type 0 → Self → Self → Type 0 };
+
     /// The number of bytes.
     fn len(&self) -> u64
         ensures { result ≡ size self.now };
@@ -54,7 +57,8 @@ pub trait Disk {
         ensures keeps { honest self.old → Keeps (seen self.old) (seen self.new) (loose self.old) (loose self.new) }
         ensures later { moment self.old ≤ moment self.new }
         ensures time { honest self.old → Elapses (moment self.old) (moment self.new) (left_since self.old) (left_since self.new) (seen self.new) (loose self.new) }
-        ensures counts { Counts (IsErr result) (failures self.old) (failures self.new) };
+        ensures counts { Counts (IsErr result) (failures self.old) (failures self.new) }
+        ensures tells { tells (IsErr result) self.old self.new };
 
     /// Writes the bytes from a place on. The range lies within the disk's bytes. Until a sync succeeds,
     /// and also where it fails, a crash may leave any bytes in it.
@@ -65,7 +69,8 @@ pub trait Disk {
         ensures writes { honest self.old → Writes at bytes.now (IsOk result) (seen self.old) (seen self.new) (loose self.old) (loose self.new) }
         ensures later { moment self.old ≤ moment self.new }
         ensures time { honest self.old → Elapses (moment self.old) (moment self.new) (left_since self.old) (left_since self.new) (seen self.new) (loose self.new) }
-        ensures counts { Counts (IsErr result) (failures self.old) (failures self.new) };
+        ensures counts { Counts (IsErr result) (failures self.old) (failures self.new) }
+        ensures tells { tells (IsErr result) self.old self.new };
 
     /// After a sync that succeeds, the only image that a crash may leave is what a read gives.
     fn sync(&mut self) -> Result<(), DiskFault>
@@ -74,7 +79,8 @@ pub trait Disk {
         ensures syncs { honest self.old → Syncs (IsOk result) (seen self.old) (seen self.new) (loose self.old) (loose self.new) }
         ensures later { moment self.old ≤ moment self.new }
         ensures time { honest self.old → Elapses (moment self.old) (moment self.new) (left_since self.old) (left_since self.new) (seen self.new) (loose self.new) }
-        ensures counts { Counts (IsErr result) (failures self.old) (failures self.new) };
+        ensures counts { Counts (IsErr result) (failures self.old) (failures self.new) }
+        ensures tells { tells (IsErr result) self.old self.new };
 
     /// This moment is one of those since an earlier one.
     ghost counts_now: { (disk : Self) (t : ℕ) (image : ℕ → ℕ) → t ≤ moment disk → IsImage (seen disk) (loose disk) image → left_since disk t image };

@@ -2,7 +2,7 @@
 ghost use Rattle.std.specs.Prelude.{◌≡◌, ◌≤◌, ◌+◌, ◌↔◌, Some, None, IsErr, OnOk, OnErr, ℕ, length};
 ghost use Rattle.spool_disk.specs.Disk.{Counts, Elapses, Writes};
 
-use crate::{Disk, DiskFault};
+use crate::{CrashDisk, Disk, DiskFault};
 
 /// The most bytes that a failing write fills.
 const FILLED: usize = 65536;
@@ -90,6 +90,8 @@ fn scrawl<D: Disk>(disk: &mut D, at: u64, bytes: &[u8], filler: &[u8])
 }
 
 impl<D: Disk> Disk for HiccupDisk<D> {
+    ghost use Rattle.spool_disk.specs.Hiccup.{Waits};
+
     ghost size = { λ d. D.size d.inner };
 
     ghost honest = { λ d. D.honest d.inner };
@@ -103,6 +105,8 @@ impl<D: Disk> Disk for HiccupDisk<D> {
     ghost left_since = { λ d. D.left_since d.inner };
 
     ghost failures = { λ d. D.failures d.inner + d.missed };
+
+    ghost tells = { λ failed old new. Waits (D.tells failed) failed old new };
 
     ghost counts_now = { λ d. D.counts_now d.inner };
 
@@ -132,5 +136,29 @@ impl<D: Disk> Disk for HiccupDisk<D> {
     fn sync(&mut self) -> Result<(), DiskFault> {
         self.pass()?;
         self.inner.sync()
+    }
+}
+
+impl<D: CrashDisk> CrashDisk for HiccupDisk<D> {
+    ghost use Rattle.spool_disk.specs.Hiccup.{within_of, wait_of, fill_of};
+
+    /// What is chosen of a crash of the disk within, and the call that fails behind it.
+    type How = (D::How, u64);
+
+    ghost chosen = { λ how old new. D.chosen how.0 (within_of old) (within_of new) × (wait_of new ≡ Some how.1) × (fill_of new ≡ fill_of old) };
+
+    fn restart(self, how: &(D::How, u64)) -> Self {
+        let HiccupDisk {
+            inner,
+            wait: _,
+            fill,
+            missed,
+        } = self;
+        HiccupDisk {
+            inner: inner.restart(&how.0),
+            wait: Some(how.1),
+            fill,
+            missed,
+        }
     }
 }

@@ -3,7 +3,7 @@ ghost use Rattle.std.specs.Prelude.{◌≡◌, ◌≤◌, ◌<◌, ◌+◌, ℕ,
 ghost use Rattle.spool_disk.specs.Crash.{left_by};
 ghost use Rattle.spool_disk.specs.Disk.{In, IsImage};
 
-use crate::{Crash, Disk, DiskFault};
+use crate::{Crash, CrashDisk, Disk, DiskFault};
 use std::alloc::{AllocError, Global};
 
 /// A disk in memory, which never fails, and of which a crash is made by a call.
@@ -15,6 +15,7 @@ pub struct MemoryDisk {
     unsynced: Vec<bool>,
     ghost same: { length synced.items ≡ length written.items },
     ghost marked: { length unsynced.items ≡ length written.items },
+    ghost agree: { (p : ℕ) → (get_or unsynced.items p false ≡ true → ⊥) → get_or written.items p 0 ≡ get_or synced.items p 0 },
 }
 
 impl MemoryDisk {
@@ -42,6 +43,7 @@ impl MemoryDisk {
         ensures size { size_of result ≡ size_of self }
         ensures image { IsImage (bytes_of self) (loose_of self) (bytes_of result) }
         ensures left { (p : ℕ) → loose_of self p → bytes_of result p ≡ left_by kind (synced_of self p) (bytes_of self p) }
+        ensures old { kind ≡ Crash.Old → (p : ℕ) → bytes_of result p ≡ synced_of self p }
         ensures synced { (p : ℕ) → synced_of result p ≡ bytes_of result p }
         ensures firm { (p : ℕ) → loose_of result p → ⊥ }
     {
@@ -127,6 +129,8 @@ impl Disk for MemoryDisk {
 
     ghost failures = { λ d. 0 };
 
+    ghost tells = { λ failed old new. failed → ⊥ };
+
     ghost counts_now = { λ d t image le now. now };
 
     ghost only_now = { λ d image left. left };
@@ -153,5 +157,17 @@ impl Disk for MemoryDisk {
         self.synced.copy_from_slice(&self.written);
         wipe(&mut self.unsynced);
         Ok(())
+    }
+}
+
+impl CrashDisk for MemoryDisk {
+    ghost use Rattle.spool_disk.specs.Memory.{bytes_of, synced_of, loose_of};
+
+    type How = Crash;
+
+    ghost chosen = { λ how old new. (p : ℕ) → loose_of old p → bytes_of new p ≡ left_by how (synced_of old p) (bytes_of old p) };
+
+    fn restart(self, how: &Crash) -> Self {
+        self.crash(*how)
     }
 }

@@ -8,8 +8,6 @@ mod draft;
 mod fresh;
 mod growth;
 mod laws;
-#[cfg(test)]
-mod tests;
 
 pub use draft::SpoolDraft;
 pub use laws::kept_drafts;

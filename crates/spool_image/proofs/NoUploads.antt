@@ -88,10 +88,11 @@ module _ (n : ℕ) (x : IndexSet) (image : ℕ → ℕ) (fresh : IsFresh n x ima
       let zero_there : image 4096 ≡ 0 = fresh.behind.each 4096 (omega arith) (omega (arith, all_is n)) ∙ fresh_front n x 4096 (omega arith) in
       omega (arith, zero_there, ajar)
 
-  pub fresh_shows : 16 ≤ n → n ≤ 65536 → IsIndexSet x → ImageShows image (no_uploads x)
+  pub fresh_shows : 16 ≤ n → n ≤ 65536 → IsIndexSet x → ImageShows n image (no_uploads x)
   unfolding fresh_view
   fresh_shows least most valid = record {
     view = fresh_view n x;
+    blocks = refl;
     is = record {
       form = λ ajar. absurd (gate_shut ajar);
       says = says_same (overlaid image) image (fresh_view n x) (λ p outside. shut_view image p gate_shut) fresh_says;

@@ -1,14 +1,16 @@
 -- Steps of opening a spool.
-use Rattle.std.proofs.Common.{◌≡◌, inl, inr, ℕ, ◌+◌, ◌<◌, get_or, Result, Ok, Err, IfOk, refl, sym, ◌∙◌, subst, arith}
+use Rattle.std.proofs.Common.{◌≡◌, inl, inr, ℕ, ◌+◌, ◌*◌, ◌<◌, ◌≤◌, get_or, Result, Ok, Err, IfOk, refl, sym, ◌∙◌, subst, arith}
 use Rattle.std.proofs.lemmas.Bool.{cases_eq}
 use Rattle.spool_disk.specs.Disk.{IsImage, Keeps}
-use Rattle.spool_journal.specs.Image.{journal_pages, overlaid, count, number, content}
+use Rattle.spool_disk.specs.declared.disk.Disk.{Ghosts}
+use Rattle.spool_journal.specs.Image.{journal_pages, all_pages, overlaid, count, number, content}
 use Rattle.spool_journal.specs.Phases.{Settled, ReadsAs, Still}
 use Rattle.spool_journal.proofs.Over.{over_none}
 use Rattle.spool_journal.proofs.Gate.{open_view, shut_view}
 use Rattle.upload_rules.specs.Store.{Store}
 use Rattle.spool_pages.specs.View.{View, Says, IsViewOf, first_page}
-use Rattle.spool_kept.specs.Shows.{Shows, ImageShows}
+use Rattle.spool_kept.specs.Shows.{ImageShows}
+use Rattle.spool_image.specs.LeftOnly.{IsSpool}
 use Rattle.spool_pages.proofs.Says.{says_same}
 
 pub same_function : (f g : ℕ → ℕ) → ((p : ℕ) → f p ≡ g p) → f ≡ g
@@ -28,6 +30,19 @@ first_plain image v is i lt =
     let at : 0 + i ≡ i = omega arith in
     let there : overlaid image i ≡ get_or (first_page v.blocks) i 0 = subst (λ (p : ℕ). overlaid image p ≡ get_or (first_page v.blocks) i 0) at (is.says.first.each i lt) in
     front_plain image v is i lt ∙ there
+
+-- where the bytes are the same and none is loose, nothing was written
+pub still_as : {seen seen' : ℕ → ℕ} {loose loose' : ℕ → Type 0} → Still seen seen' loose' → Keeps seen seen' loose loose'
+still_as still = record { same = still.reads; loosens = λ p l. absurd (still.firm p l) }
+
+pub still_as_image : {seen : ℕ → ℕ} {loose : ℕ → Type 0} (image : ℕ → ℕ) → ((p : ℕ) → image p ≡ seen p) → IsImage seen loose image
+still_as_image image same = record { same = λ p firm. same p }
+
+pub keeps_on : {a b c : ℕ → ℕ} {la lb lc : ℕ → Type 0} → Keeps a b la lb → Keeps b c lb lc → Keeps a c la lc
+keeps_on first then = record {
+  same = λ p. then.same p ∙ first.same p;
+  loosens = λ p l. first.loosens p (then.loosens p l);
+}
 
 -- behind a recovery
 pub settled_still : {j : ℕ} {bytes seen : ℕ → ℕ} {loose : ℕ → Type 0} → Settled j bytes seen loose → Still seen seen loose
@@ -58,8 +73,18 @@ reads_shows image was v is reads = record {
   says = says_same (overlaid image) (overlaid was) v reads.same is.says;
 }
 
-pub image_shows : (m : Store) (image was : ℕ → ℕ) (v : View) → IsViewOf was v → Shows v m → ReadsAs (journal_pages v.blocks) image (overlaid was) → ImageShows image m
-image_shows m image was v is shows reads = record { view = v; is = reads_shows image was v is reads; shows = shows }
+pub image_shows : (n : ℕ) (m : Store) (image was : ℕ → ℕ) (shown : ImageShows n was m)
+    → ReadsAs (journal_pages shown.view.blocks) image (overlaid was) → ImageShows n image m
+image_shows n m image was shown reads = record {
+  view = shown.view;
+  blocks = shown.blocks;
+  is = reads_shows image was shown.view shown.is reads;
+  shows = shown.shows;
+}
+
+-- and the disk has room for its view
+pub view_room : {D : Type 0} (disk : Ghosts D) (d : D) (n : ℕ) (m : Store) (is : IsSpool disk d n m) → 4096 * all_pages is.shows.view.blocks ≤ disk.size d
+view_room disk d n m is = subst (λ (k : ℕ). 4096 * all_pages k ≤ disk.size d) (sym is.shows.blocks) is.room
 
 pub if_ok : {T E X : Type 0} (r : Result T E) → X → IfOk r (λ t. X)
 if_ok (Ok t) x = x

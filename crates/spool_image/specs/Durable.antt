@@ -1,22 +1,41 @@
 -- The store that a spool stands for is on its disk.
-use Rattle.std.specs.Prelude.{ℕ, List}
+use Rattle.std.specs.Prelude.{◌≡◌, ◌≤◌, ◌*◌, ℕ, List, Option, Some, length}
+use Rattle.std.proofs.Common.{sym, ◌∙◌, ap}
 use Rattle.spool_disk.specs.Disk.{IsImage}
 use Rattle.spool_disk.specs.declared.disk.Disk.{Ghosts}
+use Rattle.spool_drafts.specs.declared.draft.SpoolDraft.{SpoolDraft}
+use Rattle.spool_journal.specs.Image.{all_pages}
 use Rattle.spool_pages.proofs.Resting.{rests_image}
 use Rattle.upload_rules.specs.Answers.{Among}
 use Rattle.upload_rules.specs.Store.{Store}
+use Rattle.upload_rules.specs.World.{World}
+use Rattle.spool_kept.specs.Drafting.{StandsFor}
 use Rattle.spool_kept.specs.Holding.{Holding}
-use Rattle.spool_image.specs.LeftOnly.{LeftOnly}
+use Rattle.spool_image.specs.LeftOnly.{SpoolLeft}
 use Rattle.spool_kept.specs.Shows.{ImageShows}
 use Rattle.spool_kept.specs.Stored.{Stored}
 
 -- each image of a spool that stands for a store shows it
-pub stored_shows : {D : Type 0} (disk : Ghosts D) (d : D) (h : Holding) (m : Store) (image : ℕ → ℕ) → Stored disk d h m → IsImage (disk.seen d) (disk.loose d) image → ImageShows image m
-stored_shows disk d h m image stored is = record { view = stored.view; is = rests_image image stored.rests is; shows = stored.shows }
-
-pub durable_left : {D : Type 0} {disk : Ghosts D} (d : D) (h : Holding) (m : Store) (ms : List Store)
-    → ((image : ℕ → ℕ) → disk.left_since d (disk.moment d) image → IsImage (disk.seen d) (disk.loose d) image) → Stored disk d h m → Among m ms → LeftOnly disk d (disk.moment d) ms
-durable_left {disk = disk} d h m ms only stored among = record {
-  honest = stored.honest;
-  each = λ image left. record { store = m; among = among; shows = stored_shows disk d h m image stored (only image left) };
+pub stored_shows : {D : Type 0} (disk : Ghosts D) (d : D) (h : Holding) (m : Store) (image : ℕ → ℕ)
+    → Stored disk d h m → IsImage (disk.seen d) (disk.loose d) image → ImageShows h.layout image m
+stored_shows disk d h m image stored is = record {
+  view = stored.view;
+  blocks = sym stored.keeps.blocks;
+  is = rests_image image stored.rests is;
+  shows = stored.shows;
 }
+
+pub durable_left : {D : Type 0} {disk : Ghosts D} (d : D) (h : Holding) (drafts : List (Option SpoolDraft)) (w : World)
+    (ms : List Store) → 4096 * all_pages h.layout ≤ disk.size d → ((image : ℕ → ℕ) → disk.left_since d (disk.moment d) image → IsImage (disk.seen d) (disk.loose d) image)
+    → StandsFor disk d h drafts w → Among w.store ms → SpoolLeft disk d h.layout w.blocks (disk.moment d) ms
+durable_left {disk = disk} d h drafts w ms room only stands among =
+    let stored = stands.stored in
+    let rows : length h.blocks.rows ≡ h.layout = ap length stored.keeps.rows ∙ stored.shows.sound.row_count ∙ sym stored.keeps.blocks in (
+      stands.stands.limit ∙ ap Some rows,
+      record {
+        honest = stored.honest;
+        room = room;
+        each = λ image left.
+            record { store = w.store; among = among; shows = stored_shows disk d h w.store image stored (only image left) };
+      },
+    )

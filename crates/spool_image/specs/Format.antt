@@ -1,8 +1,11 @@
--- What `format` refuses.
-use Rattle.std.specs.Prelude.{◌≡◌, ℕ, ◌*◌, ◌≤◌, Result, Ok, Err}
+-- What `format` refuses, and what a crash during it may leave.
+use Rattle.std.specs.Prelude.{◌≡◌, ◌⊎◌, ℕ, ◌*◌, ◌<◌, ◌≤◌, Result, Ok, Err}
+use Rattle.enc_model.specs.Indexes.{IndexSet}
 use Rattle.spool_disk.specs.Disk.{span}
-use Rattle.spool_journal.specs.Image.{all_pages}
-use Rattle.spool_pages.specs.View.{magic}
+use Rattle.spool_journal.specs.Image.{all_pages, byte_of}
+use Rattle.upload_rules.specs.Store.{no_uploads}
+use Rattle.spool_kept.specs.Shows.{ImageShows}
+use Rattle.spool_pages.specs.View.{first_page, magic}
 use Rattle.spool_image.specs.declared.error.FormatError.{FormatError}
 use Rattle.spool_image.specs.declared.error.FormatError.TheVariants.{AlreadySpool, Size, DiskFault}
 
@@ -16,6 +19,18 @@ pub record FitsSpool (blocks size : ℕ) : Type 0 where
   pub least : 16 ≤ blocks
   pub most : blocks ≤ 65536
   pub room : 4096 * all_pages blocks ≤ size
+
+-- what its page 0 holds is as a crash might have left it before
+pub record FrontStays (seen : ℕ → ℕ) (loose : ℕ → Type 0) (image : ℕ → ℕ) : Type 0 where
+  pub same : (p : ℕ) → p < 4096 → (loose p → ⊥) → image p ≡ seen p
+
+-- where its page 0 is whole, it shows no uploads, these indexes and so many text blocks
+pub record FormatsTo (n : ℕ) (x : IndexSet) (image : ℕ → ℕ) : Type 0 where
+  pub shows : ((p : ℕ) → p < 4096 → image p ≡ byte_of (first_page n) p) → ImageShows n image (no_uploads x)
+
+-- What a crash may leave while a spool is made: page 0 as before, or a torn one, or the spool without uploads
+abbrev pub LeftByFormat : ℕ → IndexSet → (ℕ → ℕ) → (ℕ → Type 0) → (ℕ → ℕ) → Type 0
+LeftByFormat n x seen loose image = FrontStays seen loose image ⊎ FormatsTo n x image
 
 -- nothing was written
 abbrev pub IsRefusal : {T : Type 0} → Result T FormatError → Type 0

@@ -3,4 +3,5 @@ pub mod Format
 pub mod Reads
 pub mod Spool
 pub mod LeftOnly
+pub mod Texts
 pub mod Durable

@@ -7,9 +7,9 @@ ghost use Rattle.spool_disk.specs.Views.{Lasts};
 ghost use Rattle.spool_journal.specs.Image.{all_pages};
 ghost use Rattle.upload_rules.specs.Store.{no_uploads};
 ghost use Rattle.spool_pages.specs.View.{index_place, state_place};
-ghost use Rattle.spool_kept.specs.Shows.{ImageShows};
-ghost use Rattle.spool_image.specs.Format.{HasMagic, FitsSpool, IsRefusal};
-ghost use Rattle.spool_image.specs.Fresh.{fresh_byte, IsFreshTo, IsFresh};
+ghost use Rattle.spool_image.specs.Format.{FitsSpool, FrontStays, HasMagic, IsRefusal, LeftByFormat};
+ghost use Rattle.spool_image.specs.Fresh.{fresh_byte, IsFreshTo, IsFresh, KeepsFront};
+ghost use Rattle.spool_image.specs.LeftOnly.{AllShow};
 
 use crate::FormatError;
 use enc_index::IndexSet;
@@ -44,6 +44,8 @@ fn write_pages<D: Disk>(disk: &mut D, layout: &Layout, indexes: &IndexSet) -> Re
     ensures counts { Counts (IsErr result) (D.failures disk.old) (D.failures disk.new) }
     ensures fresh { D.honest disk.old → OnOk result (IsFreshTo layout.now indexes.now (4096 * all_pages layout.now) (D.seen disk.new)) }
     ensures valid { OnOk result (IsIndexSet indexes.now) }
+    ensures front { D.honest disk.old → KeepsFront (D.seen disk.old) (D.seen disk.new) (D.loose disk.old) (D.loose disk.new) }
+    ensures crash { D.honest disk.old → Lasts D.Disk disk.old disk.new (FrontStays (D.seen disk.old) (D.loose disk.old)) }
 {
     for page in 1..layout.pages() {
         disk.write_at(4096 * page as u64, &fresh_page(layout, indexes, page))?;
@@ -59,11 +61,14 @@ fn write_first<D: Disk>(disk: &mut D, layout: &Layout) -> Result<(), DiskFault>
     ensures counts { Counts (IsErr result) (D.failures disk.old) (D.failures disk.new) }
     ensures firm { D.honest disk.old → OnOk result ((p : ℕ) → D.loose disk.new p → ⊥) }
     ensures fresh { D.honest disk.old → OnOk result ((x : Indexes) → IsFreshTo layout.now x (4096 * all_pages layout.now) (D.seen disk.old) → IsFresh layout.now x (D.seen disk.new)) }
-    ensures least { OnOk result (16 ≤ layout.now) }
-    ensures most { OnOk result (layout.now ≤ 65536) }
+    ensures least { 16 ≤ layout.now }
+    ensures most { layout.now ≤ 65536 }
+    ensures crash { D.honest disk.old → (x : Indexes) → IsIndexSet x → IsFreshTo layout.now x (4096 * all_pages layout.now) (D.seen disk.old)
+        → Lasts D.Disk disk.old disk.new (LeftByFormat layout.now x (D.seen disk.old) (D.loose disk.old)) }
 {
+    let front = first_page(layout.blocks());
     disk.sync()?;
-    disk.write_at(0, &first_page(layout.blocks()))?;
+    disk.write_at(0, &front)?;
     disk.sync()
 }
 
@@ -104,8 +109,11 @@ pub fn format<D: Disk>(disk: &mut D, blocks: u32, indexes: &IndexSet) -> Result<
     ensures same { D.honest disk.old → IsRefusal result → Keeps (D.seen disk.old) (D.seen disk.new) (D.loose disk.old) (D.loose disk.new) }
     ensures lasts { D.honest disk.old → IsRefusal result → Lasts D.Disk disk.old disk.new (IsImage (D.seen disk.old) (D.loose disk.old)) }
 
-    // Else every image shows no uploads, and these indexes.
-    ensures shows { D.honest disk.old → OnOk result ((image : ℕ → ℕ) → IsImage (D.seen disk.new) (D.loose disk.new) image → ImageShows image (no_uploads indexes.now)) }
+    // A crash at any moment of it leaves page 0 as it might have been before, or torn, or a whole spool.
+    ensures crash { D.honest disk.old → Lasts D.Disk disk.old disk.new (LeftByFormat blocks indexes.now (D.seen disk.old) (D.loose disk.old)) }
+
+    // Else every image shows no uploads, these indexes and so many blocks.
+    ensures shows { D.honest disk.old → OnOk result (AllShow D.Disk disk.new blocks (no_uploads indexes.now)) }
     ensures firm { D.honest disk.old → OnOk result ((p : ℕ) → D.loose disk.new p → ⊥) }
 {
     if is_spool(disk)? {
@@ -128,7 +136,8 @@ fn make<D: Disk>(disk: &mut D, layout: &Layout, indexes: &IndexSet) -> Result<()
     ensures honest { D.honest disk.old ↔ D.honest disk.new }
     ensures counts { Counts (IsErr result) (D.failures disk.old) (D.failures disk.new) }
     ensures firm { D.honest disk.old → OnOk result ((p : ℕ) → D.loose disk.new p → ⊥) }
-    ensures shows { D.honest disk.old → OnOk result ((image : ℕ → ℕ) → IsImage (D.seen disk.new) (D.loose disk.new) image → ImageShows image (no_uploads indexes.now)) }
+    ensures shows { D.honest disk.old → OnOk result (AllShow D.Disk disk.new layout.now (no_uploads indexes.now)) }
+    ensures crash { D.honest disk.old → Lasts D.Disk disk.old disk.new (LeftByFormat layout.now indexes.now (D.seen disk.old) (D.loose disk.old)) }
 {
     write_pages(disk, layout, indexes)?;
     write_first(disk, layout)

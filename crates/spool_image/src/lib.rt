@@ -4,6 +4,7 @@
 mod checks;
 mod error;
 mod formatting;
+mod laws;
 mod layout;
 mod loading;
 mod opening;
@@ -11,13 +12,10 @@ mod owners;
 mod reading;
 mod slots;
 mod spool;
-#[cfg(test)]
-mod tests;
-#[cfg(test)]
-mod uploads_tests;
 
 pub use error::FormatError;
 pub use formatting::format;
+pub use laws::{cut_openings, images_open, limits_open, shown_texts};
 pub use layout::pages_of;
 pub use spool::{Spool, SpoolAppend};
 pub use spool_kept::OpenFault;

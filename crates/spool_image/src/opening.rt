@@ -7,6 +7,7 @@ ghost use Rattle.spool_journal.specs.Phases.{Settled, ReadsAs};
 ghost use Rattle.spool_kept.specs.Kept.{KeepsAlone};
 ghost use Rattle.spool_kept.specs.Loads.{LoadsAs};
 ghost use Rattle.spool_kept.specs.Shows.{IsSound};
+ghost use Rattle.spool_image.specs.Reads.{NeedsReplay};
 ghost use Rattle.spool_pages.specs.View.{View, IsViewOf, first_page};
 
 use crate::loading::load;
@@ -39,6 +40,9 @@ fn find_layout<D: Disk>(disk: &mut D) -> Result<Layout, OpenFault>
     ensures keeps { D.honest disk.old → Keeps (D.seen disk.old) (D.seen disk.new) (D.loose disk.old) (D.loose disk.new) }
     ensures lasts { D.honest disk.old → Lasts D.Disk disk.old disk.new (IsImage (D.seen disk.old) (D.loose disk.old)) }
     ensures room { IfOk result (λ layout. 4096 * all_pages layout ≤ D.size disk.old) }
+    ensures least { IfOk result (λ layout. 16 ≤ layout) }
+    ensures most { IfOk result (λ layout. layout ≤ 65536) }
+    ensures front { D.honest disk.old → IfOk result (λ layout. (i : ℕ) → i < 12 → D.seen disk.old i ≡ get_or (first_page layout) i 0) }
     ensures said { D.honest disk.old → (blocks : ℕ) → 16 ≤ blocks → blocks ≤ 65536 → 4096 * all_pages blocks ≤ D.size disk.old
         → ((i : ℕ) → i < 4096 → D.seen disk.old i ≡ get_or (first_page blocks) i 0) → LoadsAs result (λ layout. layout ≡ blocks) }
 {
@@ -68,6 +72,10 @@ fn restore<D: Disk>(alloc: Global, disk: &mut D, layout: Layout) -> Result<Kept,
     ensures said { D.honest disk.old → (v : View) → IsSound v → v.blocks ≡ layout → IsViewOf (D.seen disk.old) v → LoadsAs result (λ kept. KeepsAlone kept v) }
     ensures settled { D.honest disk.old → IfOk result (λ kept. Settled (journal_pages layout) (overlaid (D.seen disk.old)) (D.seen disk.new) (D.loose disk.new)) }
     ensures lasts { D.honest disk.old → Lasts D.Disk disk.old disk.new (λ image. IsImage (D.seen disk.old) (D.loose disk.old) image ⊎ ReadsAs (journal_pages layout) image (overlaid (D.seen disk.old))) }
+    ensures unwritten { D.honest disk.old → (D.seen disk.old 4096 ≡ 165 → ⊥)
+        → Lasts D.Disk disk.old disk.new (IsImage (D.seen disk.old) (D.loose disk.old)) }
+    ensures same { D.honest disk.old → (D.seen disk.old 4096 ≡ 165 → ⊥) → (result ≡ Err OpenFault.DiskFault → ⊥)
+        → Keeps (D.seen disk.old) (D.seen disk.new) (D.loose disk.old) (D.loose disk.new) }
 {
     recover(disk, &layout)?;
     load(alloc, disk, layout)
@@ -90,6 +98,12 @@ pub(crate) fn prepare<D: Disk>(alloc: Global, disk: &mut D) -> Result<Kept, Open
     // A crash during it leaves what it might have left before, or what reads the same.
     ensures lasts { D.honest disk.old → (v : View) → IsSound v → IsViewOf (D.seen disk.old) v → 4096 * all_pages v.blocks ≤ D.size disk.old
         → Lasts D.Disk disk.old disk.new (λ image. IsImage (D.seen disk.old) (D.loose disk.old) image ⊎ ReadsAs (journal_pages v.blocks) image (overlaid (D.seen disk.old))) }
+
+    // Where no journal is to be replayed it writes nothing: every image is one from before, and so is what a read gives.
+    ensures unwritten { D.honest disk.old → (NeedsReplay (D.size disk.old) (D.seen disk.old) → ⊥)
+        → Lasts D.Disk disk.old disk.new (IsImage (D.seen disk.old) (D.loose disk.old)) }
+    ensures same { D.honest disk.old → (NeedsReplay (D.size disk.old) (D.seen disk.old) → ⊥) → (result ≡ Err OpenFault.DiskFault → ⊥)
+        → Keeps (D.seen disk.old) (D.seen disk.new) (D.loose disk.old) (D.loose disk.new) }
 {
     let layout = find_layout(disk)?;
     restore(alloc, disk, layout)

@@ -1,14 +1,16 @@
 // The uploads on a disk, and appends to them that are under way.
-ghost use Rattle.std.specs.Prelude.{◌≡◌, ◌⊎◌, ◌≤◌, ◌*◌, ◌↔◌, ℕ, Some, IfOk};
-ghost use Rattle.spool_disk.specs.Disk.{IsImage, Counts};
+ghost use Rattle.std.specs.Prelude.{◌≡◌, ◌≤◌, ◌*◌, ◌↔◌, ℕ, Some, IfOk};
+ghost use Rattle.spool_disk.specs.Disk.{Counts, IsImage, Keeps as KeepsDisk};
 ghost use Rattle.spool_disk.specs.Views.{Lasts};
 ghost use Rattle.spool_journal.specs.Image.{journal_pages, all_pages};
 ghost use Rattle.spool_journal.specs.Phases.{Idle};
 ghost use Rattle.upload_rules.specs.Store.{Store};
 ghost use Rattle.upload_rules.specs.World.{at_rest};
 ghost use Rattle.spool_kept.specs.Drafting.{DraftsFit};
-ghost use Rattle.spool_kept.specs.Shows.{IsSound, Shows, ImageShows};
+ghost use Rattle.spool_kept.specs.Shows.{IsSound};
 ghost use Rattle.spool_pages.specs.View.{View, IsViewOf};
+ghost use Rattle.spool_image.specs.Reads.{NeedsReplay};
+ghost use Rattle.spool_image.specs.LeftOnly.{AllShow, IsSpool, LeftOrShows};
 
 use crate::opening::prepare;
 use enc_index::IndexSet;
@@ -55,20 +57,26 @@ impl<D: Disk> Spool<D> {
         // A disk of which a read shows uploads is opened, and what a read shows is kept, or memory or the device refuses it.
         ensures opened { D.honest disk → (v : View) → IsSound v → IsViewOf (D.seen disk) v → 4096 * all_pages v.blocks ≤ D.size disk → OpensAs result (λ s. Keeps s v) }
 
+        // Where no journal is to be replayed it writes nothing: every image is one from before, and so is what a read gives. So it is
+        // with every disk that is refused as no spool, and with one of another version behind a closed gate.
+        ensures unwritten { D.honest disk → (NeedsReplay (D.size disk) (D.seen disk) → ⊥)
+            → Lasts D.Disk disk (disk_after result) (IsImage (D.seen disk) (D.loose disk)) }
+        ensures same { D.honest disk → (NeedsReplay (D.size disk) (D.seen disk) → ⊥) → (IsFault result → ⊥)
+            → KeepsDisk (D.seen disk) (D.seen (disk_after result)) (D.loose disk) (D.loose (disk_after result)) }
+
         // And so a commit may be made.
         ensures idle { D.honest disk → IfOk result (λ s. Idle (journal_pages (size_of s)) (D.seen (disk_of s)) (D.loose (disk_of s))) }
 
-        // A crash during it leaves what it might have left before, or what shows the same uploads.
-        ensures lasts { D.honest disk → (m : Store) (v : View) → IsViewOf (D.seen disk) v → Shows v m → 4096 * all_pages v.blocks ≤ D.size disk
-            → Lasts D.Disk disk (disk_after result) (λ image. IsImage (D.seen disk) (D.loose disk) image ⊎ ImageShows image m) }
+        // A crash during it leaves what it might have left before, or what shows the same uploads and so many blocks.
+        ensures lasts { (n : ℕ) (m : Store) → IsSpool D.Disk disk n m
+            → Lasts D.Disk disk (disk_after result) (LeftOrShows D.Disk disk n m) }
 
         // And once it is opened, every image shows them.
-        ensures shows { D.honest disk → (m : Store) (v : View) → IsViewOf (D.seen disk) v → Shows v m → 4096 * all_pages v.blocks ≤ D.size disk
-            → IfOk result (λ s. (image : ℕ → ℕ) → IsImage (D.seen (disk_of s)) (D.loose (disk_of s)) image → ImageShows image m) }
+        ensures shows { (n : ℕ) (m : Store) → IsSpool D.Disk disk n m → IfOk result (λ s. AllShow D.Disk (disk_of s) n m) }
 
         // It stands for them, with no append under way.
-        ensures stands { D.honest disk → (m : Store) (v : View) → IsViewOf (D.seen disk) v → Shows v m → 4096 * all_pages v.blocks ≤ D.size disk
-            → IfOk result (λ s. SpoolStands s (at_rest m (Some v.blocks))) }
+        ensures stands { (n : ℕ) (m : Store) → IsSpool D.Disk disk n m
+            → IfOk result (λ s. SpoolStands s (at_rest m (Some n))) }
     {
         let mut disk = disk;
         match prepare(alloc, &mut disk) {
@@ -82,9 +90,10 @@ impl<D: Disk> Spool<D> {
         }
     }
 
-    /// The disk.
+    /// The disk, which has room for the spool's blocks.
     pub fn into_disk(self) -> D
-        ensures { result ≡ disk_of self }
+        ensures same { result ≡ disk_of self }
+        ensures room { 4096 * all_pages (size_of self) ≤ D.size result }
     {
         let Spool {
             alloc: _,
@@ -97,7 +106,7 @@ impl<D: Disk> Spool<D> {
 }
 
 impl<D: Disk> Uploads for Spool<D> {
-    ghost use Rattle.spool_image.specs.LeftOnly.{LeftOnly};
+    ghost use Rattle.spool_image.specs.LeftOnly.{SpoolLeft};
     ghost use Rattle.spool_image.specs.Spool.{SpoolStands};
     ghost use Rattle.spool_image.specs.Durable.{durable_left};
 
@@ -111,11 +120,11 @@ impl<D: Disk> Uploads for Spool<D> {
 
     ghost moment = { λ s. D.moment s.disk };
 
-    ghost left_only = { λ s t ms. LeftOnly D.Disk s.disk t ms };
+    ghost left_only = { λ s blocks t ms. SpoolLeft D.Disk s.disk s.kept.layout blocks t ms };
 
     ghost failures = { λ s. D.failures s.disk };
 
-    ghost durable = { λ s w ms stands among. durable_left s.disk s.kept w.store ms (D.only_now s.disk) stands.stored among };
+    ghost durable = { λ s w ms stands among. durable_left s.disk s.kept s.drafts.items w ms s.room (D.only_now s.disk) stands among };
 
     fn record(&self, number: u64) -> Option<&Record> {
         self.kept.record(number)

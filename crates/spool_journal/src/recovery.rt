@@ -177,6 +177,12 @@ pub fn recover<D: Disk>(disk: &mut D, layout: &Layout) -> Result<(), RecoverErro
 
     // A crash during it leaves what it might have left before, or what reads the same.
     ensures lasts { D.honest disk.old → Lasts D.Disk disk.old disk.new (λ image. IsImage (D.seen disk.old) (D.loose disk.old) image ⊎ ReadsAs (journal_pages layout.now) image (overlaid (D.seen disk.old))) }
+
+    // Where the gate is closed it writes nothing: every image is one from before, and so is what a read gives.
+    ensures unwritten { D.honest disk.old → (D.seen disk.old 4096 ≡ 165 → ⊥)
+        → Lasts D.Disk disk.old disk.new (IsImage (D.seen disk.old) (D.loose disk.old)) }
+    ensures same { D.honest disk.old → (D.seen disk.old 4096 ≡ 165 → ⊥) → (result ≡ Err RecoverError.DiskFault → ⊥)
+        → Still (D.seen disk.old) (D.seen disk.new) (D.loose disk.new) }
 {
     settle(disk)?;
     if is_open(disk)? {

@@ -70,9 +70,10 @@ module _ {D : Type 0} (disk : Ghosts D) (d d' : D) (h h' : Holding) (only : Only
   pub stored_after : (disk.honest d → disk.honest d') → Stored disk d' h' w.store
   stored_after honest = moved disk d d' h h' w.store h.layout s only (honest s.honest) effect.own unowned refl (effect.writes s.honest).writes
 
-  pub quiet_after : Lasts disk d d' (λ image. ImageShows image w.store)
+  pub quiet_after : Lasts disk d d' (λ image. ImageShows h.layout image w.store)
   quiet_after = lasts_more (effect.writes s.honest).lasts (λ image is'. record {
     view = s.view;
+    blocks = sym s.keeps.blocks;
     is = rests_aside effect.own image (sym s.keeps.blocks) s.rests unowned is';
     shows = s.shows;
   })

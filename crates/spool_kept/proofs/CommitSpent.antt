@@ -38,12 +38,15 @@ use Rattle.spool_kept.proofs.Drafted.{IsChanged, changed_in, stored_on}
 pub outcome_is : (w : World) (d : ℕ) (p : Patch) → commit_refusal w d p ≡ None → 0 < length p.body → commit_outcome w d p ≡ appended_store w.store p.number p.body
 outcome_is w d p allowed some = ap (λ (e : Option UploadRefusal). outcome e w.store (committed_store w.store p)) allowed ∙ rules.store_longer w.store p some
 
-module _ {D : Type 0} (disk : Ghosts D) (d d' : D) (m : Store) where
-  pub as_before : (after : Store) → Lasts disk d d' (λ image. ImageShows image m) → Lasts disk d d' (ShowsEither m after)
+module _ {D : Type 0} (disk : Ghosts D) (d d' : D) (n : ℕ) (m : Store) where
+  pub as_before : (after : Store) → Lasts disk d d' (λ image. ImageShows n image m) → Lasts disk d d' (ShowsEither n m after)
   as_before after lasts = lasts_more lasts (λ image is. inl is)
 
-  pub either_then : (d'' : D) (after after' : Store) → after' ≡ after → Lasts disk d d' (λ image. ImageShows image m) → Lasts disk d' d'' (ShowsEither m after) → Lasts disk d d'' (ShowsEither m after')
-  either_then d'' after after' same lasts next = subst (λ (n : Store). Lasts disk d d'' (ShowsEither m n)) (sym same) (lasts_on (as_before after lasts) next)
+  pub either_then : (d'' : D) (after after' : Store) → after' ≡ after → Lasts disk d d' (λ image. ImageShows n image m)
+      → (n' : ℕ) → n' ≡ n → Lasts disk d' d'' (ShowsEither n' m after) → Lasts disk d d'' (ShowsEither n m after')
+  either_then d'' after after' same lasts n' size next =
+      let then = subst (λ (k : ℕ). Lasts disk d' d'' (ShowsEither k m after)) size next in
+      subst (λ (s : Store). Lasts disk d d'' (ShowsEither n m s)) (sym same) (lasts_on (as_before after lasts) then)
 
 -- THE ANSWER
 

@@ -220,10 +220,10 @@ module _ {D : Type 0} (disk : Ghosts D) (old : D) (h new : Holding) (fits' : Fit
     shows = after_shows;
   }
 
-  pub after_lasts : (d : D) → Lasts disk old d (λ image. IsViewOf image before ⊎ IsViewOf image after) → Lasts disk old d (ShowsEither m (appended_store m n bytes))
+  pub after_lasts : (d : D) → Lasts disk old d (λ image. IsViewOf image before ⊎ IsViewOf image after) → Lasts disk old d (ShowsEither h.layout m (appended_store m n bytes))
   after_lasts d lasts = lasts_more lasts (λ image shown. elim shown [
-    | inl was ↦ inl (record { view = append.stored.view; is = was; shows = append.stored.shows })
-    | inr now ↦ inr (record { view = after; is = now; shows = after_shows })
+    | inl was ↦ inl (record { view = append.stored.view; blocks = sym append.stored.keeps.blocks; is = was; shows = append.stored.shows })
+    | inr now ↦ inr (record { view = after; blocks = sym append.stored.keeps.blocks; is = now; shows = after_shows })
   ])
 
   module _ (blank filled : List (ℕ × List ℕ))

@@ -66,16 +66,16 @@ module _ (h : Holding) (v : View) (m : Store) (new : New) (slot : ℕ) (r : Slot
   keeps_new h' taken = keeps_said h' (created_view v slot r) taken.fits shows_new.sound (sym (taken.layout ∙ keeps.blocks)) (taken.next ∙ ap (λ (n : ℕ). n + 1) keeps.next) (taken.indexes ∙ keeps.indexes)
       (taken.slots ∙ ap (λ (xs : List (Option SlotRecord)). slice_set xs slot (Some r)) keeps.slots) (ap (λ b. b.rows) taken.blocks ∙ keeps.rows)
 
-  shows_either : (image : ℕ → ℕ) → IsViewOf image v ⊎ IsViewOf image (created_view v slot r) → ShowsEither m (created_store m new) image
-  shows_either image (inl old) = inl (record { view = v; is = old; shows = shows })
-  shows_either image (inr made) = inr (record { view = created_view v slot r; is = made; shows = shows_new })
+  shows_either : (image : ℕ → ℕ) → IsViewOf image v ⊎ IsViewOf image (created_view v slot r) → ShowsEither h.layout m (created_store m new) image
+  shows_either image (inl old) = inl (record { view = v; blocks = sym keeps.blocks; is = old; shows = shows })
+  shows_either image (inr made) = inr (record { view = created_view v slot r; blocks = sym keeps.blocks; is = made; shows = shows_new })
 
   module _ {D : Type 0} (disk : Ghosts D) (before after : D) {pages : List (ℕ × List ℕ)} (rests : Rests v (disk.seen before) (disk.loose before)) (changes : Changes pages v (record (with_record v slot r) { next = h.next + 1 })) where
     -- a crash leaves the old store or the new one
     pub crash_new : ((v' : View) → Changes pages v v' → HasTexts (disk.seen before) v' → Lasts disk before after (λ image. IsViewOf image v ⊎ IsViewOf image v'))
-        → Lasts disk before after (ShowsEither m (outcome (create_refusal (at_rest m None) new) m (created_store m new)))
+        → Lasts disk before after (ShowsEither h.layout m (outcome (create_refusal (at_rest m None) new) m (created_store m new)))
     crash_new lasts =
-        subst (λ (f : Option UploadRefusal). Lasts disk before after (ShowsEither m (outcome f m (created_store m new)))) (sym allowed)
+        subst (λ (f : Option UploadRefusal). Lasts disk before after (ShowsEither h.layout m (outcome f m (created_store m new)))) (sym allowed)
         (lasts_more (lasts (created_view v slot r) (changes_new changes) (texts_new rests)) shows_either)
 
     -- and the new one stands behind the change

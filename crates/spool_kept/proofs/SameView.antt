@@ -75,12 +75,13 @@ rests_other {seen = seen} v v' sound sound' says rests is = record {
 
 -- Whatever the resting bytes show, an image shows that differs from them only in blocks that no row owns.
 pub shows_aside : {seen : ℕ → ℕ} {loose : ℕ → Type 0} (v : View) (own : List ℕ) (n : ℕ) (image : ℕ → ℕ) (m : Store) → IsSound v → v.blocks ≡ n → Rests v seen loose → Unowned v.rows own
-    → IsImage seen loose (aside_blocks (text_page n) own seen image) → ImageShows seen m → ImageShows image m
-shows_aside {seen = seen} v own n image m sound size rests unowned is shown =
+    → IsImage seen loose (aside_blocks (text_page n) own seen image) → (k : ℕ) → ImageShows k seen m → ImageShows k image m
+shows_aside {seen = seen} v own n image m sound size rests unowned is k shown =
     let v' = shown.view in
     let blocks = same_blocks (overlaid seen) v v' sound shown.shows.sound rests.is.says shown.is.says in
     record {
       view = v';
+      blocks = shown.blocks;
       is = rests_aside own image (sym blocks ∙ size) (rests_other v v' sound shown.shows.sound rests.is.says rests shown.is)
           (λ i lt. sym (same_row (overlaid seen) v v' sound shown.shows.sound rests.is.says shown.is.says (get_or own i 0)) ∙ unowned i lt) is;
       shows = shown.shows;

@@ -92,8 +92,9 @@ pub record Shows (v : View) (m : Store) : Type 0 where
   pub told : (s : ℕ) (r : SlotRecord) → slot_at v s ≡ Some r → IsTold m r (v.texts s)
   pub all : (n : ℕ) (u : Upload) → find n m.uploads ≡ Some u → HasSlot v n
 
--- the image, read plainly, shows the uploads
-pub record ImageShows (image : ℕ → ℕ) (m : Store) : Type 0 where
+-- the image, read plainly, shows the uploads, and so many text blocks
+pub record ImageShows (n : ℕ) (image : ℕ → ℕ) (m : Store) : Type 0 where
   pub view : View
+  pub blocks : view.blocks ≡ n
   pub is : IsViewOf image view
   pub shows : Shows view m

@@ -16,6 +16,6 @@ pub record Stored {D : Type 0} (disk : Ghosts D) (d : D) (h : Holding) (m : Stor
   pub keeps : KeepsView h view
   pub shows : Shows view m
 
--- the image shows one of the two
-abbrev pub ShowsEither : Store → Store → (ℕ → ℕ) → Type 0
-ShowsEither before after image = ImageShows image before ⊎ ImageShows image after
+-- the image shows one of the two, and so many blocks
+abbrev pub ShowsEither : ℕ → Store → Store → (ℕ → ℕ) → Type 0
+ShowsEither n before after image = ImageShows n image before ⊎ ImageShows n image after

@@ -122,7 +122,7 @@ fn ended<D: Disk>(
     ensures stored { (drafts : List (Option Draft)) (number : ℕ) (w : World) (p : Patch) → IsCommit D.Disk disk.old kept.old drafts number draft.old w p
         → Stored D.Disk disk.new kept.new w.store }
     ensures quiet { (drafts : List (Option Draft)) (number : ℕ) (w : World) (p : Patch) → IsCommit D.Disk disk.old kept.old drafts number draft.old w p
-        → Lasts D.Disk disk.old disk.new (λ image. ImageShows image w.store) }
+        → Lasts D.Disk disk.old disk.new (λ image. ImageShows kept.old.layout image w.store) }
 {
     let used = record_at(&kept.slots, slot as usize).unwrap().record();
     let accepted = draft.offset().saturating_add(draft.came());
@@ -165,9 +165,9 @@ fn put_behind<D: Disk>(
         (λ n. (n ≡ reached p) × StandsFor D.Disk disk.new kept.new (slice_set drafts number None) (committed w number p))
         (StandsFor D.Disk disk.new kept.new (slice_set drafts number None) (dropped w number)) }
     ensures crash { (drafts : List (Option Draft)) (number : ℕ) (w : World) (p : Patch) → IsCommit D.Disk disk.old kept.old drafts number draft w p
-        → Lasts D.Disk disk.old disk.new (ShowsEither w.store (commit_outcome w number p)) }
+        → Lasts D.Disk disk.old disk.new (ShowsEither kept.old.layout w.store (commit_outcome w number p)) }
     ensures unmade { (drafts : List (Option Draft)) (number : ℕ) (w : World) (p : Patch) → IsCommit D.Disk disk.old kept.old drafts number draft w p
-        → IsErrOf result UploadError.NoMemory → Lasts D.Disk disk.old disk.new (λ image. ImageShows image w.store) }
+        → IsErrOf result UploadError.NoMemory → Lasts D.Disk disk.old disk.new (λ image. ImageShows kept.old.layout image w.store) }
 {
     let mut draft = draft;
     let longer = match ended(alloc, disk, kept, &mut draft, slot) {
@@ -209,9 +209,9 @@ pub fn commit<D: Disk>(
         (λ n. (n ≡ reached p) × StandsFor D.Disk disk.new kept.new drafts.new.items (committed w number p))
         (StandsFor D.Disk disk.new kept.new drafts.new.items (dropped w number)) }
     ensures crash { (w : World) (p : Patch) → StandsFor D.Disk disk.old kept.old drafts.old.items w → find number w.patches ≡ Some p
-        → Lasts D.Disk disk.old disk.new (ShowsEither w.store (commit_outcome w number p)) }
+        → Lasts D.Disk disk.old disk.new (ShowsEither kept.old.layout w.store (commit_outcome w number p)) }
     ensures unmade { (w : World) (p : Patch) → StandsFor D.Disk disk.old kept.old drafts.old.items w → find number w.patches ≡ Some p
-        → IsErrOf result UploadError.NoMemory → Lasts D.Disk disk.old disk.new (λ image. ImageShows image w.store) }
+        → IsErrOf result UploadError.NoMemory → Lasts D.Disk disk.old disk.new (λ image. ImageShows kept.old.layout image w.store) }
 {
     let Some(draft) = taken(drafts, number) else {
         return Err(UploadError::Refused(UploadRefusal::NoSuch));

@@ -129,7 +129,7 @@ pub fn create<D: Disk>(
     ensures answer { (m : Store) → Stored D.Disk disk.old kept.old m
         → Answers (create_refusal (at_rest m None) new) result (λ n. (n ≡ m.next) × Stored D.Disk disk.new kept.new (created_store m new)) (Stored D.Disk disk.new kept.new m) }
     ensures crash { (m : Store) → Stored D.Disk disk.old kept.old m
-        → Lasts D.Disk disk.old disk.new (ShowsEither m (outcome (create_refusal (at_rest m None) new) m (created_store m new))) }
+        → Lasts D.Disk disk.old disk.new (ShowsEither kept.old.layout m (outcome (create_refusal (at_rest m None) new) m (created_store m new))) }
     ensures unmade { IsErrOf result UploadError.NoMemory → (disk.new ≡ disk.old) × (kept.new ≡ kept.old) }
     ensures refused { (e : UploadRefusal) → IsErrOf result (UploadError.Refused e) → (disk.new ≡ disk.old) × (kept.new ≡ kept.old) }
     ensures texts { (m : Store) → Stored D.Disk disk.old kept.old m → OnOk result ((p : ℕ) → 4096 * text_page kept.old.layout ≤ p → D.seen disk.new p ≡ D.seen disk.old p) }

@@ -90,7 +90,7 @@ pub fn append<D: Disk>(
         (StandsFor D.Disk disk.new kept.new drafts.new.items w) }
     // A crash during it leaves what shows the same.
     ensures quiet { (w : World) (p : Patch) → StandsFor D.Disk disk.old kept.old drafts.old.items w → find number w.patches ≡ Some p
-        → Lasts D.Disk disk.old disk.new (λ image. (m : Store) → ImageShows (D.seen disk.old) m → ImageShows image m) }
+        → Lasts D.Disk disk.old disk.new (λ image. (n : ℕ) (m : Store) → ImageShows n (D.seen disk.old) m → ImageShows n image m) }
 {
     let Some(mut draft) = taken(drafts, number) else {
         return Err(UploadError::Refused(UploadRefusal::NoSuch));

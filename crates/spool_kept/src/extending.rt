@@ -181,7 +181,7 @@ pub(crate) fn extend<D: Disk>(
 
     // A crash during it leaves the store before or behind it.
     ensures crash { (m : Store) (n : ℕ) (bytes : List ℕ) → IsAppend D.Disk disk.old kept.old m n bytes longer.now more.now
-        → Lasts D.Disk disk.old disk.new (ShowsEither m (appended_store m n bytes)) }
+        → Lasts D.Disk disk.old disk.new (ShowsEither kept.old.layout m (appended_store m n bytes)) }
 
     // No byte of a text block is another.
     ensures texts { (m : Store) (n : ℕ) (bytes : List ℕ) → IsAppend D.Disk disk.old kept.old m n bytes longer.now more.now

@@ -11,8 +11,6 @@ mod records;
 mod rests;
 mod rows;
 mod slot_pages;
-#[cfg(test)]
-mod tests;
 
 pub use changes::{fill_rows, pages_of_change, pages_of_new};
 pub use changing::change;

@@ -9,8 +9,6 @@ mod draft_text;
 mod error;
 mod laws;
 mod reads;
-#[cfg(test)]
-mod tests;
 
 pub use draft_text::DraftText;
 pub use error::DraftError;

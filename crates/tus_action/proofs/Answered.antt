@@ -98,7 +98,7 @@ refused_serves u store gone m refusal DiskFault (Err Stops.DiskFault) on_files b
 refused_serves u store gone m refusal DiskFault (Ok a) on_files bare closes old new done replies_to answered replies = absurd replies
 
 -- refused for memory, by the call itself or behind its refusal: nothing was made
-pub nothing_made : {m0 m1 : ℕ} {l0 l1 : ℕ → List Store → Type 0} {B T : Type 0} (before after : Store) (refusal : Option UploadRefusal) (e : UploadError)
+pub nothing_made : {m0 m1 : ℕ} {l0 l1 : Option ℕ → ℕ → List Store → Type 0} {B T : Type 0} (before after : Store) (refusal : Option UploadRefusal) (e : UploadError)
     (result : Result (code.Acted B) Stop) (on_files bare closes : Bool) (old new : List ℕ) (done : T → Type 0) (same : Type 0)
     → Answers {T = T} refusal (Err e) done same → RepliesTo result e on_files bare closes old new → IsErrOf result Stops.NoMemory
     → Limits m0 m1 l0 l1 before (outcome refusal before after) → (e ≡ NoMemory → Limits m0 m1 l0 l1 before before) → Limits m0 m1 l0 l1 before before

@@ -16,11 +16,13 @@ use upload_rules::{UploadError, Uploads};
 
 /// Some of the body came: the draft goes on, or is dropped.
 pub fn feed_body<U: Uploads>(store: &mut U, draft: U::Draft, piece: &[u8]) -> Result<U::Draft, Stop>
-    ensures answer { (w : World) (p : Patch) → U.stands store.old w → find (U.number_of draft) w.patches ≡ Some p → U.holds draft p
+    ensures answer { (w : World) (p : Patch) → U.stands store.old w → find (U.number_of draft) w.patches ≡ Some p
+        → U.holds draft p
         → length p.body + length piece.now ≤ p.count
         → Feeds U.Uploads store.new result (dropped w (U.number_of draft)) (fed w (U.number_of draft) piece.now)
         (U.number_of draft) (fed_patch w (U.number_of draft) p piece.now) }
-    ensures crash { (w : World) (p : Patch) → U.stands store.old w → find (U.number_of draft) w.patches ≡ Some p → U.holds draft p
+    ensures crash { (w : World) (p : Patch) → U.stands store.old w → find (U.number_of draft) w.patches ≡ Some p
+        → U.holds draft p
         → Quiet (U.moment store.old) (U.moment store.new) (U.left_only store.old) (U.left_only store.new) }
     ensures counts { Counts (IsErrOf result Stop.DiskFault) (U.failures store.old) (U.failures store.new) }
 {
@@ -37,7 +39,8 @@ pub fn feed_body<U: Uploads>(store: &mut U, draft: U::Draft, piece: &[u8]) -> Re
     }
 }
 
-/// The body is there: its patch is committed, or refused, and the reply is appended to `out`. The reply of a commit is built before it.
+/// The body is there: its patch is committed, or refused, and the reply is appended to `out`. The reply of a commit is
+/// built before it.
 /// `reached` is the offset behind the body.
 pub fn end_body<U: Uploads>(
     alloc: Global,
@@ -48,14 +51,19 @@ pub fn end_body<U: Uploads>(
     closes: bool,
     out: &mut Vec<u8>,
 ) -> Result<Acted<U::Draft>, Stop>
-    ensures answer { (w : World) (p : Patch) (r : Request) → U.stands store.old w → find (U.number_of draft) w.patches ≡ Some p → U.holds draft p
+    ensures answer { (w : World) (p : Patch) (r : Request) → U.stands store.old w
+        → find (U.number_of draft) w.patches ≡ Some p → U.holds draft p
         → reached ≡ offset_behind p → bare ≡ r.bare → closes ≡ r.closes
         → Serves U.Uploads store.new result out.old.items out.new.items (dropped w (U.number_of draft))
         (committed_as w (U.number_of draft) p r (commit_refusal w (U.number_of draft) p)) }
-    ensures crash { (w : World) (p : Patch) → U.stands store.old w → find (U.number_of draft) w.patches ≡ Some p → U.holds draft p
-        → Limits (U.moment store.old) (U.moment store.new) (U.left_only store.old) (U.left_only store.new) w.store (commit_outcome w (U.number_of draft) p) }
-    ensures unmade { (w : World) (p : Patch) → U.stands store.old w → find (U.number_of draft) w.patches ≡ Some p → U.holds draft p → IsErrOf result Stop.NoMemory
-        → Limits (U.moment store.old) (U.moment store.new) (U.left_only store.old) (U.left_only store.new) w.store w.store }
+    ensures crash { (w : World) (p : Patch) → U.stands store.old w → find (U.number_of draft) w.patches ≡ Some p
+        → U.holds draft p
+        → Limits (U.moment store.old) (U.moment store.new) (U.left_only store.old) (U.left_only store.new) w.store
+        (commit_outcome w (U.number_of draft) p) }
+    ensures unmade { (w : World) (p : Patch) → U.stands store.old w → find (U.number_of draft) w.patches ≡ Some p
+        → U.holds draft p → IsErrOf result Stop.NoMemory
+        → Limits (U.moment store.old) (U.moment store.new) (U.left_only store.old)
+        (U.left_only store.new) w.store w.store }
     ensures counts { Counts (IsErrOf result Stop.DiskFault) (U.failures store.old) (U.failures store.new) }
 {
     let before = out.as_slice().len();
@@ -74,12 +82,18 @@ pub fn end_body<U: Uploads>(
 
 /// The body was cut by the end of its connection: what came of it is committed, without a reply.
 pub fn cut_body<U: Uploads>(store: &mut U, draft: U::Draft) -> Result<(), Stop>
-    ensures answer { (w : World) (p : Patch) → U.stands store.old w → find (U.number_of draft) w.patches ≡ Some p → U.holds draft p
-        → Ends U.Uploads store.new result (dropped w (U.number_of draft)) (spent w (U.number_of draft) p (commit_refusal w (U.number_of draft) p)) }
-    ensures crash { (w : World) (p : Patch) → U.stands store.old w → find (U.number_of draft) w.patches ≡ Some p → U.holds draft p
-        → Limits (U.moment store.old) (U.moment store.new) (U.left_only store.old) (U.left_only store.new) w.store (commit_outcome w (U.number_of draft) p) }
-    ensures unmade { (w : World) (p : Patch) → U.stands store.old w → find (U.number_of draft) w.patches ≡ Some p → U.holds draft p → IsErrOf result Stop.NoMemory
-        → Limits (U.moment store.old) (U.moment store.new) (U.left_only store.old) (U.left_only store.new) w.store w.store }
+    ensures answer { (w : World) (p : Patch) → U.stands store.old w → find (U.number_of draft) w.patches ≡ Some p
+        → U.holds draft p
+        → Ends U.Uploads store.new result (dropped w (U.number_of draft))
+        (spent w (U.number_of draft) p (commit_refusal w (U.number_of draft) p)) }
+    ensures crash { (w : World) (p : Patch) → U.stands store.old w → find (U.number_of draft) w.patches ≡ Some p
+        → U.holds draft p
+        → Limits (U.moment store.old) (U.moment store.new) (U.left_only store.old) (U.left_only store.new) w.store
+        (commit_outcome w (U.number_of draft) p) }
+    ensures unmade { (w : World) (p : Patch) → U.stands store.old w → find (U.number_of draft) w.patches ≡ Some p
+        → U.holds draft p → IsErrOf result Stop.NoMemory
+        → Limits (U.moment store.old) (U.moment store.new) (U.left_only store.old)
+        (U.left_only store.new) w.store w.store }
     ensures counts { Counts (IsErrOf result Stop.DiskFault) (U.failures store.old) (U.failures store.new) }
 {
     match store.commit(draft) {

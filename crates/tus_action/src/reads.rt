@@ -56,7 +56,6 @@ pub(crate) fn show<U: Uploads>(
 
 /// Gives the next piece of a text, 65,536 bytes or all that are left where they are fewer: appends it to `out`.
 pub fn give_more<U: Uploads>(
-    alloc: Global,
     store: &mut U,
     giving: Giving,
     out: &mut Vec<u8>,
@@ -67,16 +66,16 @@ pub fn give_more<U: Uploads>(
     ensures counts { Counts (IsErrOf result Stop.DiskFault) (U.failures store.old) (U.failures store.new) }
 {
     let count = giving.length.saturating_sub(giving.given).min(PIECE) as usize;
-    let Ok(mut piece) = vec![in alloc; 0u8; count] else {
+    let before = out.len();
+    let Ok(()) = out.resize(before + count, 0) else {
         return Err(Stop::NoMemory);
     };
-    match store.read_text(giving.number, giving.given, &mut piece) {
-        Ok(_count) => {}
-        Err(error) => return Err(Stop::from(error)),
-    }
-    match out.extend_from_slice(&piece) {
-        Ok(()) => Ok(giving.behind(count as u64)),
-        Err(_) => Err(Stop::NoMemory),
+    match store.read_text(giving.number, giving.given, &mut out[before..]) {
+        Ok(_count) => Ok(giving.behind(count as u64)),
+        Err(error) => {
+            out.truncate(before);
+            Err(Stop::from(error))
+        }
     }
 }
 
@@ -112,7 +111,7 @@ pub(crate) fn give_text<U: Uploads>(
         given: 0,
         closes,
     };
-    match give_more(alloc, store, giving, out) {
+    match give_more(store, giving, out) {
         Ok(left) => Ok(Acted::giving(left, closes)),
         Err(stop) => {
             out.truncate(before);

@@ -27,9 +27,11 @@ pub fn act<U: Uploads>(
     ensures answer { (w : World) → U.stands store.old w
         → Serves U.Uploads store.new result out.old.items out.new.items w (acted w (Asks (request_shown request))) }
     ensures crash { (w : World) → U.stands store.old w
-        → Limits (U.moment store.old) (U.moment store.new) (U.left_only store.old) (U.left_only store.new) w.store (acted w (Asks (request_shown request))).world.store }
+        → Limits (U.moment store.old) (U.moment store.new) (U.left_only store.old) (U.left_only store.new) w.store
+        (acted w (Asks (request_shown request))).world.store }
     ensures unmade { (w : World) → U.stands store.old w → IsErrOf result Stop.NoMemory
-        → Limits (U.moment store.old) (U.moment store.new) (U.left_only store.old) (U.left_only store.new) w.store w.store }
+        → Limits (U.moment store.old) (U.moment store.new) (U.left_only store.old)
+        (U.left_only store.new) w.store w.store }
     ensures counts { Counts (IsErrOf result Stop.DiskFault) (U.failures store.old) (U.failures store.new) }
 {
     let Request {

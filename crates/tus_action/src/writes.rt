@@ -29,9 +29,11 @@ pub(crate) fn create<U: Uploads>(
     ensures answer { (w : World) (r : Request) → U.stands store.old w → bare ≡ r.bare → closes ≡ r.closes
         → Serves U.Uploads store.new result out.old.items out.new.items w (post w r new (create_refusal w new)) }
     ensures crash { (w : World) → U.stands store.old w
-        → Limits (U.moment store.old) (U.moment store.new) (U.left_only store.old) (U.left_only store.new) w.store (create_outcome w new) }
+        → Limits (U.moment store.old) (U.moment store.new) (U.left_only store.old) (U.left_only store.new) w.store
+        (create_outcome w new) }
     ensures unmade { (w : World) → U.stands store.old w → IsErrOf result Stop.NoMemory
-        → Limits (U.moment store.old) (U.moment store.new) (U.left_only store.old) (U.left_only store.new) w.store w.store }
+        → Limits (U.moment store.old) (U.moment store.new) (U.left_only store.old)
+        (U.left_only store.new) w.store w.store }
     ensures counts { Counts (IsErrOf result Stop.DiskFault) (U.failures store.old) (U.failures store.new) }
 {
     let before = out.as_slice().len();
@@ -71,8 +73,10 @@ pub(crate) fn begin<U: Uploads>(
     closes: bool,
     out: &mut Vec<u8>,
 ) -> Result<Acted<U::Draft>, Stop>
-    ensures answer { (w : World) (r : Request) → U.stands store.old w → length ≡ r.length → bare ≡ r.bare → expects ≡ r.expects → closes ≡ r.closes
-        → Serves U.Uploads store.new result out.old.items out.new.items w (patch w r number (begin_refusal w number offset length)) }
+    ensures answer { (w : World) (r : Request) → U.stands store.old w → length ≡ r.length → bare ≡ r.bare
+        → expects ≡ r.expects → closes ≡ r.closes
+        → Serves U.Uploads store.new result out.old.items out.new.items w
+        (patch w r number (begin_refusal w number offset length)) }
     ensures crash { Quiet (U.moment store.old) (U.moment store.new) (U.left_only store.old) (U.left_only store.new) }
     ensures counts { Counts (IsErrOf result Stop.DiskFault) (U.failures store.old) (U.failures store.new) }
 {

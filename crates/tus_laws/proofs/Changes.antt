@@ -10,9 +10,10 @@ use Rattle.tus_request.specs.Requests.{Patch as Patches}
 use Rattle.tus_action.specs.Acts.{Acted, Giving, acted, acted_on, post, new_of, head, get, patch, is_pending, fed, commit_with}
 use Rattle.tus_session.specs.Streams.{Asked, Moments, taken}
 use Rattle.tus_session.specs.Turns.{Conn, Turn, reader, at_head, at_body, body_step, turn_of, came_with, came_on, came_turn, more_on, more_turn, ended_with, ended_on, ended_world, left_world, fresh}
-use Rattle.tus_session.specs.History.{State, Event, Opened, Came, More, Ended, Served, OutOfMemory, Failed, Done, put, kept, opened_at, came_at, more_at, ended_at, lost_at, conn_in, step}
+use Rattle.tus_session.specs.History.{State, Event, Opened, Came, More, Ended, Served, OutOfMemory, Failed, Done, put, kept, opened_at, came_at, more_at, ended_at, lost_at, failed_at, step}
 use Rattle.tus_session.specs.declared.errors.SessionError.TheVariants.{TooMany}
 use Rattle.tus_session.proofs.Feeding.{fed_store}
+use Rattle.tus_session.proofs.Unmade.{opened_uploads}
 use Rattle.tus_session.proofs.RequestLeaves.{Leaves, Nothing as Idle, Text, Patching, leaves}
 use Rattle.tus_laws.specs.Patches.{moments_in, at_its_head, BodyCame, BodyCut, IsDoneOn, DonePatch, IsAccepted, IsRefused, Changed, Nothing, Made, Put}
 
@@ -220,14 +221,6 @@ module _ (st : State) (c : ℕ) (k : Conn) (here : st.conns c ≡ Some k) where
   unfolding ended_world
   ended_changed = draft_case k.draft refl
 
-opened_case : (st : State) (c : ℕ) (b : Bool) → Changed st (Opened c) (if b then record { state = put st st.world c (Some fresh); outcome = Done } else kept st TooMany).state.world.store
-opened_case st c true = Nothing refl
-opened_case st c false = Nothing refl
-
-opened_changed : (st : State) (c : ℕ) (o : Option Conn) → Changed st (Opened c) (opened_at st c o).state.world.store
-opened_changed st c None = opened_case st c (nat_lt c 16)
-opened_changed st c (Some k) = Nothing refl
-
 came_at_changed : (st : State) (c : ℕ) (piece : List ℕ) (o : Option Conn) → st.conns c ≡ o → Changed st (Came c piece) (came_at st c piece o).state.world.store
 came_at_changed st c piece None here = Nothing refl
 came_at_changed st c piece (Some k) here = came_changed st c piece k here k.pending refl
@@ -243,27 +236,10 @@ ended_at_changed st c (Some k) here = ended_changed st c k here
 -- WHAT AN EVENT MAKES of the uploads
 pub served_changed : (st : State) (e : Event) → Changed st e (step st e Served).state.world.store
 unfolding step
-served_changed st (Opened c) = opened_changed st c (st.conns c)
+served_changed st (Opened c) = Nothing (opened_uploads st c (st.conns c))
 served_changed st (Came c piece) = came_at_changed st c piece (st.conns c) refl
 served_changed st (More c) = more_at_changed st c (st.conns c)
 served_changed st (Ended c) = ended_at_changed st c (st.conns c) refl
-
-left_uploads : (w : World) (own : Option ℕ) → (left_world w own).store ≡ w.store
-left_uploads w None = refl
-left_uploads w (Some d) = refl
-
-lost_uploads : (st : State) (c : ℕ) (o : Option Conn) → (lost_at st c o).state.world.store ≡ st.world.store
-lost_uploads st c None = refl
-lost_uploads st c (Some k) = left_uploads st.world k.draft
-
--- an event that is refused for memory, or at which the device fails, makes nothing
-pub memory_same : (st : State) (e : Event) → (step st e OutOfMemory).state.world.store ≡ st.world.store
-unfolding step
-memory_same st e = lost_uploads st (conn_in e) (st.conns (conn_in e))
-
-pub fault_same : (st : State) (e : Event) → (step st e Failed).state.world.store ≡ st.world.store
-unfolding step
-fault_same st e = refl
 
 -- the world behind a patch that is done
 done_world_at : (st : State) (e : Event) (k : Conn) (v : World) (d : ℕ) (p : Patch) → IsDoneOn st e k v d p → (step st e Served).state.world ≡ spent v d p (commit_refusal v d p)

@@ -8,7 +8,8 @@ use Rattle.upload_rules.specs.Store.{New, Upload, Store, find, upload_of, with_b
 use Rattle.upload_rules.proofs.Finds.{find_replaced_same, find_replaced_other}
 use Rattle.tus_session.specs.History.{State, Event, Mark, Marked, Served, OutOfMemory, Failed, step, history}
 use Rattle.tus_laws.specs.Patches.{Changed, Nothing, Made, Put, IsAbove}
-use Rattle.tus_laws.proofs.Changes.{served_changed, memory_same, fault_same}
+use Rattle.tus_session.proofs.Unmade.{memory_same, fault_same}
+use Rattle.tus_laws.proofs.Changes.{served_changed}
 
 abbrev pub store_at : State → List Marked → Store
 store_at start past = (history start past).world.store

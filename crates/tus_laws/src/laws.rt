@@ -10,23 +10,32 @@ ghost use Rattle.tus_request.specs.Requests.{Request, Patch, Asks};
 ghost use Rattle.tus_action.specs.Acts.{acted};
 ghost use Rattle.tus_session.specs.Streams.{Asked, cut, heads_of, moments};
 ghost use Rattle.tus_session.specs.Turns.{reader};
-ghost use Rattle.tus_session.specs.History.{State, Event, Marked, Served, OutOfMemory, Failed, step, history, beginning};
+ghost use Rattle.tus_session.specs.History.{State, Event, Marked, Served, OutOfMemory};
+ghost use Rattle.tus_session.specs.History.{Failed, step, history, beginning};
 ghost use Rattle.tus_laws.specs.Patches.{DonePatch, IsAccepted, IsRefused, HasBody, SamePlace, Changed, IsAbove};
 ghost use Rattle.tus_laws.specs.Cuts.{all_moments, given, still_to_give, AllSmooth};
 
-/// Of two PATCHes with bodies that aren't empty and that began at one offset of one upload at most one is accepted, and the other
-/// changes nothing: behind one that is accepted, each later one is refused with `Offset`. A PATCH began at the offset that it named.
+/// Of two PATCHes with bodies that aren't empty and that began at one offset of one upload at most one is accepted, and
+/// the other
+/// changes nothing: behind one that is accepted, each later one is refused with `Offset`. A PATCH began at the offset
+/// that it named.
 pub fn one_winner()
-    ensures begins { (w : World) (r : Request) (number offset d : ℕ) → r.action ≡ Patch number offset → (acted w (Asks r)).draft ≡ Some d
-        → (u : Upload) × (upload_of w.store number ≡ Some u) × (length u.accepted ≡ offset) × (find d (acted w (Asks r)).world.patches ≡ Some (first_patch number r.length u)) }
+    ensures begins { (w : World) (r : Request) (number offset d : ℕ) → r.action ≡ Patch number offset
+        → (acted w (Asks r)).draft ≡ Some d
+        → (u : Upload) × (upload_of w.store number ≡ Some u) × (length u.accepted ≡ offset)
+        × (find d (acted w (Asks r)).world.patches ≡ Some (first_patch number r.length u)) }
     ensures one { (start : State) (past between : List Marked) (e f : Event) (x : DonePatch (history start past) e)
-        (y : DonePatch (history start (between ++ (e, Served) ∷ past)) f) → SamePlace x y → HasBody x → HasBody y → IsAccepted x → IsAccepted y → ⊥ }
+        (y : DonePatch (history start (between ++ (e, Served) ∷ past)) f) → SamePlace x y → HasBody x → HasBody y
+        → IsAccepted x → IsAccepted y → ⊥ }
     ensures later { (start : State) (past between : List Marked) (e f : Event) (x : DonePatch (history start past) e)
-        (y : DonePatch (history start (between ++ (e, Served) ∷ past)) f) → SamePlace x y → HasBody x → IsAccepted x → IsRefused y Offset }
-    ensures loser { (st : State) (e : Event) (x : DonePatch st e) (why : UploadRefusal) → IsRefused x why → (step st e Served).state.world.store ≡ st.world.store }
+        (y : DonePatch (history start (between ++ (e, Served) ∷ past)) f) → SamePlace x y → HasBody x → IsAccepted x
+        → IsRefused y Offset }
+    ensures loser { (st : State) (e : Event) (x : DonePatch st e) (why : UploadRefusal) → IsRefused x why
+        → (step st e Served).state.world.store ≡ st.world.store }
 {}
 
-/// An event makes at most one change: an upload, or the body of a PATCH that is accepted, behind the bytes of its upload.
+/// An event makes at most one change: an upload, or the body of a PATCH that is accepted, behind the bytes of its
+/// upload.
 /// An event that isn't served makes none.
 pub fn one_change()
     ensures served { (st : State) (e : Event) → Changed st e (step st e Served).state.world.store }
@@ -34,39 +43,52 @@ pub fn one_change()
     ensures fault { (st : State) (e : Event) → (step st e Failed).state.world.store ≡ st.world.store }
 {}
 
-/// Accepted bytes only grow, so at two moments of a history the same upload with the same count of accepted bytes has the same accepted bytes.
+/// Accepted bytes only grow, so at two moments of a history the same upload with the same count of accepted bytes has
+/// the same accepted bytes.
 pub fn same_offset()
-    ensures grows { (start : State) (past later : List Marked) (n : ℕ) (u : Upload) → upload_of (history start past).world.store n ≡ Some u
+    ensures grows { (start : State) (past later : List Marked) (n : ℕ) (u : Upload)
+        → upload_of (history start past).world.store n ≡ Some u
         → (more : List ℕ) × (upload_of (history start (later ++ past)).world.store n ≡ Some (with_bytes u more)) }
-    ensures same { (start : State) (past later : List Marked) (n : ℕ) (u v : Upload) → upload_of (history start past).world.store n ≡ Some u
-        → upload_of (history start (later ++ past)).world.store n ≡ Some v → length u.accepted ≡ length v.accepted → v ≡ u }
+    ensures same { (start : State) (past later : List Marked) (n : ℕ) (u v : Upload)
+        → upload_of (history start past).world.store n ≡ Some u
+        → upload_of (history start (later ++ past)).world.store n ≡ Some v → length u.accepted ≡ length v.accepted
+        → v ≡ u }
 {}
 
 /// A number is never used again: the next number is above those of all uploads, and only grows.
 pub fn new_numbers()
-    ensures above { (start : State) (past : List Marked) → IsAbove start.world.store → IsAbove (history start past).world.store }
-    ensures grows { (start : State) (past later : List Marked) → (history start past).world.store.next ≤ (history start (later ++ past)).world.store.next }
+    ensures above { (start : State) (past : List Marked) → IsAbove start.world.store
+        → IsAbove (history start past).world.store }
+    ensures grows { (start : State) (past later : List Marked)
+        → (history start past).world.store.next ≤ (history start (later ++ past)).world.store.next }
 {}
 
-/// A call's moments are those of its stream, whatever comes behind it: with `i` whole requests before the call, the request of its body
-/// moment is the stream's request number `i`; and likewise for the head, whose bytes and verdict stay, among the requests with whole heads.
+/// A call's moments are those of its stream, whatever comes behind it: with `i` whole requests before the call, the
+/// request of its body
+/// moment is the stream's request number `i`; and likewise for the head, whose bytes and verdict stay, among the
+/// requests with whole heads.
 pub fn moments_of_streams()
     ensures body { (w : World) (s piece more : List ℕ) (r : Asked) → (moments (reader w) s piece).body ≡ Some r
         → slice_get (cut (reader w) ((s ++ piece) ++ more)).whole (length (cut (reader w) s).whole) ≡ Some r }
     ensures head { (w : World) (s piece more : List ℕ) (r : Asked) → (moments (reader w) s piece).head ≡ Some r
-        → (x : Asked) × (slice_get (heads_of (cut (reader w) ((s ++ piece) ++ more))) (length (heads_of (cut (reader w) s))) ≡ Some x)
+        → (x : Asked) × (slice_get (heads_of (cut (reader w) ((s ++ piece) ++ more)))
+        (length (heads_of (cut (reader w) s))) ≡ Some x)
         × (x.head ≡ r.head) × (x.verdict ≡ r.verdict) }
 {}
 
-/// How the streams are cut doesn't matter: two histories from one store, with the same moments in the same order, give each connection
-/// the same bytes, the text that it is still to be given with them, and leave the same uploads. Every event is served, no PATCH is
+/// How the streams are cut doesn't matter: two histories from one store, with the same moments in the same order, give
+/// each connection
+/// the same bytes, the text that it is still to be given with them, and leave the same uploads. Every event is served,
+/// no PATCH is
 /// refused for room, and no connection ends before its text is taken.
 pub fn any_cut()
-    ensures bytes { (m : Store) (blocks : Option ℕ) (past other : List Marked) (c : ℕ) → AllSmooth (beginning m blocks) past → AllSmooth (beginning m blocks) other
+    ensures bytes { (m : Store) (blocks : Option ℕ) (past other : List Marked) (c : ℕ)
+        → AllSmooth (beginning m blocks) past → AllSmooth (beginning m blocks) other
         → all_moments (beginning m blocks) past ≡ all_moments (beginning m blocks) other
         → given (beginning m blocks) c past ++ still_to_give ((history (beginning m blocks) past).conns c)
         ≡ given (beginning m blocks) c other ++ still_to_give ((history (beginning m blocks) other).conns c) }
-    ensures uploads { (m : Store) (blocks : Option ℕ) (past other : List Marked) → AllSmooth (beginning m blocks) past → AllSmooth (beginning m blocks) other
+    ensures uploads { (m : Store) (blocks : Option ℕ) (past other : List Marked) → AllSmooth (beginning m blocks) past
+        → AllSmooth (beginning m blocks) other
         → all_moments (beginning m blocks) past ≡ all_moments (beginning m blocks) other
         → (history (beginning m blocks) past).world.store ≡ (history (beginning m blocks) other).world.store }
 {}

@@ -118,9 +118,9 @@ lines_size [] = omega arith
 lines_size (b ∷ s) = let k = feed_size b (length s) (b == 10) (lines s) (lines_size s) in omega arith
 
 -- a head lies in its stream and isn't empty
-record Fits (s : List ℕ) (e : Extent) : Type 0 where
-  bound : e.len ≤ length s
-  some : 0 < e.len
+pub record Fits (s : List ℕ) (e : Extent) : Type 0 where
+  pub bound : e.len ≤ length s
+  pub some : 0 < e.len
 
 extent_fits_case : (s : List ℕ) (o : Option Lines) → ((x : Lines) → o ≡ Some x → Fine (lines s) x) → (e : Extent) → option_map extent_of o ≡ Some e → Fits s e
 extent_fits_case s None h e q = absurd (cc)
@@ -132,7 +132,7 @@ extent_fits_case s (Some x) h e q =
     let g : Fits s (extent_of x) = record { bound = omega arith; some = omega arith } in
     subst (λ y. Fits s y) (same_Some (extent_of x) e q) g
 
-extent_fits : (s : List ℕ) (e : Extent) → head_extent s ≡ Some e → Fits s e
+pub extent_fits : (s : List ℕ) (e : Extent) → head_extent s ≡ Some e → Fits s e
 extent_fits s e q = extent_fits_case s (head_lines (lines s)) (λ x h. head_fine (lines s) x h) e q
 
 -- A HEAD'S OWN BYTES
@@ -258,7 +258,7 @@ take_more zero s t = ([], refl)
 take_more (suc n) [] t = (take (suc n) t, refl)
 take_more (suc n) (b ∷ s) t = let h = take_more n s t in (h.0, ap (λ x. b ∷ x) h.1)
 
-take_bound : (n : ℕ) (s : List ℕ) → length (take n s) ≤ n
+pub take_bound : (n : ℕ) (s : List ℕ) → length (take n s) ≤ n
 take_bound zero s = omega arith
 take_bound (suc n) [] = omega arith
 take_bound (suc n) (b ∷ s) = let h = take_bound n s in omega arith

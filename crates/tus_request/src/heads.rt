@@ -17,7 +17,7 @@ use httparse::{Request, Status};
 use std::alloc::{AllocError, Global};
 
 // The most bytes of a head, and the most lines behind its request line.
-const MAX_HEAD: usize = 8192;
+pub(crate) const MAX_HEAD: usize = 8192;
 
 const MAX_LINES: usize = 64;
 

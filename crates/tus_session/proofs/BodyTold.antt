@@ -2,6 +2,7 @@
 use Rattle.std.proofs.Common.{ℕ, ◌+◌, ◌-◌, ◌<◌, ◌≤◌, ◌≡◌, inl, inr, Bool, true, false, List, [], ◌∷◌, ◌++◌, Option, Some, None, Result, Ok, Err, length, take, refl, sym, ◌∙◌, ap, subst, arith, append-nil, min, if◌then◌else◌}
 use Rattle.std.proofs.lemmas.Bool.{cases_lt}
 use Rattle.std.proofs.lemmas.List.{length-take-le, take_all, length-append}
+use Rattle.tus_request.specs.Buffers.{bytes_of}
 use Rattle.enc_model.specs.Indexes.{offers}
 use Rattle.tus_request.proofs.Fronts.{steady}
 use Rattle.tus_request.specs.Answers.{answer_of}
@@ -51,10 +52,10 @@ rest_same w w' s e = ap (λ x. (cut (answer_of (offers x)) s).rest) e
 module _ {U B : Type 0} (u : Ghosts U B) where
   -- nothing is open behind an answer
   pub idle_here : (w' : World) (place : Place B) (k : Link B) (closes : Bool) (s' : List ℕ) (rest : Rest) → place ≡ (if closes then Closed else Open (record k { task = tasks.Idle }))
-      → RestIs k.head.items k.left rest → (cut (reader w') s').rest ≡ rest → PlaceIs u w' place (if closes then None else Some (plain s' None))
+      → RestIs (bytes_of k.head) k.left rest → (cut (reader w') s').rest ≡ rest → PlaceIs u w' place (if closes then None else Some (plain s' None))
   idle_here w' place k true s' rest e kept here = subst (λ p. PlaceIs u w' p None) (sym e) tt
   idle_here w' place k false s' rest e kept here =
-      let link : LinkIs u w' k.head.items k.left tasks.Idle (plain s' None) = record { kept = subst (RestIs k.head.items k.left) (sym here) kept; does = tt } in
+      let link : LinkIs u w' (bytes_of k.head) k.left tasks.Idle (plain s' None) = record { kept = subst (RestIs (bytes_of k.head) k.left) (sym here) kept; does = tt } in
       subst (λ p. PlaceIs u w' p (Some (plain s' None))) (sym e) link
 
   module _ (w : World) (b : Patching B) (asked : Asked) (r : Request) (p : Patch) (is : PatchesAs u w b (u.number_of b.draft) asked r p) where
@@ -97,7 +98,7 @@ module _ {U B : Type 0} (u : Ghosts U B) where
 
     -- the body goes on: the place, and what moved
     pub part_here : (store : U) (place : Place B) (a : Answer) (k : Link B) (b' : Patching B) (taken : ℕ) (q s' : List ℕ)
-        → GoesOn u store place a k b b' taken (fed w d q) (fed_patch w d p q) → RestIs k.head.items k.left (InBody (longer asked q))
+        → GoesOn u store place a k b b' taken (fed w d q) (fed_patch w d p q) → RestIs (bytes_of k.head) k.left (InBody (longer asked q))
         → (cut (reader w) s').rest ≡ InBody (longer asked q) → PlaceIs u (fed w d q) place (Some (plain s' (Some d)))
     part_here store place a k b' taken q s' goes kept here =
         let w' = fed w d q in
@@ -105,8 +106,8 @@ module _ {U B : Type 0} (u : Ghosts U B) where
         let e : (cut (reader w') s').rest ≡ InBody (longer asked q) = rest_same w w' s' moves.grows.indexes ∙ here in
         let patches = patches_fed b' q goes.number goes.holds goes.found goes.reached goes.bare goes.closes in
         let does : TaskIs u w' (InBody (longer asked q)) (tasks.Patch b') (Some d) None = (r, fed_patch w d p q, patches) in
-        let link : LinkIs u w' k.head.items k.left (tasks.Patch b') (plain s' (Some d)) = record {
-          kept = subst (RestIs k.head.items k.left) (sym e) kept;
+        let link : LinkIs u w' (bytes_of k.head) k.left (tasks.Patch b') (plain s' (Some d)) = record {
+          kept = subst (RestIs (bytes_of k.head) k.left) (sym e) kept;
           does = subst (λ x. TaskIs u w' x (tasks.Patch b') (Some d) None) (sym e) does;
         } in
         subst (λ x. PlaceIs u w' x (Some (plain s' (Some d)))) (sym goes.place_is) link
@@ -161,7 +162,7 @@ module _ (w : World) (s : List ℕ) (d : ℕ) (asked : Asked) (inside : (cut (re
 
 module _ {U B : Type 0} (u : Ghosts U B) (store' : U) (place : Place B) (old new : List ℕ) (w : World) (s : List ℕ) (b : Patching B) (asked : Asked) (r : Request) (p : Patch)
     (is : PatchesAs u w b (u.number_of b.draft) asked r p) (inside : (cut (reader w) s).rest ≡ InBody asked) (k : Link B) (left : ℕ)
-    (none : k.head.items ≡ []) (left_is : left ≡ body_length asked.verdict - length asked.body) where
+    (none : (bytes_of k.head) ≡ []) (left_is : left ≡ body_length asked.verdict - length asked.body) where
   abbrev own : ℕ
   own = u.number_of b.draft
 
@@ -171,7 +172,7 @@ module _ {U B : Type 0} (u : Ghosts U B) (store' : U) (place : Place B) (old new
   part_told bytes (Ok a) few (b', goes) same =
       let l : length (asked.body ++ bytes) ≡ length asked.body + length bytes = length-append asked.body bytes in
       let wants = body_wants w s asked inside in
-      let kept : RestIs k.head.items (left - length bytes) (InBody (longer asked bytes)) = (none, (let x : left - length bytes ≡ body_length asked.verdict - length (asked.body ++ bytes) = omega arith in x)) in
+      let kept : RestIs (bytes_of k.head) (left - length bytes) (InBody (longer asked bytes)) = (none, (let x : left - length bytes ≡ body_length asked.verdict - length (asked.body ++ bytes) = omega arith in x)) in
       let here = body_part_rest (reader w) (steady (offers w.store.indexes)) s bytes asked inside (omega arith) in
       record {
         shown = goes.shown;
@@ -247,12 +248,12 @@ module _ {U B : Type 0} (u : Ghosts U B) (store' : U) (place : Place B) (old new
       ]
 
 module _ {U B : Type 0} (u : Ghosts U B) (w : World) (conn : Conn) (k : Link B) (b : Patching B)
-    (is : IsPatching u w (cut (reader w) conn.stream).rest b conn.draft conn.pending) (kept : RestIs k.head.items k.left (cut (reader w) conn.stream).rest) where
+    (is : IsPatching u w (cut (reader w) conn.stream).rest b conn.draft conn.pending) (kept : RestIs (bytes_of k.head) k.left (cut (reader w) conn.stream).rest) where
   abbrev pub own_of : ℕ
   own_of = u.number_of b.draft
 
-  kept_body : RestIs k.head.items k.left (InBody is.asked)
-  kept_body = subst (RestIs k.head.items k.left) is.rest_is kept
+  kept_body : RestIs (bytes_of k.head) k.left (InBody is.asked)
+  kept_body = subst (RestIs (bytes_of k.head) k.left) is.rest_is kept
 
   -- the patch under the draft's own number
   own_patches : PatchesAs u w b own_of is.asked is.r is.p
@@ -301,11 +302,11 @@ module _ {U B : Type 0} (u : Ghosts U B) (w : World) (conn : Conn) (k : Link B) 
 
 -- a body that is dropped
 module _ {U B : Type 0} (u : Ghosts U B) (store : U) (w : World) (conn : Conn) (k : Link B) (stands : u.stands store w) (draft : conn.draft ≡ None) (idle : conn.pending ≡ None)
-    (kept : RestIs k.head.items k.left (cut (reader w) conn.stream).rest) (some : 0 < k.left) where
+    (kept : RestIs (bytes_of k.head) k.left (cut (reader w) conn.stream).rest) (some : 0 < k.left) where
   abbrev dropped_turn : List ℕ → List ℕ → ℕ → Turn
   dropped_turn s q n = record { world = w; conn = Some (plain (s ++ q) None); bytes = []; taken = n }
 
-  skipped : (s : List ℕ) (place : Place B) (a : Answer) (out bytes : List ℕ) (rest : Rest) → (cut (reader w) s).rest ≡ rest → RestIs k.head.items k.left rest
+  skipped : (s : List ℕ) (place : Place B) (a : Answer) (out bytes : List ℕ) (rest : Rest) → (cut (reader w) s).rest ≡ rest → RestIs (bytes_of k.head) k.left rest
       → place ≡ Open (record k { left = k.left - min k.left (length bytes); task = tasks.Idle }) → a ≡ took (0 + min k.left (length bytes)) false
       → TurnedAs u store place a out out w None (came_turn w (plain s None) bytes)
   skipped s place a out bytes (InHead h) inside (e, zero) place_is answer_is = absurd (omega arith)

@@ -1,6 +1,7 @@
 -- A turn on one connection leaves the others as they were.
 use Rattle.std.proofs.Common.{◌≡◌, ℕ, ◌+◌, List, ◌++◌, length, take, drop, Option, Some, None, refl, sym, ◌∙◌, ap, subst, arith, append_assoc}
 use Rattle.std.proofs.lemmas.List.{length-append, take-append-le}
+use Rattle.tus_request.specs.Buffers.{bytes_of}
 use Rattle.enc_model.specs.Indexes.{offers}
 use Rattle.tus_request.specs.Answers.{answer_of}
 use Rattle.upload_rules.specs.Store.{Upload, text_of, with_bytes, find}
@@ -94,7 +95,7 @@ module _ {U B : Type 0} (u : Ghosts U B) where
   place_moved w w' own own' Closed None moves ne is = tt
   place_moved w w' own own' Closed (Some conn) moves ne is = absurd is
   place_moved w w' own own' (Open k) None moves ne is = absurd is
-  place_moved w w' own own' (Open k) (Some conn) moves ne is = link_moved w w' own own' k.head.items k.left k.task conn moves ne is
+  place_moved w w' own own' (Open k) (Some conn) moves ne is = link_moved w w' own own' (bytes_of k.head) k.left k.task conn moves ne is
 
   task_draft : (w : World) (rest : Rest) (task : Task B) (draft : Option ℕ) (pending : Option Giving) (d : ℕ) → TaskIs u w rest task draft pending → draft ≡ Some d
       → (p : Patch) × (find d w.patches ≡ Some p)

@@ -2,6 +2,7 @@
 use Rattle.std.proofs.Common.{ℕ, ◌+◌, ◌-◌, ◌≤◌, ◌≡◌, inl, inr, Bool, true, false, List, [], ◌++◌, Option, Some, None, length, take, drop, min, refl, sym, ◌∙◌, ap, subst, arith, append-nil, if◌then◌else◌}
 use Rattle.std.proofs.lemmas.Bool.{cases_lt}
 use Rattle.std.proofs.lemmas.List.{length-take-le, take_all, length-append, length-drop}
+use Rattle.tus_request.specs.Buffers.{bytes_of}
 use Rattle.enc_model.specs.Indexes.{IndexSet, offers}
 use Rattle.tus_request.specs.Shown.{answer_shown}
 use Rattle.tus_request.specs.declared.requests.Parsed.{Parsed}
@@ -51,7 +52,7 @@ turn_plain k piece n a idle none =
 
 module _ {U B : Type 0} (u : Ghosts U B) where
   answered_as_turn : (store' : U) (place : Place B) (x : code.Answer) (old new : List ℕ) (w : World) (k : Link B) (a : Acted) (s' : List ℕ) (rest : Rest) (n : ℕ)
-      → u.stands store' a.world → Moves w a.world None None → place ≡ (if a.closes then Closed else Open (record k { task = tasks.Idle })) → RestIs k.head.items k.left rest
+      → u.stands store' a.world → Moves w a.world None None → place ≡ (if a.closes then Closed else Open (record k { task = tasks.Idle })) → RestIs (bytes_of k.head) k.left rest
       → (cut (reader w) s').rest ≡ rest → x ≡ took n a.closes → new ≡ old ++ a.bytes
       → TurnedAs u store' place x old new w None (answered_turn a s' n)
   answered_as_turn store' place x old new w k a s' rest n shown moves place_is kept here answer_is bytes = record {
@@ -78,7 +79,7 @@ module _ {U B : Type 0} (u : Ghosts U B) where
 
   -- the head isn't whole yet
   pub more_told : (store : U) (place : Place B) (x : code.Answer) (out : List ℕ) (w : World) (conn : Conn) (h bytes : List ℕ) (k : Link B) → u.stands store w → InsideHead w conn h
-      → reader w (h ++ bytes) ≡ More → place ≡ Open (record k { task = tasks.Idle }) → k.head.items ≡ h ++ bytes → k.left ≡ 0 → x ≡ took (length bytes) false
+      → reader w (h ++ bytes) ≡ More → place ≡ Open (record k { task = tasks.Idle }) → (bytes_of k.head) ≡ h ++ bytes → k.left ≡ 0 → x ≡ took (length bytes) false
       → TurnedAs u store place x out out w conn.draft (came_turn w conn bytes)
   more_told store place x out w conn h bytes k stands inside more place_is head_is left_is answer_is =
       let a : Acted = record { world = w; draft = None; bytes = []; pending = None; closes = false } in
@@ -97,7 +98,7 @@ module _ {U B : Type 0} (u : Ghosts U B) where
     -- what the head did is all: the rest of the body is dropped
     pub no_patch_told : (place : Place B) (x : code.Answer) (old new : List ℕ) (k : Link B) → u.stands store' (acted w v).world → Moves w (acted w v).world None None
         → (acted w v).draft ≡ None → (acted w v).pending ≡ None
-        → place ≡ (if (acted w v).closes then Closed else Open (record k { left = body_length v - min (body_length v) (length behind); task = tasks.Idle })) → k.head.items ≡ []
+        → place ≡ (if (acted w v).closes then Closed else Open (record k { left = body_length v - min (body_length v) (length behind); task = tasks.Idle })) → (bytes_of k.head) ≡ []
         → x ≡ took (before + min (body_length v) (length behind)) (acted w v).closes → new ≡ old ++ (acted w v).bytes
         → TurnedAs u store' place x old new w conn.draft (came_turn w conn bytes)
     no_patch_told place x old new k shown moves none idle place_is head_is answer_is bytes_are =
@@ -137,10 +138,9 @@ module _ {U B : Type 0} (u : Ghosts U B) where
               subst (TurnedAs u store' place x old new w None) (sym turn) now
         ])
 
--- WHAT PARSE TELLS
-pub judged_by : (x : IndexSet) (bytes' h bytes : List ℕ) (p p' : Parsed) → bytes' ≡ h ++ bytes → answer_shown p ≡ answer_of (offers x) bytes' → p ≡ p'
-    → answer_of (offers x) (h ++ bytes) ≡ answer_shown p'
-judged_by x bytes' h bytes p p' e f g = ap (answer_of (offers x)) (sym e) ∙ (sym f ∙ ap answer_shown g)
+-- WHAT READING TELLS
+pub judged_by : (x : IndexSet) (s : List ℕ) (p p' : Parsed) → answer_shown p ≡ answer_of (offers x) s → p ≡ p' → answer_of (offers x) s ≡ answer_shown p'
+judged_by x s p p' f g = sym f ∙ ap answer_shown g
 
 pub within_bytes : (x : IndexSet) (h bytes : List ℕ) (n : ℕ) (v : Verdict) → answer_of (offers x) (h ++ bytes) ≡ Judged n v → n - length h ≤ length bytes
 within_bytes x h bytes n v e =
@@ -160,7 +160,7 @@ slice_rest before bytes =
 module _ {U B : Type 0} (u : Ghosts U B) (store' : U) (w : World) (conn : Conn) (h bytes : List ℕ) (n before : ℕ) (v : Verdict) (is : IsWhole w conn h bytes n before v) where
   pub no_patch_len : (place : Place B) (x : code.Answer) (old new : List ℕ) (k : Link B) (len : ℕ) → len ≡ length (drop before bytes)
       → u.stands store' (acted w v).world → Moves w (acted w v).world None None → (acted w v).draft ≡ None → (acted w v).pending ≡ None
-      → place ≡ (if (acted w v).closes then Closed else Open (record k { left = body_length v - min (body_length v) len; task = tasks.Idle })) → k.head.items ≡ []
+      → place ≡ (if (acted w v).closes then Closed else Open (record k { left = body_length v - min (body_length v) len; task = tasks.Idle })) → (bytes_of k.head) ≡ []
       → x ≡ took (before + min (body_length v) len) (acted w v).closes → new ≡ old ++ (acted w v).bytes
       → TurnedAs u store' place x old new w conn.draft (came_turn w conn bytes)
   no_patch_len place x old new k len len_is shown moves none idle place_is head_is answer_is bytes_are =

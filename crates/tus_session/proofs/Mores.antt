@@ -1,5 +1,6 @@
 -- The next piece of a text.
 use Rattle.std.proofs.Common.{◌≡◌, ℕ, Bool, true, false, List, [], ◌++◌, Option, Some, None, Result, Ok, refl, sym, ap, subst, append-nil, if◌then◌else◌}
+use Rattle.tus_request.specs.Buffers.{bytes_of}
 use Rattle.upload_rules.specs.World.{World}
 use Rattle.upload_rules.specs.declared.uploads.Uploads.{Ghosts}
 use Rattle.tus_action.specs.Acts.{Giving, is_pending, pending_after, piece_of}
@@ -36,7 +37,7 @@ more_some_is w conn h e = sym (ap (more_on w conn) e)
 
 module _ {U B : Type 0} (u : Ghosts U B) where
   -- a connection stays as it is, and nothing is given
-  pub stays : (store : U) (w : World) (k : Link B) (conn : Conn) (more : Bool) (out : List ℕ) → u.stands store w → LinkIs u w k.head.items k.left k.task conn
+  pub stays : (store : U) (w : World) (k : Link B) (conn : Conn) (more : Bool) (out : List ℕ) → u.stands store w → LinkIs u w (bytes_of k.head) k.left k.task conn
       → more ≡ is_pending conn.pending → TurnedAs u store (Open k) (record { taken = 0; closes = false; more = more }) out out w conn.draft (unmoved_turn w conn)
   stays store w k conn more out stands link e = record {
     shown = stands;
@@ -59,7 +60,7 @@ module _ {U B : Type 0} (u : Ghosts U B) where
   no_text w rest (tasks.Text g) draft pending is not = absurd (not g refl)
 
   -- no text is to be given
-  pub more_nothing : (store : U) (w : World) (k : Link B) (conn : Conn) (out : List ℕ) → u.stands store w → LinkIs u w k.head.items k.left k.task conn
+  pub more_nothing : (store : U) (w : World) (k : Link B) (conn : Conn) (out : List ℕ) → u.stands store w → LinkIs u w (bytes_of k.head) k.left k.task conn
       → ((g : given.Giving) → k.task ≡ tasks.Text g → ⊥)
       → TurnedAs u store (Open k) (record { taken = 0; closes = false; more = false }) out out w conn.draft (more_turn w conn)
   more_nothing store w k conn out stands link not =
@@ -73,7 +74,7 @@ module _ {U B : Type 0} (u : Ghosts U B) where
   idle_stays : (w : World) (rest : Rest) (draft : Option ℕ) → draft ≡ None → TaskIs u w rest tasks.Idle draft None
   idle_stays w rest draft e = subst (λ d. TaskIs u w rest tasks.Idle d None) (sym e) tt
 
-  module _ (store : U) (w : World) (k : Link B) (conn : Conn) (g : given.Giving) (stands : u.stands store w) (link : LinkIs u w k.head.items k.left k.task conn)
+  module _ (store : U) (w : World) (k : Link B) (conn : Conn) (g : given.Giving) (stands : u.stands store w) (link : LinkIs u w (bytes_of k.head) k.left k.task conn)
       (is : IsGiving w g conn.draft conn.pending) where
     some_turned : (old new : List ℕ) (rest : given.Giving) (pending : Option Giving) → GivingIs w.store (Some rest) pending → new ≡ old ++ piece_of is.h
         → TurnedAs u store (Open (record k { task = tasks.Text rest })) (record { taken = 0; closes = false; more = true }) old new w conn.draft

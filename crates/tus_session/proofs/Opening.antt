@@ -1,6 +1,7 @@
 -- A connection is opened; a session begins.
 use Rattle.std.proofs.Common.{◌≡◌, ◌⊎◌, inl, inr, ℕ, zero, suc, ◌<◌, ◌≤◌, Bool, true, false, List, [], ◌∷◌, ◌++◌, length, get_or, slice_set, if◌then◌else◌, Option, Some, None, refl, sym, ◌∙◌, ap, subst, arith, nat_lt, append-nil}
 use Rattle.std.proofs.lemmas.Bool.{lt-ltb, le-ltb, cases_eq}
+use Rattle.tus_request.specs.Buffers.{bytes_of}
 use Rattle.enc_model.specs.Indexes.{offers}
 use Rattle.tus_request.proofs.Fronts.{steady}
 use Rattle.upload_rules.specs.Store.{Store, find, text_of}
@@ -45,18 +46,18 @@ still w own = record {
 }
 
 module _ {U B : Type 0} (u : Ghosts U B) where
-  new_place : (w : World) (k : Link B) → k.head.items ≡ [] → k.left ≡ 0 → k.task ≡ tasks.Idle → PlaceIs u w (Open k) (Some fresh)
+  new_place : (w : World) (k : Link B) → (bytes_of k.head) ≡ [] → k.left ≡ 0 → k.task ≡ tasks.Idle → PlaceIs u w (Open k) (Some fresh)
   new_place w k e f g =
       let c : InHead [] ≡ (cut (reader w) []).rest = sym (ap (λ x. x.rest) (empty_cut (reader w) (steady (offers w.store.indexes)))) in
-      let a : RestIs k.head.items k.left (InHead []) = (e, f) in
+      let a : RestIs (bytes_of k.head) k.left (InHead []) = (e, f) in
       let t : TaskIs u w (InHead []) k.task None None = subst (λ x. TaskIs u w (InHead []) x None None) (sym g) tt in
       record {
-        kept = subst (RestIs k.head.items k.left) c a;
+        kept = subst (RestIs (bytes_of k.head) k.left) c a;
         does = subst (λ r. TaskIs u w r k.task None None) c t;
       }
 
   opened_step : (places : List (Place B)) (store : U) (st : State) (c : ℕ) (k : Link B) → SessionStands u places store st → c < length places → (o : Option Conn)
-      → st.conns c ≡ o → o ≡ None → k.head.items ≡ [] → k.left ≡ 0 → k.task ≡ tasks.Idle
+      → st.conns c ≡ o → o ≡ None → (bytes_of k.head) ≡ [] → k.left ≡ 0 → k.task ≡ tasks.Idle
       → Follows u (slice_set places c (Open k)) store (opened_at st c o).state (opened_at st c o).outcome Done
   opened_step places store st c k stands lt (Some conn) is none e f g = absurd (cc)
   opened_step places store st c k stands lt None is none e f g =
@@ -71,7 +72,7 @@ module _ {U B : Type 0} (u : Ghosts U B) where
       subst P (sym n) now
 
   pub opened : (places : List (Place B)) (store : U) (st : State) (c : ℕ) (k : Link B) → SessionStands u places store st → c < length places → st.conns c ≡ None
-      → k.head.items ≡ [] → k.left ≡ 0 → k.task ≡ tasks.Idle
+      → (bytes_of k.head) ≡ [] → k.left ≡ 0 → k.task ≡ tasks.Idle
       → Follows u (slice_set places c (Open k)) store (step st (Opened c) Served).state (step st (Opened c) Served).outcome Done
   unfolding step
   opened places store st c k stands lt none e f g = opened_step places store st c k stands lt (st.conns c) refl none e f g

@@ -1,5 +1,5 @@
 -- From a patch that a head opened, to the turn's answer.
-use Rattle.std.proofs.Common.{ℕ, ◌+◌, ◌-◌, ◌<◌, ◌≤◌, ◌≡◌, inl, inr, Bool, true, false, List, [], ◌∷◌, ◌++◌, Some, None, Result, Ok, Err, length, take, drop, refl, sym, ◌∙◌, ap, subst, arith, append-nil, append_assoc, if◌then◌else◌}
+use Rattle.std.proofs.Common.{ℕ, ◌+◌, ◌-◌, ◌<◌, ◌≤◌, ◌≡◌, inl, inr, Bool, true, false, List, [], ◌∷◌, ◌++◌, Option, Some, None, Result, Ok, Err, length, take, drop, refl, sym, ◌∙◌, ap, subst, arith, append-nil, append_assoc, if◌then◌else◌}
 use Rattle.std.proofs.lemmas.Bool.{cases_lt}
 use Rattle.std.proofs.lemmas.Bool.Decides.{nat_tests}
 use Rattle.std.proofs.lemmas.List.{length-drop, length-take-le, take_all}
@@ -33,6 +33,7 @@ use Rattle.tus_session.proofs.HeadTurns.{part_turn_is, whole_turn_is, head_withi
 use Rattle.tus_session.proofs.Moved.{open_moves, feed_moves, both_moves}
 use Rattle.tus_session.proofs.NewRests.{head_part_rest, head_whole_rest, drop_behind}
 use Rattle.std.proofs.Math.Seq.{take-append_seam}
+use Rattle.tus_request.specs.Buffers.{bytes_of}
 use Rattle.upload_rules.specs.Answers.{Limits}
 use Rattle.tus_session.proofs.Limiting.{first_then, still_limits}
 use Rattle.tus_session.proofs.Tasks.{limits_to}
@@ -184,7 +185,7 @@ module _ {U B : Type 0} (u : Ghosts U B) (w : World) (conn : Conn) (h bytes : Li
       gone : without own ((own, p0) ∷ w.patches) ≡ w.patches
       gone = grind (arith, nat_tests)
 
-  module _ (store' : U) (place : Place B) (old mid mid2 new : List ℕ) (k : Link B) (cleared : k.head.items ≡ []) (written : mid ≡ old ++ (acted w (Asks r)).bytes) where
+  module _ (store' : U) (place : Place B) (old mid mid2 new : List ℕ) (k : Link B) (cleared : (bytes_of k.head) ≡ []) (written : mid ≡ old ++ (acted w (Asks r)).bytes) where
     part_case : (a : Result code.Answer SessionError) → length q < r.length
         → Parts u store' place a (record k { left = r.length - length q; task = tasks.Idle }) b (before + length q) (fed v own q) (fed_patch v own p0 q) (dropped v own)
         → mid2 ≡ mid → OutIs a old mid2 new → Turned u store' place a old new w None (came_turn w conn bytes)
@@ -286,7 +287,7 @@ module _ {U B : Type 0} (u : Ghosts U B) (w : World) (conn : Conn) (h bytes : Li
         cut_is ∙ (ap (take start) (back ∙ written) ∙ (ap (λ i. take i (old ++ (acted w (Asks r)).bytes)) start_is ∙ take-append_seam old (acted w (Asks r)).bytes))
 
   -- what a crash may leave
-  pub patch_limits : {m0 m1 m2 : ℕ} {l0 l1 l2 : ℕ → List Store → Type 0} (z : List ℕ) → z ≡ q → Limits m0 m1 l0 l1 w.store (acted w (Asks r)).world.store
+  pub patch_limits : {m0 m1 m2 : ℕ} {l0 l1 l2 : Option ℕ → ℕ → List Store → Type 0} (z : List ℕ) → z ≡ q → Limits m0 m1 l0 l1 w.store (acted w (Asks r)).world.store
       → (length z < r.length → Limits m1 m2 l1 l2 w.store w.store)
       → (r.length ≤ length z → Limits m1 m2 l1 l2 w.store (ended_by v own p0 (take r.length z) r).world.store)
       → Limits m0 m2 l0 l2 w.store (came_turn w conn bytes).world.store

@@ -2,6 +2,7 @@
 use Rattle.std.proofs.Common.{ℕ, ◌+◌, ◌-◌, ◌≡◌, inl, inr, Bool, true, false, List, [], ◌++◌, Option, Some, None, length, take, drop, min, refl, sym, ◌∙◌, ap, subst, arith, if◌then◌else◌}
 use Rattle.std.proofs.lemmas.Bool.{cases_lt}
 use Rattle.std.proofs.lemmas.List.{length-drop, length-take-le}
+use Rattle.tus_request.specs.Buffers.{bytes_of}
 use Rattle.tus_request.specs.Requests.{Request, Asks}
 use Rattle.upload_rules.specs.Store.{Store}
 use Rattle.upload_rules.specs.World.{World}
@@ -56,14 +57,14 @@ module _ (w : World) (conn : Conn) (h bytes : List ℕ) (n before : ℕ) (r : Re
         (acted w (Asks r)) none
   ]
 
-  limits_case : {m0 m1 : ℕ} {l0 l1 : ℕ → List Store → Type 0} → Leaves w r (acted w (Asks r)) → Limits m0 m1 l0 l1 w.store (acted w (Asks r)).world.store
+  limits_case : {m0 m1 : ℕ} {l0 l1 : Option ℕ → ℕ → List Store → Type 0} → Leaves w r (acted w (Asks r)) → Limits m0 m1 l0 l1 w.store (acted w (Asks r)).world.store
       → Limits m0 m1 l0 l1 w.store (came_turn w conn bytes).world.store
   limits_case (Nothing moves none idle) l = limits_to (ap (λ x. x.store) (sym (turn_world none))) l
   limits_case (Text g same none some stays) l = limits_to (ap (λ x. x.store) (sym (turn_world none))) l
   limits_case (Patching x) l = still_limits (came_turn w conn bytes).world.store (limits_to (ap (λ y. y.store) x.world_is) l)
 
   -- what a crash may leave where the call ends with the head
-  pub head_limits : {m0 m1 : ℕ} {l0 l1 : ℕ → List Store → Type 0} → Limits m0 m1 l0 l1 w.store (acted w (Asks r)).world.store
+  pub head_limits : {m0 m1 : ℕ} {l0 l1 : Option ℕ → ℕ → List Store → Type 0} → Limits m0 m1 l0 l1 w.store (acted w (Asks r)).world.store
       → Limits m0 m1 l0 l1 w.store (came_turn w conn bytes).world.store
   head_limits l = limits_case (leaves w r) l
 
@@ -78,7 +79,7 @@ module _ (w : World) (conn : Conn) (h bytes : List ℕ) (n before : ℕ) (r : Re
 
     nothing_case : (store' : U) (place : Place B) (x : code.Answer) (c : code_acted.Acted B) (old new : List ℕ) (k : Link B) (len : ℕ) → Leaves w r (acted w (Asks r))
         → ActedAs u store' c old new (acted w (Asks r)) → c.draft ≡ None → c.giving ≡ None → len ≡ length (drop before bytes)
-        → place ≡ (if c.closes then Closed else Open (record k { left = r.length - min r.length len; task = tasks.Idle })) → k.head.items ≡ []
+        → place ≡ (if c.closes then Closed else Open (record k { left = r.length - min r.length len; task = tasks.Idle })) → (bytes_of k.head) ≡ []
         → x ≡ took (before + min r.length len) c.closes
         → TurnedAs u store' place x old new w conn.draft (came_turn w conn bytes)
     nothing_case store' place x c old new k len (Nothing moves none idle) as_is no_draft no_text len_is place_is head_is answer_is =
@@ -93,7 +94,7 @@ module _ (w : World) (conn : Conn) (h bytes : List ℕ) (n before : ℕ) (r : Re
 
     pub nothing_told : (store' : U) (place : Place B) (x : code.Answer) (c : code_acted.Acted B) (old new : List ℕ) (k : Link B) (len : ℕ)
         → ActedAs u store' c old new (acted w (Asks r)) → c.draft ≡ None → c.giving ≡ None → len ≡ length (drop before bytes)
-        → place ≡ (if c.closes then Closed else Open (record k { left = r.length - min r.length len; task = tasks.Idle })) → k.head.items ≡ []
+        → place ≡ (if c.closes then Closed else Open (record k { left = r.length - min r.length len; task = tasks.Idle })) → (bytes_of k.head) ≡ []
         → x ≡ took (before + min r.length len) c.closes
         → TurnedAs u store' place x old new w conn.draft (came_turn w conn bytes)
     nothing_told store' place x c old new k len as_is no_draft no_text len_is place_is head_is answer_is =
@@ -162,7 +163,7 @@ module _ (w : World) (conn : Conn) (h bytes : List ℕ) (n before : ℕ) (r : Re
 
   module _ {U B : Type 0} (u : Ghosts U B) where
     text_case : (store' : U) (c : code_acted.Acted B) (g : given.Giving) (old new : List ℕ) (k : Link B) → Leaves w r (acted w (Asks r))
-        → ActedAs u store' c old new (acted w (Asks r)) → c.draft ≡ None → c.giving ≡ Some g → k.head.items ≡ []
+        → ActedAs u store' c old new (acted w (Asks r)) → c.draft ≡ None → c.giving ≡ Some g → (bytes_of k.head) ≡ []
         → TurnedAs u store' (Open (record k { left = r.length; task = tasks.Text g })) (record { taken = before; closes = false; more = true }) old new w conn.draft (came_turn w conn bytes)
     text_case store' c g old new k (Nothing moves none idle) as_is no_draft text cleared =
         absurd (subst (λ o. GivingIs (acted w (Asks r)).world.store o None) text (subst (GivingIs (acted w (Asks r)).world.store c.giving) idle as_is.giving))
@@ -171,12 +172,12 @@ module _ (w : World) (conn : Conn) (h bytes : List ℕ) (n before : ℕ) (r : Re
     text_case store' c g old new k (Text h' same none some stays) as_is no_draft text cleared =
         let a = acted w (Asks r) in
         let s' = conn.stream ++ take before bytes in
-        let ends = head_end k.head.items cleared in
+        let ends = head_end (bytes_of k.head) cleared in
         let indexes : a.world.store.indexes ≡ w.store.indexes = ap (λ x. x.store.indexes) same in
         let rest_is : (cut (reader a.world) s').rest ≡ ends.0 = rest_same w a.world s' indexes ∙ ends.1 in
         let gives : GivingIs a.world.store (Some g) (Some h') = subst (λ o. GivingIs a.world.store o (Some h')) text (subst (GivingIs a.world.store c.giving) some as_is.giving) in
-        let link : LinkIs u a.world k.head.items r.length (tasks.Text g) (record { stream = s'; draft = None; pending = Some h' }) = record {
-          kept = subst (RestIs k.head.items r.length) (sym rest_is) ends.2;
+        let link : LinkIs u a.world (bytes_of k.head) r.length (tasks.Text g) (record { stream = s'; draft = None; pending = Some h' }) = record {
+          kept = subst (RestIs (bytes_of k.head) r.length) (sym rest_is) ends.2;
           does = gives;
         } in
         let now : TurnedAs u store' (Open (record k { left = r.length; task = tasks.Text g })) (record { taken = before; closes = false; more = true }) old new w None
@@ -193,6 +194,6 @@ module _ (w : World) (conn : Conn) (h bytes : List ℕ) (n before : ℕ) (r : Re
         (subst (TurnedAs u store' (Open (record k { left = r.length; task = tasks.Text g })) (record { taken = before; closes = false; more = true }) old new w None) (sym (text_is h' some none stays)) now)
 
     pub text_told : (store' : U) (c : code_acted.Acted B) (g : given.Giving) (old new : List ℕ) (k : Link B)
-        → ActedAs u store' c old new (acted w (Asks r)) → c.draft ≡ None → c.giving ≡ Some g → k.head.items ≡ []
+        → ActedAs u store' c old new (acted w (Asks r)) → c.draft ≡ None → c.giving ≡ Some g → (bytes_of k.head) ≡ []
         → TurnedAs u store' (Open (record k { left = r.length; task = tasks.Text g })) (record { taken = before; closes = false; more = true }) old new w conn.draft (came_turn w conn bytes)
     text_told store' c g old new k as_is no_draft text cleared = text_case store' c g old new k (leaves w r) as_is no_draft text cleared

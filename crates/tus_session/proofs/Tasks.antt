@@ -74,10 +74,10 @@ body_short u w s b d asked r p e is =
 
 -- LIMITS
 
-pub limits_same : (moment : ℕ) (left_only : ℕ → List Store → Type 0) (m m' : Store) → Limits moment moment left_only left_only m m'
-limits_same moment left_only m m' = record { later = omega arith; limits = λ t ms le left a b. left }
+pub limits_same : (moment : ℕ) (left_only : Option ℕ → ℕ → List Store → Type 0) (m m' : Store) → Limits moment moment left_only left_only m m'
+limits_same moment left_only m m' = record { later = omega arith; limits = λ n t ms le left a b. left }
 
-pub limits_to : {moment moment' : ℕ} {left_only left_only' : ℕ → List Store → Type 0} {m x y : Store} → x ≡ y
+pub limits_to : {moment moment' : ℕ} {left_only left_only' : Option ℕ → ℕ → List Store → Type 0} {m x y : Store} → x ≡ y
     → Limits moment moment' left_only left_only' m x → Limits moment moment' left_only left_only' m y
 limits_to {moment} {moment'} {left_only} {left_only'} {m} e h = subst (λ z. Limits moment moment' left_only left_only' m z) e h
 

@@ -3,12 +3,12 @@ use Rattle.std.proofs.Common.{◌≡◌, ℕ, List, Option, Some, None, Result, 
 use Rattle.upload_rules.specs.World.{World}
 use Rattle.upload_rules.specs.declared.uploads.Uploads.{Ghosts}
 use Rattle.tus_session.specs.Turns.{Conn, Turn, left_world, more_turn, came_turn, ended_world}
-use Rattle.tus_session.specs.History.{State, Step, Event, Came, More, Ended, Served, OutOfMemory, Gave, Done, Refused, step, put, turned, conn_in, lost_at, came_at, more_at, ended_at, is_closed, has_text}
+use Rattle.tus_session.specs.History.{State, Step, Event, Opened, Came, More, Ended, Served, OutOfMemory, Failed, Gave, Done, Refused, step, put, turned, conn_in, lost_at, failed_at, came_at, more_at, ended_at, is_closed, has_text}
 use Rattle.tus_session.specs.Stands.{PlaceIs, draft_at, SessionStands}
 use Rattle.tus_session.specs.Moves.{Moves}
 use Rattle.tus_session.specs.Turned.{Turned}
 use Rattle.tus_session.specs.Turned.{Ended as EndedBy}
-use Rattle.tus_session.specs.Told.{IsOpen, Follows, Told, Ends}
+use Rattle.tus_session.specs.Told.{Follows, Told, Ends}
 use Rattle.tus_session.specs.declared.answers.Answer.{Answer}
 use Rattle.tus_session.specs.declared.conns.Place.{Place}
 use Rattle.tus_session.specs.declared.conns.Place.TheVariants.{Closed}
@@ -30,21 +30,35 @@ pub more_is : (st : State) (c : ℕ) (conn : Conn) → st.conns c ≡ Some conn 
 unfolding step
 more_is st c conn e = record { conn_is = e; step_is = ap (more_at st c) e }
 
-memory_is : (st : State) (e : Event) (conn : Conn) → st.conns (conn_in e) ≡ Some conn
+-- an event on a connection that is open already: for want of memory it is closed
+abbrev pub IsOnOpen : Event → Type 0
+IsOnOpen (Opened c) = ⊥
+IsOnOpen (Came c piece) = Unit {0}
+IsOnOpen (More c) = Unit {0}
+IsOnOpen (Ended c) = Unit {0}
+
+memory_is : (st : State) (e : Event) (conn : Conn) → IsOnOpen e → st.conns (conn_in e) ≡ Some conn
     → step st e OutOfMemory ≡ record { state = put st (left_world st.world conn.draft) (conn_in e) None; outcome = Refused errors.NoMemory }
 unfolding step
-memory_is st e conn is = ap (lost_at st (conn_in e)) is
+memory_is st (Opened c) conn on is = absurd on
+memory_is st (Came c piece) conn on is = ap (lost_at st c) is
+memory_is st (More c) conn on is = ap (lost_at st c) is
+memory_is st (Ended c) conn on is = ap (lost_at st c) is
+
+failed_is : (st : State) (e : Event) (conn : Conn) → IsOnOpen e → st.conns (conn_in e) ≡ Some conn → (step st e Failed).outcome ≡ Refused errors.DiskFault
+unfolding step
+failed_is st (Opened c) conn on is = absurd on
+failed_is st (Came c piece) conn on is = ap (λ o. (failed_at st c o).outcome) is
+failed_is st (More c) conn on is = ap (λ o. (failed_at st c o).outcome) is
+failed_is st (Ended c) conn on is = ap (λ o. (failed_at st c o).outcome) is
 
 module _ {U B : Type 0} (u : Ghosts U B) where
-  open_is : (o : Option Conn) (conn : Conn) → o ≡ Some conn → IsOpen o
-  open_is o conn e = subst IsOpen (sym e) tt
-
   pub gave : (out new : List ℕ) (a : Answer) (t : Turn) → a.taken ≡ t.taken → a.closes ≡ is_closed t.conn → a.more ≡ has_text t.conn
       → Gave t.bytes t.taken (is_closed t.conn) (has_text t.conn) ≡ Gave t.bytes a.taken a.closes a.more
   gave out new a t e f g = sym (ap (λ n. Gave t.bytes n a.closes a.more) e ∙ (ap (λ b. Gave t.bytes t.taken b a.more) f ∙ ap (λ b. Gave t.bytes t.taken (is_closed t.conn) b) g))
 
   module _ (places all : List (Place B)) (store store' : U) (st : State) (next : Place B) (e : Event) (conn : Conn)
-      (stands : SessionStands u places store st) (is_put : IsPut places all (conn_in e) next) where
+      (stands : SessionStands u places store st) (is_put : IsPut places all (conn_in e) next) (on : IsOnOpen e) where
     moves_at : (w' : World) (own' : Option ℕ) → st.conns (conn_in e) ≡ Some conn → Moves st.world w' conn.draft own' → Moves st.world w' (draft_at (st.conns (conn_in e))) own'
     moves_at w' own' is moves = subst (λ o. Moves st.world w' (draft_at o) own') (sym is) moves
 
@@ -58,7 +72,7 @@ module _ {U B : Type 0} (u : Ghosts U B) where
         in_place u places all store store' st w' (conn_in e) next None stands is_put (moves_at w' None is (left_moves st.world conn.draft)) shown here in
         let x : Step = record { state = put st w' (conn_in e) None; outcome = Refused errors.NoMemory } in
         let f : Follows u all store' x.state x.outcome (Refused errors.NoMemory) = record { stands = s; outcome = refl } in
-        subst (λ y. Follows u all store' y.state y.outcome (Refused errors.NoMemory)) (sym (memory_is st e conn is)) f
+        subst (λ y. Follows u all store' y.state y.outcome (Refused errors.NoMemory)) (sym (memory_is st e conn on is)) f
 
     pub told : (t : Turn) (r : Result Answer SessionError) (old new : List ℕ) → IsTurn st e conn t → Turned u store' next r old new st.world conn.draft t
         → Told u all store' r old new st e
@@ -70,7 +84,7 @@ module _ {U B : Type 0} (u : Ghosts U B) where
         record { stands = s; outcome = gave old new a t turn.taken turn.closes turn.more } in
         (t.bytes, subst (λ y. Follows u all store' y.state y.outcome (Gave t.bytes a.taken a.closes a.more)) (sym is.step_is) f, turn.bytes)
     told t (Err errors.NoMemory) old new is (shown, closed, same) = (lost is.conn_is closed shown, same)
-    told t (Err errors.DiskFault) old new is same = (open_is (st.conns (conn_in e)) conn is.conn_is, same)
+    told t (Err errors.DiskFault) old new is same = (failed_is st e conn on is.conn_is, same)
     told t (Err errors.TooMany) old new is turn = absurd turn
     told t (Err errors.Closed) old new is turn = absurd turn
 
@@ -86,7 +100,7 @@ module _ {U B : Type 0} (u : Ghosts U B) where
         let f : Follows u all store' x.state x.outcome Done = record { stands = s; outcome = refl } in
         subst (λ y. Follows u all store' y.state y.outcome Done) (sym done) f
     ends (Err errors.NoMemory) is closed done shown = lost is closed shown
-    ends (Err errors.DiskFault) is closed done turn = open_is (st.conns (conn_in e)) conn is
+    ends (Err errors.DiskFault) is closed done turn = failed_is st e conn on is
     ends (Err errors.TooMany) is closed done turn = absurd turn
     ends (Err errors.Closed) is closed done turn = absurd turn
 

@@ -78,10 +78,29 @@ served st (Came c piece) = came_at st c piece (st.conns c)
 served st (More c) = more_at st c (st.conns c)
 served st (Ended c) = ended_at st c (st.conns c)
 
--- an event that is refused for memory makes no change, closes its connection and leaves all others
+-- a connection that isn't open is refused before memory is asked for, or the device
 abbrev pub lost_at : State → ℕ → Option Conn → Step
 lost_at st c None = kept st Closed
 lost_at st c (Some k) = record { state = put st (left_world st.world k.draft) c None; outcome = Refused NoMemory }
+
+abbrev pub failed_at : State → ℕ → Option Conn → Step
+failed_at st c None = kept st Closed
+failed_at st c (Some k) = kept st DiskFault
+
+-- an event at which memory was wanting makes no change, closes its connection and leaves all others. Opening asks for
+-- no memory
+abbrev pub lost : State → Event → Step
+lost st (Opened c) = opened_at st c (st.conns c)
+lost st (Came c piece) = lost_at st c (st.conns c)
+lost st (More c) = lost_at st c (st.conns c)
+lost st (Ended c) = lost_at st c (st.conns c)
+
+-- an event at which the device failed. Opening doesn't ask it
+abbrev pub failed : State → Event → Step
+failed st (Opened c) = opened_at st c (st.conns c)
+failed st (Came c piece) = failed_at st c (st.conns c)
+failed st (More c) = failed_at st c (st.conns c)
+failed st (Ended c) = failed_at st c (st.conns c)
 
 abbrev pub conn_in : Event → ℕ
 conn_in (Opened c) = c
@@ -92,8 +111,8 @@ conn_in (Ended c) = c
 -- THE STEP
 unfoldable pub step : State → Event → Mark → Step
 step st e Served = served st e
-step st e OutOfMemory = lost_at st (conn_in e) (st.conns (conn_in e))
-step st e Failed = kept st DiskFault
+step st e OutOfMemory = lost st e
+step st e Failed = failed st e
 
 abbrev pub beginning : Store → Option ℕ → State
 beginning m blocks = record { world = at_rest m blocks; conns = λ c. None }

@@ -1,6 +1,7 @@
 -- What a session stands for.
 use Rattle.std.specs.Prelude.{◌≡◌, ◌+◌, ◌≤◌, ◌-◌, ℕ, List, [], length, get_or, Option, Some, None}
 use Rattle.tus_request.specs.Requests.{Request, Asks, body_length}
+use Rattle.tus_request.specs.Buffers.{bytes_of}
 use Rattle.upload_rules.specs.Store.{Upload, upload_of, with_bytes, find}
 use Rattle.upload_rules.specs.World.{Patch, World}
 use Rattle.upload_rules.specs.Apart.{IsApart}
@@ -58,7 +59,7 @@ pub record LinkIs {U B : Type 0} (u : Ghosts U B) (w : World) (head : List ℕ) 
 
 abbrev pub PlaceIs : {U B : Type 0} → Ghosts U B → World → Place B → Option Conn → Type 0
 PlaceIs u w Closed None = Unit {0}
-PlaceIs u w (Open k) (Some conn) = LinkIs u w k.head.items k.left k.task conn
+PlaceIs u w (Open k) (Some conn) = LinkIs u w (bytes_of k.head) k.left k.task conn
 PlaceIs u w _ _ = ⊥
 
 abbrev pub draft_at : Option Conn → Option ℕ

@@ -1,5 +1,6 @@
 // A body under way: what came of it, and its end.
-ghost use Rattle.std.specs.Prelude.{◌≡◌, ◌+◌, ◌-◌, ◌<◌, ◌≤◌, ◌^◌, false, length, take, min, None, Some, IsErrOf, if◌then◌else◌};
+ghost use Rattle.std.specs.Prelude.{◌≡◌, ◌+◌, ◌-◌, ◌<◌, ◌≤◌, ◌^◌, false, length};
+ghost use Rattle.std.specs.Prelude.{take, min, None, Some, IsErrOf, if◌then◌else◌};
 ghost use Rattle.upload_rules.specs.Store.{find};
 ghost use Rattle.upload_rules.specs.World.{World, Patch};
 ghost use Rattle.upload_rules.specs.Calls.{dropped};
@@ -13,18 +14,20 @@ use crate::turns::place_of;
 use crate::{Answer, SessionError};
 use std::alloc::Global;
 use tus_action::{Acted, Stop, end_body, feed_body};
+use tus_request::HeadBuffer;
 use upload_rules::Uploads;
 
 // A body that is dropped: what came of it is taken.
 pub(crate) fn skip<B>(
-    head: Vec<u8>,
+    head: HeadBuffer,
     left: u64,
     before: usize,
     behind: usize,
     closes: bool,
 ) -> (Place<B>, Answer)
     requires { before + behind < 2 ^ 64 }
-    ensures place { result.0 ≡ (if closes then Place.Closed else Place.Open (record { head = head; left = left - min left behind; task = Task.Idle })) }
+    ensures place { result.0 ≡ (if closes then Place.Closed else Place.Open
+        (record { head = head; left = left - min left behind; task = Task.Idle })) }
     ensures answer { result.1 ≡ took (before + min left behind) closes }
 {
     let count = left.min(behind as u64);
@@ -39,7 +42,7 @@ pub(crate) fn skip<B>(
 // More of a patch's body came, but not its end.
 fn go_on<U: Uploads>(
     store: &mut U,
-    head: Vec<u8>,
+    head: HeadBuffer,
     patch: Patching<U::Draft>,
     left: u64,
     before: usize,
@@ -47,12 +50,17 @@ fn go_on<U: Uploads>(
 ) -> (Place<U::Draft>, Result<Answer, SessionError>)
     requires few { length bytes.now < left }
     requires fits { before + length bytes.now < 2 ^ 64 }
-    ensures answer { (w : World) (p : Patch) → U.stands store.old w → find (U.number_of patch.draft) w.patches ≡ Some p → U.holds patch.draft p
+    ensures answer { (w : World) (p : Patch) → U.stands store.old w → find (U.number_of patch.draft) w.patches ≡ Some p
+        → U.holds patch.draft p
         → length p.body + length bytes.now ≤ p.count
-        → Parts U.Uploads store.new result.0 result.1 (record { head = head; left = left - length bytes.now; task = Task.Idle }) patch (before + length bytes.now)
-        (fed w (U.number_of patch.draft) bytes.now) (fed_patch w (U.number_of patch.draft) p bytes.now) (dropped w (U.number_of patch.draft)) }
-    ensures crash { (w : World) (p : Patch) → U.stands store.old w → find (U.number_of patch.draft) w.patches ≡ Some p → U.holds patch.draft p
-        → Limits (U.moment store.old) (U.moment store.new) (U.left_only store.old) (U.left_only store.new) w.store w.store }
+        → Parts U.Uploads store.new result.0 result.1
+        (record { head = head; left = left - length bytes.now; task = Task.Idle }) patch (before + length bytes.now)
+        (fed w (U.number_of patch.draft) bytes.now) (fed_patch w (U.number_of patch.draft) p bytes.now)
+        (dropped w (U.number_of patch.draft)) }
+    ensures crash { (w : World) (p : Patch) → U.stands store.old w → find (U.number_of patch.draft) w.patches ≡ Some p
+        → U.holds patch.draft p
+        → Limits (U.moment store.old) (U.moment store.new) (U.left_only store.old)
+        (U.left_only store.new) w.store w.store }
     ensures counts { Counts (IsErrOf result.1 SessionError.DiskFault) (U.failures store.old) (U.failures store.new) }
 {
     let Patching {
@@ -90,24 +98,30 @@ fn go_on<U: Uploads>(
 fn finish<U: Uploads>(
     alloc: Global,
     store: &mut U,
-    head: Vec<u8>,
+    head: HeadBuffer,
     patch: Patching<U::Draft>,
     before: usize,
     bytes: &[u8],
     out: &mut Vec<u8>,
 ) -> (Place<U::Draft>, Result<Answer, SessionError>)
     requires { before + length bytes.now < 2 ^ 64 }
-    ensures answer { (w : World) (p : Patch) (r : Request) → U.stands store.old w → find (U.number_of patch.draft) w.patches ≡ Some p → U.holds patch.draft p
-        → length p.body + length bytes.now ≡ p.count → patch.reached ≡ length p.began.accepted + p.count → patch.bare ≡ r.bare → patch.closes ≡ r.closes
-        → Replies U.Uploads store.new result.0 result.1 out.old.items out.new.items (record { head = head; left = 0; task = Task.Idle }) (before + length bytes.now)
+    ensures answer { (w : World) (p : Patch) (r : Request) → U.stands store.old w
+        → find (U.number_of patch.draft) w.patches ≡ Some p → U.holds patch.draft p
+        → length p.body + length bytes.now ≡ p.count → patch.reached ≡ length p.began.accepted + p.count
+        → patch.bare ≡ r.bare → patch.closes ≡ r.closes
+        → Replies U.Uploads store.new result.0 result.1 out.old.items out.new.items
+        (record { head = head; left = 0; task = Task.Idle }) (before + length bytes.now)
         (ended_by w (U.number_of patch.draft) p bytes.now r) (dropped w (U.number_of patch.draft)) }
-    ensures crash { (w : World) (p : Patch) (r : Request) → U.stands store.old w → find (U.number_of patch.draft) w.patches ≡ Some p → U.holds patch.draft p
+    ensures crash { (w : World) (p : Patch) (r : Request) → U.stands store.old w
+        → find (U.number_of patch.draft) w.patches ≡ Some p → U.holds patch.draft p
         → length p.body + length bytes.now ≤ p.count
         → Limits (U.moment store.old) (U.moment store.new) (U.left_only store.old) (U.left_only store.new) w.store
         (ended_by w (U.number_of patch.draft) p bytes.now r).world.store }
-    ensures unmade { (w : World) (p : Patch) → U.stands store.old w → find (U.number_of patch.draft) w.patches ≡ Some p → U.holds patch.draft p
+    ensures unmade { (w : World) (p : Patch) → U.stands store.old w → find (U.number_of patch.draft) w.patches ≡ Some p
+        → U.holds patch.draft p
         → length p.body + length bytes.now ≤ p.count → IsErrOf result.1 SessionError.NoMemory
-        → Limits (U.moment store.old) (U.moment store.new) (U.left_only store.old) (U.left_only store.new) w.store w.store }
+        → Limits (U.moment store.old) (U.moment store.new) (U.left_only store.old)
+        (U.left_only store.new) w.store w.store }
     ensures counts { Counts (IsErrOf result.1 SessionError.DiskFault) (U.failures store.old) (U.failures store.new) }
 {
     let Patching {
@@ -136,8 +150,10 @@ fn finish<U: Uploads>(
 }
 
 // A connection whose patch was answered.
-fn answered<B>(head: Vec<u8>, reached: u64, bare: bool, acted: Acted<B>) -> Place<B>
-    ensures { acted.draft ≡ None → result ≡ (if acted.closes then Place.Closed else Place.Open (record { head = head; left = 0; task = Task.Idle })) }
+fn answered<B>(head: HeadBuffer, reached: u64, bare: bool, acted: Acted<B>) -> Place<B>
+    ensures { acted.draft ≡ None
+        → result ≡ (if acted.closes then Place.Closed else Place.Open
+        (record { head = head; left = 0; task = Task.Idle })) }
 {
     let Acted {
         draft,
@@ -166,7 +182,7 @@ fn answered<B>(head: Vec<u8>, reached: u64, bare: bool, acted: Acted<B>) -> Plac
 pub(crate) fn body_of<U: Uploads>(
     alloc: Global,
     store: &mut U,
-    head: Vec<u8>,
+    head: HeadBuffer,
     patch: Patching<U::Draft>,
     left: u64,
     before: usize,
@@ -174,24 +190,35 @@ pub(crate) fn body_of<U: Uploads>(
     out: &mut Vec<u8>,
 ) -> (Place<U::Draft>, Result<Answer, SessionError>)
     requires { before + length bytes.now < 2 ^ 64 }
-    ensures part { length bytes.now < left → (w : World) (p : Patch) → U.stands store.old w → find (U.number_of patch.draft) w.patches ≡ Some p → U.holds patch.draft p
+    ensures part { length bytes.now < left → (w : World) (p : Patch) → U.stands store.old w
+        → find (U.number_of patch.draft) w.patches ≡ Some p → U.holds patch.draft p
         → length p.body + length bytes.now ≤ p.count
-        → Parts U.Uploads store.new result.0 result.1 (record { head = head; left = left - length bytes.now; task = Task.Idle }) patch (before + length bytes.now)
-        (fed w (U.number_of patch.draft) bytes.now) (fed_patch w (U.number_of patch.draft) p bytes.now) (dropped w (U.number_of patch.draft)) }
+        → Parts U.Uploads store.new result.0 result.1
+        (record { head = head; left = left - length bytes.now; task = Task.Idle }) patch (before + length bytes.now)
+        (fed w (U.number_of patch.draft) bytes.now) (fed_patch w (U.number_of patch.draft) p bytes.now)
+        (dropped w (U.number_of patch.draft)) }
     ensures part_out { length bytes.now < left → out.new.items ≡ out.old.items }
-    ensures part_crash { length bytes.now < left → (w : World) (p : Patch) → U.stands store.old w → find (U.number_of patch.draft) w.patches ≡ Some p → U.holds patch.draft p
-        → Limits (U.moment store.old) (U.moment store.new) (U.left_only store.old) (U.left_only store.new) w.store w.store }
-    ensures rest { left ≤ length bytes.now → (w : World) (p : Patch) (r : Request) → U.stands store.old w → find (U.number_of patch.draft) w.patches ≡ Some p → U.holds patch.draft p
-        → length p.body + left ≡ p.count → patch.reached ≡ length p.began.accepted + p.count → patch.bare ≡ r.bare → patch.closes ≡ r.closes
-        → Replies U.Uploads store.new result.0 result.1 out.old.items out.new.items (record { head = head; left = 0; task = Task.Idle }) (before + left)
+    ensures part_crash { length bytes.now < left → (w : World) (p : Patch) → U.stands store.old w
+        → find (U.number_of patch.draft) w.patches ≡ Some p → U.holds patch.draft p
+        → Limits (U.moment store.old) (U.moment store.new) (U.left_only store.old)
+        (U.left_only store.new) w.store w.store }
+    ensures rest { left ≤ length bytes.now → (w : World) (p : Patch) (r : Request) → U.stands store.old w
+        → find (U.number_of patch.draft) w.patches ≡ Some p → U.holds patch.draft p
+        → length p.body + left ≡ p.count → patch.reached ≡ length p.began.accepted + p.count → patch.bare ≡ r.bare
+        → patch.closes ≡ r.closes
+        → Replies U.Uploads store.new result.0 result.1 out.old.items out.new.items
+        (record { head = head; left = 0; task = Task.Idle }) (before + left)
         (ended_by w (U.number_of patch.draft) p (take left bytes.now) r) (dropped w (U.number_of patch.draft)) }
-    ensures rest_crash { left ≤ length bytes.now → (w : World) (p : Patch) (r : Request) → U.stands store.old w → find (U.number_of patch.draft) w.patches ≡ Some p → U.holds patch.draft p
+    ensures rest_crash { left ≤ length bytes.now → (w : World) (p : Patch) (r : Request) → U.stands store.old w
+        → find (U.number_of patch.draft) w.patches ≡ Some p → U.holds patch.draft p
         → length p.body + left ≤ p.count
         → Limits (U.moment store.old) (U.moment store.new) (U.left_only store.old) (U.left_only store.new) w.store
         (ended_by w (U.number_of patch.draft) p (take left bytes.now) r).world.store }
-    ensures unmade { (w : World) (p : Patch) → U.stands store.old w → find (U.number_of patch.draft) w.patches ≡ Some p → U.holds patch.draft p
+    ensures unmade { (w : World) (p : Patch) → U.stands store.old w → find (U.number_of patch.draft) w.patches ≡ Some p
+        → U.holds patch.draft p
         → length p.body + left ≤ p.count → IsErrOf result.1 SessionError.NoMemory
-        → Limits (U.moment store.old) (U.moment store.new) (U.left_only store.old) (U.left_only store.new) w.store w.store }
+        → Limits (U.moment store.old) (U.moment store.new) (U.left_only store.old)
+        (U.left_only store.new) w.store w.store }
     ensures counts { Counts (IsErrOf result.1 SessionError.DiskFault) (U.failures store.old) (U.failures store.new) }
 {
     if (bytes.len() as u64) < left {

@@ -1,10 +1,12 @@
 // What came on a connection: the bytes of a head, or of a body.
-ghost use Rattle.std.specs.Prelude.{◌≡◌, ◌+◌, ◌-◌, ◌<◌, ◌≤◌, ◌^◌, ℕ, List, [], length, min, true, false, None, Some, IsErrOf, if◌then◌else◌};
+ghost use Rattle.std.specs.Prelude.{◌≡◌, ◌+◌, ◌-◌, ◌<◌, ◌≤◌, ◌^◌, ℕ, List, []};
+ghost use Rattle.std.specs.Prelude.{length, min, true, false, None, Some, IsErrOf, if◌then◌else◌};
 ghost use Rattle.tus_session.specs.Bodies.{took};
 ghost use Rattle.tus_request.specs.Requests.{Asks};
 ghost use Rattle.upload_rules.specs.World.{World};
 ghost use Rattle.upload_rules.specs.Answers.{Limits, Counts};
 ghost use Rattle.tus_request.specs.Shown.{request_shown};
+ghost use Rattle.tus_request.specs.Buffers.{bytes_of};
 ghost use Rattle.tus_action.specs.Serves.{CanBeMade, CanBeRead};
 ghost use Rattle.tus_session.specs.Turns.{Conn, came_turn};
 ghost use Rattle.tus_session.specs.Stands.{LinkIs};
@@ -13,17 +15,18 @@ ghost use Rattle.tus_session.specs.Heads.{InsideHead, IsWhole, IsSmall, ReachedI
 
 use crate::bodies::{body_of, skip};
 use crate::conns::{Link, Patching, Place, Task};
-use crate::turns::{unmoved, waits};
+use crate::turns::{place_of, unmoved, waits};
 use crate::{Answer, SessionError};
 use std::alloc::Global;
 use tus_action::{Acted, Giving, Stop, act};
 use tus_request::replies::reply_refused;
-use tus_request::{Action, Parsed, Request, parse};
+use tus_request::{Action, HeadBuffer, Parsed, Request};
 use upload_rules::Uploads;
 
 // The offset behind the body that a PATCH asks for.
 fn reached_by(request: &Request) -> u64
-    ensures { IsSmall (request_shown request.now) → ReachedIs (request_shown request.now).action request.now.length result }
+    ensures { IsSmall (request_shown request.now)
+        → ReachedIs (request_shown request.now).action request.now.length result }
 {
     match request.action {
         Action::Patch { offset, .. } => offset.saturating_add(request.length),
@@ -31,9 +34,10 @@ fn reached_by(request: &Request) -> u64
     }
 }
 
-// A request that opened no patch: a text is still to be given, behind which its body is dropped, or what came of the body is dropped at once.
+// A request that opened no patch: a text is still to be given, behind which its body is dropped, or what came of the
+// body is dropped at once.
 fn without_patch<B>(
-    head: Vec<u8>,
+    head: HeadBuffer,
     giving: Option<Giving>,
     length: u64,
     before: usize,
@@ -42,9 +46,11 @@ fn without_patch<B>(
 ) -> (Place<B>, Answer)
     requires { before + behind < 2 ^ 64 }
     ensures text { (g : Giving) → giving ≡ Some g
-        → (result.0 ≡ Place.Open (record { head = head; left = length; task = Task.Text g })) × (result.1 ≡ record { taken = before; closes = false; more = true }) }
+        → (result.0 ≡ Place.Open (record { head = head; left = length; task = Task.Text g }))
+        × (result.1 ≡ record { taken = before; closes = false; more = true }) }
     ensures nothing { giving ≡ None
-        → (result.0 ≡ (if closes then Place.Closed else Place.Open (record { head = head; left = length - min length behind; task = Task.Idle })))
+        → (result.0 ≡ (if closes then Place.Closed else Place.Open
+        (record { head = head; left = length - min length behind; task = Task.Idle })))
         × (result.1 ≡ took (before + min length behind) closes) }
 {
     match giving {
@@ -64,7 +70,7 @@ fn without_patch<B>(
 fn request_of<U: Uploads>(
     alloc: Global,
     store: &mut U,
-    head: Vec<u8>,
+    head: HeadBuffer,
     request: Request,
     before: usize,
     bytes: &[u8],
@@ -74,13 +80,19 @@ fn request_of<U: Uploads>(
     requires usable { (w : World) → U.stands store.old w → CanBeRead w (request_shown request).action }
     requires small { IsSmall (request_shown request) }
     requires within { before ≤ length bytes.now }
-    requires cleared { head.items ≡ [] }
-    ensures answer { (w : World) (conn : Conn) (h : List ℕ) (n : ℕ) → U.stands store.old w → IsWhole w conn h bytes.now n before (Asks (request_shown request))
-        → Turned U.Uploads store.new result.0 result.1 out.old.items out.new.items w conn.draft (came_turn w conn bytes.now) }
-    ensures crash { (w : World) (conn : Conn) (h : List ℕ) (n : ℕ) → U.stands store.old w → IsWhole w conn h bytes.now n before (Asks (request_shown request))
-        → Limits (U.moment store.old) (U.moment store.new) (U.left_only store.old) (U.left_only store.new) w.store (came_turn w conn bytes.now).world.store }
-    ensures unmade { (w : World) (conn : Conn) (h : List ℕ) (n : ℕ) → U.stands store.old w → IsWhole w conn h bytes.now n before (Asks (request_shown request)) → IsErrOf result.1 SessionError.NoMemory
-        → Limits (U.moment store.old) (U.moment store.new) (U.left_only store.old) (U.left_only store.new) w.store w.store }
+    requires cleared { (bytes_of head) ≡ [] }
+    ensures answer { (w : World) (conn : Conn) (h : List ℕ) (n : ℕ) → U.stands store.old w
+        → IsWhole w conn h bytes.now n before (Asks (request_shown request))
+        → Turned U.Uploads store.new result.0 result.1 out.old.items out.new.items w conn.draft
+        (came_turn w conn bytes.now) }
+    ensures crash { (w : World) (conn : Conn) (h : List ℕ) (n : ℕ) → U.stands store.old w
+        → IsWhole w conn h bytes.now n before (Asks (request_shown request))
+        → Limits (U.moment store.old) (U.moment store.new) (U.left_only store.old) (U.left_only store.new) w.store
+        (came_turn w conn bytes.now).world.store }
+    ensures unmade { (w : World) (conn : Conn) (h : List ℕ) (n : ℕ) → U.stands store.old w
+        → IsWhole w conn h bytes.now n before (Asks (request_shown request)) → IsErrOf result.1 SessionError.NoMemory
+        → Limits (U.moment store.old) (U.moment store.new) (U.left_only store.old)
+        (U.left_only store.new) w.store w.store }
     ensures counts { Counts (IsErrOf result.1 SessionError.DiskFault) (U.failures store.old) (U.failures store.new) }
 {
     let length = request.length;
@@ -127,35 +139,29 @@ fn request_of<U: Uploads>(
 fn head_of<U: Uploads>(
     alloc: Global,
     store: &mut U,
-    head: Vec<u8>,
+    head: HeadBuffer,
     bytes: &[u8],
     out: &mut Vec<u8>,
 ) -> (Place<U::Draft>, Result<Answer, SessionError>)
-    ensures answer { (w : World) (conn : Conn) → U.stands store.old w → InsideHead w conn head.items
-        → Turned U.Uploads store.new result.0 result.1 out.old.items out.new.items w conn.draft (came_turn w conn bytes.now) }
-    ensures crash { (w : World) (conn : Conn) → U.stands store.old w → InsideHead w conn head.items
-        → Limits (U.moment store.old) (U.moment store.new) (U.left_only store.old) (U.left_only store.new) w.store (came_turn w conn bytes.now).world.store }
-    ensures unmade { (w : World) (conn : Conn) → U.stands store.old w → InsideHead w conn head.items → IsErrOf result.1 SessionError.NoMemory
-        → Limits (U.moment store.old) (U.moment store.new) (U.left_only store.old) (U.left_only store.new) w.store w.store }
+    ensures answer { (w : World) (conn : Conn) → U.stands store.old w → InsideHead w conn (bytes_of head)
+        → Turned U.Uploads store.new result.0 result.1 out.old.items out.new.items w conn.draft
+        (came_turn w conn bytes.now) }
+    ensures crash { (w : World) (conn : Conn) → U.stands store.old w → InsideHead w conn (bytes_of head)
+        → Limits (U.moment store.old) (U.moment store.new) (U.left_only store.old) (U.left_only store.new) w.store
+        (came_turn w conn bytes.now).world.store }
+    ensures unmade { (w : World) (conn : Conn) → U.stands store.old w → InsideHead w conn (bytes_of head)
+        → IsErrOf result.1 SessionError.NoMemory
+        → Limits (U.moment store.old) (U.moment store.new) (U.left_only store.old)
+        (U.left_only store.new) w.store w.store }
     ensures counts { Counts (IsErrOf result.1 SessionError.DiskFault) (U.failures store.old) (U.failures store.new) }
 {
     let mut head = head;
     let had = head.len();
-    let Ok(()) = head.extend_from_slice(bytes) else {
-        return (Place::Closed, Err(SessionError::NoMemory));
-    };
-    let Ok(parsed) = parse(alloc, &head, store.indexes()) else {
+    let Ok(parsed) = head.read(alloc, bytes, store.indexes()) else {
         return (Place::Closed, Err(SessionError::NoMemory));
     };
     match parsed {
-        Parsed::More => {
-            let link = Link {
-                head,
-                left: 0,
-                task: Task::Idle,
-            };
-            (Place::Open(link), Ok(waits(bytes.len(), false)))
-        }
+        Parsed::More => (place_of(head, 0, false), Ok(waits(bytes.len(), false))),
         Parsed::Refused {
             taken,
             length,
@@ -166,7 +172,6 @@ fn head_of<U: Uploads>(
         } => {
             let before = taken.saturating_sub(had);
             let behind = &bytes[before..];
-            head.clear();
             let Ok(()) = reply_refused(alloc, fault, on_files, bare, closes, out) else {
                 return (Place::Closed, Err(SessionError::NoMemory));
             };
@@ -175,7 +180,6 @@ fn head_of<U: Uploads>(
         }
         Parsed::Head { taken, request } => {
             let before = taken.saturating_sub(had);
-            head.clear();
             request_of(alloc, store, head, request, before, bytes, out)
         }
     }
@@ -189,12 +193,18 @@ pub(crate) fn came_of<U: Uploads>(
     bytes: &[u8],
     out: &mut Vec<u8>,
 ) -> (Place<U::Draft>, Result<Answer, SessionError>)
-    ensures answer { (w : World) (conn : Conn) → U.stands store.old w → LinkIs U.Uploads w link.head.items link.left link.task conn
-        → Turned U.Uploads store.new result.0 result.1 out.old.items out.new.items w conn.draft (came_turn w conn bytes.now) }
-    ensures crash { (w : World) (conn : Conn) → U.stands store.old w → LinkIs U.Uploads w link.head.items link.left link.task conn
-        → Limits (U.moment store.old) (U.moment store.new) (U.left_only store.old) (U.left_only store.new) w.store (came_turn w conn bytes.now).world.store }
-    ensures unmade { (w : World) (conn : Conn) → U.stands store.old w → LinkIs U.Uploads w link.head.items link.left link.task conn → IsErrOf result.1 SessionError.NoMemory
-        → Limits (U.moment store.old) (U.moment store.new) (U.left_only store.old) (U.left_only store.new) w.store w.store }
+    ensures answer { (w : World) (conn : Conn) → U.stands store.old w
+        → LinkIs U.Uploads w (bytes_of link.head) link.left link.task conn
+        → Turned U.Uploads store.new result.0 result.1 out.old.items out.new.items w conn.draft
+        (came_turn w conn bytes.now) }
+    ensures crash { (w : World) (conn : Conn) → U.stands store.old w
+        → LinkIs U.Uploads w (bytes_of link.head) link.left link.task conn
+        → Limits (U.moment store.old) (U.moment store.new) (U.left_only store.old) (U.left_only store.new) w.store
+        (came_turn w conn bytes.now).world.store }
+    ensures unmade { (w : World) (conn : Conn) → U.stands store.old w
+        → LinkIs U.Uploads w (bytes_of link.head) link.left link.task conn → IsErrOf result.1 SessionError.NoMemory
+        → Limits (U.moment store.old) (U.moment store.new) (U.left_only store.old)
+        (U.left_only store.new) w.store w.store }
     ensures counts { Counts (IsErrOf result.1 SessionError.DiskFault) (U.failures store.old) (U.failures store.new) }
 {
     let Link { head, left, task } = link;

@@ -14,9 +14,11 @@ use crate::turns::{drop_link, end_of, more_of};
 use crate::{Answer, SessionError};
 use std::alloc::{AllocError, Global};
 use std::mem;
+use tus_request::HeadBuffer;
 use upload_rules::Uploads;
 
-/// Up to 16 connections: of each an unfinished head, or how many bytes of a body are to come, and what its last head left open.
+/// Up to 16 connections: of each an unfinished head, or how many bytes of a body are to come, and what its last head
+/// left open.
 pub struct Session<U: Uploads> {
     alloc: Global,
     places: Vec<Place<U::Draft>>,
@@ -51,7 +53,7 @@ impl<U: Uploads> Session<U> {
             return Err(SessionError::TooMany);
         };
         let link = Link {
-            head: Vec::new(self.alloc),
+            head: HeadBuffer::new(self.alloc),
             left: 0,
             task: Task::Idle,
         };
@@ -59,13 +61,16 @@ impl<U: Uploads> Session<U> {
         Ok(())
     }
 
-    /// Bytes came: those of at most one request are taken, and what they bring is appended to `out`. At most one change is made.
+    /// Bytes came: those of at most one request are taken, and what they bring is appended to `out`. At most one change
+    /// is made.
     ///
-    /// A call takes up to the end of the request under way, or all bytes where that end isn't among them. While a text is still to be given it
+    /// A call takes up to the end of the request under way, or all bytes where that end isn't among them. While a text
+    /// is still to be given it
     /// takes none, and a request that leaves a text to be given is taken up to the end of its head.
-    /// Each call looks for the end of an unfinished head once, in the at most 8,192 bytes of it that are kept.
+    /// Of an unfinished head at most 8,192 bytes are kept, and each call looks for its end there once.
     ///
-    /// Refused with `Closed` where the connection isn't open, and then with `NoMemory`, which closes the connection, or `DiskFault`.
+    /// Refused with `Closed` where the connection isn't open, and then with `NoMemory`, which closes the connection, or
+    /// `DiskFault`.
     pub fn came(
         &mut self,
         store: &mut U,
@@ -74,12 +79,16 @@ impl<U: Uploads> Session<U> {
         out: &mut Vec<u8>,
     ) -> Result<Answer, SessionError>
         ensures answer { (st : State) → SessionStands U.Uploads (places_of self.old) store.old st
-            → Told U.Uploads (places_of self.new) store.new result out.old.items out.new.items st (Came conn bytes.now) }
+            → Told U.Uploads (places_of self.new) store.new result out.old.items out.new.items st
+            (Came conn bytes.now) }
         ensures crash { (st : State) → SessionStands U.Uploads (places_of self.old) store.old st
-            → Limits (U.moment store.old) (U.moment store.new) (U.left_only store.old) (U.left_only store.new) st.world.store
+            → Limits (U.moment store.old) (U.moment store.new) (U.left_only store.old)
+            (U.left_only store.new) st.world.store
             (step st (Came conn bytes.now) Served).state.world.store }
-        ensures unmade { (st : State) → SessionStands U.Uploads (places_of self.old) store.old st → IsErrOf result SessionError.NoMemory
-            → Limits (U.moment store.old) (U.moment store.new) (U.left_only store.old) (U.left_only store.new) st.world.store st.world.store }
+        ensures unmade { (st : State) → SessionStands U.Uploads (places_of self.old) store.old st
+            → IsErrOf result SessionError.NoMemory
+            → Limits (U.moment store.old) (U.moment store.new) (U.left_only store.old)
+            (U.left_only store.new) st.world.store st.world.store }
         ensures counts { Counts (IsErrOf result SessionError.DiskFault) (U.failures store.old) (U.failures store.new) }
     {
         if conn >= self.places.len() {
@@ -93,10 +102,12 @@ impl<U: Uploads> Session<U> {
         answer
     }
 
-    /// Gives the next piece of a text that is still to be given: 65,536 bytes, or all that are left where they are fewer, appended to `out`.
+    /// Gives the next piece of a text that is still to be given: 65,536 bytes, or all that are left where they are
+    /// fewer, appended to `out`.
     /// With none left it gives nothing.
     ///
-    /// Refused with `Closed` where the connection isn't open, and then with `NoMemory`, which closes the connection, or `DiskFault`.
+    /// Refused with `Closed` where the connection isn't open, and then with `NoMemory`, which closes the connection, or
+    /// `DiskFault`.
     pub fn more(
         &mut self,
         store: &mut U,
@@ -105,7 +116,8 @@ impl<U: Uploads> Session<U> {
     ) -> Result<Answer, SessionError>
         ensures answer { (st : State) → SessionStands U.Uploads (places_of self.old) store.old st
             → Told U.Uploads (places_of self.new) store.new result out.old.items out.new.items st (More conn) }
-        ensures crash { Quiet (U.moment store.old) (U.moment store.new) (U.left_only store.old) (U.left_only store.new) }
+        ensures crash { Quiet (U.moment store.old) (U.moment store.new) (U.left_only store.old)
+            (U.left_only store.new) }
         ensures counts { Counts (IsErrOf result SessionError.DiskFault) (U.failures store.old) (U.failures store.new) }
     {
         if conn >= self.places.len() {
@@ -113,7 +125,7 @@ impl<U: Uploads> Session<U> {
         }
         let (next, answer) = match mem::replace(&mut self.places[conn], Place::Closed) {
             Place::Closed => return Err(SessionError::Closed),
-            Place::Open(link) => more_of(self.alloc, store, link, out),
+            Place::Open(link) => more_of(store, link, out),
         };
         put_back(&mut self.places[conn], next);
         answer
@@ -121,15 +133,19 @@ impl<U: Uploads> Session<U> {
 
     /// The connection ended. What came of a PATCH body is committed, without a reply.
     ///
-    /// Refused with `Closed` where the connection isn't open, and then with `NoMemory` or `DiskFault`. It is closed in every case.
+    /// Refused with `Closed` where the connection isn't open, and then with `NoMemory` or `DiskFault`. It is closed in
+    /// every case.
     pub fn ended(&mut self, store: &mut U, conn: usize) -> Result<(), SessionError>
         ensures answer { (st : State) → SessionStands U.Uploads (places_of self.old) store.old st
             → Ends U.Uploads (places_of self.new) store.new result st (Ended conn) }
         ensures crash { (st : State) → SessionStands U.Uploads (places_of self.old) store.old st
-            → Limits (U.moment store.old) (U.moment store.new) (U.left_only store.old) (U.left_only store.new) st.world.store
+            → Limits (U.moment store.old) (U.moment store.new) (U.left_only store.old)
+            (U.left_only store.new) st.world.store
             (step st (Ended conn) Served).state.world.store }
-        ensures unmade { (st : State) → SessionStands U.Uploads (places_of self.old) store.old st → IsErrOf result SessionError.NoMemory
-            → Limits (U.moment store.old) (U.moment store.new) (U.left_only store.old) (U.left_only store.new) st.world.store st.world.store }
+        ensures unmade { (st : State) → SessionStands U.Uploads (places_of self.old) store.old st
+            → IsErrOf result SessionError.NoMemory
+            → Limits (U.moment store.old) (U.moment store.new) (U.left_only store.old)
+            (U.left_only store.new) st.world.store st.world.store }
         ensures counts { Counts (IsErrOf result SessionError.DiskFault) (U.failures store.old) (U.failures store.new) }
     {
         if conn >= self.places.len() {
@@ -143,8 +159,10 @@ impl<U: Uploads> Session<U> {
 
     /// Ends the session: the drafts that are open are dropped.
     pub fn close(self, store: &mut U)
-        ensures kept { (st : State) → SessionStands U.Uploads (places_of self) store.old st → U.stands store.new (at_rest st.world.store st.world.blocks) }
-        ensures crash { Quiet (U.moment store.old) (U.moment store.new) (U.left_only store.old) (U.left_only store.new) }
+        ensures kept { (st : State) → SessionStands U.Uploads (places_of self) store.old st
+            → U.stands store.new (at_rest st.world.store st.world.blocks) }
+        ensures crash { Quiet (U.moment store.old) (U.moment store.new) (U.left_only store.old)
+            (U.left_only store.new) }
         ensures counts { U.failures store.new ≡ U.failures store.old }
     {
         let Session {

@@ -2,14 +2,15 @@
 ghost use Rattle.std.specs.Prelude.{◌≡◌, false, IsErrOf, if◌then◌else◌, Ok};
 ghost use Rattle.upload_rules.specs.World.{World};
 ghost use Rattle.upload_rules.specs.Answers.{Limits, Quiet, Counts};
+ghost use Rattle.tus_request.specs.Buffers.{bytes_of};
 ghost use Rattle.tus_session.specs.Turns.{Conn, more_turn, ended_world};
 ghost use Rattle.tus_session.specs.Stands.{LinkIs, dropped_by};
 ghost use Rattle.tus_session.specs.Turned.{Turned, Ended};
 
 use crate::conns::{Link, Patching, Place, Task};
 use crate::{Answer, SessionError};
-use std::alloc::Global;
 use tus_action::{Stop, cut_body, give_more};
+use tus_request::HeadBuffer;
 use upload_rules::Uploads;
 
 // Nothing was given: the connection is as it was.
@@ -33,12 +34,12 @@ pub(crate) fn waits(taken: usize, more: bool) -> Answer
 
 // The next piece of the text that is still to be given, if there is one.
 pub(crate) fn more_of<U: Uploads>(
-    alloc: Global,
     store: &mut U,
     link: Link<U::Draft>,
     out: &mut Vec<u8>,
 ) -> (Place<U::Draft>, Result<Answer, SessionError>)
-    ensures answer { (w : World) (conn : Conn) → U.stands store.old w → LinkIs U.Uploads w link.head.items link.left link.task conn
+    ensures answer { (w : World) (conn : Conn) → U.stands store.old w
+        → LinkIs U.Uploads w (bytes_of link.head) link.left link.task conn
         → Turned U.Uploads store.new result.0 result.1 out.old.items out.new.items w conn.draft (more_turn w conn) }
     ensures crash { Quiet (U.moment store.old) (U.moment store.new) (U.left_only store.old) (U.left_only store.new) }
     ensures counts { Counts (IsErrOf result.1 SessionError.DiskFault) (U.failures store.old) (U.failures store.new) }
@@ -48,7 +49,7 @@ pub(crate) fn more_of<U: Uploads>(
         Task::Text(giving) => giving,
         task => return unmoved(Link { head, left, task }, false),
     };
-    match give_more(alloc, store, giving, out) {
+    match give_more(store, giving, out) {
         Ok(Some(rest)) => {
             let answer = Answer {
                 taken: 0,
@@ -77,12 +78,17 @@ pub(crate) fn more_of<U: Uploads>(
 
 // The connection ended: what came of an open patch is committed.
 pub(crate) fn end_of<U: Uploads>(store: &mut U, link: Link<U::Draft>) -> Result<(), SessionError>
-    ensures answer { (w : World) (conn : Conn) → U.stands store.old w → LinkIs U.Uploads w link.head.items link.left link.task conn
+    ensures answer { (w : World) (conn : Conn) → U.stands store.old w
+        → LinkIs U.Uploads w (bytes_of link.head) link.left link.task conn
         → Ended U.Uploads store.new result w conn.draft (ended_world w conn) }
-    ensures crash { (w : World) (conn : Conn) → U.stands store.old w → LinkIs U.Uploads w link.head.items link.left link.task conn
-        → Limits (U.moment store.old) (U.moment store.new) (U.left_only store.old) (U.left_only store.new) w.store (ended_world w conn).store }
-    ensures unmade { (w : World) (conn : Conn) → U.stands store.old w → LinkIs U.Uploads w link.head.items link.left link.task conn → IsErrOf result SessionError.NoMemory
-        → Limits (U.moment store.old) (U.moment store.new) (U.left_only store.old) (U.left_only store.new) w.store w.store }
+    ensures crash { (w : World) (conn : Conn) → U.stands store.old w
+        → LinkIs U.Uploads w (bytes_of link.head) link.left link.task conn
+        → Limits (U.moment store.old) (U.moment store.new) (U.left_only store.old) (U.left_only store.new) w.store
+        (ended_world w conn).store }
+    ensures unmade { (w : World) (conn : Conn) → U.stands store.old w
+        → LinkIs U.Uploads w (bytes_of link.head) link.left link.task conn → IsErrOf result SessionError.NoMemory
+        → Limits (U.moment store.old) (U.moment store.new) (U.left_only store.old)
+        (U.left_only store.new) w.store w.store }
     ensures counts { Counts (IsErrOf result SessionError.DiskFault) (U.failures store.old) (U.failures store.new) }
 {
     let Link {
@@ -132,8 +138,9 @@ pub(crate) fn drop_link<U: Uploads>(store: &mut U, link: Link<U::Draft>)
 }
 
 // A connection with nothing open, behind a call that may close it.
-pub(crate) fn place_of<B>(head: Vec<u8>, left: u64, closes: bool) -> Place<B>
-    ensures { result ≡ (if closes then Place.Closed else Place.Open (record { head = head; left = left; task = Task.Idle })) }
+pub(crate) fn place_of<B>(head: HeadBuffer, left: u64, closes: bool) -> Place<B>
+    ensures { result ≡ (if closes then Place.Closed else Place.Open
+        (record { head = head; left = left; task = Task.Idle })) }
 {
     if closes {
         Place::Closed

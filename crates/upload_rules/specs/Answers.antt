@@ -33,14 +33,18 @@ Among m [] = ⊥
 Among m (x ∷ xs) = (m ≡ x) ⊎ Among m xs
 
 -- Whatever stores all images since some moment were limited to, they still are, once the two stores are among them.
-pub record Limits (moment moment' : ℕ) (left_only left_only' : ℕ → List Store → Type 0) (before after : Store) : Type 0 where
+-- And they still show as many blocks.
+pub record Limits (moment moment' : ℕ) (left_only left_only' : Option ℕ → ℕ → List Store → Type 0)
+    (before after : Store) : Type 0 where
   pub later : moment ≤ moment'
-  pub limits : (t : ℕ) (ms : List Store) → t ≤ moment → left_only t ms → Among before ms → Among after ms → left_only' t ms
+  pub limits : (blocks : Option ℕ) (t : ℕ) (ms : List Store) → t ≤ moment → left_only blocks t ms
+      → Among before ms → Among after ms → left_only' blocks t ms
 
 -- a call that writes nothing that a text owns: what the images were limited to, they still are
-pub record Quiet (moment moment' : ℕ) (left_only left_only' : ℕ → List Store → Type 0) : Type 0 where
+pub record Quiet (moment moment' : ℕ) (left_only left_only' : Option ℕ → ℕ → List Store → Type 0) : Type 0 where
   pub later : moment ≤ moment'
-  pub keeps : (t : ℕ) (ms : List Store) → t ≤ moment → left_only t ms → left_only' t ms
+  pub keeps : (blocks : Option ℕ) (t : ℕ) (ms : List Store) → t ≤ moment → left_only blocks t ms
+      → left_only' blocks t ms
 
 -- the device's failures are counted, up to the greatest u64
 pub record Counts (failed : Type 0) (before now : ℕ) : Type 0 where

@@ -9,8 +9,6 @@ mod new_text;
 mod records;
 mod slots;
 mod table;
-#[cfg(test)]
-mod tests;
 mod uploads;
 
 pub use drafts::{placed, put_back, taken};

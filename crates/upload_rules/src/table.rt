@@ -94,7 +94,7 @@ impl Uploads for Table {
 
     ghost moment = { λ t. 0 };
 
-    ghost left_only = { λ t n ms. Unit {0} };
+    ghost left_only = { λ t blocks since ms. Unit {0} };
 
     ghost failures = { λ t. 0 };
 

@@ -28,8 +28,9 @@ pub trait Uploads {
     /// Counts what the device was asked.
     ghost moment: { Self → ℕ };
 
-    /// What a crash at any moment since that one might have left shows one of these stores.
-    ghost left_only: { Self → ℕ → List Store → Type 0 };
+    /// What a crash at any moment since that one might have left shows one of these stores, and so many blocks, as in
+    /// a world.
+    ghost left_only: { Self → Option ℕ → ℕ → List Store → Type 0 };
 
     /// How often the device failed.
     ghost failures: { Self → ℕ };
@@ -115,5 +116,5 @@ pub trait Uploads {
         ensures counts { Counts (IsErrOf result UploadError.DiskFault) (failures self.old) (failures self.new) };
 
     /// A store that stands for a world is on the device.
-    ghost durable: { (store : Self) (w : World) (ms : List Store) → stands store w → Among w.store ms → left_only store (moment store) ms };
+    ghost durable: { (store : Self) (w : World) (ms : List Store) → stands store w → Among w.store ms → left_only store w.blocks (moment store) ms };
 }

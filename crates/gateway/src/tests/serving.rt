@@ -1,16 +1,20 @@
 //! Clients over sockets, in one thread: each writes all that it has to say before it is served.
 
 use crate::scripting::spool_in_memory;
-use crate::serving::serve_on;
+use crate::serving::{Outcome, serve_on};
 use gateway_engine::Gateway;
 use spool_disk::{FuseDisk, MemoryDisk};
 use std::alloc::Global;
+use std::cell::Cell;
 use std::io::{self, Read, Write};
 use std::net::{Ipv4Addr, Shutdown, TcpListener, TcpStream};
 use std::process::Abort;
 use std::test::Fail;
+use std::time::{Clock, Duration};
 
 const POST: &[u8] = b"POST /files HTTP/1.1\r\nTus-Resumable: 1.0.0\r\nUpload-Length: 5\r\n\r\n";
+
+const OPTIONS: &[u8] = b"OPTIONS /files HTTP/1.1\r\n\r\n";
 
 const MADE_FIRST: &[u8] =
     b"HTTP/1.1 201 Created\r\nTus-Resumable: 1.0.0\r\nCache-Control: no-store\r\n\
@@ -65,25 +69,42 @@ fn told(alloc: Global, client: &mut TcpStream) -> io::Result<Vec<u8>> {
     Ok(bytes)
 }
 
-/// Serves so many connections over the spool on a disk, in at most 1,000 turns.
-fn serve(
-    rt: &impl Abort,
+/// Serves so many connections over the spool on a disk, in at most so many turns.
+fn serve_for<R: Abort, T: Clock>(
+    rt: &R,
     alloc: Global,
+    clock: &T,
     listener: &TcpListener,
     disk: MemoryDisk,
     connections: u64,
+    turns: u64,
 ) -> MemoryDisk {
     let gateway = match Gateway::open(alloc, disk) {
         Ok(gateway) => gateway,
         Err((_disk, fault)) => panic!(rt; "{fault}"),
     };
-    match serve_on(alloc, listener, gateway, connections, 1000) {
-        Ok(gateway) => gateway.into_disk(),
-        Err((gateway, fault)) => {
-            drop(gateway.into_disk());
-            panic!(rt; "{fault}")
-        }
+    let Outcome {
+        gateway,
+        served,
+        connections: _,
+        ended: _,
+    } = serve_on(alloc, clock, listener, gateway, connections, turns);
+    let disk = gateway.into_disk();
+    if let Err(fault) = served {
+        panic!(rt; "{fault}")
     }
+    disk
+}
+
+/// Serves so many connections over the spool on a disk, in at most 1,000 turns.
+fn serve<R: Abort + Clock>(
+    rt: &R,
+    alloc: Global,
+    listener: &TcpListener,
+    disk: MemoryDisk,
+    connections: u64,
+) -> MemoryDisk {
+    serve_for(rt, alloc, rt, listener, disk, connections, 1000)
 }
 
 #[test]
@@ -121,18 +142,25 @@ fn close_is_told_before_the_socket_closes(rt: HostRuntime) -> Result<(), Fail> {
 }
 
 /// Serves a connection over a spool whose disk fails at the first call behind its opening: whether serving stopped for that.
-fn stops_at_a_fault(alloc: Global, listener: &TcpListener, disk: MemoryDisk) -> bool {
+fn stops_at_a_fault(
+    rt: &HostRuntime,
+    alloc: Global,
+    listener: &TcpListener,
+    disk: MemoryDisk,
+) -> bool {
     let mut disk = disk;
     // opening makes more than 500 calls, and fewer than 700
     for calls in 500..700 {
         match Gateway::open(alloc, FuseDisk::new(disk, calls)) {
             Ok(gateway) => {
-                let (gateway, stopped) = match serve_on(alloc, listener, gateway, 1, 1000) {
-                    Ok(gateway) => (gateway, false),
-                    Err((gateway, _fault)) => (gateway, true),
-                };
+                let Outcome {
+                    gateway,
+                    served,
+                    connections: _,
+                    ended: _,
+                } = serve_on(alloc, rt, listener, gateway, 1, 1000);
                 drop(gateway.into_disk().into_inner());
-                return stopped;
+                return served.is_err();
             }
             Err((fuse, _fault)) => disk = fuse.into_inner(),
         }
@@ -145,7 +173,62 @@ fn nothing_is_told_behind_a_fault_of_the_device(rt: HostRuntime) -> Result<(), F
     let listener = listen(&rt)?;
     let mut client = client(&rt, &listener, POST)?;
     let disk = spool_in_memory(rt.alloc())?;
-    assert!(rt; stops_at_a_fault(rt.alloc(), &listener, disk));
+    assert!(rt; stops_at_a_fault(&rt, rt.alloc(), &listener, disk));
     assert!(rt; told(rt.alloc(), &mut client)?.is_empty());
+    Ok(())
+}
+
+/// A clock that goes on by a second at each reading.
+#[derive(Drop)]
+struct Seconds {
+    read: Cell<u64>,
+}
+
+impl Clock for Seconds {
+    fn monotonic(&self) -> io::Result<Duration> {
+        let read = self.read.get();
+        self.read.set(read.saturating_add(1));
+        Ok(Duration::from_secs(read))
+    }
+
+    fn since_1970(&self) -> io::Result<Duration> {
+        self.monotonic()
+    }
+}
+
+/// A client that connects, says this and stays.
+fn stays(rt: &HostRuntime, listener: &TcpListener, says: &[u8]) -> io::Result<TcpStream> {
+    let mut stream = TcpStream::connect(rt, listener.local_addr()?)?;
+    stream.write_all(says)?;
+    Ok(stream)
+}
+
+#[test]
+fn seventeen_clients_that_stay_are_served(rt: HostRuntime) -> Result<(), Fail> {
+    let listener = listen(&rt)?;
+    let mut clients = Vec::new(rt.alloc());
+    for _ in 0..17 {
+        clients.push(stays(&rt, &listener, OPTIONS)?)?;
+    }
+    let clock = Seconds { read: Cell::new(0) };
+    let disk = spool_in_memory(rt.alloc())?;
+    drop(serve_for(&rt, rt.alloc(), &clock, &listener, disk, 17, 30));
+    for client in clients.iter_mut() {
+        assert_eq!(rt; told(rt.alloc(), client)?.len(), 145);
+    }
+    Ok(())
+}
+
+#[test]
+fn idle_connection_is_ended_after_a_minute(rt: HostRuntime) -> Result<(), Fail> {
+    let listener = listen(&rt)?;
+    let mut client = stays(&rt, &listener, POST)?;
+    let clock = Seconds { read: Cell::new(0) };
+    let disk = spool_in_memory(rt.alloc())?;
+    let disk = serve_for(&rt, rt.alloc(), &clock, &listener, disk, 1, 70);
+    assert!(rt; clock.read.get() > 60);
+    assert!(rt; clock.read.get() < 70);
+    assert_eq!(rt; told(rt.alloc(), &mut client)?.as_slice(), MADE_FIRST);
+    drop(disk);
     Ok(())
 }

@@ -1,61 +1,79 @@
-use Rattle.std.proofs.Common.{[], ◌∷◌, Some, Ok, Err, inl, refl, sym, subst}
-use Rattle.spool_image.specs.Spool.{disk_of}
+use Rattle.std.proofs.Common.{◌≤◌, ◌*◌, ℕ, [], ◌∷◌, Some, Ok, Err, inl, refl, sym, subst}
+use Rattle.spool_journal.specs.Image.{all_pages}
+use Rattle.spool_image.specs.Spool.{disk_of, size_of}
 use Rattle.spool_image.specs.contracts.spool.SpoolUploads.TheImpl.Laws.{durable-law}
 use Rattle.upload_rules.specs.World.{at_rest}
 use Rattle.tus_session.specs.History.{beginning}
 use Rattle.gateway_engine.specs.Faults.{run_fault}
 use Rattle.gateway_engine.specs.RanOn.{HasRunOn}
 use Rattle.gateway_engine.proofs.Exits.{some_script}
-use Rattle.gateway_engine.proofs.OnDisk.{all_show, unopened_on, ran_on, broke_on}
+use Rattle.gateway_engine.proofs.OnDisk.{all_show, unopened_on, ran_on, broke_on, view_room}
 use Rattle.gateway_engine.proofs.spools.run.Goals as goal
 
 pub returns-in-Err-clause-runs : goal.returns-in-Err-clause-runs
-returns-in-Err-clause-runs g c = λ honest m v is shows room.
+returns-in-Err-clause-runs g c n m is =
     let script = some_script (g.R.Read.remaining c.args.reader.now) in (
       script.0,
       script.1,
-      unopened_on _ _ g.D.Disk c.args.disk c.in-Err.disk c.in-Err.fault (g.W.Write.contents c.args.writer.now) (g.W.Write.contents c.args.writer.now) (beginning m (Some v.blocks)) script.0
-          (c.in-Err.ensures.opened honest v shows.sound is room) (c.in-Err.ensures.lasts honest m v is shows room),
+      unopened_on _ _ g.D.Disk c.args.disk c.in-Err.disk c.in-Err.fault (g.W.Write.contents c.args.writer.now)
+          (g.W.Write.contents c.args.writer.now) n m script.0
+          (c.in-Err.ensures.opened is.honest is.shows.view is.shows.shows.sound is.shows.is (view_room g.D.Disk c.args.disk n m is))
+          (record {
+            honest = c.in-Err.ensures.honest.0 is.honest;
+            room = subst (λ (size : ℕ). 4096 * all_pages n ≤ size) (sym c.in-Err.ensures.size) is.room;
+            lasts = c.in-Err.ensures.lasts n m is;
+          }),
     )
 
 pub returns-in-Ok-run_over-clause-runs : goal.returns-in-Ok-run_over-clause-runs
-returns-in-Ok-run_over-clause-runs g c = λ honest m v is shows room.
-    let st = beginning m (Some v.blocks) in
+returns-in-Ok-run_over-clause-runs g c n m is =
     let disk = c.args.disk in
     let opened = c.in-Ok.spool in
     let now = c.in-Ok-run_over.spool in
     let held = g.W.Write.contents c.run_over.new.writer in
     let front = g.W.Write.contents c.args.writer.now in
-    let has = c.in-Ok-run_over.ensures.output m (Some v.blocks) (c.in-Ok.ensures.stands honest m v is shows room) in (
+    let stands = c.in-Ok.ensures.stands n m is in
+    let has = c.in-Ok-run_over.ensures.output m (Some n) stands in (
       has.0,
       has.1,
-      subst (λ d. HasRunOn g.D.Disk disk (Ok d) held front st has.0) (sym c.into_disk.ensures)
-          (ran_on g.D.Disk disk_of _ _ _ disk opened now st (λ image left. g.met.D.Disk.only_now disk image left) (c.in-Ok.ensures.lasts honest m v is shows room)
-          (record { honest = c.in-Ok.ensures.honest.0 honest; each = c.in-Ok.ensures.shows honest m v is shows room })
-          (g.met.D.Disk.counts_now (disk_of now)) (λ st rests. all_show g.D.Disk (disk_of now) st.world.store (g.met.D.Disk.counts_now (disk_of now))
-          (durable-law g.row.D g.D.Disk g.D.Disk-dict (record { counts_now = g.met.D.Disk.counts_now; only_now = g.met.D.Disk.only_now }) now
-          (at_rest st.world.store st.world.blocks) (st.world.store ∷ []) rests (inl refl)))
+      subst (λ d. HasRunOn g.D.Disk disk (Ok d) held front n (beginning m (Some n)) has.0) (sym c.into_disk.ensures.same)
+          (ran_on g.D.Disk disk_of size_of _ _ _ disk opened now n m (g.met.D.Disk.counts_now disk) (c.in-Ok.ensures.lasts n m is)
+          (c.in-Ok.ensures.shows n m is)
+          (durable-law g.row.D g.D.Disk g.D.Disk-dict
+          (record { counts_now = g.met.D.Disk.counts_now; only_now = g.met.D.Disk.only_now }) opened
+          (at_rest m (Some n)) (m ∷ []) stands (inl refl)).0
+          (g.met.D.Disk.counts_now (disk_of now)) (λ st rests. all_show g.D.Disk (disk_of now) (size_of now) st.world.store
+          (g.met.D.Disk.counts_now (disk_of now))
+          (durable-law g.row.D g.D.Disk g.D.Disk-dict
+          (record { counts_now = g.met.D.Disk.counts_now; only_now = g.met.D.Disk.only_now }) now
+          (at_rest st.world.store st.world.blocks) (st.world.store ∷ []) rests (inl refl)).1)
           held front has.0 has.2),
     )
 
 pub returns-in-Err-run_over-clause-runs : goal.returns-in-Err-run_over-clause-runs
-returns-in-Err-run_over-clause-runs g c = λ honest m v is shows room.
-    let st = beginning m (Some v.blocks) in
+returns-in-Err-run_over-clause-runs g c n m is =
     let disk = c.args.disk in
     let opened = c.in-Ok.spool in
     let now = c.in-Err-run_over.spool in
     let fault = c.in-Err-run_over.fault in
     let held = g.W.Write.contents c.run_over.new.writer in
     let front = g.W.Write.contents c.args.writer.now in
-    let has = c.in-Err-run_over.ensures.output m (Some v.blocks) (c.in-Ok.ensures.stands honest m v is shows room) in (
+    let stands = c.in-Ok.ensures.stands n m is in
+    let has = c.in-Err-run_over.ensures.output m (Some n) stands in (
       has.0,
       has.1,
-      subst (λ f. HasRunOn g.D.Disk disk (Err (c.into_disk-in-Err-run_over.result, f)) held front st has.0) (sym c.from.ensures)
-          (subst (λ d. HasRunOn g.D.Disk disk (Err (d, run_fault fault)) held front st has.0) (sym c.into_disk-in-Err-run_over.ensures)
-          (broke_on g.D.Disk disk_of _ _ _ disk opened now st (λ image left. g.met.D.Disk.only_now disk image left) (c.in-Ok.ensures.lasts honest m v is shows room)
-          (record { honest = c.in-Ok.ensures.honest.0 honest; each = c.in-Ok.ensures.shows honest m v is shows room })
-          (g.met.D.Disk.counts_now (disk_of now)) (λ st rests. all_show g.D.Disk (disk_of now) st.world.store (g.met.D.Disk.counts_now (disk_of now))
-          (durable-law g.row.D g.D.Disk g.D.Disk-dict (record { counts_now = g.met.D.Disk.counts_now; only_now = g.met.D.Disk.only_now }) now
-          (at_rest st.world.store st.world.blocks) (st.world.store ∷ []) rests (inl refl)))
+      subst (λ f. HasRunOn g.D.Disk disk (Err (c.into_disk-in-Err-run_over.result, f)) held front n (beginning m (Some n)) has.0) (sym c.from.ensures)
+          (subst (λ d. HasRunOn g.D.Disk disk (Err (d, run_fault fault)) held front n (beginning m (Some n)) has.0)
+          (sym c.into_disk-in-Err-run_over.ensures.same)
+          (broke_on g.D.Disk disk_of size_of _ _ _ disk opened now n m (g.met.D.Disk.counts_now disk) (c.in-Ok.ensures.lasts n m is)
+          (c.in-Ok.ensures.shows n m is)
+          (durable-law g.row.D g.D.Disk g.D.Disk-dict
+          (record { counts_now = g.met.D.Disk.counts_now; only_now = g.met.D.Disk.only_now }) opened
+          (at_rest m (Some n)) (m ∷ []) stands (inl refl)).0
+          (g.met.D.Disk.counts_now (disk_of now)) (λ st rests. all_show g.D.Disk (disk_of now) (size_of now) st.world.store
+          (g.met.D.Disk.counts_now (disk_of now))
+          (durable-law g.row.D g.D.Disk g.D.Disk-dict
+          (record { counts_now = g.met.D.Disk.counts_now; only_now = g.met.D.Disk.only_now }) now
+          (at_rest st.world.store st.world.blocks) (st.world.store ∷ []) rests (inl refl)).1)
           held front has.0 fault has.2)),
     )

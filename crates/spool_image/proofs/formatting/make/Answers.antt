@@ -1,5 +1,6 @@
-use Rattle.std.proofs.Common.{rules}
-use Rattle.spool_disk.proofs.Firm.{on_ok}
+use Rattle.std.proofs.Common.{inl, inr, rules, ⊎_elim}
+use Rattle.spool_disk.proofs.Firm.{lasts_more, lasts_on, on_ok}
+use Rattle.spool_image.proofs.Formats.{front_stays}
 use Rattle.spool_image.proofs.Fresh.{fresh_on}
 use Rattle.spool_image.proofs.NoUploads.{fresh_shows}
 use Rattle.spool_image.proofs.formatting.make.Goals as goal
@@ -7,5 +8,22 @@ use Rattle.spool_image.proofs.formatting.make.Goals as goal
 pub returns-clause-shows : goal.returns-clause-shows
 returns-clause-shows g c honest =
     let mid = c.write_pages.ensures.honest.0 honest in
-    on_ok c.write_first.result (λ done image is.
-    fresh_shows c.args.layout.now c.args.indexes.now image (fresh_on is (search rules) (search rules)) (search rules) (search rules) c.in_ok-write_pages.ensures.valid)
+    on_ok c.write_first.result (λ done. record {
+      honest = c.write_first.ensures.honest.0 mid;
+      room = search rules;
+      each = λ image is.
+          fresh_shows c.args.layout.now c.args.indexes.now image (fresh_on is (search rules) (search rules)) (search rules)
+          (search rules) c.in_ok-write_pages.ensures.valid;
+    })
+
+pub returns-in_err-write_pages-clause-crash : goal.returns-in_err-write_pages-clause-crash
+returns-in_err-write_pages-clause-crash g c honest = lasts_more (c.write_pages.ensures.crash honest) (λ image stays. inl stays)
+
+pub returns-clause-crash : goal.returns-clause-crash
+returns-clause-crash g c honest =
+    let mid = c.write_pages.ensures.honest.0 honest in
+    let keeps = c.write_pages.ensures.front honest in
+    lasts_on (lasts_more (c.write_pages.ensures.crash honest) (λ image stays. inl stays))
+    (lasts_more
+    (c.write_first.ensures.crash mid c.args.indexes.now c.in_ok-write_pages.ensures.valid (c.in_ok-write_pages.ensures.fresh honest))
+    (λ image one. ⊎_elim (λ stays. inl (front_stays keeps image stays)) (λ made. inr made) one))

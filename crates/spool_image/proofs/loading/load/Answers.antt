@@ -2,7 +2,9 @@ use Rattle.std.proofs.Common.{◌≡◌, ◌∙◌, rules, sym}
 use Rattle.std.proofs.lemmas.Bool.{false≢true}
 use Rattle.spool_kept.specs.Kept.{KeepsAlone}
 use Rattle.spool_kept.specs.Holding.{Holding}
-use Rattle.spool_image.proofs.Looks.{reads_on, loads_err}
+use Rattle.spool_disk.proofs.Firm.{counts_on}
+use Rattle.spool_image.proofs.Looks.{reads_on, loads_err, ok_no_fault}
+use Rattle.spool_journal.proofs.Steps.{no_failure}
 use Rattle.spool_kept.proofs.Sound.{said_slot, slots_fit}
 use Rattle.spool_image.proofs.loading.load.Goals as goal
 
@@ -50,3 +52,20 @@ returns-clause-said g c honest bytes still v sound blocks says =
     let slots : c.in_ok-slots.slots.items ≡ v.slots = c.in_ok-slots.ensures.said (first.honest honest) bytes (first.still honest bytes still) v.slots sound.slot_count (slots_fit v sound) (said_slot bytes v c.args.layout blocks says) in
     let held = c.in_ok-blocks.ensures.said (second.honest honest) bytes (second.still honest bytes still) v sound blocks says (search rules) in
     c.of.ensures.said v sound blocks fields.0 fields.1 slots held.0 held.1
+
+pub returns-in_err-slots-clause-counts : goal.returns-in_err-slots-clause-counts
+returns-in_err-slots-clause-counts g c =
+    let counted = counts_on c.load_fields.ensures.counts (ok_no_fault _ _ c.in_ok-next.was) c.in_err-slots.ensures.counts in
+    search rules
+
+pub returns-then-not-are_sound-clause-counts : goal.returns-then-not-are_sound-clause-counts
+returns-then-not-are_sound-clause-counts g c =
+    let first = no_failure c.load_fields.ensures.counts (ok_no_fault _ _ c.in_ok-next.was) in
+    let second = no_failure c.load_slots.ensures.counts (ok_no_fault _ _ c.in_ok-slots.was) in
+    search rules
+
+pub returns-in_err-blocks-clause-counts : goal.returns-in_err-blocks-clause-counts
+returns-in_err-blocks-clause-counts g c =
+    let second = counts_on c.load_fields.ensures.counts (ok_no_fault _ _ c.in_ok-next.was) c.load_slots.ensures.counts in
+    let counted = counts_on second (ok_no_fault _ _ c.in_ok-slots.was) c.in_err-blocks.ensures.counts in
+    search rules

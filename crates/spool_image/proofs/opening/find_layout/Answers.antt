@@ -1,4 +1,4 @@
-use Rattle.std.proofs.Common.{◌≡◌, ◌∙◌, ℕ, Option, Some, None, IsNone, refl, ap, arith, ⊎_elim}
+use Rattle.std.proofs.Common.{◌≡◌, ◌∙◌, Option, Some, None, IsNone, refl, ap, arith, ⊎_elim}
 use Rattle.std.proofs.lemmas.Option.{same_Some}
 use Rattle.spool_journal.specs.Image.{all_pages}
 use Rattle.spool_image.proofs.Fresh.{some_pages}

@@ -8,7 +8,7 @@ use Rattle.spool_kept.specs.Faults.{fault_of}
 use Rattle.spool_kept.specs.Kept.{KeepsAlone}
 use Rattle.spool_kept.specs.Loads.{LoadsAs}
 use Rattle.spool_kept.specs.declared.kept.Kept.{Kept}
-use Rattle.spool_image.proofs.Opens.{settled_still, settled_says, settled_reads, settled_on, if_ok}
+use Rattle.spool_image.proofs.Opens.{still_as, still_as_image, settled_still, settled_says, settled_reads, settled_on, if_ok}
 use Rattle.spool_image.proofs.opening.restore.Goals as goal
 
 recover_handed : {T : Type 0} (P : T → Type 0) (e : RecoverError) → (e ≡ recover.Damaged → ⊥) → LoadsAs {T = T} (Err (fault_of e)) P
@@ -45,3 +45,16 @@ returns-clause-lasts g c honest =
     let settled = c.in_ok-recover.ensures.settled honest in
     let mid = c.recover.ensures.honest.0 honest in
     lasts_on (c.recover.ensures.lasts honest) (lasts_more (c.load.ensures.reads.lasts mid _ (settled_still settled)) (λ image same. inr (settled_reads image settled same)))
+
+pub returns-clause-unwritten : goal.returns-clause-unwritten
+returns-clause-unwritten g c honest shut =
+    let mid = c.recover.ensures.honest.0 honest in
+    let still = c.recover.ensures.same honest shut (λ e. absurd (let was = c.in_ok-recover.was in cc)) in
+    lasts_on (c.recover.ensures.unwritten honest shut)
+    (lasts_more (c.load.ensures.reads.lasts mid (g.D.Disk.seen c.args.disk.now) still) (λ image same. still_as_image image same))
+
+pub returns-clause-same : goal.returns-clause-same
+returns-clause-same g c honest shut fine =
+    let mid = c.recover.ensures.honest.0 honest in
+    let still = c.recover.ensures.same honest shut (λ e. absurd (let was = c.in_ok-recover.was in cc)) in
+    still_as (c.load.ensures.reads.still mid (g.D.Disk.seen c.args.disk.now) still)

@@ -1,12 +1,14 @@
 use Rattle.std.proofs.Common.{◌≡◌, ◌∙◌, ◌≤◌, ◌+◌, ◌-◌, ◌*◌, ◌^◌, List, Result, Err, OnOk, length, ap, min, rules, subst, sym, ℕ}
 use Rattle.std.proofs.lemmas.Result.{err_from_is_err_and}
 use Rattle.spool_drafts.specs.Drafts.{EndsAs, IsPlaced, IsWhole, came_of, list_of, offset_of, open_text}
+use Rattle.spool_disk.specs.Views.{Lasts}
 use Rattle.spool_journal.specs.Image.{journal_pages}
 use Rattle.spool_texts.specs.TextOn.{text_on}
 use Rattle.upload_rules.specs.declared.errors.UploadError.{UploadError}
 use Rattle.upload_rules.specs.World.{completes}
 use Rattle.spool_kept.specs.Committing.{HasSameCount, IsCommit}
 use Rattle.spool_kept.specs.Holding.{Holding}
+use Rattle.spool_kept.specs.Shows.{ImageShows}
 use Rattle.spool_kept.specs.declared.extending.Longer.{Longer}
 use Rattle.spool_kept.proofs.CommitEnded as lemmas
 use Rattle.spool_kept.proofs.committing.ended.Goals as goal
@@ -20,7 +22,9 @@ returns-in_err-state-clause-stored g c drafts number w p is =
 pub returns-in_err-state-clause-quiet : goal.returns-in_err-state-clause-quiet
 returns-in_err-state-clause-quiet g c drafts number w p is =
     let is' = subst (λ (h : Holding). IsCommit g.D.Disk c.args.disk.now h drafts number c.args.draft.now w p) (sym c.kept.view_is) is in
-    lemmas.quiet_after g.D.Disk c.args.disk.now c.end.new.disk _ _ (lemmas.only_blocks _ c.end.new.blocks c.end.ensures.rows) drafts number c.args.draft.now c.end.new.self w p is' c.end.ensures.effect
+    subst (λ (h : Holding). Lasts g.D.Disk c.args.disk.now c.end.new.disk (λ image. ImageShows h.layout image w.store)) c.kept.view_is
+    (lemmas.quiet_after g.D.Disk c.args.disk.now c.end.new.disk _ _ (lemmas.only_blocks _ c.end.new.blocks c.end.ensures.rows)
+    drafts number c.args.draft.now c.end.new.self w p is' c.end.ensures.effect)
 
 pub returns-in_err-state-clause-answer : goal.returns-in_err-state-clause-answer
 returns-in_err-state-clause-answer g c drafts number w p is =
@@ -49,7 +53,9 @@ returns-in-None-clause-stored g c drafts number w p is =
 pub returns-in-None-clause-quiet : goal.returns-in-None-clause-quiet
 returns-in-None-clause-quiet g c drafts number w p is =
     let is' = subst (λ (h : Holding). IsCommit g.D.Disk c.args.disk.now h drafts number c.args.draft.now w p) (sym c.kept.view_is) is in
-    lemmas.quiet_after g.D.Disk c.args.disk.now c.end.new.disk _ _ (lemmas.only_blocks _ c.end.new.blocks c.end.ensures.rows) drafts number c.args.draft.now c.end.new.self w p is' c.end.ensures.effect
+    subst (λ (h : Holding). Lasts g.D.Disk c.args.disk.now c.end.new.disk (λ image. ImageShows h.layout image w.store)) c.kept.view_is
+    (lemmas.quiet_after g.D.Disk c.args.disk.now c.end.new.disk _ _ (lemmas.only_blocks _ c.end.new.blocks c.end.ensures.rows)
+    drafts number c.args.draft.now c.end.new.self w p is' c.end.ensures.effect)
 
 pub returns-in-Some-clause-stored : goal.returns-in-Some-clause-stored
 returns-in-Some-clause-stored g c drafts number w p is =
@@ -60,7 +66,9 @@ returns-in-Some-clause-stored g c drafts number w p is =
 pub returns-in-Some-clause-quiet : goal.returns-in-Some-clause-quiet
 returns-in-Some-clause-quiet g c drafts number w p is =
     let is' = subst (λ (h : Holding). IsCommit g.D.Disk c.args.disk.now h drafts number c.args.draft.now w p) (sym c.kept.view_is) is in
-    lemmas.quiet_after g.D.Disk c.args.disk.now c.end.new.disk _ _ (lemmas.only_blocks _ c.end.new.blocks c.end.ensures.rows) drafts number c.args.draft.now c.end.new.self w p is' c.end.ensures.effect
+    subst (λ (h : Holding). Lasts g.D.Disk c.args.disk.now c.end.new.disk (λ image. ImageShows h.layout image w.store)) c.kept.view_is
+    (lemmas.quiet_after g.D.Disk c.args.disk.now c.end.new.disk _ _ (lemmas.only_blocks _ c.end.new.blocks c.end.ensures.rows)
+    drafts number c.args.draft.now c.end.new.self w p is' c.end.ensures.effect)
 
 pub returns-in-None-clause-answer : goal.returns-in-None-clause-answer
 returns-in-None-clause-answer g c drafts number w p is =

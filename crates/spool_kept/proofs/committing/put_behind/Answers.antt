@@ -63,7 +63,9 @@ returns-in-Err-DiskFault-clause-fits g c drafts number fit here =
 -- WHAT A CRASH MAY LEAVE
 
 pub returns-in-Err-clause-crash : goal.returns-in-Err-clause-crash
-returns-in-Err-clause-crash g c drafts number w p is = spent.as_before g.D.Disk c.args.disk.now c.ended.new.disk w.store (commit_outcome w number p) (c.ended.ensures.quiet drafts number w p is)
+returns-in-Err-clause-crash g c drafts number w p is =
+    spent.as_before g.D.Disk c.args.disk.now c.ended.new.disk c.args.kept.now.layout w.store (commit_outcome w number p)
+    (c.ended.ensures.quiet drafts number w p is)
 
 pub returns-in-Err-clause-unmade : goal.returns-in-Err-clause-unmade
 returns-in-Err-clause-unmade g c drafts number w p is short = c.ended.ensures.quiet drafts number w p is
@@ -71,27 +73,32 @@ returns-in-Err-clause-unmade g c drafts number w p is short = c.ended.ensures.qu
 pub returns-in-Err-NoMemory-clause-unmade : goal.returns-in-Err-NoMemory-clause-unmade
 returns-in-Err-NoMemory-clause-unmade g c drafts number w p is short =
     let unmade = c.extend.ensures.unmade (c.in-Err-NoMemory.is ∙ ap (λ (e : ExtendError). Err e) c.in-Err-NoMemory.field-0-is) in
-    subst (λ d. Lasts g.D.Disk c.args.disk.now d (λ image. ImageShows image w.store)) (sym unmade.1) (c.ended.ensures.quiet drafts number w p is)
+    subst (λ d. Lasts g.D.Disk c.args.disk.now d (λ image. ImageShows c.args.kept.now.layout image w.store)) (sym unmade.1) (c.ended.ensures.quiet drafts number w p is)
 
 pub returns-in-Err-NoMemory-clause-crash : goal.returns-in-Err-NoMemory-clause-crash
 returns-in-Err-NoMemory-clause-crash g c drafts number w p is =
     let unmade = c.extend.ensures.unmade (c.in-Err-NoMemory.is ∙ ap (λ (e : ExtendError). Err e) c.in-Err-NoMemory.field-0-is) in
-    subst (λ d. Lasts g.D.Disk c.args.disk.now d (ShowsEither w.store (commit_outcome w number p))) (sym unmade.1)
-    (spent.as_before g.D.Disk c.args.disk.now c.ended.new.disk w.store (commit_outcome w number p) (c.ended.ensures.quiet drafts number w p is))
+    subst (λ d. Lasts g.D.Disk c.args.disk.now d (ShowsEither c.args.kept.now.layout w.store (commit_outcome w number p))) (sym unmade.1)
+    (spent.as_before g.D.Disk c.args.disk.now c.ended.new.disk c.args.kept.now.layout w.store (commit_outcome w number p)
+    (c.ended.ensures.quiet drafts number w p is))
 
 pub returns-in-Ok-extend-clause-crash : goal.returns-in-Ok-extend-clause-crash
 returns-in-Ok-extend-clause-crash g c drafts number w p is =
     let answer = c.in-Ok.ensures.answer drafts number w p is in
     let append = subst (IsAppend g.D.Disk c.ended.new.disk c.ended.new.kept w.store p.number p.body c.in-Ok.longer) (sym c.list.ensures.blocks) answer.1.1 in
-    spent.either_then g.D.Disk c.args.disk.now c.ended.new.disk w.store c.extend.new.disk (appended_store w.store p.number p.body) (commit_outcome w number p) (spent.outcome_is w number p answer.0 is.some)
-    (c.ended.ensures.quiet drafts number w p is) (c.extend.ensures.crash w.store p.number p.body append)
+    spent.either_then g.D.Disk c.args.disk.now c.ended.new.disk c.args.kept.now.layout w.store c.extend.new.disk
+    (appended_store w.store p.number p.body) (commit_outcome w number p) (spent.outcome_is w number p answer.0 is.some)
+    (c.ended.ensures.quiet drafts number w p is) c.ended.new.kept.layout
+    (ap (λ (h : Holding). h.layout) c.ended.ensures.same.same) (c.extend.ensures.crash w.store p.number p.body append)
 
 pub returns-in-Err-DiskFault-clause-crash : goal.returns-in-Err-DiskFault-clause-crash
 returns-in-Err-DiskFault-clause-crash g c drafts number w p is =
     let answer = c.in-Ok.ensures.answer drafts number w p is in
     let append = subst (IsAppend g.D.Disk c.ended.new.disk c.ended.new.kept w.store p.number p.body c.in-Ok.longer) (sym c.list.ensures.blocks) answer.1.1 in
-    spent.either_then g.D.Disk c.args.disk.now c.ended.new.disk w.store c.extend.new.disk (appended_store w.store p.number p.body) (commit_outcome w number p) (spent.outcome_is w number p answer.0 is.some)
-    (c.ended.ensures.quiet drafts number w p is) (c.extend.ensures.crash w.store p.number p.body append)
+    spent.either_then g.D.Disk c.args.disk.now c.ended.new.disk c.args.kept.now.layout w.store c.extend.new.disk
+    (appended_store w.store p.number p.body) (commit_outcome w number p) (spent.outcome_is w number p answer.0 is.some)
+    (c.ended.ensures.quiet drafts number w p is) c.ended.new.kept.layout
+    (ap (λ (h : Holding). h.layout) c.ended.ensures.same.same) (c.extend.ensures.crash w.store p.number p.body append)
 
 -- THE ANSWER
 

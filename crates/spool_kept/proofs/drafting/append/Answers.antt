@@ -38,9 +38,9 @@ returns-clause-quiet g c w p s there =
     let effect = c.append-answer.ensures.effect in
     let v = s.stored.view in
     let rows = effect.grasp.takes.rows ∙ ap (λ (h : Holding). h.blocks.rows) c.kept.view_is ∙ s.stored.keeps.rows in
-    lasts_more (effect.writes s.stored.honest).lasts (λ image is m shown.
+    lasts_more (effect.writes s.stored.honest).lasts (λ image is n m shown.
     shows_aside v effect.own _ image m s.stored.shows.sound (sym s.stored.keeps.blocks ∙ sym (ap (λ (h : Holding). h.layout) c.kept.view_is)) s.stored.rests
-    (λ i lt. ap (λ (r : List Row). get_or r (get_or effect.own i 0) None) (sym rows) ∙ effect.grasp.reserved.no_owner i lt) is shown)
+    (λ i lt. ap (λ (r : List Row). get_or r (get_or effect.own i 0) None) (sym rows) ∙ effect.grasp.reserved.no_owner i lt) is n shown)
 
 pub returns-clause-answer : goal.returns-clause-answer
 returns-clause-answer g c w p s there fits =

@@ -1,4 +1,5 @@
-use Rattle.tus_laws.proofs.Changes.{served_changed, memory_same, fault_same}
+use Rattle.tus_session.proofs.Unmade.{memory_same, fault_same}
+use Rattle.tus_laws.proofs.Changes.{served_changed}
 use Rattle.tus_laws.proofs.laws.one_change.Goals as goal
 
 pub returns : goal.returns

@@ -1,5 +1,6 @@
 use Rattle.std.proofs.Common.{◌≡◌, true, false, ◌<◌, inl, inr, length, sym, ◌∙◌, ap, subst, arith}
 use Rattle.std.proofs.lemmas.Bool.{cases_lt}
+use Rattle.tus_request.specs.Buffers.{bytes_of}
 use Rattle.upload_rules.specs.Store.{find}
 use Rattle.tus_session.specs.Stands.{LinkIs}
 use Rattle.tus_session.specs.Turned.{TurnedAs}
@@ -16,7 +17,7 @@ pub returns-in-Text-clause-answer : goal.returns-in-Text-clause-answer
 returns-in-Text-clause-answer g c w conn stands link =
     let is = giving g.U.Uploads w _ _ c.in-Text.giving conn.draft conn.pending link.does c.in-Text.is in
     let k = record c.args.link { task = Text c.in-Text.giving } in
-    let now = subst (λ t. LinkIs g.U.Uploads w c.args.link.head.items c.args.link.left t conn) c.in-Text.is link in
+    let now = subst (λ t. LinkIs g.U.Uploads w (bytes_of c.args.link.head) c.args.link.left t conn) c.in-Text.is link in
     let turn = stays g.U.Uploads c.args.store.now w k conn true c.args.out.now.items stands now (sym (ap is_pending is.pending_is)) in
     turned_ok g.U.Uploads _ _ _ _ _ _ _ w conn.draft _ c.unmoved.ensures.place c.unmoved.ensures.answer
     (subst (TurnedAs g.U.Uploads c.args.store.now (Open k) (record { taken = 0; closes = false; more = true }) c.args.out.now.items c.args.out.now.items w conn.draft)

@@ -1,4 +1,5 @@
 use Rattle.std.proofs.Common.{◌++◌, None, refl, ◌∙◌, arith}
+use Rattle.tus_request.specs.Buffers.{bytes_of}
 use Rattle.tus_request.specs.Requests.{Refusal, Refuses}
 use Rattle.tus_session.specs.declared.conns.Task.TheVariants.{Idle}
 use Rattle.tus_session.proofs.Verdicts.{small, makeable, usable}
@@ -8,90 +9,82 @@ use Rattle.tus_session.proofs.heads.head_of.Goals as goal
 
 pub slice_bounds-behind-count : goal.slice_bounds-behind-count
 slice_bounds-behind-count g c =
-    let items = c.deref.ensures.value ∙ c.in-Ok.ensures.items in
-    let j = judged_by c.indexes.result.now _ c.args.head.items c.args.bytes.now _ _ items c.in-Ok-parse.ensures.function c.in-Refused.is in
-    let w = within_bytes c.indexes.result.now c.args.head.items c.args.bytes.now c.in-Refused.taken _ j in
-    omega (arith, w, c.len-had.ensures, c.args.head.ok.0, c.saturating_sub-before.ensures)
+    let j = judged_by c.indexes.result.now (bytes_of c.args.head ++ c.args.bytes.now) _ _ c.in-Ok.ensures.function c.in-Refused.is in
+    let w = within_bytes c.indexes.result.now (bytes_of c.args.head) c.args.bytes.now c.in-Refused.taken _ j in
+    omega (arith, w, c.len-had.ensures, c.saturating_sub-before.ensures)
 
 pub slice_bounds-behind-start : goal.slice_bounds-behind-start
 slice_bounds-behind-start g c =
-    let items = c.deref.ensures.value ∙ c.in-Ok.ensures.items in
-    let j = judged_by c.indexes.result.now _ c.args.head.items c.args.bytes.now _ _ items c.in-Ok-parse.ensures.function c.in-Refused.is in
-    let w = within_bytes c.indexes.result.now c.args.head.items c.args.bytes.now c.in-Refused.taken _ j in
-    omega (arith, w, c.len-had.ensures, c.args.head.ok.0, c.saturating_sub-before.ensures)
+    let j = judged_by c.indexes.result.now (bytes_of c.args.head ++ c.args.bytes.now) _ _ c.in-Ok.ensures.function c.in-Refused.is in
+    let w = within_bytes c.indexes.result.now (bytes_of c.args.head) c.args.bytes.now c.in-Refused.taken _ j in
+    omega (arith, w, c.len-had.ensures, c.saturating_sub-before.ensures)
 
 pub request_of-requires-clause-usable : goal.request_of-requires-clause-usable
 request_of-requires-clause-usable g c w stands =
-    let items = c.deref.ensures.value ∙ c.in-Ok.ensures.items in
-    let j = judged_by c.indexes.result.now _ c.args.head.items c.args.bytes.now _ _ items c.in-Ok-parse.ensures.function c.in-Head.is in
-    usable w (c.args.head.items ++ c.args.bytes.now) c.in-Head.taken _ (in_world w c.indexes.result.now _ _ (c.indexes.ensures w stands) j)
+    let j = judged_by c.indexes.result.now (bytes_of c.args.head ++ c.args.bytes.now) _ _ c.in-Ok.ensures.function c.in-Head.is in
+    usable w (bytes_of c.args.head ++ c.args.bytes.now) c.in-Head.taken _ (in_world w c.indexes.result.now _ _ (c.indexes.ensures w stands) j)
 
 pub request_of-requires-clause-makeable : goal.request_of-requires-clause-makeable
 request_of-requires-clause-makeable g c =
-    let items = c.deref.ensures.value ∙ c.in-Ok.ensures.items in
-    let j = judged_by c.indexes.result.now _ c.args.head.items c.args.bytes.now _ _ items c.in-Ok-parse.ensures.function c.in-Head.is in
-    makeable c.indexes.result.now (c.args.head.items ++ c.args.bytes.now) c.in-Head.taken _ j
+    let j = judged_by c.indexes.result.now (bytes_of c.args.head ++ c.args.bytes.now) _ _ c.in-Ok.ensures.function c.in-Head.is in
+    makeable c.indexes.result.now (bytes_of c.args.head ++ c.args.bytes.now) c.in-Head.taken _ j
 
 pub request_of-requires-clause-small : goal.request_of-requires-clause-small
 request_of-requires-clause-small g c =
-    let items = c.deref.ensures.value ∙ c.in-Ok.ensures.items in
-    let j = judged_by c.indexes.result.now _ c.args.head.items c.args.bytes.now _ _ items c.in-Ok-parse.ensures.function c.in-Head.is in
-    small c.indexes.result.now (c.args.head.items ++ c.args.bytes.now) c.in-Head.taken _ j
+    let j = judged_by c.indexes.result.now (bytes_of c.args.head ++ c.args.bytes.now) _ _ c.in-Ok.ensures.function c.in-Head.is in
+    small c.indexes.result.now (bytes_of c.args.head ++ c.args.bytes.now) c.in-Head.taken _ j
 
 pub request_of-requires-clause-within : goal.request_of-requires-clause-within
 request_of-requires-clause-within g c =
-    let items = c.deref.ensures.value ∙ c.in-Ok.ensures.items in
-    let j = judged_by c.indexes.result.now _ c.args.head.items c.args.bytes.now _ _ items c.in-Ok-parse.ensures.function c.in-Head.is in
-    let w = within_bytes c.indexes.result.now c.args.head.items c.args.bytes.now c.in-Head.taken _ j in
-    omega (arith, w, c.len-had.ensures, c.args.head.ok.0, c.saturating_sub-before-in-Head.ensures)
+    let j = judged_by c.indexes.result.now (bytes_of c.args.head ++ c.args.bytes.now) _ _ c.in-Ok.ensures.function c.in-Head.is in
+    let w = within_bytes c.indexes.result.now (bytes_of c.args.head) c.args.bytes.now c.in-Head.taken _ j in
+    omega (arith, w, c.len-had.ensures, c.saturating_sub-before-in-Head.ensures)
+
+pub request_of-requires-clause-cleared : goal.request_of-requires-clause-cleared
+request_of-requires-clause-cleared g c = rw c.in-Head.is at c.in-Ok.ensures.rest
 
 pub returns-in-More-clause-answer : goal.returns-in-More-clause-answer
 returns-in-More-clause-answer g c w conn stands inside =
-    let items = c.deref.ensures.value ∙ c.in-Ok.ensures.items in
-    let j = judged_by c.indexes.result.now _ c.args.head.items c.args.bytes.now _ _ items c.in-Ok-parse.ensures.function c.in-More.is in
-    more_told g.U.Uploads _ _ _ _ w conn c.args.head.items c.args.bytes.now (record { head = c.extend_from_slice.new.self; left = 0; task = Idle }) stands inside
-    (in_world w c.indexes.result.now _ _ (c.indexes.ensures w stands) j) refl c.in-Ok.ensures.items refl c.waits.ensures
+    let j = judged_by c.indexes.result.now (bytes_of c.args.head ++ c.args.bytes.now) _ _ c.in-Ok.ensures.function c.in-More.is in
+    more_told g.U.Uploads _ _ _ _ w conn (bytes_of c.args.head) c.args.bytes.now (record { head = c.read.new.self; left = 0; task = Idle }) stands inside
+    (in_world w c.indexes.result.now _ _ (c.indexes.ensures w stands) j) c.place_of.ensures (rw c.in-More.is at c.in-Ok.ensures.rest) refl c.waits.ensures
 
 pub returns-in-Ok-reply_refused-clause-answer : goal.returns-in-Ok-reply_refused-clause-answer
 returns-in-Ok-reply_refused-clause-answer g c w conn stands inside =
-    let items = c.deref.ensures.value ∙ c.in-Ok.ensures.items in
-    let j = judged_by c.indexes.result.now _ c.args.head.items c.args.bytes.now _ _ items c.in-Ok-parse.ensures.function c.in-Refused.is in
+    let j = judged_by c.indexes.result.now (bytes_of c.args.head ++ c.args.bytes.now) _ _ c.in-Ok.ensures.function c.in-Refused.is in
     let r : Refusal = record { fault = c.in-Refused.fault; length = c.in-Refused.length; on_files = c.in-Refused.on_files; bare = c.in-Refused.bare; closes = c.in-Refused.closes } in
-    no_patch_len g.U.Uploads _ w conn c.args.head.items c.args.bytes.now c.in-Refused.taken c.saturating_sub-before.result (Refuses r)
+    no_patch_len g.U.Uploads _ w conn (bytes_of c.args.head) c.args.bytes.now c.in-Refused.taken c.saturating_sub-before.result (Refuses r)
     (record {
       inside = inside;
       judged = in_world w c.indexes.result.now _ _ (c.indexes.ensures w stands) j;
-      before_is = omega (arith, c.len-had.ensures, c.args.head.ok.0, c.saturating_sub-before.ensures);
+      before_is = omega (arith, c.len-had.ensures, c.saturating_sub-before.ensures);
     })
-    _ _ _ _ (record { head = c.clear.new.self; left = 0; task = Idle }) _ (slice_rest c.saturating_sub-before.result c.args.bytes.now) stands (still w None) refl refl c.skip-place.ensures.place c.clear.ensures.items c.skip-place.ensures.answer
+    _ _ _ _ (record { head = c.read.new.self; left = 0; task = Idle }) _ (slice_rest c.saturating_sub-before.result c.args.bytes.now) stands (still w None) refl refl c.skip-place.ensures.place (rw c.in-Refused.is at c.in-Ok.ensures.rest) c.skip-place.ensures.answer
     c.in-Ok-reply_refused.ensures.ok
 
 pub returns-in-Head-clause-answer : goal.returns-in-Head-clause-answer
 returns-in-Head-clause-answer g c w conn stands inside =
-    let items = c.deref.ensures.value ∙ c.in-Ok.ensures.items in
-    let j = judged_by c.indexes.result.now _ c.args.head.items c.args.bytes.now _ _ items c.in-Ok-parse.ensures.function c.in-Head.is in
-    c.request_of.ensures.answer w conn c.args.head.items c.in-Head.taken stands (record {
+    let j = judged_by c.indexes.result.now (bytes_of c.args.head ++ c.args.bytes.now) _ _ c.in-Ok.ensures.function c.in-Head.is in
+    c.request_of.ensures.answer w conn (bytes_of c.args.head) c.in-Head.taken stands (record {
       inside = inside;
       judged = in_world w c.indexes.result.now _ _ (c.indexes.ensures w stands) j;
-      before_is = omega (arith, c.len-had.ensures, c.args.head.ok.0, c.saturating_sub-before-in-Head.ensures);
+      before_is = omega (arith, c.len-had.ensures, c.saturating_sub-before-in-Head.ensures);
     })
 
 pub returns-in-Head-clause-crash : goal.returns-in-Head-clause-crash
 returns-in-Head-clause-crash g c w conn stands inside =
-    let items = c.deref.ensures.value ∙ c.in-Ok.ensures.items in
-    let j = judged_by c.indexes.result.now _ c.args.head.items c.args.bytes.now _ _ items c.in-Ok-parse.ensures.function c.in-Head.is in
-    c.request_of.ensures.crash w conn c.args.head.items c.in-Head.taken stands (record {
+    let j = judged_by c.indexes.result.now (bytes_of c.args.head ++ c.args.bytes.now) _ _ c.in-Ok.ensures.function c.in-Head.is in
+    c.request_of.ensures.crash w conn (bytes_of c.args.head) c.in-Head.taken stands (record {
       inside = inside;
       judged = in_world w c.indexes.result.now _ _ (c.indexes.ensures w stands) j;
-      before_is = omega (arith, c.len-had.ensures, c.args.head.ok.0, c.saturating_sub-before-in-Head.ensures);
+      before_is = omega (arith, c.len-had.ensures, c.saturating_sub-before-in-Head.ensures);
     })
 
 pub returns-in-Head-clause-unmade : goal.returns-in-Head-clause-unmade
 returns-in-Head-clause-unmade g c w conn stands inside none_left =
-    let items = c.deref.ensures.value ∙ c.in-Ok.ensures.items in
-    let j = judged_by c.indexes.result.now _ c.args.head.items c.args.bytes.now _ _ items c.in-Ok-parse.ensures.function c.in-Head.is in
-    c.request_of.ensures.unmade w conn c.args.head.items c.in-Head.taken stands (record {
+    let j = judged_by c.indexes.result.now (bytes_of c.args.head ++ c.args.bytes.now) _ _ c.in-Ok.ensures.function c.in-Head.is in
+    c.request_of.ensures.unmade w conn (bytes_of c.args.head) c.in-Head.taken stands (record {
       inside = inside;
       judged = in_world w c.indexes.result.now _ _ (c.indexes.ensures w stands) j;
-      before_is = omega (arith, c.len-had.ensures, c.args.head.ok.0, c.saturating_sub-before-in-Head.ensures);
+      before_is = omega (arith, c.len-had.ensures, c.saturating_sub-before-in-Head.ensures);
     }) none_left

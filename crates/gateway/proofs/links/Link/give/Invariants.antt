@@ -1,12 +1,13 @@
-use Rattle.std.proofs.Common.{◌≡◌}
-use Rattle.tus_session.specs.History.{State}
-use Rattle.gateway.specs.Served.{WentOn}
+use Rattle.std.proofs.Common.{◌≡◌, Result, Ok}
+use Rattle.spool_disk.specs.declared.disk.DiskFault.{DiskFault}
+use Rattle.gateway.specs.Joined.{Goes}
 use Rattle.gateway.proofs.links.Link.give.Given as goal
 
 abbrev pub invariant-loop-calls : goal.invariant-loop-calls
 invariant-loop-calls g l =
+    let on : Result (Unit {0}) DiskFault = Ok tt in
     (g.C.Connections.failures l.gateway ≡ g.C.Connections.failures l.fn.gateway)
-    × ((before : g.row.C.Denot) (st : State) → WentOn g.C.Connections before l.fn.gateway st → WentOn g.C.Connections before l.gateway st)
+    × Goes g.C.Connections l.fn.gateway l.gateway on l.fn.self l.self l.fn.conn
 
 abbrev pub decreases-loop-calls : goal.decreases-loop-calls
 decreases-loop-calls g l = l.calls

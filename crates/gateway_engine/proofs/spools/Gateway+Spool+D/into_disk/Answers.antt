@@ -1,22 +1,36 @@
-use Rattle.std.proofs.Common.{inl, refl, [], ◌∷◌, sym, subst}
+use Rattle.std.proofs.Common.{◌≡◌, ◌∙◌, ℕ, inl, refl, [], ◌∷◌, sym, subst}
 use Rattle.upload_rules.specs.Answers.{Quiet}
 use Rattle.upload_rules.specs.World.{at_rest}
-use Rattle.spool_image.specs.LeftOnly.{LeftOnly}
-use Rattle.spool_image.specs.Spool.{disk_of}
+use Rattle.spool_image.specs.LeftOnly.{AllShow, SpoolLeft}
+use Rattle.spool_image.specs.Spool.{disk_of, size_of}
 use Rattle.spool_image.specs.contracts.spool.SpoolUploads.TheImpl.Laws.{durable-law}
-use Rattle.gateway_engine.specs.Gateways.{disk_in}
-use Rattle.gateway_engine.specs.RanOn.{AllShow}
-use Rattle.gateway_engine.proofs.OnDisk.{all_show}
+use Rattle.gateway_engine.specs.Gateways.{disk_in, size_in}
+use Rattle.gateway_engine.proofs.OnDisk.{all_show, same_size}
 use Rattle.gateway_engine.proofs.spools.Gateway+Spool+D.into_disk.Goals as goal
 
 pub returns-clause-shows : goal.returns-clause-shows
-returns-clause-shows g c = λ st stands.
+returns-clause-shows g c st n stands said =
     let s = c.close.result in
     let m = st.world.store in
-    subst (λ d. AllShow g.D.Disk d m) (sym c.into_disk.ensures)
-    (all_show g.D.Disk (disk_of s) m (g.met.D.Disk.counts_now (disk_of s))
-    (durable-law g.row.D g.D.Disk g.D.Disk-dict (record { counts_now = g.met.D.Disk.counts_now; only_now = g.met.D.Disk.only_now }) s (at_rest m st.world.blocks) (m ∷ []) (c.close.ensures.kept st stands) (inl refl)))
+    let left = durable-law g.row.D g.D.Disk g.D.Disk-dict
+    (record { counts_now = g.met.D.Disk.counts_now; only_now = g.met.D.Disk.only_now }) s
+    (at_rest m st.world.blocks) (m ∷ []) (c.close.ensures.kept st stands) (inl refl) in
+    let size : size_of s ≡ n = same_size n (size_of s) (sym said ∙ left.0) in
+    subst (λ d. AllShow g.D.Disk d n m) (sym c.into_disk.ensures.same)
+    (subst (λ (k : ℕ). AllShow g.D.Disk (disk_of s) k m) size
+    (all_show g.D.Disk (disk_of s) (size_of s) m (g.met.D.Disk.counts_now (disk_of s)) left.1))
 
 pub returns-clause-crash : goal.returns-clause-crash
 returns-clause-crash g c =
-    subst (λ d. Quiet (g.D.Disk.moment (disk_in c.args.self)) (g.D.Disk.moment d) (LeftOnly g.D.Disk (disk_in c.args.self)) (LeftOnly g.D.Disk d)) (sym c.into_disk.ensures) c.close.ensures.crash
+    let before = disk_in c.args.self in
+    let n = size_in c.args.self in
+    let s = c.close.result in
+    let quiet = c.close.ensures.crash in
+    subst (λ d. Quiet (g.D.Disk.moment before) (g.D.Disk.moment d) (SpoolLeft g.D.Disk before n) (SpoolLeft g.D.Disk d n)) (sym c.into_disk.ensures.same)
+    (record {
+      later = quiet.later;
+      keeps = λ blocks t ms le left.
+          let behind = quiet.keeps blocks t ms le left in
+          let size : size_of s ≡ n = same_size n (size_of s) (sym left.0 ∙ behind.0) in
+          subst (λ (k : ℕ). SpoolLeft g.D.Disk (disk_of s) k blocks t ms) size behind;
+    })

@@ -1,4 +1,5 @@
-use Rattle.std.proofs.Common.{None}
+use Rattle.std.proofs.Common.{None, ap}
+use Rattle.spool_kept.specs.Holding.{Holding}
 use Rattle.spool_image.proofs.AnswersMore.{answers_more}
 use Rattle.spool_image.proofs.LeftImages.{quiet_shown}
 use Rattle.spool_image.proofs.spool.SpoolUploads.append.Goals as goal
@@ -9,4 +10,7 @@ returns-clause-answer g c w p stands there holds fits = answers_more None c.appe
 pub returns-clause-crash : goal.returns-clause-crash
 returns-clause-crash g c w p stands there holds =
     let disk = c.args.self.now.disk in
-    quiet_shown g.D.Disk disk c.append.new.disk c.append.ensures.honest (g.met.D.Disk.counts_now disk) (c.append.ensures.quiet w p stands there)
+    quiet_shown g.D.Disk disk c.append.new.disk c.append.ensures.honest c.append.ensures.size
+    c.args.self.now.kept.layout c.append.new.kept.layout
+    (ap (λ (h : Holding). h.layout) c.append.ensures.same.same) (g.met.D.Disk.counts_now disk)
+    (c.append.ensures.quiet w p stands there)

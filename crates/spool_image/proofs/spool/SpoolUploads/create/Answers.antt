@@ -20,4 +20,6 @@ returns-clause-answer g c w s =
 
 pub returns-clause-crash : goal.returns-clause-crash
 returns-clause-crash g c w s =
-    limits_on g.D.Disk c.args.self.now.disk c.create.new.disk c.create.ensures.honest w.store (create_outcome w c.args.new) (c.create.ensures.crash w.store s.stored)
+    limits_on g.D.Disk c.args.self.now.disk c.create.new.disk c.create.ensures.honest c.create.ensures.size
+    c.args.self.now.kept.layout
+    c.create.new.kept.layout c.create.ensures.layout w.store (create_outcome w c.args.new) (c.create.ensures.crash w.store s.stored)

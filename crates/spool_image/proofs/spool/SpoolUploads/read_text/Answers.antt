@@ -1,3 +1,4 @@
+use Rattle.spool_image.proofs.LeftImages.{quiet_read}
 use Rattle.upload_rules.specs.Reading.{no_such}
 use Rattle.upload_rules.specs.Store.{upload_of}
 use Rattle.spool_pages.proofs.Resting.{rests_says}
@@ -11,3 +12,9 @@ returns-clause-answer g c w stands =
     let after = stands_read g.D.Disk c.args.self.now.disk c.read.new.disk c.args.self.now.kept c.args.self.now.drafts.items w c.read.ensures.honest (c.read.ensures.keeps stored.honest) stands in
     answers_more (no_such (upload_of w.store c.args.number)) c.read.result (λ n read. (read, after)) (λ _. after)
     (c.read.ensures.answer stored.honest w.store stored.view stored.keeps stored.shows (rests_says stored.rests))
+
+pub returns-clause-crash : goal.returns-clause-crash
+returns-clause-crash g c =
+    let disk = c.args.self.now.disk in
+    quiet_read g.D.Disk disk c.read.new.disk c.read.ensures.honest c.read.ensures.size c.args.self.now.kept.layout
+    c.read.ensures.later (g.met.D.Disk.counts_now disk) c.read.ensures.lasts

@@ -25,7 +25,7 @@ returns-clause-answer g c st stands =
     let o = open_at g.U.Uploads c.args.self.now.places.items _ st c.args.conn _ c.in-Open.link stands lt c.index_mut.ensures.value (sym c.replace.ensures.value ∙ c.in-Open.is) in
     rw c.put_back.ensures
     (told g.U.Uploads c.args.self.now.places.items _ _ _ st _ (Came c.args.conn c.args.bytes.now) o.0 stands
-    (is_set_twice g.U.Uploads c.args.self.now.places.items c.args.conn c.replace.new.dest c.came_of.result.0 lt)
+    (is_set_twice g.U.Uploads c.args.self.now.places.items c.args.conn c.replace.new.dest c.came_of.result.0 lt) tt
     (came_turn st.world o.0 c.args.bytes.now) c.came_of.result.1 _ _ (came_is st c.args.conn c.args.bytes.now o.0 o.1) (c.came_of.ensures.answer st.world o.0 stands.shown o.2))
 
 pub returns-clause-crash : goal.returns-clause-crash

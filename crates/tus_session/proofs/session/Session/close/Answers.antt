@@ -9,7 +9,7 @@ loop-place-init g c = record {
   front = sym (take_all (length c.args.self.places.items) c.args.self.places.items (omega arith));
   below = omega arith;
   counts = refl;
-  crash = record { later = omega arith; keeps = λ t ms le left. left };
+  crash = record { later = omega arith; keeps = λ n t ms le left. left };
 }
 
 pub loop-place-preserved-in-Closed : goal.loop-place-preserved-in-Closed
@@ -40,7 +40,8 @@ loop-place-preserved g c =
       counts = c.drop_link.ensures.counts ∙ inv.counts;
       crash = record {
         later = omega (arith, inv.crash.later, c.drop_link.ensures.crash.later);
-        keeps = λ t ms le left. c.drop_link.ensures.crash.keeps t ms (omega (arith, inv.crash.later)) (inv.crash.keeps t ms le left);
+        keeps = λ n t ms le left.
+            c.drop_link.ensures.crash.keeps n t ms (omega (arith, inv.crash.later)) (inv.crash.keeps n t ms le left);
       };
     }
 

@@ -22,7 +22,7 @@ pub returns-in-Open-clause-answer : goal.returns-in-Open-clause-answer
 returns-in-Open-clause-answer g c st stands =
     let lt : c.args.conn < length c.args.self.now.places.items = omega (arith, c.if-conn-len.false, c.len.ensures, c.args.self.now.places.ok.0) in
     let o = open_at g.U.Uploads c.args.self.now.places.items _ st c.args.conn _ c.in-Open.link stands lt c.index_mut.ensures.value (sym c.replace.ensures.value ∙ c.in-Open.is) in
-    ends g.U.Uploads c.args.self.now.places.items _ _ _ st _ (Ended c.args.conn) o.0 stands (is_set g.U.Uploads c.args.self.now.places.items c.args.conn c.replace.new.dest lt)
+    ends g.U.Uploads c.args.self.now.places.items _ _ _ st _ (Ended c.args.conn) o.0 stands (is_set g.U.Uploads c.args.self.now.places.items c.args.conn c.replace.new.dest lt) tt
     c.end_of.result o.1 c.replace.ensures.after (ended_step st c.args.conn o.0 o.1) (c.end_of.ensures.answer st.world o.0 stands.shown o.2)
 
 pub returns-in-Open-clause-crash : goal.returns-in-Open-clause-crash

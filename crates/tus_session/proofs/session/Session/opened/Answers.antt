@@ -16,4 +16,4 @@ pub returns-clause-answer : goal.returns-clause-answer
 returns-clause-answer g c store st stands =
     let lt : c.args.conn < length c.args.self.now.places.items = omega (arith, c.if-conn-len.false, c.len.ensures, c.args.self.now.places.ok.0) in
     let none = closed_at g.U.Uploads c.args.self.now.places.items store st c.args.conn c.index.result.now stands lt c.index.ensures c.in-Closed.is in
-    rw c.put_back.ensures (opened g.U.Uploads c.args.self.now.places.items store st c.args.conn _ stands lt none c.new.ensures.items refl refl)
+    rw c.put_back.ensures (opened g.U.Uploads c.args.self.now.places.items store st c.args.conn _ stands lt none c.new.ensures refl refl)

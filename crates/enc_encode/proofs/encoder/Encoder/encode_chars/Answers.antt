@@ -1,0 +1,54 @@
+use Rattle.std.proofs.Common.{ap, Ok, Err}
+use Rattle.std.proofs.lemmas.Result.{err_from_is_err_and}
+use Rattle.std.specs.Str.{chars}
+use Rattle.enc_model.specs.Indexes.{tables}
+use Rattle.enc_encode.specs.State.{EncoderState, code_from}
+use Rattle.enc_encode.proofs.Fronts.{front_none, front_then, front_error, front_all, left_text}
+use Rattle.enc_encode.proofs.Helds.{flushed, unflushed}
+use Rattle.enc_encode.proofs.encoder.Encoder.encode_chars.Goals as goal
+
+pub loop-rest-init : goal.loop-rest-init
+loop-rest-init c = (
+  c.utf8.run,
+  front_none (tables c.args.set.now) c.args.self.now c.args.run.now c.self.inside.shift c.args.out.now c.new-held.result (ap (λ (e : EncoderState). e.shift) c.self.view_is) c.new-held.ensures,
+)
+
+pub returns-in_err-next : goal.returns-in_err-next
+returns-in_err-next c =
+    let p = err_from_is_err_and c.from_residual.result c.from_residual.ensures.1 in
+    let t = tables c.args.set.now in
+    let e = c.args.self.now in
+    let run = c.args.run.now in
+    let d = c.in_err-next.field-0.0 in
+    let stop = c.in_err-next.ensures.err in
+    let new = c.hold_front.new in
+    rw (p.1, p.2) (front_error t e run stop.0 c.args.out.now new.out new.held d
+    (front_then t e run c.loop-rest.rest.now stop.0 c.args.out.now c.loop-rest.out c.loop-rest.held new.out new.held c.loop-rest.shift (Err d) c.loop-rest.invariant.1 stop.1))
+
+pub loop-rest-preserved : goal.loop-rest-preserved
+loop-rest-preserved c =
+    let rest = c.loop-rest.rest.now in
+    let left = c.in_ok-next.behind.now in
+    let more = c.in_ok-next.ensures.ok in
+    let new = c.hold_front.new in (
+      left_text rest more.front left c.loop-rest.invariant.0 more.own more.parts,
+      front_then (tables c.args.set.now) c.args.self.now c.args.run.now rest left c.args.out.now c.loop-rest.out c.loop-rest.held new.out new.held c.loop-rest.shift (Ok c.in_ok-next.next)
+          c.loop-rest.invariant.1 more,
+    )
+
+pub returns-in_err-flush : goal.returns-in_err-flush
+returns-in_err-flush c =
+    let t = tables c.args.set.now in
+    let e = c.args.self.now in
+    let run = c.args.run.now in
+    let kept = front_all t e run c.loop-rest.rest.now c.args.out.now c.loop-rest.out c.loop-rest.held c.loop-rest.shift c.loop-rest.invariant.1 c.loop-rest-test.ensures in
+    let p = err_from_is_err_and c.from_residual-in_err-flush.result c.from_residual-in_err-flush.ensures.1 in
+    rw (p.1, p.2) (unflushed (code_from t e (chars run)) c.args.out.now c.loop-rest.out c.flush.new.out c.loop-rest.held c.loop-rest.shift kept c.in_err-flush.ensures.err)
+
+pub returns : goal.returns
+returns c =
+    let t = tables c.args.set.now in
+    let e = c.args.self.now in
+    let run = c.args.run.now in
+    let kept = front_all t e run c.loop-rest.rest.now c.args.out.now c.loop-rest.out c.loop-rest.held c.loop-rest.shift c.loop-rest.invariant.1 c.loop-rest-test.ensures in
+    flushed (code_from t e (chars run)) c.args.out.now c.loop-rest.out c.flush.new.out c.loop-rest.held c.loop-rest.shift kept c.in_ok-flush.ensures.ok.0

@@ -1,0 +1,39 @@
+-- Bytes that are held before they are appended to a vector.
+use Rattle.std.specs.Prelude.{ℕ, List, ◌++◌, ◌≡◌, ◌≢◌, ◌<◌, ◌≤◌, Some, None, Result, Ok, Err, Vec, All, length, take}
+use Rattle.std.specs.Str.{IsUtf8, chars}
+use Rattle.enc_model.specs.declared.Encoding.{Encoding}
+use Rattle.enc_model.specs.declared.Encoding.TheVariants.{Iso2022Jp}
+use Rattle.enc_model.specs.Encode.{Coded}
+use Rattle.enc_encode.specs.Growth.{Appended, Stopped}
+use Rattle.enc_encode.specs.State.{shift_of}
+use Rattle.enc_encode.specs.declared.error.EncodeError.{EncodeError}
+use Rattle.enc_encode.specs.declared.error.EncodeError.TheVariants.{NoMemory, Unencodable}
+use Rattle.enc_encode.specs.declared.shift.ShiftState.{ShiftState}
+
+-- of those that were held and some more, a front was appended, and the rest is held
+pub record Passed {Z : Type 0} (old : Vec ℕ Z) (held bytes : List ℕ) (new : Vec ℕ Z) (kept : List ℕ) : Type 0 where
+  pub front : List ℕ
+  pub parts : held ++ bytes ≡ front ++ kept
+  pub appended : Appended old front new
+
+-- a code that goes behind bytes that are held: it is passed on; or memory is wanted; or all before the first fault is appended
+abbrev pub Kept : {Z : Type 0} → Coded → Vec ℕ Z → List ℕ → Vec ℕ Z → List ℕ → Result ShiftState EncodeError → Type 0
+Kept code old held new kept (Ok next) = (code.fault ≡ None) × (shift_of next ≡ code.state) × Passed old held code.bytes new kept
+Kept code old held new kept (Err NoMemory) = Stopped old (held ++ code.bytes) new
+Kept code old held new kept (Err (Unencodable c)) = (code.fault ≡ Some c) × Appended old (held ++ code.bytes) new
+
+-- the code of a text's front went behind bytes that are held, and the rest is left
+pub record HeldFront {Z : Type 0} (code_of : List ℕ → Coded) (text rest : List ℕ) (old : Vec ℕ Z) (held : List ℕ) (new : Vec ℕ Z) (kept : List ℕ) (r : Result ShiftState EncodeError) : Type 0 where
+  pub front : List ℕ
+  pub parts : text ≡ front ++ rest
+  pub own : IsUtf8 front
+  pub code : Kept (code_of (chars front)) old held new kept r
+
+-- lanes at the front of a text, so many bytes of which are ASCII that stands for itself in the encoding
+pub record IsOwnFront (to : Encoding) (text lanes : List ℕ) (n : ℕ) : Type 0 where
+  pub lanes_are : lanes ≡ take 32 text
+  pub some : 0 < n
+  pub few : n ≤ 32
+  pub long : 32 ≤ length text
+  pub ascii : All (λ b. b < 128) (take n text)
+  pub own : to ≢ Iso2022Jp

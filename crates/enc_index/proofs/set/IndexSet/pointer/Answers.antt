@@ -1,7 +1,0 @@
-use Rattle.std.proofs.Common.{nat_le}
-use Rattle.enc_index.proofs.Bounds.{below_found}
-use Rattle.enc_index.proofs.set.IndexSet.pointer.Goals as goal
-
-pub returns-clause-bounded : goal.returns-clause-bounded
-returns-clause-bounded c =
-    rw c.pointer.ensures (below_found (λ p. nat_le 0 p) _ c.args.kind c.args.c c.in_ok-table.field-0.now c.self.invariant (rw (← c.self.view_is) at c.in_ok-table.ensures))

@@ -1,9 +1,0 @@
-use Rattle.std.proofs.Common.{not}
-use Rattle.enc_model.specs.Index.{within}
-use Rattle.enc_index.specs.declared.kind.Kind.TheVariants.{Jis0208}
-use Rattle.enc_index.proofs.Bounds.{below_found}
-use Rattle.enc_index.proofs.set.IndexSet.pointer_sjis.Goals as goal
-
-pub returns-clause-bounded : goal.returns-clause-bounded
-returns-clause-bounded c =
-    rw c.pointer_sjis.ensures (below_found (λ p. not (within 8272 8835 p)) _ Jis0208 c.args.c c.in_ok-as_ref.field-0.now c.self.invariant c.in_ok-as_ref.ensures.value)

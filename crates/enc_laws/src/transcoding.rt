@@ -1,0 +1,34 @@
+//! Laws of a transcoder that is fed piece by piece, each as the contract of a function that does nothing.
+
+ghost use Rattle.std.specs.Prelude.{◌≡◌, ◌++◌, ℕ, List, true, Some, None};
+ghost use Rattle.enc_model.specs.Encode.{Tables};
+ghost use Rattle.enc_model.specs.Decode.{text};
+ghost use Rattle.enc_model.specs.Transcode.{Transcoder, IsAt, so_far, added, added_end, stepped};
+ghost use Rattle.enc_laws.specs.Resumed.{IsUnpackedFrom};
+
+/// From where a transcoder stands, the text with its end is the text so far and what the end adds. It has the end's
+/// fault, or none where the end has none.
+pub fn text_ends()
+    ensures text { (t : Tables) (s : Transcoder) (b : List ℕ) → IsAt t s b
+        → (text t s.from s.to s.mode b true).bytes ≡ (so_far t s b).bytes ++ (added_end t s).bytes }
+    ensures fault { (t : Tables) (s : Transcoder) (b : List ℕ) → IsAt t s b
+        → (text t s.from s.to s.mode b true).fault ≡ (added_end t s).fault }
+{}
+
+/// A transcoder unpacked from another's state bytes is that transcoder. Fed on with b and ended it writes, behind what
+/// was written for a, the rest of the encoding of the decoding of a ++ b, wherever the cut lies: in a character, an
+/// escape or a BOM. Where b has a fault it is the text's, and the text stops there.
+pub fn fed_on_from_state_bytes()
+    ensures same { (s later : Transcoder) → IsUnpackedFrom s later → later ≡ s }
+    ensures text { (t : Tables) (s later : Transcoder) (a b : List ℕ) → IsAt t s a → IsUnpackedFrom s later
+        → (added t later b).fault ≡ None → (text t s.from s.to s.mode (a ++ b) true).bytes
+        ≡ (so_far t s a).bytes ++ ((added t later b).bytes ++ (added_end t (stepped t later b)).bytes) }
+    ensures fault { (t : Tables) (s later : Transcoder) (a b : List ℕ) → IsAt t s a → IsUnpackedFrom s later
+        → (added t later b).fault ≡ None → (text t s.from s.to s.mode (a ++ b) true).fault
+        ≡ (added_end t (stepped t later b)).fault }
+    ensures refused { (t : Tables) (s later : Transcoder) (a b : List ℕ) → IsAt t s a → IsUnpackedFrom s later
+        → (c : ℕ) → (added t later b).fault ≡ Some c → ((text t s.from s.to s.mode (a ++ b) true).fault ≡ Some c)
+        × ((text t s.from s.to s.mode (a ++ b) true).bytes ≡ (so_far t s a).bytes ++ (added t later b).bytes) }
+    ensures next { (t : Tables) (s later : Transcoder) (a b : List ℕ) → IsAt t s a → IsUnpackedFrom s later
+        → (added t later b).fault ≡ None → IsAt t (stepped t later b) (a ++ b) }
+{}

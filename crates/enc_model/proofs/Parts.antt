@@ -1,0 +1,55 @@
+-- A piece that is read part by part.
+use Rattle.std.proofs.Common.{ℕ, ◌+◌, ◌-◌, ◌≡◌, List, Result, Ok, Err, false, sym, ◌∙◌, ap, subst, take, drop, length, take-append-drop, IfErr, OnOk, IsErrAnd}
+use Rattle.std.proofs.lemmas.List.{take_rest}
+use Rattle.std.proofs.Math.Seq.{take-add}
+use Rattle.enc_model.specs.Stream.{Handler, IsCalm, steps}
+use Rattle.enc_model.specs.Sink.{Given, IsSink}
+use Rattle.enc_model.proofs.Feeding.{feed_more, state_more}
+
+pub if_err : {X E : Type 0} (r : Result X E) (e : E) (P : E → Type 0) → IsErrAnd r (λ y. y ≡ e) → P e → IfErr r P
+if_err (Ok v) e P i p = tt
+if_err (Err v) e P i p = rw i p
+
+module _ {S : Type 0} (h : Handler S) (calm : IsCalm h) where
+  -- a part more of what is left behind a place, taken or refused
+  pub part_taken : {A E : Type 0} (takes : A → List ℕ → A → Type 0) (refuses : A → List ℕ → E → A → Type 0) (sink : IsSink takes refuses)
+      (s next : S) (piece rest : List ℕ) (i n : ℕ) (a m c : A) → rest ≡ take (length piece - i) (drop i piece) →
+      next ≡ (steps h false s (take i piece)).state → takes a (steps h false s (take i piece)).text m →
+      takes m (steps h false next (take n rest)).text c → takes a (steps h false s (take (i + n) piece)).text c
+  part_taken {A} {E} takes refuses sink s next piece rest i n a m c is e t g =
+      let taken : Result ℕ E = Ok 0 in
+      subst (λ p. takes a (steps h false s p).text c) (sym (take-add i n piece))
+      (feed_more takes refuses sink h calm s next (take i piece) (take n (drop i piece)) a m c taken e t
+      (subst (λ z. takes m (steps h false next (take n z)).text c) (is ∙ take_rest piece i) g))
+
+  -- the rest behind a place
+  pub rest_given : {A X E : Type 0} (takes : A → List ℕ → A → Type 0) (refuses : A → List ℕ → E → A → Type 0) (sink : IsSink takes refuses)
+      (s next : S) (piece rest : List ℕ) (i : ℕ) (a m c : A) (res : Result X E) → rest ≡ take (length piece - i) (drop i piece) →
+      next ≡ (steps h false s (take i piece)).state → takes a (steps h false s (take i piece)).text m →
+      Given takes refuses m (steps h false next rest).text c res → Given takes refuses a (steps h false s piece).text c res
+  rest_given takes refuses sink s next piece rest i a m c res is e t g =
+      subst (λ p. Given takes refuses a (steps h false s p).text c res) (take-append-drop i piece)
+      (feed_more takes refuses sink h calm s next (take i piece) (drop i piece) a m c res e t
+      (subst (λ z. Given takes refuses m (steps h false next z).text c res) (is ∙ take_rest piece i) g))
+
+  pub part_refused : {A E : Type 0} (takes : A → List ℕ → A → Type 0) (refuses : A → List ℕ → E → A → Type 0) (sink : IsSink takes refuses)
+      (s next : S) (piece rest : List ℕ) (i : ℕ) (a m c : A) (why : E) → rest ≡ take (length piece - i) (drop i piece) →
+      next ≡ (steps h false s (take i piece)).state → takes a (steps h false s (take i piece)).text m →
+      refuses m (steps h false next rest).text why c → refuses a (steps h false s piece).text why c
+  part_refused {A} {E} takes refuses sink s next piece rest i a m c why is e t g =
+      let refused : Result ℕ E = Err why in
+      rest_given takes refuses sink s next piece rest i a m c refused is e t g
+
+  pub rest_state : {X E : Type 0} (s next end : S) (piece rest : List ℕ) (i : ℕ) (res : Result X E) → rest ≡ take (length piece - i) (drop i piece) →
+      next ≡ (steps h false s (take i piece)).state → OnOk res (end ≡ (steps h false next rest).state) → OnOk res (end ≡ (steps h false s piece).state)
+  rest_state s next end piece rest i (Ok v) is e f =
+      state_more h calm s next end (take i piece) (drop i piece) e (f ∙ ap (λ z. (steps h false next z).state) (is ∙ take_rest piece i))
+      ∙ ap (λ p. (steps h false s p).state) (take-append-drop i piece)
+  rest_state s next end piece rest i (Err v) is e f = tt
+
+  pub part_state : (s next end : S) (piece rest : List ℕ) (i n : ℕ) → rest ≡ take (length piece - i) (drop i piece) →
+      next ≡ (steps h false s (take i piece)).state → end ≡ (steps h false next (take n rest)).state →
+      end ≡ (steps h false s (take (i + n) piece)).state
+  part_state s next end piece rest i n is e f =
+      state_more h calm s next end (take i piece) (take n (drop i piece)) e (f ∙ ap (λ z. (steps h false next (take n z)).state) (is ∙ take_rest piece i))
+      ∙ ap (λ p. (steps h false s p).state) (sym (take-add i n piece))

@@ -1,0 +1,12 @@
+-- A text that is gathered, as a sink.
+use Rattle.std.specs.Prelude.{ℕ, List, ◌≡◌, ◌≤◌, ◌<◌, ◌+◌, ◌*◌, ◌++◌, length}
+use Rattle.std.specs.Str.{chars}
+
+-- the characters are there, each in at most four bytes
+pub record BatchTook (old given new : List ℕ) : Type 0 where
+  pub text : chars new ≡ chars old ++ given
+  pub size : length new ≤ length old + 4 * length given
+
+-- there may have been no room
+abbrev pub BatchRefused : {E : Type 0} → List ℕ → List ℕ → E → List ℕ → Type 0
+BatchRefused old given why new = 3072 < length old + 4 * length given

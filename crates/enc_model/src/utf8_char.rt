@@ -1,0 +1,73 @@
+//! A character as the bytes that it is stored as.
+
+ghost use Rattle.std.specs.Prelude.{◌≡◌, ◌≤◌, take, encode_utf8};
+ghost use Rattle.std.specs.Char.{IsScalar};
+
+use std::marker::Model;
+
+/// A character in UTF-8, ready to be stored without a branch: its bytes with others behind them, and how many they are.
+#[derive(Drop)]
+pub struct Utf8Char {
+    bytes: [u8; 4],
+    len: u8,
+}
+
+impl Model for Utf8Char {
+    ghost use Rattle.std.specs.Prelude.{ℕ};
+    ghost use Rattle.enc_model.specs.Utf8Chars.{IsUtf8Char, char_in};
+
+    ghost Value = { ℕ };
+
+    ghost view = { λ c. char_in c.bytes c.len };
+
+    ghost invariant = { λ c. IsUtf8Char c.bytes c.len };
+}
+
+impl Utf8Char {
+    /// The code of a character.
+    #[inline(always)]
+    #[tactic(auto, using(crate::proofs::Ready::ready_one, crate::proofs::Ready::ready_two, crate::proofs::Ready::ready_three, crate::proofs::Ready::ready_four))]
+    pub fn of(c: char) -> Self
+        ensures { result ≡ c }
+    {
+        let c = c as u32;
+        match c {
+            0..=0x7F => Utf8Char {
+                bytes: [c as u8, 0, 0, 0],
+                len: 1,
+            },
+            0x80..=0x7FF => Utf8Char {
+                bytes: [(0xC0 + c / 64) as u8, (0x80 + c % 64) as u8, 0, 0],
+                len: 2,
+            },
+            0x800..=0xFFFF => Utf8Char {
+                bytes: [
+                    (0xE0 + c / 4096) as u8,
+                    (0x80 + c / 64 % 64) as u8,
+                    (0x80 + c % 64) as u8,
+                    0,
+                ],
+                len: 3,
+            },
+            _ => Utf8Char {
+                bytes: [
+                    (0xF0 + c / 262144) as u8,
+                    (0x80 + c / 4096 % 64) as u8,
+                    (0x80 + c / 64 % 64) as u8,
+                    (0x80 + c % 64) as u8,
+                ],
+                len: 4,
+            },
+        }
+    }
+
+    /// Four bytes, the first of them those of the character, and how many they are.
+    #[inline(always)]
+    pub(crate) fn parts(&self) -> ([u8; 4], u8)
+        ensures code { take result.1 result.0 ≡ encode_utf8 self.now }
+        ensures scalar { IsScalar self.now }
+        ensures few { result.1 ≤ 4 }
+    {
+        (self.bytes, self.len)
+    }
+}

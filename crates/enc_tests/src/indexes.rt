@@ -1,0 +1,159 @@
+//! Index files, look-ups and areas at worked examples.
+
+use enc_index::{AreaError, Index, IndexSet, Kind, ReadError};
+use enc_model::Encoding;
+use std::alloc::Global;
+use std::process::Abort;
+use std::test::Fail;
+
+const SMALL: &[u8] = b"# test\n\n  0\t0x3000\n60\tFF0D\n61\tFF0D\n";
+
+fn looks_up(rt: &impl Abort, index: &Index) {
+    assert!(rt; index.kind() == Kind::Jis0208);
+    assert!(rt; index.code(0) == Some('\u{3000}') && index.code(1).is_none());
+    assert!(rt;
+        index.pointer('\u{FF0D}') == Some(60) && index.pointer_sjis('\u{FF0D}') == Some(60)
+    );
+    assert!(rt; index.pointer('\u{3001}').is_none());
+}
+
+#[test]
+fn least_pointer_of_a_small_file(rt: HostRuntime) -> Result<(), Fail> {
+    let index = Index::read(rt.alloc(), SMALL, Kind::Jis0208)?;
+    looks_up(&rt, &index);
+    Ok(())
+}
+
+fn refusal(alloc: Global, bytes: &[u8], kind: Kind) -> Option<ReadError> {
+    match Index::read(alloc, bytes, kind) {
+        Ok(_) => None,
+        Err(e) => Some(e),
+    }
+}
+
+#[test]
+fn first_bad_line(rt: HostRuntime) {
+    let again = b"# test\n\n  0\t0x3000\n60\tFF0D\n61\tFF0D\n60\t3001\n";
+    let rows: [(&[u8], Kind, ReadError); 8] = [
+        (again, Kind::Jis0208, ReadError::Twice(6)),
+        (b"11280\t3001", Kind::Jis0208, ReadError::Range(1)),
+        (
+            b"128\t3001",
+            Kind::Single(Encoding::Koi8R),
+            ReadError::Range(1),
+        ),
+        (b"0\tD800", Kind::Jis0212, ReadError::Range(1)),
+        (b"0\t110000", Kind::Katakana, ReadError::Range(1)),
+        (b"x", Kind::Jis0208, ReadError::Line(1)),
+        (b"0000001\t3001", Kind::Jis0208, ReadError::Line(1)),
+        (b"0\t0x", Kind::Jis0208, ReadError::Line(1)),
+    ];
+    for (bytes, kind, error) in rows {
+        assert!(rt; refusal(rt.alloc(), bytes, kind) == Some(error));
+    }
+}
+
+fn excludes(rt: &impl Abort, set: &IndexSet) {
+    assert!(rt; set.offers(Encoding::ShiftJis) && !set.offers(Encoding::EucJp));
+    assert!(rt; set.pointer(Kind::Jis0208, '\u{7E8A}') == Some(8272));
+    assert!(rt; set.pointer_sjis('\u{7E8A}') == Some(10744));
+    assert!(rt; set.code(Kind::Jis0208, 10744) == Some('\u{7E8A}'));
+}
+
+#[test]
+fn excluded_pointers(rt: HostRuntime) -> Result<(), Fail> {
+    let mut set = IndexSet::new(rt.alloc())?;
+    assert!(rt; set.pointer_sjis('\u{7E8A}').is_none() && !set.offers(Encoding::ShiftJis));
+    set.set(Index::read(rt.alloc(), b"8272\t7E8A\r\n10744\t7E8A\r\n", Kind::Jis0208)?);
+    excludes(&rt, &set);
+    Ok(())
+}
+
+fn area_of(alloc: Global, set: &IndexSet) -> Result<Vec<u8>, Fail> {
+    let mut area = Vec::new(alloc);
+    for page in 0..22usize {
+        area.extend_from_slice(&set.to_area(page))?;
+    }
+    Ok(area)
+}
+
+/// The area of SMALL for jis0208 and of one entry for windows-1252.
+fn small_area(alloc: Global) -> Result<Vec<u8>, Fail> {
+    let windows = Kind::Single(Encoding::Windows1252);
+    let files = [(Kind::Jis0208, SMALL), (windows, b"0\t20AC\n".as_slice())];
+    let mut set = IndexSet::new(alloc)?;
+    for (kind, lines) in &files {
+        set.set(Index::read(alloc, *lines, *kind)?);
+    }
+    area_of(alloc, &set)
+}
+
+fn is_small(rt: &impl Abort, alloc: Global, set: &IndexSet, area: &[u8]) -> Result<(), Fail> {
+    assert!(rt; set.pointer(Kind::Jis0208, '\u{FF0D}') == Some(60));
+    assert!(rt; set.code(Kind::Single(Encoding::Windows1252), 0) == Some('\u{20AC}'));
+    assert!(rt; !set.offers(Encoding::Koi8R));
+    let again = area_of(alloc, set)?;
+    assert!(rt; again.as_slice() == area);
+    Ok(())
+}
+
+#[test]
+fn area_there_and_back(rt: HostRuntime) -> Result<(), Fail> {
+    let area = small_area(rt.alloc())?;
+    assert!(rt; area.len() == 90112);
+    assert!(rt; area[0] == 1 && area[1] == 0);
+    // windows-1252 is the twelfth file, and the first pointer of its table
+    assert!(rt; area[11] == 1 && area[84846] == 0x20 && area[84847] == 0xAC);
+    let set = IndexSet::from_area(rt.alloc(), &area).ok().ok_or("no set")?;
+    is_small(&rt, rt.alloc(), &set, &area)
+}
+
+#[test]
+fn area_with_a_surrogate(rt: HostRuntime) -> Result<(), Fail> {
+    let mut area = small_area(rt.alloc())?;
+    assert!(rt; area.len() == 90112);
+    // the entry of pointer 5
+    area[52..56].copy_from_slice(&[0, 0, 0xD8, 0]);
+    let refused = IndexSet::from_area(rt.alloc(), &area);
+    assert!(rt; matches!(&refused, Err(AreaError::Damaged)));
+    Ok(())
+}
+
+/// A code point of its own for each of the 11,280 pointers, scattered over U+4E00 to U+7A0F.
+fn scattered(pointer: u32) -> Option<char> {
+    if pointer < 11280 {
+        char::from_u32(0x4E00 + pointer * 7919 % 11280)
+    } else {
+        None
+    }
+}
+
+/// A file with a code point at each pointer that jis0208 can have.
+fn full_file(alloc: Global) -> Result<Vec<u8>, Fail> {
+    let mut file = Vec::new(alloc);
+    for pointer in 0..11280u32 {
+        let code = scattered(pointer).ok_or("no scalar value")? as u32;
+        let line = format!(in alloc; "{pointer}\t{code:X}\n")?;
+        file.extend_from_slice(line.as_bytes())?;
+    }
+    Ok(file)
+}
+
+/// Looks each entry of a full index up, once by its pointer and twice by its code point.
+fn finds_all(rt: &impl Abort, index: &Index) -> Result<(), Fail> {
+    for pointer in 0..11280u32 {
+        let c = scattered(pointer).ok_or("no scalar value")?;
+        let usable = pointer < 8272 || 8835 < pointer;
+        let wanted = if usable { Some(pointer) } else { None };
+        assert!(rt; index.code(pointer) == Some(c) && index.pointer(c) == Some(pointer));
+        assert!(rt; index.pointer_sjis(c) == wanted, "pointer {pointer}");
+    }
+    Ok(())
+}
+
+#[test]
+fn each_entry_of_a_full_file(rt: HostRuntime) -> Result<(), Fail> {
+    let file = full_file(rt.alloc())?;
+    let index = Index::read(rt.alloc(), &file, Kind::Jis0208)?;
+    finds_all(&rt, &index)
+}

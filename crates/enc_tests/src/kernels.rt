@@ -1,0 +1,204 @@
+//! The kernels against loops that take a byte or a unit at a time.
+
+ghost use Rattle.std.specs.Prelude.{◌≤◌};
+
+use lane_kernels::{Order, Pairing, Step, ascii_front, narrow, plain_front_2022, scalar_front};
+use std::process::Abort;
+
+/// The longest prefix below 80 without some, a byte at a time.
+fn slow_front(bytes: &[u8], without: &[u8]) -> usize {
+    for i in 0..bytes.len() {
+        let byte = bytes[i];
+        if byte >= 0x80 || without.contains(&byte) {
+            return i;
+        }
+    }
+    bytes.len()
+}
+
+fn fronts_agree(rt: &impl Abort, bytes: &[u8]) {
+    let length = bytes.len();
+    assert_eq!(rt; ascii_front(bytes), slow_front(bytes, &[]), "of {length}");
+    assert_eq!(rt;
+        plain_front_2022(bytes),
+        slow_front(bytes, &[0x0E, 0x0F, 0x1B]),
+        "of {length}"
+    );
+}
+
+fn fronts_with(rt: &impl Abort, fill: u8, place: usize, stop: u8) {
+    for length in 0..201 {
+        let mut bytes = [fill; 200];
+        if place < 200 {
+            bytes[place] = stop;
+        }
+        fronts_agree(rt, &bytes[..length]);
+    }
+}
+
+#[test]
+fn fronts(rt: HostRuntime) {
+    for place in [0, 1, 30, 31, 32, 33, 63, 64, 100, 127, 128, 198, 199, 200] {
+        for stop in [0x00, 0x0E, 0x0F, 0x1B, 0x7F, 0x80, 0xA0, 0xA1, 0xFE, 0xFF] {
+            fronts_with(&rt, 0x61, place, stop);
+            fronts_with(&rt, 0xC1, place, stop);
+        }
+    }
+}
+
+/// The units below 80 at the front as bytes, one at a time.
+fn slow_narrow(units: &[u16], out: &mut [u8]) -> usize {
+    for i in 0..units.len() {
+        if i >= out.len() || units[i] >= 0x80 {
+            return i;
+        }
+        out[i] = units[i] as u8;
+    }
+    units.len()
+}
+
+fn narrows(rt: &impl Abort, units: &[u16], room: usize)
+    requires { room ≤ 200 }
+{
+    let mut out = [0xEE; 200];
+    let mut slow = [0xEE; 200];
+    assert_eq!(rt;
+        narrow(units, &mut out[..room]),
+        slow_narrow(units, &mut slow[..room])
+    );
+    assert!(rt; out == slow, "{room} bytes of room");
+}
+
+#[test]
+fn narrowing(rt: HostRuntime) {
+    for place in [0, 1, 31, 32, 33, 64, 100, 199] {
+        for stop in [0x00, 0x7F, 0x80, 0x141, 0xFF61] {
+            let mut units = [0x61; 200];
+            units[place] = stop;
+            for length in 0..201 {
+                narrows(&rt, &units[..length], 200);
+                narrows(&rt, &units[..length], length / 2);
+                narrows(&rt, &units[..length], length);
+            }
+        }
+    }
+}
+
+#[test]
+fn lead_carried_into_a_block(rt: HostRuntime) {
+    let mut bytes = [0u8; 64];
+    for i in 0..32 {
+        bytes[2 * i] = 0x41;
+    }
+    bytes[0] = 0x00;
+    bytes[1] = 0xDE;
+    let mut units = [0u16; 32];
+
+    let mut pairing = Pairing::carrying(None, Some(0xD83D));
+    assert!(rt; pairing.block(Order::Little, &bytes, &mut units));
+    assert!(rt; units[0] == 0xDE00 && units[1] == 0x41 && units[31] == 0x41);
+    assert!(rt; pairing.odd().is_none() && pairing.lead().is_none());
+
+    assert!(rt; !Pairing::new().block(Order::Little, &bytes, &mut units));
+    let mut held = Pairing::carrying(Some(0x3D), None);
+    assert!(rt; !held.block(Order::Big, &bytes, &mut units));
+    assert_eq!(rt; held.odd(), Some(0x3D));
+}
+
+#[test]
+fn byte_carried_through_a_block(rt: HostRuntime) {
+    // 3D D8 00 DE, then 41 00 from unit to unit, and 3D D8 at the end
+    let mut bytes = [0u8; 64];
+    for i in 1..32 {
+        bytes[2 * i + 1] = 0x41;
+    }
+    bytes[0] = 0xD8;
+    bytes[2] = 0xDE;
+    bytes[3] = 0x41;
+    bytes[61] = 0x3D;
+    bytes[62] = 0xD8;
+    bytes[63] = 0x7F;
+    let mut units = [0u16; 32];
+    let mut pairing = Pairing::carrying(Some(0x3D), None);
+    assert!(rt; pairing.block(Order::Little, &bytes, &mut units));
+    assert!(rt;
+        units[0] == 0xD83D && units[1] == 0xDE00 && units[2] == 0x41 && units[31] == 0xD83D
+    );
+    assert_eq!(rt; pairing.odd(), Some(0x7F));
+    assert_eq!(rt; pairing.lead(), Some(0xD83D));
+}
+
+fn steps_to(rt: &impl Abort, pairing: &mut Pairing, order: Order, bytes: &[u8], last: Step) {
+    let mut step = Step {
+        fault: false,
+        scalar: None,
+    };
+    for byte in bytes {
+        step = pairing.tail(order, *byte);
+    }
+    assert!(rt; step == last);
+}
+
+#[test]
+fn tails(rt: HostRuntime) {
+    let grin = Step {
+        fault: false,
+        scalar: Some('\u{1F600}'),
+    };
+    let torn = Step {
+        fault: true,
+        scalar: Some('A'),
+    };
+    let stray = Step {
+        fault: true,
+        scalar: None,
+    };
+    let mut pairing = Pairing::new();
+    steps_to(
+        &rt,
+        &mut pairing,
+        Order::Little,
+        &[0x3D, 0xD8, 0x00, 0xDE],
+        grin,
+    );
+    steps_to(
+        &rt,
+        &mut pairing,
+        Order::Big,
+        &[0xD8, 0x3D, 0xDE, 0x00],
+        grin,
+    );
+    steps_to(
+        &rt,
+        &mut pairing,
+        Order::Little,
+        &[0x3D, 0xD8, 0x41, 0x00],
+        torn,
+    );
+    steps_to(&rt, &mut pairing, Order::Big, &[0xDE, 0x00], stray);
+    steps_to(
+        &rt,
+        &mut pairing,
+        Order::Big,
+        &[0xD8, 0x00, 0xD8, 0x3D],
+        stray,
+    );
+    assert_eq!(rt; pairing.lead(), Some(0xD83D));
+}
+
+#[test]
+fn fronts_of_scalars(rt: HostRuntime) {
+    for place in 0..32 {
+        for (unit, front) in [
+            (0xD7FF, 32),
+            (0xD800, place),
+            (0xDBFF, place),
+            (0xDC00, place),
+            (0xDFFF, place),
+        ] {
+            let mut units = [0xE000; 32];
+            units[place] = unit;
+            assert!(rt; scalar_front(&units) == front, "{unit:X} at {place}");
+        }
+    }
+}

@@ -1,0 +1,25 @@
+//! Tests of the encodings by the public calls of their crates.
+#![tactic(auto)]
+
+#[cfg(test)]
+mod cases;
+#[cfg(test)]
+mod decoders;
+#[cfg(test)]
+mod encoders;
+#[cfg(test)]
+mod index_files;
+#[cfg(test)]
+mod indexes;
+#[cfg(test)]
+mod kernels;
+#[cfg(test)]
+mod sets;
+#[cfg(test)]
+mod states;
+#[cfg(test)]
+mod strings;
+#[cfg(test)]
+mod texts;
+#[cfg(test)]
+mod transcoders;

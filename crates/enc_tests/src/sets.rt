@@ -1,0 +1,73 @@
+//! Index sets for the tests.
+
+use crate::index_files::*;
+use enc_index::{Index, IndexSet, Kind};
+use enc_model::Encoding;
+use std::alloc::Global;
+use std::test::Fail;
+
+/// The set of these files, a kind and its lines each.
+pub fn set_of(alloc: Global, files: &[(Kind, &str)]) -> Result<IndexSet, Fail> {
+    let mut set = IndexSet::new(alloc)?;
+    for (kind, lines) in files {
+        set.set(Index::read(alloc, lines.as_bytes(), *kind)?);
+    }
+    Ok(set)
+}
+
+/// The lines of the index file with these code points at its pointers.
+fn lines_of(alloc: Global, codes: &str) -> Result<Vec<u8>, Fail> {
+    let mut lines = Vec::new(alloc);
+    for (pointer, code) in codes.split_whitespace().enumerate() {
+        if code != "0000" {
+            let line = format!(in alloc; "{pointer:5}\t0x{code}\n")?;
+            lines.extend_from_slice(line.as_bytes())?;
+        }
+    }
+    Ok(lines)
+}
+
+/// The set of all files.
+pub fn all_files(alloc: Global) -> Result<IndexSet, Fail> {
+    let files = [
+        (Kind::Jis0208, JIS0208),
+        (Kind::Jis0212, JIS0212),
+        (Kind::Katakana, KATAKANA),
+        (Kind::Single(Encoding::Ibm866), IBM866),
+        (Kind::Single(Encoding::Iso8859X2), ISO_8859_2),
+        (Kind::Single(Encoding::Iso8859X5), ISO_8859_5),
+        (Kind::Single(Encoding::Iso8859X15), ISO_8859_15),
+        (Kind::Single(Encoding::Koi8R), KOI8_R),
+        (Kind::Single(Encoding::Macintosh), MACINTOSH),
+        (Kind::Single(Encoding::Windows1250), WINDOWS_1250),
+        (Kind::Single(Encoding::Windows1251), WINDOWS_1251),
+        (Kind::Single(Encoding::Windows1252), WINDOWS_1252),
+        (Kind::Single(Encoding::Windows1253), WINDOWS_1253),
+        (Kind::Single(Encoding::Windows1254), WINDOWS_1254),
+        (Kind::Single(Encoding::Windows1255), WINDOWS_1255),
+        (Kind::Single(Encoding::Windows1256), WINDOWS_1256),
+        (Kind::Single(Encoding::Windows1257), WINDOWS_1257),
+        (Kind::Single(Encoding::Windows1258), WINDOWS_1258),
+    ];
+    let mut set = IndexSet::new(alloc)?;
+    for (kind, codes) in &files {
+        set.set(Index::read(alloc, &lines_of(alloc, *codes)?, *kind)?);
+    }
+    Ok(set)
+}
+
+/// What the worked examples need of the index files.
+pub fn few_pairs(alloc: Global) -> Result<IndexSet, Fail> {
+    let jis0208 =
+        "0\t3000\n2\t3002\n60\tFF0D\n283\t3042\n1410\t4E9C\n3569\t65E5\n4007\t672C\n8272\t7E8A\n10744\t7E8A\n";
+    let windows = Kind::Single(Encoding::Windows1252);
+    set_of(
+        alloc,
+        &[
+            (Kind::Jis0208, jis0208),
+            (Kind::Jis0212, "1410\t4E02\n"),
+            (Kind::Katakana, "0\t3002\n"),
+            (windows, "0\t20AC\n105\t00E9\n"),
+        ],
+    )
+}

@@ -1,0 +1,110 @@
+//! A transcoder's state bytes.
+
+use crate::cases::{between, bytes_of, word};
+use crate::sets::few_pairs;
+use enc_index::IndexSet;
+use enc_model::{Encoding, Mode};
+use enc_stream::Transcoder;
+use std::alloc::Global;
+use std::process::Abort;
+use std::test::Fail;
+
+/// The state bytes that begin with these, zeros behind them.
+fn with_zeros(front: &[u8]) -> [u8; 32] {
+    let mut bytes = [0; 32];
+    for (place, byte) in bytes.iter_mut().zip(front.iter()) {
+        *place = *byte;
+    }
+    bytes
+}
+
+/// Packs behind a piece, and goes on from the bytes to the text of all.
+fn goes_on(
+    rt: &impl Abort,
+    alloc: Global,
+    set: &IndexSet,
+    mut first: Transcoder,
+    line: &str,
+) -> Result<(), Fail> {
+    let (front, rest) = word(line)?;
+    let (state, rest) = word(rest)?;
+    let (back, text) = word(rest)?;
+    let mut out = Vec::new(alloc);
+    first.feed(set, &bytes_of(rt, alloc, front)?, &mut out)?;
+    let bytes = first.pack();
+    assert!(rt; bytes == with_zeros(&bytes_of(rt, alloc, state)?), "{line}");
+    let mut next = Transcoder::unpack(&bytes).ok_or("refused")?;
+    next.feed(set, &bytes_of(rt, alloc, back)?, &mut out)?;
+    next.finish(set, &mut out)?;
+    assert!(rt; out == bytes_of(rt, alloc, text)?, "{line}");
+    assert!(rt; next.pack()[3] == 2);
+    Ok(())
+}
+
+/// On each line two encodings, a piece, the state bytes behind it, another piece, and the text of both.
+const STATES: &str = "\
+UTF-8 UTF-8 EFBB 0000000002EFBB BF41 41
+UTF-8 UTF-8 F09F98 000000010003F09F98 80 F09F9880
+Shift_JIS UTF-8 82 030000010382 A0 E38182
+ISO-2022-JP UTF-8 1B2442 050000010503030001 2422 E38182
+KOI8-R UTF-8 FFFE3DD800 0A000001020300D83D DE F09F9880
+EUC-JP ISO-2022-JP A4A28FA4 0405000104A40100000000000000000002 A2 1B244224221B2842262336353533333B
+";
+
+fn all_go_on(rt: &impl Abort, alloc: Global, set: &IndexSet) -> Result<(), Fail> {
+    for line in STATES.lines() {
+        let (from, rest) = word(line)?;
+        let (to, rest) = word(rest)?;
+        goes_on(rt, alloc, set, between(rt, from, to, Mode::Html)?, rest)?;
+    }
+    Ok(())
+}
+
+#[test]
+fn state_bytes_behind_a_piece(rt: HostRuntime) -> Result<(), Fail> {
+    let set = few_pairs(rt.alloc())?;
+    all_go_on(&rt, rt.alloc(), &set)
+}
+
+#[test]
+fn state_bytes_of_no_state(rt: HostRuntime) {
+    let none: [&[u8]; 19] = [
+        // numbers of nothing, and UTF-16 as the output
+        &[21],
+        &[0, 1],
+        &[0, 0, 2],
+        &[0, 0, 0, 3],
+        // held bytes that are no BOM's
+        &[0, 0, 0, 0, 1, 0x41],
+        &[0, 0, 0, 0, 3, 0xEF, 0xBB, 0xBF],
+        // something behind the end
+        &[0, 0, 0, 2, 1],
+        // an encoding in effect that is neither the source's nor a BOM's
+        &[0, 0, 0, 1, 3],
+        // no front of a character
+        &[0, 0, 0, 1, 0, 2, 0xE0, 0x80],
+        &[0, 0, 0, 1, 0, 4, 0xF0, 0x9F, 0x98, 0x80],
+        &[0, 0, 0, 1, 0, 0, 0x80],
+        // a lead that is no surrogate, and one that isn't said to be kept
+        &[2, 0, 0, 1, 2, 2, 0, 0xDC, 0],
+        &[2, 0, 0, 1, 2, 0, 0, 0xD8, 0],
+        // a lead of no character, and a flag without a lead
+        &[3, 0, 0, 1, 3, 0xA0],
+        &[4, 0, 0, 1, 4, 0, 1],
+        &[4, 0, 0, 1, 4, 0x8E, 1],
+        // an output state that isn't the set, and a flag behind a lead
+        &[5, 0, 0, 1, 5, 3, 0, 0, 0],
+        &[5, 0, 0, 1, 5, 4, 3, 0x24, 1],
+        // an encoder's state that UTF-8 lacks
+        &[0, 0, 0, 1, 0, 0, 0, 0, 0, 0, 0, 0, 0, 0, 0, 0, 1],
+    ];
+    for front in none {
+        assert!(rt; Transcoder::unpack(&with_zeros(front)).is_none());
+    }
+    let ended = Transcoder::ended(Encoding::Koi8R, Encoding::Utf8, Mode::Fatal);
+    assert!(rt; ended.pack() == with_zeros(&[10, 0, 1, 2]));
+    let mut last = with_zeros(&[]);
+    assert!(rt; Transcoder::unpack(&last).is_some());
+    last[31] = 1;
+    assert!(rt; Transcoder::unpack(&last).is_none());
+}

@@ -1,0 +1,355 @@
+//! Bytes in pieces, and the text behind them.
+
+ghost use Rattle.std.specs.Prelude.{◌≤◌};
+
+use crate::cases::{between, bytes_of, word};
+use crate::sets::{all_files, few_pairs, set_of};
+use crate::strings::STRINGS;
+use crate::texts::TEXTS;
+use enc_index::{IndexSet, Kind};
+use enc_model::{Encoding, Mode};
+use enc_stream::{Progress, TranscodeError, Transcoder};
+use std::alloc::Global;
+use std::process::Abort;
+use std::test::Fail;
+
+/// The transcoder of a direction and a label.
+fn start_of(rt: &impl Abort, direction: &str, label: &str) -> Result<Transcoder, Fail> {
+    match direction {
+        "decode" => between(rt, label, "UTF-8", Mode::Html),
+        "encode" => between(rt, "UTF-8", label, Mode::Html),
+        _ => Err("no direction")?,
+    }
+}
+
+/// The text of bytes that come in pieces of a size.
+fn in_pieces(
+    alloc: Global,
+    start: &Transcoder,
+    set: &IndexSet,
+    bytes: &[u8],
+    size: usize,
+) -> Result<Vec<u8>, Fail> {
+    let mut out = Vec::new(alloc);
+    let mut transcoder = start.copy();
+    for piece in bytes.chunks(size.max(1)) {
+        transcoder.feed(set, piece, &mut out)?;
+    }
+    transcoder.finish(set, &mut out)?;
+    Ok(out)
+}
+
+/// The text of two pieces.
+fn in_two(
+    alloc: Global,
+    start: &Transcoder,
+    set: &IndexSet,
+    pieces: (&[u8], &[u8]),
+) -> Result<Vec<u8>, Fail> {
+    let mut out = Vec::new(alloc);
+    let mut transcoder = start.copy();
+    transcoder.feed(set, pieces.0, &mut out)?;
+    transcoder.feed(set, pieces.1, &mut out)?;
+    transcoder.finish(set, &mut out)?;
+    Ok(out)
+}
+
+/// Checks the text of bytes that come one by one, and in two pieces with the cut at each place, so also whole.
+fn in_any_cut(
+    rt: &impl Abort,
+    alloc: Global,
+    start: &Transcoder,
+    set: &IndexSet,
+    bytes: &[u8],
+    text: &[u8],
+) -> Result<(), Fail> {
+    let out = in_pieces(alloc, start, set, bytes, 1)?;
+    assert!(rt; out.as_slice() == text, "byte by byte");
+    for cut in 0..bytes.len() + 1 {
+        let out = in_two(alloc, start, set, bytes.split_at(cut))?;
+        assert!(rt; out.as_slice() == text, "cut at {cut}");
+    }
+    Ok(())
+}
+
+/// Checks a line of a direction, a label, bytes, and what they give.
+fn holds(rt: &impl Abort, alloc: Global, set: &IndexSet, line: &str) -> Result<(), Fail> {
+    let (direction, rest) = word(line)?;
+    let (label, rest) = word(rest)?;
+    let (input, output) = word(rest)?;
+    let start = start_of(rt, direction, label)?;
+    let bytes = bytes_of(rt, alloc, input)?;
+    let text = bytes_of(rt, alloc, output)?;
+    in_any_cut(rt, alloc, &start, set, &bytes, &text)
+}
+
+fn all_hold(rt: &impl Abort, alloc: Global, set: &IndexSet, lines: &str) -> Result<(), Fail> {
+    for line in lines.lines() {
+        holds(rt, alloc, set, line)?;
+    }
+    Ok(())
+}
+
+#[test]
+fn strings_of_another_implementation(rt: HostRuntime) -> Result<(), Fail> {
+    assert_eq!(rt; STRINGS.lines().count(), 480);
+    let set = all_files(rt.alloc())?;
+    all_hold(&rt, rt.alloc(), &set, STRINGS)
+}
+
+/// The bytes of hexadecimal digits, 80 times over.
+fn repeated(rt: &impl Abort, alloc: Global, hex: &str) -> Result<Vec<u8>, Fail> {
+    let bytes = bytes_of(rt, alloc, hex)?;
+    let mut all = Vec::new(alloc);
+    for _ in 0..80 {
+        all.extend_from_slice(&bytes)?;
+    }
+    Ok(all)
+}
+
+/// Checks a line whose bytes come many times over, so that blocks and windows are crossed.
+fn holds_repeated(rt: &impl Abort, alloc: Global, set: &IndexSet, line: &str) -> Result<(), Fail> {
+    let (direction, rest) = word(line)?;
+    let (label, rest) = word(rest)?;
+    let (input, output) = word(rest)?;
+    let start = start_of(rt, direction, label)?;
+    let bytes = repeated(rt, alloc, input)?;
+    let text = repeated(rt, alloc, output)?;
+    for size in [61, 1000, 4096, 65536] {
+        let out = in_pieces(alloc, &start, set, &bytes, size)?;
+        assert!(rt; out == text, "{direction} {label} in pieces of {size}");
+    }
+    Ok(())
+}
+
+fn all_hold_repeated(
+    rt: &impl Abort,
+    alloc: Global,
+    set: &IndexSet,
+    lines: &str,
+) -> Result<(), Fail> {
+    for line in lines.lines() {
+        holds_repeated(rt, alloc, set, line)?;
+    }
+    Ok(())
+}
+
+#[test]
+fn long_texts_of_another_implementation(rt: HostRuntime) -> Result<(), Fail> {
+    let set = all_files(rt.alloc())?;
+    all_hold_repeated(&rt, rt.alloc(), &set, TEXTS)
+}
+
+/// So many letters, bytes, and so many letters again.
+fn among_letters(
+    alloc: Global,
+    before: usize,
+    bytes: &[u8],
+    behind: usize,
+) -> Result<Vec<u8>, Fail> {
+    let mut all = Vec::new(alloc);
+    all.resize(before, b'a')?;
+    all.extend_from_slice(bytes)?;
+    all.resize(all.len().saturating_add(behind), b'a')?;
+    Ok(all)
+}
+
+/// Checks a line whose bytes stand among so many letters, in two pieces, cut within the bytes and around them.
+fn holds_among(
+    rt: &impl Abort,
+    alloc: Global,
+    set: &IndexSet,
+    line: &str,
+    letters: (usize, usize),
+) -> Result<(), Fail>
+    requires before { letters.0 ≤ 4096 }
+    requires behind { letters.1 ≤ 4096 }
+{
+    let (direction, rest) = word(line)?;
+    let (label, rest) = word(rest)?;
+    let (input, output) = word(rest)?;
+    let start = start_of(rt, direction, label)?;
+    let bytes = among_letters(alloc, letters.0, &bytes_of(rt, alloc, input)?, letters.1)?;
+    let text = among_letters(alloc, letters.0, &bytes_of(rt, alloc, output)?, letters.1)?;
+    for back in 0..bytes.len().min(8) {
+        let cut = (letters.0 + 6).min(bytes.len()).saturating_sub(back);
+        let out = in_two(alloc, &start, set, bytes.split_at(cut))?;
+        assert!(rt;
+            out == text,
+            "{line} behind {} letters, cut at {cut}",
+            letters.0
+        );
+    }
+    Ok(())
+}
+
+/// What stands among letters: one character in each encoding, and faults.
+const AMONG: &str = "\
+decode windows-1252 E9 C3A9
+encode windows-1252 C3A9 E9
+decode Shift_JIS 82A0 E38182
+encode Shift_JIS E38182 82A0
+decode EUC-JP A4A2 E38182
+encode EUC-JP E38182 A4A2
+decode ISO-2022-JP 1B244224221B2842 E38182
+encode ISO-2022-JP E38182 1B244224221B2842
+decode UTF-8 FF EFBFBD
+decode UTF-8 E0A0FFE0A080 EFBFBDEFBFBDE0A080
+decode UTF-8 ED9FF0908080 EFBFBDF0908080
+";
+
+#[test]
+fn one_character_among_letters(rt: HostRuntime) -> Result<(), Fail> {
+    let set = few_pairs(rt.alloc())?;
+    for before in 0..100usize {
+        for line in AMONG.lines() {
+            holds_among(&rt, rt.alloc(), &set, line, (before, 100 - before))?;
+        }
+    }
+    Ok(())
+}
+
+/// Behind so many letters that blocks, fronts of 512 bytes and windows are crossed.
+#[test]
+fn one_character_behind_many_letters(rt: HostRuntime) -> Result<(), Fail> {
+    let set = few_pairs(rt.alloc())?;
+    for before in [
+        250, 253, 255, 256, 510, 511, 512, 1020, 1023, 1024, 2000, 4090usize,
+    ] {
+        for line in AMONG.lines() {
+            holds_among(&rt, rt.alloc(), &set, line, (before, 300))?;
+        }
+    }
+    Ok(())
+}
+
+/// Worked examples, which stand on a few entries of the index files.
+const WORKED: &str = "\
+decode UTF-8 EFBBBF41 41
+decode UTF-8 F09080 EFBFBD
+decode UTF-8 E08041 EFBFBDEFBFBD41
+decode UTF-16LE 3DD800DE F09F9880
+decode UTF-16BE D80041 EFBFBD
+decode UTF-16LE 3DD84100 EFBFBD41
+decode Shift_JIS FEFF0041 41
+decode Shift_JIS 82A08220 E38182EFBFBD20
+decode Shift_JIS F040 EE8080
+decode EUC-JP 8FB0A1 E4B882
+decode EUC-JP B0A1 E4BA9C
+decode EUC-JP 8EB1 EFBDB1
+decode EUC-JP B041 EFBFBD41
+decode ISO-2022-JP 1B244224221B28421B284241 E38182EFBFBD41
+decode ISO-2022-JP 1B2842411B284241 4141
+decode ISO-2022-JP 1B24 EFBFBD24
+decode windows-1252 41E980 41C3A9E282AC
+encode UTF-8 61C3A9E282ACF09F9880 61C3A9E282ACF09F9880
+encode ISO-2022-JP E38182 1B244224221B2842
+encode ISO-2022-JP E38182F09F9880 1B244224221B284226233132383531323B
+encode Shift_JIS E28892 817C
+encode EUC-JP E28892 A1DD
+encode ISO-2022-JP E28892 1B2442215D1B2842
+encode Shift_JIS E7BA8A FA5C
+encode EUC-JP E7BA8A F9A1
+encode ISO-2022-JP E7BA8A 1B244279211B2842
+encode Shift_JIS EFBDA1 A1
+encode EUC-JP EFBDA1 8EA1
+encode ISO-2022-JP EFBDA1 1B244221231B2842
+encode windows-1252 41C3A9E38182 41E9262331323335343B
+";
+
+#[test]
+fn worked_examples(rt: HostRuntime) -> Result<(), Fail> {
+    let set = few_pairs(rt.alloc())?;
+    all_hold(&rt, rt.alloc(), &set, WORKED)
+}
+
+#[test]
+fn character_that_the_encoding_lacks(rt: HostRuntime) -> Result<(), Fail> {
+    let set = IndexSet::new(rt.alloc())?;
+    holds(
+        &rt,
+        rt.alloc(),
+        &set,
+        "encode windows-1252 C3A9 26233233333B",
+    )
+}
+
+#[test]
+fn katakana_that_stand_for_one_another(rt: HostRuntime) -> Result<(), Fail> {
+    let files = [
+        (Kind::Jis0208, "0\tFF61\n"),
+        (Kind::Katakana, "0\tFF62\n1\tFF61\n"),
+    ];
+    let set = set_of(rt.alloc(), &files)?;
+    let line = "encode ISO-2022-JP EFBDA2EFBDA1 1B244221211B2842262336353337383B";
+    holds(&rt, rt.alloc(), &set, line)
+}
+
+/// Checks a line of an encoding, another, and pieces, each with the text behind it.
+fn gives_so_far(rt: &impl Abort, alloc: Global, set: &IndexSet, line: &str) -> Result<(), Fail> {
+    let (from, rest) = word(line)?;
+    let (to, pieces) = word(rest)?;
+    let mut transcoder = between(rt, from, to, Mode::Html)?;
+    let mut out = Vec::new(alloc);
+    for piece in pieces.split_whitespace() {
+        let (input, output) = piece.split_once('=').ok_or("no text")?;
+        transcoder.feed(set, &bytes_of(rt, alloc, input)?, &mut out)?;
+        assert!(rt; out == bytes_of(rt, alloc, output)?, "{line}");
+    }
+    transcoder.finish(set, &mut out)?;
+    Ok(())
+}
+
+#[test]
+fn text_behind_each_piece(rt: HostRuntime) -> Result<(), Fail> {
+    let set = few_pairs(rt.alloc())?;
+    for line in [
+        "UTF-8 UTF-8 EF= BB= BF41=41",
+        "UTF-8 UTF-8 F090= 80=",
+        "UTF-16LE UTF-8 3DD8= 00= DE=F09F9880",
+        "Shift_JIS UTF-8 82= A0=E38182",
+        "ISO-2022-JP UTF-8 1B= 2442= 2422=E38182",
+        "UTF-8 ISO-2022-JP E38182=1B24422422 F09F9880=1B244224221B284226233132383531323B",
+    ] {
+        gives_so_far(&rt, rt.alloc(), &set, line)?;
+    }
+    Ok(())
+}
+
+/// What a transcoder answers that has refused a character.
+fn is_spent(rt: &impl Abort, set: &IndexSet, spent: &mut Transcoder, out: &mut Vec<u8>) {
+    assert!(rt; spent.is_spent());
+    assert!(rt; spent.feed(set, b"A", out) == Err(TranscodeError::Spent));
+    assert!(rt; spent.finish(set, out) == Err(TranscodeError::Spent));
+    assert!(rt; out.as_slice() == b"A".as_slice());
+}
+
+#[test]
+fn spent_behind_a_refusal(rt: HostRuntime) -> Result<(), Fail> {
+    let set = IndexSet::new(rt.alloc())?;
+    let mut out = Vec::new(rt.alloc());
+    let mut fatal = Transcoder::new(Encoding::Utf8, Encoding::Windows1252, Mode::Fatal);
+    let refused = fatal.feed(&set, "A\u{E9}".as_bytes(), &mut out);
+    assert_eq!(rt; refused, Err(TranscodeError::Unencodable('\u{E9}')));
+    is_spent(&rt, &set, &mut fatal, &mut out);
+    Ok(())
+}
+
+/// What a transcoder answers that has ended.
+fn is_ended(rt: &impl Abort, set: &IndexSet, ended: &mut Transcoder, out: &mut Vec<u8>) {
+    assert!(rt; ended.progress() == Progress::Ended);
+    assert!(rt; ended.feed(set, b"A", out) == Err(TranscodeError::Spent));
+    assert!(rt; ended.finish(set, out) == Err(TranscodeError::Spent));
+    assert!(rt; !ended.is_spent());
+    assert!(rt; out.is_empty());
+}
+
+#[test]
+fn done_behind_the_end(rt: HostRuntime) -> Result<(), Fail> {
+    let set = IndexSet::new(rt.alloc())?;
+    let mut out = Vec::new(rt.alloc());
+    let mut html = Transcoder::new(Encoding::Utf8, Encoding::Windows1252, Mode::Html);
+    html.finish(&set, &mut out)?;
+    is_ended(&rt, &set, &mut html, &mut out);
+    Ok(())
+}

@@ -1,0 +1,117 @@
+-- The scalars of units in a batch, unit by unit.
+use Rattle.std.proofs.Common.{ℕ, suc, ◌+◌, ◌*◌, ◌<◌, ◌≤◌, ◌≡◌, Bool, true, false, cond, min, take, List, [], ◌∷◌, ◌++◌, Option, Some, None, All, refl, sym, ◌∙◌, ap, subst, arith, length, length-append, drop, take, get_or, append_assoc, append-nil}
+use Rattle.std.proofs.Math.Seq.{drop-cons, take-length}
+use Rattle.std.proofs.lemmas.List.{take_all, length-take-le, get_or-take, take-append-le}
+use Rattle.std.proofs.lemmas.List.Sums.{prefix_len-le-length, prefix_len_passes}
+use Rattle.std.specs.List.{prefix_len}
+use Rattle.std.specs.Char.{IsScalar, is_ascii}
+use Rattle.std.specs.Bool.{OnTrue}
+use Rattle.enc_model.proofs.Fronts.{front_all}
+use Rattle.std.proofs.lemmas.Bool.Decides.{nat_tests}
+use Rattle.std.proofs.lemmas.List.Elements.{All-head, All-tail, All-from_get_or}
+use Rattle.std.specs.Str.{IsUtf8, chars}
+use Rattle.enc_model.proofs.Gathered.{ascii_chars, ascii_utf8}
+use Rattle.enc_model.specs.Batches.{BatchTook}
+use Rattle.lane_kernels.specs.Units.{is_lead, is_scalar_unit, is_trail, lead_of}
+use Rattle.lane_kernels.specs.Steps.{scalar_text, scalars_of, unit_scalar}
+
+-- of all that a batch is to take so much is there, and the rest remains
+pub record Remains (old all now rest : List ℕ) : Type 0 where
+  pub text : chars now ++ rest ≡ chars old ++ all
+  pub size : length now + 4 * length rest ≤ length old + 4 * length all
+
+pub remains_all : (old all : List ℕ) → Remains old all old all
+remains_all old all = record { text = refl; size = omega arith }
+
+pub remains_more : (old all now x rest new : List ℕ) → Remains old all now (x ++ rest) → BatchTook now x new → Remains old all new rest
+remains_more old all now x rest new r t =
+    let l = length-append x rest in
+    let m = r.size in
+    let n = t.size in
+    record { text = ap (λ z. z ++ rest) t.text ∙ append_assoc (chars now) x rest ∙ r.text; size = omega (arith, l, m, n) }
+
+pub remains_none : (old all new : List ℕ) → Remains old all new [] → BatchTook old all new
+remains_none old all new r = let m = r.size in record { text = sym (append-nil (chars new)) ∙ r.text; size = omega (arith, m) }
+
+pub scalars_more : (lead : Option ℕ) (units : List ℕ) (i : ℕ) → i < length units →
+    scalars_of lead (drop i units) ≡ scalar_text (unit_scalar lead (get_or units i 0)) ++ scalars_of (lead_of (get_or units i 0)) (drop (i + 1) units)
+scalars_more lead units i l =
+    let unit = get_or units i 0 in
+    let next : suc i ≡ i + 1 = omega arith in
+    ap (scalars_of lead) (drop-cons units i 0 l) ∙ ap (λ k. scalar_text (unit_scalar lead unit) ++ scalars_of (lead_of unit) (drop k units)) next
+
+pub few : (x : Option ℕ) → length (scalar_text x) ≤ 1
+few None = omega arith
+few (Some c) = omega arith
+
+ascii_scalar : (lead : Option ℕ) (unit : ℕ) → unit < 128 → (unit_scalar lead unit ≡ Some unit) × (lead_of unit ≡ None)
+ascii_scalar lead unit l =
+    let x : is_lead unit ≡ false = grind (arith, nat_tests) in
+    let y : is_trail unit ≡ false = grind (arith, nat_tests) in
+    (rw (x, y) refl, rw x refl)
+
+-- units below 80 are scalars of their own
+pub ascii_scalars : (lead : Option ℕ) (units : List ℕ) → All (λ u. u < 128) units → scalars_of lead units ≡ units
+ascii_scalars lead [] a = refl
+ascii_scalars lead (unit ∷ units) a =
+    let s = ascii_scalar lead unit (All-head (λ u. u < 128) unit units a) in
+    rw (s.0, s.1) (ap (λ z. unit ∷ z) (ascii_scalars None units (All-tail (λ u. u < 128) unit units a)))
+
+-- a front of units below 80 that is there is its own text
+pub front_text : (units code : List ℕ) (from : ℕ) → from ≤ prefix_len is_ascii units → take from code ≡ take from units →
+    IsUtf8 (take from code) × (chars (take from code) ≡ take from units)
+front_text units code from front there =
+    let low : All (λ u. u < 128) (take from units) = All-from_get_or (λ u. u < 128) (take from units) 0 (λ k l.
+    let long = length-take-le from units (omega (arith, front, prefix_len-le-length is_ascii units)) in
+    let m : k < from = omega (arith, l, long) in
+    let p = prefix_len_passes is_ascii units k 0 (omega (arith, m, front)) in
+    let q : get_or units k 0 < 128 = grind (arith, nat_tests, p) in
+    subst (λ u. u < 128) (sym (get_or-take from units k 0 m)) q) in
+    (subst IsUtf8 (sym there) (ascii_utf8 (take from units) low), ap chars there ∙ ascii_chars (take from units) low)
+
+pub prefix_within : (units : List ℕ) (from n : ℕ) → length units ≡ n → from ≤ prefix_len is_ascii units → from ≤ n
+prefix_within units from n long front = omega (arith, long, front, prefix_len-le-length is_ascii units)
+
+-- a unit that is no surrogate is a scalar
+pub unit_scalar_at : (units : List ℕ) (at n : ℕ) → prefix_len is_scalar_unit units ≡ n → at < n → get_or units at 0 < 65536 → IsScalar (get_or units at 0)
+unit_scalar_at units at n all inside small =
+    let p = prefix_len_passes is_scalar_unit units at 0 (omega (arith, all, inside)) in
+    is_scalar (get_or units at 0) small p
+  where
+    is_scalar : (c : ℕ) → c < 65536 → is_scalar_unit c ≡ true → IsScalar c
+    is_scalar c small p = grind (arith, nat_tests, p)
+
+-- units that are narrowed to the last
+pub narrowed : (units out new : List ℕ) (n : ℕ) → length units ≡ 32 → n ≡ 32 → n ≡ min (prefix_len is_ascii units) (length out) →
+    new ≡ take n units ++ drop n out → (take 32 new ≡ units) × All (λ u. u < 128) (take 32 new)
+narrowed units out new n long all e w =
+    let p = prefix_len-le-length is_ascii units in
+    let whole : prefix_len is_ascii units ≡ length units = omega (arith, p, long, all, e) in
+    let every : take n units ≡ units = take_all n units (omega (arith, long, all)) in
+    let same : take 32 new ≡ units =
+    ap (take 32) (w ∙ ap (λ z. z ++ drop n out) every)
+    ∙ take-append-le 32 units (drop n out) (omega (arith, long)) ∙ take_all 32 units (omega (arith, long)) in
+    let low = subst (λ k. All (λ u. u < 128) (take k units)) whole (front_all units) in
+    (same, subst (λ z. All (λ u. u < 128) z) (take-length units ∙ sym same) low)
+
+-- units without surrogates are scalars of their own
+whole_unit : (lead : Option ℕ) (unit : ℕ) → is_scalar_unit unit ≡ true → (unit_scalar lead unit ≡ Some unit) × (lead_of unit ≡ None)
+whole_unit lead unit e =
+    let x : is_lead unit ≡ false = grind (arith, nat_tests, e) in
+    let y : is_trail unit ≡ false = grind (arith, nat_tests, e) in
+    (rw (x, y) refl, rw x refl)
+
+whole_front : (b : Bool) (n k : ℕ) → cond b (1 + n) 0 ≡ suc k → (b ≡ true) × (n ≡ k)
+whole_front true n k e = (refl, omega (arith, e))
+whole_front false n k e = absurd (omega (arith, e))
+
+pub whole_scalars : (lead : Option ℕ) (units : List ℕ) → prefix_len is_scalar_unit units ≡ length units → scalars_of lead units ≡ units
+whole_scalars lead [] whole = refl
+whole_scalars lead (unit ∷ units) whole =
+    let f = whole_front (is_scalar_unit unit) (prefix_len is_scalar_unit units) (length units) whole in
+    let s = whole_unit lead unit f.0 in
+    rw (s.0, s.1) (ap (λ z. unit ∷ z) (whole_scalars None units f.1))
+
+pub on_true : (b : Bool) (P : Type 0) → P → OnTrue b P
+on_true true P p = p
+on_true false P p = tt

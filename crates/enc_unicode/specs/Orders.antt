@@ -1,9 +1,0 @@
--- The order of the bytes of a unit, as the handler takes it.
-use Rattle.std.specs.Prelude.{Bool, true, false}
-use Rattle.enc_unicode.specs.declared.order.Order.{Order}
-use Rattle.enc_unicode.specs.declared.order.Order.TheVariants.{Big, Little}
-
--- the higher byte comes first
-abbrev pub is_big : Order → Bool
-is_big Big = true
-is_big Little = false

@@ -1,0 +1,149 @@
+//! Bytes of UTF-16, 32 units at a time where they are paired.
+
+ghost use Rattle.std.specs.Prelude.{◌≡◌, ◌<◌, ◌≤◌, ◌+◌, ◌*◌, false, All, length, take};
+ghost use Rattle.std.specs.Bool.{OnTrue, OnFalse};
+ghost use Rattle.enc_model.specs.Batches.{BatchTook};
+ghost use Rattle.enc_model.specs.Stream.{steps};
+ghost use Rattle.enc_model.specs.Utf16.{utf16};
+ghost use Rattle.lane_kernels.specs.Orders.{is_big};
+ghost use Rattle.lane_kernels.specs.Steps.{scalar_text, scalars_of, step_text, unit_scalar};
+ghost use Rattle.lane_kernels.specs.Units.{IsCarried, lead_of};
+
+use crate::scalar_units::{CODE, write_scalars};
+use enc_model::{Batch, ROOM};
+use lane_kernels::{
+    Order, Pairing, Step, lead_in, narrow, paired, paired_units_decode, scalar_front,
+};
+use std::str::from_utf8_unchecked;
+
+/// How many bytes are looked at in one go.
+const LANES: usize = 64;
+
+/// Takes what a step says.
+fn push_step(step: Step, batch: &mut Batch)
+    requires { length batch.old + 8 ≤ ROOM }
+    ensures { BatchTook batch.old (step_text step) batch.new }
+{
+    if step.fault {
+        batch.push('\u{FFFD}');
+    }
+    if let Some(c) = step.scalar {
+        batch.push(c);
+    }
+}
+
+/// Takes the character that a unit completes behind a carried lead or none.
+#[inline(always)]
+fn push_unit(carried: Option<u16>, unit: u16, batch: &mut Batch)
+    requires carried { IsCarried carried }
+    requires room { length batch.old + 4 ≤ ROOM }
+    ensures { BatchTook batch.old (scalar_text (unit_scalar carried unit)) batch.new }
+{
+    if let Some(c) = char::from_u32(unit as u32) {
+        batch.push(c);
+    } else if let (Some(lead), 0xDC00..=0xDFFF) = (carried, unit) {
+        batch.push(paired(lead, unit));
+    }
+}
+
+/// Takes the characters of units behind a carried lead or none.
+///
+/// Never inlined: its caller would else take each unit out of the lanes first, also where it isn't called.
+#[inline(never)]
+fn push_units(carried: Option<u16>, units: &[u16; 32], batch: &mut Batch)
+    requires carried { IsCarried carried }
+    requires room { length batch.old + 128 ≤ ROOM }
+    ensures { BatchTook batch.old (scalars_of carried units.now) batch.new }
+{
+    let mut lead = carried;
+    for unit in units {
+        push_unit(lead, *unit, batch);
+        lead = lead_in(*unit);
+    }
+}
+
+/// Takes the first 32 bytes, which are below 80, each for itself.
+#[inline(always)]
+fn push_front(code: &[u8; CODE], batch: &mut Batch)
+    requires ascii { All (λ b. b < 128) (take 32 code.now) }
+    requires room { length batch.old + 32 ≤ ROOM }
+    ensures { BatchTook batch.old (take 32 code.now) batch.new }
+{
+    batch.push_ascii(&code[..32]);
+}
+
+/// Takes units that are paired behind a carried lead or none.
+fn push_paired(carried: Option<u16>, units: &[u16; 32], batch: &mut Batch)
+    requires carried { IsCarried carried }
+    requires room { length batch.old + 128 ≤ ROOM }
+    ensures { BatchTook batch.old (scalars_of carried units.now) batch.new }
+{
+    let mut code = [0; CODE];
+    let ascii = narrow(units, &mut code);
+    if ascii == 32 {
+        push_front(&code, batch);
+    } else if scalar_front(units) == 32 {
+        let len = write_scalars(units, ascii, &mut code);
+        batch.push_str(unsafe { from_utf8_unchecked(&code[..len]) });
+    } else {
+        push_units(carried, units, batch);
+    }
+}
+
+/// The steps over bytes, one after the other.
+fn decode_each(pairing: &mut Pairing, order: Order, bytes: &[u8], batch: &mut Batch)
+    requires { length batch.old + 12 * length bytes.now ≤ ROOM }
+    ensures text { BatchTook batch.old (steps (utf16 (is_big order)) false pairing.old bytes.now).text batch.new }
+    ensures state { pairing.new ≡ (steps (utf16 (is_big order)) false pairing.old bytes.now).state }
+{
+    for byte in bytes {
+        push_step(pairing.tail(order, *byte), batch);
+    }
+}
+
+/// The steps over 64 bytes if their units are paired, and whether they are.
+fn decode_paired(pairing: &mut Pairing, order: Order, bytes: &[u8; 64], batch: &mut Batch) -> bool
+    requires { length batch.old + 128 ≤ ROOM }
+    ensures text { OnTrue result (BatchTook batch.old (steps (utf16 (is_big order)) false pairing.old bytes.now).text batch.new) }
+    ensures state { OnTrue result (pairing.new ≡ (steps (utf16 (is_big order)) false pairing.old bytes.now).state) }
+    ensures unchanged { OnFalse result ((pairing.new ≡ pairing.old) × (batch.new ≡ batch.old)) }
+{
+    paired_units_decode();
+    let carried = pairing.lead();
+    let mut units = [0; 32];
+    let is_paired = pairing.block(order, bytes, &mut units);
+    if is_paired {
+        push_paired(carried, &units, batch);
+    }
+    is_paired
+}
+
+/// Goes on in a block, and says how far: over 64 bytes, or over all where there are fewer.
+fn decode_some(pairing: &mut Pairing, order: Order, rest: &[u8], batch: &mut Batch) -> usize
+    requires some { 0 < length rest.now }
+    requires room { length batch.old + 12 * length rest.now ≤ ROOM }
+    ensures some { (0 < result) × (result ≤ length rest.now) }
+    ensures text { BatchTook batch.old (steps (utf16 (is_big order)) false pairing.old (take result rest.now)).text batch.new }
+    ensures state { pairing.new ≡ (steps (utf16 (is_big order)) false pairing.old (take result rest.now)).state }
+{
+    if let Some(bytes) = rest.first_chunk::<LANES>() {
+        if decode_paired(pairing, order, bytes, batch) {
+            return LANES;
+        }
+    }
+    let count = LANES.min(rest.len());
+    decode_each(pairing, order, &rest[..count], batch);
+    count
+}
+
+/// The steps over a block, for whose text a batch surely has room.
+pub fn decode_block(pairing: &mut Pairing, order: Order, block: &[u8], batch: &mut Batch)
+    requires { length batch.old + 12 * length block.now ≤ ROOM }
+    ensures text { BatchTook batch.old (steps (utf16 (is_big order)) false pairing.old block.now).text batch.new }
+    ensures state { pairing.new ≡ (steps (utf16 (is_big order)) false pairing.old block.now).state }
+{
+    let mut at = 0;
+    while at < block.len() {
+        at += decode_some(pairing, order, &block[at..], batch);
+    }
+}

@@ -1,0 +1,193 @@
+//! The well-formed text that bytes begin with.
+
+ghost use Rattle.std.specs.Prelude.{◌≡◌, ◌<◌, ◌≤◌, length, slice_index, take};
+ghost use Rattle.std.specs.Str.{IsUtf8};
+ghost use Rattle.enc_model.specs.Index.{within};
+
+use enc_model::BLOCK;
+use lane_kernels::ascii_front;
+use simdutf8::basic;
+use std::str::from_utf8_unchecked;
+
+/// How many bytes are looked at in one go, at first and at most.
+pub const FIRST_REACH: usize = 1024;
+
+const WIDEST: usize = 4096;
+
+/// How many bytes longer the text of a block may be than the block for its faults to be few.
+const FEW: usize = 8;
+
+/// How far to look behind a text: further where it filled the reach, and else no further than a block.
+pub fn reach_behind_text(reach: usize, found: usize) -> usize {
+    if found < reach - reach.min(4) {
+        return BLOCK;
+    }
+    if reach < WIDEST {
+        reach + reach / 4
+    } else {
+        reach
+    }
+}
+
+/// How far to look behind what was found as a text, or else read and written as a block: no further than a block where
+/// it had few faults, and not at all where it had more. What is left of a character that was kept says nothing.
+pub fn next_reach(reach: usize, found: usize, read: usize, written: usize) -> usize {
+    if 0 < found {
+        return reach_behind_text(reach, found);
+    }
+    match read {
+        0..4 => reach,
+        _ if written - written.min(read) <= FEW => BLOCK,
+        _ => 0,
+    }
+}
+
+/// How many of these bytes are whole characters, if they are well-formed up to the last.
+fn whole(bytes: &[u8]) -> usize
+    ensures { result ≤ length bytes.now }
+{
+    let len = bytes.len();
+    for back in 1..4 {
+        if len < back {
+            return len;
+        }
+        let byte = bytes[len - back];
+        if byte < 0x80 {
+            return len;
+        }
+        if byte >= 0xC0 {
+            let wanted = if byte < 0xE0 {
+                2
+            } else if byte < 0xF0 {
+                3
+            } else {
+                4
+            };
+            return if wanted > back { len - back } else { len };
+        }
+    }
+    len
+}
+
+/// How many bytes a block has at the front of these, so that it cuts no character.
+pub fn block_len(bytes: &[u8]) -> usize
+    requires { 0 < length bytes.now }
+    ensures some { (0 < result) × (result ≤ length bytes.now) }
+    ensures few { result ≤ BLOCK }
+{
+    if bytes.len() <= BLOCK {
+        return bytes.len();
+    }
+    let len = whole(&bytes[..BLOCK]);
+    if len == 0 { BLOCK } else { len }
+}
+
+/// The bytes within reach as a text, but for a character that the reach cuts; empty where they are no text.
+pub fn text_within(bytes: &[u8], reach: usize) -> &str
+    ensures { result.now ≡ take (length result.now) bytes.now }
+{
+    let window = if reach < bytes.len() {
+        &bytes[..reach]
+    } else {
+        bytes
+    };
+    match basic::from_utf8(&window[..whole(window)]) {
+        Ok(text) => text,
+        Err(_) => "",
+    }
+}
+
+/// Whether a byte may go on with a character.
+#[inline(always)]
+fn follows(byte: u8) -> bool
+    ensures { result ≡ within 0x80 0xBF byte }
+{
+    matches!(byte, 0x80..=0xBF)
+}
+
+/// How many bytes the character of two bytes has that may begin here.
+#[inline(always)]
+fn two_len(bytes: &[u8]) -> usize
+    requires some { 0 < length bytes.now }
+    requires first { (0xC2 ≤ slice_index bytes.now 0) × (slice_index bytes.now 0 ≤ 0xDF) }
+    ensures few { result ≤ length bytes.now }
+    ensures utf8 { IsUtf8 (take result bytes.now) }
+{
+    if bytes.len() < 2 {
+        return 0;
+    }
+    if follows(bytes[1]) { 2 } else { 0 }
+}
+
+/// How many bytes the character of three bytes has that may begin here, whose second byte has no bounds of its own.
+#[inline(always)]
+fn three_len(bytes: &[u8]) -> usize
+    requires some { 0 < length bytes.now }
+    requires first { (0xE1 ≤ slice_index bytes.now 0) × (slice_index bytes.now 0 ≤ 0xEC) }
+    ensures few { result ≤ length bytes.now }
+    ensures utf8 { IsUtf8 (take result bytes.now) }
+{
+    if bytes.len() < 3 {
+        return 0;
+    }
+    if !follows(bytes[1]) {
+        return 0;
+    }
+    if follows(bytes[2]) { 3 } else { 0 }
+}
+
+/// The first four bytes, or all where there are fewer.
+fn first_four(bytes: &[u8]) -> &[u8]
+    ensures { result.now ≡ take (length result.now) bytes.now }
+{
+    if 4 < bytes.len() { &bytes[..4] } else { bytes }
+}
+
+/// The longest text that bytes begin with, as std finds it.
+fn longest_text(bytes: &[u8]) -> &str
+    ensures { result.now ≡ take (length result.now) bytes.now }
+{
+    match std::str::from_utf8(bytes) {
+        Ok(text) => text,
+        Err(error) => unsafe { from_utf8_unchecked(&bytes[..error.valid_up_to()]) },
+    }
+}
+
+/// How many of the first four bytes are a text: the way of the characters that are rare.
+fn other_len(bytes: &[u8]) -> usize
+    ensures few { result ≤ length bytes.now }
+    ensures utf8 { IsUtf8 (take result bytes.now) }
+{
+    longest_text(first_four(bytes)).len()
+}
+
+/// How many bytes the text has that is found at once: a run of ASCII or a character, nothing where none begins.
+#[inline(always)]
+fn text_len(bytes: &[u8]) -> usize
+    requires { 0 < length bytes.now }
+    ensures few { result ≤ length bytes.now }
+    ensures utf8 { IsUtf8 (take result bytes.now) }
+{
+    match bytes[0] {
+        0x00..=0x7F => ascii_front(bytes),
+        0xC2..=0xDF => two_len(bytes),
+        0xE1..=0xEC => three_len(bytes),
+        0x80..=0xC1 | 0xF5..=0xFF => 0,
+        _ => other_len(bytes),
+    }
+}
+
+/// The text that bytes begin with, up to the first fault.
+pub fn text_before_fault(bytes: &[u8]) -> &str
+    ensures { result.now ≡ take (length result.now) bytes.now }
+{
+    let mut at = 0;
+    'by_characters: while at < bytes.len() {
+        let len = text_len(&bytes[at..]);
+        if len == 0 {
+            break;
+        }
+        at += len;
+    }
+    unsafe { from_utf8_unchecked(&bytes[..at]) }
+}

@@ -1,9 +1,0 @@
-use Rattle.std.proofs.Common.{◌≡◌}
-use Rattle.tus_session.specs.History.{State}
-use Rattle.gateway.specs.Served.{WentOn}
-use Rattle.gateway.proofs.serving.Server.turn.Given as goal
-
-abbrev pub invariant-loop-conn : goal.invariant-loop-conn
-invariant-loop-conn g l =
-    (g.C.Connections.failures l.gateway ≡ g.C.Connections.failures l.fn.gateway)
-    × ((before : g.row.C.Denot) (st : State) → WentOn g.C.Connections before l.fn.gateway st → WentOn g.C.Connections before l.gateway st)

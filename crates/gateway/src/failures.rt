@@ -1,0 +1,98 @@
+//! What the program says of its end: the fault, and what the system said where it was the system that failed.
+
+use crate::faults::Fault;
+use spool_disk::FileDisk;
+use std::alloc::AllocError;
+use std::{fmt, io};
+
+/// What the system failed at.
+#[derive(Clone, Copy, Debug, PartialEq, Eq, Drop)]
+pub(crate) enum Task<'a> {
+    /// Making, lengthening or locking the spool at this path.
+    MakeSpool(&'a str),
+    /// Opening or locking the spool at this path.
+    OpenSpool(&'a str),
+    /// Reading, writing or syncing the spool at this path.
+    UseSpool(&'a str),
+    /// Looking into this folder for index files.
+    FindFolder(&'a str),
+    /// Reading the index file of this name in this folder.
+    ReadIndex(&'a str, &'static str),
+    /// Listening at this port.
+    Listen(u16),
+    /// Writing to standard output or standard error.
+    Print,
+}
+
+impl fmt::Display for Task<'_> {
+    fn fmt<W: fmt::Write>(&self, f: &mut fmt::Formatter<W>) -> fmt::Result {
+        match self {
+            Task::MakeSpool(path) => write!(f, "cannot make the spool {path}"),
+            Task::OpenSpool(path) => write!(f, "cannot open the spool {path}"),
+            Task::UseSpool(path) => write!(f, "cannot read or write the spool {path}"),
+            Task::FindFolder(path) => write!(f, "cannot look into the folder {path}"),
+            Task::ReadIndex(folder, file) => write!(f, "cannot read {folder}/{file}"),
+            Task::Listen(port) => write!(f, "cannot listen at 127.0.0.1:{port}"),
+            Task::Print => f.write_str("cannot write to standard output or standard error"),
+        }
+    }
+}
+
+/// Why the program ends before its work is done: one line, and a second one where the system failed.
+#[derive(Clone, Copy, Debug, Drop)]
+pub(crate) struct Failure<'a> {
+    fault: Fault,
+    /// what the system failed at, and why
+    cause: Option<(Task<'a>, io::Error)>,
+}
+
+impl<'a> Failure<'a> {
+    /// The system failed at a task.
+    pub(crate) fn new(fault: Fault, task: Task<'a>, error: io::Error) -> Self {
+        Failure {
+            fault,
+            cause: Some((task, error)),
+        }
+    }
+
+    /// Work on the spool at this path failed. Where it was for the device, the disk says why.
+    pub(crate) fn on_spool(fault: Fault, path: &'a str, disk: &FileDisk) -> Self {
+        match (fault, disk.error()) {
+            (Fault::Device, Some(error)) => Failure::new(fault, Task::UseSpool(path), error),
+            _ => Failure::from(fault),
+        }
+    }
+
+    /// The status that the program ends with.
+    pub(crate) fn status(&self) -> u8 {
+        self.fault.status()
+    }
+}
+
+impl fmt::Display for Failure<'_> {
+    fn fmt<W: fmt::Write>(&self, f: &mut fmt::Formatter<W>) -> fmt::Result {
+        match &self.cause {
+            Some((task, error)) => write!(f, "{}\n{task}: {error}", self.fault),
+            None => write!(f, "{}", self.fault),
+        }
+    }
+}
+
+impl<'a> From<Fault> for Failure<'a> {
+    fn from(fault: Fault) -> Self {
+        Failure { fault, cause: None }
+    }
+}
+
+impl<'a> From<AllocError> for Failure<'a> {
+    fn from(error: AllocError) -> Self {
+        Failure::from(Fault::from(error))
+    }
+}
+
+// Every error that comes bare is one of standard output or standard error.
+impl<'a> From<io::Error> for Failure<'a> {
+    fn from(error: io::Error) -> Self {
+        Failure::new(Fault::from(error), Task::Print, error)
+    }
+}

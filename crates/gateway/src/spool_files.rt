@@ -1,0 +1,25 @@
+//! Spools in files.
+
+use crate::failures::{Failure, Task};
+use crate::faults::Fault;
+use spool_disk::FileDisk;
+
+/// The spool in the file at this path.
+pub(crate) fn open_spool<'a>(rt: &HostRuntime, path: &'a str) -> Result<FileDisk, Failure<'a>> {
+    match FileDisk::try_open(rt, path) {
+        Ok(disk) => Ok(disk),
+        Err(error) => Err(Failure::new(Fault::Device, Task::OpenSpool(path), error)),
+    }
+}
+
+/// The file at this path, made or lengthened to so many bytes.
+pub(crate) fn make_spool<'a>(
+    rt: &HostRuntime,
+    path: &'a str,
+    len: u64,
+) -> Result<FileDisk, Failure<'a>> {
+    match FileDisk::try_create(rt, path, len) {
+        Ok(disk) => Ok(disk),
+        Err(error) => Err(Failure::new(Fault::Device, Task::MakeSpool(path), error)),
+    }
+}

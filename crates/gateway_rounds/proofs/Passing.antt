@@ -1,0 +1,197 @@
+-- From a run and a crash to a round.
+use Rattle.std.proofs.Common.{◌≡◌, ◌≤◌, ◌*◌, inl, inr, ℕ, List, [], ◌∷◌, ◌++◌, drop, Option, Some, None, Ok, Err, refl, sym, subst, ap, ◌∙◌, append-nil, append_assoc, arith, ⊎_elim}
+use Rattle.spool_disk.specs.Disk.{Counts, IsImage}
+use Rattle.spool_disk.specs.declared.disk.Disk.{Ghosts}
+use Rattle.spool_journal.specs.Image.{all_pages}
+use Rattle.spool_image.specs.LeftOnly.{AllShow, IsSpool}
+use Rattle.spool_image.proofs.Crashed.{synced_shows, text_shown}
+use Rattle.spool_kept.specs.Shows.{ImageShows}
+use Rattle.spool_kept.specs.declared.error.OpenFault.TheVariants as opens
+use Rattle.upload_rules.specs.Store.{Store}
+use Rattle.tus_session.specs.History.{State, Mark, Marked, beginning, history}
+use Rattle.gateway_script.specs.Script as script
+use Rattle.gateway_script.specs.Script.{script as the_script, Exit}
+use Rattle.gateway_script.specs.Images.{IsFirst, output_of, last_output, WroteMost}
+use Rattle.gateway_script.specs.declared.faults.CallFault.TheVariants as calls
+use Rattle.gateway_engine.specs.RanOn.{HasFailedOn, EndedOn, Unopened, UnopenedOn, HasRunOn}
+use Rattle.gateway_engine.specs.declared.faults.RunFault.{RunFault}
+use Rattle.gateway_engine.specs.declared.faults.RunFault.TheVariants.{Open, NoMemory, DiskFault, Script, Io}
+use Rattle.gateway_rounds.specs.Rounds.{IsFault, Leaves, IsWhole, EndsAs, Passes}
+
+-- WHAT WAS WRITTEN
+
+-- all events come first
+all_first : (past : List Marked) → IsFirst past past
+all_first past = ([], refl)
+
+-- the output of all events but the latest stands in front
+output_front : (st : State) (past : List Marked) → output_of st past ≡ output_of st (drop 1 past) ++ last_output st past
+output_front st [] = refl
+output_front st (e ∷ past) = refl
+
+-- what a run that was broken off wrote is the front of what its events gave
+most_front : (st : State) (past : List Marked) (out : List ℕ)
+    → WroteMost calls.NoMemory st past out → (rest : List ℕ) × (output_of st past ≡ out ++ rest)
+most_front st past out (inl all) = ([], sym all ∙ sym (append-nil out))
+most_front st past out (inr but_last) =
+    (last_output st past, output_front st past ∙ ap (λ (xs : List ℕ). xs ++ last_output st past) (sym but_last))
+
+part_front : (st : State) (past : List Marked) (out : List ℕ)
+    → WroteMost calls.Io st past out → (rest : List ℕ) × (output_of st past ≡ out ++ rest)
+part_front st past out (part, missing, is, wrote) = (
+  missing,
+  output_front st past ∙ (ap (λ (xs : List ℕ). output_of st (drop 1 past) ++ xs) is
+      ∙ (sym (append_assoc (output_of st (drop 1 past)) part missing) ∙ ap (λ (xs : List ℕ). xs ++ missing) (sym wrote))),
+)
+
+-- BEHIND THE CRASH
+
+-- from the disk before a run to the disk that came back, and to the disk behind the crash
+module _ {D : Type 0} (disk : Ghosts D) (before back after : D) (n : ℕ) (m : Store)
+    (now : (t : ℕ) (image : ℕ → ℕ) → t ≤ disk.moment back → IsImage (disk.seen back) (disk.loose back) image → disk.left_since back t image)
+    (only : (image : ℕ → ℕ) → disk.left_since before (disk.moment before) image → IsImage (disk.seen before) (disk.loose before) image)
+    (shown : AllShow disk before n m) (keeps : disk.honest back → disk.honest after) (size : disk.size after ≡ disk.size back)
+    (image : disk.honest back → IsImage (disk.seen back) (disk.loose back) (disk.seen after))
+    (firm : disk.honest back → (p : ℕ) → disk.loose after p → ⊥) where
+  abbrev st : State
+  st = beginning m (Some n)
+
+  -- the crash left an image of an honest disk that shows these uploads
+  settled : (next : Store) → disk.honest back → 4096 * all_pages n ≤ disk.size back → ImageShows n (disk.seen after) next → AllShow disk after n next
+  settled next honest room is = synced_shows disk after n next
+      record { honest = keeps honest; room = subst (λ (k : ℕ). 4096 * all_pages n ≤ k) (sym size) room; shows = is }
+      (firm honest)
+
+  one_settled : (next : Store) → AllShow disk back n next → AllShow disk after n next
+  one_settled next all = settled next all.honest all.room (all.each (disk.seen after) (image all.honest))
+
+  passed : (next : Store) (marks : List Mark) (past : List Marked) (bytes : List ℕ) (fault : Option RunFault) (out : List ℕ)
+      → IsFirst past (the_script st marks bytes).run.past → (rest : List ℕ) × (output_of st past ≡ out ++ rest)
+      → Leaves fault st past next → EndsAs fault st (the_script st marks bytes) past out
+      → AllShow disk after n next → Passes disk after n m next bytes fault out
+  passed next marks past bytes fault out first replies leaves ends all = record {
+    marks = marks;
+    past = past;
+    first = first;
+    unwritten = replies.0;
+    replies = replies.1;
+    leaves = leaves;
+    ends = ends;
+    shows = all;
+    texts = λ k u is. text_shown n (disk.seen after) next k u (all.each (disk.seen after) (record { same = λ p firm. refl })) is;
+  }
+
+  -- the bytes that were there, and those that a run of this script with this fault wrote behind them
+  module _ (front held bytes : List ℕ) where
+    abbrev Lived : Option RunFault → Type 0
+    Lived fault = (next : Store) × (out : List ℕ) × (held ≡ front ++ out) × Passes disk after n m next bytes fault out
+
+    whole : {exit : Exit} (r : script.Result) → EndedOn disk before back n st r (Some held) (Some front) exit → IsWhole st r r.run.past r.run.out
+    whole r is = record { events = refl; output = is.output }
+
+    written_whole : {exit : Exit} (r : script.Result) → EndedOn disk before back n st r (Some held) (Some front) exit
+        → (rest : List ℕ) × (output_of st r.run.past ≡ r.run.out ++ rest)
+    written_whole r is = ([], sym is.output ∙ sym (append-nil r.run.out))
+
+    pub ran : HasRunOn disk before (Ok back) (Some held) (Some front) n st bytes → Lived None
+    ran (marks, is) =
+        let r = the_script st marks bytes in (
+          r.run.state.world.store,
+          r.run.out,
+          is.ended.wrote,
+          passed r.run.state.world.store marks r.run.past bytes None r.run.out (all_first r.run.past) (written_whole r is.ended)
+              (ap (λ (s : State). s.world.store) is.ended.state) (is.ended.exits, whole r is.ended) (one_settled _ is.shows),
+        )
+
+    at_line : (line : ℕ) → HasRunOn disk before (Err (back, Script line)) (Some held) (Some front) n st bytes → Lived (Some (Script line))
+    at_line line (marks, is) =
+        let r = the_script st marks bytes in (
+          r.run.state.world.store,
+          r.run.out,
+          is.ended.wrote,
+          passed r.run.state.world.store marks r.run.past bytes (Some (Script line)) r.run.out (all_first r.run.past) (written_whole r is.ended)
+              (ap (λ (s : State). s.world.store) is.ended.state) (is.ended.exits, whole r is.ended) (one_settled _ is.shows),
+        )
+
+    failed : HasRunOn disk before (Err (back, DiskFault)) (Some held) (Some front) n st bytes → Lived (Some DiskFault)
+    failed (marks, is) =
+        let r = the_script st marks bytes in
+        let one = is.shows.each (disk.seen after) (image is.shows.honest) in (
+          one.store,
+          r.run.out,
+          is.ended.wrote,
+          passed one.store marks r.run.past bytes (Some DiskFault) r.run.out (all_first r.run.past) (written_whole r is.ended)
+              one.among (is.ended.exits, whole r is.ended) (settled one.store is.shows.honest is.shows.room one.shows),
+        )
+
+    out_of_memory : HasRunOn disk before (Err (back, NoMemory)) (Some held) (Some front) n st bytes → Lived (Some NoMemory)
+    out_of_memory (marks, is) = (
+      (history st is.past).world.store,
+      is.out,
+      is.wrote,
+      passed _ marks is.past bytes (Some NoMemory) is.out is.first (most_front st is.past is.out is.most) refl is.most (one_settled _ is.shows),
+    )
+
+    broken_off : HasRunOn disk before (Err (back, Io)) (Some held) (Some front) n st bytes → Lived (Some Io)
+    broken_off (marks, is) = (
+      (history st is.past).world.store,
+      is.out,
+      is.wrote,
+      passed _ marks is.past bytes (Some Io) is.out is.first (part_front st is.past is.out is.most) refl is.most (one_settled _ is.shows),
+    )
+
+    -- an image behind an opening that was refused is one from before, or shows the same
+    unopened_image : UnopenedOn disk before back n m → ImageShows n (disk.seen after) m
+    unopened_image is =
+        let left = now (disk.moment before) (disk.seen after) is.lasts.later (image is.honest) in
+        ⊎_elim (λ earlier. shown.each (disk.seen after) (only (disk.seen after) earlier))
+        (λ either. ⊎_elim (shown.each (disk.seen after)) (λ shows. shows) either)
+        (is.lasts.nothing_else (disk.moment before) (disk.seen after) (omega arith) left)
+
+    none_first : (past : List Marked) → IsFirst [] past
+    none_first past = (past, sym (append-nil past))
+
+    unopened : (fault : RunFault) → held ≡ front → Leaves (Some fault) st [] m → EndsAs (Some fault) st (the_script st [] bytes) [] []
+        → UnopenedOn disk before back n m → Lived (Some fault)
+    unopened fault same leaves ends is = (
+      m,
+      [],
+      same ∙ sym (append-nil front),
+      passed m [] [] bytes (Some fault) [] (none_first (the_script st [] bytes).run.past) ([], refl) leaves ends
+          (settled m is.honest is.room (unopened_image is)),
+    )
+
+    same_bytes : {R : Type 0} → R × (Some held ≡ Some front) → held ≡ front
+    same_bytes (same, is) = cc
+
+    pub refused : (R : Type 0) (fault : RunFault) → Unopened {D = D} (Err (back, fault)) (R × (Some held ≡ Some front))
+        → HasRunOn disk before (Err (back, fault)) (Some held) (Some front) n st bytes → Lived (Some fault)
+    refused R (Open opens.NoMemory) same has = unopened (Open opens.NoMemory) (same_bytes same) refl refl has
+    refused R (Open opens.DiskFault) same has = unopened (Open opens.DiskFault) (same_bytes same) refl refl has
+    refused R (Open opens.NotASpool) same has = absurd has
+    refused R (Open opens.Damaged) same has = absurd has
+    refused R (Open opens.Version) same has = absurd has
+    refused R NoMemory same has = out_of_memory has
+    refused R DiskFault same has = failed has
+    refused R (Script line) same has = at_line line has
+    refused R Io same has = broken_off has
+
+-- THE COUNT OF FAULTS: a crash is none
+pub counts_behind : {F : Type 0} (a b c : ℕ) → c ≡ b → Counts F a b → Counts F a c
+counts_behind {F} a b c same counts = subst (λ (k : ℕ). Counts F a k) (sym same) counts
+
+pub counts_refused : {D : Type 0} (back : D) (fault : RunFault) (a b c : ℕ) → c ≡ b → Counts (HasFailedOn {D = D} (Err (back, fault))) a b
+    → Counts (IsFault (Some fault)) a c
+counts_refused back (Open opens.NoMemory) a b c same counts = counts_behind a b c same counts
+counts_refused back (Open opens.DiskFault) a b c same counts = counts_behind a b c same counts
+counts_refused back (Open opens.NotASpool) a b c same counts = counts_behind a b c same counts
+counts_refused back (Open opens.Damaged) a b c same counts = counts_behind a b c same counts
+counts_refused back (Open opens.Version) a b c same counts = counts_behind a b c same counts
+counts_refused back NoMemory a b c same counts = counts_behind a b c same counts
+counts_refused back DiskFault a b c same counts = counts_behind a b c same counts
+counts_refused back (Script line) a b c same counts = counts_behind a b c same counts
+counts_refused back Io a b c same counts = counts_behind a b c same counts
+
+-- every image of it shows them, so it may be opened
+pub is_spool : {D : Type 0} (disk : Ghosts D) (d : D) (n : ℕ) (m : Store) → AllShow disk d n m → IsSpool disk d n m
+is_spool disk d n m all = record { honest = all.honest; room = all.room; shows = all.each (disk.seen d) (record { same = λ p firm. refl }) }

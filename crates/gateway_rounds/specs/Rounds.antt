@@ -1,0 +1,103 @@
+-- The rounds of a disk's life. In each it is opened, a script is run over it, and it crashes.
+use Rattle.std.specs.Prelude.{◌≡◌, ℕ, List, [], ◌∷◌, ◌++◌, Option, Some, None, take}
+use Rattle.spool_disk.specs.Disk.{Counts, IsImage}
+use Rattle.spool_disk.specs.declared.disk.Disk.{Ghosts}
+use Rattle.spool_image.specs.LeftOnly.{AllShow}
+use Rattle.spool_image.specs.Texts.{HasText}
+use Rattle.spool_kept.specs.declared.error.OpenFault.TheVariants as opens
+use Rattle.upload_rules.specs.Answers.{Among}
+use Rattle.upload_rules.specs.Store.{Store, Upload, upload_of}
+use Rattle.tus_session.specs.History.{State, Mark, Marked, beginning, history}
+use Rattle.gateway_script.specs.Script as script
+use Rattle.gateway_script.specs.Script.{script as the_script, Ran, AtLine, Faulted}
+use Rattle.gateway_script.specs.Images.{IsFirst, output_of, last_stores, WroteMost}
+use Rattle.gateway_script.specs.declared.faults.CallFault.TheVariants as calls
+use Rattle.gateway_engine.specs.declared.faults.RunFault.{RunFault}
+use Rattle.gateway_engine.specs.declared.faults.RunFault.TheVariants.{Open, NoMemory, DiskFault, Script, Io}
+use Rattle.gateway_rounds.specs.declared.round.Round.{Round}
+
+-- THE EVENTS OF A ROUND, of which the latest is first
+
+-- The uploads behind them. Where the device failed at the latest one, they have its change or they don't
+abbrev pub Leaves : Option RunFault → State → List Marked → Store → Type 0
+Leaves (Some DiskFault) st past m = Among m (last_stores st past)
+Leaves fault st past m = m ≡ (history st past).world.store
+
+-- they are all that the script asks for, and all that they gave was written
+pub record IsWhole (st : State) (r : script.Result) (past : List Marked) (out : List ℕ) : Type 0 where
+  pub events : past ≡ r.run.past
+  pub output : out ≡ output_of st past
+
+-- How the run ended. An opening is refused for memory or by the device alone
+abbrev pub EndsAs : Option RunFault → State → script.Result → List Marked → List ℕ → Type 0
+EndsAs None st r past out = (r.exit ≡ Ran) × IsWhole st r past out
+EndsAs (Some (Script line)) st r past out = (r.exit ≡ AtLine line) × IsWhole st r past out
+EndsAs (Some DiskFault) st r past out = (r.exit ≡ Faulted) × IsWhole st r past out
+EndsAs (Some NoMemory) st r past out = WroteMost calls.NoMemory st past out
+EndsAs (Some Io) st r past out = WroteMost calls.Io st past out
+EndsAs (Some (Open opens.NoMemory)) st r past out = past ≡ []
+EndsAs (Some (Open opens.DiskFault)) st r past out = past ≡ []
+EndsAs (Some (Open _)) st r past out = ⊥
+
+-- the device failed
+abbrev pub IsFault : Option RunFault → Type 0
+IsFault (Some DiskFault) = Unit {0}
+IsFault (Some (Open opens.DiskFault)) = Unit {0}
+IsFault _ = ⊥
+
+-- A ROUND
+
+-- Over these uploads some first events of the script happened, by some marks. What was written is the front of what
+-- these gave, and each image of the disk behind the crash shows the uploads behind them, with their texts
+pub record Passes {D : Type 0} (disk : Ghosts D) (after : D) (n : ℕ) (m next : Store) (bytes : List ℕ)
+    (fault : Option RunFault) (out : List ℕ) : Type 0 where
+  pub marks : List Mark
+  pub past : List Marked
+  pub first : IsFirst past (the_script (beginning m (Some n)) marks bytes).run.past
+  pub unwritten : List ℕ
+  pub replies : output_of (beginning m (Some n)) past ≡ out ++ unwritten
+  pub leaves : Leaves fault (beginning m (Some n)) past next
+  pub ends : EndsAs fault (beginning m (Some n)) (the_script (beginning m (Some n)) marks bytes) past out
+  pub shows : AllShow disk after n next
+  pub texts : (k : ℕ) (u : Upload) → upload_of next k ≡ Some u → HasText (disk.seen after) next.indexes k u
+
+-- the crash that was chosen left one of the images that it may leave, all of it synced
+pub record Crashes {D C : Type 0} (disk : Ghosts D) (chosen : C → D → D → Type 0) (how : C) (back after : D) :
+    Type 0 where
+  pub is : chosen how back after
+  pub image : IsImage (disk.seen back) (disk.loose back) (disk.seen after)
+  pub synced : (p : ℕ) → disk.loose after p → ⊥
+
+-- what is read of a script: its limit and one byte more, so that a longer one is refused at its line
+abbrev pub read_of : List ℕ → List ℕ
+read_of bytes = take 1073741825 bytes
+
+-- a round as it was told, from a disk with these uploads to a disk with the next, by way of the disk that came back
+pub record IsRound {D C : Type 0} (disk : Ghosts D) (chosen : C → D → D → Type 0) (n : ℕ) (before after : D)
+    (m next : Store) (round told : Round C) : Type 0 where
+  pub out : List ℕ
+  pub written : told.written.items ≡ round.written.items ++ out
+  pub passes : Passes disk after n m next (read_of round.script.items) told.fault out
+  pub back : D
+  pub crashes : Crashes disk chosen round.crash back after
+  pub counts : Counts (IsFault told.fault) (disk.failures before) (disk.failures after)
+
+-- ALL ROUNDS
+
+-- one after the other, each from where the one before ended
+abbrev pub Lives : {D C : Type 0} → Ghosts D → (C → D → D → Type 0) → ℕ → D → Store → List (Round C) → List (Round C)
+    → D → Store → Type 0
+Lives disk chosen n d m [] [] last end = (last ≡ d) × (end ≡ m)
+Lives disk chosen n d m [] (t ∷ told) last end = ⊥
+Lives disk chosen n d m (r ∷ rounds) [] last end = ⊥
+Lives {D = D} disk chosen n d m (r ∷ rounds) (t ∷ told) last end =
+    (after : D) × (next : Store) × IsRound disk chosen n d after m next r t
+    × Lives disk chosen n after next rounds told last end
+
+-- the disk was made a spool with these uploads, and then lived through the rounds
+pub record HasLived {D C : Type 0} (disk : Ghosts D) (chosen : C → D → D → Type 0) (n : ℕ) (m : Store)
+    (rounds told : List (Round C)) (last : D) : Type 0 where
+  pub made : D
+  pub shows : AllShow disk made n m
+  pub end : Store
+  pub lives : Lives disk chosen n made m rounds told last end

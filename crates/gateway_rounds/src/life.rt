@@ -1,0 +1,61 @@
+//! A disk's life, from its formatting on.
+ghost use Rattle.std.specs.Prelude.{◌≡◌, ℕ, IsOk, IfOk, IfErr};
+ghost use Rattle.spool_disk.specs.Disk.{Counts};
+ghost use Rattle.spool_image.specs.Format.{FitsSpool, HasMagic};
+ghost use Rattle.spool_image.specs.LeftOnly.{AllShow};
+ghost use Rattle.upload_rules.specs.Store.{Store, no_uploads};
+ghost use Rattle.gateway_rounds.specs.Rounds.{HasLived, Lives};
+
+use crate::Round;
+use crate::round::live;
+use enc_index::IndexSet;
+use spool_disk::CrashDisk;
+use spool_image::{FormatError, format};
+use std::alloc::Global;
+
+/// Makes a spool of so many text blocks on a disk, and then lives through the rounds, one after the other. In each the
+/// disk is opened, the script is run over it, up to its end or the call at which the device stops, and it goes on with
+/// one of the images that a crash leaves then. What came of each round stands in it afterwards.
+///
+/// # Errors
+///
+/// As `format`, and the disk comes back. Then no round was begun. Behind it no round is left out, and none refuses to
+/// open the disk but for memory or by the device.
+pub fn endure<D: CrashDisk>(
+    alloc: Global,
+    disk: D,
+    blocks: u32,
+    indexes: &IndexSet,
+    rounds: &mut [Round<D::How>],
+) -> Result<D, (D, FormatError)>
+    // Behind each round the disk has the uploads behind the first events of its script, in order, each of them whole and
+    // with its text; and each event of which a reply was written is one of these.
+    ensures lives { D.honest disk
+        → IfOk result (λ last. HasLived D.Disk D.chosen blocks (no_uploads indexes.now) rounds.old rounds.new last) }
+
+    // It is refused where `format` is, and then no round was begun.
+    ensures fits { IsOk result → FitsSpool blocks (D.size disk) }
+    ensures already { D.honest disk
+        → IfErr result (λ e. e.1 ≡ FormatError.AlreadySpool → HasMagic (D.size disk) (D.seen disk)) }
+    ensures too_long { IfErr result (λ e. e.1 ≡ FormatError.Size → FitsSpool blocks (D.size disk) → ⊥) }
+    ensures counts { IfErr result (λ e. Counts (e.1 ≡ FormatError.DiskFault) (D.failures disk) (D.failures e.0)) }
+    ensures unbegun { IfErr result (λ e. rounds.new ≡ rounds.old) }
+{
+    let mut disk = disk;
+    match format(&mut disk, blocks, indexes) {
+        Ok(()) => Ok(live_through(alloc, disk, rounds)),
+        Err(fault) => Err((disk, fault)),
+    }
+}
+
+/// Lives through the rounds on a disk of which every image shows the same uploads, as `endure` does on a new one.
+pub fn live_through<D: CrashDisk>(alloc: Global, disk: D, rounds: &mut [Round<D::How>]) -> D
+    ensures { (n : ℕ) (m : Store) → AllShow D.Disk disk n m
+        → (last : Store) × Lives D.Disk D.chosen n disk m rounds.old rounds.new result last }
+{
+    let mut disk = disk;
+    for i in 0..rounds.len() {
+        disk = live(alloc, disk, &mut rounds[i]);
+    }
+    disk
+}

@@ -1,0 +1,8 @@
+pub mod Outputs
+pub mod Taking
+pub mod Passing
+pub mod Counting
+pub mod Seen
+pub mod Turns
+pub mod Reaching
+pub mod Ending

@@ -1,0 +1,15 @@
+use Rattle.std.proofs.Common.{◌≡◌, ℕ, Option, List, length}
+use Rattle.tus_session.specs.History.{State}
+use Rattle.gateway_script.specs.Script.{Run, give_within}
+use Rattle.gateway_script.specs.Runs.{view, IsAt, Reaches}
+use Rattle.gateway_script.proofs.lines.give.Given as goal
+
+abbrev pub invariant-loop-left : goal.invariant-loop-left
+invariant-loop-left g l =
+    (g.C.Connections.failures l.core ≡ g.C.Connections.failures l.fn.core)
+    × ((before : g.row.C.Denot) (st : State) (r : Run) (front : Option (List ℕ)) → IsAt (view g.C.Connections before l.fn.core st (g.W.Write.contents l.fn.writer) front) r
+    → (s : Run) × Reaches (give_within (length l.bytes) l.conn l.bytes) r (give_within l.left l.conn l.rest) s
+    × IsAt (view g.C.Connections before l.core st (g.W.Write.contents l.writer) front) s)
+
+abbrev pub decreases-loop-left : goal.decreases-loop-left
+decreases-loop-left g l = l.left

@@ -1,0 +1,15 @@
+use Rattle.std.proofs.Common.{◌≡◌, ℕ, Option, List}
+use Rattle.tus_session.specs.History.{State}
+use Rattle.gateway_script.specs.Script.{Run, mores, most_calls}
+use Rattle.gateway_script.specs.Runs.{view, IsAt, Reaches}
+use Rattle.gateway_script.proofs.lines.give_text.Given as goal
+
+abbrev pub invariant-loop-left : goal.invariant-loop-left
+invariant-loop-left g l =
+    (g.C.Connections.failures l.core ≡ g.C.Connections.failures l.fn.core)
+    × ((before : g.row.C.Denot) (st : State) (r : Run) (front : Option (List ℕ)) → IsAt (view g.C.Connections before l.fn.core st (g.W.Write.contents l.fn.writer) front) r
+    → (s : Run) × Reaches (mores most_calls l.conn) r (mores l.left l.conn) s
+    × IsAt (view g.C.Connections before l.core st (g.W.Write.contents l.writer) front) s)
+
+abbrev pub decreases-loop-left : goal.decreases-loop-left
+decreases-loop-left g l = l.left

@@ -1,0 +1,15 @@
+use Rattle.std.proofs.Common.{◌≡◌, ℕ, Option, List, ◌+◌, ◌≤◌, length}
+use Rattle.tus_session.specs.History.{State}
+use Rattle.gateway_script.specs.Script.{Run, run_lines, script_lines}
+use Rattle.gateway_script.specs.Runs.{view, IsAt, Reaches}
+use Rattle.gateway_script.proofs.runs.run_script.Given as goal
+
+abbrev pub invariant-loop-rest : goal.invariant-loop-rest
+invariant-loop-rest g l =
+    (l.start + length l.rest ≡ length l.script) × (l.number ≤ l.start + 1) × (g.C.Connections.failures l.core ≡ g.C.Connections.failures l.fn.core)
+    × ((before : g.row.C.Denot) (st : State) (r : Run) (front : Option (List ℕ)) → IsAt (view g.C.Connections before l.fn.core st (g.W.Write.contents l.fn.writer) front) r
+    → (s : Run) × Reaches (run_lines 1 0 (script_lines l.script)) r (run_lines l.number l.start (script_lines l.rest)) s
+    × IsAt (view g.C.Connections before l.core st (g.W.Write.contents l.writer) front) s)
+
+abbrev pub decreases-loop-rest : goal.decreases-loop-rest
+decreases-loop-rest g l = length l.rest

@@ -1,0 +1,46 @@
+-- What a call on the connections answers.
+use Rattle.std.specs.Prelude.{◌≡◌, ◌++◌, ℕ, List, Result, Ok, Err}
+use Rattle.tus_session.specs.History.{State, Event, Mark, Served, OutOfMemory, Failed, Outcome, Gave, Done, Refused, Step, step}
+use Rattle.tus_session.specs.declared.answers.Answer.{Answer}
+use Rattle.tus_session.specs.declared.errors.SessionError.{SessionError}
+use Rattle.tus_session.specs.declared.errors.SessionError.TheVariants.{NoMemory, DiskFault}
+
+-- how the call is marked: refused for memory, failed by the device, or served
+abbrev pub mark_of : {T : Type 0} → Result T SessionError → Mark
+mark_of (Ok x) = Served
+mark_of (Err NoMemory) = OutOfMemory
+mark_of (Err DiskFault) = Failed
+mark_of (Err f) = Served
+
+-- what it tells
+abbrev pub told : List ℕ → Result Answer SessionError → Outcome
+told bytes (Ok a) = Gave bytes a.taken a.closes a.more
+told bytes (Err f) = Refused f
+
+abbrev pub told_done : Result (Unit {0}) SessionError → Outcome
+told_done (Ok x) = Done
+told_done (Err f) = Refused f
+
+-- nothing is known of the connections once the device failed
+abbrev pub UnlessFailed : {T : Type 0} → Result T SessionError → Type 0 → Type 0
+UnlessFailed (Err DiskFault) stands = Unit {0}
+UnlessFailed result stands = stands
+
+-- the history answers so, and the connections are where it is
+pub record Keeps {T : Type 0} (stands : State → Type 0) (result : Result T SessionError) (outcome : Outcome) (now : Step) : Type 0 where
+  pub answer : now.outcome ≡ outcome
+  pub keeps : UnlessFailed result (stands now.state)
+
+-- what is put behind the output: the bytes that the call gives. A refusal leaves it as it was
+abbrev pub Adds : Result Answer SessionError → List ℕ → List ℕ → List ℕ → Type 0
+Adds (Ok a) bytes old new = new ≡ old ++ bytes
+Adds (Err f) bytes old new = new ≡ old
+
+-- a call that gives bytes
+abbrev pub Gives : (State → Type 0) → Result Answer SessionError → List ℕ → List ℕ → State → Event → Type 0
+Gives stands result old new st e =
+    (bytes : List ℕ) × Keeps stands result (told bytes result) (step st e (mark_of result)) × Adds result bytes old new
+
+-- a call that gives none
+abbrev pub Does : (State → Type 0) → Result (Unit {0}) SessionError → State → Event → Type 0
+Does stands result st e = Keeps stands result (told_done result) (step st e (mark_of result))

@@ -1,0 +1,10 @@
+-- The fault of a call as that of its script.
+use Rattle.gateway_script.specs.declared.faults.CallFault.{CallFault}
+use Rattle.gateway_script.specs.declared.faults.CallFault.TheVariants as calls
+use Rattle.gateway_script.specs.declared.faults.ScriptFault.{ScriptFault}
+use Rattle.gateway_script.specs.declared.faults.ScriptFault.TheVariants as scripts
+
+abbrev pub script_fault : CallFault → ScriptFault
+script_fault calls.NoMemory = scripts.NoMemory
+script_fault calls.DiskFault = scripts.DiskFault
+script_fault calls.Io = scripts.Io

@@ -1,0 +1,68 @@
+-- What a list of events gives, and what images may show of it. Of each list the latest event is first.
+use Rattle.std.specs.Prelude.{◌≡◌, ◌≤◌, ◌⊎◌, ℕ, List, [], ◌∷◌, ◌++◌, drop, Option}
+use Rattle.upload_rules.specs.Store.{Store}
+use Rattle.upload_rules.specs.Answers.{Among}
+use Rattle.tus_session.specs.History.{State, Event, Mark, Marked, Served, OutOfMemory, Failed, step, history, conn_in}
+use Rattle.gateway_script.specs.Script.{written}
+use Rattle.gateway_script.specs.declared.faults.CallFault.{CallFault}
+use Rattle.gateway_script.specs.declared.faults.CallFault.TheVariants.{NoMemory, DiskFault, Io}
+
+-- THE UPLOADS behind an event. Where the device failed, those that the event would have made
+abbrev pub shown_by : State → Event → Mark → Store
+shown_by st e Served = (step st e Served).state.world.store
+shown_by st e OutOfMemory = (step st e OutOfMemory).state.world.store
+shown_by st e Failed = (step st e Served).state.world.store
+
+-- the uploads behind all events, behind all but the latest, and so on to those before the first
+abbrev pub stores_of : State → List Marked → List Store
+stores_of st [] = st.world.store ∷ []
+stores_of st (e ∷ past) = shown_by (history st past) e.0 e.1 ∷ stores_of st past
+
+-- the uploads behind all events, and behind all but the latest
+abbrev pub last_stores : State → List Marked → List Store
+last_stores st [] = st.world.store ∷ []
+last_stores st (e ∷ past) = shown_by (history st past) e.0 e.1 ∷ (history st past).world.store ∷ []
+
+-- how many blocks there are before the latest event
+abbrev pub last_blocks : State → List Marked → Option ℕ
+last_blocks st [] = st.world.blocks
+last_blocks st (e ∷ past) = (history st past).world.blocks
+
+-- since some moment that isn't to come, images show the uploads behind all events, or behind all but the latest
+pub record ShowsLast (moment : ℕ) (left_only : Option ℕ → ℕ → List Store → Type 0) (st : State) (past : List Marked) :
+    Type 0 where
+  pub since : ℕ
+  pub reached : since ≤ moment
+  pub left : left_only (last_blocks st past) since (last_stores st past)
+
+abbrev pub AllAmong : List Store → List Store → Type 0
+AllAmong [] ms = Unit {0}
+AllAmong (m ∷ stores) ms = Among m ms × AllAmong stores ms
+
+-- whatever stores all images since some moment were limited to, they still are, once these stores are among them
+pub record LimitsTo (moment moment' : ℕ) (left_only left_only' : Option ℕ → ℕ → List Store → Type 0)
+    (stores : List Store) : Type 0 where
+  pub later : moment ≤ moment'
+  pub limits : (blocks : Option ℕ) (t : ℕ) (ms : List Store) → t ≤ moment → left_only blocks t ms → AllAmong stores ms
+      → left_only' blocks t ms
+
+-- THE OUTPUT of the latest event
+abbrev pub last_output : State → List Marked → List ℕ
+last_output st [] = []
+last_output st (e ∷ past) = written (conn_in e.0) (step (history st past) e.0 e.1).outcome
+
+-- the output of all events
+abbrev pub output_of : State → List Marked → List ℕ
+output_of st [] = []
+output_of st (e ∷ past) = output_of st past ++ last_output st (e ∷ past)
+
+-- these are the first of all events
+abbrev pub IsFirst : List Marked → List Marked → Type 0
+IsFirst first all = (later : List Marked) × (all ≡ later ++ first)
+
+-- What was written of these events by a run that was broken off: all, but nothing of the latest where memory was wanting,
+-- or of the latest a front part, where the writer failed
+abbrev pub WroteMost : CallFault → State → List Marked → List ℕ → Type 0
+WroteMost NoMemory st past out = (out ≡ output_of st past) ⊎ (out ≡ output_of st (drop 1 past))
+WroteMost Io st past out = (part : List ℕ) × (missing : List ℕ) × (last_output st past ≡ part ++ missing) × (out ≡ output_of st (drop 1 past) ++ part)
+WroteMost DiskFault st past out = ⊥

@@ -1,0 +1,132 @@
+//! A call on the connections, and what it writes.
+ghost use Rattle.std.specs.Prelude.{ℕ, List, Option, IsErrOf};
+ghost use Rattle.upload_rules.specs.Answers.{Counts};
+ghost use Rattle.tus_session.specs.History.{State, Opened, Came, More, Ended};
+ghost use Rattle.tus_session.specs.Faults.{error_number};
+ghost use Rattle.gateway_script.specs.Script.{Run, call};
+ghost use Rattle.gateway_script.specs.Runs.{view, IsAt, Went, Refuses, Called, Tells};
+
+use crate::connections::Connections;
+use crate::faults::CallFault;
+use crate::writing::{report, report_refusal, write_out};
+use std::alloc::Global;
+use std::io::Write;
+use tus_session::{Answer, SessionError};
+
+/// A refusal is written. The device's fault ends the run.
+pub(crate) fn refused<W: Write>(
+    alloc: Global,
+    writer: &mut W,
+    conn: usize,
+    error: SessionError,
+) -> Result<(), CallFault>
+    ensures { Refuses (W.contents writer.old) (W.contents writer.new) result conn error }
+{
+    let number = match error {
+        SessionError::NoMemory => 0,
+        SessionError::TooMany => 29,
+        SessionError::Closed => 30,
+        SessionError::DiskFault => return Err(CallFault::DiskFault),
+    };
+    let mut out = Vec::new(alloc);
+    report_refusal(alloc, conn, number, &mut out)?;
+    write_out(writer, &out)
+}
+
+/// What a call gave is written.
+fn tell<W: Write>(
+    alloc: Global,
+    writer: &mut W,
+    conn: usize,
+    bytes: &[u8],
+    closes: bool,
+) -> Result<(), CallFault>
+    ensures { Tells (W.contents writer.old) (W.contents writer.new) result conn bytes.now closes }
+{
+    let mut out = Vec::new(alloc);
+    report(alloc, conn, bytes, closes, &mut out)?;
+    write_out(writer, &out)
+}
+
+/// Opens a connection.
+pub(crate) fn open<C: Connections, W: Write>(
+    alloc: Global,
+    core: &mut C,
+    writer: &mut W,
+    conn: usize,
+) -> Result<(), CallFault>
+    ensures does { (before : C) (st : State) (r : Run) (front : Option (List ℕ)) → IsAt (view C.Connections before core.old st (W.contents writer.old) front) r
+        → Went (view C.Connections before core.new st (W.contents writer.new) front) result (λ x. (call x conn (Opened conn)).run) r }
+    ensures counts { Counts (IsErrOf result CallFault.DiskFault) (C.failures core.old) (C.failures core.new) }
+{
+    match core.opened(conn) {
+        Ok(()) => Ok(()),
+        Err(error) => refused(alloc, writer, conn, error),
+    }
+}
+
+/// Cuts a connection.
+pub(crate) fn cut<C: Connections, W: Write>(
+    alloc: Global,
+    core: &mut C,
+    writer: &mut W,
+    conn: usize,
+) -> Result<(), CallFault>
+    ensures does { (before : C) (st : State) (r : Run) (front : Option (List ℕ)) → IsAt (view C.Connections before core.old st (W.contents writer.old) front) r
+        → Went (view C.Connections before core.new st (W.contents writer.new) front) result (λ x. (call x conn (Ended conn)).run) r }
+    ensures counts { Counts (IsErrOf result CallFault.DiskFault) (C.failures core.old) (C.failures core.new) }
+{
+    match core.ended(conn) {
+        Ok(()) => Ok(()),
+        Err(error) => refused(alloc, writer, conn, error),
+    }
+}
+
+/// Gives bytes to a connection.
+pub(crate) fn came<C: Connections, W: Write>(
+    alloc: Global,
+    core: &mut C,
+    writer: &mut W,
+    conn: usize,
+    bytes: &[u8],
+) -> Result<Option<Answer>, CallFault>
+    ensures does { (before : C) (st : State) (r : Run) (front : Option (List ℕ)) → IsAt (view C.Connections before core.old st (W.contents writer.old) front) r
+        → Called (view C.Connections before core.new st (W.contents writer.new) front) result conn (Came conn bytes.now) r }
+    ensures counts { Counts (IsErrOf result CallFault.DiskFault) (C.failures core.old) (C.failures core.new) }
+{
+    let mut out = Vec::new(alloc);
+    match core.came(conn, bytes, &mut out) {
+        Ok(answer) => {
+            tell(alloc, writer, conn, &out, answer.closes)?;
+            Ok(Some(answer))
+        }
+        Err(error) => {
+            refused(alloc, writer, conn, error)?;
+            Ok(None)
+        }
+    }
+}
+
+/// Asks a connection for the next piece of a text.
+pub(crate) fn more<C: Connections, W: Write>(
+    alloc: Global,
+    core: &mut C,
+    writer: &mut W,
+    conn: usize,
+) -> Result<Option<Answer>, CallFault>
+    ensures does { (before : C) (st : State) (r : Run) (front : Option (List ℕ)) → IsAt (view C.Connections before core.old st (W.contents writer.old) front) r
+        → Called (view C.Connections before core.new st (W.contents writer.new) front) result conn (More conn) r }
+    ensures counts { Counts (IsErrOf result CallFault.DiskFault) (C.failures core.old) (C.failures core.new) }
+{
+    let mut out = Vec::new(alloc);
+    match core.more(conn, &mut out) {
+        Ok(answer) => {
+            tell(alloc, writer, conn, &out, answer.closes)?;
+            Ok(Some(answer))
+        }
+        Err(error) => {
+            refused(alloc, writer, conn, error)?;
+            Ok(None)
+        }
+    }
+}

@@ -1,0 +1,61 @@
+//! Why a run of a script ends before the script does.
+ghost use Rattle.std.specs.Prelude.{◌≡◌};
+ghost use Rattle.gateway_script.specs.Faults.{script_fault};
+
+use std::alloc::AllocError;
+
+/// Why a call of a script's line isn't done.
+#[derive(Clone, Copy, Debug, PartialEq, Eq, Drop)]
+pub enum CallFault {
+    /// A growth was refused outside the calls of the connections.
+    NoMemory,
+    /// The device failed.
+    DiskFault,
+    /// The writer failed, or took nothing.
+    Io,
+}
+
+/// Why a run over uploads ends before its script does.
+#[derive(Clone, Copy, Debug, PartialEq, Eq, Drop)]
+pub enum ScriptFault {
+    /// A growth was refused outside the calls of the connections.
+    NoMemory,
+    /// The device failed.
+    DiskFault,
+    /// The line of this number, counted from 1, is no line of a script, or it or the script is too long.
+    Script(u64),
+    /// The reader or the writer failed, or the writer took nothing.
+    Io,
+}
+
+impl From<AllocError> for CallFault {
+    ghost use Rattle.gateway_script.specs.declared.faults.CallFault.{CallFault};
+
+    ghost from_gives = { λ _ fault. fault ≡ CallFault.NoMemory };
+
+    fn from(_error: AllocError) -> CallFault {
+        CallFault::NoMemory
+    }
+}
+
+impl From<AllocError> for ScriptFault {
+    ghost use Rattle.gateway_script.specs.declared.faults.ScriptFault.{ScriptFault};
+
+    ghost from_gives = { λ _ fault. fault ≡ ScriptFault.NoMemory };
+
+    fn from(_error: AllocError) -> ScriptFault {
+        ScriptFault::NoMemory
+    }
+}
+
+impl From<CallFault> for ScriptFault {
+    ghost from_gives = { λ call fault. fault ≡ script_fault call };
+
+    fn from(fault: CallFault) -> ScriptFault {
+        match fault {
+            CallFault::NoMemory => ScriptFault::NoMemory,
+            CallFault::DiskFault => ScriptFault::DiskFault,
+            CallFault::Io => ScriptFault::Io,
+        }
+    }
+}

@@ -1,0 +1,122 @@
+//! The bytes of a line, given until all are taken.
+ghost use Rattle.std.specs.Prelude.{◌≡◌, ℕ, Option, List, [], length, drop, IsErrOf};
+ghost use Rattle.upload_rules.specs.Answers.{Counts};
+ghost use Rattle.tus_session.specs.History.{State, Gave};
+ghost use Rattle.gateway_script.specs.Script.{Run, mores, mores_after, most_calls, give_within};
+ghost use Rattle.gateway_script.specs.Runs.{view, IsAt, Went, Flowed, GivenOnce, settles};
+
+use crate::calls::{came, more};
+use crate::connections::Connections;
+use crate::faults::CallFault;
+use std::alloc::Global;
+use std::io::Write;
+use tus_session::Answer;
+
+/// Whether the line goes on behind an answer, where no text is still to be given.
+fn goes_on(answer: Option<Answer>) -> Option<bool>
+    ensures { result ≡ settles answer }
+{
+    match answer {
+        None => Some(false),
+        Some(answer) if answer.closes => Some(false),
+        Some(answer) if answer.more => None,
+        Some(_) => Some(true),
+    }
+}
+
+/// A text that is still to be given is given. Whether the line's bytes go on.
+fn give_text<C: Connections, W: Write>(
+    alloc: Global,
+    core: &mut C,
+    writer: &mut W,
+    conn: usize,
+) -> Result<bool, CallFault>
+    ensures does { (before : C) (st : State) (r : Run) (front : Option (List ℕ)) → IsAt (view C.Connections before core.old st (W.contents writer.old) front) r
+        → Flowed (view C.Connections before core.new st (W.contents writer.new) front) result (mores most_calls conn) r }
+    ensures counts { Counts (IsErrOf result CallFault.DiskFault) (C.failures core.old) (C.failures core.new) }
+{
+    let mut left = u64::MAX;
+    while left > 0 {
+        let answer = more(alloc, core, writer, conn)?;
+        if let Some(on) = goes_on(answer) {
+            return Ok(on);
+        }
+        left -= 1;
+    }
+    Ok(true)
+}
+
+/// Whether the line's bytes go on behind an answer: a text that is still to be given is given.
+fn go_on<C: Connections, W: Write>(
+    alloc: Global,
+    core: &mut C,
+    writer: &mut W,
+    conn: usize,
+    answer: Answer,
+) -> Result<bool, CallFault>
+    ensures does { (before : C) (st : State) (r : Run) (front : Option (List ℕ)) (given : List ℕ) → IsAt (view C.Connections before core.old st (W.contents writer.old) front) r
+        → Flowed (view C.Connections before core.new st (W.contents writer.new) front) result
+        (λ x. mores_after (mores most_calls conn) (record { run = x; outcome = Gave given answer.taken answer.closes answer.more })) r }
+    ensures counts { Counts (IsErrOf result CallFault.DiskFault) (C.failures core.old) (C.failures core.new) }
+{
+    match goes_on(Some(answer)) {
+        Some(on) => Ok(on),
+        None => give_text(alloc, core, writer, conn),
+    }
+}
+
+/// One call with bytes of a line, and what follows it. How many bytes were taken, where the line goes on.
+fn give_once<C: Connections, W: Write>(
+    alloc: Global,
+    core: &mut C,
+    writer: &mut W,
+    conn: usize,
+    bytes: &[u8],
+) -> Result<Option<usize>, CallFault>
+    ensures does { (before : C) (st : State) (r : Run) (front : Option (List ℕ)) (k : ℕ) → (bytes.now ≡ [] → ⊥) → IsAt (view C.Connections before core.old st (W.contents writer.old) front) r
+        → GivenOnce (view C.Connections before core.new st (W.contents writer.new) front) result k conn bytes.now r }
+    ensures counts { Counts (IsErrOf result CallFault.DiskFault) (C.failures core.old) (C.failures core.new) }
+{
+    let Some(answer) = came(alloc, core, writer, conn, bytes)? else {
+        return Ok(None);
+    };
+    if go_on(alloc, core, writer, conn, answer)? {
+        Ok(Some(answer.taken))
+    } else {
+        Ok(None)
+    }
+}
+
+/// The bytes behind those that were taken.
+fn untaken(bytes: &[u8], taken: usize) -> &[u8]
+    ensures { result.now ≡ drop taken bytes.now }
+{
+    match bytes.get(taken..) {
+        Some(rest) => rest,
+        None => &[],
+    }
+}
+
+/// Gives a line's bytes to a connection until all are taken. A connection that closes or refuses drops the rest.
+pub(crate) fn give<C: Connections, W: Write>(
+    alloc: Global,
+    core: &mut C,
+    writer: &mut W,
+    conn: usize,
+    bytes: &[u8],
+) -> Result<(), CallFault>
+    ensures does { (before : C) (st : State) (r : Run) (front : Option (List ℕ)) → IsAt (view C.Connections before core.old st (W.contents writer.old) front) r
+        → Went (view C.Connections before core.new st (W.contents writer.new) front) result (give_within (length bytes.now) conn bytes.now) r }
+    ensures counts { Counts (IsErrOf result CallFault.DiskFault) (C.failures core.old) (C.failures core.new) }
+{
+    let mut rest = bytes;
+    let mut left = bytes.len();
+    while left > 0 && !rest.is_empty() {
+        let Some(taken) = give_once(alloc, core, writer, conn, rest)? else {
+            return Ok(());
+        };
+        rest = untaken(rest, taken);
+        left -= 1;
+    }
+    Ok(())
+}

@@ -1,0 +1,153 @@
+//! The lines of a script, one after another, and its end.
+ghost use Rattle.std.specs.Prelude.{◌≡◌, ◌≤◌, ℕ, Option, List, [], length, IsErrOf};
+ghost use Rattle.std.specs.Io.BufRead.{take_through};
+ghost use Rattle.upload_rules.specs.Answers.{Counts};
+ghost use Rattle.tus_session.specs.History.{State};
+ghost use Rattle.gateway_script.specs.Script.{Run, obeyed, cut_from, run_lines, script_lines, is_long, is_bad};
+ghost use Rattle.gateway_script.specs.Shown.{order_shown};
+ghost use Rattle.gateway_script.specs.Runs.{view, IsAt, Went, CutOne, LineRan, Ends};
+
+use crate::calls::{cut, open, refused};
+use crate::connections::Connections;
+use crate::faults::{CallFault, ScriptFault};
+use crate::lines::give;
+use crate::orders::{Order, read_order};
+use std::alloc::Global;
+use std::io::Write;
+use tus_request::texts::{behind, front};
+use tus_session::SessionError;
+
+/// The most bytes of a line: a CR counts, the LF doesn't.
+const MAX_LINE: usize = 65536;
+
+/// The most bytes of a script: each LF counts.
+const MAX_SCRIPT: u64 = 1_073_741_824;
+
+/// Does what a line asks for.
+fn obey<C: Connections, W: Write>(
+    alloc: Global,
+    core: &mut C,
+    writer: &mut W,
+    order: &Order,
+) -> Result<(), CallFault>
+    ensures does { (before : C) (st : State) (r : Run) (front : Option (List ℕ)) → IsAt (view C.Connections before core.old st (W.contents writer.old) front) r
+        → Went (view C.Connections before core.new st (W.contents writer.new) front) result (obeyed (order_shown order.now)) r }
+    ensures counts { Counts (IsErrOf result CallFault.DiskFault) (C.failures core.old) (C.failures core.new) }
+{
+    match order {
+        Order::Skip | Order::Bad => Ok(()),
+        Order::Open(conn) => open(alloc, core, writer, *conn),
+        Order::Give(conn, bytes) => give(alloc, core, writer, *conn, bytes),
+        Order::Cut(conn) => cut(alloc, core, writer, *conn),
+    }
+}
+
+/// Cuts a connection if it is open.
+fn cut_open<C: Connections, W: Write>(
+    alloc: Global,
+    core: &mut C,
+    writer: &mut W,
+    conn: usize,
+) -> Result<(), CallFault>
+    ensures does { (before : C) (st : State) (r : Run) (front : Option (List ℕ)) (k : ℕ) → IsAt (view C.Connections before core.old st (W.contents writer.old) front) r
+        → CutOne (view C.Connections before core.new st (W.contents writer.new) front) result k conn r }
+    ensures counts { Counts (IsErrOf result CallFault.DiskFault) (C.failures core.old) (C.failures core.new) }
+{
+    match core.ended(conn) {
+        Ok(()) => Ok(()),
+        Err(error) => match error {
+            SessionError::Closed => Ok(()),
+            error => refused(alloc, writer, conn, error),
+        },
+    }
+}
+
+/// The first line, with the LF that ends it if it has one.
+fn first_line(script: &[u8]) -> &[u8]
+    ensures line { result.now ≡ take_through 10 script.now }
+    ensures within { length result.now ≤ length script.now }
+{
+    let rest = behind(script, b'\n');
+    &script[..script.len() - rest.len()]
+}
+
+/// Whether a line that begins at this byte of the script is too long, or makes the script so.
+fn too_long(start: u64, line: &[u8]) -> bool
+    ensures { result ≡ is_long start line.now }
+{
+    front(line, b'\n').len() > MAX_LINE || start.saturating_add(line.len() as u64) > MAX_SCRIPT
+}
+
+/// Whether a line asks for nothing that there is.
+fn is_no_order(order: &Order) -> bool
+    ensures { result ≡ is_bad (order_shown order.now) }
+{
+    matches!(order, Order::Bad)
+}
+
+/// Runs a line of this number, which begins at this byte of the script and has its LF.
+fn run_line<C: Connections, W: Write>(
+    alloc: Global,
+    core: &mut C,
+    writer: &mut W,
+    number: u64,
+    start: u64,
+    line: &[u8],
+) -> Result<(), ScriptFault>
+    ensures does { (before : C) (st : State) (r : Run) (front : Option (List ℕ)) (lines : List (List ℕ)) → IsAt (view C.Connections before core.old st (W.contents writer.old) front) r
+        → LineRan (view C.Connections before core.new st (W.contents writer.new) front) result number start line.now lines r }
+    ensures counts { Counts (IsErrOf result ScriptFault.DiskFault) (C.failures core.old) (C.failures core.new) }
+{
+    if too_long(start, line) {
+        return Err(ScriptFault::Script(number));
+    }
+    let order = read_order(alloc, front(line, b'\n'))?;
+    if is_no_order(&order) {
+        return Err(ScriptFault::Script(number));
+    }
+    obey(alloc, core, writer, &order)?;
+    Ok(())
+}
+
+/// Cuts the open connections, in order.
+fn cut_all<C: Connections, W: Write>(
+    alloc: Global,
+    core: &mut C,
+    writer: &mut W,
+) -> Result<(), CallFault>
+    ensures does { (before : C) (st : State) (r : Run) (front : Option (List ℕ)) → IsAt (view C.Connections before core.old st (W.contents writer.old) front) r
+        → Went (view C.Connections before core.new st (W.contents writer.new) front) result (cut_from 16 0) r }
+    ensures counts { Counts (IsErrOf result CallFault.DiskFault) (C.failures core.old) (C.failures core.new) }
+{
+    let mut left = 16;
+    while left > 0 {
+        cut_open(alloc, core, writer, 16 - left)?;
+        left -= 1;
+    }
+    Ok(())
+}
+
+/// Runs the lines of a script, and cuts the connections that are open at its end.
+pub fn run_script<C: Connections, W: Write>(
+    alloc: Global,
+    core: &mut C,
+    writer: &mut W,
+    script: &[u8],
+) -> Result<(), ScriptFault>
+    ensures does { (before : C) (st : State) (r : Run) (front : Option (List ℕ)) → IsAt (view C.Connections before core.old st (W.contents writer.old) front) r
+        → Ends (view C.Connections before core.new st (W.contents writer.new) front) result (run_lines 1 0 (script_lines script.now)) r }
+    ensures counts { Counts (IsErrOf result ScriptFault.DiskFault) (C.failures core.old) (C.failures core.new) }
+{
+    let mut rest = script;
+    let mut number = 1;
+    let mut start = 0;
+    while !rest.is_empty() {
+        let line = first_line(rest);
+        run_line(alloc, core, writer, number, start, line)?;
+        rest = &rest[line.len()..];
+        number += 1;
+        start += line.len() as u64;
+    }
+    cut_all(alloc, core, writer)?;
+    Ok(())
+}

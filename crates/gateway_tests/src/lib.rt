@@ -1,0 +1,7 @@
+//! Tests of the crates below by their public calls.
+#![tactic(auto)]
+
+#[cfg(test)]
+mod scripts;
+#[cfg(test)]
+mod spools;

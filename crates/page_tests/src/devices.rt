@@ -1,0 +1,123 @@
+//! Each kind of disk.
+
+ghost use Rattle.std.specs.Prelude.{◌≡◌, ◌≤◌};
+
+use spool_disk::{
+    Crash, Disk, DiskFault, FileDisk, FuseDisk, HiccupDisk, MemoryDisk, read, write, write_synced,
+};
+use std::test::Fail;
+use std::{fs, io};
+
+const FOLDER: &str = "spool_disk_file_test";
+
+const PATH: &str = "spool_disk_file_test/spool";
+
+const SHARED: &str = "spool_disk_lock_test";
+
+// The first four bytes.
+fn front<D: Disk>(disk: &mut D) -> Result<[u8; 4], DiskFault>
+    requires { 4 ≤ D.size disk.old }
+    ensures { D.size disk.new ≡ D.size disk.old }
+{
+    let mut bytes = [0; 4];
+    read(disk, 0, &mut bytes)?;
+    Ok(bytes)
+}
+
+#[test]
+fn crash_leaves_old_new_or_torn_bytes(rt: HostRuntime) -> Result<(), Fail> {
+    for (kind, want) in [
+        (Crash::Old, *b"abc\0"),
+        (Crash::New, *b"aXY\0"),
+        (Crash::Torn(7), *b"a\x07\x07\0"),
+    ] {
+        let mut disk = MemoryDisk::new(rt.alloc(), 4)?;
+        assert_eq!(rt; disk.len(), 4);
+        write_synced(&mut disk, 0, b"abc")?;
+        write(&mut disk, 1, b"XY")?;
+        let mut left = disk.crash(kind);
+        assert_eq!(rt; front(&mut left), Ok(want), "{kind:?}");
+    }
+    Ok(())
+}
+
+#[test]
+fn fuse_passes_calls_and_then_none(rt: HostRuntime) -> Result<(), Fail> {
+    let mut disk = FuseDisk::new(MemoryDisk::new(rt.alloc(), 4)?, 2);
+    assert_eq!(rt; disk.len(), 4);
+    assert_eq!(rt; disk.write_at(1, b"a"), Ok(()));
+    assert_eq!(rt; disk.sync(), Ok(()));
+    assert_eq!(rt; disk.write_at(2, b"b"), Err(DiskFault));
+    assert_eq!(rt; disk.sync(), Err(DiskFault));
+    assert_eq!(rt; front(&mut disk), Err(DiskFault));
+    let mut inner = disk.into_inner();
+    assert_eq!(rt; front(&mut inner), Ok(*b"\0a\0\0"));
+    Ok(())
+}
+
+#[test]
+fn hiccup_fails_one_call_and_fills_its_range(rt: HostRuntime) -> Result<(), Fail> {
+    for (fill, want) in [(None, *b"abcd"), (Some(9), *b"a\x09\x09d")] {
+        let mut disk = HiccupDisk::new(MemoryDisk::new(rt.alloc(), 4)?, 1, fill);
+        assert_eq!(rt; disk.len(), 4);
+        assert_eq!(rt; disk.write_at(0, b"abcd"), Ok(()));
+        assert_eq!(rt; disk.write_at(1, b"XY"), Err(DiskFault));
+        assert_eq!(rt; disk.sync(), Ok(()));
+        assert_eq!(rt; front(&mut disk), Ok(want));
+        let mut inner = disk.into_inner();
+        assert_eq!(rt; front(&mut inner), Ok(want));
+    }
+    Ok(())
+}
+
+#[test]
+fn file_holds_its_bytes_when_opened_again(rt: HostRuntime) -> Result<(), Fail> {
+    let _ = fs::remove_dir_all(&rt, FOLDER);
+    fs::create_dir(&rt, FOLDER)?;
+    let mut made = FileDisk::create(&rt, PATH, 4)?;
+    assert_eq!(rt; made.len(), 4);
+    assert_eq!(rt; made.write_at(1, b"ab"), Ok(()));
+    assert_eq!(rt; made.sync(), Ok(()));
+    assert_eq!(rt; front(&mut made), Ok(*b"\0ab\0"));
+    drop(made);
+    let mut found = FileDisk::open(&rt, PATH)?;
+    assert!(rt; found.len() == 4);
+    assert_eq!(rt; front(&mut found), Ok(*b"\0ab\0"));
+    drop(found);
+    let mut longer = FileDisk::create(&rt, PATH, 9)?;
+    assert_eq!(rt; front(&mut longer), Ok(*b"\0ab\0"));
+    assert_eq!(rt; fs::metadata(&rt, PATH)?.len(), 9);
+    drop(longer);
+    fs::remove_dir_all(&rt, FOLDER)?;
+    assert!(rt; matches!(FileDisk::open(&rt, PATH), Err(DiskFault)));
+    assert!(rt; matches!(FileDisk::create(&rt, PATH, 4), Err(DiskFault)));
+    Ok(())
+}
+
+#[test]
+fn file_in_use_is_opened_once(rt: HostRuntime) -> Result<(), Fail> {
+    let made = FileDisk::create(&rt, SHARED, 4)?;
+    assert!(rt; matches!(FileDisk::open(&rt, SHARED), Err(DiskFault)));
+    assert!(rt; matches!(FileDisk::create(&rt, SHARED, 9), Err(DiskFault)));
+    assert_eq!(rt; fs::metadata(&rt, SHARED)?.len(), 4);
+    match FileDisk::try_open(&rt, SHARED) {
+        Ok(_disk) => panic!(rt; "opened twice"),
+        Err(error) => assert_eq!(rt; error.kind(), io::ErrorKind::ResourceBusy),
+    }
+    drop(made);
+    let found = FileDisk::open(&rt, SHARED)?;
+    assert!(rt; matches!(FileDisk::try_create(&rt, SHARED, 4), Err(_)));
+    drop(found);
+    fs::remove_file(&rt, SHARED)?;
+    Ok(())
+}
+
+#[test]
+fn shortened_file_answers_faults(rt: HostRuntime) -> Result<(), Fail> {
+    let mut disk = FileDisk::create(&rt, "spool_disk_short_test", 4)?;
+    fs::write(&rt, "spool_disk_short_test", b"abc".as_slice())?;
+    assert_eq!(rt; front(&mut disk), Err(DiskFault));
+    drop(disk);
+    fs::remove_file(&rt, "spool_disk_short_test")?;
+    Ok(())
+}

@@ -1,0 +1,20 @@
+use Rattle.std.proofs.Common.{◌-◌, List, ℕ, min, length, take, sym, ◌∙◌, ap, arith}
+use Rattle.tus_request.specs.Searches.{behind_bytes}
+use Rattle.tus_request.specs.declared.search.Search.TheVariants.{Front}
+use Rattle.tus_request.proofs.Limits.{filled}
+use Rattle.tus_request.proofs.SearchLemmas.{search_on}
+use Rattle.tus_request.proofs.buffer.HeadBuffer.fill.Goals as goal
+
+pub invariant_of-self-2-clause-searched : goal.invariant_of-self-2-clause-searched
+invariant_of-self-2-clause-searched c =
+    let old : List ℕ = c.args.self.now.bytes.items in
+    let front = take c.min.result c.args.piece.now in
+    c.behind-self.ensures
+    ∙ (ap (λ s. behind_bytes s front) c.args.self.now.searched
+    ∙ (sym (search_on Front old front) ∙ ap (behind_bytes Front) (sym c.in_ok-extend_from_slice.ensures.items)))
+
+pub returns : goal.returns
+returns c =
+    c.in_ok-extend_from_slice.ensures.items
+    ∙ filled 8192 c.args.self.now.bytes.items c.args.piece.now c.min.result (omega (arith, c.args.self.now.short, c.args.self.now.bytes.ok.0))
+    (c.min.ensures ∙ ap (λ k. min (length c.args.piece.now) (8192 - k)) (omega (arith, c.len-room.ensures, c.args.self.now.bytes.ok.0)))

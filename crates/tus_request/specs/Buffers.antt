@@ -1,0 +1,18 @@
+-- The head that a buffer has.
+use Rattle.std.specs.Prelude.{ℕ, Bool, ◌||◌, List, [], length, nat_le}
+use Rattle.tus_request.specs.Answers.{Answer, More, Judged}
+use Rattle.tus_request.specs.Searches.{behind_bytes, is_over}
+use Rattle.tus_request.specs.declared.search.Search.TheVariants.{Front}
+use Rattle.tus_request.specs.declared.buffer.HeadBuffer.{HeadBuffer}
+
+abbrev pub bytes_of : HeadBuffer → List ℕ
+bytes_of b = b.bytes.items
+
+-- what stays of a stream's front: all of it, where it is an unfinished head
+abbrev pub unfinished : Answer → List ℕ → List ℕ
+unfinished More s = s
+unfinished (Judged n v) s = []
+
+-- the head's end has come, or as many bytes as a head may have
+abbrev pub is_judged : List ℕ → Bool
+is_judged bytes = is_over (behind_bytes Front bytes) || nat_le 8192 (length bytes)

@@ -1,0 +1,99 @@
+//! A head that comes in pieces.
+ghost use Rattle.std.specs.Prelude.{◌≡◌, ◌++◌, ◌≤◌, [], length, take, vec_len, is_ok, IfOk, if◌then◌else◌};
+ghost use Rattle.enc_model.specs.Indexes.{offers};
+ghost use Rattle.tus_request.specs.Answers.{answer_of};
+ghost use Rattle.tus_request.specs.Searches.{behind_bytes};
+ghost use Rattle.tus_request.specs.declared.search.Search.TheVariants.{Front};
+ghost use Rattle.tus_request.specs.Shown.{answer_shown};
+
+use crate::heads::{MAX_HEAD, parse};
+use crate::requests::Parsed;
+use crate::search::Search;
+use enc_index::IndexSet;
+use std::alloc::{AllocError, Global};
+
+/// The bytes of an unfinished head, at most 8,192; none where no head is under way.
+#[derive(Drop)]
+pub struct HeadBuffer {
+    bytes: Vec<u8>,
+    // where the search for the head's end stands behind these bytes
+    search: Search,
+    ghost short: { vec_len bytes ≤ 8192 },
+    ghost searched: { search ≡ behind_bytes Front bytes.items },
+}
+
+impl HeadBuffer {
+    ghost use Rattle.tus_request.specs.Buffers.{bytes_of, unfinished, is_judged};
+
+    /// No head is under way. It needs no memory.
+    pub fn new(alloc: Global) -> Self
+        ensures { bytes_of result ≡ [] }
+    {
+        HeadBuffer {
+            bytes: Vec::new(alloc),
+            search: Search::Front,
+        }
+    }
+
+    /// How many bytes of the head have come.
+    pub fn len(&self) -> usize
+        ensures { result ≡ length (bytes_of self.now) }
+    {
+        self.bytes.len()
+    }
+
+    /// Reads the head with a piece of the stream behind it, as `parse` reads both in one. What can't belong to a head
+    /// isn't copied, and only the piece is looked through for the head's end.
+    /// Where the head isn't whole yet, the piece is kept; where it is, or can't become one, no head is under way any
+    /// more.
+    ///
+    /// # Errors
+    ///
+    /// `AllocError` if the buffer can't grow, or `parse` wants memory.
+    pub fn read(
+        &mut self,
+        alloc: Global,
+        piece: &[u8],
+        set: &IndexSet,
+    ) -> Result<Parsed, AllocError>
+        ensures function { IfOk result
+            (λ answer. answer_shown answer ≡ answer_of (offers set.now) (bytes_of self.old ++ piece.now)) }
+        ensures rest { IfOk result (λ answer. bytes_of self.new ≡ unfinished (answer_shown answer)
+            (bytes_of self.old ++ piece.now)) }
+    {
+        self.fill(piece)?;
+        if !self.is_judged() {
+            return Ok(Parsed::More);
+        }
+        let parsed = parse(alloc, &self.bytes, set)?;
+        self.clear();
+        Ok(parsed)
+    }
+
+    /// Whether a whole head has come, or what can't become one.
+    fn is_judged(&self) -> bool
+        ensures { result ≡ is_judged (bytes_of self.now) }
+    {
+        self.search.is_over() || self.bytes.len() >= MAX_HEAD
+    }
+
+    /// No head is under way any more.
+    fn clear(&mut self)
+        ensures { bytes_of self.new ≡ [] }
+    {
+        self.bytes.clear();
+        self.search = Search::Front;
+    }
+
+    /// Puts behind the head what it may need of the piece.
+    fn fill(&mut self, piece: &[u8]) -> Result<(), AllocError>
+        ensures { bytes_of self.new ≡ (if is_ok result then take 8192
+            (bytes_of self.old ++ piece.now) else bytes_of self.old) }
+    {
+        let room = MAX_HEAD - self.bytes.len();
+        let front = &piece[..piece.len().min(room)];
+        self.bytes.extend_from_slice(front)?;
+        self.search = self.search.behind(front);
+        Ok(())
+    }
+}

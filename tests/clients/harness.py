@@ -1,0 +1,271 @@
+"""What the client scripts share: a spool in a temporary folder, its server, requests, and texts in every encoding."""
+
+import base64
+import functools
+import http.client
+import random
+import select
+import socket
+import struct
+import subprocess
+import unicodedata
+from pathlib import Path
+
+EVER = str(2**64 - 1)
+TUS = {"Tus-Resumable": "1.0.0"}
+OCTETS = {**TUS, "Content-Type": "application/offset+octet-stream"}
+
+# Each encoding by its label, and the codec of Python that stands for it.
+UNICODE = {"utf-8": "utf-8", "utf-16be": "utf-16-be", "utf-16le": "utf-16-le"}
+JAPANESE = {"shift_jis": "cp932", "euc-jp": "euc_jp", "iso-2022-jp": "iso2022_jp"}
+SINGLE_BYTE = {
+    "ibm866": "cp866",
+    "iso-8859-2": "iso8859_2",
+    "iso-8859-5": "iso8859_5",
+    "iso-8859-15": "iso8859_15",
+    "koi8-r": "koi8_r",
+    "macintosh": "mac_roman",
+    **{f"windows-{n}": f"cp{n}" for n in range(1250, 1259)},
+}
+ENCODINGS = {**UNICODE, **JAPANESE, **SINGLE_BYTE}
+
+KANA = [chr(c) for c in range(0x3041, 0x3094)] + [chr(c) for c in range(0x30A1, 0x30F7)]
+KANJI = [bytes([row, cell]).decode("euc_jp") for row in range(0xB0, 0xCF) for cell in range(0xA1, 0xFF)]
+OTHERS = list("àéîõü€Жшα中語😀🎉")
+
+
+@functools.cache
+def single_byte_table(label):
+    """The 128 characters of the upper half, None where there is none. In windows-125x the standard fills the places of
+    C1 controls that Python's codecs leave free, and has one vowel sign more."""
+    table = [one_char(bytes([byte]), SINGLE_BYTE[label]) for byte in range(0x80, 0x100)]
+    if label.startswith("windows"):
+        table[:0x20] = [char or chr(0x80 + place) for place, char in enumerate(table[:0x20])]
+    if label == "windows-1255":
+        table[0x4A] = "\u05ba"
+    return table
+
+
+def jis0208(pointer):
+    """The code point at a pointer, by the bytes that Shift_JIS has for it; the places for private use have none."""
+    if 8836 <= pointer <= 10715:
+        return None
+    lead, trail = divmod(pointer, 188)
+    lead += 0x81 if lead < 0x1F else 0xC1
+    trail += 0x40 if trail < 0x3F else 0x41
+    return one_char(bytes([lead, trail]), "cp932")
+
+
+def jis0212(pointer):
+    """The code point at a pointer, by the bytes that EUC-JP has for it. The standard has a full-width tilde."""
+    char = one_char(bytes([0x8F, 0xA1 + pointer // 94, 0xA1 + pointer % 94]), "euc_jp")
+    return "\uff5e" if char == "~" else char
+
+
+def katakana(pointer):
+    """The full-width form of a half-width katakana; the two sound marks stay spacing."""
+    return {0x3D: "\u309b", 0x3E: "\u309c"}.get(pointer) or unicodedata.normalize("NFKC", chr(0xFF61 + pointer))
+
+
+def one_char(bytes_, codec):
+    """The character that the bytes stand for, where it is one."""
+    try:
+        char = bytes_.decode(codec)
+    except UnicodeDecodeError:
+        return None
+    return char if len(char) == 1 else None
+
+
+def write_indexes(folder):
+    """Index files made of Python's codecs, for a run without the standard's own."""
+    tables = {"jis0208": (jis0208, 11280), "jis0212": (jis0212, 8836), "iso-2022-jp-katakana": (katakana, 63)}
+    for name, (entry, length) in tables.items():
+        write_index(folder, name, [entry(pointer) for pointer in range(length)])
+    for label in SINGLE_BYTE:
+        write_index(folder, label, single_byte_table(label))
+
+
+def write_index(folder, name, chars):
+    lines = [f"{pointer}\t0x{ord(char):04X}\n" for pointer, char in enumerate(chars) if char]
+    Path(folder, f"index-{name}.txt").write_text("".join(lines))
+
+
+class Sample:
+    """The bytes of an upload, the metadata to make it with, and the text that it should have."""
+
+    def __init__(self, label, data, text, to="utf-8"):
+        self.label, self.data, self.text, self.to = label, data, text, to
+
+    def metadata(self):
+        """`Upload-Metadata`: each value in Base64."""
+        values = {"from": self.label, "to": self.to}
+        return ",".join(f"{key} {base64.b64encode(value.encode()).decode()}" for key, value in values.items())
+
+
+def random_sample(rng, label):
+    """A text in an encoding, of some hundred to some thousand characters. It begins with a letter, so with no BOM.
+
+    Of UTF-8 and the single-byte encodings any bytes are taken, since Python decodes them as the standard does. Of the
+    other encodings, where its answer to faults is another, texts without faults. One in four goes from UTF-8 to the
+    encoding, with references for what has no code in it.
+    """
+    length = rng.choice([rng.randrange(1, 300), rng.randrange(1, 6000)])
+    if label not in UNICODE and rng.randrange(4) == 0:
+        others = [] if label == "euc-jp" else OTHERS
+        text = "a" + "".join(rng.choices(repertoire(label) + others, k=length))
+        return Sample("utf-8", text.encode(), encoded(label, text), to=label)
+    if label == "utf-8" or label in SINGLE_BYTE:
+        data = b"a" + rng.choice([random_bytes(rng, length), faulty_text(rng, label, length)])
+        return Sample(label, data, decoded(label, data).encode())
+    text = "a" + "".join(rng.choices(repertoire(label), k=length))
+    return Sample(label, text.encode(ENCODINGS[label]), text.encode())
+
+
+def random_bytes(rng, length):
+    return rng.randbytes(length)
+
+
+def faulty_text(rng, label, length):
+    """A text's bytes of which some are others."""
+    data = bytearray("".join(rng.choices(repertoire(label), k=length)).encode(ENCODINGS[label], "ignore"))
+    for _ in range(len(data) // 50):
+        data[rng.randrange(len(data))] = rng.randrange(256)
+    return bytes(data)
+
+
+@functools.cache
+def repertoire(label):
+    """Characters that the encoding has, ASCII among them."""
+    ascii_ = [chr(c) for c in range(0x20, 0x7F)] + ["\n"]
+    if label in SINGLE_BYTE:
+        return ascii_ + [char for char in single_byte_table(label) if char]
+    half_width = [chr(c) for c in range(0xFF61, 0xFFA0)] if label in ("shift_jis", "euc-jp") else []
+    return ascii_ + KANA + KANJI + half_width + (OTHERS if label in UNICODE else [])
+
+
+def decoded(label, data):
+    """What the standard decodes the bytes to."""
+    if label == "utf-8":
+        return data.decode("utf-8", "replace")
+    table = single_byte_table(label)
+    return "".join(chr(b) if b < 0x80 else table[b - 0x80] or "\ufffd" for b in data)
+
+
+def encoded(label, text):
+    """What the standard encodes the text to, with a reference for a character without a code. (Python's EUC-JP has
+    codes that the standard only decodes: it is asked for none of them.)"""
+    if label in JAPANESE:
+        return text.encode(ENCODINGS[label], "xmlcharrefreplace")
+    codes = {char: 0x80 + place for place, char in reversed(list(enumerate(single_byte_table(label)))) if char}
+    parts = [bytes([ord(c)]) if ord(c) < 0x80 else reference(codes, c) for c in text]
+    return b"".join(parts)
+
+
+def reference(codes, char):
+    return bytes([codes[char]]) if char in codes else f"&#{ord(char)};".encode()
+
+
+def format_spool(gateway, spool, blocks, indexes):
+    """Makes a spool with the index files of a folder."""
+    words = [gateway, "format", str(spool), "--blocks", str(blocks), "--indexes", str(indexes)]
+    print(subprocess.run(words, check=True, capture_output=True, text=True, timeout=300).stdout.strip())
+
+
+class Server:
+    """A gateway that serves a spool at a port of its own."""
+
+    def __init__(self, gateway, spool):
+        self.words = [gateway, "serve", str(spool), "--port", "0", "--connections", EVER, "--turns", EVER]
+        self.start()
+
+    def start(self):
+        """Starts it, and waits until it listens."""
+        self.process = subprocess.Popen(self.words, stdout=subprocess.PIPE, text=True)
+        if not select.select([self.process.stdout], [], [], 120)[0]:
+            self.kill()
+            raise TimeoutError("the server doesn't listen")
+        self.port = int(self.process.stdout.readline().rpartition(":")[2])
+
+    def kill(self):
+        """Ends it hard, by its own process id."""
+        self.process.kill()
+        self.process.wait(60)
+        self.process.stdout.close()
+
+
+class Refused(Exception):
+    """A reply whose status isn't the one that was asked for."""
+
+    def __init__(self, request, status, number):
+        super().__init__(f"{request}: {status}, X-Refusal {number}")
+        self.status = status
+
+
+class Client:
+    """A tus client on one connection."""
+
+    def __init__(self, port):
+        self.port = port
+        self.connection = http.client.HTTPConnection("127.0.0.1", port, timeout=60)
+
+    def close(self):
+        self.connection.close()
+
+    def ask(self, wanted, method, path, headers, body=None):
+        """The reply's headers and body, where its status is the wanted one. A kept connection that the server ended
+        meanwhile is opened again."""
+        kept = self.connection.sock is not None
+        try:
+            reply, text = self.reply(method, path, headers, body)
+        except (http.client.RemoteDisconnected, BrokenPipeError, ConnectionResetError):
+            self.connection.close()
+            if not kept:
+                raise
+            reply, text = self.reply(method, path, headers, body)
+        if reply.status != wanted:
+            raise Refused(f"{method} {path}", reply.status, reply.headers["X-Refusal"])
+        return reply.headers, text
+
+    def reply(self, method, path, headers, body):
+        self.connection.request(method, path, body=body, headers=headers)
+        reply = self.connection.getresponse()
+        return reply, reply.read()
+
+    def create(self, sample):
+        """The path of a new upload."""
+        headers = {**TUS, "Upload-Length": str(len(sample.data)), "Upload-Metadata": sample.metadata()}
+        return self.ask(201, "POST", "/files", headers)[0]["Location"]
+
+    def offset(self, path):
+        """How many bytes were accepted."""
+        return int(self.ask(200, "HEAD", path, TUS)[0]["Upload-Offset"])
+
+    def patch(self, path, offset, piece):
+        """The offset after a piece. Where a body that was cut before reached the upload since the offset was asked for,
+        the piece is refused, and the offset is asked for again."""
+        headers = {**OCTETS, "Upload-Offset": str(offset)}
+        try:
+            return int(self.ask(204, "PATCH", path, headers, piece)[0]["Upload-Offset"])
+        except Refused as refused:
+            if refused.status != 409:
+                raise
+            return self.offset(path)
+
+    def text(self, path):
+        return self.ask(200, "GET", path, {})[1]
+
+    def cut(self, path, offset, piece, declared, reset):
+        """Declares a longer body than it sends, and ends the connection, by a reset or in order. The next request
+        opens another one."""
+        self.connection.close()
+        lines = [f"PATCH {path} HTTP/1.1", f"Upload-Offset: {offset}", f"Content-Length: {declared}"]
+        lines += [f"{name}: {value}" for name, value in OCTETS.items()]
+        with socket.create_connection(("127.0.0.1", self.port), timeout=60) as raw:
+            raw.sendall("\r\n".join(lines + ["", ""]).encode() + piece)
+            if reset:
+                raw.setsockopt(socket.SOL_SOCKET, socket.SO_LINGER, struct.pack("ii", 1, 0))
+
+
+def rng_of(seed, *names):
+    """Random numbers that are the same for the same seed and names."""
+    return random.Random(f"{seed} {names}")
