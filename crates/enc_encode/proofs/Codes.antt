@@ -1,9 +1,8 @@
 -- What an encoder gives for one character is written in the end, since its state takes the reference's characters as they are.
-use Rattle.std.proofs.Common.{ℕ, zero, suc, ◌<◌, ◌≤◌, ◌≡◌, true, false, List, [], ◌∷◌, ◌++◌, Option, Some, None, refl, sym, ◌∙◌, ap, arith, append_assoc, append-nil, lit≤, lit<, ◌/◌, ◌%◌, ◌==◌, if◌then◌else◌, ◌⊎◌, inl, inr}
+use Rattle.std.proofs.Common.{ℕ, ◌<◌, ◌≤◌, ◌≡◌, false, List, [], ◌∷◌, Option, Some, None, refl, sym, ◌∙◌, ap, arith, append_assoc, append-nil, ◌⊎◌, inl, inr}
 use Rattle.std.specs.Str.{IsUtf8, chars}
 use Rattle.std.proofs.lemmas.Str.{encodes-chars}
 use lib.Utf8.{encode, encodes}
-use Rattle.std.specs.Fmt.{decimal, digits, digits_onto, digit_glyph}
 use Rattle.std.proofs.lemmas.Bool.Decides.{nat_tests}
 use Rattle.std.proofs.lemmas.List.Elements.{All-head, All-tail}
 use Rattle.std.specs.Prelude.{All}
@@ -13,38 +12,13 @@ use Rattle.enc_model.specs.declared.Mode.{Mode}
 use Rattle.enc_model.specs.declared.Mode.TheVariants.{Html, Fatal}
 use Rattle.enc_model.specs.Index.{Index}
 use Rattle.enc_model.specs.Encode.{Shift, InAscii, InRoman, InJis, Written, Wrote, Again, Lacks, Encoder, Coded, behind, reference, coded, joined, all_codes, behind_written, settled, code_within, plain_code, code_of, IsNoAgain, Tables, is_jis, shift_jis_encoder, euc_jp_encoder, iso2022_encoder, single_encoder, utf8_bytes, utf8_encoder, encoder}
-use Rattle.enc_model.proofs.Coding.{coded_is}
+use Rattle.enc_model.proofs.Coding.{ArePlain, reference_plain, coded_is}
 use Rattle.enc_model.proofs.Steady.{encoder_steady}
 use Rattle.enc_encode.specs.declared.shift.ShiftState.{ShiftState}
 use Rattle.enc_encode.specs.declared.written.Bytes.{Bytes}
 use Rattle.enc_encode.specs.declared.written.Written.{Written as CodeWritten}
 use Rattle.enc_encode.specs.declared.written.Written.TheVariants as code
 use Rattle.enc_encode.specs.Code.{final, written_of}
-
--- THE CHARACTERS OF A REFERENCE
-
-abbrev ArePlain : List ℕ → Type 0
-ArePlain [] = Unit {0}
-ArePlain (c ∷ cs) = (0x20 ≤ c) × (c < 0x5C) × ArePlain cs
-
-glyph_plain : (n : ℕ) → (0x20 ≤ digit_glyph false (n % 10)) × (digit_glyph false (n % 10) < 0x5C)
-glyph_plain n = grind arith
-
-digits_plain : (k n : ℕ) (acc : List ℕ) → ArePlain acc → ArePlain (digits_onto k 10 false n acc)
-digits_plain zero n acc p = p
-digits_plain (suc k) n acc p =
-    let g = glyph_plain n in
-    let d = digit_glyph false (n % 10) in
-    elim (n / 10 == 0) as (λ v. ArePlain (if v then d ∷ acc else digits_onto k 10 false (n / 10) (d ∷ acc)))
-    [ true ↦ (g.0, g.1, p) | false ↦ digits_plain k (n / 10) (d ∷ acc) (g.0, g.1, p) ]
-
-plain_append : (a b : List ℕ) → ArePlain a → ArePlain b → ArePlain (a ++ b)
-plain_append [] b p q = q
-plain_append (c ∷ a) b p q = (p.0, p.1, plain_append a b p.2 q)
-
-reference_plain : (d : ℕ) → ArePlain (reference d)
-unfolding digits
-reference_plain d = (lit≤ tt, lit< tt, (lit≤ tt, lit< tt, plain_append (decimal d) (0x3B ∷ []) (digits_plain 64 d [] tt) (lit≤ tt, lit< tt, tt)))
 
 -- the encoder writes it as it is from here
 abbrev StandsFor : Encoder → Shift → ℕ → Type 0

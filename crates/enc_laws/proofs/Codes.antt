@@ -1,57 +1,11 @@
 -- Every steady encoder goes on by what it gives for a code point.
-use Rattle.std.proofs.Common.{ℕ, zero, suc, ◌<◌, ◌≤◌, ◌≡◌, true, false, List, [], ◌∷◌, ◌++◌, Option, Some, None, refl, sym, ◌∙◌, ap, arith, append_assoc, lit≤, lit<, ◌/◌, ◌%◌, ◌==◌, if◌then◌else◌}
-use Rattle.std.specs.Fmt.{decimal, digits, digits_onto, digit_glyph}
+use Rattle.std.proofs.Common.{ℕ, ◌≡◌, List, [], ◌∷◌, ◌++◌, None, refl, sym, ◌∙◌, ap}
 use Rattle.enc_model.specs.declared.Mode.{Mode}
 use Rattle.enc_model.specs.declared.Mode.TheVariants.{Html, Fatal}
 use Rattle.enc_model.specs.Encode.{Shift, Written, Wrote, Again, Lacks, Encoder, Coded, behind, went, reference, coded_within, coded, joined, all_codes, behind_written, settled, code_within, plain_code, code_of, IsWrote, IsNoAgain, IsSteady}
-use Rattle.enc_model.proofs.Coding.{ArePlain, all_codes_append, coded_is}
-
-behind_behind : (x y : List ℕ) (r : Coded) → behind x (behind y r) ≡ behind (x ++ y) r
-behind_behind x y r = simp append_assoc
-
-joined_behind : (x : List ℕ) (r : Coded) (m : Shift → Coded) → joined (behind x r) m ≡ behind x (joined r m)
-joined_behind x r m = go r.fault refl
-  where
-    go : (z : Option ℕ) → r.fault ≡ z → joined (behind x r) m ≡ behind x (joined r m)
-    go None e = rw e (sym (behind_behind x r.bytes (m r.state)))
-    go (Some d) e = rw e refl
-
-joined_more : (r : Coded) (m n : Shift → Coded) → ((s : Shift) → m s ≡ n s) → joined r m ≡ joined r n
-joined_more r m n e = go r.fault refl
-  where
-    go : (z : Option ℕ) → r.fault ≡ z → joined r m ≡ joined r n
-    go None h = rw h (ap (behind r.bytes) (e r.state))
-    go (Some d) h = rw h refl
-
--- A REFERENCE'S CHARACTERS are never an error
-
-glyph_plain : (n : ℕ) → (0x20 ≤ digit_glyph false (n % 10)) × (digit_glyph false (n % 10) < 0x5C)
-glyph_plain n = grind arith
-
-digits_plain : (k n : ℕ) (acc : List ℕ) → ArePlain acc → ArePlain (digits_onto k 10 false n acc)
-digits_plain zero n acc p = p
-digits_plain (suc k) n acc p =
-    let g = glyph_plain n in
-    let d = digit_glyph false (n % 10) in
-    elim (n / 10 == 0) as (λ v. ArePlain (if v then d ∷ acc else digits_onto k 10 false (n / 10) (d ∷ acc)))
-    [ true ↦ (g.0, g.1, p) | false ↦ digits_plain k (n / 10) (d ∷ acc) (g.0, g.1, p) ]
-
-plain_append : (a b : List ℕ) → ArePlain a → ArePlain b → ArePlain (a ++ b)
-plain_append [] b p q = q
-plain_append (c ∷ a) b p q = (p.0, p.1, plain_append a b p.2 q)
-
-reference_plain : (d : ℕ) → ArePlain (reference d)
-unfolding digits
-reference_plain d = (lit≤ tt, lit< tt, (lit≤ tt, lit< tt, plain_append (decimal d) (0x3B ∷ []) (digits_plain 64 d [] tt) (lit≤ tt, lit< tt, tt)))
+use Rattle.enc_model.proofs.Coding.{ArePlain, all_codes_append, coded_is, joined_behind, joined_more, code_behind, reference_plain}
 
 -- WHAT AN ENCODER GIVES
-
-code_behind : (mode : Mode) (go : Shift → List ℕ → Coded) (x : List ℕ) (w : Written) →
-    code_within mode go (behind_written x w) ≡ behind x (code_within mode go w)
-code_behind mode go x (Wrote b s) = refl
-code_behind mode go x (Again b s) = refl
-code_behind Html go x (Lacks b s d) = sym (behind_behind x b (go s (reference d)))
-code_behind Fatal go x (Lacks b s d) = refl
 
 settled_same : (f : Encoder) (c : ℕ) (x : List ℕ) (w : Written) → IsNoAgain (behind_written x w) → settled f c w ≡ w
 settled_same f c x (Wrote b s) n = refl

@@ -1,13 +1,11 @@
 -- What is written behind an unpacked state goes on from what was written before it was packed.
-use Rattle.std.proofs.Common.{ℕ, ◌≡◌, Bool, true, false, List, ◌++◌, Some, None, refl, sym, ◌∙◌, ap, append_assoc, subst}
-use Rattle.enc_model.specs.declared.Encoding.{Encoding}
+use Rattle.std.proofs.Common.{ℕ, ◌≡◌, true, false, List, ◌++◌, Some, None, refl, sym, ◌∙◌, ap, append_assoc, subst}
 use Rattle.enc_model.specs.Encode.{Tables, InAscii, Coded, behind, coded, encoder, ended_coded, encode}
-use Rattle.enc_model.specs.Decode.{undecided, decoded, decoded_text, conclude, decode, text}
+use Rattle.enc_model.specs.Decode.{decoded, decoded_text, text}
 use Rattle.enc_model.specs.Transcode.{Transcoder, phase_of, fed_end, so_far, IsAt, added, added_end, stepped}
 use Rattle.enc_model.proofs.Steady.{encoder_steady}
-use Rattle.enc_model.proofs.Pieces.{conclude_all, decoded_held, decoded_reading}
 use Rattle.enc_model.proofs.Transcoding.{coded_fault, text_added, fault_added, at_next}
-use Rattle.enc_stream.proofs.Ends.{text_ended}
+use Rattle.enc_stream.proofs.Ends.{decode_end, text_ended}
 use Rattle.enc_laws.specs.Resumed.{IsUnpackedFrom}
 use Rattle.enc_laws.proofs.Packed.{same_state}
 
@@ -15,19 +13,6 @@ pub same : (s later : Transcoder) → IsUnpackedFrom s later → later ≡ s
 same s later is = same_state s later is.packed is.sound is.bytes
 
 -- THE TEXT OF A FAULT: what comes behind it doesn't matter.
-
--- all that is decoded with the end is what was decoded and what the end gives
-decode_end : (t : Tables) (e : Encoding) (b : List ℕ) →
-    decode t e b true ≡ decoded_text (decoded t e b false) ++ fed_end t e (phase_of (decoded t e b false))
-unfolding decode fed_end conclude
-decode_end t e b = go (undecided b) refl
-  where
-    go : (u : Bool) → undecided b ≡ u → decode t e b true ≡ decoded_text (decoded t e b false) ++ fed_end t e (phase_of (decoded t e b false))
-    go true h = sym (ap (λ d. decoded_text d ++ fed_end t e (phase_of d)) (decoded_held t e b h))
-    go false h =
-        let d = decoded_reading t e b h in
-        ap decoded_text (sym (conclude_all t e b) ∙ ap (conclude t e) d)
-        ∙ sym (ap (λ z. decoded_text z ++ fed_end t e (phase_of z)) d)
 
 ended_fault : (r : Coded) (c : ℕ) → r.fault ≡ Some c → ended_coded r ≡ r
 ended_fault r c e = rw e refl

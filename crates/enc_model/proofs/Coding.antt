@@ -8,7 +8,7 @@ use Rattle.enc_model.specs.Encode.{Shift, Written, Wrote, Again, Lacks, Encoder,
 behind_behind : (x y : List ℕ) (r : Coded) → behind x (behind y r) ≡ behind (x ++ y) r
 behind_behind x y r = simp append_assoc
 
-joined_behind : (x : List ℕ) (r : Coded) (m : Shift → Coded) → joined (behind x r) m ≡ behind x (joined r m)
+pub joined_behind : (x : List ℕ) (r : Coded) (m : Shift → Coded) → joined (behind x r) m ≡ behind x (joined r m)
 joined_behind x r m =
     elim r.fault as (λ z.
     elim z as (λ _. Coded) [ None ↦ behind (x ++ r.bytes) (m r.state) | Some d ↦ behind x r ]
@@ -22,7 +22,7 @@ joined_joined r m n = go r.fault refl
     go None e = rw e (joined_behind r.bytes (m r.state) n)
     go (Some d) e = rw e refl
 
-joined_more : (r : Coded) (m n : Shift → Coded) → ((s : Shift) → m s ≡ n s) → joined r m ≡ joined r n
+pub joined_more : (r : Coded) (m n : Shift → Coded) → ((s : Shift) → m s ≡ n s) → joined r m ≡ joined r n
 joined_more r m n e = go r.fault refl
   where
     go : (z : Option ℕ) → r.fault ≡ z → joined r m ≡ joined r n
@@ -39,7 +39,7 @@ all_codes_append g s (c ∷ a) b =
 
 -- A CODE POINT'S OWN
 
-code_behind : (mode : Mode) (go : Shift → List ℕ → Coded) (x : List ℕ) (w : Written) →
+pub code_behind : (mode : Mode) (go : Shift → List ℕ → Coded) (x : List ℕ) (w : Written) →
     code_within mode go (behind_written x w) ≡ behind x (code_within mode go w)
 code_behind mode go x (Wrote b s) = refl
 code_behind mode go x (Again b s) = refl
@@ -84,7 +84,7 @@ plain_append : (a b : List ℕ) → ArePlain a → ArePlain b → ArePlain (a ++
 plain_append [] b p q = q
 plain_append (c ∷ a) b p q = (p.0, p.1, plain_append a b p.2 q)
 
-reference_plain : (d : ℕ) → ArePlain (reference d)
+pub reference_plain : (d : ℕ) → ArePlain (reference d)
 unfolding digits
 reference_plain d = (lit≤ tt, lit< tt, (lit≤ tt, lit< tt, plain_append (decimal d) (0x3B ∷ []) (digits_plain 64 d [] tt) (lit≤ tt, lit< tt, tt)))
 

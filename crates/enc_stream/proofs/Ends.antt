@@ -20,7 +20,7 @@ ended_behind x r = go r.fault refl
     go (Some c) e = rw e refl
 
 -- all that is decoded with the end is what was decoded and what the end gives
-decode_end : (t : Tables) (e : Encoding) (b : List ℕ) →
+pub decode_end : (t : Tables) (e : Encoding) (b : List ℕ) →
     decode t e b true ≡ decoded_text (decoded t e b false) ++ fed_end t e (phase_of (decoded t e b false))
 unfolding decode fed_end conclude
 decode_end t e b = go (undecided b) refl

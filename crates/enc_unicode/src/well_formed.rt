@@ -9,9 +9,10 @@ use lane_kernels::ascii_front;
 use simdutf8::basic;
 use std::str::from_utf8_unchecked;
 
-/// How many bytes are looked at in one go, at first and at most.
+/// How many bytes are looked at in one go at first.
 pub const FIRST_REACH: usize = 1024;
 
+// From how many on they grow no more.
 const WIDEST: usize = 4096;
 
 /// How many bytes longer the text of a block may be than the block for its faults to be few.
