@@ -1,19 +1,14 @@
 //! A gateway for resumable uploads of text in old and new encodings.
 #![tactic(auto)]
 
-mod buffers;
 mod command_line;
 mod failures;
 mod faults;
 mod formatting;
-mod idle;
 mod index_files;
-mod links;
 mod listing;
-mod places;
 mod scripting;
 mod serving;
-mod sockets;
 mod spool_files;
 #[cfg(test)]
 mod tests;

@@ -1,6 +1,4 @@
-//! A spool in a file, and clients over sockets.
-
-mod serving;
+//! A spool in a file.
 
 use crate::failures::Failure;
 use crate::formatting::format_file;

@@ -1,7 +1,0 @@
-use Rattle.gateway.proofs.Joints.{same_joins}
-use Rattle.gateway.proofs.links.Link.turn.Goals as goal
-
-pub returns-in-Ok-clause-serves : goal.returns-in-Ok-clause-serves
-returns-in-Ok-clause-serves g c = λ before st past ended went joins.
-    let s = c.in-Ok.ensures.serves before st past ended went joins in
-    (s.0, s.1, (s.2.0, same_joins ended st s.0 c.args.conn _ _ c.left_at.ensures.same s.2.1))

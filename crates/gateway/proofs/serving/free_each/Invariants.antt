@@ -1,8 +1,0 @@
-use Rattle.std.proofs.Common.{List}
-use Rattle.tus_session.specs.History.{State, Marked}
-use Rattle.gateway.specs.Joined.{AllFell}
-use Rattle.gateway.proofs.All.{HalfLeft}
-use Rattle.gateway.proofs.serving.free_each.Given as goal
-
-abbrev pub invariant-loop-conn : goal.invariant-loop-conn
-invariant-loop-conn g l = (st : State) (past : List Marked) → AllFell l.fn.places l.fn.ended.sockets st past → HalfLeft l.conn l.places l.ended.sockets st past

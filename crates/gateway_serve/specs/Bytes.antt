@@ -1,0 +1,17 @@
+-- The bytes of a socket.
+use Rattle.std.specs.Prelude.{ℕ, List}
+use Rattle.gateway_serve.specs.Sockets.{Seen}
+use Rattle.gateway_serve.specs.declared.sockets.Socket.{Socket}
+
+abbrev pub came_of : {S : Type 0} → Socket S → List ℕ
+came_of s = s.came.bytes
+
+abbrev pub went_of : {S : Type 0} → Socket S → List ℕ
+went_of s = s.went.bytes
+
+abbrev pub stream_of : {S : Type 0} → Socket S → S
+stream_of s = s.stream
+
+-- what is seen of it, where it serves the connection with this number
+abbrev pub seen : {S : Type 0} → ℕ → Socket S → Seen
+seen n s = record { conn = n; came = came_of s; went = went_of s }

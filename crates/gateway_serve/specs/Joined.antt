@@ -1,0 +1,161 @@
+-- How sockets are joined to the conversations of their connections.
+use Rattle.std.specs.Prelude.{◌≡◌, ◌⊎◌, ◌<◌, ◌≤◌, ℕ, length, Bool, true, false, List, [], ◌∷◌, ◌++◌, take, drop, None, get_or, if◌then◌else◌, Result, Ok, Err}
+use Rattle.spool_disk.specs.declared.disk.DiskFault.{DiskFault}
+use Rattle.tus_session.specs.History.{State, Marked, history}
+use Rattle.tus_session.specs.declared.answers.Answer.{Answer}
+use Rattle.tus_session.specs.declared.errors.SessionError.{SessionError}
+use Rattle.gateway_script.specs.declared.connections.Connections.{Ghosts}
+use Rattle.gateway_serve.specs.Conversations.{Conversation, conversations}
+use Rattle.gateway_serve.specs.Sockets.{Seen, seen_of, Served, Pairs}
+use Rattle.gateway_serve.specs.Bytes.{came_of, went_of, seen}
+use Rattle.gateway_serve.specs.Served.{IsBack, WentOn, Serves, AllServed, AllLeft}
+use Rattle.gateway_serve.specs.declared.links.Stage.{Stage}
+use Rattle.gateway_serve.specs.declared.links.Stage.TheVariants.{Taking, Giving, Closed}
+use Rattle.gateway_serve.specs.declared.links.Link.{Link}
+use Rattle.gateway_serve.specs.declared.places.Place.{Place}
+use Rattle.gateway_serve.specs.declared.places.Place.TheVariants.{Free, Open}
+use Rattle.gateway_serve.specs.declared.serving.Server.{Server}
+
+-- a socket and its connection: all bytes that came and went, those that wait for the session and for the socket, and whether the session
+-- closed it
+pub record Joint : Type 0 where
+  pub came : List ℕ
+  pub went : List ℕ
+  pub input : List ℕ
+  pub output : List ℕ
+  pub closed : Bool
+
+abbrev pub is_last : Stage → Bool
+is_last Taking = false
+is_last Giving = false
+is_last Closed = true
+
+abbrev pub joint_of : {S : Type 0} → Link S → Joint
+joint_of l = record { came = came_of l.socket; went = went_of l.socket; input = l.input; output = l.output; closed = is_last l.stage }
+
+-- THE INVARIANT. Of the connection's latest conversation, what came is what the session took and what waits for it, and what went, with what
+-- waits for the socket, is what it gave. Of the conversations before, each had a socket of its own
+pub record Joins (j : Joint) (ended : List Seen) (st : State) (past : List Marked) (n : ℕ) : Type 0 where
+  pub latest : Conversation
+  pub others : List Conversation
+  pub talks : conversations st past n ≡ latest ∷ others
+  pub taken : j.came ≡ latest.took ++ j.input
+  pub few : length j.input ≤ 4096
+  pub given : j.went ++ j.output ≡ latest.gave
+  pub pairs : Pairs Served ended others
+  pub shut : j.closed ≡ true → (history st past).conns n ≡ None
+  pub apart : st.conns n ≡ None
+
+-- the session closed it, and all is written
+abbrev pub IsOver : Joint → Type 0
+IsOver j = (j.closed ≡ true) × (j.output ≡ [])
+
+-- WHAT A TURN DOES: so many bytes are written
+abbrev pub wrote : ℕ → Joint → Joint
+wrote n j = record { came = j.came; went = j.went ++ take n j.output; input = j.input; output = drop n j.output; closed = j.closed }
+
+abbrev pub Writes : Joint → Joint → Type 0
+Writes old new = (n : ℕ) × (new ≡ wrote n old)
+
+-- where none wait for the session, these are read, at most 4,096
+abbrev pub read : List ℕ → Joint → Joint
+read bytes j = record { came = j.came ++ bytes; went = j.went; input = bytes; output = j.output; closed = j.closed }
+
+abbrev pub Reads : Joint → Joint → Type 0
+Reads old new = (new ≡ old) ⊎ ((old.input ≡ []) × ((bytes : List ℕ) × (new ≡ read bytes old) × (length bytes ≤ 4096)))
+
+-- what follows an answer, once all is written. Behind a refusal the connection is closed, and nothing was taken
+abbrev pub stage_by : Answer → Stage
+stage_by a = if a.closes then Closed else if a.more then Giving else Taking
+
+abbrev pub stage_behind : Result Answer SessionError → Stage
+stage_behind (Ok a) = stage_by a
+stage_behind (Err f) = Closed
+
+abbrev pub taken_behind : Result Answer SessionError → ℕ
+taken_behind (Ok a) = a.taken
+taken_behind (Err f) = 0
+
+-- behind the events of one connection the others are as they were
+pub record Alone (st : State) (n : ℕ) (past now : List Marked) : Type 0 where
+  pub talks : (k : ℕ) → (k ≡ n → ⊥) → conversations st now k ≡ conversations st past k
+  pub conns : (k : ℕ) → (k ≡ n → ⊥) → (history st now).conns k ≡ (history st past).conns k
+
+-- a joined link stays joined by events of its connection alone
+abbrev pub Goes : {C S T : Type 0} → Ghosts C → C → C → Result T DiskFault → Link S → Link S → ℕ → Type 0
+Goes {C} c old new result l l' n =
+    (before : C) (st : State) (past : List Marked) (ended : List Seen) → WentOn c before old st past → Joins (joint_of l) ended st past n
+    → Serves c before new st result (λ now. Alone st n past now × Joins (joint_of l') ended st now n) (λ now. Alone st n past now × Joins (joint_of l') ended st now n)
+
+-- PLACES. One is free only once its connection is closed again
+abbrev pub PlaceJoins : {S : Type 0} → Place S → List Seen → State → List Marked → ℕ → Type 0
+PlaceJoins Free ended st past n = Pairs Served ended (conversations st past n) × IsBack st past n
+PlaceJoins (Open l) ended st past n = Joins (joint_of l) ended st past n
+
+-- unless the device failed
+abbrev pub PlaceFell : {S : Type 0} → Place S → List Seen → State → List Marked → ℕ → Type 0
+PlaceFell Free ended st past n = Pairs Served ended (conversations st past n)
+PlaceFell (Open l) ended st past n = Joins (joint_of l) ended st past n
+
+-- nothing came, and nothing was given
+abbrev pub nothing_yet : Joint
+nothing_yet = record { came = []; went = []; input = []; output = []; closed = false }
+
+abbrev pub IsNew : {S : Type 0} → Place S → Type 0
+IsNew {S} p = (l : Link S) × (p ≡ Open l) × (joint_of l ≡ nothing_yet)
+
+-- the sockets, with that of a link that ends
+abbrev pub with_link : {S : Type 0} → ℕ → Link S → List Seen → List Seen
+with_link n l ended = seen n l.socket ∷ ended
+
+abbrev pub with_place : {S : Type 0} → ℕ → Place S → List Seen → List Seen
+with_place n Free ended = ended
+with_place n (Open l) ended = with_link n l ended
+
+-- a place stays joined by events of its connection alone, with the sockets of that connection
+abbrev pub GoesAt : {C S T : Type 0} → Ghosts C → C → C → Result T DiskFault → Place S → Place S → List Seen → List Seen → ℕ → Type 0
+GoesAt {C} c old new result p p' ended ended' n =
+    (before : C) (st : State) (past : List Marked) → WentOn c before old st past → PlaceJoins p (seen_of n ended) st past n
+    → Serves c before new st result (λ now. Alone st n past now × PlaceJoins p' (seen_of n ended') st now n) (λ now. Alone st n past now × PlaceFell p' (seen_of n ended') st now n)
+
+-- the sockets of other connections are those that they were
+abbrev pub OthersStay : ℕ → List Seen → List Seen → Type 0
+OthersStay n old new = (k : ℕ) → (k ≡ n → ⊥) → seen_of k new ≡ seen_of k old
+
+-- EACH PLACE is joined; beyond the last one all are free
+abbrev pub AllJoin : {S : Type 0} → List (Place S) → List Seen → State → List Marked → Type 0
+AllJoin places ended st past = (n : ℕ) → PlaceJoins (get_or places n Free) (seen_of n ended) st past n
+
+abbrev pub AllFell : {S : Type 0} → List (Place S) → List Seen → State → List Marked → Type 0
+AllFell places ended st past = (n : ℕ) → PlaceFell (get_or places n Free) (seen_of n ended) st past n
+
+abbrev pub places_of : {S : Type 0} → Server S → List (Place S)
+places_of s = s.places.items
+
+abbrev pub ended_of : {S : Type 0} → Server S → List Seen
+ended_of s = s.ended.sockets
+
+abbrev pub IsFreeAt : {S : Type 0} → List (Place S) → ℕ → Type 0
+IsFreeAt places n = (n < length places) × (get_or places n Free ≡ Free)
+
+-- the same, but for places that are free
+abbrev pub SamePlaces : {S : Type 0} → List (Place S) → List (Place S) → Type 0
+SamePlaces old new = (n : ℕ) → get_or new n Free ≡ get_or old n Free
+
+-- joined places stay joined
+abbrev pub GoesOn : {C S T : Type 0} → Ghosts C → C → C → Result T DiskFault → List (Place S) → List (Place S) → List Seen → List Seen → Type 0
+GoesOn {C} c old new result places places' ended ended' =
+    (before : C) (st : State) (past : List Marked) → WentOn c before old st past → AllJoin places ended st past
+    → Serves c before new st result (AllJoin places' ended' st) (AllFell places' ended' st)
+
+-- behind it all connections are ended, unless the device failed
+abbrev pub Ends : {C S T : Type 0} → Ghosts C → C → C → Result T DiskFault → List (Place S) → List (Place S) → List Seen → List Seen → Type 0
+Ends {C} c old new result places places' ended ended' =
+    (before : C) (st : State) (past : List Marked) → WentOn c before old st past → AllJoin places ended st past
+    → Serves c before new st result (AllServed ended' st) (AllFell places' ended' st)
+
+-- and then their sockets were let go
+abbrev pub Finishes : {C S T : Type 0} → Ghosts C → C → C → Result T DiskFault → List (Place S) → List Seen → List Seen → Type 0
+Finishes {C} c old new result places ended ended' =
+    (before : C) (st : State) (past : List Marked) → WentOn c before old st past → AllJoin places ended st past
+    → Serves c before new st result (AllServed ended' st) (AllLeft ended' st)

@@ -1,0 +1,40 @@
+-- What serving makes of connections.
+use Rattle.std.specs.Prelude.{◌≡◌, ℕ, List, ◌∷◌, Result, Ok, Err}
+use Rattle.spool_disk.specs.declared.disk.DiskFault.{DiskFault}
+use Rattle.tus_session.specs.History.{State, Event, Marked, Failed, history}
+use Rattle.gateway_script.specs.Images.{stores_of, ShowsLast, LimitsTo}
+use Rattle.gateway_script.specs.declared.connections.Connections.{Ghosts}
+use Rattle.gateway_serve.specs.Conversations.{conversations}
+use Rattle.gateway_serve.specs.Sockets.{Seen, seen_of, Fits, Served, Pairs}
+
+-- from the connections before these events to those now, images are limited to the uploads behind all of the events, all but the latest, and so on
+abbrev pub ImagesShow : {C : Type 0} → Ghosts C → C → C → State → List Marked → Type 0
+ImagesShow c before now st past = LimitsTo (c.moment before) (c.moment now) (c.left_only before) (c.left_only now) (stores_of st past)
+
+-- these events came, and the connections are where their history is
+pub record WentOn {C : Type 0} (c : Ghosts C) (before now : C) (st : State) (past : List Marked) : Type 0 where
+  pub stands : c.stands now (history st past)
+  pub images : ImagesShow c before now st past
+
+-- these events came, and at the latest of them the device failed: of the connections nothing is known but their images, which now show the
+-- uploads behind all events, or behind all but this latest one
+pub record WentDown {C : Type 0} (c : Ghosts C) (before now : C) (st : State) (past : List Marked) : Type 0 where
+  pub images : ImagesShow c before now st past
+  pub last : ShowsLast (c.moment now) (c.left_only now) st past
+
+-- What a part of serving did: some events came, of which the one fact holds, or the other where the device failed at the latest
+abbrev pub Serves : {C T : Type 0} → Ghosts C → C → C → State → Result T DiskFault → (List Marked → Type 0) → (List Marked → Type 0) → Type 0
+Serves c before now st (Ok x) On Down = (past : List Marked) × WentOn c before now st past × On past
+Serves c before now st (Err fault) On Down = (past : List Marked) × (e : Event) × WentDown c before now st ((e, Failed) ∷ past) × Down ((e, Failed) ∷ past)
+
+-- the connection is as it was before these events: closed, if it was
+abbrev pub IsBack : State → List Marked → ℕ → Type 0
+IsBack st past n = (history st past).conns n ≡ st.conns n
+
+-- ALL ARE SERVED: the sockets of each connection are one for each of its conversations, and it is closed again
+abbrev pub AllServed : List Seen → State → List Marked → Type 0
+AllServed seen st past = (n : ℕ) → Pairs Served (seen_of n seen) (conversations st past n) × IsBack st past n
+
+-- the same of sockets that serving left when the device failed
+abbrev pub AllLeft : List Seen → State → List Marked → Type 0
+AllLeft seen st past = (n : ℕ) → Pairs Fits (seen_of n seen) (conversations st past n)

@@ -1,0 +1,194 @@
+//! The bytes between a socket and a session. Each buffer is seen as the bytes that are left in it.
+ghost use Rattle.std.specs.Prelude.{◌≡◌, ◌≤◌, ◌++◌, ℕ, List, [], length, take, drop, slice_range, vec_len, IfOk, OnErr, IsErrOf};
+ghost use Rattle.std.specs.Io.KnownBytes.{Consumes, Appends, Keeps, IsAtEnd};
+ghost use Rattle.upload_rules.specs.Answers.{Limits, Quiet, Counts};
+ghost use Rattle.tus_session.specs.History.{State, Came, More};
+ghost use Rattle.gateway_script.specs.Connections.{Gives, mark_of};
+ghost use Rattle.gateway_script.specs.Images.{shown_by};
+ghost use Rattle.gateway_serve.specs.Bytes.{came_of, went_of, stream_of};
+
+use crate::sockets::Socket;
+use gateway_engine::Connections;
+use std::alloc::Global;
+use std::io::{self, Read, Write};
+use std::marker::Model;
+use tus_session::{Answer, SessionError};
+
+/// The most bytes that are read at once.
+pub(crate) const PIECE: usize = 4096;
+
+/// What was read from a socket: the session took a front part of it.
+#[derive(Drop)]
+pub(crate) struct Input {
+    bytes: [u8; PIECE],
+    /// where what isn't taken begins
+    taken: usize,
+    /// where what was read ends
+    end: usize,
+}
+
+impl Model for Input {
+    ghost Value = { List ℕ };
+
+    ghost view = { λ i. slice_range i.bytes i.taken i.end };
+
+    ghost invariant = { λ i. (i.taken ≤ i.end) × (i.end ≤ 4096) };
+}
+
+impl Input {
+    /// Nothing was read.
+    pub(crate) fn new() -> Self
+        ensures { result ≡ [] }
+    {
+        Input {
+            bytes: [0; PIECE],
+            taken: 0,
+            end: 0,
+        }
+    }
+
+    /// What isn't taken.
+    pub(crate) fn left(&self) -> &[u8]
+        ensures { result.now ≡ self.now }
+    {
+        &self.bytes[self.taken..self.end]
+    }
+
+    /// Reads the next bytes, in place of those that were read before: how many. None are read at the socket's end.
+    pub(crate) fn read<S: Read + Write>(&mut self, socket: &mut Socket<S>) -> io::Result<usize>
+        ensures count { IfOk result (λ n. length self.new ≡ n) }
+        ensures few { length self.new ≤ 4096 }
+        ensures came { IfOk result (λ n. came_of socket.new ≡ came_of socket.old ++ self.new) }
+        ensures went { went_of socket.new ≡ went_of socket.old }
+        ensures same { OnErr result (came_of socket.new ≡ came_of socket.old) }
+        ensures none { OnErr result (self.new ≡ []) }
+        ensures bytes { IfOk result (λ n.
+            Consumes (S.remaining (stream_of socket.old)) (S.remaining (stream_of socket.new)) self.new) }
+        ensures end { IfOk result (λ n. n ≡ 0 → IsAtEnd (S.remaining (stream_of socket.new))) }
+        ensures err { OnErr result (Keeps (S.remaining (stream_of socket.old)) (S.remaining (stream_of socket.new))) }
+    {
+        self.taken = 0;
+        self.end = 0;
+        match socket.read(&mut self.bytes) {
+            Ok(count) => {
+                self.end = count;
+                Ok(count)
+            }
+            Err(error) => Err(error),
+        }
+    }
+
+    /// So many more bytes were taken, at most all.
+    pub(crate) fn take(&mut self, count: usize)
+        ensures { self.new ≡ drop count self.old }
+    {
+        if count < self.end - self.taken {
+            self.taken += count;
+        } else {
+            self.taken = self.end;
+        }
+    }
+}
+
+/// What a session gave for a socket: a front part of it is written.
+#[derive(Drop)]
+pub(crate) struct Output {
+    bytes: Vec<u8>,
+    /// where what isn't written begins
+    written: usize,
+}
+
+impl Model for Output {
+    ghost Value = { List ℕ };
+
+    ghost view = { λ o. drop o.written o.bytes.items };
+
+    ghost invariant = { λ o. o.written ≤ length o.bytes.items };
+}
+
+impl Output {
+    /// Nothing was given.
+    pub(crate) fn new(alloc: Global) -> Self
+        ensures { result ≡ [] }
+    {
+        Output {
+            bytes: Vec::new(alloc),
+            written: 0,
+        }
+    }
+
+    /// What isn't written.
+    pub(crate) fn left(&self) -> &[u8]
+        ensures { result.now ≡ self.now }
+    {
+        &self.bytes[self.written..]
+    }
+
+    /// Writes a front part of what is left: how many bytes.
+    pub(crate) fn write<S: Read + Write>(&mut self, socket: &mut Socket<S>) -> io::Result<usize>
+        ensures rest { IfOk result (λ n. self.new ≡ drop n self.old) }
+        ensures went { IfOk result (λ n. went_of socket.new ≡ went_of socket.old ++ take n self.old) }
+        ensures came { came_of socket.new ≡ came_of socket.old }
+        ensures none { OnErr result (went_of socket.new ≡ went_of socket.old) }
+        ensures same { OnErr result (self.new ≡ self.old) }
+        ensures bytes { IfOk result (λ n.
+            Appends (S.contents (stream_of socket.old)) (S.contents (stream_of socket.new)) (take n self.old)) }
+        ensures err { OnErr result (Keeps (S.contents (stream_of socket.old)) (S.contents (stream_of socket.new))) }
+    {
+        match socket.write(&self.bytes[self.written..]) {
+            Ok(count) => {
+                self.written += count;
+                Ok(count)
+            }
+            Err(error) => Err(error),
+        }
+    }
+
+    /// Gives the session bytes that came. What it gives goes behind what isn't written yet.
+    pub(crate) fn came<C: Connections>(
+        &mut self,
+        gateway: &mut C,
+        conn: usize,
+        bytes: &[u8],
+    ) -> Result<Answer, SessionError>
+        ensures gives { (st : State) → C.stands gateway.old st
+            → Gives (C.stands gateway.new) result self.old self.new st (Came conn bytes.now) }
+        ensures crash { (st : State) → C.stands gateway.old st
+            → Limits (C.moment gateway.old) (C.moment gateway.new) (C.left_only gateway.old) (C.left_only gateway.new)
+            st.world.store (shown_by st (Came conn bytes.now) (mark_of result)) }
+        ensures counts { Counts (IsErrOf result SessionError.DiskFault) (C.failures gateway.old) (C.failures gateway.new) }
+    {
+        free_written(&mut self.bytes, self.written);
+        self.written = 0;
+        gateway.came(conn, bytes, &mut self.bytes)
+    }
+
+    /// Asks the session for the next piece of a text, which goes behind what isn't written yet.
+    pub(crate) fn more<C: Connections>(
+        &mut self,
+        gateway: &mut C,
+        conn: usize,
+    ) -> Result<Answer, SessionError>
+        ensures gives { (st : State) → C.stands gateway.old st
+            → Gives (C.stands gateway.new) result self.old self.new st (More conn) }
+        ensures crash { Quiet (C.moment gateway.old) (C.moment gateway.new) (C.left_only gateway.old)
+            (C.left_only gateway.new) }
+        ensures counts { Counts (IsErrOf result SessionError.DiskFault) (C.failures gateway.old) (C.failures gateway.new) }
+    {
+        free_written(&mut self.bytes, self.written);
+        self.written = 0;
+        gateway.more(conn, &mut self.bytes)
+    }
+}
+
+// Lets the bytes go that are written: mostly these are all.
+fn free_written(bytes: &mut Vec<u8>, written: usize)
+    requires { written ≤ vec_len bytes.old }
+    ensures { bytes.new.items ≡ drop written bytes.old.items }
+{
+    if written == bytes.len() {
+        bytes.clear();
+    } else if written > 0 {
+        drop(bytes.drain(..written));
+    }
+}

@@ -1,0 +1,12 @@
+//! Serving over sockets: the connections of a gateway, turn by turn in one thread.
+#![tactic(auto)]
+
+mod buffers;
+mod idle;
+mod links;
+mod places;
+mod serving;
+mod sockets;
+
+pub use serving::{Outcome, serve_on};
+pub use sockets::Ended;

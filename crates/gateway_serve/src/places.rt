@@ -1,0 +1,128 @@
+//! A place for a connection.
+ghost use Rattle.std.specs.Prelude.{◌≡◌, ◌↔◌, IsTrue, IsErr, IsErrOf};
+ghost use Rattle.upload_rules.specs.Answers.{Counts};
+ghost use Rattle.gateway_serve.specs.Joined.{GoesAt, OthersStay, IsNew, with_place};
+
+use crate::idle::Tick;
+use crate::links::{Left, Link};
+use crate::sockets::Ended;
+use gateway_engine::Connections;
+use spool_disk::DiskFault;
+use std::alloc::Global;
+use std::io::{Read, Write};
+use std::time::Duration;
+use tus_session::SessionError;
+
+/// A place for a connection, whose number it has.
+#[derive(Drop)]
+pub(crate) enum Place<S> {
+    /// No connection is open there.
+    Free,
+    /// A socket and its connection of the gateway.
+    Open(Link<S>),
+}
+
+/// What a turn came to at a place.
+#[derive(Clone, Copy, Debug, PartialEq, Eq, Drop)]
+pub(crate) enum Turned {
+    /// No connection is open there, or its socket had nothing to do.
+    Idle,
+    /// The connection went on.
+    Moved,
+    /// The connection was closed.
+    Closed,
+}
+
+impl<S: Read + Write + Drop> Place<S> {
+    /// A connection that was opened now for a socket, which doesn't wait.
+    pub(crate) fn open(alloc: Global, stream: S, now: Duration) -> Self
+        ensures { IsNew result }
+    {
+        Place::Open(Link::new(alloc, stream, now))
+    }
+
+    /// Whether no connection is open there.
+    pub(crate) fn is_free(&self) -> bool
+        ensures { IsTrue result ↔ (self.now ≡ Place.Free) }
+    {
+        matches!(self, Place::Free)
+    }
+
+    /// The turn of the connection, if one is open. Where it ends there, its socket is put to those that ended.
+    ///
+    /// Refused with `DiskFault` where a call of the session was.
+    pub(crate) fn turn<C: Connections>(
+        &mut self,
+        gateway: &mut C,
+        conn: usize,
+        tick: Tick,
+        ended: &mut Ended,
+    ) -> Result<Turned, DiskFault>
+        ensures serves { GoesAt C.Connections gateway.old gateway.new result self.old self.new
+            ended.old.sockets ended.new.sockets conn }
+        ensures others { OthersStay conn ended.old.sockets ended.new.sockets }
+        ensures counts { Counts (IsErr result) (C.failures gateway.old) (C.failures gateway.new) }
+    {
+        let Place::Open(link) = self else {
+            return Ok(Turned::Idle);
+        };
+        match link.turn(gateway, conn, tick) {
+            Ok(Left::Open) => Ok(Turned::Moved),
+            Ok(Left::Idle) => Ok(Turned::Idle),
+            Ok(Left::Closed) => {
+                self.free(conn, ended);
+                Ok(Turned::Closed)
+            }
+            Ok(Left::Lost) => match self.end(gateway, conn, ended) {
+                Ok(()) => Ok(Turned::Closed),
+                Err(fault) => Err(fault),
+            },
+            Err(fault) => Err(fault),
+        }
+    }
+
+    /// Ends the connection, if one is open: the session is told.
+    ///
+    /// Refused with `DiskFault` where the session was.
+    pub(crate) fn end<C: Connections>(
+        &mut self,
+        gateway: &mut C,
+        conn: usize,
+        ended: &mut Ended,
+    ) -> Result<(), DiskFault>
+        ensures serves { GoesAt C.Connections gateway.old gateway.new result self.old self.new
+            ended.old.sockets ended.new.sockets conn }
+        ensures free { self.new ≡ Place.Free }
+        ensures others { OthersStay conn ended.old.sockets ended.new.sockets }
+        ensures counts { Counts (IsErr result) (C.failures gateway.old) (C.failures gateway.new) }
+    {
+        if self.is_free() {
+            return Ok(());
+        }
+        self.free(conn, ended);
+        unless_failed(gateway.ended(conn))
+    }
+
+    /// Lets the socket go, if one is there: the session isn't told.
+    pub(crate) fn free(&mut self, conn: usize, ended: &mut Ended)
+        ensures free { self.new ≡ Place.Free }
+        ensures ended { ended.new.sockets ≡ with_place conn self.old ended.old.sockets }
+    {
+        if let Place::Open(link) = self {
+            link.end(conn, ended);
+        }
+        *self = Place::Free;
+    }
+}
+
+/// What a call of the session comes to for serving, which goes on behind every refusal but the device's fault.
+pub(crate) fn unless_failed(answer: Result<(), SessionError>) -> Result<(), DiskFault>
+    ensures { IsErr result ↔ IsErrOf answer SessionError.DiskFault }
+{
+    match answer {
+        Err(SessionError::DiskFault) => Err(DiskFault),
+        Ok(()) | Err(SessionError::NoMemory | SessionError::TooMany | SessionError::Closed) => {
+            Ok(())
+        }
+    }
+}

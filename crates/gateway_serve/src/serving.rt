@@ -1,0 +1,346 @@
+//! Connections over sockets, turn by turn in one thread.
+ghost use Rattle.std.specs.Prelude.{◌≡◌, List, [], IsErr, IfSome};
+ghost use Rattle.upload_rules.specs.Answers.{Counts};
+ghost use Rattle.tus_session.specs.History.{State, Marked};
+ghost use Rattle.gateway_serve.specs.Served.{Serves, AllServed, AllLeft};
+ghost use Rattle.gateway_serve.specs.Joined.{AllFell, GoesOn, Ends, Finishes, IsFreeAt, SamePlaces, places_of, ended_of};
+
+use crate::idle::{Tick, Watch};
+use crate::places::{Place, Turned, unless_failed};
+use crate::sockets::Ended;
+use gateway_engine::Connections;
+use spool_disk::DiskFault;
+use std::alloc::Global;
+use std::io::{Read, Write};
+use std::net::{OpenListener, OpenStream};
+use std::time::Clock;
+
+/// How many connections may be open at once.
+const MOST_OPEN: usize = 16;
+
+/// What serving came to.
+pub struct Outcome<C> {
+    /// The gateway, which is handed back.
+    pub gateway: C,
+    /// How many connections were accepted.
+    pub connections: u64,
+    /// The sockets that served them, which only clauses read.
+    pub ended: Ended,
+    /// `DiskFault` where a call of the session was refused with it: serving stopped there.
+    pub served: Result<(), DiskFault>,
+}
+
+/// The connections that are open, and how many were accepted and closed.
+#[derive(Drop)]
+struct Server<S> {
+    alloc: Global,
+    /// By the connections' numbers. There are at most 16 places; another one is made when it is needed.
+    places: Vec<Place<S>>,
+    ended: Ended,
+    accepted: u64,
+    closed: u64,
+    /// whether anything was done in the latest turn
+    busy: bool,
+    watch: Watch,
+}
+
+impl<S: Read + Write + OpenStream + Drop> Server<S> {
+    // No connection is open, and none was accepted.
+    fn new(alloc: Global, watch: Watch) -> Self
+        ensures places { places_of result ≡ [] }
+        ensures ended { ended_of result ≡ [] }
+    {
+        Server {
+            alloc,
+            places: Vec::new(alloc),
+            ended: Ended::new(),
+            accepted: 0,
+            closed: 0,
+            busy: false,
+            watch,
+        }
+    }
+
+    // Takes turns until so many connections were closed, at most so many turns. Then the open connections are ended,
+    // in order. Behind a fault of the device their sockets are let go.
+    fn serve<L: OpenListener<Stream = S>, C: Connections, T: Clock>(
+        &mut self,
+        clock: &T,
+        listener: &L,
+        gateway: &mut C,
+        connections: u64,
+        turns: u64,
+    ) -> Result<(), DiskFault>
+        ensures serves { Finishes C.Connections gateway.old gateway.new result (places_of self.old)
+            (ended_of self.old) (ended_of self.new) }
+        ensures counts { Counts (IsErr result) (C.failures gateway.old) (C.failures gateway.new) }
+    {
+        match self.take_turns(clock, listener, gateway, connections, turns) {
+            Ok(()) => Ok(()),
+            Err(fault) => {
+                free_each(&mut self.places, &mut self.ended);
+                Err(fault)
+            }
+        }
+    }
+
+    // Takes turns, then ends the open connections.
+    fn take_turns<L: OpenListener<Stream = S>, C: Connections, T: Clock>(
+        &mut self,
+        clock: &T,
+        listener: &L,
+        gateway: &mut C,
+        connections: u64,
+        turns: u64,
+    ) -> Result<(), DiskFault>
+        ensures serves { Ends C.Connections gateway.old gateway.new result (places_of self.old) (places_of self.new)
+            (ended_of self.old) (ended_of self.new) }
+        ensures counts { Counts (IsErr result) (C.failures gateway.old) (C.failures gateway.new) }
+    {
+        let mut left = turns;
+        while left > 0 && self.closed < connections {
+            self.turn(listener, gateway, connections)?;
+            self.watch.rest(clock, self.busy);
+            left -= 1;
+        }
+        end_each(&mut self.places, gateway, &mut self.ended)
+    }
+
+    // A turn: a connection is accepted where fewer than 16 are open, then each has its turn, in order.
+    fn turn<L: OpenListener<Stream = S>, C: Connections>(
+        &mut self,
+        listener: &L,
+        gateway: &mut C,
+        connections: u64,
+    ) -> Result<(), DiskFault>
+        ensures serves { GoesOn C.Connections gateway.old gateway.new result (places_of self.old) (places_of self.new)
+            (ended_of self.old) (ended_of self.new) }
+        ensures counts { Counts (IsErr result) (C.failures gateway.old) (C.failures gateway.new) }
+    {
+        let accepted = self.accepted;
+        self.accept(listener, gateway)?;
+        let mut round = Round {
+            tick: Tick {
+                now: self.watch.now,
+                full: self.free_place().is_none(),
+            },
+            busy: self.accepted > accepted,
+            closed: self.closed,
+            connections,
+        };
+        let taken = turn_each(&mut self.places, gateway, &mut self.ended, &mut round);
+        self.busy = round.busy;
+        self.closed = round.closed;
+        taken
+    }
+
+    // Accepts a connection where fewer than 16 are open. Where the session refuses it, the socket is closed.
+    fn accept<L: OpenListener<Stream = S>, C: Connections>(
+        &mut self,
+        listener: &L,
+        gateway: &mut C,
+    ) -> Result<(), DiskFault>
+        ensures serves { GoesOn C.Connections gateway.old gateway.new result (places_of self.old) (places_of self.new)
+            (ended_of self.old) (ended_of self.new) }
+        ensures counts { Counts (IsErr result) (C.failures gateway.old) (C.failures gateway.new) }
+    {
+        let Some(conn) = self.free_place() else {
+            return Ok(());
+        };
+        let Some(stream) = next_stream(listener) else {
+            return Ok(());
+        };
+        match gateway.opened(conn) {
+            Ok(()) => {
+                self.places[conn] = Place::open(self.alloc, stream, self.watch.now);
+                self.accepted = self.accepted.saturating_add(1);
+                Ok(())
+            }
+            Err(error) => unless_failed(Err(error)),
+        }
+    }
+
+    // The number of the first place that is free.
+    fn free_place(&mut self) -> Option<usize>
+        ensures free { IfSome result (λ conn. IsFreeAt (places_of self.new) conn) }
+        ensures same { SamePlaces (places_of self.old) (places_of self.new) }
+        ensures ended { ended_of self.new ≡ ended_of self.old }
+    {
+        match first_free(&self.places) {
+            Some(conn) => Some(conn),
+            None => self.new_place(),
+        }
+    }
+
+    // The number of another place, where there are fewer than 16 and memory for it is there.
+    fn new_place(&mut self) -> Option<usize>
+        ensures free { IfSome result (λ conn. IsFreeAt (places_of self.new) conn) }
+        ensures same { SamePlaces (places_of self.old) (places_of self.new) }
+        ensures ended { ended_of self.new ≡ ended_of self.old }
+    {
+        let conn = self.places.len();
+        if conn < MOST_OPEN && self.places.push(Place::Free).is_ok() {
+            Some(conn)
+        } else {
+            None
+        }
+    }
+}
+
+/// A turn of all places.
+#[derive(Drop)]
+struct Round {
+    tick: Tick,
+    /// whether anything was done
+    busy: bool,
+    /// how many connections were closed
+    closed: u64,
+    /// it ends once so many were
+    connections: u64,
+}
+
+impl Round {
+    // The turn of a place came to this.
+    fn add(&mut self, turned: Turned) {
+        let closed = turned == Turned::Closed;
+        self.closed = self.closed.saturating_add(u64::from(closed));
+        self.tick.full = self.tick.full && !closed;
+        self.busy = self.busy || turned != Turned::Idle;
+    }
+}
+
+// The first place that is free.
+fn first_free<S: Read + Write + Drop>(places: &[Place<S>]) -> Option<usize>
+    ensures { IfSome result (λ conn. IsFreeAt places.now conn) }
+{
+    for (conn, place) in places.iter().enumerate() {
+        if place.is_free() {
+            return Some(conn);
+        }
+    }
+    None
+}
+
+// Each open connection has its turn, in order, until so many were closed.
+fn turn_each<S: Read + Write + Drop, C: Connections>(
+    places: &mut [Place<S>],
+    gateway: &mut C,
+    ended: &mut Ended,
+    round: &mut Round,
+) -> Result<(), DiskFault>
+    ensures serves { GoesOn C.Connections gateway.old gateway.new result places.old places.new
+        ended.old.sockets ended.new.sockets }
+    ensures counts { Counts (IsErr result) (C.failures gateway.old) (C.failures gateway.new) }
+{
+    for (conn, place) in places.iter_mut().enumerate() {
+        if round.closed == round.connections {
+            return Ok(());
+        }
+        match place.turn(gateway, conn, round.tick, ended) {
+            Ok(turned) => round.add(turned),
+            Err(fault) => return Err(fault),
+        }
+    }
+    Ok(())
+}
+
+// Ends the connections that are open, in order.
+fn end_each<S: Read + Write + Drop, C: Connections>(
+    places: &mut [Place<S>],
+    gateway: &mut C,
+    ended: &mut Ended,
+) -> Result<(), DiskFault>
+    ensures serves { Ends C.Connections gateway.old gateway.new result places.old places.new
+        ended.old.sockets ended.new.sockets }
+    ensures counts { Counts (IsErr result) (C.failures gateway.old) (C.failures gateway.new) }
+{
+    for (conn, place) in places.iter_mut().enumerate() {
+        match place.end(gateway, conn, ended) {
+            Ok(()) => {}
+            Err(fault) => return Err(fault),
+        }
+    }
+    Ok(())
+}
+
+// Lets all sockets go: the session isn't told.
+fn free_each<S: Read + Write + Drop>(places: &mut [Place<S>], ended: &mut Ended)
+    ensures { (st : State) (past : List Marked) → AllFell places.old ended.old.sockets st past
+        → AllLeft ended.new.sockets st past }
+{
+    for (conn, place) in places.iter_mut().enumerate() {
+        place.free(conn, ended);
+    }
+}
+
+// The socket of the next connection, which doesn't wait. An accept that fails gives none.
+fn next_stream<L: OpenListener>(listener: &L) -> Option<L::Stream>
+where
+    L::Stream: OpenStream,
+{
+    let Ok((stream, _peer)) = listener.accept() else {
+        return None;
+    };
+    if stream.set_nonblocking(true).is_ok() {
+        Some(stream)
+    } else {
+        None
+    }
+}
+
+/// Serves the connections of a listener, until so many were closed or so many turns were taken.
+///
+/// Each turn accepts a connection, where fewer than 16 are open, and then goes on at each open one, in order: what is
+/// left to write is written, else the next piece of a text is asked for, else up to 4,096 bytes are read and given to
+/// the session. A socket that fails or is at its end ends its connection, and so does one over which nothing came or
+/// went for a minute; where 16 are open, a second is enough if no reply is owed. One that the session closed is
+/// closed once all is written. At the end the open connections are ended.
+///
+/// The listener and its sockets are made not to wait; of a listener that can't be no connection is accepted. Behind
+/// turns in which no socket had anything to do it rests, at most 10 milliseconds.
+pub fn serve_on<L: OpenListener, C: Connections, T: Clock>(
+    alloc: Global,
+    clock: &T,
+    listener: &L,
+    gateway: C,
+    connections: u64,
+    turns: u64,
+) -> Outcome<C>
+where
+    L::Stream: Read + Write + OpenStream,
+
+    // It is where the history of some events is; behind a fault of the device only its images are known. They show
+    // the uploads behind these events.
+    //
+    // Each connection's sockets are one for each time that these events opened it, in order. The session took what
+    // came from the socket, but for at most 4,096 bytes at its end, and what went to it is the front of what the
+    // session gave; all of that, unless the session was told that the client is gone. Each connection is closed
+    // again. Behind a fault of the device the last two are not promised.
+    ensures serves { (st : State) → C.stands gateway st
+        → Serves C.Connections gateway result.gateway st result.served
+        (AllServed result.ended.sockets st) (AllLeft result.ended.sockets st) }
+    ensures counts { Counts (IsErr result.served) (C.failures gateway) (C.failures result.gateway) }
+{
+    let mut gateway = gateway;
+    if listener.set_nonblocking(true).is_err() {
+        return Outcome {
+            gateway,
+            connections: 0,
+            ended: Ended::new(),
+            served: Ok(()),
+        };
+    }
+    let mut server = Server::new(alloc, Watch::new(clock));
+    let served = server.serve(clock, listener, &mut gateway, connections, turns);
+    let Server {
+        ended,
+        accepted,
+        ..
+    } = server;
+    Outcome {
+        gateway,
+        connections: accepted,
+        ended,
+        served,
+    }
+}

@@ -1,0 +1,134 @@
+//! Sockets, with all bytes that came from each and all that went to it. Only clauses read these: they take no memory,
+//! and keeping them does nothing when it runs.
+ghost use Rattle.std.specs.Prelude.{◌≡◌, ℕ, List, [], ◌∷◌, ◌++◌, take, IfOk, OnErr};
+ghost use Rattle.std.specs.Borrow.{ftrue};
+ghost use Rattle.std.specs.Io.{ReadsAtMost, WritesAtMost};
+ghost use Rattle.std.specs.Io.KnownBytes.{ReadConsumes, WriteAppends};
+ghost use Rattle.gateway_serve.specs.Sockets.{Seen};
+
+use std::io::{self, Read, Write};
+use std::marker::{Model, PhantomData};
+
+/// Bytes in their order.
+#[derive(Drop)]
+struct Log {
+    marker: PhantomData<u8>,
+    ghost bytes: { List ℕ },
+}
+
+impl Model for Log {
+    ghost also_owns = { λ _. ftrue };
+}
+
+impl Log {
+    // No bytes.
+    fn new() -> Log
+        ensures { result.bytes ≡ [] }
+    {
+        Log {
+            marker: PhantomData,
+        }
+    }
+
+    // Puts bytes behind those that are there.
+    fn add(&mut self, _bytes: &[u8])
+        ensures { self.new.bytes ≡ self.old.bytes ++ _bytes.now }
+    {}
+}
+
+/// A stream whose bytes are seen.
+#[derive(Drop)]
+pub(crate) struct Socket<S> {
+    stream: S,
+    came: Log,
+    went: Log,
+}
+
+impl<S: Read + Write> Socket<S> {
+    ghost use Rattle.gateway_serve.specs.Bytes.{came_of, went_of, stream_of};
+
+    /// Nothing came, and nothing went.
+    pub(crate) fn new(stream: S) -> Self
+        ensures came { came_of result ≡ [] }
+        ensures went { went_of result ≡ [] }
+    {
+        Socket {
+            stream,
+            came: Log::new(),
+            went: Log::new(),
+        }
+    }
+
+    /// Reads into the front of `buf`: how many bytes.
+    pub(crate) fn read(&mut self, buf: &mut [u8]) -> io::Result<usize>
+        ensures bound { ReadsAtMost result buf.new }
+        ensures came { IfOk result (λ n. came_of self.new ≡ came_of self.old ++ take n buf.new) }
+        ensures none { OnErr result (came_of self.new ≡ came_of self.old) }
+        ensures went { went_of self.new ≡ went_of self.old }
+        ensures bytes { ReadConsumes (S.remaining (stream_of self.old)) (S.remaining (stream_of self.new)) result
+            buf.new }
+    {
+        match self.stream.read(buf) {
+            Ok(count) => {
+                self.came.add(&buf[..count]);
+                Ok(count)
+            }
+            Err(error) => Err(error),
+        }
+    }
+
+    /// Writes a front part of the bytes: how many.
+    pub(crate) fn write(&mut self, bytes: &[u8]) -> io::Result<usize>
+        ensures bound { WritesAtMost result bytes.now }
+        ensures went { IfOk result (λ n. went_of self.new ≡ went_of self.old ++ take n bytes.now) }
+        ensures none { OnErr result (went_of self.new ≡ went_of self.old) }
+        ensures came { came_of self.new ≡ came_of self.old }
+        ensures bytes { WriteAppends (S.contents (stream_of self.old)) (S.contents (stream_of self.new)) result
+            bytes.now }
+    {
+        match self.stream.write(bytes) {
+            Ok(count) => {
+                self.went.add(&bytes[..count]);
+                Ok(count)
+            }
+            Err(error) => Err(error),
+        }
+    }
+}
+
+/// The sockets that served connections, the latest first. Only clauses read them.
+#[derive(Drop)]
+pub struct Ended {
+    marker: PhantomData<u8>,
+    pub ghost sockets: { List Seen },
+}
+
+impl Model for Ended {
+    ghost also_owns = { λ _. ftrue };
+}
+
+impl Ended {
+    ghost use Rattle.gateway_serve.specs.Bytes.{seen};
+
+    /// No socket.
+    pub(crate) fn new() -> Ended
+        ensures { result.sockets ≡ [] }
+    {
+        Ended {
+            marker: PhantomData,
+        }
+    }
+
+    // A socket that served the connection with this number, of which these bytes came, and to which these went.
+    fn note(&mut self, _conn: usize, _came: &Log, _went: &Log)
+        ensures { self.new.sockets
+            ≡ record { conn = _conn; came = _came.now.bytes; went = _went.now.bytes } ∷ self.old.sockets }
+    {}
+
+    /// A socket that served the connection with this number.
+    pub(crate) fn add<S>(&mut self, conn: usize, socket: &Socket<S>)
+        ensures { self.new.sockets ≡ seen conn socket.now ∷ self.old.sockets }
+    {
+        self.note(conn, &socket.came, &socket.went);
+    }
+}

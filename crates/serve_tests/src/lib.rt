@@ -1,0 +1,5 @@
+//! Tests of serving: clients over sockets.
+#![tactic(auto)]
+
+#[cfg(test)]
+mod serving;
