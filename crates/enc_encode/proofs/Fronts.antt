@@ -5,7 +5,7 @@ use Rattle.std.proofs.lemmas.List.{length-take, get_or-take}
 use Rattle.std.proofs.Math.Seq.{take-append_seam, drop-append_seam}
 use Rattle.std.proofs.lemmas.List.Sums.{prefix_len-le-length, prefix_len_passes}
 use Rattle.std.proofs.lemmas.List.Elements.{All-from_get_or}
-use Rattle.std.proofs.lemmas.Str.{IsUtf8-nil, IsUtf8-append, IsUtf8-take, IsUtf8-drop, IsUtf8-past_char, IsCharBoundary-at_seam, IsCharBoundary-from_take, chars-nil, chars-append, chars_past_char}
+use Rattle.std.proofs.lemmas.Str.{IsUtf8-nil, IsUtf8-append, IsUtf8-drop, IsCharBoundary-from_take, chars-nil, chars-append}
 use Rattle.std.specs.List.{prefix_len}
 use Rattle.std.specs.Char.{is_ascii}
 use Rattle.std.specs.Str.{IsUtf8, IsCharBoundary, chars}
@@ -21,7 +21,9 @@ use Rattle.enc_encode.specs.Held.{Passed, Kept, HeldFront, IsOwnFront}
 use Rattle.enc_encode.specs.Reasons.{Gave}
 use Rattle.enc_encode.specs.State.{shift_of, shifted, EncoderState, code_from}
 use Rattle.enc_encode.proofs.Codes.{ascii_code}
-use Rattle.enc_encode.proofs.Helds.{held_more, kept_given, kept_then, kept_error, nothing_appended}
+use Rattle.enc_encode.specs.Singles.{AreSingles, SingleFront}
+use Rattle.enc_encode.proofs.Helds.{all_held, held_more, kept_given, kept_then, kept_error, nothing_appended}
+use Rattle.enc_encode.proofs.Singles.{char_own, char_one, singles_code}
 use Rattle.enc_encode.proofs.Runs.{gave_nothing, gave_stop}
 
 -- LANES
@@ -82,16 +84,25 @@ module _ (t : Tables) (e : EncoderState) {Z : Type 0} where
       IsUtf8 text → text ≡ encode c ++ rest → Kept (coded (encoder t e.to) e.mode (shift_of s) (c ∷ [])) old held new kept r →
       HeldFront (code_from t (shifted e (shift_of s))) text rest old held new kept r
   char_held text rest c s old held new kept r u parts k =
-      let front = encode c in
-      let cut = IsUtf8-take text (length front) u (IsCharBoundary-at_seam text front rest parts (IsUtf8-past_char text rest c u parts)) in
-      let same : take (length front) text ≡ front = ap (take (length front)) parts ∙ take-append_seam front rest in
-      let own : IsUtf8 front = subst IsUtf8 same cut in
-      let one : chars front ≡ c ∷ [] = chars_past_char front [] c own (sym (append-nil front)) ∙ ap (λ z. c ∷ z) chars-nil in
+      let own = char_own text rest c u parts in
       record {
-        front = front;
+        front = encode c;
         parts = parts;
         own = own;
-        code = subst (λ z. Kept (code_from t (shifted e (shift_of s)) z) old held new kept r) (sym one) k;
+        code = subst (λ z. Kept (code_from t (shifted e (shift_of s)) z) old held new kept r) (sym (char_one c own)) k;
+      }
+
+  -- characters that a single-byte encoding has
+  pub singles_held : (at text rest : List ℕ) (s : ShiftState) (out : Vec ℕ Z) (held kept : List ℕ) → AreSingles (encoder t e.to) at → SingleFront at text rest held kept →
+      HeldFront (code_from t (shifted e (shift_of s))) text rest out held out kept (Ok s)
+  singles_held at text rest s out held kept each p =
+      let code : code_from t (shifted e (shift_of s)) (chars p.front) ≡ record { bytes = p.bytes; state = shift_of s; fault = None } =
+      singles_code t e.to e.mode (shift_of s) at (chars p.front) p.bytes each p.singles in
+      record {
+        front = p.front;
+        parts = p.parts;
+        own = p.own;
+        code = subst (λ z. Kept z out held out kept (Ok s)) (sym code) (refl, refl, all_held out held p.bytes kept p.kept);
       }
 
   -- no character yet

@@ -5,4 +5,5 @@ pub mod Codes
 pub mod Runs
 mod Rows
 mod Fronts
+mod Singles
 mod Given

@@ -5,3 +5,4 @@ pub mod State
 pub mod Reasons
 pub mod Sinks
 pub mod SinkLaws
+pub mod Singles

@@ -1,12 +1,14 @@
 //! Bytes that are gathered before they are appended.
 
-ghost use Rattle.std.specs.Prelude.{◌≡◌, ◌≤◌, ◌+◌, ◌++◌, [], OnOk, OnErr, MatchResult, length, take};
+ghost use Rattle.std.specs.Prelude.{◌≡◌, ◌<◌, ◌≤◌, ◌+◌, ◌++◌, [], ℕ, OnOk, OnErr, IfSome, MatchResult, length, option_copied, take, unwrap_or};
 ghost use Rattle.enc_encode.specs.Code.{bytes_of};
 ghost use Rattle.enc_encode.specs.Growth.{Appended, Stopped};
 ghost use Rattle.enc_encode.specs.Held.{Passed};
+ghost use Rattle.enc_encode.specs.Singles.{FewPointers, FirstSingle, SingleFront};
 
 use crate::append::append;
 use crate::written::Bytes;
+use enc_index::Pointers;
 use std::alloc::AllocError;
 use std::marker::Model;
 
@@ -31,6 +33,21 @@ impl Model for Buffer {
     ghost view = { λ b. take b.len b.bytes };
 
     ghost invariant = { λ b. b.len ≤ 512 };
+}
+
+/// The byte of a text's first character, if it is outside ASCII and a single-byte encoding has it, and the rest of the text.
+#[inline(always)]
+fn first_single<'a>(pointers: &Pointers, text: &'a str) -> Option<(u8, &'a str)>
+    requires { FewPointers pointers.now }
+    ensures { IfSome result (λ r. FirstSingle pointers.now text.now r.0 r.1.now) }
+{
+    let mut chars = text.chars();
+    let c = chars.next()?;
+    if c < '\u{80}' {
+        return None;
+    }
+    let pointer = pointers.find(c)?;
+    Some(((pointer + 0x80) as u8, chars.as_str()))
 }
 
 impl Buffer {
@@ -92,6 +109,31 @@ impl Buffer {
         let end = self.len + LANES;
         self.bytes[self.len..end].copy_from_slice(&lanes);
         self.len += count;
+    }
+
+    /// Puts the bytes of characters outside ASCII at a text's front behind the others: as many as a single-byte encoding has one
+    /// after the other, and as there is room for. Gives the rest of the text. The length is a local of the loop, which a register
+    /// can hold.
+    #[inline(always)]
+    pub fn push_singles<'a>(&mut self, pointers: Option<&Pointers>, text: &'a str) -> &'a str
+        requires { FewPointers (unwrap_or (option_copied pointers) []) }
+        ensures { SingleFront (unwrap_or (option_copied pointers.entry) []) text.now result.now self.old self.new }
+    {
+        let Some(pointers) = pointers else {
+            return text;
+        };
+        let mut len = self.len;
+        let mut rest = text;
+        while len < ROOM {
+            let Some((byte, behind)) = first_single(pointers, rest) else {
+                break;
+            };
+            self.bytes[len] = byte;
+            len += 1;
+            rest = behind;
+        }
+        self.len = len;
+        rest
     }
 
     /// Sees to room for so many bytes as are put in at once.

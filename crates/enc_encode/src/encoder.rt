@@ -1,11 +1,12 @@
 //! The encoder.
 
-ghost use Rattle.std.specs.Prelude.{◌≡◌, ◌⊎◌, ◌<◌, ◌≤◌, ◌++◌, ◌∷◌, [], ℕ, List, Ok, Err, vec_capacity, length, OnOk, OnErr, IfOk, IfErr, IfSome, IsOk, All};
+ghost use Rattle.std.specs.Prelude.{◌≡◌, ◌⊎◌, ◌<◌, ◌≤◌, ◌++◌, ◌∷◌, [], ℕ, List, Ok, Err, vec_capacity, length, OnOk, OnErr, IfOk, IfErr, IfSome, IsOk, All, option_copied, unwrap_or};
 ghost use Rattle.std.specs.Str.{chars};
 ghost use Rattle.enc_encode.specs.State.{EncoderState, shift_of, code_of_shift, code_of_shift_of, shifted, coder, code_from};
 ghost use Rattle.enc_encode.specs.Growth.{NoRoom};
 ghost use Rattle.enc_encode.specs.Held.{Kept, HeldFront, IsOwnFront};
 ghost use Rattle.enc_encode.specs.Reasons.{Gave, Explains, reason_of};
+ghost use Rattle.enc_encode.specs.Singles.{AreSingles, FewPointers};
 ghost use Rattle.enc_model.specs.Encode.{Tables, coded, encoder, encoder_end, InAscii};
 ghost use Rattle.enc_model.specs.Transcode.{Took, Refused};
 ghost use Rattle.enc_model.specs.Sink.{Given};
@@ -19,7 +20,7 @@ use crate::iso2022::{TO_ASCII, iso2022_ascii};
 use crate::shift::ShiftState;
 use crate::written::Written;
 use crate::written_out::write_out;
-use enc_index::IndexSet;
+use enc_index::{IndexSet, Kind, Pointers};
 use enc_model::{Encoding, Mode};
 use lane_kernels::ascii_front;
 use std::alloc::AllocError;
@@ -257,16 +258,20 @@ impl Encoder {
         }
     }
 
-    /// Appends the codes of a text's characters, and gives the state that they lead to.
+    /// Appends the codes of a text's characters, and gives the state that they lead to. For a single-byte encoding the table of its
+    /// pointers is given, so that it is found once a text.
     #[inline(always)]
     fn encode_chars(
         &self,
         to: Encoding,
         set: &IndexSet,
+        singles: Option<&Pointers>,
         run: &str,
         out: &mut Vec<u8>,
     ) -> Result<ShiftState, EncodeError>
-        requires { to ≡ self.now.to }
+        requires same { to ≡ self.now.to }
+        requires singles { AreSingles (encoder (tables set.now) self.now.to) (unwrap_or (option_copied singles) []) }
+        requires few { FewPointers (unwrap_or (option_copied singles) []) }
         ensures { Gave (code_from (tables set.now) self.now (chars run.now)) out.old out.new result }
     {
         let mut held = Buffer::new();
@@ -275,7 +280,7 @@ impl Encoder {
         while !rest.is_empty() {
             let (next, behind) = self.hold_front(to, set, shift, rest, &mut held, out)?;
             shift = next;
-            rest = behind;
+            rest = held.push_singles(singles, behind);
         }
         held.flush(out)?;
         Ok(shift)
@@ -301,10 +306,13 @@ impl Encoder {
     {
         match self.to {
             Encoding::Utf8 | Encoding::Utf16Be | Encoding::Utf16Le => self.encode_utf8(run, out),
-            Encoding::ShiftJis => self.encode_chars(Encoding::ShiftJis, set, run, out),
-            Encoding::EucJp => self.encode_chars(Encoding::EucJp, set, run, out),
-            Encoding::Iso2022Jp => self.encode_chars(Encoding::Iso2022Jp, set, run, out),
-            single => self.encode_chars(single, set, run, out),
+            Encoding::ShiftJis => self.encode_chars(Encoding::ShiftJis, set, None, run, out),
+            Encoding::EucJp => self.encode_chars(Encoding::EucJp, set, None, run, out),
+            Encoding::Iso2022Jp => self.encode_chars(Encoding::Iso2022Jp, set, None, run, out),
+            single => {
+                let singles = set.pointers(Kind::Single(single));
+                self.encode_chars(single, set, singles, run, out)
+            }
         }
     }
 

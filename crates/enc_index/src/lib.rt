@@ -14,4 +14,5 @@ mod usable;
 pub use area::AREA_SIZE;
 pub use index::Index;
 pub use kind::{AreaError, Kind, ReadError};
+pub use pointers::Pointers;
 pub use set::IndexSet;

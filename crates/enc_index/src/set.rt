@@ -216,10 +216,10 @@ impl IndexSet {
         Some(self.single_table(encoding)?.ready_bytes())
     }
 
-    /// The least pointers of an index by code point, where its file was set.
+    /// The least pointers of an index by code point, where its file was set. Who looks up many finds them once.
     #[tactic(auto, using(crate::proofs::Lookups::pointer_of_none, crate::proofs::Lookups::table_is))]
     #[inline(always)]
-    fn pointers(&self, kind: Kind) -> Option<&Pointers>
+    pub fn pointers(&self, kind: Kind) -> Option<&Pointers>
         ensures value { MatchOption result ((c : ℕ) → pointer (table_of (tables self.now) kind) c ≡ None) (λ p. (c : ℕ) → found p.now c ≡ pointer (table_of (tables self.now) kind) c) }
         ensures bounded { IfSome result (λ p. (c : ℕ) → IfSome (found p.now c) (λ n. n < pointers_of kind)) }
     {
