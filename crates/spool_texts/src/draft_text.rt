@@ -231,6 +231,7 @@ impl DraftText {
         ensures no_device { IsErrOf result DraftError.DiskFault → ⊥ }
         ensures nothing { length bytes.now ≡ 0 → (self.new ≡ self.old) × (blocks.new ≡ blocks.old) }
         ensures memory { IsErrOf result DraftError.NoMemory → (self.new ≡ self.old) × (blocks.new ≡ blocks.old) }
+        ensures some { IsErrOf result DraftError.Full → 1 ≤ length bytes.now }
 
         // The bytes on its blocks with those that it answers are all that it held, and the last ones.
         ensures content { (seen : ℕ → ℕ) (first : ℕ) → IfOk result (λ last. bytes_with seen first self.new.blocks last.items ≡ content_on seen first self.old ++ bytes.now) }
