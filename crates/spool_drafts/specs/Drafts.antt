@@ -14,7 +14,7 @@ use Rattle.upload_rules.specs.Store.{Upload, text_of, is_complete}
 use Rattle.upload_rules.specs.World.{Patch, is_there, patch_text}
 use Rattle.spool_drafts.specs.Effect.{RunsShort}
 use Rattle.spool_drafts.specs.Fresh.{StandsAt}
-use Rattle.spool_drafts.specs.Growth.{list_on, tail_list, bytes_on, whole_len, IsTailed, HoldsLen}
+use Rattle.spool_drafts.specs.Growth.{list_on, tail_list, bytes_on, IsTailed, HoldsLen}
 use Rattle.spool_drafts.specs.declared.draft.DraftEnd.{DraftEnd}
 use Rattle.spool_drafts.specs.declared.draft.SpoolDraft.{SpoolDraft}
 
@@ -37,12 +37,9 @@ list_of d = list_on d.growth.on
 abbrev pub tail_of : SpoolDraft → List ℕ
 tail_of d = tail_list d.growth.tail
 
--- the length of the committed text, and of the text with what the draft added
+-- the length of the committed text
 abbrev pub committed_len_of : SpoolDraft → ℕ
 committed_len_of d = d.growth.text_len
-
-abbrev pub len_of : SpoolDraft → ℕ
-len_of d = whole_len d.growth.text_len d.growth.on
 
 -- the committed text's last block, if there is an unfinished one, is one of so many
 abbrev pub IsPlaced : ℕ → SpoolDraft → Type 0

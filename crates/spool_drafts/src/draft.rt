@@ -13,7 +13,7 @@ ghost use Rattle.upload_rules.specs.World.{Patch};
 ghost use Rattle.upload_rules.specs.declared.errors.UploadRefusal.{UploadRefusal as Refusal};
 ghost use Rattle.spool_drafts.specs.Effect.{Effect};
 ghost use Rattle.spool_drafts.specs.Growth.{list_on};
-ghost use Rattle.spool_drafts.specs.Drafts.{Holds, Carries, IsBegun, IsPlaced, IsLonger, EndsAs, with_piece, open_text, number_of, offset_of, came_of, list_of, committed_len_of, len_of, tail_of};
+ghost use Rattle.spool_drafts.specs.Drafts.{Holds, Carries, IsBegun, IsPlaced, IsLonger, EndsAs, with_piece, open_text, number_of, offset_of, came_of, list_of, committed_len_of, tail_of};
 
 use crate::fresh::{finished, read_on};
 use crate::growth::Growth;
@@ -106,14 +106,6 @@ impl SpoolDraft {
         ensures { result ≡ committed_len_of self.now }
     {
         self.growth.text_len
-    }
-
-    /// The length in bytes of the text with what the draft added.
-    pub fn len(&self) -> u64
-        requires { committed_len_of self.now ≤ 4096 * 65536 }
-        ensures { result ≡ len_of self.now }
-    {
-        self.growth.len()
     }
 
     /// The reserved blocks, by ordinal from that of the committed text's last unfinished block on.

@@ -196,29 +196,6 @@ impl DraftText {
         Ok(n)
     }
 
-    /// Writes the unfinished block, where it has bytes and a block is reserved, without a sync.
-    pub fn write_last<D: Disk>(&self, disk: &mut D, layout: &Layout) -> Result<(), DiskFault>
-        requires room { 4096 * all_pages layout.now ≤ D.size disk.old }
-        requires blocks { AllBelow layout.now self.now.blocks }
-        requires distinct { (i k : ℕ) → i < k → k < length self.now.blocks → get_or self.now.blocks i 0 ≢ get_or self.now.blocks k 0 }
-        ensures size { D.size disk.new ≡ D.size disk.old }
-        ensures honest { D.honest disk.old ↔ D.honest disk.new }
-        ensures counts { Counts (IsErr result) (D.failures disk.old) (D.failures disk.new) }
-        ensures written { D.honest disk.old → OnOk result (1 ≤ length self.now.blocks → text_on (D.seen disk.new) (25 + 2 * journal_pages layout.now) self.now.blocks (held_count self.now) ≡ content_on (D.seen disk.old) (25 + 2 * journal_pages layout.now) self.now) }
-        ensures writes { D.honest disk.old → WritesIn (25 + 2 * journal_pages layout.now) self.now.blocks (D.seen disk.old) (D.seen disk.new) (D.loose disk.old) (D.loose disk.new) }
-        ensures idle { D.honest disk.old → Idle (journal_pages layout.now) (D.seen disk.old) (D.loose disk.old) → Idle (journal_pages layout.now) (D.seen disk.new) (D.loose disk.new) }
-        ensures image { D.honest disk.old → (image : ℕ → ℕ) → IsImage (D.seen disk.new) (D.loose disk.new) image → IsImage (D.seen disk.old) (D.loose disk.old) (aside_blocks (25 + 2 * journal_pages layout.now) self.now.blocks (D.seen disk.old) image) }
-        ensures lasts { D.honest disk.old → Lasts D.Disk disk.old disk.new (λ image. IsImage (D.seen disk.old) (D.loose disk.old) (aside_blocks (25 + 2 * journal_pages layout.now) self.now.blocks (D.seen disk.old) image)) }
-    {
-        if self.filled == 0 {
-            return Ok(());
-        }
-        if self.blocks.is_empty() {
-            return Ok(());
-        }
-        write_front(disk, layout, &self.blocks, &self.page[..self.filled])
-    }
-
     /// Takes these bytes as the last ones, in memory: it reserves the blocks for them, and answers what `write_last` is to write, the
     /// bytes of the unfinished block and these. The draft may only be spent then.
     pub fn end(
@@ -250,11 +227,7 @@ impl DraftText {
         }
         self.make_room(bytes.len())?;
         let full = self.blocks.len().saturating_sub(self.filled.div_ceil(PAGE));
-        take_blocks(
-            &mut self.blocks,
-            blocks,
-            full + last.len().div_ceil(PAGE),
-        )?;
+        take_blocks(&mut self.blocks, blocks, full + last.len().div_ceil(PAGE))?;
         Ok(last)
     }
 
@@ -406,11 +379,7 @@ fn take_block(list: &mut Vec<BlockNo>, blocks: &mut Blocks) -> Result<(), DraftE
 }
 
 // Reserves blocks, and puts them behind the others, until there are so many.
-fn take_blocks(
-    list: &mut Vec<BlockNo>,
-    blocks: &mut Blocks,
-    count: usize,
-) -> Result<(), DraftError>
+fn take_blocks(list: &mut Vec<BlockNo>, blocks: &mut Blocks, count: usize) -> Result<(), DraftError>
     requires space { count ≤ vec_capacity list.old }
     requires fewer { length list.old.items ≤ count }
     requires few { length list.old.items ≤ 65536 }

@@ -1,6 +1,5 @@
-use Rattle.std.proofs.Common.{◌≡◌, ◌∙◌, ◌≤◌, ◌<◌, ◌+◌, ◌*◌, ◌/◌, ℕ, List, arith, inl, length, sym, ap, subst}
+use Rattle.std.proofs.Common.{◌≡◌, ◌∙◌, ◌≤◌, ◌+◌, ◌*◌, ◌/◌, ℕ, List, arith, inl, length, sym, ap, subst}
 use Rattle.spool_disk.proofs.Firm.{lasts_on, lasts_more}
-use Rattle.spool_disk.specs.Views.{Lasts}
 use Rattle.spool_drafts.proofs.Effects.{only}
 use Rattle.spool_drafts.specs.Effect.{OnlyWrites}
 use Rattle.spool_journal.specs.Image.{all_pages, journal_pages, InArea}

@@ -2,7 +2,7 @@ use Rattle.std.proofs.Common.{arith, ◌+◌, ◌*◌, ◌++◌, ℕ, List, Vec,
 use Rattle.std.proofs.lemmas.Result.{err_from_is_err_and}
 use Rattle.std.specs.declared.alloc.Global.{Global}
 use Rattle.spool_journal.specs.Image.{journal_pages}
-use Rattle.spool_drafts.specs.Drafts.{EndsAs, list_of, open_text}
+use Rattle.spool_drafts.specs.Drafts.{EndsAs, list_of}
 use Rattle.spool_drafts.specs.Growth.{ClosesAs, bytes_on}
 use Rattle.spool_drafts.proofs.Effects.{only_none, only_read, grasp_none}
 use Rattle.spool_drafts.proofs.Ends.{still, whole, refused, not_closed, kept_end, open_ended}

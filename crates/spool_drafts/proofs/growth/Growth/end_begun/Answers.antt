@@ -1,4 +1,4 @@
-use Rattle.std.proofs.Common.{arith, ◌≡◌, ◌+◌, length, ℕ, inr, ap, sym, ◌∙◌, subst, Option, Err}
+use Rattle.std.proofs.Common.{arith, ◌≡◌, ◌+◌, length, inr, ap, sym, ◌∙◌, subst, Option, Err}
 use Rattle.spool_texts.specs.declared.error.DraftError.{DraftError}
 use Rattle.spool_texts.specs.Drafts.{Draft, held_count, Takes}
 use Rattle.spool_drafts.specs.Growth.{HoldsCount, list_on}
