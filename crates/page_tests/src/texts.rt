@@ -8,7 +8,7 @@ use crate::disks::disk_of;
 use spool_blocks::Blocks;
 use spool_disk::{Disk, HiccupDisk};
 use spool_journal::{Layout, write_block};
-use spool_texts::{DraftError, DraftText, read_text};
+use spool_texts::{DraftError, DraftText, read_text, write_last};
 use std::alloc::{AllocError, Global};
 use std::process::Abort;
 use std::test::Fail;
@@ -58,10 +58,11 @@ fn read_back(rt: &impl Abort, alloc: Global, text: &[u8], size: usize) -> Result
         "no text is read",
     );
     let put = put_pieces(&mut draft, &mut disk, &layout, &mut blocks, text, size);
-    let last = draft.write_last(&mut disk, &layout);
     let held = draft.len();
+    let last = draft.end(alloc, &mut blocks, b"")?;
     let list = draft.into_list();
-    assert_eq!(rt; (put, last, held), (Ok(()), Ok(()), 10_000));
+    let written = write_last(&mut disk, &layout, &list, &last);
+    assert_eq!(rt; (put, written, held), (Ok(()), Ok(()), 10_000));
     assert_eq!(rt; list.len(), 3);
     let mut buf = vec![in alloc; 7; 10_000]?;
     let whole = read_text(&mut disk, &layout, &list, 10_000, 0, &mut buf);
@@ -125,10 +126,10 @@ fn text_behind<D: Disk>(
 {
     let mut draft = DraftText::begin(alloc, disk, layout, &[3], 5)?;
     let put = draft.put(disk, layout, blocks, bytes);
-    let last = draft.write_last(disk, layout);
+    let last = draft.end(alloc, blocks, b"");
     let list = draft.into_list();
     put?;
-    last?;
+    write_last(disk, layout, &list, &last?)?;
     if list.len() != 2 {
         return Err(DraftError::Full);
     }

@@ -20,7 +20,7 @@ writes_keeps : {seen seen' : ℕ → ℕ} {loose loose' : ℕ → Type 0} (first
 writes_keeps first own keeps = record { outside = λ p away. keeps.same p; loosens = λ p l. inl (keeps.loosens p l) }
 
 module _ {D : Type 0} {disk : Ghosts D} {j : ℕ} where
-  only : {own : List ℕ} {old new : D} → WritesIn (25 + 2 * j) own (disk.seen old) (disk.seen new) (disk.loose old) (disk.loose new) → Lasts disk old new (IsImageBut (25 + 2 * j) own (disk.seen old) (disk.loose old)) → OnlyWrites disk j own old new
+  pub only : {own : List ℕ} {old new : D} → WritesIn (25 + 2 * j) own (disk.seen old) (disk.seen new) (disk.loose old) (disk.loose new) → Lasts disk old new (IsImageBut (25 + 2 * j) own (disk.seen old) (disk.loose old)) → OnlyWrites disk j own old new
   only writes lasts = record {
     writes = writes;
     idle = λ idle. idle_in idle writes;

@@ -1,6 +1,7 @@
 -- A draft whose text ends.
-use Rattle.std.proofs.Common.{◌≡◌, ◌⊎◌, inl, inr, ◌≤◌, ◌<◌, ◌+◌, ◌-◌, ◌*◌, ◌/◌, ◌%◌, ◌++◌, ℕ, Bool, true, false, List, [], length, Option, None, Some, Err, refl, sym, ◌∙◌, ap, subst, arith, append-nil, length-append, length-drop, ⊎_elim}
+use Rattle.std.proofs.Common.{◌≡◌, ◌⊎◌, inl, inr, Vec, ◌≤◌, ◌<◌, ◌+◌, ◌-◌, ◌*◌, ◌/◌, ◌%◌, ◌++◌, ℕ, Bool, true, false, List, [], length, Option, None, Some, Err, refl, sym, ◌∙◌, ap, subst, arith, append-nil, length-append, length-drop, ⊎_elim}
 use Rattle.std.proofs.lemmas.Bool.{cases_lt, ne_eqb}
+use Rattle.std.specs.declared.alloc.Global.{Global}
 use Rattle.enc_model.specs.Indexes.{IndexSet}
 use Rattle.spool_blocks.specs.Blocks.{Held}
 use Rattle.spool_texts.specs.Drafts.{Draft}
@@ -14,6 +15,7 @@ use Rattle.spool_drafts.specs.Drafts.{Holds, IsKept, IsWhole, EndsAs, open_text,
 use Rattle.spool_drafts.specs.Effect.{RunsShort}
 use Rattle.spool_drafts.specs.Fresh.{IsFinished, FinishesAs}
 use Rattle.spool_drafts.specs.Growth.{HoldsLen, HoldsCount, ClosesAs, list_on, whole_len}
+use Rattle.spool_drafts.specs.declared.draft.DraftEnd.{DraftEnd}
 use Rattle.spool_drafts.specs.declared.draft.SpoolDraft.{SpoolDraft}
 use Rattle.spool_drafts.specs.declared.growth.Growth.{Growth}
 use Rattle.spool_drafts.proofs.Lengths.{need_some}
@@ -79,30 +81,29 @@ module _ (x : IndexSet) (p : Patch) (d : SpoolDraft) (held : Holds x p d) (some 
         ∙ ap (λ (n : ℕ). need_of (length (text_of x p.began)) (n - length (text_of x p.began) % 4096)) size
         ∙ sym (wants_is x p done encodable_end)
 
-    pub closed_len : (growth : Growth) → d.growth.short ≡ false → ((n : ℕ) → HoldsLen d.growth n → HoldsLen growth (n + length text)) → HoldsLen growth (length (open_text x p done))
-    closed_len growth roomy holds = subst (HoldsLen growth) size (holds (length (open_text x p false)) (held.kept (kept_end roomy)))
-
-    pub whole : (new : SpoolDraft) → new.growth.text_len ≡ d.growth.text_len → d.growth.short ≡ false → ((n : ℕ) → HoldsLen d.growth n → HoldsLen new.growth (n + length text)) → IsWhole x p done new state
-    whole new len roomy holds =
-        let closed = closed_len new.growth roomy holds in
+    pub whole : (new : SpoolDraft) (e : DraftEnd) → e.state ≡ state → e.text_len ≡ whole_len d.growth.text_len d.growth.on + length text → d.growth.short ≡ false
+        → ((n : ℕ) → HoldsLen d.growth n → length (list_of new) ≡ need_of d.growth.text_len ((n + length text) - d.growth.text_len % 4096)) → IsWhole x p done new e
+    whole new e is len roomy listed =
+        let holds = held.kept (kept_end roomy) in
         let t = length (text_of x p.began) in
-        let committed : new.growth.text_len ≡ t = len ∙ held.committed in
         record {
-          state_is = finished.state_is;
+          state_is = is ∙ finished.state_is;
           sound = finished.sound;
           encodable = encodable_end;
           roomy = sym held.short ∙ roomy;
-          listed = closed.listed ∙ ap (λ (n : ℕ). need_of new.growth.text_len (n - new.growth.text_len % 4096)) (sym size) ∙ ap (λ (k : ℕ). need_of k ((length (open_text x p false) + length text) - k % 4096)) len ∙ wanted;
+          listed = listed (length (open_text x p false)) holds ∙ wanted;
           len = omega (
             arith,
-            whole_is new.growth.text_len (length (open_text x p done)) new.growth.on closed.count closed.some closed.listed,
-            ap (λ (k : ℕ). 4096 * (k / 4096)) committed,
+            len,
+            size,
+            whole_is d.growth.text_len (length (open_text x p false)) d.growth.on holds.count holds.some holds.listed,
+            ap (λ (k : ℕ). 4096 * (k / 4096)) held.committed,
             length-drop (4096 * (t / 4096)) (patch_text x p done).bytes,
             end_front,
           );
         }
 
-    pub not_closed : (growth : Growth) (new : SpoolDraft) (blocks blocks' : Held) (e : UploadError) → ClosesAs d.growth growth (length text) blocks blocks' (Err e) → EndsAs x p done d new blocks blocks' (Err e)
+    pub not_closed : (growth : Growth) (new : SpoolDraft) (blocks blocks' : Held) (e : UploadError) → ClosesAs {T = Vec ℕ Global} d.growth growth (length text) blocks blocks' (Err e) → EndsAs x p done d new blocks blocks' (Err e)
     not_closed growth new blocks blocks' NoMemory closes = tt
     not_closed growth new blocks blocks' DiskFault closes = tt
     not_closed growth new blocks blocks' (Refused refusals.Full) closes = (

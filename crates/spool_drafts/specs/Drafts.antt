@@ -14,7 +14,8 @@ use Rattle.upload_rules.specs.Store.{Upload, text_of, is_complete}
 use Rattle.upload_rules.specs.World.{Patch, is_there, patch_text}
 use Rattle.spool_drafts.specs.Effect.{RunsShort}
 use Rattle.spool_drafts.specs.Fresh.{StandsAt}
-use Rattle.spool_drafts.specs.Growth.{list_on, tail_list, bytes_on, whole_len, IsTailed, HoldsLen}
+use Rattle.spool_drafts.specs.Growth.{list_on, tail_list, bytes_on, IsTailed, HoldsLen}
+use Rattle.spool_drafts.specs.declared.draft.DraftEnd.{DraftEnd}
 use Rattle.spool_drafts.specs.declared.draft.SpoolDraft.{SpoolDraft}
 
 -- the upload's number
@@ -36,12 +37,9 @@ list_of d = list_on d.growth.on
 abbrev pub tail_of : SpoolDraft → List ℕ
 tail_of d = tail_list d.growth.tail
 
--- the length of the committed text, and of the text with what the draft added
+-- the length of the committed text
 abbrev pub committed_len_of : SpoolDraft → ℕ
 committed_len_of d = d.growth.text_len
-
-abbrev pub len_of : SpoolDraft → ℕ
-len_of d = whole_len d.growth.text_len d.growth.on
 
 -- the committed text's last block, if there is an unfinished one, is one of so many
 abbrev pub IsPlaced : ℕ → SpoolDraft → Type 0
@@ -91,18 +89,18 @@ abbrev pub IsLonger : IndexSet → Patch → SpoolDraft → SpoolDraft → Held 
 IsLonger x q old new blocks blocks' =
     Holds x q new ⊎ (Holds x (shortened q) new × RunsShort blocks blocks' (list_of old) (wants x q false))
 
--- the whole text is on the draft's blocks, behind the full ones of the committed text
-pub record IsWhole (x : IndexSet) (p : Patch) (done : Bool) (d : SpoolDraft) (state : List ℕ) : Type 0 where
-  pub state_is : state ≡ state_with x p.began p.body done
+-- the whole text is the draft's, behind the full blocks of the committed text
+pub record IsWhole (x : IndexSet) (p : Patch) (done : Bool) (d : SpoolDraft) (e : DraftEnd) : Type 0 where
+  pub state_is : e.state ≡ state_with x p.began p.body done
   pub sound : IsSound (transcoder_with x p.began p.body done)
   pub encodable : (patch_text x p done).fault ≡ None
   pub roomy : p.short ≡ false
   pub listed : length (list_of d) ≡ wants x p done
-  pub len : len_of d ≡ length (patch_text x p done).bytes
+  pub len : e.text_len ≡ length (patch_text x p done).bytes
 
 -- how the text ends, where a body came
-abbrev pub EndsAs : IndexSet → Patch → Bool → SpoolDraft → SpoolDraft → Held → Held → Result (List ℕ) UploadError → Type 0
-EndsAs x p done old new blocks blocks' (Ok state) = IsWhole x p done new state
+abbrev pub EndsAs : IndexSet → Patch → Bool → SpoolDraft → SpoolDraft → Held → Held → Result DraftEnd UploadError → Type 0
+EndsAs x p done old new blocks blocks' (Ok e) = IsWhole x p done new e
 EndsAs x p done old new blocks blocks' (Err NoMemory) = Unit {0}
 EndsAs x p done old new blocks blocks' (Err DiskFault) = Unit {0}
 EndsAs x p done old new blocks blocks' (Err (Refused refusals.Unencodable)) = is_there (patch_text x p done).fault ≡ true

@@ -57,9 +57,10 @@ abbrev pub GrowsTo : ℕ → Growth → Growth → Held → Held → Type 0
 GrowsTo n old new blocks blocks' =
     HoldsLen new n ⊎ (IsShort new × RunsShort blocks blocks' (list_on old.on) (need_of old.text_len (n - old.text_len % 4096)))
 
--- the last bytes are put: it holds them too, or is short of blocks for them
-abbrev pub ClosesAs : Growth → Growth → ℕ → Held → Held → Result (Unit {0}) UploadError → Type 0
-ClosesAs old new more blocks blocks' (Ok done) = (old.short ≡ false) × ((n : ℕ) → HoldsLen old n → HoldsLen new (n + more))
+-- the last bytes came: its blocks are as many as it needs with them, or it is short of blocks for them
+abbrev pub ClosesAs : {T : Type 0} → Growth → Growth → ℕ → Held → Held → Result T UploadError → Type 0
+ClosesAs old new more blocks blocks' (Ok last) =
+    (old.short ≡ false) × ((n : ℕ) → HoldsLen old n → length (list_on new.on) ≡ need_of old.text_len ((n + more) - old.text_len % 4096))
 ClosesAs old new more blocks blocks' (Err (Refused refusals.Full)) =
     (old.short ≡ true) ⊎ ((n : ℕ) → HoldsLen old n → RunsShort blocks blocks' (list_on old.on) (need_of old.text_len ((n + more) - old.text_len % 4096)))
 ClosesAs old new more blocks blocks' (Err (Refused e)) = ⊥

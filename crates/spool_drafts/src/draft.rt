@@ -1,9 +1,10 @@
 // An append under way on a disk.
 ghost use Rattle.std.specs.Prelude.{◌≡◌, get_or, ◌≤◌, ◌*◌, ◌+◌, ◌<◌, ◌/◌, ◌%◌, ◌-◌, ◌↔◌, ◌^◌, ℕ, [], true, min, length, IsOk, IsErrOf, OnOk, IfOk};
 ghost use Rattle.enc_model.specs.Indexes.{IndexSet as Indexes};
-ghost use Rattle.spool_disk.specs.Disk.{Counts};
+ghost use Rattle.spool_disk.specs.Disk.{Counts, IsImage, Keeps as OnlyRead};
+ghost use Rattle.spool_disk.specs.Views.{Lasts};
 ghost use Rattle.spool_journal.specs.Image.{journal_pages, all_pages};
-ghost use Rattle.spool_texts.specs.Drafts.{IsReserved, GivesBack};
+ghost use Rattle.spool_texts.specs.Drafts.{IsReserved, GivesBack, bytes_with};
 ghost use Rattle.spool_texts.specs.TextOn.{AllBelow, text_on};
 ghost use Rattle.upload_rules.specs.Calls.{first_patch};
 ghost use Rattle.upload_rules.specs.Records.{Keeps};
@@ -12,7 +13,7 @@ ghost use Rattle.upload_rules.specs.World.{Patch};
 ghost use Rattle.upload_rules.specs.declared.errors.UploadRefusal.{UploadRefusal as Refusal};
 ghost use Rattle.spool_drafts.specs.Effect.{Effect};
 ghost use Rattle.spool_drafts.specs.Growth.{list_on};
-ghost use Rattle.spool_drafts.specs.Drafts.{Holds, Carries, IsBegun, IsPlaced, IsLonger, EndsAs, with_piece, open_text, number_of, offset_of, came_of, list_of, committed_len_of, len_of, tail_of};
+ghost use Rattle.spool_drafts.specs.Drafts.{Holds, Carries, IsBegun, IsPlaced, IsLonger, EndsAs, with_piece, open_text, number_of, offset_of, came_of, list_of, committed_len_of, tail_of};
 
 use crate::fresh::{finished, read_on};
 use crate::growth::Growth;
@@ -34,6 +35,17 @@ pub struct SpoolDraft {
     // where transcoding stands, without text
     fresh: NewText,
     growth: Growth,
+}
+
+/// What the end of a draft's text comes to.
+#[derive(Drop)]
+pub struct DraftEnd {
+    /// Where transcoding stands, as `Transcoder::pack` writes it.
+    pub state: [u8; 32],
+    /// The length in bytes of the text with what the draft added.
+    pub text_len: u64,
+    /// The bytes that are still to be written to the draft's last blocks.
+    pub last: Vec<u8>,
 }
 
 impl SpoolDraft {
@@ -94,14 +106,6 @@ impl SpoolDraft {
         ensures { result ≡ committed_len_of self.now }
     {
         self.growth.text_len
-    }
-
-    /// The length in bytes of the text with what the draft added.
-    pub fn len(&self) -> u64
-        requires { committed_len_of self.now ≤ 4096 * 65536 }
-        ensures { result ≡ len_of self.now }
-    {
-        self.growth.len()
     }
 
     /// The reserved blocks, by ordinal from that of the committed text's last unfinished block on.
@@ -169,9 +173,9 @@ impl SpoolDraft {
         Ok(())
     }
 
-    /// Ends the text, with the bytes of the end where the body completes the upload, writes the last block without a sync, and
-    /// answers the state bytes: refused with `Unencodable`, `Full`, `NoMemory`, `DiskFault`. After a refusal it may only be spent.
-    /// Where no byte was added to the text it has no blocks, and the committed ones stay.
+    /// Ends the text in memory, with the bytes of the end where the body completes the upload: refused with `Unencodable`, `Full`,
+    /// `NoMemory`, `DiskFault`, after which it may only be spent. Nothing is written: `write_last` writes what is still to be
+    /// written. Where no byte was added to the text it has no blocks, and the committed ones stay.
     pub fn end<D: Disk>(
         &mut self,
         alloc: Global,
@@ -180,9 +184,8 @@ impl SpoolDraft {
         blocks: &mut Blocks,
         indexes: &IndexSet,
         completes: bool,
-    ) -> Result<[u8; 32], UploadError>
+    ) -> Result<DraftEnd, UploadError>
         requires room { 4096 * all_pages layout.now ≤ D.size disk.old }
-        requires blocks { length blocks.old.rows ≡ layout.now }
         requires reserved { IsReserved blocks.old (list_of self.old) }
         requires placed { IsPlaced layout.now self.old }
         ensures size { D.size disk.new ≡ D.size disk.old }
@@ -195,15 +198,24 @@ impl SpoolDraft {
         ensures reserved { IsReserved blocks.new (list_of self.new) }
         ensures effect { Effect D.Disk (journal_pages layout.now) (list_of self.old) (list_of self.new) disk.old disk.new blocks.old blocks.new }
 
-        // Where a body came: the text's end, and the bytes on the blocks.
+        // Nothing is written.
+        ensures keeps { D.honest disk.old → OnlyRead (D.seen disk.old) (D.seen disk.new) (D.loose disk.old) (D.loose disk.new) }
+        ensures lasts { D.honest disk.old → Lasts D.Disk disk.old disk.new (IsImage (D.seen disk.old) (D.loose disk.old)) }
+
+        // Where a body came: the text's end, and the bytes on the blocks, with those that are still to be written.
         ensures answer { (p : Patch) → Holds indexes.now p self.old → 0 < length p.body → EndsAs indexes.now p completes self.old self.new blocks.old blocks.new result }
+        ensures fits { IfOk result (λ end. 1 ≤ length (list_of self.new) → (length end.last.items + 4095) / 4096 ≤ length (list_of self.new)) }
         ensures content { (p : Patch) → D.honest disk.old → Holds indexes.now p self.old → 0 < length p.body → Carries indexes.now (D.seen disk.old) (25 + 2 * journal_pages layout.now) p self.old
-            → OnOk result (1 ≤ length (list_of self.new)
-            → text_on (D.seen disk.new) (25 + 2 * journal_pages layout.now) (list_of self.new) (length (open_text indexes.now p completes)) ≡ open_text indexes.now p completes) }
+            → IfOk result (λ end. 1 ≤ length (list_of self.new) → bytes_with (D.seen disk.new) (25 + 2 * journal_pages layout.now) (list_of self.new) end.last.items ≡ open_text indexes.now p completes) }
     {
         let (state, text) = finished(alloc, &self.fresh, indexes, completes)?;
-        self.growth.close(alloc, disk, layout, blocks, &text)?;
-        Ok(state)
+        let text_len = self.growth.len() + text.len() as u64;
+        let last = self.growth.end(alloc, disk, layout, blocks, &text)?;
+        Ok(DraftEnd {
+            state,
+            text_len,
+            last,
+        })
     }
 
     // So many bytes more came.

@@ -1,11 +1,11 @@
 // The new text of a draft, on reserved blocks.
-ghost use Rattle.std.specs.Prelude.{◌≡◌, ◌≢◌, get_or, ◌≤◌, ◌*◌, ◌+◌, ◌%◌, ◌/◌, ◌<◌, ◌++◌, ◌↔◌, ℕ, [], true, false, None, length, IsOk, IsErr, IsErrOf, OnOk, IfOk};
+ghost use Rattle.std.specs.Prelude.{◌≡◌, ◌≢◌, get_or, ◌≤◌, ◌*◌, ◌+◌, ◌%◌, ◌/◌, ◌<◌, ◌++◌, ◌↔◌, ◌^◌, ℕ, List, [], true, false, None, length, IsOk, IsErr, IsErrOf, OnOk, IfOk};
 ghost use Rattle.spool_disk.specs.Disk.{Counts, IsImage, Keeps};
 ghost use Rattle.spool_disk.specs.Views.{Lasts};
 ghost use Rattle.spool_journal.specs.Image.{journal_pages, all_pages};
-ghost use Rattle.spool_texts.specs.Drafts.{IsReserved, GivesBack, content_on, held_count};
+ghost use Rattle.spool_texts.specs.Drafts.{IsReserved, GivesBack, bytes_with, content_on, held_count};
 ghost use Rattle.spool_texts.specs.TextOn.{AllBelow, text_on};
-ghost use Rattle.spool_drafts.specs.Effect.{Effect, OnlyWrites, RunsShort};
+ghost use Rattle.spool_drafts.specs.Effect.{Effect, Regrasps, RunsShort};
 ghost use Rattle.spool_drafts.specs.Growth.{list_on, tail_list, bytes_on, whole_len, IsTailed, HoldsLen, HoldsCount, GrowsTo, ClosesAs};
 ghost use Rattle.upload_rules.specs.declared.errors.UploadRefusal.{UploadRefusal as Refusal};
 
@@ -68,7 +68,8 @@ impl Growth {
     /// The length of the text with what was put behind.
     pub(crate) fn len(&self) -> u64
         requires { self.now.text_len ≤ 4096 * 65536 }
-        ensures { result ≡ whole_len self.now.text_len self.now.on }
+        ensures len { result ≡ whole_len self.now.text_len self.now.on }
+        ensures few { result < 2 ^ 40 }
     {
         match &self.on {
             Some(text) => {
@@ -125,54 +126,73 @@ impl Growth {
         self.put_more(disk, layout, blocks, bytes)
     }
 
-    /// Puts the last bytes behind, and writes the last block, without a sync: refused with `Full` where it is short of blocks.
-    pub(crate) fn close<D: Disk>(
+    /// Ends the text with these bytes, in memory: the bytes that are still to be written to its last blocks. Refused with `Full` where
+    /// it is short of blocks.
+    pub(crate) fn end<D: Disk>(
         &mut self,
         alloc: Global,
         disk: &mut D,
         layout: &Layout,
         blocks: &mut Blocks,
         bytes: &[u8],
-    ) -> Result<(), UploadError>
+    ) -> Result<Vec<u8>, UploadError>
         requires room { 4096 * all_pages layout.now ≤ D.size disk.old }
-        requires blocks { length blocks.old.rows ≡ layout.now }
         requires reserved { IsReserved blocks.old (list_on self.old.on) }
         requires tailed { IsTailed layout.now self.old }
         ensures size { D.size disk.new ≡ D.size disk.old }
         ensures honest { D.honest disk.old ↔ D.honest disk.new }
         ensures counts { Counts (IsErrOf result UploadError.DiskFault) (D.failures disk.old) (D.failures disk.new) }
         ensures same { (self.new.text_len ≡ self.old.text_len) × (self.new.tail ≡ self.old.tail) }
-        ensures effect { Effect D.Disk (journal_pages layout.now) (list_on self.old.on) (list_on self.new.on) disk.old disk.new blocks.old blocks.new }
+        ensures grasps { (own : List ℕ) × Regrasps blocks.old blocks.new (list_on self.old.on) (list_on self.new.on) own }
         ensures answer { ClosesAs self.old self.new (length bytes.now) blocks.old blocks.new result }
-        ensures written { D.honest disk.old → OnOk result ((n : ℕ) → HoldsCount self.new.on n → 1 ≤ length (list_on self.new.on)
-            → text_on (D.seen disk.new) (25 + 2 * journal_pages layout.now) (list_on self.new.on) n ≡ bytes_on (D.seen disk.old) (25 + 2 * journal_pages layout.now) self.old self.old.on ++ bytes.now) }
+        ensures fits { IfOk result (λ last. 1 ≤ length (list_on self.new.on) → (length last.items + 4095) / 4096 ≤ length (list_on self.new.on)) }
+        ensures content { D.honest disk.old → IfOk result (λ last. 1 ≤ length (list_on self.new.on)
+            → bytes_with (D.seen disk.new) (25 + 2 * journal_pages layout.now) (list_on self.new.on) last.items ≡ bytes_on (D.seen disk.old) (25 + 2 * journal_pages layout.now) self.old self.old.on ++ bytes.now) }
+
+        // Nothing is written.
+        ensures keeps { D.honest disk.old → Keeps (D.seen disk.old) (D.seen disk.new) (D.loose disk.old) (D.loose disk.new) }
+        ensures lasts { D.honest disk.old → Lasts D.Disk disk.old disk.new (IsImage (D.seen disk.old) (D.loose disk.old)) }
     {
-        self.put(alloc, disk, layout, blocks, bytes)?;
         if self.short {
             return Err(UploadError::Refused(UploadRefusal::Full));
         }
-        self.write_last(disk, layout)
+        if bytes.is_empty() {
+            return self.end_begun(alloc, blocks, bytes);
+        }
+        self.open(alloc, disk, layout)?;
+        self.end_begun(alloc, blocks, bytes)
     }
 
-    // Writes the unfinished block, without a sync.
-    fn write_last<D: Disk>(&self, disk: &mut D, layout: &Layout) -> Result<(), UploadError>
-        requires room { 4096 * all_pages layout.now ≤ D.size disk.old }
-        requires below { AllBelow layout.now (list_on self.now.on) }
-        requires distinct { (i k : ℕ) → i < k → k < length (list_on self.now.on) → get_or (list_on self.now.on) i 0 ≢ get_or (list_on self.now.on) k 0 }
-        ensures size { D.size disk.new ≡ D.size disk.old }
-        ensures honest { D.honest disk.old ↔ D.honest disk.new }
-        ensures counts { Counts (IsErrOf result UploadError.DiskFault) (D.failures disk.old) (D.failures disk.new) }
-        ensures only_fault { IsErr result → IsErrOf result UploadError.DiskFault }
-        ensures only { D.honest disk.old → OnlyWrites D.Disk (journal_pages layout.now) (list_on self.now.on) disk.old disk.new }
-        ensures written { D.honest disk.old → OnOk result ((n : ℕ) → HoldsCount self.now.on n → 1 ≤ length (list_on self.now.on)
-            → text_on (D.seen disk.new) (25 + 2 * journal_pages layout.now) (list_on self.now.on) n ≡ bytes_on (D.seen disk.old) (25 + 2 * journal_pages layout.now) self.now self.now.on) }
+    // Ends the text, which is begun where bytes come.
+    fn end_begun(
+        &mut self,
+        alloc: Global,
+        blocks: &mut Blocks,
+        bytes: &[u8],
+    ) -> Result<Vec<u8>, UploadError>
+        requires reserved { IsReserved blocks.old (list_on self.old.on) }
+        requires roomy { self.old.short ≡ false }
+        requires begun { self.old.on ≡ None → length bytes.now ≡ 0 }
+        ensures no_device { IsErrOf result UploadError.DiskFault → ⊥ }
+        ensures same { (self.new.text_len ≡ self.old.text_len) × (self.new.tail ≡ self.old.tail) }
+        ensures grasps { (own : List ℕ) × Regrasps blocks.old blocks.new (list_on self.old.on) (list_on self.new.on) own }
+        ensures answer { ClosesAs self.old self.new (length bytes.now) blocks.old blocks.new result }
+        ensures fits { IfOk result (λ last. 1 ≤ length (list_on self.new.on) → (length last.items + 4095) / 4096 ≤ length (list_on self.new.on)) }
+        ensures content { (seen : ℕ → ℕ) (first : ℕ) → IfOk result (λ last. 1 ≤ length (list_on self.new.on)
+            → bytes_with seen first (list_on self.new.on) last.items ≡ bytes_on seen first self.old self.old.on ++ bytes.now) }
     {
-        let Some(text) = &self.on else {
-            return Ok(());
+        let Some(text) = &mut self.on else {
+            return Ok(Vec::new(alloc));
         };
-        match text.write_last(disk, layout) {
-            Ok(()) => Ok(()),
-            Err(_) => Err(UploadError::DiskFault),
+        match text.end(alloc, blocks, bytes) {
+            Ok(last) => Ok(last),
+            Err(DraftError::Full) => {
+                self.short = true;
+                self.give_back(blocks);
+                Err(UploadError::Refused(UploadRefusal::Full))
+            }
+            // It makes no call of the device.
+            Err(DraftError::NoMemory | DraftError::DiskFault) => Err(UploadError::NoMemory),
         }
     }
 

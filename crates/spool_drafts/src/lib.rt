@@ -9,5 +9,5 @@ mod fresh;
 mod growth;
 mod laws;
 
-pub use draft::SpoolDraft;
+pub use draft::{DraftEnd, SpoolDraft};
 pub use laws::kept_drafts;

@@ -1,5 +1,5 @@
 -- A draft whose text has ended: why it isn't put behind its upload's, and that it may be.
-use Rattle.std.proofs.Common.{Result, Err, OnOk, ◌≡◌, inl, inr, ℕ, ◌<◌, ◌≤◌, ◌+◌, ◌-◌, ◌*◌, ◌^◌, ◌==◌, Bool, true, false, List, Option, None, Some, length, get_or, set, min, refl, sym, ◌∙◌, ap, subst, arith}
+use Rattle.std.proofs.Common.{Result, Err, IfOk, ◌≡◌, inl, inr, ℕ, ◌<◌, ◌≤◌, ◌+◌, ◌-◌, ◌*◌, ◌/◌, ◌^◌, ◌==◌, Bool, true, false, List, Option, None, Some, length, get_or, set, min, refl, sym, ◌∙◌, ap, subst, arith}
 use Rattle.std.proofs.lemmas.Bool.{cases_lt}
 use Rattle.std.proofs.lemmas.List.{get_or_past}
 use Rattle.enc_model.specs.Indexes.{IndexSet}
@@ -8,14 +8,15 @@ use Rattle.spool_disk.specs.declared.disk.Disk.{Ghosts}
 use Rattle.spool_disk.specs.Views.{Lasts}
 use Rattle.spool_disk.proofs.Firm.{lasts_more}
 use Rattle.spool_journal.specs.Image.{journal_pages}
-use Rattle.spool_drafts.specs.Drafts.{EndsAs, Holds, Carries, IsPlaced, IsWhole, committed_len_of, len_of, list_of, tail_of, offset_of, came_of, open_text}
+use Rattle.spool_drafts.specs.Drafts.{EndsAs, Holds, Carries, IsPlaced, IsWhole, committed_len_of, list_of, tail_of, offset_of, came_of, open_text}
 use Rattle.spool_drafts.specs.Effect.{Effect, RunsShort}
+use Rattle.spool_drafts.specs.declared.draft.DraftEnd.{DraftEnd}
 use Rattle.spool_drafts.specs.declared.draft.SpoolDraft.{SpoolDraft}
 use Rattle.spool_pages.proofs.Resting.{rests_aside}
 use Rattle.spool_pages.specs.Rests.{Unowned}
 use Rattle.spool_pages.specs.View.{SlotRecord}
-use Rattle.spool_texts.specs.Drafts.{IsReserved}
-use Rattle.spool_texts.specs.TextOn.{AllBelow, text_on}
+use Rattle.spool_texts.specs.Drafts.{IsReserved, bytes_with}
+use Rattle.spool_texts.specs.TextOn.{AllBelow}
 use Rattle.upload_rules.specs.Answers.{Answers}
 use Rattle.upload_rules.specs.Calls.{commit_refusal, reached}
 use Rattle.upload_rules.specs.Drafts.{draft_at}
@@ -28,7 +29,7 @@ use Rattle.upload_rules.specs.declared.errors.UploadRefusal.TheVariants as refus
 use Rattle.upload_rules.proofs.Patches.{draft_of}
 use Rattle.spool_kept.specs.Committing.{HasSameCount, IsCommit}
 use Rattle.spool_kept.specs.Drafting.{DraftsFit, DraftStands, OnlyReserves}
-use Rattle.spool_kept.specs.Extending.{IsAppend, MayExtend}
+use Rattle.spool_kept.specs.Extending.{IsPending, MayExtend}
 use Rattle.spool_kept.specs.Holding.{Holding}
 use Rattle.spool_kept.specs.Shows.{ImageShows, IsRecordOf}
 use Rattle.spool_kept.specs.Stored.{Stored}
@@ -107,7 +108,7 @@ module _ {D : Type 0} (disk : Ghosts D) (d d' : D) (h h' : Holding) (only : Only
       indexes_are : h.indexes ≡ w.store.indexes
       indexes_are = s.keeps.indexes ∙ s.shows.indexes
 
-      module _ (result : Result (List ℕ) UploadError) where
+      module _ (result : Result DraftEnd UploadError) where
         -- how the text ended
         pub ends_as : ((q' : Patch) → Holds h.indexes q' o → 0 < length q'.body → EndsAs h.indexes q' (accepted == q.declared) o o' h.blocks h'.blocks result)
             → EndsAs w.store.indexes p (completes p) o o' h.blocks h'.blocks result
@@ -118,10 +119,10 @@ module _ {D : Type 0} (disk : Ghosts D) (d d' : D) (h h' : Holding) (only : Only
 
         -- and the bytes on its blocks
         pub ends_on : ((q' : Patch) → disk.honest d → Holds h.indexes q' o → 0 < length q'.body → Carries h.indexes (disk.seen d) (25 + 2 * journal_pages h.layout) q' o
-            → OnOk result (1 ≤ length (list_of o') → text_on (disk.seen d') (25 + 2 * journal_pages h.layout) (list_of o') (length (open_text h.indexes q' (accepted == q.declared))) ≡ open_text h.indexes q' (accepted == q.declared)))
-            → OnOk result (1 ≤ length (list_of o') → text_on (disk.seen d') (25 + 2 * journal_pages h.layout) (list_of o') (length (open_text w.store.indexes p (completes p))) ≡ open_text w.store.indexes p (completes p))
+            → IfOk result (λ e. 1 ≤ length (list_of o') → bytes_with (disk.seen d') (25 + 2 * journal_pages h.layout) (list_of o') e.last.items ≡ open_text h.indexes q' (accepted == q.declared)))
+            → IfOk result (λ e. 1 ≤ length (list_of o') → bytes_with (disk.seen d') (25 + 2 * journal_pages h.layout) (list_of o') e.last.items ≡ open_text w.store.indexes p (completes p))
         ends_on content =
-            let P : IndexSet → Bool → Type 0 = λ y b. OnOk result (1 ≤ length (list_of o') → text_on (disk.seen d') (25 + 2 * journal_pages h.layout) (list_of o') (length (open_text y p b)) ≡ open_text y p b) in
+            let P : IndexSet → Bool → Type 0 = λ y b. IfOk result (λ e. 1 ≤ length (list_of o') → bytes_with (disk.seen d') (25 + 2 * journal_pages h.layout) (list_of o') e.last.items ≡ open_text y p b) in
             subst (P w.store.indexes) completes_is (subst (λ (y : IndexSet). P y (accepted == q.declared)) indexes_are
             (content p s.honest (subst (λ (y : IndexSet). Holds y p o) (sym indexes_are) held) is.some (subst (λ (y : IndexSet). Carries y (disk.seen d) (25 + 2 * journal_pages h.layout) p o) (sym indexes_are) (own_draft.carries is.upload))))
 
@@ -166,32 +167,38 @@ module _ {D : Type 0} (disk : Ghosts D) (d d' : D) (h h' : Holding) (only : Only
     refused done (Refused refusals.Slots) ends = absurd ends
     refused done (Refused refusals.TooLarge) ends = absurd ends
 
-    pub not_ended : {T : Type 0} (done : T → Type 0) (r : Result T UploadError) (e : UploadError) → r ≡ Err e → (ended : Result (List ℕ) UploadError) → ended ≡ Err e
+    pub not_ended : {T : Type 0} (done : T → Type 0) (r : Result T UploadError) (e : UploadError) → r ≡ Err e → (ended : Result DraftEnd UploadError) → ended ≡ Err e
         → EndsAs w.store.indexes p (completes p) o o' h.blocks h'.blocks ended → Answers (commit_refusal w number p) r done (Unit {0})
     not_ended {T = T} done r e is_err ended was ends =
         subst (λ (q : Result T UploadError). Answers (commit_refusal w number p) q done (Unit {0})) (sym is_err)
-        (refused done e (subst (λ (q : Result (List ℕ) UploadError). EndsAs w.store.indexes p (completes p) o o' h.blocks h'.blocks q) was ends))
+        (refused done e (subst (λ (q : Result DraftEnd UploadError). EndsAs w.store.indexes p (completes p) o o' h.blocks h'.blocks q) was ends))
 
-    module _ (state : List ℕ) (whole : IsWhole w.store.indexes p (completes p) o' state) (slot : ℕ) (has : HasSameCount h.slots o slot) where
+    module _ (end : DraftEnd) (whole : IsWhole w.store.indexes p (completes p) o' end) (slot : ℕ) (has : HasSameCount h.slots o slot) where
       pub allowed : commit_refusal w number p ≡ None
       allowed = rules.allowed w number p is.upload is.some whole.encodable (roomy (completes p) whole.roomy whole.listed)
 
       there_after : get_or h'.slots slot None ≡ Some has.used
       there_after = ap (λ (k : Holding). get_or k.slots slot None) only.same ∙ has.there
 
-      pub may : (accepted : ℕ) → MayExtend h' (record { slot = slot; accepted = accepted; text_len = len_of o'; state = state }) (list_of o')
-      may = texts.may_extend w.store.indexes p o' state held.held held.within is.some whole h' slot has.used there_after (s.view.texts slot) (told slot has)
+      pub may : (accepted : ℕ) → MayExtend h' (record { slot = slot; accepted = accepted; text_len = end.text_len; state = end.state }) (list_of o')
+      may = texts.may_extend w.store.indexes p o' end held.held held.within is.some whole h' slot has.used there_after (s.view.texts slot) (told slot has)
 
-      pub appends : (longer : Longer) → longer.slot ≡ slot → longer.accepted ≡ reached p → longer.text_len ≡ len_of o' → longer.state ≡ state → Stored disk d' h' w.store
-          → (1 ≤ length (list_of o') → text_on (disk.seen d') (25 + 2 * journal_pages h.layout) (list_of o') (length (open_text w.store.indexes p (completes p))) ≡ open_text w.store.indexes p (completes p))
-          → IsAppend disk d' h' w.store p.number p.body longer (list_of o')
-      appends longer at accepted len is_state stored content = record {
+      pub pending : (longer : Longer) → longer.slot ≡ slot → longer.accepted ≡ reached p → longer.text_len ≡ end.text_len → longer.state ≡ end.state → Stored disk d' h' w.store
+          → (1 ≤ length (list_of o') → (length end.last.items + 4095) / 4096 ≤ length (list_of o'))
+          → (1 ≤ length (list_of o') → bytes_with (disk.seen d') (25 + 2 * journal_pages h.layout) (list_of o') end.last.items ≡ open_text w.store.indexes p (completes p))
+          → IsPending disk d' h' w.store p.number p.body longer (list_of o') end.last.items
+      pending longer at accepted len is_state stored fits content = record {
         stored = stored;
-        used = record { used = has.used; there = ap (λ (k : ℕ). get_or h'.slots k None) at ∙ there_after; is = has.number ∙ held.number };
-        upload = p.began;
-        there = is.upload;
-        added = texts.more w.store.indexes p o' state held.held held.within is.some whole;
-        extension = texts.extension w.store.indexes p o' state held.held held.within is.some whole longer (disk.seen d') (25 + 2 * journal_pages h'.layout) accepted len is_state
-            (λ some. subst (λ (n : ℕ). text_on (disk.seen d') (25 + 2 * journal_pages n) (list_of o') (length (open_text w.store.indexes p (completes p))) ≡ open_text w.store.indexes p (completes p))
-            (sym (ap (λ (k : Holding). k.layout) only.same)) (content some));
+        text = open_text w.store.indexes p (completes p);
+        fits = fits;
+        held = subst (λ (n : ℕ). 1 ≤ length (list_of o') → bytes_with (disk.seen d') (25 + 2 * journal_pages n) (list_of o') end.last.items ≡ open_text w.store.indexes p (completes p))
+            (sym (ap (λ (k : Holding). k.layout) only.same)) content;
+        append = λ e stored' written. record {
+          stored = stored';
+          used = record { used = has.used; there = ap (λ (k : ℕ). get_or h'.slots k None) at ∙ there_after; is = has.number ∙ held.number };
+          upload = p.began;
+          there = is.upload;
+          added = texts.more w.store.indexes p o' end held.held held.within is.some whole;
+          extension = texts.extension w.store.indexes p o' end held.held held.within is.some whole longer (disk.seen e) (25 + 2 * journal_pages h'.layout) accepted len is_state written;
+        };
       }

@@ -12,7 +12,8 @@ use Rattle.upload_rules.specs.Store.{Upload, text_of, text_with, with_bytes, is_
 use Rattle.upload_rules.specs.World.{Patch, completes, patch_text}
 use Rattle.upload_rules.proofs.Commits.{text_with_bytes}
 use Rattle.upload_rules.proofs.Longer.{text_in_front}
-use Rattle.spool_drafts.specs.Drafts.{IsWhole, len_of, list_of, open_text}
+use Rattle.spool_drafts.specs.Drafts.{IsWhole, list_of, open_text}
+use Rattle.spool_drafts.specs.declared.draft.DraftEnd.{DraftEnd}
 use Rattle.spool_drafts.specs.declared.draft.SpoolDraft.{SpoolDraft}
 use Rattle.spool_drafts.proofs.Patches.{value_before}
 use Rattle.spool_pages.specs.View.{SlotRecord}
@@ -85,8 +86,8 @@ same_encodings x u bytes done old new was sound is sound' = record {
   mode = same_mode x u bytes [] done (is_complete u);
 }
 
-module _ (x : IndexSet) (p : Patch) (o : SpoolDraft) (state : List ℕ) (held : length p.body ≤ p.count) (within : length p.began.accepted + p.count ≤ p.began.declared) (some : 0 < length p.body)
-    (whole : IsWhole x p (completes p) o state) where
+module _ (x : IndexSet) (p : Patch) (o : SpoolDraft) (end : DraftEnd) (held : length p.body ≤ p.count) (within : length p.began.accepted + p.count ≤ p.began.declared) (some : 0 < length p.body)
+    (whole : IsWhole x p (completes p) o end) where
   open_still : is_complete p.began ≡ false
   open_still = ne_eqb (length p.began.accepted) p.began.declared (λ e. omega (arith, e, held, within, some))
 
@@ -124,18 +125,18 @@ module _ (x : IndexSet) (p : Patch) (o : SpoolDraft) (state : List ℕ) (held : 
   -- WHAT IS KEPT MAY BE EXTENDED
 
   module _ (h : Holding) (slot : ℕ) (used : SlotRecord) (there : get_or h.slots slot None ≡ Some used) (shown : List ℕ) (tells : IsRecordOf x used shown p.began) where
-    pub may_extend : (accepted : ℕ) → MayExtend h (record { slot = slot; accepted = accepted; text_len = len_of o; state = state }) (list_of o)
+    pub may_extend : (accepted : ℕ) → MayExtend h (record { slot = slot; accepted = accepted; text_len = end.text_len; state = end.state }) (list_of o)
     may_extend accepted = record {
       used = used;
       there = there;
-      state = same_encodings x p.began p.body (completes p) used.state state tells.state tells.sound whole.state_is whole.sound;
+      state = same_encodings x p.began p.body (completes p) used.state end.state tells.state tells.sound whole.state_is whole.sound;
       same = λ none. omega (arith, whole.len, all_len, none_added none, tells.text_len);
       blocks = λ listed. omega (arith, whole.len, all_len, some_added listed, whole.listed, tells.text_len);
     }
 
   -- THE BYTES
 
-  pub extension : (longer : Longer) (seen : ℕ → ℕ) (first : ℕ) → longer.accepted ≡ reached p → longer.text_len ≡ len_of o → longer.state ≡ state
+  pub extension : (longer : Longer) (seen : ℕ → ℕ) (first : ℕ) → longer.accepted ≡ reached p → longer.text_len ≡ end.text_len → longer.state ≡ end.state
       → (1 ≤ length (list_of o) → text_on seen first (list_of o) (length (open_text x p (completes p))) ≡ open_text x p (completes p))
       → IsExtension x p.began p.body more longer (list_of o) seen first
   extension longer seen first accepted len is content =

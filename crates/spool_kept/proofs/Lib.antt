@@ -28,3 +28,4 @@ pub mod CommitEnded
 pub mod DraftSpent
 pub mod CommitSpent
 pub mod CommitHead
+pub mod LastWritten

@@ -1,5 +1,7 @@
 -- What a commit finds, and when it stands for one.
 use Rattle.std.specs.Prelude.{◌≡◌, ◌<◌, ℕ, List, Option, None, Some, Result, Ok, Err, length, get_or}
+use Rattle.spool_disk.specs.Disk.{IsImage, Keeps}
+use Rattle.spool_disk.specs.Views.{Lasts}
 use Rattle.spool_disk.specs.declared.disk.Disk.{Ghosts}
 use Rattle.spool_drafts.specs.Drafts.{number_of, offset_of}
 use Rattle.spool_drafts.specs.declared.draft.SpoolDraft.{SpoolDraft}
@@ -42,3 +44,8 @@ pub record IsCommit {D : Type 0} (disk : Ghosts D) (d : D) (h : Holding) (drafts
   pub patch : find number w.patches ≡ Some p
   pub upload : upload_of w.store p.number ≡ Some p.began
   pub some : 0 < length p.body
+
+-- the disk is as a call that only reads leaves it
+pub record OnlyRead {D : Type 0} (disk : Ghosts D) (old new : D) : Type 0 where
+  pub keeps : Keeps (disk.seen old) (disk.seen new) (disk.loose old) (disk.loose new)
+  pub lasts : Lasts disk old new (IsImage (disk.seen old) (disk.loose old))

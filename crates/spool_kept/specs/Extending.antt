@@ -1,9 +1,12 @@
 -- What an append makes of what is kept in memory.
-use Rattle.std.specs.Prelude.{◌≡◌, ◌≢◌, ℕ, ◌+◌, ◌-◌, ◌/◌, ◌%◌, ◌<◌, ◌≤◌, ◌++◌, List, [], Some, None, Bool, false, length, get_or, drop, slice_set}
+use Rattle.std.specs.Prelude.{◌≡◌, ◌≢◌, ℕ, ◌*◌, ◌+◌, ◌-◌, ◌/◌, ◌%◌, ◌<◌, ◌≤◌, ◌++◌, List, [], Some, None, Bool, false, length, get_or, drop, slice_set}
 use Rattle.enc_model.specs.Indexes.{IndexSet}
 use Rattle.enc_model.specs.Transcode.{Transcoder}
 use Rattle.enc_stream.specs.StateBytes.{IsSound, state_bytes}
 use Rattle.spool_disk.specs.declared.disk.Disk.{Ghosts}
+use Rattle.spool_drafts.specs.Effect.{OnlyWrites}
+use Rattle.spool_journal.specs.Image.{journal_pages}
+use Rattle.spool_texts.specs.Drafts.{bytes_with}
 use Rattle.spool_texts.specs.TextOn.{text_on}
 use Rattle.upload_rules.specs.Room.{blocks_of}
 use Rattle.upload_rules.specs.Store.{Upload, Store, upload_of, is_complete, text_of, text_with, with_bytes}
@@ -77,3 +80,21 @@ pub record IsAppend {D : Type 0} (disk : Ghosts D) (d : D) (h : Holding) (m : St
   pub there : upload_of m n ≡ Some upload
   pub added : List ℕ
   pub extension : IsExtension m.indexes upload bytes added longer more (disk.seen d) (text_page h.layout)
+
+-- an append whose last bytes are still to be written: with its text on its blocks it is one
+pub record IsPending {D : Type 0} (disk : Ghosts D) (d : D) (h : Holding) (m : Store) (n : ℕ) (bytes : List ℕ) (longer : Longer)
+    (more last : List ℕ) : Type 0 where
+  pub stored : Stored disk d h m
+  pub text : List ℕ
+  pub fits : 1 ≤ length more → (length last + 4095) / 4096 ≤ length more
+  pub held : 1 ≤ length more → bytes_with (disk.seen d) (text_page h.layout) more last ≡ text
+  pub append : (e : D) → Stored disk e h m → (1 ≤ length more → text_on (disk.seen e) (text_page h.layout) more (length text) ≡ text)
+      → IsAppend disk e h m n bytes longer more
+
+-- the text's last bytes were written to its blocks alone, and then no byte of a text block
+pub record IsWritten {D : Type 0} (disk : Ghosts D) (old new : D) (h : Holding) (m : Store) (n : ℕ) (bytes : List ℕ) (longer : Longer)
+    (more : List ℕ) : Type 0 where
+  pub mid : D
+  pub only : OnlyWrites disk (journal_pages h.layout) more old mid
+  pub append : IsAppend disk mid h m n bytes longer more
+  pub texts : (p : ℕ) → 4096 * text_page h.layout ≤ p → disk.seen new p ≡ disk.seen mid p

@@ -3,7 +3,7 @@ ghost use Rattle.std.specs.Prelude.{◌≡◌, ◌≤◌, ◌<◌, ◌*◌, ◌+
 ghost use Rattle.spool_disk.specs.Disk.{Counts};
 ghost use Rattle.spool_disk.specs.Views.{Lasts};
 ghost use Rattle.spool_journal.specs.Image.{journal_pages, all_pages};
-ghost use Rattle.spool_drafts.specs.Drafts.{IsPlaced, came_of, committed_len_of, len_of, list_of, number_of, offset_of};
+ghost use Rattle.spool_drafts.specs.Drafts.{IsPlaced, came_of, list_of, number_of, offset_of};
 ghost use Rattle.spool_drafts.specs.Effect.{Effect};
 ghost use Rattle.spool_drafts.specs.declared.draft.SpoolDraft.{SpoolDraft as Draft};
 ghost use Rattle.spool_texts.specs.Drafts.{IsReserved};
@@ -12,9 +12,9 @@ ghost use Rattle.upload_rules.specs.Calls.{commit_outcome, commit_refusal, commi
 ghost use Rattle.upload_rules.specs.Drafts.{draft_at};
 ghost use Rattle.upload_rules.specs.Store.{find};
 ghost use Rattle.upload_rules.specs.World.{Patch, World};
-ghost use Rattle.spool_kept.specs.Committing.{FindsSlot, HasSameCount, IsCommit};
+ghost use Rattle.spool_kept.specs.Committing.{FindsSlot, HasSameCount, IsCommit, OnlyRead};
 ghost use Rattle.spool_kept.specs.Drafting.{DraftsFit, OnlyReserves, StandsFor};
-ghost use Rattle.spool_kept.specs.Extending.{IsAppend, MayExtend, SameEncodings};
+ghost use Rattle.spool_kept.specs.Extending.{IsPending, MayExtend, SameEncodings};
 ghost use Rattle.spool_kept.specs.Holding.{IsUsedBy};
 ghost use Rattle.spool_kept.specs.Records.{IsUnpacked};
 ghost use Rattle.spool_kept.specs.Shows.{ImageShows};
@@ -26,7 +26,7 @@ use crate::lists::blocks_of;
 use crate::records::record_at;
 use enc_stream::Transcoder;
 use spool_disk::Disk;
-use spool_drafts::SpoolDraft;
+use spool_drafts::{DraftEnd, SpoolDraft};
 use std::alloc::Global;
 use upload_rules::{Record, UploadError, UploadRefusal, taken};
 
@@ -68,41 +68,40 @@ fn longer_by(
     slot: u32,
     draft: &SpoolDraft,
     accepted: u64,
-    state: [u8; 32],
+    end: &DraftEnd,
 ) -> Option<Longer>
-    requires few { committed_len_of draft.now ≤ 4096 * 65536 }
     ensures may { IfSome result (λ l. MayExtend kept.now l (list_of draft.now)) }
-    ensures is { IfSome result (λ l. l ≡ record { slot = slot; accepted = accepted; text_len = len_of draft.now; state = state }) }
-    ensures some { MayExtend kept.now (record { slot = slot; accepted = accepted; text_len = len_of draft.now; state = state }) (list_of draft.now) → IsSome result }
+    ensures is { IfSome result (λ l. l ≡ record { slot = slot; accepted = accepted; text_len = end.now.text_len; state = end.now.state }) }
+    ensures some { MayExtend kept.now (record { slot = slot; accepted = accepted; text_len = end.now.text_len; state = end.now.state }) (list_of draft.now) → IsSome result }
 {
     let used = record_at(&kept.slots, slot as usize)?.record();
-    let text_len = draft.len();
+    let text_len = end.text_len;
     let more = draft.list().len() as u64;
     let is_right_size = if more == 0 {
         text_len == used.text_len
     } else {
         blocks_of(text_len) == used.text_len / 4096 + more
     };
-    if !is_right_size || !is_state_of(used, &state) {
+    if !is_right_size || !is_state_of(used, &end.state) {
         return None;
     }
     Some(Longer {
         slot,
         accepted,
         text_len,
-        state,
+        state: end.state,
     })
 }
 
-// Ends a draft's text behind its upload's, and answers what the upload becomes: refused with `Unencodable`, `Full`, `NoMemory`,
-// `DiskFault`. The blocks stay the draft's.
+// Ends a draft's text behind its upload's, and answers what the upload becomes, and the bytes that are still to be written: refused with
+// `Unencodable`, `Full`, `NoMemory`, `DiskFault`. The blocks stay the draft's. Nothing is written.
 fn ended<D: Disk>(
     alloc: Global,
     disk: &mut D,
     kept: &mut Kept,
     draft: &mut SpoolDraft,
     slot: u32,
-) -> Result<Longer, UploadError>
+) -> Result<(Longer, Vec<u8>), UploadError>
     requires room { 4096 * all_pages kept.old.layout ≤ D.size disk.old }
     requires used { HasSameCount kept.old.slots draft.old slot }
     requires reserved { IsReserved kept.old.blocks (list_of draft.old) }
@@ -114,10 +113,11 @@ fn ended<D: Disk>(
     ensures reserved { IsReserved kept.new.blocks (list_of draft.new) }
     ensures placed { IsPlaced kept.old.layout draft.new }
     ensures effect { Effect D.Disk (journal_pages kept.old.layout) (list_of draft.old) (list_of draft.new) disk.old disk.new kept.old.blocks kept.new.blocks }
-    ensures may { IfOk result (λ l. MayExtend kept.new l (list_of draft.new)) }
+    ensures only { D.honest disk.old → OnlyRead D.Disk disk.old disk.new }
+    ensures may { IfOk result (λ e. MayExtend kept.new e.0 (list_of draft.new)) }
     ensures answer { (drafts : List (Option Draft)) (number : ℕ) (w : World) (p : Patch) → IsCommit D.Disk disk.old kept.old drafts number draft.old w p
         → Answers (commit_refusal w number p) result
-        (λ l. (l.accepted ≡ reached p) × IsAppend D.Disk disk.new kept.new w.store p.number p.body l (list_of draft.new))
+        (λ e. (e.0.accepted ≡ reached p) × IsPending D.Disk disk.new kept.new w.store p.number p.body e.0 (list_of draft.new) e.1.items)
         (Unit {0}) }
     ensures stored { (drafts : List (Option Draft)) (number : ℕ) (w : World) (p : Patch) → IsCommit D.Disk disk.old kept.old drafts number draft.old w p
         → Stored D.Disk disk.new kept.new w.store }
@@ -128,7 +128,7 @@ fn ended<D: Disk>(
     let accepted = draft.offset().saturating_add(draft.came());
     let completes = accepted == used.declared;
     let _rows = kept.blocks.rows();
-    let state = draft.end(
+    let end = draft.end(
         alloc,
         disk,
         &kept.layout,
@@ -136,8 +136,8 @@ fn ended<D: Disk>(
         &kept.indexes,
         completes,
     )?;
-    match longer_by(kept, slot, draft, accepted, state) {
-        Some(longer) => Ok(longer),
+    match longer_by(kept, slot, draft, accepted, &end) {
+        Some(longer) => Ok((longer, end.last)),
         None => Err(UploadError::Refused(UploadRefusal::Offset)),
     }
 }
@@ -168,16 +168,19 @@ fn put_behind<D: Disk>(
         → Lasts D.Disk disk.old disk.new (ShowsEither kept.old.layout w.store (commit_outcome w number p)) }
     ensures unmade { (drafts : List (Option Draft)) (number : ℕ) (w : World) (p : Patch) → IsCommit D.Disk disk.old kept.old drafts number draft w p
         → IsErrOf result UploadError.NoMemory → Lasts D.Disk disk.old disk.new (λ image. ImageShows kept.old.layout image w.store) }
+
+    // Every growth comes before the first write.
+    ensures unwritten { D.honest disk.old → IsErrOf result UploadError.NoMemory → OnlyRead D.Disk disk.old disk.new }
 {
     let mut draft = draft;
-    let longer = match ended(alloc, disk, kept, &mut draft, slot) {
-        Ok(longer) => longer,
+    let (longer, last) = match ended(alloc, disk, kept, &mut draft, slot) {
+        Ok(end) => end,
         Err(error) => {
             draft.give_back(&mut kept.blocks);
             return Err(error);
         }
     };
-    match extend(alloc, disk, kept, &longer, draft.list()) {
+    match extend(alloc, disk, kept, &longer, draft.list(), &last) {
         Ok(()) => Ok(longer.accepted),
         Err(ExtendError::NoMemory) => {
             draft.give_back(&mut kept.blocks);
@@ -212,6 +215,9 @@ pub fn commit<D: Disk>(
         → Lasts D.Disk disk.old disk.new (ShowsEither kept.old.layout w.store (commit_outcome w number p)) }
     ensures unmade { (w : World) (p : Patch) → StandsFor D.Disk disk.old kept.old drafts.old.items w → find number w.patches ≡ Some p
         → IsErrOf result UploadError.NoMemory → Lasts D.Disk disk.old disk.new (λ image. ImageShows kept.old.layout image w.store) }
+
+    // Every growth comes before the first write.
+    ensures unwritten { D.honest disk.old → IsErrOf result UploadError.NoMemory → OnlyRead D.Disk disk.old disk.new }
 {
     let Some(draft) = taken(drafts, number) else {
         return Err(UploadError::Refused(UploadRefusal::NoSuch));

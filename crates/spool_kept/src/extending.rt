@@ -5,10 +5,10 @@ ghost use Rattle.spool_disk.specs.Views.{Lasts};
 ghost use Rattle.spool_journal.specs.Image.{all_pages, journal_pages, InArea};
 ghost use Rattle.spool_blocks.specs.Blocks.{Row as HeldRow};
 ghost use Rattle.spool_pages.specs.Changes.{ChangesButRows, with_record, SameRowsBut};
-ghost use Rattle.spool_pages.specs.View.{View, text_page};
+ghost use Rattle.spool_pages.specs.View.{View};
 ghost use Rattle.spool_texts.specs.Drafts.{IsReserved};
 ghost use Rattle.upload_rules.specs.Store.{Store, appended_store};
-ghost use Rattle.spool_kept.specs.Extending.{SameEncodings, MayExtend, HandsOn, IsLonger, IsAppend, longer_record};
+ghost use Rattle.spool_kept.specs.Extending.{SameEncodings, MayExtend, HandsOn, IsLonger, IsPending, IsWritten, longer_record};
 ghost use Rattle.spool_kept.specs.Stored.{Stored, ShowsEither};
 ghost use Rattle.spool_pages.specs.View.{SlotRecord as Said};
 
@@ -18,6 +18,7 @@ use spool_blocks::BlockNo;
 use spool_disk::{Disk, DiskFault};
 use spool_journal::{Layout, Pages};
 use spool_pages::{SlotRecord, change, fill_rows, pages_of_change};
+use spool_texts::write_last;
 use std::alloc::{AllocError, Global};
 
 /// What an upload becomes.
@@ -150,8 +151,8 @@ impl Kept {
     }
 }
 
-/// An upload gets longer, on the disk and in memory: its text by these reserved blocks, which have been written and replace its last,
-/// unfinished one. Where there are none its text stays. It syncs them too.
+/// An upload gets longer, on the disk and in memory: its text by these reserved blocks, which replace its last,
+/// unfinished one. Where there are none its text stays. It writes the last bytes to them, once no growth is left, and syncs them.
 ///
 /// # Errors
 ///
@@ -163,6 +164,7 @@ pub(crate) fn extend<D: Disk>(
     kept: &mut Kept,
     longer: &Longer,
     more: &[BlockNo],
+    last: &[u8],
 ) -> Result<(), ExtendError>
     requires room { 4096 * all_pages kept.old.layout ≤ D.size disk.old }
     requires may { MayExtend kept.old longer.now more.now }
@@ -176,20 +178,22 @@ pub(crate) fn extend<D: Disk>(
     ensures longer { (result ≡ Err ExtendError.NoMemory → ⊥) → (r : Said) → get_or kept.old.slots longer.now.slot None ≡ Some r → IsLonger kept.old r longer.now more.now kept.new }
 
     // The disk and what is kept stand for the store with the longer upload.
-    ensures answer { (m : Store) (n : ℕ) (bytes : List ℕ) → IsAppend D.Disk disk.old kept.old m n bytes longer.now more.now
+    ensures answer { (m : Store) (n : ℕ) (bytes : List ℕ) → IsPending D.Disk disk.old kept.old m n bytes longer.now more.now last.now
         → OnOk result (Stored D.Disk disk.new kept.new (appended_store m n bytes)) }
 
     // A crash during it leaves the store before or behind it.
-    ensures crash { (m : Store) (n : ℕ) (bytes : List ℕ) → IsAppend D.Disk disk.old kept.old m n bytes longer.now more.now
+    ensures crash { (m : Store) (n : ℕ) (bytes : List ℕ) → IsPending D.Disk disk.old kept.old m n bytes longer.now more.now last.now
         → Lasts D.Disk disk.old disk.new (ShowsEither kept.old.layout m (appended_store m n bytes)) }
 
-    // No byte of a text block is another.
-    ensures texts { (m : Store) (n : ℕ) (bytes : List ℕ) → IsAppend D.Disk disk.old kept.old m n bytes longer.now more.now
-        → OnOk result ((p : ℕ) → 4096 * text_page kept.old.layout ≤ p → D.seen disk.new p ≡ D.seen disk.old p) }
+    // Of the text blocks only those of its text are written.
+    ensures written { (m : Store) (n : ℕ) (bytes : List ℕ) → IsPending D.Disk disk.old kept.old m n bytes longer.now more.now last.now
+        → OnOk result (IsWritten D.Disk disk.old disk.new kept.old m n bytes longer.now more.now) }
 {
     let mut pages = kept.change_pages(alloc, longer, more)?;
     kept.take_over(longer, more)?;
     fill_rows(&mut pages, &kept.layout, kept.blocks.rows());
+    // Behind the last growth the first write comes.
+    write_last(disk, &kept.layout, more, last)?;
     change(disk, &kept.layout, &pages)?;
     Ok(())
 }

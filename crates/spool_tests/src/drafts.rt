@@ -12,7 +12,7 @@ use spool_blocks::{BlockNo, Blocks};
 use spool_disk::{Disk, MemoryDisk};
 use spool_drafts::SpoolDraft;
 use spool_journal::{Layout, PAGE};
-use spool_texts::read_text;
+use spool_texts::{read_text, write_last};
 use std::alloc::{AllocError, Global};
 use std::process::Abort;
 use std::test::Fail;
@@ -113,15 +113,16 @@ fn appended<D: Disk>(
     let indexes = IndexSet::new(alloc)?;
     let mut draft = begun(rt, alloc, layout, upload, list, 5000);
     append_pieces(&mut draft, alloc, disk, layout, blocks, &indexes, text)?;
-    let state = draft.end(alloc, disk, layout, blocks, &indexes, false)?;
+    let end = draft.end(alloc, disk, layout, blocks, &indexes, false)?;
+    write_last(disk, layout, draft.list(), &end.last)?;
     assert_eq!(rt;
         (draft.number(), draft.offset(), draft.came()),
         (7, upload.accepted, 5000)
     );
     assert_eq!(rt; draft.committed_len(), upload.text_len);
-    assert_eq!(rt; draft.len(), upload.text_len + 5000);
+    assert_eq!(rt; end.text_len, upload.text_len + 5000);
     assert_eq!(rt; draft.list().len(), 2);
-    Ok((draft.into_list(alloc), state))
+    Ok((draft.into_list(alloc), end.state))
 }
 
 /// Reads back what two appends of these 5,000 bytes left: a block of the first one, and those of the second.
@@ -239,7 +240,7 @@ fn short_end(
     draft.append(alloc, &mut disk, &layout, &mut blocks, &indexes, more)?;
     let end = draft.end(alloc, &mut disk, &layout, &mut blocks, &indexes, completes);
     assert!(rt; blocks.take().is_some());
-    Ok(end)
+    Ok(end.map(|end| end.state))
 }
 
 #[test]

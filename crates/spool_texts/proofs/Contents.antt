@@ -17,16 +17,6 @@ all_written seen first d none =
     ∙ sym (append-nil (blocks_on seen first (take (full_count d) d.blocks)))
     ∙ ap (λ (xs : List ℕ). blocks_on seen first (take (full_count d) d.blocks) ++ xs) (sym (nil_from_length d.unfinished none))
 
--- the unfinished bytes are on the last block
-pub last_written : (seen seen' : ℕ → ℕ) (first : ℕ) (d : Draft) → 1 ≤ length d.blocks → 1 ≤ length d.unfinished → length d.unfinished ≤ 4096 → text_on seen' first d.blocks (4096 * (length d.blocks - 1) + length d.unfinished) ≡ text_on seen first d.blocks (4096 * (length d.blocks - 1)) ++ d.unfinished → text_on seen' first d.blocks (held_count d) ≡ content_on seen first d
-last_written seen seen' first d some more few text =
-    let full : length d.blocks - 1 ≡ full_count d = omega (arith, more, few) in
-    let held : held_count d ≡ 4096 * (length d.blocks - 1) + length d.unfinished = omega (arith, more, few) in
-    ap (λ (n : ℕ). text_on seen' first d.blocks n) held
-    ∙ text
-    ∙ ap (λ (xs : List ℕ). xs ++ d.unfinished) (text_front seen first (length d.blocks - 1) d.blocks (omega arith))
-    ∙ ap (λ (n : ℕ). blocks_on seen first (take n d.blocks) ++ d.unfinished) full
-
 -- the last block is full, and written
 pub full_written : (seen seen' : ℕ → ℕ) (first : ℕ) (old new : Draft) (more page bytes : List ℕ) → new.unfinished ≡ [] → new.blocks ≡ old.blocks ++ more → length new.blocks ≡ full_count old + 1 → length page ≡ 4096 → page ≡ old.unfinished ++ bytes
     → text_on seen' first new.blocks (4096 * (length new.blocks - 1) + length page) ≡ text_on seen first new.blocks (4096 * (length new.blocks - 1)) ++ page → content_on seen' first new ≡ content_on seen first old ++ bytes

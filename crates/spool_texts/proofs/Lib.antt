@@ -5,3 +5,4 @@ pub mod Steps
 pub mod Fronts
 pub mod Reserves
 pub mod Contents
+pub mod Lasts

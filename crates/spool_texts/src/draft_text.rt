@@ -5,7 +5,7 @@ ghost use Rattle.spool_disk.specs.Disk.{Counts, IsImage, Keeps};
 ghost use Rattle.spool_disk.specs.Views.{Lasts};
 ghost use Rattle.spool_journal.specs.Image.{journal_pages, all_pages};
 ghost use Rattle.spool_journal.specs.Phases.{Idle};
-ghost use Rattle.spool_texts.specs.Drafts.{Draft, full_count, held_count, content_on, IsReserved, Takes, GivesBack};
+ghost use Rattle.spool_texts.specs.Drafts.{Draft, full_count, held_count, content_on, bytes_with, IsReserved, Takes, GivesBack};
 ghost use Rattle.spool_texts.specs.TextOn.{text_on, AllBelow};
 ghost use Rattle.spool_texts.specs.Written.{WritesIn, IsImageBut, aside_blocks};
 
@@ -196,27 +196,50 @@ impl DraftText {
         Ok(n)
     }
 
-    /// Writes the unfinished block, where it has bytes and a block is reserved, without a sync.
-    pub fn write_last<D: Disk>(&self, disk: &mut D, layout: &Layout) -> Result<(), DiskFault>
-        requires room { 4096 * all_pages layout.now ≤ D.size disk.old }
-        requires blocks { AllBelow layout.now self.now.blocks }
-        requires distinct { (i k : ℕ) → i < k → k < length self.now.blocks → get_or self.now.blocks i 0 ≢ get_or self.now.blocks k 0 }
-        ensures size { D.size disk.new ≡ D.size disk.old }
-        ensures honest { D.honest disk.old ↔ D.honest disk.new }
-        ensures counts { Counts (IsErr result) (D.failures disk.old) (D.failures disk.new) }
-        ensures written { D.honest disk.old → OnOk result (1 ≤ length self.now.blocks → text_on (D.seen disk.new) (25 + 2 * journal_pages layout.now) self.now.blocks (held_count self.now) ≡ content_on (D.seen disk.old) (25 + 2 * journal_pages layout.now) self.now) }
-        ensures writes { D.honest disk.old → WritesIn (25 + 2 * journal_pages layout.now) self.now.blocks (D.seen disk.old) (D.seen disk.new) (D.loose disk.old) (D.loose disk.new) }
-        ensures idle { D.honest disk.old → Idle (journal_pages layout.now) (D.seen disk.old) (D.loose disk.old) → Idle (journal_pages layout.now) (D.seen disk.new) (D.loose disk.new) }
-        ensures image { D.honest disk.old → (image : ℕ → ℕ) → IsImage (D.seen disk.new) (D.loose disk.new) image → IsImage (D.seen disk.old) (D.loose disk.old) (aside_blocks (25 + 2 * journal_pages layout.now) self.now.blocks (D.seen disk.old) image) }
-        ensures lasts { D.honest disk.old → Lasts D.Disk disk.old disk.new (λ image. IsImage (D.seen disk.old) (D.loose disk.old) (aside_blocks (25 + 2 * journal_pages layout.now) self.now.blocks (D.seen disk.old) image)) }
+    /// Takes these bytes as the last ones, in memory: it reserves the blocks for them, and answers what `write_last` is to write, the
+    /// bytes of the unfinished block and these. The draft may only be spent then.
+    pub fn end(
+        &mut self,
+        alloc: Global,
+        blocks: &mut Blocks,
+        bytes: &[u8],
+    ) -> Result<Vec<u8>, DraftError>
+        requires reserved { IsReserved blocks.old self.old.blocks }
+        ensures no_device { IsErrOf result DraftError.DiskFault → ⊥ }
+        ensures nothing { length bytes.now ≡ 0 → (self.new ≡ self.old) × (blocks.new ≡ blocks.old) }
+        ensures memory { IsErrOf result DraftError.NoMemory → (self.new ≡ self.old) × (blocks.new ≡ blocks.old) }
+        ensures some { IsErrOf result DraftError.Full → 1 ≤ length bytes.now }
+
+        // The bytes on its blocks with those that it answers are all that it held, and the last ones.
+        ensures content { (seen : ℕ → ℕ) (first : ℕ) → IfOk result (λ last. bytes_with seen first self.new.blocks last.items ≡ content_on seen first self.old ++ bytes.now) }
+        ensures fits { IfOk result (λ last. 1 ≤ length self.new.blocks → (length last.items + 4095) / 4096 ≤ length self.new.blocks) }
+
+        // It reserves no more blocks than its bytes need, as `put` does.
+        ensures listed { OnOk result (1 ≤ length bytes.now → length self.new.blocks ≡ (held_count self.old + length bytes.now + 4095) / 4096) }
+        ensures takes { Takes blocks.old blocks.new self.old.blocks self.new.blocks }
+        ensures reserved { IsReserved blocks.new self.new.blocks }
+        ensures full { IsErrOf result DraftError.Full → (b : ℕ) → IsFree blocks.new b → ⊥ }
+        ensures scarce { IsErrOf result DraftError.Full → length self.new.blocks < (held_count self.old + length bytes.now + 4095) / 4096 }
     {
-        if self.filled == 0 {
-            return Ok(());
+        let last = self.unfinished_with(alloc, bytes)?;
+        if bytes.is_empty() {
+            return Ok(last);
         }
-        if self.blocks.is_empty() {
-            return Ok(());
-        }
-        write_front(disk, layout, &self.blocks, &self.page[..self.filled])
+        self.make_room(bytes.len())?;
+        let full = self.blocks.len().saturating_sub(self.filled.div_ceil(PAGE));
+        take_blocks(&mut self.blocks, blocks, full + last.len().div_ceil(PAGE))?;
+        Ok(last)
+    }
+
+    // The bytes of the unfinished block, and these.
+    fn unfinished_with(&self, alloc: Global, bytes: &[u8]) -> Result<Vec<u8>, AllocError>
+        ensures bytes { IfOk result (λ last. last.items ≡ self.now.unfinished ++ bytes.now) }
+        ensures few { length self.now.unfinished < 4096 }
+    {
+        let mut last = Vec::new(alloc);
+        last.extend_from_slice(&self.page[..self.filled])?;
+        last.extend_from_slice(bytes)?;
+        Ok(last)
     }
 
     /// Gives the reserved blocks back, without memory and without the disk.
@@ -307,6 +330,33 @@ fn write_front<D: Disk>(
     write_block(disk, layout, last, 0, bytes)
 }
 
+/// Writes the last bytes of a text to the last ones of its listed blocks, without a sync.
+pub fn write_last<D: Disk>(
+    disk: &mut D,
+    layout: &Layout,
+    list: &[BlockNo],
+    last: &[u8],
+) -> Result<(), DiskFault>
+    requires room { 4096 * all_pages layout.now ≤ D.size disk.old }
+    requires blocks { AllBelow layout.now list.now }
+    requires distinct { (i k : ℕ) → i < k → k < length list.now → get_or list.now i 0 ≢ get_or list.now k 0 }
+    ensures size { D.size disk.new ≡ D.size disk.old }
+    ensures honest { D.honest disk.old ↔ D.honest disk.new }
+    ensures counts { Counts (IsErr result) (D.failures disk.old) (D.failures disk.new) }
+    ensures written { D.honest disk.old → OnOk result ((length last.now + 4095) / 4096 ≤ length list.now
+        → text_on (D.seen disk.new) (25 + 2 * journal_pages layout.now) list.now (length (bytes_with (D.seen disk.old) (25 + 2 * journal_pages layout.now) list.now last.now)) ≡ bytes_with (D.seen disk.old) (25 + 2 * journal_pages layout.now) list.now last.now) }
+    ensures writes { D.honest disk.old → WritesIn (25 + 2 * journal_pages layout.now) list.now (D.seen disk.old) (D.seen disk.new) (D.loose disk.old) (D.loose disk.new) }
+    ensures lasts { D.honest disk.old → Lasts D.Disk disk.old disk.new (IsImageBut (25 + 2 * journal_pages layout.now) list.now (D.seen disk.old) (D.loose disk.old)) }
+{
+    let full = list.len().saturating_sub(last.len().div_ceil(PAGE));
+    for at in full..list.len() {
+        let from = PAGE * (at - full);
+        let to = last.len().min(from + PAGE);
+        write_front(disk, layout, &list[..at + 1], &last[from..to])?;
+    }
+    Ok(())
+}
+
 // Reserves a block, and puts it behind the others.
 fn take_block(list: &mut Vec<BlockNo>, blocks: &mut Blocks) -> Result<(), DraftError>
     requires space { vec_len list.old < vec_capacity list.old }
@@ -325,6 +375,26 @@ fn take_block(list: &mut Vec<BlockNo>, blocks: &mut Blocks) -> Result<(), DraftE
         return Err(DraftError::Full);
     };
     list.push(block).unwrap();
+    Ok(())
+}
+
+// Reserves blocks, and puts them behind the others, until there are so many.
+fn take_blocks(list: &mut Vec<BlockNo>, blocks: &mut Blocks, count: usize) -> Result<(), DraftError>
+    requires space { count ≤ vec_capacity list.old }
+    requires fewer { length list.old.items ≤ count }
+    requires few { length list.old.items ≤ 65536 }
+    requires reserved { IsReserved blocks.old list.old.items }
+    ensures few { length list.new.items ≤ 65536 }
+    ensures takes { Takes blocks.old blocks.new list.old.items list.new.items }
+    ensures reserved { IsReserved blocks.new list.new.items }
+    ensures count { OnOk result (length list.new.items ≡ count) }
+    ensures only_full { IsErr result → IsErrOf result DraftError.Full }
+    ensures full { IsErr result → (b : ℕ) → IsFree blocks.new b → ⊥ }
+    ensures short { OnErr result (length list.new.items < count) }
+{
+    while list.len() < count {
+        take_block(list, blocks)?;
+    }
     Ok(())
 }
 

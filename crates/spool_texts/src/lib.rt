@@ -10,7 +10,7 @@ mod error;
 mod laws;
 mod reads;
 
-pub use draft_text::DraftText;
+pub use draft_text::{DraftText, write_last};
 pub use error::DraftError;
 pub use laws::{kept_texts, same_but_blocks, shown_texts};
 pub use reads::read_text;

@@ -1,11 +1,15 @@
 use Rattle.std.proofs.Common.{◌≡◌, ◌∙◌, ap, refl, subst, sym, ℕ, List, Err, None, set}
+use Rattle.spool_drafts.proofs.Effects.{only_then}
 use Rattle.spool_drafts.specs.Drafts.{list_of}
+use Rattle.spool_drafts.specs.Effect.{Effect, OnlyWrites}
+use Rattle.spool_journal.specs.Image.{journal_pages}
+use Rattle.spool_kept.specs.Committing.{OnlyRead}
 use Rattle.spool_texts.specs.Drafts.{GivesBack}
 use Rattle.spool_disk.specs.Views.{Lasts}
 use Rattle.upload_rules.specs.Calls.{commit_outcome, commit_refusal, dropped}
 use Rattle.upload_rules.specs.Store.{appended_store}
 use Rattle.spool_kept.specs.Drafting.{DraftsFit}
-use Rattle.spool_kept.specs.Extending.{HandsOn, IsAppend, IsLonger}
+use Rattle.spool_kept.specs.Extending.{HandsOn, IsLonger, IsPending, IsWritten}
 use Rattle.spool_kept.specs.Holding.{Holding}
 use Rattle.spool_kept.specs.Shows.{ImageShows}
 use Rattle.spool_kept.specs.Stored.{ShowsEither}
@@ -43,10 +47,10 @@ returns-in-Ok-extend-clause-fits g c drafts number fit here =
     let may = c.in-Ok.ensures.may in
     let layout : c.extend.new.kept.layout ≡ c.args.kept.now.layout = c.extend.ensures.layout ∙ ap (λ (h : Holding). h.layout) c.ended.ensures.same.same in
     let hands = subst (HandsOn c.ended.new.kept.blocks.reserved c.extend.new.kept.blocks.reserved) c.list.ensures.blocks (c.in-Ok-extend.ensures.blocks (λ e. cc)) in
-    let longer = subst (λ (more : List ℕ). IsLonger c.ended.new.kept may.used c.in-Ok.longer more c.extend.new.kept) c.list.ensures.blocks (c.in-Ok-extend.ensures.longer (λ e. cc) may.used may.there) in
+    let longer = subst (λ (more : List ℕ). IsLonger c.ended.new.kept may.used c.in-Ok.end.0 more c.extend.new.kept) c.list.ensures.blocks (c.in-Ok-extend.ensures.longer (λ e. cc) may.used may.there) in
     subst (λ (n : ℕ). DraftsFit n c.extend.new.kept.blocks (set drafts number None)) (sym layout)
     (fit_handed c.args.kept.now.layout c.args.kept.now.blocks c.ended.new.kept.blocks drafts fit number c.args.draft c.ended.new.draft here effect.own effect.grasp
-    c.ended.ensures.reserved c.ended.ensures.placed c.extend.new.kept.blocks hands (rows_handed c.ended.new.kept c.extend.new.kept may.used c.in-Ok.longer (list_of c.ended.new.draft) longer))
+    c.ended.ensures.reserved c.ended.ensures.placed c.extend.new.kept.blocks hands (rows_handed c.ended.new.kept c.extend.new.kept may.used c.in-Ok.end.0 (list_of c.ended.new.draft) longer))
 
 pub returns-in-Err-DiskFault-clause-fits : goal.returns-in-Err-DiskFault-clause-fits
 returns-in-Err-DiskFault-clause-fits g c drafts number fit here =
@@ -55,10 +59,10 @@ returns-in-Err-DiskFault-clause-fits g c drafts number fit here =
     let fault : c.extend.result ≡ Err ExtendError.DiskFault = c.in-Err-DiskFault.is ∙ ap (λ (e : ExtendError). Err e) c.in-Err-DiskFault.field-0-is in
     let layout : c.extend.new.kept.layout ≡ c.args.kept.now.layout = c.extend.ensures.layout ∙ ap (λ (h : Holding). h.layout) c.ended.ensures.same.same in
     let hands = subst (HandsOn c.ended.new.kept.blocks.reserved c.extend.new.kept.blocks.reserved) c.list.ensures.blocks (c.extend.ensures.blocks (λ e. cc)) in
-    let longer = subst (λ (more : List ℕ). IsLonger c.ended.new.kept may.used c.in-Ok.longer more c.extend.new.kept) c.list.ensures.blocks (c.extend.ensures.longer (λ e. cc) may.used may.there) in
+    let longer = subst (λ (more : List ℕ). IsLonger c.ended.new.kept may.used c.in-Ok.end.0 more c.extend.new.kept) c.list.ensures.blocks (c.extend.ensures.longer (λ e. cc) may.used may.there) in
     subst (λ (n : ℕ). DraftsFit n c.extend.new.kept.blocks (set drafts number None)) (sym layout)
     (fit_handed c.args.kept.now.layout c.args.kept.now.blocks c.ended.new.kept.blocks drafts fit number c.args.draft c.ended.new.draft here effect.own effect.grasp
-    c.ended.ensures.reserved c.ended.ensures.placed c.extend.new.kept.blocks hands (rows_handed c.ended.new.kept c.extend.new.kept may.used c.in-Ok.longer (list_of c.ended.new.draft) longer))
+    c.ended.ensures.reserved c.ended.ensures.placed c.extend.new.kept.blocks hands (rows_handed c.ended.new.kept c.extend.new.kept may.used c.in-Ok.end.0 (list_of c.ended.new.draft) longer))
 
 -- WHAT A CRASH MAY LEAVE
 
@@ -85,20 +89,22 @@ returns-in-Err-NoMemory-clause-crash g c drafts number w p is =
 pub returns-in-Ok-extend-clause-crash : goal.returns-in-Ok-extend-clause-crash
 returns-in-Ok-extend-clause-crash g c drafts number w p is =
     let answer = c.in-Ok.ensures.answer drafts number w p is in
-    let append = subst (IsAppend g.D.Disk c.ended.new.disk c.ended.new.kept w.store p.number p.body c.in-Ok.longer) (sym c.list.ensures.blocks) answer.1.1 in
+    let pending = subst (IsPending g.D.Disk c.ended.new.disk c.ended.new.kept w.store p.number p.body c.in-Ok.end.0 c.list.result.now) (sym c.deref.ensures.value)
+    (subst (λ (more : List ℕ). IsPending g.D.Disk c.ended.new.disk c.ended.new.kept w.store p.number p.body c.in-Ok.end.0 more c.in-Ok.end.1.items) (sym c.list.ensures.blocks) answer.1.1) in
     spent.either_then g.D.Disk c.args.disk.now c.ended.new.disk c.args.kept.now.layout w.store c.extend.new.disk
     (appended_store w.store p.number p.body) (commit_outcome w number p) (spent.outcome_is w number p answer.0 is.some)
     (c.ended.ensures.quiet drafts number w p is) c.ended.new.kept.layout
-    (ap (λ (h : Holding). h.layout) c.ended.ensures.same.same) (c.extend.ensures.crash w.store p.number p.body append)
+    (ap (λ (h : Holding). h.layout) c.ended.ensures.same.same) (c.extend.ensures.crash w.store p.number p.body pending)
 
 pub returns-in-Err-DiskFault-clause-crash : goal.returns-in-Err-DiskFault-clause-crash
 returns-in-Err-DiskFault-clause-crash g c drafts number w p is =
     let answer = c.in-Ok.ensures.answer drafts number w p is in
-    let append = subst (IsAppend g.D.Disk c.ended.new.disk c.ended.new.kept w.store p.number p.body c.in-Ok.longer) (sym c.list.ensures.blocks) answer.1.1 in
+    let pending = subst (IsPending g.D.Disk c.ended.new.disk c.ended.new.kept w.store p.number p.body c.in-Ok.end.0 c.list.result.now) (sym c.deref.ensures.value)
+    (subst (λ (more : List ℕ). IsPending g.D.Disk c.ended.new.disk c.ended.new.kept w.store p.number p.body c.in-Ok.end.0 more c.in-Ok.end.1.items) (sym c.list.ensures.blocks) answer.1.1) in
     spent.either_then g.D.Disk c.args.disk.now c.ended.new.disk c.args.kept.now.layout w.store c.extend.new.disk
     (appended_store w.store p.number p.body) (commit_outcome w number p) (spent.outcome_is w number p answer.0 is.some)
     (c.ended.ensures.quiet drafts number w p is) c.ended.new.kept.layout
-    (ap (λ (h : Holding). h.layout) c.ended.ensures.same.same) (c.extend.ensures.crash w.store p.number p.body append)
+    (ap (λ (h : Holding). h.layout) c.ended.ensures.same.same) (c.extend.ensures.crash w.store p.number p.body pending)
 
 -- THE ANSWER
 
@@ -124,14 +130,31 @@ pub returns-in-Ok-extend-clause-answer : goal.returns-in-Ok-extend-clause-answer
 returns-in-Ok-extend-clause-answer g c drafts number w p is =
     let answer = c.in-Ok.ensures.answer drafts number w p is in
     let may = c.in-Ok.ensures.may in
-    let append = subst (IsAppend g.D.Disk c.ended.new.disk c.ended.new.kept w.store p.number p.body c.in-Ok.longer) (sym c.list.ensures.blocks) answer.1.1 in
+    let pending = subst (IsPending g.D.Disk c.ended.new.disk c.ended.new.kept w.store p.number p.body c.in-Ok.end.0 c.list.result.now) (sym c.deref.ensures.value)
+    (subst (λ (more : List ℕ). IsPending g.D.Disk c.ended.new.disk c.ended.new.kept w.store p.number p.body c.in-Ok.end.0 more c.in-Ok.end.1.items) (sym c.list.ensures.blocks) answer.1.1) in
+    let wrote = subst (λ (more : List ℕ). IsWritten g.D.Disk c.ended.new.disk c.extend.new.disk c.ended.new.kept w.store p.number p.body c.in-Ok.end.0 more) c.list.ensures.blocks
+    (c.in-Ok-extend.ensures.written w.store p.number p.body pending) in
+    let effect = c.ended.ensures.effect in
+    let only = subst (λ (n : ℕ). OnlyWrites g.D.Disk (journal_pages n) (list_of c.ended.new.draft) c.ended.new.disk wrote.mid) (ap (λ (h : Holding). h.layout) c.ended.ensures.same.same) wrote.only in
+    let effect' : Effect g.D.Disk (journal_pages c.args.kept.now.layout) (list_of c.args.draft) (list_of c.ended.new.draft) c.args.disk.now wrote.mid c.args.kept.now.blocks c.ended.new.kept.blocks =
+    record { own = effect.own; grasp = effect.grasp; writes = λ honest. only_then effect.grasp (effect.writes honest) only } in
     let hands = subst (HandsOn c.ended.new.kept.blocks.reserved c.extend.new.kept.blocks.reserved) c.list.ensures.blocks (c.in-Ok-extend.ensures.blocks (λ e. cc)) in
-    let longer = subst (λ (more : List ℕ). IsLonger c.ended.new.kept may.used c.in-Ok.longer more c.extend.new.kept) c.list.ensures.blocks (c.in-Ok-extend.ensures.longer (λ e. cc) may.used may.there) in (
+    let longer = subst (λ (more : List ℕ). IsLonger c.ended.new.kept may.used c.in-Ok.end.0 more c.extend.new.kept) c.list.ensures.blocks (c.in-Ok-extend.ensures.longer (λ e. cc) may.used may.there) in (
       answer.0,
       (
         answer.1.0,
-        spent.stands_committed g.D.Disk c.args.disk.now c.ended.new.disk c.args.kept.now c.ended.new.kept c.ended.ensures.same drafts number c.args.draft c.ended.new.draft w p is c.ended.ensures.effect
-            c.ended.ensures.reserved c.ended.ensures.placed c.in-Ok.longer answer.1.1 may.used c.extend.new.disk c.extend.new.kept longer hands
-            (c.in-Ok-extend.ensures.texts w.store p.number p.body append) (c.in-Ok-extend.ensures.answer w.store p.number p.body append),
+        spent.stands_committed g.D.Disk c.args.disk.now wrote.mid c.args.kept.now c.ended.new.kept c.ended.ensures.same drafts number c.args.draft c.ended.new.draft w p is effect'
+            c.ended.ensures.reserved c.ended.ensures.placed c.in-Ok.end.0 wrote.append may.used c.extend.new.disk c.extend.new.kept longer hands
+            wrote.texts (c.in-Ok-extend.ensures.answer w.store p.number p.body pending),
       ),
     )
+
+-- NOTHING IS WRITTEN
+
+pub returns-in-Err-clause-unwritten : goal.returns-in-Err-clause-unwritten
+returns-in-Err-clause-unwritten g c honest short = c.ended.ensures.only honest
+
+pub returns-in-Err-NoMemory-clause-unwritten : goal.returns-in-Err-NoMemory-clause-unwritten
+returns-in-Err-NoMemory-clause-unwritten g c honest short =
+    let unmade = c.extend.ensures.unmade (c.in-Err-NoMemory.is ∙ ap (λ (e : ExtendError). Err e) c.in-Err-NoMemory.field-0-is) in
+    subst (OnlyRead g.D.Disk c.args.disk.now) (sym unmade.1) (c.ended.ensures.only honest)

@@ -1,14 +1,29 @@
-use Rattle.std.proofs.Common.{◌+◌, ◌*◌, ◌++◌, ℕ, List, length, Ok, Err, refl, sym, ◌∙◌, ap, subst}
+use Rattle.std.proofs.Common.{arith, ◌+◌, ◌*◌, ◌++◌, ℕ, List, Vec, length, Ok, Err, refl, sym, ◌∙◌, ap, subst}
 use Rattle.std.proofs.lemmas.Result.{err_from_is_err_and}
+use Rattle.std.specs.declared.alloc.Global.{Global}
 use Rattle.spool_journal.specs.Image.{journal_pages}
-use Rattle.spool_drafts.specs.Drafts.{EndsAs, list_of, open_text}
+use Rattle.spool_drafts.specs.Drafts.{EndsAs, list_of}
 use Rattle.spool_drafts.specs.Growth.{ClosesAs, bytes_on}
-use Rattle.spool_drafts.proofs.Effects.{only_none, grasp_none}
-use Rattle.spool_drafts.proofs.Ends.{still, whole, refused, not_closed, closed_len, kept_end, open_ended}
+use Rattle.spool_drafts.proofs.Effects.{only_none, only_read, grasp_none}
+use Rattle.spool_drafts.proofs.Ends.{still, whole, refused, not_closed, kept_end, open_ended}
 use Rattle.spool_drafts.proofs.draft.SpoolDraft.end.Goals as goal
 
 pub returns-in_err-state-clause-effect : goal.returns-in_err-state-clause-effect
 returns-in_err-state-clause-effect g c = record { own = list_of c.args.self.now; grasp = grasp_none _ _ _ refl c.requires.reserved; writes = λ honest. only_none _ _ }
+
+pub returns-in_err-last-clause-effect : goal.returns-in_err-last-clause-effect
+returns-in_err-last-clause-effect g c = record {
+  own = c.end.ensures.grasps.0;
+  grasp = c.end.ensures.grasps.1;
+  writes = λ honest. only_read _ (c.end.ensures.keeps honest) (c.end.ensures.lasts honest);
+}
+
+pub returns-clause-effect : goal.returns-clause-effect
+returns-clause-effect g c = record {
+  own = c.end.ensures.grasps.0;
+  grasp = c.end.ensures.grasps.1;
+  writes = λ honest. only_read _ (c.end.ensures.keeps honest) (c.end.ensures.lasts honest);
+}
 
 pub returns-in_err-state-clause-answer : goal.returns-in_err-state-clause-answer
 returns-in_err-state-clause-answer g c p held some =
@@ -18,24 +33,24 @@ returns-in_err-state-clause-answer g c p held some =
     subst (EndsAs x p c.args.completes d d c.args.blocks.now c.args.blocks.now) (sym (e.1 ∙ ap Err e.2))
     (refused x p d held some c.args.completes c.args.blocks.now c.args.blocks.now d c.in_err-state.field-0.0 (c.in_err-state.ensures.finished p.began p.body (still x p d held some c.args.completes) held.stands))
 
-pub returns-in_err-close-clause-answer : goal.returns-in_err-close-clause-answer
-returns-in_err-close-clause-answer g c p held some =
+pub returns-in_err-last-clause-answer : goal.returns-in_err-last-clause-answer
+returns-in_err-last-clause-answer g c p held some =
     let x = c.args.indexes.now in
     let d = c.args.self.now in
-    let new = record d { growth = c.close.new.self } in
-    let e = err_from_is_err_and c.from_residual-in_err-close.result c.from_residual-in_err-close.ensures.1 in
+    let new = record d { growth = c.end.new.self } in
+    let e = err_from_is_err_and c.from_residual-in_err-last.result c.from_residual-in_err-last.ensures.1 in
     let finished = c.in_ok-state.ensures.finished p.began p.body (still x p d held some c.args.completes) held.stands in
-    let closes = subst (λ (text : List ℕ). ClosesAs d.growth c.close.new.self (length text) c.args.blocks.now c.close.new.blocks (Err c.in_err-close.field-0.0)) c.deref.ensures.value c.in_err-close.ensures.answer in
-    subst (EndsAs x p c.args.completes d new c.args.blocks.now c.close.new.blocks) (sym (e.1 ∙ ap Err e.2))
-    (not_closed x p d held some c.args.completes c.in_ok-state.state c.in_ok-state.text.items finished c.close.new.self new c.args.blocks.now c.close.new.blocks c.in_err-close.field-0.0 closes)
+    let closes = subst (λ (text : List ℕ). ClosesAs {T = Vec ℕ Global} d.growth c.end.new.self (length text) c.args.blocks.now c.end.new.blocks (Err c.in_err-last.field-0.0)) c.deref.ensures.value c.in_err-last.ensures.answer in
+    subst (EndsAs x p c.args.completes d new c.args.blocks.now c.end.new.blocks) (sym (e.1 ∙ ap Err e.2))
+    (not_closed x p d held some c.args.completes c.in_ok-state.state c.in_ok-state.text.items finished c.end.new.self new c.args.blocks.now c.end.new.blocks c.in_err-last.field-0.0 closes)
 
 pub returns-clause-answer : goal.returns-clause-answer
 returns-clause-answer g c p held some =
     let x = c.args.indexes.now in
     let d = c.args.self.now in
     let finished = c.in_ok-state.ensures.finished p.began p.body (still x p d held some c.args.completes) held.stands in
-    let closes = subst (λ (text : List ℕ). ClosesAs d.growth c.close.new.self (length text) c.args.blocks.now c.close.new.blocks (Ok c.in_ok-close.field-0)) c.deref.ensures.value c.in_ok-close.ensures.answer in
-    whole x p d held some c.args.completes c.in_ok-state.state c.in_ok-state.text.items finished (record d { growth = c.close.new.self }) c.close.ensures.same.0 closes.0 closes.1
+    let closes = subst (λ (text : List ℕ). ClosesAs {T = Vec ℕ Global} d.growth c.end.new.self (length text) c.args.blocks.now c.end.new.blocks (Ok c.in_ok-last.last)) c.deref.ensures.value c.in_ok-last.ensures.answer in
+    whole x p d held some c.args.completes c.in_ok-state.state c.in_ok-state.text.items finished (record d { growth = c.end.new.self }) _ refl (omega (arith, c.len.ensures.len, c.len-2.ensures)) closes.0 closes.1
 
 pub returns-clause-content : goal.returns-clause-content
 returns-clause-content g c p honest held some carries there =
@@ -45,9 +60,7 @@ returns-clause-content g c p honest held some carries there =
     let first = 25 + 2 * journal_pages c.args.layout.now in
     let text = c.in_ok-state.text.items in
     let finished = c.in_ok-state.ensures.finished p.began p.body (still x p d held some c.args.completes) held.stands in
-    let closes = subst (λ (text : List ℕ). ClosesAs d.growth c.close.new.self (length text) c.args.blocks.now c.close.new.blocks (Ok c.in_ok-close.field-0)) c.deref.ensures.value c.in_ok-close.ensures.answer in
-    let closed = closed_len x p d held some c.args.completes c.in_ok-state.state text finished c.close.new.self closes.0 closes.1 in
-    c.in_ok-close.ensures.written honest (length (open_text x p c.args.completes)) closed.count there
+    c.in_ok-last.ensures.content honest there
     ∙ ap (λ (bytes : List ℕ). bytes_on seen first d.growth d.growth.on ++ bytes) c.deref.ensures.value
-    ∙ ap (λ (bytes : List ℕ). bytes ++ text) (carries (kept_end x p d held some c.args.completes c.in_ok-state.state text finished closes.0))
+    ∙ ap (λ (bytes : List ℕ). bytes ++ text) (carries (kept_end x p d held some c.args.completes c.in_ok-state.state text finished c.in_ok-last.ensures.answer.0))
     ∙ sym (open_ended x p d held some c.args.completes c.in_ok-state.state text finished)
