@@ -19,7 +19,8 @@ use Rattle.gateway_script.specs.Images.{AllAmong, stores_of, last_stores}
 use Rattle.gateway_script.specs.Script as script
 use Rattle.gateway_script.specs.Script.{Exit, Faulted}
 use Rattle.gateway_engine.specs.Ran.{Shows, Rests, EndedSo, RestsSo, FailedSo, StoppedSo, HasRun, HasRefused, CountsEither}
-use Rattle.gateway_engine.specs.RanOn.{AllShowOne, LastsOver, EndedOn, RestsOn, FailedOn, StoppedOn, UnopenedOn, HasRunOn, HasRefusedOn}
+use Rattle.gateway_engine.specs.RanOn.{AllShowOne, LastsOver, EndedOn, RestsOn, FailedOn, StoppedOn, UnopenedOn, HasRunOn}
+use Rattle.gateway_engine.specs.RanOn.{HasRefusedOn}
 use Rattle.gateway_script.specs.declared.faults.CallFault.{CallFault}
 use Rattle.gateway_engine.specs.declared.faults.RunFault.{RunFault}
 use Rattle.gateway_engine.specs.declared.faults.RunFault.TheVariants.{Open}
@@ -174,8 +175,8 @@ same_refusal store d runs.DiskFault c = c
 same_refusal store d (runs.Script line) c = c
 same_refusal store d runs.Io c = c
 
-pub refused_on : {D U : Type 0} {a b v w : ℕ} (store : U) (d : D) (fault : ScriptFault) (told : RunFault) → told ≡ run_fault fault
-    → CountsEither (HasRefused (Err (store, fault))) a b v w → CountsEither (HasRefusedOn (Err (d, told))) a b v w
+pub refused_on : {D U : Type 0} {a b v w : ℕ} (store : U) (d : D) (fault : ScriptFault) (told : RunFault)
+    → told ≡ run_fault fault → CountsEither (HasRefused (Err (store, fault))) a b v w → CountsEither (HasRefusedOn (Err (d, told))) a b v w
 refused_on {a = a} {b = b} {v = v} {w = w} store d fault told is c =
     subst (λ f. CountsEither (HasRefusedOn (Err (d, f))) a b v w) (sym is) (same_refusal store d fault c)
 
