@@ -1,5 +1,6 @@
 -- From the lines' end to the script's.
-use Rattle.std.proofs.Common.{◌≡◌, ◌⊎◌, inl, inr, ℕ, List, [], ◌++◌, take, Option, Some, None, Ok, Err, refl, sym, subst, ◌∙◌, append-nil, arith, ⊎_elim}
+use Rattle.std.proofs.Common.{◌≡◌, ◌⊎◌, inl, inr, ℕ, List, [], ◌++◌, take, Option, Some, None, Ok, Err, refl, sym, subst, ◌∙◌, append-nil, arith}
+use Rattle.std.proofs.Common.{⊎_elim}
 use Rattle.std.specs.Prelude.{IsErrOf}
 use Rattle.std.specs.Io.KnownBytes.{Appends}
 use Rattle.upload_rules.specs.Store.{Store}
@@ -13,7 +14,8 @@ use Rattle.gateway_script.specs.Script.{script as the_script, Run, run_lines, sc
 use Rattle.gateway_script.specs.Images.{IsFirst, stores_of, last_stores, last_blocks, ShowsLast, LimitsTo}
 use Rattle.gateway_script.specs.Runs.{View, with_marks, IsHistory, IsAt, IsDown, Reaches, Stops, script_past, Ends}
 use Rattle.gateway_script.specs.Script.{IsScript}
-use Rattle.gateway_engine.specs.Ran.{Shows, Rests, EndedSo, RestsSo, FailedSo, StoppedSo, HasRun, HasFailed, HasRefused, CountsEither}
+use Rattle.gateway_engine.specs.Ran.{Shows, Rests, EndedSo, RestsSo, FailedSo, StoppedSo, HasRun, HasFailed}
+use Rattle.gateway_engine.specs.Ran.{HasRefused, CountsEither}
 use Rattle.gateway_script.specs.declared.faults.CallFault.{CallFault}
 use Rattle.gateway_script.specs.declared.faults.CallFault.TheVariants as faults
 use Rattle.gateway_script.specs.declared.faults.ScriptFault.{ScriptFault}
@@ -159,8 +161,8 @@ counts_nothing a store fault (inl e) = subst (λ f. Counts (HasFailed (Err (stor
 counts_nothing a store fault (inr e) = subst (λ f. Counts (HasFailed (Err (store, f))) a a) (sym e) (record { later = omega arith; counted = λ f. absurd f; nothing_else = λ less. absurd (omega arith) })
 
 -- THE COUNTS OF REFUSALS
-refused_as : {T U : Type 0} {a b : ℕ} (store : U) (fault : ScriptFault) → Counts (IsErrOf {T = T} (Err fault) runs.Io) a b
-    → Counts (HasRefused (Err (store, fault))) a b
+refused_as : {T U : Type 0} {a b : ℕ} (store : U) (fault : ScriptFault)
+    → Counts (IsErrOf {T = T} (Err fault) runs.Io) a b → Counts (HasRefused (Err (store, fault))) a b
 refused_as store runs.NoMemory c = record {
   later = c.later;
   counted = λ f. absurd f;

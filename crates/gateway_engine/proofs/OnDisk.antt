@@ -18,7 +18,8 @@ use Rattle.gateway_engine.specs.Faults.{run_fault}
 use Rattle.gateway_script.specs.Images.{AllAmong, stores_of, last_stores}
 use Rattle.gateway_script.specs.Script as script
 use Rattle.gateway_script.specs.Script.{Exit, Faulted}
-use Rattle.gateway_engine.specs.Ran.{Shows, Rests, EndedSo, RestsSo, FailedSo, StoppedSo, HasRun, HasRefused, CountsEither}
+use Rattle.gateway_engine.specs.Ran.{Shows, Rests, EndedSo, RestsSo, FailedSo, StoppedSo, HasRun}
+use Rattle.gateway_engine.specs.Ran.{HasRefused, CountsEither}
 use Rattle.gateway_engine.specs.RanOn.{AllShowOne, LastsOver, EndedOn, RestsOn, FailedOn, StoppedOn, UnopenedOn, HasRunOn}
 use Rattle.gateway_engine.specs.RanOn.{HasRefusedOn}
 use Rattle.gateway_script.specs.declared.faults.CallFault.{CallFault}
@@ -169,14 +170,16 @@ module _ {D U B : Type 0} (disk : Ghosts D) (disk_of : U → D) (size_of : U →
 
 -- a refusal of a run over uploads is one of the run over their disk
 same_refusal : {D U : Type 0} {a b v w : ℕ} (store : U) (d : D) (fault : ScriptFault)
-    → CountsEither (HasRefused (Err (store, fault))) a b v w → CountsEither (HasRefusedOn (Err (d, run_fault fault))) a b v w
+    → CountsEither (HasRefused (Err (store, fault))) a b v w
+    → CountsEither (HasRefusedOn (Err (d, run_fault fault))) a b v w
 same_refusal store d runs.NoMemory c = c
 same_refusal store d runs.DiskFault c = c
 same_refusal store d (runs.Script line) c = c
 same_refusal store d runs.Io c = c
 
 pub refused_on : {D U : Type 0} {a b v w : ℕ} (store : U) (d : D) (fault : ScriptFault) (told : RunFault)
-    → told ≡ run_fault fault → CountsEither (HasRefused (Err (store, fault))) a b v w → CountsEither (HasRefusedOn (Err (d, told))) a b v w
+    → told ≡ run_fault fault → CountsEither (HasRefused (Err (store, fault))) a b v w
+    → CountsEither (HasRefusedOn (Err (d, told))) a b v w
 refused_on {a = a} {b = b} {v = v} {w = w} store d fault told is c =
     subst (λ f. CountsEither (HasRefusedOn (Err (d, f))) a b v w) (sym is) (same_refusal store d fault c)
 

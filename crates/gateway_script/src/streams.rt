@@ -48,7 +48,8 @@ pub trait CountedWrite {
 fn read_on<R: Read>(reader: &mut R, piece: &mut [u8]) -> Result<usize, Refused>
     ensures bound { ReadsAtMost result piece.new }
     ensures within { IfOk result (λ count. count ≤ length piece.old) }
-    ensures ok { IfOk result (λ count. Consumes (R.remaining reader.old) (R.remaining reader.new) (take count piece.new)) }
+    ensures ok { IfOk result (λ count. Consumes (R.remaining reader.old) (R.remaining reader.new)
+        (take count piece.new)) }
     ensures end { IfOk result (λ count. count ≡ 0 → 0 < length piece.old → IsAtEnd (R.remaining reader.new)) }
     ensures kept { OnErr result (Keeps (R.remaining reader.old) (R.remaining reader.new)) }
 {

@@ -8,7 +8,8 @@ use Rattle.gateway_script.specs.Runs.{view, IsAt, Ends}
 use Rattle.gateway_engine.specs.Ran.{HasRun}
 use Rattle.gateway_script.specs.declared.faults.ScriptFault.TheVariants as runs
 use Rattle.gateway_script.proofs.Counting.{uncounted}
-use Rattle.gateway_engine.proofs.Exits.{begins, ran, stopped, unbegun, some_script, counts_nothing, reader_counts, none_counts, writer_counts, shows_since, shows_through, last_through}
+use Rattle.gateway_engine.proofs.Exits.{begins, ran, stopped, unbegun, some_script, shows_since, shows_through, last_through}
+use Rattle.gateway_engine.proofs.Exits.{counts_nothing, reader_counts, none_counts, writer_counts}
 use Rattle.gateway_engine.proofs.scripts.run_over.Goals as goal
 
 pub returns-in-Err : goal.returns-in-Err

@@ -80,5 +80,5 @@ returns-in-Err-run_over-clause-runs g c n m is =
 
 pub returns-in-Err-run_over-clause-io : goal.returns-in-Err-run_over-clause-io
 returns-in-Err-run_over-clause-io g c =
-    refused_on c.in-Err-run_over.spool c.into_disk-in-Err-run_over.result c.in-Err-run_over.fault c.from.result c.from.ensures
-    c.in-Err-run_over.ensures.io
+    refused_on c.in-Err-run_over.spool c.into_disk-in-Err-run_over.result c.in-Err-run_over.fault c.from.result
+    c.from.ensures c.in-Err-run_over.ensures.io

@@ -18,7 +18,8 @@ returns-in-Ok-clause-does g c = λ before st r front at.
     let none : c.new-out.result.items ≡ [] = c.new-out.ensures.items in
     told_called (view g.C.Connections before c.args.core.now st old front) c.more.new.self new r e at a given (quiet_limits _ _ c.more.ensures.crash)
     (subst (λ o. Gives s' (Ok a) o given r.state e) none (c.in-Ok.ensures.gives r.state at.keeps))
-    (subst (λ b. Tells old new (Ok (tt {0})) c.args.conn b a.closes) c.deref.ensures.value c.in_ok-tell-in-Ok.ensures.tells)
+    (subst (λ b. Tells old new (Ok (tt {0})) c.args.conn b a.closes) c.deref.ensures.value
+    c.in_ok-tell-in-Ok.ensures.tells)
 
 pub returns-in_err-tell-in-Ok-clause-does : goal.returns-in_err-tell-in-Ok-clause-does
 returns-in_err-tell-in-Ok-clause-does g c = λ before st r front at.
@@ -32,7 +33,8 @@ returns-in_err-tell-in-Ok-clause-does g c = λ before st r front at.
     let p = err_from_is_err_and c.from_residual.result c.from_residual.ensures.1 in
     rw (p.1, p.2) (tell_stopped (view g.C.Connections before c.args.core.now st old front) c.more.new.self new r e at a given (quiet_limits _ _ c.more.ensures.crash)
     (subst (λ o. Gives s' (Ok a) o given r.state e) none (c.in-Ok.ensures.gives r.state at.keeps)) c.in_err-tell-in-Ok.field-0.0
-    (subst (λ b. Tells old new (Err c.in_err-tell-in-Ok.field-0.0) c.args.conn b a.closes) c.deref.ensures.value c.in_err-tell-in-Ok.ensures.tells))
+    (subst (λ b. Tells old new (Err c.in_err-tell-in-Ok.field-0.0) c.args.conn b a.closes) c.deref.ensures.value
+    c.in_err-tell-in-Ok.ensures.tells))
 
 pub returns-clause-does : goal.returns-clause-does
 returns-clause-does g c = λ before st r front at.
@@ -42,7 +44,8 @@ returns-clause-does g c = λ before st r front at.
     let given : List ℕ = c.more.new.out.items in
     let none : c.new-out.result.items ≡ [] = c.new-out.ensures.items in
     refused_called (view g.C.Connections before c.args.core.now st (g.W.CountedWrite.contents c.args.writer.now) front) c.more.new.self (g.W.CountedWrite.contents c.refused.new.writer) r e at f given (quiet_limits _ _ c.more.ensures.crash)
-    (subst (λ o. Gives s' (Err f) o given r.state e) none (c.in-Err.ensures.gives r.state at.keeps)) c.in_ok-refused-in-Err.ensures.refuses
+    (subst (λ o. Gives s' (Err f) o given r.state e) none (c.in-Err.ensures.gives r.state at.keeps))
+    c.in_ok-refused-in-Err.ensures.refuses
 
 pub returns-in_err-refused-in-Err-clause-does : goal.returns-in_err-refused-in-Err-clause-does
 returns-in_err-refused-in-Err-clause-does g c = λ before st r front at.

@@ -14,7 +14,8 @@ returns-in_err-taken-clause-does g c = λ before st r front at.
     let k : ℕ = c.loop-left.left - 1 in
     let rest = c.loop-left.rest.now in
     let step : c.loop-left.left ≡ suc k = omega (arith, c.loop-left-test.true) in
-    let v = view g.C.Connections before c.give_once.new.core st (g.W.CountedWrite.contents c.give_once.new.writer) front in
+    let v = view g.C.Connections before c.give_once.new.core st
+    (g.W.CountedWrite.contents c.give_once.new.writer) front in
     let p = err_from_is_err_and c.from_residual.result c.from_residual.ensures.1 in
     let fault = c.in_err-taken.field-0.0 in
     rw (p.1, p.2) (went_behind v (Err fault) (give_within (length c.args.bytes.now) n c.args.bytes.now) (give_within (suc k) n rest) r i.0
@@ -28,7 +29,8 @@ returns-in_default-clause-does g c = λ before st r front at.
     let k : ℕ = c.loop-left.left - 1 in
     let rest = c.loop-left.rest.now in
     let step : c.loop-left.left ≡ suc k = omega (arith, c.loop-left-test.true) in
-    let v = view g.C.Connections before c.give_once.new.core st (g.W.CountedWrite.contents c.give_once.new.writer) front in
+    let v = view g.C.Connections before c.give_once.new.core st
+    (g.W.CountedWrite.contents c.give_once.new.writer) front in
     let p : GivenOnce v (Ok None) k n rest i.0 =
     subst (λ o. GivenOnce v (Ok o) k n rest i.0) c.in_default.is
     (c.in_ok-taken.ensures.does before st i.0 front k (some_list _ rest c.is_empty.ensures c.if-not-is_empty.true) i.2) in (
@@ -48,7 +50,8 @@ loop-left-preserved g c = (
       let k : ℕ = c.loop-left.left - 1 in
       let rest = c.loop-left.rest.now in
       let step : c.loop-left.left ≡ suc k = omega (arith, c.loop-left-test.true) in
-      let v = view g.C.Connections before c.give_once.new.core st (g.W.CountedWrite.contents c.give_once.new.writer) front in
+      let v = view g.C.Connections before c.give_once.new.core st
+      (g.W.CountedWrite.contents c.give_once.new.writer) front in
       let p : GivenOnce v (Ok (Some c.in-Some.taken)) k n rest i.0 =
       subst (λ o. GivenOnce v (Ok o) k n rest i.0) c.in-Some.is
       (c.in_ok-taken.ensures.does before st i.0 front k (some_list _ rest c.is_empty.ensures c.if-not-is_empty.true) i.2) in (

@@ -24,4 +24,5 @@ pub returns-in_default-clause-does : goal.returns-in_default-clause-does
 returns-in_default-clause-does g c = λ before st r front k at.
     cut_refused (view g.C.Connections before c.args.core.now st (g.W.CountedWrite.contents c.args.writer.now) front) c.ended.new.self (g.W.CountedWrite.contents c.refused.new.writer)
     k c.args.conn r c.in-Err.error c.refused.result at (λ ms among. g.met.C.Connections.durable c.args.core.now r.state ms at.keeps among)
-    (c.in-Err.ensures.crash r.state at.keeps) (c.in-Err.ensures.does r.state at.keeps) c.in_default.not-Closed c.refused.ensures.refuses
+    (c.in-Err.ensures.crash r.state at.keeps) (c.in-Err.ensures.does r.state at.keeps) c.in_default.not-Closed
+    c.refused.ensures.refuses

@@ -16,7 +16,8 @@ returns-in_err-run_line-clause-does g c = λ before st r front at.
     let i = c.loop-rest.invariant.4 before st r front at in
     let rest = c.loop-rest.rest.now in
     let some : rest ≡ [] → ⊥ = some_list _ rest c.is_empty.ensures c.loop-rest-test.true in
-    let v = view g.C.Connections before c.run_line.new.core st (g.W.CountedWrite.contents c.run_line.new.writer) front in
+    let v = view g.C.Connections before c.run_line.new.core st
+    (g.W.CountedWrite.contents c.run_line.new.writer) front in
     let p = err_from_is_err_and c.from_residual.result c.from_residual.ensures.1 in
     let fault = c.in_err-run_line.field-0.0 in
     rw (p.1, p.2) (ends_behind v (Err fault) (run_lines 1 0 (script_lines c.args.script.now)) (run_lines c.loop-rest.number c.loop-rest.start (script_lines rest)) r i.0 i.1
@@ -53,7 +54,8 @@ loop-rest-preserved g c =
       λ before st r front at.
           let i = c.loop-rest.invariant.4 before st r front at in
           let number : ℕ = c.loop-rest.number in
-          let v = view g.C.Connections before c.run_line.new.core st (g.W.CountedWrite.contents c.run_line.new.writer) front in
+          let v = view g.C.Connections before c.run_line.new.core st
+          (g.W.CountedWrite.contents c.run_line.new.writer) front in
           let p : LineRan v (Ok (tt {0})) number start line (script_lines (behind 10 rest)) i.0 =
           c.in_ok-run_line.ensures.does before st i.0 front (script_lines (behind 10 rest)) i.2 in
           lines_on v number start rest line _ (run_lines 1 0 (script_lines c.args.script.now)) r i.0 some is (take_rest rest (length line)) i.1 p,
