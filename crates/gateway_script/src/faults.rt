@@ -29,16 +29,6 @@ pub enum ScriptFault {
     Io,
 }
 
-impl From<Refused> for CallFault {
-    ghost use Rattle.gateway_script.specs.declared.faults.CallFault.{CallFault};
-
-    ghost from_gives = { λ _ fault. fault ≡ CallFault.Io };
-
-    fn from(_refused: Refused) -> CallFault {
-        CallFault::Io
-    }
-}
-
 impl From<AllocError> for CallFault {
     ghost use Rattle.gateway_script.specs.declared.faults.CallFault.{CallFault};
 

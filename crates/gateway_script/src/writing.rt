@@ -7,7 +7,7 @@ ghost use Rattle.gateway_script.specs.Script.{written_bytes, written_close, writ
 ghost use Rattle.gateway_script.specs.Outputs.{IsWriteFault, AppendsPart, count_line, refusal_bytes};
 
 use crate::faults::CallFault;
-use crate::streams::CountedWrite;
+use crate::streams::{CountedWrite, Refused};
 use std::alloc::{AllocError, Global};
 use tus_session::SessionError;
 
@@ -19,8 +19,10 @@ pub(crate) fn write_out<W: CountedWrite>(writer: &mut W, bytes: &[u8]) -> Result
 {
     let mut rest = bytes;
     while !rest.is_empty() {
-        let count = writer.write_piece(rest)?;
-        rest = &rest[count..];
+        match writer.write_piece(rest) {
+            Ok(count) => rest = &rest[count..],
+            Err(Refused) => return Err(CallFault::Io),
+        }
     }
     Ok(())
 }
