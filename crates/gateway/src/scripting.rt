@@ -4,11 +4,11 @@ use crate::failures::Failure;
 use crate::faults::Fault;
 use crate::spool_files::open_spool;
 use enc_index::IndexSet;
-use gateway_engine::run;
+use gateway_engine::{Counted, CountedRead, CountedWrite, run};
 use spool_disk::{Disk, MemoryDisk};
 use spool_image::{format, pages_of};
 use std::alloc::Global;
-use std::io::{self, Read, Write};
+use std::io;
 
 // How many text blocks a spool in memory has.
 const MEMORY_BLOCKS: u32 = 64;
@@ -19,8 +19,8 @@ pub(crate) fn run_script<'a>(
     alloc: Global,
     spool: &'a str,
 ) -> Result<(), Failure<'a>> {
-    let mut reader = rt.reader();
-    let mut writer = io::writer(rt);
+    let mut reader = Counted::new(rt.reader());
+    let mut writer = Counted::new(io::writer(rt));
     if spool == "-" {
         let disk = spool_in_memory(alloc)?;
         let (_disk, ran) = run_over_disk(alloc, &mut reader, &mut writer, disk);
@@ -35,7 +35,7 @@ pub(crate) fn run_script<'a>(
 }
 
 /// Runs a script from `reader` over the spool on a disk, and writes to `writer` what its calls give. The disk is handed back.
-pub(crate) fn run_over_disk<D: Disk + Drop, R: Read, W: Write>(
+pub(crate) fn run_over_disk<D: Disk + Drop, R: CountedRead, W: CountedWrite>(
     alloc: Global,
     reader: &mut R,
     writer: &mut W,

@@ -1,5 +1,6 @@
 -- From the lines' end to the script's.
 use Rattle.std.proofs.Common.{◌≡◌, ◌⊎◌, inl, inr, ℕ, List, [], ◌++◌, take, Option, Some, None, Ok, Err, refl, sym, subst, ◌∙◌, append-nil, arith}
+use Rattle.std.proofs.Common.{⊎_elim}
 use Rattle.std.specs.Prelude.{IsErrOf}
 use Rattle.std.specs.Io.KnownBytes.{Appends}
 use Rattle.upload_rules.specs.Store.{Store}
@@ -14,6 +15,7 @@ use Rattle.gateway_script.specs.Images.{IsFirst, stores_of, last_stores, last_bl
 use Rattle.gateway_script.specs.Runs.{View, with_marks, IsHistory, IsAt, IsDown, Reaches, Stops, script_past, Ends}
 use Rattle.gateway_script.specs.Script.{IsScript}
 use Rattle.gateway_engine.specs.Ran.{Shows, Rests, EndedSo, RestsSo, FailedSo, StoppedSo, HasRun, HasFailed}
+use Rattle.gateway_engine.specs.Ran.{HasRefused, CountsEither}
 use Rattle.gateway_script.specs.declared.faults.CallFault.{CallFault}
 use Rattle.gateway_script.specs.declared.faults.CallFault.TheVariants as faults
 use Rattle.gateway_script.specs.declared.faults.ScriptFault.{ScriptFault}
@@ -157,6 +159,59 @@ counts_as store runs.Io c = record { later = c.later; counted = λ f. absurd f; 
 pub counts_nothing : {U : Type 0} (a : ℕ) (store : U) (fault : ScriptFault) → (fault ≡ runs.NoMemory) ⊎ (fault ≡ runs.Io) → Counts (HasFailed (Err (store, fault))) a a
 counts_nothing a store fault (inl e) = subst (λ f. Counts (HasFailed (Err (store, f))) a a) (sym e) (record { later = omega arith; counted = λ f. absurd f; nothing_else = λ less. absurd (omega arith) })
 counts_nothing a store fault (inr e) = subst (λ f. Counts (HasFailed (Err (store, f))) a a) (sym e) (record { later = omega arith; counted = λ f. absurd f; nothing_else = λ less. absurd (omega arith) })
+
+-- THE COUNTS OF REFUSALS
+refused_as : {T U : Type 0} {a b : ℕ} (store : U) (fault : ScriptFault)
+    → Counts (IsErrOf {T = T} (Err fault) runs.Io) a b → Counts (HasRefused (Err (store, fault))) a b
+refused_as store runs.NoMemory c = record {
+  later = c.later;
+  counted = λ f. absurd f;
+  nothing_else = λ less. let e : Err runs.NoMemory ≡ Err runs.Io = c.nothing_else less in absurd (cc);
+}
+refused_as store runs.DiskFault c = record {
+  later = c.later;
+  counted = λ f. absurd f;
+  nothing_else = λ less. let e : Err runs.DiskFault ≡ Err runs.Io = c.nothing_else less in absurd (cc);
+}
+refused_as store (runs.Script n) c = record {
+  later = c.later;
+  counted = λ f. absurd f;
+  nothing_else = λ less. let e : Err (runs.Script n) ≡ Err runs.Io = c.nothing_else less in absurd (cc);
+}
+refused_as store runs.Io c = record { later = c.later; counted = λ f. c.counted refl; nothing_else = λ less. tt {0} }
+
+-- the reader alone was asked
+pub reader_counts : {T U : Type 0} {a b w : ℕ} (store : U) (fault : ScriptFault)
+    → Counts (IsErrOf {T = T} (Err fault) runs.Io) a b → CountsEither (HasRefused (Err (store, fault))) a b w w
+reader_counts store fault c =
+    let is = refused_as store fault c in
+    record {
+      reader_later = is.later;
+      writer_later = omega arith;
+      counted = λ f. inl (is.counted f);
+      nothing_else = λ less. ⊎_elim (λ r. is.nothing_else r) (λ w. absurd (omega (arith, w))) less;
+    }
+
+-- neither refused
+pub none_counts : {a b v w : ℕ} → b ≡ a → w ≡ v → CountsEither ⊥ a b v w
+none_counts same same' = record {
+  reader_later = omega (arith, same);
+  writer_later = omega (arith, same');
+  counted = λ f. absurd f;
+  nothing_else = λ less. ⊎_elim (λ r. omega (arith, r, same)) (λ w. omega (arith, w, same')) less;
+}
+
+-- the reader didn't refuse, and then the writer was asked
+pub writer_counts : {T U : Type 0} {a b v w : ℕ} (store : U) (fault : ScriptFault) → b ≡ a
+    → Counts (IsErrOf {T = T} (Err fault) runs.Io) v w → CountsEither (HasRefused (Err (store, fault))) a b v w
+writer_counts store fault same c =
+    let is = refused_as store fault c in
+    record {
+      reader_later = omega (arith, same);
+      writer_later = is.later;
+      counted = λ f. inr (is.counted f);
+      nothing_else = λ less. ⊎_elim (λ r. absurd (omega (arith, r, same))) (λ w. is.nothing_else w) less;
+    }
 
 -- from the uploads that a gateway was made of to those that it gave back
 pub counts_through : {F : Type 0} {a b c d : ℕ} → b ≡ a → d ≡ c → Counts F b c → Counts F a d

@@ -19,8 +19,11 @@ use Rattle.gateway_script.specs.Images.{AllAmong, stores_of, last_stores}
 use Rattle.gateway_script.specs.Script as script
 use Rattle.gateway_script.specs.Script.{Exit, Faulted}
 use Rattle.gateway_engine.specs.Ran.{Shows, Rests, EndedSo, RestsSo, FailedSo, StoppedSo, HasRun}
+use Rattle.gateway_engine.specs.Ran.{HasRefused, CountsEither}
 use Rattle.gateway_engine.specs.RanOn.{AllShowOne, LastsOver, EndedOn, RestsOn, FailedOn, StoppedOn, UnopenedOn, HasRunOn}
+use Rattle.gateway_engine.specs.RanOn.{HasRefusedOn}
 use Rattle.gateway_script.specs.declared.faults.CallFault.{CallFault}
+use Rattle.gateway_engine.specs.declared.faults.RunFault.{RunFault}
 use Rattle.gateway_engine.specs.declared.faults.RunFault.TheVariants.{Open}
 use Rattle.gateway_script.specs.declared.faults.ScriptFault.{ScriptFault}
 use Rattle.gateway_script.specs.declared.faults.ScriptFault.TheVariants as runs
@@ -164,6 +167,21 @@ module _ {D U B : Type 0} (disk : Ghosts D) (disk_of : U → D) (size_of : U →
       broke_on bytes runs.DiskFault has = (has.0, failed_on _ has.1)
       broke_on bytes (runs.Script line) has = (has.0, rests_on _ _ has.1)
       broke_on bytes runs.Io has = (has.0, stopped_on _ _ has.1)
+
+-- a refusal of a run over uploads is one of the run over their disk
+same_refusal : {D U : Type 0} {a b v w : ℕ} (store : U) (d : D) (fault : ScriptFault)
+    → CountsEither (HasRefused (Err (store, fault))) a b v w
+    → CountsEither (HasRefusedOn (Err (d, run_fault fault))) a b v w
+same_refusal store d runs.NoMemory c = c
+same_refusal store d runs.DiskFault c = c
+same_refusal store d (runs.Script line) c = c
+same_refusal store d runs.Io c = c
+
+pub refused_on : {D U : Type 0} {a b v w : ℕ} (store : U) (d : D) (fault : ScriptFault) (told : RunFault)
+    → told ≡ run_fault fault → CountsEither (HasRefused (Err (store, fault))) a b v w
+    → CountsEither (HasRefusedOn (Err (d, told))) a b v w
+refused_on {a = a} {b = b} {v = v} {w = w} store d fault told is c =
+    subst (λ f. CountsEither (HasRefusedOn (Err (d, f))) a b v w) (sym is) (same_refusal store d fault c)
 
 -- THE DISK WASN'T OPENED
 pub refused_as : {T U : Type 0} (done : T → Type 0) (done' : U → Type 0) (fault : OpenFault) → LoadsAs {T = T} (Err fault) done

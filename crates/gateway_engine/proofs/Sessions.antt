@@ -1,11 +1,11 @@
 -- A session's calls as those of connections.
-use Rattle.std.proofs.Common.{◌≡◌, Bool, true, false, ℕ, List, [], Option, Some, None, Result, Ok, Err, refl, sym, subst, ap, ◌∙◌, append-nil, nat_lt, if◌then◌else◌}
+use Rattle.std.proofs.Common.{◌≡◌, Bool, true, false, ℕ, List, [], Option, Some, None, Result, Ok, Err, refl, sym, subst, ap, nat_lt, if◌then◌else◌}
 use Rattle.std.specs.Prelude.{IsErrOf}
 use Rattle.upload_rules.specs.declared.uploads.Uploads.{Ghosts}
 use Rattle.upload_rules.specs.Store.{Store}
 use Rattle.upload_rules.specs.Answers.{Limits}
 use Rattle.tus_session.specs.Turns.{Conn, fresh}
-use Rattle.tus_session.specs.History.{State, Event, Opened, Came, More, Ended, Served, Failed, Done, Refused, Step, step, put, kept, opened_at, came_at, more_at, ended_at}
+use Rattle.tus_session.specs.History.{State, Event, Opened, Came, More, Ended, Served, Done, Refused, Step, step, put, kept, opened_at, came_at, more_at, ended_at}
 use Rattle.tus_session.specs.Stands.{SessionStands}
 use Rattle.tus_session.specs.Told as told
 use Rattle.tus_session.specs.Told.{Told, Opens}

@@ -1,5 +1,5 @@
 -- What a run of a script comes to.
-use Rattle.std.specs.Prelude.{◌≡◌, ℕ, List, Option, Some, None, Result, Ok, Err}
+use Rattle.std.specs.Prelude.{◌≡◌, ◌⊎◌, ◌<◌, ◌≤◌, ◌+◌, ◌^◌, ℕ, List, Option, Result, Ok, Err}
 use Rattle.std.specs.Io.KnownBytes.{Appends}
 use Rattle.upload_rules.specs.World.{at_rest}
 use Rattle.upload_rules.specs.declared.uploads.Uploads.{Ghosts}
@@ -67,3 +67,19 @@ HasFailed result = ⊥
 abbrev pub store_of : {U : Type 0} → Result U (U × ScriptFault) → U
 store_of (Ok store) = store
 store_of (Err (store, fault)) = store
+
+-- THE READER AND THE WRITER: one of them refused
+abbrev pub HasRefused : {U : Type 0} → Result U (U × ScriptFault) → Type 0
+HasRefused (Err (store, Io)) = Unit {0}
+HasRefused result = ⊥
+
+-- a refusal was counted, or the count was full
+abbrev pub IsCounted : ℕ → ℕ → Type 0
+IsCounted before now = (before < now) ⊎ (2 ^ 64 ≤ before + 1)
+
+-- a refusal of the reader or of the writer is counted by the one that refused, and nothing else is
+pub record CountsEither (refused : Type 0) (read read' written written' : ℕ) : Type 0 where
+  pub reader_later : read ≤ read'
+  pub writer_later : written ≤ written'
+  pub counted : refused → IsCounted read read' ⊎ IsCounted written written'
+  pub nothing_else : (read < read') ⊎ (written < written') → refused

@@ -105,6 +105,11 @@ HasFailedOn (Err (d, DiskFault)) = Unit {0}
 HasFailedOn (Err (d, Open opens.DiskFault)) = Unit {0}
 HasFailedOn result = ⊥
 
+-- the reader or the writer refused
+abbrev pub HasRefusedOn : {D : Type 0} → Result D (D × RunFault) → Type 0
+HasRefusedOn (Err (d, Io)) = Unit {0}
+HasRefusedOn result = ⊥
+
 -- where the disk wasn't opened, this holds
 abbrev pub Unopened : {D : Type 0} → Result D (D × RunFault) → Type 0 → Type 0
 Unopened (Err (d, Open fault)) same = same

@@ -16,7 +16,7 @@ pub enum RunFault {
     DiskFault,
     /// The line of this number, counted from 1, is no line of a script, or it or the script is too long.
     Script(u64),
-    /// The reader or the writer failed, or the writer took nothing.
+    /// The reader or the writer refused.
     Io,
 }
 

@@ -8,6 +8,8 @@ mod spools;
 
 pub use faults::RunFault;
 pub use gateway::Gateway;
-pub use gateway_script::{CallFault, Connections, ScriptFault};
+pub use gateway_script::{
+    CallFault, Connections, Counted, CountedRead, CountedWrite, Refused, ScriptFault,
+};
 pub use scripts::run_over;
 pub use spools::run;

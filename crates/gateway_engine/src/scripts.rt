@@ -5,12 +5,11 @@ ghost use Rattle.upload_rules.specs.World.{at_rest};
 ghost use Rattle.upload_rules.specs.Answers.{Counts};
 ghost use Rattle.tus_session.specs.History.{beginning};
 ghost use Rattle.gateway_script.specs.Script.{IsScript};
-ghost use Rattle.gateway_engine.specs.Ran.{HasRun, HasFailed, store_of};
+ghost use Rattle.gateway_engine.specs.Ran.{HasRun, HasFailed, HasRefused, CountsEither, store_of};
 
 use crate::gateway::Gateway;
-use gateway_script::{ScriptFault, read_script, run_script};
+use gateway_script::{CountedRead, CountedWrite, ScriptFault, read_script, run_script};
 use std::alloc::Global;
-use std::io::{Read, Write};
 use upload_rules::Uploads;
 
 /// Runs a script from `reader` over uploads, and writes to `writer` what its calls give. The uploads are handed back, with no draft open.
@@ -19,7 +18,7 @@ use upload_rules::Uploads;
 ///
 /// Refused with `NoMemory` where a growth outside the calls was refused, `DiskFault`, `Script` of the first line that is none or too long, and `Io`.
 /// What was committed and written before stands.
-pub fn run_over<U: Uploads, R: Read, W: Write>(
+pub fn run_over<U: Uploads, R: CountedRead, W: CountedWrite>(
     alloc: Global,
     reader: &mut R,
     writer: &mut W,
@@ -30,6 +29,10 @@ pub fn run_over<U: Uploads, R: Read, W: Write>(
         → (script : List ℕ) × IsScript (R.remaining reader.old) script
         × HasRun U.Uploads store result (W.contents writer.new) (W.contents writer.old) (beginning m blocks) script }
     ensures counts { Counts (HasFailed result) (U.failures store) (U.failures (store_of result)) }
+
+    // `Io` exactly where the reader or the writer refused a call.
+    ensures io { CountsEither (HasRefused result) (R.refusals reader.old) (R.refusals reader.new)
+        (W.refusals writer.old) (W.refusals writer.new) }
 {
     let script = match read_script(alloc, reader) {
         Ok(script) => script,

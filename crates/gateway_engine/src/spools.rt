@@ -9,15 +9,16 @@ ghost use Rattle.upload_rules.specs.Answers.{Quiet};
 ghost use Rattle.tus_session.specs.History.{State, beginning};
 ghost use Rattle.gateway_engine.specs.Gateways.{GatewayStands, disk_in, size_in, disk_after};
 ghost use Rattle.gateway_script.specs.Script.{IsScript};
-ghost use Rattle.gateway_engine.specs.RanOn.{HasRunOn, HasFailedOn, Unopened, disk_back};
+ghost use Rattle.gateway_engine.specs.Ran.{CountsEither};
+ghost use Rattle.gateway_engine.specs.RanOn.{HasRunOn, HasFailedOn, HasRefusedOn, Unopened, disk_back};
 
 use crate::faults::RunFault;
 use crate::gateway::Gateway;
 use crate::scripts::run_over;
+use gateway_script::{CountedRead, CountedWrite};
 use spool_disk::Disk;
 use spool_image::{OpenFault, Spool};
 use std::alloc::Global;
-use std::io::{Read, Write};
 use upload_rules::Uploads;
 
 impl<D: Disk> Gateway<Spool<D>> {
@@ -67,7 +68,7 @@ impl<D: Disk> Gateway<Spool<D>> {
 ///
 /// Refused with `Open` where the disk isn't opened, then with `NoMemory` where a growth outside the calls was refused, `DiskFault`, `Script` of the
 /// first line that is none or too long, and `Io`. What was committed and written before stands.
-pub fn run<D: Disk, R: Read, W: Write>(
+pub fn run<D: Disk, R: CountedRead, W: CountedWrite>(
     alloc: Global,
     reader: &mut R,
     writer: &mut W,
@@ -81,6 +82,10 @@ pub fn run<D: Disk, R: Read, W: Write>(
     // A disk that isn't opened: nothing is read and nothing written.
     ensures unopened { Unopened result ((R.remaining reader.new ≡ R.remaining reader.old) × (W.contents writer.new ≡ W.contents writer.old)) }
     ensures counts { Counts (HasFailedOn result) (D.failures disk) (D.failures (disk_back result)) }
+
+    // `Io` exactly where the reader or the writer refused a call.
+    ensures io { CountsEither (HasRefusedOn result) (R.refusals reader.old) (R.refusals reader.new)
+        (W.refusals writer.old) (W.refusals writer.new) }
 {
     let spool = match Spool::open(alloc, disk) {
         Ok(spool) => spool,

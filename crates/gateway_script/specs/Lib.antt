@@ -6,3 +6,4 @@ pub mod Connections
 pub mod Shown
 pub mod Runs
 pub mod Outputs
+pub mod Counted

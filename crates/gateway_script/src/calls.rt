@@ -8,19 +8,20 @@ ghost use Rattle.gateway_script.specs.Runs.{view, IsAt, Went, Refuses, Called, T
 
 use crate::connections::Connections;
 use crate::faults::CallFault;
+use crate::streams::CountedWrite;
 use crate::writing::{report, report_refusal, write_out};
 use std::alloc::Global;
-use std::io::Write;
 use tus_session::{Answer, SessionError};
 
 /// A refusal is written. The device's fault ends the run.
-pub(crate) fn refused<W: Write>(
+pub(crate) fn refused<W: CountedWrite>(
     alloc: Global,
     writer: &mut W,
     conn: usize,
     error: SessionError,
 ) -> Result<(), CallFault>
-    ensures { Refuses (W.contents writer.old) (W.contents writer.new) result conn error }
+    ensures refuses { Refuses (W.contents writer.old) (W.contents writer.new) result conn error }
+    ensures io { Counts (IsErrOf result CallFault.Io) (W.refusals writer.old) (W.refusals writer.new) }
 {
     let number = match error {
         SessionError::NoMemory => 0,
@@ -34,14 +35,15 @@ pub(crate) fn refused<W: Write>(
 }
 
 /// What a call gave is written.
-fn tell<W: Write>(
+fn tell<W: CountedWrite>(
     alloc: Global,
     writer: &mut W,
     conn: usize,
     bytes: &[u8],
     closes: bool,
 ) -> Result<(), CallFault>
-    ensures { Tells (W.contents writer.old) (W.contents writer.new) result conn bytes.now closes }
+    ensures tells { Tells (W.contents writer.old) (W.contents writer.new) result conn bytes.now closes }
+    ensures io { Counts (IsErrOf result CallFault.Io) (W.refusals writer.old) (W.refusals writer.new) }
 {
     let mut out = Vec::new(alloc);
     report(alloc, conn, bytes, closes, &mut out)?;
@@ -49,7 +51,7 @@ fn tell<W: Write>(
 }
 
 /// Opens a connection.
-pub(crate) fn open<C: Connections, W: Write>(
+pub(crate) fn open<C: Connections, W: CountedWrite>(
     alloc: Global,
     core: &mut C,
     writer: &mut W,
@@ -58,6 +60,7 @@ pub(crate) fn open<C: Connections, W: Write>(
     ensures does { (before : C) (st : State) (r : Run) (front : Option (List ℕ)) → IsAt (view C.Connections before core.old st (W.contents writer.old) front) r
         → Went (view C.Connections before core.new st (W.contents writer.new) front) result (λ x. (call x conn (Opened conn)).run) r }
     ensures counts { Counts (IsErrOf result CallFault.DiskFault) (C.failures core.old) (C.failures core.new) }
+    ensures io { Counts (IsErrOf result CallFault.Io) (W.refusals writer.old) (W.refusals writer.new) }
 {
     match core.opened(conn) {
         Ok(()) => Ok(()),
@@ -66,7 +69,7 @@ pub(crate) fn open<C: Connections, W: Write>(
 }
 
 /// Cuts a connection.
-pub(crate) fn cut<C: Connections, W: Write>(
+pub(crate) fn cut<C: Connections, W: CountedWrite>(
     alloc: Global,
     core: &mut C,
     writer: &mut W,
@@ -75,6 +78,7 @@ pub(crate) fn cut<C: Connections, W: Write>(
     ensures does { (before : C) (st : State) (r : Run) (front : Option (List ℕ)) → IsAt (view C.Connections before core.old st (W.contents writer.old) front) r
         → Went (view C.Connections before core.new st (W.contents writer.new) front) result (λ x. (call x conn (Ended conn)).run) r }
     ensures counts { Counts (IsErrOf result CallFault.DiskFault) (C.failures core.old) (C.failures core.new) }
+    ensures io { Counts (IsErrOf result CallFault.Io) (W.refusals writer.old) (W.refusals writer.new) }
 {
     match core.ended(conn) {
         Ok(()) => Ok(()),
@@ -83,7 +87,7 @@ pub(crate) fn cut<C: Connections, W: Write>(
 }
 
 /// Gives bytes to a connection.
-pub(crate) fn came<C: Connections, W: Write>(
+pub(crate) fn came<C: Connections, W: CountedWrite>(
     alloc: Global,
     core: &mut C,
     writer: &mut W,
@@ -93,6 +97,7 @@ pub(crate) fn came<C: Connections, W: Write>(
     ensures does { (before : C) (st : State) (r : Run) (front : Option (List ℕ)) → IsAt (view C.Connections before core.old st (W.contents writer.old) front) r
         → Called (view C.Connections before core.new st (W.contents writer.new) front) result conn (Came conn bytes.now) r }
     ensures counts { Counts (IsErrOf result CallFault.DiskFault) (C.failures core.old) (C.failures core.new) }
+    ensures io { Counts (IsErrOf result CallFault.Io) (W.refusals writer.old) (W.refusals writer.new) }
 {
     let mut out = Vec::new(alloc);
     match core.came(conn, bytes, &mut out) {
@@ -108,7 +113,7 @@ pub(crate) fn came<C: Connections, W: Write>(
 }
 
 /// Asks a connection for the next piece of a text.
-pub(crate) fn more<C: Connections, W: Write>(
+pub(crate) fn more<C: Connections, W: CountedWrite>(
     alloc: Global,
     core: &mut C,
     writer: &mut W,
@@ -117,6 +122,7 @@ pub(crate) fn more<C: Connections, W: Write>(
     ensures does { (before : C) (st : State) (r : Run) (front : Option (List ℕ)) → IsAt (view C.Connections before core.old st (W.contents writer.old) front) r
         → Called (view C.Connections before core.new st (W.contents writer.new) front) result conn (More conn) r }
     ensures counts { Counts (IsErrOf result CallFault.DiskFault) (C.failures core.old) (C.failures core.new) }
+    ensures io { Counts (IsErrOf result CallFault.Io) (W.refusals writer.old) (W.refusals writer.new) }
 {
     let mut out = Vec::new(alloc);
     match core.more(conn, &mut out) {

@@ -2,6 +2,7 @@
 ghost use Rattle.std.specs.Prelude.{◌≡◌};
 ghost use Rattle.gateway_script.specs.Faults.{script_fault};
 
+use crate::streams::Refused;
 use std::alloc::AllocError;
 
 /// Why a call of a script's line isn't done.
@@ -11,7 +12,7 @@ pub enum CallFault {
     NoMemory,
     /// The device failed.
     DiskFault,
-    /// The writer failed, or took nothing.
+    /// The writer refused.
     Io,
 }
 
@@ -24,7 +25,7 @@ pub enum ScriptFault {
     DiskFault,
     /// The line of this number, counted from 1, is no line of a script, or it or the script is too long.
     Script(u64),
-    /// The reader or the writer failed, or the writer took nothing.
+    /// The reader or the writer refused.
     Io,
 }
 
@@ -35,6 +36,16 @@ impl From<AllocError> for CallFault {
 
     fn from(_error: AllocError) -> CallFault {
         CallFault::NoMemory
+    }
+}
+
+impl From<Refused> for ScriptFault {
+    ghost use Rattle.gateway_script.specs.declared.faults.ScriptFault.{ScriptFault};
+
+    ghost from_gives = { λ _ fault. fault ≡ ScriptFault.Io };
+
+    fn from(_refused: Refused) -> ScriptFault {
+        ScriptFault::Io
     }
 }
 

@@ -8,9 +8,11 @@ mod lines;
 mod orders;
 mod runs;
 mod scripts;
+mod streams;
 mod writing;
 
 pub use connections::Connections;
 pub use faults::{CallFault, ScriptFault};
 pub use runs::run_script;
 pub use scripts::read_script;
+pub use streams::{Counted, CountedRead, CountedWrite, Refused};

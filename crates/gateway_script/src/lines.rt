@@ -8,8 +8,8 @@ ghost use Rattle.gateway_script.specs.Runs.{view, IsAt, Went, Flowed, GivenOnce,
 use crate::calls::{came, more};
 use crate::connections::Connections;
 use crate::faults::CallFault;
+use crate::streams::CountedWrite;
 use std::alloc::Global;
-use std::io::Write;
 use tus_session::Answer;
 
 /// Whether the line goes on behind an answer, where no text is still to be given.
@@ -25,7 +25,7 @@ fn goes_on(answer: Option<Answer>) -> Option<bool>
 }
 
 /// A text that is still to be given is given. Whether the line's bytes go on.
-fn give_text<C: Connections, W: Write>(
+fn give_text<C: Connections, W: CountedWrite>(
     alloc: Global,
     core: &mut C,
     writer: &mut W,
@@ -34,6 +34,7 @@ fn give_text<C: Connections, W: Write>(
     ensures does { (before : C) (st : State) (r : Run) (front : Option (List ℕ)) → IsAt (view C.Connections before core.old st (W.contents writer.old) front) r
         → Flowed (view C.Connections before core.new st (W.contents writer.new) front) result (mores most_calls conn) r }
     ensures counts { Counts (IsErrOf result CallFault.DiskFault) (C.failures core.old) (C.failures core.new) }
+    ensures io { Counts (IsErrOf result CallFault.Io) (W.refusals writer.old) (W.refusals writer.new) }
 {
     let mut left = u64::MAX;
     while left > 0 {
@@ -47,7 +48,7 @@ fn give_text<C: Connections, W: Write>(
 }
 
 /// Whether the line's bytes go on behind an answer: a text that is still to be given is given.
-fn go_on<C: Connections, W: Write>(
+fn go_on<C: Connections, W: CountedWrite>(
     alloc: Global,
     core: &mut C,
     writer: &mut W,
@@ -58,6 +59,7 @@ fn go_on<C: Connections, W: Write>(
         → Flowed (view C.Connections before core.new st (W.contents writer.new) front) result
         (λ x. mores_after (mores most_calls conn) (record { run = x; outcome = Gave given answer.taken answer.closes answer.more })) r }
     ensures counts { Counts (IsErrOf result CallFault.DiskFault) (C.failures core.old) (C.failures core.new) }
+    ensures io { Counts (IsErrOf result CallFault.Io) (W.refusals writer.old) (W.refusals writer.new) }
 {
     match goes_on(Some(answer)) {
         Some(on) => Ok(on),
@@ -66,7 +68,7 @@ fn go_on<C: Connections, W: Write>(
 }
 
 /// One call with bytes of a line, and what follows it. How many bytes were taken, where the line goes on.
-fn give_once<C: Connections, W: Write>(
+fn give_once<C: Connections, W: CountedWrite>(
     alloc: Global,
     core: &mut C,
     writer: &mut W,
@@ -76,6 +78,7 @@ fn give_once<C: Connections, W: Write>(
     ensures does { (before : C) (st : State) (r : Run) (front : Option (List ℕ)) (k : ℕ) → (bytes.now ≡ [] → ⊥) → IsAt (view C.Connections before core.old st (W.contents writer.old) front) r
         → GivenOnce (view C.Connections before core.new st (W.contents writer.new) front) result k conn bytes.now r }
     ensures counts { Counts (IsErrOf result CallFault.DiskFault) (C.failures core.old) (C.failures core.new) }
+    ensures io { Counts (IsErrOf result CallFault.Io) (W.refusals writer.old) (W.refusals writer.new) }
 {
     let Some(answer) = came(alloc, core, writer, conn, bytes)? else {
         return Ok(None);
@@ -98,7 +101,7 @@ fn untaken(bytes: &[u8], taken: usize) -> &[u8]
 }
 
 /// Gives a line's bytes to a connection until all are taken. A connection that closes or refuses drops the rest.
-pub(crate) fn give<C: Connections, W: Write>(
+pub(crate) fn give<C: Connections, W: CountedWrite>(
     alloc: Global,
     core: &mut C,
     writer: &mut W,
@@ -108,6 +111,7 @@ pub(crate) fn give<C: Connections, W: Write>(
     ensures does { (before : C) (st : State) (r : Run) (front : Option (List ℕ)) → IsAt (view C.Connections before core.old st (W.contents writer.old) front) r
         → Went (view C.Connections before core.new st (W.contents writer.new) front) result (give_within (length bytes.now) conn bytes.now) r }
     ensures counts { Counts (IsErrOf result CallFault.DiskFault) (C.failures core.old) (C.failures core.new) }
+    ensures io { Counts (IsErrOf result CallFault.Io) (W.refusals writer.old) (W.refusals writer.new) }
 {
     let mut rest = bytes;
     let mut left = bytes.len();

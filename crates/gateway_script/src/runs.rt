@@ -12,8 +12,8 @@ use crate::connections::Connections;
 use crate::faults::{CallFault, ScriptFault};
 use crate::lines::give;
 use crate::orders::{Order, read_order};
+use crate::streams::CountedWrite;
 use std::alloc::Global;
-use std::io::Write;
 use tus_request::texts::{behind, front};
 use tus_session::SessionError;
 
@@ -24,7 +24,7 @@ const MAX_LINE: usize = 65536;
 const MAX_SCRIPT: u64 = 1_073_741_824;
 
 /// Does what a line asks for.
-fn obey<C: Connections, W: Write>(
+fn obey<C: Connections, W: CountedWrite>(
     alloc: Global,
     core: &mut C,
     writer: &mut W,
@@ -33,6 +33,7 @@ fn obey<C: Connections, W: Write>(
     ensures does { (before : C) (st : State) (r : Run) (front : Option (List ℕ)) → IsAt (view C.Connections before core.old st (W.contents writer.old) front) r
         → Went (view C.Connections before core.new st (W.contents writer.new) front) result (obeyed (order_shown order.now)) r }
     ensures counts { Counts (IsErrOf result CallFault.DiskFault) (C.failures core.old) (C.failures core.new) }
+    ensures io { Counts (IsErrOf result CallFault.Io) (W.refusals writer.old) (W.refusals writer.new) }
 {
     match order {
         Order::Skip | Order::Bad => Ok(()),
@@ -43,7 +44,7 @@ fn obey<C: Connections, W: Write>(
 }
 
 /// Cuts a connection if it is open.
-fn cut_open<C: Connections, W: Write>(
+fn cut_open<C: Connections, W: CountedWrite>(
     alloc: Global,
     core: &mut C,
     writer: &mut W,
@@ -52,6 +53,7 @@ fn cut_open<C: Connections, W: Write>(
     ensures does { (before : C) (st : State) (r : Run) (front : Option (List ℕ)) (k : ℕ) → IsAt (view C.Connections before core.old st (W.contents writer.old) front) r
         → CutOne (view C.Connections before core.new st (W.contents writer.new) front) result k conn r }
     ensures counts { Counts (IsErrOf result CallFault.DiskFault) (C.failures core.old) (C.failures core.new) }
+    ensures io { Counts (IsErrOf result CallFault.Io) (W.refusals writer.old) (W.refusals writer.new) }
 {
     match core.ended(conn) {
         Ok(()) => Ok(()),
@@ -86,7 +88,7 @@ fn is_no_order(order: &Order) -> bool
 }
 
 /// Runs a line of this number, which begins at this byte of the script and has its LF.
-fn run_line<C: Connections, W: Write>(
+fn run_line<C: Connections, W: CountedWrite>(
     alloc: Global,
     core: &mut C,
     writer: &mut W,
@@ -97,6 +99,7 @@ fn run_line<C: Connections, W: Write>(
     ensures does { (before : C) (st : State) (r : Run) (front : Option (List ℕ)) (lines : List (List ℕ)) → IsAt (view C.Connections before core.old st (W.contents writer.old) front) r
         → LineRan (view C.Connections before core.new st (W.contents writer.new) front) result number start line.now lines r }
     ensures counts { Counts (IsErrOf result ScriptFault.DiskFault) (C.failures core.old) (C.failures core.new) }
+    ensures io { Counts (IsErrOf result ScriptFault.Io) (W.refusals writer.old) (W.refusals writer.new) }
 {
     if too_long(start, line) {
         return Err(ScriptFault::Script(number));
@@ -110,7 +113,7 @@ fn run_line<C: Connections, W: Write>(
 }
 
 /// Cuts the open connections, in order.
-fn cut_all<C: Connections, W: Write>(
+fn cut_all<C: Connections, W: CountedWrite>(
     alloc: Global,
     core: &mut C,
     writer: &mut W,
@@ -118,6 +121,7 @@ fn cut_all<C: Connections, W: Write>(
     ensures does { (before : C) (st : State) (r : Run) (front : Option (List ℕ)) → IsAt (view C.Connections before core.old st (W.contents writer.old) front) r
         → Went (view C.Connections before core.new st (W.contents writer.new) front) result (cut_from 16 0) r }
     ensures counts { Counts (IsErrOf result CallFault.DiskFault) (C.failures core.old) (C.failures core.new) }
+    ensures io { Counts (IsErrOf result CallFault.Io) (W.refusals writer.old) (W.refusals writer.new) }
 {
     let mut left = 16;
     while left > 0 {
@@ -128,7 +132,7 @@ fn cut_all<C: Connections, W: Write>(
 }
 
 /// Runs the lines of a script, and cuts the connections that are open at its end.
-pub fn run_script<C: Connections, W: Write>(
+pub fn run_script<C: Connections, W: CountedWrite>(
     alloc: Global,
     core: &mut C,
     writer: &mut W,
@@ -137,6 +141,7 @@ pub fn run_script<C: Connections, W: Write>(
     ensures does { (before : C) (st : State) (r : Run) (front : Option (List ℕ)) → IsAt (view C.Connections before core.old st (W.contents writer.old) front) r
         → Ends (view C.Connections before core.new st (W.contents writer.new) front) result (run_lines 1 0 (script_lines script.now)) r }
     ensures counts { Counts (IsErrOf result ScriptFault.DiskFault) (C.failures core.old) (C.failures core.new) }
+    ensures io { Counts (IsErrOf result ScriptFault.Io) (W.refusals writer.old) (W.refusals writer.new) }
 {
     let mut rest = script;
     let mut number = 1;

@@ -1,25 +1,27 @@
 //! What a script's run writes.
 ghost use Rattle.std.specs.Prelude.{◌≡◌, ◌++◌, OnOk, OnErr, IsErrOf, ◌⊎◌};
 ghost use Rattle.std.specs.Io.KnownBytes.{Appends};
+ghost use Rattle.upload_rules.specs.Answers.{Counts};
 ghost use Rattle.tus_session.specs.Faults.{error_number};
 ghost use Rattle.gateway_script.specs.Script.{written_bytes, written_close, written_refusal};
 ghost use Rattle.gateway_script.specs.Outputs.{IsWriteFault, AppendsPart, count_line, refusal_bytes};
 
 use crate::faults::CallFault;
+use crate::streams::{CountedWrite, Refused};
 use std::alloc::{AllocError, Global};
-use std::io::Write;
 use tus_session::SessionError;
 
-/// Writes all of the bytes: a write of none is a fault.
-pub(crate) fn write_out<W: Write>(writer: &mut W, bytes: &[u8]) -> Result<(), CallFault>
+/// Writes all of the bytes.
+pub(crate) fn write_out<W: CountedWrite>(writer: &mut W, bytes: &[u8]) -> Result<(), CallFault>
     ensures ok { OnOk result (Appends (W.contents writer.old) (W.contents writer.new) bytes.now) }
     ensures err { IsWriteFault result (AppendsPart (W.contents writer.old) (W.contents writer.new) bytes.now) }
+    ensures io { Counts (IsErrOf result CallFault.Io) (W.refusals writer.old) (W.refusals writer.new) }
 {
     let mut rest = bytes;
     while !rest.is_empty() {
-        match writer.write(rest) {
-            Ok(count) if count > 0 => rest = &rest[count..],
-            _ => return Err(CallFault::Io),
+        match writer.write_piece(rest) {
+            Ok(count) => rest = &rest[count..],
+            Err(Refused) => return Err(CallFault::Io),
         }
     }
     Ok(())

@@ -7,21 +7,24 @@ use Rattle.gateway_script.specs.Images.{stores_of}
 use Rattle.gateway_script.specs.Runs.{view, IsAt, Ends}
 use Rattle.gateway_engine.specs.Ran.{HasRun}
 use Rattle.gateway_script.specs.declared.faults.ScriptFault.TheVariants as runs
-use Rattle.gateway_engine.proofs.Exits.{begins, ran, stopped, unbegun, some_script, counts_nothing, shows_since, shows_through, last_through}
+use Rattle.gateway_script.proofs.Counting.{uncounted}
+use Rattle.gateway_engine.proofs.Exits.{begins, ran, stopped, unbegun, some_script, shows_since, shows_through, last_through}
+use Rattle.gateway_engine.proofs.Exits.{counts_nothing, reader_counts, none_counts, writer_counts}
 use Rattle.gateway_engine.proofs.scripts.run_over.Goals as goal
 
 pub returns-in-Err : goal.returns-in-Err
 returns-in-Err g c = record {
   output = λ m blocks stands.
-      let script = some_script (g.R.Read.remaining c.args.reader.now) in
-      (script.0, script.1, unbegun g.U.Uploads c.args.store (g.W.Write.contents c.args.writer.now) (beginning m blocks) script.0 stands (λ ms among. g.met.U.Uploads.durable c.args.store (at_rest m blocks) ms stands among) c.in-Err.fault c.in-Err.ensures.err);
+      let script = some_script (g.R.CountedRead.remaining c.args.reader.now) in
+      (script.0, script.1, unbegun g.U.Uploads c.args.store (g.W.CountedWrite.contents c.args.writer.now) (beginning m blocks) script.0 stands (λ ms among. g.met.U.Uploads.durable c.args.store (at_rest m blocks) ms stands among) c.in-Err.fault c.in-Err.ensures.err);
   counts = counts_nothing (g.U.Uploads.failures c.args.store) c.args.store c.in-Err.fault c.in-Err.ensures.err;
+  io = reader_counts c.args.store c.in-Err.fault c.in-Err.ensures.io;
 }
 
 pub returns-in-Err-new-clause-output : goal.returns-in-Err-new-clause-output
 returns-in-Err-new-clause-output g c = λ m blocks stands.
     let st = beginning m blocks in
-    let held = g.W.Write.contents c.args.writer.now in
+    let held = g.W.CountedWrite.contents c.args.writer.now in
     let script = c.in-Ok.script.items in (
       script,
       c.in-Ok.ensures.ok,
@@ -32,14 +35,14 @@ returns-in-Err-new-clause-output g c = λ m blocks stands.
 pub returns-in-Ok-run_script-clause-output : goal.returns-in-Ok-run_script-clause-output
 returns-in-Ok-run_script-clause-output g c = λ m blocks stands.
     let script = c.in-Ok.script.items in
-    let front = g.W.Write.contents c.args.writer.now in
+    let front = g.W.CountedWrite.contents c.args.writer.now in
     let u = g.U.Uploads in
     let st = beginning m blocks in
     let gateway = c.in-Ok-new.gateway in
     let now = c.run_script.new.core in
     let w = view (as_connections u) gateway gateway st front front in
     let at : IsAt w (run_from st []) = begins w refl (c.in-Ok-new.ensures.ok m blocks stands) refl in
-    let v = view (as_connections u) gateway now st (g.W.Write.contents c.run_script.new.writer) front in (
+    let v = view (as_connections u) gateway now st (g.W.CountedWrite.contents c.run_script.new.writer) front in (
       script,
       c.in-Ok.ensures.ok,
       ran u v c.args.store c.close.result script (λ s is. c.close.ensures.kept s is)
@@ -52,7 +55,7 @@ returns-in-Ok-run_script-clause-output g c = λ m blocks stands.
 pub returns-clause-output : goal.returns-clause-output
 returns-clause-output g c = λ m blocks stands.
     let script = c.in-Ok.script.items in
-    let front = g.W.Write.contents c.args.writer.now in
+    let front = g.W.CountedWrite.contents c.args.writer.now in
     let u = g.U.Uploads in
     let st = beginning m blocks in
     let gateway = c.in-Ok-new.gateway in
@@ -60,7 +63,7 @@ returns-clause-output g c = λ m blocks stands.
     let fault = c.in-Err-run_script.fault in
     let w = view (as_connections u) gateway gateway st front front in
     let at : IsAt w (run_from st []) = begins w refl (c.in-Ok-new.ensures.ok m blocks stands) refl in
-    let v = view (as_connections u) gateway now st (g.W.Write.contents c.run_script.new.writer) front in
+    let v = view (as_connections u) gateway now st (g.W.CountedWrite.contents c.run_script.new.writer) front in
     let back = c.close-in-Err-run_script.result in (
       script,
       c.in-Ok.ensures.ok,
@@ -70,3 +73,17 @@ returns-clause-output g c = λ m blocks stands.
           (λ past last. last_through u (store_of now) back st past c.close-in-Err-run_script.ensures.crash last)
           fault (subst (λ b. Ends v (Err fault) (run_lines 1 0 (script_lines b)) (run_from st [])) c.deref.ensures.value (c.in-Err-run_script.ensures.does gateway st (run_from st []) front at)),
     )
+
+pub returns-in-Err-new-clause-io : goal.returns-in-Err-new-clause-io
+returns-in-Err-new-clause-io g c =
+    none_counts (uncounted (λ fails. absurd (cc)) c.in-Ok.ensures.io) refl
+
+pub returns-in-Ok-run_script-clause-io : goal.returns-in-Ok-run_script-clause-io
+returns-in-Ok-run_script-clause-io g c =
+    none_counts (uncounted (λ fails. absurd (cc)) c.in-Ok.ensures.io)
+    (uncounted (λ fails. absurd (cc)) c.in-Ok-run_script.ensures.io)
+
+pub returns-clause-io : goal.returns-clause-io
+returns-clause-io g c =
+    writer_counts c.close-in-Err-run_script.result c.in-Err-run_script.fault
+    (uncounted (λ fails. absurd (cc)) c.in-Ok.ensures.io) c.in-Err-run_script.ensures.io

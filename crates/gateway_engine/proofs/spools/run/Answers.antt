@@ -7,16 +7,16 @@ use Rattle.tus_session.specs.History.{beginning}
 use Rattle.gateway_engine.specs.Faults.{run_fault}
 use Rattle.gateway_engine.specs.RanOn.{HasRunOn}
 use Rattle.gateway_engine.proofs.Exits.{some_script}
-use Rattle.gateway_engine.proofs.OnDisk.{all_show, unopened_on, ran_on, broke_on, view_room}
+use Rattle.gateway_engine.proofs.OnDisk.{all_show, unopened_on, ran_on, broke_on, refused_on, view_room}
 use Rattle.gateway_engine.proofs.spools.run.Goals as goal
 
 pub returns-in-Err-clause-runs : goal.returns-in-Err-clause-runs
 returns-in-Err-clause-runs g c n m is =
-    let script = some_script (g.R.Read.remaining c.args.reader.now) in (
+    let script = some_script (g.R.CountedRead.remaining c.args.reader.now) in (
       script.0,
       script.1,
-      unopened_on _ _ g.D.Disk c.args.disk c.in-Err.disk c.in-Err.fault (g.W.Write.contents c.args.writer.now)
-          (g.W.Write.contents c.args.writer.now) n m script.0
+      unopened_on _ _ g.D.Disk c.args.disk c.in-Err.disk c.in-Err.fault (g.W.CountedWrite.contents c.args.writer.now)
+          (g.W.CountedWrite.contents c.args.writer.now) n m script.0
           (c.in-Err.ensures.opened is.honest is.shows.view is.shows.shows.sound is.shows.is (view_room g.D.Disk c.args.disk n m is))
           (record {
             honest = c.in-Err.ensures.honest.0 is.honest;
@@ -30,8 +30,8 @@ returns-in-Ok-run_over-clause-runs g c n m is =
     let disk = c.args.disk in
     let opened = c.in-Ok.spool in
     let now = c.in-Ok-run_over.spool in
-    let held = g.W.Write.contents c.run_over.new.writer in
-    let front = g.W.Write.contents c.args.writer.now in
+    let held = g.W.CountedWrite.contents c.run_over.new.writer in
+    let front = g.W.CountedWrite.contents c.args.writer.now in
     let stands = c.in-Ok.ensures.stands n m is in
     let has = c.in-Ok-run_over.ensures.output m (Some n) stands in (
       has.0,
@@ -56,8 +56,8 @@ returns-in-Err-run_over-clause-runs g c n m is =
     let opened = c.in-Ok.spool in
     let now = c.in-Err-run_over.spool in
     let fault = c.in-Err-run_over.fault in
-    let held = g.W.Write.contents c.run_over.new.writer in
-    let front = g.W.Write.contents c.args.writer.now in
+    let held = g.W.CountedWrite.contents c.run_over.new.writer in
+    let front = g.W.CountedWrite.contents c.args.writer.now in
     let stands = c.in-Ok.ensures.stands n m is in
     let has = c.in-Err-run_over.ensures.output m (Some n) stands in (
       has.0,
@@ -77,3 +77,8 @@ returns-in-Err-run_over-clause-runs g c n m is =
           (at_rest st.world.store st.world.blocks) (st.world.store ∷ []) rests (inl refl)).1)
           held front has.0 fault has.2)),
     )
+
+pub returns-in-Err-run_over-clause-io : goal.returns-in-Err-run_over-clause-io
+returns-in-Err-run_over-clause-io g c =
+    refused_on c.in-Err-run_over.spool c.into_disk-in-Err-run_over.result c.in-Err-run_over.fault c.from.result
+    c.from.ensures c.in-Err-run_over.ensures.io

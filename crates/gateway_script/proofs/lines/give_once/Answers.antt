@@ -10,19 +10,19 @@ use Rattle.gateway_script.proofs.lines.give_once.Goals as goal
 pub returns-in_err-answer-clause-does : goal.returns-in_err-answer-clause-does
 returns-in_err-answer-clause-does g c = λ before st r front k some at.
     let p = err_from_is_err_and c.from_residual.result c.from_residual.ensures.1 in
-    rw (p.1, p.2) (came_fails (view g.C.Connections before c.came.new.core st (g.W.Write.contents c.came.new.writer) front) c.in_err-answer.field-0.0 k c.args.conn c.args.bytes.now r some
+    rw (p.1, p.2) (came_fails (view g.C.Connections before c.came.new.core st (g.W.CountedWrite.contents c.came.new.writer) front) c.in_err-answer.field-0.0 k c.args.conn c.args.bytes.now r some
     (c.in_err-answer.ensures.does before st r front at))
 
 pub returns-in_default-clause-does : goal.returns-in_default-clause-does
 returns-in_default-clause-does g c = λ before st r front k some at.
-    let v' = view g.C.Connections before c.came.new.core st (g.W.Write.contents c.came.new.writer) front in
+    let v' = view g.C.Connections before c.came.new.core st (g.W.CountedWrite.contents c.came.new.writer) front in
     came_refused v' k c.args.conn c.args.bytes.now r some
     (subst (λ o. Called v' (Ok o) c.args.conn (Came c.args.conn c.args.bytes.now) r) c.in_default.is (c.in_ok-answer.ensures.does before st r front at))
 
 pub returns-then-branch-clause-does : goal.returns-then-branch-clause-does
 returns-then-branch-clause-does g c = λ before st r front k some at.
-    let v' = view g.C.Connections before c.came.new.core st (g.W.Write.contents c.came.new.writer) front in
-    let v'' = view g.C.Connections before c.go_on.new.core st (g.W.Write.contents c.go_on.new.writer) front in
+    let v' = view g.C.Connections before c.came.new.core st (g.W.CountedWrite.contents c.came.new.writer) front in
+    let v'' = view g.C.Connections before c.go_on.new.core st (g.W.CountedWrite.contents c.go_on.new.writer) front in
     let n = c.args.conn in
     let bytes = c.args.bytes.now in
     let a : Answer = c.in-Some.answer in
@@ -34,8 +34,8 @@ returns-then-branch-clause-does g c = λ before st r front k some at.
 
 pub returns-else-branch-clause-does : goal.returns-else-branch-clause-does
 returns-else-branch-clause-does g c = λ before st r front k some at.
-    let v' = view g.C.Connections before c.came.new.core st (g.W.Write.contents c.came.new.writer) front in
-    let v'' = view g.C.Connections before c.go_on.new.core st (g.W.Write.contents c.go_on.new.writer) front in
+    let v' = view g.C.Connections before c.came.new.core st (g.W.CountedWrite.contents c.came.new.writer) front in
+    let v'' = view g.C.Connections before c.go_on.new.core st (g.W.CountedWrite.contents c.go_on.new.writer) front in
     let n = c.args.conn in
     let bytes = c.args.bytes.now in
     let a : Answer = c.in-Some.answer in
@@ -47,8 +47,8 @@ returns-else-branch-clause-does g c = λ before st r front k some at.
 
 pub returns-in_err-go_on-clause-does : goal.returns-in_err-go_on-clause-does
 returns-in_err-go_on-clause-does g c = λ before st r front k some at.
-    let v' = view g.C.Connections before c.came.new.core st (g.W.Write.contents c.came.new.writer) front in
-    let v'' = view g.C.Connections before c.go_on.new.core st (g.W.Write.contents c.go_on.new.writer) front in
+    let v' = view g.C.Connections before c.came.new.core st (g.W.CountedWrite.contents c.came.new.writer) front in
+    let v'' = view g.C.Connections before c.go_on.new.core st (g.W.CountedWrite.contents c.go_on.new.writer) front in
     let n = c.args.conn in
     let bytes = c.args.bytes.now in
     let a : Answer = c.in-Some.answer in

@@ -4,7 +4,9 @@ use Rattle.gateway_script.proofs.writing.write_out.Given as goal
 
 abbrev pub invariant-loop-rest : goal.invariant-loop-rest
 invariant-loop-rest g l =
-    (front : List ℕ) × (l.bytes ≡ front ++ l.rest) × Appends (g.W.Write.contents l.fn.writer) (g.W.Write.contents l.writer) front
+    (g.W.CountedWrite.refusals l.writer ≡ g.W.CountedWrite.refusals l.fn.writer)
+    × (front : List ℕ) × (l.bytes ≡ front ++ l.rest)
+    × Appends (g.W.CountedWrite.contents l.fn.writer) (g.W.CountedWrite.contents l.writer) front
 
 abbrev pub decreases-loop-rest : goal.decreases-loop-rest
 decreases-loop-rest g l = length l.rest

@@ -1,0 +1,11 @@
+-- A reader or a writer whose refusals are counted.
+use Rattle.std.specs.Prelude.{ℕ}
+use Rattle.gateway_script.specs.declared.streams.Counted.{Counted}
+
+-- what it stands over
+abbrev pub stream_of : {S : Type 0} → Counted S → S
+stream_of c = c.stream
+
+-- how many calls were refused
+abbrev pub refusals_of : {S : Type 0} → Counted S → ℕ
+refusals_of c = c.refusals

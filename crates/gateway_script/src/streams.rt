@@ -1,0 +1,159 @@
+//! Readers and writers that count what they refused.
+ghost use Rattle.std.specs.Prelude.{◌≡◌, ◌≤◌, ◌<◌, ℕ, List, length, take, Option, IsErr, IfOk, OnErr};
+ghost use Rattle.std.specs.Io.{ReadsAtMost, WritesAtMost};
+ghost use Rattle.std.specs.Io.KnownBytes.{Consumes, Keeps, IsAtEnd, WriteAppends};
+ghost use Rattle.upload_rules.specs.Answers.{Counts};
+
+use std::io::{ErrorKind, Read, Write};
+
+/// The reader or the writer refused.
+#[derive(Clone, Copy, Debug, PartialEq, Eq, Drop)]
+pub struct Refused;
+
+/// A reader that counts its refusals. Every `Read` is one, whose count tells nothing; `Counted` is one that counts.
+pub trait CountedRead {
+    /// The bytes that it has left, where they are known.
+    ghost remaining: { Self → Option (List ℕ) };
+
+    /// How many calls it refused, or 2^64 - 1 where they were more or weren't counted.
+    ghost refusals: { Self → ℕ };
+
+    /// Reads into the front of the piece: how many bytes, none only at the end.
+    fn read_piece(&mut self, piece: &mut [u8]) -> Result<usize, Refused>
+        ensures bound { ReadsAtMost result piece.new }
+        ensures within { IfOk result (λ count. count ≤ length piece.old) }
+        ensures ok { IfOk result (λ count. Consumes (remaining self.old) (remaining self.new) (take count piece.new)) }
+        ensures end { IfOk result (λ count. count ≡ 0 → 0 < length piece.old → IsAtEnd (remaining self.new)) }
+        ensures kept { OnErr result (Keeps (remaining self.old) (remaining self.new)) }
+        ensures counts { Counts (IsErr result) (refusals self.old) (refusals self.new) };
+}
+
+/// A writer that counts its refusals. Every `Write` is one, whose count tells nothing; `Counted` is one that counts.
+pub trait CountedWrite {
+    /// The bytes that it holds, where they are known.
+    ghost contents: { Self → Option (List ℕ) };
+
+    /// How many calls it refused, or 2^64 - 1 where they were more or weren't counted.
+    ghost refusals: { Self → ℕ };
+
+    /// Writes a front part of the piece: how many bytes, none only where the piece is empty.
+    fn write_piece(&mut self, piece: &[u8]) -> Result<usize, Refused>
+        ensures bound { WritesAtMost result piece.now }
+        ensures bytes { WriteAppends (contents self.old) (contents self.new) result piece.now }
+        ensures some { IfOk result (λ count. 0 < length piece.now → 0 < count) }
+        ensures counts { Counts (IsErr result) (refusals self.old) (refusals self.new) };
+}
+
+// One read, tried again where it is interrupted.
+fn read_on<R: Read>(reader: &mut R, piece: &mut [u8]) -> Result<usize, Refused>
+    ensures bound { ReadsAtMost result piece.new }
+    ensures within { IfOk result (λ count. count ≤ length piece.old) }
+    ensures ok { IfOk result (λ count. Consumes (R.remaining reader.old) (R.remaining reader.new)
+        (take count piece.new)) }
+    ensures end { IfOk result (λ count. count ≡ 0 → 0 < length piece.old → IsAtEnd (R.remaining reader.new)) }
+    ensures kept { OnErr result (Keeps (R.remaining reader.old) (R.remaining reader.new)) }
+{
+    for _ in 0..u64::MAX {
+        match reader.read(piece) {
+            Ok(count) => return Ok(count),
+            Err(error) => {
+                if error.kind() != ErrorKind::Interrupted {
+                    return Err(Refused);
+                }
+            }
+        }
+    }
+    Err(Refused)
+}
+
+// One write. One that takes nothing of a piece with bytes is a refusal.
+fn write_on<W: Write>(writer: &mut W, piece: &[u8]) -> Result<usize, Refused>
+    ensures bound { WritesAtMost result piece.now }
+    ensures bytes { WriteAppends (W.contents writer.old) (W.contents writer.new) result piece.now }
+    ensures some { IfOk result (λ count. 0 < length piece.now → 0 < count) }
+{
+    match writer.write(piece) {
+        Ok(count) if count > 0 || piece.is_empty() => Ok(count),
+        _ => Err(Refused),
+    }
+}
+
+impl<R: Read> CountedRead for R {
+    ghost remaining = { λ r. R.remaining r };
+
+    ghost refusals = { λ _. 18446744073709551615 };
+
+    fn read_piece(&mut self, piece: &mut [u8]) -> Result<usize, Refused> {
+        read_on(self, piece)
+    }
+}
+
+impl<W: Write> CountedWrite for W {
+    ghost contents = { λ w. W.contents w };
+
+    ghost refusals = { λ _. 18446744073709551615 };
+
+    fn write_piece(&mut self, piece: &[u8]) -> Result<usize, Refused> {
+        write_on(self, piece)
+    }
+}
+
+/// A reader or a writer, and how many of its calls were refused.
+#[derive(Drop)]
+pub struct Counted<S> {
+    stream: S,
+    refusals: u64,
+}
+
+impl<S> Counted<S> {
+    ghost use Rattle.gateway_script.specs.Counted.{stream_of, refusals_of};
+
+    /// No call was refused so far.
+    pub fn new(stream: S) -> Self
+        ensures stream { stream_of result ≡ stream }
+        ensures none { refusals_of result ≡ 0 }
+    {
+        Counted {
+            stream,
+            refusals: 0,
+        }
+    }
+
+    // Counts a call that was refused.
+    fn note(&mut self, outcome: Result<usize, Refused>)
+        ensures stream { stream_of self.new ≡ stream_of self.old }
+        ensures counts { Counts (IsErr outcome) (refusals_of self.old) (refusals_of self.new) }
+    {
+        if outcome.is_err() {
+            self.refusals = self.refusals.saturating_add(1);
+        }
+    }
+}
+
+impl<R: Read> CountedRead for Counted<R> {
+    ghost use Rattle.gateway_script.specs.Counted.{stream_of, refusals_of};
+
+    ghost remaining = { λ c. R.remaining (stream_of c) };
+
+    ghost refusals = { λ c. refusals_of c };
+
+    fn read_piece(&mut self, piece: &mut [u8]) -> Result<usize, Refused> {
+        let outcome = read_on(&mut self.stream, piece);
+        self.note(outcome);
+        outcome
+    }
+}
+
+impl<W: Write> CountedWrite for Counted<W> {
+    ghost use Rattle.gateway_script.specs.Counted.{stream_of, refusals_of};
+
+    ghost contents = { λ c. W.contents (stream_of c) };
+
+    ghost refusals = { λ c. refusals_of c };
+
+    fn write_piece(&mut self, piece: &[u8]) -> Result<usize, Refused> {
+        let outcome = write_on(&mut self.stream, piece);
+        self.note(outcome);
+        outcome
+    }
+}
