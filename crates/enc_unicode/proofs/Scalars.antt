@@ -1,7 +1,7 @@
 -- The scalars of units in a batch, unit by unit.
-use Rattle.std.proofs.Common.{ℕ, suc, ◌+◌, ◌*◌, ◌<◌, ◌≤◌, ◌≡◌, Bool, true, false, cond, min, take, List, [], ◌∷◌, ◌++◌, Option, Some, None, All, refl, sym, ◌∙◌, ap, subst, arith, length, length-append, drop, take, get_or, append_assoc, append-nil}
+use Rattle.std.proofs.Common.{ℕ, suc, ◌+◌, ◌*◌, ◌<◌, ◌≤◌, ◌≡◌, Bool, true, false, cond, take, List, [], ◌∷◌, ◌++◌, Option, Some, None, All, refl, sym, ◌∙◌, ap, subst, arith, length, length-append, drop, take, get_or, append_assoc, append-nil}
 use Rattle.std.proofs.Math.Seq.{drop-cons, take-length}
-use Rattle.std.proofs.lemmas.List.{take_all, length-take-le, get_or-take, take-append-le}
+use Rattle.std.proofs.lemmas.List.{take_all, length-take-le, get_or-take}
 use Rattle.std.proofs.lemmas.List.Sums.{prefix_len-le-length, prefix_len_passes}
 use Rattle.std.specs.List.{prefix_len}
 use Rattle.std.specs.Char.{IsScalar, is_ascii}
@@ -81,17 +81,13 @@ unit_scalar_at units at n all inside small =
     is_scalar : (c : ℕ) → c < 65536 → is_scalar_unit c ≡ true → IsScalar c
     is_scalar c small p = grind (arith, nat_tests, p)
 
--- units that are narrowed to the last
-pub narrowed : (units out new : List ℕ) (n : ℕ) → length units ≡ 32 → n ≡ 32 → n ≡ min (prefix_len is_ascii units) (length out) →
-    new ≡ take n units ++ drop n out → (take 32 new ≡ units) × All (λ u. u < 128) (take 32 new)
-narrowed units out new n long all e w =
-    let p = prefix_len-le-length is_ascii units in
-    let whole : prefix_len is_ascii units ≡ length units = omega (arith, p, long, all, e) in
-    let every : take n units ≡ units = take_all n units (omega (arith, long, all)) in
-    let same : take 32 new ≡ units =
-    ap (take 32) (w ∙ ap (λ z. z ++ drop n out) every)
-    ∙ take-append-le 32 units (drop n out) (omega (arith, long)) ∙ take_all 32 units (omega (arith, long)) in
-    let low = subst (λ k. All (λ u. u < 128) (take k units)) whole (front_all units) in
+-- units that are all below 80 are their own bytes
+pub narrowed : (units bytes : List ℕ) (n : ℕ) → length units ≡ 32 → length bytes ≡ 32 → n ≡ 32 →
+    n ≡ prefix_len is_ascii units → take n bytes ≡ take n units → (bytes ≡ units) × All (λ u. u < 128) bytes
+narrowed units bytes n long size all front there =
+    let same : bytes ≡ units =
+    sym (take_all n bytes (omega (arith, size, all))) ∙ there ∙ take_all n units (omega (arith, long, all)) in
+    let low = subst (λ k. All (λ u. u < 128) (take k units)) (omega (arith, front, all, long)) (front_all units) in
     (same, subst (λ z. All (λ u. u < 128) z) (take-length units ∙ sym same) low)
 
 -- units without surrogates are scalars of their own

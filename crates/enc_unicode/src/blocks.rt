@@ -12,7 +12,7 @@ ghost use Rattle.lane_kernels.specs.Units.{IsCarried, lead_of};
 use crate::scalar_units::{CODE, write_scalars};
 use enc_model::{Batch, ROOM};
 use lane_kernels::{
-    Order, Pairing, Step, lead_in, narrow, paired, paired_units_decode, scalar_front,
+    Order, Pairing, Step, lead_in, narrow_front, paired, paired_units_decode, scalar_front,
 };
 use std::str::from_utf8_unchecked;
 
@@ -62,27 +62,18 @@ fn push_units(carried: Option<u16>, units: &[u16; 32], batch: &mut Batch)
     }
 }
 
-/// Takes the first 32 bytes, which are below 80, each for itself.
-#[inline(always)]
-fn push_front(code: &[u8; CODE], batch: &mut Batch)
-    requires ascii { All (λ b. b < 128) (take 32 code.now) }
-    requires room { length batch.old + 32 ≤ ROOM }
-    ensures { BatchTook batch.old (take 32 code.now) batch.new }
-{
-    batch.push_ascii(&code[..32]);
-}
-
 /// Takes units that are paired behind a carried lead or none.
 fn push_paired(carried: Option<u16>, units: &[u16; 32], batch: &mut Batch)
     requires carried { IsCarried carried }
     requires room { length batch.old + 128 ≤ ROOM }
     ensures { BatchTook batch.old (scalars_of carried units.now) batch.new }
 {
-    let mut code = [0; CODE];
-    let ascii = narrow(units, &mut code);
+    let (bytes, ascii) = narrow_front(units);
     if ascii == 32 {
-        push_front(&code, batch);
+        batch.push_ascii(&bytes);
     } else if scalar_front(units) == 32 {
+        let mut code = [0; CODE];
+        code[..32].copy_from_slice(&bytes);
         let len = write_scalars(units, ascii, &mut code);
         batch.push_str(unsafe { from_utf8_unchecked(&code[..len]) });
     } else {
