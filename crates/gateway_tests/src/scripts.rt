@@ -59,7 +59,7 @@ impl Talk {
     }
 
     /// The lines of a head.
-    fn say(&mut self, conn: u32, head: &str) -> Result<(), AllocError> {
+    pub(crate) fn say(&mut self, conn: u32, head: &str) -> Result<(), AllocError> {
         for line in head.split('\n') {
             self.line(&format!(in self.alloc; "say {conn} {line}")?)?;
         }
@@ -73,7 +73,7 @@ impl Talk {
     }
 
     /// Bytes that are to be written.
-    fn given(&mut self, conn: u32, bytes: &[u8]) -> Result<(), AllocError> {
+    pub(crate) fn given(&mut self, conn: u32, bytes: &[u8]) -> Result<(), AllocError> {
         let count = bytes.len();
         self.told(&format!(in self.alloc; "< {conn} {count}")?)?;
         self.wanted.extend_from_slice(bytes)?;
@@ -81,7 +81,7 @@ impl Talk {
     }
 
     /// A reply that is to be written: its status, its own lines and its body. How many bytes it has.
-    fn reply(
+    pub(crate) fn reply(
         &mut self,
         conn: u32,
         status: &str,

@@ -16,7 +16,7 @@ fn fresh(alloc: Global) -> Result<MemoryDisk, Fail> {
 }
 
 /// A run of a script over a disk: the disk, how the run was refused, and what it wrote.
-fn ran<D: Disk>(alloc: Global, talk: &Talk, disk: D) -> (D, Option<RunFault>, Vec<u8>) {
+pub(crate) fn ran<D: Disk>(alloc: Global, talk: &Talk, disk: D) -> (D, Option<RunFault>, Vec<u8>) {
     let mut writer = Vec::new(alloc);
     match run(alloc, &mut talk.script.as_slice(), &mut writer, disk) {
         Ok(disk) => (disk, None, writer),

@@ -90,27 +90,27 @@ fn scrawl<D: Disk>(disk: &mut D, at: u64, bytes: &[u8], filler: &[u8])
 }
 
 impl<D: Disk> Disk for HiccupDisk<D> {
-    ghost use Rattle.spool_disk.specs.Hiccup.{Waits};
+    ghost use Rattle.spool_disk.specs.Hiccup.{Waits, within_of, missed_of};
 
-    ghost size = { λ d. D.size d.inner };
+    ghost size = { λ d. D.size (within_of d) };
 
-    ghost honest = { λ d. D.honest d.inner };
+    ghost honest = { λ d. D.honest (within_of d) };
 
-    ghost seen = { λ d. D.seen d.inner };
+    ghost seen = { λ d. D.seen (within_of d) };
 
-    ghost loose = { λ d. D.loose d.inner };
+    ghost loose = { λ d. D.loose (within_of d) };
 
-    ghost moment = { λ d. D.moment d.inner };
+    ghost moment = { λ d. D.moment (within_of d) };
 
-    ghost left_since = { λ d. D.left_since d.inner };
+    ghost left_since = { λ d. D.left_since (within_of d) };
 
-    ghost failures = { λ d. D.failures d.inner + d.missed };
+    ghost failures = { λ d. D.failures (within_of d) + missed_of d };
 
     ghost tells = { λ failed old new. Waits (D.tells failed) failed old new };
 
-    ghost counts_now = { λ d. D.counts_now d.inner };
+    ghost counts_now = { λ d. D.counts_now (within_of d) };
 
-    ghost only_now = { λ d. D.only_now d.inner };
+    ghost only_now = { λ d. D.only_now (within_of d) };
 
     fn len(&self) -> u64 {
         self.inner.len()
