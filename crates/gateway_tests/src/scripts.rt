@@ -353,6 +353,37 @@ fn cut_body_is_kept(rt: HostRuntime) -> Result<(), Fail> {
 }
 
 #[test]
+fn heads_that_are_cut(rt: HostRuntime) -> Result<(), Fail> {
+    let head =
+        b"PATCH /files/1 HTTP/1.1\r\nTus-Resumable: 1.0.0\r\nContent-Type: application/offset+octet-stream\r\nUpload-Offset: 0\r\nContent-Length: 5\r\n\r\n";
+    let mut talk = Talk::new(rt.alloc());
+    talk.open(1)?;
+    talk.made(1, 5, "")?;
+    for end in 1..head.len() {
+        talk.line("open 2")?;
+        talk.came(2, &head[..end])?;
+        talk.line("cut 2")?;
+    }
+    talk.shown(1, 1, "Upload-Offset: 0\nUpload-Length: 5")?;
+    assert_eq!(rt; talk.ended()?, Ended::Ran);
+    Ok(())
+}
+
+#[test]
+fn one_upload_too_many(rt: HostRuntime) -> Result<(), Fail> {
+    let mut talk = Talk::new(rt.alloc());
+    talk.open(1)?;
+    for number in 1..=512u64 {
+        talk.made(number, 0, "")?;
+    }
+    talk.post(0, "")?;
+    talk.refused(1, "507 Insufficient Storage", 11)?;
+    talk.shown(1, 512, "Upload-Offset: 0\nUpload-Length: 0")?;
+    assert_eq!(rt; talk.ended()?, Ended::Ran);
+    Ok(())
+}
+
+#[test]
 fn requests_that_are_refused(rt: HostRuntime) -> Result<(), Fail> {
     let mut talk = Talk::new(rt.alloc());
     talk.open(1)?;

@@ -191,10 +191,54 @@ fn bodies_without_an_end(rt: HostRuntime) -> Result<(), Fail> {
         parsed(rt.alloc(), twice)?,
         refusal(twice, Fault::BadLength, false, true)
     );
+    for length in [
+        "3\nContent-Length: 3",
+        "3, 3",
+        "1234567890123456789",
+        "-1",
+        "+3",
+        "3 3",
+    ] {
+        let head = format!(in rt.alloc(); "GET /files/1 HTTP/1.1\nContent-Length: {length}\n\n")?;
+        assert_eq!(rt;
+            parsed(rt.alloc(), head.as_bytes())?,
+            refusal(head.as_bytes(), Fault::BadLength, false, true)
+        );
+    }
     let coded = b"GET /files HTTP/1.1\ntransfer-encoding: chunked\nContent-Length: x\n\n";
     assert_eq!(rt;
         parsed(rt.alloc(), coded)?,
         refusal(coded, Fault::Coding, true, true)
+    );
+    let twice =
+        b"GET /files HTTP/1.1\nTransfer-Encoding: gzip\nContent-Length: 3, 3\nTransfer-Encoding: chunked\n\n";
+    assert_eq!(rt;
+        parsed(rt.alloc(), twice)?,
+        refusal(twice, Fault::Coding, true, true)
+    );
+    Ok(())
+}
+
+/// A GET of so many bytes.
+fn padded(alloc: Global, len: usize) -> Result<Vec<u8>, Fail> {
+    let mut head = Vec::new(alloc);
+    head.extend_from_slice(b"GET /files/1 HTTP/1.1\r\nnote: ")?;
+    head.resize(len.saturating_sub(4), b'a')?;
+    head.extend_from_slice(b"\r\n\r\n")?;
+    Ok(head)
+}
+
+#[test]
+fn heads_as_long_as_may_be(rt: HostRuntime) -> Result<(), Fail> {
+    for len in [8191, 8192] {
+        let head = padded(rt.alloc(), len)?;
+        assert_eq!(rt; head.len(), len);
+        assert_eq!(rt; parsed(rt.alloc(), &head)?, plain(&head, Action::Get(1)));
+    }
+    let head = padded(rt.alloc(), 8193)?;
+    assert_eq!(rt;
+        parsed(rt.alloc(), &head)?,
+        refusal(&[0; 8192], Fault::HeadTooLong, false, true)
     );
     Ok(())
 }
