@@ -131,14 +131,15 @@ fn is_device(fault: RunFault) -> bool {
     fault == RunFault::DiskFault || fault == RunFault::Open(OpenFault::DiskFault)
 }
 
-/// The uploads of a spool by their numbers.
+/// The uploads of a spool by their numbers, of which there are at most two.
 fn uploads_of(alloc: Global, spool: &mut Spool<MemoryDisk>) -> Result<Vec<(u64, Vec<u8>)>, Fail> {
     let mut uploads = Vec::new(alloc);
-    let mut number = 0;
-    while let Some(record) = spool.record_after(number) {
-        number = record.number;
-        let accepted = record.accepted;
-        let mut text = vec![in alloc; 0; record.text_len as usize]?;
+    for number in 1..=2u64 {
+        let (accepted, len) = match spool.record(number) {
+            Some(record) => (record.accepted, record.text_len),
+            None => break,
+        };
+        let mut text = vec![in alloc; 0; len as usize]?;
         spool.read_text(number, 0, &mut text)?;
         uploads.push((accepted, text))?;
     }
@@ -249,79 +250,37 @@ fn long_text(alloc: Global) -> Result<Story, Fail> {
     Ok(story)
 }
 
+/// All stories of a spool of 16 blocks.
+fn stories(alloc: Global) -> Result<[Story; 4], Fail> {
+    Ok([
+        one_upload(alloc)?,
+        cut_character(alloc)?,
+        one_winner(alloc)?,
+        full_spool(alloc)?,
+    ])
+}
+
 #[test]
-fn one_upload_with_a_failing_call(rt: HostRuntime) -> Result<(), Fail> {
-    let story = one_upload(rt.alloc())?;
-    for fill in [None, Some(0), Some(165)] {
-        story.fails_once(&rt, fill)?;
+fn calls_that_fail_once(rt: HostRuntime) -> Result<(), Fail> {
+    for story in stories(rt.alloc())?.iter() {
+        for fill in [None, Some(0), Some(165)] {
+            story.fails_once(&rt, fill)?;
+        }
     }
     Ok(())
 }
 
 #[test]
-fn cut_character_with_a_failing_call(rt: HostRuntime) -> Result<(), Fail> {
-    let story = cut_character(rt.alloc())?;
-    for fill in [None, Some(0), Some(165)] {
-        story.fails_once(&rt, fill)?;
-    }
-    Ok(())
-}
-
-#[test]
-fn two_connections_with_a_failing_call(rt: HostRuntime) -> Result<(), Fail> {
-    let story = one_winner(rt.alloc())?;
-    for fill in [None, Some(0), Some(165)] {
-        story.fails_once(&rt, fill)?;
-    }
-    Ok(())
-}
-
-#[test]
-fn full_spool_with_a_failing_call(rt: HostRuntime) -> Result<(), Fail> {
-    let story = full_spool(rt.alloc())?;
-    for fill in [None, Some(0), Some(165)] {
-        story.fails_once(&rt, fill)?;
-    }
-    Ok(())
-}
-
-#[test]
-fn long_text_with_a_failing_call(rt: HostRuntime) -> Result<(), Fail> {
+fn reads_of_a_text_that_fail_once(rt: HostRuntime) -> Result<(), Fail> {
     long_text(rt.alloc())?.fails_once(&rt, None)
 }
 
 #[test]
-fn one_upload_with_a_disk_that_stays_failed(rt: HostRuntime) -> Result<(), Fail> {
-    let story = one_upload(rt.alloc())?;
-    for kind in [Crash::Old, Crash::New, Crash::Torn(0), Crash::Torn(165)] {
-        story.stays_failed(&rt, kind)?;
-    }
-    Ok(())
-}
-
-#[test]
-fn cut_character_with_a_disk_that_stays_failed(rt: HostRuntime) -> Result<(), Fail> {
-    let story = cut_character(rt.alloc())?;
-    for kind in [Crash::Old, Crash::New, Crash::Torn(0), Crash::Torn(165)] {
-        story.stays_failed(&rt, kind)?;
-    }
-    Ok(())
-}
-
-#[test]
-fn two_connections_with_a_disk_that_stays_failed(rt: HostRuntime) -> Result<(), Fail> {
-    let story = one_winner(rt.alloc())?;
-    for kind in [Crash::Old, Crash::New, Crash::Torn(0), Crash::Torn(165)] {
-        story.stays_failed(&rt, kind)?;
-    }
-    Ok(())
-}
-
-#[test]
-fn full_spool_with_a_disk_that_stays_failed(rt: HostRuntime) -> Result<(), Fail> {
-    let story = full_spool(rt.alloc())?;
-    for kind in [Crash::Old, Crash::New, Crash::Torn(0), Crash::Torn(165)] {
-        story.stays_failed(&rt, kind)?;
+fn disks_that_stay_failed(rt: HostRuntime) -> Result<(), Fail> {
+    for story in stories(rt.alloc())?.iter() {
+        for kind in [Crash::Old, Crash::New, Crash::Torn(0), Crash::Torn(165)] {
+            story.stays_failed(&rt, kind)?;
+        }
     }
     Ok(())
 }

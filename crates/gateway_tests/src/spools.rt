@@ -3,10 +3,9 @@
 use crate::scripts::{self, Talk, hello};
 use enc_index::IndexSet;
 use gateway_engine::{Connections, Gateway, RunFault, run};
-use spool_disk::{Crash, Disk, FuseDisk, MemoryDisk};
+use spool_disk::{Crash, Disk, MemoryDisk};
 use spool_image::{OpenFault, Spool};
 use std::alloc::Global;
-use std::process::Abort;
 use std::test::Fail;
 use upload_rules::Uploads;
 
@@ -75,58 +74,6 @@ fn all_blocks_are_owned(rt: HostRuntime) -> Result<(), Fail> {
     assert_eq!(rt; fault, None);
     assert_eq!(rt; written, talk.wanted);
     Ok(())
-}
-
-/// An upload of five bytes is made and filled, the disk stops at each of its calls in turn, and then a crash of this kind comes.
-fn stop_at_each_call(rt: &impl Abort, alloc: Global, kind: Crash) -> Result<(), Fail> {
-    let mut talk = Talk::new(alloc);
-    talk.open(1)?;
-    talk.made(1, 5, "")?;
-    let made = talk.wanted.len();
-    talk.added(1, 0, b"hello", 5)?;
-    // opening makes 539 calls
-    for calls in 537..700u64 {
-        let fuse = FuseDisk::new(fresh(alloc)?, calls);
-        let (fuse, fault, written) = ran(alloc, &talk, fuse);
-        let left = accepted(alloc, fuse.into_inner().crash(kind))?;
-        if written.len() == talk.wanted.len() {
-            assert_eq!(rt; left, Some(5), "at {calls}");
-        } else if written.len() == made {
-            assert!(rt; left == Some(0) || left == Some(5), "at {calls}");
-        } else {
-            assert!(rt; left.is_none() || left == Some(0), "at {calls}");
-        }
-        assert!(rt; talk.wanted.starts_with(&written), "at {calls}");
-        match fault {
-            None => return Ok(()),
-            Some(RunFault::Open(fault)) => {
-                assert!(rt; calls < 539, "at {calls}");
-                assert_eq!(rt; fault, OpenFault::DiskFault);
-            }
-            Some(fault) => assert_eq!(rt; fault, RunFault::DiskFault, "at {calls}"),
-        }
-    }
-    panic!(rt; "the run makes too many calls")
-}
-
-#[test]
-fn stop_at_each_call_leaves_old_bytes(rt: HostRuntime) -> Result<(), Fail> {
-    stop_at_each_call(&rt, rt.alloc(), Crash::Old)
-}
-
-#[test]
-fn stop_at_each_call_leaves_new_bytes(rt: HostRuntime) -> Result<(), Fail> {
-    stop_at_each_call(&rt, rt.alloc(), Crash::New)
-}
-
-#[test]
-fn stop_at_each_call_leaves_zeros(rt: HostRuntime) -> Result<(), Fail> {
-    stop_at_each_call(&rt, rt.alloc(), Crash::Torn(0))
-}
-
-#[test]
-fn stop_at_each_call_leaves_open_gates(rt: HostRuntime) -> Result<(), Fail> {
-    stop_at_each_call(&rt, rt.alloc(), Crash::Torn(165))
 }
 
 #[test]
