@@ -187,6 +187,7 @@ module _ {U B : Type 0} (u : Ghosts U B) (store' : U) (place : Place B) (old new
   part_told bytes (Err errors.DiskFault) few x same = same
   part_told bytes (Err errors.TooMany) few x same = absurd x
   part_told bytes (Err errors.Closed) few x same = absurd x
+  part_told bytes (Err errors.Down) few x same = absurd x
 
   rest_answered : (q : List ℕ) (a : Answer) → length p.body + length q ≤ p.count → (cut (reader w) (s ++ q)).rest ≡ InHead []
       → Answered u store' place a old new (record k { left = 0; task = tasks.Idle }) (0 + left) (ended_by w own p q r)
@@ -226,6 +227,7 @@ module _ {U B : Type 0} (u : Ghosts U B) (store' : U) (place : Place B) (old new
   rest_told q (Err errors.DiskFault) few ends x = x
   rest_told q (Err errors.TooMany) few ends x = absurd x
   rest_told q (Err errors.Closed) few ends x = absurd x
+  rest_told q (Err errors.Down) few ends x = absurd x
 
   pub body_told : (bytes : List ℕ) (a : Result Answer SessionError)
       → (length bytes < left → Parts u store' place a (record k { left = left - length bytes; task = tasks.Idle }) b (0 + length bytes) (fed w own bytes) (fed_patch w own p bytes) (dropped w own))

@@ -211,6 +211,7 @@ module _ {U B : Type 0} (u : Ghosts U B) (w : World) (conn : Conn) (h bytes : Li
     part_case (Err errors.DiskFault) few z same out = out
     part_case (Err errors.TooMany) few z same out = absurd z
     part_case (Err errors.Closed) few z same out = absurd z
+    part_case (Err errors.Down) few z same out = absurd z
 
     rest_case : (a : Result code.Answer SessionError) → r.length ≤ length q
         → Replies u store' place a mid mid2 (record k { left = 0; task = tasks.Idle }) (before + r.length) (ended_by v own p0 (take r.length q) r) (dropped v own)
@@ -252,6 +253,7 @@ module _ {U B : Type 0} (u : Ghosts U B) (w : World) (conn : Conn) (h bytes : Li
     rest_case (Err errors.DiskFault) enough z out = out
     rest_case (Err errors.TooMany) enough z out = absurd z
     rest_case (Err errors.Closed) enough z out = absurd z
+    rest_case (Err errors.Down) enough z out = absurd z
 
     pub patch_opened : (a : Result code.Answer SessionError) (z : List ℕ) → z ≡ q
         → (length z < r.length → Parts u store' place a (record k { left = r.length - length z; task = tasks.Idle }) b (before + length z) (fed v own z) (fed_patch v own p0 z) (dropped v own))
@@ -274,6 +276,7 @@ module _ {U B : Type 0} (u : Ghosts U B) (w : World) (conn : Conn) (h bytes : Li
     replies_err place' errors.DiskFault taken m k' gone same = same
     replies_err place' errors.TooMany taken m k' gone z = absurd z
     replies_err place' errors.Closed taken m k' gone z = absurd z
+    replies_err place' errors.Down taken m k' gone z = absurd z
 
     -- what was written is taken back
     pub taken_back : (e : SessionError) (z : List ℕ) (start : ℕ) → (length z < r.length → mid2 ≡ mid)

@@ -87,6 +87,7 @@ module _ {U B : Type 0} (u : Ghosts U B) where
     told t (Err errors.DiskFault) old new is same = (failed_is st e conn on is.conn_is, same)
     told t (Err errors.TooMany) old new is turn = absurd turn
     told t (Err errors.Closed) old new is turn = absurd turn
+    told t (Err errors.Down) old new is turn = absurd turn
 
     pub ends : (r : Result (Unit {0}) SessionError) → st.conns (conn_in e) ≡ Some conn → next ≡ Closed
         → step st e Served ≡ record { state = put st (ended_world st.world conn) (conn_in e) None; outcome = Done }
@@ -103,6 +104,7 @@ module _ {U B : Type 0} (u : Ghosts U B) where
     ends (Err errors.DiskFault) is closed done turn = failed_is st e conn on is
     ends (Err errors.TooMany) is closed done turn = absurd turn
     ends (Err errors.Closed) is closed done turn = absurd turn
+    ends (Err errors.Down) is closed done turn = absurd turn
 
   -- no connection is open there
   pub none_came : (places : List (Place B)) (store : U) (st : State) (c : ℕ) (bytes : List ℕ) → SessionStands u places store st → st.conns c ≡ None
