@@ -1,4 +1,4 @@
-use Rattle.std.proofs.Common.{◌++◌, None, refl, ◌∙◌, arith}
+use Rattle.std.proofs.Common.{◌++◌, None, refl, arith}
 use Rattle.tus_request.specs.Buffers.{bytes_of}
 use Rattle.tus_request.specs.Requests.{Refusal, Refuses}
 use Rattle.tus_session.specs.declared.conns.Task.TheVariants.{Idle}
