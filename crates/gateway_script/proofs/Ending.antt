@@ -64,6 +64,14 @@ pub ended_many : (st : State) (c : ℕ) → (step st (Ended c) Served).outcome �
 unfolding step
 ended_many st c e = many_case st c (st.conns c) e
 
+down_case : (st : State) (c : ℕ) (o : Option Conn) → (ended_at st c o).outcome ≡ Refused errors.Down → ⊥
+down_case st c None e = absurd (cc)
+down_case st c (Some k) e = absurd (cc)
+
+ended_down : (st : State) (c : ℕ) → (step st (Ended c) Served).outcome ≡ Refused errors.Down → ⊥
+unfolding step
+ended_down st c e = down_case st c (st.conns c) e
+
 -- THE CONNECTIONS THAT ARE CUT
 cut_step : (k n : ℕ) (r : Run) → cut_from (suc k) n r ≡ cut_next (cut_from k (n + 1)) r n (is_closed (r.state.conns n) || r.down)
 unfolding cut_from
@@ -139,6 +147,7 @@ cut_refused v now held k n r errors.DiskFault result at durable leaves does othe
     went_cut (seen_behind v now held) result k n r (ended_failed r.state n does.answer) at.up (refused_went v now held r (Ended n) errors.DiskFault result at durable leaves does refuses)
 cut_refused v now held k n r errors.TooMany result at durable leaves does other refuses = absurd (ended_many r.state n does.answer)
 cut_refused v now held k n r errors.Closed result at durable leaves does other refuses = absurd (other refl)
+cut_refused v now held k n r errors.Down result at durable leaves does other refuses = absurd (ended_down r.state n does.answer)
 
 -- A LINE
 line_step : (number start : ℕ) (line : List ℕ) (lines : List (List ℕ)) (r : Run) (down bad : Bool) → r.down ≡ down → (is_long start line || is_bad (order_in line)) ≡ bad

@@ -33,12 +33,14 @@ no_fault errors.NoMemory other = refl
 no_fault errors.DiskFault other = absurd (other refl)
 no_fault errors.TooMany other = refl
 no_fault errors.Closed other = refl
+no_fault errors.Down other = refl
 
 unless : (T : Type 0) (f : SessionError) (X : Type 0) → (f ≡ errors.DiskFault → ⊥) → UnlessFailed {T = T} (Err f) X → X
 unless T errors.NoMemory X other x = x
 unless T errors.DiskFault X other x = absurd (other refl)
 unless T errors.TooMany X other x = x
 unless T errors.Closed X other x = x
+unless T errors.Down X other x = x
 
 -- THE RUN BEHIND A CALL
 module _ {C : Type 0} (v : View C) (now : C) (held : Option (List ℕ)) (r : Run) (e : Event) (m : Mark) (at : IsAt v r) (leaves : Leaves v now r.state.world.store (shown_by r.state e m)) where

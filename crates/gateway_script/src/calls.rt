@@ -13,7 +13,7 @@ use crate::writing::{report, report_refusal, write_out};
 use std::alloc::Global;
 use tus_session::{Answer, SessionError};
 
-/// A refusal is written. The device's fault ends the run.
+/// A refusal is written. The device's fault ends the run: `Down` is met only where the connections were down before it.
 pub(crate) fn refused<W: CountedWrite>(
     alloc: Global,
     writer: &mut W,
@@ -27,6 +27,7 @@ pub(crate) fn refused<W: CountedWrite>(
         SessionError::NoMemory => 0,
         SessionError::TooMany => 29,
         SessionError::Closed => 30,
+        SessionError::Down => 31,
         SessionError::DiskFault => return Err(CallFault::DiskFault),
     };
     let mut out = Vec::new(alloc);
