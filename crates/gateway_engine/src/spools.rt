@@ -1,5 +1,5 @@
 //! A gateway over a spool on a disk.
-ghost use Rattle.std.specs.Prelude.{◌≡◌, ◌↔◌, ℕ, List, Option, Some, IfOk};
+ghost use Rattle.std.specs.Prelude.{◌≡◌, ◌↔◌, ℕ, false, List, Option, Some, IfOk};
 ghost use Rattle.spool_disk.specs.Disk.{Counts};
 ghost use Rattle.spool_disk.specs.Views.{Lasts};
 ghost use Rattle.spool_image.specs.LeftOnly.{AllShow, IsSpool, LeftOrShows, SpoolLeft};
@@ -7,7 +7,7 @@ ghost use Rattle.spool_image.specs.Spool.{IsFault, OpensAs};
 ghost use Rattle.upload_rules.specs.Store.{Store};
 ghost use Rattle.upload_rules.specs.Answers.{Quiet};
 ghost use Rattle.tus_session.specs.History.{State, beginning};
-ghost use Rattle.gateway_engine.specs.Gateways.{GatewayStands, disk_in, size_in, disk_after};
+ghost use Rattle.gateway_engine.specs.Gateways.{GatewayStands, disk_in, size_in, disk_after, is_down};
 ghost use Rattle.gateway_script.specs.Script.{IsScript};
 ghost use Rattle.gateway_engine.specs.Ran.{CountsEither};
 ghost use Rattle.gateway_engine.specs.RanOn.{HasRunOn, HasFailedOn, HasRefusedOn, Unopened, disk_back};
@@ -37,7 +37,9 @@ impl<D: Disk> Gateway<Spool<D>> {
             → OpensAs result (λ g. GatewayStands ⟦<Spool<D> as Uploads>⟧ g (beginning m (Some n))) }
 
         // Every image then shows them.
-        ensures shows { (n : ℕ) (m : Store) → IsSpool D.Disk disk n m → IfOk result (λ g. AllShow D.Disk (disk_in g) n m) }
+        ensures shows { (n : ℕ) (m : Store) → IsSpool D.Disk disk n m
+            → IfOk result (λ g. AllShow D.Disk (disk_in g) n m) }
+        ensures up { IfOk result (λ g. is_down g ≡ false) }
 
         // A crash during it leaves what it might have left before, or what shows the same uploads and so many blocks.
         ensures lasts { (n : ℕ) (m : Store) → IsSpool D.Disk disk n m
