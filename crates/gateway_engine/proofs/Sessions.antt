@@ -1,10 +1,10 @@
 -- A session's calls as those of connections.
-use Rattle.std.proofs.Common.{◌≡◌, Bool, true, false, ℕ, List, [], Option, Some, None, Result, Ok, Err, inl, inr, refl, sym, subst, ap, ◌∙◌, arith, nat_lt, if◌then◌else◌}
-use Rattle.std.specs.Prelude.{◌↔◌, ◌⊎◌, IsErrOf}
+use Rattle.std.proofs.Common.{◌≡◌, Bool, true, false, ℕ, List, [], Option, Some, None, Result, Ok, Err, refl, sym, subst, ap, nat_lt, if◌then◌else◌}
+use Rattle.std.specs.Prelude.{◌↔◌, IsErrOf}
 use Rattle.std.proofs.lemmas.Bool.{false_from_ne_true}
 use Rattle.upload_rules.specs.declared.uploads.Uploads.{Ghosts}
 use Rattle.upload_rules.specs.Store.{Store}
-use Rattle.upload_rules.specs.Answers.{Limits, Quiet}
+use Rattle.upload_rules.specs.Answers.{Limits}
 use Rattle.tus_session.specs.Turns.{Conn, fresh}
 use Rattle.tus_session.specs.History.{State, Event, Opened, Came, More, Ended, Served, Done, Refused, Step, step, put, kept, opened_at, came_at, more_at, ended_at}
 use Rattle.tus_session.specs.Places.{places_of}
@@ -16,7 +16,7 @@ use Rattle.tus_session.specs.declared.conns.Place.{Place}
 use Rattle.tus_session.specs.declared.errors.SessionError.{SessionError}
 use Rattle.tus_session.specs.declared.errors.SessionError.TheVariants.{NoMemory, DiskFault, TooMany, Closed, Down}
 use Rattle.tus_session.proofs.Limiting.{still_limits}
-use Rattle.gateway_script.specs.Connections.{Gives, Does, Falls, Unasked, mark_of}
+use Rattle.gateway_script.specs.Connections.{Gives, Does, mark_of}
 use Rattle.gateway_script.specs.Images.{shown_by}
 use Rattle.gateway_engine.specs.Gateways.{GatewayStands, is_down}
 use Rattle.gateway_engine.specs.declared.gateway.Gateway.{Gateway}
@@ -149,31 +149,3 @@ module _ {before now : ℕ} {left_only left_only' : Option ℕ → ℕ → List 
   shown_behind (Err TooMany) made unmade = made
   shown_behind (Err Closed) made unmade = made
   shown_behind (Err Down) made unmade = made
-
--- WHETHER THE GATEWAY IS DOWN
-fell : {T : Type 0} (was now : Bool) (result : Result T SessionError) → was ≡ false → FallsBy now result
-    → (was ≡ true) ⊎ IsErrOf result DiskFault → now ≡ true
-fell was now result up falls (inl down) = let f : false ≡ true = sym up ∙ down in absurd (cc)
-fell was now result up falls (inr failed) = falls.1 failed
-
--- it wasn't before a call of the session, which never answers `Down`
-pub falls_up : {T : Type 0} (was now : Bool) (result : Result T SessionError) → was ≡ false → FallsBy now result
-    → (IsErrOf result Down → ⊥) → Falls was now result
-falls_up was now result up falls no_down = record {
-  refused = (λ down. absurd (no_down down), λ down. let f : false ≡ true = sym up ∙ down in absurd (cc));
-  falls = (λ down. inr (falls.0 down), λ x. fell was now result up falls x);
-}
-
--- it was before, and the session isn't called
-pub falls_down : {T : Type 0} (was : Bool) (result : Result T SessionError) → was ≡ true → IsErrOf result Down
-    → Falls was was result
-falls_down was result down refused =
-    record { refused = (λ x. down, λ x. refused); falls = (λ x. inl x, λ x. down) }
-
-quiet_same : (moment : ℕ) (left_only : Option ℕ → ℕ → List Store → Type 0) → Quiet moment moment left_only left_only
-quiet_same moment left_only = record { later = omega arith; keeps = λ n t ms le left. left }
-
-pub unasked : (moment failures : ℕ) (left_only : Option ℕ → ℕ → List Store → Type 0)
-    → Unasked moment moment left_only left_only failures failures
-unasked moment failures left_only =
-    record { forth = quiet_same moment left_only; back = quiet_same moment left_only; count = refl }

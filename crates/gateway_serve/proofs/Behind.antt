@@ -1,5 +1,5 @@
 -- What serving did, behind one call of the session more.
-use Rattle.std.proofs.Common.{◌≡◌, ◌↔◌, ℕ, false, true, List, ◌∷◌, Result, Ok, Err, refl}
+use Rattle.std.proofs.Common.{◌≡◌, ◌↔◌, ℕ, false, true, List, ◌∷◌, Result, Ok, Err, inr, refl}
 use Rattle.std.specs.Prelude.{IsErr, IsErrOf}
 use Rattle.spool_disk.specs.declared.disk.DiskFault.{DiskFault}
 use Rattle.upload_rules.specs.Answers.{Among, Limits}
@@ -7,7 +7,7 @@ use Rattle.upload_rules.specs.Store.{Store}
 use Rattle.tus_session.specs.History.{State, Event, Marked, Served, OutOfMemory, Failed, step, history}
 use Rattle.tus_session.specs.declared.errors.SessionError.{SessionError}
 use Rattle.tus_session.specs.declared.errors.SessionError.TheVariants as errors
-use Rattle.gateway_script.specs.Connections.{mark_of, UnlessFailed}
+use Rattle.gateway_script.specs.Connections.{Falls, mark_of, UnlessFailed}
 use Rattle.gateway_script.specs.Images.{shown_by}
 use Rattle.gateway_script.specs.declared.connections.Connections.{Ghosts}
 use Rattle.gateway_script.proofs.Seen.{limits_step, last_step}
@@ -34,21 +34,24 @@ module _ {C : Type 0} (c : Ghosts C) (before old now : C) (st : State) (past : L
 
   module _ (On Down : List Marked → Type 0) where
     pub served : {T U : Type 0} (answer : Result T SessionError) (told : Result U DiskFault) → GoesOn answer told → Keeps answer → Leaves answer
-        → ((Faults answer → ⊥) → On ((e, mark_of answer) ∷ past)) → (Faults answer → Down ((e, mark_of answer) ∷ past)) → Serves c before now st told On Down
-    served (Ok x) (Ok y) same keeps leaves on down = ((e, Served) ∷ past, record { stands = keeps; images = limits_step st past e Served w.images leaves }, on (λ f. absurd (cc)))
-    served (Ok x) (Err y) same keeps leaves on down = let f : Ok x ≡ Err errors.DiskFault = same.0 refl in absurd (cc)
-    served (Err errors.NoMemory) (Ok y) same keeps leaves on down =
+        → Falls (c.down old) (c.down now) answer → ((Faults answer → ⊥) → On ((e, mark_of answer) ∷ past)) → (Faults answer → Down ((e, mark_of answer) ∷ past)) → Serves c before now st told On Down
+    served (Ok x) (Ok y) same keeps leaves falls on down = ((e, Served) ∷ past, record { stands = keeps; images = limits_step st past e Served w.images leaves }, on (λ f. absurd (cc)))
+    served (Ok x) (Err y) same keeps leaves falls on down = let f : Ok x ≡ Err errors.DiskFault = same.0 refl in absurd (cc)
+    served (Err errors.NoMemory) (Ok y) same keeps leaves falls on down =
         ((e, OutOfMemory) ∷ past, record { stands = keeps; images = limits_step st past e OutOfMemory w.images leaves }, on (λ f. absurd (cc)))
-    served (Err errors.NoMemory) (Err y) same keeps leaves on down = let f : Err errors.NoMemory ≡ Err errors.DiskFault = same.0 refl in absurd (cc)
-    served (Err errors.TooMany) (Ok y) same keeps leaves on down =
+    served (Err errors.NoMemory) (Err y) same keeps leaves falls on down = let f : Err errors.NoMemory ≡ Err errors.DiskFault = same.0 refl in absurd (cc)
+    served (Err errors.TooMany) (Ok y) same keeps leaves falls on down =
         ((e, Served) ∷ past, record { stands = keeps; images = limits_step st past e Served w.images leaves }, on (λ f. absurd (cc)))
-    served (Err errors.TooMany) (Err y) same keeps leaves on down = let f : Err errors.TooMany ≡ Err errors.DiskFault = same.0 refl in absurd (cc)
-    served (Err errors.Closed) (Ok y) same keeps leaves on down =
+    served (Err errors.TooMany) (Err y) same keeps leaves falls on down = let f : Err errors.TooMany ≡ Err errors.DiskFault = same.0 refl in absurd (cc)
+    served (Err errors.Closed) (Ok y) same keeps leaves falls on down =
         ((e, Served) ∷ past, record { stands = keeps; images = limits_step st past e Served w.images leaves }, on (λ f. absurd (cc)))
-    served (Err errors.Closed) (Err y) same keeps leaves on down = let f : Err errors.Closed ≡ Err errors.DiskFault = same.0 refl in absurd (cc)
-    served (Err errors.DiskFault) (Ok y) same keeps leaves on down = let f : false ≡ true = same.1 refl in absurd (cc)
-    served (Err errors.DiskFault) (Err y) same keeps leaves on down =
-        (past, e, record { images = limits_step st past e Failed w.images leaves; last = last_step st past e Failed durable leaves }, down refl)
+    served (Err errors.Closed) (Err y) same keeps leaves falls on down = let f : Err errors.Closed ≡ Err errors.DiskFault = same.0 refl in absurd (cc)
+    served (Err errors.Down) (Ok y) same keeps leaves falls on down =
+        ((e, Served) ∷ past, record { stands = keeps; images = limits_step st past e Served w.images leaves }, on (λ f. absurd (cc)))
+    served (Err errors.Down) (Err y) same keeps leaves falls on down = let f : Err errors.Down ≡ Err errors.DiskFault = same.0 refl in absurd (cc)
+    served (Err errors.DiskFault) (Ok y) same keeps leaves falls on down = let f : false ≡ true = same.1 refl in absurd (cc)
+    served (Err errors.DiskFault) (Err y) same keeps leaves falls on down =
+        (past, e, record { images = limits_step st past e Failed w.images leaves; last = last_step st past e Failed durable leaves; down = falls.falls.1 (inr refl) }, down refl)
 
 -- what holds of the events behind a part of serving, from what it says of them
 pub followed : {C T : Type 0} (c : Ghosts C) (before now : C) (st : State) (On Down On' Down' : List Marked → Type 0) (told : Result T DiskFault) → Serves c before now st told On Down

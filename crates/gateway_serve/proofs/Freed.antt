@@ -2,7 +2,7 @@
 use Rattle.std.proofs.Common.{◌≡◌, ℕ, ◌==◌, List, [], ◌∷◌, ◌++◌, None, Result, Ok, Err, refl, sym, ◌∙◌, ap, subst, append-nil}
 use Rattle.tus_session.specs.History.{State, Ended, Mark, Marked, history}
 use Rattle.tus_session.specs.declared.errors.SessionError.{SessionError}
-use Rattle.tus_session.specs.declared.errors.SessionError.TheVariants.{NoMemory, DiskFault, TooMany, Closed}
+use Rattle.tus_session.specs.declared.errors.SessionError.TheVariants.{NoMemory, DiskFault, TooMany, Closed, Down}
 use Rattle.gateway_script.specs.Connections.{mark_of}
 use Rattle.gateway_serve.specs.Conversations.{Conversation, latest, hung_up, conversations}
 use Rattle.gateway_serve.specs.Sockets as sockets
@@ -63,6 +63,7 @@ module _ (ended : List Seen) (st : State) (past : List Marked) (n : ℕ) where
   told_none (Err NoMemory) ok = ended_lost (history st past) n
   told_none (Err TooMany) ok = ended_shuts (history st past) n
   told_none (Err Closed) ok = ended_shuts (history st past) n
+  told_none (Err Down) ok = ended_shuts (history st past) n
   told_none (Err DiskFault) ok = absurd (ok refl)
 
   pub told_freed : {S : Type 0} (p : Place S) (answer : Result (Unit {0}) SessionError) → (p ≡ Free → ⊥) → (answer ≡ Err DiskFault → ⊥) → PlaceJoins p (seen_of n ended) st past n

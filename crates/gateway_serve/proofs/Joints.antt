@@ -4,7 +4,7 @@ use Rattle.std.proofs.lemmas.List.{take-append-drop, length-append}
 use Rattle.tus_session.specs.History.{State, Event, Came, More, Mark, Marked, Served, OutOfMemory, Failed, Outcome, history, step}
 use Rattle.tus_session.specs.declared.answers.Answer.{Answer}
 use Rattle.tus_session.specs.declared.errors.SessionError.{SessionError}
-use Rattle.tus_session.specs.declared.errors.SessionError.TheVariants.{NoMemory, DiskFault, TooMany, Closed}
+use Rattle.tus_session.specs.declared.errors.SessionError.TheVariants.{NoMemory, DiskFault, TooMany, Closed, Down}
 use Rattle.gateway_script.specs.Connections.{mark_of, told, Adds}
 use Rattle.gateway_serve.specs.Conversations.{longer, latest, goes_on, conversations}
 use Rattle.gateway_serve.specs.Sockets.{Seen}
@@ -122,6 +122,10 @@ module _ (ended : List Seen) (st : State) (past : List Marked) (n : ℕ) where
       still_joins (Came n j.input) Served j output [] [] j.input true is
       (talks_here st past (Came n j.input) Served ∙ ap (λ o. goes_on (Came n j.input) o (conversations st past n)) same) refl adds
       (λ e. came_shuts (history st past) n j.input (subst Shuts (sym same) (tt {0})))
+  came_joins (Err Down) bytes j output ok same adds is =
+      still_joins (Came n j.input) Served j output [] [] j.input true is
+      (talks_here st past (Came n j.input) Served ∙ ap (λ o. goes_on (Came n j.input) o (conversations st past n)) same) refl adds
+      (λ e. came_shuts (history st past) n j.input (subst Shuts (sym same) (tt {0})))
   came_joins (Err DiskFault) bytes j output ok same adds is = absurd (ok refl)
 
   -- the device failed
@@ -132,6 +136,7 @@ module _ (ended : List Seen) (st : State) (past : List Marked) (n : ℕ) where
   came_fell (Err NoMemory) bytes j output fails same adds is = absurd (cc)
   came_fell (Err TooMany) bytes j output fails same adds is = absurd (cc)
   came_fell (Err Closed) bytes j output fails same adds is = absurd (cc)
+  came_fell (Err Down) bytes j output fails same adds is = absurd (cc)
   came_fell (Err DiskFault) bytes j output fails same adds is =
       still_joins (Came n j.input) Failed j output [] [] j.input j.closed is
       (talks_here st past (Came n j.input) Failed ∙ ap (λ o. goes_on (Came n j.input) o (conversations st past n)) same) refl adds
@@ -161,6 +166,10 @@ module _ (ended : List Seen) (st : State) (past : List Marked) (n : ℕ) where
       still_joins (More n) Served j output [] [] j.input true is
       (talks_here st past (More n) Served ∙ ap (λ o. goes_on (More n) o (conversations st past n)) same) refl adds
       (λ e. more_shuts (history st past) n (subst Shuts (sym same) (tt {0})))
+  more_joins (Err Down) bytes j output ok same adds is =
+      still_joins (More n) Served j output [] [] j.input true is
+      (talks_here st past (More n) Served ∙ ap (λ o. goes_on (More n) o (conversations st past n)) same) refl adds
+      (λ e. more_shuts (history st past) n (subst Shuts (sym same) (tt {0})))
   more_joins (Err DiskFault) bytes j output ok same adds is = absurd (ok refl)
 
   pub more_fell : (answer : Result Answer SessionError) (bytes : List ℕ) (j : Joint) (output : List ℕ) → answer ≡ Err DiskFault
@@ -170,6 +179,7 @@ module _ (ended : List Seen) (st : State) (past : List Marked) (n : ℕ) where
   more_fell (Err NoMemory) bytes j output fails same adds is = absurd (cc)
   more_fell (Err TooMany) bytes j output fails same adds is = absurd (cc)
   more_fell (Err Closed) bytes j output fails same adds is = absurd (cc)
+  more_fell (Err Down) bytes j output fails same adds is = absurd (cc)
   more_fell (Err DiskFault) bytes j output fails same adds is =
       still_joins (More n) Failed j output [] [] j.input j.closed is
       (talks_here st past (More n) Failed ∙ ap (λ o. goes_on (More n) o (conversations st past n)) same) refl adds

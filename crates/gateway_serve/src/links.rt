@@ -235,7 +235,12 @@ fn next_behind(answer: Result<Answer, SessionError>) -> Result<Next, DiskFault>
             taken: answer.taken,
         }),
         Err(SessionError::DiskFault) => Err(DiskFault),
-        Err(SessionError::NoMemory | SessionError::TooMany | SessionError::Closed) => Ok(Next {
+        Err(
+            SessionError::NoMemory
+            | SessionError::TooMany
+            | SessionError::Closed
+            | SessionError::Down,
+        ) => Ok(Next {
             stage: Stage::Closed,
             taken: 0,
         }),

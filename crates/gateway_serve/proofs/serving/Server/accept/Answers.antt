@@ -21,7 +21,7 @@ returns-in-Ok-clause-serves g c = λ before st past went joins.
     let goes : GoesOn c.opened.result told = (λ e. absurd (cc), λ f. let x = c.in-Ok.is in absurd (cc)) in
     let all = same_join (places_of c.args.self.now) (places_of c.free_place.new.self) (ended_of c.args.self.now) ended st past c.free_place.ensures.same c.free_place.ensures.ended joins in
     served g.C.Connections before c.args.gateway.now c.opened.new.self st past (Opened n) went (λ ms among. g.met.C.Connections.durable c.args.gateway.now _ ms went.stands among)
-    _ (λ now. Unit {0}) c.opened.result told goes does.keeps (quiet_limits _ _ c.opened.ensures.crash)
+    _ (λ now. Unit {0}) c.opened.result told goes does.keeps (quiet_limits _ _ c.opened.ensures.crash) c.opened.ensures.falls
     (λ ok. all_opened (places_of c.free_place.new.self) n ended st past c.opened.result does.answer all c.in-Some.ensures.free.1 c.open.result c.in-Some.ensures.free.0 c.open.ensures tt c.in-Ok.is)
     (λ fails. tt)
 
@@ -35,5 +35,5 @@ returns-in-Err-clause-serves g c = λ before st past went joins.
     let kept = all_unopened (places_of c.free_place.new.self) n ended st past answer does.answer all c.in-Some.ensures.free.1 c.in-Err.error refl in
     served g.C.Connections before c.args.gateway.now c.opened.new.self st past (Opened n) went (λ ms among. g.met.C.Connections.durable c.args.gateway.now _ ms went.stands among)
     (AllJoin (places_of c.free_place.new.self) ended st) (AllFell (places_of c.free_place.new.self) ended st)
-    answer c.unless_failed.result c.unless_failed.ensures does.keeps (quiet_limits _ _ c.opened.ensures.crash)
+    answer c.unless_failed.result c.unless_failed.ensures does.keeps (quiet_limits _ _ c.opened.ensures.crash) c.in-Err.ensures.falls
     (λ ok. kept) (λ fails. all_fall (places_of c.free_place.new.self) ended st _ kept)
