@@ -12,8 +12,7 @@ use tus_session::SessionError;
 use upload_rules::Uploads;
 
 /// Makes an upload of five bytes.
-const POST: &[u8] =
-    b"POST /files HTTP/1.1\r\nTus-Resumable: 1.0.0\r\nUpload-Length: 5\r\n\r\n";
+const POST: &[u8] = b"POST /files HTTP/1.1\r\nTus-Resumable: 1.0.0\r\nUpload-Length: 5\r\n\r\n";
 
 /// A spool of 16 blocks, without uploads and without index files.
 fn fresh(alloc: Global) -> Result<MemoryDisk, Fail> {
