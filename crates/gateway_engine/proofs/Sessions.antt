@@ -1,12 +1,14 @@
 -- A session's calls as those of connections.
-use Rattle.std.proofs.Common.{◌≡◌, Bool, true, false, ℕ, List, [], Option, Some, None, Result, Ok, Err, refl, sym, subst, ap, nat_lt, if◌then◌else◌}
+use Rattle.std.proofs.Common.{◌≡◌, Bool, true, false, ℕ, List, [], Option, Some, None, Result, Ok, Err, refl, sym}
+use Rattle.std.proofs.Common.{subst, ap, nat_lt, if◌then◌else◌}
 use Rattle.std.specs.Prelude.{◌↔◌, IsErrOf}
 use Rattle.std.proofs.lemmas.Bool.{false_from_ne_true}
 use Rattle.upload_rules.specs.declared.uploads.Uploads.{Ghosts}
 use Rattle.upload_rules.specs.Store.{Store}
 use Rattle.upload_rules.specs.Answers.{Limits}
 use Rattle.tus_session.specs.Turns.{Conn, fresh}
-use Rattle.tus_session.specs.History.{State, Event, Opened, Came, More, Ended, Served, Done, Refused, Step, step, put, kept, opened_at, came_at, more_at, ended_at}
+use Rattle.tus_session.specs.History.{State, Event, Opened, Came, More, Ended, Served, Done, Refused, Step, step, put}
+use Rattle.tus_session.specs.History.{kept, opened_at, came_at, more_at, ended_at}
 use Rattle.tus_session.specs.Places.{places_of}
 use Rattle.tus_session.specs.Stands.{SessionStands}
 use Rattle.tus_session.specs.Told as told
@@ -56,7 +58,8 @@ ManyStays st t = (f : SessionError) → t.outcome ≡ Refused f → (f ≡ TooMa
 refusal_is : (f g : SessionError) → Refused f ≡ Refused g → g ≡ f
 refusal_is f g e = sym (ap (λ o. elim o as (λ _. SessionError) [ Refused x ↦ x | _ ↦ f ]) e)
 
-many_case : (st : State) (c : ℕ) (b : Bool) → ManyStays st (if b then record { state = put st st.world c (Some fresh); outcome = Done } else kept st TooMany)
+many_case : (st : State) (c : ℕ) (b : Bool)
+    → ManyStays st (if b then record { state = put st st.world c (Some fresh); outcome = Done } else kept st TooMany)
 many_case st c true f e = absurd (cc)
 many_case st c false f e = (refusal_is TooMany f e, refl)
 
@@ -139,8 +142,10 @@ module _ {U B : Type 0} (u : Ghosts U B) (g : Gateway U B) (st : State) (e : Eve
   opens_does (Err Down) up stays t = let f : Down ≡ TooMany = (stays Down t.outcome).0 in absurd (cc)
 
 -- what images may show behind a call
-module _ {before now : ℕ} {left_only left_only' : Option ℕ → ℕ → List Store → Type 0} {T : Type 0} (st : State) (e : Event) where
-  pub shown_behind : (result : Result T SessionError) → Limits before now left_only left_only' st.world.store (step st e Served).state.world.store
+module _ {before now : ℕ} {left_only left_only' : Option ℕ → ℕ → List Store → Type 0} {T : Type 0} (st : State)
+    (e : Event) where
+  pub shown_behind : (result : Result T SessionError) → Limits before now left_only left_only' st.world.store
+      (step st e Served).state.world.store
       → (IsErrOf result NoMemory → Limits before now left_only left_only' st.world.store st.world.store)
       → Limits before now left_only left_only' st.world.store (shown_by st e (mark_of result))
   shown_behind (Ok x) made unmade = made

@@ -64,25 +64,29 @@ impl<D: Disk> Gateway<Spool<D>> {
     }
 }
 
-/// Runs a script from `reader` over the spool on a disk, and writes to `writer` what its calls give. The disk is handed back.
+/// Runs a script from `reader` over the spool on a disk, and writes to `writer` what its calls give. The disk is handed
+/// back.
 ///
 /// The script is read whole before its first line is run, and behind the opening of the spool.
 ///
-/// Refused with `Open` where the disk isn't opened, then with `NoMemory` where a growth outside the calls was refused, `DiskFault`, `Script` of the
-/// first line that is none or too long, and `Io`. What was committed and written before stands.
+/// Refused with `Open` where the disk isn't opened, then with `NoMemory` where a growth outside the calls was refused,
+/// `DiskFault`, `Script` of the first line that is none or too long, and `Io`. What was committed and written before
+/// stands.
 pub fn run<D: Disk, R: CountedRead, W: CountedWrite>(
     alloc: Global,
     reader: &mut R,
     writer: &mut W,
     disk: D,
 ) -> Result<D, (D, RunFault)>
-    // Over a disk of which a read shows uploads: the exit and the output are the script's, by a mark for each call, and images show the uploads of its history.
+    // Over a disk of which a read shows uploads: the exit and the output are the script's, by a mark for each call, and
+    // images show the uploads of its history.
     ensures runs { (n : ℕ) (m : Store) → IsSpool D.Disk disk n m
         → (script : List ℕ) × IsScript (R.remaining reader.old) script
         × HasRunOn D.Disk disk result (W.contents writer.new) (W.contents writer.old) n (beginning m (Some n)) script }
 
     // A disk that isn't opened: nothing is read and nothing written.
-    ensures unopened { Unopened result ((R.remaining reader.new ≡ R.remaining reader.old) × (W.contents writer.new ≡ W.contents writer.old)) }
+    ensures unopened { Unopened result ((R.remaining reader.new ≡ R.remaining reader.old)
+        × (W.contents writer.new ≡ W.contents writer.old)) }
     ensures counts { Counts (HasFailedOn result) (D.failures disk) (D.failures (disk_back result)) }
 
     // `Io` exactly where the reader or the writer refused a call.

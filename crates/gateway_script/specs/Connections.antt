@@ -30,7 +30,8 @@ UnlessFailed (Err DiskFault) stands = Unit {0}
 UnlessFailed result stands = stands
 
 -- the history answers so, and the connections are where it is
-pub record Keeps {T : Type 0} (stands : State → Type 0) (result : Result T SessionError) (outcome : Outcome) (now : Step) : Type 0 where
+pub record Keeps {T : Type 0} (stands : State → Type 0) (result : Result T SessionError) (outcome : Outcome)
+    (now : Step) : Type 0 where
   pub answer : now.outcome ≡ outcome
   pub keeps : UnlessFailed result (stands now.state)
 

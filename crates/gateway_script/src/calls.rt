@@ -58,8 +58,10 @@ pub(crate) fn open<C: Connections, W: CountedWrite>(
     writer: &mut W,
     conn: usize,
 ) -> Result<(), CallFault>
-    ensures does { (before : C) (st : State) (r : Run) (front : Option (List ℕ)) → IsAt (view C.Connections before core.old st (W.contents writer.old) front) r
-        → Went (view C.Connections before core.new st (W.contents writer.new) front) result (λ x. (call x conn (Opened conn)).run) r }
+    ensures does { (before : C) (st : State) (r : Run) (front : Option (List ℕ))
+        → IsAt (view C.Connections before core.old st (W.contents writer.old) front) r
+        → Went (view C.Connections before core.new st (W.contents writer.new) front) result
+        (λ x. (call x conn (Opened conn)).run) r }
     ensures counts { Counts (IsErrOf result CallFault.DiskFault) (C.failures core.old) (C.failures core.new) }
     ensures io { Counts (IsErrOf result CallFault.Io) (W.refusals writer.old) (W.refusals writer.new) }
 {
@@ -76,8 +78,10 @@ pub(crate) fn cut<C: Connections, W: CountedWrite>(
     writer: &mut W,
     conn: usize,
 ) -> Result<(), CallFault>
-    ensures does { (before : C) (st : State) (r : Run) (front : Option (List ℕ)) → IsAt (view C.Connections before core.old st (W.contents writer.old) front) r
-        → Went (view C.Connections before core.new st (W.contents writer.new) front) result (λ x. (call x conn (Ended conn)).run) r }
+    ensures does { (before : C) (st : State) (r : Run) (front : Option (List ℕ))
+        → IsAt (view C.Connections before core.old st (W.contents writer.old) front) r
+        → Went (view C.Connections before core.new st (W.contents writer.new) front) result
+        (λ x. (call x conn (Ended conn)).run) r }
     ensures counts { Counts (IsErrOf result CallFault.DiskFault) (C.failures core.old) (C.failures core.new) }
     ensures io { Counts (IsErrOf result CallFault.Io) (W.refusals writer.old) (W.refusals writer.new) }
 {
@@ -95,8 +99,10 @@ pub(crate) fn came<C: Connections, W: CountedWrite>(
     conn: usize,
     bytes: &[u8],
 ) -> Result<Option<Answer>, CallFault>
-    ensures does { (before : C) (st : State) (r : Run) (front : Option (List ℕ)) → IsAt (view C.Connections before core.old st (W.contents writer.old) front) r
-        → Called (view C.Connections before core.new st (W.contents writer.new) front) result conn (Came conn bytes.now) r }
+    ensures does { (before : C) (st : State) (r : Run) (front : Option (List ℕ))
+        → IsAt (view C.Connections before core.old st (W.contents writer.old) front) r
+        → Called (view C.Connections before core.new st (W.contents writer.new) front) result conn
+        (Came conn bytes.now) r }
     ensures counts { Counts (IsErrOf result CallFault.DiskFault) (C.failures core.old) (C.failures core.new) }
     ensures io { Counts (IsErrOf result CallFault.Io) (W.refusals writer.old) (W.refusals writer.new) }
 {
@@ -120,7 +126,8 @@ pub(crate) fn more<C: Connections, W: CountedWrite>(
     writer: &mut W,
     conn: usize,
 ) -> Result<Option<Answer>, CallFault>
-    ensures does { (before : C) (st : State) (r : Run) (front : Option (List ℕ)) → IsAt (view C.Connections before core.old st (W.contents writer.old) front) r
+    ensures does { (before : C) (st : State) (r : Run) (front : Option (List ℕ))
+        → IsAt (view C.Connections before core.old st (W.contents writer.old) front) r
         → Called (view C.Connections before core.new st (W.contents writer.new) front) result conn (More conn) r }
     ensures counts { Counts (IsErrOf result CallFault.DiskFault) (C.failures core.old) (C.failures core.new) }
     ensures io { Counts (IsErrOf result CallFault.Io) (W.refusals writer.old) (W.refusals writer.new) }

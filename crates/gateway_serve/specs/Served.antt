@@ -7,9 +7,11 @@ use Rattle.gateway_script.specs.declared.connections.Connections.{Ghosts}
 use Rattle.gateway_serve.specs.Conversations.{conversations}
 use Rattle.gateway_serve.specs.Sockets.{Seen, seen_of, Fits, Served, Pairs}
 
--- from the connections before these events to those now, images are limited to the uploads behind all of the events, all but the latest, and so on
+-- from the connections before these events to those now, images are limited to the uploads behind all of the events,
+-- all but the latest, and so on
 abbrev pub ImagesShow : {C : Type 0} → Ghosts C → C → C → State → List Marked → Type 0
-ImagesShow c before now st past = LimitsTo (c.moment before) (c.moment now) (c.left_only before) (c.left_only now) (stores_of st past)
+ImagesShow c before now st past = LimitsTo (c.moment before) (c.moment now) (c.left_only before) (c.left_only now)
+    (stores_of st past)
 
 -- these events came, and the connections are where their history is
 pub record WentOn {C : Type 0} (c : Ghosts C) (before now : C) (st : State) (past : List Marked) : Type 0 where
@@ -23,10 +25,13 @@ pub record WentDown {C : Type 0} (c : Ghosts C) (before now : C) (st : State) (p
   pub last : ShowsLast (c.moment now) (c.left_only now) st past
   pub down : c.down now ≡ true
 
--- What a part of serving did: some events came, of which the one fact holds, or the other where the device failed at the latest
-abbrev pub Serves : {C T : Type 0} → Ghosts C → C → C → State → Result T DiskFault → (List Marked → Type 0) → (List Marked → Type 0) → Type 0
+-- What a part of serving did: some events came, of which the one fact holds, or the other where the device failed at
+-- the latest
+abbrev pub Serves : {C T : Type 0} → Ghosts C → C → C → State → Result T DiskFault → (List Marked → Type 0)
+    → (List Marked → Type 0) → Type 0
 Serves c before now st (Ok x) On Down = (past : List Marked) × WentOn c before now st past × On past
-Serves c before now st (Err fault) On Down = (past : List Marked) × (e : Event) × WentDown c before now st ((e, Failed) ∷ past) × Down ((e, Failed) ∷ past)
+Serves c before now st (Err fault) On Down = (past : List Marked) × (e : Event)
+    × WentDown c before now st ((e, Failed) ∷ past) × Down ((e, Failed) ∷ past)
 
 -- the connection is as it was before these events: closed, if it was
 abbrev pub IsBack : State → List Marked → ℕ → Type 0

@@ -81,7 +81,8 @@ fn all_blocks_are_owned(rt: HostRuntime) -> Result<(), Fail> {
     Ok(())
 }
 
-/// An upload of five bytes is made and filled, the disk stops at each of its calls in turn, and then a crash of this kind comes.
+/// An upload of five bytes is made and filled, the disk stops at each of its calls in turn, and then a crash of this
+/// kind comes.
 fn stop_at_each_call(rt: &impl Abort, alloc: Global, kind: Crash) -> Result<(), Fail> {
     let mut talk = Talk::new(alloc);
     talk.open(1)?;

@@ -4,10 +4,13 @@ use Rattle.gateway_engine.proofs.gateway.GatewayConnections.came.Goals as goal
 
 pub returns-clause-gives : goal.returns-clause-gives
 returns-clause-gives g c = λ st stands.
-    told_gives g.U.Uploads _ st (Came c.args.conn c.args.bytes.now) c.came-answer.result c.args.out.now.items c.came-answer.new.out.items
-    c.failed-self.ensures (came_refused st c.args.conn c.args.bytes.now) (c.came-answer.ensures.answer st stands.session)
+    told_gives g.U.Uploads _ st (Came c.args.conn c.args.bytes.now) c.came-answer.result c.args.out.now.items
+    c.came-answer.new.out.items
+    c.failed-self.ensures (came_refused st c.args.conn c.args.bytes.now)
+    (c.came-answer.ensures.answer st stands.session)
 
 pub returns-clause-crash : goal.returns-clause-crash
 returns-clause-crash g c = λ st stands.
-    shown_behind st (Came c.args.conn c.args.bytes.now) c.came-answer.result (c.came-answer.ensures.crash st stands.session)
+    shown_behind st (Came c.args.conn c.args.bytes.now) c.came-answer.result
+    (c.came-answer.ensures.crash st stands.session)
     (λ none_left. c.came-answer.ensures.unmade st stands.session none_left)
