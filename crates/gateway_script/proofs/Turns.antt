@@ -22,8 +22,7 @@ use Rattle.gateway_script.proofs.Seen.{seen_behind, Leaves, OnDevice, history_on
 pub leads_call : (r : Run) (n : ℕ) (e : Event) (m : Mark) (rest : List Mark)
     → call (with_marks r (m ∷ rest)) n e ≡ record {
       run = with_marks (stepped r n e m) rest;
-      outcome =
-          (step r.state e m).outcome;
+      outcome = (step r.state e m).outcome;
     }
 unfolding call
 leads_call r n e m rest = refl

@@ -123,8 +123,7 @@ stepped r n e m =
       past = (e, m) ∷ r.past;
       marks = [];
       out = r.out ++ written n t.outcome;
-      down =
-          is_fault t.outcome;
+      down = is_fault t.outcome;
     }
 
 -- a call leads there and answers so, by some mark

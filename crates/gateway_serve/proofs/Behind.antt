@@ -86,8 +86,7 @@ module _ {C : Type 0} (c : Ghosts C) (before old now : C) (st : State) (past : L
       e,
       record {
         images = limits_step st past e Failed w.images leaves;
-        last =
-            last_step st past e Failed durable leaves;
+        last = last_step st past e Failed durable leaves;
         down = falls.falls.1 (inr refl);
       },
       down refl,

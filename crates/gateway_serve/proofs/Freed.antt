@@ -59,8 +59,7 @@ module _ (ended : List Seen) (st : State) (past : List Marked) (n : ℕ) where
       let served : sockets.Served (seen_at n j) (hung_up is.latest) =
       record {
         fits = record { taken = (j.input, is.taken, is.few); written = (j.output, sym is.given) };
-        whole =
-            λ e. absurd (cc);
+        whole = λ e. absurd (cc);
       } in
       let talks : conversations st ((Ended n, m) ∷ past) n ≡ hung_up is.latest ∷ is.others = talks_here st past
       (Ended n) m ∙ ap (latest hung_up) is.talks in

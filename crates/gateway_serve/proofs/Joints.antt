@@ -75,8 +75,7 @@ module _ (ended : List Seen) (st : State) (past : List Marked) (n : ℕ) where
         went = j.went;
         input = drop (taken_behind answer) j.input;
         output = output;
-        closed =
-            is_last (stage_behind answer);
+        closed = is_last (stage_behind answer);
       }
 
   abbrev pub kept : Joint → List ℕ → Joint
@@ -178,8 +177,7 @@ module _ (ended : List Seen) (st : State) (past : List Marked) (n : ℕ) where
     went = j.went;
     input = j.input;
     output = output;
-    closed =
-        is_last (stage_behind answer);
+    closed = is_last (stage_behind answer);
   }
 
   more_joins : (answer : Result Answer SessionError) (bytes : List ℕ) (j : Joint) (output : List ℕ)
@@ -240,16 +238,14 @@ module _ (ended : List Seen) (st : State) (past : List Marked) (n : ℕ) where
         went = j.went;
         input = input;
         output = output;
-        closed =
-            is_last x;
+        closed = is_last x;
       }) ended st ((Came n j.input, mark_of answer) ∷ past) n) (sym s)
       (subst (λ (x : List ℕ). Joins (record {
         came = j.came;
         went = j.went;
         input = x;
         output = output;
-        closed =
-            is_last (stage_behind answer);
+        closed = is_last (stage_behind answer);
       }) ended st ((Came n j.input, mark_of answer) ∷ past) n)
       (sym (i ∙ ap (λ x. drop x j.input) k)) (came_joins answer bytes j output ok same adds is))
 
@@ -293,7 +289,6 @@ module _ (ended : List Seen) (st : State) (past : List Marked) (n : ℕ) where
         went = j.went;
         input = j.input;
         output = output;
-        closed =
-            is_last x;
+        closed = is_last x;
       }) ended st ((More n, mark_of answer) ∷ past) n) (sym s)
       (more_joins answer bytes j output ok same adds is)

@@ -168,8 +168,7 @@ module _ (w : World) (s : List ℕ) (d : ℕ) (asked : Asked) (inside : (cut (re
         world = m.world;
         conn = if m.closes then None else Some (plain (s ++ q) None);
         bytes = m.bytes;
-        taken =
-            n;
+        taken = n;
       }
 
   with_acted : List ℕ → ℕ → Acted → Turn

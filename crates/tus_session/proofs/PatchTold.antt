@@ -86,8 +86,7 @@ module _ (w : World) (conn : Conn) (h bytes : List ℕ) (n before : ℕ) (r : Re
       let m : Moments = record {
         head = Some (judged_as (h ++ bytes) n (Asks r));
         body = None;
-        came =
-            drop before bytes;
+        came = drop before bytes;
       } in
       part_turn_is w conn h is.inside bytes n before (Asks r) is.judged is.before_is few
       ∙ (ap (came_with conn bytes (length bytes) m) opened_is
@@ -107,8 +106,7 @@ module _ (w : World) (conn : Conn) (h bytes : List ℕ) (n before : ℕ) (r : Re
     conn = if ended.closes then None else Some
         (plain (conn.stream ++ take (before + r.length) bytes) None);
     bytes = reply ++ ended.bytes;
-    taken =
-        before + r.length;
+    taken = before + r.length;
   }
 
   with_acted : Acted → Turn
@@ -116,8 +114,7 @@ module _ (w : World) (conn : Conn) (h bytes : List ℕ) (n before : ℕ) (r : Re
     world = m.world;
     conn = if m.closes then None else Some
         (record { stream = conn.stream ++ take (before + r.length) bytes; draft = m.draft; pending = m.pending });
-    bytes =
-        reply ++ m.bytes;
+    bytes = reply ++ m.bytes;
     taken = before + r.length;
   }
 

@@ -44,8 +44,7 @@ IsOnOpen (Ended c) = Unit {0}
 memory_is : (st : State) (e : Event) (conn : Conn) → IsOnOpen e → st.conns (conn_in e) ≡ Some conn
     → step st e OutOfMemory ≡ record {
       state = put st (left_world st.world conn.draft) (conn_in e) None;
-      outcome =
-          Refused errors.NoMemory;
+      outcome = Refused errors.NoMemory;
     }
 unfolding step
 memory_is st (Opened c) conn on is = absurd on
@@ -149,8 +148,7 @@ module _ {U B : Type 0} (u : Ghosts U B) where
   unfolding step
   none_ended places store st c stands none = record {
     stands = stands;
-    outcome =
-        ap (λ o. (ended_at st c o).outcome) none;
+    outcome = ap (λ o. (ended_at st c o).outcome) none;
   }
 
 pub ended_step : (st : State) (c : ℕ) (conn : Conn) → st.conns c ≡ Some conn

@@ -66,8 +66,7 @@ returns-in-Ok-reply_refused-clause-answer g c w conn stands inside =
     let r : Refusal = record {
       fault = c.in-Refused.fault;
       length = c.in-Refused.length;
-      on_files =
-          c.in-Refused.on_files;
+      on_files = c.in-Refused.on_files;
       bare = c.in-Refused.bare;
       closes = c.in-Refused.closes;
     } in

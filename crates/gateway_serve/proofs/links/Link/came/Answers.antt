@@ -18,8 +18,7 @@ returns-in-Ok-clause-serves g c = λ before st past ended went joins.
     × Joins (joint_of (record c.args.self.now {
       input = c.take.new.self;
       output = c.came-answer.new.self;
-      stage =
-          c.in-Ok.next.stage;
+      stage = c.in-Ok.next.stage;
     })) ended st now n)
     (λ now. Unit {0})
     c.came-answer.result (Ok c.in-Ok.next) c.in-Ok.ensures.fault gives.1.keeps
