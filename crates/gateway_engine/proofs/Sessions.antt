@@ -1,21 +1,27 @@
 -- A session's calls as those of connections.
-use Rattle.std.proofs.Common.{◌≡◌, Bool, true, false, ℕ, List, [], Option, Some, None, Result, Ok, Err, refl, sym, subst, ap, nat_lt, if◌then◌else◌}
-use Rattle.std.specs.Prelude.{IsErrOf}
+use Rattle.std.proofs.Common.{◌≡◌, Bool, true, false, ℕ, List, [], Option, Some, None, Result, Ok, Err, refl, sym}
+use Rattle.std.proofs.Common.{subst, ap, nat_lt, if◌then◌else◌}
+use Rattle.std.specs.Prelude.{◌↔◌, IsErrOf}
+use Rattle.std.proofs.lemmas.Bool.{false_from_ne_true}
 use Rattle.upload_rules.specs.declared.uploads.Uploads.{Ghosts}
 use Rattle.upload_rules.specs.Store.{Store}
 use Rattle.upload_rules.specs.Answers.{Limits}
 use Rattle.tus_session.specs.Turns.{Conn, fresh}
-use Rattle.tus_session.specs.History.{State, Event, Opened, Came, More, Ended, Served, Done, Refused, Step, step, put, kept, opened_at, came_at, more_at, ended_at}
+use Rattle.tus_session.specs.History.{State, Event, Opened, Came, More, Ended, Served, Done, Refused, Step, step, put}
+use Rattle.tus_session.specs.History.{kept, opened_at, came_at, more_at, ended_at}
+use Rattle.tus_session.specs.Places.{places_of}
 use Rattle.tus_session.specs.Stands.{SessionStands}
 use Rattle.tus_session.specs.Told as told
 use Rattle.tus_session.specs.Told.{Told, Opens}
 use Rattle.tus_session.specs.declared.answers.Answer.{Answer}
 use Rattle.tus_session.specs.declared.conns.Place.{Place}
 use Rattle.tus_session.specs.declared.errors.SessionError.{SessionError}
-use Rattle.tus_session.specs.declared.errors.SessionError.TheVariants.{NoMemory, DiskFault, TooMany, Closed}
+use Rattle.tus_session.specs.declared.errors.SessionError.TheVariants.{NoMemory, DiskFault, TooMany, Closed, Down}
 use Rattle.tus_session.proofs.Limiting.{still_limits}
 use Rattle.gateway_script.specs.Connections.{Gives, Does, mark_of}
 use Rattle.gateway_script.specs.Images.{shown_by}
+use Rattle.gateway_engine.specs.Gateways.{GatewayStands, is_down}
+use Rattle.gateway_engine.specs.declared.gateway.Gateway.{Gateway}
 
 -- A REFUSED EVENT LEAVES THE STATE AS IT WAS
 abbrev RefusedStays : State → Step → Type 0
@@ -52,7 +58,8 @@ ManyStays st t = (f : SessionError) → t.outcome ≡ Refused f → (f ≡ TooMa
 refusal_is : (f g : SessionError) → Refused f ≡ Refused g → g ≡ f
 refusal_is f g e = sym (ap (λ o. elim o as (λ _. SessionError) [ Refused x ↦ x | _ ↦ f ]) e)
 
-many_case : (st : State) (c : ℕ) (b : Bool) → ManyStays st (if b then record { state = put st st.world c (Some fresh); outcome = Done } else kept st TooMany)
+many_case : (st : State) (c : ℕ) (b : Bool)
+    → ManyStays st (if b then record { state = put st st.world c (Some fresh); outcome = Done } else kept st TooMany)
 many_case st c true f e = absurd (cc)
 many_case st c false f e = (refusal_is TooMany f e, refl)
 
@@ -64,36 +71,81 @@ pub opened_refused : (st : State) (c : ℕ) → ManyStays st (step st (Opened c)
 unfolding step
 opened_refused st c = opened_stays st c (st.conns c)
 
-module _ {U B : Type 0} (u : Ghosts U B) (places : List (Place B)) (store : U) (st : State) (e : Event) where
+-- the gateway is down where the device failed at the call, and nowhere else
+abbrev pub FallsBy : {T : Type 0} → Bool → Result T SessionError → Type 0
+FallsBy down result = (down ≡ true) ↔ IsErrOf result DiskFault
+
+-- HOW A CALL OF THE SESSION LEAVES THE GATEWAY
+module _ {U B : Type 0} (u : Ghosts U B) (g : Gateway U B) (st : State) (e : Event) where
+  abbrev places : List (Place B)
+  places = places_of g.session
+
   abbrev stands : State → Type 0
-  stands s = SessionStands u places store s
+  stands s = GatewayStands u g s
 
-  pub told_gives : (result : Result Answer SessionError) (old new : List ℕ) → RefusedStays st (step st e Served) → Told u places store result old new st e → Gives stands result old new st e
-  told_gives (Ok a) old new stays t = (t.0, record { answer = t.1.outcome; keeps = t.1.stands }, t.2)
-  told_gives (Err NoMemory) old new stays t = ([], record { answer = t.0.outcome; keeps = t.0.stands }, t.1)
-  told_gives (Err DiskFault) old new stays t = ([], record { answer = t.0; keeps = tt {0} }, t.1)
-  told_gives (Err TooMany) old new stays t =
-      ([], record { answer = t.0.outcome; keeps = subst stands (sym (stays TooMany t.0.outcome)) t.0.stands }, t.1)
-  told_gives (Err Closed) old new stays t =
-      ([], record { answer = t.0.outcome; keeps = subst stands (sym (stays Closed t.0.outcome)) t.0.stands }, t.1)
+  still_up : {T : Type 0} (result : Result T SessionError) → FallsBy (is_down g) result
+      → (IsErrOf result DiskFault → ⊥) → is_down g ≡ false
+  still_up result falls sound = false_from_ne_true (is_down g) (λ down. sound (falls.0 down))
 
-  pub ends_does : (result : Result (Unit {0}) SessionError) → RefusedStays st (step st e Served) → told.Ends u places store result st e → Does stands result st e
-  ends_does (Ok x) stays t = record { answer = t.outcome; keeps = t.stands }
-  ends_does (Err NoMemory) stays t = record { answer = t.outcome; keeps = t.stands }
-  ends_does (Err DiskFault) stays t = record { answer = t; keeps = tt {0} }
-  ends_does (Err TooMany) stays t = record { answer = t.outcome; keeps = subst stands (sym (stays TooMany t.outcome)) t.stands }
-  ends_does (Err Closed) stays t = record { answer = t.outcome; keeps = subst stands (sym (stays Closed t.outcome)) t.stands }
+  at : (s : State) → SessionStands u places g.store s → is_down g ≡ false → GatewayStands u g s
+  at s session up = record { session = session; up = up }
 
-  pub opens_does : (result : Result (Unit {0}) SessionError) → ManyStays st (step st e Served) → Opens u places store result st e → Does stands result st e
-  opens_does (Ok x) stays t = record { answer = t.outcome; keeps = t.stands }
-  opens_does (Err NoMemory) stays t = let f : NoMemory ≡ TooMany = (stays NoMemory t.outcome).0 in absurd (cc)
-  opens_does (Err DiskFault) stays t = let f : DiskFault ≡ TooMany = (stays DiskFault t.outcome).0 in absurd (cc)
-  opens_does (Err TooMany) stays t = record { answer = t.outcome; keeps = subst stands (sym ((stays TooMany t.outcome).1)) t.stands }
-  opens_does (Err Closed) stays t = let f : Closed ≡ TooMany = (stays Closed t.outcome).0 in absurd (cc)
+  at_same : (s : State) → s ≡ st → SessionStands u places g.store st → is_down g ≡ false → GatewayStands u g s
+  at_same s same session up = at s (subst (λ x. SessionStands u places g.store x) (sym same) session) up
+
+  pub told_gives : (result : Result Answer SessionError) (old new : List ℕ) → FallsBy (is_down g) result
+      → RefusedStays st (step st e Served) → Told u places g.store result old new st e
+      → Gives stands result old new st e
+  told_gives (Ok a) old new falls stays t =
+      let up = still_up (Ok a) falls (λ f. absurd (cc)) in
+      (t.0, record { answer = t.1.outcome; keeps = at _ t.1.stands up }, t.2)
+  told_gives (Err NoMemory) old new falls stays t =
+      let up = still_up {T = Answer} (Err NoMemory) falls (λ f. absurd (cc)) in
+      ([], record { answer = t.0.outcome; keeps = at _ t.0.stands up }, t.1)
+  told_gives (Err DiskFault) old new falls stays t = ([], record { answer = t.0; keeps = tt {0} }, t.1)
+  told_gives (Err TooMany) old new falls stays t =
+      let up = still_up {T = Answer} (Err TooMany) falls (λ f. absurd (cc)) in
+      ([], record { answer = t.0.outcome; keeps = at_same _ (stays TooMany t.0.outcome) t.0.stands up }, t.1)
+  told_gives (Err Closed) old new falls stays t =
+      let up = still_up {T = Answer} (Err Closed) falls (λ f. absurd (cc)) in
+      ([], record { answer = t.0.outcome; keeps = at_same _ (stays Closed t.0.outcome) t.0.stands up }, t.1)
+  told_gives (Err Down) old new falls stays t =
+      let up = still_up {T = Answer} (Err Down) falls (λ f. absurd (cc)) in
+      ([], record { answer = t.0.outcome; keeps = at_same _ (stays Down t.0.outcome) t.0.stands up }, t.1)
+
+  pub ends_does : (result : Result (Unit {0}) SessionError) → FallsBy (is_down g) result
+      → RefusedStays st (step st e Served) → told.Ends u places g.store result st e → Does stands result st e
+  ends_does (Ok x) falls stays t =
+      record { answer = t.outcome; keeps = at _ t.stands (still_up (Ok x) falls (λ f. absurd (cc))) }
+  ends_does (Err NoMemory) falls stays t =
+      let up = still_up {T = Unit {0}} (Err NoMemory) falls (λ f. absurd (cc)) in
+      record { answer = t.outcome; keeps = at _ t.stands up }
+  ends_does (Err DiskFault) falls stays t = record { answer = t; keeps = tt {0} }
+  ends_does (Err TooMany) falls stays t =
+      let up = still_up {T = Unit {0}} (Err TooMany) falls (λ f. absurd (cc)) in
+      record { answer = t.outcome; keeps = at_same _ (stays TooMany t.outcome) t.stands up }
+  ends_does (Err Closed) falls stays t =
+      let up = still_up {T = Unit {0}} (Err Closed) falls (λ f. absurd (cc)) in
+      record { answer = t.outcome; keeps = at_same _ (stays Closed t.outcome) t.stands up }
+  ends_does (Err Down) falls stays t =
+      let up = still_up {T = Unit {0}} (Err Down) falls (λ f. absurd (cc)) in
+      record { answer = t.outcome; keeps = at_same _ (stays Down t.outcome) t.stands up }
+
+  pub opens_does : (result : Result (Unit {0}) SessionError) → is_down g ≡ false
+      → ManyStays st (step st e Served) → Opens u places g.store result st e → Does stands result st e
+  opens_does (Ok x) up stays t = record { answer = t.outcome; keeps = at _ t.stands up }
+  opens_does (Err NoMemory) up stays t = let f : NoMemory ≡ TooMany = (stays NoMemory t.outcome).0 in absurd (cc)
+  opens_does (Err DiskFault) up stays t = let f : DiskFault ≡ TooMany = (stays DiskFault t.outcome).0 in absurd (cc)
+  opens_does (Err TooMany) up stays t =
+      record { answer = t.outcome; keeps = at_same _ ((stays TooMany t.outcome).1) t.stands up }
+  opens_does (Err Closed) up stays t = let f : Closed ≡ TooMany = (stays Closed t.outcome).0 in absurd (cc)
+  opens_does (Err Down) up stays t = let f : Down ≡ TooMany = (stays Down t.outcome).0 in absurd (cc)
 
 -- what images may show behind a call
-module _ {before now : ℕ} {left_only left_only' : Option ℕ → ℕ → List Store → Type 0} {T : Type 0} (st : State) (e : Event) where
-  pub shown_behind : (result : Result T SessionError) → Limits before now left_only left_only' st.world.store (step st e Served).state.world.store
+module _ {before now : ℕ} {left_only left_only' : Option ℕ → ℕ → List Store → Type 0} {T : Type 0} (st : State)
+    (e : Event) where
+  pub shown_behind : (result : Result T SessionError) → Limits before now left_only left_only' st.world.store
+      (step st e Served).state.world.store
       → (IsErrOf result NoMemory → Limits before now left_only left_only' st.world.store st.world.store)
       → Limits before now left_only left_only' st.world.store (shown_by st e (mark_of result))
   shown_behind (Ok x) made unmade = made
@@ -101,3 +153,4 @@ module _ {before now : ℕ} {left_only left_only' : Option ℕ → ℕ → List 
   shown_behind (Err DiskFault) made unmade = made
   shown_behind (Err TooMany) made unmade = made
   shown_behind (Err Closed) made unmade = made
+  shown_behind (Err Down) made unmade = made

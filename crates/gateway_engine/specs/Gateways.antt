@@ -1,5 +1,5 @@
 -- What a gateway stands for.
-use Rattle.std.specs.Prelude.{ℕ, Result, Ok, Err}
+use Rattle.std.specs.Prelude.{◌≡◌, ℕ, Bool, false, Result, Ok, Err}
 use Rattle.spool_disk.specs.declared.disk.Disk as disks
 use Rattle.spool_image.specs.Spool.{disk_of, size_of}
 use Rattle.spool_kept.specs.declared.error.OpenFault.{OpenFault}
@@ -15,9 +15,14 @@ use Rattle.gateway_engine.specs.declared.gateway.Gateway.{Gateway}
 abbrev pub store_of : {U B : Type 0} → Gateway U B → U
 store_of g = g.store
 
--- its session and its store are where the history is
-abbrev pub GatewayStands : {U B : Type 0} → Ghosts U B → Gateway U B → State → Type 0
-GatewayStands u g st = SessionStands u (places_of g.session) g.store st
+-- whether the device failed at a call of its session
+abbrev pub is_down : {U B : Type 0} → Gateway U B → Bool
+is_down g = g.down
+
+-- its session and its store are where the history is, and it isn't down
+pub record GatewayStands {U B : Type 0} (u : Ghosts U B) (g : Gateway U B) (st : State) : Type 0 where
+  pub session : SessionStands u (places_of g.session) g.store st
+  pub up : is_down g ≡ false
 
 -- a gateway as connections
 abbrev pub as_connections : {U B : Type 0} → Ghosts U B → connections.Ghosts (Gateway U B)
@@ -26,6 +31,7 @@ as_connections u = record {
   moment = λ g. u.moment (store_of g);
   left_only = λ g blocks t ms. u.left_only (store_of g) blocks t ms;
   failures = λ g. u.failures (store_of g);
+  down = λ g. is_down g;
 }
 
 -- OVER A SPOOL: the disk that it is on

@@ -1,12 +1,12 @@
 //! A session over a store of uploads, as one value.
-ghost use Rattle.std.specs.Prelude.{◌≡◌, ℕ, Option, IfOk, IfErr};
+ghost use Rattle.std.specs.Prelude.{◌≡◌, ◌↔◌, ℕ, true, false, Option, IsTrue, IsErr, IsErrOf, IfOk, IfErr};
 ghost use Rattle.upload_rules.specs.Store.{Store};
 ghost use Rattle.upload_rules.specs.World.{at_rest};
 ghost use Rattle.upload_rules.specs.Answers.{Quiet};
 ghost use Rattle.tus_session.specs.History.{State, beginning};
 ghost use Rattle.tus_session.specs.Places.{places_of};
 ghost use Rattle.tus_session.specs.Stands.{SessionStands};
-ghost use Rattle.gateway_engine.specs.Gateways.{GatewayStands, store_of};
+ghost use Rattle.gateway_engine.specs.Gateways.{GatewayStands, store_of, is_down};
 
 use gateway_script::Connections;
 use std::alloc::{AllocError, Global};
@@ -14,9 +14,14 @@ use tus_session::{Answer, Session, SessionError};
 use upload_rules::Uploads;
 
 /// A session, and the store of uploads that all its calls are given.
+///
+/// Once a call was refused with `DiskFault` the gateway is down: each further one is refused with `Down` at once, until
+/// its store is handed back and opened again.
 pub struct Gateway<U: Uploads> {
     session: Session<U>,
     store: U,
+    /// whether the device failed at a call
+    down: bool,
 }
 
 impl<U: Uploads> Gateway<U> {
@@ -25,24 +30,54 @@ impl<U: Uploads> Gateway<U> {
         ensures ok { (m : Store) (blocks : Option ℕ) → U.stands store (at_rest m blocks)
             → IfOk result (λ g. GatewayStands U.Uploads g (beginning m blocks)) }
         ensures same { IfOk result (λ g. store_of g ≡ store) }
+        ensures up { IfOk result (λ g. is_down g ≡ false) }
         ensures back { IfErr result (λ e. e.0 ≡ store) }
     {
         match Session::new(alloc) {
-            Ok(session) => Ok(Gateway { session, store }),
+            Ok(session) => Ok(Gateway {
+                session,
+                store,
+                down: false,
+            }),
             Err(error) => Err((store, error)),
         }
     }
 
     /// Ends the session: the drafts that are open are dropped. The store has the uploads.
     pub fn close(self) -> U
-        ensures kept { (st : State) → GatewayStands U.Uploads self st → U.stands result (at_rest st.world.store st.world.blocks) }
-        ensures crash { Quiet (U.moment (store_of self)) (U.moment result) (U.left_only (store_of self)) (U.left_only result) }
+        ensures kept { (st : State) → GatewayStands U.Uploads self st
+            → U.stands result (at_rest st.world.store st.world.blocks) }
+        ensures crash { Quiet (U.moment (store_of self)) (U.moment result) (U.left_only (store_of self))
+            (U.left_only result) }
         ensures counts { U.failures result ≡ U.failures (store_of self) }
     {
-        let Gateway { session, mut store } = self;
+        let Gateway {
+            session,
+            mut store,
+            down: _,
+        } = self;
         session.close(&mut store);
         store
     }
+
+    // Refused with `Down` exactly where the gateway is down.
+    fn up(&self) -> Result<(), SessionError>
+        ensures refused { IsErr result ↔ (is_down self.now ≡ true) }
+        ensures error { IfErr result (λ e. e ≡ SessionError.Down) }
+    {
+        if self.down {
+            Err(SessionError::Down)
+        } else {
+            Ok(())
+        }
+    }
+}
+
+// Whether the device failed at the call that answered so.
+fn failed<T>(answer: &Result<T, SessionError>) -> bool
+    ensures { IsTrue result ↔ IsErrOf answer.now SessionError.DiskFault }
+{
+    matches!(answer, Err(SessionError::DiskFault))
 }
 
 impl<U: Uploads> Connections for Gateway<U> {
@@ -54,9 +89,14 @@ impl<U: Uploads> Connections for Gateway<U> {
 
     ghost failures = { λ g. U.failures (store_of g) };
 
-    ghost durable = { λ g st ms stands among. U.durable (store_of g) st.world ms stands.shown among };
+    ghost down = { λ g. is_down g };
+
+    ghost durable = { λ g st ms stands among. U.durable (store_of g) st.world ms stands.session.shown among };
+
+    ghost up = { λ g st stands. stands.up };
 
     fn opened(&mut self, conn: usize) -> Result<(), SessionError> {
+        self.up()?;
         self.session.opened(conn)
     }
 
@@ -66,14 +106,23 @@ impl<U: Uploads> Connections for Gateway<U> {
         bytes: &[u8],
         out: &mut Vec<u8>,
     ) -> Result<Answer, SessionError> {
-        self.session.came(&mut self.store, conn, bytes, out)
+        self.up()?;
+        let answer = self.session.came(&mut self.store, conn, bytes, out);
+        self.down = failed(&answer);
+        answer
     }
 
     fn more(&mut self, conn: usize, out: &mut Vec<u8>) -> Result<Answer, SessionError> {
-        self.session.more(&mut self.store, conn, out)
+        self.up()?;
+        let answer = self.session.more(&mut self.store, conn, out);
+        self.down = failed(&answer);
+        answer
     }
 
     fn ended(&mut self, conn: usize) -> Result<(), SessionError> {
-        self.session.ended(&mut self.store, conn)
+        self.up()?;
+        let answer = self.session.ended(&mut self.store, conn);
+        self.down = failed(&answer);
+        answer
     }
 }

@@ -1,5 +1,5 @@
 //! A gateway over a spool on a disk.
-ghost use Rattle.std.specs.Prelude.{◌≡◌, ◌↔◌, ℕ, List, Option, Some, IfOk};
+ghost use Rattle.std.specs.Prelude.{◌≡◌, ◌↔◌, ℕ, false, List, Option, Some, IfOk};
 ghost use Rattle.spool_disk.specs.Disk.{Counts};
 ghost use Rattle.spool_disk.specs.Views.{Lasts};
 ghost use Rattle.spool_image.specs.LeftOnly.{AllShow, IsSpool, LeftOrShows, SpoolLeft};
@@ -7,7 +7,7 @@ ghost use Rattle.spool_image.specs.Spool.{IsFault, OpensAs};
 ghost use Rattle.upload_rules.specs.Store.{Store};
 ghost use Rattle.upload_rules.specs.Answers.{Quiet};
 ghost use Rattle.tus_session.specs.History.{State, beginning};
-ghost use Rattle.gateway_engine.specs.Gateways.{GatewayStands, disk_in, size_in, disk_after};
+ghost use Rattle.gateway_engine.specs.Gateways.{GatewayStands, disk_in, size_in, disk_after, is_down};
 ghost use Rattle.gateway_script.specs.Script.{IsScript};
 ghost use Rattle.gateway_engine.specs.Ran.{CountsEither};
 ghost use Rattle.gateway_engine.specs.RanOn.{HasRunOn, HasFailedOn, HasRefusedOn, Unopened, disk_back};
@@ -37,7 +37,9 @@ impl<D: Disk> Gateway<Spool<D>> {
             → OpensAs result (λ g. GatewayStands ⟦<Spool<D> as Uploads>⟧ g (beginning m (Some n))) }
 
         // Every image then shows them.
-        ensures shows { (n : ℕ) (m : Store) → IsSpool D.Disk disk n m → IfOk result (λ g. AllShow D.Disk (disk_in g) n m) }
+        ensures shows { (n : ℕ) (m : Store) → IsSpool D.Disk disk n m
+            → IfOk result (λ g. AllShow D.Disk (disk_in g) n m) }
+        ensures up { IfOk result (λ g. is_down g ≡ false) }
 
         // A crash during it leaves what it might have left before, or what shows the same uploads and so many blocks.
         ensures lasts { (n : ℕ) (m : Store) → IsSpool D.Disk disk n m
@@ -62,25 +64,29 @@ impl<D: Disk> Gateway<Spool<D>> {
     }
 }
 
-/// Runs a script from `reader` over the spool on a disk, and writes to `writer` what its calls give. The disk is handed back.
+/// Runs a script from `reader` over the spool on a disk, and writes to `writer` what its calls give. The disk is handed
+/// back.
 ///
 /// The script is read whole before its first line is run, and behind the opening of the spool.
 ///
-/// Refused with `Open` where the disk isn't opened, then with `NoMemory` where a growth outside the calls was refused, `DiskFault`, `Script` of the
-/// first line that is none or too long, and `Io`. What was committed and written before stands.
+/// Refused with `Open` where the disk isn't opened, then with `NoMemory` where a growth outside the calls was refused,
+/// `DiskFault`, `Script` of the first line that is none or too long, and `Io`. What was committed and written before
+/// stands.
 pub fn run<D: Disk, R: CountedRead, W: CountedWrite>(
     alloc: Global,
     reader: &mut R,
     writer: &mut W,
     disk: D,
 ) -> Result<D, (D, RunFault)>
-    // Over a disk of which a read shows uploads: the exit and the output are the script's, by a mark for each call, and images show the uploads of its history.
+    // Over a disk of which a read shows uploads: the exit and the output are the script's, by a mark for each call, and
+    // images show the uploads of its history.
     ensures runs { (n : ℕ) (m : Store) → IsSpool D.Disk disk n m
         → (script : List ℕ) × IsScript (R.remaining reader.old) script
         × HasRunOn D.Disk disk result (W.contents writer.new) (W.contents writer.old) n (beginning m (Some n)) script }
 
     // A disk that isn't opened: nothing is read and nothing written.
-    ensures unopened { Unopened result ((R.remaining reader.new ≡ R.remaining reader.old) × (W.contents writer.new ≡ W.contents writer.old)) }
+    ensures unopened { Unopened result ((R.remaining reader.new ≡ R.remaining reader.old)
+        × (W.contents writer.new ≡ W.contents writer.old)) }
     ensures counts { Counts (HasFailedOn result) (D.failures disk) (D.failures (disk_back result)) }
 
     // `Io` exactly where the reader or the writer refused a call.

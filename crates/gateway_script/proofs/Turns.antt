@@ -1,29 +1,39 @@
 -- A call, and the run behind it.
 use Rattle.std.specs.Io.KnownBytes.{Appends}
-use Rattle.std.proofs.Common.{◌≡◌, false, ℕ, List, [], ◌∷◌, ◌++◌, Option, Some, None, Result, Ok, Err, inr, refl, sym, subst, ap, ◌∙◌, append-nil}
+use Rattle.std.proofs.Common.{◌≡◌, Bool, true, false, ℕ, List, [], ◌∷◌, ◌++◌, Option, Some, None, Result, Ok, Err, inr, refl, sym}
+use Rattle.std.proofs.Common.{subst, ap, ◌∙◌, append-nil}
 use Rattle.tus_session.specs.History.{Event, Mark, Served, Outcome, Gave, Done, Refused, step, conn_in}
 use Rattle.tus_session.specs.declared.answers.Answer.{Answer}
 use Rattle.tus_session.specs.declared.errors.SessionError.{SessionError}
 use Rattle.tus_session.specs.declared.errors.SessionError.TheVariants as errors
 use Rattle.gateway_script.specs.declared.faults.CallFault.{CallFault}
 use Rattle.gateway_script.specs.declared.faults.CallFault.TheVariants as faults
-use Rattle.gateway_script.specs.Connections.{mark_of, Gives, Does, UnlessFailed}
+use Rattle.gateway_script.specs.Connections.{Falls, mark_of, Gives, Does, UnlessFailed}
 use Rattle.gateway_script.specs.Images.{shown_by}
 use Rattle.gateway_script.specs.Outputs.{AppendsPart}
 use Rattle.gateway_script.specs.Script.{Run, call, is_fault, written}
-use Rattle.gateway_script.specs.Runs.{View, with_marks, stepped, Calls, Called, IsAt, IsDown, IsStopped, Leads, Stops, run_past, Went, Refuses, Tells}
+use Rattle.gateway_script.specs.Runs.{View, with_marks, stepped, Calls, Called, IsAt, IsDown, IsStopped, Leads, Stops}
+use Rattle.gateway_script.specs.Runs.{run_past, Went, Refuses, Tells}
 use Rattle.gateway_script.proofs.Outputs.{appends_both, appends_nothing}
 use Rattle.gateway_script.proofs.Passing.{passes_by, first_same}
 use Rattle.gateway_script.proofs.Seen.{seen_behind, Leaves, OnDevice, history_on, shows_last, last_is}
 
 -- a call is the step with its mark
 pub leads_call : (r : Run) (n : ℕ) (e : Event) (m : Mark) (rest : List Mark)
-    → call (with_marks r (m ∷ rest)) n e ≡ record { run = with_marks (stepped r n e m) rest; outcome = (step r.state e m).outcome }
+    → call (with_marks r (m ∷ rest)) n e ≡ record {
+      run = with_marks (stepped r n e m) rest;
+      outcome = (step r.state e m).outcome;
+    }
 unfolding call
 leads_call r n e m rest = refl
 
-pub calls : (r : Run) (n : ℕ) (e : Event) (m : Mark) (outcome : Outcome) → (step r.state e m).outcome ≡ outcome → Calls r n e (stepped r n e m) outcome
-calls r n e m outcome is = (m, λ rest. leads_call r n e m rest ∙ ap (λ o. record { run = with_marks (stepped r n e m) rest; outcome = o }) is)
+pub calls : (r : Run) (n : ℕ) (e : Event) (m : Mark) (outcome : Outcome) → (step r.state e m).outcome ≡ outcome
+    → Calls r n e (stepped r n e m) outcome
+calls r n e m outcome is = (
+  m,
+  λ rest. leads_call r n e m rest
+      ∙ ap (λ o. record { run = with_marks (stepped r n e m) rest; outcome = o }) is,
+)
 
 leads : (r : Run) (n : ℕ) (e : Event) (m : Mark) → Leads (λ x. (call x n e).run) r (stepped r n e m)
 leads r n e m = (m ∷ [], λ rest. ap (λ c. c.run) (leads_call r n e m rest))
@@ -33,37 +43,54 @@ no_fault errors.NoMemory other = refl
 no_fault errors.DiskFault other = absurd (other refl)
 no_fault errors.TooMany other = refl
 no_fault errors.Closed other = refl
+no_fault errors.Down other = refl
 
 unless : (T : Type 0) (f : SessionError) (X : Type 0) → (f ≡ errors.DiskFault → ⊥) → UnlessFailed {T = T} (Err f) X → X
 unless T errors.NoMemory X other x = x
 unless T errors.DiskFault X other x = absurd (other refl)
 unless T errors.TooMany X other x = x
 unless T errors.Closed X other x = x
+unless T errors.Down X other x = x
+
+-- the connections are down behind a fault of the device
+abbrev pub Falling : {C : Type 0} → View C → C → SessionError → Type 0
+Falling v now f = f ≡ errors.DiskFault → v.u.down now ≡ true
+
+pub falling : {T : Type 0} (was now : Bool) (f : SessionError) → Falls {T = T} was now (Err f) → f ≡ errors.DiskFault
+    → now ≡ true
+falling was now f falls is = falls.falls.1 (inr (ap Err is))
 
 -- THE RUN BEHIND A CALL
-module _ {C : Type 0} (v : View C) (now : C) (held : Option (List ℕ)) (r : Run) (e : Event) (m : Mark) (at : IsAt v r) (leaves : Leaves v now r.state.world.store (shown_by r.state e m)) where
+module _ {C : Type 0} (v : View C) (now : C) (held : Option (List ℕ)) (r : Run) (e : Event) (m : Mark) (at : IsAt v r)
+    (leaves : Leaves v now r.state.world.store (shown_by r.state e m)) where
   -- it is at its place
-  stays_at : (outcome : Outcome) → v.u.stands now (step r.state e m).state → (step r.state e m).outcome ≡ outcome → is_fault outcome ≡ false
+  stays_at : (outcome : Outcome) → v.u.stands now (step r.state e m).state → (step r.state e m).outcome ≡ outcome
+      → is_fault outcome ≡ false
       → Appends v.held held (written (conn_in e) outcome) → IsAt (seen_behind v now held) (stepped r (conn_in e) e m)
   stays_at outcome stands is up appends = record {
     keeps = stands;
-    wrote = appends_both v.front v.held held r.out (written (conn_in e) (step r.state e m).outcome) at.wrote (subst (λ o. Appends v.held held (written (conn_in e) o)) (sym is) appends);
+    wrote = appends_both v.front v.held held r.out (written (conn_in e) (step r.state e m).outcome) at.wrote
+        (subst (λ o. Appends v.held held (written (conn_in e) o)) (sym is) appends);
     up = ap is_fault is ∙ up;
     history = history_on v now held r e m at.history leaves;
   }
 
   -- the device failed: nothing was written
-  goes_down : OnDevice v r → held ≡ v.held → (step r.state e m).outcome ≡ Refused errors.DiskFault → IsDown (seen_behind v now held) (stepped r (conn_in e) e m)
-  goes_down durable same is = record {
+  goes_down : OnDevice v r → held ≡ v.held → v.u.down now ≡ true → (step r.state e m).outcome ≡ Refused errors.DiskFault
+      → IsDown (seen_behind v now held) (stepped r (conn_in e) e m)
+  goes_down durable same fell is = record {
     wrote = subst (λ h. Appends v.front h (r.out ++ written (conn_in e) (step r.state e m).outcome)) (sym same)
-        (subst (Appends v.front v.held) (sym (ap (λ o. r.out ++ written (conn_in e) o) is ∙ append-nil r.out)) at.wrote);
+        (subst (Appends v.front v.held) (sym (ap (λ o. r.out ++ written (conn_in e) o) is ∙ append-nil r.out))
+        at.wrote);
     down = ap is_fault is;
+    fell = fell;
     history = history_on v now held r e m at.history leaves;
     last = shows_last v now held r e m at.history durable leaves;
   }
 
   -- memory was wanting for the reply: nothing was written
-  wants_memory : v.u.stands now (step r.state e m).state → held ≡ v.held → IsStopped (seen_behind v now held) faults.NoMemory (stepped r (conn_in e) e m)
+  wants_memory : v.u.stands now (step r.state e m).state → held ≡ v.held
+      → IsStopped (seen_behind v now held) faults.NoMemory (stepped r (conn_in e) e m)
   wants_memory stands same = record {
     keeps = stands;
     out = r.out;
@@ -73,49 +100,82 @@ module _ {C : Type 0} (v : View C) (now : C) (held : Option (List ℕ)) (r : Run
   }
 
   -- a front part of the reply was written
-  breaks_off : (outcome : Outcome) → v.u.stands now (step r.state e m).state → (step r.state e m).outcome ≡ outcome → AppendsPart v.held held (written (conn_in e) outcome)
+  breaks_off : (outcome : Outcome) → v.u.stands now (step r.state e m).state → (step r.state e m).outcome ≡ outcome
+      → AppendsPart v.held held (written (conn_in e) outcome)
       → IsStopped (seen_behind v now held) faults.Io (stepped r (conn_in e) e m)
   breaks_off outcome stands is wrote = record {
     keeps = stands;
     out = r.out ++ wrote.0;
     wrote = appends_both v.front v.held held r.out wrote.0 at.wrote wrote.3;
-    replies = (wrote.0, wrote.1, sym (last_is v r e m at.history) ∙ (ap (written (conn_in e)) is ∙ wrote.2), ap (λ o. o ++ wrote.0) at.history.output);
+    replies = (
+      wrote.0,
+      wrote.1,
+      sym (last_is v r e m at.history)
+          ∙ (ap (written (conn_in e)) is ∙ wrote.2),
+      ap (λ o. o ++ wrote.0) at.history.output,
+    );
     history = history_on v now held r e m at.history leaves;
   }
 
 -- A CALL THAT GIVES NOTHING
-pub done_went : {C : Type 0} (v : View C) (now : C) (r : Run) (e : Event) → IsAt v r → Leaves v now r.state.world.store (shown_by r.state e Served)
-    → Does (v.u.stands now) (Ok (tt {0})) r.state e → Went (seen_behind v now v.held) (Ok (tt {0})) (λ x. (call x (conn_in e) e).run) r
-done_went v now r e at leaves does =
-    (stepped r (conn_in e) e Served, leads r (conn_in e) e Served, stays_at v now v.held r e Served at leaves Done does.keeps does.answer refl (appends_nothing v.held))
+pub done_went : {C : Type 0} (v : View C) (now : C) (r : Run) (e : Event) → IsAt v r
+    → Leaves v now r.state.world.store (shown_by r.state e Served)
+    → Does (v.u.stands now) (Ok (tt {0})) r.state e
+    → Went (seen_behind v now v.held) (Ok (tt {0})) (λ x. (call x (conn_in e) e).run) r
+done_went v now r e at leaves does = (
+  stepped r (conn_in e) e Served,
+  leads r (conn_in e) e Served,
+  stays_at v now v.held r e Served at leaves Done
+      does.keeps does.answer refl (appends_nothing v.held),
+)
 
-stops_at : {C : Type 0} (v : View C) (fault : CallFault) (r : Run) (n : ℕ) (e : Event) (m : Mark) → IsStopped v fault (stepped r n e m) → Stops v fault run_past (λ x. (call x n e).run) r
-stops_at v fault r n e m is =
-    (stepped r n e m, passes_by run_past (λ x. (call x n e).run) (λ x. x) r (stepped r n e m) (leads r n e m) (λ x. first_same x.past), is)
+stops_at : {C : Type 0} (v : View C) (fault : CallFault) (r : Run) (n : ℕ) (e : Event) (m : Mark)
+    → IsStopped v fault (stepped r n e m) → Stops v fault run_past (λ x. (call x n e).run) r
+stops_at v fault r n e m is = (
+  stepped r n e m,
+  passes_by run_past (λ x. (call x n e).run) (λ x. x) r (stepped r n e m) (leads r n e m)
+      (λ x. first_same x.past),
+  is,
+)
 
-pub refused_went : {C : Type 0} (v : View C) (now : C) (held : Option (List ℕ)) (r : Run) (e : Event) (f : SessionError) (result : Result (Unit {0}) CallFault)
-    → IsAt v r → OnDevice v r → Leaves v now r.state.world.store (shown_by r.state e (mark_of {T = Unit {0}} (Err f))) → Does (v.u.stands now) (Err f) r.state e
-    → Refuses v.held held result (conn_in e) f → Went (seen_behind v now held) result (λ x. (call x (conn_in e) e).run) r
-refused_went v now held r e f (Ok x) at durable leaves does refuses =
+pub refused_went : {C : Type 0} (v : View C) (now : C) (held : Option (List ℕ)) (r : Run) (e : Event) (f : SessionError)
+    (result : Result (Unit {0}) CallFault)
+    → IsAt v r → OnDevice v r → Leaves v now r.state.world.store (shown_by r.state e (mark_of {T = Unit {0}} (Err f)))
+    → Does (v.u.stands now) (Err f) r.state e → Falling v now f
+    → Refuses v.held held result (conn_in e) f
+    → Went (seen_behind v now held) result (λ x. (call x (conn_in e) e).run) r
+refused_went v now held r e f (Ok x) at durable leaves does fell refuses =
+    let m : Mark = mark_of {T = Unit {0}} (Err f) in (
+      stepped r (conn_in e) e m,
+      leads r (conn_in e) e m,
+      stays_at v now held r e m at leaves (Refused f)
+          (unless (Unit {0}) f _ refuses.1 does.keeps) does.answer (no_fault f refuses.1) refuses.0,
+    )
+refused_went v now held r e f (Err faults.DiskFault) at durable leaves does fell refuses =
+    let m : Mark = mark_of {T = Unit {0}} (Err f) in (
+      stepped r (conn_in e) e m,
+      leads r (conn_in e) e m,
+      goes_down v now held r e m at leaves durable refuses.1 (fell refuses.0)
+          (does.answer ∙ ap Refused refuses.0),
+    )
+refused_went v now held r e f (Err faults.NoMemory) at durable leaves does fell refuses =
     let m : Mark = mark_of {T = Unit {0}} (Err f) in
-    (stepped r (conn_in e) e m, leads r (conn_in e) e m, stays_at v now held r e m at leaves (Refused f) (unless (Unit {0}) f _ refuses.1 does.keeps) does.answer (no_fault f refuses.1) refuses.0)
-refused_went v now held r e f (Err faults.DiskFault) at durable leaves does refuses =
+    stops_at (seen_behind v now held) faults.NoMemory r (conn_in e) e m (wants_memory v now held r e m at leaves
+    (unless (Unit {0}) f _ refuses.1 does.keeps) refuses.0)
+refused_went v now held r e f (Err faults.Io) at durable leaves does fell refuses =
     let m : Mark = mark_of {T = Unit {0}} (Err f) in
-    (stepped r (conn_in e) e m, leads r (conn_in e) e m, goes_down v now held r e m at leaves durable refuses.1 (does.answer ∙ ap Refused refuses.0))
-refused_went v now held r e f (Err faults.NoMemory) at durable leaves does refuses =
-    let m : Mark = mark_of {T = Unit {0}} (Err f) in
-    stops_at (seen_behind v now held) faults.NoMemory r (conn_in e) e m (wants_memory v now held r e m at leaves (unless (Unit {0}) f _ refuses.1 does.keeps) refuses.0)
-refused_went v now held r e f (Err faults.Io) at durable leaves does refuses =
-    let m : Mark = mark_of {T = Unit {0}} (Err f) in
-    stops_at (seen_behind v now held) faults.Io r (conn_in e) e m (breaks_off v now held r e m at leaves (Refused f) (unless (Unit {0}) f _ refuses.1 does.keeps) does.answer refuses.0)
+    stops_at (seen_behind v now held) faults.Io r (conn_in e) e m (breaks_off v now held r e m at leaves (Refused f)
+    (unless (Unit {0}) f _ refuses.1 does.keeps) does.answer refuses.0)
 
 -- A CALL THAT GIVES BYTES
 module _ {C : Type 0} (v : View C) (now : C) (held : Option (List ℕ)) (r : Run) (e : Event) (at : IsAt v r) where
-  module _ (a : Answer) (given : List ℕ) (leaves : Leaves v now r.state.world.store (shown_by r.state e Served)) (gives : Gives (v.u.stands now) (Ok a) [] given r.state e) where
+  module _ (a : Answer) (given : List ℕ) (leaves : Leaves v now r.state.world.store (shown_by r.state e Served))
+      (gives : Gives (v.u.stands now) (Ok a) [] given r.state e) where
     bytes_are : given ≡ gives.0
     bytes_are = gives.2
 
-    pub told_called : Tells v.held held (Ok (tt {0})) (conn_in e) given a.closes → Called (seen_behind v now held) (Ok (Some a)) (conn_in e) e r
+    pub told_called : Tells v.held held (Ok (tt {0})) (conn_in e) given a.closes
+        → Called (seen_behind v now held) (Ok (Some a)) (conn_in e) e r
     told_called tells = (
       stepped r (conn_in e) e Served,
       gives.0,
@@ -124,7 +184,8 @@ module _ {C : Type 0} (v : View C) (now : C) (held : Option (List ℕ)) (r : Run
           (subst (λ b. Appends v.held held (written (conn_in e) (Gave b a.taken a.closes a.more))) bytes_are tells),
     )
 
-    pub tell_stopped : (fault : CallFault) → Tells v.held held (Err fault) (conn_in e) given a.closes → Called (seen_behind v now held) (Err fault) (conn_in e) e r
+    pub tell_stopped : (fault : CallFault) → Tells v.held held (Err fault) (conn_in e) given a.closes
+        → Called (seen_behind v now held) (Err fault) (conn_in e) e r
     tell_stopped faults.DiskFault tells = absurd tells
     tell_stopped faults.NoMemory tells = (
       stepped r (conn_in e) e Served,
@@ -140,31 +201,41 @@ module _ {C : Type 0} (v : View C) (now : C) (held : Option (List ℕ)) (r : Run
           (subst (λ b. AppendsPart v.held held (written (conn_in e) (Gave b a.taken a.closes a.more))) bytes_are tells),
     )
 
-  module _ (f : SessionError) (given : List ℕ) (leaves : Leaves v now r.state.world.store (shown_by r.state e (mark_of {T = Answer} (Err f)))) (gives : Gives (v.u.stands now) (Err f) [] given r.state e) where
-    abbrev m : Mark
-    m = mark_of {T = Answer} (Err f)
+  module _ (f : SessionError) (given : List ℕ) (leaves : Leaves v now r.state.world.store
+      (shown_by r.state e (mark_of {T = Answer} (Err f)))) (gives : Gives (v.u.stands now) (Err f) [] given r.state e)
+    where
+      abbrev m : Mark
+      m = mark_of {T = Answer} (Err f)
 
-    pub refused_called : Refuses v.held held (Ok (tt {0})) (conn_in e) f → Called (seen_behind v now held) (Ok None) (conn_in e) e r
-    refused_called refuses = (
-      stepped r (conn_in e) e m,
-      f,
-      calls r (conn_in e) e m (Refused f) gives.1.answer,
-      stays_at v now held r e m at leaves (Refused f) (unless Answer f _ refuses.1 gives.1.keeps) gives.1.answer (no_fault f refuses.1) refuses.0,
-    )
+      pub refused_called : Refuses v.held held (Ok (tt {0})) (conn_in e) f
+          → Called (seen_behind v now held) (Ok None) (conn_in e) e r
+      refused_called refuses = (
+        stepped r (conn_in e) e m,
+        f,
+        calls r (conn_in e) e m (Refused f) gives.1.answer,
+        stays_at v now held r e m at leaves (Refused f) (unless Answer f _ refuses.1 gives.1.keeps) gives.1.answer
+            (no_fault f refuses.1) refuses.0,
+      )
 
-    pub refuse_stopped : OnDevice v r → (fault : CallFault) → Refuses v.held held (Err fault) (conn_in e) f → Called (seen_behind v now held) (Err fault) (conn_in e) e r
-    refuse_stopped durable faults.DiskFault refuses =
-        let is : (step r.state e m).outcome ≡ Refused errors.DiskFault = gives.1.answer ∙ ap Refused refuses.0 in
-        (stepped r (conn_in e) e m, calls r (conn_in e) e m (Refused errors.DiskFault) is, goes_down v now held r e m at leaves durable refuses.1 is)
-    refuse_stopped durable faults.NoMemory refuses = (
-      stepped r (conn_in e) e m,
-      Refused f,
-      calls r (conn_in e) e m (Refused f) gives.1.answer,
-      wants_memory v now held r e m at leaves (unless Answer f _ refuses.1 gives.1.keeps) refuses.0,
-    )
-    refuse_stopped durable faults.Io refuses = (
-      stepped r (conn_in e) e m,
-      Refused f,
-      calls r (conn_in e) e m (Refused f) gives.1.answer,
-      breaks_off v now held r e m at leaves (Refused f) (unless Answer f _ refuses.1 gives.1.keeps) gives.1.answer refuses.0,
-    )
+      pub refuse_stopped : OnDevice v r → Falling v now f → (fault : CallFault)
+          → Refuses v.held held (Err fault) (conn_in e) f
+          → Called (seen_behind v now held) (Err fault) (conn_in e) e r
+      refuse_stopped durable fell faults.DiskFault refuses =
+          let is : (step r.state e m).outcome ≡ Refused errors.DiskFault = gives.1.answer ∙ ap Refused refuses.0 in (
+            stepped r (conn_in e) e m,
+            calls r (conn_in e) e m (Refused errors.DiskFault) is,
+            goes_down v now held r e m at leaves durable refuses.1 (fell refuses.0) is,
+          )
+      refuse_stopped durable fell faults.NoMemory refuses = (
+        stepped r (conn_in e) e m,
+        Refused f,
+        calls r (conn_in e) e m (Refused f) gives.1.answer,
+        wants_memory v now held r e m at leaves (unless Answer f _ refuses.1 gives.1.keeps) refuses.0,
+      )
+      refuse_stopped durable fell faults.Io refuses = (
+        stepped r (conn_in e) e m,
+        Refused f,
+        calls r (conn_in e) e m (Refused f) gives.1.answer,
+        breaks_off v now held r e m at leaves (Refused f) (unless Answer f _ refuses.1 gives.1.keeps) gives.1.answer
+            refuses.0,
+      )

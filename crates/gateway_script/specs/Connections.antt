@@ -1,9 +1,12 @@
 -- What a call on the connections answers.
-use Rattle.std.specs.Prelude.{◌≡◌, ◌++◌, ℕ, List, Result, Ok, Err}
-use Rattle.tus_session.specs.History.{State, Event, Mark, Served, OutOfMemory, Failed, Outcome, Gave, Done, Refused, Step, step}
+use Rattle.std.specs.Prelude.{◌≡◌, ◌↔◌, ◌⊎◌, ◌++◌, ℕ, Bool, true, List, Option, Result, Ok, Err, IsErrOf}
+use Rattle.upload_rules.specs.Store.{Store}
+use Rattle.upload_rules.specs.Answers.{Quiet}
+use Rattle.tus_session.specs.History.{State, Event, Mark, Served, OutOfMemory, Failed}
+use Rattle.tus_session.specs.History.{Outcome, Gave, Done, Refused, Step, step}
 use Rattle.tus_session.specs.declared.answers.Answer.{Answer}
 use Rattle.tus_session.specs.declared.errors.SessionError.{SessionError}
-use Rattle.tus_session.specs.declared.errors.SessionError.TheVariants.{NoMemory, DiskFault}
+use Rattle.tus_session.specs.declared.errors.SessionError.TheVariants.{NoMemory, DiskFault, Down}
 
 -- how the call is marked: refused for memory, failed by the device, or served
 abbrev pub mark_of : {T : Type 0} → Result T SessionError → Mark
@@ -27,7 +30,8 @@ UnlessFailed (Err DiskFault) stands = Unit {0}
 UnlessFailed result stands = stands
 
 -- the history answers so, and the connections are where it is
-pub record Keeps {T : Type 0} (stands : State → Type 0) (result : Result T SessionError) (outcome : Outcome) (now : Step) : Type 0 where
+pub record Keeps {T : Type 0} (stands : State → Type 0) (result : Result T SessionError) (outcome : Outcome)
+    (now : Step) : Type 0 where
   pub answer : now.outcome ≡ outcome
   pub keeps : UnlessFailed result (stands now.state)
 
@@ -44,3 +48,16 @@ Gives stands result old new st e =
 -- a call that gives none
 abbrev pub Does : (State → Type 0) → Result (Unit {0}) SessionError → State → Event → Type 0
 Does stands result st e = Keeps stands result (told_done result) (step st e (mark_of result))
+
+-- WHETHER THEY ARE DOWN, before a call and behind it. `Down` is answered exactly where they were. They are behind it
+-- exactly where they were, or the device failed at it
+pub record Falls {T : Type 0} (was now : Bool) (result : Result T SessionError) : Type 0 where
+  pub refused : IsErrOf result Down ↔ (was ≡ true)
+  pub falls : (now ≡ true) ↔ ((was ≡ true) ⊎ IsErrOf result DiskFault)
+
+-- the device isn't asked: its images are limited to what they were, and to no less
+pub record Unasked (moment moment' : ℕ) (left_only left_only' : Option ℕ → ℕ → List Store → Type 0)
+    (failures failures' : ℕ) : Type 0 where
+  pub forth : Quiet moment moment' left_only left_only'
+  pub back : Quiet moment' moment left_only' left_only
+  pub count : failures' ≡ failures

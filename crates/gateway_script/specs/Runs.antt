@@ -1,12 +1,14 @@
 -- How the code's calls stand to a run of the definitions.
-use Rattle.std.specs.Prelude.{◌≡◌, ℕ, suc, Bool, true, false, List, [], ◌∷◌, ◌++◌, ◌+◌, length, drop, if◌then◌else◌, Option, Some, None, Result, Ok, Err}
+use Rattle.std.specs.Prelude.{◌≡◌, ℕ, suc, Bool, true, false, List, [], ◌∷◌, ◌++◌, ◌+◌, length, drop, if◌then◌else◌}
+use Rattle.std.specs.Prelude.{Option, Some, None, Result, Ok, Err}
 use Rattle.tus_session.specs.History.{State, Event, Mark, Marked, Outcome, Gave, Refused, step, history}
 use Rattle.tus_session.specs.declared.answers.Answer.{Answer}
 use Rattle.std.specs.Io.KnownBytes.{Appends}
 use Rattle.tus_session.specs.declared.errors.SessionError.{SessionError}
 use Rattle.tus_session.specs.declared.errors.SessionError.TheVariants as errors
 use Rattle.gateway_script.specs.Script as script
-use Rattle.gateway_script.specs.Script.{Run, Flow, flow, call, give_within, cut_from, run_lines, ended_as, Ran, Faulted, AtLine, is_fault, written, written_bytes, written_close, written_refusal}
+use Rattle.gateway_script.specs.Script.{Run, Flow, flow, call, give_within, cut_from, run_lines, ended_as, Ran, Faulted}
+use Rattle.gateway_script.specs.Script.{AtLine, is_fault, written, written_bytes, written_close, written_refusal}
 use Rattle.gateway_script.specs.Outputs.{AppendsPart}
 use Rattle.gateway_script.specs.Images.{IsFirst, output_of, stores_of, ShowsLast, LimitsTo, WroteMost}
 use Rattle.gateway_script.specs.declared.connections.Connections.{Ghosts}
@@ -19,7 +21,8 @@ use Rattle.gateway_script.specs.declared.faults.ScriptFault.TheVariants as runs
 abbrev pub with_marks : Run → List Mark → Run
 with_marks r marks = record r { marks = marks }
 
--- A run as it is seen: the connections before it and now, where the history was before it, and what the writer holds now, and held in front of it
+-- A run as it is seen: the connections before it and now, where the history was before it, and what the writer holds
+-- now, and held in front of it
 pub record View (C : Type 0) : Type 1 where
   pub u : Ghosts C
   pub before : C
@@ -31,27 +34,32 @@ pub record View (C : Type 0) : Type 1 where
 abbrev pub view : {C : Type 0} → Ghosts C → C → C → State → Option (List ℕ) → Option (List ℕ) → View C
 view u before now st held front = record { u = u; before = before; now = now; st = st; held = held; front = front }
 
--- The run is at the history of its events, and its output is theirs. Since its beginning images are limited to its uploads
+-- The run is at the history of its events, and its output is theirs. Since its beginning images are limited to its
+-- uploads
 pub record IsHistory {C : Type 0} (v : View C) (r : Run) : Type 0 where
   pub state : r.state ≡ history v.st r.past
   pub output : r.out ≡ output_of v.st r.past
-  pub images : LimitsTo (v.u.moment v.before) (v.u.moment v.now) (v.u.left_only v.before) (v.u.left_only v.now) (stores_of v.st r.past)
+  pub images : LimitsTo (v.u.moment v.before) (v.u.moment v.now) (v.u.left_only v.before) (v.u.left_only v.now)
+      (stores_of v.st r.past)
 
--- the connections are where the run is, the writer holds what it wrote behind what was there before, and the device hasn't failed
+-- the connections are where the run is, the writer holds what it wrote behind what was there before, and the device
+-- hasn't failed
 pub record IsAt {C : Type 0} (v : View C) (r : Run) : Type 0 where
   pub keeps : v.u.stands v.now r.state
   pub wrote : Appends v.front v.held r.out
   pub up : r.down ≡ false
   pub history : IsHistory v r
 
--- the device failed at the latest event, behind what the run wrote
+-- the device failed at the latest event, behind what the run wrote, and so the connections are down
 pub record IsDown {C : Type 0} (v : View C) (r : Run) : Type 0 where
   pub wrote : Appends v.front v.held r.out
   pub down : r.down ≡ true
+  pub fell : v.u.down v.now ≡ true
   pub history : IsHistory v r
   pub last : ShowsLast (v.u.moment v.now) (v.u.left_only v.now) v.st r.past
 
--- the writer failed or memory was wanting, and the connections are where the run is; what it gave last may not be written
+-- the writer failed or memory was wanting, and the connections are where the run is; what it gave last may not be
+-- written
 pub record IsStopped {C : Type 0} (v : View C) (fault : CallFault) (r : Run) : Type 0 where
   pub keeps : v.u.stands v.now r.state
   pub out : List ℕ
@@ -71,7 +79,8 @@ LeadsOn f r s b = Reaches f r (λ x. flow x b) s
 
 -- whatever is made of the rest, the events of this run are the first, by some marks of the calls up to it
 abbrev pub Passes : {X : Type 0} → (X → List Marked) → (Run → X) → Run → Run → Type 0
-Passes past_of f r s = (ms : List Mark) × ((rest : List Mark) → IsFirst s.past (past_of (f (with_marks r (ms ++ rest)))))
+Passes past_of f r s = (ms : List Mark) × ((rest : List Mark)
+    → IsFirst s.past (past_of (f (with_marks r (ms ++ rest)))))
 
 abbrev pub run_past : Run → List Marked
 run_past r = r.past
@@ -109,15 +118,24 @@ Refuses old new (Err Io) n error = AppendsPart old new (written_refusal n error)
 abbrev pub stepped : Run → ℕ → Event → Mark → Run
 stepped r n e m =
     let t = step r.state e m in
-    record { state = t.state; past = (e, m) ∷ r.past; marks = []; out = r.out ++ written n t.outcome; down = is_fault t.outcome }
+    record {
+      state = t.state;
+      past = (e, m) ∷ r.past;
+      marks = [];
+      out = r.out ++ written n t.outcome;
+      down = is_fault t.outcome;
+    }
 
 -- a call leads there and answers so, by some mark
 abbrev pub Calls : Run → ℕ → Event → Run → Outcome → Type 0
-Calls r n e s outcome = (m : Mark) × ((rest : List Mark) → call (with_marks r (m ∷ rest)) n e ≡ record { run = with_marks s rest; outcome = outcome })
+Calls r n e s outcome = (m : Mark) × ((rest : List Mark)
+    → call (with_marks r (m ∷ rest)) n e ≡ record { run = with_marks s rest; outcome = outcome })
 
--- what a call that may give bytes did to a run: it was served, or refused, or the device failed, or what it gave wasn't written
+-- what a call that may give bytes did to a run: it was served, or refused, or the device failed, or what it gave wasn't
+-- written
 abbrev pub Called : {C : Type 0} → View C → Result (Option Answer) CallFault → ℕ → Event → Run → Type 0
-Called v (Ok (Some a)) n e r = (s : Run) × (bytes : List ℕ) × Calls r n e s (Gave bytes a.taken a.closes a.more) × IsAt v s
+Called v (Ok (Some a)) n e r = (s : Run) × (bytes : List ℕ) × Calls r n e s (Gave bytes a.taken a.closes a.more)
+    × IsAt v s
 Called v (Ok None) n e r = (s : Run) × (f : SessionError) × Calls r n e s (Refused f) × IsAt v s
 Called v (Err DiskFault) n e r = (s : Run) × Calls r n e s (Refused errors.DiskFault) × IsDown v s
 Called v (Err f) n e r = (s : Run) × (o : Outcome) × Calls r n e s o × IsStopped v f s
@@ -157,7 +175,9 @@ Ends v (Err runs.NoMemory) f r = Stops v NoMemory script_past f r
 Ends v (Err runs.Io) f r = Stops v Io script_past f r
 
 -- one line, with these behind it
-abbrev pub LineRan : {C : Type 0} → View C → Result (Unit {0}) ScriptFault → ℕ → ℕ → List ℕ → List (List ℕ) → Run → Type 0
+abbrev pub LineRan : {C : Type 0} → View C → Result (Unit {0}) ScriptFault → ℕ → ℕ → List ℕ → List (List ℕ) → Run
+    → Type 0
 LineRan v (Ok x) number start line lines r =
-    (s : Run) × Reaches (run_lines number start (line ∷ lines)) r (run_lines (number + 1) (start + length line) lines) s × IsAt v s
+    (s : Run) × Reaches (run_lines number start (line ∷ lines)) r (run_lines (number + 1) (start + length line) lines) s
+    × IsAt v s
 LineRan v (Err e) number start line lines r = Ends v (Err e) (run_lines number start (line ∷ lines)) r

@@ -13,7 +13,7 @@ use crate::writing::{report, report_refusal, write_out};
 use std::alloc::Global;
 use tus_session::{Answer, SessionError};
 
-/// A refusal is written. The device's fault ends the run.
+/// A refusal is written. The device's fault ends the run: `Down` is met only where the connections were down before it.
 pub(crate) fn refused<W: CountedWrite>(
     alloc: Global,
     writer: &mut W,
@@ -27,6 +27,7 @@ pub(crate) fn refused<W: CountedWrite>(
         SessionError::NoMemory => 0,
         SessionError::TooMany => 29,
         SessionError::Closed => 30,
+        SessionError::Down => 31,
         SessionError::DiskFault => return Err(CallFault::DiskFault),
     };
     let mut out = Vec::new(alloc);
@@ -57,8 +58,10 @@ pub(crate) fn open<C: Connections, W: CountedWrite>(
     writer: &mut W,
     conn: usize,
 ) -> Result<(), CallFault>
-    ensures does { (before : C) (st : State) (r : Run) (front : Option (List ℕ)) → IsAt (view C.Connections before core.old st (W.contents writer.old) front) r
-        → Went (view C.Connections before core.new st (W.contents writer.new) front) result (λ x. (call x conn (Opened conn)).run) r }
+    ensures does { (before : C) (st : State) (r : Run) (front : Option (List ℕ))
+        → IsAt (view C.Connections before core.old st (W.contents writer.old) front) r
+        → Went (view C.Connections before core.new st (W.contents writer.new) front) result
+        (λ x. (call x conn (Opened conn)).run) r }
     ensures counts { Counts (IsErrOf result CallFault.DiskFault) (C.failures core.old) (C.failures core.new) }
     ensures io { Counts (IsErrOf result CallFault.Io) (W.refusals writer.old) (W.refusals writer.new) }
 {
@@ -75,8 +78,10 @@ pub(crate) fn cut<C: Connections, W: CountedWrite>(
     writer: &mut W,
     conn: usize,
 ) -> Result<(), CallFault>
-    ensures does { (before : C) (st : State) (r : Run) (front : Option (List ℕ)) → IsAt (view C.Connections before core.old st (W.contents writer.old) front) r
-        → Went (view C.Connections before core.new st (W.contents writer.new) front) result (λ x. (call x conn (Ended conn)).run) r }
+    ensures does { (before : C) (st : State) (r : Run) (front : Option (List ℕ))
+        → IsAt (view C.Connections before core.old st (W.contents writer.old) front) r
+        → Went (view C.Connections before core.new st (W.contents writer.new) front) result
+        (λ x. (call x conn (Ended conn)).run) r }
     ensures counts { Counts (IsErrOf result CallFault.DiskFault) (C.failures core.old) (C.failures core.new) }
     ensures io { Counts (IsErrOf result CallFault.Io) (W.refusals writer.old) (W.refusals writer.new) }
 {
@@ -94,8 +99,10 @@ pub(crate) fn came<C: Connections, W: CountedWrite>(
     conn: usize,
     bytes: &[u8],
 ) -> Result<Option<Answer>, CallFault>
-    ensures does { (before : C) (st : State) (r : Run) (front : Option (List ℕ)) → IsAt (view C.Connections before core.old st (W.contents writer.old) front) r
-        → Called (view C.Connections before core.new st (W.contents writer.new) front) result conn (Came conn bytes.now) r }
+    ensures does { (before : C) (st : State) (r : Run) (front : Option (List ℕ))
+        → IsAt (view C.Connections before core.old st (W.contents writer.old) front) r
+        → Called (view C.Connections before core.new st (W.contents writer.new) front) result conn
+        (Came conn bytes.now) r }
     ensures counts { Counts (IsErrOf result CallFault.DiskFault) (C.failures core.old) (C.failures core.new) }
     ensures io { Counts (IsErrOf result CallFault.Io) (W.refusals writer.old) (W.refusals writer.new) }
 {
@@ -119,7 +126,8 @@ pub(crate) fn more<C: Connections, W: CountedWrite>(
     writer: &mut W,
     conn: usize,
 ) -> Result<Option<Answer>, CallFault>
-    ensures does { (before : C) (st : State) (r : Run) (front : Option (List ℕ)) → IsAt (view C.Connections before core.old st (W.contents writer.old) front) r
+    ensures does { (before : C) (st : State) (r : Run) (front : Option (List ℕ))
+        → IsAt (view C.Connections before core.old st (W.contents writer.old) front) r
         → Called (view C.Connections before core.new st (W.contents writer.new) front) result conn (More conn) r }
     ensures counts { Counts (IsErrOf result CallFault.DiskFault) (C.failures core.old) (C.failures core.new) }
     ensures io { Counts (IsErrOf result CallFault.Io) (W.refusals writer.old) (W.refusals writer.new) }

@@ -1,14 +1,17 @@
 //! Connections, as a script drives them.
-ghost use Rattle.std.specs.Prelude.{◌≡◌, ℕ, List, IsErrOf, Option};
+ghost use Rattle.std.specs.Prelude.{◌≡◌, ℕ, Bool, true, false, List, IsErrOf, Option};
 ghost use Rattle.upload_rules.specs.Store.{Store};
 ghost use Rattle.upload_rules.specs.Answers.{Among, Limits, Quiet, Counts};
 ghost use Rattle.tus_session.specs.History.{State, Opened, Came, More, Ended};
-ghost use Rattle.gateway_script.specs.Connections.{Gives, Does, mark_of};
+ghost use Rattle.gateway_script.specs.Connections.{Gives, Does, Falls, Unasked, mark_of};
 ghost use Rattle.gateway_script.specs.Images.{shown_by};
 
 use tus_session::{Answer, SessionError};
 
 /// Connections that keep the history of their events.
+///
+/// Once a call was refused with `DiskFault` they are down: each further call is refused with `Down` at once, the device
+/// isn't asked, and `out` stays as it was.
 pub trait Connections {
     /// They are where the history is.
     ghost stands: { Self → State → Type 0 };
@@ -22,12 +25,18 @@ pub trait Connections {
     /// How often the device failed.
     ghost failures: { Self → ℕ };
 
+    /// Whether the device failed at one of their calls.
+    ghost down: { Self → Bool };
+
     /// Opens a connection: refused with `TooMany` exactly where its number isn't below 16, or it is open. It needs
     /// neither memory nor the device.
     fn opened(&mut self, conn: usize) -> Result<(), SessionError>
         ensures does { (st : State) → stands self.old st → Does (stands self.new) result st (Opened conn) }
         ensures crash { Quiet (moment self.old) (moment self.new) (left_only self.old) (left_only self.new) }
-        ensures counts { Counts (IsErrOf result SessionError.DiskFault) (failures self.old) (failures self.new) };
+        ensures counts { Counts (IsErrOf result SessionError.DiskFault) (failures self.old) (failures self.new) }
+        ensures falls { Falls (down self.old) (down self.new) result }
+        ensures unasked { down self.old ≡ true → Unasked (moment self.old) (moment self.new) (left_only self.old)
+            (left_only self.new) (failures self.old) (failures self.new) };
 
     /// Bytes came: those of at most one request are taken, and what they are answered is put behind `out`, which a
     /// refusal leaves as it was.
@@ -39,14 +48,22 @@ pub trait Connections {
         ensures crash { (st : State) → stands self.old st
             → Limits (moment self.old) (moment self.new) (left_only self.old) (left_only self.new) st.world.store
             (shown_by st (Came conn bytes.now) (mark_of result)) }
-        ensures counts { Counts (IsErrOf result SessionError.DiskFault) (failures self.old) (failures self.new) };
+        ensures counts { Counts (IsErrOf result SessionError.DiskFault) (failures self.old) (failures self.new) }
+        ensures falls { Falls (down self.old) (down self.new) result }
+        ensures unasked { down self.old ≡ true → Unasked (moment self.old) (moment self.new) (left_only self.old)
+            (left_only self.new) (failures self.old) (failures self.new) }
+        ensures unwritten { down self.old ≡ true → out.new.items ≡ out.old.items };
 
     /// The next piece of a text is put behind `out`, which a refusal leaves as it was. Refused as `came` is.
     fn more(&mut self, conn: usize, out: &mut Vec<u8>) -> Result<Answer, SessionError>
         ensures gives { (st : State) → stands self.old st
             → Gives (stands self.new) result out.old.items out.new.items st (More conn) }
         ensures crash { Quiet (moment self.old) (moment self.new) (left_only self.old) (left_only self.new) }
-        ensures counts { Counts (IsErrOf result SessionError.DiskFault) (failures self.old) (failures self.new) };
+        ensures counts { Counts (IsErrOf result SessionError.DiskFault) (failures self.old) (failures self.new) }
+        ensures falls { Falls (down self.old) (down self.new) result }
+        ensures unasked { down self.old ≡ true → Unasked (moment self.old) (moment self.new) (left_only self.old)
+            (left_only self.new) (failures self.old) (failures self.new) }
+        ensures unwritten { down self.old ≡ true → out.new.items ≡ out.old.items };
 
     /// The connection ended. Refused as `came` is.
     fn ended(&mut self, conn: usize) -> Result<(), SessionError>
@@ -54,9 +71,15 @@ pub trait Connections {
         ensures crash { (st : State) → stands self.old st
             → Limits (moment self.old) (moment self.new) (left_only self.old) (left_only self.new) st.world.store
             (shown_by st (Ended conn) (mark_of result)) }
-        ensures counts { Counts (IsErrOf result SessionError.DiskFault) (failures self.old) (failures self.new) };
+        ensures counts { Counts (IsErrOf result SessionError.DiskFault) (failures self.old) (failures self.new) }
+        ensures falls { Falls (down self.old) (down self.new) result }
+        ensures unasked { down self.old ≡ true → Unasked (moment self.old) (moment self.new) (left_only self.old)
+            (left_only self.new) (failures self.old) (failures self.new) };
 
     /// Where connections are where a history is, its uploads are on the device.
     ghost durable: { (core : Self) (st : State) (ms : List Store) → stands core st → Among st.world.store ms
         → left_only core st.world.blocks (moment core) ms };
+
+    /// Where connections are where a history is, they aren't down.
+    ghost up: { (core : Self) (st : State) → stands core st → down core ≡ false };
 }

@@ -1,5 +1,5 @@
 -- What serving did, behind one call of the session more.
-use Rattle.std.proofs.Common.{◌≡◌, ◌↔◌, ℕ, false, true, List, ◌∷◌, Result, Ok, Err, refl}
+use Rattle.std.proofs.Common.{◌≡◌, ◌↔◌, ℕ, false, true, List, ◌∷◌, Result, Ok, Err, inr, refl}
 use Rattle.std.specs.Prelude.{IsErr, IsErrOf}
 use Rattle.spool_disk.specs.declared.disk.DiskFault.{DiskFault}
 use Rattle.upload_rules.specs.Answers.{Among, Limits}
@@ -7,7 +7,7 @@ use Rattle.upload_rules.specs.Store.{Store}
 use Rattle.tus_session.specs.History.{State, Event, Marked, Served, OutOfMemory, Failed, step, history}
 use Rattle.tus_session.specs.declared.errors.SessionError.{SessionError}
 use Rattle.tus_session.specs.declared.errors.SessionError.TheVariants as errors
-use Rattle.gateway_script.specs.Connections.{mark_of, UnlessFailed}
+use Rattle.gateway_script.specs.Connections.{Falls, mark_of, UnlessFailed}
 use Rattle.gateway_script.specs.Images.{shown_by}
 use Rattle.gateway_script.specs.declared.connections.Connections.{Ghosts}
 use Rattle.gateway_script.proofs.Seen.{limits_step, last_step}
@@ -22,42 +22,90 @@ GoesOn answer told = IsErr told ↔ IsErrOf answer errors.DiskFault
 abbrev pub Faults : {T : Type 0} → Result T SessionError → Type 0
 Faults answer = IsErrOf answer errors.DiskFault
 
-module _ {C : Type 0} (c : Ghosts C) (before old now : C) (st : State) (past : List Marked) (e : Event) (w : WentOn c before old st past)
-    (durable : (ms : List Store) → Among (history st past).world.store ms → c.left_only old (history st past).world.blocks (c.moment old) ms) where
+module _ {C : Type 0} (c : Ghosts C) (before old now : C) (st : State) (past : List Marked) (e : Event)
+    (w : WentOn c before old st past)
+    (durable : (ms : List Store) → Among (history st past).world.store ms
+    → c.left_only old (history st past).world.blocks (c.moment old) ms) where
   -- what images may show behind a call that answered so
   abbrev pub Leaves : {T : Type 0} → Result T SessionError → Type 0
-  Leaves answer = Limits (c.moment old) (c.moment now) (c.left_only old) (c.left_only now) (history st past).world.store (shown_by (history st past) e (mark_of answer))
+  Leaves answer = Limits (c.moment old) (c.moment now) (c.left_only old) (c.left_only now) (history st past).world.store
+      (shown_by (history st past) e (mark_of answer))
 
   -- where the connections are behind it
   abbrev pub Keeps : {T : Type 0} → Result T SessionError → Type 0
   Keeps answer = UnlessFailed answer (c.stands now (step (history st past) e (mark_of answer)).state)
 
   module _ (On Down : List Marked → Type 0) where
-    pub served : {T U : Type 0} (answer : Result T SessionError) (told : Result U DiskFault) → GoesOn answer told → Keeps answer → Leaves answer
-        → ((Faults answer → ⊥) → On ((e, mark_of answer) ∷ past)) → (Faults answer → Down ((e, mark_of answer) ∷ past)) → Serves c before now st told On Down
-    served (Ok x) (Ok y) same keeps leaves on down = ((e, Served) ∷ past, record { stands = keeps; images = limits_step st past e Served w.images leaves }, on (λ f. absurd (cc)))
-    served (Ok x) (Err y) same keeps leaves on down = let f : Ok x ≡ Err errors.DiskFault = same.0 refl in absurd (cc)
-    served (Err errors.NoMemory) (Ok y) same keeps leaves on down =
-        ((e, OutOfMemory) ∷ past, record { stands = keeps; images = limits_step st past e OutOfMemory w.images leaves }, on (λ f. absurd (cc)))
-    served (Err errors.NoMemory) (Err y) same keeps leaves on down = let f : Err errors.NoMemory ≡ Err errors.DiskFault = same.0 refl in absurd (cc)
-    served (Err errors.TooMany) (Ok y) same keeps leaves on down =
-        ((e, Served) ∷ past, record { stands = keeps; images = limits_step st past e Served w.images leaves }, on (λ f. absurd (cc)))
-    served (Err errors.TooMany) (Err y) same keeps leaves on down = let f : Err errors.TooMany ≡ Err errors.DiskFault = same.0 refl in absurd (cc)
-    served (Err errors.Closed) (Ok y) same keeps leaves on down =
-        ((e, Served) ∷ past, record { stands = keeps; images = limits_step st past e Served w.images leaves }, on (λ f. absurd (cc)))
-    served (Err errors.Closed) (Err y) same keeps leaves on down = let f : Err errors.Closed ≡ Err errors.DiskFault = same.0 refl in absurd (cc)
-    served (Err errors.DiskFault) (Ok y) same keeps leaves on down = let f : false ≡ true = same.1 refl in absurd (cc)
-    served (Err errors.DiskFault) (Err y) same keeps leaves on down =
-        (past, e, record { images = limits_step st past e Failed w.images leaves; last = last_step st past e Failed durable leaves }, down refl)
+    pub served : {T U : Type 0} (answer : Result T SessionError) (told : Result U DiskFault) → GoesOn answer told
+        → Keeps answer → Leaves answer
+        → Falls (c.down old) (c.down now) answer → ((Faults answer → ⊥) → On ((e, mark_of answer) ∷ past))
+        → (Faults answer → Down ((e, mark_of answer) ∷ past)) → Serves c before now st told On Down
+    served (Ok x) (Ok y) same keeps leaves falls on down = (
+      (e, Served) ∷ past,
+      record { stands = keeps; images = limits_step st past e Served w.images leaves },
+      on
+          (λ f. absurd (cc)),
+    )
+    served (Ok x) (Err y) same keeps leaves falls on down = let f : Ok x ≡ Err errors.DiskFault = same.0 refl in
+        absurd (cc)
+    served (Err errors.NoMemory) (Ok y) same keeps leaves falls on down = (
+      (e, OutOfMemory) ∷ past,
+      record { stands = keeps; images = limits_step st past e OutOfMemory w.images leaves },
+      on (λ f. absurd (cc)),
+    )
+    served (Err errors.NoMemory) (Err y) same keeps leaves falls on down =
+        let f : Err errors.NoMemory ≡ Err errors.DiskFault = same.0 refl in absurd (cc)
+    served (Err errors.TooMany) (Ok y) same keeps leaves falls on down = (
+      (e, Served) ∷ past,
+      record { stands = keeps; images = limits_step st past e Served w.images leaves },
+      on
+          (λ f. absurd (cc)),
+    )
+    served (Err errors.TooMany) (Err y) same keeps leaves falls on down =
+        let f : Err errors.TooMany ≡ Err errors.DiskFault = same.0 refl in absurd (cc)
+    served (Err errors.Closed) (Ok y) same keeps leaves falls on down = (
+      (e, Served) ∷ past,
+      record { stands = keeps; images = limits_step st past e Served w.images leaves },
+      on
+          (λ f. absurd (cc)),
+    )
+    served (Err errors.Closed) (Err y) same keeps leaves falls on down =
+        let f : Err errors.Closed ≡ Err errors.DiskFault = same.0 refl in absurd (cc)
+    served (Err errors.Down) (Ok y) same keeps leaves falls on down = (
+      (e, Served) ∷ past,
+      record { stands = keeps; images = limits_step st past e Served w.images leaves },
+      on
+          (λ f. absurd (cc)),
+    )
+    served (Err errors.Down) (Err y) same keeps leaves falls on down = let f : Err errors.Down ≡ Err errors.DiskFault =
+        same.0 refl in absurd (cc)
+    served (Err errors.DiskFault) (Ok y) same keeps leaves falls on down = let f : false ≡ true = same.1 refl in
+        absurd (cc)
+    served (Err errors.DiskFault) (Err y) same keeps leaves falls on down = (
+      past,
+      e,
+      record {
+        images = limits_step st past e Failed w.images leaves;
+        last = last_step st past e Failed durable leaves;
+        down = falls.falls.1 (inr refl);
+      },
+      down refl,
+    )
 
 -- what holds of the events behind a part of serving, from what it says of them
-pub followed : {C T : Type 0} (c : Ghosts C) (before now : C) (st : State) (On Down On' Down' : List Marked → Type 0) (told : Result T DiskFault) → Serves c before now st told On Down
-    → ((past : List Marked) → On past → On' past) → ((past : List Marked) → Down past → Down' past) → Serves c before now st told On' Down'
+pub followed : {C T : Type 0} (c : Ghosts C) (before now : C) (st : State) (On Down On' Down' : List Marked
+    → Type 0) (told : Result T DiskFault) → Serves c before now st told On Down
+    → ((past : List Marked) → On past → On' past) → ((past : List Marked) → Down past → Down' past)
+    → Serves c before now st told On' Down'
 followed c before now st On Down On' Down' (Ok x) s on down = (s.0, s.1, on s.0 s.2)
 followed c before now st On Down On' Down' (Err y) s on down = (s.0, s.1, s.2, down _ s.3)
 
 -- of one connection alone, behind others of its events
-pub alone_behind : {C T : Type 0} (c : Ghosts C) (before now : C) (st : State) (n : ℕ) (past mid : List Marked) (On Down : List Marked → Type 0) (told : Result T DiskFault) → Alone st n past mid
-    → Serves c before now st told (λ p. Alone st n mid p × On p) (λ p. Alone st n mid p × Down p) → Serves c before now st told (λ p. Alone st n past p × On p) (λ p. Alone st n past p × Down p)
+pub alone_behind : {C T : Type 0} (c : Ghosts C) (before now : C) (st : State) (n : ℕ) (past mid : List Marked)
+    (On Down : List Marked → Type 0) (told : Result T DiskFault) → Alone st n past mid
+    → Serves c before now st told (λ p. Alone st n mid p × On p) (λ p. Alone st n mid p × Down p)
+    → Serves c before now st told (λ p. Alone st n past p × On p) (λ p. Alone st n past p × Down p)
 alone_behind c before now st n past mid On Down told first s =
-    followed c before now st (λ p. Alone st n mid p × On p) (λ p. Alone st n mid p × Down p) (λ p. Alone st n past p × On p) (λ p. Alone st n past p × Down p) told s (λ p x. (alone_then first x.0, x.1)) (λ p x. (alone_then first x.0, x.1))
+    followed c before now st (λ p. Alone st n mid p × On p) (λ p. Alone st n mid p × Down p) (λ p. Alone st n past p
+    × On p) (λ p. Alone st n past p × Down p) told s (λ p x. (alone_then first x.0, x.1))
+    (λ p x. (alone_then first x.0, x.1))

@@ -1,8 +1,9 @@
 -- Places that are freed, and sockets that are let go.
-use Rattle.std.proofs.Common.{◌≡◌, ℕ, ◌==◌, List, [], ◌∷◌, ◌++◌, None, Result, Ok, Err, refl, sym, ◌∙◌, ap, subst, append-nil}
+use Rattle.std.proofs.Common.{◌≡◌, ℕ, ◌==◌, List, [], ◌∷◌, ◌++◌, None, Result, Ok, Err, refl, sym, ◌∙◌, ap, subst}
+use Rattle.std.proofs.Common.{append-nil}
 use Rattle.tus_session.specs.History.{State, Ended, Mark, Marked, history}
 use Rattle.tus_session.specs.declared.errors.SessionError.{SessionError}
-use Rattle.tus_session.specs.declared.errors.SessionError.TheVariants.{NoMemory, DiskFault, TooMany, Closed}
+use Rattle.tus_session.specs.declared.errors.SessionError.TheVariants.{NoMemory, DiskFault, TooMany, Closed, Down}
 use Rattle.gateway_script.specs.Connections.{mark_of}
 use Rattle.gateway_serve.specs.Conversations.{Conversation, latest, hung_up, conversations}
 use Rattle.gateway_serve.specs.Sockets as sockets
@@ -39,7 +40,8 @@ module _ (ended : List Seen) (st : State) (past : List Marked) (n : ℕ) where
   fits j is = record { taken = (j.input, is.taken, is.few); written = (j.output, sym is.given) }
 
   -- the session closed the connection, and all is written
-  over_pairs : (j : Joint) → IsOver j → Joins j (seen_of n ended) st past n → Pairs sockets.Served (seen_of n (seen_at n j ∷ ended)) (conversations st past n)
+  over_pairs : (j : Joint) → IsOver j → Joins j (seen_of n ended) st past n
+      → Pairs sockets.Served (seen_of n (seen_at n j ∷ ended)) (conversations st past n)
   over_pairs j over is =
       let whole : j.went ≡ is.latest.gave = sym (append-nil j.went) ∙ (ap (λ l. j.went ++ l) (sym over.1) ∙ is.given) in
       let served : sockets.Served (seen_at n j) is.latest = record { fits = fits j is; whole = λ e. whole } in
@@ -51,24 +53,37 @@ module _ (ended : List Seen) (st : State) (past : List Marked) (n : ℕ) where
   over_freed l over is = (over_pairs (joint_of l) over is, is.shut over.0 ∙ sym is.apart)
 
   -- the session was told that its client is gone
-  told_pairs : (m : Mark) (j : Joint) → Joins j (seen_of n ended) st past n → Pairs sockets.Served (seen_of n (seen_at n j ∷ ended)) (conversations st ((Ended n, m) ∷ past) n)
+  told_pairs : (m : Mark) (j : Joint) → Joins j (seen_of n ended) st past n
+      → Pairs sockets.Served (seen_of n (seen_at n j ∷ ended)) (conversations st ((Ended n, m) ∷ past) n)
   told_pairs m j is =
-      let served : sockets.Served (seen_at n j) (hung_up is.latest) = record { fits = record { taken = (j.input, is.taken, is.few); written = (j.output, sym is.given) }; whole = λ e. absurd (cc) } in
-      let talks : conversations st ((Ended n, m) ∷ past) n ≡ hung_up is.latest ∷ is.others = talks_here st past (Ended n) m ∙ ap (latest hung_up) is.talks in
+      let served : sockets.Served (seen_at n j) (hung_up is.latest) =
+      record {
+        fits = record { taken = (j.input, is.taken, is.few); written = (j.output, sym is.given) };
+        whole = λ e. absurd (cc);
+      } in
+      let talks : conversations st ((Ended n, m) ∷ past) n ≡ hung_up is.latest ∷ is.others = talks_here st past
+      (Ended n) m ∙ ap (latest hung_up) is.talks in
       subst (λ seen. Pairs sockets.Served seen (conversations st ((Ended n, m) ∷ past) n)) (sym (first_seen n j ended))
       (subst (λ x. Pairs sockets.Served (seen_at n j ∷ seen_of n ended) x) (sym talks) (served, is.pairs))
 
-  told_none : (answer : Result (Unit {0}) SessionError) → (answer ≡ Err DiskFault → ⊥) → (history st ((Ended n, mark_of answer) ∷ past)).conns n ≡ None
+  told_none : (answer : Result (Unit {0}) SessionError) → (answer ≡ Err DiskFault → ⊥)
+      → (history st ((Ended n, mark_of answer) ∷ past)).conns n ≡ None
   told_none (Ok x) ok = ended_shuts (history st past) n
   told_none (Err NoMemory) ok = ended_lost (history st past) n
   told_none (Err TooMany) ok = ended_shuts (history st past) n
   told_none (Err Closed) ok = ended_shuts (history st past) n
+  told_none (Err Down) ok = ended_shuts (history st past) n
   told_none (Err DiskFault) ok = absurd (ok refl)
 
-  pub told_freed : {S : Type 0} (p : Place S) (answer : Result (Unit {0}) SessionError) → (p ≡ Free → ⊥) → (answer ≡ Err DiskFault → ⊥) → PlaceJoins p (seen_of n ended) st past n
+  pub told_freed : {S : Type 0} (p : Place S) (answer : Result (Unit {0}) SessionError) → (p ≡ Free → ⊥)
+      → (answer ≡ Err DiskFault → ⊥) → PlaceJoins p (seen_of n ended) st past n
       → PlaceJoins {S = S} Free (seen_of n (with_place n p ended)) st ((Ended n, mark_of answer) ∷ past) n
   told_freed Free answer used ok is = absurd (used refl)
-  told_freed (Open l) answer used ok is = (told_pairs (mark_of answer) (joint_of l) is, told_none answer ok ∙ sym is.apart)
+  told_freed (Open l) answer used ok is = (
+    told_pairs (mark_of answer) (joint_of l) is,
+    told_none answer ok
+        ∙ sym is.apart,
+  )
 
   pub told_fell : {S : Type 0} (p : Place S) (m : Mark) → (p ≡ Free → ⊥) → PlaceJoins p (seen_of n ended) st past n
       → PlaceFell {S = S} Free (seen_of n (with_place n p ended)) st ((Ended n, m) ∷ past) n
@@ -76,19 +91,24 @@ module _ (ended : List Seen) (st : State) (past : List Marked) (n : ℕ) where
   told_fell (Open l) m used is = told_pairs m (joint_of l) is
 
   -- THE PLACE BEHIND, as it is then
-  pub told_place : {S : Type 0} (p p' : Place S) (ended' : List Seen) (answer : Result (Unit {0}) SessionError) → p' ≡ Free → ended' ≡ with_place n p ended → (p ≡ Free → ⊥)
-      → (answer ≡ Err DiskFault → ⊥) → PlaceJoins p (seen_of n ended) st past n → PlaceJoins p' (seen_of n ended') st ((Ended n, mark_of answer) ∷ past) n
+  pub told_place : {S : Type 0} (p p' : Place S) (ended' : List Seen) (answer : Result (Unit {0}) SessionError)
+      → p' ≡ Free → ended' ≡ with_place n p ended → (p ≡ Free → ⊥)
+      → (answer ≡ Err DiskFault → ⊥) → PlaceJoins p (seen_of n ended) st past n
+      → PlaceJoins p' (seen_of n ended') st ((Ended n, mark_of answer) ∷ past) n
   told_place {S} p p' ended' answer free with used ok is =
       subst (λ (x : Place S). PlaceJoins x (seen_of n ended') st ((Ended n, mark_of answer) ∷ past) n) (sym free)
-      (subst (λ x. PlaceJoins {S = S} Free (seen_of n x) st ((Ended n, mark_of answer) ∷ past) n) (sym with) (told_freed p answer used ok is))
+      (subst (λ x. PlaceJoins {S = S} Free (seen_of n x) st ((Ended n, mark_of answer) ∷ past) n) (sym with)
+      (told_freed p answer used ok is))
 
-  pub fallen_place : {S : Type 0} (p p' : Place S) (ended' : List Seen) (m : Mark) → p' ≡ Free → ended' ≡ with_place n p ended → (p ≡ Free → ⊥)
+  pub fallen_place : {S : Type 0} (p p' : Place S) (ended' : List Seen) (m : Mark) → p' ≡ Free
+      → ended' ≡ with_place n p ended → (p ≡ Free → ⊥)
       → PlaceJoins p (seen_of n ended) st past n → PlaceFell p' (seen_of n ended') st ((Ended n, m) ∷ past) n
   fallen_place {S} p p' ended' m free with used is =
       subst (λ (x : Place S). PlaceFell x (seen_of n ended') st ((Ended n, m) ∷ past) n) (sym free)
       (subst (λ x. PlaceFell {S = S} Free (seen_of n x) st ((Ended n, m) ∷ past) n) (sym with) (told_fell p m used is))
 
-  pub over_place : {S : Type 0} (l : Link S) (p' : Place S) (ended' : List Seen) → p' ≡ Free → ended' ≡ with_place n (Open l) ended → IsOver (joint_of l)
+  pub over_place : {S : Type 0} (l : Link S) (p' : Place S) (ended' : List Seen) → p' ≡ Free
+      → ended' ≡ with_place n (Open l) ended → IsOver (joint_of l)
       → Joins (joint_of l) (seen_of n ended) st past n → PlaceJoins p' (seen_of n ended') st past n
   over_place {S} l p' ended' free with over is =
       subst (λ (x : Place S). PlaceJoins x (seen_of n ended') st past n) (sym free)
@@ -101,6 +121,7 @@ module _ (ended : List Seen) (st : State) (past : List Marked) (n : ℕ) where
       subst (λ seen. Pairs sockets.Fits seen (conversations st past n)) (sym (first_seen n j ended))
       (subst (λ talks. Pairs sockets.Fits (seen_at n j ∷ seen_of n ended) talks) (sym is.talks) (fits j is, rest))
 
-  pub untold_place : {S : Type 0} (p : Place S) → PlaceFell p (seen_of n ended) st past n → Pairs sockets.Fits (seen_of n (with_place n p ended)) (conversations st past n)
+  pub untold_place : {S : Type 0} (p : Place S) → PlaceFell p (seen_of n ended) st past n
+      → Pairs sockets.Fits (seen_of n (with_place n p ended)) (conversations st past n)
   untold_place Free is = loosely (seen_of n ended) (conversations st past n) is
   untold_place (Open l) is = untold_pairs (joint_of l) is (loosely (seen_of n ended) is.others is.pairs)

@@ -1,14 +1,18 @@
 -- A socket and its connection stay joined.
-use Rattle.std.proofs.Common.{◌≡◌, ◌≤◌, ℕ, length, arith, Bool, true, false, List, [], ◌∷◌, ◌++◌, take, drop, None, Result, Ok, Err, refl, sym, ◌∙◌, ap, subst, append_assoc, append-nil, inl, inr, if◌then◌else◌}
+use Rattle.std.proofs.Common.{◌≡◌, ◌≤◌, ℕ, length, arith, Bool, true, false, List, [], ◌∷◌, ◌++◌, take, drop, None}
+use Rattle.std.proofs.Common.{Result, Ok, Err, refl, sym, ◌∙◌, ap, subst, append_assoc, append-nil, inl, inr}
+use Rattle.std.proofs.Common.{if◌then◌else◌}
 use Rattle.std.proofs.lemmas.List.{take-append-drop, length-append}
-use Rattle.tus_session.specs.History.{State, Event, Came, More, Mark, Marked, Served, OutOfMemory, Failed, Outcome, history, step}
+use Rattle.tus_session.specs.History.{State, Event, Came, More, Mark, Marked, Served, OutOfMemory, Failed, Outcome}
+use Rattle.tus_session.specs.History.{history, step}
 use Rattle.tus_session.specs.declared.answers.Answer.{Answer}
 use Rattle.tus_session.specs.declared.errors.SessionError.{SessionError}
-use Rattle.tus_session.specs.declared.errors.SessionError.TheVariants.{NoMemory, DiskFault, TooMany, Closed}
+use Rattle.tus_session.specs.declared.errors.SessionError.TheVariants.{NoMemory, DiskFault, TooMany, Closed, Down}
 use Rattle.gateway_script.specs.Connections.{mark_of, told, Adds}
 use Rattle.gateway_serve.specs.Conversations.{longer, latest, goes_on, conversations}
 use Rattle.gateway_serve.specs.Sockets.{Seen}
-use Rattle.gateway_serve.specs.Joined.{Joint, Joins, Writes, Reads, wrote, read, is_last, stage_by, stage_behind, taken_behind}
+use Rattle.gateway_serve.specs.Joined.{Joint, Joins, Writes, Reads, wrote, read, is_last, stage_by, stage_behind}
+use Rattle.gateway_serve.specs.Joined.{taken_behind}
 use Rattle.gateway_serve.specs.declared.links.Stage.{Stage}
 use Rattle.gateway_serve.specs.declared.links.Stage.TheVariants as stages
 use Rattle.gateway_serve.proofs.Steps.{Shuts, came_shuts, came_lost, came_failed, more_shuts, more_lost, more_failed}
@@ -17,7 +21,8 @@ use Rattle.gateway_serve.proofs.Talks.{talks_here}
 shorter : (front rest all : List ℕ) → all ≡ front ++ rest → length all ≤ 4096 → length rest ≤ 4096
 shorter front rest all e few = omega (arith, ap length e, length-append front rest, few)
 
-closing : (closes more : Bool) → is_last (if closes then stages.Closed else if more then stages.Giving else stages.Taking) ≡ true → closes ≡ true
+closing : (closes more : Bool)
+    → is_last (if closes then stages.Closed else if more then stages.Giving else stages.Taking) ≡ true → closes ≡ true
 closing true more e = refl
 closing false true e = absurd (cc)
 closing false false e = absurd (cc)
@@ -31,7 +36,8 @@ module _ (ended : List Seen) (st : State) (past : List Marked) (n : ℕ) where
     talks = is.talks;
     taken = is.taken;
     few = is.few;
-    given = append_assoc j.went (take k j.output) (drop k j.output) ∙ (ap (λ l. j.went ++ l) (take-append-drop k j.output) ∙ is.given);
+    given = append_assoc j.went (take k j.output) (drop k j.output)
+        ∙ (ap (λ l. j.went ++ l) (take-append-drop k j.output) ∙ is.given);
     pairs = is.pairs;
     shut = is.shut;
     apart = is.apart;
@@ -40,7 +46,8 @@ module _ (ended : List Seen) (st : State) (past : List Marked) (n : ℕ) where
   pub writes_joins : (old new : Joint) → Writes old new → Joins old ended st past n → Joins new ended st past n
   writes_joins old new w is = subst (λ j. Joins j ended st past n) (sym w.1) (wrote_joins old w.0 is)
 
-  read_joins : (j : Joint) (bytes : List ℕ) → length bytes ≤ 4096 → j.input ≡ [] → Joins j ended st past n → Joins (read bytes j) ended st past n
+  read_joins : (j : Joint) (bytes : List ℕ) → length bytes ≤ 4096 → j.input ≡ [] → Joins j ended st past n
+      → Joins (read bytes j) ended st past n
   read_joins j bytes few none is = record {
     latest = is.latest;
     others = is.others;
@@ -63,7 +70,13 @@ module _ (ended : List Seen) (st : State) (past : List Marked) (n : ℕ) where
   -- AN ANSWER. The bytes that it gave are put behind the output, and those that were taken are taken from the input
   abbrev pub answered : Joint → List ℕ → Result Answer SessionError → Joint
   answered j output answer =
-      record { came = j.came; went = j.went; input = drop (taken_behind answer) j.input; output = output; closed = is_last (stage_behind answer) }
+      record {
+        came = j.came;
+        went = j.went;
+        input = drop (taken_behind answer) j.input;
+        output = output;
+        closed = is_last (stage_behind answer);
+      }
 
   abbrev pub kept : Joint → List ℕ → Joint
   kept j output = record { came = j.came; went = j.went; input = j.input; output = output; closed = j.closed }
@@ -71,9 +84,11 @@ module _ (ended : List Seen) (st : State) (past : List Marked) (n : ℕ) where
   -- the conversation goes on by so many bytes
   module _ (e : Event) (m : Mark) (j : Joint) (output took gave : List ℕ) where
     longer_joins : (input : List ℕ) (closed : Bool) (is : Joins j ended st past n)
-        → conversations st ((e, m) ∷ past) n ≡ longer is.latest took gave ∷ is.others → j.input ≡ took ++ input → output ≡ j.output ++ gave
+        → conversations st ((e, m) ∷ past) n ≡ longer is.latest took gave ∷ is.others → j.input ≡ took ++ input
+        → output ≡ j.output ++ gave
         → (closed ≡ true → (history st ((e, m) ∷ past)).conns n ≡ None)
-        → Joins (record { came = j.came; went = j.went; input = input; output = output; closed = closed }) ended st ((e, m) ∷ past) n
+        → Joins (record { came = j.came; went = j.went; input = input; output = output; closed = closed }) ended st
+        ((e, m) ∷ past) n
     longer_joins input closed is talks taken given shut = record {
       latest = longer is.latest took gave;
       others = is.others;
@@ -86,9 +101,11 @@ module _ (ended : List Seen) (st : State) (past : List Marked) (n : ℕ) where
       apart = is.apart;
     }
 
-    still_joins : (input : List ℕ) (closed : Bool) (is : Joins j ended st past n) → conversations st ((e, m) ∷ past) n ≡ conversations st past n → input ≡ j.input → output ≡ j.output
+    still_joins : (input : List ℕ) (closed : Bool) (is : Joins j ended st past n)
+        → conversations st ((e, m) ∷ past) n ≡ conversations st past n → input ≡ j.input → output ≡ j.output
         → (closed ≡ true → (history st ((e, m) ∷ past)).conns n ≡ None)
-        → Joins (record { came = j.came; went = j.went; input = input; output = output; closed = closed }) ended st ((e, m) ∷ past) n
+        → Joins (record { came = j.came; went = j.went; input = input; output = output; closed = closed }) ended st
+        ((e, m) ∷ past) n
     still_joins input closed is talks taken given shut = record {
       latest = is.latest;
       others = is.others;
@@ -102,51 +119,76 @@ module _ (ended : List Seen) (st : State) (past : List Marked) (n : ℕ) where
     }
 
   -- bytes came
-  came_joins : (answer : Result Answer SessionError) (bytes : List ℕ) (j : Joint) (output : List ℕ) → (answer ≡ Err DiskFault → ⊥)
-      → (step (history st past) (Came n j.input) (mark_of answer)).outcome ≡ told bytes answer → Adds answer bytes j.output output → Joins j ended st past n
+  came_joins : (answer : Result Answer SessionError) (bytes : List ℕ) (j : Joint) (output : List ℕ)
+      → (answer ≡ Err DiskFault → ⊥)
+      → (step (history st past) (Came n j.input) (mark_of answer)).outcome ≡ told bytes answer
+      → Adds answer bytes j.output output → Joins j ended st past n
       → Joins (answered j output answer) ended st ((Came n j.input, mark_of answer) ∷ past) n
   came_joins (Ok a) bytes j output ok same adds is =
-      longer_joins (Came n j.input) Served j output (take a.taken j.input) bytes (drop a.taken j.input) (is_last (stage_by a)) is
-      (talks_here st past (Came n j.input) Served ∙ (ap (λ o. goes_on (Came n j.input) o (conversations st past n)) same ∙ ap (latest (λ c. longer c (take a.taken j.input) bytes)) is.talks))
+      longer_joins (Came n j.input) Served j output (take a.taken j.input) bytes (drop a.taken j.input)
+      (is_last (stage_by a)) is
+      (talks_here st past (Came n j.input) Served ∙ (ap (λ o. goes_on (Came n j.input) o (conversations st past n)) same
+      ∙ ap (latest (λ c. longer c (take a.taken j.input) bytes)) is.talks))
       (sym (take-append-drop a.taken j.input)) adds
       (λ e. came_shuts (history st past) n j.input (subst Shuts (sym same) (closing a.closes a.more e)))
   came_joins (Err NoMemory) bytes j output ok same adds is =
       still_joins (Came n j.input) OutOfMemory j output [] [] j.input true is
-      (talks_here st past (Came n j.input) OutOfMemory ∙ ap (λ o. goes_on (Came n j.input) o (conversations st past n)) same) refl adds
+      (talks_here st past (Came n j.input) OutOfMemory
+      ∙ ap (λ o. goes_on (Came n j.input) o (conversations st past n)) same) refl adds
       (λ e. came_lost (history st past) n j.input)
   came_joins (Err TooMany) bytes j output ok same adds is =
       still_joins (Came n j.input) Served j output [] [] j.input true is
-      (talks_here st past (Came n j.input) Served ∙ ap (λ o. goes_on (Came n j.input) o (conversations st past n)) same) refl adds
+      (talks_here st past (Came n j.input) Served ∙ ap (λ o. goes_on (Came n j.input) o (conversations st past n)) same)
+      refl adds
       (λ e. came_shuts (history st past) n j.input (subst Shuts (sym same) (tt {0})))
   came_joins (Err Closed) bytes j output ok same adds is =
       still_joins (Came n j.input) Served j output [] [] j.input true is
-      (talks_here st past (Came n j.input) Served ∙ ap (λ o. goes_on (Came n j.input) o (conversations st past n)) same) refl adds
+      (talks_here st past (Came n j.input) Served ∙ ap (λ o. goes_on (Came n j.input) o (conversations st past n)) same)
+      refl adds
+      (λ e. came_shuts (history st past) n j.input (subst Shuts (sym same) (tt {0})))
+  came_joins (Err Down) bytes j output ok same adds is =
+      still_joins (Came n j.input) Served j output [] [] j.input true is
+      (talks_here st past (Came n j.input) Served ∙ ap (λ o. goes_on (Came n j.input) o (conversations st past n)) same)
+      refl adds
       (λ e. came_shuts (history st past) n j.input (subst Shuts (sym same) (tt {0})))
   came_joins (Err DiskFault) bytes j output ok same adds is = absurd (ok refl)
 
   -- the device failed
-  came_fell : (answer : Result Answer SessionError) (bytes : List ℕ) (j : Joint) (output : List ℕ) → answer ≡ Err DiskFault
-      → (step (history st past) (Came n j.input) (mark_of answer)).outcome ≡ told bytes answer → Adds answer bytes j.output output → Joins j ended st past n
+  came_fell : (answer : Result Answer SessionError) (bytes : List ℕ) (j : Joint) (output : List ℕ)
+      → answer ≡ Err DiskFault
+      → (step (history st past) (Came n j.input) (mark_of answer)).outcome ≡ told bytes answer
+      → Adds answer bytes j.output output → Joins j ended st past n
       → Joins (kept j output) ended st ((Came n j.input, mark_of answer) ∷ past) n
   came_fell (Ok a) bytes j output fails same adds is = absurd (cc)
   came_fell (Err NoMemory) bytes j output fails same adds is = absurd (cc)
   came_fell (Err TooMany) bytes j output fails same adds is = absurd (cc)
   came_fell (Err Closed) bytes j output fails same adds is = absurd (cc)
+  came_fell (Err Down) bytes j output fails same adds is = absurd (cc)
   came_fell (Err DiskFault) bytes j output fails same adds is =
       still_joins (Came n j.input) Failed j output [] [] j.input j.closed is
-      (talks_here st past (Came n j.input) Failed ∙ ap (λ o. goes_on (Came n j.input) o (conversations st past n)) same) refl adds
+      (talks_here st past (Came n j.input) Failed ∙ ap (λ o. goes_on (Came n j.input) o (conversations st past n)) same)
+      refl adds
       (λ e. came_failed (history st past) n j.input ∙ is.shut e)
 
   -- the next piece of a text was asked for
   abbrev pub asked : Joint → List ℕ → Result Answer SessionError → Joint
-  asked j output answer = record { came = j.came; went = j.went; input = j.input; output = output; closed = is_last (stage_behind answer) }
+  asked j output answer = record {
+    came = j.came;
+    went = j.went;
+    input = j.input;
+    output = output;
+    closed = is_last (stage_behind answer);
+  }
 
-  more_joins : (answer : Result Answer SessionError) (bytes : List ℕ) (j : Joint) (output : List ℕ) → (answer ≡ Err DiskFault → ⊥)
-      → (step (history st past) (More n) (mark_of answer)).outcome ≡ told bytes answer → Adds answer bytes j.output output → Joins j ended st past n
+  more_joins : (answer : Result Answer SessionError) (bytes : List ℕ) (j : Joint) (output : List ℕ)
+      → (answer ≡ Err DiskFault → ⊥)
+      → (step (history st past) (More n) (mark_of answer)).outcome ≡ told bytes answer
+      → Adds answer bytes j.output output → Joins j ended st past n
       → Joins (asked j output answer) ended st ((More n, mark_of answer) ∷ past) n
   more_joins (Ok a) bytes j output ok same adds is =
       longer_joins (More n) Served j output [] bytes j.input (is_last (stage_by a)) is
-      (talks_here st past (More n) Served ∙ (ap (λ o. goes_on (More n) o (conversations st past n)) same ∙ ap (latest (λ c. longer c [] bytes)) is.talks))
+      (talks_here st past (More n) Served ∙ (ap (λ o. goes_on (More n) o (conversations st past n)) same
+      ∙ ap (latest (λ c. longer c [] bytes)) is.talks))
       refl adds
       (λ e. more_shuts (history st past) n (subst Shuts (sym same) (closing a.closes a.more e)))
   more_joins (Err NoMemory) bytes j output ok same adds is =
@@ -161,53 +203,92 @@ module _ (ended : List Seen) (st : State) (past : List Marked) (n : ℕ) where
       still_joins (More n) Served j output [] [] j.input true is
       (talks_here st past (More n) Served ∙ ap (λ o. goes_on (More n) o (conversations st past n)) same) refl adds
       (λ e. more_shuts (history st past) n (subst Shuts (sym same) (tt {0})))
+  more_joins (Err Down) bytes j output ok same adds is =
+      still_joins (More n) Served j output [] [] j.input true is
+      (talks_here st past (More n) Served ∙ ap (λ o. goes_on (More n) o (conversations st past n)) same) refl adds
+      (λ e. more_shuts (history st past) n (subst Shuts (sym same) (tt {0})))
   more_joins (Err DiskFault) bytes j output ok same adds is = absurd (ok refl)
 
-  pub more_fell : (answer : Result Answer SessionError) (bytes : List ℕ) (j : Joint) (output : List ℕ) → answer ≡ Err DiskFault
-      → (step (history st past) (More n) (mark_of answer)).outcome ≡ told bytes answer → Adds answer bytes j.output output → Joins j ended st past n
+  pub more_fell : (answer : Result Answer SessionError) (bytes : List ℕ) (j : Joint) (output : List ℕ)
+      → answer ≡ Err DiskFault
+      → (step (history st past) (More n) (mark_of answer)).outcome ≡ told bytes answer
+      → Adds answer bytes j.output output → Joins j ended st past n
       → Joins (kept j output) ended st ((More n, mark_of answer) ∷ past) n
   more_fell (Ok a) bytes j output fails same adds is = absurd (cc)
   more_fell (Err NoMemory) bytes j output fails same adds is = absurd (cc)
   more_fell (Err TooMany) bytes j output fails same adds is = absurd (cc)
   more_fell (Err Closed) bytes j output fails same adds is = absurd (cc)
+  more_fell (Err Down) bytes j output fails same adds is = absurd (cc)
   more_fell (Err DiskFault) bytes j output fails same adds is =
       still_joins (More n) Failed j output [] [] j.input j.closed is
       (talks_here st past (More n) Failed ∙ ap (λ o. goes_on (More n) o (conversations st past n)) same) refl adds
       (λ e. more_failed (history st past) n ∙ is.shut e)
 
   -- THE LINK BEHIND AN ANSWER, at the stage that follows it
-  came_there : (answer : Result Answer SessionError) (bytes : List ℕ) (j : Joint) (input output : List ℕ) (stage : Stage) (taken : ℕ) → (answer ≡ Err DiskFault → ⊥)
-      → (step (history st past) (Came n j.input) (mark_of answer)).outcome ≡ told bytes answer → Adds answer bytes j.output output
+  came_there : (answer : Result Answer SessionError) (bytes : List ℕ) (j : Joint) (input output : List ℕ)
+      (stage : Stage) (taken : ℕ) → (answer ≡ Err DiskFault → ⊥)
+      → (step (history st past) (Came n j.input) (mark_of answer)).outcome ≡ told bytes answer
+      → Adds answer bytes j.output output
       → stage ≡ stage_behind answer → taken ≡ taken_behind answer → input ≡ drop taken j.input → Joins j ended st past n
-      → Joins (record { came = j.came; went = j.went; input = input; output = output; closed = is_last stage }) ended st ((Came n j.input, mark_of answer) ∷ past) n
+      → Joins (record { came = j.came; went = j.went; input = input; output = output; closed = is_last stage }) ended st
+      ((Came n j.input, mark_of answer) ∷ past) n
   came_there answer bytes j input output stage taken ok same adds s k i is =
-      subst (λ (x : Stage). Joins (record { came = j.came; went = j.went; input = input; output = output; closed = is_last x }) ended st ((Came n j.input, mark_of answer) ∷ past) n) (sym s)
-      (subst (λ (x : List ℕ). Joins (record { came = j.came; went = j.went; input = x; output = output; closed = is_last (stage_behind answer) }) ended st ((Came n j.input, mark_of answer) ∷ past) n)
+      subst (λ (x : Stage). Joins (record {
+        came = j.came;
+        went = j.went;
+        input = input;
+        output = output;
+        closed = is_last x;
+      }) ended st ((Came n j.input, mark_of answer) ∷ past) n) (sym s)
+      (subst (λ (x : List ℕ). Joins (record {
+        came = j.came;
+        went = j.went;
+        input = x;
+        output = output;
+        closed = is_last (stage_behind answer);
+      }) ended st ((Came n j.input, mark_of answer) ∷ past) n)
       (sym (i ∙ ap (λ x. drop x j.input) k)) (came_joins answer bytes j output ok same adds is))
 
   -- what was given is what waits
   given_piece : (j : Joint) (piece : List ℕ) (m : Mark) (o : Outcome) (next : Joint) → piece ≡ j.input
       → ((step (history st past) (Came n j.input) m).outcome ≡ o → Joins next ended st ((Came n j.input, m) ∷ past) n)
       → (step (history st past) (Came n piece) m).outcome ≡ o → Joins next ended st ((Came n piece, m) ∷ past) n
-  given_piece j piece m o next is f = subst (λ (x : List ℕ). (step (history st past) (Came n x) m).outcome ≡ o → Joins next ended st ((Came n x, m) ∷ past) n) (sym is) f
+  given_piece j piece m o next is f = subst (λ (x : List ℕ). (step (history st past) (Came n x) m).outcome ≡ o
+      → Joins next ended st ((Came n x, m) ∷ past) n) (sym is) f
 
-  pub came_link : (answer : Result Answer SessionError) (bytes : List ℕ) (j : Joint) (piece input output : List ℕ) (stage : Stage) (taken : ℕ) → (answer ≡ Err DiskFault → ⊥)
-      → piece ≡ j.input → (step (history st past) (Came n piece) (mark_of answer)).outcome ≡ told bytes answer → Adds answer bytes j.output output
+  pub came_link : (answer : Result Answer SessionError) (bytes : List ℕ) (j : Joint) (piece input output : List ℕ)
+      (stage : Stage) (taken : ℕ) → (answer ≡ Err DiskFault → ⊥)
+      → piece ≡ j.input → (step (history st past) (Came n piece) (mark_of answer)).outcome ≡ told bytes answer
+      → Adds answer bytes j.output output
       → stage ≡ stage_behind answer → taken ≡ taken_behind answer → input ≡ drop taken j.input → Joins j ended st past n
-      → Joins (record { came = j.came; went = j.went; input = input; output = output; closed = is_last stage }) ended st ((Came n piece, mark_of answer) ∷ past) n
+      → Joins (record { came = j.came; went = j.went; input = input; output = output; closed = is_last stage }) ended st
+      ((Came n piece, mark_of answer) ∷ past) n
   came_link answer bytes j piece input output stage taken ok whole same adds s k i is =
-      given_piece j piece (mark_of answer) (told bytes answer) _ whole (λ x. came_there answer bytes j input output stage taken ok x adds s k i is) same
+      given_piece j piece (mark_of answer) (told bytes answer) _ whole
+      (λ x. came_there answer bytes j input output stage taken ok x adds s k i is) same
 
-  pub came_down : (answer : Result Answer SessionError) (bytes : List ℕ) (j : Joint) (piece output : List ℕ) → answer ≡ Err DiskFault → piece ≡ j.input
-      → (step (history st past) (Came n piece) (mark_of answer)).outcome ≡ told bytes answer → Adds answer bytes j.output output → Joins j ended st past n
+  pub came_down : (answer : Result Answer SessionError) (bytes : List ℕ) (j : Joint) (piece output : List ℕ)
+      → answer ≡ Err DiskFault → piece ≡ j.input
+      → (step (history st past) (Came n piece) (mark_of answer)).outcome ≡ told bytes answer
+      → Adds answer bytes j.output output → Joins j ended st past n
       → Joins (kept j output) ended st ((Came n piece, mark_of answer) ∷ past) n
   came_down answer bytes j piece output fails whole same adds is =
-      given_piece j piece (mark_of answer) (told bytes answer) _ whole (λ x. came_fell answer bytes j output fails x adds is) same
+      given_piece j piece (mark_of answer) (told bytes answer) _ whole
+      (λ x. came_fell answer bytes j output fails x adds is) same
 
-  pub more_link : (answer : Result Answer SessionError) (bytes : List ℕ) (j : Joint) (output : List ℕ) (stage : Stage) → (answer ≡ Err DiskFault → ⊥)
-      → (step (history st past) (More n) (mark_of answer)).outcome ≡ told bytes answer → Adds answer bytes j.output output
+  pub more_link : (answer : Result Answer SessionError) (bytes : List ℕ) (j : Joint) (output : List ℕ) (stage : Stage)
+      → (answer ≡ Err DiskFault → ⊥)
+      → (step (history st past) (More n) (mark_of answer)).outcome ≡ told bytes answer
+      → Adds answer bytes j.output output
       → stage ≡ stage_behind answer → Joins j ended st past n
-      → Joins (record { came = j.came; went = j.went; input = j.input; output = output; closed = is_last stage }) ended st ((More n, mark_of answer) ∷ past) n
+      → Joins (record { came = j.came; went = j.went; input = j.input; output = output; closed = is_last stage }) ended
+      st ((More n, mark_of answer) ∷ past) n
   more_link answer bytes j output stage ok same adds s is =
-      subst (λ (x : Stage). Joins (record { came = j.came; went = j.went; input = j.input; output = output; closed = is_last x }) ended st ((More n, mark_of answer) ∷ past) n) (sym s)
+      subst (λ (x : Stage). Joins (record {
+        came = j.came;
+        went = j.went;
+        input = j.input;
+        output = output;
+        closed = is_last x;
+      }) ended st ((More n, mark_of answer) ∷ past) n) (sym s)
       (more_joins answer bytes j output ok same adds is)

@@ -1,5 +1,5 @@
 -- What serving makes of connections.
-use Rattle.std.specs.Prelude.{◌≡◌, ℕ, List, ◌∷◌, Result, Ok, Err}
+use Rattle.std.specs.Prelude.{◌≡◌, ℕ, true, List, ◌∷◌, Result, Ok, Err}
 use Rattle.spool_disk.specs.declared.disk.DiskFault.{DiskFault}
 use Rattle.tus_session.specs.History.{State, Event, Marked, Failed, history}
 use Rattle.gateway_script.specs.Images.{stores_of, ShowsLast, LimitsTo}
@@ -7,25 +7,31 @@ use Rattle.gateway_script.specs.declared.connections.Connections.{Ghosts}
 use Rattle.gateway_serve.specs.Conversations.{conversations}
 use Rattle.gateway_serve.specs.Sockets.{Seen, seen_of, Fits, Served, Pairs}
 
--- from the connections before these events to those now, images are limited to the uploads behind all of the events, all but the latest, and so on
+-- from the connections before these events to those now, images are limited to the uploads behind all of the events,
+-- all but the latest, and so on
 abbrev pub ImagesShow : {C : Type 0} → Ghosts C → C → C → State → List Marked → Type 0
-ImagesShow c before now st past = LimitsTo (c.moment before) (c.moment now) (c.left_only before) (c.left_only now) (stores_of st past)
+ImagesShow c before now st past = LimitsTo (c.moment before) (c.moment now) (c.left_only before) (c.left_only now)
+    (stores_of st past)
 
 -- these events came, and the connections are where their history is
 pub record WentOn {C : Type 0} (c : Ghosts C) (before now : C) (st : State) (past : List Marked) : Type 0 where
   pub stands : c.stands now (history st past)
   pub images : ImagesShow c before now st past
 
--- these events came, and at the latest of them the device failed: of the connections nothing is known but their images, which now show the
--- uploads behind all events, or behind all but this latest one
+-- these events came, and at the latest of them the device failed: the connections are down, and of them nothing is
+-- known but their images, which now show the uploads behind all events, or behind all but this latest one
 pub record WentDown {C : Type 0} (c : Ghosts C) (before now : C) (st : State) (past : List Marked) : Type 0 where
   pub images : ImagesShow c before now st past
   pub last : ShowsLast (c.moment now) (c.left_only now) st past
+  pub down : c.down now ≡ true
 
--- What a part of serving did: some events came, of which the one fact holds, or the other where the device failed at the latest
-abbrev pub Serves : {C T : Type 0} → Ghosts C → C → C → State → Result T DiskFault → (List Marked → Type 0) → (List Marked → Type 0) → Type 0
+-- What a part of serving did: some events came, of which the one fact holds, or the other where the device failed at
+-- the latest
+abbrev pub Serves : {C T : Type 0} → Ghosts C → C → C → State → Result T DiskFault → (List Marked → Type 0)
+    → (List Marked → Type 0) → Type 0
 Serves c before now st (Ok x) On Down = (past : List Marked) × WentOn c before now st past × On past
-Serves c before now st (Err fault) On Down = (past : List Marked) × (e : Event) × WentDown c before now st ((e, Failed) ∷ past) × Down ((e, Failed) ∷ past)
+Serves c before now st (Err fault) On Down = (past : List Marked) × (e : Event)
+    × WentDown c before now st ((e, Failed) ∷ past) × Down ((e, Failed) ∷ past)
 
 -- the connection is as it was before these events: closed, if it was
 abbrev pub IsBack : State → List Marked → ℕ → Type 0

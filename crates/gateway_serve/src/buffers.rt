@@ -1,9 +1,10 @@
 //! The bytes between a socket and a session. Each buffer is seen as the bytes that are left in it.
-ghost use Rattle.std.specs.Prelude.{◌≡◌, ◌≤◌, ◌++◌, ℕ, List, [], length, take, drop, slice_range, vec_len, IfOk, OnErr, IsErrOf};
+ghost use Rattle.std.specs.Prelude.{◌≡◌, ◌≤◌, ◌++◌, ℕ, List, [], length, take, drop, slice_range, vec_len};
+ghost use Rattle.std.specs.Prelude.{IfOk, OnErr, IsErrOf};
 ghost use Rattle.std.specs.Io.KnownBytes.{Consumes, Appends, Keeps, IsAtEnd};
 ghost use Rattle.upload_rules.specs.Answers.{Limits, Quiet, Counts};
 ghost use Rattle.tus_session.specs.History.{State, Came, More};
-ghost use Rattle.gateway_script.specs.Connections.{Gives, mark_of};
+ghost use Rattle.gateway_script.specs.Connections.{Gives, Falls, mark_of};
 ghost use Rattle.gateway_script.specs.Images.{shown_by};
 ghost use Rattle.gateway_serve.specs.Bytes.{came_of, went_of, stream_of};
 
@@ -156,7 +157,9 @@ impl Output {
         ensures crash { (st : State) → C.stands gateway.old st
             → Limits (C.moment gateway.old) (C.moment gateway.new) (C.left_only gateway.old) (C.left_only gateway.new)
             st.world.store (shown_by st (Came conn bytes.now) (mark_of result)) }
-        ensures counts { Counts (IsErrOf result SessionError.DiskFault) (C.failures gateway.old) (C.failures gateway.new) }
+        ensures counts { Counts (IsErrOf result SessionError.DiskFault) (C.failures gateway.old)
+            (C.failures gateway.new) }
+        ensures falls { Falls (C.down gateway.old) (C.down gateway.new) result }
     {
         free_written(&mut self.bytes, self.written);
         self.written = 0;
@@ -173,7 +176,9 @@ impl Output {
             → Gives (C.stands gateway.new) result self.old self.new st (More conn) }
         ensures crash { Quiet (C.moment gateway.old) (C.moment gateway.new) (C.left_only gateway.old)
             (C.left_only gateway.new) }
-        ensures counts { Counts (IsErrOf result SessionError.DiskFault) (C.failures gateway.old) (C.failures gateway.new) }
+        ensures counts { Counts (IsErrOf result SessionError.DiskFault) (C.failures gateway.old)
+            (C.failures gateway.new) }
+        ensures falls { Falls (C.down gateway.old) (C.down gateway.new) result }
     {
         free_written(&mut self.bytes, self.written);
         self.written = 0;

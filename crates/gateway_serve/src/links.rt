@@ -1,7 +1,8 @@
 //! A socket and its connection of the gateway.
 ghost use Rattle.std.specs.Prelude.{◌≡◌, ◌≢◌, ◌↔◌, IsErr, IsErrOf, IfOk, IfSome};
 ghost use Rattle.upload_rules.specs.Answers.{Counts};
-ghost use Rattle.gateway_serve.specs.Joined.{Goes, IsOver, Writes, Reads, joint_of, nothing_yet, stage_by, stage_behind, taken_behind, with_link};
+ghost use Rattle.gateway_serve.specs.Joined.{Goes, IsOver, Writes, Reads, joint_of, nothing_yet, with_link};
+ghost use Rattle.gateway_serve.specs.Joined.{stage_by, stage_behind, taken_behind};
 
 use crate::buffers::{Input, Output, PIECE};
 use crate::idle::Tick;
@@ -72,8 +73,8 @@ impl<S: Read + Write> Link<S> {
         ended.add(conn, &self.socket);
     }
 
-    /// A turn: what is left is written, else the next piece of a text is asked for, else bytes are read and given to the session.
-    /// Where nothing of this could be done for too long, the connection is lost.
+    /// A turn: what is left is written, else the next piece of a text is asked for, else bytes are read and given to
+    /// the session. Where nothing of this could be done for too long, the connection is lost.
     ///
     /// Refused with `DiskFault` where the session was.
     pub(crate) fn turn<C: Connections>(
@@ -235,7 +236,12 @@ fn next_behind(answer: Result<Answer, SessionError>) -> Result<Next, DiskFault>
             taken: answer.taken,
         }),
         Err(SessionError::DiskFault) => Err(DiskFault),
-        Err(SessionError::NoMemory | SessionError::TooMany | SessionError::Closed) => Ok(Next {
+        Err(
+            SessionError::NoMemory
+            | SessionError::TooMany
+            | SessionError::Closed
+            | SessionError::Down,
+        ) => Ok(Next {
             stage: Stage::Closed,
             taken: 0,
         }),

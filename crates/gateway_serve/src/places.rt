@@ -115,14 +115,19 @@ impl<S: Read + Write + Drop> Place<S> {
     }
 }
 
-/// What a call of the session comes to for serving, which goes on behind every refusal but the device's fault.
+/// What a call of the session comes to for serving, which goes on behind every refusal but the device's fault. So it
+/// meets `Down` only at a gateway that it was given so.
 pub(crate) fn unless_failed(answer: Result<(), SessionError>) -> Result<(), DiskFault>
     ensures { IsErr result ↔ IsErrOf answer SessionError.DiskFault }
 {
     match answer {
         Err(SessionError::DiskFault) => Err(DiskFault),
-        Ok(()) | Err(SessionError::NoMemory | SessionError::TooMany | SessionError::Closed) => {
-            Ok(())
-        }
+        Ok(())
+        | Err(
+            SessionError::NoMemory
+            | SessionError::TooMany
+            | SessionError::Closed
+            | SessionError::Down,
+        ) => Ok(()),
     }
 }

@@ -3,11 +3,15 @@
 use crate::scripts::{self, Talk, hello};
 use enc_index::IndexSet;
 use gateway_engine::{Connections, Gateway, RunFault, run};
-use spool_disk::{Crash, Disk, MemoryDisk};
+use spool_disk::{Crash, Disk, HiccupDisk, MemoryDisk};
 use spool_image::{OpenFault, Spool};
 use std::alloc::Global;
 use std::test::Fail;
+use tus_session::SessionError;
 use upload_rules::Uploads;
+
+/// Makes an upload of five bytes.
+const POST: &[u8] = b"POST /files HTTP/1.1\r\nTus-Resumable: 1.0.0\r\nUpload-Length: 5\r\n\r\n";
 
 /// A spool of 16 blocks, without uploads and without index files.
 fn fresh(alloc: Global) -> Result<MemoryDisk, Fail> {
@@ -93,12 +97,53 @@ fn open_patch_is_given_up_with_the_session(rt: HostRuntime) -> Result<(), Fail> 
         Ok(gateway) => gateway,
         Err((_, fault)) => panic!(rt; "{fault}"),
     };
-    let post = b"POST /files HTTP/1.1\r\nTus-Resumable: 1.0.0\r\nUpload-Length: 5\r\n\r\n";
     let patch =
         b"PATCH /files/1 HTTP/1.1\r\nTus-Resumable: 1.0.0\r\nContent-Type: application/offset+octet-stream\r\nUpload-Offset: 0\r\nContent-Length: 5\r\n\r\nhel";
     assert!(rt; gateway.opened(1).is_ok());
-    assert!(rt; gateway.came(1, post, &mut out).is_ok());
+    assert!(rt; gateway.came(1, POST, &mut out).is_ok());
     assert!(rt; gateway.came(1, patch, &mut out).is_ok());
     assert_eq!(rt; accepted(rt.alloc(), gateway.into_disk())?, Some(0));
     Ok(())
+}
+
+/// All calls of a gateway that is down are refused, on connections that are open and on others, and give nothing.
+fn all_refused<D: Disk>(rt: &impl Abort, gateway: &mut Gateway<Spool<D>>, out: &mut Vec<u8>) {
+    for conn in 0..17 {
+        assert_eq!(rt; gateway.opened(conn), Err(SessionError::Down));
+        assert_eq!(rt; gateway.came(conn, POST, out), Err(SessionError::Down));
+        assert_eq!(rt; gateway.more(conn, out), Err(SessionError::Down));
+        assert_eq!(rt; gateway.ended(conn), Err(SessionError::Down));
+    }
+    assert!(rt; out.is_empty());
+}
+
+/// An upload is made over a disk whose call of this number fails. Whether it comes so far.
+fn down_at(rt: &impl Abort, alloc: Global, call: u64) -> Result<bool, Fail> {
+    let disk = HiccupDisk::new(fresh(alloc)?, call, None);
+    let mut gateway = match Gateway::open(alloc, disk) {
+        Ok(gateway) => gateway,
+        Err((_, fault)) => panic!(rt; "{fault}"),
+    };
+    let mut out = Vec::new(alloc);
+    assert!(rt; gateway.opened(1).is_ok());
+    let made = gateway.came(1, POST, &mut out);
+    if let Err(error) = made {
+        assert_eq!(rt; error, SessionError::DiskFault);
+        all_refused(rt, &mut gateway, &mut out);
+    }
+    let left = accepted(alloc, gateway.into_disk().into_inner())?;
+    assert!(rt; left == Some(0) || made.is_err() && left.is_none());
+    Ok(made.is_err())
+}
+
+#[test]
+fn fault_brings_the_gateway_down(rt: HostRuntime) -> Result<(), Fail> {
+    // opening makes 539 calls
+    for call in 539..600u64 {
+        if !down_at(&rt, rt.alloc(), call)? {
+            assert!(rt; call > 539);
+            return Ok(());
+        }
+    }
+    panic!(rt; "a POST makes too many calls")
 }

@@ -1,5 +1,7 @@
 -- From a patch that a head opened, to the turn's answer.
-use Rattle.std.proofs.Common.{ℕ, ◌+◌, ◌-◌, ◌<◌, ◌≤◌, ◌≡◌, inl, inr, Bool, true, false, List, [], ◌∷◌, ◌++◌, Option, Some, None, Result, Ok, Err, length, take, drop, refl, sym, ◌∙◌, ap, subst, arith, append-nil, append_assoc, if◌then◌else◌}
+use Rattle.std.proofs.Common.{ℕ, ◌+◌, ◌-◌, ◌<◌, ◌≤◌, ◌≡◌, inl, inr, Bool, true, false, List, [], ◌∷◌, ◌++◌, Option}
+use Rattle.std.proofs.Common.{Some, None, Result, Ok, Err, length, take, drop, refl, sym, ◌∙◌, ap, subst, arith}
+use Rattle.std.proofs.Common.{append-nil, append_assoc, if◌then◌else◌}
 use Rattle.std.proofs.lemmas.Bool.{cases_lt}
 use Rattle.std.proofs.lemmas.Bool.Decides.{nat_tests}
 use Rattle.std.proofs.lemmas.List.{length-drop, length-take-le, take_all}
@@ -45,7 +47,8 @@ abbrev pub OutIs : Result code.Answer SessionError → List ℕ → List ℕ →
 OutIs (Ok x) old mid new = new ≡ mid
 OutIs (Err e) old mid new = new ≡ old
 
-module _ (w : World) (conn : Conn) (h bytes : List ℕ) (n before : ℕ) (r : Request) (is : IsWhole w conn h bytes n before (Asks r)) (x : Opened w r (acted w (Asks r))) where
+module _ (w : World) (conn : Conn) (h bytes : List ℕ) (n before : ℕ) (r : Request) (is : IsWhole w conn h bytes n before
+    (Asks r)) (x : Opened w r (acted w (Asks r))) where
   abbrev first : Patch
   first = first_patch x.number r.length x.up
 
@@ -61,30 +64,59 @@ module _ (w : World) (conn : Conn) (h bytes : List ℕ) (n before : ℕ) (r : Re
   opened_is : acted w (Asks r) ≡ opened
   opened_is =
       let a = acted w (Asks r) in
-      ap (λ v. record a { world = v }) x.world_is ∙ (ap (λ d. record { world = w1; draft = d; bytes = reply; pending = a.pending; closes = a.closes }) x.draft_is
-      ∙ (ap (λ p. record { world = w1; draft = Some x.d; bytes = reply; pending = p; closes = a.closes }) x.idle ∙ ap (λ c. record { world = w1; draft = Some x.d; bytes = reply; pending = None; closes = c }) x.stays))
+      ap (λ v. record a { world = v }) x.world_is
+      ∙ (ap (λ d. record { world = w1; draft = d; bytes = reply; pending = a.pending; closes = a.closes })
+      x.draft_is
+      ∙ (ap (λ p. record { world = w1; draft = Some x.d; bytes = reply; pending = p; closes = a.closes }) x.idle
+      ∙ ap (λ c. record { world = w1; draft = Some x.d; bytes = reply; pending = None; closes = c }) x.stays))
 
   first_found : find x.d w1.patches ≡ Some first
   first_found = grind (arith, nat_tests)
 
   abbrev part_opened : Turn
-  part_opened = record { world = fed w1 x.d (drop before bytes); conn = Some (plain (conn.stream ++ bytes) (Some x.d)); bytes = reply ++ []; taken = length bytes }
+  part_opened = record {
+    world = fed w1 x.d (drop before bytes);
+    conn = Some (plain (conn.stream ++ bytes) (Some x.d));
+    bytes = reply ++ [];
+    taken = length bytes;
+  }
 
   part_is : length (drop before bytes) < r.length → came_turn w conn bytes ≡ part_opened
   part_is few =
-      let m : Moments = record { head = Some (judged_as (h ++ bytes) n (Asks r)); body = None; came = drop before bytes } in
+      let m : Moments = record {
+        head = Some (judged_as (h ++ bytes) n (Asks r));
+        body = None;
+        came = drop before bytes;
+      } in
       part_turn_is w conn h is.inside bytes n before (Asks r) is.judged is.before_is few
       ∙ (ap (came_with conn bytes (length bytes) m) opened_is
-      ∙ ap (λ q. record { world = fed w1 x.d (drop before bytes); conn = Some (plain (conn.stream ++ q) (Some x.d)); bytes = reply ++ []; taken = length bytes }) (take_all (length bytes) bytes (omega arith)))
+      ∙ ap (λ q. record {
+        world = fed w1 x.d (drop before bytes);
+        conn = Some (plain (conn.stream ++ q) (Some x.d));
+        bytes = reply ++ [];
+        taken = length bytes;
+      }) (take_all (length bytes) bytes (omega arith)))
 
   abbrev ended : Acted
   ended = ended_by w1 x.d first (take r.length (drop before bytes)) r
 
   abbrev rest_opened : Turn
-  rest_opened = record { world = ended.world; conn = if ended.closes then None else Some (plain (conn.stream ++ take (before + r.length) bytes) None); bytes = reply ++ ended.bytes; taken = before + r.length }
+  rest_opened = record {
+    world = ended.world;
+    conn = if ended.closes then None else Some
+        (plain (conn.stream ++ take (before + r.length) bytes) None);
+    bytes = reply ++ ended.bytes;
+    taken = before + r.length;
+  }
 
   with_acted : Acted → Turn
-  with_acted m = record { world = m.world; conn = if m.closes then None else Some (record { stream = conn.stream ++ take (before + r.length) bytes; draft = m.draft; pending = m.pending }); bytes = reply ++ m.bytes; taken = before + r.length }
+  with_acted m = record {
+    world = m.world;
+    conn = if m.closes then None else Some
+        (record { stream = conn.stream ++ take (before + r.length) bytes; draft = m.draft; pending = m.pending });
+    bytes = reply ++ m.bytes;
+    taken = before + r.length;
+  }
 
   rest_is : r.length ≤ length (drop before bytes) → came_turn w conn bytes ≡ rest_opened
   unfolding with_acted
@@ -105,7 +137,8 @@ module _ (w : World) (conn : Conn) (h bytes : List ℕ) (n before : ℕ) (r : Re
   pub first_there : find x.d w1.patches ≡ Some first
   first_there = first_found
 
-  pub draft_first : {U B : Type 0} (u : Ghosts U B) (b : B) → DraftIs u (acted w (Asks r)).world (Some b) (acted w (Asks r)).draft → (u.number_of b ≡ x.d) × u.holds b first
+  pub draft_first : {U B : Type 0} (u : Ghosts U B) (b : B)
+      → DraftIs u (acted w (Asks r)).world (Some b) (acted w (Asks r)).draft → (u.number_of b ≡ x.d) × u.holds b first
   draft_first u b draft =
       let at : DraftIs u w1 (Some b) (Some x.d) = subst (λ a. DraftIs u a.world (Some b) a.draft) opened_is draft in
       let same : Some at.1.0 ≡ Some first = sym at.1.1 ∙ first_found in
@@ -130,8 +163,10 @@ own_opened w r a x own e = record {
   stays = x.stays;
 }
 
-module _ {U B : Type 0} (u : Ghosts U B) (w : World) (conn : Conn) (h bytes : List ℕ) (n before : ℕ) (r : Request) (is : IsWhole w conn h bytes n before (Asks r))
-    (x : Opened w r (acted w (Asks r))) (b : Patching B) (number : u.number_of b.draft ≡ x.d) (holds : u.holds b.draft (first_patch x.number r.length x.up))
+module _ {U B : Type 0} (u : Ghosts U B) (w : World) (conn : Conn) (h bytes : List ℕ) (n before : ℕ) (r : Request)
+    (is : IsWhole w conn h bytes n before (Asks r))
+    (x : Opened w r (acted w (Asks r))) (b : Patching B) (number : u.number_of b.draft ≡ x.d)
+    (holds : u.holds b.draft (first_patch x.number r.length x.up))
     (reached : ReachedIs r.action r.length b.reached) (bare : b.bare ≡ r.bare) (closes : b.closes ≡ r.closes) where
   abbrev pub own : ℕ
   own = u.number_of b.draft
@@ -185,35 +220,44 @@ module _ {U B : Type 0} (u : Ghosts U B) (w : World) (conn : Conn) (h bytes : Li
       gone : without own ((own, p0) ∷ w.patches) ≡ w.patches
       gone = grind (arith, nat_tests)
 
-  module _ (store' : U) (place : Place B) (old mid mid2 new : List ℕ) (k : Link B) (cleared : (bytes_of k.head) ≡ []) (written : mid ≡ old ++ (acted w (Asks r)).bytes) where
+  module _ (store' : U) (place : Place B) (old mid mid2 new : List ℕ) (k : Link B) (cleared : (bytes_of k.head) ≡ [])
+      (written : mid ≡ old ++ (acted w (Asks r)).bytes) where
     part_case : (a : Result code.Answer SessionError) → length q < r.length
-        → Parts u store' place a (record k { left = r.length - length q; task = tasks.Idle }) b (before + length q) (fed v own q) (fed_patch v own p0 q) (dropped v own)
+        → Parts u store' place a (record k { left = r.length - length q; task = tasks.Idle }) b (before + length q)
+        (fed v own q) (fed_patch v own p0 q) (dropped v own)
         → mid2 ≡ mid → OutIs a old mid2 new → Turned u store' place a old new w None (came_turn w conn bytes)
     part_case (Ok a) few (b', goes) same out =
         let within = head_within w conn h is.inside bytes n before (Asks r) is.judged is.before_is in
         let l : length q ≡ length bytes - before = length-drop before bytes in
         let body : drop n (h ++ bytes) ≡ q = drop_behind h bytes before n within.0 in
         let lb : length (drop n (h ++ bytes)) ≡ length q = ap length body in
-        let here = head_part_rest (reader w) (steady (offers w.store.indexes)) conn.stream h is.inside.rest bytes n (Asks r) is.judged (omega arith)
+        let here = head_part_rest (reader w) (steady (offers w.store.indexes)) conn.stream h is.inside.rest bytes n
+        (Asks r) is.judged (omega arith)
         ∙ ap (λ z. InBody (record { head = take n (h ++ bytes); verdict = Asks r; body = z })) body in
         let count : before + length q ≡ length bytes = omega arith in
         let now : TurnedAs u store' place a old new w None (part_opened w conn h bytes n before r is y) = record {
           shown = goes.shown;
-          here = part_here u v b asked r p0 patches store' place a (record k { left = r.length - length q; task = tasks.Idle }) b' (before + length q) q (conn.stream ++ bytes) goes (cleared, refl) here;
-          moves = both_moves w v (fed v own q) None (Some own) (Some own) (open_moves w own p0 y.free) (feed_moves v own p0 q first_as);
+          here = part_here u v b asked r p0 patches store' place a
+              (record k { left = r.length - length q; task = tasks.Idle }) b' (before + length q) q
+              (conn.stream ++ bytes) goes (cleared, refl) here;
+          moves = both_moves w v (fed v own q) None (Some own) (Some own) (open_moves w own p0 y.free)
+              (feed_moves v own p0 q first_as);
           taken = ap (λ z. z.taken) goes.answer_is ∙ count;
           closes = ap (λ z. z.closes) goes.answer_is;
           more = ap (λ z. z.more) goes.answer_is;
           bytes = out ∙ (same ∙ (written ∙ ap (λ z. old ++ z) (sym (append-nil (acted w (Asks r)).bytes))));
         } in
         subst (TurnedAs u store' place a old new w None) (sym (part_is w conn h bytes n before r is y few)) now
-    part_case (Err errors.NoMemory) few (shown, closed) same out = (subst (u.stands store') dropped_first shown, closed, out)
+    part_case (Err errors.NoMemory) few (shown, closed) same out =
+        (subst (u.stands store') dropped_first shown, closed, out)
     part_case (Err errors.DiskFault) few z same out = out
     part_case (Err errors.TooMany) few z same out = absurd z
     part_case (Err errors.Closed) few z same out = absurd z
+    part_case (Err errors.Down) few z same out = absurd z
 
     rest_case : (a : Result code.Answer SessionError) → r.length ≤ length q
-        → Replies u store' place a mid mid2 (record k { left = 0; task = tasks.Idle }) (before + r.length) (ended_by v own p0 (take r.length q) r) (dropped v own)
+        → Replies u store' place a mid mid2 (record k { left = 0; task = tasks.Idle }) (before + r.length)
+        (ended_by v own p0 (take r.length q) r) (dropped v own)
         → OutIs a old mid2 new → Turned u store' place a old new w None (came_turn w conn bytes)
     rest_case (Ok a) enough answered out =
         let m = ended_by v own p0 (take r.length q) r in
@@ -221,23 +265,27 @@ module _ {U B : Type 0} (u : Ghosts U B) (w : World) (conn : Conn) (h bytes : Li
         let s' = conn.stream ++ take (before + r.length) bytes in
         let body = front_body w conn h is.inside bytes n before (Asks r) is.judged is.before_is r.length in
         let all : length (drop n (h ++ take (before + r.length) bytes)) ≡ r.length = ap length body ∙ t in
-        let ends = head_whole_rest (reader w) (steady (offers w.store.indexes)) conn.stream h is.inside.rest (take (before + r.length) bytes) n (Asks r)
+        let ends = head_whole_rest (reader w) (steady (offers w.store.indexes)) conn.stream h is.inside.rest
+        (take (before + r.length) bytes) n (Asks r)
         (front_judged w conn h is.inside bytes n before (Asks r) is.judged is.before_is r.length) all in
         let last = rest_moves u v b asked r p0 patches (take r.length q) (omega arith) in
         let moves = both_moves w v m.world None (Some own) None (open_moves w own p0 y.free) last in
         let here : (cut (reader m.world) s').rest ≡ InHead [] = rest_same w m.world s' moves.grows.indexes ∙ ends in
         let now : TurnedAs u store' place a old new w None (rest_opened w conn h bytes n before r is y) = record {
           shown = answered.shown;
-          here = idle_here u m.world place (record k { left = 0; task = tasks.Idle }) m.closes s' (InHead []) answered.place_is (cleared, refl) here;
+          here = idle_here u m.world place (record k { left = 0; task = tasks.Idle }) m.closes s'
+              (InHead []) answered.place_is (cleared, refl) here;
           moves = closed_moves m.world s' m.closes moves;
           taken = ap (λ z. z.taken) answered.answer_is;
           closes = ap (λ z. z.closes) answered.answer_is ∙ closes_is s' m.closes;
           more = ap (λ z. z.more) answered.answer_is ∙ more_is s' m.closes;
-          bytes = out ∙ (answered.bytes ∙ (ap (λ z. z ++ m.bytes) written ∙ append_assoc old (acted w (Asks r)).bytes m.bytes));
+          bytes = out
+              ∙ (answered.bytes ∙ (ap (λ z. z ++ m.bytes) written ∙ append_assoc old (acted w (Asks r)).bytes m.bytes));
         } in
         subst (TurnedAs u store' place a old new w None) (sym (rest_is w conn h bytes n before r is y enough)) now
       where
-        closed_moves : (w' : World) (s' : List ℕ) (c : Bool) → Moves w w' None None → Moves w w' None (draft_at (if c then None else Some (plain s' None)))
+        closed_moves : (w' : World) (s' : List ℕ) (c : Bool) → Moves w w' None None
+            → Moves w w' None (draft_at (if c then None else Some (plain s' None)))
         closed_moves w' s' true moves = moves
         closed_moves w' s' false moves = moves
 
@@ -248,46 +296,58 @@ module _ {U B : Type 0} (u : Ghosts U B) (w : World) (conn : Conn) (h bytes : Li
         more_is : (s' : List ℕ) (c : Bool) → false ≡ has_text (if c then None else Some (plain s' None))
         more_is s' true = refl
         more_is s' false = refl
-    rest_case (Err errors.NoMemory) enough (shown, closed, same) out = (subst (u.stands store') dropped_first shown, closed, out)
+    rest_case (Err errors.NoMemory) enough (shown, closed, same) out =
+        (subst (u.stands store') dropped_first shown, closed, out)
     rest_case (Err errors.DiskFault) enough z out = out
     rest_case (Err errors.TooMany) enough z out = absurd z
     rest_case (Err errors.Closed) enough z out = absurd z
+    rest_case (Err errors.Down) enough z out = absurd z
 
     pub patch_opened : (a : Result code.Answer SessionError) (z : List ℕ) → z ≡ q
-        → (length z < r.length → Parts u store' place a (record k { left = r.length - length z; task = tasks.Idle }) b (before + length z) (fed v own z) (fed_patch v own p0 z) (dropped v own))
+        → (length z < r.length → Parts u store' place a (record k { left = r.length - length z; task = tasks.Idle }) b
+        (before + length z) (fed v own z) (fed_patch v own p0 z) (dropped v own))
         → (length z < r.length → mid2 ≡ mid)
-        → (r.length ≤ length z → Replies u store' place a mid mid2 (record k { left = 0; task = tasks.Idle }) (before + r.length) (ended_by v own p0 (take r.length z) r) (dropped v own))
+        → (r.length ≤ length z → Replies u store' place a mid mid2 (record k { left = 0; task = tasks.Idle })
+        (before + r.length) (ended_by v own p0 (take r.length z) r) (dropped v own))
         → OutIs a old mid2 new → Turned u store' place a old new w conn.draft (came_turn w conn bytes)
     patch_opened a z e part same rest out =
         subst (λ d. Turned u store' place a old new w d (came_turn w conn bytes)) (sym is.inside.draft)
         (elim (cases_lt (length z) r.length) [
           | inl few ↦
               part_case a (subst (λ y. length y < r.length) e few)
-              (subst (λ y. Parts u store' place a (record k { left = r.length - length y; task = tasks.Idle }) b (before + length y) (fed v own y) (fed_patch v own p0 y) (dropped v own)) e (part few)) (same few) out
+              (subst (λ y. Parts u store' place a (record k { left = r.length - length y; task = tasks.Idle }) b
+              (before + length y) (fed v own y) (fed_patch v own p0 y) (dropped v own)) e (part few)) (same few) out
           | inr enough ↦
               rest_case a (subst (λ y. r.length ≤ length y) e enough)
-              (subst (λ y. Replies u store' place a mid mid2 (record k { left = 0; task = tasks.Idle }) (before + r.length) (ended_by v own p0 (take r.length y) r) (dropped v own)) e (rest enough)) out
+              (subst (λ y. Replies u store' place a mid mid2 (record k { left = 0; task = tasks.Idle })
+              (before + r.length) (ended_by v own p0 (take r.length y) r) (dropped v own)) e (rest enough)) out
         ])
 
-    replies_err : (place' : Place B) (e : SessionError) (taken : ℕ) (m : Acted) (k' : Link B) (gone : World) → Replies u store' place' (Err e) mid mid2 k' taken m gone → mid2 ≡ mid
+    replies_err : (place' : Place B) (e : SessionError) (taken : ℕ) (m : Acted) (k' : Link B) (gone : World)
+        → Replies u store' place' (Err e) mid mid2 k' taken m gone → mid2 ≡ mid
     replies_err place' errors.NoMemory taken m k' gone (shown, closed, same) = same
     replies_err place' errors.DiskFault taken m k' gone same = same
     replies_err place' errors.TooMany taken m k' gone z = absurd z
     replies_err place' errors.Closed taken m k' gone z = absurd z
+    replies_err place' errors.Down taken m k' gone z = absurd z
 
     -- what was written is taken back
     pub taken_back : (e : SessionError) (z : List ℕ) (start : ℕ) → (length z < r.length → mid2 ≡ mid)
-        → (r.length ≤ length z → Replies u store' place (Err e) mid mid2 (record k { left = 0; task = tasks.Idle }) (before + r.length) (ended_by v own p0 (take r.length z) r) (dropped v own))
+        → (r.length ≤ length z → Replies u store' place (Err e) mid mid2 (record k { left = 0; task = tasks.Idle })
+        (before + r.length) (ended_by v own p0 (take r.length z) r) (dropped v own))
         → start ≡ length old → new ≡ take start mid2 → new ≡ old
     taken_back e z start same rest start_is cut_is =
         let back : mid2 ≡ mid = elim (cases_lt (length z) r.length) [
           | inl few ↦ same few
-          | inr enough ↦ replies_err place e (before + r.length) (ended_by v own p0 (take r.length z) r) (record k { left = 0; task = tasks.Idle }) (dropped v own) (rest enough)
+          | inr enough ↦ replies_err place e (before + r.length) (ended_by v own p0 (take r.length z) r)
+              (record k { left = 0; task = tasks.Idle }) (dropped v own) (rest enough)
         ] in
-        cut_is ∙ (ap (take start) (back ∙ written) ∙ (ap (λ i. take i (old ++ (acted w (Asks r)).bytes)) start_is ∙ take-append_seam old (acted w (Asks r)).bytes))
+        cut_is ∙ (ap (take start) (back ∙ written) ∙ (ap (λ i. take i (old ++ (acted w (Asks r)).bytes)) start_is
+        ∙ take-append_seam old (acted w (Asks r)).bytes))
 
   -- what a crash may leave
-  pub patch_limits : {m0 m1 m2 : ℕ} {l0 l1 l2 : Option ℕ → ℕ → List Store → Type 0} (z : List ℕ) → z ≡ q → Limits m0 m1 l0 l1 w.store (acted w (Asks r)).world.store
+  pub patch_limits : {m0 m1 m2 : ℕ} {l0 l1 l2 : Option ℕ → ℕ → List Store → Type 0} (z : List ℕ) → z ≡ q
+      → Limits m0 m1 l0 l1 w.store (acted w (Asks r)).world.store
       → (length z < r.length → Limits m1 m2 l1 l2 w.store w.store)
       → (r.length ≤ length z → Limits m1 m2 l1 l2 w.store (ended_by v own p0 (take r.length z) r).world.store)
       → Limits m0 m2 l0 l2 w.store (came_turn w conn bytes).world.store
@@ -296,17 +356,21 @@ module _ {U B : Type 0} (u : Ghosts U B) (w : World) (conn : Conn) (h bytes : Li
       elim (cases_lt (length z) r.length) [
         | inl few ↦ still_limits (came_turn w conn bytes).world.store (first_then first (part few))
         | inr enough ↦
-            first_then first (limits_to (ap (λ y. (ended_by v own p0 (take r.length y) r).world.store) e ∙ rest_store w conn h bytes n before r is y (subst (λ y. r.length ≤ length y) e enough)) (rest enough))
+            first_then first (limits_to (ap (λ y. (ended_by v own p0 (take r.length y) r).world.store) e
+            ∙ rest_store w conn h bytes n before r is y (subst (λ y. r.length ≤ length y) e enough)) (rest enough))
       ]
 
 -- a draft that is open is a patch's
-opens_case : {U B : Type 0} (u : Ghosts U B) (w : World) (r : Request) (b : B) → Leaves w r (acted w (Asks r)) → DraftIs u (acted w (Asks r)).world (Some b) (acted w (Asks r)).draft
+opens_case : {U B : Type 0} (u : Ghosts U B) (w : World) (r : Request) (b : B) → Leaves w r (acted w (Asks r))
+    → DraftIs u (acted w (Asks r)).world (Some b) (acted w (Asks r)).draft
     → Opened w r (acted w (Asks r))
 opens_case u w r b (Nothing moves none idle) is = absurd (subst (DraftIs u (acted w (Asks r)).world (Some b)) none is)
-opens_case u w r b (Text g same none some stays) is = absurd (subst (DraftIs u (acted w (Asks r)).world (Some b)) none is)
+opens_case u w r b (Text g same none some stays) is =
+    absurd (subst (DraftIs u (acted w (Asks r)).world (Some b)) none is)
 opens_case u w r b (AsPatch x) is = x
 
-pub opens : {U B : Type 0} (u : Ghosts U B) (w : World) (r : Request) (b : B) → DraftIs u (acted w (Asks r)).world (Some b) (acted w (Asks r)).draft → Opened w r (acted w (Asks r))
+pub opens : {U B : Type 0} (u : Ghosts U B) (w : World) (r : Request) (b : B)
+    → DraftIs u (acted w (Asks r)).world (Some b) (acted w (Asks r)).draft → Opened w r (acted w (Asks r))
 opens u w r b is = opens_case u w r b (leaves w r) is
 
 pub slice_is : (before : ℕ) (bytes : List ℕ) → take (length bytes - before) (drop before bytes) ≡ drop before bytes

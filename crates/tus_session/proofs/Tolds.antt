@@ -3,7 +3,9 @@ use Rattle.std.proofs.Common.{◌≡◌, ℕ, List, Option, Some, None, Result, 
 use Rattle.upload_rules.specs.World.{World}
 use Rattle.upload_rules.specs.declared.uploads.Uploads.{Ghosts}
 use Rattle.tus_session.specs.Turns.{Conn, Turn, left_world, more_turn, came_turn, ended_world}
-use Rattle.tus_session.specs.History.{State, Step, Event, Opened, Came, More, Ended, Served, OutOfMemory, Failed, Gave, Done, Refused, step, put, turned, conn_in, lost_at, failed_at, came_at, more_at, ended_at, is_closed, has_text}
+use Rattle.tus_session.specs.History.{State, Step, Event, Opened, Came, More, Ended, Served, OutOfMemory, Failed, Gave}
+use Rattle.tus_session.specs.History.{Done, Refused, step, put, turned, conn_in, lost_at, failed_at, came_at, more_at}
+use Rattle.tus_session.specs.History.{ended_at, is_closed, has_text}
 use Rattle.tus_session.specs.Stands.{PlaceIs, draft_at, SessionStands}
 use Rattle.tus_session.specs.Moves.{Moves}
 use Rattle.tus_session.specs.Turned.{Turned}
@@ -22,11 +24,13 @@ pub record IsTurn (st : State) (e : Event) (conn : Conn) (t : Turn) : Type 0 whe
   pub conn_is : st.conns (conn_in e) ≡ Some conn
   pub step_is : step st e Served ≡ turned st (conn_in e) t
 
-pub came_is : (st : State) (c : ℕ) (bytes : List ℕ) (conn : Conn) → st.conns c ≡ Some conn → IsTurn st (Came c bytes) conn (came_turn st.world conn bytes)
+pub came_is : (st : State) (c : ℕ) (bytes : List ℕ) (conn : Conn) → st.conns c ≡ Some conn
+    → IsTurn st (Came c bytes) conn (came_turn st.world conn bytes)
 unfolding step
 came_is st c bytes conn e = record { conn_is = e; step_is = ap (came_at st c bytes) e }
 
-pub more_is : (st : State) (c : ℕ) (conn : Conn) → st.conns c ≡ Some conn → IsTurn st (More c) conn (more_turn st.world conn)
+pub more_is : (st : State) (c : ℕ) (conn : Conn) → st.conns c ≡ Some conn
+    → IsTurn st (More c) conn (more_turn st.world conn)
 unfolding step
 more_is st c conn e = record { conn_is = e; step_is = ap (more_at st c) e }
 
@@ -38,14 +42,18 @@ IsOnOpen (More c) = Unit {0}
 IsOnOpen (Ended c) = Unit {0}
 
 memory_is : (st : State) (e : Event) (conn : Conn) → IsOnOpen e → st.conns (conn_in e) ≡ Some conn
-    → step st e OutOfMemory ≡ record { state = put st (left_world st.world conn.draft) (conn_in e) None; outcome = Refused errors.NoMemory }
+    → step st e OutOfMemory ≡ record {
+      state = put st (left_world st.world conn.draft) (conn_in e) None;
+      outcome = Refused errors.NoMemory;
+    }
 unfolding step
 memory_is st (Opened c) conn on is = absurd on
 memory_is st (Came c piece) conn on is = ap (lost_at st c) is
 memory_is st (More c) conn on is = ap (lost_at st c) is
 memory_is st (Ended c) conn on is = ap (lost_at st c) is
 
-failed_is : (st : State) (e : Event) (conn : Conn) → IsOnOpen e → st.conns (conn_in e) ≡ Some conn → (step st e Failed).outcome ≡ Refused errors.DiskFault
+failed_is : (st : State) (e : Event) (conn : Conn) → IsOnOpen e → st.conns (conn_in e) ≡ Some conn
+    → (step st e Failed).outcome ≡ Refused errors.DiskFault
 unfolding step
 failed_is st (Opened c) conn on is = absurd on
 failed_is st (Came c piece) conn on is = ap (λ o. (failed_at st c o).outcome) is
@@ -53,13 +61,16 @@ failed_is st (More c) conn on is = ap (λ o. (failed_at st c o).outcome) is
 failed_is st (Ended c) conn on is = ap (λ o. (failed_at st c o).outcome) is
 
 module _ {U B : Type 0} (u : Ghosts U B) where
-  pub gave : (out new : List ℕ) (a : Answer) (t : Turn) → a.taken ≡ t.taken → a.closes ≡ is_closed t.conn → a.more ≡ has_text t.conn
+  pub gave : (out new : List ℕ) (a : Answer) (t : Turn) → a.taken ≡ t.taken → a.closes ≡ is_closed t.conn
+      → a.more ≡ has_text t.conn
       → Gave t.bytes t.taken (is_closed t.conn) (has_text t.conn) ≡ Gave t.bytes a.taken a.closes a.more
-  gave out new a t e f g = sym (ap (λ n. Gave t.bytes n a.closes a.more) e ∙ (ap (λ b. Gave t.bytes t.taken b a.more) f ∙ ap (λ b. Gave t.bytes t.taken (is_closed t.conn) b) g))
+  gave out new a t e f g = sym (ap (λ n. Gave t.bytes n a.closes a.more) e ∙ (ap (λ b. Gave t.bytes t.taken b a.more) f
+      ∙ ap (λ b. Gave t.bytes t.taken (is_closed t.conn) b) g))
 
   module _ (places all : List (Place B)) (store store' : U) (st : State) (next : Place B) (e : Event) (conn : Conn)
       (stands : SessionStands u places store st) (is_put : IsPut places all (conn_in e) next) (on : IsOnOpen e) where
-    moves_at : (w' : World) (own' : Option ℕ) → st.conns (conn_in e) ≡ Some conn → Moves st.world w' conn.draft own' → Moves st.world w' (draft_at (st.conns (conn_in e))) own'
+    moves_at : (w' : World) (own' : Option ℕ) → st.conns (conn_in e) ≡ Some conn → Moves st.world w' conn.draft own'
+        → Moves st.world w' (draft_at (st.conns (conn_in e))) own'
     moves_at w' own' is moves = subst (λ o. Moves st.world w' (draft_at o) own') (sym is) moves
 
     -- the connection is gone, with its draft
@@ -69,24 +80,34 @@ module _ {U B : Type 0} (u : Ghosts U B) where
         let w' = left_world st.world conn.draft in
         let here : PlaceIs u w' next None = subst (λ p. PlaceIs u w' p None) (sym closed) tt in
         let s : SessionStands u all store' (put st w' (conn_in e) None) =
-        in_place u places all store store' st w' (conn_in e) next None stands is_put (moves_at w' None is (left_moves st.world conn.draft)) shown here in
+        in_place u places all store store' st w' (conn_in e) next None stands is_put
+        (moves_at w' None is (left_moves st.world conn.draft)) shown here in
         let x : Step = record { state = put st w' (conn_in e) None; outcome = Refused errors.NoMemory } in
-        let f : Follows u all store' x.state x.outcome (Refused errors.NoMemory) = record { stands = s; outcome = refl } in
-        subst (λ y. Follows u all store' y.state y.outcome (Refused errors.NoMemory)) (sym (memory_is st e conn on is)) f
+        let f : Follows u all store' x.state x.outcome (Refused errors.NoMemory) =
+        record { stands = s; outcome = refl } in
+        subst (λ y. Follows u all store' y.state y.outcome (Refused errors.NoMemory))
+        (sym (memory_is st e conn on is)) f
 
-    pub told : (t : Turn) (r : Result Answer SessionError) (old new : List ℕ) → IsTurn st e conn t → Turned u store' next r old new st.world conn.draft t
+    pub told : (t : Turn) (r : Result Answer SessionError) (old new : List ℕ) → IsTurn st e conn t
+        → Turned u store' next r old new st.world conn.draft t
         → Told u all store' r old new st e
     told t (Ok a) old new is turn =
         let s : SessionStands u all store' (put st t.world (conn_in e) t.conn) =
-        in_place u places all store store' st t.world (conn_in e) next t.conn stands is_put (moves_at t.world (draft_at t.conn) is.conn_is turn.moves) turn.shown turn.here in
+        in_place u places all store store' st t.world (conn_in e) next t.conn stands is_put
+        (moves_at t.world (draft_at t.conn) is.conn_is turn.moves) turn.shown turn.here in
         let x = turned st (conn_in e) t in
         let f : Follows u all store' x.state x.outcome (Gave t.bytes a.taken a.closes a.more) =
-        record { stands = s; outcome = gave old new a t turn.taken turn.closes turn.more } in
-        (t.bytes, subst (λ y. Follows u all store' y.state y.outcome (Gave t.bytes a.taken a.closes a.more)) (sym is.step_is) f, turn.bytes)
+        record { stands = s; outcome = gave old new a t turn.taken turn.closes turn.more } in (
+          t.bytes,
+          subst (λ y. Follows u all store' y.state y.outcome (Gave t.bytes a.taken a.closes a.more))
+              (sym is.step_is) f,
+          turn.bytes,
+        )
     told t (Err errors.NoMemory) old new is (shown, closed, same) = (lost is.conn_is closed shown, same)
     told t (Err errors.DiskFault) old new is same = (failed_is st e conn on is.conn_is, same)
     told t (Err errors.TooMany) old new is turn = absurd turn
     told t (Err errors.Closed) old new is turn = absurd turn
+    told t (Err errors.Down) old new is turn = absurd turn
 
     pub ends : (r : Result (Unit {0}) SessionError) → st.conns (conn_in e) ≡ Some conn → next ≡ Closed
         → step st e Served ≡ record { state = put st (ended_world st.world conn) (conn_in e) None; outcome = Done }
@@ -95,7 +116,8 @@ module _ {U B : Type 0} (u : Ghosts U B) where
         let w' = ended_world st.world conn in
         let here : PlaceIs u w' next None = subst (λ p. PlaceIs u w' p None) (sym closed) tt in
         let s : SessionStands u all store' (put st w' (conn_in e) None) =
-        in_place u places all store store' st w' (conn_in e) next None stands is_put (moves_at w' None is turn.moves) turn.shown here in
+        in_place u places all store store' st w' (conn_in e) next None stands is_put
+        (moves_at w' None is turn.moves) turn.shown here in
         let x : Step = record { state = put st w' (conn_in e) None; outcome = Done } in
         let f : Follows u all store' x.state x.outcome Done = record { stands = s; outcome = refl } in
         subst (λ y. Follows u all store' y.state y.outcome Done) (sym done) f
@@ -103,22 +125,31 @@ module _ {U B : Type 0} (u : Ghosts U B) where
     ends (Err errors.DiskFault) is closed done turn = failed_is st e conn on is
     ends (Err errors.TooMany) is closed done turn = absurd turn
     ends (Err errors.Closed) is closed done turn = absurd turn
+    ends (Err errors.Down) is closed done turn = absurd turn
 
   -- no connection is open there
-  pub none_came : (places : List (Place B)) (store : U) (st : State) (c : ℕ) (bytes : List ℕ) → SessionStands u places store st → st.conns c ≡ None
+  pub none_came : (places : List (Place B)) (store : U) (st : State) (c : ℕ) (bytes : List ℕ)
+      → SessionStands u places store st → st.conns c ≡ None
       → Follows u places store st (step st (Came c bytes) Served).outcome (Refused errors.Closed)
   unfolding step
-  none_came places store st c bytes stands none = record { stands = stands; outcome = ap (λ o. (came_at st c bytes o).outcome) none }
+  none_came places store st c bytes stands none =
+      record { stands = stands; outcome = ap (λ o. (came_at st c bytes o).outcome) none }
 
-  pub none_more : (places : List (Place B)) (store : U) (st : State) (c : ℕ) → SessionStands u places store st → st.conns c ≡ None
+  pub none_more : (places : List (Place B)) (store : U) (st : State) (c : ℕ) → SessionStands u places store st
+      → st.conns c ≡ None
       → Follows u places store st (step st (More c) Served).outcome (Refused errors.Closed)
   unfolding step
-  none_more places store st c stands none = record { stands = stands; outcome = ap (λ o. (more_at st c o).outcome) none }
+  none_more places store st c stands none =
+      record { stands = stands; outcome = ap (λ o. (more_at st c o).outcome) none }
 
-  pub none_ended : (places : List (Place B)) (store : U) (st : State) (c : ℕ) → SessionStands u places store st → st.conns c ≡ None
+  pub none_ended : (places : List (Place B)) (store : U) (st : State) (c : ℕ) → SessionStands u places store st
+      → st.conns c ≡ None
       → Follows u places store st (step st (Ended c) Served).outcome (Refused errors.Closed)
   unfolding step
-  none_ended places store st c stands none = record { stands = stands; outcome = ap (λ o. (ended_at st c o).outcome) none }
+  none_ended places store st c stands none = record {
+    stands = stands;
+    outcome = ap (λ o. (ended_at st c o).outcome) none;
+  }
 
 pub ended_step : (st : State) (c : ℕ) (conn : Conn) → st.conns c ≡ Some conn
     → step st (Ended c) Served ≡ record { state = put st (ended_world st.world conn) c None; outcome = Done }

@@ -62,6 +62,7 @@ fn go_on<U: Uploads>(
         → Limits (U.moment store.old) (U.moment store.new) (U.left_only store.old)
         (U.left_only store.new) w.store w.store }
     ensures counts { Counts (IsErrOf result.1 SessionError.DiskFault) (U.failures store.old) (U.failures store.new) }
+    ensures no_down { IsErrOf result.1 SessionError.Down → ⊥ }
 {
     let Patching {
         draft,
@@ -123,6 +124,7 @@ fn finish<U: Uploads>(
         → Limits (U.moment store.old) (U.moment store.new) (U.left_only store.old)
         (U.left_only store.new) w.store w.store }
     ensures counts { Counts (IsErrOf result.1 SessionError.DiskFault) (U.failures store.old) (U.failures store.new) }
+    ensures no_down { IsErrOf result.1 SessionError.Down → ⊥ }
 {
     let Patching {
         draft,
@@ -220,6 +222,7 @@ pub(crate) fn body_of<U: Uploads>(
         → Limits (U.moment store.old) (U.moment store.new) (U.left_only store.old)
         (U.left_only store.new) w.store w.store }
     ensures counts { Counts (IsErrOf result.1 SessionError.DiskFault) (U.failures store.old) (U.failures store.new) }
+    ensures no_down { IsErrOf result.1 SessionError.Down → ⊥ }
 {
     if (bytes.len() as u64) < left {
         go_on(store, head, patch, left, before, bytes)

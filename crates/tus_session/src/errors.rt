@@ -11,4 +11,6 @@ pub enum SessionError {
     TooMany,
     /// The connection isn't open.
     Closed,
+    /// The device failed in an earlier call: the store must be opened again. A session alone never answers it.
+    Down,
 }

@@ -94,6 +94,7 @@ fn request_of<U: Uploads>(
         → Limits (U.moment store.old) (U.moment store.new) (U.left_only store.old)
         (U.left_only store.new) w.store w.store }
     ensures counts { Counts (IsErrOf result.1 SessionError.DiskFault) (U.failures store.old) (U.failures store.new) }
+    ensures no_down { IsErrOf result.1 SessionError.Down → ⊥ }
 {
     let length = request.length;
     let bare = request.bare;
@@ -154,6 +155,7 @@ fn head_of<U: Uploads>(
         → Limits (U.moment store.old) (U.moment store.new) (U.left_only store.old)
         (U.left_only store.new) w.store w.store }
     ensures counts { Counts (IsErrOf result.1 SessionError.DiskFault) (U.failures store.old) (U.failures store.new) }
+    ensures no_down { IsErrOf result.1 SessionError.Down → ⊥ }
 {
     let mut head = head;
     let had = head.len();
@@ -206,6 +208,7 @@ pub(crate) fn came_of<U: Uploads>(
         → Limits (U.moment store.old) (U.moment store.new) (U.left_only store.old)
         (U.left_only store.new) w.store w.store }
     ensures counts { Counts (IsErrOf result.1 SessionError.DiskFault) (U.failures store.old) (U.failures store.new) }
+    ensures no_down { IsErrOf result.1 SessionError.Down → ⊥ }
 {
     let Link { head, left, task } = link;
     match task {

@@ -45,6 +45,7 @@ impl<U: Uploads> Session<U> {
         ensures answer { (store : U) (st : State) → SessionStands U.Uploads (places_of self.old) store st
             → Opens U.Uploads (places_of self.new) store result st (Opened conn) }
         ensures no_device { IsErrOf result SessionError.DiskFault → ⊥ }
+        ensures no_down { IsErrOf result SessionError.Down → ⊥ }
     {
         if conn >= self.places.len() {
             return Err(SessionError::TooMany);
@@ -90,6 +91,7 @@ impl<U: Uploads> Session<U> {
             → Limits (U.moment store.old) (U.moment store.new) (U.left_only store.old)
             (U.left_only store.new) st.world.store st.world.store }
         ensures counts { Counts (IsErrOf result SessionError.DiskFault) (U.failures store.old) (U.failures store.new) }
+        ensures no_down { IsErrOf result SessionError.Down → ⊥ }
     {
         if conn >= self.places.len() {
             return Err(SessionError::Closed);
@@ -119,6 +121,7 @@ impl<U: Uploads> Session<U> {
         ensures crash { Quiet (U.moment store.old) (U.moment store.new) (U.left_only store.old)
             (U.left_only store.new) }
         ensures counts { Counts (IsErrOf result SessionError.DiskFault) (U.failures store.old) (U.failures store.new) }
+        ensures no_down { IsErrOf result SessionError.Down → ⊥ }
     {
         if conn >= self.places.len() {
             return Err(SessionError::Closed);
@@ -147,6 +150,7 @@ impl<U: Uploads> Session<U> {
             → Limits (U.moment store.old) (U.moment store.new) (U.left_only store.old)
             (U.left_only store.new) st.world.store st.world.store }
         ensures counts { Counts (IsErrOf result SessionError.DiskFault) (U.failures store.old) (U.failures store.new) }
+        ensures no_down { IsErrOf result SessionError.Down → ⊥ }
     {
         if conn >= self.places.len() {
             return Err(SessionError::Closed);

@@ -43,6 +43,7 @@ pub(crate) fn more_of<U: Uploads>(
         → Turned U.Uploads store.new result.0 result.1 out.old.items out.new.items w conn.draft (more_turn w conn) }
     ensures crash { Quiet (U.moment store.old) (U.moment store.new) (U.left_only store.old) (U.left_only store.new) }
     ensures counts { Counts (IsErrOf result.1 SessionError.DiskFault) (U.failures store.old) (U.failures store.new) }
+    ensures no_down { IsErrOf result.1 SessionError.Down → ⊥ }
 {
     let Link { head, left, task } = link;
     let giving = match task {
@@ -90,6 +91,7 @@ pub(crate) fn end_of<U: Uploads>(store: &mut U, link: Link<U::Draft>) -> Result<
         → Limits (U.moment store.old) (U.moment store.new) (U.left_only store.old)
         (U.left_only store.new) w.store w.store }
     ensures counts { Counts (IsErrOf result SessionError.DiskFault) (U.failures store.old) (U.failures store.new) }
+    ensures no_down { IsErrOf result SessionError.Down → ⊥ }
 {
     let Link {
         head: _,

@@ -4,7 +4,7 @@ use Rattle.tus_session.specs.History.{More}
 use Rattle.tus_session.proofs.Limiting.{quiet_limits}
 use Rattle.gateway_script.specs.Connections.{Gives}
 use Rattle.gateway_script.specs.Runs.{view, Tells}
-use Rattle.gateway_script.proofs.Turns.{told_called, tell_stopped, refused_called, refuse_stopped}
+use Rattle.gateway_script.proofs.Turns.{falling, told_called, tell_stopped, refused_called, refuse_stopped}
 use Rattle.gateway_script.proofs.calls.more.Goals as goal
 
 pub returns-in-Ok-clause-does : goal.returns-in-Ok-clause-does
@@ -16,7 +16,8 @@ returns-in-Ok-clause-does g c = λ before st r front at.
     let e = More c.args.conn in
     let given : List ℕ = c.more.new.out.items in
     let none : c.new-out.result.items ≡ [] = c.new-out.ensures.items in
-    told_called (view g.C.Connections before c.args.core.now st old front) c.more.new.self new r e at a given (quiet_limits _ _ c.more.ensures.crash)
+    told_called (view g.C.Connections before c.args.core.now st old front) c.more.new.self new r e at a given
+    (quiet_limits _ _ c.more.ensures.crash)
     (subst (λ o. Gives s' (Ok a) o given r.state e) none (c.in-Ok.ensures.gives r.state at.keeps))
     (subst (λ b. Tells old new (Ok (tt {0})) c.args.conn b a.closes) c.deref.ensures.value
     c.in_ok-tell-in-Ok.ensures.tells)
@@ -31,8 +32,10 @@ returns-in_err-tell-in-Ok-clause-does g c = λ before st r front at.
     let given : List ℕ = c.more.new.out.items in
     let none : c.new-out.result.items ≡ [] = c.new-out.ensures.items in
     let p = err_from_is_err_and c.from_residual.result c.from_residual.ensures.1 in
-    rw (p.1, p.2) (tell_stopped (view g.C.Connections before c.args.core.now st old front) c.more.new.self new r e at a given (quiet_limits _ _ c.more.ensures.crash)
-    (subst (λ o. Gives s' (Ok a) o given r.state e) none (c.in-Ok.ensures.gives r.state at.keeps)) c.in_err-tell-in-Ok.field-0.0
+    rw (p.1, p.2) (tell_stopped (view g.C.Connections before c.args.core.now st old front) c.more.new.self new r e at a
+    given (quiet_limits _ _ c.more.ensures.crash)
+    (subst (λ o. Gives s' (Ok a) o given r.state e) none (c.in-Ok.ensures.gives r.state at.keeps))
+    c.in_err-tell-in-Ok.field-0.0
     (subst (λ b. Tells old new (Err c.in_err-tell-in-Ok.field-0.0) c.args.conn b a.closes) c.deref.ensures.value
     c.in_err-tell-in-Ok.ensures.tells))
 
@@ -43,7 +46,9 @@ returns-clause-does g c = λ before st r front at.
     let e = More c.args.conn in
     let given : List ℕ = c.more.new.out.items in
     let none : c.new-out.result.items ≡ [] = c.new-out.ensures.items in
-    refused_called (view g.C.Connections before c.args.core.now st (g.W.CountedWrite.contents c.args.writer.now) front) c.more.new.self (g.W.CountedWrite.contents c.refused.new.writer) r e at f given (quiet_limits _ _ c.more.ensures.crash)
+    refused_called (view g.C.Connections before c.args.core.now st (g.W.CountedWrite.contents c.args.writer.now) front)
+    c.more.new.self (g.W.CountedWrite.contents c.refused.new.writer) r e at f given
+    (quiet_limits _ _ c.more.ensures.crash)
     (subst (λ o. Gives s' (Err f) o given r.state e) none (c.in-Err.ensures.gives r.state at.keeps))
     c.in_ok-refused-in-Err.ensures.refuses
 
@@ -54,6 +59,13 @@ returns-in_err-refused-in-Err-clause-does g c = λ before st r front at.
     let e = More c.args.conn in
     let given : List ℕ = c.more.new.out.items in
     let none : c.new-out.result.items ≡ [] = c.new-out.ensures.items in
-    let p = err_from_is_err_and c.from_residual-in_err-refused-in-Err.result c.from_residual-in_err-refused-in-Err.ensures.1 in
-    rw (p.1, p.2) (refuse_stopped (view g.C.Connections before c.args.core.now st (g.W.CountedWrite.contents c.args.writer.now) front) c.more.new.self (g.W.CountedWrite.contents c.refused.new.writer) r e at f given (quiet_limits _ _ c.more.ensures.crash)
-    (subst (λ o. Gives s' (Err f) o given r.state e) none (c.in-Err.ensures.gives r.state at.keeps)) (λ ms among. g.met.C.Connections.durable c.args.core.now r.state ms at.keeps among) c.in_err-refused-in-Err.field-0.0 c.in_err-refused-in-Err.ensures.refuses)
+    let p = err_from_is_err_and c.from_residual-in_err-refused-in-Err.result
+    c.from_residual-in_err-refused-in-Err.ensures.1 in
+    rw (p.1, p.2)
+    (refuse_stopped (view g.C.Connections before c.args.core.now st
+    (g.W.CountedWrite.contents c.args.writer.now) front) c.more.new.self
+    (g.W.CountedWrite.contents c.refused.new.writer) r e at f given (quiet_limits _ _ c.more.ensures.crash)
+    (subst (λ o. Gives s' (Err f) o given r.state e) none (c.in-Err.ensures.gives r.state at.keeps))
+    (λ ms among. g.met.C.Connections.durable c.args.core.now r.state ms at.keeps among)
+    (falling (g.C.Connections.down c.args.core.now) (g.C.Connections.down c.more.new.self) f c.in-Err.ensures.falls)
+    c.in_err-refused-in-Err.field-0.0 c.in_err-refused-in-Err.ensures.refuses)

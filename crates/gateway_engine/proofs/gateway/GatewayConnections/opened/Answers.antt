@@ -1,9 +1,8 @@
 use Rattle.tus_session.specs.History.{Opened}
-use Rattle.tus_session.specs.Places.{places_of}
 use Rattle.gateway_engine.proofs.Sessions.{opens_does, opened_refused}
 use Rattle.gateway_engine.proofs.gateway.GatewayConnections.opened.Goals as goal
 
 pub returns-clause-does : goal.returns-clause-does
 returns-clause-does g c = λ st stands.
-    opens_does g.U.Uploads (places_of c.opened.new.self) c.args.self.now.store st (Opened c.args.conn) c.opened.result
-    (opened_refused st c.args.conn) (c.opened.ensures.answer _ st stands)
+    opens_does g.U.Uploads _ st (Opened c.args.conn) c.opened.result stands.up
+    (opened_refused st c.args.conn) (c.opened.ensures.answer _ st stands.session)

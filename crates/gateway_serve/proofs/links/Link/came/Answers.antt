@@ -12,13 +12,22 @@ returns-in-Ok-clause-serves g c = λ before st past ended went joins.
     let n = c.args.conn in
     let piece = c.left.result.now in
     let gives = c.came-answer.ensures.gives _ went.stands in
-    served g.C.Connections before c.args.gateway.now c.came-answer.new.gateway st past (Came n piece) went (λ ms among. g.met.C.Connections.durable c.args.gateway.now _ ms went.stands among)
-    (λ (now : List Marked). Alone st n past now × Joins (joint_of (record c.args.self.now { input = c.take.new.self; output = c.came-answer.new.self; stage = c.in-Ok.next.stage })) ended st now n)
+    served g.C.Connections before c.args.gateway.now c.came-answer.new.gateway st past (Came n piece) went
+    (λ ms among. g.met.C.Connections.durable c.args.gateway.now _ ms went.stands among)
+    (λ (now : List Marked). Alone st n past now
+    × Joins (joint_of (record c.args.self.now {
+      input = c.take.new.self;
+      output = c.came-answer.new.self;
+      stage = c.in-Ok.next.stage;
+    })) ended st now n)
     (λ now. Unit {0})
-    c.came-answer.result (Ok c.in-Ok.next) c.in-Ok.ensures.fault gives.1.keeps (c.came-answer.ensures.crash _ went.stands)
+    c.came-answer.result (Ok c.in-Ok.next) c.in-Ok.ensures.fault gives.1.keeps
+    (c.came-answer.ensures.crash _ went.stands) c.came-answer.ensures.falls
     (λ ok. (
       alone_step st past (Came n piece) _,
-      came_link ended st past n c.came-answer.result gives.0 (joint_of c.args.self.now) piece c.take.new.self c.came-answer.new.self c.in-Ok.next.stage c.in-Ok.next.taken ok c.left.ensures
+      came_link ended st past n c.came-answer.result gives.0
+          (joint_of c.args.self.now) piece c.take.new.self c.came-answer.new.self c.in-Ok.next.stage c.in-Ok.next.taken
+          ok c.left.ensures
           gives.1.answer gives.2 c.in-Ok.ensures.stage c.in-Ok.ensures.taken c.take.ensures joins,
     )) (λ fails. tt)
 
@@ -28,8 +37,15 @@ returns-in-Err-clause-serves g c = λ before st past ended went joins.
     let piece = c.left.result.now in
     let told : Result ℕ DiskFault = Err c.in-Err.fault in
     let gives = c.came-answer.ensures.gives _ went.stands in
-    served g.C.Connections before c.args.gateway.now c.came-answer.new.gateway st past (Came n piece) went (λ ms among. g.met.C.Connections.durable c.args.gateway.now _ ms went.stands among)
-    (λ now. Unit {0}) (λ (now : List Marked). Alone st n past now × Joins (joint_of (record c.args.self.now { output = c.came-answer.new.self })) ended st now n)
-    c.came-answer.result told c.in-Err.ensures.fault gives.1.keeps (c.came-answer.ensures.crash _ went.stands)
+    served g.C.Connections before c.args.gateway.now c.came-answer.new.gateway st past (Came n piece) went
+    (λ ms among. g.met.C.Connections.durable c.args.gateway.now _ ms went.stands among)
+    (λ now. Unit {0}) (λ (now : List Marked). Alone st n past now
+    × Joins (joint_of (record c.args.self.now { output = c.came-answer.new.self })) ended st now n)
+    c.came-answer.result told c.in-Err.ensures.fault gives.1.keeps
+    (c.came-answer.ensures.crash _ went.stands) c.came-answer.ensures.falls
     (λ ok. tt)
-    (λ fails. (alone_step st past (Came n piece) _, came_down ended st past n c.came-answer.result gives.0 (joint_of c.args.self.now) piece c.came-answer.new.self fails c.left.ensures gives.1.answer gives.2 joins))
+    (λ fails. (
+      alone_step st past (Came n piece) _,
+      came_down ended st past n c.came-answer.result gives.0
+          (joint_of c.args.self.now) piece c.came-answer.new.self fails c.left.ensures gives.1.answer gives.2 joins,
+    ))

@@ -15,8 +15,19 @@ returns-clause-serves g c = λ before st past went joins.
     let ended' = c.free.new.ended.sockets in
     let does = c.ended.ensures.does _ went.stands in
     let used : c.args.self.now ≡ Free → ⊥ = λ e. let f : false ≡ true = c.if-is_free.ensures.1 e in absurd (cc) in
-    served g.C.Connections before c.args.gateway.now c.ended.new.self st past (Ended n) went (λ ms among. g.met.C.Connections.durable c.args.gateway.now _ ms went.stands among)
-    (λ (now : List Marked). Alone st n past now × PlaceJoins c.free.new.self (seen_of n ended') st now n) (λ (now : List Marked). Alone st n past now × PlaceFell c.free.new.self (seen_of n ended') st now n)
-    c.ended.result c.unless_failed.result c.unless_failed.ensures does.keeps (c.ended.ensures.crash _ went.stands)
-    (λ ok. (alone_step st past (Ended n) _, told_place ended st past n c.args.self.now c.free.new.self ended' c.ended.result c.free.ensures.free c.free.ensures.ended used ok joins))
-    (λ fails. (alone_step st past (Ended n) _, fallen_place ended st past n c.args.self.now c.free.new.self ended' _ c.free.ensures.free c.free.ensures.ended used joins))
+    served g.C.Connections before c.args.gateway.now c.ended.new.self st past (Ended n) went
+    (λ ms among. g.met.C.Connections.durable c.args.gateway.now _ ms went.stands among)
+    (λ (now : List Marked). Alone st n past now × PlaceJoins c.free.new.self (seen_of n ended') st now n)
+    (λ (now : List Marked). Alone st n past now × PlaceFell c.free.new.self (seen_of n ended') st now n)
+    c.ended.result c.unless_failed.result c.unless_failed.ensures does.keeps
+    (c.ended.ensures.crash _ went.stands) c.ended.ensures.falls
+    (λ ok. (
+      alone_step st past (Ended n) _,
+      told_place ended st past n c.args.self.now c.free.new.self ended'
+          c.ended.result c.free.ensures.free c.free.ensures.ended used ok joins,
+    ))
+    (λ fails. (
+      alone_step st past (Ended n) _,
+      fallen_place ended st past n c.args.self.now c.free.new.self ended' _
+          c.free.ensures.free c.free.ensures.ended used joins,
+    ))

@@ -9,8 +9,12 @@ use Rattle.gateway_serve.proofs.All.{same_join, all_opened, all_unopened, all_fa
 use Rattle.gateway_serve.proofs.serving.Server.accept.Goals as goal
 
 pub returns-in_default-clause-serves : goal.returns-in_default-clause-serves
-returns-in_default-clause-serves g c = λ before st past went joins.
-    (past, went, same_join (places_of c.args.self.now) (places_of c.free_place.new.self) (ended_of c.args.self.now) (ended_of c.free_place.new.self) st past c.free_place.ensures.same c.free_place.ensures.ended joins)
+returns-in_default-clause-serves g c = λ before st past went joins. (
+  past,
+  went,
+  same_join (places_of c.args.self.now) (places_of c.free_place.new.self) (ended_of c.args.self.now)
+      (ended_of c.free_place.new.self) st past c.free_place.ensures.same c.free_place.ensures.ended joins,
+)
 
 pub returns-in-Ok-clause-serves : goal.returns-in-Ok-clause-serves
 returns-in-Ok-clause-serves g c = λ before st past went joins.
@@ -19,10 +23,14 @@ returns-in-Ok-clause-serves g c = λ before st past went joins.
     let told : Result (Unit {0}) DiskFault = Ok tt in
     let does = c.opened.ensures.does _ went.stands in
     let goes : GoesOn c.opened.result told = (λ e. absurd (cc), λ f. let x = c.in-Ok.is in absurd (cc)) in
-    let all = same_join (places_of c.args.self.now) (places_of c.free_place.new.self) (ended_of c.args.self.now) ended st past c.free_place.ensures.same c.free_place.ensures.ended joins in
-    served g.C.Connections before c.args.gateway.now c.opened.new.self st past (Opened n) went (λ ms among. g.met.C.Connections.durable c.args.gateway.now _ ms went.stands among)
-    _ (λ now. Unit {0}) c.opened.result told goes does.keeps (quiet_limits _ _ c.opened.ensures.crash)
-    (λ ok. all_opened (places_of c.free_place.new.self) n ended st past c.opened.result does.answer all c.in-Some.ensures.free.1 c.open.result c.in-Some.ensures.free.0 c.open.ensures tt c.in-Ok.is)
+    let all = same_join (places_of c.args.self.now) (places_of c.free_place.new.self)
+    (ended_of c.args.self.now) ended st past c.free_place.ensures.same c.free_place.ensures.ended joins in
+    served g.C.Connections before c.args.gateway.now c.opened.new.self st past (Opened n) went
+    (λ ms among. g.met.C.Connections.durable c.args.gateway.now _ ms went.stands among)
+    _ (λ now. Unit {0}) c.opened.result told goes does.keeps
+    (quiet_limits _ _ c.opened.ensures.crash) c.opened.ensures.falls
+    (λ ok. all_opened (places_of c.free_place.new.self) n ended st past c.opened.result does.answer all
+    c.in-Some.ensures.free.1 c.open.result c.in-Some.ensures.free.0 c.open.ensures tt c.in-Ok.is)
     (λ fails. tt)
 
 pub returns-in-Err-clause-serves : goal.returns-in-Err-clause-serves
@@ -31,9 +39,13 @@ returns-in-Err-clause-serves g c = λ before st past went joins.
     let ended = ended_of c.free_place.new.self in
     let answer : Result (Unit {0}) SessionError = Err c.in-Err.error in
     let does = c.in-Err.ensures.does _ went.stands in
-    let all = same_join (places_of c.args.self.now) (places_of c.free_place.new.self) (ended_of c.args.self.now) ended st past c.free_place.ensures.same c.free_place.ensures.ended joins in
-    let kept = all_unopened (places_of c.free_place.new.self) n ended st past answer does.answer all c.in-Some.ensures.free.1 c.in-Err.error refl in
-    served g.C.Connections before c.args.gateway.now c.opened.new.self st past (Opened n) went (λ ms among. g.met.C.Connections.durable c.args.gateway.now _ ms went.stands among)
+    let all = same_join (places_of c.args.self.now) (places_of c.free_place.new.self)
+    (ended_of c.args.self.now) ended st past c.free_place.ensures.same c.free_place.ensures.ended joins in
+    let kept = all_unopened (places_of c.free_place.new.self) n ended st past answer does.answer all
+    c.in-Some.ensures.free.1 c.in-Err.error refl in
+    served g.C.Connections before c.args.gateway.now c.opened.new.self st past (Opened n) went
+    (λ ms among. g.met.C.Connections.durable c.args.gateway.now _ ms went.stands among)
     (AllJoin (places_of c.free_place.new.self) ended st) (AllFell (places_of c.free_place.new.self) ended st)
-    answer c.unless_failed.result c.unless_failed.ensures does.keeps (quiet_limits _ _ c.opened.ensures.crash)
+    answer c.unless_failed.result c.unless_failed.ensures does.keeps
+    (quiet_limits _ _ c.opened.ensures.crash) c.in-Err.ensures.falls
     (λ ok. kept) (λ fails. all_fall (places_of c.free_place.new.self) ended st _ kept)
