@@ -1,8 +1,8 @@
 // What is kept of a spool in memory.
-ghost use Rattle.std.specs.Prelude.{◌≡◌, ◌≤◌, ◌<◌, ℕ, Err, None, false, replicate, length, get_or, IfOk, IfSome};
+ghost use Rattle.std.specs.Prelude.{◌≡◌, ◌≤◌, ◌<◌, ℕ, Err, None, false, replicate, length, get_or, IfOk, IfErr, IfSome};
 ghost use Rattle.spool_kept.specs.Holding.{Holding, FitsTogether};
 ghost use Rattle.spool_kept.specs.Kept.{KeepsAlone};
-ghost use Rattle.spool_kept.specs.Loads.{LoadsAs};
+ghost use Rattle.spool_kept.specs.Loads.{LoadsAs, IsLate};
 ghost use Rattle.spool_kept.specs.Shows.{IsSound};
 ghost use Rattle.spool_pages.specs.Changes.{neighbour};
 ghost use Rattle.spool_pages.specs.Fits.{FitsRow};
@@ -65,6 +65,7 @@ impl Kept {
         requires fits { (b : ℕ) → FitsRow (get_or blocks.rows b None) }
         ensures layout { IfOk result (λ kept. kept.layout ≡ layout) }
         ensures no_device { result ≡ Err OpenFault.DiskFault → ⊥ }
+        ensures late { IfErr result IsLate }
         ensures said { (v : View) → IsSound v → v.blocks ≡ layout → next ≡ v.next → indexes ≡ v.indexes → slots.items ≡ v.slots → blocks.rows ≡ v.rows
             → blocks.reserved ≡ replicate v.blocks false → LoadsAs result (λ kept. KeepsAlone kept v) }
     {

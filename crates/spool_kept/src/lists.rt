@@ -1,9 +1,9 @@
 // Each slot's blocks by ordinal.
-ghost use Rattle.std.specs.Prelude.{◌≡◌, ◌≤◌, ◌<◌, ◌+◌, ℕ, List, Some, None, true, length, get_or, take, drop, ◌++◌, IfOk, OnOk, OnErr, Err};
+ghost use Rattle.std.specs.Prelude.{◌≡◌, ◌≤◌, ◌<◌, ◌+◌, ℕ, List, Some, None, true, length, get_or, take, drop, ◌++◌, IfOk, IfErr, OnOk, OnErr, Err};
 ghost use Rattle.spool_blocks.specs.Blocks.{Row, slot_count, IsWhole};
 ghost use Rattle.upload_rules.specs.Room.{blocks_of};
 ghost use Rattle.spool_kept.specs.Holding.{HasBlocks, AreListsTo};
-ghost use Rattle.spool_kept.specs.Loads.{LoadsAs};
+ghost use Rattle.spool_kept.specs.Loads.{LoadsAs, IsLate};
 ghost use Rattle.spool_kept.specs.Shows.{IsSound};
 ghost use Rattle.spool_pages.specs.View.{View};
 
@@ -89,6 +89,7 @@ fn checked_list(alloc: Global, blocks: &Blocks, slot: u32, len: u64) -> Result<B
     ensures blocks { IfOk result (λ list. HasBlocks blocks.now.rows slot len list) }
     ensures passes { slot_count slot blocks.now.rows ≡ blocks_of len → IsWhole slot blocks.now.rows → LoadsAs result (λ list. Unit {0}) }
     ensures no_device { result ≡ Err OpenFault.DiskFault → ⊥ }
+    ensures late { IfErr result IsLate }
 {
     let list = blocks.list_of(alloc, slot)?;
     if list.len() as u64 != blocks_of(len) || !are_owned(blocks.rows(), slot, &list) {
@@ -110,6 +111,7 @@ fn push_list(
     ensures lists { length lists.old.items ≡ slot → AreListsTo blocks.now.rows slots.now lists.old.items slot → OnOk result (AreListsTo blocks.now.rows slots.now lists.new.items (slot + 1)) }
     ensures passes { (v : View) → IsSound v → slots.now ≡ v.slots → blocks.now.rows ≡ v.rows → LoadsAs result (λ done. Unit {0}) }
     ensures no_device { result ≡ Err OpenFault.DiskFault → ⊥ }
+    ensures late { IfErr result IsLate }
 {
     let list = match record_at(slots, slot as usize) {
         Some(kept) => checked_list(alloc, blocks, slot, kept.record().text_len)?,
@@ -133,6 +135,7 @@ pub(crate) fn lists_of(
     ensures lists { IfOk result (λ lists. AreListsTo blocks.now.rows slots.now lists.items 512) }
     ensures passes { (v : View) → IsSound v → slots.now ≡ v.slots → blocks.now.rows ≡ v.rows → LoadsAs result (λ lists. Unit {0}) }
     ensures no_device { result ≡ Err OpenFault.DiskFault → ⊥ }
+    ensures late { IfErr result IsLate }
 {
     let mut lists = Vec::new(alloc);
     for slot in 0..SLOTS {

@@ -1,7 +1,7 @@
 // The record of an upload, kept in memory.
-ghost use Rattle.std.specs.Prelude.{◌≡◌, ◌≤◌, All, Err, None, Some, length, get_or, option_copied, IfOk};
+ghost use Rattle.std.specs.Prelude.{◌≡◌, ◌≤◌, All, Err, None, Some, length, get_or, option_copied, IfOk, IfErr};
 ghost use Rattle.spool_kept.specs.Extending.{SameEncodings, longer_record};
-ghost use Rattle.spool_kept.specs.Loads.{LoadsAs};
+ghost use Rattle.spool_kept.specs.Loads.{LoadsAs, IsLate};
 ghost use Rattle.spool_kept.specs.Records.{FitsKept, FitsMemory, IsUnpacked, said_of};
 ghost use Rattle.spool_pages.specs.View.{SlotRecord as Said};
 
@@ -38,6 +38,7 @@ impl KeptRecord {
         requires { length «record».now.metadata ≤ 1536 }
         ensures said { FitsKept (Some «record».now) → LoadsAs result (λ kept. kept ≡ «record».now) }
         ensures no_device { result ≡ Err OpenFault.DiskFault → ⊥ }
+        ensures late { IfErr result IsLate }
     {
         let Some(transcoder) = Transcoder::unpack(&record.state) else {
             return Err(OpenFault::Damaged);
@@ -115,6 +116,7 @@ fn text_of(alloc: Global, bytes: &[u8]) -> Result<String, OpenFault>
     ensures said { All (λ b. (0x20 ≤ b) × (b ≤ 0x7E)) bytes.now → LoadsAs result (λ text. text.bytes.items ≡ bytes.now) }
     ensures same { IfOk result (λ text. text.bytes.items ≡ bytes.now) }
     ensures no_device { result ≡ Err OpenFault.DiskFault → ⊥ }
+    ensures late { IfErr result IsLate }
 {
     match str::from_utf8(bytes) {
         Ok(text) => {
