@@ -1,5 +1,5 @@
 // The uploads on a disk, and appends to them that are under way.
-ghost use Rattle.std.specs.Prelude.{◌≡◌, ◌≤◌, ◌*◌, ◌↔◌, ℕ, Some, IfOk};
+ghost use Rattle.std.specs.Prelude.{◌≡◌, ◌≤◌, ◌*◌, ◌↔◌, ℕ, Some, IfOk, IfErr};
 ghost use Rattle.spool_disk.specs.Disk.{Counts, IsImage, Keeps as KeepsDisk};
 ghost use Rattle.spool_disk.specs.Views.{Lasts};
 ghost use Rattle.spool_journal.specs.Image.{journal_pages, all_pages};
@@ -10,6 +10,7 @@ ghost use Rattle.spool_kept.specs.Drafting.{DraftsFit};
 ghost use Rattle.spool_kept.specs.Shows.{IsSound};
 ghost use Rattle.spool_pages.specs.View.{View, IsViewOf};
 ghost use Rattle.spool_image.specs.Reads.{NeedsReplay};
+ghost use Rattle.spool_image.specs.Refusals.{IsNoSpool, HasOtherVersion, IsDamaged, RefusedFor, RefusesAs};
 ghost use Rattle.spool_image.specs.LeftOnly.{AllShow, IsSpool, LeftOrShows};
 
 use crate::opening::prepare;
@@ -38,7 +39,7 @@ pub struct SpoolAppend {
 }
 
 impl<D: Disk> Spool<D> {
-    ghost use Rattle.spool_image.specs.Spool.{disk_of, size_of, disk_after, Keeps, SpoolStands, IsFault, OpensAs};
+    ghost use Rattle.spool_image.specs.Spool.{disk_of, size_of, disk_after, Keeps, SpoolStands, IsFault, OpensAs, OpensFrom};
 
     /// Opens what a crash may have left. It may crash too, and be called again.
     ///
@@ -55,7 +56,18 @@ impl<D: Disk> Spool<D> {
         ensures counts { Counts (IsFault result) (D.failures disk) (D.failures (disk_after result)) }
 
         // A disk of which a read shows uploads is opened, and what a read shows is kept, or memory or the device refuses it.
-        ensures opened { D.honest disk → (v : View) → IsSound v → IsViewOf (D.seen disk) v → 4096 * all_pages v.blocks ≤ D.size disk → OpensAs result (λ s. Keeps s v) }
+        ensures opened { D.honest disk → (v : View) → IsSound v → IsViewOf (D.seen disk) v
+            → 4096 * all_pages v.blocks ≤ D.size disk → OpensAs result (λ s. Keeps s v) }
+
+        // What is opened is a sound spool, and it is what a read shows. And each refusal has its reason, of which at most one
+        // holds, and none of a sound spool.
+        ensures sound { D.honest disk → IfOk result (OpensFrom (D.size disk) (D.seen disk)) }
+        ensures refused { D.honest disk → IfErr result (λ e. RefusedFor (D.size disk) (D.seen disk) e.1) }
+
+        // So a disk that is no spool is refused as that, and so is one of another version, unless memory or the device refuses it.
+        ensures not_a_spool { D.honest disk → IsNoSpool (D.size disk) (D.seen disk) → RefusesAs result OpenFault.NotASpool }
+        ensures version { D.honest disk → HasOtherVersion (D.size disk) (D.seen disk) → RefusesAs result OpenFault.Version }
+        ensures damaged { D.honest disk → IsDamaged (D.size disk) (D.seen disk) → RefusesAs result OpenFault.Damaged }
 
         // Where no journal is to be replayed it writes nothing: every image is one from before, and so is what a read gives. So it is
         // with every disk that is refused as no spool, and with one of another version behind a closed gate.
