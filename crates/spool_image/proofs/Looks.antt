@@ -94,6 +94,10 @@ pub if_ok_more : {T E : Type 0} (r : Result T E) {P Q : T → Type 0} → ((t : 
 if_ok_more (Ok t) more p = more t p
 if_ok_more (Err e) more p = tt
 
+pub if_ok_both : {T E : Type 0} (r : Result T E) {P Q R : T → Type 0} → ((t : T) → P t → Q t → R t) → IfOk r P → IfOk r Q → IfOk r R
+if_ok_both (Ok t) more p q = more t p q
+if_ok_both (Err e) more p q = tt
+
 pub if_err_more : {T E : Type 0} (r : Result T E) {P Q : E → Type 0} → ((e : E) → P e → Q e) → IfErr r P → IfErr r Q
 if_err_more (Ok t) more p = tt
 if_err_more (Err e) more p = more e p

@@ -56,7 +56,7 @@ tells_late DiskFault first late = tt
 
 -- BEHIND A RECOVERY
 
-module _ {n : ℕ} {old seen : ℕ → ℕ} {loose : ℕ → Type 0} (settled : Settled (journal_pages n) (overlaid old) seen loose) (journal : HasJournal n old) where
+module _ (n : ℕ) (old seen : ℕ → ℕ) (loose : ℕ → Type 0) (settled : Settled (journal_pages n) (overlaid old) seen loose) (journal : HasJournal n old) where
   version_same : (i : ℕ) → seen (state_place n + i) ≡ overlaid old (state_place n + i)
   version_same i = let j = some_journal n in settled.same (state_place n + i) (inr (omega arith))
 

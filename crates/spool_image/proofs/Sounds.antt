@@ -1,5 +1,5 @@
 -- A sound view, of what was read and what was checked of it.
-use Rattle.std.proofs.Common.{◌≡◌, ℕ, ◌-◌, ◌*◌, ◌<◌, ◌≤◌, List, [], Option, None, Some, length, get_or, refl, subst, ap, arith}
+use Rattle.std.proofs.Common.{◌≡◌, ℕ, Bool, ◌-◌, ◌*◌, ◌<◌, ◌≤◌, List, [], Option, None, Some, Result, Ok, Err, IfOk, OnOk, false, replicate, length, get_or, refl, subst, ap, arith}
 use Rattle.enc_model.specs.Indexes.{IndexSet}
 use Rattle.spool_blocks.specs.Chains.{OwnsOneEach}
 use Rattle.spool_journal.specs.Image.{journal_pages}
@@ -10,6 +10,11 @@ use Rattle.spool_pages.specs.View.{SlotRecord, View, Says, text_page}
 use Rattle.spool_kept.specs.Holding.{AreDistinct}
 use Rattle.spool_kept.specs.Shows.{IsSound, IsSoundRecord, IsOwned}
 use Rattle.spool_image.specs.Checks.{IsRecordSound, AreSound, IsRowSound, AreRowsSound}
+use Rattle.spool_kept.specs.Holding.{Holding}
+use Rattle.spool_kept.specs.Kept.{KeepsAlone}
+use Rattle.spool_kept.specs.Loads.{LoadsAs}
+use Rattle.spool_kept.specs.declared.error.OpenFault.{OpenFault}
+use Rattle.spool_image.specs.Loaded.{LoadedFrom}
 use Rattle.spool_image.specs.Reads.{StandFields, StandSlots, StandRows}
 
 -- A SOUND VIEW PASSES
@@ -31,11 +36,11 @@ sound_rows v sound b slot ordinal owns =
 -- WHAT PASSES IS A SOUND VIEW
 
 module _ (bytes : ℕ → ℕ) (n next : ℕ) (x : IndexSet) (slots : List (Option SlotRecord)) (rows : List (Option (ℕ × ℕ))) where
-  shown_at : ℕ → Option SlotRecord → List ℕ
+  abbrev shown_at : ℕ → Option SlotRecord → List ℕ
   shown_at s None = []
   shown_at s (Some r) = text_shown bytes (text_page n) rows s r.text_len
 
-  pub view_read : View
+  abbrev pub view_read : View
   view_read = record {
     blocks = n;
     version = 1;
@@ -96,3 +101,20 @@ module _ (bytes : ℕ → ℕ) (n next : ℕ) (x : IndexSet) (slots : List (Opti
         record { used = is.used; there = is.there; fits = fits.1 };
     lists = lists;
   }
+
+  -- and so it is kept
+  pub read_loaded : (reserved : List Bool) (r : Result Holding OpenFault) → 16 ≤ n → n ≤ 65536 → StandFields bytes n next x → StandSlots bytes n slots → length slots ≡ 512
+      → length rows ≡ n → StandRows bytes n (512 * (journal_pages n - 257)) rows → AreSound next slots → AreRowsSound slots rows → ((b : ℕ) → FitsRow (get_or rows b None))
+      → reserved ≡ replicate n false → OnOk r (AreDistinct slots) → OnOk r ((s : ℕ) (q : SlotRecord) → get_or slots s None ≡ Some q → OwnsOneEach rows s (blocks_of q.text_len))
+      → ((v : View) → IsSound v → v.blocks ≡ n → next ≡ v.next → x ≡ v.indexes → slots ≡ v.slots → rows ≡ v.rows → reserved ≡ replicate v.blocks false → LoadsAs r (λ kept. KeepsAlone kept v))
+      → IfOk r (LoadedFrom bytes n)
+  read_loaded reserved (Err e) least most fields stand long wide there are owned fit none distinct lists kept = tt
+  read_loaded reserved (Ok h) least most fields stand long wide there are owned fit none distinct lists kept =
+      let sound = read_sound least most fields stand long wide are owned fit distinct lists in
+      record {
+        view = view_read;
+        sound = sound;
+        blocks = refl;
+        says = read_says fields stand long there;
+        keeps = kept view_read sound refl refl refl refl refl none;
+      }

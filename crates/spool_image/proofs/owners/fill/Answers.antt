@@ -33,7 +33,7 @@ loop-k-preserved c =
 pub returns-in_err-row_at-clause-said : goal.returns-in_err-row_at-clause-said
 returns-in_err-row_at-clause-said c all long fits stands was =
     let k = c.loop-k.k in
-    no_err _ _ _ (c.row_at.ensures.said (get_or all (c.args.first + k) None) (fits (c.args.first + k)) (stands k (search rules))) c.in_err-row_at.was
+    absurd (no_err _ _ _ (c.row_at.ensures.said (get_or all (c.args.first + k) None) (fits (c.args.first + k)) (stands k (search rules))) c.in_err-row_at.was)
 
 pub returns-in_err-put_row-clause-said : goal.returns-in_err-put_row-clause-said
 returns-in_err-put_row-clause-said c all long fits stands was =
@@ -41,4 +41,4 @@ returns-in_err-put_row-clause-said c all long fits stands was =
     let is = same_ok _ c.in_ok-row_at.field-0 _ c.in_ok-row_at.was (c.row_at.ensures.said (get_or all (c.args.first + k) None) (fits (c.args.first + k)) (stands k (search rules))) in
     let behind : length c.loop-k.rows ≤ c.args.first + k = c.in_err-put_row.ensures.behind in
     let same : length c.loop-k.rows ≡ length all = search rules in
-    c.in_err-put_row.ensures.used (is ∙ get_or-eq_default all None (omega (arith, behind, same)))
+    absurd (c.in_err-put_row.ensures.used (is ∙ get_or-eq_default all None (omega (arith, behind, same))))

@@ -2,11 +2,15 @@ use Rattle.std.proofs.Common.{◌≡◌, ◌<◌, ◌+◌, ℕ, length, get_or, 
 use Rattle.std.proofs.lemmas.Bool.{false≢true}
 use Rattle.spool_journal.specs.Image.{byte_of}
 use Rattle.spool_pages.specs.View.{Stands, first_page}
+use Rattle.spool_pages.proofs.Says.{all_is, some_journal}
 use Rattle.spool_image.proofs.Looks.{read_back, read_stands, stands_part}
 use Rattle.spool_image.proofs.reading.check_front.Goals as goal
 
 front_stands : (bytes : ℕ → ℕ) (n : ℕ) → ((i : ℕ) → i < 12 → bytes i ≡ get_or (first_page n) i 0) → Stands bytes 0 12 (first_page n)
 front_stands bytes n front = record { each = λ i lt. let at : i ≡ 0 + i = omega arith in subst (λ (p : ℕ). bytes p ≡ get_or (first_page n) i 0) at (front i lt) }
+
+pub read_at-requires : goal.read_at-requires
+read_at-requires g c = omega (arith, all_is c.args.layout.now, some_journal c.args.layout.now, c.requires)
 
 pub returns-else-is_blank_behind_fields-clause-said : goal.returns-else-is_blank_behind_fields-clause-said
 returns-else-is_blank_behind_fields-clause-said g c honest bytes still n stands =

@@ -18,3 +18,9 @@ returns-in_ok-kept-in-Some-clause-said c (Some r) fits padded =
     let same : c.in-Some.record ≡ r = search rules in
     let told = c.of.ensures.said (subst (λ (q : SlotRecord). FitsKept (Some q)) (sym same) fits) in
     search rules
+
+pub returns-in_ok-kept-in-Some-clause-stands : goal.returns-in_ok-kept-in-Some-clause-stands
+returns-in_ok-kept-in-Some-clause-stands c = ?
+
+pub returns-in_ok-kept-in-Some-clause-fits : goal.returns-in_ok-kept-in-Some-clause-fits
+returns-in_ok-kept-in-Some-clause-fits c = ?
