@@ -1,10 +1,10 @@
 -- Why a disk is refused: at most one reason holds, and none of a sound spool.
-use Rattle.std.proofs.Common.{◌≡◌, ◌⊎◌, inl, inr, ℕ, ◌+◌, ◌*◌, ◌^◌, ◌<◌, ◌≤◌, ◌++◌, get_or, Result, Ok, Err, IfOk, IfErr, refl, sym, ◌∙◌, ap, subst, arith}
+use Rattle.std.proofs.Common.{◌≡◌, ◌⊎◌, inl, inr, ℕ, ◌+◌, ◌*◌, ◌^◌, ◌<◌, ◌≤◌, ◌++◌, get_or, Result, Ok, Err, IfErr, refl, sym, ◌∙◌, ap, subst, arith}
 use Rattle.std.specs.Int.{to_be_bytes, from_be_bytes, w32}
 use Rattle.std.proofs.lemmas.Nat.{from_be_bytes-to_be_bytes_4}
-use Rattle.spool_journal.specs.Image.{journal_pages, all_pages, overlaid, InForm, count, number}
+use Rattle.spool_journal.specs.Image.{journal_pages, all_pages, overlaid}
 use Rattle.spool_journal.specs.Phases.{Settled}
-use Rattle.spool_pages.specs.View.{View, Stands, Says, IsViewOf, magic, first_page, state_page, state_place}
+use Rattle.spool_pages.specs.View.{View, Stands, IsViewOf, magic, first_page, state_page, state_place}
 use Rattle.spool_pages.proofs.Numbers.{four_at}
 use Rattle.spool_pages.proofs.RecordBytes.{stands_front, stands_behind}
 use Rattle.spool_pages.proofs.Says.{says_same, some_journal}

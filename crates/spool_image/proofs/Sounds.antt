@@ -1,5 +1,5 @@
 -- A sound view, of what was read and what was checked of it.
-use Rattle.std.proofs.Common.{◌≡◌, ℕ, Bool, ◌-◌, ◌*◌, ◌<◌, ◌≤◌, List, [], Option, None, Some, Result, Ok, Err, IfOk, OnOk, false, replicate, length, get_or, refl, subst, ap, arith}
+use Rattle.std.proofs.Common.{◌≡◌, ℕ, Bool, ◌-◌, ◌*◌, ◌≤◌, List, [], Option, None, Some, Result, Ok, Err, IfOk, OnOk, false, replicate, length, get_or, refl, subst, ap, arith}
 use Rattle.enc_model.specs.Indexes.{IndexSet}
 use Rattle.spool_blocks.specs.Chains.{OwnsOneEach}
 use Rattle.spool_journal.specs.Image.{journal_pages}
@@ -9,7 +9,7 @@ use Rattle.spool_pages.specs.Fits.{FitsSlotOf, FitsRow}
 use Rattle.spool_pages.specs.View.{SlotRecord, View, Says, text_page}
 use Rattle.spool_kept.specs.Holding.{AreDistinct}
 use Rattle.spool_kept.specs.Shows.{IsSound, IsSoundRecord, IsOwned}
-use Rattle.spool_image.specs.Checks.{IsRecordSound, AreSound, IsRowSound, AreRowsSound}
+use Rattle.spool_image.specs.Checks.{AreSound, IsRowSound, AreRowsSound}
 use Rattle.spool_kept.specs.Holding.{Holding}
 use Rattle.spool_kept.specs.Kept.{KeepsAlone}
 use Rattle.spool_kept.specs.Loads.{LoadsAs}

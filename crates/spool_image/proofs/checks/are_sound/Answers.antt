@@ -1,7 +1,6 @@
-use Rattle.std.proofs.Common.{◌≡◌, inl, inr, ◌<◌, Option, Some, None, get_or, refl, ap, sym, ◌∙◌, arith}
+use Rattle.std.proofs.Common.{◌≡◌, inl, inr, None, get_or, refl, ap, sym, ◌∙◌, arith}
 use Rattle.std.proofs.lemmas.Bool.{cases_lt, false≢true}
 use Rattle.spool_kept.proofs.Sound.{in_use}
-use Rattle.spool_pages.specs.View.{SlotRecord}
 use Rattle.spool_image.proofs.checks.are_sound.Goals as goal
 
 pub returns-then-not-is_sound_at : goal.returns-then-not-is_sound_at

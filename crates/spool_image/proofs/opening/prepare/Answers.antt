@@ -10,7 +10,7 @@ use Rattle.spool_kept.specs.declared.kept.Kept.{Kept}
 use Rattle.spool_image.proofs.Looks.{loads_err, if_ok_both}
 use Rattle.spool_image.proofs.Refused.{front_reason, reason_of}
 use Rattle.spool_image.specs.Loaded.{OpenedFrom}
-use Rattle.spool_image.specs.Reads.{NeedsReplay, SaysBlocks}
+use Rattle.spool_image.specs.Reads.{SaysBlocks}
 use Rattle.spool_image.specs.Refusals.{RefusedAt}
 use Rattle.spool_image.proofs.Opens.{same_function, view_says_blocks, keeps_image, keeps_on}
 use Rattle.spool_image.proofs.opening.prepare.Goals as goal

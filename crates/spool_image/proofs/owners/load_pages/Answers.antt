@@ -1,8 +1,7 @@
-use Rattle.std.proofs.Common.{◌≡◌, ◌-◌, ◌*◌, ◌∙◌, ℕ, rules, subst, arith}
+use Rattle.std.proofs.Common.{◌≡◌, ◌-◌, ◌*◌, ℕ, rules, subst, arith}
 use Rattle.spool_journal.specs.Image.{journal_pages}
-use Rattle.spool_journal.proofs.Steps.{no_failure}
 use Rattle.spool_image.specs.Reads.{IsSameTo, StandRows}
-use Rattle.spool_image.proofs.Looks.{reads_on, loads_err, ok_no_fault}
+use Rattle.spool_image.proofs.Looks.{loads_err}
 use Rattle.spool_image.proofs.owners.load_pages.Goals as goal
 
 pub returns-in_err-load_page-clause-said : goal.returns-in_err-load_page-clause-said

@@ -1,4 +1,4 @@
-use Rattle.std.proofs.Common.{◌≡◌, ◌<◌, ◌^◌, ℕ, rules, subst, arith}
+use Rattle.std.proofs.Common.{◌<◌, ◌^◌, ℕ, rules, subst, arith}
 use Rattle.std.specs.Int.{to_be_bytes, w32}
 use Rattle.spool_journal.specs.Image.{byte_of}
 use Rattle.spool_pages.specs.View.{Stands}
