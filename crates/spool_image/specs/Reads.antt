@@ -8,15 +8,18 @@ use Rattle.enc_model.specs.Indexes.{IndexSet}
 use Rattle.enc_index.specs.Area.{area_byte}
 use Rattle.enc_index.specs.Sets.{IsIndexSet}
 use Rattle.spool_pages.specs.Fits.{FitsSlotOf}
-use Rattle.spool_pages.specs.View.{SlotRecord, Stands, first_page, state_page, slot_bytes, row_bytes, index_place, state_place, slot_place, row_place}
+use Rattle.spool_pages.specs.View.{SlotRecord, Stands, first_page, state_page, slot_bytes, row_bytes}
+use Rattle.spool_pages.specs.View.{index_place, state_place, slot_place, row_place}
 
 -- a disk that held these bytes, all synced, still does, and so does each image of a crash in between
 pub record OnlyReads {D : Type 0} (disk : Ghosts D) (old new : D) : Type 0 where
   pub size : disk.size new ≡ disk.size old
   pub honest : disk.honest old → disk.honest new
   pub back : disk.honest new → disk.honest old
-  pub still : disk.honest old → (bytes : ℕ → ℕ) → Still bytes (disk.seen old) (disk.loose old) → Still bytes (disk.seen new) (disk.loose new)
-  pub lasts : disk.honest old → (bytes : ℕ → ℕ) → Still bytes (disk.seen old) (disk.loose old) → Lasts disk old new (λ image. (p : ℕ) → image p ≡ bytes p)
+  pub still : disk.honest old → (bytes : ℕ → ℕ) → Still bytes (disk.seen old) (disk.loose old)
+      → Still bytes (disk.seen new) (disk.loose new)
+  pub lasts : disk.honest old → (bytes : ℕ → ℕ) → Still bytes (disk.seen old) (disk.loose old)
+      → Lasts disk old new (λ image. (p : ℕ) → image p ≡ bytes p)
 
 -- the disk begins as a spool of so many text blocks does, and has room for it
 pub record SaysBlocks (size : ℕ) (seen : ℕ → ℕ) (blocks : ℕ) : Type 0 where

@@ -1,5 +1,5 @@
--- Why a disk is not opened. A disk is no spool, or one with a damaged journal, or one of another version, or one of which a plain reading
--- gives no sound view, or a sound spool: it is exactly one of these.
+-- Why a disk is not opened: it is no spool, a spool of another version, or a damaged one. No two of these hold, and
+-- none of a disk of which a plain reading gives a sound view.
 use Rattle.std.specs.Prelude.{◌≡◌, ◌⊎◌, ℕ, Result, Ok, Err}
 use Rattle.std.specs.Int.{to_be_bytes, w32}
 use Rattle.spool_journal.specs.Image.{journal_pages, InForm, count, number, overlaid}

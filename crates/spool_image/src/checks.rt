@@ -1,5 +1,6 @@
 // What is read is checked: only what a spool may say passes.
-ghost use Rattle.std.specs.Prelude.{◌≡◌, ◌<◌, ◌↔◌, ℕ, IsTrue, true, false, Some, None, length, get_or};
+ghost use Rattle.std.specs.Prelude.{◌≡◌, ◌<◌, ◌↔◌};
+ghost use Rattle.std.specs.Prelude.{ℕ, IsTrue, true, false, Some, None, length, get_or};
 ghost use Rattle.enc_model.specs.Transcode.{Phase};
 ghost use Rattle.enc_stream.specs.Progress.{progress_of};
 ghost use Rattle.spool_blocks.specs.Chains.{Owns};

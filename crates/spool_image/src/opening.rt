@@ -1,5 +1,6 @@
 // A spool is found on a disk, made whole and read.
-ghost use Rattle.std.specs.Prelude.{◌≡◌, ◌⊎◌, ◌≤◌, ◌<◌, ◌*◌, ◌↔◌, ℕ, Ok, Err, IsErr, IfOk, IfErr, get_or};
+ghost use Rattle.std.specs.Prelude.{◌≡◌, ◌⊎◌, ◌≤◌, ◌<◌, ◌*◌, ◌↔◌};
+ghost use Rattle.std.specs.Prelude.{ℕ, Ok, Err, IsErr, IfOk, IfErr, get_or};
 ghost use Rattle.spool_disk.specs.Disk.{IsImage, Counts, Keeps};
 ghost use Rattle.spool_disk.specs.Views.{Lasts};
 ghost use Rattle.spool_journal.specs.Image.{journal_pages, all_pages, overlaid};
@@ -25,7 +26,8 @@ fn read_front<D: Disk>(disk: &mut D) -> Result<[u8; 12], DiskFault>
     ensures size { D.size disk.new ≡ D.size disk.old }
     ensures honest { D.honest disk.old ↔ D.honest disk.new }
     ensures counts { Counts (IsErr result) (D.failures disk.old) (D.failures disk.new) }
-    ensures keeps { D.honest disk.old → Keeps (D.seen disk.old) (D.seen disk.new) (D.loose disk.old) (D.loose disk.new) }
+    ensures keeps { D.honest disk.old
+        → Keeps (D.seen disk.old) (D.seen disk.new) (D.loose disk.old) (D.loose disk.new) }
     ensures lasts { D.honest disk.old → Lasts D.Disk disk.old disk.new (IsImage (D.seen disk.old) (D.loose disk.old)) }
     ensures bytes { D.honest disk.old → IfOk result (λ front. (i : ℕ) → i < 12 → get_or front i 0 ≡ D.seen disk.old i) }
 {
@@ -39,7 +41,8 @@ fn find_layout<D: Disk>(disk: &mut D) -> Result<Layout, OpenFault>
     ensures size { D.size disk.new ≡ D.size disk.old }
     ensures honest { D.honest disk.old ↔ D.honest disk.new }
     ensures counts { Counts (result ≡ Err OpenFault.DiskFault) (D.failures disk.old) (D.failures disk.new) }
-    ensures keeps { D.honest disk.old → Keeps (D.seen disk.old) (D.seen disk.new) (D.loose disk.old) (D.loose disk.new) }
+    ensures keeps { D.honest disk.old
+        → Keeps (D.seen disk.old) (D.seen disk.new) (D.loose disk.old) (D.loose disk.new) }
     ensures lasts { D.honest disk.old → Lasts D.Disk disk.old disk.new (IsImage (D.seen disk.old) (D.loose disk.old)) }
     ensures room { IfOk result (λ layout. 4096 * all_pages layout ≤ D.size disk.old) }
     ensures found { D.honest disk.old → IfOk result (SaysBlocks (D.size disk.old) (D.seen disk.old)) }
@@ -114,7 +117,8 @@ pub(crate) fn prepare<D: Disk>(alloc: Global, disk: &mut D) -> Result<Kept, Open
         IsImage (D.seen disk.old) (D.loose disk.old) image
         ⊎ ReadsAs (journal_pages v.blocks) image (overlaid (D.seen disk.old))) }
 
-    // Where no journal is to be replayed it writes nothing: every image is one from before, and so is what a read gives.
+    // Where no journal is to be replayed it writes nothing: every image is one from before, and so is what a read
+    // gives.
     ensures unwritten { D.honest disk.old → (NeedsReplay (D.size disk.old) (D.seen disk.old) → ⊥)
         → Lasts D.Disk disk.old disk.new (IsImage (D.seen disk.old) (D.loose disk.old)) }
     ensures same { D.honest disk.old → (NeedsReplay (D.size disk.old) (D.seen disk.old) → ⊥)

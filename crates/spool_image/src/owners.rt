@@ -1,5 +1,6 @@
 // The rows of the text blocks are read.
-ghost use Rattle.std.specs.Prelude.{◌≡◌, ◌≢◌, ◌≤◌, ◌<◌, ◌*◌, ◌+◌, ◌-◌, ℕ, List, Option, None, length, get_or, IsOkAnd, IfOk, IfErr, OnOk, OnErr, Ok, Err};
+ghost use Rattle.std.specs.Prelude.{◌≡◌, ◌≢◌, ◌≤◌, ◌<◌, ◌*◌, ◌+◌, ◌-◌};
+ghost use Rattle.std.specs.Prelude.{ℕ, List, Option, None, length, get_or, IsOkAnd, IfOk, IfErr, OnOk, OnErr, Ok, Err};
 ghost use Rattle.spool_disk.specs.Disk.{Counts};
 ghost use Rattle.spool_journal.specs.Image.{journal_pages, all_pages, byte_of};
 ghost use Rattle.spool_journal.specs.Phases.{Still};
@@ -34,11 +35,12 @@ fn put_row(rows: &mut [Row], block: usize, row: Row) -> Result<(), Damaged>
     Ok(())
 }
 
-// Puts the rows of a page into their places, from one on. `Damaged` where an ordinal stands with no slot, or a row isn't
-// free behind the last place.
+// Puts the rows of a page into their places, from one on. `Damaged` where an ordinal stands with no slot, or a row
+// isn't free behind the last place.
 fn fill(rows: &mut [Row], page: &[u8; PAGE], first: usize) -> Result<(), Damaged>
     requires { first ≤ 65536 }
-    ensures said { (all : List (Option (ℕ × ℕ))) → length all ≡ length rows.old → ((b : ℕ) → FitsRow (get_or all b None))
+    ensures said { (all : List (Option (ℕ × ℕ))) → length all ≡ length rows.old
+        → ((b : ℕ) → FitsRow (get_or all b None))
         → ((k : ℕ) → k < 512 → Stands (byte_of page.now) (8 * k) 8 (row_bytes (get_or all (first + k) None)))
         → IsSameTo first all rows.old → IsOkAnd result (λ done. IsSameTo (first + 512) all rows.new) }
     ensures sound { OnOk result

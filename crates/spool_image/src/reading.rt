@@ -1,5 +1,6 @@
 // A spool whose bytes are all synced is read.
-ghost use Rattle.std.specs.Prelude.{◌≡◌, ◌≤◌, ◌<◌, ◌*◌, ◌+◌, ◌^◌, ℕ, length, get_or, IsErr, OnOk, IfOk, IfErr, Ok, Err};
+ghost use Rattle.std.specs.Prelude.{◌≡◌, ◌≤◌, ◌<◌, ◌*◌, ◌+◌, ◌^◌};
+ghost use Rattle.std.specs.Prelude.{ℕ, length, get_or, IsErr, OnOk, IfOk, IfErr, Ok, Err};
 ghost use Rattle.std.specs.Int.{to_be_bytes, w32};
 ghost use Rattle.enc_model.specs.Indexes.{IndexSet as Indexes};
 ghost use Rattle.enc_index.specs.Area.{area_byte};
