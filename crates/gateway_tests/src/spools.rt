@@ -84,8 +84,8 @@ fn stop_at_each_call(rt: &impl Abort, alloc: Global, kind: Crash) -> Result<(), 
     talk.made(1, 5, "")?;
     let made = talk.wanted.len();
     talk.added(1, 0, b"hello", 5)?;
-    // opening makes 539 calls
-    for calls in 537..700u64 {
+    // opening makes 540 calls
+    for calls in 538..700u64 {
         let fuse = FuseDisk::new(fresh(alloc)?, calls);
         let (fuse, fault, written) = ran(alloc, &talk, fuse);
         let left = accepted(alloc, fuse.into_inner().crash(kind))?;
@@ -100,7 +100,7 @@ fn stop_at_each_call(rt: &impl Abort, alloc: Global, kind: Crash) -> Result<(), 
         match fault {
             None => return Ok(()),
             Some(RunFault::Open(fault)) => {
-                assert!(rt; calls < 539, "at {calls}");
+                assert!(rt; calls < 540, "at {calls}");
                 assert_eq!(rt; fault, OpenFault::DiskFault);
             }
             Some(fault) => assert_eq!(rt; fault, RunFault::DiskFault, "at {calls}"),
