@@ -81,8 +81,8 @@ fn lives<D: CrashDisk<How = (Crash, u64)> + Drop>(
 
 /// The disk stops at each of its calls in turn, and a crash of this kind comes.
 fn stop_at_each_call(rt: &impl Abort, alloc: Global, kind: Crash) -> Result<(), Fail> {
-    // formatting makes 560 calls, and an opening 539
-    for calls in 1097..1300u64 {
+    // formatting makes 560 calls, and an opening 540
+    for calls in 1098..1300u64 {
         let disk = FuseDisk::new(MemoryDisk::new(alloc, 557 * 4096)?, calls);
         if lives(rt, alloc, disk, kind)? {
             return Ok(());
@@ -108,7 +108,7 @@ fn stop_at_each_call_and_open_gates(rt: HostRuntime) -> Result<(), Fail> {
 
 #[test]
 fn each_call_fails_and_leaves_zeros(rt: HostRuntime) -> Result<(), Fail> {
-    for call in 1097..1300u64 {
+    for call in 1098..1300u64 {
         let disk = HiccupDisk::new(MemoryDisk::new(rt.alloc(), 557 * 4096)?, call, Some(0));
         if lives(&rt, rt.alloc(), disk, Crash::Torn(0))? {
             return Ok(());

@@ -11,7 +11,7 @@ use std::process::Abort;
 use std::test::Fail;
 use upload_rules::Uploads;
 
-/// The first call of a run's disk that fails here: an opening makes 539, and the last of these read rows.
+/// The first call of a run's disk that fails here: an opening makes 540, and the last of these read rows.
 const FIRST: u64 = 535;
 
 /// More calls than a run makes.

@@ -138,10 +138,10 @@ fn down_at(rt: &impl Abort, alloc: Global, call: u64) -> Result<bool, Fail> {
 
 #[test]
 fn fault_brings_the_gateway_down(rt: HostRuntime) -> Result<(), Fail> {
-    // opening makes 539 calls
-    for call in 539..600u64 {
+    // opening makes 540 calls
+    for call in 540..600u64 {
         if !down_at(&rt, rt.alloc(), call)? {
-            assert!(rt; call > 539);
+            assert!(rt; call > 540);
             return Ok(());
         }
     }

@@ -1,5 +1,5 @@
 -- What a disk that a crash left shows.
-use Rattle.std.proofs.Common.{◌≡◌, ℕ, Option, Some, sym, subst}
+use Rattle.std.proofs.Common.{◌≡◌, ℕ, Some, sym, subst}
 use Rattle.spool_disk.specs.declared.disk.Disk.{Ghosts}
 use Rattle.spool_image.specs.LeftOnly.{AllShow, IsSpool}
 use Rattle.spool_image.specs.Texts.{HasText}

@@ -1,5 +1,5 @@
 -- What a crash may leave while a spool is made.
-use Rattle.std.proofs.Common.{◌≡◌, inl, inr, ℕ, ◌*◌, ◌<◌, ◌≤◌, List, length, refl, ◌∙◌, arith, ⊎_elim}
+use Rattle.std.proofs.Common.{◌≡◌, inl, inr, ℕ, ◌*◌, ◌≤◌, List, length, refl, ◌∙◌, arith, ⊎_elim}
 use Rattle.enc_model.specs.Indexes.{IndexSet}
 use Rattle.enc_index.specs.Sets.{IsIndexSet}
 use Rattle.spool_disk.specs.Disk.{In, IsImage, Keeps, Syncs, Writes}

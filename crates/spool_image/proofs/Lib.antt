@@ -7,3 +7,5 @@ pub mod LeftImages
 pub mod AnswersMore
 pub mod StandsOn
 pub mod Crashed
+pub mod Sounds
+pub mod Refused

@@ -3,25 +3,25 @@ use Rattle.std.proofs.Common.{◌≡◌, inl, inr, ℕ, ◌+◌, ◌*◌, ◌<�
 use Rattle.std.proofs.lemmas.Bool.{cases_eq}
 use Rattle.spool_disk.specs.Disk.{IsImage, Keeps}
 use Rattle.spool_disk.specs.declared.disk.Disk.{Ghosts}
-use Rattle.spool_journal.specs.Image.{journal_pages, all_pages, overlaid, count, number, content}
+use Rattle.spool_journal.specs.Image.{journal_pages, all_pages, overlaid, InForm, count, number, content}
 use Rattle.spool_journal.specs.Phases.{Settled, ReadsAs, Still}
 use Rattle.spool_journal.proofs.Over.{over_none}
 use Rattle.spool_journal.proofs.Gate.{open_view, shut_view}
 use Rattle.upload_rules.specs.Store.{Store}
 use Rattle.spool_pages.specs.View.{View, Says, IsViewOf, first_page}
-use Rattle.spool_kept.specs.Shows.{ImageShows}
+use Rattle.spool_kept.specs.Shows.{ImageShows, IsSound}
 use Rattle.spool_image.specs.LeftOnly.{IsSpool}
+use Rattle.spool_image.specs.Reads.{SaysBlocks}
 use Rattle.spool_pages.proofs.Says.{says_same}
 
 pub same_function : (f g : ℕ → ℕ) → ((p : ℕ) → f p ≡ g p) → f ≡ g
 same_function f g same = λ i p. same p i
 
 -- page 0 is never one of the journal's places
-front_plain : (image : ℕ → ℕ) (v : View) → IsViewOf image v → (p : ℕ) → p < 4096 → image p ≡ overlaid image p
-front_plain image v is p lt = elim (cases_eq (image 4096) 165) [
+pub front_plain : (j : ℕ) (image : ℕ → ℕ) → (image 4096 ≡ 165 → InForm j (count image) (number image)) → (p : ℕ) → p < 4096 → image p ≡ overlaid image p
+front_plain j image form p lt = elim (cases_eq (image 4096) 165) [
   | inl ajar ↦
-      let form = is.form ajar in
-      sym (open_view image p ajar ∙ over_none (number image) (content image) image (count image) p (λ k below e. omega (arith, (form.inside k below).from, e, lt)))
+      sym (open_view image p ajar ∙ over_none (number image) (content image) image (count image) p (λ k below e. omega (arith, ((form ajar).inside k below).from, e, lt)))
   | inr shut ↦ sym (shut_view image p shut)
 ]
 
@@ -29,7 +29,15 @@ pub first_plain : (image : ℕ → ℕ) (v : View) → IsViewOf image v → (i :
 first_plain image v is i lt =
     let at : 0 + i ≡ i = omega arith in
     let there : overlaid image i ≡ get_or (first_page v.blocks) i 0 = subst (λ (p : ℕ). overlaid image p ≡ get_or (first_page v.blocks) i 0) at (is.says.first.each i lt) in
-    front_plain image v is i lt ∙ there
+    front_plain (journal_pages v.blocks) image is.form i lt ∙ there
+
+pub view_says_blocks : (size : ℕ) (image : ℕ → ℕ) (v : View) → IsSound v → IsViewOf image v → 4096 * all_pages v.blocks ≤ size → SaysBlocks size image v.blocks
+view_says_blocks size image v sound is room = record {
+  least = sound.least;
+  most = sound.most;
+  room = room;
+  front = λ i lt. first_plain image v is i (omega (arith, lt));
+}
 
 -- where the bytes are the same and none is loose, nothing was written
 pub still_as : {seen seen' : ℕ → ℕ} {loose loose' : ℕ → Type 0} → Still seen seen' loose' → Keeps seen seen' loose loose'

@@ -5,3 +5,6 @@ pub mod Spool
 pub mod LeftOnly
 pub mod Texts
 pub mod Durable
+pub mod Checks
+pub mod Refusals
+pub mod Loaded

@@ -4,23 +4,34 @@ use Rattle.spool_disk.specs.Views.{Lasts}
 use Rattle.spool_disk.specs.declared.disk.Disk.{Ghosts}
 use Rattle.spool_journal.specs.Image.{all_pages}
 use Rattle.spool_journal.specs.Phases.{Still}
-use Rattle.spool_pages.specs.View.{first_page}
+use Rattle.enc_model.specs.Indexes.{IndexSet}
+use Rattle.enc_index.specs.Area.{area_byte}
+use Rattle.enc_index.specs.Sets.{IsIndexSet}
+use Rattle.spool_pages.specs.Fits.{FitsSlotOf}
+use Rattle.spool_pages.specs.View.{SlotRecord, Stands, first_page, state_page, slot_bytes, row_bytes}
+use Rattle.spool_pages.specs.View.{index_place, state_place, slot_place, row_place}
 
 -- a disk that held these bytes, all synced, still does, and so does each image of a crash in between
 pub record OnlyReads {D : Type 0} (disk : Ghosts D) (old new : D) : Type 0 where
   pub size : disk.size new ≡ disk.size old
   pub honest : disk.honest old → disk.honest new
   pub back : disk.honest new → disk.honest old
-  pub still : disk.honest old → (bytes : ℕ → ℕ) → Still bytes (disk.seen old) (disk.loose old) → Still bytes (disk.seen new) (disk.loose new)
-  pub lasts : disk.honest old → (bytes : ℕ → ℕ) → Still bytes (disk.seen old) (disk.loose old) → Lasts disk old new (λ image. (p : ℕ) → image p ≡ bytes p)
+  pub still : disk.honest old → (bytes : ℕ → ℕ) → Still bytes (disk.seen old) (disk.loose old)
+      → Still bytes (disk.seen new) (disk.loose new)
+  pub lasts : disk.honest old → (bytes : ℕ → ℕ) → Still bytes (disk.seen old) (disk.loose old)
+      → Lasts disk old new (λ image. (p : ℕ) → image p ≡ bytes p)
 
--- The first bytes of a disk say a layout for which it has room, and the gate is open: a journal is to be replayed
-pub record NeedsReplay (size : ℕ) (seen : ℕ → ℕ) : Type 0 where
-  pub blocks : ℕ
+-- the disk begins as a spool of so many text blocks does, and has room for it
+pub record SaysBlocks (size : ℕ) (seen : ℕ → ℕ) (blocks : ℕ) : Type 0 where
   pub least : 16 ≤ blocks
   pub most : blocks ≤ 65536
   pub room : 4096 * all_pages blocks ≤ size
   pub front : (i : ℕ) → i < 12 → seen i ≡ get_or (first_page blocks) i 0
+
+-- and behind it the gate is open: a journal is to be replayed
+pub record NeedsReplay (size : ℕ) (seen : ℕ → ℕ) : Type 0 where
+  pub blocks : ℕ
+  pub says : SaysBlocks size seen blocks
   pub gate : seen 4096 ≡ 165
 
 -- the buffer holds the bytes from a place on
@@ -35,3 +46,25 @@ pub record IsFrontOf {A : Type 0} (whole front : List (Option A)) : Type 0 where
 -- two lists agree below a place
 pub record IsSameTo {A : Type 0} (end : ℕ) (whole list : List (Option A)) : Type 0 where
   pub each : (k : ℕ) → k < end → get_or list k None ≡ get_or whole k None
+
+-- WHAT STANDS ON A SPOOL OF n BLOCKS
+
+-- the index area is that of the set
+pub record StandsArea (bytes : ℕ → ℕ) (n : ℕ) (x : IndexSet) : Type 0 where
+  pub valid : IsIndexSet x
+  pub each : (i : ℕ) → i < 90112 → bytes (index_place n + i) ≡ area_byte x i
+
+-- page 0 and the state page, of version 1, are those of this next number, and the index area is that of the set
+pub record StandFields (bytes : ℕ → ℕ) (n next : ℕ) (x : IndexSet) : Type 0 where
+  pub first : Stands bytes 0 4096 (first_page n)
+  pub state : Stands bytes (state_place n) 4096 (state_page 1 next)
+  pub area : StandsArea bytes n x
+
+-- the first of the slots stand, each free or with a record that fits it
+pub record StandSlots (bytes : ℕ → ℕ) (n : ℕ) (slots : List (Option SlotRecord)) : Type 0 where
+  pub each : (s : ℕ) → s < length slots → Stands bytes (slot_place n s) 2048 (slot_bytes (get_or slots s None))
+  pub fit : (s : ℕ) → FitsSlotOf (get_or slots s None)
+
+-- the rows of the blocks below the end stand, and zeros behind the last one
+pub record StandRows (bytes : ℕ → ℕ) (n end : ℕ) (rows : List (Option (ℕ × ℕ))) : Type 0 where
+  pub each : (b : ℕ) → b < end → Stands bytes (row_place n b) 8 (row_bytes (get_or rows b None))

@@ -4,6 +4,7 @@ use Rattle.spool_disk.specs.declared.disk.Disk.{Ghosts}
 use Rattle.spool_kept.specs.declared.error.OpenFault.{OpenFault}
 use Rattle.spool_kept.specs.declared.error.OpenFault.TheVariants.{DiskFault}
 use Rattle.spool_image.specs.declared.spool.Spool.{Spool}
+use Rattle.spool_image.specs.Loaded.{OpenedFrom}
 use Rattle.spool_pages.specs.View.{View}
 use Rattle.spool_kept.specs.Kept.{KeepsAlone}
 use Rattle.spool_kept.specs.Loads.{LoadsAs}
@@ -20,6 +21,10 @@ size_of s = s.kept.layout
 -- it keeps in memory what the view says, with no block reserved
 abbrev pub Keeps : {D : Type 0} {disk : Ghosts D} → Spool D disk → View → Type 0
 Keeps s v = KeepsAlone s.kept v
+
+-- what it keeps is a sound view, which a read of a disk of this size gave
+abbrev pub OpensFrom : {D : Type 0} {disk : Ghosts D} → ℕ → (ℕ → ℕ) → Spool D disk → Type 0
+OpensFrom size seen s = OpenedFrom size seen s.kept
 
 -- the disk, what is kept of it and the drafts stand for the world
 abbrev pub SpoolStands : {D : Type 0} {disk : Ghosts D} → Spool D disk → World → Type 0

@@ -1,21 +1,22 @@
 // What is read is checked: only what a spool may say passes.
-ghost use Rattle.std.specs.Prelude.{◌≡◌, ◌<◌, ◌↔◌, ℕ, IsTrue, true, false, Some, None, length, get_or};
+ghost use Rattle.std.specs.Prelude.{◌≡◌, ◌<◌, ◌↔◌};
+ghost use Rattle.std.specs.Prelude.{ℕ, IsTrue, true, false, Some, None, length, get_or};
 ghost use Rattle.enc_model.specs.Transcode.{Phase};
 ghost use Rattle.enc_stream.specs.Progress.{progress_of};
 ghost use Rattle.spool_blocks.specs.Chains.{Owns};
-ghost use Rattle.upload_rules.specs.Room.{blocks_of};
-ghost use Rattle.spool_kept.specs.Shows.{FitsPhase, HasState, IsSoundRecord, IsSound};
+ghost use Rattle.spool_image.specs.Checks.{IsRecordSound, AreSound, IsRowSound, AreRowsSound};
+ghost use Rattle.spool_kept.specs.Shows.{FitsPhase, HasState};
 ghost use Rattle.spool_kept.specs.Records.{said_of};
 ghost use Rattle.spool_pages.specs.Fits.{FitsRow};
-ghost use Rattle.spool_pages.specs.View.{View};
+ghost use Rattle.spool_pages.specs.View.{SlotRecord};
 
 use enc_stream::{Progress, Transcoder};
 use spool_blocks::Row;
 use spool_kept::{KeptRecord, blocks_of, record_at};
 use upload_rules::{LENGTH_LIMIT, NUMBERS_END, Record};
 
-// Whether a transcoder may have come so far behind so many bytes: it has ended exactly where all declared bytes were accepted, and
-// before a byte order mark is decided all accepted bytes are held.
+// Whether a transcoder may have come so far behind so many bytes: it has ended exactly where all declared bytes were
+// accepted, and before a byte order mark is decided all accepted bytes are held.
 fn fits_progress(progress: Progress, accepted: u64, declared: u64) -> bool
     ensures { (p : Phase) → progress_of p ≡ progress → IsTrue result ↔ FitsPhase p accepted declared }
 {
@@ -40,7 +41,7 @@ fn is_state_sound(record: &Record) -> bool
 
 // Whether a record's numbers and its state may be there.
 fn is_record_sound(record: &Record, next: u64) -> bool
-    ensures { IsSoundRecord next (said_of «record».now) → result ≡ true }
+    ensures { IsTrue result ↔ IsRecordSound next (said_of «record».now) }
 {
     record.number < next
         && record.accepted <= record.declared
@@ -51,7 +52,7 @@ fn is_record_sound(record: &Record, next: u64) -> bool
 // Whether a slot is free, or its record is one that may be there.
 fn is_sound_at(slots: &[Option<KeptRecord>], slot: usize, next: u64) -> bool
     requires { slot < length slots.now }
-    ensures { (v : View) → IsSound v → slots.now ≡ v.slots → next ≡ v.next → result ≡ true }
+    ensures { IsTrue result ↔ ((r : SlotRecord) → get_or slots.now slot None ≡ Some r → IsRecordSound next r) }
 {
     match record_at(slots, slot) {
         Some(kept) => is_record_sound(kept.record(), next),
@@ -59,10 +60,11 @@ fn is_sound_at(slots: &[Option<KeptRecord>], slot: usize, next: u64) -> bool
     }
 }
 
-/// Whether the next number and all records may be there: numbers are below the next number, which is 1 to 10^18, the accepted
-/// bytes are no more than the declared ones, which are at most 1,073,741,824, and the state is that of a transcoder that has come so far.
+/// Whether the next number and all records may be there: numbers are below the next number, which is 1 to 10^18, the
+/// accepted bytes are no more than the declared ones, which are at most 1,073,741,824, and the state is that of a
+/// transcoder that has come so far.
 pub(crate) fn are_sound(slots: &[Option<KeptRecord>], next: u64) -> bool
-    ensures { (v : View) → IsSound v → slots.now ≡ v.slots → next ≡ v.next → result ≡ true }
+    ensures { IsTrue result ↔ AreSound next slots.now }
 {
     if next < 1 || next > NUMBERS_END {
         return false;
@@ -77,7 +79,8 @@ pub(crate) fn are_sound(slots: &[Option<KeptRecord>], next: u64) -> bool
 
 // Whether a row's slot is in use, and its ordinal below the number of blocks of the text.
 fn is_row_sound(slots: &[Option<KeptRecord>], row: Row) -> bool
-    ensures passes { (v : View) (b : ℕ) → IsSound v → slots.now ≡ v.slots → get_or v.rows b None ≡ row → result ≡ true }
+    ensures sound { IsTrue result
+        ↔ ((slot ordinal : ℕ) → row ≡ Some (slot, ordinal) → IsRowSound slots.now slot ordinal) }
     ensures slot { result ≡ true → (slot ordinal : ℕ) → row ≡ Some (slot, ordinal) → slot < length slots.now }
     ensures fits { result ≡ true → length slots.now ≡ 512 → FitsRow row }
 {
@@ -93,7 +96,7 @@ fn is_row_sound(slots: &[Option<KeptRecord>], row: Row) -> bool
 /// Whether each row's slot is in use, and its ordinal below the number of blocks of the text.
 pub(crate) fn are_rows_sound(slots: &[Option<KeptRecord>], rows: &[Row]) -> bool
     requires { length slots.now ≡ 512 }
-    ensures passes { (v : View) → IsSound v → slots.now ≡ v.slots → rows.now ≡ v.rows → result ≡ true }
+    ensures sound { IsTrue result ↔ AreRowsSound slots.now rows.now }
     ensures slots { result ≡ true → (b slot ordinal : ℕ) → Owns rows.now b slot ordinal → slot < 512 }
     ensures fits { result ≡ true → (b : ℕ) → FitsRow (get_or rows.now b None) }
 {

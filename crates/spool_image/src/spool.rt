@@ -1,5 +1,5 @@
 // The uploads on a disk, and appends to them that are under way.
-ghost use Rattle.std.specs.Prelude.{◌≡◌, ◌≤◌, ◌*◌, ◌↔◌, ℕ, Some, IfOk};
+ghost use Rattle.std.specs.Prelude.{◌≡◌, ◌≤◌, ◌*◌, ◌↔◌, ℕ, Some, IfOk, IfErr};
 ghost use Rattle.spool_disk.specs.Disk.{Counts, IsImage, Keeps as KeepsDisk};
 ghost use Rattle.spool_disk.specs.Views.{Lasts};
 ghost use Rattle.spool_journal.specs.Image.{journal_pages, all_pages};
@@ -10,6 +10,7 @@ ghost use Rattle.spool_kept.specs.Drafting.{DraftsFit};
 ghost use Rattle.spool_kept.specs.Shows.{IsSound};
 ghost use Rattle.spool_pages.specs.View.{View, IsViewOf};
 ghost use Rattle.spool_image.specs.Reads.{NeedsReplay};
+ghost use Rattle.spool_image.specs.Refusals.{IsNoSpool, HasOtherVersion, IsDamaged, RefusedFor, RefusesAs};
 ghost use Rattle.spool_image.specs.LeftOnly.{AllShow, IsSpool, LeftOrShows};
 
 use crate::opening::prepare;
@@ -38,41 +39,61 @@ pub struct SpoolAppend {
 }
 
 impl<D: Disk> Spool<D> {
-    ghost use Rattle.spool_image.specs.Spool.{disk_of, size_of, disk_after, Keeps, SpoolStands, IsFault, OpensAs};
+    ghost use Rattle.spool_image.specs.Spool.{disk_of, size_of, disk_after, Keeps, SpoolStands};
+    ghost use Rattle.spool_image.specs.Spool.{IsFault, OpensAs, OpensFrom};
 
     /// Opens what a crash may have left. It may crash too, and be called again.
     ///
     /// # Errors
     ///
-    /// The disk comes back with each. `NotASpool` where page 0 says none or the disk is shorter than its layout, then as
-    /// `recover`, then `Version` where the state page says another version than 1, then `Damaged` where the index area is no
-    /// set's, a number comes twice or isn't below the next one, a length is out of its range, a state is none of a transcoder or
-    /// its phase doesn't fit the counts, metadata is no text, a row's slot is free, or a slot's ordinals are not those of its
-    /// text, each once; `NoMemory` where a growth was refused, and `DiskFault` where the device failed.
+    /// The disk comes back with each. `NotASpool` where the first 12 bytes say none or the disk is shorter than its
+    /// layout, then as `recover`, then `Version` where the state page says another version than 1, then `Damaged` where
+    /// a byte that is to be 0 isn't, the index area is no set's, the next number is out of its range, a number comes
+    /// twice or isn't below the next one, a length is out of its range, a state is none of a transcoder or its phase
+    /// doesn't fit the counts, metadata isn't printable ASCII, a row's slot is free, or a slot's ordinals are not those
+    /// of its text, each once; `NoMemory` where a growth was refused, and `DiskFault` where the device failed.
     pub fn open(alloc: Global, disk: D) -> Result<Spool<D>, (D, OpenFault)>
         ensures size { D.size (disk_after result) ≡ D.size disk }
         ensures honest { D.honest disk ↔ D.honest (disk_after result) }
         ensures counts { Counts (IsFault result) (D.failures disk) (D.failures (disk_after result)) }
 
-        // A disk of which a read shows uploads is opened, and what a read shows is kept, or memory or the device refuses it.
-        ensures opened { D.honest disk → (v : View) → IsSound v → IsViewOf (D.seen disk) v → 4096 * all_pages v.blocks ≤ D.size disk → OpensAs result (λ s. Keeps s v) }
+        // A disk of which a read shows uploads is opened, and what a read shows is kept, or memory or the device
+        // refuses it.
+        ensures opened { D.honest disk → (v : View) → IsSound v → IsViewOf (D.seen disk) v
+            → 4096 * all_pages v.blocks ≤ D.size disk → OpensAs result (λ s. Keeps s v) }
 
-        // Where no journal is to be replayed it writes nothing: every image is one from before, and so is what a read gives. So it is
-        // with every disk that is refused as no spool, and with one of another version behind a closed gate.
+        // What is opened is a sound spool, and it is what a read shows. Each refusal has its reason.
+        ensures sound { D.honest disk → IfOk result (OpensFrom (D.size disk) (D.seen disk)) }
+        ensures refused { D.honest disk → IfErr result (λ e. RefusedFor (D.size disk) (D.seen disk) e.1) }
+
+        // And each reason is answered so, unless memory or the device refuses it: no two hold, and none of a sound
+        // spool.
+        ensures not_a_spool { D.honest disk → IsNoSpool (D.size disk) (D.seen disk)
+            → RefusesAs result OpenFault.NotASpool }
+        ensures version { D.honest disk → HasOtherVersion (D.size disk) (D.seen disk)
+            → RefusesAs result OpenFault.Version }
+        ensures damaged { D.honest disk → IsDamaged (D.size disk) (D.seen disk)
+            → RefusesAs result OpenFault.Damaged }
+
+        // Where no journal is to be replayed it writes nothing: every image is one from before, and so is what a read
+        // gives. So it is with every disk that is refused as no spool, and with one of another version behind a closed
+        // gate.
         ensures unwritten { D.honest disk → (NeedsReplay (D.size disk) (D.seen disk) → ⊥)
             → Lasts D.Disk disk (disk_after result) (IsImage (D.seen disk) (D.loose disk)) }
         ensures same { D.honest disk → (NeedsReplay (D.size disk) (D.seen disk) → ⊥) → (IsFault result → ⊥)
             → KeepsDisk (D.seen disk) (D.seen (disk_after result)) (D.loose disk) (D.loose (disk_after result)) }
 
         // And so a commit may be made.
-        ensures idle { D.honest disk → IfOk result (λ s. Idle (journal_pages (size_of s)) (D.seen (disk_of s)) (D.loose (disk_of s))) }
+        ensures idle { D.honest disk → IfOk result
+            (λ s. Idle (journal_pages (size_of s)) (D.seen (disk_of s)) (D.loose (disk_of s))) }
 
         // A crash during it leaves what it might have left before, or what shows the same uploads and so many blocks.
         ensures lasts { (n : ℕ) (m : Store) → IsSpool D.Disk disk n m
             → Lasts D.Disk disk (disk_after result) (LeftOrShows D.Disk disk n m) }
 
         // And once it is opened, every image shows them.
-        ensures shows { (n : ℕ) (m : Store) → IsSpool D.Disk disk n m → IfOk result (λ s. AllShow D.Disk (disk_of s) n m) }
+        ensures shows { (n : ℕ) (m : Store) → IsSpool D.Disk disk n m
+            → IfOk result (λ s. AllShow D.Disk (disk_of s) n m) }
 
         // It stands for them, with no append under way.
         ensures stands { (n : ℕ) (m : Store) → IsSpool D.Disk disk n m

@@ -1,4 +1,5 @@
 pub mod Sound
+pub mod OwnedOnce
 pub mod ChangedSlots
 pub mod Entries
 pub mod Created

@@ -2,6 +2,7 @@
 use Rattle.std.specs.Prelude.{◌≡◌, ◌⊎◌, ℕ, ◌<◌, ◌≤◌, List, [], Option, None, Some, length, get_or}
 use Rattle.enc_model.specs.Indexes.{IndexSet}
 use Rattle.spool_blocks.specs.Blocks.{Row, Held}
+use Rattle.spool_blocks.specs.Chains.{OwnsOneEach}
 use Rattle.upload_rules.specs.Room.{blocks_of}
 use Rattle.spool_pages.specs.Fits.{FitsRow}
 use Rattle.spool_pages.specs.View.{SlotRecord}
@@ -40,7 +41,9 @@ pub record Orders (slots : List (Option SlotRecord)) (order : List NumberedSlot)
 
 -- no two slots have the same number
 abbrev pub AreDistinct : List (Option SlotRecord) → Type 0
-AreDistinct slots = (s t : ℕ) (r q : SlotRecord) → get_or slots s None ≡ Some r → get_or slots t None ≡ Some q → r.number ≡ q.number → s ≡ t
+AreDistinct slots =
+    (s t : ℕ) (r q : SlotRecord) → get_or slots s None ≡ Some r → get_or slots t None ≡ Some q → r.number ≡ q.number
+    → s ≡ t
 
 -- the numbers up to this one are before the place, the greater ones from it on
 pub record IsPlaceFor (order : List NumberedSlot) (number place : ℕ) : Type 0 where
@@ -70,6 +73,11 @@ IsListOf rows slot (Some r) list = HasBlocks rows slot r.text_len list
 -- the lists of the slots below this one
 abbrev pub AreListsTo : List Row → List (Option SlotRecord) → List (List ℕ) → ℕ → Type 0
 AreListsTo rows slots lists end = (s : ℕ) → s < end → IsListOf rows s (get_or slots s None) (get_or lists s [])
+
+-- the slot owns as many blocks as its text needs, one at each ordinal
+abbrev pub OwnsText : List Row → ℕ → Option SlotRecord → Type 0
+OwnsText rows slot None = Unit {0}
+OwnsText rows slot (Some r) = OwnsOneEach rows slot (blocks_of r.text_len)
 
 -- ALL THAT IS KEPT
 

@@ -1,5 +1,5 @@
 -- The record of an upload in memory.
-use Rattle.std.specs.Prelude.{◌≡◌, ◌≤◌, ℕ, List, Option, Some, None, length}
+use Rattle.std.specs.Prelude.{◌≡◌, ◌≤◌, ℕ, All, List, Option, Some, None, length}
 use Rattle.enc_model.specs.Indexes.{IndexSet}
 use Rattle.enc_model.specs.Transcode.{Transcoder}
 use Rattle.enc_stream.specs.StateBytes.{IsSound, state_bytes}
@@ -13,7 +13,14 @@ use Rattle.spool_kept.specs.Shows.{HasState}
 
 -- what its slot says
 abbrev pub said_of : Record → SlotRecord
-said_of r = record { number = r.number; declared = r.declared; accepted = r.accepted; text_len = r.text_len; state = r.state; metadata = r.metadata.bytes.items }
+said_of r = record {
+  number = r.number;
+  declared = r.declared;
+  accepted = r.accepted;
+  text_len = r.text_len;
+  state = r.state;
+  metadata = r.metadata.bytes.items;
+}
 
 -- the encodings and the mode are those of its state
 pub record IsUnpacked (r : Record) : Type 0 where
@@ -33,6 +40,13 @@ pub record FitsMemory (r : Record) : Type 0 where
 abbrev pub FitsKept : Option SlotRecord → Type 0
 FitsKept None = Unit {0}
 FitsKept (Some r) = FitsSlotOf (Some r) × HasState r
+
+-- its state is a transcoder's, and its metadata is printable
+pub record IsReadable (r : SlotRecord) : Type 0 where
+  pub transcoder : Transcoder
+  pub sound : IsSound transcoder
+  pub is : r.state ≡ state_bytes transcoder
+  pub printable : All (λ b. (0x20 ≤ b) × (b ≤ 0x7E)) r.metadata
 
 -- the record of an upload, none where there is none
 abbrev pub KeepsOf : IndexSet → ℕ → Option Upload → Option Record → Type 0

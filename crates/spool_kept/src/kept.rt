@@ -1,12 +1,15 @@
 // What is kept of a spool in memory.
-ghost use Rattle.std.specs.Prelude.{◌≡◌, ◌≤◌, ◌<◌, ℕ, Err, None, false, replicate, length, get_or, IfOk, IfSome};
-ghost use Rattle.spool_kept.specs.Holding.{Holding, FitsTogether};
+ghost use Rattle.std.specs.Prelude.{◌≡◌, ◌≤◌, ◌<◌, ℕ, Err, None, Some, false, IfOk, IfErr, OnOk, IfSome};
+ghost use Rattle.std.specs.Prelude.{replicate, length, get_or};
+ghost use Rattle.spool_blocks.specs.Chains.{OwnsOneEach};
+ghost use Rattle.upload_rules.specs.Room.{blocks_of};
+ghost use Rattle.spool_kept.specs.Holding.{Holding, FitsTogether, AreDistinct};
 ghost use Rattle.spool_kept.specs.Kept.{KeepsAlone};
-ghost use Rattle.spool_kept.specs.Loads.{LoadsAs};
+ghost use Rattle.spool_kept.specs.Loads.{LoadsAs, IsLate};
 ghost use Rattle.spool_kept.specs.Shows.{IsSound};
 ghost use Rattle.spool_pages.specs.Changes.{neighbour};
 ghost use Rattle.spool_pages.specs.Fits.{FitsRow};
-ghost use Rattle.spool_pages.specs.View.{View};
+ghost use Rattle.spool_pages.specs.View.{SlotRecord as Said, View};
 
 use crate::OpenFault;
 use crate::lists::{BlockList, lists_of};
@@ -40,9 +43,25 @@ pub struct Kept {
 impl Model for Kept {
     ghost Value = { Holding };
 
-    ghost view = { λ k. record { layout = k.layout; next = k.next; indexes = k.indexes; slots = k.slots.items; order = k.order.items; lists = k.lists.items; blocks = k.blocks } };
+    ghost view = { λ k. record {
+      layout = k.layout;
+      next = k.next;
+      indexes = k.indexes;
+      slots = k.slots.items;
+      order = k.order.items;
+      lists = k.lists.items;
+      blocks = k.blocks;
+    } };
 
-    ghost invariant = { λ k. FitsTogether (record { layout = k.layout; next = k.next; indexes = k.indexes; slots = k.slots.items; order = k.order.items; lists = k.lists.items; blocks = k.blocks }) };
+    ghost invariant = { λ k. FitsTogether (record {
+      layout = k.layout;
+      next = k.next;
+      indexes = k.indexes;
+      slots = k.slots.items;
+      order = k.order.items;
+      lists = k.lists.items;
+      blocks = k.blocks;
+    }) };
 }
 
 impl Kept {
@@ -50,8 +69,8 @@ impl Kept {
     ///
     /// # Errors
     ///
-    /// `Damaged` where a number comes twice, or a slot's ordinals are not those of its text, each once; `NoMemory` where a growth
-    /// was refused.
+    /// `Damaged` where a number comes twice, or a slot's ordinals are not those of its text, each once; `NoMemory`
+    /// where a growth was refused.
     pub fn of(
         alloc: Global,
         layout: Layout,
@@ -64,9 +83,18 @@ impl Kept {
         requires rows { length blocks.rows ≡ layout }
         requires fits { (b : ℕ) → FitsRow (get_or blocks.rows b None) }
         ensures layout { IfOk result (λ kept. kept.layout ≡ layout) }
+        ensures next { IfOk result (λ kept. kept.next ≡ next) }
+        ensures indexes { IfOk result (λ kept. kept.indexes ≡ indexes) }
+        ensures slots { IfOk result (λ kept. kept.slots ≡ slots.items) }
+        ensures blocks { IfOk result (λ kept. kept.blocks ≡ blocks) }
+        ensures distinct { OnOk result (AreDistinct slots.items) }
+        ensures whole { OnOk result ((s : ℕ) (r : Said) → get_or slots.items s None ≡ Some r
+            → OwnsOneEach blocks.rows s (blocks_of r.text_len)) }
         ensures no_device { result ≡ Err OpenFault.DiskFault → ⊥ }
-        ensures said { (v : View) → IsSound v → v.blocks ≡ layout → next ≡ v.next → indexes ≡ v.indexes → slots.items ≡ v.slots → blocks.rows ≡ v.rows
-            → blocks.reserved ≡ replicate v.blocks false → LoadsAs result (λ kept. KeepsAlone kept v) }
+        ensures late { IfErr result IsLate }
+        ensures said { (v : View) → IsSound v → v.blocks ≡ layout → next ≡ v.next → indexes ≡ v.indexes
+            → slots.items ≡ v.slots → blocks.rows ≡ v.rows → blocks.reserved ≡ replicate v.blocks false
+            → LoadsAs result (λ kept. KeepsAlone kept v) }
     {
         let order = order_of(alloc, &slots)?;
         let lists = lists_of(alloc, &blocks, &slots)?;

@@ -1,9 +1,11 @@
 // Each slot's blocks by ordinal.
-ghost use Rattle.std.specs.Prelude.{◌≡◌, ◌≤◌, ◌<◌, ◌+◌, ℕ, List, Some, None, true, length, get_or, take, drop, ◌++◌, IfOk, OnOk, OnErr, Err};
+ghost use Rattle.std.specs.Prelude.{◌≡◌, ◌≤◌, ◌<◌, ◌+◌, ◌++◌, ℕ, List, Some, None, true, Err, IfOk, IfErr, OnOk, OnErr};
+ghost use Rattle.std.specs.Prelude.{length, get_or, take, drop};
 ghost use Rattle.spool_blocks.specs.Blocks.{Row, slot_count, IsWhole};
+ghost use Rattle.spool_blocks.specs.Chains.{OwnsOneEach};
 ghost use Rattle.upload_rules.specs.Room.{blocks_of};
-ghost use Rattle.spool_kept.specs.Holding.{HasBlocks, AreListsTo};
-ghost use Rattle.spool_kept.specs.Loads.{LoadsAs};
+ghost use Rattle.spool_kept.specs.Holding.{HasBlocks, AreListsTo, OwnsText};
+ghost use Rattle.spool_kept.specs.Loads.{LoadsAs, IsLate};
 ghost use Rattle.spool_kept.specs.Shows.{IsSound};
 ghost use Rattle.spool_pages.specs.View.{View};
 
@@ -61,8 +63,10 @@ pub fn blocks_of(len: u64) -> u64
 
 // Whether the slot owns each listed block, at its place's ordinal.
 fn are_owned(rows: &[Row], slot: u32, list: &[BlockNo]) -> bool
-    ensures owned { result ≡ true → (i : ℕ) → i < length list.now → get_or rows.now (get_or list.now i 0) None ≡ Some (slot, i) }
-    ensures passes { ((i : ℕ) → i < length list.now → get_or rows.now (get_or list.now i 0) None ≡ Some (slot, i)) → result ≡ true }
+    ensures owned { result ≡ true → (i : ℕ) → i < length list.now
+        → get_or rows.now (get_or list.now i 0) None ≡ Some (slot, i) }
+    ensures passes { ((i : ℕ) → i < length list.now → get_or rows.now (get_or list.now i 0) None ≡ Some (slot, i))
+        → result ≡ true }
 {
     for i in 0..list.len() {
         if !owns(rows, list[i], slot, i) {
@@ -87,8 +91,11 @@ fn owns(rows: &[Row], block: BlockNo, slot: u32, ordinal: usize) -> bool
 fn checked_list(alloc: Global, blocks: &Blocks, slot: u32, len: u64) -> Result<BlockList, OpenFault>
     requires { slot < 512 }
     ensures blocks { IfOk result (λ list. HasBlocks blocks.now.rows slot len list) }
-    ensures passes { slot_count slot blocks.now.rows ≡ blocks_of len → IsWhole slot blocks.now.rows → LoadsAs result (λ list. Unit {0}) }
+    ensures whole { OnOk result (OwnsOneEach blocks.now.rows slot (blocks_of len)) }
+    ensures passes { slot_count slot blocks.now.rows ≡ blocks_of len → IsWhole slot blocks.now.rows
+        → LoadsAs result (λ list. Unit {0}) }
     ensures no_device { result ≡ Err OpenFault.DiskFault → ⊥ }
+    ensures late { IfErr result IsLate }
 {
     let list = blocks.list_of(alloc, slot)?;
     if list.len() as u64 != blocks_of(len) || !are_owned(blocks.rows(), slot, &list) {
@@ -107,9 +114,13 @@ fn push_list(
 ) -> Result<(), OpenFault>
     requires { slot < 512 }
     ensures long { OnOk result (length lists.new.items ≡ length lists.old.items + 1) }
-    ensures lists { length lists.old.items ≡ slot → AreListsTo blocks.now.rows slots.now lists.old.items slot → OnOk result (AreListsTo blocks.now.rows slots.now lists.new.items (slot + 1)) }
-    ensures passes { (v : View) → IsSound v → slots.now ≡ v.slots → blocks.now.rows ≡ v.rows → LoadsAs result (λ done. Unit {0}) }
+    ensures lists { length lists.old.items ≡ slot → AreListsTo blocks.now.rows slots.now lists.old.items slot
+        → OnOk result (AreListsTo blocks.now.rows slots.now lists.new.items (slot + 1)) }
+    ensures whole { OnOk result (OwnsText blocks.now.rows slot (get_or slots.now slot None)) }
+    ensures passes { (v : View) → IsSound v → slots.now ≡ v.slots → blocks.now.rows ≡ v.rows
+        → LoadsAs result (λ done. Unit {0}) }
     ensures no_device { result ≡ Err OpenFault.DiskFault → ⊥ }
+    ensures late { IfErr result IsLate }
 {
     let list = match record_at(slots, slot as usize) {
         Some(kept) => checked_list(alloc, blocks, slot, kept.record().text_len)?,
@@ -131,8 +142,11 @@ pub(crate) fn lists_of(
 ) -> Result<Vec<BlockList>, OpenFault>
     ensures long { IfOk result (λ lists. length lists.items ≡ 512) }
     ensures lists { IfOk result (λ lists. AreListsTo blocks.now.rows slots.now lists.items 512) }
-    ensures passes { (v : View) → IsSound v → slots.now ≡ v.slots → blocks.now.rows ≡ v.rows → LoadsAs result (λ lists. Unit {0}) }
+    ensures whole { OnOk result ((s : ℕ) → s < 512 → OwnsText blocks.now.rows s (get_or slots.now s None)) }
+    ensures passes { (v : View) → IsSound v → slots.now ≡ v.slots → blocks.now.rows ≡ v.rows
+        → LoadsAs result (λ lists. Unit {0}) }
     ensures no_device { result ≡ Err OpenFault.DiskFault → ⊥ }
+    ensures late { IfErr result IsLate }
 {
     let mut lists = Vec::new(alloc);
     for slot in 0..SLOTS {

@@ -1,8 +1,8 @@
 // The record of an upload, kept in memory.
-ghost use Rattle.std.specs.Prelude.{◌≡◌, ◌≤◌, All, Err, None, Some, length, get_or, option_copied, IfOk};
+ghost use Rattle.std.specs.Prelude.{◌≡◌, ◌≤◌, All, Err, None, Some, length, get_or, option_copied, IfOk, IfErr, OnOk};
 ghost use Rattle.spool_kept.specs.Extending.{SameEncodings, longer_record};
-ghost use Rattle.spool_kept.specs.Loads.{LoadsAs};
-ghost use Rattle.spool_kept.specs.Records.{FitsKept, FitsMemory, IsUnpacked, said_of};
+ghost use Rattle.spool_kept.specs.Loads.{LoadsAs, IsLate};
+ghost use Rattle.spool_kept.specs.Records.{FitsKept, FitsMemory, IsReadable, IsUnpacked, said_of};
 ghost use Rattle.spool_pages.specs.View.{SlotRecord as Said};
 
 use crate::OpenFault;
@@ -11,7 +11,6 @@ use enc_stream::Transcoder;
 use spool_pages::SlotRecord;
 use std::alloc::Global;
 use std::marker::Model;
-use std::str;
 use upload_rules::Record;
 
 /// The record of an upload, with the encodings and the mode that its state says.
@@ -33,11 +32,15 @@ impl KeptRecord {
     ///
     /// # Errors
     ///
-    /// `Damaged` where the state is none of a transcoder, or the metadata is no text; `NoMemory` where a growth was refused.
+    /// `Damaged` where the state is none of a transcoder, or the metadata isn't printable ASCII; `NoMemory` where a
+    /// growth was refused.
     pub fn of(alloc: Global, record: &SlotRecord<'_>) -> Result<KeptRecord, OpenFault>
         requires { length «record».now.metadata ≤ 1536 }
         ensures said { FitsKept (Some «record».now) → LoadsAs result (λ kept. kept ≡ «record».now) }
+        ensures same { IfOk result (λ kept. kept ≡ «record».now) }
+        ensures sound { OnOk result (IsReadable «record».now) }
         ensures no_device { result ≡ Err OpenFault.DiskFault → ⊥ }
+        ensures late { IfErr result IsLate }
     {
         let Some(transcoder) = Transcoder::unpack(&record.state) else {
             return Err(OpenFault::Damaged);
@@ -110,17 +113,21 @@ pub fn record_at(slots: &[Option<KeptRecord>], slot: usize) -> Option<&KeptRecor
     }
 }
 
-// The bytes as text.
+// The bytes as text. `Damaged` where one isn't printable ASCII.
 fn text_of(alloc: Global, bytes: &[u8]) -> Result<String, OpenFault>
-    ensures said { All (λ b. (0x20 ≤ b) × (b ≤ 0x7E)) bytes.now → LoadsAs result (λ text. text.bytes.items ≡ bytes.now) }
+    ensures said { All (λ b. (0x20 ≤ b) × (b ≤ 0x7E)) bytes.now
+        → LoadsAs result (λ text. text.bytes.items ≡ bytes.now) }
     ensures same { IfOk result (λ text. text.bytes.items ≡ bytes.now) }
+    ensures printable { OnOk result (All (λ b. (0x20 ≤ b) × (b ≤ 0x7E)) bytes.now) }
     ensures no_device { result ≡ Err OpenFault.DiskFault → ⊥ }
+    ensures late { IfErr result IsLate }
 {
-    match str::from_utf8(bytes) {
-        Ok(text) => {
-            let text = String::from_str(alloc, text)?;
-            Ok(text)
+    let mut text = String::with_capacity(alloc, bytes.len())?;
+    for byte in bytes {
+        if *byte < b' ' || *byte > b'~' {
+            return Err(OpenFault::Damaged);
         }
-        Err(_) => Err(OpenFault::Damaged),
+        text.push(char::from(*byte))?;
     }
+    Ok(text)
 }

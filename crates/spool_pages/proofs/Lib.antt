@@ -1,4 +1,5 @@
 pub mod Bytes
+pub mod Blank
 pub mod Numbers
 pub mod Says
 pub mod RecordBytes

@@ -140,8 +140,11 @@ no_number bytes padded = record {
 pub record_eq : (r : SlotRecord) (n d a t : ℕ) (s m : List ℕ) → n ≡ r.number → d ≡ r.declared → a ≡ r.accepted → t ≡ r.text_len → s ≡ r.state → m ≡ r.metadata → record { number = n; declared = d; accepted = a; text_len = t; state = s; metadata = m } ≡ r
 record_eq r n d a t s m e1 e2 e3 e4 e5 e6 = rw (e1, e2, e3, e4, e5, e6)
 
+pub length-record : (r : SlotRecord) → length r.state ≡ 32 → length (record_bytes r) ≡ 66 + length r.metadata
+length-record r size =
+    let whole : length (record_bytes r) ≡ length (head_of r) + length r.metadata = ap length (sym (record_is r)) ∙ length-append (head_of r) r.metadata in
+    omega (arith, whole, length-head r size)
+
 pub slot_few : (slot : Option SlotRecord) → FitsSlotOf slot → length (slot_bytes slot) ≤ 2048
 slot_few None fits = omega arith
-slot_few (Some r) fits =
-    let whole : length (record_bytes r) ≡ length (head_of r) + length r.metadata = ap length (sym (record_is r)) ∙ length-append (head_of r) r.metadata in
-    omega (arith, whole, length-head r fits.0.state, fits.0.metadata)
+slot_few (Some r) fits = omega (arith, length-record r fits.0.state, fits.0.metadata)

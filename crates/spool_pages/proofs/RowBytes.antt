@@ -29,6 +29,20 @@ module _ (f : ℕ → ℕ) (at : ℕ) where
   unfolding row_bytes
   free_at stands = record { each = λ i lt. stands.each i (omega (arith, lt)) ∙ sym ((padded_zeros 4).each i) }
 
+  pub free_ordinal_at : Stands f at 8 (row_bytes None) → Stands f (at + 4) 4 (to_be_bytes w32 0)
+  unfolding row_bytes
+  free_ordinal_at stands = record {
+    each = λ i lt.
+        let there : at + (4 + i) ≡ at + 4 + i = omega arith in
+        subst (λ (p : ℕ). f p ≡ 0) there (stands.each (4 + i) (omega (arith, lt))) ∙ sym ((padded_zeros 4).each i);
+  }
+
+  pub free_of_zeros : Stands f at 4 (to_be_bytes w32 0) → Stands f (at + 4) 4 (to_be_bytes w32 0) → Stands f at 8 (row_bytes None)
+  unfolding row_bytes
+  free_of_zeros slot ordinal = record {
+    each = λ i lt. (stands_both (to_be_bytes w32 0) (to_be_bytes w32 0) 4 4 refl slot ordinal).each i lt ∙ (padded_zeros 8).each i;
+  }
+
   pub owned_at : (slot ordinal : ℕ) → Stands f at 4 (to_be_bytes w32 (slot + 1)) → Stands f (at + 4) 4 (to_be_bytes w32 ordinal) → Stands f at 8 (row_bytes (Some (slot, ordinal)))
   owned_at slot ordinal first second = subst (λ (xs : List ℕ). Stands f at 8 xs) (owned_is slot ordinal) (stands_both (to_be_bytes w32 (slot + 1)) _ 4 4 refl first second)
 

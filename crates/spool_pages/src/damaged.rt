@@ -1,14 +1,14 @@
-// Bytes that no record has.
+// Bytes that nothing writes.
 use std::error::Error;
 use std::fmt;
 
-/// A slot's bytes are none that are ever written.
+/// A slot's bytes, or a row's, are none that are ever written.
 #[derive(Clone, Copy, Debug, PartialEq, Eq, Drop)]
 pub struct Damaged;
 
 impl fmt::Display for Damaged {
     fn fmt<W: fmt::Write>(&self, f: &mut fmt::Formatter<W>) -> fmt::Result {
-        f.write_str("a slot's bytes are damaged")
+        f.write_str("a slot's or a row's bytes are damaged")
     }
 }
 

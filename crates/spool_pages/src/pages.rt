@@ -1,5 +1,6 @@
 // The pages of a spool that are neither records nor rows.
-ghost use Rattle.std.specs.Prelude.{◌≡◌, ◌<◌, ◌≤◌, ◌^◌, ℕ, [], Some, IfSome, get_or};
+ghost use Rattle.std.specs.Prelude.{◌≡◌, ◌<◌, ◌≤◌, ◌^◌, ◌↔◌};
+ghost use Rattle.std.specs.Prelude.{ℕ, [], Some, IfSome, IsTrue, get_or};
 ghost use Rattle.spool_journal.specs.Image.{byte_of};
 ghost use Rattle.spool_pages.specs.Bytes.{IsPadded};
 ghost use Rattle.spool_pages.specs.View.{Stands, magic, first_page, state_page};
@@ -40,18 +41,38 @@ pub fn state_page(next: u64) -> [u8; PAGE]
     page
 }
 
+/// Whether all bytes are 0.
+pub fn is_blank(bytes: &[u8]) -> bool
+    ensures { IsTrue result ↔ IsPadded bytes.now [] }
+{
+    bytes.iter().all(|byte| *byte == 0)
+}
+
 /// What a state page says: the version and the next number.
 pub fn version_and_next(page: &[u8; PAGE]) -> (u32, u64)
-    ensures said { (version next : ℕ) → version < 2 ^ 32 → next < 2 ^ 64 → IsPadded page.now (state_page version next) → result ≡ (version, next) }
+    ensures said { (version next : ℕ) → version < 2 ^ 32 → next < 2 ^ 64 → IsPadded page.now (state_page version next)
+        → result ≡ (version, next) }
     ensures there { Stands (byte_of page.now) 0 12 (state_page result.0 result.1) }
 {
     (get_u32(page, 0), get_u64(page, 4))
 }
 
+/// Whether there are only zeros behind the fields of page 0 or of the state page, its first 12 bytes.
+pub fn is_blank_behind_fields(page: &[u8; PAGE]) -> bool
+    ensures first { (blocks : ℕ) → Stands (byte_of page.now) 0 12 (first_page blocks)
+        → (IsTrue result ↔ Stands (byte_of page.now) 0 4096 (first_page blocks)) }
+    ensures state { (version next : ℕ) → Stands (byte_of page.now) 0 12 (state_page version next)
+        → (IsTrue result ↔ Stands (byte_of page.now) 0 4096 (state_page version next)) }
+{
+    is_blank(&page[12..])
+}
+
 /// The number of text blocks that the front of page 0 says, or none where it is not a spool's.
 pub fn blocks_said(front: &[u8; 12]) -> Option<u32>
-    ensures said { (blocks : ℕ) → blocks < 2 ^ 32 → ((i : ℕ) → i < 12 → get_or front.now i 0 ≡ get_or (first_page blocks) i 0) → result ≡ Some blocks }
-    ensures only { IfSome result (λ blocks. (i : ℕ) → i < 12 → get_or front.now i 0 ≡ get_or (first_page blocks) i 0) }
+    ensures said { (blocks : ℕ) → blocks < 2 ^ 32
+        → ((i : ℕ) → i < 12 → get_or front.now i 0 ≡ get_or (first_page blocks) i 0) → result ≡ Some blocks }
+    ensures only { IfSome result (λ blocks. (i : ℕ) → i < 12
+        → get_or front.now i 0 ≡ get_or (first_page blocks) i 0) }
 {
     if !front.starts_with(&MAGIC) {
         return None;

@@ -1,13 +1,11 @@
 // The record of an upload as its slot keeps it.
-ghost use Rattle.std.specs.Prelude.{◌≡◌, ◌<◌, ◌≤◌, ◌+◌, ℕ, [], length, Ok, Some, None, IsErr, IfOk, IfSome};
-ghost use Rattle.std.specs.Int.{to_be_bytes, w16, w64};
-ghost use Rattle.spool_journal.specs.Image.{byte_of};
+ghost use Rattle.std.specs.Prelude.{◌≡◌, ◌≤◌, [], length, Ok, Some, None, IfOk, IfSome};
 ghost use Rattle.spool_pages.specs.Bytes.{IsPadded};
 ghost use Rattle.spool_pages.specs.Fits.{FitsSlot};
-ghost use Rattle.spool_pages.specs.View.{SlotRecord as Said, Stands, record_bytes};
+ghost use Rattle.spool_pages.specs.View.{SlotRecord as Said, record_bytes, slot_bytes};
 
-use crate::Damaged;
 use crate::fields::{get_u16, get_u64, put};
+use crate::{Damaged, is_blank};
 use std::marker::Model;
 
 /// How many bytes a slot has.
@@ -36,7 +34,14 @@ pub struct SlotRecord<'a> {
 impl<'a> Model for SlotRecord<'a> {
     ghost Value = { Said };
 
-    ghost view = { λ r. record { number = r.number; declared = r.declared; accepted = r.accepted; text_len = r.text_len; state = r.state; metadata = r.metadata.now } };
+    ghost view = { λ r. record {
+      number = r.number;
+      declared = r.declared;
+      accepted = r.accepted;
+      text_len = r.text_len;
+      state = r.state;
+      metadata = r.metadata.now;
+    } };
 }
 
 impl<'a> SlotRecord<'a> {
@@ -56,24 +61,23 @@ impl<'a> SlotRecord<'a> {
         bytes
     }
 
-    /// The record in a slot's bytes, or none where the slot is free. `Damaged` where the metadata has no room in it.
+    /// The record in a slot's bytes, or none where the slot is free.
+    ///
+    /// # Errors
+    ///
+    /// `Damaged` where the bytes are neither all 0 nor those of a record with zeros behind it.
     pub fn from_bytes(bytes: &'a [u8; RECORD]) -> Result<Option<SlotRecord<'a>>, Damaged>
         ensures free { IsPadded bytes.now [] → result ≡ Ok None }
         ensures used { (r : Said) → FitsSlot r → IsPadded bytes.now (record_bytes r) → result ≡ Ok (Some r) }
-
-        // Whatever the bytes are, 'free' says that the number is 0, a record that its bytes stand in front, and `Damaged` that the
-        // metadata would be so long.
-        ensures free_only { result ≡ Ok None → Stands (byte_of bytes.now) 0 8 (to_be_bytes w64 0) }
-        ensures used_only { IfOk result (λ found. IfSome found (λ r. Stands (byte_of bytes.now) 0 (66 + length r.metadata) (record_bytes r))) }
-        ensures damaged_only { IsErr result → (len : ℕ) × (1536 < len × Stands (byte_of bytes.now) 64 2 (to_be_bytes w16 len)) }
-        ensures few { IfOk result (λ found. IfSome found (λ r. length r.metadata ≤ 1536)) }
+        ensures sound { IfOk result (λ found. IsPadded bytes.now (slot_bytes found)) }
+        ensures fits { IfOk result (λ found. IfSome found FitsSlot) }
     {
-        let number = get_u64(bytes, 0);
-        if number == 0 {
+        if is_blank(bytes) {
             return Ok(None);
         }
+        let number = get_u64(bytes, 0);
         let metadata_end = 66 + get_u16(bytes, 64) as usize;
-        if metadata_end > 66 + METADATA {
+        if number == 0 || metadata_end > 66 + METADATA || !is_blank(&bytes[metadata_end..]) {
             return Err(Damaged);
         }
         let mut state = [0; 32];

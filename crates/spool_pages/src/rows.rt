@@ -1,11 +1,12 @@
 // The rows of the text blocks: who owns each.
-ghost use Rattle.std.specs.Prelude.{◌≡◌, ◌≤◌, ◌<◌, ◌+◌, ◌*◌, ◌^◌, ℕ, Option, None, Some, IfSome, length, get_or};
-ghost use Rattle.std.specs.Int.{to_be_bytes, w32};
+ghost use Rattle.std.specs.Prelude.{◌≡◌, ◌≤◌, ◌<◌, ◌+◌, ◌*◌, ◌^◌};
+ghost use Rattle.std.specs.Prelude.{ℕ, Option, None, Some, Ok, IfOk, length, get_or};
 ghost use Rattle.spool_journal.specs.Image.{byte_of};
 ghost use Rattle.spool_pages.specs.Bytes.{IsPadded};
 ghost use Rattle.spool_pages.specs.Fits.{FitsRow};
 ghost use Rattle.spool_pages.specs.View.{Stands, row_bytes};
 
+use crate::Damaged;
 use crate::fields::{get_u32, put};
 use spool_blocks::Row;
 use spool_journal::PAGE;
@@ -47,26 +48,34 @@ fn row_of(rows: &[Row], block: usize) -> Row
 }
 
 /// The row at a place of a page.
-pub fn row_at(page: &[u8], at: usize) -> Row
+///
+/// # Errors
+///
+/// `Damaged` where an ordinal stands there and no slot.
+pub fn row_at(page: &[u8], at: usize) -> Result<Row, Damaged>
     requires { at + 8 ≤ length page.now }
-    ensures said { (row : Option (ℕ × ℕ)) → FitsRow row → Stands (byte_of page.now) at 8 (row_bytes row) → result ≡ row }
-
-    // Whatever the bytes are, 'free' says that the slot's number is 0, and an owner that its bytes stand there.
-    ensures free_only { result ≡ None → Stands (byte_of page.now) at 4 (to_be_bytes w32 0) }
-    ensures owned_only { IfSome result (λ owner. Stands (byte_of page.now) at 8 (row_bytes (Some owner))) }
+    ensures said { (row : Option (ℕ × ℕ)) → FitsRow row → Stands (byte_of page.now) at 8 (row_bytes row)
+        → result ≡ Ok row }
+    ensures sound { IfOk result (λ row. Stands (byte_of page.now) at 8 (row_bytes row)) }
+    ensures fits { IfOk result (λ row. FitsRow row) }
 {
     let slot = get_u32(page, at);
-    if slot == 0 {
-        return None;
+    let ordinal = get_u32(page, at + 4);
+    if slot > 0 {
+        return Ok(Some((slot - 1, ordinal)));
     }
-    Some((slot - 1, get_u32(page, at + 4)))
+    if ordinal > 0 {
+        return Err(Damaged);
+    }
+    Ok(None)
 }
 
 /// A page of rows: 512 of them, with free ones behind the last.
 pub fn row_page(rows: &[Row], page: usize) -> [u8; PAGE]
     requires page { page < 128 }
     requires fits { (b : ℕ) → FitsRow (get_or rows.now b None) }
-    ensures { (k : ℕ) → k < 512 → Stands (byte_of result) (8 * k) 8 (row_bytes (get_or rows.now (512 * page + k) None)) }
+    ensures { (k : ℕ) → k < 512
+        → Stands (byte_of result) (8 * k) 8 (row_bytes (get_or rows.now (512 * page + k) None)) }
 {
     let mut bytes = [0; PAGE];
     for k in 0..ROWS {

@@ -35,7 +35,8 @@ fn put<D: Disk>(disk: &mut D, at: u64, bytes: &[u8]) -> Result<(), DiskFault> {
     disk.write_at(at, bytes)
 }
 
-/// A spool with the uploads 7 in slot 0 and 3 in slot 4. The text of upload 7 has 4,097 bytes, on the blocks 3 and 9.
+/// A spool with the uploads 7 in slot 0 and 3, of which a byte was accepted, in slot 4. The text of upload 7 has 4,097
+/// bytes, on the blocks 3 and 9.
 fn write_uploads<D: Disk>(disk: &mut D) -> Result<(), DiskFault> {
     let transcoder = Transcoder::new(Encoding::Utf8, Encoding::ShiftJis, Mode::Fatal);
     let mut record = SlotRecord {
@@ -48,7 +49,10 @@ fn write_uploads<D: Disk>(disk: &mut D) -> Result<(), DiskFault> {
     };
     put(disk, 284 * 4096, &record.to_bytes())?;
     record.number = 3;
+    record.accepted = 1;
     record.text_len = 0;
+    // decoding
+    record.state[3] = 1;
     put(disk, 286 * 4096, &record.to_bytes())?;
     put(disk, 283 * 4096 + 11, &[8])?;
     put(disk, 540 * 4096 + 8 * 3 + 3, &[1])?;
@@ -215,17 +219,39 @@ fn damaged_uploads_are_refused(rt: HostRuntime) -> Result<(), Fail> {
     let mut disk = small_disk(rt.alloc())?;
     assert_eq!(rt; format(&mut disk, 16, &indexes), Ok(()));
     write_uploads(&mut disk)?;
-    // a number that comes twice, a state without a transcoder, one that is decoding before the first byte and one behind the
-    // end, metadata that is no text, an ordinal twice, one behind the text, and a block too few
+    // behind the closed gate a head with a page more than the journal has
+    assert_eq!(rt; put(&mut disk, 8192, &[0, 0, 1, 3]), Ok(()));
     for (at, byte) in [
+        // the gate opened; a byte behind the fields of page 0 and of the state page, and behind the tables of the index area
+        (4096, 0xA5),
+        (12, 1),
+        (283 * 4096 + 12, 1),
+        (261 * 4096 + 88428, 1),
+        // a number that comes twice, and one that isn't below the next
         (286 * 4096 + 7, 7),
+        (284 * 4096 + 7, 8),
+        // more accepted than declared, and too much declared
+        (286 * 4096 + 21, 1),
+        (286 * 4096 + 11, 1),
+        // a state without a transcoder, one decoding before the first byte, one behind the end, and one of no phase
         (284 * 4096 + 32, 21),
         (284 * 4096 + 35, 1),
         (284 * 4096 + 35, 2),
+        (284 * 4096 + 35, 3),
+        // metadata that is too long, that is no text, and with a line's end; a byte behind it, and one in a free slot
+        (284 * 4096 + 64, 7),
         (284 * 4096 + 66, 0xFF),
+        (284 * 4096 + 66, 0x0A),
+        (284 * 4096 + 70, 1),
+        (284 * 4096 + 2048 + 100, 1),
+        // an ordinal twice, one behind the text, and one that is missing
         (540 * 4096 + 8 * 9 + 7, 0),
         (540 * 4096 + 8 * 9 + 7, 2),
-        (540 * 4096 + 8 * 9 + 3, 0),
+        (540 * 4096 + 8 * 3 + 3, 0),
+        // a free row with an ordinal, a row of a free slot, and one behind the last
+        (540 * 4096 + 8 * 5 + 7, 1),
+        (540 * 4096 + 8 * 5 + 3, 2),
+        (540 * 4096 + 8 * 16 + 3, 1),
     ] {
         let before = byte_at(&mut disk, at)?;
         assert_eq!(rt; put(&mut disk, at, &[byte]), Ok(()));
@@ -244,8 +270,8 @@ fn each_call_of_opening_may_fail(rt: HostRuntime) -> Result<(), Fail> {
     let indexes = IndexSet::new(rt.alloc())?;
     let mut disk = small_disk(rt.alloc())?;
     assert_eq!(rt; format(&mut disk, 16, &indexes), Ok(()));
-    // the front, a sync, the gate, the state page, 22 pages, 512 records and a page of rows
-    for passed in [0, 1, 2, 3, 4, 25, 26, 537, 538] {
+    // the front, a sync, the gate, the state page, page 0, 22 pages, 512 records and a page of rows
+    for passed in [0, 1, 2, 3, 4, 5, 26, 27, 538, 539] {
         let fuse = FuseDisk::new(disk, passed);
         match Spool::open(rt.alloc(), fuse) {
             Ok(spool) => {
@@ -258,7 +284,7 @@ fn each_call_of_opening_may_fail(rt: HostRuntime) -> Result<(), Fail> {
             }
         }
     }
-    match Spool::open(rt.alloc(), FuseDisk::new(disk, 539)) {
+    match Spool::open(rt.alloc(), FuseDisk::new(disk, 540)) {
         Ok(spool) => drop(spool.into_disk()),
         Err((_, fault)) => panic!(rt; "{fault}"),
     }

@@ -141,8 +141,8 @@ fn is_right_around(alloc: Global, call: u64) -> Result<bool, Fail> {
 
 #[test]
 fn append_is_committed_or_not_where_an_early_call_fails(rt: HostRuntime) -> Result<(), Fail> {
-    // opening is 539 calls
-    for call in 539..550 {
+    // opening is 540 calls
+    for call in 540..550 {
         assert!(rt; is_right_around(rt.alloc(), call)?, "{call}");
     }
     Ok(())

@@ -1,9 +1,13 @@
-use Rattle.std.proofs.Common.{◌≡◌, ◌∙◌, rules, sym}
+use Rattle.std.proofs.Common.{◌≡◌, ◌∙◌, ℕ, List, Option, rules, sym, subst}
 use Rattle.std.proofs.lemmas.Bool.{false≢true}
 use Rattle.spool_kept.specs.Kept.{KeepsAlone}
 use Rattle.spool_kept.specs.Holding.{Holding}
 use Rattle.spool_disk.proofs.Firm.{counts_on}
-use Rattle.spool_image.proofs.Looks.{reads_on, loads_err, ok_no_fault}
+use Rattle.spool_pages.specs.View.{SlotRecord}
+use Rattle.spool_image.specs.Checks.{AreSound}
+use Rattle.spool_image.proofs.Refused.{tells_late}
+use Rattle.spool_image.proofs.Sounds.{sound_passes, read_loaded}
+use Rattle.spool_image.proofs.Looks.{if_err_more, reads_on, loads_err, ok_no_fault}
 use Rattle.spool_journal.proofs.Steps.{no_failure}
 use Rattle.spool_kept.proofs.Sound.{said_slot, slots_fit}
 use Rattle.spool_image.proofs.loading.load.Goals as goal
@@ -26,7 +30,9 @@ returns-then-not-are_sound-clause-said g c honest bytes still v sound blocks say
     let first = c.load_fields.ensures.reads in
     let fields = c.in_ok-next.ensures.said honest bytes still v sound blocks says in
     let slots : c.in_ok-slots.slots.items ≡ v.slots = c.in_ok-slots.ensures.said (first.honest honest) bytes (first.still honest bytes still) v.slots sound.slot_count (slots_fit v sound) (said_slot bytes v c.args.layout blocks says) in
-    let passes = c.are_sound.ensures v sound (search rules) fields.0 in
+    let looked : c.deref.result.now ≡ v.slots = search rules in
+    let are = subst (λ (n : ℕ). AreSound n v.slots) (sym fields.0) (sound_passes v sound) in
+    let passes = c.are_sound.ensures.1 (subst (λ (xs : List (Option SlotRecord)). AreSound c.in_ok-next.next xs) (sym looked) are) in
     false≢true (sym c.if-not-are_sound.true ∙ passes)
 
 pub returns-in_err-blocks-clause-reads : goal.returns-in_err-blocks-clause-reads
@@ -69,3 +75,36 @@ returns-in_err-blocks-clause-counts g c =
     let second = counts_on c.load_fields.ensures.counts (ok_no_fault _ _ c.in_ok-next.was) c.load_slots.ensures.counts in
     let counted = counts_on second (ok_no_fault _ _ c.in_ok-slots.was) c.in_err-blocks.ensures.counts in
     search rules
+
+pub returns-in_err-slots-clause-refused : goal.returns-in_err-slots-clause-refused
+returns-in_err-slots-clause-refused g c honest bytes still =
+    let first = c.in_ok-next.ensures.version honest bytes still in
+    let told = tells_late _ first c.in_err-slots.ensures.late in
+    search rules
+
+pub returns-then-not-are_sound-clause-refused : goal.returns-then-not-are_sound-clause-refused
+returns-then-not-are_sound-clause-refused g c honest bytes still = c.in_ok-next.ensures.version honest bytes still
+
+pub returns-in_err-blocks-clause-refused : goal.returns-in_err-blocks-clause-refused
+returns-in_err-blocks-clause-refused g c honest bytes still =
+    let first = c.in_ok-next.ensures.version honest bytes still in
+    let told = tells_late _ first c.in_err-blocks.ensures.late in
+    search rules
+
+pub returns-clause-refused : goal.returns-clause-refused
+returns-clause-refused g c honest bytes still =
+    let first = c.in_ok-next.ensures.version honest bytes still in
+    if_err_more c.of.result (λ e late. tells_late e first late) c.of.ensures.late
+
+pub returns-clause-sound : goal.returns-clause-sound
+returns-clause-sound g c honest bytes still says =
+    let first = c.load_fields.ensures.reads in
+    let second = reads_on first c.load_slots.ensures.reads in
+    let fields = c.in_ok-next.ensures.sound honest bytes still says.front in
+    let slots = c.in_ok-slots.ensures.sound (first.honest honest) bytes (first.still honest bytes still) in
+    let rows = c.in_ok-blocks.ensures.sound (second.honest honest) bytes (second.still honest bytes still) in
+    let looked : c.deref.result.now ≡ c.in_ok-slots.slots.items = search rules in
+    let are = subst (λ (xs : List (Option SlotRecord)). AreSound c.in_ok-next.next xs) looked (c.are_sound.ensures.0 (search rules)) in
+    read_loaded bytes c.args.layout c.in_ok-next.next c.in_ok-next.indexes c.in_ok-slots.slots.items c.in_ok-blocks.blocks.rows c.in_ok-blocks.blocks.reserved c.of.result
+    says.least says.most fields slots c.in_ok-slots.ensures.long c.in_ok-blocks.ensures.long rows are (search rules) c.in_ok-blocks.ensures.fits c.in_ok-blocks.ensures.reserved
+    c.of.ensures.distinct c.of.ensures.whole c.of.ensures.said

@@ -21,6 +21,7 @@ loop-slot-preserved g c =
       counts = no_failure c.push_slot.ensures.counts (ok_no_fault _ _ c.in_ok-push_slot.was) ∙ inv.counts;
       long = c.in_ok-push_slot.ensures.long ∙ ap (λ (n : ℕ). n + 1) inv.long;
       said = λ honest bytes still said long fits stands. c.in_ok-push_slot.ensures.said (inv.reads.honest honest) bytes (inv.reads.still honest bytes still) said long (fits s) (stands s (omega arith)) inv.long (inv.said honest bytes still said long fits stands);
+      sound = λ honest bytes still. c.in_ok-push_slot.ensures.sound (inv.reads.honest honest) bytes (inv.reads.still honest bytes still) inv.long (inv.sound honest bytes still);
     }
 
 pub returns-clause-said : goal.returns-clause-said

@@ -1,16 +1,35 @@
-use Rattle.std.proofs.Common.{◌≤◌, inl, inr, ℕ, List, All, length, arith}
-use Rattle.std.proofs.Math.ListN.{get_or-eq_default}
-use Rattle.std.proofs.lemmas.Bool.{cases_lt}
-use Rattle.std.proofs.lemmas.List.Elements.{All-get_or}
-use Rattle.std.proofs.lemmas.Str.{IsUtf8-from_ascii}
-use Rattle.std.specs.Str.{IsAscii}
+use Rattle.std.proofs.Common.{◌≡◌, ◌≤◌, ◌<◌, ◌+◌, ◌∷◌, [], ℕ, zero, suc, List, All, take, length, get_or, sym, subst, arith}
+use Rattle.std.proofs.lemmas.List.{take_more}
+use Rattle.std.proofs.lemmas.List.Elements.{All-append}
 use Rattle.spool_kept.proofs.records.text_of.Goals as goal
 
-printable_ascii : (bytes : List ℕ) → All (λ b. (0x20 ≤ b) × (b ≤ 0x7E)) bytes → IsAscii bytes
-printable_ascii bytes all i = elim (cases_lt i (length bytes)) [
-  | inl lt ↦ let is = All-get_or (λ b. (0x20 ≤ b) × (b ≤ 0x7E)) bytes i 0 lt all in omega (arith, is.1)
-  | inr over ↦ omega (arith, get_or-eq_default bytes 0 over)
-]
+abbrev IsPrintable : ℕ → Type 0
+IsPrintable b = (0x20 ≤ b) × (b ≤ 0x7E)
 
-pub returns-in-Err-clause-said : goal.returns-in-Err-clause-said
-returns-in-Err-clause-said c printable = c.in-Err.ensures.cases.0 (IsUtf8-from_ascii c.args.bytes.now (printable_ascii c.args.bytes.now printable))
+one : (b : ℕ) → IsPrintable b → All IsPrintable (b ∷ [])
+one b is zero d lt = is
+one b is (suc k) d lt = absurd (omega (arith, lt))
+
+one_more : (xs : List ℕ) (i : ℕ) → i < length xs → IsPrintable (get_or xs i 0) → All IsPrintable (take i xs)
+    → All IsPrintable (take (i + 1) xs)
+one_more xs i lt is all =
+    subst (λ (ys : List ℕ). All IsPrintable ys) (sym (take_more xs i 0 lt))
+    (All-append IsPrintable (take i xs) (get_or xs i 0 ∷ []) all (one (get_or xs i 0) is))
+
+pub loop-byte-preserved : goal.loop-byte-preserved
+loop-byte-preserved c =
+    let bytes = c.args.bytes.now in
+    let i = c.loop-byte.byte-index in
+    let lt : i < length bytes = c.loop-byte-test.true in
+    let least : 0x20 ≤ get_or bytes i 0 = omega arith in
+    let most : get_or bytes i 0 ≤ 0x7E = omega arith in
+    record {
+      same =
+          let is : c.from.result ≡ get_or bytes i 0 = c.from.ensures in
+          let ascii = c.push.ensures.ascii (omega (arith, is, most)) in
+          let old = c.loop-byte.invariant.same in
+          let new = c.in_ok-push.ensures.bytes in
+          let more = take_more bytes i 0 lt in
+          cc;
+      printable = one_more bytes i lt (least, most) c.loop-byte.invariant.printable;
+    }

@@ -6,6 +6,7 @@ use Rattle.spool_journal.proofs.Gate.{settled_idle}
 use Rattle.upload_rules.specs.World.{at_rest}
 use Rattle.spool_kept.specs.Drafting.{StandsFor}
 use Rattle.spool_image.proofs.Opens.{image_shows, settled_reads, view_room}
+use Rattle.spool_image.proofs.Refused.{opened_is_spool, opened_is_first, opened_is_whole, told_no_spool, told_version, told_damaged}
 use Rattle.spool_image.proofs.StandsOn.{stands_opened}
 use Rattle.spool_image.proofs.spool.Spool.open.Goals as goal
 
@@ -48,3 +49,21 @@ returns-in-Ok-clause-stands g c n m is =
     subst (λ (k : ℕ). StandsFor g.D.Disk c.prepare.new.disk c.in-Ok.kept c.new.result.items (at_rest m (Some k))) is.shows.blocks
     (stands_opened g.D.Disk c.prepare.new.disk (g.D.Disk.seen c.args.disk) c.in-Ok.kept c.new.result.items m v c.new.ensures.items
     (c.in-Ok.ensures.honest.0 is.honest) is.shows.is said is.shows.shows (c.in-Ok.ensures.settled is.honest))
+
+pub returns-in-Ok-clause-not_a_spool : goal.returns-in-Ok-clause-not_a_spool
+returns-in-Ok-clause-not_a_spool g c honest is = absurd (opened_is_spool (g.D.Disk.size c.args.disk) (g.D.Disk.seen c.args.disk) c.in-Ok.kept (c.in-Ok.ensures.sound honest) is)
+
+pub returns-in-Ok-clause-version : goal.returns-in-Ok-clause-version
+returns-in-Ok-clause-version g c honest is = absurd (opened_is_first (g.D.Disk.size c.args.disk) (g.D.Disk.seen c.args.disk) c.in-Ok.kept (c.in-Ok.ensures.sound honest) is)
+
+pub returns-in-Ok-clause-damaged : goal.returns-in-Ok-clause-damaged
+returns-in-Ok-clause-damaged g c honest is = absurd (opened_is_whole (g.D.Disk.size c.args.disk) (g.D.Disk.seen c.args.disk) c.in-Ok.kept (c.in-Ok.ensures.sound honest) is)
+
+pub returns-in-Err-clause-not_a_spool : goal.returns-in-Err-clause-not_a_spool
+returns-in-Err-clause-not_a_spool g c honest is = told_no_spool (g.D.Disk.size c.args.disk) (g.D.Disk.seen c.args.disk) c.in-Err.fault (c.in-Err.ensures.refused honest) is
+
+pub returns-in-Err-clause-version : goal.returns-in-Err-clause-version
+returns-in-Err-clause-version g c honest is = told_version (g.D.Disk.size c.args.disk) (g.D.Disk.seen c.args.disk) c.in-Err.fault (c.in-Err.ensures.refused honest) is
+
+pub returns-in-Err-clause-damaged : goal.returns-in-Err-clause-damaged
+returns-in-Err-clause-damaged g c honest is = told_damaged (g.D.Disk.size c.args.disk) (g.D.Disk.seen c.args.disk) c.in-Err.fault (c.in-Err.ensures.refused honest) is

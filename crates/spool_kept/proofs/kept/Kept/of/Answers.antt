@@ -1,8 +1,9 @@
-use Rattle.std.proofs.Common.{rules, ◌≡◌, Option, List, subst}
+use Rattle.std.proofs.Common.{rules, ◌≡◌, ◌<◌, ◌∙◌, Option, None, Some, List, get_or, ap, subst, arith}
 use Rattle.spool_pages.specs.View.{SlotRecord}
-use Rattle.spool_kept.specs.Holding.{Orders, AreListsTo}
+use Rattle.spool_kept.specs.Holding.{Orders, AreListsTo, OwnsText}
 use Rattle.spool_kept.proofs.Keeps.{keeps_view}
-use Rattle.spool_kept.proofs.Sound.{slots_distinct}
+use Rattle.spool_kept.proofs.Sound.{slots_distinct, in_use}
+use Rattle.spool_kept.proofs.Ordered.{orders_distinct}
 use Rattle.spool_kept.proofs.kept.Kept.of.Goals as goal
 
 pub returns-in_err-order-clause-said : goal.returns-in_err-order-clause-said
@@ -26,3 +27,17 @@ returns-clause-said c v sound blocks next indexes slots rows reserved =
       listed = subst (λ (xs : List (Option SlotRecord)). AreListsTo c.args.blocks.rows xs c.in_ok-lists.lists.items 512) second all;
     })
     sound blocks next indexes slots rows reserved
+
+pub returns-clause-distinct : goal.returns-clause-distinct
+returns-clause-distinct c =
+    let same : c.deref.result.now ≡ c.args.slots.items = search rules in
+    orders_distinct c.args.slots.items c.in_ok-order.order.items c.requires.slots
+    (subst (λ (xs : List (Option SlotRecord)). Orders xs c.in_ok-order.order.items 512) same c.in_ok-order.ensures.orders)
+
+pub returns-clause-whole : goal.returns-clause-whole
+returns-clause-whole c s r here =
+    let same : c.deref-2.result.now ≡ c.args.slots.items = search rules in
+    let lt : s < 512 = omega (arith, in_use c.args.slots.items s r here, c.requires.slots) in
+    let there : get_or c.deref-2.result.now s None ≡ Some r =
+    ap (λ (xs : List (Option SlotRecord)). get_or xs s None) same ∙ here in
+    subst (λ (o : Option SlotRecord). OwnsText c.args.blocks.rows s o) there (c.in_ok-lists.ensures.whole s lt)

@@ -1,0 +1,120 @@
+-- A sound view, of what was read and what was checked of it.
+use Rattle.std.proofs.Common.{◌≡◌, ℕ, Bool, ◌-◌, ◌*◌, ◌≤◌, List, [], Option, None, Some, Result, Ok, Err, IfOk, OnOk, false, replicate, length, get_or, refl, subst, ap, arith}
+use Rattle.enc_model.specs.Indexes.{IndexSet}
+use Rattle.spool_blocks.specs.Chains.{OwnsOneEach}
+use Rattle.spool_journal.specs.Image.{journal_pages}
+use Rattle.spool_journal.specs.Texts.{text_shown}
+use Rattle.upload_rules.specs.Room.{blocks_of}
+use Rattle.spool_pages.specs.Fits.{FitsSlotOf, FitsRow}
+use Rattle.spool_pages.specs.View.{SlotRecord, View, Says, text_page}
+use Rattle.spool_kept.specs.Holding.{AreDistinct}
+use Rattle.spool_kept.specs.Shows.{IsSound, IsSoundRecord, IsOwned}
+use Rattle.spool_image.specs.Checks.{AreSound, IsRowSound, AreRowsSound}
+use Rattle.spool_kept.specs.Holding.{Holding}
+use Rattle.spool_kept.specs.Kept.{KeepsAlone}
+use Rattle.spool_kept.specs.Loads.{LoadsAs}
+use Rattle.spool_kept.specs.declared.error.OpenFault.{OpenFault}
+use Rattle.spool_image.specs.Loaded.{LoadedFrom}
+use Rattle.spool_image.specs.Reads.{StandFields, StandSlots, StandRows}
+
+-- A SOUND VIEW PASSES
+
+pub sound_passes : (v : View) → IsSound v → AreSound v.next v.slots
+sound_passes v sound = record {
+  least = sound.next_least;
+  most = sound.next_most;
+  records = λ s r e.
+      let is = sound.records s r e in
+      record { below = is.below; accepted = is.accepted; declared = is.declared; state = is.state };
+}
+
+pub sound_rows : (v : View) → IsSound v → AreRowsSound v.slots v.rows
+sound_rows v sound b slot ordinal owns =
+    let owned : IsOwned v slot ordinal = sound.owners b slot ordinal owns in
+    record { used = owned.used; there = owned.there; below = (sound.lists slot owned.used owned.there).only b ordinal owns }
+
+-- WHAT PASSES IS A SOUND VIEW
+
+module _ (bytes : ℕ → ℕ) (n next : ℕ) (x : IndexSet) (slots : List (Option SlotRecord)) (rows : List (Option (ℕ × ℕ))) where
+  abbrev shown_at : ℕ → Option SlotRecord → List ℕ
+  shown_at s None = []
+  shown_at s (Some r) = text_shown bytes (text_page n) rows s r.text_len
+
+  abbrev pub view_read : View
+  view_read = record {
+    blocks = n;
+    version = 1;
+    next = next;
+    indexes = x;
+    slots = slots;
+    rows = rows;
+    texts = λ s. shown_at s (get_or slots s None);
+  }
+
+  pub read_says : StandFields bytes n next x → StandSlots bytes n slots → length slots ≡ 512
+      → StandRows bytes n (512 * (journal_pages n - 257)) rows → Says bytes view_read
+  read_says fields stand long there = record {
+    first = fields.first;
+    area = fields.area.each;
+    state = fields.state;
+    slots = λ s lt. stand.each s (omega (arith, lt, long));
+    rows = there.each;
+    texts = λ s r e. ap (shown_at s) e;
+  }
+
+  slot_fits : StandSlots bytes n slots → (s : ℕ) (r : SlotRecord) → get_or slots s None ≡ Some r → FitsSlotOf (Some r)
+  slot_fits stand s r e = subst FitsSlotOf e (stand.fit s)
+
+  record_sound : StandSlots bytes n slots → AreSound next slots → (s : ℕ) (r : SlotRecord) → get_or slots s None ≡ Some r → IsSoundRecord next r
+  record_sound stand are s r e =
+      let fits = slot_fits stand s r e in
+      let is = are.records s r e in
+      record {
+        some = fits.0.some;
+        below = is.below;
+        accepted = is.accepted;
+        declared = is.declared;
+        text_fits = fits.0.text_len;
+        state_size = fits.0.state;
+        state = is.state;
+        metadata_size = fits.0.metadata;
+        printable = fits.1;
+      }
+
+  pub read_sound : 16 ≤ n → n ≤ 65536 → StandFields bytes n next x → StandSlots bytes n slots → length slots ≡ 512 → length rows ≡ n
+      → AreSound next slots → AreRowsSound slots rows → ((b : ℕ) → FitsRow (get_or rows b None)) → AreDistinct slots
+      → ((s : ℕ) (r : SlotRecord) → get_or slots s None ≡ Some r → OwnsOneEach rows s (blocks_of r.text_len)) → IsSound view_read
+  read_sound least most fields stand long wide are owned fit distinct lists = record {
+    least = least;
+    most = most;
+    version = refl;
+    next_least = are.least;
+    next_most = are.most;
+    indexes = fields.area.valid;
+    slot_count = long;
+    row_count = wide;
+    records = record_sound stand are;
+    distinct = distinct;
+    owners = λ b slot ordinal owns.
+        let is : IsRowSound slots slot ordinal = owned b slot ordinal owns in
+        let fits : FitsRow (Some (slot, ordinal)) = subst FitsRow owns (fit b) in
+        record { used = is.used; there = is.there; fits = fits.1 };
+    lists = lists;
+  }
+
+  -- and so it is kept
+  pub read_loaded : (reserved : List Bool) (r : Result Holding OpenFault) → 16 ≤ n → n ≤ 65536 → StandFields bytes n next x → StandSlots bytes n slots → length slots ≡ 512
+      → length rows ≡ n → StandRows bytes n (512 * (journal_pages n - 257)) rows → AreSound next slots → AreRowsSound slots rows → ((b : ℕ) → FitsRow (get_or rows b None))
+      → reserved ≡ replicate n false → OnOk r (AreDistinct slots) → OnOk r ((s : ℕ) (q : SlotRecord) → get_or slots s None ≡ Some q → OwnsOneEach rows s (blocks_of q.text_len))
+      → ((v : View) → IsSound v → v.blocks ≡ n → next ≡ v.next → x ≡ v.indexes → slots ≡ v.slots → rows ≡ v.rows → reserved ≡ replicate v.blocks false → LoadsAs r (λ kept. KeepsAlone kept v))
+      → IfOk r (LoadedFrom bytes n)
+  read_loaded reserved (Err e) least most fields stand long wide there are owned fit none distinct lists kept = tt
+  read_loaded reserved (Ok h) least most fields stand long wide there are owned fit none distinct lists kept =
+      let sound = read_sound least most fields stand long wide are owned fit distinct lists in
+      record {
+        view = view_read;
+        sound = sound;
+        blocks = refl;
+        says = read_says fields stand long there;
+        keeps = kept view_read sound refl refl refl refl refl none;
+      }
