@@ -1,5 +1,5 @@
 // An append under way on a disk.
-ghost use Rattle.std.specs.Prelude.{◌≡◌, get_or, ◌≤◌, ◌*◌, ◌+◌, ◌<◌, ◌/◌, ◌%◌, ◌-◌, ◌↔◌, ◌^◌, ℕ, [], true, min, length, IsOk, IsErrOf, OnOk, IfOk};
+ghost use Rattle.std.specs.Prelude.{◌≡◌, ◌⊎◌, get_or, ◌≤◌, ◌*◌, ◌+◌, ◌<◌, ◌/◌, ◌%◌, ◌-◌, ◌↔◌, ◌^◌, ℕ, List, [], true, min, length, IsOk, IsErrOf, OnOk, IfOk};
 ghost use Rattle.enc_model.specs.Indexes.{IndexSet as Indexes};
 ghost use Rattle.spool_disk.specs.Disk.{Counts, IsImage, Keeps as OnlyRead};
 ghost use Rattle.spool_disk.specs.Views.{Lasts};
@@ -13,7 +13,7 @@ ghost use Rattle.upload_rules.specs.World.{Patch};
 ghost use Rattle.upload_rules.specs.declared.errors.UploadRefusal.{UploadRefusal as Refusal};
 ghost use Rattle.spool_drafts.specs.Effect.{Effect};
 ghost use Rattle.spool_drafts.specs.Growth.{list_on};
-ghost use Rattle.spool_drafts.specs.Drafts.{Holds, Carries, IsBegun, IsPlaced, IsLonger, EndsAs, with_piece, open_text, number_of, offset_of, came_of, list_of, committed_len_of, tail_of};
+ghost use Rattle.spool_drafts.specs.Drafts.{Holds, Carries, EndsAs, EndsBehind, IsBegun, IsBehind, IsLonger, IsPlaced, with_piece, open_text, number_of, offset_of, came_of, list_of, committed_len_of, tail_of};
 
 use crate::fresh::{finished, read_on};
 use crate::growth::Growth;
@@ -66,6 +66,8 @@ impl SpoolDraft {
         ensures none { IfOk result (λ d. list_of d ≡ []) }
         ensures tail { IfOk result (λ d. (i : ℕ) → i < length (tail_of d) → (upload.now.text_len / 4096 < length list.now) × (get_or (tail_of d) i 0 ≡ get_or list.now (upload.now.text_len / 4096) 0)) }
         ensures placed { (blocks : ℕ) → AllBelow blocks list.now → IfOk result (λ d. IsPlaced blocks d) }
+        ensures named { IfOk result (λ d. (number_of d ≡ upload.now.number) × (offset_of d ≡ upload.now.accepted)) }
+        ensures behind { IfOk result (IsBehind upload.now.text_len upload.now.state) }
     {
         upload.admits(offset, count)?;
         let Some(fresh) = NewText::behind(alloc, upload) else {
@@ -140,6 +142,7 @@ impl SpoolDraft {
 
         // What it holds, and what it leaves of the blocks and the disk, whatever the answer.
         ensures same { (number_of self.new ≡ number_of self.old) × (offset_of self.new ≡ offset_of self.old) × (committed_len_of self.new ≡ committed_len_of self.old) × (tail_of self.new ≡ tail_of self.old) }
+        ensures behind { (len : ℕ) (state : List ℕ) → IsBehind len state self.old → IsBehind len state self.new }
         ensures placed { IsPlaced layout.now self.new }
         ensures rows { blocks.new.rows ≡ blocks.old.rows }
         ensures reserved { IsReserved blocks.new (list_of self.new) }
@@ -198,6 +201,14 @@ impl SpoolDraft {
         ensures reserved { IsReserved blocks.new (list_of self.new) }
         ensures effect { Effect D.Disk (journal_pages layout.now) (list_of self.old) (list_of self.new) disk.old disk.new blocks.old blocks.new }
 
+        // What it ends in goes behind the text that it began behind, whatever the disk said.
+        ensures behind { (len : ℕ) (state : List ℕ) → IsBehind len state self.old
+            → IfOk result (EndsBehind len state (list_of self.new)) }
+        ensures room { (len : ℕ) (state : List ℕ) → IsBehind len state self.old → IsOk result
+            → offset_of self.old + 1 < 2 ^ 64 }
+        ensures refusal { (e : Refusal) → IsErrOf result (UploadError.Refused e)
+            → (e ≡ UploadRefusal.Unencodable) ⊎ (e ≡ UploadRefusal.Full) }
+
         // Nothing is written.
         ensures keeps { D.honest disk.old → OnlyRead (D.seen disk.old) (D.seen disk.new) (D.loose disk.old) (D.loose disk.new) }
         ensures lasts { D.honest disk.old → Lasts D.Disk disk.old disk.new (IsImage (D.seen disk.old) (D.loose disk.old)) }
@@ -209,8 +220,8 @@ impl SpoolDraft {
             → IfOk result (λ end. 1 ≤ length (list_of self.new) → bytes_with (D.seen disk.new) (25 + 2 * journal_pages layout.now) (list_of self.new) end.last.items ≡ open_text indexes.now p completes) }
     {
         let (state, text) = finished(alloc, &self.fresh, indexes, completes)?;
-        let text_len = self.growth.len() + text.len() as u64;
         let last = self.growth.end(alloc, disk, layout, blocks, &text)?;
+        let text_len = self.growth.len_with(&last);
         Ok(DraftEnd {
             state,
             text_len,

@@ -6,7 +6,7 @@ ghost use Rattle.spool_journal.specs.Image.{journal_pages, all_pages};
 ghost use Rattle.spool_texts.specs.Drafts.{IsReserved, GivesBack, bytes_with, content_on, held_count};
 ghost use Rattle.spool_texts.specs.TextOn.{AllBelow, text_on};
 ghost use Rattle.spool_drafts.specs.Effect.{Effect, Regrasps, RunsShort};
-ghost use Rattle.spool_drafts.specs.Growth.{list_on, tail_list, bytes_on, whole_len, IsTailed, HoldsLen, HoldsCount, GrowsTo, ClosesAs};
+ghost use Rattle.spool_drafts.specs.Growth.{list_on, tail_list, bytes_on, count_with, IsTailed, HoldsLen, HoldsCount, GrowsTo, ClosesAs};
 ghost use Rattle.upload_rules.specs.declared.errors.UploadRefusal.{UploadRefusal as Refusal};
 
 use spool_blocks::{BlockNo, Blocks};
@@ -65,19 +65,21 @@ impl Growth {
         }
     }
 
-    /// The length of the text with what was put behind.
-    pub(crate) fn len(&self) -> u64
-        requires { self.now.text_len ≤ 4096 * 65536 }
-        ensures len { result ≡ whole_len self.now.text_len self.now.on }
-        ensures few { result < 2 ^ 40 }
+    /// The length of the text that ended, of which the last bytes are still to be written.
+    pub(crate) fn len_with(&self, last: &[u8]) -> u64
+        requires few { self.now.text_len ≤ 4096 * 65536 }
+        requires fits { 1 ≤ length (list_on self.now.on)
+            → (length last.now + 4095) / 4096 ≤ length (list_on self.now.on) }
+        ensures nothing { length (list_on self.now.on) ≡ 0 → result ≡ self.now.text_len }
+        ensures more { 0 < length (list_on self.now.on)
+            → result ≡ 4096 * (self.now.text_len / 4096) + count_with (list_on self.now.on) last.now }
     {
-        match &self.on {
-            Some(text) => {
-                let _few = text.list();
-                self.text_len / PAGE as u64 * PAGE as u64 + text.len()
-            }
-            None => self.text_len,
+        let count = self.list().len();
+        if count == 0 {
+            return self.text_len;
         }
+        let full = self.text_len / PAGE as u64 + (count - last.len().div_ceil(PAGE)) as u64;
+        PAGE as u64 * full + last.len() as u64
     }
 
     /// Gives the reserved blocks back.
@@ -146,6 +148,8 @@ impl Growth {
         ensures grasps { (own : List ℕ) × Regrasps blocks.old blocks.new (list_on self.old.on) (list_on self.new.on) own }
         ensures answer { ClosesAs self.old self.new (length bytes.now) blocks.old blocks.new result }
         ensures fits { IfOk result (λ last. 1 ≤ length (list_on self.new.on) → (length last.items + 4095) / 4096 ≤ length (list_on self.new.on)) }
+        ensures len { (n : ℕ) → HoldsLen self.old n → IfOk result (λ last. 1 ≤ length (list_on self.new.on)
+            → count_with (list_on self.new.on) last.items ≡ n + length bytes.now) }
         ensures content { D.honest disk.old → IfOk result (λ last. 1 ≤ length (list_on self.new.on)
             → bytes_with (D.seen disk.new) (25 + 2 * journal_pages layout.now) (list_on self.new.on) last.items ≡ bytes_on (D.seen disk.old) (25 + 2 * journal_pages layout.now) self.old self.old.on ++ bytes.now) }
 
@@ -178,6 +182,8 @@ impl Growth {
         ensures grasps { (own : List ℕ) × Regrasps blocks.old blocks.new (list_on self.old.on) (list_on self.new.on) own }
         ensures answer { ClosesAs self.old self.new (length bytes.now) blocks.old blocks.new result }
         ensures fits { IfOk result (λ last. 1 ≤ length (list_on self.new.on) → (length last.items + 4095) / 4096 ≤ length (list_on self.new.on)) }
+        ensures len { (n : ℕ) → HoldsLen self.old n → IfOk result (λ last. 1 ≤ length (list_on self.new.on)
+            → count_with (list_on self.new.on) last.items ≡ n + length bytes.now) }
         ensures content { (seen : ℕ → ℕ) (first : ℕ) → IfOk result (λ last. 1 ≤ length (list_on self.new.on)
             → bytes_with seen first (list_on self.new.on) last.items ≡ bytes_on seen first self.old self.old.on ++ bytes.now) }
     {

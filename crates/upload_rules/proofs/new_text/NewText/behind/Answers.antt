@@ -7,15 +7,15 @@ use Rattle.upload_rules.specs.States.{transcoder_with, state_with}
 use Rattle.upload_rules.proofs.Transcoders.{reads}
 use Rattle.upload_rules.proofs.new_text.NewText.behind.Goals as goal
 
-pub returns-in_err-unpack : goal.returns-in_err-unpack
+pub returns-in_err-unpack-clause-holds : goal.returns-in_err-unpack-clause-holds
 unfolding state_with
-returns-in_err-unpack c x n u tells ok sound =
+returns-in_err-unpack-clause-holds c x n u tells ok sound =
     let k = c.in_err-unpack.ensures.only (transcoder_with x u [] (is_complete u)) sound (sym tells.state) in
     absurd cc
 
-pub returns : goal.returns
+pub returns-clause-holds : goal.returns-clause-holds
 unfolding state_with
-returns c x n u tells ok sound =
+returns-clause-holds c x n u tells ok sound =
     let open_still : is_complete u ≡ false = ne_eqb (length u.accepted) u.declared (λ e. c.if-upload.false (tells.accepted ∙ e ∙ sym tells.declared)) in
     let k = c.in_ok-unpack.ensures.only (transcoder_with x u [] (is_complete u)) sound (sym tells.state) in
     let is : c.in_ok-unpack.field-0 ≡ standing (transcoder_with x u [] (is_complete u)) = cc in
