@@ -28,7 +28,7 @@ use Rattle.upload_rules.specs.declared.errors.UploadError.TheVariants.{NoMemory,
 use Rattle.upload_rules.specs.declared.errors.UploadRefusal.TheVariants as refusals
 use Rattle.upload_rules.proofs.Patches.{draft_of}
 use Rattle.spool_kept.specs.Committing.{HasSameCount, IsCommit}
-use Rattle.spool_kept.specs.Drafting.{DraftsFit, DraftStands, OnlyReserves}
+use Rattle.spool_kept.specs.Drafting.{DraftsHold, DraftStands, OnlyReserves}
 use Rattle.spool_kept.specs.Extending.{IsPending, MayExtend}
 use Rattle.spool_kept.specs.Holding.{Holding}
 use Rattle.spool_kept.specs.Shows.{ImageShows, IsRecordOf}
@@ -138,7 +138,7 @@ module _ {D : Type 0} (disk : Ghosts D) (d d' : D) (h h' : Holding) (only : Only
     pub changed_mid : IsChanged drafts number (Some o') (set drafts number (Some o'))
     changed_mid = changed_in drafts (set drafts number (Some o')) number o' inside refl
 
-    pub fit_mid : DraftsFit h.layout h'.blocks (set drafts number (Some o'))
+    pub fit_mid : DraftsHold h.layout h'.blocks (set drafts number (Some o'))
     fit_mid = fit_longer h.layout h.blocks drafts is.fits number o is.here h'.blocks (set drafts number (Some o')) o' effect.own effect.grasp changed_mid reserved placed
 
     roomy : (done : Bool) → p.short ≡ false → length (list_of o') ≡ wants w.store.indexes p done → is_short w number p done ≡ false

@@ -15,7 +15,7 @@ use Rattle.upload_rules.proofs.Patches.{draft_of}
 use Rattle.upload_rules.proofs.Refusals.{no_such_upload, other_offset}
 use Rattle.upload_rules.proofs.Same.{same_upload}
 use Rattle.spool_kept.specs.Committing.{FindsSlot, HasSameCount, IsCommit}
-use Rattle.spool_kept.specs.Drafting.{DraftStands, DraftsFit, StandsFor}
+use Rattle.spool_kept.specs.Drafting.{DraftStands, DraftsHold, StandsFor}
 use Rattle.spool_kept.specs.Holding.{Holding, IsUsedBy}
 use Rattle.spool_kept.specs.Shows.{IsTold}
 use Rattle.spool_kept.proofs.Answered.{no_upload}
@@ -56,7 +56,7 @@ module _ {D : Type 0} (disk : Ghosts D) (d : D) (h : Holding) (drafts : List (Op
         let there = upload_there same.used is.upload same.number is.there in
         there ∙ ap (λ (u : Upload). Some u) (same_upload w number p is.upload s.stands.grown patch there (sym is.tells.accepted ∙ same.count ∙ held.offset))
 
-    pub commits : DraftsFit h.layout h.blocks drafts → (came_of o ≡ 0 → ⊥) → IsCommit disk d h drafts number o w p
+    pub commits : DraftsHold h.layout h.blocks drafts → (came_of o ≡ 0 → ⊥) → IsCommit disk d h drafts number o w p
     commits fits some = record {
       stands = s;
       fits = fits;

@@ -29,3 +29,4 @@ pub mod DraftSpent
 pub mod CommitSpent
 pub mod CommitHead
 pub mod LastWritten
+pub mod OfUploads

@@ -8,7 +8,7 @@ ghost use Rattle.upload_rules.specs.Answers.{Answers};
 ghost use Rattle.upload_rules.specs.Reading.{no_such, text_at, IsRead};
 ghost use Rattle.upload_rules.specs.Records.{TellsOf, above, with_number};
 ghost use Rattle.upload_rules.specs.Store.{Store, upload_of};
-ghost use Rattle.spool_kept.specs.Drafting.{IsOwnedBy};
+ghost use Rattle.spool_kept.specs.Drafting.{IsKept, IsOwnedBy};
 ghost use Rattle.spool_kept.specs.Holding.{IsUsedBy};
 ghost use Rattle.spool_kept.specs.Kept.{KeepsView};
 ghost use Rattle.spool_kept.specs.Records.{KeepsOf, IsUploadOn};
@@ -37,6 +37,7 @@ impl Kept {
     /// The slot of a number.
     pub fn slot_of(&self, number: u64) -> Option<u32>
         ensures used { MatchOption result ((s : ℕ) → IsUsedBy self.now.slots s number → ⊥) (λ s. IsUsedBy self.now.slots s number) }
+        ensures only { IfSome result (λ s. (t : ℕ) → IsUsedBy self.now.slots t number → t ≡ s) }
         ensures below { IfSome result (λ s. s < 512) }
     {
         slot_of(&self.order, number)
@@ -58,6 +59,7 @@ impl Kept {
         ensures long { IfSome result (λ u. u.upload.now.text_len ≤ 4096 * length u.list.now) }
         ensures few { IfSome result (λ u. length u.list.now ≤ 65536) }
         ensures owned { IfSome result (λ u. IsOwnedBy self.now.slots self.now.blocks.rows number u.list.now) }
+        ensures kept { IfSome result (λ u. IsKept self.now.slots u.upload.now) }
         ensures told { (v : View) (m : Store) (bytes : ℕ → ℕ) → KeepsView self.now v → Shows v m → Says bytes v
             → MatchOption result (upload_of m number ≡ None) (λ u. IsUploadOn m number bytes (25 + 2 * journal_pages self.now.layout) u.upload.now u.list.now) }
     {

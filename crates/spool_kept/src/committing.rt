@@ -1,38 +1,37 @@
 // The text of a draft is put behind its upload's.
-ghost use Rattle.std.specs.Prelude.{◌≡◌, ◌≤◌, ◌<◌, ◌*◌, ◌+◌, ◌^◌, ◌↔◌, ℕ, List, Option, Some, None, Err, length, get_or, min, slice_set, true, IsErrOf, IsSome, IfOk, IfSome};
+ghost use Rattle.std.specs.Prelude.{◌≡◌, ◌≤◌, ◌<◌, ◌*◌, ◌+◌, ◌^◌, ◌↔◌, ℕ, List, Option, Some, None, Err, length, get_or, slice_set, IsErrOf, IfOk};
 ghost use Rattle.spool_disk.specs.Disk.{Counts};
 ghost use Rattle.spool_disk.specs.Views.{Lasts};
 ghost use Rattle.spool_journal.specs.Image.{journal_pages, all_pages};
 ghost use Rattle.spool_drafts.specs.Drafts.{IsPlaced, came_of, list_of, number_of, offset_of};
 ghost use Rattle.spool_drafts.specs.Effect.{Effect};
 ghost use Rattle.spool_drafts.specs.declared.draft.SpoolDraft.{SpoolDraft as Draft};
+ghost use Rattle.spool_pages.specs.View.{SlotRecord as Said};
 ghost use Rattle.spool_texts.specs.Drafts.{IsReserved};
 ghost use Rattle.upload_rules.specs.Answers.{Answers};
 ghost use Rattle.upload_rules.specs.Calls.{commit_outcome, commit_refusal, committed, dropped, reached};
 ghost use Rattle.upload_rules.specs.Drafts.{draft_at};
 ghost use Rattle.upload_rules.specs.Store.{find};
 ghost use Rattle.upload_rules.specs.World.{Patch, World};
-ghost use Rattle.spool_kept.specs.Committing.{FindsSlot, HasSameCount, IsCommit, OnlyRead};
+ghost use Rattle.spool_kept.specs.Committing.{FindsSlot, HasSameCount, IsBehindSlot, IsCommit, OnlyRead};
 ghost use Rattle.spool_kept.specs.Drafting.{DraftsFit, OnlyReserves, StandsFor};
-ghost use Rattle.spool_kept.specs.Extending.{IsPending, MayExtend, SameEncodings};
+ghost use Rattle.spool_kept.specs.Extending.{IsPending, MayExtend};
 ghost use Rattle.spool_kept.specs.Holding.{IsUsedBy};
-ghost use Rattle.spool_kept.specs.Records.{IsUnpacked};
 ghost use Rattle.spool_kept.specs.Shows.{ImageShows};
 ghost use Rattle.spool_kept.specs.Stored.{ShowsEither, Stored};
 
 use crate::extending::{ExtendError, Longer, extend};
 use crate::kept::Kept;
-use crate::lists::blocks_of;
 use crate::records::record_at;
-use enc_stream::Transcoder;
 use spool_disk::Disk;
-use spool_drafts::{DraftEnd, SpoolDraft};
+use spool_drafts::SpoolDraft;
 use std::alloc::Global;
-use upload_rules::{Record, UploadError, UploadRefusal, taken};
+use upload_rules::{UploadError, UploadRefusal, taken};
 
 // The slot of a draft's upload, which has as many bytes as when the draft began: refused with `NoSuch`, `Offset`.
 fn slot_for(kept: &Kept, draft: &SpoolDraft) -> Result<u32, UploadRefusal>
-    ensures { FindsSlot kept.now.slots draft.now result }
+    ensures finds { FindsSlot kept.now.slots draft.now result }
+    ensures only { IfOk result (λ slot. (s : ℕ) → IsUsedBy kept.now.slots s (number_of draft.now) → s ≡ slot) }
 {
     let Some(slot) = kept.slot_of(draft.number()) else {
         return Err(UploadRefusal::NoSuch);
@@ -46,53 +45,6 @@ fn slot_for(kept: &Kept, draft: &SpoolDraft) -> Result<u32, UploadRefusal>
     Ok(slot)
 }
 
-// Whether a state has the record's encodings and mode.
-fn is_state_of(record: &Record, state: &[u8; 32]) -> bool
-    requires { IsUnpacked «record».now }
-    ensures same { result ≡ true → SameEncodings «record».now.state state.now }
-    ensures passes { SameEncodings «record».now.state state.now → result ≡ true }
-{
-    let Some(next) = Transcoder::unpack(state) else {
-        return false;
-    };
-    if next.from() != record.from || next.to() != record.to {
-        return false;
-    }
-    next.mode() == record.mode
-}
-
-// What an upload becomes by a draft whose text has ended: none where it doesn't fit what is kept of the upload. On a disk that gives
-// back what was written it always fits; it is compared so that what is kept fits together whatever the device said.
-fn longer_by(
-    kept: &Kept,
-    slot: u32,
-    draft: &SpoolDraft,
-    accepted: u64,
-    end: &DraftEnd,
-) -> Option<Longer>
-    ensures may { IfSome result (λ l. MayExtend kept.now l (list_of draft.now)) }
-    ensures is { IfSome result (λ l. l ≡ record { slot = slot; accepted = accepted; text_len = end.now.text_len; state = end.now.state }) }
-    ensures some { MayExtend kept.now (record { slot = slot; accepted = accepted; text_len = end.now.text_len; state = end.now.state }) (list_of draft.now) → IsSome result }
-{
-    let used = record_at(&kept.slots, slot as usize)?.record();
-    let text_len = end.text_len;
-    let more = draft.list().len() as u64;
-    let is_right_size = if more == 0 {
-        text_len == used.text_len
-    } else {
-        blocks_of(text_len) == used.text_len / 4096 + more
-    };
-    if !is_right_size || !is_state_of(used, &end.state) {
-        return None;
-    }
-    Some(Longer {
-        slot,
-        accepted,
-        text_len,
-        state: end.state,
-    })
-}
-
 // Ends a draft's text behind its upload's, and answers what the upload becomes, and the bytes that are still to be written: refused with
 // `Unencodable`, `Full`, `NoMemory`, `DiskFault`. The blocks stay the draft's. Nothing is written.
 fn ended<D: Disk>(
@@ -104,6 +56,8 @@ fn ended<D: Disk>(
 ) -> Result<(Longer, Vec<u8>), UploadError>
     requires room { 4096 * all_pages kept.old.layout ≤ D.size disk.old }
     requires used { HasSameCount kept.old.slots draft.old slot }
+    requires behind { IsBehindSlot kept.old.slots slot draft.old }
+    requires some { 0 < came_of draft.old }
     requires reserved { IsReserved kept.old.blocks (list_of draft.old) }
     requires placed { IsPlaced kept.old.layout draft.old }
     ensures size { D.size disk.new ≡ D.size disk.old }
@@ -115,6 +69,9 @@ fn ended<D: Disk>(
     ensures effect { Effect D.Disk (journal_pages kept.old.layout) (list_of draft.old) (list_of draft.new) disk.old disk.new kept.old.blocks kept.new.blocks }
     ensures only { D.honest disk.old → OnlyRead D.Disk disk.old disk.new }
     ensures may { IfOk result (λ e. MayExtend kept.new e.0 (list_of draft.new)) }
+    ensures more { IfOk result (λ e. (r : Said) → get_or kept.new.slots e.0.slot None ≡ Some r
+        → r.accepted < e.0.accepted) }
+    ensures no_offset { IsErrOf result (UploadError.Refused UploadRefusal.Offset) → ⊥ }
     ensures answer { (drafts : List (Option Draft)) (number : ℕ) (w : World) (p : Patch) → IsCommit D.Disk disk.old kept.old drafts number draft.old w p
         → Answers (commit_refusal w number p) result
         (λ e. (e.0.accepted ≡ reached p) × IsPending D.Disk disk.new kept.new w.store p.number p.body e.0 (list_of draft.new) e.1.items)
@@ -136,10 +93,13 @@ fn ended<D: Disk>(
         &kept.indexes,
         completes,
     )?;
-    match longer_by(kept, slot, draft, accepted, &end) {
-        Some(longer) => Ok((longer, end.last)),
-        None => Err(UploadError::Refused(UploadRefusal::Offset)),
-    }
+    let longer = Longer {
+        slot,
+        accepted,
+        text_len: end.text_len,
+        state: end.state,
+    };
+    Ok((longer, end.last))
 }
 
 // Puts a draft's text behind its upload's, in its slot, and answers the new offset. The draft is spent.
@@ -152,14 +112,17 @@ fn put_behind<D: Disk>(
 ) -> Result<u64, UploadError>
     requires room { 4096 * all_pages kept.old.layout ≤ D.size disk.old }
     requires used { HasSameCount kept.old.slots draft slot }
+    requires behind { IsBehindSlot kept.old.slots slot draft }
+    requires some { 0 < came_of draft }
     requires reserved { IsReserved kept.old.blocks (list_of draft) }
     requires placed { IsPlaced kept.old.layout draft }
     ensures size { D.size disk.new ≡ D.size disk.old }
     ensures honest { D.honest disk.old ↔ D.honest disk.new }
     ensures counts { Counts (IsErrOf result UploadError.DiskFault) (D.failures disk.old) (D.failures disk.new) }
     ensures layout { kept.new.layout ≡ kept.old.layout }
-    ensures fits { (drafts : List (Option Draft)) (number : ℕ) → DraftsFit kept.old.layout kept.old.blocks drafts → draft_at drafts number ≡ Some draft
-        → DraftsFit kept.new.layout kept.new.blocks (slice_set drafts number None) }
+    ensures fits { (drafts : List (Option Draft)) (number : ℕ) → DraftsFit kept.old drafts
+        → draft_at drafts number ≡ Some draft → DraftsFit kept.new (slice_set drafts number None) }
+    ensures no_offset { IsErrOf result (UploadError.Refused UploadRefusal.Offset) → ⊥ }
     ensures answer { (drafts : List (Option Draft)) (number : ℕ) (w : World) (p : Patch) → IsCommit D.Disk disk.old kept.old drafts number draft w p
         → Answers (commit_refusal w number p) result
         (λ n. (n ≡ reached p) × StandsFor D.Disk disk.new kept.new (slice_set drafts number None) (committed w number p))
@@ -201,12 +164,16 @@ pub fn commit<D: Disk>(
     number: usize,
 ) -> Result<u64, UploadError>
     requires room { 4096 * all_pages kept.old.layout ≤ D.size disk.old }
-    requires fits { DraftsFit kept.old.layout kept.old.blocks drafts.old.items }
-    ensures fits { DraftsFit kept.new.layout kept.new.blocks drafts.new.items }
+    requires fits { DraftsFit kept.old drafts.old.items }
+    ensures fits { DraftsFit kept.new drafts.new.items }
     ensures layout { kept.new.layout ≡ kept.old.layout }
     ensures size { D.size disk.new ≡ D.size disk.old }
     ensures honest { D.honest disk.old ↔ D.honest disk.new }
     ensures counts { Counts (IsErrOf result UploadError.DiskFault) (D.failures disk.old) (D.failures disk.new) }
+
+    // Whatever the disk said, it is refused so exactly where the upload doesn't have as many bytes as when the draft began.
+    ensures offset { (o : Draft) → draft_at drafts.old.items number ≡ Some o
+        → (IsErrOf result (UploadError.Refused UploadRefusal.Offset) ↔ ((s : ℕ) → HasSameCount kept.old.slots o s → ⊥)) }
     ensures answer { (w : World) (p : Patch) → StandsFor D.Disk disk.old kept.old drafts.old.items w → find number w.patches ≡ Some p
         → Answers (commit_refusal w number p) result
         (λ n. (n ≡ reached p) × StandsFor D.Disk disk.new kept.new drafts.new.items (committed w number p))

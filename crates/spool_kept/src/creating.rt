@@ -1,17 +1,18 @@
 // A new upload is made.
-ghost use Rattle.std.specs.Prelude.{◌≡◌, ◌↔◌, ◌⊎◌, ◌≤◌, ◌<◌, ◌+◌, ◌*◌, ◌^◌, ℕ, IsErr, IsErrOf, IsSome, IfOk, OnOk, IfSome, MatchOption, Some, None, length, get_or};
+ghost use Rattle.std.specs.Prelude.{◌≡◌, ◌↔◌, ◌⊎◌, ◌≤◌, ◌<◌, ◌+◌, ◌*◌, ◌^◌, ℕ, List, Option, IsErr, IsErrOf, IsSome, IfOk, OnOk, IfSome, MatchOption, Some, None, length, get_or};
 ghost use Rattle.spool_disk.specs.Disk.{Counts};
 ghost use Rattle.spool_disk.specs.Views.{Lasts};
 ghost use Rattle.spool_journal.specs.Image.{journal_pages, all_pages, InArea};
 ghost use Rattle.spool_pages.specs.Changes.{Changes, with_record};
-ghost use Rattle.spool_pages.specs.View.{View, text_page};
+ghost use Rattle.spool_drafts.specs.declared.draft.SpoolDraft.{SpoolDraft as Draft};
+ghost use Rattle.spool_pages.specs.View.{SlotRecord as Said, View, text_page};
 ghost use Rattle.upload_rules.specs.Answers.{Answers};
 ghost use Rattle.upload_rules.specs.Calls.{create_refusal, outcome};
 ghost use Rattle.upload_rules.specs.Records.{IsWellFormed};
 ghost use Rattle.upload_rules.specs.Store.{Store, created_store};
 ghost use Rattle.upload_rules.specs.World.{at_rest};
 ghost use Rattle.spool_kept.specs.Creating.{HasRoomAt, IsTakenIn, IsNewRecord};
-ghost use Rattle.spool_kept.specs.Holding.{IsUsedBy};
+ghost use Rattle.spool_kept.specs.Drafting.{DraftsFit};
 ghost use Rattle.spool_kept.specs.Kept.{KeepsView};
 ghost use Rattle.spool_kept.specs.Shows.{Shows};
 ghost use Rattle.spool_kept.specs.Stored.{Stored, ShowsEither};
@@ -125,7 +126,9 @@ pub fn create<D: Disk>(
     ensures counts { Counts (IsErrOf result UploadError.DiskFault) (D.failures disk.old) (D.failures disk.new) }
     ensures layout { kept.new.layout ≡ kept.old.layout }
     ensures blocks { kept.new.blocks ≡ kept.old.blocks }
-    ensures slots { (slot number : ℕ) → IsUsedBy kept.old.slots slot number → IsUsedBy kept.new.slots slot number }
+    ensures slots { (slot : ℕ) (r : Said) → get_or kept.old.slots slot None ≡ Some r
+        → get_or kept.new.slots slot None ≡ Some r }
+    ensures fits { (drafts : List (Option Draft)) → DraftsFit kept.old drafts → DraftsFit kept.new drafts }
     ensures answer { (m : Store) → Stored D.Disk disk.old kept.old m
         → Answers (create_refusal (at_rest m None) new) result (λ n. (n ≡ m.next) × Stored D.Disk disk.new kept.new (created_store m new)) (Stored D.Disk disk.new kept.new m) }
     ensures crash { (m : Store) → Stored D.Disk disk.old kept.old m

@@ -7,8 +7,9 @@ ghost use Rattle.spool_blocks.specs.Blocks.{Row as HeldRow};
 ghost use Rattle.spool_pages.specs.Changes.{ChangesButRows, with_record, SameRowsBut};
 ghost use Rattle.spool_pages.specs.View.{View};
 ghost use Rattle.spool_texts.specs.Drafts.{IsReserved};
+ghost use Rattle.upload_rules.specs.States.{SameEncodings};
 ghost use Rattle.upload_rules.specs.Store.{Store, appended_store};
-ghost use Rattle.spool_kept.specs.Extending.{SameEncodings, MayExtend, HandsOn, IsLonger, IsPending, IsWritten, longer_record};
+ghost use Rattle.spool_kept.specs.Extending.{MayExtend, HandsOn, IsLonger, IsPending, IsWritten, longer_record};
 ghost use Rattle.spool_kept.specs.Stored.{Stored, ShowsEither};
 ghost use Rattle.spool_pages.specs.View.{SlotRecord as Said};
 

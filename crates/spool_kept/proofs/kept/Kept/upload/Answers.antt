@@ -30,6 +30,16 @@ returns-clause-owned c =
     (subst (λ (h : Holding). IsUsedBy h.slots c.in_ok-slot.slot c.args.number) (sym c.self.view_is) c.in_ok-slot.ensures.used) c.blocks-list.result.now (list_is c) in
     subst (λ (h : Holding). IsOwnedBy h.slots h.blocks.rows c.args.number c.blocks-list.result.now) c.self.view_is owned
 
+pub returns-clause-kept : goal.returns-clause-kept
+returns-clause-kept c =
+    let h = c.args.self.now in
+    let s = c.in_ok-slot.slot in
+    let same : c.deref.result.now ≡ h.slots = search rules in
+    record {
+      slot = s;
+      there = ap (λ (xs : List (Option SlotRecord)). get_or xs s None) (sym same) ∙ sym c.in_ok-used.ensures ∙ ap (λ (r : SlotRecord). Some r) (sym c.record.ensures.said);
+    }
+
 pub returns-clause-told : goal.returns-clause-told
 returns-clause-told c v m bytes kept shows says =
     let h = c.args.self.now in
