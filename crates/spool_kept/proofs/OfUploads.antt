@@ -1,5 +1,5 @@
 -- The drafts' uploads, whatever the disk said: each is in a slot, and stays there.
-use Rattle.std.proofs.Common.{◌≡◌, ◌≢◌, inl, inr, ℕ, ◌<◌, ◌≤◌, ◌+◌, List, Option, None, Some, IfOk, IfSome, MatchOption, Result, Ok, Err, get_or, length, set, refl, sym, ◌∙◌, ap, subst, arith}
+use Rattle.std.proofs.Common.{◌≡◌, inl, inr, ℕ, ◌<◌, ◌≤◌, List, Option, None, Some, IfOk, IfSome, MatchOption, Result, Ok, Err, get_or, set, refl, sym, ◌∙◌, ap, subst, arith}
 use Rattle.std.proofs.lemmas.Bool.{cases_eq, cases_lt}
 use Rattle.std.proofs.lemmas.List.{get_or-set_other, get_or-set_same}
 use Rattle.std.proofs.lemmas.Option.{same_Some}
@@ -12,14 +12,15 @@ use Rattle.upload_rules.specs.Drafts.{draft_at}
 use Rattle.upload_rules.specs.declared.errors.UploadRefusal.{UploadRefusal}
 use Rattle.upload_rules.specs.declared.records.Record.{Record}
 use Rattle.spool_kept.specs.Committing.{HasSameCount, IsBehindSlot}
-use Rattle.spool_kept.specs.Drafting.{DraftsFit, IsKept, IsOfUpload, lists_at}
+use Rattle.spool_kept.specs.Creating.{HasRoomAt, IsTakenIn}
+use Rattle.spool_kept.specs.Drafting.{DraftsFit, DraftsHold, IsKept, IsOfUpload, lists_at}
 use Rattle.spool_kept.specs.Extending.{longer_record}
 use Rattle.spool_kept.specs.Holding.{FitsTogether, Holding, IsUsedBy, Lists, number_at, numbered}
 use Rattle.spool_kept.specs.Records.{said_of}
 use Rattle.spool_kept.specs.declared.extending.Longer.{Longer}
 use Rattle.spool_kept.specs.declared.order.NumberedSlot.{NumberedSlot}
 use Rattle.spool_kept.proofs.Drafted.{IsChanged, changed_out, fit_dropped}
-use Rattle.spool_kept.proofs.ChangedSlots.{in_use}
+use Rattle.spool_kept.proofs.ChangedSlots.{clash, in_use, slot_else}
 
 -- ONE SLOT FOR A NUMBER
 
@@ -152,3 +153,15 @@ fits_dropped h blocks old new d is fit gives = record {
   blocks = fit_dropped h.layout h.blocks blocks old new d is fit.blocks gives;
   uploads = of_dropped h.slots h.slots old new d refl is fit.uploads;
 }
+
+-- a new upload is kept
+pub fits_created : (h h' : Holding) (slot : ℕ) (r : SlotRecord) (drafts : List (Option SpoolDraft)) → HasRoomAt h slot → IsTakenIn h slot r h' → DraftsFit h drafts → DraftsFit h' drafts
+fits_created h h' slot r drafts room taken fit = record {
+  blocks = subst (λ (n : ℕ). DraftsHold n h'.blocks drafts) (sym taken.layout) (subst (λ (blocks : Held). DraftsHold h.layout blocks drafts) (sym taken.blocks) fit.blocks);
+  uploads = λ d o there. of_more h.slots h'.slots o still (fit.uploads d o there);
+}
+  where
+    still : (s : ℕ) (q : SlotRecord) → get_or h.slots s None ≡ Some q → get_or h'.slots s None ≡ Some q
+    still s q e =
+        ap (λ (slots : List (Option SlotRecord)). get_or slots s None) taken.slots
+        ∙ slot_else h.slots slot r s (λ same. clash room.free (ap (λ (k : ℕ). get_or h.slots k None) (sym same) ∙ e)) ∙ e

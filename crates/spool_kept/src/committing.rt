@@ -24,7 +24,7 @@ use crate::extending::{ExtendError, Longer, extend};
 use crate::kept::Kept;
 use crate::records::record_at;
 use spool_disk::Disk;
-use spool_drafts::SpoolDraft;
+use spool_drafts::{DraftEnd, SpoolDraft};
 use std::alloc::Global;
 use upload_rules::{UploadError, UploadRefusal, taken};
 
@@ -85,7 +85,11 @@ fn ended<D: Disk>(
     let accepted = draft.offset().saturating_add(draft.came());
     let completes = accepted == used.declared;
     let _rows = kept.blocks.rows();
-    let end = draft.end(
+    let DraftEnd {
+        state,
+        text_len,
+        last,
+    } = draft.end(
         alloc,
         disk,
         &kept.layout,
@@ -96,10 +100,10 @@ fn ended<D: Disk>(
     let longer = Longer {
         slot,
         accepted,
-        text_len: end.text_len,
-        state: end.state,
+        text_len,
+        state,
     };
-    Ok((longer, end.last))
+    Ok((longer, last))
 }
 
 // Puts a draft's text behind its upload's, in its slot, and answers the new offset. The draft is spent.

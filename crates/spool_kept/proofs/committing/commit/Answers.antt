@@ -1,8 +1,12 @@
-use Rattle.std.proofs.Common.{◌≡◌, ◌∙◌, List, Option, ap, refl, subst, sym}
+use Rattle.std.proofs.Common.{Err, IsErrOf, ℕ, ◌↔◌, ◌≡◌, ◌∙◌, List, Option, ap, refl, subst, sym}
+use Rattle.std.proofs.lemmas.Option.{same_Some}
 use Rattle.spool_drafts.specs.declared.draft.SpoolDraft.{SpoolDraft}
 use Rattle.spool_texts.specs.Drafts.{GivesBack}
 use Rattle.upload_rules.specs.Answers.{Answers}
 use Rattle.upload_rules.specs.Calls.{commit_refusal, committed, dropped, reached}
+use Rattle.upload_rules.specs.declared.errors.UploadError.TheVariants.{Refused}
+use Rattle.upload_rules.specs.declared.errors.UploadRefusal.TheVariants.{Offset}
+use Rattle.spool_kept.specs.Committing.{HasSameCount}
 use Rattle.spool_kept.specs.Drafting.{DraftsFit, StandsFor, list_in, lists_at}
 use Rattle.spool_kept.specs.Holding.{Holding}
 use Rattle.spool_kept.proofs.CommitHead as head
@@ -16,6 +20,13 @@ put_behind-requires-clause-placed g c = c.requires.fits.blocks.placed c.args.num
 pub put_behind-requires-clause-behind : goal.put_behind-requires-clause-behind
 put_behind-requires-clause-behind g c =
     behind_slot c.args.kept.now.slots c.in-Some.draft c.in-Ok.slot c.in-Ok.ensures.finds c.in-Ok.ensures.only (c.requires.fits.uploads c.args.number c.in-Some.draft (sym c.in-Some.ensures.taken))
+
+pub returns-in-Err-clause-offset : goal.returns-in-Err-clause-offset
+returns-in-Err-clause-offset g c o here =
+    let slots = c.args.kept.now.slots in
+    let is = same_Some c.in-Some.draft o (c.in-Some.ensures.taken ∙ here) in
+    subst (λ (d : SpoolDraft). IsErrOf {T = ℕ} (Err (Refused c.in-Err.refusal)) (Refused Offset) ↔ ((s : ℕ) → HasSameCount slots d s → ⊥)) is
+    (head.at_offset slots c.in-Some.draft c.in-Err.refusal c.in-Err.ensures.finds (c.requires.fits.uploads c.args.number c.in-Some.draft (sym c.in-Some.ensures.taken)))
 
 -- WITHOUT A CALL OF THE DEVICE
 
