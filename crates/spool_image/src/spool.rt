@@ -29,7 +29,7 @@ pub struct Spool<D: Disk> {
     /// by their numbers
     drafts: Vec<Option<SpoolDraft>>,
     ghost room: { 4096 * all_pages kept.layout ≤ D.size disk },
-    ghost fits: { DraftsFit kept.layout kept.blocks drafts.items },
+    ghost fits: { DraftsFit kept drafts.items },
 }
 
 /// A draft of a spool: the append of its number.

@@ -26,14 +26,17 @@ state_with x u bytes done = state_bytes (transcoder_with x u bytes done)
 abbrev pub state_of : IndexSet → Upload → List ℕ
 state_of x u = state_with x u [] (is_complete u)
 
--- the state bytes are those of a transcoder with the encodings and the mode of this one
-pub record IsStateLike (state : List ℕ) (other : Transcoder) : Type 0 where
+-- these are the state bytes of a transcoder
+pub record IsState (state : List ℕ) : Type 0 where
   pub transcoder : Transcoder
   pub sound : IsSound transcoder
   pub is : state ≡ state_bytes transcoder
-  pub from : other.from ≡ transcoder.from
-  pub to : other.to ≡ transcoder.to
-  pub mode : other.mode ≡ transcoder.mode
+
+-- a transcoder with these state bytes has the encodings and the mode of this one
+pub record IsStateLike (state : List ℕ) (other : Transcoder) : Type 0 where
+  pub from : (s : Transcoder) → IsSound s → state ≡ state_bytes s → other.from ≡ s.from
+  pub to : (s : Transcoder) → IsSound s → state ≡ state_bytes s → other.to ≡ s.to
+  pub mode : (s : Transcoder) → IsSound s → state ≡ state_bytes s → other.mode ≡ s.mode
 
 -- the states of two transcoders with the same encodings and the same mode
 pub record SameEncodings (old new : List ℕ) : Type 0 where

@@ -29,7 +29,7 @@ pub enum NewText {
 impl NewText {
     ghost use Rattle.upload_rules.specs.Texts.{GoesOn, HoldsText, IsEnded, IsGrowing};
     ghost use Rattle.upload_rules.specs.Records.{Tells};
-    ghost use Rattle.upload_rules.specs.States.{SameEncodings, transcoder_with};
+    ghost use Rattle.upload_rules.specs.States.{IsState, SameEncodings, transcoder_with};
     ghost use Rattle.enc_stream.specs.StateBytes.{IsSound};
 
     /// What an append to the upload of a record adds at first: nothing. None where the state bytes are those of no state.
@@ -95,7 +95,7 @@ impl NewText {
     ) -> Result<([u8; 32], Vec<u8>), UploadError>
         ensures ended { (u : Upload) (bytes : List ℕ) → HoldsText indexes.now u bytes self → is_complete u ≡ false
             → IsEnded indexes.now u bytes completes result }
-        ensures same { (state : List ℕ) → GoesOn state self → IfOk result (λ end. SameEncodings state end.0) }
+        ensures same { (state : List ℕ) → IsState state → GoesOn state self → IfOk result (λ end. SameEncodings state end.0) }
         ensures growing { IsOk result → IsGrowing self }
         ensures no_device { IsErrOf result UploadError.DiskFault → ⊥ }
         ensures refusal { (e : Refusal) → IsErrOf result (UploadError.Refused e) → e ≡ UploadRefusal.Unencodable }

@@ -1,7 +1,10 @@
 use Rattle.std.proofs.Common.{◌≡◌, ◌++◌, [], false, None, ap, sym, ◌∙◌, append-nil}
 use Rattle.std.proofs.lemmas.Bool.{ne_eqb}
 use Rattle.std.proofs.Common.{length}
-use Rattle.enc_stream.specs.StateBytes.{standing}
+use Rattle.std.proofs.lemmas.Option.{same_Some}
+use Rattle.enc_model.specs.Transcode.{Transcoder}
+use Rattle.enc_stream.specs.Standing.{Standing}
+use Rattle.enc_stream.specs.StateBytes.{IsSound, standing, state_bytes}
 use Rattle.upload_rules.specs.Store.{text_with, is_complete}
 use Rattle.upload_rules.specs.States.{transcoder_with, state_with}
 use Rattle.upload_rules.proofs.Transcoders.{reads}
@@ -23,3 +26,13 @@ returns-clause-holds c x n u tells ok sound =
       reads x u [] c.in_ok-unpack.field-0 encodable (is ∙ ap (λ b. standing (transcoder_with x u [] b)) open_still),
       ap (λ l. (text_with x u [] false).bytes ++ l) c.new.ensures.items ∙ append-nil (text_with x u [] false).bytes,
     )
+
+pub returns-clause-goes_on : goal.returns-clause-goes_on
+returns-clause-goes_on c =
+    let same : (s : Transcoder) → IsSound s → c.args.upload.now.state ≡ state_bytes s → c.in_ok-unpack.field-0 ≡ standing s =
+    λ s sound is. same_Some c.in_ok-unpack.field-0 (standing s) (sym c.in_ok-unpack.was ∙ c.unpack.ensures.only s sound (sym is)) in
+    record {
+      from = λ s sound is. ap (λ (t : Standing). t.transcoder.from) (same s sound is);
+      to = λ s sound is. ap (λ (t : Standing). t.transcoder.to) (same s sound is);
+      mode = λ s sound is. ap (λ (t : Standing). t.transcoder.mode) (same s sound is);
+    }

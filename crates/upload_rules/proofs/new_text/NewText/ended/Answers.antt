@@ -7,7 +7,7 @@ use Rattle.upload_rules.specs.declared.new_text.NewText.{NewText}
 use Rattle.upload_rules.specs.declared.new_text.NewText.TheVariants.{Growing, Unencodable, Complete}
 use Rattle.upload_rules.specs.Store.{Upload, text_with, is_complete}
 use Rattle.upload_rules.specs.World.{is_there}
-use Rattle.upload_rules.specs.States.{SameEncodings}
+use Rattle.upload_rules.specs.States.{IsState, SameEncodings}
 use Rattle.upload_rules.specs.Texts.{GoesOn, HoldsText, IsWhole}
 use Rattle.upload_rules.proofs.Transcoders.{whole_ended, whole_open, end_fault, unencodable_ended, code_fault}
 use Rattle.upload_rules.proofs.new_text.NewText.ended.Goals as goal
@@ -55,24 +55,24 @@ returns-clause-ended c = λ u bytes holds still.
 -- WHATEVER THE UPLOAD
 
 -- the encodings and the mode stay
-same_encodings : (state packed : List ℕ) (t : Standing) (text : Vec ℕ Global) (next : Transcoder) → GoesOn state (Growing t text) → next.from ≡ t.transcoder.from → next.to ≡ t.transcoder.to
+same_encodings : (state packed : List ℕ) (t : Standing) (text : Vec ℕ Global) (next : Transcoder) → IsState state → GoesOn state (Growing t text) → next.from ≡ t.transcoder.from → next.to ≡ t.transcoder.to
     → next.mode ≡ t.transcoder.mode → packed ≡ state_bytes next → IsSound next → SameEncodings state packed
-same_encodings state packed t text next goes from to mode is sound = record {
-  before = goes.transcoder;
+same_encodings state packed t text next old goes from to mode is sound = record {
+  before = old.transcoder;
   after = next;
-  before_sound = goes.sound;
+  before_sound = old.sound;
   after_sound = sound;
-  was = goes.is;
+  was = old.is;
   is = is;
-  from = from ∙ goes.from;
-  to = to ∙ goes.to;
-  mode = mode ∙ goes.mode;
+  from = from ∙ goes.from old.transcoder old.sound old.is;
+  to = to ∙ goes.to old.transcoder old.sound old.is;
+  mode = mode ∙ goes.mode old.transcoder old.sound old.is;
 }
 
 pub returns-clause-same : goal.returns-clause-same
-returns-clause-same c state goes =
+returns-clause-same c state old goes =
     let held = subst (GoesOn state) c.in-Growing.is goes in
-    let same = same_encodings state c.pack.result c.in-Growing.transcoder c.in-Growing.text c.if-completes.transcoder.transcoder held in
+    let same = same_encodings state c.pack.result c.in-Growing.transcoder c.in-Growing.text c.if-completes.transcoder.transcoder old held in
     elim c.if-completes.branch [
       | then-completes+in-Ok w ↦
           let is = w.transcoder-is ∙ w.in-Ok.ensures.over in
