@@ -8,6 +8,7 @@ ghost use Rattle.spool_texts.specs.Drafts.{IsReserved, GivesBack, bytes_with};
 ghost use Rattle.spool_texts.specs.TextOn.{AllBelow, text_on};
 ghost use Rattle.upload_rules.specs.Calls.{first_patch};
 ghost use Rattle.upload_rules.specs.Records.{Keeps};
+ghost use Rattle.upload_rules.specs.States.{IsState};
 ghost use Rattle.upload_rules.specs.Store.{Upload, text_of};
 ghost use Rattle.upload_rules.specs.World.{Patch};
 ghost use Rattle.upload_rules.specs.declared.errors.UploadRefusal.{UploadRefusal as Refusal};
@@ -202,7 +203,7 @@ impl SpoolDraft {
         ensures effect { Effect D.Disk (journal_pages layout.now) (list_of self.old) (list_of self.new) disk.old disk.new blocks.old blocks.new }
 
         // What it ends in goes behind the text that it began behind, whatever the disk said.
-        ensures behind { (len : ℕ) (state : List ℕ) → IsBehind len state self.old
+        ensures behind { (len : ℕ) (state : List ℕ) → IsState state → IsBehind len state self.old
             → IfOk result (EndsBehind len state (list_of self.new)) }
         ensures room { (len : ℕ) (state : List ℕ) → IsBehind len state self.old → IsOk result
             → offset_of self.old + 1 < 2 ^ 64 }

@@ -1,7 +1,7 @@
 // Where transcoding stands.
 ghost use Rattle.std.specs.Prelude.{◌≡◌, ◌++◌, ℕ, false, List, IfOk, IsErrOf, IsOk};
 ghost use Rattle.upload_rules.specs.Store.{Upload, is_complete};
-ghost use Rattle.upload_rules.specs.States.{SameEncodings};
+ghost use Rattle.upload_rules.specs.States.{IsState, SameEncodings};
 ghost use Rattle.upload_rules.specs.Texts.{GoesOn, IsGrowing};
 ghost use Rattle.upload_rules.specs.declared.errors.UploadRefusal.{UploadRefusal as Refusal};
 ghost use Rattle.spool_drafts.specs.Fresh.{StandsAt, Adds, IsEmptied, text_in, FinishesAs};
@@ -38,7 +38,8 @@ pub(crate) fn finished(
 ) -> Result<([u8; 32], Vec<u8>), UploadError>
     ensures finished { (u : Upload) (bytes : List ℕ) → is_complete u ≡ false → StandsAt indexes.now u bytes fresh.now
         → FinishesAs indexes.now u bytes completes result }
-    ensures same { (state : List ℕ) → GoesOn state fresh.now → IfOk result (λ end. SameEncodings state end.0) }
+    ensures same { (state : List ℕ) → IsState state → GoesOn state fresh.now
+        → IfOk result (λ end. SameEncodings state end.0) }
     ensures growing { IsOk result → IsGrowing fresh.now }
     ensures no_device { IsErrOf result UploadError.DiskFault → ⊥ }
     ensures refusal { (e : Refusal) → IsErrOf result (UploadError.Refused e) → e ≡ UploadRefusal.Unencodable }

@@ -86,7 +86,7 @@ module _ {D : Type 0} (disk : Ghosts D) (d : D) (h : Holding) (drafts : List (Op
 pub at_offset : (slots : List (Option SlotRecord)) (o : SpoolDraft) (e : UploadRefusal) → FindsSlot slots o (Err e) → IsOfUpload slots o
     → (IsErrOf {T = ℕ} (Err (Refused e)) (Refused Offset) ↔ ((s : ℕ) → HasSameCount slots o s → ⊥))
 at_offset slots o NoSuch free is =
-    let used : ⊥ = free is.slot (record { used = is.used; there = is.there; is = is.number }) in
+    let used : ⊥ = is.some free in
     (λ refused. absurd used, λ none. absurd used)
 at_offset slots o Offset other is = (λ refused. other.none, λ none. refl)
 at_offset slots o TooLong found is = absurd found

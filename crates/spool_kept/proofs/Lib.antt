@@ -30,3 +30,4 @@ pub mod CommitSpent
 pub mod CommitHead
 pub mod LastWritten
 pub mod OfUploads
+pub mod Facts

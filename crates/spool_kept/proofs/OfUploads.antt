@@ -1,5 +1,5 @@
 -- The drafts' uploads, whatever the disk said: each is in a slot, and stays there.
-use Rattle.std.proofs.Common.{◌≡◌, inl, inr, ℕ, ◌<◌, ◌≤◌, List, Option, None, Some, IfOk, IfSome, MatchOption, Result, Ok, Err, get_or, set, refl, sym, ◌∙◌, ap, subst, arith}
+use Rattle.std.proofs.Common.{◌≡◌, ◌≢◌, inl, inr, ℕ, ◌<◌, List, Option, ◌⊎◌, length-set, None, Some, IfOk, IfSome, MatchOption, Result, Ok, Err, get_or, length, set, refl, sym, ◌∙◌, ap, subst, arith}
 use Rattle.std.proofs.lemmas.Bool.{cases_eq, cases_lt}
 use Rattle.std.proofs.lemmas.List.{get_or-set_other, get_or-set_same}
 use Rattle.std.proofs.lemmas.Option.{same_Some}
@@ -20,7 +20,7 @@ use Rattle.spool_kept.specs.Records.{said_of}
 use Rattle.spool_kept.specs.declared.extending.Longer.{Longer}
 use Rattle.spool_kept.specs.declared.order.NumberedSlot.{NumberedSlot}
 use Rattle.spool_kept.proofs.Drafted.{IsChanged, changed_out, fit_dropped}
-use Rattle.spool_kept.proofs.ChangedSlots.{clash, in_use, slot_else}
+use Rattle.spool_kept.proofs.ChangedSlots.{clash, in_use, slot_else, slot_here}
 
 -- ONE SLOT FOR A NUMBER
 
@@ -51,12 +51,9 @@ only_of h fits n (Some s) l = one_slot h fits n s l
 -- one that begins
 of_begun : (slots : List (Option SlotRecord)) (r : Record) (o : SpoolDraft) → IsKept slots r → number_of o ≡ r.number → offset_of o ≡ r.accepted → IsBehind r.text_len r.state o → IsOfUpload slots o
 of_begun slots r o kept number offset behind = record {
-  slot = kept.slot;
-  used = said_of r;
-  there = kept.there;
-  number = sym number;
-  grown = omega (arith, offset);
-  behind = λ same. behind;
+  some = λ none. none kept.slot (record { used = said_of r; there = kept.there; is = sym number });
+  grown = λ s q there is. omega (arith, offset, ap (λ (p : SlotRecord). p.accepted) (kept.only s q there (is ∙ number)));
+  behind = λ s q there is same. subst (λ (p : SlotRecord). IsBehind p.text_len p.state o) (sym (kept.only s q there (is ∙ number))) behind;
 }
 
 pub begins_kept : (slots : List (Option SlotRecord)) (r : Record) (result : Result SpoolDraft UploadRefusal) → IsKept slots r → IfOk result (λ o. (number_of o ≡ r.number) × (offset_of o ≡ r.accepted))
@@ -68,59 +65,63 @@ begins_kept slots r (Err e) kept named behind = tt
 pub of_longer : (slots : List (Option SlotRecord)) (o o' : SpoolDraft) → number_of o' ≡ number_of o → offset_of o' ≡ offset_of o
     → ((len : ℕ) (state : List ℕ) → IsBehind len state o → IsBehind len state o') → IsOfUpload slots o → IsOfUpload slots o'
 of_longer slots o o' number offset on is = record {
-  slot = is.slot;
-  used = is.used;
-  there = is.there;
-  number = is.number ∙ sym number;
-  grown = omega (arith, is.grown, offset);
-  behind = λ same. on is.used.text_len is.used.state (is.behind (same ∙ offset));
-}
-
--- more slots are in use
-pub of_more : (old new : List (Option SlotRecord)) (o : SpoolDraft) → ((s : ℕ) (r : SlotRecord) → get_or old s None ≡ Some r → get_or new s None ≡ Some r) → IsOfUpload old o → IsOfUpload new o
-of_more old new o kept is = record {
-  slot = is.slot;
-  used = is.used;
-  there = kept is.slot is.used is.there;
-  number = is.number;
-  grown = is.grown;
-  behind = is.behind;
+  some = subst (λ (n : ℕ). ((s : ℕ) → IsUsedBy slots s n → ⊥) → ⊥) (sym number) is.some;
+  grown = λ s r there at. omega (arith, is.grown s r there (at ∙ number), offset);
+  behind = λ s r there at same. on r.text_len r.state (is.behind s r there (at ∙ number) (same ∙ offset));
 }
 
 -- its slot's record, with the count that the draft began at
-pub behind_slot : (slots : List (Option SlotRecord)) (o : SpoolDraft) (slot : ℕ) → HasSameCount slots o slot → ((s : ℕ) → IsUsedBy slots s (number_of o) → s ≡ slot) → IsOfUpload slots o → IsBehindSlot slots slot o
-behind_slot slots o slot has only is r there =
-    let at : is.slot ≡ slot = only is.slot (record { used = is.used; there = is.there; is = is.number }) in
-    let same : is.used ≡ r = same_Some is.used r (sym is.there ∙ ap (λ (s : ℕ). get_or slots s None) at ∙ there) in
-    let found : has.used ≡ r = same_Some has.used r (sym has.there ∙ there) in
-    subst (λ (q : SlotRecord). IsBehind q.text_len q.state o) same
-    (is.behind (ap (λ (q : SlotRecord). q.accepted) (same ∙ sym found) ∙ has.count))
+pub behind_slot : (slots : List (Option SlotRecord)) (o : SpoolDraft) (slot : ℕ) → HasSameCount slots o slot → IsOfUpload slots o → IsBehindSlot slots slot o
+behind_slot slots o slot has is r there =
+    let same : has.used ≡ r = same_Some has.used r (sym has.there ∙ there) in
+    is.behind slot r there (ap (λ (q : SlotRecord). q.number) (sym same) ∙ has.number) (ap (λ (q : SlotRecord). q.accepted) (sym same) ∙ has.count)
 
 -- an upload got longer
-pub of_extended : (slots : List (Option SlotRecord)) (longer : Longer) (used : SlotRecord) (o : SpoolDraft) → get_or slots longer.slot None ≡ Some used → used.accepted < longer.accepted
-    → IsOfUpload slots o → IsOfUpload (set slots longer.slot (Some (longer_record used longer))) o
-of_extended slots longer used o there more is =
-    elim (cases_eq longer.slot is.slot) [
-      | inl same ↦
-          let is_used : is.used ≡ used = same_Some is.used used (sym is.there ∙ ap (λ (s : ℕ). get_or slots s None) (sym same) ∙ there) in
-          let grown : offset_of o ≤ used.accepted = omega (arith, is.grown, ap (λ (r : SlotRecord). r.accepted) is_used) in
-          record {
-            slot = longer.slot;
-            used = longer_record used longer;
-            there = get_or-set_same slots longer.slot (Some (longer_record used longer)) None (in_use slots longer.slot used there);
-            number = ap (λ (r : SlotRecord). r.number) (sym is_used) ∙ is.number;
-            grown = omega (arith, grown, more);
-            behind = λ at. absurd (omega (arith, grown, more, at));
-          }
-      | inr other ↦ record {
-        slot = is.slot;
-        used = is.used;
-        there = get_or-set_other slots longer.slot is.slot (Some (longer_record used longer)) None (λ s. other (sym s)) ∙ is.there;
-        number = is.number;
-        grown = is.grown;
-        behind = is.behind;
-      }
-    ]
+module _ (slots : List (Option SlotRecord)) (longer : Longer) (used : SlotRecord) (o : SpoolDraft) (there : get_or slots longer.slot None ≡ Some used) (more : used.accepted < longer.accepted)
+    (is : IsOfUpload slots o) where
+  abbrev after : List (Option SlotRecord)
+  after = set slots longer.slot (Some (longer_record used longer))
+
+  here : get_or (set slots longer.slot (Some (longer_record used longer))) longer.slot None ≡ Some (longer_record used longer)
+  here = get_or-set_same slots longer.slot (Some (longer_record used longer)) None (in_use slots longer.slot used there)
+
+  away : (s : ℕ) → longer.slot ≢ s → get_or (set slots longer.slot (Some (longer_record used longer))) s None ≡ get_or slots s None
+  away s other = get_or-set_other slots longer.slot s (Some (longer_record used longer)) None (λ e. other (sym e))
+
+  used_after : (s : ℕ) → IsUsedBy slots s (number_of o) → IsUsedBy (set slots longer.slot (Some (longer_record used longer))) s (number_of o)
+  used_after s u = elim (cases_eq longer.slot s) [
+    | inl same ↦ record {
+      used = longer_record used longer;
+      there = ap (λ (k : ℕ). get_or (set slots longer.slot (Some (longer_record used longer))) k None) (sym same) ∙ here;
+      is = ap (λ (r : SlotRecord). r.number) (same_Some used u.used (sym there ∙ ap (λ (k : ℕ). get_or slots k None) same ∙ u.there)) ∙ u.is;
+    }
+    | inr other ↦ record { used = u.used; there = away s other ∙ u.there; is = u.is }
+  ]
+
+  -- a record of the changed slots is the longer one, or was there
+  record_after : (s : ℕ) (r : SlotRecord) → get_or (set slots longer.slot (Some (longer_record used longer))) s None ≡ Some r
+      → (r ≡ longer_record used longer) ⊎ (get_or slots s None ≡ Some r)
+  record_after s r e = elim (cases_eq longer.slot s) [
+    | inl same ↦ inl (same_Some r (longer_record used longer)
+        (sym e ∙ ap (λ (k : ℕ). get_or (set slots longer.slot (Some (longer_record used longer))) k None) (sym same) ∙ here))
+    | inr other ↦ inr (sym (away s other) ∙ e)
+  ]
+
+  -- the longer one has more bytes than the draft began at
+  count_after : (r : SlotRecord) → r ≡ longer_record used longer → r.number ≡ number_of o → offset_of o < r.accepted
+  count_after r same at =
+      let before = is.grown longer.slot used there (ap (λ (q : SlotRecord). q.number) (sym same) ∙ at) in
+      omega (arith, before, more, ap (λ (q : SlotRecord). q.accepted) same)
+
+  pub of_extended : IsOfUpload (set slots longer.slot (Some (longer_record used longer))) o
+  of_extended = record {
+    some = λ none. is.some (λ s u. none s (used_after s u));
+    grown = λ s r e at. elim (record_after s r e) [ inl same ↦ (let lt = count_after r same at in omega (arith, lt)) | inr old ↦ is.grown s r old at ];
+    behind = λ s r e at count. elim (record_after s r e) [
+      | inl same ↦ absurd (let lt = count_after r same at in omega (arith, lt, count))
+      | inr old ↦ is.behind s r old at count
+    ];
+  }
 
 -- ALL DRAFTS
 
@@ -155,13 +156,43 @@ fits_dropped h blocks old new d is fit gives = record {
 }
 
 -- a new upload is kept
-pub fits_created : (h h' : Holding) (slot : ℕ) (r : SlotRecord) (drafts : List (Option SpoolDraft)) → HasRoomAt h slot → IsTakenIn h slot r h' → DraftsFit h drafts → DraftsFit h' drafts
-fits_created h h' slot r drafts room taken fit = record {
-  blocks = subst (λ (n : ℕ). DraftsHold n h'.blocks drafts) (sym taken.layout) (subst (λ (blocks : Held). DraftsHold h.layout blocks drafts) (sym taken.blocks) fit.blocks);
-  uploads = λ d o there. of_more h.slots h'.slots o still (fit.uploads d o there);
-}
-  where
-    still : (s : ℕ) (q : SlotRecord) → get_or h.slots s None ≡ Some q → get_or h'.slots s None ≡ Some q
-    still s q e =
-        ap (λ (slots : List (Option SlotRecord)). get_or slots s None) taken.slots
-        ∙ slot_else h.slots slot r s (λ same. clash room.free (ap (λ (k : ℕ). get_or h.slots k None) (sym same) ∙ e)) ∙ e
+module _ (h h' : Holding) (slot : ℕ) (new : SlotRecord) (room : HasRoomAt h slot) (taken : IsTakenIn h slot new h') (number : new.number ≡ h.next) where
+  still : (s : ℕ) (q : SlotRecord) → get_or h.slots s None ≡ Some q → get_or h'.slots s None ≡ Some q
+  still s q e =
+      ap (λ (slots : List (Option SlotRecord)). get_or slots s None) taken.slots
+      ∙ slot_else h.slots slot new s (λ same. clash room.free (ap (λ (k : ℕ). get_or h.slots k None) (sym same) ∙ e)) ∙ e
+
+  -- no slot had the new number
+  unused : (s : ℕ) → IsUsedBy h.slots s h.next → ⊥
+  unused s u =
+      let at = one_slot h' taken.fits h.next slot taken.order.there s (record { used = u.used; there = still s u.used u.there; is = u.is }) in
+      clash room.free (ap (λ (k : ℕ). get_or h.slots k None) (sym at) ∙ u.there)
+
+  was_there : (o : SpoolDraft) → IsOfUpload h.slots o → (s : ℕ) (r : SlotRecord) → get_or h'.slots s None ≡ Some r → r.number ≡ number_of o → get_or h.slots s None ≡ Some r
+  was_there o is s r e at =
+      let now = ap (λ (slots : List (Option SlotRecord)). get_or slots s None) (sym taken.slots) ∙ e in
+      elim (cases_eq s slot) [
+        | inr other ↦ sym (slot_else h.slots slot new s other) ∙ now
+        | inl same ↦
+            absurd (is.some (λ t u. unused t (record { used = u.used; there = u.there; is = u.is ∙ sym at ∙ of_new s r now same ∙ number })))
+      ]
+    where
+      of_new : (s : ℕ) (r : SlotRecord) → get_or (set h.slots slot (Some new)) s None ≡ Some r → s ≡ slot → r.number ≡ new.number
+      of_new s r now same =
+          let inside : slot < length h.slots = below_count in
+          ap (λ (q : SlotRecord). q.number) (same_Some r new (sym now ∙ ap (λ (k : ℕ). get_or (set h.slots slot (Some new)) k None) same ∙ slot_here h.slots slot new inside))
+        where
+          below_count : slot < length h.slots
+          below_count = omega (arith, room.within, taken.fits.slot_count, ap length taken.slots, length-set h.slots slot (Some new))
+
+  pub fits_created : (drafts : List (Option SpoolDraft)) → DraftsFit h drafts → DraftsFit h' drafts
+  fits_created drafts fit = record {
+    blocks = subst (λ (n : ℕ). DraftsHold n h'.blocks drafts) (sym taken.layout) (subst (λ (blocks : Held). DraftsHold h.layout blocks drafts) (sym taken.blocks) fit.blocks);
+    uploads = λ d o there.
+        let is = fit.uploads d o there in
+        record {
+          some = λ none. is.some (λ s u. none s (record { used = u.used; there = still s u.used u.there; is = u.is }));
+          grown = λ s r e at. is.grown s r (was_there o is s r e at) at;
+          behind = λ s r e at. is.behind s r (was_there o is s r e at) at;
+        };
+  }

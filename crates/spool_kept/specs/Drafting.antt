@@ -40,19 +40,18 @@ pub record DraftsHold (n : ℕ) (h : Held) (drafts : List (Option SpoolDraft)) :
   pub placed : (d : ℕ) (o : SpoolDraft) → draft_at drafts d ≡ Some o → IsPlaced n o
   pub distinct : (d e : ℕ) → d ≢ e → NoneOf (lists_at drafts d) (lists_at drafts e)
 
--- the record is that of a slot
+-- the record is that of a slot, and of each slot with its number
 pub record IsKept (slots : List (Option SlotRecord)) (r : Record) : Type 0 where
   pub slot : ℕ
   pub there : get_or slots slot None ≡ Some (said_of r)
+  pub only : (s : ℕ) (q : SlotRecord) → get_or slots s None ≡ Some q → q.number ≡ r.number → q ≡ said_of r
 
 -- The draft's upload is in a slot, with as many bytes as when the draft began, or more. With as many, the draft is behind its text.
 pub record IsOfUpload (slots : List (Option SlotRecord)) (o : SpoolDraft) : Type 0 where
-  pub slot : ℕ
-  pub used : SlotRecord
-  pub there : get_or slots slot None ≡ Some used
-  pub number : used.number ≡ number_of o
-  pub grown : offset_of o ≤ used.accepted
-  pub behind : used.accepted ≡ offset_of o → IsBehind used.text_len used.state o
+  pub some : ((s : ℕ) → IsUsedBy slots s (number_of o) → ⊥) → ⊥
+  pub grown : (s : ℕ) (r : SlotRecord) → get_or slots s None ≡ Some r → r.number ≡ number_of o → offset_of o ≤ r.accepted
+  pub behind : (s : ℕ) (r : SlotRecord) → get_or slots s None ≡ Some r → r.number ≡ number_of o → r.accepted ≡ offset_of o
+      → IsBehind r.text_len r.state o
 
 -- the drafts fit what is kept, whatever the disk said
 pub record DraftsFit (h : Holding) (drafts : List (Option SpoolDraft)) : Type 0 where

@@ -30,8 +30,7 @@ use upload_rules::{UploadError, UploadRefusal, taken};
 
 // The slot of a draft's upload, which has as many bytes as when the draft began: refused with `NoSuch`, `Offset`.
 fn slot_for(kept: &Kept, draft: &SpoolDraft) -> Result<u32, UploadRefusal>
-    ensures finds { FindsSlot kept.now.slots draft.now result }
-    ensures only { IfOk result (λ slot. (s : ℕ) → IsUsedBy kept.now.slots s (number_of draft.now) → s ≡ slot) }
+    ensures { FindsSlot kept.now.slots draft.now result }
 {
     let Some(slot) = kept.slot_of(draft.number()) else {
         return Err(UploadRefusal::NoSuch);

@@ -8,7 +8,7 @@ returns-clause-finished c u bytes still here =
     finishes x u bytes c.args.completes _ (c.ended.ensures.ended (behind u bytes) [] (holds_text x u bytes _ _ still c.without_text.ensures here) (behind_open u bytes))
 
 pub returns-clause-same : goal.returns-clause-same
-returns-clause-same c state goes = c.ended.ensures.same state (goes_emptied state _ _ c.without_text.ensures goes)
+returns-clause-same c state old goes = c.ended.ensures.same state old (goes_emptied state _ _ c.without_text.ensures goes)
 
 pub returns-clause-growing : goal.returns-clause-growing
 returns-clause-growing c ok = growing_emptied _ _ c.without_text.ensures (c.ended.ensures.growing ok)

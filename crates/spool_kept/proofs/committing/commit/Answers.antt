@@ -19,14 +19,14 @@ put_behind-requires-clause-placed g c = c.requires.fits.blocks.placed c.args.num
 
 pub put_behind-requires-clause-behind : goal.put_behind-requires-clause-behind
 put_behind-requires-clause-behind g c =
-    behind_slot c.args.kept.now.slots c.in-Some.draft c.in-Ok.slot c.in-Ok.ensures.finds c.in-Ok.ensures.only (c.requires.fits.uploads c.args.number c.in-Some.draft (sym c.in-Some.ensures.taken))
+    behind_slot c.args.kept.now.slots c.in-Some.draft c.in-Ok.slot c.in-Ok.ensures (c.requires.fits.uploads c.args.number c.in-Some.draft (sym c.in-Some.ensures.taken))
 
 pub returns-in-Err-clause-offset : goal.returns-in-Err-clause-offset
 returns-in-Err-clause-offset g c o here =
     let slots = c.args.kept.now.slots in
     let is = same_Some c.in-Some.draft o (c.in-Some.ensures.taken ∙ here) in
     subst (λ (d : SpoolDraft). IsErrOf {T = ℕ} (Err (Refused c.in-Err.refusal)) (Refused Offset) ↔ ((s : ℕ) → HasSameCount slots d s → ⊥)) is
-    (head.at_offset slots c.in-Some.draft c.in-Err.refusal c.in-Err.ensures.finds (c.requires.fits.uploads c.args.number c.in-Some.draft (sym c.in-Some.ensures.taken)))
+    (head.at_offset slots c.in-Some.draft c.in-Err.refusal c.in-Err.ensures (c.requires.fits.uploads c.args.number c.in-Some.draft (sym c.in-Some.ensures.taken)))
 
 -- WITHOUT A CALL OF THE DEVICE
 
@@ -49,7 +49,7 @@ returns-in-Err-clause-answer g c w p s there =
     let before = c.args.drafts.now.items in
     let gives = subst (λ (h : Holding). GivesBack h.blocks c.give_back.new.blocks (lists_at before c.args.number)) c.kept.view_is
     (subst (GivesBack c.kept.inside.blocks c.give_back.new.blocks) (ap list_in c.in-Some.ensures.taken) c.give_back.ensures) in (
-      head.head_refused g.D.Disk c.args.disk.now c.args.kept.now before c.args.number c.in-Some.draft w p s there (sym c.in-Some.ensures.taken) c.in-Err.refusal c.in-Err.ensures.finds,
+      head.head_refused g.D.Disk c.args.disk.now c.args.kept.now before c.args.number c.in-Some.draft w p s there (sym c.in-Some.ensures.taken) c.in-Err.refusal c.in-Err.ensures,
       drops g.D.Disk c.args.disk.now c.args.kept.now _ before c.taken.new.drafts.items c.args.number w (reserves_only c.args.kept.now _ _ c.kept.view_is refl c.give_back.ensures.rows) c.taken.ensures.after gives s,
     )
 
@@ -60,10 +60,10 @@ returns-then-came-eq0-clause-answer g c w p s there =
     let here = sym c.in-Some.ensures.taken in
     let gives = subst (λ (h : Holding). GivesBack h.blocks c.give_back-then-came-eq0.new.blocks (lists_at before c.args.number)) c.kept.view_is
     (subst (GivesBack c.kept.inside.blocks c.give_back-then-came-eq0.new.blocks) (ap list_in c.in-Some.ensures.taken) c.give_back-then-came-eq0.ensures) in (
-      head.empty_allowed g.D.Disk c.args.disk.now c.args.kept.now before c.args.number c.in-Some.draft w p s there here c.in-Ok.slot c.in-Ok.ensures.finds none,
+      head.empty_allowed g.D.Disk c.args.disk.now c.args.kept.now before c.args.number c.in-Some.draft w p s there here c.in-Ok.slot c.in-Ok.ensures none,
       (
-        head.empty_reached g.D.Disk c.args.disk.now c.args.kept.now before c.args.number c.in-Some.draft w p s there here c.in-Ok.slot c.in-Ok.ensures.finds none c.offset-offset.result c.offset-offset.ensures,
-        head.empty_stands g.D.Disk c.args.disk.now c.args.kept.now before c.args.number c.in-Some.draft w p s there here c.in-Ok.slot c.in-Ok.ensures.finds none _ _
+        head.empty_reached g.D.Disk c.args.disk.now c.args.kept.now before c.args.number c.in-Some.draft w p s there here c.in-Ok.slot c.in-Ok.ensures none c.offset-offset.result c.offset-offset.ensures,
+        head.empty_stands g.D.Disk c.args.disk.now c.args.kept.now before c.args.number c.in-Some.draft w p s there here c.in-Ok.slot c.in-Ok.ensures none _ _
             (drops g.D.Disk c.args.disk.now c.args.kept.now _ before c.taken.new.drafts.items c.args.number w
             (reserves_only c.args.kept.now _ _ c.kept.view_is refl c.give_back-then-came-eq0.ensures.rows) c.taken.ensures.after gives s),
       ),
@@ -74,7 +74,7 @@ returns-then-came-eq0-clause-answer g c w p s there =
 pub returns-clause-answer : goal.returns-clause-answer
 returns-clause-answer g c w p s there =
     let before = c.args.drafts.now.items in
-    let is = head.commits g.D.Disk c.args.disk.now c.args.kept.now before c.args.number c.in-Some.draft w p s there (sym c.in-Some.ensures.taken) c.in-Ok.slot c.in-Ok.ensures.finds c.requires.fits.blocks
+    let is = head.commits g.D.Disk c.args.disk.now c.args.kept.now before c.args.number c.in-Some.draft w p s there (sym c.in-Some.ensures.taken) c.in-Ok.slot c.in-Ok.ensures c.requires.fits.blocks
     (λ none. c.if-came-eq0.false (c.came.ensures ∙ none)) in
     subst (λ (left : List (Option SpoolDraft)). Answers (commit_refusal w c.args.number p) c.put_behind.result
     (λ n. (n ≡ reached p) × StandsFor g.D.Disk c.put_behind.new.disk c.put_behind.new.kept left (committed w c.args.number p))
@@ -84,13 +84,13 @@ returns-clause-answer g c w p s there =
 pub returns-clause-crash : goal.returns-clause-crash
 returns-clause-crash g c w p s there =
     let before = c.args.drafts.now.items in
-    let is = head.commits g.D.Disk c.args.disk.now c.args.kept.now before c.args.number c.in-Some.draft w p s there (sym c.in-Some.ensures.taken) c.in-Ok.slot c.in-Ok.ensures.finds c.requires.fits.blocks
+    let is = head.commits g.D.Disk c.args.disk.now c.args.kept.now before c.args.number c.in-Some.draft w p s there (sym c.in-Some.ensures.taken) c.in-Ok.slot c.in-Ok.ensures c.requires.fits.blocks
     (λ none. c.if-came-eq0.false (c.came.ensures ∙ none)) in
     c.put_behind.ensures.crash before c.args.number w p is
 
 pub returns-clause-unmade : goal.returns-clause-unmade
 returns-clause-unmade g c w p s there short =
     let before = c.args.drafts.now.items in
-    let is = head.commits g.D.Disk c.args.disk.now c.args.kept.now before c.args.number c.in-Some.draft w p s there (sym c.in-Some.ensures.taken) c.in-Ok.slot c.in-Ok.ensures.finds c.requires.fits.blocks
+    let is = head.commits g.D.Disk c.args.disk.now c.args.kept.now before c.args.number c.in-Some.draft w p s there (sym c.in-Some.ensures.taken) c.in-Ok.slot c.in-Ok.ensures c.requires.fits.blocks
     (λ none. c.if-came-eq0.false (c.came.ensures ∙ none)) in
     c.put_behind.ensures.unmade before c.args.number w p is short

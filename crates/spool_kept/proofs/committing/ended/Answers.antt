@@ -8,6 +8,7 @@ use Rattle.spool_disk.specs.Views.{Lasts}
 use Rattle.spool_journal.specs.Image.{journal_pages}
 use Rattle.spool_pages.specs.View.{SlotRecord}
 use Rattle.upload_rules.specs.declared.errors.UploadError.{UploadError}
+use Rattle.upload_rules.specs.States.{IsState}
 use Rattle.upload_rules.specs.World.{completes}
 use Rattle.spool_kept.specs.Committing.{HasSameCount, IsCommit}
 use Rattle.spool_kept.specs.Holding.{Holding}
@@ -100,8 +101,15 @@ pub returns-clause-may : goal.returns-clause-may
 returns-clause-may g c =
     let has = c.requires.used in
     let there = ap (λ (h : Holding). get_or h.slots c.args.slot None) c.kept.view_is ∙ has.there in
+    let used : c.unwrap.result.now ≡ has.used = search rules in
+    let unpacked = c.record-used.ensures.unpacked in
+    let old : IsState has.used.state = record {
+      transcoder = unpacked.transcoder;
+      sound = unpacked.sound;
+      is = ap (λ (r : SlotRecord). r.state) (sym used ∙ sym c.record-used.ensures.said) ∙ unpacked.is;
+    } in
     lemmas.may _ c.args.slot c.saturating_add-accepted.result (list_of c.end.new.self) _ has.used there
-    (c.in_ok-state.ensures.behind has.used.text_len has.used.state (c.requires.behind has.used has.there))
+    (c.in_ok-state.ensures.behind has.used.text_len has.used.state old (c.requires.behind has.used has.there))
 
 pub returns-clause-more : goal.returns-clause-more
 returns-clause-more g c r there =

@@ -4,14 +4,11 @@ use Rattle.spool_pages.specs.View.{SlotRecord}
 use Rattle.spool_kept.specs.Holding.{IsUsedBy}
 use Rattle.spool_kept.proofs.committing.slot_for.Goals as goal
 
-pub returns-in_default-clause-finds : goal.returns-in_default-clause-finds
-returns-in_default-clause-finds c slot used = c.in_default.ensures.used slot (subst (λ (n : ℕ). IsUsedBy c.args.kept.now.slots slot n) (sym c.number.ensures) used)
+pub returns-in_default : goal.returns-in_default
+returns-in_default c slot used = c.in_default.ensures.used slot (subst (λ (n : ℕ). IsUsedBy c.args.kept.now.slots slot n) (sym c.number.ensures) used)
 
-pub returns-clause-only : goal.returns-clause-only
-returns-clause-only c s used = c.in-Some.ensures.only s (subst (λ (n : ℕ). IsUsedBy c.args.kept.now.slots s n) (sym c.number.ensures) used)
-
-pub returns-then-record-offset-clause-finds : goal.returns-then-record-offset-clause-finds
-returns-then-record-offset-clause-finds c =
+pub returns-then-record-offset : goal.returns-then-record-offset
+returns-then-record-offset c =
     let slots = c.args.kept.now.slots in
     let slot = c.in-Some.slot in
     let q = c.in-Some-record_at.used.now in

@@ -57,7 +57,7 @@ returns-clause-crash g c m stored =
 -- THE DRAFTS
 
 pub returns-in-Ok-change-clause-fits : goal.returns-in-Ok-change-clause-fits
-returns-in-Ok-change-clause-fits g c drafts fit = fits_created c.args.kept.now c.prepare_new.new.self c.in-Some.slot c.new_record-record.result drafts c.in-Some.ensures.room c.in-Ok.ensures.taken fit
+returns-in-Ok-change-clause-fits g c drafts fit = fits_created c.args.kept.now c.prepare_new.new.self c.in-Some.slot c.new_record-record.result c.in-Some.ensures.room c.in-Ok.ensures.taken c.new_record-record.ensures.number_is drafts fit
 
 pub returns-clause-fits : goal.returns-clause-fits
-returns-clause-fits g c drafts fit = fits_created c.args.kept.now c.prepare_new.new.self c.in-Some.slot c.new_record-record.result drafts c.in-Some.ensures.room c.in-Ok.ensures.taken fit
+returns-clause-fits g c drafts fit = fits_created c.args.kept.now c.prepare_new.new.self c.in-Some.slot c.new_record-record.result c.in-Some.ensures.room c.in-Ok.ensures.taken c.new_record-record.ensures.number_is drafts fit
