@@ -1,9 +1,9 @@
 // The text of a draft is put behind its upload's.
-ghost use Rattle.std.specs.Prelude.{◌≡◌, ◌≤◌, ◌<◌, ◌*◌, ◌+◌, ◌^◌, ◌↔◌, ℕ, List, Option, Some, None, Err, length, get_or, slice_set, IsErrOf, IfOk};
+ghost use Rattle.std.specs.Prelude.{◌≡◌, ◌≤◌, ◌<◌, ◌*◌, ◌↔◌, ℕ, List, Option, Some, None, Err, get_or, slice_set, IsErrOf, IfOk};
 ghost use Rattle.spool_disk.specs.Disk.{Counts};
 ghost use Rattle.spool_disk.specs.Views.{Lasts};
 ghost use Rattle.spool_journal.specs.Image.{journal_pages, all_pages};
-ghost use Rattle.spool_drafts.specs.Drafts.{IsPlaced, came_of, list_of, number_of, offset_of};
+ghost use Rattle.spool_drafts.specs.Drafts.{IsPlaced, came_of, list_of};
 ghost use Rattle.spool_drafts.specs.Effect.{Effect};
 ghost use Rattle.spool_drafts.specs.declared.draft.SpoolDraft.{SpoolDraft as Draft};
 ghost use Rattle.spool_pages.specs.View.{SlotRecord as Said};
@@ -16,7 +16,6 @@ ghost use Rattle.upload_rules.specs.World.{Patch, World};
 ghost use Rattle.spool_kept.specs.Committing.{FindsSlot, HasSameCount, IsBehindSlot, IsCommit, OnlyRead};
 ghost use Rattle.spool_kept.specs.Drafting.{DraftsFit, OnlyReserves, StandsFor};
 ghost use Rattle.spool_kept.specs.Extending.{IsPending, MayExtend};
-ghost use Rattle.spool_kept.specs.Holding.{IsUsedBy};
 ghost use Rattle.spool_kept.specs.Shows.{ImageShows};
 ghost use Rattle.spool_kept.specs.Stored.{ShowsEither, Stored};
 
@@ -44,8 +43,9 @@ fn slot_for(kept: &Kept, draft: &SpoolDraft) -> Result<u32, UploadRefusal>
     Ok(slot)
 }
 
-// Ends a draft's text behind its upload's, and answers what the upload becomes, and the bytes that are still to be written: refused with
-// `Unencodable`, `Full`, `NoMemory`, `DiskFault`. The blocks stay the draft's. Nothing is written.
+// Ends a draft's text behind its upload's, and answers what the upload becomes, and the bytes that are still to be
+// written: refused with `Unencodable`, `Full`, `NoMemory`, `DiskFault`. The blocks stay the draft's. Nothing is
+// written.
 fn ended<D: Disk>(
     alloc: Global,
     disk: &mut D,
@@ -65,19 +65,24 @@ fn ended<D: Disk>(
     ensures same { OnlyReserves kept.old kept.new }
     ensures reserved { IsReserved kept.new.blocks (list_of draft.new) }
     ensures placed { IsPlaced kept.old.layout draft.new }
-    ensures effect { Effect D.Disk (journal_pages kept.old.layout) (list_of draft.old) (list_of draft.new) disk.old disk.new kept.old.blocks kept.new.blocks }
+    ensures effect { Effect D.Disk (journal_pages kept.old.layout) (list_of draft.old) (list_of draft.new) disk.old
+        disk.new kept.old.blocks kept.new.blocks }
     ensures only { D.honest disk.old → OnlyRead D.Disk disk.old disk.new }
     ensures may { IfOk result (λ e. MayExtend kept.new e.0 (list_of draft.new)) }
     ensures more { IfOk result (λ e. (r : Said) → get_or kept.new.slots e.0.slot None ≡ Some r
         → r.accepted < e.0.accepted) }
     ensures no_offset { IsErrOf result (UploadError.Refused UploadRefusal.Offset) → ⊥ }
-    ensures answer { (drafts : List (Option Draft)) (number : ℕ) (w : World) (p : Patch) → IsCommit D.Disk disk.old kept.old drafts number draft.old w p
+    ensures answer { (drafts : List (Option Draft)) (number : ℕ) (w : World) (p : Patch)
+        → IsCommit D.Disk disk.old kept.old drafts number draft.old w p
         → Answers (commit_refusal w number p) result
-        (λ e. (e.0.accepted ≡ reached p) × IsPending D.Disk disk.new kept.new w.store p.number p.body e.0 (list_of draft.new) e.1.items)
+        (λ e. (e.0.accepted ≡ reached p)
+        × IsPending D.Disk disk.new kept.new w.store p.number p.body e.0 (list_of draft.new) e.1.items)
         (Unit {0}) }
-    ensures stored { (drafts : List (Option Draft)) (number : ℕ) (w : World) (p : Patch) → IsCommit D.Disk disk.old kept.old drafts number draft.old w p
+    ensures stored { (drafts : List (Option Draft)) (number : ℕ) (w : World) (p : Patch)
+        → IsCommit D.Disk disk.old kept.old drafts number draft.old w p
         → Stored D.Disk disk.new kept.new w.store }
-    ensures quiet { (drafts : List (Option Draft)) (number : ℕ) (w : World) (p : Patch) → IsCommit D.Disk disk.old kept.old drafts number draft.old w p
+    ensures quiet { (drafts : List (Option Draft)) (number : ℕ) (w : World) (p : Patch)
+        → IsCommit D.Disk disk.old kept.old drafts number draft.old w p
         → Lasts D.Disk disk.old disk.new (λ image. ImageShows kept.old.layout image w.store) }
 {
     let used = record_at(&kept.slots, slot as usize).unwrap().record();
@@ -126,14 +131,19 @@ fn put_behind<D: Disk>(
     ensures fits { (drafts : List (Option Draft)) (number : ℕ) → DraftsFit kept.old drafts
         → draft_at drafts number ≡ Some draft → DraftsFit kept.new (slice_set drafts number None) }
     ensures no_offset { IsErrOf result (UploadError.Refused UploadRefusal.Offset) → ⊥ }
-    ensures answer { (drafts : List (Option Draft)) (number : ℕ) (w : World) (p : Patch) → IsCommit D.Disk disk.old kept.old drafts number draft w p
+    ensures answer { (drafts : List (Option Draft)) (number : ℕ) (w : World) (p : Patch)
+        → IsCommit D.Disk disk.old kept.old drafts number draft w p
         → Answers (commit_refusal w number p) result
-        (λ n. (n ≡ reached p) × StandsFor D.Disk disk.new kept.new (slice_set drafts number None) (committed w number p))
+        (λ n. (n ≡ reached p)
+        × StandsFor D.Disk disk.new kept.new (slice_set drafts number None) (committed w number p))
         (StandsFor D.Disk disk.new kept.new (slice_set drafts number None) (dropped w number)) }
-    ensures crash { (drafts : List (Option Draft)) (number : ℕ) (w : World) (p : Patch) → IsCommit D.Disk disk.old kept.old drafts number draft w p
+    ensures crash { (drafts : List (Option Draft)) (number : ℕ) (w : World) (p : Patch)
+        → IsCommit D.Disk disk.old kept.old drafts number draft w p
         → Lasts D.Disk disk.old disk.new (ShowsEither kept.old.layout w.store (commit_outcome w number p)) }
-    ensures unmade { (drafts : List (Option Draft)) (number : ℕ) (w : World) (p : Patch) → IsCommit D.Disk disk.old kept.old drafts number draft w p
-        → IsErrOf result UploadError.NoMemory → Lasts D.Disk disk.old disk.new (λ image. ImageShows kept.old.layout image w.store) }
+    ensures unmade { (drafts : List (Option Draft)) (number : ℕ) (w : World) (p : Patch)
+        → IsCommit D.Disk disk.old kept.old drafts number draft w p
+        → IsErrOf result UploadError.NoMemory
+        → Lasts D.Disk disk.old disk.new (λ image. ImageShows kept.old.layout image w.store) }
 
     // Every growth comes before the first write.
     ensures unwritten { D.honest disk.old → IsErrOf result UploadError.NoMemory → OnlyRead D.Disk disk.old disk.new }
@@ -156,9 +166,9 @@ fn put_behind<D: Disk>(
     }
 }
 
-/// Puts the text of the draft of a number behind its upload's, and answers the new offset: refused with `NoSuch`, `Offset`,
-/// `Unencodable`, `Full`, `NoMemory`, `DiskFault`. The draft is spent in every case. After a fault of the device what is kept may be
-/// ahead of the disk: the spool must be opened again.
+/// Puts the text of the draft of a number behind its upload's, and answers the new offset: refused with `NoSuch`,
+/// `Offset`, `Unencodable`, `Full`, `NoMemory`, `DiskFault`. The draft is spent in every case. After a fault of the
+/// device what is kept may be ahead of the disk: the spool must be opened again.
 pub fn commit<D: Disk>(
     alloc: Global,
     disk: &mut D,
@@ -174,17 +184,22 @@ pub fn commit<D: Disk>(
     ensures honest { D.honest disk.old ↔ D.honest disk.new }
     ensures counts { Counts (IsErrOf result UploadError.DiskFault) (D.failures disk.old) (D.failures disk.new) }
 
-    // Whatever the disk said, it is refused so exactly where the upload doesn't have as many bytes as when the draft began.
+    // Whatever the disk said, it is refused so exactly where the upload doesn't have as many bytes as when the draft
+    // began.
     ensures offset { (o : Draft) → draft_at drafts.old.items number ≡ Some o
         → (IsErrOf result (UploadError.Refused UploadRefusal.Offset) ↔ ((s : ℕ) → HasSameCount kept.old.slots o s → ⊥)) }
-    ensures answer { (w : World) (p : Patch) → StandsFor D.Disk disk.old kept.old drafts.old.items w → find number w.patches ≡ Some p
+    ensures answer { (w : World) (p : Patch) → StandsFor D.Disk disk.old kept.old drafts.old.items w
+        → find number w.patches ≡ Some p
         → Answers (commit_refusal w number p) result
         (λ n. (n ≡ reached p) × StandsFor D.Disk disk.new kept.new drafts.new.items (committed w number p))
         (StandsFor D.Disk disk.new kept.new drafts.new.items (dropped w number)) }
-    ensures crash { (w : World) (p : Patch) → StandsFor D.Disk disk.old kept.old drafts.old.items w → find number w.patches ≡ Some p
+    ensures crash { (w : World) (p : Patch) → StandsFor D.Disk disk.old kept.old drafts.old.items w
+        → find number w.patches ≡ Some p
         → Lasts D.Disk disk.old disk.new (ShowsEither kept.old.layout w.store (commit_outcome w number p)) }
-    ensures unmade { (w : World) (p : Patch) → StandsFor D.Disk disk.old kept.old drafts.old.items w → find number w.patches ≡ Some p
-        → IsErrOf result UploadError.NoMemory → Lasts D.Disk disk.old disk.new (λ image. ImageShows kept.old.layout image w.store) }
+    ensures unmade { (w : World) (p : Patch) → StandsFor D.Disk disk.old kept.old drafts.old.items w
+        → find number w.patches ≡ Some p
+        → IsErrOf result UploadError.NoMemory
+        → Lasts D.Disk disk.old disk.new (λ image. ImageShows kept.old.layout image w.store) }
 
     // Every growth comes before the first write.
     ensures unwritten { D.honest disk.old → IsErrOf result UploadError.NoMemory → OnlyRead D.Disk disk.old disk.new }

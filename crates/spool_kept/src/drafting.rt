@@ -40,8 +40,8 @@ fn opened(
     SpoolDraft::begin(alloc, found.upload, found.list, offset, count)
 }
 
-/// Opens a draft of `count` bytes at an offset, under the least number that is free: refused with `NoSuch`, `Offset`, `TooLong`,
-/// `NoMemory`.
+/// Opens a draft of `count` bytes at an offset, under the least number that is free: refused with `NoSuch`, `Offset`,
+/// `TooLong`, `NoMemory`.
 pub fn begin<D: Disk>(
     alloc: Global,
     kept: &Kept,
@@ -68,8 +68,8 @@ pub fn begin<D: Disk>(
     }
 }
 
-/// Adds bytes to the draft of a number, at most its count in all: refused with `NoMemory`, after which it is as before, and
-/// `DiskFault`, after which it may only be dropped. No sync is made.
+/// Adds bytes to the draft of a number, at most its count in all: refused with `NoMemory`, after which it is as before,
+/// and `DiskFault`, after which it may only be dropped. No sync is made.
 pub fn append<D: Disk>(
     alloc: Global,
     disk: &mut D,
@@ -85,13 +85,16 @@ pub fn append<D: Disk>(
     ensures size { D.size disk.new ≡ D.size disk.old }
     ensures honest { D.honest disk.old ↔ D.honest disk.new }
     ensures counts { Counts (IsErrOf result UploadError.DiskFault) (D.failures disk.old) (D.failures disk.new) }
-    ensures answer { (w : World) (p : Patch) → StandsFor D.Disk disk.old kept.old drafts.old.items w → find number w.patches ≡ Some p → length p.body + length piece.now ≤ p.count
+    ensures answer { (w : World) (p : Patch) → StandsFor D.Disk disk.old kept.old drafts.old.items w
+        → find number w.patches ≡ Some p → length p.body + length piece.now ≤ p.count
         → Answers None result
         (λ done. StandsFor D.Disk disk.new kept.new drafts.new.items (appended w number piece.now))
         (StandsFor D.Disk disk.new kept.new drafts.new.items w) }
     // A crash during it leaves what shows the same.
-    ensures quiet { (w : World) (p : Patch) → StandsFor D.Disk disk.old kept.old drafts.old.items w → find number w.patches ≡ Some p
-        → Lasts D.Disk disk.old disk.new (λ image. (n : ℕ) (m : Store) → ImageShows n (D.seen disk.old) m → ImageShows n image m) }
+    ensures quiet { (w : World) (p : Patch) → StandsFor D.Disk disk.old kept.old drafts.old.items w
+        → find number w.patches ≡ Some p
+        → Lasts D.Disk disk.old disk.new
+        (λ image. (n : ℕ) (m : Store) → ImageShows n (D.seen disk.old) m → ImageShows n image m) }
 {
     let Some(mut draft) = taken(drafts, number) else {
         return Err(UploadError::Refused(UploadRefusal::NoSuch));
@@ -114,7 +117,8 @@ pub fn drop_open<D: Disk>(kept: &mut Kept, drafts: &mut Vec<Option<SpoolDraft>>,
     requires fits { DraftsFit kept.old drafts.old.items }
     ensures fits { DraftsFit kept.new drafts.new.items }
     ensures same { OnlyReserves kept.old kept.new }
-    ensures stands { (disk : D) (w : World) → StandsFor D.Disk disk kept.old drafts.old.items w → StandsFor D.Disk disk kept.new drafts.new.items (dropped w number) }
+    ensures stands { (disk : D) (w : World) → StandsFor D.Disk disk kept.old drafts.old.items w
+        → StandsFor D.Disk disk kept.new drafts.new.items (dropped w number) }
 {
     if let Some(draft) = taken(drafts, number) {
         draft.give_back(&mut kept.blocks);

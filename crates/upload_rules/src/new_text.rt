@@ -32,7 +32,8 @@ impl NewText {
     ghost use Rattle.upload_rules.specs.States.{IsState, SameEncodings, transcoder_with};
     ghost use Rattle.enc_stream.specs.StateBytes.{IsSound};
 
-    /// What an append to the upload of a record adds at first: nothing. None where the state bytes are those of no state.
+    /// What an append to the upload of a record adds at first: nothing. None where the state bytes are those of no
+    /// state.
     pub fn behind(alloc: Global, upload: &Record) -> Option<Self>
         ensures holds { (x : Indexes) (n : ℕ) (u : Upload) → Tells x n upload.now u
             → (text_with x u [] (is_complete u)).fault ≡ None
@@ -87,7 +88,8 @@ impl NewText {
         }
     }
 
-    /// The state bytes behind the accepted bytes, and the new text, with the bytes of the end where these complete the upload.
+    /// The state bytes behind the accepted bytes, and the new text, with the bytes of the end where these complete the
+    /// upload.
     pub fn ended(
         self,
         indexes: &IndexSet,
@@ -95,7 +97,8 @@ impl NewText {
     ) -> Result<([u8; 32], Vec<u8>), UploadError>
         ensures ended { (u : Upload) (bytes : List ℕ) → HoldsText indexes.now u bytes self → is_complete u ≡ false
             → IsEnded indexes.now u bytes completes result }
-        ensures same { (state : List ℕ) → IsState state → GoesOn state self → IfOk result (λ end. SameEncodings state end.0) }
+        ensures same { (state : List ℕ) → IsState state → GoesOn state self
+            → IfOk result (λ end. SameEncodings state end.0) }
         ensures growing { IsOk result → IsGrowing self }
         ensures no_device { IsErrOf result UploadError.DiskFault → ⊥ }
         ensures refusal { (e : Refusal) → IsErrOf result (UploadError.Refused e) → e ≡ UploadRefusal.Unencodable }
