@@ -1,12 +1,12 @@
 -- The bytes of a draft.
-use Rattle.std.proofs.Common.{◌≡◌, ◌<◌, ◌≤◌, ◌+◌, ◌*◌, ◌/◌, ◌%◌, ◌++◌, ℕ, List, [], ◌∷◌, None, Some, length, take, drop, get_or, sym, ◌∙◌, ap, arith, add-one, drop-cons, append-nil}
+use Rattle.std.proofs.Common.{◌≡◌, ◌<◌, ◌≤◌, ◌+◌, ◌-◌, ◌*◌, ◌/◌, ◌%◌, ◌++◌, ℕ, List, [], ◌∷◌, None, Some, length, take, drop, get_or, sym, ◌∙◌, ap, arith, add-one, drop-cons, append-nil, length-append, length-take}
 use Rattle.std.proofs.lemmas.List.{take-append-le, take-append-drop}
 use Rattle.spool_disk.specs.Disk.{span}
 use Rattle.spool_disk.proofs.Span.{length-span}
-use Rattle.spool_texts.proofs.Shown.{text_joined}
-use Rattle.spool_texts.specs.Drafts.{Draft, full_count, content_on}
+use Rattle.spool_texts.proofs.Shown.{length-blocks_on, text_joined}
+use Rattle.spool_texts.specs.Drafts.{Draft, bytes_with, content_on, full_count, held_count}
 use Rattle.spool_texts.specs.TextOn.{blocks_on, text_on}
-use Rattle.spool_drafts.specs.Growth.{tail_list, bytes_on}
+use Rattle.spool_drafts.specs.Growth.{tail_list, bytes_on, count_with}
 use Rattle.spool_drafts.specs.declared.growth.Growth.{Growth}
 
 -- a draft that reserved no block holds what is unfinished
@@ -49,3 +49,19 @@ no_tail_on seen first len list whole =
     ap (λ (k : ℕ). text_on seen first list (4096 * (len / 4096)) ++ text_on seen first [] k) whole
     ∙ append-nil (text_on seen first list (4096 * (len / 4096)))
     ∙ ap (λ (k : ℕ). text_on seen first list k) full
+
+-- HOW MANY THEY ARE
+
+length-front : (seen : ℕ → ℕ) (first n : ℕ) (list rest : List ℕ) → n ≤ length list → length (blocks_on seen first (take n list) ++ rest) ≡ 4096 * n + length rest
+length-front seen first n list rest le = omega (arith, length-append (blocks_on seen first (take n list)) rest, length-blocks_on seen first (take n list), length-take n list, le)
+
+-- the bytes on the blocks of a text that ended, with the last ones, are those that it held and these
+pub count_ended : (seen : ℕ → ℕ) (first : ℕ) (d : Draft) (list last bytes : List ℕ) → bytes_with seen first list last ≡ content_on seen first d ++ bytes → count_with list last ≡ held_count d + length bytes
+count_ended seen first d list last bytes is =
+    omega (
+      arith,
+      ap length is,
+      length-front seen first (length list - (length last + 4095) / 4096) list last (omega arith),
+      length-append (content_on seen first d) bytes,
+      length-front seen first (full_count d) d.blocks d.unfinished (omega arith),
+    )

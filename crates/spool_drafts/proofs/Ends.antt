@@ -1,10 +1,9 @@
 -- A draft whose text ends.
-use Rattle.std.proofs.Common.{◌≡◌, ◌⊎◌, inl, inr, Vec, ◌≤◌, ◌<◌, ◌+◌, ◌-◌, ◌*◌, ◌/◌, ◌%◌, ◌++◌, ℕ, Bool, true, false, List, [], length, Option, None, Some, Err, refl, sym, ◌∙◌, ap, subst, arith, append-nil, length-append, length-drop, ⊎_elim}
-use Rattle.std.proofs.lemmas.Bool.{cases_lt, ne_eqb}
+use Rattle.std.proofs.Common.{◌≡◌, ◌⊎◌, inl, inr, Vec, ◌≤◌, ◌<◌, ◌+◌, ◌-◌, ◌*◌, ◌/◌, ◌%◌, ◌++◌, ℕ, Bool, true, false, List, [], length, None, Err, refl, sym, ◌∙◌, ap, subst, arith, append-nil, length-append, length-drop, ⊎_elim}
+use Rattle.std.proofs.lemmas.Bool.{cases_eq, cases_lt, ne_eqb}
 use Rattle.std.specs.declared.alloc.Global.{Global}
 use Rattle.enc_model.specs.Indexes.{IndexSet}
 use Rattle.spool_blocks.specs.Blocks.{Held}
-use Rattle.spool_texts.specs.Drafts.{Draft}
 use Rattle.upload_rules.specs.declared.errors.UploadError.{UploadError}
 use Rattle.upload_rules.specs.declared.errors.UploadError.TheVariants.{NoMemory, DiskFault, Refused}
 use Rattle.upload_rules.specs.declared.errors.UploadRefusal.TheVariants as refusals
@@ -14,7 +13,7 @@ use Rattle.upload_rules.specs.World.{Patch, is_there, patch_text}
 use Rattle.spool_drafts.specs.Drafts.{Holds, IsKept, IsWhole, EndsAs, open_text, list_of}
 use Rattle.spool_drafts.specs.Effect.{RunsShort}
 use Rattle.spool_drafts.specs.Fresh.{IsFinished, FinishesAs}
-use Rattle.spool_drafts.specs.Growth.{HoldsLen, HoldsCount, ClosesAs, list_on, whole_len}
+use Rattle.spool_drafts.specs.Growth.{HoldsLen, ClosesAs, count_with}
 use Rattle.spool_drafts.specs.declared.draft.DraftEnd.{DraftEnd}
 use Rattle.spool_drafts.specs.declared.draft.SpoolDraft.{SpoolDraft}
 use Rattle.spool_drafts.specs.declared.growth.Growth.{Growth}
@@ -25,9 +24,13 @@ use Rattle.spool_drafts.proofs.Patches.{value_before, in_front, wants_is, open_g
 need_none : (t n : ℕ) → need_of t (n - t % 4096) ≡ 0 → n ≤ t % 4096
 need_none t n none = ⊎_elim (λ (lt : t % 4096 < n). omega (arith, lt, none, need_some t n lt)) (λ (le : n ≤ t % 4096). le) (cases_lt (t % 4096) n)
 
-whole_is : (t n : ℕ) (on : Option Draft) → HoldsCount on n → t % 4096 ≤ n → length (list_on on) ≡ need_of t (n - t % 4096) → whole_len t on ≡ 4096 * (t / 4096) + n
-whole_is t n None count some listed = omega (arith, some, need_none t n (sym listed))
-whole_is t n (Some text) count some listed = ap (λ (k : ℕ). 4096 * (t / 4096) + k) count
+-- the length of the text that ended: as it was where no block is listed, and behind its full blocks where some are
+whole_is : (t n : ℕ) (list last : List ℕ) (whole : ℕ) → t % 4096 ≤ n → length list ≡ need_of t (n - t % 4096) → (length list ≡ 0 → whole ≡ t)
+    → (0 < length list → whole ≡ 4096 * (t / 4096) + count_with list last) → (1 ≤ length list → count_with list last ≡ n) → whole ≡ 4096 * (t / 4096) + n
+whole_is t n list last whole some listed nothing more count = elim (cases_eq (length list) 0) [
+  | inl none ↦ omega (arith, nothing none, some, need_none t n (sym listed ∙ none))
+  | inr there ↦ more (omega (arith, there)) ∙ ap (λ (k : ℕ). 4096 * (t / 4096) + k) (count (omega (arith, there)))
+]
 
 module _ (x : IndexSet) (p : Patch) (d : SpoolDraft) (held : Holds x p d) (some : 0 < length p.body) (done : Bool) where
   pub still : is_complete p.began ≡ false
@@ -81,22 +84,24 @@ module _ (x : IndexSet) (p : Patch) (d : SpoolDraft) (held : Holds x p d) (some 
         ∙ ap (λ (n : ℕ). need_of (length (text_of x p.began)) (n - length (text_of x p.began) % 4096)) size
         ∙ sym (wants_is x p done encodable_end)
 
-    pub whole : (new : SpoolDraft) (e : DraftEnd) → e.state ≡ state → e.text_len ≡ whole_len d.growth.text_len d.growth.on + length text → d.growth.short ≡ false
-        → ((n : ℕ) → HoldsLen d.growth n → length (list_of new) ≡ need_of d.growth.text_len ((n + length text) - d.growth.text_len % 4096)) → IsWhole x p done new e
-    whole new e is len roomy listed =
+    pub whole : (new : SpoolDraft) (e : DraftEnd) (last : List ℕ) → e.state ≡ state → d.growth.short ≡ false
+        → ((n : ℕ) → HoldsLen d.growth n → length (list_of new) ≡ need_of d.growth.text_len ((n + length text) - d.growth.text_len % 4096))
+        → (length (list_of new) ≡ 0 → e.text_len ≡ d.growth.text_len) → (0 < length (list_of new) → e.text_len ≡ 4096 * (d.growth.text_len / 4096) + count_with (list_of new) last)
+        → ((n : ℕ) → HoldsLen d.growth n → 1 ≤ length (list_of new) → count_with (list_of new) last ≡ n + length text) → IsWhole x p done new e
+    whole new e last is roomy listed nothing more count =
         let holds = held.kept (kept_end roomy) in
         let t = length (text_of x p.began) in
+        let n = length (open_text x p false) in
         record {
           state_is = is ∙ finished.state_is;
           sound = finished.sound;
           encodable = encodable_end;
           roomy = sym held.short ∙ roomy;
-          listed = listed (length (open_text x p false)) holds ∙ wanted;
+          listed = listed n holds ∙ wanted;
           len = omega (
             arith,
-            len,
             size,
-            whole_is d.growth.text_len (length (open_text x p false)) d.growth.on holds.count holds.some holds.listed,
+            whole_is d.growth.text_len (n + length text) (list_of new) last e.text_len (omega (arith, holds.some)) (listed n holds) nothing more (count n holds),
             ap (λ (k : ℕ). 4096 * (k / 4096)) held.committed,
             length-drop (4096 * (t / 4096)) (patch_text x p done).bytes,
             end_front,

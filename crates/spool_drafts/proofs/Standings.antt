@@ -10,9 +10,9 @@ use Rattle.upload_rules.specs.declared.errors.UploadError.TheVariants.{NoMemory,
 use Rattle.upload_rules.specs.declared.errors.UploadRefusal.TheVariants as refusals
 use Rattle.upload_rules.specs.declared.new_text.NewText.{NewText}
 use Rattle.upload_rules.specs.declared.new_text.NewText.TheVariants.{Growing, Unencodable, Complete}
-use Rattle.upload_rules.specs.States.{transcoder_over, state_with}
+use Rattle.upload_rules.specs.States.{IsStateLike, transcoder_over, state_with}
 use Rattle.upload_rules.specs.Store.{Upload, text_with, is_complete}
-use Rattle.upload_rules.specs.Texts.{HoldsText, IsEnded}
+use Rattle.upload_rules.specs.Texts.{GoesOn, HoldsText, IsEnded, IsGrowing}
 use Rattle.upload_rules.specs.World.{is_there}
 use Rattle.upload_rules.proofs.Transcoders.{without_fault}
 use Rattle.spool_drafts.specs.Fresh.{StandsAt, Adds, IsEmptied, text_in, FinishesAs}
@@ -104,3 +104,25 @@ pub value_of : (x : IndexSet) (u : Upload) (bytes : List ℕ) (f : NewText) → 
 value_of x u bytes (Growing t text) still other here = without_fault x u bytes t here.0
 value_of x u bytes Unencodable still other here = absurd (other refl)
 value_of x u bytes Complete still other here = absurd cc
+
+-- WHATEVER THE UPLOAD
+
+pub goes_emptied : (state : List ℕ) (f g : NewText) → IsEmptied f g → GoesOn state f → GoesOn state g
+goes_emptied state (Growing t text) (Growing t' text') same goes = subst (λ (s : Standing). IsStateLike state s.transcoder) (sym same.0) goes
+goes_emptied state (Growing t text) Unencodable same goes = tt
+goes_emptied state (Growing t text) Complete same goes = tt
+goes_emptied state Unencodable (Growing t text) same goes = absurd same
+goes_emptied state Unencodable Unencodable same goes = tt
+goes_emptied state Unencodable Complete same goes = tt
+goes_emptied state Complete (Growing t text) same goes = absurd same
+goes_emptied state Complete Unencodable same goes = tt
+goes_emptied state Complete Complete same goes = tt
+
+pub growing_emptied : (f g : NewText) → IsEmptied f g → IsGrowing g → IsGrowing f
+growing_emptied (Growing t text) g same growing = tt
+growing_emptied Unencodable (Growing t text) same growing = absurd same
+growing_emptied Unencodable Unencodable same growing = absurd growing
+growing_emptied Unencodable Complete same growing = absurd growing
+growing_emptied Complete (Growing t text) same growing = absurd same
+growing_emptied Complete Unencodable same growing = absurd growing
+growing_emptied Complete Complete same growing = absurd growing

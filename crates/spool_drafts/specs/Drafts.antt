@@ -8,10 +8,12 @@ use Rattle.upload_rules.specs.declared.errors.UploadError.{UploadError}
 use Rattle.upload_rules.specs.declared.errors.UploadError.TheVariants.{NoMemory, DiskFault, Refused}
 use Rattle.upload_rules.specs.declared.errors.UploadRefusal.{UploadRefusal}
 use Rattle.upload_rules.specs.declared.errors.UploadRefusal.TheVariants as refusals
-use Rattle.upload_rules.specs.Room.{wants, need}
-use Rattle.upload_rules.specs.States.{state_with, transcoder_with}
+use Rattle.upload_rules.specs.Room.{blocks_of, wants, need}
+use Rattle.upload_rules.specs.States.{SameEncodings, state_with, transcoder_with}
 use Rattle.upload_rules.specs.Store.{Upload, text_of, is_complete}
+use Rattle.upload_rules.specs.Texts.{GoesOn, IsGrowing}
 use Rattle.upload_rules.specs.World.{Patch, is_there, patch_text}
+use Rattle.upload_rules.specs.declared.new_text.NewText.{NewText}
 use Rattle.spool_drafts.specs.Effect.{RunsShort}
 use Rattle.spool_drafts.specs.Fresh.{StandsAt}
 use Rattle.spool_drafts.specs.Growth.{list_on, tail_list, bytes_on, IsTailed, HoldsLen}
@@ -41,9 +43,31 @@ tail_of d = tail_list d.growth.tail
 abbrev pub committed_len_of : SpoolDraft → ℕ
 committed_len_of d = d.growth.text_len
 
+-- where transcoding stands
+abbrev pub fresh_of : SpoolDraft → NewText
+fresh_of d = d.fresh
+
+-- WHATEVER THE DISK SAID
+
 -- the committed text's last block, if there is an unfinished one, is one of so many
 abbrev pub IsPlaced : ℕ → SpoolDraft → Type 0
 IsPlaced blocks d = IsTailed blocks d.growth
+
+-- It began behind a text of this length, at these state bytes: where bytes may come, the encodings and the mode are still
+-- those, and there are greater offsets.
+pub record IsBehind (len : ℕ) (state : List ℕ) (d : SpoolDraft) : Type 0 where
+  pub committed : committed_len_of d ≡ len
+  pub goes_on : GoesOn state (fresh_of d)
+  pub room : IsGrowing (fresh_of d) → offset_of d + 1 < 2 ^ 64
+
+-- what its text ends in goes behind that text: on these blocks, or without any where nothing was added, and with the same
+-- encodings
+pub record EndsBehind (len : ℕ) (state list : List ℕ) (e : DraftEnd) : Type 0 where
+  pub same : SameEncodings state e.state
+  pub nothing : length list ≡ 0 → e.text_len ≡ len
+  pub blocks : 0 < length list → blocks_of e.text_len ≡ len / 4096 + length list
+
+-- THE DRAFT OF A PATCH
 
 -- the patch's text behind the full blocks of the committed one
 abbrev pub open_text : IndexSet → Patch → Bool → List ℕ

@@ -66,7 +66,6 @@ ClosesAs old new more blocks blocks' (Err (Refused refusals.Full)) =
 ClosesAs old new more blocks blocks' (Err (Refused e)) = ⊥
 ClosesAs old new more blocks blocks' (Err e) = Unit {0}
 
--- the length of the whole text
-abbrev pub whole_len : ℕ → Option Draft → ℕ
-whole_len len None = len
-whole_len len (Some text) = 4096 * (len / 4096) + held_count text
+-- how many bytes are on the listed blocks with the last ones, which are still to be written to the last of these
+abbrev pub count_with : List ℕ → List ℕ → ℕ
+count_with list last = 4096 * (length list - (length last + 4095) / 4096) + length last

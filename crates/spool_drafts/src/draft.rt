@@ -1,5 +1,5 @@
 // An append under way on a disk.
-ghost use Rattle.std.specs.Prelude.{◌≡◌, get_or, ◌≤◌, ◌*◌, ◌+◌, ◌<◌, ◌/◌, ◌%◌, ◌-◌, ◌↔◌, ◌^◌, ℕ, [], true, min, length, IsOk, IsErrOf, OnOk, IfOk};
+ghost use Rattle.std.specs.Prelude.{◌≡◌, ◌⊎◌, get_or, ◌≤◌, ◌*◌, ◌+◌, ◌<◌, ◌/◌, ◌%◌, ◌-◌, ◌↔◌, ◌^◌, ℕ, List, [], true, min, length, IsOk, IsErrOf, OnOk, IfOk};
 ghost use Rattle.enc_model.specs.Indexes.{IndexSet as Indexes};
 ghost use Rattle.spool_disk.specs.Disk.{Counts, IsImage, Keeps as OnlyRead};
 ghost use Rattle.spool_disk.specs.Views.{Lasts};
@@ -8,12 +8,13 @@ ghost use Rattle.spool_texts.specs.Drafts.{IsReserved, GivesBack, bytes_with};
 ghost use Rattle.spool_texts.specs.TextOn.{AllBelow, text_on};
 ghost use Rattle.upload_rules.specs.Calls.{first_patch};
 ghost use Rattle.upload_rules.specs.Records.{Keeps};
+ghost use Rattle.upload_rules.specs.States.{IsState};
 ghost use Rattle.upload_rules.specs.Store.{Upload, text_of};
 ghost use Rattle.upload_rules.specs.World.{Patch};
 ghost use Rattle.upload_rules.specs.declared.errors.UploadRefusal.{UploadRefusal as Refusal};
 ghost use Rattle.spool_drafts.specs.Effect.{Effect};
 ghost use Rattle.spool_drafts.specs.Growth.{list_on};
-ghost use Rattle.spool_drafts.specs.Drafts.{Holds, Carries, IsBegun, IsPlaced, IsLonger, EndsAs, with_piece, open_text, number_of, offset_of, came_of, list_of, committed_len_of, tail_of};
+ghost use Rattle.spool_drafts.specs.Drafts.{Holds, Carries, EndsAs, EndsBehind, IsBegun, IsBehind, IsLonger, IsPlaced, with_piece, open_text, number_of, offset_of, came_of, list_of, committed_len_of, tail_of};
 
 use crate::fresh::{finished, read_on};
 use crate::growth::Growth;
@@ -25,8 +26,8 @@ use spool_texts::DraftText;
 use std::alloc::Global;
 use upload_rules::{NewText, Record, UploadError, UploadRefusal};
 
-/// An append under way on a disk: what it adds to its upload's text, on blocks that it reserved. Dropped without `give_back` or
-/// `into_list`, its blocks stay reserved.
+/// An append under way on a disk: what it adds to its upload's text, on blocks that it reserved. Dropped without
+/// `give_back` or `into_list`, its blocks stay reserved.
 #[derive(Drop)]
 pub struct SpoolDraft {
     number: u64,
@@ -49,8 +50,8 @@ pub struct DraftEnd {
 }
 
 impl SpoolDraft {
-    /// A draft of `count` bytes at an offset, behind the text that lies on the listed blocks, by ordinal: refused with `Offset`,
-    /// `TooLong`. It takes no memory and no block.
+    /// A draft of `count` bytes at an offset, behind the text that lies on the listed blocks, by ordinal: refused with
+    /// `Offset`, `TooLong`. It takes no memory and no block.
     pub fn begin(
         alloc: Global,
         upload: &Record,
@@ -60,12 +61,19 @@ impl SpoolDraft {
     ) -> Result<Self, UploadRefusal>
         requires long { upload.now.text_len ≤ 4096 * length list.now }
         requires few { length list.now ≤ 65536 }
-        ensures begun { (x : Indexes) (n : ℕ) (u : Upload) → Keeps x n upload.now u → IsBegun x n offset count u result }
-        ensures content { (x : Indexes) (n : ℕ) (u : Upload) (seen : ℕ → ℕ) (first : ℕ) → Keeps x n upload.now u → text_on seen first list.now upload.now.text_len ≡ text_of x u
+        ensures begun { (x : Indexes) (n : ℕ) (u : Upload) → Keeps x n upload.now u
+            → IsBegun x n offset count u result }
+        ensures content { (x : Indexes) (n : ℕ) (u : Upload) (seen : ℕ → ℕ) (first : ℕ) → Keeps x n upload.now u
+            → text_on seen first list.now upload.now.text_len ≡ text_of x u
             → IfOk result (λ d. Carries x seen first (first_patch n count u) d) }
         ensures none { IfOk result (λ d. list_of d ≡ []) }
-        ensures tail { IfOk result (λ d. (i : ℕ) → i < length (tail_of d) → (upload.now.text_len / 4096 < length list.now) × (get_or (tail_of d) i 0 ≡ get_or list.now (upload.now.text_len / 4096) 0)) }
+        ensures tail { IfOk result
+            (λ d. (i : ℕ) → i < length (tail_of d)
+            → (upload.now.text_len / 4096 < length list.now)
+            × (get_or (tail_of d) i 0 ≡ get_or list.now (upload.now.text_len / 4096) 0)) }
         ensures placed { (blocks : ℕ) → AllBelow blocks list.now → IfOk result (λ d. IsPlaced blocks d) }
+        ensures named { IfOk result (λ d. (number_of d ≡ upload.now.number) × (offset_of d ≡ upload.now.accepted)) }
+        ensures behind { IfOk result (IsBehind upload.now.text_len upload.now.state) }
     {
         upload.admits(offset, count)?;
         let Some(fresh) = NewText::behind(alloc, upload) else {
@@ -101,7 +109,8 @@ impl SpoolDraft {
         self.came
     }
 
-    /// The length in bytes of the committed text when it began. The ordinal of the draft's first block is its 4,096th part.
+    /// The length in bytes of the committed text when it began. The ordinal of the draft's first block is its 4,096th
+    /// part.
     pub fn committed_len(&self) -> u64
         ensures { result ≡ committed_len_of self.now }
     {
@@ -116,9 +125,9 @@ impl SpoolDraft {
         self.growth.list()
     }
 
-    /// Adds bytes to the body: refused with `NoMemory`, after which it is as before, and `DiskFault`, after which it may only be
-    /// spent. Where a character has no code or no block is free, it gives its blocks back and reserves none any more; `end`
-    /// answers why. No sync is made.
+    /// Adds bytes to the body: refused with `NoMemory`, after which it is as before, and `DiskFault`, after which it
+    /// may only be spent. Where a character has no code or no block is free, it gives its blocks back and reserves none
+    /// any more; `end` answers why. No sync is made.
     pub fn append<D: Disk>(
         &mut self,
         alloc: Global,
@@ -136,23 +145,31 @@ impl SpoolDraft {
         ensures honest { D.honest disk.old ↔ D.honest disk.new }
         ensures counts { Counts (IsErrOf result UploadError.DiskFault) (D.failures disk.old) (D.failures disk.new) }
         ensures no_refusal { (e : Refusal) → IsErrOf result (UploadError.Refused e) → ⊥ }
-        ensures nothing { length piece.now ≡ 0 → (self.new ≡ self.old) × (disk.new ≡ disk.old) × (blocks.new ≡ blocks.old) × IsOk result }
+        ensures nothing { length piece.now ≡ 0
+            → (self.new ≡ self.old) × (disk.new ≡ disk.old) × (blocks.new ≡ blocks.old) × IsOk result }
 
         // What it holds, and what it leaves of the blocks and the disk, whatever the answer.
-        ensures same { (number_of self.new ≡ number_of self.old) × (offset_of self.new ≡ offset_of self.old) × (committed_len_of self.new ≡ committed_len_of self.old) × (tail_of self.new ≡ tail_of self.old) }
+        ensures same { (number_of self.new ≡ number_of self.old) × (offset_of self.new ≡ offset_of self.old)
+            × (committed_len_of self.new ≡ committed_len_of self.old) × (tail_of self.new ≡ tail_of self.old) }
+        ensures behind { (len : ℕ) (state : List ℕ) → IsBehind len state self.old → IsBehind len state self.new }
         ensures placed { IsPlaced layout.now self.new }
         ensures rows { blocks.new.rows ≡ blocks.old.rows }
         ensures reserved { IsReserved blocks.new (list_of self.new) }
-        ensures effect { Effect D.Disk (journal_pages layout.now) (list_of self.old) (list_of self.new) disk.old disk.new blocks.old blocks.new }
+        ensures effect { Effect D.Disk (journal_pages layout.now) (list_of self.old) (list_of self.new) disk.old
+            disk.new blocks.old blocks.new }
 
         // The body is longer, or it is as it was.
         ensures answer { (p : Patch) → Holds indexes.now p self.old → length p.body + length piece.now ≤ p.count
             → OnOk result (IsLonger indexes.now (with_piece p piece.now) self.old self.new blocks.old blocks.new) }
-        ensures content { (p : Patch) → D.honest disk.old → Holds indexes.now p self.old → length p.body + length piece.now ≤ p.count
+        ensures content { (p : Patch) → D.honest disk.old → Holds indexes.now p self.old
+            → length p.body + length piece.now ≤ p.count
             → Carries indexes.now (D.seen disk.old) (25 + 2 * journal_pages layout.now) p self.old
-            → OnOk result (Carries indexes.now (D.seen disk.new) (25 + 2 * journal_pages layout.now) (with_piece p piece.now) self.new) }
-        ensures memory { IsErrOf result UploadError.NoMemory → (list_of self.new ≡ list_of self.old) × (blocks.new ≡ blocks.old) }
-        ensures holds_on { (p : Patch) → Holds indexes.now p self.old → IsErrOf result UploadError.NoMemory → Holds indexes.now p self.new }
+            → OnOk result (Carries indexes.now (D.seen disk.new) (25 + 2 * journal_pages layout.now)
+            (with_piece p piece.now) self.new) }
+        ensures memory { IsErrOf result UploadError.NoMemory
+            → (list_of self.new ≡ list_of self.old) × (blocks.new ≡ blocks.old) }
+        ensures holds_on { (p : Patch) → Holds indexes.now p self.old → IsErrOf result UploadError.NoMemory
+            → Holds indexes.now p self.new }
         ensures content_on { (p : Patch) → D.honest disk.old → IsErrOf result UploadError.NoMemory
             → Carries indexes.now (D.seen disk.old) (25 + 2 * journal_pages layout.now) p self.old
             → Carries indexes.now (D.seen disk.new) (25 + 2 * journal_pages layout.now) p self.new }
@@ -173,9 +190,10 @@ impl SpoolDraft {
         Ok(())
     }
 
-    /// Ends the text in memory, with the bytes of the end where the body completes the upload: refused with `Unencodable`, `Full`,
-    /// `NoMemory`, `DiskFault`, after which it may only be spent. Nothing is written: `write_last` writes what is still to be
-    /// written. Where no byte was added to the text it has no blocks, and the committed ones stay.
+    /// Ends the text in memory, with the bytes of the end where the body completes the upload: refused with
+    /// `Unencodable`, `Full`, `NoMemory`, `DiskFault`, after which it may only be spent. Nothing is written:
+    /// `write_last` writes what is still to be written. Where no byte was added to the text it has no blocks, and the
+    /// committed ones stay.
     pub fn end<D: Disk>(
         &mut self,
         alloc: Global,
@@ -193,24 +211,42 @@ impl SpoolDraft {
         ensures counts { Counts (IsErrOf result UploadError.DiskFault) (D.failures disk.old) (D.failures disk.new) }
 
         // What it holds, and what it leaves of the blocks and the disk, whatever the answer.
-        ensures same { (number_of self.new ≡ number_of self.old) × (offset_of self.new ≡ offset_of self.old) × (came_of self.new ≡ came_of self.old) × (committed_len_of self.new ≡ committed_len_of self.old) × (tail_of self.new ≡ tail_of self.old) }
+        ensures same { (number_of self.new ≡ number_of self.old) × (offset_of self.new ≡ offset_of self.old)
+            × (came_of self.new ≡ came_of self.old) × (committed_len_of self.new ≡ committed_len_of self.old)
+            × (tail_of self.new ≡ tail_of self.old) }
         ensures rows { blocks.new.rows ≡ blocks.old.rows }
         ensures reserved { IsReserved blocks.new (list_of self.new) }
-        ensures effect { Effect D.Disk (journal_pages layout.now) (list_of self.old) (list_of self.new) disk.old disk.new blocks.old blocks.new }
+        ensures effect { Effect D.Disk (journal_pages layout.now) (list_of self.old) (list_of self.new) disk.old
+            disk.new blocks.old blocks.new }
+
+        // What it ends in goes behind the text that it began behind, whatever the disk said.
+        ensures behind { (len : ℕ) (state : List ℕ) → IsState state → IsBehind len state self.old
+            → IfOk result (EndsBehind len state (list_of self.new)) }
+        ensures room { (len : ℕ) (state : List ℕ) → IsBehind len state self.old → IsOk result
+            → offset_of self.old + 1 < 2 ^ 64 }
+        ensures refusal { (e : Refusal) → IsErrOf result (UploadError.Refused e)
+            → (e ≡ UploadRefusal.Unencodable) ⊎ (e ≡ UploadRefusal.Full) }
 
         // Nothing is written.
-        ensures keeps { D.honest disk.old → OnlyRead (D.seen disk.old) (D.seen disk.new) (D.loose disk.old) (D.loose disk.new) }
-        ensures lasts { D.honest disk.old → Lasts D.Disk disk.old disk.new (IsImage (D.seen disk.old) (D.loose disk.old)) }
+        ensures keeps { D.honest disk.old
+            → OnlyRead (D.seen disk.old) (D.seen disk.new) (D.loose disk.old) (D.loose disk.new) }
+        ensures lasts { D.honest disk.old
+            → Lasts D.Disk disk.old disk.new (IsImage (D.seen disk.old) (D.loose disk.old)) }
 
         // Where a body came: the text's end, and the bytes on the blocks, with those that are still to be written.
-        ensures answer { (p : Patch) → Holds indexes.now p self.old → 0 < length p.body → EndsAs indexes.now p completes self.old self.new blocks.old blocks.new result }
-        ensures fits { IfOk result (λ end. 1 ≤ length (list_of self.new) → (length end.last.items + 4095) / 4096 ≤ length (list_of self.new)) }
-        ensures content { (p : Patch) → D.honest disk.old → Holds indexes.now p self.old → 0 < length p.body → Carries indexes.now (D.seen disk.old) (25 + 2 * journal_pages layout.now) p self.old
-            → IfOk result (λ end. 1 ≤ length (list_of self.new) → bytes_with (D.seen disk.new) (25 + 2 * journal_pages layout.now) (list_of self.new) end.last.items ≡ open_text indexes.now p completes) }
+        ensures answer { (p : Patch) → Holds indexes.now p self.old → 0 < length p.body
+            → EndsAs indexes.now p completes self.old self.new blocks.old blocks.new result }
+        ensures fits { IfOk result
+            (λ end. 1 ≤ length (list_of self.new) → (length end.last.items + 4095) / 4096 ≤ length (list_of self.new)) }
+        ensures content { (p : Patch) → D.honest disk.old → Holds indexes.now p self.old → 0 < length p.body
+            → Carries indexes.now (D.seen disk.old) (25 + 2 * journal_pages layout.now) p self.old
+            → IfOk result (λ end. 1 ≤ length (list_of self.new)
+            → bytes_with (D.seen disk.new) (25 + 2 * journal_pages layout.now) (list_of self.new) end.last.items
+            ≡ open_text indexes.now p completes) }
     {
         let (state, text) = finished(alloc, &self.fresh, indexes, completes)?;
-        let text_len = self.growth.len() + text.len() as u64;
         let last = self.growth.end(alloc, disk, layout, blocks, &text)?;
+        let text_len = self.growth.len_with(&last);
         Ok(DraftEnd {
             state,
             text_len,

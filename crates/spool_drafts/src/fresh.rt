@@ -1,11 +1,14 @@
 // Where transcoding stands.
-ghost use Rattle.std.specs.Prelude.{◌≡◌, ◌++◌, ℕ, false, List, IfOk, IsErrOf};
+ghost use Rattle.std.specs.Prelude.{◌≡◌, ◌++◌, ℕ, false, List, IfOk, IsErrOf, IsOk};
 ghost use Rattle.upload_rules.specs.Store.{Upload, is_complete};
+ghost use Rattle.upload_rules.specs.States.{IsState, SameEncodings};
+ghost use Rattle.upload_rules.specs.Texts.{GoesOn, IsGrowing};
+ghost use Rattle.upload_rules.specs.declared.errors.UploadRefusal.{UploadRefusal as Refusal};
 ghost use Rattle.spool_drafts.specs.Fresh.{StandsAt, Adds, IsEmptied, text_in, FinishesAs};
 
 use enc_index::IndexSet;
 use std::alloc::{AllocError, Global};
-use upload_rules::{NewText, UploadError};
+use upload_rules::{NewText, UploadError, UploadRefusal};
 
 /// Where transcoding stands behind a piece more, and what the piece adds to the text.
 pub(crate) fn read_on(
@@ -14,8 +17,12 @@ pub(crate) fn read_on(
     indexes: &IndexSet,
     piece: &[u8],
 ) -> Result<(NewText, Vec<u8>), AllocError>
-    ensures stands { (u : Upload) (bytes : List ℕ) → is_complete u ≡ false → StandsAt indexes.now u bytes fresh.now → IfOk result (λ read. StandsAt indexes.now u (bytes ++ piece.now) read.0) }
-    ensures adds { (u : Upload) (bytes : List ℕ) → is_complete u ≡ false → StandsAt indexes.now u bytes fresh.now → IfOk result (λ read. Adds indexes.now u bytes piece.now read.0 read.1.items) }
+    ensures stands { (u : Upload) (bytes : List ℕ) → is_complete u ≡ false → StandsAt indexes.now u bytes fresh.now
+        → IfOk result (λ read. StandsAt indexes.now u (bytes ++ piece.now) read.0) }
+    ensures adds { (u : Upload) (bytes : List ℕ) → is_complete u ≡ false → StandsAt indexes.now u bytes fresh.now
+        → IfOk result (λ read. Adds indexes.now u bytes piece.now read.0 read.1.items) }
+    ensures goes_on { (state : List ℕ) → GoesOn state fresh.now → IfOk result (λ read. GoesOn state read.0) }
+    ensures growing { IfOk result (λ read. IsGrowing read.0 → IsGrowing fresh.now) }
 {
     let (next, outcome) = without_text(alloc, fresh).with(indexes, piece);
     outcome?;
@@ -29,8 +36,13 @@ pub(crate) fn finished(
     indexes: &IndexSet,
     completes: bool,
 ) -> Result<([u8; 32], Vec<u8>), UploadError>
-    ensures finished { (u : Upload) (bytes : List ℕ) → is_complete u ≡ false → StandsAt indexes.now u bytes fresh.now → FinishesAs indexes.now u bytes completes result }
+    ensures finished { (u : Upload) (bytes : List ℕ) → is_complete u ≡ false → StandsAt indexes.now u bytes fresh.now
+        → FinishesAs indexes.now u bytes completes result }
+    ensures same { (state : List ℕ) → IsState state → GoesOn state fresh.now
+        → IfOk result (λ end. SameEncodings state end.0) }
+    ensures growing { IsOk result → IsGrowing fresh.now }
     ensures no_device { IsErrOf result UploadError.DiskFault → ⊥ }
+    ensures refusal { (e : Refusal) → IsErrOf result (UploadError.Refused e) → e ≡ UploadRefusal.Unencodable }
 {
     without_text(alloc, fresh).ended(indexes, completes)
 }

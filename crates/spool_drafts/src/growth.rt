@@ -6,7 +6,7 @@ ghost use Rattle.spool_journal.specs.Image.{journal_pages, all_pages};
 ghost use Rattle.spool_texts.specs.Drafts.{IsReserved, GivesBack, bytes_with, content_on, held_count};
 ghost use Rattle.spool_texts.specs.TextOn.{AllBelow, text_on};
 ghost use Rattle.spool_drafts.specs.Effect.{Effect, Regrasps, RunsShort};
-ghost use Rattle.spool_drafts.specs.Growth.{list_on, tail_list, bytes_on, whole_len, IsTailed, HoldsLen, HoldsCount, GrowsTo, ClosesAs};
+ghost use Rattle.spool_drafts.specs.Growth.{list_on, tail_list, bytes_on, count_with, IsTailed, HoldsLen, HoldsCount, GrowsTo, ClosesAs};
 ghost use Rattle.upload_rules.specs.declared.errors.UploadRefusal.{UploadRefusal as Refusal};
 
 use spool_blocks::{BlockNo, Blocks};
@@ -38,8 +38,12 @@ impl Growth {
         ensures none { result.on ≡ None }
         ensures roomy { result.short ≡ false }
         ensures tailed { (blocks : ℕ) → AllBelow blocks list.now → IsTailed blocks result }
-        ensures tail { (i : ℕ) → i < length (tail_list result.tail) → (text_len / 4096 < length list.now) × (get_or (tail_list result.tail) i 0 ≡ get_or list.now (text_len / 4096) 0) }
-        ensures bytes { (seen : ℕ → ℕ) (first : ℕ) → text_on seen first list.now (4096 * (text_len / 4096)) ++ bytes_on seen first result None ≡ text_on seen first list.now text_len }
+        ensures tail { (i : ℕ) → i < length (tail_list result.tail)
+            → (text_len / 4096 < length list.now)
+            × (get_or (tail_list result.tail) i 0 ≡ get_or list.now (text_len / 4096) 0) }
+        ensures bytes { (seen : ℕ → ℕ) (first : ℕ)
+            → text_on seen first list.now (4096 * (text_len / 4096)) ++ bytes_on seen first result None
+            ≡ text_on seen first list.now text_len }
     {
         let tail = if text_len % PAGE as u64 == 0 {
             None
@@ -65,19 +69,21 @@ impl Growth {
         }
     }
 
-    /// The length of the text with what was put behind.
-    pub(crate) fn len(&self) -> u64
-        requires { self.now.text_len ≤ 4096 * 65536 }
-        ensures len { result ≡ whole_len self.now.text_len self.now.on }
-        ensures few { result < 2 ^ 40 }
+    /// The length of the text that ended, of which the last bytes are still to be written.
+    pub(crate) fn len_with(&self, last: &[u8]) -> u64
+        requires few { self.now.text_len ≤ 4096 * 65536 }
+        requires fits { 1 ≤ length (list_on self.now.on)
+            → (length last.now + 4095) / 4096 ≤ length (list_on self.now.on) }
+        ensures nothing { length (list_on self.now.on) ≡ 0 → result ≡ self.now.text_len }
+        ensures more { 0 < length (list_on self.now.on)
+            → result ≡ 4096 * (self.now.text_len / 4096) + count_with (list_on self.now.on) last.now }
     {
-        match &self.on {
-            Some(text) => {
-                let _few = text.list();
-                self.text_len / PAGE as u64 * PAGE as u64 + text.len()
-            }
-            None => self.text_len,
+        let count = self.list().len();
+        if count == 0 {
+            return self.text_len;
         }
+        let full = self.text_len / PAGE as u64 + (count - last.len().div_ceil(PAGE)) as u64;
+        PAGE as u64 * full + last.len() as u64
     }
 
     /// Gives the reserved blocks back.
@@ -91,7 +97,8 @@ impl Growth {
         }
     }
 
-    /// Puts bytes behind, unless it is short of blocks. It runs short where no block is free for them, and gives all back.
+    /// Puts bytes behind, unless it is short of blocks. It runs short where no block is free for them, and gives all
+    /// back.
     pub(crate) fn put<D: Disk>(
         &mut self,
         alloc: Global,
@@ -110,14 +117,23 @@ impl Growth {
         ensures no_refusal { (e : Refusal) → IsErrOf result (UploadError.Refused e) → ⊥ }
         ensures same { (self.new.text_len ≡ self.old.text_len) × (self.new.tail ≡ self.old.tail) }
         ensures nothing { self.old.short ≡ true → (self.new ≡ self.old) × (blocks.new ≡ blocks.old) × IsOk result }
-        ensures effect { Effect D.Disk (journal_pages layout.now) (list_on self.old.on) (list_on self.new.on) disk.old disk.new blocks.old blocks.new }
-        ensures holds { (n : ℕ) → HoldsLen self.old n → OnOk result (GrowsTo (n + length bytes.now) self.old self.new blocks.old blocks.new) }
-        ensures content { D.honest disk.old → OnOk result (self.new.short ≡ false → bytes_on (D.seen disk.new) (25 + 2 * journal_pages layout.now) self.new self.new.on ≡ bytes_on (D.seen disk.old) (25 + 2 * journal_pages layout.now) self.old self.old.on ++ bytes.now) }
+        ensures effect { Effect D.Disk (journal_pages layout.now) (list_on self.old.on) (list_on self.new.on) disk.old
+            disk.new blocks.old blocks.new }
+        ensures holds { (n : ℕ) → HoldsLen self.old n
+            → OnOk result (GrowsTo (n + length bytes.now) self.old self.new blocks.old blocks.new) }
+        ensures content { D.honest disk.old
+            → OnOk result (self.new.short ≡ false
+            → bytes_on (D.seen disk.new) (25 + 2 * journal_pages layout.now) self.new self.new.on
+            ≡ bytes_on (D.seen disk.old) (25 + 2 * journal_pages layout.now) self.old self.old.on ++ bytes.now) }
 
         // Where memory is short, it holds what it held.
-        ensures memory { IsErrOf result UploadError.NoMemory → (list_on self.new.on ≡ list_on self.old.on) × (blocks.new ≡ blocks.old) × (self.new.short ≡ self.old.short) }
+        ensures memory { IsErrOf result UploadError.NoMemory
+            → (list_on self.new.on ≡ list_on self.old.on) × (blocks.new ≡ blocks.old)
+            × (self.new.short ≡ self.old.short) }
         ensures holds_on { (n : ℕ) → HoldsLen self.old n → IsErrOf result UploadError.NoMemory → HoldsLen self.new n }
-        ensures content_on { D.honest disk.old → IsErrOf result UploadError.NoMemory → bytes_on (D.seen disk.new) (25 + 2 * journal_pages layout.now) self.new self.new.on ≡ bytes_on (D.seen disk.old) (25 + 2 * journal_pages layout.now) self.old self.old.on }
+        ensures content_on { D.honest disk.old → IsErrOf result UploadError.NoMemory
+            → bytes_on (D.seen disk.new) (25 + 2 * journal_pages layout.now) self.new self.new.on
+            ≡ bytes_on (D.seen disk.old) (25 + 2 * journal_pages layout.now) self.old self.old.on }
     {
         if self.short || bytes.is_empty() {
             return Ok(());
@@ -126,8 +142,8 @@ impl Growth {
         self.put_more(disk, layout, blocks, bytes)
     }
 
-    /// Ends the text with these bytes, in memory: the bytes that are still to be written to its last blocks. Refused with `Full` where
-    /// it is short of blocks.
+    /// Ends the text with these bytes, in memory: the bytes that are still to be written to its last blocks. Refused
+    /// with `Full` where it is short of blocks.
     pub(crate) fn end<D: Disk>(
         &mut self,
         alloc: Global,
@@ -143,15 +159,23 @@ impl Growth {
         ensures honest { D.honest disk.old ↔ D.honest disk.new }
         ensures counts { Counts (IsErrOf result UploadError.DiskFault) (D.failures disk.old) (D.failures disk.new) }
         ensures same { (self.new.text_len ≡ self.old.text_len) × (self.new.tail ≡ self.old.tail) }
-        ensures grasps { (own : List ℕ) × Regrasps blocks.old blocks.new (list_on self.old.on) (list_on self.new.on) own }
+        ensures grasps { (own : List ℕ)
+            × Regrasps blocks.old blocks.new (list_on self.old.on) (list_on self.new.on) own }
         ensures answer { ClosesAs self.old self.new (length bytes.now) blocks.old blocks.new result }
-        ensures fits { IfOk result (λ last. 1 ≤ length (list_on self.new.on) → (length last.items + 4095) / 4096 ≤ length (list_on self.new.on)) }
+        ensures fits { IfOk result
+            (λ last. 1 ≤ length (list_on self.new.on)
+            → (length last.items + 4095) / 4096 ≤ length (list_on self.new.on)) }
+        ensures len { (n : ℕ) → HoldsLen self.old n → IfOk result (λ last. 1 ≤ length (list_on self.new.on)
+            → count_with (list_on self.new.on) last.items ≡ n + length bytes.now) }
         ensures content { D.honest disk.old → IfOk result (λ last. 1 ≤ length (list_on self.new.on)
-            → bytes_with (D.seen disk.new) (25 + 2 * journal_pages layout.now) (list_on self.new.on) last.items ≡ bytes_on (D.seen disk.old) (25 + 2 * journal_pages layout.now) self.old self.old.on ++ bytes.now) }
+            → bytes_with (D.seen disk.new) (25 + 2 * journal_pages layout.now) (list_on self.new.on) last.items
+            ≡ bytes_on (D.seen disk.old) (25 + 2 * journal_pages layout.now) self.old self.old.on ++ bytes.now) }
 
         // Nothing is written.
-        ensures keeps { D.honest disk.old → Keeps (D.seen disk.old) (D.seen disk.new) (D.loose disk.old) (D.loose disk.new) }
-        ensures lasts { D.honest disk.old → Lasts D.Disk disk.old disk.new (IsImage (D.seen disk.old) (D.loose disk.old)) }
+        ensures keeps { D.honest disk.old
+            → Keeps (D.seen disk.old) (D.seen disk.new) (D.loose disk.old) (D.loose disk.new) }
+        ensures lasts { D.honest disk.old
+            → Lasts D.Disk disk.old disk.new (IsImage (D.seen disk.old) (D.loose disk.old)) }
     {
         if self.short {
             return Err(UploadError::Refused(UploadRefusal::Full));
@@ -175,11 +199,17 @@ impl Growth {
         requires begun { self.old.on ≡ None → length bytes.now ≡ 0 }
         ensures no_device { IsErrOf result UploadError.DiskFault → ⊥ }
         ensures same { (self.new.text_len ≡ self.old.text_len) × (self.new.tail ≡ self.old.tail) }
-        ensures grasps { (own : List ℕ) × Regrasps blocks.old blocks.new (list_on self.old.on) (list_on self.new.on) own }
+        ensures grasps { (own : List ℕ)
+            × Regrasps blocks.old blocks.new (list_on self.old.on) (list_on self.new.on) own }
         ensures answer { ClosesAs self.old self.new (length bytes.now) blocks.old blocks.new result }
-        ensures fits { IfOk result (λ last. 1 ≤ length (list_on self.new.on) → (length last.items + 4095) / 4096 ≤ length (list_on self.new.on)) }
+        ensures fits { IfOk result
+            (λ last. 1 ≤ length (list_on self.new.on)
+            → (length last.items + 4095) / 4096 ≤ length (list_on self.new.on)) }
+        ensures len { (n : ℕ) → HoldsLen self.old n → IfOk result (λ last. 1 ≤ length (list_on self.new.on)
+            → count_with (list_on self.new.on) last.items ≡ n + length bytes.now) }
         ensures content { (seen : ℕ → ℕ) (first : ℕ) → IfOk result (λ last. 1 ≤ length (list_on self.new.on)
-            → bytes_with seen first (list_on self.new.on) last.items ≡ bytes_on seen first self.old self.old.on ++ bytes.now) }
+            → bytes_with seen first (list_on self.new.on) last.items
+            ≡ bytes_on seen first self.old self.old.on ++ bytes.now) }
     {
         let Some(text) = &mut self.on else {
             return Ok(Vec::new(alloc));
@@ -213,9 +243,13 @@ impl Growth {
         ensures list { list_on self.new.on ≡ list_on self.old.on }
         ensures some { OnOk result (self.new.on ≡ None → ⊥) }
         ensures holds { (n : ℕ) → HoldsLen self.old n → HoldsLen self.new n }
-        ensures content { D.honest disk.old → bytes_on (D.seen disk.new) (25 + 2 * journal_pages layout.now) self.new self.new.on ≡ bytes_on (D.seen disk.old) (25 + 2 * journal_pages layout.now) self.old self.old.on }
-        ensures keeps { D.honest disk.old → Keeps (D.seen disk.old) (D.seen disk.new) (D.loose disk.old) (D.loose disk.new) }
-        ensures lasts { D.honest disk.old → Lasts D.Disk disk.old disk.new (IsImage (D.seen disk.old) (D.loose disk.old)) }
+        ensures content { D.honest disk.old
+            → bytes_on (D.seen disk.new) (25 + 2 * journal_pages layout.now) self.new self.new.on
+            ≡ bytes_on (D.seen disk.old) (25 + 2 * journal_pages layout.now) self.old self.old.on }
+        ensures keeps { D.honest disk.old
+            → Keeps (D.seen disk.old) (D.seen disk.new) (D.loose disk.old) (D.loose disk.new) }
+        ensures lasts { D.honest disk.old
+            → Lasts D.Disk disk.old disk.new (IsImage (D.seen disk.old) (D.loose disk.old)) }
     {
         if self.on.is_some() {
             return Ok(());
@@ -243,10 +277,16 @@ impl Growth {
         ensures counts { Counts (IsErrOf result UploadError.DiskFault) (D.failures disk.old) (D.failures disk.new) }
         ensures no_refusal { (e : Refusal) → IsErrOf result (UploadError.Refused e) → ⊥ }
         ensures same { (self.new.text_len ≡ self.old.text_len) × (self.new.tail ≡ self.old.tail) }
-        ensures effect { Effect D.Disk (journal_pages layout.now) (list_on self.old.on) (list_on self.new.on) disk.old disk.new blocks.old blocks.new }
-        ensures holds { (n : ℕ) → HoldsLen self.old n → OnOk result (GrowsTo (n + length bytes.now) self.old self.new blocks.old blocks.new) }
-        ensures content { D.honest disk.old → OnOk result (self.new.short ≡ false → bytes_on (D.seen disk.new) (25 + 2 * journal_pages layout.now) self.new self.new.on ≡ bytes_on (D.seen disk.old) (25 + 2 * journal_pages layout.now) self.old self.old.on ++ bytes.now) }
-        ensures memory { IsErrOf result UploadError.NoMemory → (self.new ≡ self.old) × (disk.new ≡ disk.old) × (blocks.new ≡ blocks.old) }
+        ensures effect { Effect D.Disk (journal_pages layout.now) (list_on self.old.on) (list_on self.new.on) disk.old
+            disk.new blocks.old blocks.new }
+        ensures holds { (n : ℕ) → HoldsLen self.old n
+            → OnOk result (GrowsTo (n + length bytes.now) self.old self.new blocks.old blocks.new) }
+        ensures content { D.honest disk.old
+            → OnOk result (self.new.short ≡ false
+            → bytes_on (D.seen disk.new) (25 + 2 * journal_pages layout.now) self.new self.new.on
+            ≡ bytes_on (D.seen disk.old) (25 + 2 * journal_pages layout.now) self.old self.old.on ++ bytes.now) }
+        ensures memory { IsErrOf result UploadError.NoMemory
+            → (self.new ≡ self.old) × (disk.new ≡ disk.old) × (blocks.new ≡ blocks.old) }
     {
         let Some(text) = &mut self.on else {
             return Ok(());
@@ -280,9 +320,12 @@ fn begun<D: Disk>(
     ensures counts { Counts (IsErrOf result UploadError.DiskFault) (D.failures disk.old) (D.failures disk.new) }
     ensures no_refusal { (e : Refusal) → IsErrOf result (UploadError.Refused e) → ⊥ }
     ensures none { IfOk result (λ text. text.blocks ≡ []) }
-    ensures tail { D.honest disk.old → IfOk result (λ text. text.unfinished ≡ text_on (D.seen disk.old) (25 + 2 * journal_pages layout.now) (tail_list tail) (text_len % 4096)) }
+    ensures tail { D.honest disk.old
+        → IfOk result (λ text. text.unfinished
+        ≡ text_on (D.seen disk.old) (25 + 2 * journal_pages layout.now) (tail_list tail) (text_len % 4096)) }
     ensures tail_size { IfOk result (λ text. length text.unfinished ≡ text_len % 4096) }
-    ensures keeps { D.honest disk.old → Keeps (D.seen disk.old) (D.seen disk.new) (D.loose disk.old) (D.loose disk.new) }
+    ensures keeps { D.honest disk.old
+        → Keeps (D.seen disk.old) (D.seen disk.new) (D.loose disk.old) (D.loose disk.new) }
     ensures lasts { D.honest disk.old → Lasts D.Disk disk.old disk.new (IsImage (D.seen disk.old) (D.loose disk.old)) }
 {
     let begun = match tail {

@@ -6,6 +6,7 @@ ghost use Rattle.spool_journal.specs.Image.{journal_pages, all_pages};
 ghost use Rattle.spool_journal.specs.Phases.{Idle};
 ghost use Rattle.upload_rules.specs.Store.{Store};
 ghost use Rattle.upload_rules.specs.World.{at_rest};
+ghost use Rattle.spool_kept.proofs.Facts.{fits_prop};
 ghost use Rattle.spool_kept.specs.Drafting.{DraftsFit};
 ghost use Rattle.spool_kept.specs.Shows.{IsSound};
 ghost use Rattle.spool_pages.specs.View.{View, IsViewOf};
@@ -30,7 +31,7 @@ pub struct Spool<D: Disk> {
     /// by their numbers
     drafts: Vec<Option<SpoolDraft>>,
     ghost room: { 4096 * all_pages kept.layout ≤ D.size disk },
-    ghost fits: { DraftsFit kept.layout kept.blocks drafts.items },
+    ghost fits: { DraftsFit kept drafts.items } by { fits_prop kept drafts.items },
 }
 
 /// A draft of a spool: the append of its number.

@@ -8,7 +8,7 @@ use Rattle.spool_disk.specs.declared.disk.Disk.{Ghosts}
 use Rattle.spool_disk.specs.Views.{Lasts}
 use Rattle.spool_disk.proofs.Firm.{lasts_more}
 use Rattle.spool_journal.specs.Image.{journal_pages}
-use Rattle.spool_drafts.specs.Drafts.{EndsAs, Holds, Carries, IsPlaced, IsWhole, committed_len_of, list_of, tail_of, offset_of, came_of, open_text}
+use Rattle.spool_drafts.specs.Drafts.{EndsAs, EndsBehind, Holds, Carries, IsPlaced, IsWhole, committed_len_of, list_of, tail_of, offset_of, came_of, open_text}
 use Rattle.spool_drafts.specs.Effect.{Effect, RunsShort}
 use Rattle.spool_drafts.specs.declared.draft.DraftEnd.{DraftEnd}
 use Rattle.spool_drafts.specs.declared.draft.SpoolDraft.{SpoolDraft}
@@ -28,7 +28,7 @@ use Rattle.upload_rules.specs.declared.errors.UploadError.TheVariants.{NoMemory,
 use Rattle.upload_rules.specs.declared.errors.UploadRefusal.TheVariants as refusals
 use Rattle.upload_rules.proofs.Patches.{draft_of}
 use Rattle.spool_kept.specs.Committing.{HasSameCount, IsCommit}
-use Rattle.spool_kept.specs.Drafting.{DraftsFit, DraftStands, OnlyReserves}
+use Rattle.spool_kept.specs.Drafting.{DraftsHold, DraftStands, OnlyReserves}
 use Rattle.spool_kept.specs.Extending.{IsPending, MayExtend}
 use Rattle.spool_kept.specs.Holding.{Holding}
 use Rattle.spool_kept.specs.Shows.{ImageShows, IsRecordOf}
@@ -43,6 +43,11 @@ use Rattle.spool_kept.proofs.Drafted.{IsChanged, changed_in}
 -- other reserved blocks
 pub only_blocks : (h : Holding) (blocks : Held) → blocks.rows ≡ h.blocks.rows → OnlyReserves h (record h { blocks = blocks })
 only_blocks h blocks rows = record { same = refl; rows = rows }
+
+-- the slot's upload may become what the text of a draft that is behind it ends in
+pub may : (h : Holding) (slot accepted : ℕ) (list : List ℕ) (end : DraftEnd) (used : SlotRecord) → get_or h.slots slot None ≡ Some used → EndsBehind used.text_len used.state list end
+    → MayExtend h (record { slot = slot; accepted = accepted; text_len = end.text_len; state = end.state }) list
+may h slot accepted list end used there ends = record { used = used; there = there; state = ends.same; same = ends.nothing; blocks = ends.blocks }
 
 -- what the draft began behind is placed as it was
 pub placed_still : (n : ℕ) (o o' : SpoolDraft) → committed_len_of o' ≡ committed_len_of o → tail_of o' ≡ tail_of o → IsPlaced n o → IsPlaced n o'
@@ -138,7 +143,7 @@ module _ {D : Type 0} (disk : Ghosts D) (d d' : D) (h h' : Holding) (only : Only
     pub changed_mid : IsChanged drafts number (Some o') (set drafts number (Some o'))
     changed_mid = changed_in drafts (set drafts number (Some o')) number o' inside refl
 
-    pub fit_mid : DraftsFit h.layout h'.blocks (set drafts number (Some o'))
+    pub fit_mid : DraftsHold h.layout h'.blocks (set drafts number (Some o'))
     fit_mid = fit_longer h.layout h.blocks drafts is.fits number o is.here h'.blocks (set drafts number (Some o')) o' effect.own effect.grasp changed_mid reserved placed
 
     roomy : (done : Bool) → p.short ≡ false → length (list_of o') ≡ wants w.store.indexes p done → is_short w number p done ≡ false
@@ -179,9 +184,6 @@ module _ {D : Type 0} (disk : Ghosts D) (d d' : D) (h h' : Holding) (only : Only
 
       there_after : get_or h'.slots slot None ≡ Some has.used
       there_after = ap (λ (k : Holding). get_or k.slots slot None) only.same ∙ has.there
-
-      pub may : (accepted : ℕ) → MayExtend h' (record { slot = slot; accepted = accepted; text_len = end.text_len; state = end.state }) (list_of o')
-      may = texts.may_extend w.store.indexes p o' end held.held held.within is.some whole h' slot has.used there_after (s.view.texts slot) (told slot has)
 
       pub pending : (longer : Longer) → longer.slot ≡ slot → longer.accepted ≡ reached p → longer.text_len ≡ end.text_len → longer.state ≡ end.state → Stored disk d' h' w.store
           → (1 ≤ length (list_of o') → (length end.last.items + 4095) / 4096 ≤ length (list_of o'))

@@ -1,5 +1,5 @@
 -- What a commit finds of its draft's upload.
-use Rattle.std.proofs.Common.{Err, ◌≡◌, ℕ, ◌+◌, ◌*◌, List, Option, None, Some, length, get_or, sym, ◌∙◌, ap, subst, arith}
+use Rattle.std.proofs.Common.{Err, IsErrOf, refl, ◌↔◌, ◌≡◌, ℕ, ◌+◌, ◌*◌, List, Option, None, Some, length, get_or, sym, ◌∙◌, ap, subst, arith}
 use Rattle.spool_disk.specs.declared.disk.Disk.{Ghosts}
 use Rattle.spool_journal.specs.Image.{journal_pages}
 use Rattle.spool_drafts.specs.Drafts.{Holds, came_of, number_of, offset_of}
@@ -9,13 +9,14 @@ use Rattle.upload_rules.specs.Calls.{commit_refusal, committed, dropped, reached
 use Rattle.upload_rules.specs.Drafts.{draft_at}
 use Rattle.upload_rules.specs.Store.{Upload, find, upload_of}
 use Rattle.upload_rules.specs.World.{Patch, World}
+use Rattle.upload_rules.specs.declared.errors.UploadError.TheVariants.{Refused}
 use Rattle.upload_rules.specs.declared.errors.UploadRefusal.{UploadRefusal}
 use Rattle.upload_rules.specs.declared.errors.UploadRefusal.TheVariants.{NoSuch, Offset, TooLong, Unencodable, Slots, TooLarge, Full}
 use Rattle.upload_rules.proofs.Patches.{draft_of}
 use Rattle.upload_rules.proofs.Refusals.{no_such_upload, other_offset}
 use Rattle.upload_rules.proofs.Same.{same_upload}
 use Rattle.spool_kept.specs.Committing.{FindsSlot, HasSameCount, IsCommit}
-use Rattle.spool_kept.specs.Drafting.{DraftStands, DraftsFit, StandsFor}
+use Rattle.spool_kept.specs.Drafting.{DraftStands, DraftsHold, IsOfUpload, StandsFor}
 use Rattle.spool_kept.specs.Holding.{Holding, IsUsedBy}
 use Rattle.spool_kept.specs.Shows.{IsTold}
 use Rattle.spool_kept.proofs.Answered.{no_upload}
@@ -56,7 +57,7 @@ module _ {D : Type 0} (disk : Ghosts D) (d : D) (h : Holding) (drafts : List (Op
         let there = upload_there same.used is.upload same.number is.there in
         there ∙ ap (λ (u : Upload). Some u) (same_upload w number p is.upload s.stands.grown patch there (sym is.tells.accepted ∙ same.count ∙ held.offset))
 
-    pub commits : DraftsFit h.layout h.blocks drafts → (came_of o ≡ 0 → ⊥) → IsCommit disk d h drafts number o w p
+    pub commits : DraftsHold h.layout h.blocks drafts → (came_of o ≡ 0 → ⊥) → IsCommit disk d h drafts number o w p
     commits fits some = record {
       stands = s;
       fits = fits;
@@ -78,3 +79,18 @@ module _ {D : Type 0} (disk : Ghosts D) (d : D) (h : Holding) (drafts : List (Op
 
       pub empty_stands : (h' : Holding) (drafts' : List (Option SpoolDraft)) → StandsFor disk d h' drafts' (dropped w number) → StandsFor disk d h' drafts' (committed w number p)
       empty_stands h' drafts' stands = subst (StandsFor disk d h' drafts') (sym (nothing_committed w number p no_body)) stands
+
+-- WHATEVER THE DISK SAID
+
+-- it is refused so exactly where the upload has another count
+pub at_offset : (slots : List (Option SlotRecord)) (o : SpoolDraft) (e : UploadRefusal) → FindsSlot slots o (Err e) → IsOfUpload slots o
+    → (IsErrOf {T = ℕ} (Err (Refused e)) (Refused Offset) ↔ ((s : ℕ) → HasSameCount slots o s → ⊥))
+at_offset slots o NoSuch free is =
+    let used : ⊥ = is.some free in
+    (λ refused. absurd used, λ none. absurd used)
+at_offset slots o Offset other is = (λ refused. other.none, λ none. refl)
+at_offset slots o TooLong found is = absurd found
+at_offset slots o Unencodable found is = absurd found
+at_offset slots o Slots found is = absurd found
+at_offset slots o TooLarge found is = absurd found
+at_offset slots o Full found is = absurd found

@@ -1,5 +1,5 @@
 -- A draft's whole text behind its upload's.
-use Rattle.std.proofs.Common.{◌≡◌, inl, inr, ℕ, ◌<◌, ◌≤◌, ◌+◌, ◌-◌, ◌*◌, ◌/◌, ◌%◌, ◌++◌, ◌==◌, Bool, true, false, List, [], ◌∷◌, None, Some, length, get_or, drop, refl, sym, ◌∙◌, ap, subst, arith, append-nil, length-append, length-drop}
+use Rattle.std.proofs.Common.{◌≡◌, inl, inr, ℕ, ◌<◌, ◌≤◌, ◌+◌, ◌-◌, ◌*◌, ◌/◌, ◌%◌, ◌++◌, ◌==◌, Bool, false, List, [], ◌∷◌, None, length, drop, refl, sym, ◌∙◌, ap, subst, arith, append-nil, length-append, length-drop}
 use Rattle.std.proofs.lemmas.Bool.{ne_eqb, cases_lt}
 use Rattle.std.proofs.lemmas.List.{drop-append-le}
 use Rattle.enc_model.specs.Decode.{text}
@@ -16,13 +16,10 @@ use Rattle.spool_drafts.specs.Drafts.{IsWhole, list_of, open_text}
 use Rattle.spool_drafts.specs.declared.draft.DraftEnd.{DraftEnd}
 use Rattle.spool_drafts.specs.declared.draft.SpoolDraft.{SpoolDraft}
 use Rattle.spool_drafts.proofs.Patches.{value_before}
-use Rattle.spool_pages.specs.View.{SlotRecord}
 use Rattle.spool_room.specs.Holdings.{added}
 use Rattle.spool_room.proofs.Needs.{wants_some, wants_none}
 use Rattle.spool_texts.specs.TextOn.{text_on}
-use Rattle.spool_kept.specs.Extending.{IsExtension, MayExtend, SameEncodings, full_bytes}
-use Rattle.spool_kept.specs.Holding.{Holding}
-use Rattle.spool_kept.specs.Shows.{IsRecordOf}
+use Rattle.spool_kept.specs.Extending.{IsExtension, full_bytes}
 use Rattle.spool_kept.specs.declared.extending.Longer.{Longer}
 
 patch_text_is : (x : IndexSet) (p : Patch) (done : Bool) → patch_text x p done ≡ text_with x p.began p.body done
@@ -51,40 +48,6 @@ module _ (x : IndexSet) (u : Upload) (bytes : List ℕ) where
   state_is : state_of x (with_bytes u bytes) ≡ state_with x u bytes ends
   unfolding state_with
   state_is = ap state_bytes transcoder_is
-
-same_from : (x : IndexSet) (u : Upload) (a b : List ℕ) (done before : Bool) → (transcoder_with x u a done).from ≡ (transcoder_with x u b before).from
-same_from x u a b true true = refl
-same_from x u a b true false = refl
-same_from x u a b false true = refl
-same_from x u a b false false = refl
-
-same_to : (x : IndexSet) (u : Upload) (a b : List ℕ) (done before : Bool) → (transcoder_with x u a done).to ≡ (transcoder_with x u b before).to
-same_to x u a b true true = refl
-same_to x u a b true false = refl
-same_to x u a b false true = refl
-same_to x u a b false false = refl
-
-same_mode : (x : IndexSet) (u : Upload) (a b : List ℕ) (done before : Bool) → (transcoder_with x u a done).mode ≡ (transcoder_with x u b before).mode
-same_mode x u a b true true = refl
-same_mode x u a b true false = refl
-same_mode x u a b false true = refl
-same_mode x u a b false false = refl
-
--- the states of an upload and of it with more bytes
-same_encodings : (x : IndexSet) (u : Upload) (bytes : List ℕ) (done : Bool) (old new : List ℕ) → old ≡ state_of x u → IsSound (transcoder_with x u [] (is_complete u))
-    → new ≡ state_with x u bytes done → IsSound (transcoder_with x u bytes done) → SameEncodings old new
-unfolding state_with
-same_encodings x u bytes done old new was sound is sound' = record {
-  before = transcoder_with x u [] (is_complete u);
-  after = transcoder_with x u bytes done;
-  before_sound = sound;
-  after_sound = sound';
-  was = was;
-  is = is;
-  from = same_from x u bytes [] done (is_complete u);
-  to = same_to x u bytes [] done (is_complete u);
-  mode = same_mode x u bytes [] done (is_complete u);
-}
 
 module _ (x : IndexSet) (p : Patch) (o : SpoolDraft) (end : DraftEnd) (held : length p.body ≤ p.count) (within : length p.began.accepted + p.count ≤ p.began.declared) (some : 0 < length p.body)
     (whole : IsWhole x p (completes p) o end) where
@@ -121,18 +84,6 @@ module _ (x : IndexSet) (p : Patch) (o : SpoolDraft) (end : DraftEnd) (held : le
     | inl lt ↦ (let wanted = wants_some x p (completes p) whole.encodable (omega (arith, added_is, lt)) in omega (arith, wanted, added_is))
     | inr none ↦ absurd (let wanted = wants_none x p (completes p) (omega (arith, added_is, none)) in omega (arith, wanted, listed, whole.listed))
   ]
-
-  -- WHAT IS KEPT MAY BE EXTENDED
-
-  module _ (h : Holding) (slot : ℕ) (used : SlotRecord) (there : get_or h.slots slot None ≡ Some used) (shown : List ℕ) (tells : IsRecordOf x used shown p.began) where
-    pub may_extend : (accepted : ℕ) → MayExtend h (record { slot = slot; accepted = accepted; text_len = end.text_len; state = end.state }) (list_of o)
-    may_extend accepted = record {
-      used = used;
-      there = there;
-      state = same_encodings x p.began p.body (completes p) used.state end.state tells.state tells.sound whole.state_is whole.sound;
-      same = λ none. omega (arith, whole.len, all_len, none_added none, tells.text_len);
-      blocks = λ listed. omega (arith, whole.len, all_len, some_added listed, whole.listed, tells.text_len);
-    }
 
   -- THE BYTES
 

@@ -18,7 +18,7 @@ use Rattle.upload_rules.proofs.Growing.{grown_begun}
 use Rattle.upload_rules.proofs.Patches.{patch_there, begun_stand}
 use Rattle.spool_kept.specs.Holding.{Holding}
 use Rattle.spool_kept.specs.Shows.{Shows}
-use Rattle.spool_kept.specs.Drafting.{list_in, lists_at, DraftsFit, DraftStands, DraftsStand, IsOwnedBy, StandsFor, OpensFor}
+use Rattle.spool_kept.specs.Drafting.{list_in, lists_at, DraftsHold, DraftStands, DraftsStand, IsOwnedBy, StandsFor, OpensFor}
 use Rattle.spool_kept.proofs.DraftLists.{in_other, none_in_nothing, nothing_reserved}
 use Rattle.spool_kept.proofs.Drafted.{IsChanged, changed_lists, fit_changed}
 
@@ -29,7 +29,7 @@ module _ (old new : List (Option SpoolDraft)) (place : ℕ) (o : SpoolDraft) (pl
     others = λ e other. placed.after e ∙ rw (ne_eqb e place (λ s. other (sym s))) refl;
   }
 
-  pub fit_begun : (n : ℕ) (h : Held) → DraftsFit n h old → list_of o ≡ [] → IsTailPlaced n o → DraftsFit n h new
+  pub fit_begun : (n : ℕ) (h : Held) → DraftsHold n h old → list_of o ≡ [] → IsTailPlaced n o → DraftsHold n h new
   fit_begun n h fit none tailed = fit_changed n h h old new place (Some o) fit changed_more (nothing_reserved h (list_of o) none)
       (λ e other. fit.reserved e) (λ a e. subst (IsTailPlaced n) (some_same o a e) tailed) (λ e other. none_in_nothing (list_of o) (lists_at old e) none)
     where

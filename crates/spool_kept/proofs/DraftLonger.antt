@@ -38,7 +38,7 @@ use Rattle.spool_kept.specs.Holding.{Holding}
 use Rattle.spool_kept.specs.Stored.{Stored}
 use Rattle.spool_kept.specs.Changed.{slot_of}
 use Rattle.spool_kept.specs.Shows.{Shows}
-use Rattle.spool_kept.specs.Drafting.{list_in, lists_at, DraftsFit, DraftStands, DraftsStand, IsOwnedBy, OnlyReserves, StandsFor}
+use Rattle.spool_kept.specs.Drafting.{list_in, lists_at, DraftsHold, DraftStands, DraftsStand, IsOwnedBy, OnlyReserves, StandsFor}
 use Rattle.spool_kept.proofs.DraftLists.{IsOut, IsSwapped, all_reserved, all_apart, cases_in, in_other, in_own, kept_out, given_keeps, none_in_nothing, none_sym, out_of_more, reserved_before, taken_apart, taken_keeps}
 use Rattle.spool_kept.proofs.Drafted.{IsChanged, changed_lists, fit_changed, keeps_on}
 use Rattle.spool_kept.proofs.SlotsOf.{upload_slot, slots_apart, owner_upload}
@@ -48,7 +48,7 @@ some_draft a b e = ap (λ o. elim o as (λ _. SpoolDraft) [ None ↦ a | Some r 
 
 -- BLOCKS
 
-module _ (n : ℕ) (h : Held) (old : List (Option SpoolDraft)) (fit : DraftsFit n h old) (d : ℕ) (o : SpoolDraft) (here : draft_at old d ≡ Some o) where
+module _ (n : ℕ) (h : Held) (old : List (Option SpoolDraft)) (fit : DraftsHold n h old) (d : ℕ) (o : SpoolDraft) (here : draft_at old d ≡ Some o) where
   own_apart : {held : Held} {own : List ℕ} → Takes h held (list_of o) own → (e : ℕ) → d ≢ e → NoneOf own (lists_at old e)
   own_apart takes e other = taken_apart (lists_at old e) takes (fit.reserved e) (subst (λ (xs : List ℕ). NoneOf xs (lists_at old e)) (ap list_in here) (fit.distinct d e other))
 
@@ -83,7 +83,7 @@ module _ (n : ℕ) (h : Held) (old : List (Option SpoolDraft)) (fit : DraftsFit 
           | inr given ↦ none_in_nothing (list_of o') (lists_at old e) given.1
         ]
 
-    pub fit_longer : IsReserved h' (list_of o') → IsPlaced n o' → DraftsFit n h' new
+    pub fit_longer : IsReserved h' (list_of o') → IsPlaced n o' → DraftsHold n h' new
     fit_longer reserved placed = fit_changed n h h' old new d (Some o') fit changed reserved others_kept (λ a e. subst (IsPlaced n) (some_draft o' a e) placed) list_apart
 
     pub all_longer : ((b : ℕ) → get_or h.reserved b false ≡ true → IsInSome (lists_at old) b) → (b : ℕ) → get_or h'.reserved b false ≡ true → IsInSome (lists_at new) b
@@ -208,7 +208,7 @@ changed_back old mid new d o o' there out back = record {
     inside : d < length mid
     inside = omega (arith, within, ap length out, length-set old d None)
 
-module _ (x : IndexSet) (seen seen' : ℕ → ℕ) (first n : ℕ) (records : List (Option SlotRecord)) (h h' : Held) (w : World) (old new : List (Option SpoolDraft)) (stand : DraftsStand x seen first records h w old) (fit : DraftsFit n h old)
+module _ (x : IndexSet) (seen seen' : ℕ → ℕ) (first n : ℕ) (records : List (Option SlotRecord)) (h h' : Held) (w : World) (old new : List (Option SpoolDraft)) (stand : DraftsStand x seen first records h w old) (fit : DraftsHold n h old)
     (d : ℕ) (o o' : SpoolDraft) (here : draft_at old d ≡ Some o) (own : List ℕ) (grasp : Regrasps h h' (list_of o) (list_of o') own) (changed : IsChanged old d (Some o') new)
     (rows : h'.rows ≡ h.rows) (same : SameOutside first own seen seen') where
   unowned : Unowned h.rows own
@@ -230,10 +230,10 @@ module _ (x : IndexSet) (seen seen' : ℕ → ℕ) (first n : ℕ) (records : Li
     all = all_longer n h old fit d o here h' new o' own grasp changed stand.all;
   }
 
-module _ (w : World) (seen seen' : ℕ → ℕ) (first n : ℕ) (records : List (Option SlotRecord)) (h h' : Held) (old new : List (Option SpoolDraft)) (stand : DraftsStand w.store.indexes seen first records h w old) (fit : DraftsFit n h old)
+module _ (w : World) (seen seen' : ℕ → ℕ) (first n : ℕ) (records : List (Option SlotRecord)) (h h' : Held) (old new : List (Option SpoolDraft)) (stand : DraftsStand w.store.indexes seen first records h w old) (fit : DraftsHold n h old)
     (d : ℕ) (o o' : SpoolDraft) (here : draft_at old d ≡ Some o) (own : List ℕ) (grasp : Regrasps h h' (list_of o) (list_of o') own) (changed : IsChanged old d (Some o') new)
     (rows : h'.rows ≡ h.rows) (v : View) (shows : Shows v w.store) (known : h.rows ≡ v.rows) (size : length h.reserved ≡ length h.rows)
-    (after : DraftsFit n h' new) where
+    (after : DraftsHold n h' new) where
   size_after : length h'.reserved ≡ length h'.rows
   size_after = elim grasp.holds [
     | inl holds ↦ subst (λ (k : Held). length k.reserved ≡ length k.rows) holds.0 (omega (arith, grasp.takes.size, size, ap length grasp.takes.rows))

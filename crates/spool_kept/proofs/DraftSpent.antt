@@ -21,7 +21,7 @@ use Rattle.upload_rules.specs.Store.{Store, Upload, find, replaced, upload_of, w
 use Rattle.upload_rules.specs.World.{Patch, World}
 use Rattle.upload_rules.proofs.Finds.{find_replaced_other, find_replaced_same, find_without_other, find_without_same}
 use Rattle.upload_rules.proofs.Patches.{apart_without, carried}
-use Rattle.spool_kept.specs.Drafting.{DraftStands, DraftsFit, DraftsStand, IsOwnedBy, list_in, lists_at}
+use Rattle.spool_kept.specs.Drafting.{DraftStands, DraftsHold, DraftsStand, IsOwnedBy, list_in, lists_at}
 use Rattle.spool_kept.specs.Extending.{HandsOn, IsLonger, longer_record}
 use Rattle.spool_kept.specs.Holding.{Holding, IsUsedBy}
 use Rattle.spool_kept.specs.declared.extending.Longer.{Longer}
@@ -64,7 +64,7 @@ handed_keeps h h' list other hands rows is apart = record {
   distinct = is.distinct;
 }
 
-module _ (n : ℕ) (h h' : Held) (old : List (Option SpoolDraft)) (fit : DraftsFit n h old) (d : ℕ) (o o' : SpoolDraft) (here : draft_at old d ≡ Some o) (own : List ℕ)
+module _ (n : ℕ) (h h' : Held) (old : List (Option SpoolDraft)) (fit : DraftsHold n h old) (d : ℕ) (o o' : SpoolDraft) (here : draft_at old d ≡ Some o) (own : List ℕ)
     (grasp : Regrasps h h' (list_of o) (list_of o') own) (reserved : IsReserved h' (list_of o')) (placed : IsPlaced n o') where
   abbrev mid : List (Option SpoolDraft)
   mid = set old d (Some o')
@@ -72,7 +72,7 @@ module _ (n : ℕ) (h h' : Held) (old : List (Option SpoolDraft)) (fit : DraftsF
   changed_mid : IsChanged old d (Some o') (set old d (Some o'))
   changed_mid = changed_in old (set old d (Some o')) d o' (inside_of old d o here) refl
 
-  fit_mid : DraftsFit n h' (set old d (Some o'))
+  fit_mid : DraftsHold n h' (set old d (Some o'))
   fit_mid = fit_longer n h old fit d o here h' (set old d (Some o')) o' own grasp changed_mid reserved placed
 
   gone : set old d None ≡ set (set old d (Some o')) d None
@@ -84,10 +84,10 @@ module _ (n : ℕ) (h h' : Held) (old : List (Option SpoolDraft)) (fit : DraftsF
   mid_out : IsChanged (set old d (Some o')) d None (set old d None)
   mid_out = changed_out (set old d (Some o')) (set old d None) d gone
 
-  pub fit_given : (h'' : Held) → GivesBack h' h'' (list_of o') → DraftsFit n h'' (set old d None)
+  pub fit_given : (h'' : Held) → GivesBack h' h'' (list_of o') → DraftsHold n h'' (set old d None)
   fit_given h'' gives = fit_dropped n h' h'' (set old d (Some o')) (set old d None) d gone fit_mid (subst (GivesBack h' h'') (sym list_mid) gives)
 
-  pub fit_handed : (h'' : Held) → HandsOn h'.reserved h''.reserved (list_of o') → StaysFree h'.rows h''.rows (list_of o') → DraftsFit n h'' (set old d None)
+  pub fit_handed : (h'' : Held) → HandsOn h'.reserved h''.reserved (list_of o') → StaysFree h'.rows h''.rows (list_of o') → DraftsHold n h'' (set old d None)
   fit_handed h'' hands rows = fit_changed n h' h'' (set old d (Some o')) (set old d None) d None fit_mid mid_out (nothing_reserved h'' [] refl)
       (λ e other. handed_keeps h' h'' (list_of o') (lists_at (set old d (Some o')) e) hands rows (fit_mid.reserved e) (subst (λ (xs : List ℕ). NoneOf xs (lists_at (set old d (Some o')) e)) list_mid (fit_mid.distinct d e other)))
       (λ a e. absurd cc) (λ e other. none_in_nothing [] (lists_at (set old d (Some o')) e) refl)

@@ -26,7 +26,7 @@ use Rattle.spool_kept.specs.declared.order.NumberedSlot.{NumberedSlot}
 use Rattle.spool_kept.specs.Holding.{Holding, Orders, FitsTogether, IsListOf, IsUsedBy}
 use Rattle.spool_kept.specs.Kept.{KeepsView}
 use Rattle.spool_kept.specs.Stored.{Stored}
-use Rattle.spool_kept.specs.Drafting.{list_in, lists_at, DraftsFit, OnlyReserves, DraftStands, DraftsStand, IsOwnedBy, StandsFor, OpensFor}
+use Rattle.spool_kept.specs.Drafting.{list_in, lists_at, DraftsHold, OnlyReserves, DraftStands, DraftsStand, IsOwnedBy, StandsFor, OpensFor}
 use Rattle.spool_kept.proofs.DraftLists.{IsSwapped, all_reserved, all_apart, in_other, none_in_nothing, given_keeps, kept_out, nothing_reserved}
 
 -- ANOTHER DRAFT AT ONE NUMBER
@@ -60,9 +60,9 @@ pub list_here : (drafts : List (Option SpoolDraft)) (d : ℕ) (o : SpoolDraft) �
 list_here drafts d o is = ap list_in is
 
 -- the drafts fit where the changed one does
-pub fit_changed : (n : ℕ) (h h' : Held) (old new : List (Option SpoolDraft)) (d : ℕ) (o : Option SpoolDraft) → DraftsFit n h old → IsChanged old d o new
+pub fit_changed : (n : ℕ) (h h' : Held) (old new : List (Option SpoolDraft)) (d : ℕ) (o : Option SpoolDraft) → DraftsHold n h old → IsChanged old d o new
     → IsReserved h' (list_in o) → ((e : ℕ) → d ≢ e → IsReserved h' (lists_at old e)) → ((a : SpoolDraft) → o ≡ Some a → IsPlaced n a)
-    → ((e : ℕ) → d ≢ e → NoneOf (list_in o) (lists_at old e)) → DraftsFit n h' new
+    → ((e : ℕ) → d ≢ e → NoneOf (list_in o) (lists_at old e)) → DraftsHold n h' new
 fit_changed n h h' old new d o fit is own others placed apart = record {
   reserved = all_reserved (lists_at old) (lists_at new) d (list_in o) (changed_lists old new d o is) h' own others;
   placed = λ e a there. elim (cases_eq d e) [
@@ -101,7 +101,7 @@ module _ (n : ℕ) (h h' : Held) (old new : List (Option SpoolDraft)) (d : ℕ) 
   gone : IsChanged old d None new
   gone = changed_out old new d is
 
-  pub fit_dropped : DraftsFit n h old → GivesBack h h' (lists_at old d) → DraftsFit n h' new
+  pub fit_dropped : DraftsHold n h old → GivesBack h h' (lists_at old d) → DraftsHold n h' new
   fit_dropped fit gives = fit_changed n h h' old new d None fit gone (nothing_reserved h' [] refl)
       (λ e other. given_keeps (lists_at old e) gives (fit.reserved e) (fit.distinct d e other)) (λ a e. absurd cc) (λ e other. none_in_nothing [] (lists_at old e) refl)
 

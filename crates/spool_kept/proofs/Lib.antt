@@ -30,3 +30,5 @@ pub mod DraftSpent
 pub mod CommitSpent
 pub mod CommitHead
 pub mod LastWritten
+pub mod OfUploads
+pub mod Facts

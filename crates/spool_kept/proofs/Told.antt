@@ -53,7 +53,7 @@ module _ (x : IndexSet) (r : SlotRecord) (shown : List ℕ) (u : Upload) (is : I
 -- STATES SAY THEIR ENCODINGS
 
 -- the encoding of a number
-encoding_at : ℕ → Encoding
+pub encoding_at : ℕ → Encoding
 encoding_at n =
     if n == 0 then Utf8 else if n == 1 then Utf16Be else if n == 2 then Utf16Le else if n == 3 then ShiftJis else if n == 4 then EucJp
     else if n == 5 then Iso2022Jp else if n == 6 then Ibm866 else if n == 7 then Iso8859X2 else if n == 8 then Iso8859X5
@@ -61,7 +61,7 @@ encoding_at n =
     else if n == 13 then Windows1251 else if n == 14 then Windows1252 else if n == 15 then Windows1253 else if n == 16 then Windows1254
     else if n == 17 then Windows1255 else if n == 18 then Windows1256 else if n == 19 then Windows1257 else Windows1258
 
-back : (e : Encoding) → encoding_at (encoding_number e) ≡ e
+pub back : (e : Encoding) → encoding_at (encoding_number e) ≡ e
 unfolding encoding_at
 back Utf8 = refl
 back Utf16Be = refl

@@ -1,5 +1,5 @@
 -- The open drafts on a disk by their numbers, and the patches that they stand for.
-use Rattle.std.specs.Prelude.{◌≡◌, ◌≢◌, ◌<◌, ◌+◌, ◌*◌, ℕ, List, [], Option, None, Some, true, false, Result, Ok, Err, length, get_or}
+use Rattle.std.specs.Prelude.{◌≡◌, ◌≢◌, ◌<◌, ◌≤◌, ◌+◌, ◌*◌, ℕ, List, [], Option, None, Some, true, false, Result, Ok, Err, length, get_or}
 use Rattle.enc_model.specs.Indexes.{IndexSet}
 use Rattle.spool_blocks.specs.Blocks.{Row, Held}
 use Rattle.spool_blocks.specs.Chains.{Owns}
@@ -8,7 +8,7 @@ use Rattle.spool_journal.specs.Image.{journal_pages}
 use Rattle.spool_texts.specs.Drafts.{IsReserved}
 use Rattle.spool_texts.specs.Written.{NoneOf}
 use Rattle.spool_room.specs.Holdings.{IsInSome}
-use Rattle.spool_drafts.specs.Drafts.{Holds, Carries, IsBegun, IsPlaced, list_of, tail_of}
+use Rattle.spool_drafts.specs.Drafts.{Holds, Carries, IsBegun, IsBehind, IsPlaced, list_of, number_of, offset_of, tail_of}
 use Rattle.spool_drafts.specs.declared.draft.SpoolDraft.{SpoolDraft}
 use Rattle.upload_rules.specs.Apart.{IsApart}
 use Rattle.upload_rules.specs.Calls.{first_patch}
@@ -16,10 +16,12 @@ use Rattle.upload_rules.specs.Drafts.{DraftOf, draft_at}
 use Rattle.upload_rules.specs.Grown.{IsGrown}
 use Rattle.upload_rules.specs.Store.{Upload, Store, find, upload_of}
 use Rattle.upload_rules.specs.World.{Patch, World}
+use Rattle.upload_rules.specs.declared.records.Record.{Record}
 use Rattle.upload_rules.specs.declared.errors.UploadRefusal.{UploadRefusal}
 use Rattle.upload_rules.specs.declared.errors.UploadRefusal.TheVariants.{NoSuch}
 use Rattle.spool_pages.specs.View.{SlotRecord}
 use Rattle.spool_kept.specs.Holding.{Holding, IsUsedBy}
+use Rattle.spool_kept.specs.Records.{said_of}
 use Rattle.spool_kept.specs.Stored.{Stored}
 
 -- WHAT HOLDS ALWAYS
@@ -32,11 +34,31 @@ list_in (Some o) = list_of o
 abbrev pub lists_at : List (Option SpoolDraft) → ℕ → List ℕ
 lists_at drafts d = list_in (draft_at drafts d)
 
--- Each draft's blocks are reserved, and no other draft's, whatever the disk said. There are so many blocks.
-pub record DraftsFit (n : ℕ) (h : Held) (drafts : List (Option SpoolDraft)) : Type 0 where
+-- each draft's blocks are reserved, and no other draft's; there are so many blocks
+pub record DraftsHold (n : ℕ) (h : Held) (drafts : List (Option SpoolDraft)) : Type 0 where
   pub reserved : (d : ℕ) → IsReserved h (lists_at drafts d)
   pub placed : (d : ℕ) (o : SpoolDraft) → draft_at drafts d ≡ Some o → IsPlaced n o
   pub distinct : (d e : ℕ) → d ≢ e → NoneOf (lists_at drafts d) (lists_at drafts e)
+
+-- the record is that of a slot, and of each slot with its number
+pub record IsKept (slots : List (Option SlotRecord)) (r : Record) : Type 0 where
+  pub slot : ℕ
+  pub there : get_or slots slot None ≡ Some (said_of r)
+  pub only : (s : ℕ) (q : SlotRecord) → get_or slots s None ≡ Some q → q.number ≡ r.number → q ≡ said_of r
+
+-- The draft's upload is in a slot, with as many bytes as when the draft began, or more. With as many, the draft is
+-- behind its text.
+pub record IsOfUpload (slots : List (Option SlotRecord)) (o : SpoolDraft) : Type 0 where
+  pub some : ((s : ℕ) → IsUsedBy slots s (number_of o) → ⊥) → ⊥
+  pub grown : (s : ℕ) (r : SlotRecord) → get_or slots s None ≡ Some r → r.number ≡ number_of o
+      → offset_of o ≤ r.accepted
+  pub behind : (s : ℕ) (r : SlotRecord) → get_or slots s None ≡ Some r → r.number ≡ number_of o
+      → r.accepted ≡ offset_of o → IsBehind r.text_len r.state o
+
+-- the drafts fit what is kept, whatever the disk said
+pub record DraftsFit (h : Holding) (drafts : List (Option SpoolDraft)) : Type 0 where
+  pub blocks : DraftsHold h.layout h.blocks drafts
+  pub uploads : (d : ℕ) (o : SpoolDraft) → draft_at drafts d ≡ Some o → IsOfUpload h.slots o
 
 -- all that is kept is as it was but for what is reserved
 pub record OnlyReserves (old new : Holding) : Type 0 where

@@ -1,8 +1,7 @@
 -- What an append makes of what is kept in memory.
 use Rattle.std.specs.Prelude.{◌≡◌, ◌≢◌, ℕ, ◌*◌, ◌+◌, ◌-◌, ◌/◌, ◌%◌, ◌<◌, ◌≤◌, ◌++◌, List, [], Some, None, Bool, false, length, get_or, drop, slice_set}
 use Rattle.enc_model.specs.Indexes.{IndexSet}
-use Rattle.enc_model.specs.Transcode.{Transcoder}
-use Rattle.enc_stream.specs.StateBytes.{IsSound, state_bytes}
+use Rattle.enc_stream.specs.StateBytes.{IsSound}
 use Rattle.spool_disk.specs.declared.disk.Disk.{Ghosts}
 use Rattle.spool_drafts.specs.Effect.{OnlyWrites}
 use Rattle.spool_journal.specs.Image.{journal_pages}
@@ -10,7 +9,7 @@ use Rattle.spool_texts.specs.Drafts.{bytes_with}
 use Rattle.spool_texts.specs.TextOn.{text_on}
 use Rattle.upload_rules.specs.Room.{blocks_of}
 use Rattle.upload_rules.specs.Store.{Upload, Store, upload_of, is_complete, text_of, text_with, with_bytes}
-use Rattle.upload_rules.specs.States.{state_of, transcoder_with}
+use Rattle.upload_rules.specs.States.{SameEncodings, state_of, transcoder_with}
 use Rattle.spool_pages.specs.View.{SlotRecord, text_page}
 use Rattle.spool_kept.specs.Changed.{HandsOver}
 use Rattle.spool_kept.specs.Holding.{Holding, IsUsedBy}
@@ -20,18 +19,6 @@ use Rattle.spool_kept.specs.declared.extending.Longer.{Longer}
 -- the record with the new counts and the new state
 abbrev pub longer_record : SlotRecord → Longer → SlotRecord
 longer_record r longer = record r { accepted = longer.accepted; text_len = longer.text_len; state = longer.state }
-
--- the states of two transcoders with the same encodings and the same mode
-pub record SameEncodings (old new : List ℕ) : Type 0 where
-  pub before : Transcoder
-  pub after : Transcoder
-  pub before_sound : IsSound before
-  pub after_sound : IsSound after
-  pub was : old ≡ state_bytes before
-  pub is : new ≡ state_bytes after
-  pub from : after.from ≡ before.from
-  pub to : after.to ≡ before.to
-  pub mode : after.mode ≡ before.mode
 
 -- how many bytes of a text are on full blocks
 abbrev pub full_bytes : ℕ → ℕ

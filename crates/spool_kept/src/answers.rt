@@ -8,7 +8,7 @@ ghost use Rattle.upload_rules.specs.Answers.{Answers};
 ghost use Rattle.upload_rules.specs.Reading.{no_such, text_at, IsRead};
 ghost use Rattle.upload_rules.specs.Records.{TellsOf, above, with_number};
 ghost use Rattle.upload_rules.specs.Store.{Store, upload_of};
-ghost use Rattle.spool_kept.specs.Drafting.{IsOwnedBy};
+ghost use Rattle.spool_kept.specs.Drafting.{IsKept, IsOwnedBy};
 ghost use Rattle.spool_kept.specs.Holding.{IsUsedBy};
 ghost use Rattle.spool_kept.specs.Kept.{KeepsView};
 ghost use Rattle.spool_kept.specs.Records.{KeepsOf, IsUploadOn};
@@ -36,7 +36,9 @@ pub(crate) struct KeptUpload<'a> {
 impl Kept {
     /// The slot of a number.
     pub fn slot_of(&self, number: u64) -> Option<u32>
-        ensures used { MatchOption result ((s : ℕ) → IsUsedBy self.now.slots s number → ⊥) (λ s. IsUsedBy self.now.slots s number) }
+        ensures used { MatchOption result ((s : ℕ) → IsUsedBy self.now.slots s number → ⊥)
+            (λ s. IsUsedBy self.now.slots s number) }
+        ensures only { IfSome result (λ s. (t : ℕ) → IsUsedBy self.now.slots t number → t ≡ s) }
         ensures below { IfSome result (λ s. s < 512) }
     {
         slot_of(&self.order, number)
@@ -44,8 +46,10 @@ impl Kept {
 
     /// The upload of a number.
     pub fn record(&self, number: u64) -> Option<&Record>
-        ensures kept { (v : View) (m : Store) → KeepsView self.now v → Shows v m → KeepsOf m.indexes number (upload_of m number) (option_copied result) }
-        ensures told { (v : View) (m : Store) → KeepsView self.now v → Shows v m → TellsOf m.indexes (with_number number (upload_of m number)) (option_copied result) }
+        ensures kept { (v : View) (m : Store) → KeepsView self.now v → Shows v m
+            → KeepsOf m.indexes number (upload_of m number) (option_copied result) }
+        ensures told { (v : View) (m : Store) → KeepsView self.now v → Shows v m
+            → TellsOf m.indexes (with_number number (upload_of m number)) (option_copied result) }
     {
         let slot = self.slot_of(number)?;
         let kept = record_at(&self.slots, slot as usize)?;
@@ -58,8 +62,10 @@ impl Kept {
         ensures long { IfSome result (λ u. u.upload.now.text_len ≤ 4096 * length u.list.now) }
         ensures few { IfSome result (λ u. length u.list.now ≤ 65536) }
         ensures owned { IfSome result (λ u. IsOwnedBy self.now.slots self.now.blocks.rows number u.list.now) }
+        ensures kept { IfSome result (λ u. IsKept self.now.slots u.upload.now) }
         ensures told { (v : View) (m : Store) (bytes : ℕ → ℕ) → KeepsView self.now v → Shows v m → Says bytes v
-            → MatchOption result (upload_of m number ≡ None) (λ u. IsUploadOn m number bytes (25 + 2 * journal_pages self.now.layout) u.upload.now u.list.now) }
+            → MatchOption result (upload_of m number ≡ None)
+            (λ u. IsUploadOn m number bytes (25 + 2 * journal_pages self.now.layout) u.upload.now u.list.now) }
     {
         let slot = self.slot_of(number)?;
         let used = record_at(&self.slots, slot as usize)?;
@@ -85,10 +91,14 @@ impl Kept {
         ensures counts { Counts (IsErrOf result UploadError.DiskFault) (D.failures disk.old) (D.failures disk.new) }
         ensures later { D.moment disk.old ≤ D.moment disk.new }
         ensures no_memory { IsErrOf result UploadError.NoMemory → ⊥ }
-        ensures answer { D.honest disk.old → (m : Store) (v : View) → KeepsView self.now v → Shows v m → Says (D.seen disk.old) v
-            → Answers (no_such (upload_of m number)) result (λ n. IsRead (text_at m (upload_of m number)) at n buf.old buf.new) (Unit {0}) }
-        ensures keeps { D.honest disk.old → Keeps (D.seen disk.old) (D.seen disk.new) (D.loose disk.old) (D.loose disk.new) }
-        ensures lasts { D.honest disk.old → Lasts D.Disk disk.old disk.new (IsImage (D.seen disk.old) (D.loose disk.old)) }
+        ensures answer { D.honest disk.old → (m : Store) (v : View) → KeepsView self.now v → Shows v m
+            → Says (D.seen disk.old) v
+            → Answers (no_such (upload_of m number)) result
+            (λ n. IsRead (text_at m (upload_of m number)) at n buf.old buf.new) (Unit {0}) }
+        ensures keeps { D.honest disk.old
+            → Keeps (D.seen disk.old) (D.seen disk.new) (D.loose disk.old) (D.loose disk.new) }
+        ensures lasts { D.honest disk.old
+            → Lasts D.Disk disk.old disk.new (IsImage (D.seen disk.old) (D.loose disk.old)) }
     {
         let Some(found) = self.upload(number) else {
             return Err(UploadError::Refused(UploadRefusal::NoSuch));
@@ -108,7 +118,8 @@ impl Kept {
 
     /// The upload of the least number above this one.
     pub fn record_after(&self, number: u64) -> Option<&Record>
-        ensures { (v : View) (m : Store) → KeepsView self.now v → Shows v m → TellsOf m.indexes (above number m.uploads) (option_copied result) }
+        ensures { (v : View) (m : Store) → KeepsView self.now v → Shows v m
+            → TellsOf m.indexes (above number m.uploads) (option_copied result) }
     {
         let place = places_to(&self.order, number);
         let NumberedSlot { slot, .. } = *self.order.get(place)?;

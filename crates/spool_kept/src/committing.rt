@@ -1,34 +1,31 @@
 // The text of a draft is put behind its upload's.
-ghost use Rattle.std.specs.Prelude.{◌≡◌, ◌≤◌, ◌<◌, ◌*◌, ◌+◌, ◌^◌, ◌↔◌, ℕ, List, Option, Some, None, Err, length, get_or, min, slice_set, true, IsErrOf, IsSome, IfOk, IfSome};
+ghost use Rattle.std.specs.Prelude.{◌≡◌, ◌≤◌, ◌<◌, ◌*◌, ◌↔◌, ℕ, List, Option, Some, None, Err, get_or, slice_set, IsErrOf, IfOk};
 ghost use Rattle.spool_disk.specs.Disk.{Counts};
 ghost use Rattle.spool_disk.specs.Views.{Lasts};
 ghost use Rattle.spool_journal.specs.Image.{journal_pages, all_pages};
-ghost use Rattle.spool_drafts.specs.Drafts.{IsPlaced, came_of, list_of, number_of, offset_of};
+ghost use Rattle.spool_drafts.specs.Drafts.{IsPlaced, came_of, list_of};
 ghost use Rattle.spool_drafts.specs.Effect.{Effect};
 ghost use Rattle.spool_drafts.specs.declared.draft.SpoolDraft.{SpoolDraft as Draft};
+ghost use Rattle.spool_pages.specs.View.{SlotRecord as Said};
 ghost use Rattle.spool_texts.specs.Drafts.{IsReserved};
 ghost use Rattle.upload_rules.specs.Answers.{Answers};
 ghost use Rattle.upload_rules.specs.Calls.{commit_outcome, commit_refusal, committed, dropped, reached};
 ghost use Rattle.upload_rules.specs.Drafts.{draft_at};
 ghost use Rattle.upload_rules.specs.Store.{find};
 ghost use Rattle.upload_rules.specs.World.{Patch, World};
-ghost use Rattle.spool_kept.specs.Committing.{FindsSlot, HasSameCount, IsCommit, OnlyRead};
+ghost use Rattle.spool_kept.specs.Committing.{FindsSlot, HasSameCount, IsBehindSlot, IsCommit, OnlyRead};
 ghost use Rattle.spool_kept.specs.Drafting.{DraftsFit, OnlyReserves, StandsFor};
-ghost use Rattle.spool_kept.specs.Extending.{IsPending, MayExtend, SameEncodings};
-ghost use Rattle.spool_kept.specs.Holding.{IsUsedBy};
-ghost use Rattle.spool_kept.specs.Records.{IsUnpacked};
+ghost use Rattle.spool_kept.specs.Extending.{IsPending, MayExtend};
 ghost use Rattle.spool_kept.specs.Shows.{ImageShows};
 ghost use Rattle.spool_kept.specs.Stored.{ShowsEither, Stored};
 
 use crate::extending::{ExtendError, Longer, extend};
 use crate::kept::Kept;
-use crate::lists::blocks_of;
 use crate::records::record_at;
-use enc_stream::Transcoder;
 use spool_disk::Disk;
 use spool_drafts::{DraftEnd, SpoolDraft};
 use std::alloc::Global;
-use upload_rules::{Record, UploadError, UploadRefusal, taken};
+use upload_rules::{UploadError, UploadRefusal, taken};
 
 // The slot of a draft's upload, which has as many bytes as when the draft began: refused with `NoSuch`, `Offset`.
 fn slot_for(kept: &Kept, draft: &SpoolDraft) -> Result<u32, UploadRefusal>
@@ -46,55 +43,9 @@ fn slot_for(kept: &Kept, draft: &SpoolDraft) -> Result<u32, UploadRefusal>
     Ok(slot)
 }
 
-// Whether a state has the record's encodings and mode.
-fn is_state_of(record: &Record, state: &[u8; 32]) -> bool
-    requires { IsUnpacked «record».now }
-    ensures same { result ≡ true → SameEncodings «record».now.state state.now }
-    ensures passes { SameEncodings «record».now.state state.now → result ≡ true }
-{
-    let Some(next) = Transcoder::unpack(state) else {
-        return false;
-    };
-    if next.from() != record.from || next.to() != record.to {
-        return false;
-    }
-    next.mode() == record.mode
-}
-
-// What an upload becomes by a draft whose text has ended: none where it doesn't fit what is kept of the upload. On a disk that gives
-// back what was written it always fits; it is compared so that what is kept fits together whatever the device said.
-fn longer_by(
-    kept: &Kept,
-    slot: u32,
-    draft: &SpoolDraft,
-    accepted: u64,
-    end: &DraftEnd,
-) -> Option<Longer>
-    ensures may { IfSome result (λ l. MayExtend kept.now l (list_of draft.now)) }
-    ensures is { IfSome result (λ l. l ≡ record { slot = slot; accepted = accepted; text_len = end.now.text_len; state = end.now.state }) }
-    ensures some { MayExtend kept.now (record { slot = slot; accepted = accepted; text_len = end.now.text_len; state = end.now.state }) (list_of draft.now) → IsSome result }
-{
-    let used = record_at(&kept.slots, slot as usize)?.record();
-    let text_len = end.text_len;
-    let more = draft.list().len() as u64;
-    let is_right_size = if more == 0 {
-        text_len == used.text_len
-    } else {
-        blocks_of(text_len) == used.text_len / 4096 + more
-    };
-    if !is_right_size || !is_state_of(used, &end.state) {
-        return None;
-    }
-    Some(Longer {
-        slot,
-        accepted,
-        text_len,
-        state: end.state,
-    })
-}
-
-// Ends a draft's text behind its upload's, and answers what the upload becomes, and the bytes that are still to be written: refused with
-// `Unencodable`, `Full`, `NoMemory`, `DiskFault`. The blocks stay the draft's. Nothing is written.
+// Ends a draft's text behind its upload's, and answers what the upload becomes, and the bytes that are still to be
+// written: refused with `Unencodable`, `Full`, `NoMemory`, `DiskFault`. The blocks stay the draft's. Nothing is
+// written.
 fn ended<D: Disk>(
     alloc: Global,
     disk: &mut D,
@@ -104,6 +55,8 @@ fn ended<D: Disk>(
 ) -> Result<(Longer, Vec<u8>), UploadError>
     requires room { 4096 * all_pages kept.old.layout ≤ D.size disk.old }
     requires used { HasSameCount kept.old.slots draft.old slot }
+    requires behind { IsBehindSlot kept.old.slots slot draft.old }
+    requires some { 0 < came_of draft.old }
     requires reserved { IsReserved kept.old.blocks (list_of draft.old) }
     requires placed { IsPlaced kept.old.layout draft.old }
     ensures size { D.size disk.new ≡ D.size disk.old }
@@ -112,23 +65,35 @@ fn ended<D: Disk>(
     ensures same { OnlyReserves kept.old kept.new }
     ensures reserved { IsReserved kept.new.blocks (list_of draft.new) }
     ensures placed { IsPlaced kept.old.layout draft.new }
-    ensures effect { Effect D.Disk (journal_pages kept.old.layout) (list_of draft.old) (list_of draft.new) disk.old disk.new kept.old.blocks kept.new.blocks }
+    ensures effect { Effect D.Disk (journal_pages kept.old.layout) (list_of draft.old) (list_of draft.new) disk.old
+        disk.new kept.old.blocks kept.new.blocks }
     ensures only { D.honest disk.old → OnlyRead D.Disk disk.old disk.new }
     ensures may { IfOk result (λ e. MayExtend kept.new e.0 (list_of draft.new)) }
-    ensures answer { (drafts : List (Option Draft)) (number : ℕ) (w : World) (p : Patch) → IsCommit D.Disk disk.old kept.old drafts number draft.old w p
+    ensures more { IfOk result (λ e. (r : Said) → get_or kept.new.slots e.0.slot None ≡ Some r
+        → r.accepted < e.0.accepted) }
+    ensures no_offset { IsErrOf result (UploadError.Refused UploadRefusal.Offset) → ⊥ }
+    ensures answer { (drafts : List (Option Draft)) (number : ℕ) (w : World) (p : Patch)
+        → IsCommit D.Disk disk.old kept.old drafts number draft.old w p
         → Answers (commit_refusal w number p) result
-        (λ e. (e.0.accepted ≡ reached p) × IsPending D.Disk disk.new kept.new w.store p.number p.body e.0 (list_of draft.new) e.1.items)
+        (λ e. (e.0.accepted ≡ reached p)
+        × IsPending D.Disk disk.new kept.new w.store p.number p.body e.0 (list_of draft.new) e.1.items)
         (Unit {0}) }
-    ensures stored { (drafts : List (Option Draft)) (number : ℕ) (w : World) (p : Patch) → IsCommit D.Disk disk.old kept.old drafts number draft.old w p
+    ensures stored { (drafts : List (Option Draft)) (number : ℕ) (w : World) (p : Patch)
+        → IsCommit D.Disk disk.old kept.old drafts number draft.old w p
         → Stored D.Disk disk.new kept.new w.store }
-    ensures quiet { (drafts : List (Option Draft)) (number : ℕ) (w : World) (p : Patch) → IsCommit D.Disk disk.old kept.old drafts number draft.old w p
+    ensures quiet { (drafts : List (Option Draft)) (number : ℕ) (w : World) (p : Patch)
+        → IsCommit D.Disk disk.old kept.old drafts number draft.old w p
         → Lasts D.Disk disk.old disk.new (λ image. ImageShows kept.old.layout image w.store) }
 {
     let used = record_at(&kept.slots, slot as usize).unwrap().record();
     let accepted = draft.offset().saturating_add(draft.came());
     let completes = accepted == used.declared;
     let _rows = kept.blocks.rows();
-    let end = draft.end(
+    let DraftEnd {
+        state,
+        text_len,
+        last,
+    } = draft.end(
         alloc,
         disk,
         &kept.layout,
@@ -136,10 +101,13 @@ fn ended<D: Disk>(
         &kept.indexes,
         completes,
     )?;
-    match longer_by(kept, slot, draft, accepted, &end) {
-        Some(longer) => Ok((longer, end.last)),
-        None => Err(UploadError::Refused(UploadRefusal::Offset)),
-    }
+    let longer = Longer {
+        slot,
+        accepted,
+        text_len,
+        state,
+    };
+    Ok((longer, last))
 }
 
 // Puts a draft's text behind its upload's, in its slot, and answers the new offset. The draft is spent.
@@ -152,22 +120,30 @@ fn put_behind<D: Disk>(
 ) -> Result<u64, UploadError>
     requires room { 4096 * all_pages kept.old.layout ≤ D.size disk.old }
     requires used { HasSameCount kept.old.slots draft slot }
+    requires behind { IsBehindSlot kept.old.slots slot draft }
+    requires some { 0 < came_of draft }
     requires reserved { IsReserved kept.old.blocks (list_of draft) }
     requires placed { IsPlaced kept.old.layout draft }
     ensures size { D.size disk.new ≡ D.size disk.old }
     ensures honest { D.honest disk.old ↔ D.honest disk.new }
     ensures counts { Counts (IsErrOf result UploadError.DiskFault) (D.failures disk.old) (D.failures disk.new) }
     ensures layout { kept.new.layout ≡ kept.old.layout }
-    ensures fits { (drafts : List (Option Draft)) (number : ℕ) → DraftsFit kept.old.layout kept.old.blocks drafts → draft_at drafts number ≡ Some draft
-        → DraftsFit kept.new.layout kept.new.blocks (slice_set drafts number None) }
-    ensures answer { (drafts : List (Option Draft)) (number : ℕ) (w : World) (p : Patch) → IsCommit D.Disk disk.old kept.old drafts number draft w p
+    ensures fits { (drafts : List (Option Draft)) (number : ℕ) → DraftsFit kept.old drafts
+        → draft_at drafts number ≡ Some draft → DraftsFit kept.new (slice_set drafts number None) }
+    ensures no_offset { IsErrOf result (UploadError.Refused UploadRefusal.Offset) → ⊥ }
+    ensures answer { (drafts : List (Option Draft)) (number : ℕ) (w : World) (p : Patch)
+        → IsCommit D.Disk disk.old kept.old drafts number draft w p
         → Answers (commit_refusal w number p) result
-        (λ n. (n ≡ reached p) × StandsFor D.Disk disk.new kept.new (slice_set drafts number None) (committed w number p))
+        (λ n. (n ≡ reached p)
+        × StandsFor D.Disk disk.new kept.new (slice_set drafts number None) (committed w number p))
         (StandsFor D.Disk disk.new kept.new (slice_set drafts number None) (dropped w number)) }
-    ensures crash { (drafts : List (Option Draft)) (number : ℕ) (w : World) (p : Patch) → IsCommit D.Disk disk.old kept.old drafts number draft w p
+    ensures crash { (drafts : List (Option Draft)) (number : ℕ) (w : World) (p : Patch)
+        → IsCommit D.Disk disk.old kept.old drafts number draft w p
         → Lasts D.Disk disk.old disk.new (ShowsEither kept.old.layout w.store (commit_outcome w number p)) }
-    ensures unmade { (drafts : List (Option Draft)) (number : ℕ) (w : World) (p : Patch) → IsCommit D.Disk disk.old kept.old drafts number draft w p
-        → IsErrOf result UploadError.NoMemory → Lasts D.Disk disk.old disk.new (λ image. ImageShows kept.old.layout image w.store) }
+    ensures unmade { (drafts : List (Option Draft)) (number : ℕ) (w : World) (p : Patch)
+        → IsCommit D.Disk disk.old kept.old drafts number draft w p
+        → IsErrOf result UploadError.NoMemory
+        → Lasts D.Disk disk.old disk.new (λ image. ImageShows kept.old.layout image w.store) }
 
     // Every growth comes before the first write.
     ensures unwritten { D.honest disk.old → IsErrOf result UploadError.NoMemory → OnlyRead D.Disk disk.old disk.new }
@@ -190,9 +166,9 @@ fn put_behind<D: Disk>(
     }
 }
 
-/// Puts the text of the draft of a number behind its upload's, and answers the new offset: refused with `NoSuch`, `Offset`,
-/// `Unencodable`, `Full`, `NoMemory`, `DiskFault`. The draft is spent in every case. After a fault of the device what is kept may be
-/// ahead of the disk: the spool must be opened again.
+/// Puts the text of the draft of a number behind its upload's, and answers the new offset: refused with `NoSuch`,
+/// `Offset`, `Unencodable`, `Full`, `NoMemory`, `DiskFault`. The draft is spent in every case. After a fault of the
+/// device what is kept may be ahead of the disk: the spool must be opened again.
 pub fn commit<D: Disk>(
     alloc: Global,
     disk: &mut D,
@@ -201,20 +177,29 @@ pub fn commit<D: Disk>(
     number: usize,
 ) -> Result<u64, UploadError>
     requires room { 4096 * all_pages kept.old.layout ≤ D.size disk.old }
-    requires fits { DraftsFit kept.old.layout kept.old.blocks drafts.old.items }
-    ensures fits { DraftsFit kept.new.layout kept.new.blocks drafts.new.items }
+    requires fits { DraftsFit kept.old drafts.old.items }
+    ensures fits { DraftsFit kept.new drafts.new.items }
     ensures layout { kept.new.layout ≡ kept.old.layout }
     ensures size { D.size disk.new ≡ D.size disk.old }
     ensures honest { D.honest disk.old ↔ D.honest disk.new }
     ensures counts { Counts (IsErrOf result UploadError.DiskFault) (D.failures disk.old) (D.failures disk.new) }
-    ensures answer { (w : World) (p : Patch) → StandsFor D.Disk disk.old kept.old drafts.old.items w → find number w.patches ≡ Some p
+
+    // Whatever the disk said, it is refused so exactly where the upload doesn't have as many bytes as when the draft
+    // began.
+    ensures offset { (o : Draft) → draft_at drafts.old.items number ≡ Some o
+        → (IsErrOf result (UploadError.Refused UploadRefusal.Offset) ↔ ((s : ℕ) → HasSameCount kept.old.slots o s → ⊥)) }
+    ensures answer { (w : World) (p : Patch) → StandsFor D.Disk disk.old kept.old drafts.old.items w
+        → find number w.patches ≡ Some p
         → Answers (commit_refusal w number p) result
         (λ n. (n ≡ reached p) × StandsFor D.Disk disk.new kept.new drafts.new.items (committed w number p))
         (StandsFor D.Disk disk.new kept.new drafts.new.items (dropped w number)) }
-    ensures crash { (w : World) (p : Patch) → StandsFor D.Disk disk.old kept.old drafts.old.items w → find number w.patches ≡ Some p
+    ensures crash { (w : World) (p : Patch) → StandsFor D.Disk disk.old kept.old drafts.old.items w
+        → find number w.patches ≡ Some p
         → Lasts D.Disk disk.old disk.new (ShowsEither kept.old.layout w.store (commit_outcome w number p)) }
-    ensures unmade { (w : World) (p : Patch) → StandsFor D.Disk disk.old kept.old drafts.old.items w → find number w.patches ≡ Some p
-        → IsErrOf result UploadError.NoMemory → Lasts D.Disk disk.old disk.new (λ image. ImageShows kept.old.layout image w.store) }
+    ensures unmade { (w : World) (p : Patch) → StandsFor D.Disk disk.old kept.old drafts.old.items w
+        → find number w.patches ≡ Some p
+        → IsErrOf result UploadError.NoMemory
+        → Lasts D.Disk disk.old disk.new (λ image. ImageShows kept.old.layout image w.store) }
 
     // Every growth comes before the first write.
     ensures unwritten { D.honest disk.old → IsErrOf result UploadError.NoMemory → OnlyRead D.Disk disk.old disk.new }

@@ -1,17 +1,18 @@
 // A new upload is made.
-ghost use Rattle.std.specs.Prelude.{◌≡◌, ◌↔◌, ◌⊎◌, ◌≤◌, ◌<◌, ◌+◌, ◌*◌, ◌^◌, ℕ, IsErr, IsErrOf, IsSome, IfOk, OnOk, IfSome, MatchOption, Some, None, length, get_or};
+ghost use Rattle.std.specs.Prelude.{◌≡◌, ◌↔◌, ◌⊎◌, ◌≤◌, ◌<◌, ◌+◌, ◌*◌, ◌^◌, ℕ, List, Option, IsErr, IsErrOf, IsSome, IfOk, OnOk, IfSome, MatchOption, Some, None, length, get_or};
 ghost use Rattle.spool_disk.specs.Disk.{Counts};
 ghost use Rattle.spool_disk.specs.Views.{Lasts};
 ghost use Rattle.spool_journal.specs.Image.{journal_pages, all_pages, InArea};
 ghost use Rattle.spool_pages.specs.Changes.{Changes, with_record};
-ghost use Rattle.spool_pages.specs.View.{View, text_page};
+ghost use Rattle.spool_drafts.specs.declared.draft.SpoolDraft.{SpoolDraft as Draft};
+ghost use Rattle.spool_pages.specs.View.{SlotRecord as Said, View, text_page};
 ghost use Rattle.upload_rules.specs.Answers.{Answers};
 ghost use Rattle.upload_rules.specs.Calls.{create_refusal, outcome};
 ghost use Rattle.upload_rules.specs.Records.{IsWellFormed};
 ghost use Rattle.upload_rules.specs.Store.{Store, created_store};
 ghost use Rattle.upload_rules.specs.World.{at_rest};
 ghost use Rattle.spool_kept.specs.Creating.{HasRoomAt, IsTakenIn, IsNewRecord};
-ghost use Rattle.spool_kept.specs.Holding.{IsUsedBy};
+ghost use Rattle.spool_kept.specs.Drafting.{DraftsFit};
 ghost use Rattle.spool_kept.specs.Kept.{KeepsView};
 ghost use Rattle.spool_kept.specs.Shows.{Shows};
 ghost use Rattle.spool_kept.specs.Stored.{Stored, ShowsEither};
@@ -28,7 +29,8 @@ use upload_rules::{LENGTH_LIMIT, NUMBERS_END, New, Record, UploadError, UploadRe
 
 // The first free slot.
 fn free_slot(slots: &[Option<KeptRecord>]) -> Option<u32>
-    ensures { MatchOption result ((s : ℕ) → s < 512 → IsSome (get_or slots.now s None)) (λ s. (s < 512) × (get_or slots.now s None ≡ None)) }
+    ensures { MatchOption result ((s : ℕ) → s < 512 → IsSome (get_or slots.now s None))
+        (λ s. (s < 512) × (get_or slots.now s None ≡ None)) }
 {
     for slot in 0..SLOTS {
         if record_at(slots, slot as usize).is_none() {
@@ -42,7 +44,8 @@ impl Kept {
     // A slot for a new upload: none where 512 are in use, or the next number is the last one or in use.
     fn slot_for_new(&self) -> Option<u32>
         ensures room { IfSome result (HasRoomAt self.now) }
-        ensures few { (v : View) (m : Store) → KeepsView self.now v → Shows v m → MatchOption result ((512 ≤ length m.uploads) ⊎ (10 ^ 18 ≤ m.next)) (λ s. length m.uploads < 512) }
+        ensures few { (v : View) (m : Store) → KeepsView self.now v → Shows v m
+            → MatchOption result ((512 ≤ length m.uploads) ⊎ (10 ^ 18 ≤ m.next)) (λ s. length m.uploads < 512) }
     {
         if self.order.len() >= SLOTS as usize || self.next >= NUMBERS_END {
             return None;
@@ -66,7 +69,9 @@ impl Kept {
         requires { HasRoomAt self.now slot }
         ensures area { IfOk result (λ pages. InArea (journal_pages self.now.layout) pages) }
         ensures some { IfOk result (λ pages. 1 ≤ length pages) }
-        ensures changes { (v : View) → v.blocks ≡ self.now.layout → v.slots ≡ self.now.slots → IfOk result (λ pages. Changes pages v (record (with_record v slot «record».now) { next = self.now.next + 1 })) }
+        ensures changes { (v : View) → v.blocks ≡ self.now.layout → v.slots ≡ self.now.slots
+            → IfOk result (λ pages. Changes pages v (record (with_record v slot «record».now)
+            { next = self.now.next + 1 })) }
     {
         let kept = record.slot_record();
         let beside = self.beside(slot);
@@ -101,7 +106,8 @@ impl Kept {
         ensures taken { IfOk result (λ pages. IsTakenIn self.old slot «record» self.new) }
         ensures area { IfOk result (λ pages. InArea (journal_pages self.old.layout) pages) }
         ensures some { IfOk result (λ pages. 1 ≤ length pages) }
-        ensures changes { (v : View) → v.blocks ≡ self.old.layout → v.slots ≡ self.old.slots → IfOk result (λ pages. Changes pages v (record (with_record v slot «record») { next = self.old.next + 1 })) }
+        ensures changes { (v : View) → v.blocks ≡ self.old.layout → v.slots ≡ self.old.slots
+            → IfOk result (λ pages. Changes pages v (record (with_record v slot «record») { next = self.old.next + 1 })) }
         ensures unmade { IsErr result → self.new ≡ self.old }
     {
         let pages = self.pages_with(alloc, slot, &record)?;
@@ -110,8 +116,9 @@ impl Kept {
     }
 }
 
-/// Makes an upload without bytes, and answers its number: refused with `TooLarge`, `Slots`, `NoMemory`, `DiskFault`. Every growth
-/// comes before the first write. After a fault of the device what is kept is ahead of the disk: the spool must be opened again.
+/// Makes an upload without bytes, and answers its number: refused with `TooLarge`, `Slots`, `NoMemory`, `DiskFault`.
+/// Every growth comes before the first write. After a fault of the device what is kept is ahead of the disk: the spool
+/// must be opened again.
 pub fn create<D: Disk>(
     alloc: Global,
     disk: &mut D,
@@ -125,14 +132,20 @@ pub fn create<D: Disk>(
     ensures counts { Counts (IsErrOf result UploadError.DiskFault) (D.failures disk.old) (D.failures disk.new) }
     ensures layout { kept.new.layout ≡ kept.old.layout }
     ensures blocks { kept.new.blocks ≡ kept.old.blocks }
-    ensures slots { (slot number : ℕ) → IsUsedBy kept.old.slots slot number → IsUsedBy kept.new.slots slot number }
+    ensures slots { (slot : ℕ) (r : Said) → get_or kept.old.slots slot None ≡ Some r
+        → get_or kept.new.slots slot None ≡ Some r }
+    ensures fits { (drafts : List (Option Draft)) → DraftsFit kept.old drafts → DraftsFit kept.new drafts }
     ensures answer { (m : Store) → Stored D.Disk disk.old kept.old m
-        → Answers (create_refusal (at_rest m None) new) result (λ n. (n ≡ m.next) × Stored D.Disk disk.new kept.new (created_store m new)) (Stored D.Disk disk.new kept.new m) }
+        → Answers (create_refusal (at_rest m None) new) result
+        (λ n. (n ≡ m.next) × Stored D.Disk disk.new kept.new (created_store m new)) (Stored D.Disk disk.new kept.new m) }
     ensures crash { (m : Store) → Stored D.Disk disk.old kept.old m
-        → Lasts D.Disk disk.old disk.new (ShowsEither kept.old.layout m (outcome (create_refusal (at_rest m None) new) m (created_store m new))) }
+        → Lasts D.Disk disk.old disk.new (ShowsEither kept.old.layout m
+        (outcome (create_refusal (at_rest m None) new) m (created_store m new))) }
     ensures unmade { IsErrOf result UploadError.NoMemory → (disk.new ≡ disk.old) × (kept.new ≡ kept.old) }
-    ensures refused { (e : UploadRefusal) → IsErrOf result (UploadError.Refused e) → (disk.new ≡ disk.old) × (kept.new ≡ kept.old) }
-    ensures texts { (m : Store) → Stored D.Disk disk.old kept.old m → OnOk result ((p : ℕ) → 4096 * text_page kept.old.layout ≤ p → D.seen disk.new p ≡ D.seen disk.old p) }
+    ensures refused { (e : UploadRefusal) → IsErrOf result (UploadError.Refused e)
+        → (disk.new ≡ disk.old) × (kept.new ≡ kept.old) }
+    ensures texts { (m : Store) → Stored D.Disk disk.old kept.old m
+        → OnOk result ((p : ℕ) → 4096 * text_page kept.old.layout ≤ p → D.seen disk.new p ≡ D.seen disk.old p) }
 {
     if new.declared > LENGTH_LIMIT {
         return Err(UploadError::Refused(UploadRefusal::TooLarge));

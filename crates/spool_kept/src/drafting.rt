@@ -10,7 +10,7 @@ ghost use Rattle.upload_rules.specs.World.{Patch, World, free_number};
 ghost use Rattle.spool_drafts.specs.Drafts.{IsPlaced, list_of, tail_of};
 ghost use Rattle.spool_pages.specs.View.{View, Says};
 ghost use Rattle.spool_kept.specs.Kept.{KeepsView};
-ghost use Rattle.spool_kept.specs.Drafting.{DraftsFit, IsOwnedBy, OnlyReserves, OpensAs, StandsFor};
+ghost use Rattle.spool_kept.specs.Drafting.{DraftsFit, IsOfUpload, IsOwnedBy, OnlyReserves, OpensAs, StandsFor};
 ghost use Rattle.spool_kept.specs.Shows.{ImageShows, Shows};
 
 use crate::kept::Kept;
@@ -30,6 +30,7 @@ fn opened(
     ensures none { IfOk result (λ o. list_of o ≡ []) }
     ensures placed { IfOk result (λ o. IsPlaced kept.now.layout o) }
     ensures owned { IfOk result (λ o. IsOwnedBy kept.now.slots kept.now.blocks.rows number (tail_of o)) }
+    ensures of_upload { IfOk result (IsOfUpload kept.now.slots) }
     ensures opened { (v : View) (m : Store) (bytes : ℕ → ℕ) → KeepsView kept.now v → Shows v m → Says bytes v
         → OpensAs m number offset count bytes (25 + 2 * journal_pages kept.now.layout) result }
 {
@@ -39,8 +40,8 @@ fn opened(
     SpoolDraft::begin(alloc, found.upload, found.list, offset, count)
 }
 
-/// Opens a draft of `count` bytes at an offset, under the least number that is free: refused with `NoSuch`, `Offset`, `TooLong`,
-/// `NoMemory`.
+/// Opens a draft of `count` bytes at an offset, under the least number that is free: refused with `NoSuch`, `Offset`,
+/// `TooLong`, `NoMemory`.
 pub fn begin<D: Disk>(
     alloc: Global,
     kept: &Kept,
@@ -49,8 +50,8 @@ pub fn begin<D: Disk>(
     offset: u64,
     count: u64,
 ) -> Result<usize, UploadError>
-    requires fits { DraftsFit kept.now.layout kept.now.blocks drafts.old.items }
-    ensures fits { DraftsFit kept.now.layout kept.now.blocks drafts.new.items }
+    requires fits { DraftsFit kept.now drafts.old.items }
+    ensures fits { DraftsFit kept.now drafts.new.items }
     ensures no_device { IsErrOf result UploadError.DiskFault → ⊥ }
     ensures answer { (disk : D) (w : World) → StandsFor D.Disk disk kept.now drafts.old.items w
         → Answers (begin_refusal w number offset count) result
@@ -67,8 +68,8 @@ pub fn begin<D: Disk>(
     }
 }
 
-/// Adds bytes to the draft of a number, at most its count in all: refused with `NoMemory`, after which it is as before, and
-/// `DiskFault`, after which it may only be dropped. No sync is made.
+/// Adds bytes to the draft of a number, at most its count in all: refused with `NoMemory`, after which it is as before,
+/// and `DiskFault`, after which it may only be dropped. No sync is made.
 pub fn append<D: Disk>(
     alloc: Global,
     disk: &mut D,
@@ -78,19 +79,22 @@ pub fn append<D: Disk>(
     piece: &[u8],
 ) -> Result<(), UploadError>
     requires room { 4096 * all_pages kept.old.layout ≤ D.size disk.old }
-    requires fits { DraftsFit kept.old.layout kept.old.blocks drafts.old.items }
-    ensures fits { DraftsFit kept.new.layout kept.new.blocks drafts.new.items }
+    requires fits { DraftsFit kept.old drafts.old.items }
+    ensures fits { DraftsFit kept.new drafts.new.items }
     ensures same { OnlyReserves kept.old kept.new }
     ensures size { D.size disk.new ≡ D.size disk.old }
     ensures honest { D.honest disk.old ↔ D.honest disk.new }
     ensures counts { Counts (IsErrOf result UploadError.DiskFault) (D.failures disk.old) (D.failures disk.new) }
-    ensures answer { (w : World) (p : Patch) → StandsFor D.Disk disk.old kept.old drafts.old.items w → find number w.patches ≡ Some p → length p.body + length piece.now ≤ p.count
+    ensures answer { (w : World) (p : Patch) → StandsFor D.Disk disk.old kept.old drafts.old.items w
+        → find number w.patches ≡ Some p → length p.body + length piece.now ≤ p.count
         → Answers None result
         (λ done. StandsFor D.Disk disk.new kept.new drafts.new.items (appended w number piece.now))
         (StandsFor D.Disk disk.new kept.new drafts.new.items w) }
     // A crash during it leaves what shows the same.
-    ensures quiet { (w : World) (p : Patch) → StandsFor D.Disk disk.old kept.old drafts.old.items w → find number w.patches ≡ Some p
-        → Lasts D.Disk disk.old disk.new (λ image. (n : ℕ) (m : Store) → ImageShows n (D.seen disk.old) m → ImageShows n image m) }
+    ensures quiet { (w : World) (p : Patch) → StandsFor D.Disk disk.old kept.old drafts.old.items w
+        → find number w.patches ≡ Some p
+        → Lasts D.Disk disk.old disk.new
+        (λ image. (n : ℕ) (m : Store) → ImageShows n (D.seen disk.old) m → ImageShows n image m) }
 {
     let Some(mut draft) = taken(drafts, number) else {
         return Err(UploadError::Refused(UploadRefusal::NoSuch));
@@ -110,10 +114,11 @@ pub fn append<D: Disk>(
 
 /// Gives the draft of a number up, and its blocks back.
 pub fn drop_open<D: Disk>(kept: &mut Kept, drafts: &mut Vec<Option<SpoolDraft>>, number: usize)
-    requires fits { DraftsFit kept.old.layout kept.old.blocks drafts.old.items }
-    ensures fits { DraftsFit kept.new.layout kept.new.blocks drafts.new.items }
+    requires fits { DraftsFit kept.old drafts.old.items }
+    ensures fits { DraftsFit kept.new drafts.new.items }
     ensures same { OnlyReserves kept.old kept.new }
-    ensures stands { (disk : D) (w : World) → StandsFor D.Disk disk kept.old drafts.old.items w → StandsFor D.Disk disk kept.new drafts.new.items (dropped w number) }
+    ensures stands { (disk : D) (w : World) → StandsFor D.Disk disk kept.old drafts.old.items w
+        → StandsFor D.Disk disk kept.new drafts.new.items (dropped w number) }
 {
     if let Some(draft) = taken(drafts, number) {
         draft.give_back(&mut kept.blocks);

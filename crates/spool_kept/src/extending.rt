@@ -7,8 +7,9 @@ ghost use Rattle.spool_blocks.specs.Blocks.{Row as HeldRow};
 ghost use Rattle.spool_pages.specs.Changes.{ChangesButRows, with_record, SameRowsBut};
 ghost use Rattle.spool_pages.specs.View.{View};
 ghost use Rattle.spool_texts.specs.Drafts.{IsReserved};
+ghost use Rattle.upload_rules.specs.States.{SameEncodings};
 ghost use Rattle.upload_rules.specs.Store.{Store, appended_store};
-ghost use Rattle.spool_kept.specs.Extending.{SameEncodings, MayExtend, HandsOn, IsLonger, IsPending, IsWritten, longer_record};
+ghost use Rattle.spool_kept.specs.Extending.{MayExtend, HandsOn, IsLonger, IsPending, IsWritten, longer_record};
 ghost use Rattle.spool_kept.specs.Stored.{Stored, ShowsEither};
 ghost use Rattle.spool_pages.specs.View.{SlotRecord as Said};
 
@@ -83,8 +84,10 @@ fn changed_blocks(
 // The slot's upload gets longer.
 fn set_record(slots: &mut Vec<Option<KeptRecord>>, longer: &Longer)
     requires used { IsSome (get_or slots.old.items longer.now.slot None) }
-    requires state { (r : Said) → get_or slots.old.items longer.now.slot None ≡ Some r → SameEncodings r.state longer.now.state }
-    ensures { (r : Said) → get_or slots.old.items longer.now.slot None ≡ Some r → slots.new.items ≡ slice_set slots.old.items longer.now.slot (Some (longer_record r longer.now)) }
+    requires state { (r : Said) → get_or slots.old.items longer.now.slot None ≡ Some r
+        → SameEncodings r.state longer.now.state }
+    ensures { (r : Said) → get_or slots.old.items longer.now.slot None ≡ Some r
+        → slots.new.items ≡ slice_set slots.old.items longer.now.slot (Some (longer_record r longer.now)) }
 {
     if let Some(kept) = &mut slots[longer.slot as usize] {
         kept.extend(longer);
@@ -114,10 +117,13 @@ impl Kept {
         requires reserved { IsReserved self.now.blocks more.now }
         ensures area { IfOk result (λ pages. InArea (journal_pages self.now.layout) pages) }
         ensures some { IfOk result (λ pages. 1 ≤ length pages) }
-        ensures changes { (v : View) → v.blocks ≡ self.now.layout → v.slots ≡ self.now.slots → (r : Said) → get_or self.now.slots longer.now.slot None ≡ Some r → (rows : List HeldRow)
+        ensures changes { (v : View) → v.blocks ≡ self.now.layout → v.slots ≡ self.now.slots → (r : Said)
+            → get_or self.now.slots longer.now.slot None ≡ Some r → (rows : List HeldRow)
             → (length more.now ≡ 0 → SameRowsBut [] v.rows rows)
-            → (0 < length more.now → SameRowsBut (more.now ++ drop (r.text_len / 4096) (get_or self.now.lists longer.now.slot [])) v.rows rows)
-            → IfOk result (λ pages. ChangesButRows pages v (record (with_record v longer.now.slot (longer_record r longer.now)) { rows = rows })) }
+            → (0 < length more.now
+            → SameRowsBut (more.now ++ drop (r.text_len / 4096) (get_or self.now.lists longer.now.slot [])) v.rows rows)
+            → IfOk result (λ pages. ChangesButRows pages v (record
+            (with_record v longer.now.slot (longer_record r longer.now)) { rows = rows })) }
     {
         let slot = longer.slot;
         let full = self.full_blocks(slot) as usize;
@@ -137,7 +143,8 @@ impl Kept {
     fn take_over(&mut self, longer: &Longer, more: &[BlockNo]) -> Result<(), AllocError>
         requires may { MayExtend self.old longer.now more.now }
         requires reserved { IsReserved self.old.blocks more.now }
-        ensures longer { OnOk result ((r : Said) → get_or self.old.slots longer.now.slot None ≡ Some r → IsLonger self.old r longer.now more.now self.new) }
+        ensures longer { OnOk result ((r : Said) → get_or self.old.slots longer.now.slot None ≡ Some r
+            → IsLonger self.old r longer.now more.now self.new) }
         ensures reserved { OnOk result (HandsOn self.old.blocks.reserved self.new.blocks.reserved more.now) }
         ensures unmade { OnErr result (self.new ≡ self.old) }
     {
@@ -152,12 +159,13 @@ impl Kept {
 }
 
 /// An upload gets longer, on the disk and in memory: its text by these reserved blocks, which replace its last,
-/// unfinished one. Where there are none its text stays. It writes the last bytes to them, once no growth is left, and syncs them.
+/// unfinished one. Where there are none its text stays. It writes the last bytes to them, once no growth is left, and
+/// syncs them.
 ///
 /// # Errors
 ///
-/// `NoMemory` where a growth was refused, and then nothing has changed. `DiskFault` where the device failed: then what is kept is
-/// ahead of the disk, and the spool has to be opened again.
+/// `NoMemory` where a growth was refused, and then nothing has changed. `DiskFault` where the device failed: then what
+/// is kept is ahead of the disk, and the spool has to be opened again.
 pub(crate) fn extend<D: Disk>(
     alloc: Global,
     disk: &mut D,
@@ -174,19 +182,24 @@ pub(crate) fn extend<D: Disk>(
     ensures counts { Counts (result ≡ Err ExtendError.DiskFault) (D.failures disk.old) (D.failures disk.new) }
     ensures layout { kept.new.layout ≡ kept.old.layout }
     ensures unmade { result ≡ Err ExtendError.NoMemory → (kept.new ≡ kept.old) × (disk.new ≡ disk.old) }
-    ensures blocks { (result ≡ Err ExtendError.NoMemory → ⊥) → HandsOn kept.old.blocks.reserved kept.new.blocks.reserved more.now }
-    ensures longer { (result ≡ Err ExtendError.NoMemory → ⊥) → (r : Said) → get_or kept.old.slots longer.now.slot None ≡ Some r → IsLonger kept.old r longer.now more.now kept.new }
+    ensures blocks { (result ≡ Err ExtendError.NoMemory → ⊥)
+        → HandsOn kept.old.blocks.reserved kept.new.blocks.reserved more.now }
+    ensures longer { (result ≡ Err ExtendError.NoMemory → ⊥) → (r : Said)
+        → get_or kept.old.slots longer.now.slot None ≡ Some r → IsLonger kept.old r longer.now more.now kept.new }
 
     // The disk and what is kept stand for the store with the longer upload.
-    ensures answer { (m : Store) (n : ℕ) (bytes : List ℕ) → IsPending D.Disk disk.old kept.old m n bytes longer.now more.now last.now
+    ensures answer { (m : Store) (n : ℕ) (bytes : List ℕ)
+        → IsPending D.Disk disk.old kept.old m n bytes longer.now more.now last.now
         → OnOk result (Stored D.Disk disk.new kept.new (appended_store m n bytes)) }
 
     // A crash during it leaves the store before or behind it.
-    ensures crash { (m : Store) (n : ℕ) (bytes : List ℕ) → IsPending D.Disk disk.old kept.old m n bytes longer.now more.now last.now
+    ensures crash { (m : Store) (n : ℕ) (bytes : List ℕ)
+        → IsPending D.Disk disk.old kept.old m n bytes longer.now more.now last.now
         → Lasts D.Disk disk.old disk.new (ShowsEither kept.old.layout m (appended_store m n bytes)) }
 
     // Of the text blocks only those of its text are written.
-    ensures written { (m : Store) (n : ℕ) (bytes : List ℕ) → IsPending D.Disk disk.old kept.old m n bytes longer.now more.now last.now
+    ensures written { (m : Store) (n : ℕ) (bytes : List ℕ)
+        → IsPending D.Disk disk.old kept.old m n bytes longer.now more.now last.now
         → OnOk result (IsWritten D.Disk disk.old disk.new kept.old m n bytes longer.now more.now) }
 {
     let mut pages = kept.change_pages(alloc, longer, more)?;

@@ -1,6 +1,7 @@
 // The record of an upload, kept in memory.
 ghost use Rattle.std.specs.Prelude.{◌≡◌, ◌≤◌, All, Err, None, Some, length, get_or, option_copied, IfOk, IfErr, OnOk};
-ghost use Rattle.spool_kept.specs.Extending.{SameEncodings, longer_record};
+ghost use Rattle.upload_rules.specs.States.{SameEncodings};
+ghost use Rattle.spool_kept.specs.Extending.{longer_record};
 ghost use Rattle.spool_kept.specs.Loads.{LoadsAs, IsLate};
 ghost use Rattle.spool_kept.specs.Records.{FitsKept, FitsMemory, IsReadable, IsUnpacked, said_of};
 ghost use Rattle.spool_pages.specs.View.{SlotRecord as Said};

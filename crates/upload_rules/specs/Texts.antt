@@ -6,7 +6,7 @@ use Rattle.enc_model.specs.Transcode.{IsAt}
 use Rattle.enc_stream.specs.Standing.{Standing}
 use Rattle.enc_stream.specs.StateBytes.{IsSound}
 use Rattle.upload_rules.specs.Store.{Upload, text_with, is_complete}
-use Rattle.upload_rules.specs.States.{transcoder_with, state_with}
+use Rattle.upload_rules.specs.States.{IsStateLike, transcoder_with, state_with}
 use Rattle.upload_rules.specs.World.{is_there}
 use Rattle.upload_rules.specs.declared.errors.UploadError.{UploadError}
 use Rattle.upload_rules.specs.declared.errors.UploadError.TheVariants.{NoMemory, Refused}
@@ -31,6 +31,18 @@ abbrev pub HoldsText : IndexSet → Upload → List ℕ → NewText → Type 0
 HoldsText x u bytes (Growing t text) = IsReading x u bytes t × IsRest x u bytes false text.items
 HoldsText x u bytes Unencodable = is_there (text_with x u bytes false).fault ≡ true
 HoldsText x u bytes Complete = is_complete u ≡ true
+
+-- where bytes may come, the encodings and the mode are those of these state bytes
+abbrev pub GoesOn : List ℕ → NewText → Type 0
+GoesOn state (Growing t text) = IsStateLike state t.transcoder
+GoesOn state Unencodable = Unit {0}
+GoesOn state Complete = Unit {0}
+
+-- bytes may come
+abbrev pub IsGrowing : NewText → Type 0
+IsGrowing (Growing t text) = Unit {0}
+IsGrowing Unencodable = ⊥
+IsGrowing Complete = ⊥
 
 -- the text with an append's bytes, the end among them or not, has a value, these are what is new in it, and this is the state then
 pub record IsWhole (x : IndexSet) (u : Upload) (bytes : List ℕ) (done : Bool) (state text : List ℕ) : Type 0 where

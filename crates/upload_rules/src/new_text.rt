@@ -1,8 +1,9 @@
 //! What an append adds to its upload's text.
 
-ghost use Rattle.std.specs.Prelude.{◌≡◌, ◌++◌, [], ℕ, Bool, true, false, None, List, OnOk, OnErr, IsErrOf, MatchOption};
+ghost use Rattle.std.specs.Prelude.{◌≡◌, ◌++◌, [], ℕ, Bool, true, false, None, List, IfOk, IfSome, OnOk, OnErr, IsErrOf, IsOk, MatchOption};
 ghost use Rattle.enc_model.specs.Indexes.{IndexSet as Indexes};
 ghost use Rattle.upload_rules.specs.Store.{Upload, text_with, is_complete};
+ghost use Rattle.upload_rules.specs.declared.errors.UploadRefusal.{UploadRefusal as Refusal};
 
 use crate::{Record, UploadError, UploadRefusal};
 use enc_index::IndexSet;
@@ -26,15 +27,21 @@ pub enum NewText {
 }
 
 impl NewText {
-    ghost use Rattle.upload_rules.specs.Texts.{HoldsText, IsEnded};
+    ghost use Rattle.upload_rules.specs.Texts.{GoesOn, HoldsText, IsEnded, IsGrowing};
     ghost use Rattle.upload_rules.specs.Records.{Tells};
-    ghost use Rattle.upload_rules.specs.States.{transcoder_with};
+    ghost use Rattle.upload_rules.specs.States.{IsState, SameEncodings, transcoder_with};
     ghost use Rattle.enc_stream.specs.StateBytes.{IsSound};
 
-    /// What an append to the upload of a record adds at first: nothing. None where the state bytes are those of no state.
+    /// What an append to the upload of a record adds at first: nothing. None where the state bytes are those of no
+    /// state.
     pub fn behind(alloc: Global, upload: &Record) -> Option<Self>
-        ensures { (x : Indexes) (n : ℕ) (u : Upload) → Tells x n upload.now u → (text_with x u [] (is_complete u)).fault ≡ None
+        ensures holds { (x : Indexes) (n : ℕ) (u : Upload) → Tells x n upload.now u
+            → (text_with x u [] (is_complete u)).fault ≡ None
             → IsSound (transcoder_with x u [] (is_complete u)) → MatchOption result ⊥ (HoldsText x u []) }
+
+        // Whatever the record says.
+        ensures goes_on { IfSome result (GoesOn upload.now.state) }
+        ensures room { IfSome result (λ text. IsGrowing text → upload.now.accepted ≡ upload.now.declared → ⊥) }
     {
         if upload.accepted == upload.declared {
             return Some(NewText::Complete);
@@ -47,8 +54,12 @@ impl NewText {
 
     /// With a piece more; as it was, where a growth is refused.
     pub fn with(self, indexes: &IndexSet, piece: &[u8]) -> (Self, Result<(), AllocError>)
-        ensures ok { (u : Upload) (bytes : List ℕ) → HoldsText indexes.now u bytes self → OnOk result.1 (HoldsText indexes.now u (bytes ++ piece.now) result.0) }
-        ensures err { (u : Upload) (bytes : List ℕ) → HoldsText indexes.now u bytes self → OnErr result.1 (HoldsText indexes.now u bytes result.0) }
+        ensures ok { (u : Upload) (bytes : List ℕ) → HoldsText indexes.now u bytes self
+            → OnOk result.1 (HoldsText indexes.now u (bytes ++ piece.now) result.0) }
+        ensures err { (u : Upload) (bytes : List ℕ) → HoldsText indexes.now u bytes self
+            → OnErr result.1 (HoldsText indexes.now u bytes result.0) }
+        ensures goes_on { (state : List ℕ) → GoesOn state self → GoesOn state result.0 }
+        ensures growing { IsGrowing result.0 → IsGrowing self }
     {
         match self {
             NewText::Unencodable => (NewText::Unencodable, Ok(())),
@@ -77,14 +88,20 @@ impl NewText {
         }
     }
 
-    /// The state bytes behind the accepted bytes, and the new text, with the bytes of the end where these complete the upload.
+    /// The state bytes behind the accepted bytes, and the new text, with the bytes of the end where these complete the
+    /// upload.
     pub fn ended(
         self,
         indexes: &IndexSet,
         completes: bool,
     ) -> Result<([u8; 32], Vec<u8>), UploadError>
-        ensures ended { (u : Upload) (bytes : List ℕ) → HoldsText indexes.now u bytes self → is_complete u ≡ false → IsEnded indexes.now u bytes completes result }
+        ensures ended { (u : Upload) (bytes : List ℕ) → HoldsText indexes.now u bytes self → is_complete u ≡ false
+            → IsEnded indexes.now u bytes completes result }
+        ensures same { (state : List ℕ) → IsState state → GoesOn state self
+            → IfOk result (λ end. SameEncodings state end.0) }
+        ensures growing { IsOk result → IsGrowing self }
         ensures no_device { IsErrOf result UploadError.DiskFault → ⊥ }
+        ensures refusal { (e : Refusal) → IsErrOf result (UploadError.Refused e) → e ≡ UploadRefusal.Unencodable }
     {
         let NewText::Growing {
             mut transcoder,

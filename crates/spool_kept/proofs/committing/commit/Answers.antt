@@ -1,31 +1,47 @@
-use Rattle.std.proofs.Common.{◌≡◌, ◌∙◌, List, Option, ap, refl, subst, sym}
+use Rattle.std.proofs.Common.{Err, IsErrOf, ℕ, ◌↔◌, ◌≡◌, ◌∙◌, List, Option, ap, refl, subst, sym}
+use Rattle.std.proofs.lemmas.Option.{same_Some}
 use Rattle.spool_drafts.specs.declared.draft.SpoolDraft.{SpoolDraft}
 use Rattle.spool_texts.specs.Drafts.{GivesBack}
 use Rattle.upload_rules.specs.Answers.{Answers}
 use Rattle.upload_rules.specs.Calls.{commit_refusal, committed, dropped, reached}
+use Rattle.upload_rules.specs.declared.errors.UploadError.TheVariants.{Refused}
+use Rattle.upload_rules.specs.declared.errors.UploadRefusal.TheVariants.{Offset}
+use Rattle.spool_kept.specs.Committing.{HasSameCount}
 use Rattle.spool_kept.specs.Drafting.{DraftsFit, StandsFor, list_in, lists_at}
 use Rattle.spool_kept.specs.Holding.{Holding}
 use Rattle.spool_kept.proofs.CommitHead as head
-use Rattle.spool_kept.proofs.Drafted.{drops, fit_dropped, reserves_only}
+use Rattle.spool_kept.proofs.Drafted.{drops, reserves_only}
+use Rattle.spool_kept.proofs.OfUploads.{behind_slot, fits_dropped}
 use Rattle.spool_kept.proofs.committing.commit.Goals as goal
 
 pub put_behind-requires-clause-placed : goal.put_behind-requires-clause-placed
-put_behind-requires-clause-placed g c = c.requires.fits.placed c.args.number c.in-Some.draft (sym c.in-Some.ensures.taken)
+put_behind-requires-clause-placed g c = c.requires.fits.blocks.placed c.args.number c.in-Some.draft (sym c.in-Some.ensures.taken)
+
+pub put_behind-requires-clause-behind : goal.put_behind-requires-clause-behind
+put_behind-requires-clause-behind g c =
+    behind_slot c.args.kept.now.slots c.in-Some.draft c.in-Ok.slot c.in-Ok.ensures (c.requires.fits.uploads c.args.number c.in-Some.draft (sym c.in-Some.ensures.taken))
+
+pub returns-in-Err-clause-offset : goal.returns-in-Err-clause-offset
+returns-in-Err-clause-offset g c o here =
+    let slots = c.args.kept.now.slots in
+    let is = same_Some c.in-Some.draft o (c.in-Some.ensures.taken ∙ here) in
+    subst (λ (d : SpoolDraft). IsErrOf {T = ℕ} (Err (Refused c.in-Err.refusal)) (Refused Offset) ↔ ((s : ℕ) → HasSameCount slots d s → ⊥)) is
+    (head.at_offset slots c.in-Some.draft c.in-Err.refusal c.in-Err.ensures (c.requires.fits.uploads c.args.number c.in-Some.draft (sym c.in-Some.ensures.taken)))
 
 -- WITHOUT A CALL OF THE DEVICE
 
 pub returns-in-Err-clause-fits : goal.returns-in-Err-clause-fits
 returns-in-Err-clause-fits g c =
     let before = c.args.drafts.now.items in
-    let fit = subst (λ (h : Holding). DraftsFit h.layout h.blocks before) (sym c.kept.view_is) c.requires.fits in
-    fit_dropped c.kept.inside.layout c.kept.inside.blocks c.give_back.new.blocks before c.taken.new.drafts.items c.args.number c.taken.ensures.after fit
+    let fit = subst (λ (h : Holding). DraftsFit h before) (sym c.kept.view_is) c.requires.fits in
+    fits_dropped _ c.give_back.new.blocks before c.taken.new.drafts.items c.args.number c.taken.ensures.after fit
     (subst (GivesBack c.kept.inside.blocks c.give_back.new.blocks) (ap list_in c.in-Some.ensures.taken) c.give_back.ensures)
 
 pub returns-then-came-eq0-clause-fits : goal.returns-then-came-eq0-clause-fits
 returns-then-came-eq0-clause-fits g c =
     let before = c.args.drafts.now.items in
-    let fit = subst (λ (h : Holding). DraftsFit h.layout h.blocks before) (sym c.kept.view_is) c.requires.fits in
-    fit_dropped c.kept.inside.layout c.kept.inside.blocks c.give_back-then-came-eq0.new.blocks before c.taken.new.drafts.items c.args.number c.taken.ensures.after fit
+    let fit = subst (λ (h : Holding). DraftsFit h before) (sym c.kept.view_is) c.requires.fits in
+    fits_dropped _ c.give_back-then-came-eq0.new.blocks before c.taken.new.drafts.items c.args.number c.taken.ensures.after fit
     (subst (GivesBack c.kept.inside.blocks c.give_back-then-came-eq0.new.blocks) (ap list_in c.in-Some.ensures.taken) c.give_back-then-came-eq0.ensures)
 
 pub returns-in-Err-clause-answer : goal.returns-in-Err-clause-answer
@@ -58,7 +74,7 @@ returns-then-came-eq0-clause-answer g c w p s there =
 pub returns-clause-answer : goal.returns-clause-answer
 returns-clause-answer g c w p s there =
     let before = c.args.drafts.now.items in
-    let is = head.commits g.D.Disk c.args.disk.now c.args.kept.now before c.args.number c.in-Some.draft w p s there (sym c.in-Some.ensures.taken) c.in-Ok.slot c.in-Ok.ensures c.requires.fits
+    let is = head.commits g.D.Disk c.args.disk.now c.args.kept.now before c.args.number c.in-Some.draft w p s there (sym c.in-Some.ensures.taken) c.in-Ok.slot c.in-Ok.ensures c.requires.fits.blocks
     (λ none. c.if-came-eq0.false (c.came.ensures ∙ none)) in
     subst (λ (left : List (Option SpoolDraft)). Answers (commit_refusal w c.args.number p) c.put_behind.result
     (λ n. (n ≡ reached p) × StandsFor g.D.Disk c.put_behind.new.disk c.put_behind.new.kept left (committed w c.args.number p))
@@ -68,13 +84,13 @@ returns-clause-answer g c w p s there =
 pub returns-clause-crash : goal.returns-clause-crash
 returns-clause-crash g c w p s there =
     let before = c.args.drafts.now.items in
-    let is = head.commits g.D.Disk c.args.disk.now c.args.kept.now before c.args.number c.in-Some.draft w p s there (sym c.in-Some.ensures.taken) c.in-Ok.slot c.in-Ok.ensures c.requires.fits
+    let is = head.commits g.D.Disk c.args.disk.now c.args.kept.now before c.args.number c.in-Some.draft w p s there (sym c.in-Some.ensures.taken) c.in-Ok.slot c.in-Ok.ensures c.requires.fits.blocks
     (λ none. c.if-came-eq0.false (c.came.ensures ∙ none)) in
     c.put_behind.ensures.crash before c.args.number w p is
 
 pub returns-clause-unmade : goal.returns-clause-unmade
 returns-clause-unmade g c w p s there short =
     let before = c.args.drafts.now.items in
-    let is = head.commits g.D.Disk c.args.disk.now c.args.kept.now before c.args.number c.in-Some.draft w p s there (sym c.in-Some.ensures.taken) c.in-Ok.slot c.in-Ok.ensures c.requires.fits
+    let is = head.commits g.D.Disk c.args.disk.now c.args.kept.now before c.args.number c.in-Some.draft w p s there (sym c.in-Some.ensures.taken) c.in-Ok.slot c.in-Ok.ensures c.requires.fits.blocks
     (λ none. c.if-came-eq0.false (c.came.ensures ∙ none)) in
     c.put_behind.ensures.unmade before c.args.number w p is short

@@ -3,6 +3,7 @@ use Rattle.upload_rules.specs.Answers.{IsLate}
 use Rattle.upload_rules.specs.Store.{New}
 use Rattle.spool_kept.specs.Holding.{Holding}
 use Rattle.spool_kept.proofs.MadeNew.{next_is, allowed, stored_new, crash_new}
+use Rattle.spool_kept.proofs.OfUploads.{fits_created}
 use Rattle.spool_kept.proofs.creating.create.Goals as goal
 
 pub returns-in-Ok-change-clause-answer : goal.returns-in-Ok-change-clause-answer
@@ -52,3 +53,11 @@ returns-clause-crash g c m stored =
     let changes = c.in-Ok.ensures.changes v (sym stored.keeps.blocks) (sym stored.keeps.slots) in
     crash_new c.args.kept.now v m c.args.new c.in-Some.slot c.new_record-record.result stored.keeps stored.shows c.in-Some.ensures.room small few c.new_record-record.ensures g.D.Disk c.args.disk.now c.change.new.disk stored.rests changes
     (λ v' made texts. c.in-Err.ensures.lasts stored.honest v v' layout stored.shows.sound.version stored.rests made texts)
+
+-- THE DRAFTS
+
+pub returns-in-Ok-change-clause-fits : goal.returns-in-Ok-change-clause-fits
+returns-in-Ok-change-clause-fits g c drafts fit = fits_created c.args.kept.now c.prepare_new.new.self c.in-Some.slot c.new_record-record.result c.in-Some.ensures.room c.in-Ok.ensures.taken c.new_record-record.ensures.number_is drafts fit
+
+pub returns-clause-fits : goal.returns-clause-fits
+returns-clause-fits g c drafts fit = fits_created c.args.kept.now c.prepare_new.new.self c.in-Some.slot c.new_record-record.result c.in-Some.ensures.room c.in-Ok.ensures.taken c.new_record-record.ensures.number_is drafts fit

@@ -1,4 +1,5 @@
 use Rattle.std.proofs.Common.{◌≡◌, ◌∙◌, ◌+◌, ◌*◌, ◌++◌, ap, get_or, refl, subst, sym, List, None, Some}
+use Rattle.std.proofs.lemmas.Option.{same_Some}
 use Rattle.enc_model.specs.Indexes.{IndexSet}
 use Rattle.spool_journal.specs.Image.{journal_pages}
 use Rattle.upload_rules.specs.Calls.{longer}
@@ -11,27 +12,34 @@ use Rattle.upload_rules.proofs.Patches.{draft_of}
 use Rattle.spool_blocks.specs.Blocks.{Row}
 use Rattle.spool_disk.proofs.Firm.{lasts_more}
 use Rattle.spool_drafts.specs.Drafts.{IsPlaced, Holds, Carries, IsLonger, with_piece, tail_of}
-use Rattle.spool_kept.specs.Drafting.{DraftsFit, DraftStands, DraftsStand, IsOwnedBy, StandsFor}
+use Rattle.spool_kept.specs.Drafting.{DraftsFit, DraftsHold, IsOfUpload, DraftStands, DraftsStand, IsOwnedBy, StandsFor}
 use Rattle.spool_kept.proofs.Drafted.{reserves_only}
 use Rattle.spool_kept.proofs.SameView.{shows_aside}
 use Rattle.spool_kept.specs.Holding.{Holding}
 use Rattle.spool_kept.proofs.DraftLonger.{answered, changed_back, fit_longer, longer_carries, longer_holds, longer_world, moved, ok_more, some_draft, stand_longer}
+use Rattle.spool_kept.proofs.OfUploads.{of_changed, of_longer}
 use Rattle.spool_kept.proofs.drafting.append.Goals as goal
 
 pub append-answer-requires-clause-placed : goal.append-answer-requires-clause-placed
 append-answer-requires-clause-placed g c =
-    subst (λ (h : Holding). IsPlaced h.layout c.in-Some.draft) (sym c.kept.view_is) (c.requires.fits.placed c.args.number c.in-Some.draft (sym c.in-Some.ensures.taken))
+    subst (λ (h : Holding). IsPlaced h.layout c.in-Some.draft) (sym c.kept.view_is) (c.requires.fits.blocks.placed c.args.number c.in-Some.draft (sym c.in-Some.ensures.taken))
 
 pub returns-clause-fits : goal.returns-clause-fits
 returns-clause-fits g c =
     let before = c.args.drafts.now.items in
     let new = c.append-answer.new.self in
     let here = sym c.in-Some.ensures.taken in
-    let fit = subst (λ (h : Holding). DraftsFit h.layout h.blocks before) (sym c.kept.view_is) c.requires.fits in
+    let fit = subst (λ (h : Holding). DraftsFit h before) (sym c.kept.view_is) c.requires.fits in
     let effect = c.append-answer.ensures.effect in
-    fit_longer c.kept.inside.layout c.kept.inside.blocks before fit c.args.number c.in-Some.draft here c.append-answer.new.blocks c.put_back.new.drafts.items new effect.own effect.grasp
-    (changed_back before c.taken.new.drafts.items c.put_back.new.drafts.items c.args.number c.in-Some.draft new here c.taken.ensures.after c.put_back.ensures)
-    c.append-answer.ensures.reserved c.append-answer.ensures.placed
+    let same = c.append-answer.ensures.same in
+    let changed = changed_back before c.taken.new.drafts.items c.put_back.new.drafts.items c.args.number c.in-Some.draft new here c.taken.ensures.after c.put_back.ensures in
+    record {
+      blocks = fit_longer c.kept.inside.layout c.kept.inside.blocks before fit.blocks c.args.number c.in-Some.draft here c.append-answer.new.blocks c.put_back.new.drafts.items new effect.own effect.grasp changed
+          c.append-answer.ensures.reserved c.append-answer.ensures.placed;
+      uploads = of_changed c.kept.inside.slots.items before c.put_back.new.drafts.items c.args.number (Some new) changed fit.uploads
+          (λ a e. subst (IsOfUpload c.kept.inside.slots.items) (same_Some new a e)
+          (of_longer c.kept.inside.slots.items c.in-Some.draft new same.0 same.1 c.append-answer.ensures.behind (fit.uploads c.args.number c.in-Some.draft here)));
+    }
 
 pub returns-clause-quiet : goal.returns-clause-quiet
 returns-clause-quiet g c w p s there =
@@ -63,8 +71,8 @@ returns-clause-answer g c w p s there fits =
     let seen = g.D.Disk.seen disk in
     let seen' = g.D.Disk.seen disk' in
     let ix : c.kept.inside.indexes ≡ w.store.indexes = s'.stored.keeps.indexes ∙ shows.indexes in
-    let fit = subst (λ (k : Holding). DraftsFit k.layout k.blocks before) (sym c.kept.view_is) c.requires.fits in
-    let fit' = returns-clause-fits g c in
+    let fit = subst (λ (k : Holding). DraftsHold k.layout k.blocks before) (sym c.kept.view_is) c.requires.fits.blocks in
+    let fit' = (returns-clause-fits g c).blocks in
     let changed = changed_back before c.taken.new.drafts.items after number o new here c.taken.ensures.after c.put_back.ensures in
     let at = draft_of (DraftStands w.store.indexes seen first records h.rows w.store) p (find number w.patches) (draft_at before number) there (s'.stands.each number) in
     let is = subst (DraftStands w.store.indexes seen first records h.rows w.store p) (some_draft at.0 o (sym at.1 ∙ here)) at.2 in

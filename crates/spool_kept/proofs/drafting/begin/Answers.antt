@@ -1,9 +1,11 @@
-use Rattle.std.proofs.Common.{List, Option, subst, sym, refl}
+use Rattle.std.proofs.Common.{List, Option, Some, subst, sym, refl}
+use Rattle.std.proofs.lemmas.Option.{same_Some}
 use Rattle.spool_drafts.specs.declared.draft.SpoolDraft.{SpoolDraft}
 use Rattle.spool_pages.proofs.Resting.{rests_says}
 use Rattle.upload_rules.specs.Store.{upload_of}
-use Rattle.spool_kept.specs.Drafting.{StandsFor}
-use Rattle.spool_kept.proofs.DraftBegun.{begin_allowed, begin_late, begin_refused, begins, fit_begun}
+use Rattle.spool_kept.specs.Drafting.{IsOfUpload, StandsFor}
+use Rattle.spool_kept.proofs.DraftBegun.{begin_allowed, begin_late, begin_refused, begins, changed_more, fit_begun}
+use Rattle.spool_kept.proofs.OfUploads.{of_changed}
 use Rattle.spool_kept.proofs.drafting.begin.Goals as goal
 
 pub returns-in-Err-clause-answer : goal.returns-in-Err-clause-answer
@@ -13,8 +15,14 @@ returns-in-Err-clause-answer g c disk w s =
 
 pub returns-in-Ok-placed-clause-fits : goal.returns-in-Ok-placed-clause-fits
 returns-in-Ok-placed-clause-fits g c =
-    fit_begun c.args.drafts.now.items c.placed.new.drafts.items c.in-Ok-placed.number c.in-Ok.draft c.in-Ok-placed.ensures.ok
-    c.args.kept.now.layout c.args.kept.now.blocks c.requires.fits c.in-Ok.ensures.none c.in-Ok.ensures.placed
+    let before = c.args.drafts.now.items in
+    let after = c.placed.new.drafts.items in
+    let placed = c.in-Ok-placed.ensures.ok in
+    record {
+      blocks = fit_begun before after c.in-Ok-placed.number c.in-Ok.draft placed c.args.kept.now.layout c.args.kept.now.blocks c.requires.fits.blocks c.in-Ok.ensures.none c.in-Ok.ensures.placed;
+      uploads = of_changed c.args.kept.now.slots before after c.in-Ok-placed.number (Some c.in-Ok.draft) (changed_more before after c.in-Ok-placed.number c.in-Ok.draft placed) c.requires.fits.uploads
+          (λ a e. subst (IsOfUpload c.args.kept.now.slots) (same_Some c.in-Ok.draft a e) c.in-Ok.ensures.of_upload);
+    }
 
 pub returns-in-Ok-placed-clause-answer : goal.returns-in-Ok-placed-clause-answer
 returns-in-Ok-placed-clause-answer g c disk w s =

@@ -2,15 +2,16 @@ use Rattle.std.proofs.Common.{ap, refl, subst, sym}
 use Rattle.spool_texts.specs.Drafts.{GivesBack}
 use Rattle.spool_kept.specs.Drafting.{DraftsFit, list_in, lists_at}
 use Rattle.spool_kept.specs.Holding.{Holding}
-use Rattle.spool_kept.proofs.Drafted.{drops, fit_dropped, gives_nothing, reserves_only}
+use Rattle.spool_kept.proofs.Drafted.{drops, gives_nothing, reserves_only}
+use Rattle.spool_kept.proofs.OfUploads.{fits_dropped}
 use Rattle.spool_kept.proofs.drafting.drop_open.Goals as goal
 
 pub returns-in-Some-clause-fits : goal.returns-in-Some-clause-fits
 returns-in-Some-clause-fits g c =
     let before = c.args.drafts.now.items in
-    let fit = subst (λ (h : Holding). DraftsFit h.layout h.blocks before) (sym c.kept.view_is) c.requires.fits in
+    let fit = subst (λ (h : Holding). DraftsFit h before) (sym c.kept.view_is) c.requires.fits in
     let list = ap list_in c.in-Some.ensures.taken in
-    fit_dropped c.kept.inside.layout c.kept.inside.blocks c.give_back.new.blocks before c.taken.new.drafts.items c.args.number c.taken.ensures.after fit
+    fits_dropped _ c.give_back.new.blocks before c.taken.new.drafts.items c.args.number c.taken.ensures.after fit
     (subst (GivesBack c.kept.inside.blocks c.give_back.new.blocks) list c.give_back.ensures)
 
 pub returns-in-Some-clause-stands : goal.returns-in-Some-clause-stands

@@ -1,7 +1,7 @@
 use Rattle.std.proofs.Common.{◌≡◌, ◌+◌, ◌*◌, ◌++◌, ℕ, List, [], false, length, inl, inr, refl, sym, ◌∙◌, ap, subst}
 use Rattle.std.proofs.lemmas.Bool.{cases_Bool, both_ways}
 use Rattle.spool_journal.specs.Image.{journal_pages}
-use Rattle.spool_drafts.specs.Drafts.{IsLonger, with_piece, list_of, open_text}
+use Rattle.spool_drafts.specs.Drafts.{IsBehind, IsLonger, with_piece, list_of, open_text}
 use Rattle.spool_drafts.specs.Fresh.{StandsAt}
 use Rattle.spool_drafts.specs.Growth.{bytes_on, GrowsTo}
 use Rattle.spool_drafts.specs.declared.draft.SpoolDraft.{SpoolDraft}
@@ -46,6 +46,14 @@ returns-in-Unencodable-clause-content g c p honest held fits carries kept =
     let some = some_of piece c.is_empty.result c.is_empty.ensures c.if-is_empty.false in
     let stands = subst (StandsAt x p.began (p.body ++ piece)) c.in-Unencodable.is (c.in-Ok.ensures.stands p.began p.body (incomplete x p d held piece fits some) held.stands) in
     absurd (no_value x p d held piece fits stands kept.encodable)
+
+pub returns-clause-behind : goal.returns-clause-behind
+returns-clause-behind g c len state is =
+    subst (IsBehind len state) (sym c.go_on-2.ensures) record {
+      committed = c.put.ensures.same.0 ∙ is.committed;
+      goes_on = c.in-Ok.ensures.goes_on state is.goes_on;
+      room = λ growing. is.room (c.in-Ok.ensures.growing growing);
+    }
 
 pub returns-clause-answer : goal.returns-clause-answer
 returns-clause-answer g c p held fits =

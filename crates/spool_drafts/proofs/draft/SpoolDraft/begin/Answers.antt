@@ -7,7 +7,7 @@ pub returns-clause-begun : goal.returns-clause-begun
 returns-clause-begun c x n u keeps = (
   c.in_ok-admits.ensures.rules x n u keeps.tells,
   begins x u n c.args.count c.args.upload.now c.args.offset c.behind-2.result c.in-Some.fresh keeps (c.in_ok-admits.ensures.room refl)
-      (c.in-Some.ensures x n u keeps.tells keeps.encodable keeps.sound) c.behind-2.ensures.len c.behind-2.ensures.none c.behind-2.ensures.roomy,
+      (c.in-Some.ensures.holds x n u keeps.tells keeps.encodable keeps.sound) c.behind-2.ensures.len c.behind-2.ensures.none c.behind-2.ensures.roomy,
 )
 
 pub returns-clause-content : goal.returns-clause-content

@@ -1,9 +1,9 @@
-use Rattle.std.proofs.Common.{arith, ◌+◌, ◌*◌, ◌++◌, ℕ, List, Vec, length, Ok, Err, refl, sym, ◌∙◌, ap, subst}
+use Rattle.std.proofs.Common.{arith, ◌≡◌, ◌≤◌, ◌+◌, ◌*◌, ◌/◌, ◌++◌, ℕ, List, Vec, length, Ok, Err, refl, sym, ◌∙◌, ap, subst}
 use Rattle.std.proofs.lemmas.Result.{err_from_is_err_and}
 use Rattle.std.specs.declared.alloc.Global.{Global}
 use Rattle.spool_journal.specs.Image.{journal_pages}
 use Rattle.spool_drafts.specs.Drafts.{EndsAs, list_of}
-use Rattle.spool_drafts.specs.Growth.{ClosesAs, bytes_on}
+use Rattle.spool_drafts.specs.Growth.{ClosesAs, HoldsLen, bytes_on, count_with, list_on}
 use Rattle.spool_drafts.proofs.Effects.{only_none, only_read, grasp_none}
 use Rattle.spool_drafts.proofs.Ends.{still, whole, refused, not_closed, kept_end, open_ended}
 use Rattle.spool_drafts.proofs.draft.SpoolDraft.end.Goals as goal
@@ -50,7 +50,11 @@ returns-clause-answer g c p held some =
     let d = c.args.self.now in
     let finished = c.in_ok-state.ensures.finished p.began p.body (still x p d held some c.args.completes) held.stands in
     let closes = subst (λ (text : List ℕ). ClosesAs {T = Vec ℕ Global} d.growth c.end.new.self (length text) c.args.blocks.now c.end.new.blocks (Ok c.in_ok-last.last)) c.deref.ensures.value c.in_ok-last.ensures.answer in
-    whole x p d held some c.args.completes c.in_ok-state.state c.in_ok-state.text.items finished (record d { growth = c.end.new.self }) _ refl (omega (arith, c.len.ensures.len, c.len-2.ensures)) closes.0 closes.1
+    whole x p d held some c.args.completes c.in_ok-state.state c.in_ok-state.text.items finished (record d { growth = c.end.new.self }) _ c.in_ok-last.last.items refl closes.0 closes.1
+    (λ none. c.len_with-text_len.ensures.nothing none ∙ c.end.ensures.same.0)
+    (λ there. omega (arith, c.len_with-text_len.ensures.more there, ap (λ (t : ℕ). 4096 * (t / 4096)) c.end.ensures.same.0))
+    (subst (λ (text : List ℕ). (n : ℕ) → HoldsLen d.growth n → 1 ≤ length (list_on c.end.new.self.on)
+    → count_with (list_on c.end.new.self.on) c.in_ok-last.last.items ≡ n + length text) c.deref.ensures.value c.in_ok-last.ensures.len)
 
 pub returns-clause-content : goal.returns-clause-content
 returns-clause-content g c p honest held some carries there =

@@ -1,7 +1,8 @@
-use Rattle.std.proofs.Common.{arith, ◌≡◌, ◌+◌, length, inr, ap, sym, ◌∙◌, subst, Option, Err}
+use Rattle.std.proofs.Common.{arith, ◌≡◌, ◌+◌, ℕ, length, inr, ap, sym, ◌∙◌, subst, Option, Err}
 use Rattle.spool_texts.specs.declared.error.DraftError.{DraftError}
 use Rattle.spool_texts.specs.Drafts.{Draft, held_count, Takes}
 use Rattle.spool_drafts.specs.Growth.{HoldsCount, list_on}
+use Rattle.spool_drafts.proofs.Contents.{count_ended}
 use Rattle.spool_drafts.proofs.Lengths.{need_some}
 use Rattle.spool_drafts.proofs.growth.Growth.end_begun.Goals as goal
 
@@ -19,3 +20,8 @@ returns-in-Err-Full-clause-answer c = inr (λ n holds.
       scarce = omega (arith, c.end.ensures.scarce is, count, some, holds.some, need_some c.args.self.now.text_len (n + length c.args.bytes.now) (omega (arith, some, holds.some)));
       gives = c.give_back.ensures.gives;
     })
+
+pub returns-in-Ok-clause-len : goal.returns-in-Ok-clause-len
+returns-in-Ok-clause-len c n holds there =
+    let count : held_count c.in-Some.text ≡ n = subst (λ (on : Option Draft). HoldsCount on n) c.in-Some.is holds.count in
+    count_ended (λ i. 0) 0 c.in-Some.text _ c.in-Ok.last.items c.args.bytes.now (c.in-Ok.ensures.content (λ i. 0) 0) ∙ ap (λ (k : ℕ). k + length c.args.bytes.now) count

@@ -13,7 +13,8 @@ returns-clause-answer g c w s =
     let drafts = c.args.self.now.drafts.items in
     let now = c.create.ensures in
     created_answers (create_refusal w c.args.new) c.create.result w.store.next (Stored g.D.Disk disk' kept' w.store) (now.texts w.store s.stored)
-    (λ texts stored. stands_created g.D.Disk disk disk' kept kept' drafts w c.args.new s now.layout now.blocks now.slots texts stored)
+    (λ texts stored. stands_created g.D.Disk disk disk' kept kept' drafts w c.args.new s now.layout now.blocks
+    (λ slot number used. record { used = used.used; there = now.slots slot used.used used.there; is = used.is }) texts stored)
     (λ e. stands_same g.D.Disk disk disk' kept kept' drafts w s (now.unmade e))
     (λ f e. stands_same g.D.Disk disk disk' kept kept' drafts w s (now.refused f e))
     (now.answer w.store s.stored)

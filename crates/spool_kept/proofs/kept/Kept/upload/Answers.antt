@@ -1,11 +1,13 @@
 use Rattle.std.proofs.Common.{rules, ◌≡◌, ◌∙◌, ◌<◌, ◌+◌, ◌*◌, ℕ, List, [], Option, None, Some, length, get_or, ap, subst, sym, arith}
 use Rattle.std.proofs.lemmas.List.{get_or_default}
+use Rattle.std.proofs.lemmas.Option.{same_Some}
 use Rattle.spool_journal.specs.Image.{journal_pages}
 use Rattle.spool_texts.specs.TextOn.{text_on}
 use Rattle.upload_rules.specs.Store.{text_of}
 use Rattle.spool_pages.specs.View.{SlotRecord}
 use Rattle.spool_kept.specs.Holding.{Holding, IsUsedBy}
 use Rattle.spool_kept.specs.Drafting.{IsOwnedBy}
+use Rattle.spool_kept.specs.Records.{said_of}
 use Rattle.spool_kept.proofs.Answered.{found, match_is_none, no_upload, same_used, text_told}
 use Rattle.spool_kept.proofs.Drafted.{few_listed, list_owned}
 use Rattle.spool_kept.proofs.kept.Kept.upload.Goals as goal
@@ -29,6 +31,24 @@ returns-clause-owned c =
     let owned = list_owned _ c.self.invariant c.in_ok-slot.slot c.in_ok-slot.ensures.below c.args.number
     (subst (λ (h : Holding). IsUsedBy h.slots c.in_ok-slot.slot c.args.number) (sym c.self.view_is) c.in_ok-slot.ensures.used) c.blocks-list.result.now (list_is c) in
     subst (λ (h : Holding). IsOwnedBy h.slots h.blocks.rows c.args.number c.blocks-list.result.now) c.self.view_is owned
+
+pub returns-clause-kept : goal.returns-clause-kept
+returns-clause-kept c =
+    let h = c.args.self.now in
+    let s = c.in_ok-slot.slot in
+    let r = c.record.result.now in
+    let same : c.deref.result.now ≡ h.slots = search rules in
+    let there : get_or h.slots s None ≡ Some (said_of r) =
+    ap (λ (xs : List (Option SlotRecord)). get_or xs s None) (sym same) ∙ sym c.in_ok-used.ensures ∙ ap (λ (q : SlotRecord). Some q) (sym c.record.ensures.said) in
+    let used = c.in_ok-slot.ensures.used in
+    let number : r.number ≡ c.args.number = ap (λ (q : SlotRecord). q.number) (same_Some (said_of r) used.used (sym there ∙ used.there)) ∙ used.is in
+    record {
+      slot = s;
+      there = there;
+      only = λ t q e is.
+          let at = c.in_ok-slot.ensures.only t (record { used = q; there = e; is = is ∙ number }) in
+          same_Some q (said_of r) (sym e ∙ ap (λ (k : ℕ). get_or h.slots k None) at ∙ there);
+    }
 
 pub returns-clause-told : goal.returns-clause-told
 returns-clause-told c v m bytes kept shows says =

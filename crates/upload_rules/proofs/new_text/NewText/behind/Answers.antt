@@ -1,21 +1,24 @@
 use Rattle.std.proofs.Common.{◌≡◌, ◌++◌, [], false, None, ap, sym, ◌∙◌, append-nil}
 use Rattle.std.proofs.lemmas.Bool.{ne_eqb}
 use Rattle.std.proofs.Common.{length}
-use Rattle.enc_stream.specs.StateBytes.{standing}
+use Rattle.std.proofs.lemmas.Option.{same_Some}
+use Rattle.enc_model.specs.Transcode.{Transcoder}
+use Rattle.enc_stream.specs.Standing.{Standing}
+use Rattle.enc_stream.specs.StateBytes.{IsSound, standing, state_bytes}
 use Rattle.upload_rules.specs.Store.{text_with, is_complete}
 use Rattle.upload_rules.specs.States.{transcoder_with, state_with}
 use Rattle.upload_rules.proofs.Transcoders.{reads}
 use Rattle.upload_rules.proofs.new_text.NewText.behind.Goals as goal
 
-pub returns-in_err-unpack : goal.returns-in_err-unpack
+pub returns-in_err-unpack-clause-holds : goal.returns-in_err-unpack-clause-holds
 unfolding state_with
-returns-in_err-unpack c x n u tells ok sound =
+returns-in_err-unpack-clause-holds c x n u tells ok sound =
     let k = c.in_err-unpack.ensures.only (transcoder_with x u [] (is_complete u)) sound (sym tells.state) in
     absurd cc
 
-pub returns : goal.returns
+pub returns-clause-holds : goal.returns-clause-holds
 unfolding state_with
-returns c x n u tells ok sound =
+returns-clause-holds c x n u tells ok sound =
     let open_still : is_complete u ≡ false = ne_eqb (length u.accepted) u.declared (λ e. c.if-upload.false (tells.accepted ∙ e ∙ sym tells.declared)) in
     let k = c.in_ok-unpack.ensures.only (transcoder_with x u [] (is_complete u)) sound (sym tells.state) in
     let is : c.in_ok-unpack.field-0 ≡ standing (transcoder_with x u [] (is_complete u)) = cc in
@@ -23,3 +26,13 @@ returns c x n u tells ok sound =
       reads x u [] c.in_ok-unpack.field-0 encodable (is ∙ ap (λ b. standing (transcoder_with x u [] b)) open_still),
       ap (λ l. (text_with x u [] false).bytes ++ l) c.new.ensures.items ∙ append-nil (text_with x u [] false).bytes,
     )
+
+pub returns-clause-goes_on : goal.returns-clause-goes_on
+returns-clause-goes_on c =
+    let same : (s : Transcoder) → IsSound s → c.args.upload.now.state ≡ state_bytes s → c.in_ok-unpack.field-0 ≡ standing s =
+    λ s sound is. same_Some c.in_ok-unpack.field-0 (standing s) (sym c.in_ok-unpack.was ∙ c.unpack.ensures.only s sound (sym is)) in
+    record {
+      from = λ s sound is. ap (λ (t : Standing). t.transcoder.from) (same s sound is);
+      to = λ s sound is. ap (λ (t : Standing). t.transcoder.to) (same s sound is);
+      mode = λ s sound is. ap (λ (t : Standing). t.transcoder.mode) (same s sound is);
+    }

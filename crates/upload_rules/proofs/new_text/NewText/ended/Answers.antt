@@ -1,13 +1,14 @@
 use Rattle.std.proofs.Common.{◌≡◌, ℕ, Bool, true, false, List, refl, sym, subst, ap, ◌∙◌, Vec, Global}
 use Rattle.enc_model.specs.Indexes.{IndexSet, tables}
-use Rattle.enc_model.specs.Transcode.{added_end}
+use Rattle.enc_model.specs.Transcode.{Transcoder, added_end}
 use Rattle.enc_stream.specs.Standing.{Standing}
 use Rattle.enc_stream.specs.StateBytes.{IsSound, state_bytes}
 use Rattle.upload_rules.specs.declared.new_text.NewText.{NewText}
 use Rattle.upload_rules.specs.declared.new_text.NewText.TheVariants.{Growing, Unencodable, Complete}
 use Rattle.upload_rules.specs.Store.{Upload, text_with, is_complete}
 use Rattle.upload_rules.specs.World.{is_there}
-use Rattle.upload_rules.specs.Texts.{HoldsText, IsWhole}
+use Rattle.upload_rules.specs.States.{IsState, SameEncodings}
+use Rattle.upload_rules.specs.Texts.{GoesOn, HoldsText, IsWhole}
 use Rattle.upload_rules.proofs.Transcoders.{whole_ended, whole_open, end_fault, unencodable_ended, code_fault}
 use Rattle.upload_rules.proofs.new_text.NewText.ended.Goals as goal
 use Rattle.upload_rules.proofs.new_text.NewText.ended.Goals.{then-completes+in-Ok, else-completes}
@@ -49,4 +50,34 @@ returns-clause-ended c = λ u bytes holds still.
           subst (λ b. IsWhole x u bytes b c.pack.result c.if-completes.text.items) (sym w.if-completes.false)
           (subst (λ (t : Vec ℕ Global). IsWhole x u bytes false c.pack.result t.items) (sym w.text-is)
           (whole_open x u bytes c.in-Growing.transcoder held.0 c.pack.result c.in-Growing.text.items packed sound held.1))
+    ]
+
+-- WHATEVER THE UPLOAD
+
+-- the encodings and the mode stay
+same_encodings : (state packed : List ℕ) (t : Standing) (text : Vec ℕ Global) (next : Transcoder) → IsState state → GoesOn state (Growing t text) → next.from ≡ t.transcoder.from → next.to ≡ t.transcoder.to
+    → next.mode ≡ t.transcoder.mode → packed ≡ state_bytes next → IsSound next → SameEncodings state packed
+same_encodings state packed t text next old goes from to mode is sound = record {
+  before = old.transcoder;
+  after = next;
+  before_sound = old.sound;
+  after_sound = sound;
+  was = old.is;
+  is = is;
+  from = from ∙ goes.from old.transcoder old.sound old.is;
+  to = to ∙ goes.to old.transcoder old.sound old.is;
+  mode = mode ∙ goes.mode old.transcoder old.sound old.is;
+}
+
+pub returns-clause-same : goal.returns-clause-same
+returns-clause-same c state old goes =
+    let held = subst (GoesOn state) c.in-Growing.is goes in
+    let same = same_encodings state c.pack.result c.in-Growing.transcoder c.in-Growing.text c.if-completes.transcoder.transcoder old held in
+    elim c.if-completes.branch [
+      | then-completes+in-Ok w ↦
+          let is = w.transcoder-is ∙ w.in-Ok.ensures.over in
+          same (ap (λ (t : Standing). t.transcoder.from) is) (ap (λ (t : Standing). t.transcoder.to) is) (ap (λ (t : Standing). t.transcoder.mode) is) c.pack.ensures.bytes c.pack.ensures.sound
+      | else-completes w ↦
+          let is = w.transcoder-is in
+          same (ap (λ (t : Standing). t.transcoder.from) is) (ap (λ (t : Standing). t.transcoder.to) is) (ap (λ (t : Standing). t.transcoder.mode) is) c.pack.ensures.bytes c.pack.ensures.sound
     ]
