@@ -1,12 +1,12 @@
 -- Calls that only read.
-use Rattle.std.proofs.Common.{◌≡◌, inl, inr, ℕ, ◌≢◌, set, take, ◌++◌, below_more, Option, None, Result, Ok, Err, IfOk, IfErr, ◌+◌, ◌-◌, ◌*◌, ◌<◌, ◌≤◌, List, [], ◌∷◌, length, length-append, get_or, refl, sym, ◌∙◌, ap, subst, arith}
+use Rattle.std.proofs.Common.{◌≡◌, inl, inr, ℕ, ◌≢◌, take, ◌++◌, below_more, Option, None, Result, Ok, Err, IfOk, IfErr, ◌+◌, ◌-◌, ◌*◌, ◌<◌, ◌≤◌, List, [], ◌∷◌, length, length-append, get_or, refl, sym, ◌∙◌, ap, subst, arith}
 use Rattle.std.proofs.Math.ListN.{get_or-append, get_or-eq_default}
 use Rattle.std.proofs.lemmas.Bool.{cases_lt}
 use Rattle.std.proofs.Math.Seq.{take-append_seam}
 use Rattle.spool_disk.specs.Disk.{span}
 use Rattle.spool_disk.specs.declared.disk.Disk.{Ghosts}
 use Rattle.spool_disk.proofs.Firm.{lasts_on}
-use Rattle.spool_journal.specs.Image.{byte_of, journal_pages}
+use Rattle.spool_journal.specs.Image.{byte_of}
 use Rattle.spool_journal.specs.Phases.{Still}
 use Rattle.spool_journal.proofs.Recovers.{get_span}
 use Rattle.spool_pages.specs.Bytes.{IsPadded}
@@ -16,7 +16,7 @@ use Rattle.spool_image.specs.Reads.{OnlyReads, IsReadAt, IsFrontOf, IsSameTo, St
 use Rattle.spool_kept.specs.Loads.{LoadsAs}
 use Rattle.spool_kept.specs.declared.error.OpenFault.{OpenFault}
 use Rattle.spool_kept.specs.declared.error.OpenFault.TheVariants.{NotASpool, DiskFault, Damaged, Version, NoMemory}
-use Rattle.std.proofs.lemmas.List.{ext_get_or, get_or-append-add, get_or-set_other, get_or-set_same}
+use Rattle.std.proofs.lemmas.List.{ext_get_or, get_or-append-add}
 
 pub reads_on : {D : Type 0} {disk : Ghosts D} {a b c : D} → OnlyReads disk a b → OnlyReads disk b c → OnlyReads disk a c
 reads_on first second = record {
@@ -104,9 +104,6 @@ if_err_more (Err e) more p = more e p
 
 -- SLOTS AND ROWS
 
-pub stand_none : (bytes : ℕ → ℕ) (n : ℕ) → StandSlots bytes n []
-stand_none bytes n = record { each = λ s lt. absurd (omega (arith, lt)); fit = λ s. tt }
-
 pub stand_push : (bytes : ℕ → ℕ) (n : ℕ) (slots : List (Option SlotRecord)) (kept : Option SlotRecord) (new : List (Option SlotRecord)) → StandSlots bytes n slots → new ≡ slots ++ kept ∷ []
     → Stands bytes (slot_place n (length slots)) 2048 (slot_bytes kept) → FitsSlotOf kept → StandSlots bytes n new
 stand_push bytes n slots kept new was is stands fits = record {
@@ -153,9 +150,6 @@ module _ (old new : List (Option (ℕ × ℕ))) (at : ℕ) (row : Option (ℕ ×
       (λ m below. let ne : first + m ≢ at = omega (arith, below, here) in subst (λ (o : Option (ℕ × ℕ)). Stands page (8 * m) 8 (row_bytes o)) (sym (others (first + m) ne)) (was m below))
       (subst (λ (o : Option (ℕ × ℕ)). Stands page (8 * k) 8 (row_bytes o)) (sym (ap (λ (b : ℕ). get_or new b None) here ∙ put)) stands)
 
-pub rows_none : (bytes : ℕ → ℕ) (n : ℕ) (rows : List (Option (ℕ × ℕ))) → StandRows bytes n 0 rows
-rows_none bytes n rows = record { each = λ b lt. absurd (omega (arith, lt)) }
-
 -- a page of rows more
 pub rows_read : (bytes : ℕ → ℕ) (n place page : ℕ) (buf : List ℕ) (old new : List (Option (ℕ × ℕ))) → IsReadAt bytes place buf → length buf ≡ 4096 → place ≡ row_place n (512 * page)
     → StandRows bytes n (512 * page) old → ((b : ℕ) → b < 512 * page → get_or new b None ≡ get_or old b None)
@@ -173,26 +167,8 @@ rows_read bytes n place page buf old new read long here was before filled = reco
   ];
 }
 
-pub row_pages_few : (n : ℕ) → n ≤ 65536 → journal_pages n ≤ 385
-unfolding journal_pages
-row_pages_few n few = omega (arith, few)
-
 pub same_all : {A : Type 0} (end : ℕ) (whole list : List (Option A)) → IsSameTo end whole list → length list ≡ length whole → length list ≤ end → list ≡ whole
 same_all end whole list same long covers = ext_get_or None list whole long (λ i lt. same.each i (omega (arith, lt, covers)))
-
-pub same_none : {A : Type 0} (whole list : List (Option A)) → IsSameTo 0 whole list
-same_none whole list = record { each = λ k lt. absurd (omega (arith, lt)) }
-
--- one more, in its place or behind the end of both
-pub same_set : {A : Type 0} (n : ℕ) (whole list : List (Option A)) (x : Option A) → IsSameTo n whole list → n < length list → x ≡ get_or whole n None → IsSameTo (n + 1) whole (set list n x)
-same_set n whole list x same lt is = record {
-  each = below_more _ _ (λ k below. let ne : k ≢ n = omega arith in get_or-set_other list n k x None ne ∙ same.each k below) (get_or-set_same list n x None lt ∙ is);
-}
-
-pub same_past : {A : Type 0} (n : ℕ) (whole list : List (Option A)) → IsSameTo n whole list → length list ≤ n → length whole ≡ length list → IsSameTo (n + 1) whole list
-same_past n whole list same past long = record {
-  each = below_more _ _ same.each (get_or-eq_default list None past ∙ sym (get_or-eq_default whole None (omega (arith, past, long))));
-}
 
 pub take_new : {A : Type 0} (n : ℕ) (new rest : List A) → length new ≡ n → take n (new ++ rest) ≡ new
 take_new n new rest long = subst (λ (k : ℕ). take k (new ++ rest) ≡ new) long (take-append_seam new rest)
