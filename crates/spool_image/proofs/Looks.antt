@@ -46,7 +46,7 @@ read_padded bytes place at buf xs size read long same few stands = record {
   each = λ i. elim (cases_lt i size) [
     | inl below ↦ read.each i (omega (arith, below, long)) ∙ ap (λ (p : ℕ). bytes (p + i)) same ∙ stands.each i below
     | inr over ↦ get_or-eq_default buf 0 (omega (arith, over, long)) ∙ sym
-    (get_or-eq_default xs 0 (omega (arith, over, few)))
+        (get_or-eq_default xs 0 (omega (arith, over, few)))
   ];
 }
 
@@ -125,7 +125,7 @@ pub stand_push : (bytes : ℕ → ℕ) (n : ℕ) (slots : List (Option SlotRecor
 stand_push bytes n slots kept new was is stands fits = record {
   each = λ s lt. elim (cases_lt s (length slots)) [
     | inl below ↦ subst (λ (o : Option SlotRecord). Stands bytes (slot_place n s) 2048 (slot_bytes o))
-    (sym (before s below)) (was.each s below)
+        (sym (before s below)) (was.each s below)
     | inr over ↦
         let here : length slots ≡ s = omega (arith, over, lt, one_more) in
         let P : ℕ → Type 0 = λ k. Stands bytes (slot_place n k) 2048 (slot_bytes (get_or new k None)) in
@@ -154,7 +154,7 @@ stand_push bytes n slots kept new was is stands fits = record {
     at_end =
         let zero : length slots + 0 ≡ length slots = omega arith in
         let there : get_or (slots ++ kept ∷ []) (length slots + 0) None ≡ kept =
-            get_or-append-add slots (kept ∷ []) 0 None in
+        get_or-append-add slots (kept ∷ []) 0 None in
         ap (λ (xs : List (Option SlotRecord)). get_or xs (length slots) None) is ∙ subst
         (λ (k : ℕ). get_or (slots ++ kept ∷ []) k None ≡ kept) zero there
 
@@ -185,15 +185,15 @@ pub rows_read : (bytes : ℕ → ℕ) (n place page : ℕ) (buf : List ℕ) (old
 rows_read bytes n place page buf old new read long here was before filled = record {
   each = λ b lt. elim (cases_lt b (512 * page)) [
     | inl below ↦ subst (λ (o : Option (ℕ × ℕ)). Stands bytes (row_place n b) 8 (row_bytes o)) (sym (before b below))
-    (was.each b below)
+        (was.each b below)
     | inr over ↦
         let k : ℕ = b - 512 * page in
         let few : k < 512 = omega (arith, lt, over) in
         let at : 512 * page + k ≡ b = omega (arith, over) in
         let stands = filled k few in
         let there =
-            read_back bytes place (row_place n b) (8 * k) 8 buf _ read (omega (arith, few, long))
-            (omega (arith, here, at)) stands in
+        read_back bytes place (row_place n b) (8 * k) 8 buf _ read (omega (arith, few, long))
+        (omega (arith, here, at)) stands in
         subst (λ (j : ℕ). Stands bytes (row_place n b) 8 (row_bytes (get_or new j None))) at there
   ];
 }

@@ -33,7 +33,7 @@ pub first_plain : (image : ℕ → ℕ) (v : View) → IsViewOf image v → (i :
 first_plain image v is i lt =
     let at : 0 + i ≡ i = omega arith in
     let there : overlaid image i ≡ get_or (first_page v.blocks) i 0 =
-        subst (λ (p : ℕ). overlaid image p ≡ get_or (first_page v.blocks) i 0) at (is.says.first.each i lt) in
+    subst (λ (p : ℕ). overlaid image p ≡ get_or (first_page v.blocks) i 0) at (is.says.first.each i lt) in
     front_plain (journal_pages v.blocks) image is.form i lt ∙ there
 
 pub view_says_blocks : (size : ℕ) (image : ℕ → ℕ) (v : View) → IsSound v → IsViewOf image v

@@ -159,8 +159,8 @@ module _ (size : ℕ) (seen : ℕ → ℕ) where
     opened_is_first other =
         let v = opened.view in
         let stands =
-            subst (λ (k : ℕ). Stands (overlaid seen) (state_place v.blocks) 4096 (state_page k v.next))
-            opened.sound.version opened.is.says.state in
+        subst (λ (k : ℕ). Stands (overlaid seen) (state_place v.blocks) 4096 (state_page k v.next))
+        opened.sound.version opened.is.says.state in
         other.other (first_at v.blocks other.blocks opened_says other.says
         (version_stands (overlaid seen) (state_place v.blocks) 4096 1 v.next (omega arith) stands))
 

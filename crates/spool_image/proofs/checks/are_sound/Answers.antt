@@ -7,7 +7,7 @@ pub returns-then-not-is_sound_at : goal.returns-then-not-is_sound_at
 returns-then-not-is_sound_at c = (
   λ yes. absurd (false≢true yes),
   λ are. absurd (false≢true
-  (sym c.if-not-is_sound_at.true ∙ c.is_sound_at.ensures.1 (λ r there. are.records c.loop-slot.slot r there))),
+      (sym c.if-not-is_sound_at.true ∙ c.is_sound_at.ensures.1 (λ r there. are.records c.loop-slot.slot r there))),
 )
 
 pub loop-slot-preserved : goal.loop-slot-preserved

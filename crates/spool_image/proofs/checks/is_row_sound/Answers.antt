@@ -35,7 +35,7 @@ returns-in-Some-record_at-clause-sound c =
     let r = c.in-Some-record_at.kept.now in
     let there : get_or c.args.slots.now c.in-Some.slot None ≡ Some r = sym c.in-Some-record_at.ensures in
     let limit : c.blocks_of.result ≡ blocks_of r.text_len =
-        c.blocks_of.ensures ∙ ap (λ (q : SlotRecord). blocks_of q.text_len) c.record.ensures.said in (
+    c.blocks_of.ensures ∙ ap (λ (q : SlotRecord). blocks_of q.text_len) c.record.ensures.said in (
       λ yes. row_sound c.args.slots.now c.in-Some.slot c.in-Some.ordinal c.args.row c.in-Some.is (record {
         used = r;
         there = there;
@@ -50,5 +50,5 @@ pub returns-in-None-clause-sound : goal.returns-in-None-clause-sound
 returns-in-None-clause-sound c = (
   λ yes. absurd (false≢true yes),
   λ sound. absurd (row_not_free c.args.slots.now c.in-Some.slot c.in-Some.ordinal c.args.row c.in-Some.is
-  (sym c.in-None.ensures) sound),
+      (sym c.in-None.ensures) sound),
 )

@@ -19,8 +19,8 @@ pub returns-in_err-slots-clause-said : goal.returns-in_err-slots-clause-said
 returns-in_err-slots-clause-said g c honest bytes still v sound blocks says =
     let first = c.load_fields.ensures.reads in
     let loaded =
-        c.in_err-slots.ensures.said (first.honest honest) bytes (first.still honest bytes still) v.slots
-        sound.slot_count (slots_fit v sound) (said_slot bytes v c.args.layout blocks says) in
+    c.in_err-slots.ensures.said (first.honest honest) bytes (first.still honest bytes still) v.slots
+    sound.slot_count (slots_fit v sound) (said_slot bytes v c.args.layout blocks says) in
     let handed = loads_err _ (λ (kept : Holding). KeepsAlone kept v) _ loaded in
     search rules
 
@@ -32,13 +32,13 @@ returns-then-not-are_sound-clause-said g c honest bytes still v sound blocks say
     let first = c.load_fields.ensures.reads in
     let fields = c.in_ok-next.ensures.said honest bytes still v sound blocks says in
     let slots : c.in_ok-slots.slots.items ≡ v.slots =
-        c.in_ok-slots.ensures.said (first.honest honest) bytes (first.still honest bytes still) v.slots sound.slot_count
-        (slots_fit v sound) (said_slot bytes v c.args.layout blocks says) in
+    c.in_ok-slots.ensures.said (first.honest honest) bytes (first.still honest bytes still) v.slots sound.slot_count
+    (slots_fit v sound) (said_slot bytes v c.args.layout blocks says) in
     let looked : c.deref.result.now ≡ v.slots = search rules in
     let are = subst (λ (n : ℕ). RecordsPass n v.slots) (sym fields.0) (sound_passes v sound) in
     let passes =
-        c.are_sound.ensures.1
-        (subst (λ (xs : List (Option SlotRecord)). RecordsPass c.in_ok-next.next xs) (sym looked) are) in
+    c.are_sound.ensures.1
+    (subst (λ (xs : List (Option SlotRecord)). RecordsPass c.in_ok-next.next xs) (sym looked) are) in
     false≢true (sym c.if-not-are_sound.true ∙ passes)
 
 pub returns-in_err-blocks-clause-reads : goal.returns-in_err-blocks-clause-reads
@@ -50,11 +50,11 @@ returns-in_err-blocks-clause-said g c honest bytes still v sound blocks says =
     let first = c.load_fields.ensures.reads in
     let second = reads_on first c.load_slots.ensures.reads in
     let slots : c.in_ok-slots.slots.items ≡ v.slots =
-        c.in_ok-slots.ensures.said (first.honest honest) bytes (first.still honest bytes still) v.slots sound.slot_count
-        (slots_fit v sound) (said_slot bytes v c.args.layout blocks says) in
+    c.in_ok-slots.ensures.said (first.honest honest) bytes (first.still honest bytes still) v.slots sound.slot_count
+    (slots_fit v sound) (said_slot bytes v c.args.layout blocks says) in
     let loaded =
-        c.in_err-blocks.ensures.said (second.honest honest) bytes (second.still honest bytes still) v sound blocks says
-        (search rules) in
+    c.in_err-blocks.ensures.said (second.honest honest) bytes (second.still honest bytes still) v sound blocks says
+    (search rules) in
     let handed = loads_err _ (λ (kept : Holding). KeepsAlone kept v) _ loaded in
     search rules
 
@@ -68,17 +68,17 @@ returns-clause-said g c honest bytes still v sound blocks says =
     let second = reads_on first c.load_slots.ensures.reads in
     let fields = c.in_ok-next.ensures.said honest bytes still v sound blocks says in
     let slots : c.in_ok-slots.slots.items ≡ v.slots =
-        c.in_ok-slots.ensures.said (first.honest honest) bytes (first.still honest bytes still) v.slots sound.slot_count
-        (slots_fit v sound) (said_slot bytes v c.args.layout blocks says) in
+    c.in_ok-slots.ensures.said (first.honest honest) bytes (first.still honest bytes still) v.slots sound.slot_count
+    (slots_fit v sound) (said_slot bytes v c.args.layout blocks says) in
     let held =
-        c.in_ok-blocks.ensures.said (second.honest honest) bytes (second.still honest bytes still) v sound blocks says
-        (search rules) in
+    c.in_ok-blocks.ensures.said (second.honest honest) bytes (second.still honest bytes still) v sound blocks says
+    (search rules) in
     c.of.ensures.said v sound blocks fields.0 fields.1 slots held.0 held.1
 
 pub returns-in_err-slots-clause-counts : goal.returns-in_err-slots-clause-counts
 returns-in_err-slots-clause-counts g c =
     let counted =
-        counts_on c.load_fields.ensures.counts (ok_no_fault _ _ c.in_ok-next.was) c.in_err-slots.ensures.counts in
+    counts_on c.load_fields.ensures.counts (ok_no_fault _ _ c.in_ok-next.was) c.in_err-slots.ensures.counts in
     search rules
 
 pub returns-then-not-are_sound-clause-counts : goal.returns-then-not-are_sound-clause-counts
@@ -90,7 +90,7 @@ returns-then-not-are_sound-clause-counts g c =
 pub returns-in_err-blocks-clause-counts : goal.returns-in_err-blocks-clause-counts
 returns-in_err-blocks-clause-counts g c =
     let second =
-        counts_on c.load_fields.ensures.counts (ok_no_fault _ _ c.in_ok-next.was) c.load_slots.ensures.counts in
+    counts_on c.load_fields.ensures.counts (ok_no_fault _ _ c.in_ok-next.was) c.load_slots.ensures.counts in
     let counted = counts_on second (ok_no_fault _ _ c.in_ok-slots.was) c.in_err-blocks.ensures.counts in
     search rules
 
@@ -123,8 +123,8 @@ returns-clause-sound g c honest bytes still says =
     let rows = c.in_ok-blocks.ensures.sound (second.honest honest) bytes (second.still honest bytes still) in
     let looked : c.deref.result.now ≡ c.in_ok-slots.slots.items = search rules in
     let are =
-        subst (λ (xs : List (Option SlotRecord)). RecordsPass c.in_ok-next.next xs) looked
-        (c.are_sound.ensures.0 (search rules)) in
+    subst (λ (xs : List (Option SlotRecord)). RecordsPass c.in_ok-next.next xs) looked
+    (c.are_sound.ensures.0 (search rules)) in
     read_loaded bytes c.args.layout c.in_ok-next.next c.in_ok-next.indexes c.in_ok-slots.slots.items
     c.in_ok-blocks.blocks.rows c.in_ok-blocks.blocks.reserved c.of.result
     says.least says.most fields slots c.in_ok-slots.ensures.long c.in_ok-blocks.ensures.long rows are (search rules)

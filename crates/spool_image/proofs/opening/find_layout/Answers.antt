@@ -24,16 +24,16 @@ returns-in_default-clause-said g c honest blocks says =
 pub returns-in_default-of-clause-said : goal.returns-in_default-of-clause-said
 returns-in_default-of-clause-said g c honest blocks says =
     let e : c.in-Some.blocks ≡ blocks =
-        same_Some _ _ (c.in-Some.ensures.said blocks (omega (arith, says.most))
-        (λ i lt. c.in_ok-front.ensures.bytes honest i lt ∙ says.front i lt)) in
+    same_Some _ _ (c.in-Some.ensures.said blocks (omega (arith, says.most))
+    (λ i lt. c.in_ok-front.ensures.bytes honest i lt ∙ says.front i lt)) in
     ⊎_elim (λ below. omega (arith, below, e, says.least)) (λ above. omega (arith, above, e, says.most))
     (c.of.ensures.none.0 (none_from c.of.result c.in_default-of.not-Some))
 
 pub returns-then-len-pages-clause-said : goal.returns-then-len-pages-clause-said
 returns-then-len-pages-clause-said g c honest blocks says =
     let e : c.in-Some.blocks ≡ blocks =
-        same_Some _ _ (c.in-Some.ensures.said blocks (omega (arith, says.most))
-        (λ i lt. c.in_ok-front.ensures.bytes honest i lt ∙ says.front i lt)) in
+    same_Some _ _ (c.in-Some.ensures.said blocks (omega (arith, says.most))
+    (λ i lt. c.in_ok-front.ensures.bytes honest i lt ∙ says.front i lt)) in
     let pages : all_pages c.in-Some-of.layout ≡ all_pages blocks = ap all_pages (c.in-Some-of.ensures.some ∙ e) in
     omega (arith, pages, says.room, c.len-2.ensures, c.pages.ensures, c.if-len-pages.true, c.read_front.ensures.size)
 
@@ -51,7 +51,7 @@ returns-clause-found g c honest =
     let layout = c.in-Some-of.layout in
     let same : layout ≡ c.in-Some.blocks = c.in-Some-of.ensures.some in
     let range =
-        within c.in-Some.blocks (λ out. some_not_none c.of.result layout c.in-Some-of.is (c.of.ensures.none.1 out)) in
+    within c.in-Some.blocks (λ out. some_not_none c.of.result layout c.in-Some-of.is (c.of.ensures.none.1 out)) in
     record {
       least = omega (arith, same, range.0);
       most = omega (arith, same, range.1);

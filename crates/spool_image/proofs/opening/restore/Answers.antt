@@ -32,11 +32,11 @@ err_of e d same = cc
 pub returns-in_err-recover-clause-said : goal.returns-in_err-recover-clause-said
 returns-in_err-recover-clause-said g c honest v sound blocks is =
     let J : ℕ → Type 0 =
-        λ n. g.D.Disk.seen c.args.disk.now 4096 ≡ 165 → InForm (journal_pages n) (count (g.D.Disk.seen c.args.disk.now))
-        (number (g.D.Disk.seen c.args.disk.now)) in
+    λ n. g.D.Disk.seen c.args.disk.now 4096 ≡ 165 → InForm (journal_pages n) (count (g.D.Disk.seen c.args.disk.now))
+    (number (g.D.Disk.seen c.args.disk.now)) in
     let form = subst J blocks is.form in
     let sound_head : c.in_err-recover.field-0.0 ≡ recover.Damaged → ⊥ =
-        λ e. (let bad = c.recover.ensures.damaged honest (c.in_err-recover.was ∙ err_of _ _ e) in bad.1 (form bad.0)) in
+    λ e. (let bad = c.recover.ensures.damaged honest (c.in_err-recover.was ∙ err_of _ _ e) in bad.1 (form bad.0)) in
     let handed = recover_handed (λ (kept : Kept). KeepsAlone kept v) c.in_err-recover.field-0.0 sound_head in
     search rules
 
@@ -45,8 +45,8 @@ returns-clause-said g c honest v sound blocks is =
     let settled = c.in_ok-recover.ensures.settled honest in
     let mid = c.recover.ensures.honest.0 honest in
     let J : ℕ → Type 0 =
-        λ n. Settled (journal_pages n) (overlaid (g.D.Disk.seen c.args.disk.now)) (g.D.Disk.seen c.recover.new.disk)
-        (g.D.Disk.loose c.recover.new.disk) in
+    λ n. Settled (journal_pages n) (overlaid (g.D.Disk.seen c.args.disk.now)) (g.D.Disk.seen c.recover.new.disk)
+    (g.D.Disk.loose c.recover.new.disk) in
     let settled_v = subst J (sym blocks) settled in
     c.load.ensures.said mid _ (settled_still settled) v sound blocks (settled_says v settled_v is.says)
 
@@ -81,9 +81,9 @@ returns-clause-same g c honest shut fine =
 pub returns-in_err-recover-clause-refused : goal.returns-in_err-recover-clause-refused
 returns-in_err-recover-clause-refused g c honest =
     let told =
-        recover_reason c.args.layout (g.D.Disk.seen c.args.disk.now) c.in_err-recover.field-0.0
-        (λ e. (c.recover.ensures.damaged honest (c.in_err-recover.was ∙ err_of _ _ e)).1)
-        (λ e. (c.recover.ensures.damaged honest (c.in_err-recover.was ∙ err_of _ _ e)).0) in
+    recover_reason c.args.layout (g.D.Disk.seen c.args.disk.now) c.in_err-recover.field-0.0
+    (λ e. (c.recover.ensures.damaged honest (c.in_err-recover.was ∙ err_of _ _ e)).1)
+    (λ e. (c.recover.ensures.damaged honest (c.in_err-recover.was ∙ err_of _ _ e)).0) in
     search rules
 
 pub returns-clause-refused : goal.returns-clause-refused

@@ -28,8 +28,8 @@ loop-k-preserved c =
     record {
       said = λ all long fits stands was.
           let is =
-              same_ok _ row _ c.in_ok-row_at.was
-              (c.row_at.ensures.said (get_or all (first + k) None) (fits (first + k)) (stands k (search rules))) in
+          same_ok _ row _ c.in_ok-row_at.was
+          (c.row_at.ensures.said (get_or all (first + k) None) (fits (first + k)) (stands k (search rules))) in
           step_on first k all _
           (put_same c.loop-k.rows c.put_row.new.rows (first + k) row put others all (inv.said all long fits stands was)
           is);
@@ -49,9 +49,9 @@ pub returns-in_err-put_row-clause-said : goal.returns-in_err-put_row-clause-said
 returns-in_err-put_row-clause-said c all long fits stands was =
     let k = c.loop-k.k in
     let is =
-        same_ok _ c.in_ok-row_at.field-0 _ c.in_ok-row_at.was
-        (c.row_at.ensures.said (get_or all (c.args.first + k) None) (fits (c.args.first + k)) (stands k (search rules)))
-        in
+    same_ok _ c.in_ok-row_at.field-0 _ c.in_ok-row_at.was
+    (c.row_at.ensures.said (get_or all (c.args.first + k) None) (fits (c.args.first + k)) (stands k (search rules)))
+    in
     let behind : length c.loop-k.rows ≤ c.args.first + k = c.in_err-put_row.ensures.behind in
     let same : length c.loop-k.rows ≡ length all = search rules in
     absurd (c.in_err-put_row.ensures.used (is ∙ get_or-eq_default all None (omega (arith, behind, same))))

@@ -27,10 +27,10 @@ returns-clause-said g c honest bytes still all long fits stands was =
     let read = c.in_ok-read_at.ensures.bytes honest bytes still in
     let wide : length c.read_at.new.buf ≡ 4096 = search rules in
     let filled =
-        c.in_ok-fill.ensures.said all long fits
-        (λ k lt. read_stands bytes _ (row_place n (512 * page + k)) (8 * k) 8 c.read_at.new.buf _ read
-        (omega (arith, lt, wide)) (omega (arith, c.metadata_page.ensures))
-        (stands (512 * page + k) (omega (arith, lt, c.requires.page)))) was in
+    c.in_ok-fill.ensures.said all long fits
+    (λ k lt. read_stands bytes _ (row_place n (512 * page + k)) (8 * k) 8 c.read_at.new.buf _ read
+    (omega (arith, lt, wide)) (omega (arith, c.metadata_page.ensures))
+    (stands (512 * page + k) (omega (arith, lt, c.requires.page)))) was in
     let e : 512 * page + 512 ≡ 512 * (page + 1) = omega arith in
     subst (λ (m : ℕ). IsSameTo m all c.fill.new.rows) e filled
 

@@ -8,11 +8,11 @@ pub returns-in_err-load_page-clause-said : goal.returns-in_err-load_page-clause-
 returns-in_err-load_page-clause-said g c honest bytes still all long fits stands =
     let inv = c.loop-page.invariant in
     let read =
-        c.in_err-load_page.ensures.said (inv.reads.honest honest) bytes (inv.reads.still honest bytes still) all
-        (search rules) fits stands (inv.said honest bytes still all long fits stands) in
+    c.in_err-load_page.ensures.said (inv.reads.honest honest) bytes (inv.reads.still honest bytes still) all
+    (search rules) fits stands (inv.said honest bytes still all long fits stands) in
     let handed =
-        loads_err _ (λ (done : Unit {0}). IsSameTo (512 * (journal_pages c.args.layout.now - 257)) all
-        c.load_page.new.rows) _ read in
+    loads_err _ (λ (done : Unit {0}). IsSameTo (512 * (journal_pages c.args.layout.now - 257)) all
+    c.load_page.new.rows) _ read in
     search rules
 
 pub returns-clause-said : goal.returns-clause-said

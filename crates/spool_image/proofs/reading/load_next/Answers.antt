@@ -13,9 +13,9 @@ pub returns-clause-said : goal.returns-clause-said
 returns-clause-said g c honest bytes still next fits stands =
     let here : 4096 * c.metadata_page.result ≡ state_place c.args.layout.now = omega arith in
     let padded =
-        read_padded bytes _ _ c.read_at.new.buf (state_page 1 next) 4096
-        (c.in_ok-read_at.ensures.bytes honest bytes still) (search rules) here (omega (arith, length-state 1 next))
-        stands in
+    read_padded bytes _ _ c.read_at.new.buf (state_page 1 next) 4096
+    (c.in_ok-read_at.ensures.bytes honest bytes still) (search rules) here (omega (arith, length-state 1 next))
+    stands in
     loads_is _ c.next_in.result next (c.next_in.ensures.said next fits padded) refl
 
 pub returns-clause-sound : goal.returns-clause-sound

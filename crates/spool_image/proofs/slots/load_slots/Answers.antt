@@ -9,8 +9,8 @@ returns-in_err-push_slot-clause-said g c honest bytes still said long fits stand
     let inv = c.loop-slot.invariant in
     let s = c.loop-slot.slot in
     let pushed =
-        c.in_err-push_slot.ensures.said (inv.reads.honest honest) bytes (inv.reads.still honest bytes still) said long
-        (fits s) (stands s (omega arith)) inv.long (inv.said honest bytes still said long fits stands) in
+    c.in_err-push_slot.ensures.said (inv.reads.honest honest) bytes (inv.reads.still honest bytes still) said long
+    (fits s) (stands s (omega arith)) inv.long (inv.said honest bytes still said long fits stands) in
     let handed = loads_err _ (λ (slots : List (Option SlotRecord)). slots ≡ said) _ pushed in
     search rules
 

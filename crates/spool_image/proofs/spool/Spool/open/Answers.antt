@@ -50,7 +50,7 @@ pub returns-in-Ok-clause-stands : goal.returns-in-Ok-clause-stands
 returns-in-Ok-clause-stands g c n m is =
     let v = is.shows.view in
     let said =
-        c.in-Ok.ensures.said is.honest v is.shows.shows.sound is.shows.is (view_room g.D.Disk c.args.disk n m is) in
+    c.in-Ok.ensures.said is.honest v is.shows.shows.sound is.shows.is (view_room g.D.Disk c.args.disk n m is) in
     subst (λ (k : ℕ). StandsFor g.D.Disk c.prepare.new.disk c.in-Ok.kept c.new.result.items (at_rest m (Some k)))
     is.shows.blocks
     (stands_opened g.D.Disk c.prepare.new.disk (g.D.Disk.seen c.args.disk) c.in-Ok.kept c.new.result.items m v
