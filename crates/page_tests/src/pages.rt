@@ -1,14 +1,15 @@
 //! Records, rows and other pages as bytes, and changes of them.
 
-ghost use Rattle.std.specs.Prelude.{◌≡◌, ◌≤◌, IfOk, length};
+ghost use Rattle.std.specs.Prelude.{◌≡◌, ◌≤◌, ◌<◌, IfOk, length};
 ghost use Rattle.spool_journal.specs.Image.{journal_pages, InArea};
 
 use crate::disks::{byte_at, disk_of};
 use spool_disk::{Crash, Disk, DiskFault, MemoryDisk};
 use spool_journal::{Layout, PAGE, Pages, commit};
 use spool_pages::{
-    Damaged, RECORD, SlotRecord, blocks_said, change, fill_rows, first_page, pages_of_change,
-    pages_of_new, row_at, row_page, state_page, version_and_next,
+    Damaged, RECORD, SlotRecord, blocks_said, change, fill_rows, first_page,
+    is_blank_behind_fields, pages_of_change, pages_of_new, row_at, row_page, state_page,
+    version_and_next,
 };
 use std::alloc::{AllocError, Global};
 use std::test::Fail;
@@ -47,7 +48,31 @@ fn record_is_read_as_it_was_written(rt: HostRuntime) -> Result<(), Fail> {
         _ => panic!(rt; "no record"),
     }
     assert!(rt; matches!(SlotRecord::from_bytes(&[0; RECORD]), Ok(None)));
-    assert!(rt; matches!(SlotRecord::from_bytes(&[7; RECORD]), Err(Damaged)));
+    Ok(())
+}
+
+/// Whether a slot whose bytes are these but for one is damaged.
+fn is_damaged(mut bytes: [u8; RECORD], at: usize, byte: u8) -> bool
+    requires { at < 2048 }
+{
+    bytes[at] = byte;
+    matches!(SlotRecord::from_bytes(&bytes), Err(Damaged))
+}
+
+#[test]
+fn bytes_that_nothing_writes_are_damaged(rt: HostRuntime) -> Result<(), Fail> {
+    assert!(rt; is_damaged([0; RECORD], 2047, 1), "a free slot");
+    let bytes = seventh(b"n").to_bytes();
+    assert!(rt; !is_damaged(bytes, 66, b'm'));
+    assert!(rt; is_damaged(bytes, 7, 0), "no number");
+    assert!(rt; is_damaged(bytes, 64, 6), "1,537 bytes of metadata");
+    assert!(rt; is_damaged(bytes, 67, 1), "behind the metadata");
+    assert!(rt; is_damaged(bytes, 2047, 1), "the last byte");
+    assert_eq!(rt; row_at(&[0, 0, 0, 0, 0, 0, 0, 1], 0), Err(Damaged));
+    let mut page = state_page(7);
+    assert!(rt; is_blank_behind_fields(&page));
+    page[12] = 1;
+    assert!(rt; !is_blank_behind_fields(&page));
     Ok(())
 }
 
@@ -55,9 +80,9 @@ fn record_is_read_as_it_was_written(rt: HostRuntime) -> Result<(), Fail> {
 fn pages_are_read_as_they_were_written(rt: HostRuntime) -> Result<(), Fail> {
     let page = row_page(&[None, Some((511, 65535))], 0);
     assert_eq!(rt; &page[8..16], [0, 0, 2, 0, 0, 0, 255, 255].as_slice());
-    assert_eq!(rt; row_at(&page, 0), None);
-    assert_eq!(rt; row_at(&page, 8), Some((511, 65535)));
-    assert_eq!(rt; row_at(&page, 4088), None);
+    assert_eq!(rt; row_at(&page, 0), Ok(None));
+    assert_eq!(rt; row_at(&page, 8), Ok(Some((511, 65535))));
+    assert_eq!(rt; row_at(&page, 4088), Ok(None));
     assert_eq!(rt; version_and_next(&state_page(7)), (1, 7));
     let mut front = [0; 12];
     front.copy_from_slice(&first_page(65536)[..12]);

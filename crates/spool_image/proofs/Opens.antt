@@ -1,5 +1,6 @@
 -- Steps of opening a spool.
-use Rattle.std.proofs.Common.{◌≡◌, inl, inr, ℕ, ◌+◌, ◌*◌, ◌<◌, ◌≤◌, get_or, Result, Ok, Err, IfOk, refl, sym, ◌∙◌, subst, arith}
+use Rattle.std.proofs.Common.{◌≡◌, inl, inr, ℕ, ◌+◌, ◌*◌, ◌<◌, ◌≤◌, get_or, Result, Ok, Err, IfOk, refl, sym, ◌∙◌}
+use Rattle.std.proofs.Common.{subst, arith}
 use Rattle.std.proofs.lemmas.Bool.{cases_eq}
 use Rattle.spool_disk.specs.Disk.{IsImage, Keeps}
 use Rattle.spool_disk.specs.declared.disk.Disk.{Ghosts}
@@ -18,20 +19,25 @@ pub same_function : (f g : ℕ → ℕ) → ((p : ℕ) → f p ≡ g p) → f �
 same_function f g same = λ i p. same p i
 
 -- page 0 is never one of the journal's places
-pub front_plain : (j : ℕ) (image : ℕ → ℕ) → (image 4096 ≡ 165 → InForm j (count image) (number image)) → (p : ℕ) → p < 4096 → image p ≡ overlaid image p
+pub front_plain : (j : ℕ) (image : ℕ → ℕ) → (image 4096 ≡ 165 → InForm j (count image) (number image)) → (p : ℕ)
+    → p < 4096 → image p ≡ overlaid image p
 front_plain j image form p lt = elim (cases_eq (image 4096) 165) [
   | inl ajar ↦
-      sym (open_view image p ajar ∙ over_none (number image) (content image) image (count image) p (λ k below e. omega (arith, ((form ajar).inside k below).from, e, lt)))
+      sym (open_view image p ajar ∙ over_none (number image) (content image) image (count image) p
+      (λ k below e. omega (arith, ((form ajar).inside k below).from, e, lt)))
   | inr shut ↦ sym (shut_view image p shut)
 ]
 
-pub first_plain : (image : ℕ → ℕ) (v : View) → IsViewOf image v → (i : ℕ) → i < 4096 → image i ≡ get_or (first_page v.blocks) i 0
+pub first_plain : (image : ℕ → ℕ) (v : View) → IsViewOf image v → (i : ℕ) → i < 4096
+    → image i ≡ get_or (first_page v.blocks) i 0
 first_plain image v is i lt =
     let at : 0 + i ≡ i = omega arith in
-    let there : overlaid image i ≡ get_or (first_page v.blocks) i 0 = subst (λ (p : ℕ). overlaid image p ≡ get_or (first_page v.blocks) i 0) at (is.says.first.each i lt) in
+    let there : overlaid image i ≡ get_or (first_page v.blocks) i 0 =
+    subst (λ (p : ℕ). overlaid image p ≡ get_or (first_page v.blocks) i 0) at (is.says.first.each i lt) in
     front_plain (journal_pages v.blocks) image is.form i lt ∙ there
 
-pub view_says_blocks : (size : ℕ) (image : ℕ → ℕ) (v : View) → IsSound v → IsViewOf image v → 4096 * all_pages v.blocks ≤ size → SaysBlocks size image v.blocks
+pub view_says_blocks : (size : ℕ) (image : ℕ → ℕ) (v : View) → IsSound v → IsViewOf image v
+    → 4096 * all_pages v.blocks ≤ size → SaysBlocks size image v.blocks
 view_says_blocks size image v sound is room = record {
   least = sound.least;
   most = sound.most;
@@ -40,10 +46,12 @@ view_says_blocks size image v sound is room = record {
 }
 
 -- where the bytes are the same and none is loose, nothing was written
-pub still_as : {seen seen' : ℕ → ℕ} {loose loose' : ℕ → Type 0} → Still seen seen' loose' → Keeps seen seen' loose loose'
+pub still_as : {seen seen' : ℕ → ℕ} {loose loose' : ℕ → Type 0} → Still seen seen' loose'
+    → Keeps seen seen' loose loose'
 still_as still = record { same = still.reads; loosens = λ p l. absurd (still.firm p l) }
 
-pub still_as_image : {seen : ℕ → ℕ} {loose : ℕ → Type 0} (image : ℕ → ℕ) → ((p : ℕ) → image p ≡ seen p) → IsImage seen loose image
+pub still_as_image : {seen : ℕ → ℕ} {loose : ℕ → Type 0} (image : ℕ → ℕ) → ((p : ℕ) → image p ≡ seen p)
+    → IsImage seen loose image
 still_as_image image same = record { same = λ p firm. same p }
 
 pub keeps_on : {a b c : ℕ → ℕ} {la lb lc : ℕ → Type 0} → Keeps a b la lb → Keeps b c lb lc → Keeps a c la lc
@@ -53,13 +61,16 @@ keeps_on first then = record {
 }
 
 -- behind a recovery
-pub settled_still : {j : ℕ} {bytes seen : ℕ → ℕ} {loose : ℕ → Type 0} → Settled j bytes seen loose → Still seen seen loose
+pub settled_still : {j : ℕ} {bytes seen : ℕ → ℕ} {loose : ℕ → Type 0} → Settled j bytes seen loose
+    → Still seen seen loose
 settled_still settled = record { reads = λ p. refl; firm = settled.firm }
 
-pub settled_says : {bytes seen : ℕ → ℕ} {loose : ℕ → Type 0} (v : View) → Settled (journal_pages v.blocks) bytes seen loose → Says bytes v → Says seen v
+pub settled_says : {bytes seen : ℕ → ℕ} {loose : ℕ → Type 0} (v : View)
+    → Settled (journal_pages v.blocks) bytes seen loose → Says bytes v → Says seen v
 settled_says {bytes = bytes} {seen = seen} v settled says = says_same seen bytes v settled.same says
 
-pub settled_reads : {j : ℕ} {bytes seen : ℕ → ℕ} {loose : ℕ → Type 0} (image : ℕ → ℕ) → Settled j bytes seen loose → ((p : ℕ) → image p ≡ seen p) → ReadsAs j image bytes
+pub settled_reads : {j : ℕ} {bytes seen : ℕ → ℕ} {loose : ℕ → Type 0} (image : ℕ → ℕ) → Settled j bytes seen loose
+    → ((p : ℕ) → image p ≡ seen p) → ReadsAs j image bytes
 settled_reads image settled same =
     let shut : image 4096 ≡ 165 → ⊥ = λ ajar. settled.closed (sym (same 4096) ∙ ajar) in
     record {
@@ -67,7 +78,8 @@ settled_reads image settled same =
       same = λ p outside. shut_view image p shut ∙ same p ∙ settled.same p outside;
     }
 
-pub settled_on : {j : ℕ} {bytes seen seen' : ℕ → ℕ} {loose loose' : ℕ → Type 0} → Settled j bytes seen loose → Still seen seen' loose' → Settled j bytes seen' loose'
+pub settled_on : {j : ℕ} {bytes seen seen' : ℕ → ℕ} {loose loose' : ℕ → Type 0} → Settled j bytes seen loose
+    → Still seen seen' loose' → Settled j bytes seen' loose'
 settled_on settled still = record {
   firm = still.firm;
   closed = λ ajar. settled.closed (sym (still.reads 4096) ∙ ajar);
@@ -75,7 +87,8 @@ settled_on settled still = record {
 }
 
 -- what reads the same shows the same
-pub reads_shows : (image was : ℕ → ℕ) (v : View) → IsViewOf was v → ReadsAs (journal_pages v.blocks) image (overlaid was) → IsViewOf image v
+pub reads_shows : (image was : ℕ → ℕ) (v : View) → IsViewOf was v
+    → ReadsAs (journal_pages v.blocks) image (overlaid was) → IsViewOf image v
 reads_shows image was v is reads = record {
   form = reads.form;
   says = says_same (overlaid image) (overlaid was) v reads.same is.says;
@@ -91,7 +104,8 @@ image_shows n m image was shown reads = record {
 }
 
 -- and the disk has room for its view
-pub view_room : {D : Type 0} (disk : Ghosts D) (d : D) (n : ℕ) (m : Store) (is : IsSpool disk d n m) → 4096 * all_pages is.shows.view.blocks ≤ disk.size d
+pub view_room : {D : Type 0} (disk : Ghosts D) (d : D) (n : ℕ) (m : Store) (is : IsSpool disk d n m)
+    → 4096 * all_pages is.shows.view.blocks ≤ disk.size d
 view_room disk d n m is = subst (λ (k : ℕ). 4096 * all_pages k ≤ disk.size d) (sym is.shows.blocks) is.room
 
 pub if_ok : {T E X : Type 0} (r : Result T E) → X → IfOk r (λ t. X)
@@ -99,5 +113,6 @@ if_ok (Ok t) x = x
 if_ok (Err e) x = tt
 
 -- a read before it changes nothing of this
-pub keeps_image : {seen seen' image : ℕ → ℕ} {loose loose' : ℕ → Type 0} → Keeps seen seen' loose loose' → IsImage seen' loose' image → IsImage seen loose image
+pub keeps_image : {seen seen' image : ℕ → ℕ} {loose loose' : ℕ → Type 0} → Keeps seen seen' loose loose'
+    → IsImage seen' loose' image → IsImage seen loose image
 keeps_image keeps is = record { same = λ p firm. is.same p (λ l. firm (keeps.loosens p l)) ∙ keeps.same p }

@@ -1,5 +1,6 @@
 -- Why a disk is refused: at most one reason holds, and none of a sound spool.
-use Rattle.std.proofs.Common.{◌≡◌, ◌⊎◌, inl, inr, ℕ, ◌+◌, ◌*◌, ◌^◌, ◌<◌, ◌≤◌, ◌++◌, get_or, Result, Ok, Err, IfErr, refl, sym, ◌∙◌, ap, subst, arith}
+use Rattle.std.proofs.Common.{◌≡◌, ◌⊎◌, inl, inr, ℕ, ◌+◌, ◌*◌, ◌^◌, ◌<◌, ◌≤◌, ◌++◌, get_or, Result, Ok, Err, IfErr}
+use Rattle.std.proofs.Common.{refl, sym, ◌∙◌, ap, subst, arith}
 use Rattle.std.specs.Int.{to_be_bytes, from_be_bytes, w32}
 use Rattle.std.proofs.lemmas.Nat.{from_be_bytes-to_be_bytes_4}
 use Rattle.spool_journal.specs.Image.{journal_pages, all_pages, overlaid}
@@ -15,26 +16,36 @@ use Rattle.spool_kept.specs.Loads.{LoadsAs, IsLate}
 use Rattle.spool_kept.specs.Shows.{IsSound}
 use Rattle.spool_image.specs.Loaded.{LoadedFrom, OpenedFrom}
 use Rattle.spool_image.specs.Reads.{SaysBlocks}
-use Rattle.spool_image.specs.Refusals.{HasJournal, IsFirstVersion, IsNoSpool, HasOtherVersion, IsDamaged, RefusedAt, TellsOfVersion, RefusedFor}
+use Rattle.spool_image.specs.Refusals.{HasJournal, IsFirstVersion, IsNoSpool, HasOtherVersion, IsDamaged, RefusedAt}
+use Rattle.spool_image.specs.Refusals.{TellsOfVersion, RefusedFor}
 use Rattle.spool_image.proofs.Opens.{front_plain, view_says_blocks}
 
 -- NUMBERS IN FOUR BYTES
 
-pub number_one : (f : ℕ → ℕ) (at n m : ℕ) → n < 2 ^ 32 → m < 2 ^ 32 → Stands f at 4 (to_be_bytes w32 n) → Stands f at 4 (to_be_bytes w32 m) → n ≡ m
+pub number_one : (f : ℕ → ℕ) (at n m : ℕ) → n < 2 ^ 32 → m < 2 ^ 32 → Stands f at 4 (to_be_bytes w32 n)
+    → Stands f at 4 (to_be_bytes w32 m) → n ≡ m
 number_one f at n m fits fits' a b =
-    sym (from_be_bytes-to_be_bytes_4 n fits) ∙ ap (from_be_bytes w32) (sym (four_at f at n a) ∙ four_at f at m b) ∙ from_be_bytes-to_be_bytes_4 m fits'
+    sym (from_be_bytes-to_be_bytes_4 n fits) ∙ ap (from_be_bytes w32) (sym (four_at f at n a) ∙ four_at f at m b)
+    ∙ from_be_bytes-to_be_bytes_4 m fits'
 
 number_stands : (size : ℕ) (seen : ℕ → ℕ) (n : ℕ) → SaysBlocks size seen n → Stands seen 8 4 (to_be_bytes w32 n)
 unfolding first_page
 number_stands size seen n says =
-    let whole : Stands seen 0 12 (magic ++ to_be_bytes w32 n) = record { each = λ i lt. let at : i ≡ 0 + i = omega arith in subst (λ (p : ℕ). seen p ≡ get_or (magic ++ to_be_bytes w32 n) i 0) at (says.front i lt) } in
+    let whole : Stands seen 0 12 (magic ++ to_be_bytes w32 n) = record {
+      each = λ i lt.
+          let at : i ≡ 0 + i = omega arith in
+          subst (λ (p : ℕ). seen p ≡ get_or (magic ++ to_be_bytes w32 n) i 0) at (says.front i lt);
+    } in
     stands_behind magic (to_be_bytes w32 n) 8 4 refl (omega arith) whole
 
 -- a disk says one number of blocks
 pub says_one : (size : ℕ) (seen : ℕ → ℕ) (n m : ℕ) → SaysBlocks size seen n → SaysBlocks size seen m → n ≡ m
-says_one size seen n m a b = number_one seen 8 n m (omega (arith, a.most)) (omega (arith, b.most)) (number_stands size seen n a) (number_stands size seen m b)
+says_one size seen n m a b =
+    number_one seen 8 n m (omega (arith, a.most)) (omega (arith, b.most)) (number_stands size seen n a)
+    (number_stands size seen m b)
 
-pub version_stands : (f : ℕ → ℕ) (at size version next : ℕ) → 4 ≤ size → Stands f at size (state_page version next) → Stands f at 4 (to_be_bytes w32 version)
+pub version_stands : (f : ℕ → ℕ) (at size version next : ℕ) → 4 ≤ size → Stands f at size (state_page version next)
+    → Stands f at 4 (to_be_bytes w32 version)
 unfolding state_page
 version_stands f at size version next room stands = stands_front (to_be_bytes w32 version) _ 4 refl room stands
 
@@ -56,7 +67,8 @@ tells_late DiskFault first late = tt
 
 -- BEHIND A RECOVERY
 
-module _ (n : ℕ) (old seen : ℕ → ℕ) (loose : ℕ → Type 0) (settled : Settled (journal_pages n) (overlaid old) seen loose) (journal : HasJournal n old) where
+module _ (n : ℕ) (old seen : ℕ → ℕ) (loose : ℕ → Type 0) (settled : Settled (journal_pages n) (overlaid old) seen loose)
+    (journal : HasJournal n old) where
   version_same : (i : ℕ) → seen (state_place n + i) ≡ overlaid old (state_place n + i)
   version_same i = let j = some_journal n in settled.same (state_place n + i) (inr (omega arith))
 
@@ -77,7 +89,8 @@ module _ (n : ℕ) (old seen : ℕ → ℕ) (loose : ℕ → Type 0) (settled : 
         settled.same i (inl inside) ∙ sym (front_plain (journal_pages n) old journal i inside) ∙ says.front i lt;
   }
 
-  pub opened_on : (size : ℕ) (kept : Holding) → SaysBlocks size old n → LoadedFrom seen n kept → OpenedFrom size old kept
+  pub opened_on : (size : ℕ) (kept : Holding) → SaysBlocks size old n → LoadedFrom seen n kept
+      → OpenedFrom size old kept
   opened_on size kept says loaded =
       let v = loaded.view in
       let J : ℕ → Type 0 = λ k. HasJournal k old in
@@ -96,16 +109,21 @@ module _ (n : ℕ) (old seen : ℕ → ℕ) (loose : ℕ → Type 0) (settled : 
 
 -- THE REASON OF A REFUSAL
 
-pub reason_of : {T : Type 0} (size : ℕ) (seen : ℕ → ℕ) (n : ℕ) (r : Result T OpenFault) (P : View → T → Type 0) → SaysBlocks size seen n
-    → ((v : View) → IsSound v → v.blocks ≡ n → IsViewOf seen v → LoadsAs r (P v)) → IfErr r (RefusedAt n seen) → IfErr r (RefusedFor size seen)
+pub reason_of : {T : Type 0} (size : ℕ) (seen : ℕ → ℕ) (n : ℕ) (r : Result T OpenFault) (P : View → T → Type 0)
+    → SaysBlocks size seen n
+    → ((v : View) → IsSound v → v.blocks ≡ n → IsViewOf seen v → LoadsAs r (P v)) → IfErr r (RefusedAt n seen)
+    → IfErr r (RefusedFor size seen)
 reason_of size seen n (Ok t) P says said refused = tt
 reason_of size seen n (Err NotASpool) P says said refused = absurd refused
-reason_of size seen n (Err Version) P says said refused = record { blocks = n; says = says; journal = refused.0; other = refused.1 }
-reason_of size seen n (Err Damaged) P says said refused = record { blocks = n; says = says; version = refused; no_view = λ v sound is e. said v sound e is }
+reason_of size seen n (Err Version) P says said refused =
+    record { blocks = n; says = says; journal = refused.0; other = refused.1 }
+reason_of size seen n (Err Damaged) P says said refused =
+    record { blocks = n; says = says; version = refused; no_view = λ v sound is e. said v sound e is }
 reason_of size seen n (Err NoMemory) P says said refused = tt
 reason_of size seen n (Err DiskFault) P says said refused = tt
 
-pub front_reason : {T : Type 0} (size : ℕ) (seen : ℕ → ℕ) (e : OpenFault) (P : ℕ → T → Type 0) → (e ≡ NotASpool) ⊎ (e ≡ DiskFault)
+pub front_reason : {T : Type 0} (size : ℕ) (seen : ℕ → ℕ) (e : OpenFault) (P : ℕ → T → Type 0)
+    → (e ≡ NotASpool) ⊎ (e ≡ DiskFault)
     → ((n : ℕ) → SaysBlocks size seen n → LoadsAs {T = T} (Err e) (P n)) → RefusedFor size seen e
 front_reason size seen NotASpool P one said = said
 front_reason size seen DiskFault P one said = tt
@@ -119,14 +137,16 @@ front_reason size seen Damaged P (inr e) said = absurd (cc)
 
 module _ (size : ℕ) (seen : ℕ → ℕ) where
   -- the version of a disk doesn't depend on how its number of blocks is named
-  first_at : (n m : ℕ) → SaysBlocks size seen n → SaysBlocks size seen m → IsFirstVersion n (overlaid seen) → IsFirstVersion m (overlaid seen)
+  first_at : (n m : ℕ) → SaysBlocks size seen n → SaysBlocks size seen m → IsFirstVersion n (overlaid seen)
+      → IsFirstVersion m (overlaid seen)
   first_at n m a b first = subst (λ (k : ℕ). IsFirstVersion k (overlaid seen)) (says_one size seen n m a b) first
 
   other_not_damaged : HasOtherVersion size seen → IsDamaged size seen → ⊥
   other_not_damaged other damaged =
       let e : other.blocks ≡ damaged.blocks = says_one size seen other.blocks damaged.blocks other.says damaged.says in
       let J : ℕ → Type 0 = λ k. HasJournal k seen in
-      other.other (first_at damaged.blocks other.blocks damaged.says other.says (damaged.version (subst J e other.journal)))
+      other.other (first_at damaged.blocks other.blocks damaged.says other.says
+      (damaged.version (subst J e other.journal)))
 
   module _ (kept : Holding) (opened : OpenedFrom size seen kept) where
     opened_says : SaysBlocks size seen opened.view.blocks
@@ -138,27 +158,35 @@ module _ (size : ℕ) (seen : ℕ → ℕ) where
     pub opened_is_first : HasOtherVersion size seen → ⊥
     opened_is_first other =
         let v = opened.view in
-        let stands = subst (λ (k : ℕ). Stands (overlaid seen) (state_place v.blocks) 4096 (state_page k v.next)) opened.sound.version opened.is.says.state in
-        other.other (first_at v.blocks other.blocks opened_says other.says (version_stands (overlaid seen) (state_place v.blocks) 4096 1 v.next (omega arith) stands))
+        let stands =
+        subst (λ (k : ℕ). Stands (overlaid seen) (state_place v.blocks) 4096 (state_page k v.next))
+        opened.sound.version opened.is.says.state in
+        other.other (first_at v.blocks other.blocks opened_says other.says
+        (version_stands (overlaid seen) (state_place v.blocks) 4096 1 v.next (omega arith) stands))
 
     pub opened_is_whole : IsDamaged size seen → ⊥
-    opened_is_whole damaged = damaged.no_view opened.view opened.sound opened.is (says_one size seen opened.view.blocks damaged.blocks opened_says damaged.says)
+    opened_is_whole damaged =
+        damaged.no_view opened.view opened.sound opened.is
+        (says_one size seen opened.view.blocks damaged.blocks opened_says damaged.says)
 
-  pub told_no_spool : (e : OpenFault) → RefusedFor size seen e → IsNoSpool size seen → (e ≡ NotASpool) ⊎ (e ≡ NoMemory) ⊎ (e ≡ DiskFault)
+  pub told_no_spool : (e : OpenFault) → RefusedFor size seen e → IsNoSpool size seen
+      → (e ≡ NotASpool) ⊎ (e ≡ NoMemory) ⊎ (e ≡ DiskFault)
   told_no_spool NotASpool reason none = inl refl
   told_no_spool NoMemory reason none = inr (inl refl)
   told_no_spool DiskFault reason none = inr (inr refl)
   told_no_spool Version reason none = absurd (none reason.blocks reason.says)
   told_no_spool Damaged reason none = absurd (none reason.blocks reason.says)
 
-  pub told_version : (e : OpenFault) → RefusedFor size seen e → HasOtherVersion size seen → (e ≡ Version) ⊎ (e ≡ NoMemory) ⊎ (e ≡ DiskFault)
+  pub told_version : (e : OpenFault) → RefusedFor size seen e → HasOtherVersion size seen
+      → (e ≡ Version) ⊎ (e ≡ NoMemory) ⊎ (e ≡ DiskFault)
   told_version Version reason other = inl refl
   told_version NoMemory reason other = inr (inl refl)
   told_version DiskFault reason other = inr (inr refl)
   told_version NotASpool reason other = absurd (reason other.blocks other.says)
   told_version Damaged reason other = absurd (other_not_damaged other reason)
 
-  pub told_damaged : (e : OpenFault) → RefusedFor size seen e → IsDamaged size seen → (e ≡ Damaged) ⊎ (e ≡ NoMemory) ⊎ (e ≡ DiskFault)
+  pub told_damaged : (e : OpenFault) → RefusedFor size seen e → IsDamaged size seen
+      → (e ≡ Damaged) ⊎ (e ≡ NoMemory) ⊎ (e ≡ DiskFault)
   told_damaged Damaged reason damaged = inl refl
   told_damaged NoMemory reason damaged = inr (inl refl)
   told_damaged DiskFault reason damaged = inr (inr refl)

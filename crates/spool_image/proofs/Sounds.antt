@@ -1,5 +1,6 @@
 -- A sound view, of what was read and what was checked of it.
-use Rattle.std.proofs.Common.{◌≡◌, ℕ, Bool, ◌-◌, ◌*◌, ◌≤◌, List, [], Option, None, Some, Result, Ok, Err, IfOk, OnOk, false, replicate, length, get_or, refl, subst, ap, arith}
+use Rattle.std.proofs.Common.{◌≡◌, ℕ, Bool, ◌-◌, ◌*◌, ◌≤◌, List, [], Option, None, Some, Result, Ok, Err, IfOk, OnOk}
+use Rattle.std.proofs.Common.{false, replicate, length, get_or, refl, subst, ap, arith}
 use Rattle.enc_model.specs.Indexes.{IndexSet}
 use Rattle.spool_blocks.specs.Chains.{OwnsOneEach}
 use Rattle.spool_journal.specs.Image.{journal_pages}
@@ -9,7 +10,7 @@ use Rattle.spool_pages.specs.Fits.{FitsSlotOf, FitsRow}
 use Rattle.spool_pages.specs.View.{SlotRecord, View, Says, text_page}
 use Rattle.spool_kept.specs.Holding.{AreDistinct}
 use Rattle.spool_kept.specs.Shows.{IsSound, IsSoundRecord, IsOwned}
-use Rattle.spool_image.specs.Checks.{AreSound, IsRowSound, AreRowsSound}
+use Rattle.spool_image.specs.Checks.{RecordsPass, RowPasses, RowsPass}
 use Rattle.spool_kept.specs.Holding.{Holding}
 use Rattle.spool_kept.specs.Kept.{KeepsAlone}
 use Rattle.spool_kept.specs.Loads.{LoadsAs}
@@ -19,7 +20,7 @@ use Rattle.spool_image.specs.Reads.{StandFields, StandSlots, StandRows}
 
 -- A SOUND VIEW PASSES
 
-pub sound_passes : (v : View) → IsSound v → AreSound v.next v.slots
+pub sound_passes : (v : View) → IsSound v → RecordsPass v.next v.slots
 sound_passes v sound = record {
   least = sound.next_least;
   most = sound.next_most;
@@ -28,14 +29,19 @@ sound_passes v sound = record {
       record { below = is.below; accepted = is.accepted; declared = is.declared; state = is.state };
 }
 
-pub sound_rows : (v : View) → IsSound v → AreRowsSound v.slots v.rows
+pub sound_rows : (v : View) → IsSound v → RowsPass v.slots v.rows
 sound_rows v sound b slot ordinal owns =
     let owned : IsOwned v slot ordinal = sound.owners b slot ordinal owns in
-    record { used = owned.used; there = owned.there; below = (sound.lists slot owned.used owned.there).only b ordinal owns }
+    record {
+      used = owned.used;
+      there = owned.there;
+      below = (sound.lists slot owned.used owned.there).only b ordinal owns;
+    }
 
 -- WHAT PASSES IS A SOUND VIEW
 
-module _ (bytes : ℕ → ℕ) (n next : ℕ) (x : IndexSet) (slots : List (Option SlotRecord)) (rows : List (Option (ℕ × ℕ))) where
+module _ (bytes : ℕ → ℕ) (n next : ℕ) (x : IndexSet) (slots : List (Option SlotRecord))
+    (rows : List (Option (ℕ × ℕ))) where
   abbrev shown_at : ℕ → Option SlotRecord → List ℕ
   shown_at s None = []
   shown_at s (Some r) = text_shown bytes (text_page n) rows s r.text_len
@@ -65,7 +71,8 @@ module _ (bytes : ℕ → ℕ) (n next : ℕ) (x : IndexSet) (slots : List (Opti
   slot_fits : StandSlots bytes n slots → (s : ℕ) (r : SlotRecord) → get_or slots s None ≡ Some r → FitsSlotOf (Some r)
   slot_fits stand s r e = subst FitsSlotOf e (stand.fit s)
 
-  record_sound : StandSlots bytes n slots → AreSound next slots → (s : ℕ) (r : SlotRecord) → get_or slots s None ≡ Some r → IsSoundRecord next r
+  record_sound : StandSlots bytes n slots → RecordsPass next slots → (s : ℕ) (r : SlotRecord)
+      → get_or slots s None ≡ Some r → IsSoundRecord next r
   record_sound stand are s r e =
       let fits = slot_fits stand s r e in
       let is = are.records s r e in
@@ -81,9 +88,11 @@ module _ (bytes : ℕ → ℕ) (n next : ℕ) (x : IndexSet) (slots : List (Opti
         printable = fits.1;
       }
 
-  pub read_sound : 16 ≤ n → n ≤ 65536 → StandFields bytes n next x → StandSlots bytes n slots → length slots ≡ 512 → length rows ≡ n
-      → AreSound next slots → AreRowsSound slots rows → ((b : ℕ) → FitsRow (get_or rows b None)) → AreDistinct slots
-      → ((s : ℕ) (r : SlotRecord) → get_or slots s None ≡ Some r → OwnsOneEach rows s (blocks_of r.text_len)) → IsSound view_read
+  pub read_sound : 16 ≤ n → n ≤ 65536 → StandFields bytes n next x → StandSlots bytes n slots → length slots ≡ 512
+      → length rows ≡ n
+      → RecordsPass next slots → RowsPass slots rows → ((b : ℕ) → FitsRow (get_or rows b None)) → AreDistinct slots
+      → ((s : ℕ) (r : SlotRecord) → get_or slots s None ≡ Some r → OwnsOneEach rows s (blocks_of r.text_len))
+      → IsSound view_read
   read_sound least most fields stand long wide are owned fit distinct lists = record {
     least = least;
     most = most;
@@ -96,17 +105,21 @@ module _ (bytes : ℕ → ℕ) (n next : ℕ) (x : IndexSet) (slots : List (Opti
     records = record_sound stand are;
     distinct = distinct;
     owners = λ b slot ordinal owns.
-        let is : IsRowSound slots slot ordinal = owned b slot ordinal owns in
+        let is : RowPasses slots slot ordinal = owned b slot ordinal owns in
         let fits : FitsRow (Some (slot, ordinal)) = subst FitsRow owns (fit b) in
         record { used = is.used; there = is.there; fits = fits.1 };
     lists = lists;
   }
 
   -- and so it is kept
-  pub read_loaded : (reserved : List Bool) (r : Result Holding OpenFault) → 16 ≤ n → n ≤ 65536 → StandFields bytes n next x → StandSlots bytes n slots → length slots ≡ 512
-      → length rows ≡ n → StandRows bytes n (512 * (journal_pages n - 257)) rows → AreSound next slots → AreRowsSound slots rows → ((b : ℕ) → FitsRow (get_or rows b None))
-      → reserved ≡ replicate n false → OnOk r (AreDistinct slots) → OnOk r ((s : ℕ) (q : SlotRecord) → get_or slots s None ≡ Some q → OwnsOneEach rows s (blocks_of q.text_len))
-      → ((v : View) → IsSound v → v.blocks ≡ n → next ≡ v.next → x ≡ v.indexes → slots ≡ v.slots → rows ≡ v.rows → reserved ≡ replicate v.blocks false → LoadsAs r (λ kept. KeepsAlone kept v))
+  pub read_loaded : (reserved : List Bool) (r : Result Holding OpenFault) → 16 ≤ n → n ≤ 65536
+      → StandFields bytes n next x → StandSlots bytes n slots → length slots ≡ 512
+      → length rows ≡ n → StandRows bytes n (512 * (journal_pages n - 257)) rows → RecordsPass next slots
+      → RowsPass slots rows → ((b : ℕ) → FitsRow (get_or rows b None))
+      → reserved ≡ replicate n false → OnOk r (AreDistinct slots)
+      → OnOk r ((s : ℕ) (q : SlotRecord) → get_or slots s None ≡ Some q → OwnsOneEach rows s (blocks_of q.text_len))
+      → ((v : View) → IsSound v → v.blocks ≡ n → next ≡ v.next → x ≡ v.indexes → slots ≡ v.slots → rows ≡ v.rows
+      → reserved ≡ replicate v.blocks false → LoadsAs r (λ kept. KeepsAlone kept v))
       → IfOk r (LoadedFrom bytes n)
   read_loaded reserved (Err e) least most fields stand long wide there are owned fit none distinct lists kept = tt
   read_loaded reserved (Ok h) least most fields stand long wide there are owned fit none distinct lists kept =

@@ -4,7 +4,7 @@ ghost use Rattle.std.specs.Prelude.{ℕ, IsTrue, true, false, Some, None, length
 ghost use Rattle.enc_model.specs.Transcode.{Phase};
 ghost use Rattle.enc_stream.specs.Progress.{progress_of};
 ghost use Rattle.spool_blocks.specs.Chains.{Owns};
-ghost use Rattle.spool_image.specs.Checks.{IsRecordSound, AreSound, IsRowSound, AreRowsSound};
+ghost use Rattle.spool_image.specs.Checks.{RecordPasses, RecordsPass, RowPasses, RowsPass};
 ghost use Rattle.spool_kept.specs.Shows.{FitsPhase, HasState};
 ghost use Rattle.spool_kept.specs.Records.{said_of};
 ghost use Rattle.spool_pages.specs.Fits.{FitsRow};
@@ -41,7 +41,7 @@ fn is_state_sound(record: &Record) -> bool
 
 // Whether a record's numbers and its state may be there.
 fn is_record_sound(record: &Record, next: u64) -> bool
-    ensures { IsTrue result ↔ IsRecordSound next (said_of «record».now) }
+    ensures { IsTrue result ↔ RecordPasses next (said_of «record».now) }
 {
     record.number < next
         && record.accepted <= record.declared
@@ -52,7 +52,7 @@ fn is_record_sound(record: &Record, next: u64) -> bool
 // Whether a slot is free, or its record is one that may be there.
 fn is_sound_at(slots: &[Option<KeptRecord>], slot: usize, next: u64) -> bool
     requires { slot < length slots.now }
-    ensures { IsTrue result ↔ ((r : SlotRecord) → get_or slots.now slot None ≡ Some r → IsRecordSound next r) }
+    ensures { IsTrue result ↔ ((r : SlotRecord) → get_or slots.now slot None ≡ Some r → RecordPasses next r) }
 {
     match record_at(slots, slot) {
         Some(kept) => is_record_sound(kept.record(), next),
@@ -64,7 +64,7 @@ fn is_sound_at(slots: &[Option<KeptRecord>], slot: usize, next: u64) -> bool
 /// accepted bytes are no more than the declared ones, which are at most 1,073,741,824, and the state is that of a
 /// transcoder that has come so far.
 pub(crate) fn are_sound(slots: &[Option<KeptRecord>], next: u64) -> bool
-    ensures { IsTrue result ↔ AreSound next slots.now }
+    ensures { IsTrue result ↔ RecordsPass next slots.now }
 {
     if next < 1 || next > NUMBERS_END {
         return false;
@@ -80,7 +80,7 @@ pub(crate) fn are_sound(slots: &[Option<KeptRecord>], next: u64) -> bool
 // Whether a row's slot is in use, and its ordinal below the number of blocks of the text.
 fn is_row_sound(slots: &[Option<KeptRecord>], row: Row) -> bool
     ensures sound { IsTrue result
-        ↔ ((slot ordinal : ℕ) → row ≡ Some (slot, ordinal) → IsRowSound slots.now slot ordinal) }
+        ↔ ((slot ordinal : ℕ) → row ≡ Some (slot, ordinal) → RowPasses slots.now slot ordinal) }
     ensures slot { result ≡ true → (slot ordinal : ℕ) → row ≡ Some (slot, ordinal) → slot < length slots.now }
     ensures fits { result ≡ true → length slots.now ≡ 512 → FitsRow row }
 {
@@ -96,7 +96,7 @@ fn is_row_sound(slots: &[Option<KeptRecord>], row: Row) -> bool
 /// Whether each row's slot is in use, and its ordinal below the number of blocks of the text.
 pub(crate) fn are_rows_sound(slots: &[Option<KeptRecord>], rows: &[Row]) -> bool
     requires { length slots.now ≡ 512 }
-    ensures sound { IsTrue result ↔ AreRowsSound slots.now rows.now }
+    ensures sound { IsTrue result ↔ RowsPass slots.now rows.now }
     ensures slots { result ≡ true → (b slot ordinal : ℕ) → Owns rows.now b slot ordinal → slot < 512 }
     ensures fits { result ≡ true → (b : ℕ) → FitsRow (get_or rows.now b None) }
 {

@@ -4,7 +4,7 @@ ghost use Rattle.std.specs.Prelude.{ℕ, Err, None, false, replicate, length, ge
 ghost use Rattle.spool_disk.specs.Disk.{Counts};
 ghost use Rattle.spool_journal.specs.Image.{all_pages, journal_pages};
 ghost use Rattle.spool_journal.specs.Phases.{Still};
-ghost use Rattle.spool_image.specs.Checks.{AreRowsSound};
+ghost use Rattle.spool_image.specs.Checks.{RowsPass};
 ghost use Rattle.spool_image.specs.Loaded.{LoadedFrom};
 ghost use Rattle.spool_image.specs.Reads.{OnlyReads, SaysBlocks, StandFields, StandRows};
 ghost use Rattle.spool_image.specs.Refusals.{IsFirstVersion, TellsOfVersion};
@@ -69,7 +69,7 @@ fn load_blocks<D: Disk>(
         → LoadsAs result (λ blocks. (blocks.rows ≡ v.rows) × (blocks.reserved ≡ replicate v.blocks false)) }
     ensures sound { D.honest disk.old → (bytes : ℕ → ℕ) → Still bytes (D.seen disk.old) (D.loose disk.old)
         → IfOk result (λ blocks. StandRows bytes layout.now (512 * (journal_pages layout.now - 257)) blocks.rows) }
-    ensures owners { IfOk result (λ blocks. AreRowsSound slots.now blocks.rows) }
+    ensures owners { IfOk result (λ blocks. RowsPass slots.now blocks.rows) }
     ensures reserved { IfOk result (λ blocks. blocks.reserved ≡ replicate layout.now false) }
     ensures late { IfErr result IsLate }
 {

@@ -1,5 +1,6 @@
 -- Zeros behind what stands at the front of a page.
-use Rattle.std.proofs.Common.{◌≡◌, inl, inr, ℕ, ◌+◌, ◌-◌, ◌≤◌, List, [], length, get_or, take, drop, sym, ◌∙◌, subst, arith}
+use Rattle.std.proofs.Common.{◌≡◌, ℕ, ◌+◌, ◌-◌, ◌≤◌, List, [], length, get_or, take, drop}
+use Rattle.std.proofs.Common.{inl, inr, sym, ◌∙◌, subst, arith}
 use Rattle.std.proofs.Math.ListN.{get_or-eq_default, length-take}
 use Rattle.std.proofs.lemmas.Bool.{cases_lt}
 use Rattle.std.proofs.lemmas.List.{get_or-take, get_or-drop}
@@ -21,7 +22,9 @@ module _ (page : List ℕ) (n m : ℕ) (all : n + m ≡ length page) where
     pub with_blank_rest : Stands (byte_of page) 0 n xs → IsPadded (take m (drop n page)) [] → IsPadded page xs
     with_blank_rest front rest = record {
       each = λ i. elim (cases_lt i n) [
-        | inl below ↦ let at : 0 + i ≡ i = omega arith in subst (λ (p : ℕ). get_or page p 0 ≡ get_or xs i 0) at (front.each i below)
+        | inl below ↦
+            let at : 0 + i ≡ i = omega arith in
+            subst (λ (p : ℕ). get_or page p 0 ≡ get_or xs i 0) at (front.each i below)
         | inr from ↦
             let at : n + (i - n) ≡ i = omega (arith, from) in
             let here : get_or page (n + (i - n)) 0 ≡ 0 = sym (rest_byte (i - n)) ∙ rest.each (i - n) in
@@ -34,10 +37,15 @@ module _ (page : List ℕ) (n m : ℕ) (all : n + m ≡ length page) where
       each = λ i. rest_byte i ∙ padded.each (n + i) ∙ get_or-eq_default xs 0 (omega (arith, long));
     }
 
-pub padded_of_stands : (page xs : List ℕ) (size : ℕ) → length page ≡ size → length xs ≤ size → Stands (byte_of page) 0 size xs → IsPadded page xs
+pub padded_of_stands : (page xs : List ℕ) (size : ℕ) → length page ≡ size → length xs ≤ size
+    → Stands (byte_of page) 0 size xs → IsPadded page xs
 padded_of_stands page xs size full few stands = record {
   each = λ i. elim (cases_lt i size) [
-    | inl below ↦ let at : 0 + i ≡ i = omega arith in subst (λ (p : ℕ). get_or page p 0 ≡ get_or xs i 0) at (stands.each i below)
-    | inr from ↦ get_or-eq_default page 0 (omega (arith, from, full)) ∙ sym (get_or-eq_default xs 0 (omega (arith, from, few)))
+    | inl below ↦
+        let at : 0 + i ≡ i = omega arith in
+        subst (λ (p : ℕ). get_or page p 0 ≡ get_or xs i 0) at (stands.each i below)
+    | inr from ↦
+        get_or-eq_default page 0 (omega (arith, from, full))
+        ∙ sym (get_or-eq_default xs 0 (omega (arith, from, few)))
   ];
 }

@@ -1,5 +1,6 @@
 -- The bytes of a row.
-use Rattle.std.proofs.Common.{◌≡◌, ℕ, ◌+◌, ◌<◌, ◌≤◌, ◌++◌, List, Option, Some, None, length, get_or, replicate, refl, sym, ◌∙◌, subst, arith}
+use Rattle.std.proofs.Common.{◌≡◌, ℕ, ◌+◌, ◌<◌, ◌≤◌, ◌++◌, List, Option, Some, None, length, get_or, replicate, refl}
+use Rattle.std.proofs.Common.{sym, ◌∙◌, subst, arith}
 use Rattle.std.specs.Int.{to_be_bytes, w32}
 use Rattle.spool_disk.specs.Disk.{In}
 use Rattle.spool_journal.specs.Image.{byte_of}
@@ -8,7 +9,8 @@ use Rattle.spool_pages.specs.View.{Stands, row_bytes}
 use Rattle.spool_pages.proofs.Bytes.{padded_zeros}
 use Rattle.spool_pages.proofs.RecordBytes.{stands_front, stands_behind, stands_both}
 
-pub owned_is : (slot ordinal : ℕ) → to_be_bytes w32 (slot + 1) ++ to_be_bytes w32 ordinal ≡ row_bytes (Some (slot, ordinal))
+pub owned_is : (slot ordinal : ℕ)
+    → to_be_bytes w32 (slot + 1) ++ to_be_bytes w32 ordinal ≡ row_bytes (Some (slot, ordinal))
 unfolding row_bytes
 owned_is slot ordinal = refl
 
@@ -17,11 +19,13 @@ unfolding row_bytes
 free_padded = padded_zeros 8
 
 module _ (f : ℕ → ℕ) (at : ℕ) where
-  pub slot_at : (slot ordinal : ℕ) → Stands f at 8 (row_bytes (Some (slot, ordinal))) → Stands f at 4 (to_be_bytes w32 (slot + 1))
+  pub slot_at : (slot ordinal : ℕ) → Stands f at 8 (row_bytes (Some (slot, ordinal)))
+      → Stands f at 4 (to_be_bytes w32 (slot + 1))
   unfolding row_bytes
   slot_at slot ordinal stands = stands_front (to_be_bytes w32 (slot + 1)) _ 4 refl (omega arith) stands
 
-  pub ordinal_at : (slot ordinal : ℕ) → Stands f at 8 (row_bytes (Some (slot, ordinal))) → Stands f (at + 4) 4 (to_be_bytes w32 ordinal)
+  pub ordinal_at : (slot ordinal : ℕ) → Stands f at 8 (row_bytes (Some (slot, ordinal)))
+      → Stands f (at + 4) 4 (to_be_bytes w32 ordinal)
   unfolding row_bytes
   ordinal_at slot ordinal stands = stands_behind (to_be_bytes w32 (slot + 1)) _ 4 4 refl (omega arith) stands
 
@@ -37,18 +41,30 @@ module _ (f : ℕ → ℕ) (at : ℕ) where
         subst (λ (p : ℕ). f p ≡ 0) there (stands.each (4 + i) (omega (arith, lt))) ∙ sym ((padded_zeros 4).each i);
   }
 
-  pub free_of_zeros : Stands f at 4 (to_be_bytes w32 0) → Stands f (at + 4) 4 (to_be_bytes w32 0) → Stands f at 8 (row_bytes None)
+  pub free_of_zeros : Stands f at 4 (to_be_bytes w32 0) → Stands f (at + 4) 4 (to_be_bytes w32 0)
+      → Stands f at 8 (row_bytes None)
   unfolding row_bytes
   free_of_zeros slot ordinal = record {
-    each = λ i lt. (stands_both (to_be_bytes w32 0) (to_be_bytes w32 0) 4 4 refl slot ordinal).each i lt ∙ (padded_zeros 8).each i;
+    each = λ i lt.
+        (stands_both (to_be_bytes w32 0) (to_be_bytes w32 0) 4 4 refl slot ordinal).each i lt
+        ∙ (padded_zeros 8).each i;
   }
 
-  pub owned_at : (slot ordinal : ℕ) → Stands f at 4 (to_be_bytes w32 (slot + 1)) → Stands f (at + 4) 4 (to_be_bytes w32 ordinal) → Stands f at 8 (row_bytes (Some (slot, ordinal)))
-  owned_at slot ordinal first second = subst (λ (xs : List ℕ). Stands f at 8 xs) (owned_is slot ordinal) (stands_both (to_be_bytes w32 (slot + 1)) _ 4 4 refl first second)
+  pub owned_at : (slot ordinal : ℕ) → Stands f at 4 (to_be_bytes w32 (slot + 1))
+      → Stands f (at + 4) 4 (to_be_bytes w32 ordinal) → Stands f at 8 (row_bytes (Some (slot, ordinal)))
+  owned_at slot ordinal first second =
+      subst (λ (xs : List ℕ). Stands f at 8 xs) (owned_is slot ordinal)
+      (stands_both (to_be_bytes w32 (slot + 1)) _ 4 4 refl first second)
 
 -- a row put into a page
-pub row_there : (new bytes : List ℕ) (at : ℕ) (row : Option (ℕ × ℕ)) → ((k : ℕ) → k < length bytes → get_or new (at + k) 0 ≡ get_or bytes k 0) → length bytes ≡ 8 → IsPadded bytes (row_bytes row) → Stands (byte_of new) at 8 (row_bytes row)
-row_there new bytes at row inside long padded = record { each = λ i lt. inside i (omega (arith, lt, long)) ∙ padded.each i }
+pub row_there : (new bytes : List ℕ) (at : ℕ) (row : Option (ℕ × ℕ))
+    → ((k : ℕ) → k < length bytes → get_or new (at + k) 0 ≡ get_or bytes k 0) → length bytes ≡ 8
+    → IsPadded bytes (row_bytes row) → Stands (byte_of new) at 8 (row_bytes row)
+row_there new bytes at row inside long padded =
+    record { each = λ i lt. inside i (omega (arith, lt, long)) ∙ padded.each i }
 
-pub row_else : (page new bytes : List ℕ) (at other : ℕ) (row : Option (ℕ × ℕ)) → ((p : ℕ) → (In at (length bytes) p → ⊥) → get_or new p 0 ≡ get_or page p 0) → length bytes ≡ 8 → other + 8 ≤ at → Stands (byte_of page) other 8 (row_bytes row) → Stands (byte_of new) other 8 (row_bytes row)
-row_else page new bytes at other row outside long apart stands = record { each = λ i lt. outside (other + i) (λ within. omega (arith, within.from, apart, lt)) ∙ stands.each i lt }
+pub row_else : (page new bytes : List ℕ) (at other : ℕ) (row : Option (ℕ × ℕ))
+    → ((p : ℕ) → (In at (length bytes) p → ⊥) → get_or new p 0 ≡ get_or page p 0) → length bytes ≡ 8 → other + 8 ≤ at
+    → Stands (byte_of page) other 8 (row_bytes row) → Stands (byte_of new) other 8 (row_bytes row)
+row_else page new bytes at other row outside long apart stands =
+    record { each = λ i lt. outside (other + i) (λ within. omega (arith, within.from, apart, lt)) ∙ stands.each i lt }

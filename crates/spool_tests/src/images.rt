@@ -222,7 +222,7 @@ fn damaged_uploads_are_refused(rt: HostRuntime) -> Result<(), Fail> {
     // behind the closed gate a head with a page more than the journal has
     assert_eq!(rt; put(&mut disk, 8192, &[0, 0, 1, 3]), Ok(()));
     for (at, byte) in [
-        // the gate opened; a byte behind the fields of page 0 and of the state page, and behind the tables of the index area
+        // the gate opened; a byte behind the fields of page 0 and of the state page, and behind the index area's tables
         (4096, 0xA5),
         (12, 1),
         (283 * 4096 + 12, 1),

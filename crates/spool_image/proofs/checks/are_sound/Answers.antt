@@ -6,7 +6,8 @@ use Rattle.spool_image.proofs.checks.are_sound.Goals as goal
 pub returns-then-not-is_sound_at : goal.returns-then-not-is_sound_at
 returns-then-not-is_sound_at c = (
   λ yes. absurd (false≢true yes),
-  λ are. absurd (false≢true (sym c.if-not-is_sound_at.true ∙ c.is_sound_at.ensures.1 (λ r there. are.records c.loop-slot.slot r there))),
+  λ are. absurd (false≢true
+      (sym c.if-not-is_sound_at.true ∙ c.is_sound_at.ensures.1 (λ r there. are.records c.loop-slot.slot r there))),
 )
 
 pub loop-slot-preserved : goal.loop-slot-preserved
@@ -22,7 +23,9 @@ returns c = (
   λ yes. record {
     least = c.if-next-lt1.false;
     most = c.if-next-gt-NUMBERS_END.false;
-    records = λ s r there. let used = in_use c.args.slots.now s r there in c.loop-slot.invariant s r (omega (arith, used, c.loop-slot-test.false)) there;
+    records =
+        λ s r there. let used = in_use c.args.slots.now s r there in c.loop-slot.invariant s r
+        (omega (arith, used, c.loop-slot-test.false)) there;
   },
   λ are. refl,
 )

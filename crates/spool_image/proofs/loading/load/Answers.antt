@@ -4,7 +4,7 @@ use Rattle.spool_kept.specs.Kept.{KeepsAlone}
 use Rattle.spool_kept.specs.Holding.{Holding}
 use Rattle.spool_disk.proofs.Firm.{counts_on}
 use Rattle.spool_pages.specs.View.{SlotRecord}
-use Rattle.spool_image.specs.Checks.{AreSound}
+use Rattle.spool_image.specs.Checks.{RecordsPass}
 use Rattle.spool_image.proofs.Refused.{tells_late}
 use Rattle.spool_image.proofs.Sounds.{sound_passes, read_loaded}
 use Rattle.spool_image.proofs.Looks.{if_err_more, reads_on, loads_err, ok_no_fault}
@@ -18,7 +18,9 @@ returns-in_err-slots-clause-reads g c = reads_on c.load_fields.ensures.reads c.l
 pub returns-in_err-slots-clause-said : goal.returns-in_err-slots-clause-said
 returns-in_err-slots-clause-said g c honest bytes still v sound blocks says =
     let first = c.load_fields.ensures.reads in
-    let loaded = c.in_err-slots.ensures.said (first.honest honest) bytes (first.still honest bytes still) v.slots sound.slot_count (slots_fit v sound) (said_slot bytes v c.args.layout blocks says) in
+    let loaded =
+    c.in_err-slots.ensures.said (first.honest honest) bytes (first.still honest bytes still) v.slots
+    sound.slot_count (slots_fit v sound) (said_slot bytes v c.args.layout blocks says) in
     let handed = loads_err _ (λ (kept : Holding). KeepsAlone kept v) _ loaded in
     search rules
 
@@ -29,39 +31,54 @@ pub returns-then-not-are_sound-clause-said : goal.returns-then-not-are_sound-cla
 returns-then-not-are_sound-clause-said g c honest bytes still v sound blocks says =
     let first = c.load_fields.ensures.reads in
     let fields = c.in_ok-next.ensures.said honest bytes still v sound blocks says in
-    let slots : c.in_ok-slots.slots.items ≡ v.slots = c.in_ok-slots.ensures.said (first.honest honest) bytes (first.still honest bytes still) v.slots sound.slot_count (slots_fit v sound) (said_slot bytes v c.args.layout blocks says) in
+    let slots : c.in_ok-slots.slots.items ≡ v.slots =
+    c.in_ok-slots.ensures.said (first.honest honest) bytes (first.still honest bytes still) v.slots sound.slot_count
+    (slots_fit v sound) (said_slot bytes v c.args.layout blocks says) in
     let looked : c.deref.result.now ≡ v.slots = search rules in
-    let are = subst (λ (n : ℕ). AreSound n v.slots) (sym fields.0) (sound_passes v sound) in
-    let passes = c.are_sound.ensures.1 (subst (λ (xs : List (Option SlotRecord)). AreSound c.in_ok-next.next xs) (sym looked) are) in
+    let are = subst (λ (n : ℕ). RecordsPass n v.slots) (sym fields.0) (sound_passes v sound) in
+    let passes =
+    c.are_sound.ensures.1
+    (subst (λ (xs : List (Option SlotRecord)). RecordsPass c.in_ok-next.next xs) (sym looked) are) in
     false≢true (sym c.if-not-are_sound.true ∙ passes)
 
 pub returns-in_err-blocks-clause-reads : goal.returns-in_err-blocks-clause-reads
-returns-in_err-blocks-clause-reads g c = reads_on (reads_on c.load_fields.ensures.reads c.load_slots.ensures.reads) c.load_blocks.ensures.reads
+returns-in_err-blocks-clause-reads g c =
+    reads_on (reads_on c.load_fields.ensures.reads c.load_slots.ensures.reads) c.load_blocks.ensures.reads
 
 pub returns-in_err-blocks-clause-said : goal.returns-in_err-blocks-clause-said
 returns-in_err-blocks-clause-said g c honest bytes still v sound blocks says =
     let first = c.load_fields.ensures.reads in
     let second = reads_on first c.load_slots.ensures.reads in
-    let slots : c.in_ok-slots.slots.items ≡ v.slots = c.in_ok-slots.ensures.said (first.honest honest) bytes (first.still honest bytes still) v.slots sound.slot_count (slots_fit v sound) (said_slot bytes v c.args.layout blocks says) in
-    let loaded = c.in_err-blocks.ensures.said (second.honest honest) bytes (second.still honest bytes still) v sound blocks says (search rules) in
+    let slots : c.in_ok-slots.slots.items ≡ v.slots =
+    c.in_ok-slots.ensures.said (first.honest honest) bytes (first.still honest bytes still) v.slots sound.slot_count
+    (slots_fit v sound) (said_slot bytes v c.args.layout blocks says) in
+    let loaded =
+    c.in_err-blocks.ensures.said (second.honest honest) bytes (second.still honest bytes still) v sound blocks says
+    (search rules) in
     let handed = loads_err _ (λ (kept : Holding). KeepsAlone kept v) _ loaded in
     search rules
 
 pub returns-clause-reads : goal.returns-clause-reads
-returns-clause-reads g c = reads_on (reads_on c.load_fields.ensures.reads c.load_slots.ensures.reads) c.load_blocks.ensures.reads
+returns-clause-reads g c =
+    reads_on (reads_on c.load_fields.ensures.reads c.load_slots.ensures.reads) c.load_blocks.ensures.reads
 
 pub returns-clause-said : goal.returns-clause-said
 returns-clause-said g c honest bytes still v sound blocks says =
     let first = c.load_fields.ensures.reads in
     let second = reads_on first c.load_slots.ensures.reads in
     let fields = c.in_ok-next.ensures.said honest bytes still v sound blocks says in
-    let slots : c.in_ok-slots.slots.items ≡ v.slots = c.in_ok-slots.ensures.said (first.honest honest) bytes (first.still honest bytes still) v.slots sound.slot_count (slots_fit v sound) (said_slot bytes v c.args.layout blocks says) in
-    let held = c.in_ok-blocks.ensures.said (second.honest honest) bytes (second.still honest bytes still) v sound blocks says (search rules) in
+    let slots : c.in_ok-slots.slots.items ≡ v.slots =
+    c.in_ok-slots.ensures.said (first.honest honest) bytes (first.still honest bytes still) v.slots sound.slot_count
+    (slots_fit v sound) (said_slot bytes v c.args.layout blocks says) in
+    let held =
+    c.in_ok-blocks.ensures.said (second.honest honest) bytes (second.still honest bytes still) v sound blocks says
+    (search rules) in
     c.of.ensures.said v sound blocks fields.0 fields.1 slots held.0 held.1
 
 pub returns-in_err-slots-clause-counts : goal.returns-in_err-slots-clause-counts
 returns-in_err-slots-clause-counts g c =
-    let counted = counts_on c.load_fields.ensures.counts (ok_no_fault _ _ c.in_ok-next.was) c.in_err-slots.ensures.counts in
+    let counted =
+    counts_on c.load_fields.ensures.counts (ok_no_fault _ _ c.in_ok-next.was) c.in_err-slots.ensures.counts in
     search rules
 
 pub returns-then-not-are_sound-clause-counts : goal.returns-then-not-are_sound-clause-counts
@@ -72,7 +89,8 @@ returns-then-not-are_sound-clause-counts g c =
 
 pub returns-in_err-blocks-clause-counts : goal.returns-in_err-blocks-clause-counts
 returns-in_err-blocks-clause-counts g c =
-    let second = counts_on c.load_fields.ensures.counts (ok_no_fault _ _ c.in_ok-next.was) c.load_slots.ensures.counts in
+    let second =
+    counts_on c.load_fields.ensures.counts (ok_no_fault _ _ c.in_ok-next.was) c.load_slots.ensures.counts in
     let counted = counts_on second (ok_no_fault _ _ c.in_ok-slots.was) c.in_err-blocks.ensures.counts in
     search rules
 
@@ -104,7 +122,11 @@ returns-clause-sound g c honest bytes still says =
     let slots = c.in_ok-slots.ensures.sound (first.honest honest) bytes (first.still honest bytes still) in
     let rows = c.in_ok-blocks.ensures.sound (second.honest honest) bytes (second.still honest bytes still) in
     let looked : c.deref.result.now ≡ c.in_ok-slots.slots.items = search rules in
-    let are = subst (λ (xs : List (Option SlotRecord)). AreSound c.in_ok-next.next xs) looked (c.are_sound.ensures.0 (search rules)) in
-    read_loaded bytes c.args.layout c.in_ok-next.next c.in_ok-next.indexes c.in_ok-slots.slots.items c.in_ok-blocks.blocks.rows c.in_ok-blocks.blocks.reserved c.of.result
-    says.least says.most fields slots c.in_ok-slots.ensures.long c.in_ok-blocks.ensures.long rows are (search rules) c.in_ok-blocks.ensures.fits c.in_ok-blocks.ensures.reserved
+    let are =
+    subst (λ (xs : List (Option SlotRecord)). RecordsPass c.in_ok-next.next xs) looked
+    (c.are_sound.ensures.0 (search rules)) in
+    read_loaded bytes c.args.layout c.in_ok-next.next c.in_ok-next.indexes c.in_ok-slots.slots.items
+    c.in_ok-blocks.blocks.rows c.in_ok-blocks.blocks.reserved c.of.result
+    says.least says.most fields slots c.in_ok-slots.ensures.long c.in_ok-blocks.ensures.long rows are (search rules)
+    c.in_ok-blocks.ensures.fits c.in_ok-blocks.ensures.reserved
     c.of.ensures.distinct c.of.ensures.whole c.of.ensures.said

@@ -10,7 +10,9 @@ use Rattle.spool_image.proofs.loading.load_fields.Goals as goal
 pub returns-in_err-next-clause-said : goal.returns-in_err-next-clause-said
 returns-in_err-next-clause-said g c honest bytes still v sound blocks says =
     let fits : v.next < 2 ^ 64 = omega (arith, sound.next_most) in
-    let stands = subst (λ (k : ℕ). Stands bytes (state_place c.args.layout.now) 4096 (state_page k v.next)) sound.version (said_state bytes v c.args.layout.now blocks says) in
+    let stands =
+    subst (λ (k : ℕ). Stands bytes (state_place c.args.layout.now) 4096 (state_page k v.next)) sound.version
+    (said_state bytes v c.args.layout.now blocks says) in
     let loaded = c.in_err-next.ensures.said honest bytes still v.next fits stands in
     let handed = loads_err _ (λ (said : ℕ × IndexSet). (said.0 ≡ v.next) × (said.1 ≡ v.indexes)) _ loaded in
     search rules
@@ -20,25 +22,31 @@ returns-in_err-check_front-clause-reads g c = reads_on c.load_next.ensures.reads
 
 pub returns-in_err-check_front-clause-counts : goal.returns-in_err-check_front-clause-counts
 returns-in_err-check_front-clause-counts g c =
-    let counted = counts_on c.load_next.ensures.counts (ok_no_fault _ _ c.in_ok-next.was) c.in_err-check_front.ensures.counts in
+    let counted =
+    counts_on c.load_next.ensures.counts (ok_no_fault _ _ c.in_ok-next.was) c.in_err-check_front.ensures.counts in
     search rules
 
 pub returns-in_err-check_front-clause-said : goal.returns-in_err-check_front-clause-said
 returns-in_err-check_front-clause-said g c honest bytes still v sound blocks says =
     let first = c.load_next.ensures.reads in
-    let loaded = c.in_err-check_front.ensures.said (first.honest honest) bytes (first.still honest bytes still) v.blocks says.first in
+    let loaded =
+    c.in_err-check_front.ensures.said (first.honest honest) bytes (first.still honest bytes still) v.blocks
+    says.first in
     let handed = loads_err _ (λ (said : ℕ × IndexSet). (said.0 ≡ v.next) × (said.1 ≡ v.indexes)) _ loaded in
     search rules
 
 pub returns-in_err-check_front-clause-refused : goal.returns-in_err-check_front-clause-refused
 returns-in_err-check_front-clause-refused g c honest bytes still =
     let n = c.args.layout.now in
-    let first = version_stands bytes (state_place n) 4096 1 c.in_ok-next.next (omega arith) (c.in_ok-next.ensures.sound honest bytes still) in
+    let first =
+    version_stands bytes (state_place n) 4096 1 c.in_ok-next.next (omega arith)
+    (c.in_ok-next.ensures.sound honest bytes still) in
     let told = tells_late _ first c.in_err-check_front.ensures.late in
     search rules
 
 pub returns-in_err-indexes-clause-reads : goal.returns-in_err-indexes-clause-reads
-returns-in_err-indexes-clause-reads g c = reads_on (reads_on c.load_next.ensures.reads c.check_front.ensures.reads) c.load_indexes.ensures.reads
+returns-in_err-indexes-clause-reads g c =
+    reads_on (reads_on c.load_next.ensures.reads c.check_front.ensures.reads) c.load_indexes.ensures.reads
 
 pub returns-in_err-indexes-clause-counts : goal.returns-in_err-indexes-clause-counts
 returns-in_err-indexes-clause-counts g c =
@@ -49,27 +57,35 @@ returns-in_err-indexes-clause-counts g c =
 pub returns-in_err-indexes-clause-said : goal.returns-in_err-indexes-clause-said
 returns-in_err-indexes-clause-said g c honest bytes still v sound blocks says =
     let second = reads_on c.load_next.ensures.reads c.check_front.ensures.reads in
-    let loaded = c.in_err-indexes.ensures.said (second.honest honest) bytes (second.still honest bytes still) v.indexes sound.indexes (said_area bytes v c.args.layout.now blocks says) in
+    let loaded =
+    c.in_err-indexes.ensures.said (second.honest honest) bytes (second.still honest bytes still) v.indexes
+    sound.indexes (said_area bytes v c.args.layout.now blocks says) in
     let handed = loads_err _ (λ (said : ℕ × IndexSet). (said.0 ≡ v.next) × (said.1 ≡ v.indexes)) _ loaded in
     search rules
 
 pub returns-in_err-indexes-clause-refused : goal.returns-in_err-indexes-clause-refused
 returns-in_err-indexes-clause-refused g c honest bytes still =
     let n = c.args.layout.now in
-    let first = version_stands bytes (state_place n) 4096 1 c.in_ok-next.next (omega arith) (c.in_ok-next.ensures.sound honest bytes still) in
+    let first =
+    version_stands bytes (state_place n) 4096 1 c.in_ok-next.next (omega arith)
+    (c.in_ok-next.ensures.sound honest bytes still) in
     let told = tells_late _ first c.in_err-indexes.ensures.late in
     search rules
 
 pub returns-clause-reads : goal.returns-clause-reads
-returns-clause-reads g c = reads_on (reads_on c.load_next.ensures.reads c.check_front.ensures.reads) c.load_indexes.ensures.reads
+returns-clause-reads g c =
+    reads_on (reads_on c.load_next.ensures.reads c.check_front.ensures.reads) c.load_indexes.ensures.reads
 
 pub returns-clause-said : goal.returns-clause-said
 returns-clause-said g c honest bytes still v sound blocks says =
     let second = reads_on c.load_next.ensures.reads c.check_front.ensures.reads in
     let fits : v.next < 2 ^ 64 = omega (arith, sound.next_most) in
-    let stands = subst (λ (k : ℕ). Stands bytes (state_place c.args.layout.now) 4096 (state_page k v.next)) sound.version (said_state bytes v c.args.layout.now blocks says) in (
+    let stands =
+    subst (λ (k : ℕ). Stands bytes (state_place c.args.layout.now) 4096 (state_page k v.next)) sound.version
+    (said_state bytes v c.args.layout.now blocks says) in (
       c.in_ok-next.ensures.said honest bytes still v.next fits stands,
-      c.in_ok-indexes.ensures.said (second.honest honest) bytes (second.still honest bytes still) v.indexes sound.indexes (said_area bytes v c.args.layout.now blocks says),
+      c.in_ok-indexes.ensures.said (second.honest honest) bytes (second.still honest bytes still) v.indexes
+          sound.indexes (said_area bytes v c.args.layout.now blocks says),
     )
 
 pub returns-clause-sound : goal.returns-clause-sound
@@ -77,11 +93,14 @@ returns-clause-sound g c honest bytes still front =
     let first = c.load_next.ensures.reads in
     let second = reads_on first c.check_front.ensures.reads in
     record {
-      first = c.in_ok-check_front.ensures.sound (first.honest honest) bytes (first.still honest bytes still) c.args.layout.now front;
+      first =
+          c.in_ok-check_front.ensures.sound (first.honest honest) bytes (first.still honest bytes still)
+          c.args.layout.now front;
       state = c.in_ok-next.ensures.sound honest bytes still;
       area = c.in_ok-indexes.ensures.sound (second.honest honest) bytes (second.still honest bytes still);
     }
 
 pub returns-clause-version : goal.returns-clause-version
 returns-clause-version g c honest bytes still =
-    version_stands bytes (state_place c.args.layout.now) 4096 1 c.in_ok-next.next (omega arith) (c.in_ok-next.ensures.sound honest bytes still)
+    version_stands bytes (state_place c.args.layout.now) 4096 1 c.in_ok-next.next (omega arith)
+    (c.in_ok-next.ensures.sound honest bytes still)

@@ -6,7 +6,8 @@ use Rattle.spool_image.proofs.Looks.{read_stands, rows_read}
 use Rattle.spool_image.proofs.owners.load_page.Goals as goal
 
 pub read_at-requires : goal.read_at-requires
-read_at-requires g c = omega (arith, all_is c.args.layout.now, c.requires.room, c.requires.page, c.metadata_page.ensures)
+read_at-requires g c =
+    omega (arith, all_is c.args.layout.now, c.requires.room, c.requires.page, c.metadata_page.ensures)
 
 pub returns-in_err-fill-clause-said : goal.returns-in_err-fill-clause-said
 returns-in_err-fill-clause-said g c honest bytes still all long fits stands was =
@@ -14,7 +15,10 @@ returns-in_err-fill-clause-said g c honest bytes still all long fits stands was 
     let page = c.args.page in
     let read = c.in_ok-read_at.ensures.bytes honest bytes still in
     let wide : length c.read_at.new.buf ≡ 4096 = search rules in
-    absurd (c.in_err-fill.ensures.said all long fits (λ k lt. read_stands bytes _ (row_place n (512 * page + k)) (8 * k) 8 c.read_at.new.buf _ read (omega (arith, lt, wide)) (omega (arith, c.metadata_page.ensures)) (stands (512 * page + k) (omega (arith, lt, c.requires.page)))) was)
+    absurd (c.in_err-fill.ensures.said all long fits
+    (λ k lt. read_stands bytes _ (row_place n (512 * page + k)) (8 * k) 8 c.read_at.new.buf _ read
+    (omega (arith, lt, wide)) (omega (arith, c.metadata_page.ensures))
+    (stands (512 * page + k) (omega (arith, lt, c.requires.page)))) was)
 
 pub returns-clause-said : goal.returns-clause-said
 returns-clause-said g c honest bytes still all long fits stands was =
@@ -22,7 +26,11 @@ returns-clause-said g c honest bytes still all long fits stands was =
     let page = c.args.page in
     let read = c.in_ok-read_at.ensures.bytes honest bytes still in
     let wide : length c.read_at.new.buf ≡ 4096 = search rules in
-    let filled = c.in_ok-fill.ensures.said all long fits (λ k lt. read_stands bytes _ (row_place n (512 * page + k)) (8 * k) 8 c.read_at.new.buf _ read (omega (arith, lt, wide)) (omega (arith, c.metadata_page.ensures)) (stands (512 * page + k) (omega (arith, lt, c.requires.page)))) was in
+    let filled =
+    c.in_ok-fill.ensures.said all long fits
+    (λ k lt. read_stands bytes _ (row_place n (512 * page + k)) (8 * k) 8 c.read_at.new.buf _ read
+    (omega (arith, lt, wide)) (omega (arith, c.metadata_page.ensures))
+    (stands (512 * page + k) (omega (arith, lt, c.requires.page)))) was in
     let e : 512 * page + 512 ≡ 512 * (page + 1) = omega arith in
     subst (λ (m : ℕ). IsSameTo m all c.fill.new.rows) e filled
 
@@ -31,5 +39,6 @@ returns-clause-sound g c honest bytes still was =
     let n = c.args.layout.now in
     let page = c.args.page in
     let wide : length c.read_at.new.buf ≡ 4096 = search rules in
-    rows_read bytes n _ page c.read_at.new.buf c.args.rows.now c.fill.new.rows (c.in_ok-read_at.ensures.bytes honest bytes still) wide (omega (arith, c.metadata_page.ensures)) was
+    rows_read bytes n _ page c.read_at.new.buf c.args.rows.now c.fill.new.rows
+    (c.in_ok-read_at.ensures.bytes honest bytes still) wide (omega (arith, c.metadata_page.ensures)) was
     c.fill.ensures.before c.in_ok-fill.ensures.sound

@@ -25,4 +25,5 @@ returns-clause-said g c honest bytes still all long fits stands =
     let size : length c.in_ok-rows.rows.items ≡ n = search rules in
     let same : length c.load_pages.new.rows ≡ length c.in_ok-rows.rows.items = search rules in
     let said = c.in_ok-load_pages.ensures.said honest bytes still all (omega (arith, size, long)) fits stands in
-    take_new _ _ _ (search rules) ∙ same_all _ all c.load_pages.new.rows said (omega (arith, same, size, long)) (omega (arith, same, size, rows_cover n))
+    take_new _ _ _ (search rules) ∙ same_all _ all c.load_pages.new.rows said (omega (arith, same, size, long))
+    (omega (arith, same, size, rows_cover n))

@@ -10,7 +10,9 @@ returns-then-version-ne-VERSION-clause-refused c first =
     let said = c.version_and_next-version.result in
     let page = byte_of c.args.page.now in
     let fits : said.0 < 2 ^ 32 = search rules in
-    c.if-version-ne-VERSION.true (number_one page 0 said.0 1 fits (omega arith) (version_stands page 0 12 said.0 said.1 (omega arith) c.version_and_next-version.ensures.there) first)
+    c.if-version-ne-VERSION.true
+    (number_one page 0 said.0 1 fits (omega arith)
+    (version_stands page 0 12 said.0 said.1 (omega arith) c.version_and_next-version.ensures.there) first)
 
 pub returns-then-not-is_blank_behind_fields-clause-refused : goal.returns-then-not-is_blank_behind_fields-clause-refused
 returns-then-not-is_blank_behind_fields-clause-refused c =

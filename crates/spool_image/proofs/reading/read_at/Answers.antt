@@ -10,8 +10,12 @@ returns-clause-reads g c = record {
   honest = c.read.ensures.honest.0;
   back = c.read.ensures.honest.1;
   still = λ honest bytes still. still_keeps still (c.read.ensures.keeps honest);
-  lasts = λ honest bytes still. lasts_call (c.read.ensures.time honest) (λ image is. still_image (still_keeps still (c.read.ensures.keeps honest)) is);
+  lasts =
+      λ honest bytes still. lasts_call (c.read.ensures.time honest)
+      (λ image is. still_image (still_keeps still (c.read.ensures.keeps honest)) is);
 }
 
 pub returns-clause-bytes : goal.returns-clause-bytes
-returns-clause-bytes g c honest bytes still = on_ok c.read.result (λ done. read_bytes _ bytes c.args.place _ _ still (c.read.ensures.bytes honest done) (search rules))
+returns-clause-bytes g c honest bytes still =
+    on_ok c.read.result (λ done. read_bytes _ bytes c.args.place _ _ still (c.read.ensures.bytes honest done)
+    (search rules))

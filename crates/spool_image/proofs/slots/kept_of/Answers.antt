@@ -24,10 +24,12 @@ returns-in_ok-kept-in-Some-clause-said c (Some r) fits padded =
 pub returns-in_ok-kept-in-Some-clause-stands : goal.returns-in_ok-kept-in-Some-clause-stands
 returns-in_ok-kept-in-Some-clause-stands c =
     let bytes = c.args.bytes.now in
-    let padded = subst (λ (o : Option SlotRecord). IsPadded bytes (slot_bytes o)) c.in-Some.is c.in_ok-record.ensures.sound in
+    let padded =
+    subst (λ (o : Option SlotRecord). IsPadded bytes (slot_bytes o)) c.in-Some.is c.in_ok-record.ensures.sound in
     subst (λ (r : SlotRecord). IsPadded bytes (record_bytes r)) (sym c.in_ok-kept-in-Some.ensures.same) padded
 
 pub returns-in_ok-kept-in-Some-clause-fits : goal.returns-in_ok-kept-in-Some-clause-fits
 returns-in_ok-kept-in-Some-clause-fits c =
     let fits = subst (λ (o : Option SlotRecord). IfSome o FitsSlot) c.in-Some.is c.in_ok-record.ensures.fits in
-    subst (λ (r : SlotRecord). FitsSlotOf (Some r)) (sym c.in_ok-kept-in-Some.ensures.same) (fits, c.in_ok-kept-in-Some.ensures.sound.printable)
+    subst (λ (r : SlotRecord). FitsSlotOf (Some r)) (sym c.in_ok-kept-in-Some.ensures.same)
+    (fits, c.in_ok-kept-in-Some.ensures.sound.printable)

@@ -15,6 +15,8 @@ returns-clause-sound g c honest bytes still long was =
     elim c.match-push.branch [
       | in-Ok w ↦
           let items : c.push.new.self.items ≡ c.args.slots.now.items ++ kept ∷ [] = search rules in
-          subst P (sym w.result-is) (stand_push bytes n c.args.slots.now.items kept _ was items (subst S (sym long) (c.in_ok-kept.ensures.stands honest bytes still)) c.in_ok-kept.ensures.fits)
+          subst P (sym w.result-is)
+          (stand_push bytes n c.args.slots.now.items kept _ was items
+          (subst S (sym long) (c.in_ok-kept.ensures.stands honest bytes still)) c.in_ok-kept.ensures.fits)
       | in-Err w ↦ subst P (sym w.result-is) tt
     ]

@@ -12,7 +12,8 @@ returns-in_err-list-in-Some-clause-passes c v sound same rows =
     let kept = c.in-Some.kept.now in
     let own = slot_owns v sound c.args.slots.now same s kept (sym c.in-Some.ensures) in
     let n = blocks_of kept.text_len in
-    let len : n ≡ blocks_of c.record.result.now.text_len = ap (λ (r : SlotRecord). blocks_of r.text_len) (sym c.record.ensures.said) in
+    let len : n ≡ blocks_of c.record.result.now.text_len =
+    ap (λ (r : SlotRecord). blocks_of r.text_len) (sym c.record.ensures.said) in
     let count = subst (λ (xs : List Row). slot_count s xs ≡ n) (sym rows) (each_counted n s v.rows own) in
     let entire = subst (λ (xs : List Row). IsWhole s xs) (sym rows) (whole n s v.rows own) in
     let passed = c.checked_list.ensures.passes (count ∙ len) entire in

@@ -14,5 +14,6 @@ blank bytes zeros = record {
 
 pub returns : goal.returns
 returns c =
-    let each : IsTrue c.all.result ↔ ((k : ℕ) → k < length c.args.bytes.now → get_or c.args.bytes.now k 0 ≡ 0) = search rules in
+    let each : IsTrue c.all.result ↔ ((k : ℕ) → k < length c.args.bytes.now → get_or c.args.bytes.now k 0 ≡ 0) =
+    search rules in
     (λ yes. blank c.args.bytes.now (each.0 yes), λ padded. each.1 (λ k lt. padded.each k))

@@ -6,20 +6,25 @@ use Rattle.spool_pages.proofs.Blank.{with_blank_rest, blank_rest, padded_of_stan
 use Rattle.spool_pages.proofs.RecordBytes.{padded_stands}
 use Rattle.spool_pages.proofs.pages.is_blank_behind_fields.Goals as goal
 
-module _ (page fields : List ℕ) (full : length page ≡ 4096) (long : length fields ≡ 12) (blank : Type 0) (exact : blank ↔ IsPadded (take 4084 (drop 12 page)) []) where
+module _ (page fields : List ℕ) (full : length page ≡ 4096) (long : length fields ≡ 12)
+    (blank : Type 0) (exact : blank ↔ IsPadded (take 4084 (drop 12 page)) []) where
   all : 12 + 4084 ≡ length page
   all = omega (arith, full)
 
   both : Stands (byte_of page) 0 12 fields → blank ↔ Stands (byte_of page) 0 4096 fields
   both front = (
     λ yes. padded_stands 4096 (with_blank_rest page 12 4084 all fields long front (exact.0 yes)),
-    λ whole. exact.1 (blank_rest page 12 4084 all fields long (padded_of_stands page fields 4096 full (omega (arith, long)) whole)),
+    λ whole.
+        let padded = padded_of_stands page fields 4096 full (omega (arith, long)) whole in
+        exact.1 (blank_rest page 12 4084 all fields long padded),
   )
 
 pub returns-clause-first : goal.returns-clause-first
 unfolding first_page
-returns-clause-first c blocks = both c.args.page.now (first_page blocks) (search rules) refl (IsTrue c.is_blank.result) c.is_blank.ensures
+returns-clause-first c blocks =
+    both c.args.page.now (first_page blocks) (search rules) refl (IsTrue c.is_blank.result) c.is_blank.ensures
 
 pub returns-clause-state : goal.returns-clause-state
 unfolding state_page
-returns-clause-state c version next = both c.args.page.now (state_page version next) (search rules) refl (IsTrue c.is_blank.result) c.is_blank.ensures
+returns-clause-state c version next =
+    both c.args.page.now (state_page version next) (search rules) refl (IsTrue c.is_blank.result) c.is_blank.ensures

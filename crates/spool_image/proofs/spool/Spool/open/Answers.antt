@@ -6,14 +6,16 @@ use Rattle.spool_journal.proofs.Gate.{settled_idle}
 use Rattle.upload_rules.specs.World.{at_rest}
 use Rattle.spool_kept.specs.Drafting.{StandsFor}
 use Rattle.spool_image.proofs.Opens.{image_shows, settled_reads, view_room}
-use Rattle.spool_image.proofs.Refused.{opened_is_spool, opened_is_first, opened_is_whole, told_no_spool, told_version, told_damaged}
+use Rattle.spool_image.proofs.Refused.{opened_is_spool, opened_is_first, opened_is_whole, told_no_spool, told_version}
+use Rattle.spool_image.proofs.Refused.{told_damaged}
 use Rattle.spool_image.proofs.StandsOn.{stands_opened}
 use Rattle.spool_image.proofs.spool.Spool.open.Goals as goal
 
 pub returns-in-Ok-clause-lasts : goal.returns-in-Ok-clause-lasts
 returns-in-Ok-clause-lasts g c n m is =
     let room = view_room g.D.Disk c.args.disk n m is in
-    lasts_more (c.in-Ok.ensures.lasts is.honest is.shows.view is.shows.shows.sound is.shows.is room) (λ image one. ⊎_elim
+    lasts_more (c.in-Ok.ensures.lasts is.honest is.shows.view is.shows.shows.sound is.shows.is room)
+    (λ image one. ⊎_elim
     (λ here. inl here)
     (λ reads. inr (image_shows n m image (g.D.Disk.seen c.args.disk) is.shows reads))
     one)
@@ -21,7 +23,8 @@ returns-in-Ok-clause-lasts g c n m is =
 pub returns-in-Err-clause-lasts : goal.returns-in-Err-clause-lasts
 returns-in-Err-clause-lasts g c n m is =
     let room = view_room g.D.Disk c.args.disk n m is in
-    lasts_more (c.in-Err.ensures.lasts is.honest is.shows.view is.shows.shows.sound is.shows.is room) (λ image one. ⊎_elim
+    lasts_more (c.in-Err.ensures.lasts is.honest is.shows.view is.shows.shows.sound is.shows.is room)
+    (λ image one. ⊎_elim
     (λ here. inl here)
     (λ reads. inr (image_shows n m image (g.D.Disk.seen c.args.disk) is.shows reads))
     one)
@@ -36,7 +39,8 @@ returns-in-Ok-clause-shows g c n m is = record {
       let room = view_room g.D.Disk c.args.disk n m is in
       let kept = c.in-Ok.ensures.said is.honest is.shows.view is.shows.shows.sound is.shows.is room in
       let reads = settled_reads image settled (λ p. here.same p (settled.firm p)) in
-      image_shows n m image was is.shows (subst (λ (k : ℕ). ReadsAs (journal_pages k) image (overlaid was)) kept.0.blocks reads);
+      image_shows n m image was is.shows
+      (subst (λ (k : ℕ). ReadsAs (journal_pages k) image (overlaid was)) kept.0.blocks reads);
 }
 
 pub returns-in-Ok-clause-idle : goal.returns-in-Ok-clause-idle
@@ -45,25 +49,40 @@ returns-in-Ok-clause-idle g c honest = settled_idle (c.in-Ok.ensures.settled hon
 pub returns-in-Ok-clause-stands : goal.returns-in-Ok-clause-stands
 returns-in-Ok-clause-stands g c n m is =
     let v = is.shows.view in
-    let said = c.in-Ok.ensures.said is.honest v is.shows.shows.sound is.shows.is (view_room g.D.Disk c.args.disk n m is) in
-    subst (λ (k : ℕ). StandsFor g.D.Disk c.prepare.new.disk c.in-Ok.kept c.new.result.items (at_rest m (Some k))) is.shows.blocks
-    (stands_opened g.D.Disk c.prepare.new.disk (g.D.Disk.seen c.args.disk) c.in-Ok.kept c.new.result.items m v c.new.ensures.items
+    let said =
+    c.in-Ok.ensures.said is.honest v is.shows.shows.sound is.shows.is (view_room g.D.Disk c.args.disk n m is) in
+    subst (λ (k : ℕ). StandsFor g.D.Disk c.prepare.new.disk c.in-Ok.kept c.new.result.items (at_rest m (Some k)))
+    is.shows.blocks
+    (stands_opened g.D.Disk c.prepare.new.disk (g.D.Disk.seen c.args.disk) c.in-Ok.kept c.new.result.items m v
+    c.new.ensures.items
     (c.in-Ok.ensures.honest.0 is.honest) is.shows.is said is.shows.shows (c.in-Ok.ensures.settled is.honest))
 
 pub returns-in-Ok-clause-not_a_spool : goal.returns-in-Ok-clause-not_a_spool
-returns-in-Ok-clause-not_a_spool g c honest is = absurd (opened_is_spool (g.D.Disk.size c.args.disk) (g.D.Disk.seen c.args.disk) c.in-Ok.kept (c.in-Ok.ensures.sound honest) is)
+returns-in-Ok-clause-not_a_spool g c honest is =
+    absurd (opened_is_spool (g.D.Disk.size c.args.disk) (g.D.Disk.seen c.args.disk) c.in-Ok.kept
+    (c.in-Ok.ensures.sound honest) is)
 
 pub returns-in-Ok-clause-version : goal.returns-in-Ok-clause-version
-returns-in-Ok-clause-version g c honest is = absurd (opened_is_first (g.D.Disk.size c.args.disk) (g.D.Disk.seen c.args.disk) c.in-Ok.kept (c.in-Ok.ensures.sound honest) is)
+returns-in-Ok-clause-version g c honest is =
+    absurd (opened_is_first (g.D.Disk.size c.args.disk) (g.D.Disk.seen c.args.disk) c.in-Ok.kept
+    (c.in-Ok.ensures.sound honest) is)
 
 pub returns-in-Ok-clause-damaged : goal.returns-in-Ok-clause-damaged
-returns-in-Ok-clause-damaged g c honest is = absurd (opened_is_whole (g.D.Disk.size c.args.disk) (g.D.Disk.seen c.args.disk) c.in-Ok.kept (c.in-Ok.ensures.sound honest) is)
+returns-in-Ok-clause-damaged g c honest is =
+    absurd (opened_is_whole (g.D.Disk.size c.args.disk) (g.D.Disk.seen c.args.disk) c.in-Ok.kept
+    (c.in-Ok.ensures.sound honest) is)
 
 pub returns-in-Err-clause-not_a_spool : goal.returns-in-Err-clause-not_a_spool
-returns-in-Err-clause-not_a_spool g c honest is = told_no_spool (g.D.Disk.size c.args.disk) (g.D.Disk.seen c.args.disk) c.in-Err.fault (c.in-Err.ensures.refused honest) is
+returns-in-Err-clause-not_a_spool g c honest is =
+    told_no_spool (g.D.Disk.size c.args.disk) (g.D.Disk.seen c.args.disk) c.in-Err.fault
+    (c.in-Err.ensures.refused honest) is
 
 pub returns-in-Err-clause-version : goal.returns-in-Err-clause-version
-returns-in-Err-clause-version g c honest is = told_version (g.D.Disk.size c.args.disk) (g.D.Disk.seen c.args.disk) c.in-Err.fault (c.in-Err.ensures.refused honest) is
+returns-in-Err-clause-version g c honest is =
+    told_version (g.D.Disk.size c.args.disk) (g.D.Disk.seen c.args.disk) c.in-Err.fault
+    (c.in-Err.ensures.refused honest) is
 
 pub returns-in-Err-clause-damaged : goal.returns-in-Err-clause-damaged
-returns-in-Err-clause-damaged g c honest is = told_damaged (g.D.Disk.size c.args.disk) (g.D.Disk.seen c.args.disk) c.in-Err.fault (c.in-Err.ensures.refused honest) is
+returns-in-Err-clause-damaged g c honest is =
+    told_damaged (g.D.Disk.size c.args.disk) (g.D.Disk.seen c.args.disk) c.in-Err.fault
+    (c.in-Err.ensures.refused honest) is

@@ -23,8 +23,12 @@ returns-clause-said c v sound blocks next indexes slots rows reserved =
       list_count = c.in_ok-lists.ensures.long;
       row_count = c.requires.rows;
       rows_fit = c.requires.fits;
-      ordered = subst (λ (xs : List (Option SlotRecord)). Orders xs c.in_ok-order.order.items 512) first c.in_ok-order.ensures.orders;
-      listed = subst (λ (xs : List (Option SlotRecord)). AreListsTo c.args.blocks.rows xs c.in_ok-lists.lists.items 512) second all;
+      ordered =
+          subst (λ (xs : List (Option SlotRecord)). Orders xs c.in_ok-order.order.items 512) first
+          c.in_ok-order.ensures.orders;
+      listed =
+          subst (λ (xs : List (Option SlotRecord)). AreListsTo c.args.blocks.rows xs c.in_ok-lists.lists.items 512)
+          second all;
     })
     sound blocks next indexes slots rows reserved
 
@@ -32,7 +36,8 @@ pub returns-clause-distinct : goal.returns-clause-distinct
 returns-clause-distinct c =
     let same : c.deref.result.now ≡ c.args.slots.items = search rules in
     orders_distinct c.args.slots.items c.in_ok-order.order.items c.requires.slots
-    (subst (λ (xs : List (Option SlotRecord)). Orders xs c.in_ok-order.order.items 512) same c.in_ok-order.ensures.orders)
+    (subst (λ (xs : List (Option SlotRecord)). Orders xs c.in_ok-order.order.items 512) same
+    c.in_ok-order.ensures.orders)
 
 pub returns-clause-whole : goal.returns-clause-whole
 returns-clause-whole c s r here =
