@@ -6,6 +6,7 @@ use gateway_engine::{Connections, Gateway, RunFault, run};
 use spool_disk::{Crash, Disk, HiccupDisk, MemoryDisk};
 use spool_image::{OpenFault, Spool};
 use std::alloc::Global;
+use std::process::Abort;
 use std::test::Fail;
 use tus_session::SessionError;
 use upload_rules::Uploads;
