@@ -2,8 +2,9 @@
 use Rattle.std.specs.Prelude.{ℕ, ◌+◌, ◌^◌, Bool, true, false, List, [], ◌∷◌, ◌++◌, length, nat_lt, nat_le, ◌==◌, if◌then◌else◌, Option, Some, None}
 use Rattle.upload_rules.specs.declared.errors.UploadRefusal.{UploadRefusal}
 use Rattle.upload_rules.specs.declared.errors.UploadRefusal.TheVariants.{TooLarge, Slots, NoSuch, Offset, TooLong, Unencodable, Full}
-use Rattle.upload_rules.specs.Store.{New, Upload, Store, find, replaced, without, upload_of, created_store, appended_store}
+use Rattle.upload_rules.specs.Store.{New, Upload, Store, find, replaced, without, upload_of, created_store, deleted_store, appended_store}
 use Rattle.upload_rules.specs.World.{Patch, World, is_there, free_number, completes, patch_text}
+use Rattle.upload_rules.specs.Reading.{no_such}
 use Rattle.upload_rules.specs.Room.{is_short}
 
 -- the first of two refusals
@@ -24,6 +25,15 @@ create_refusal w new =
 
 abbrev pub created : World → New → World
 created w new = record w { store = created_store w.store new }
+
+-- TERMINATE
+
+abbrev pub terminate_refusal : World → ℕ → Option UploadRefusal
+terminate_refusal w number = no_such (upload_of w.store number)
+
+-- the upload is gone; a patch of it stays open and keeps its room
+abbrev pub terminated : World → ℕ → World
+terminated w number = record w { store = deleted_store w.store number }
 
 -- BEGIN (with deferred lengths: TooLarge and LengthSet stand between Offset and TooLong)
 
@@ -107,6 +117,9 @@ outcome (Some e) before after = before
 
 abbrev pub create_outcome : World → New → Store
 create_outcome w new = outcome (create_refusal w new) w.store (created_store w.store new)
+
+abbrev pub terminate_outcome : World → ℕ → Store
+terminate_outcome w number = outcome (terminate_refusal w number) w.store (deleted_store w.store number)
 
 abbrev pub commit_outcome : World → ℕ → Patch → Store
 commit_outcome w d p = outcome (commit_refusal w d p) w.store (committed_store w.store p)

@@ -1,9 +1,9 @@
--- What holds of every world of a history: an open patch's upload is what it was, with bytes behind.
+-- What holds of every world of a history: an open patch's upload is what it was, with bytes behind, or is gone.
 use Rattle.std.specs.Prelude.{◌≡◌, ℕ, List, Option, Some, None}
 use Rattle.upload_rules.specs.Store.{Upload, upload_of, find, with_bytes}
 use Rattle.upload_rules.specs.World.{Patch, World}
 
--- (with terminations: the upload may be gone; with deferred lengths its declared length may have come)
+-- (with deferred lengths its declared length may have come)
 abbrev pub GrewFrom : Patch → Option Upload → Type 0
 GrewFrom p None = Unit {0}
 GrewFrom p (Some u) = (more : List ℕ) × (u ≡ with_bytes p.began more)

@@ -73,7 +73,11 @@ new_upload new = record { from = new.from; to = new.to; mode = new.mode; declare
 abbrev pub created_store : Store → New → Store
 created_store m new = record m { uploads = m.uploads ++ (m.next, new_upload new) ∷ []; next = m.next + 1 }
 
--- (with terminations: `deleted_store`, by `without`; with deferred lengths: `declared_store`)
+-- `delete`: the upload of a number is there no more. The next number stays, so no upload gets that number again
+abbrev pub deleted_store : Store → ℕ → Store
+deleted_store m n = record m { uploads = without n m.uploads }
+
+-- (with deferred lengths: `declared_store`)
 -- `append`: bytes at the end of an upload
 abbrev pub appended_to : Store → ℕ → List ℕ → Option Upload → Store
 appended_to m n bytes None = m

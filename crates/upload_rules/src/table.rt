@@ -132,6 +132,14 @@ impl Uploads for Table {
         Ok(number)
     }
 
+    fn terminate(&mut self, number: u64) -> Result<(), UploadError> {
+        let Some(place) = place_of(&self.slots, number) else {
+            return Err(UploadError::Refused(UploadRefusal::NoSuch));
+        };
+        let _gone = self.slots.remove(place);
+        Ok(())
+    }
+
     fn begin(&mut self, number: u64, offset: u64, count: u64) -> Result<TableDraft, UploadError> {
         let append = match self.opened(number, offset, count) {
             Ok(append) => append,

@@ -3,7 +3,7 @@ ghost use Rattle.std.specs.Prelude.{◌≡◌, ◌≤◌, ◌+◌, ℕ, List, le
 ghost use Rattle.enc_model.specs.Indexes.{IndexSet as Indexes};
 ghost use Rattle.upload_rules.specs.Store.{Upload, Store, upload_of, find};
 ghost use Rattle.upload_rules.specs.World.{Patch, World, free_number};
-ghost use Rattle.upload_rules.specs.Calls.{create_refusal, created, create_outcome, begin_refusal, begun, appended, longer, commit_refusal, committed, commit_outcome, dropped, reached};
+ghost use Rattle.upload_rules.specs.Calls.{create_refusal, created, create_outcome, terminate_refusal, terminated, terminate_outcome, begin_refusal, begun, appended, longer, commit_refusal, committed, commit_outcome, dropped, reached};
 ghost use Rattle.upload_rules.specs.Answers.{Answers, IsBegun, Among, Limits, Quiet, Counts};
 ghost use Rattle.upload_rules.specs.Records.{TellsOf, with_number, above, IsWellFormed, IsOffered};
 ghost use Rattle.upload_rules.specs.Reading.{no_such, text_at, IsRead};
@@ -59,6 +59,17 @@ pub trait Uploads {
             → Answers (create_refusal w new) result (λ n. (n ≡ w.store.next) × stands self.new (created w new)) (stands self.new w) }
         ensures crash { (w : World) → stands self.old w
             → Limits (moment self.old) (moment self.new) (left_only self.old) (left_only self.new) w.store (create_outcome w new) }
+        ensures unmade { (w : World) → stands self.old w → IsErrOf result UploadError.NoMemory
+            → Limits (moment self.old) (moment self.new) (left_only self.old) (left_only self.new) w.store w.store }
+        ensures counts { Counts (IsErrOf result UploadError.DiskFault) (failures self.old) (failures self.new) };
+
+    /// Takes an upload away with its text: refused with `NoSuch`, `NoMemory`, `DiskFault`. Its number is never used
+    /// again, and an open draft of it can only be refused from then on.
+    fn terminate(&mut self, number: u64) -> Result<(), UploadError>
+        ensures answer { (w : World) → stands self.old w
+            → Answers (terminate_refusal w number) result (λ done. stands self.new (terminated w number)) (stands self.new w) }
+        ensures crash { (w : World) → stands self.old w
+            → Limits (moment self.old) (moment self.new) (left_only self.old) (left_only self.new) w.store (terminate_outcome w number) }
         ensures unmade { (w : World) → stands self.old w → IsErrOf result UploadError.NoMemory
             → Limits (moment self.old) (moment self.new) (left_only self.old) (left_only self.new) w.store w.store }
         ensures counts { Counts (IsErrOf result UploadError.DiskFault) (failures self.old) (failures self.new) };
