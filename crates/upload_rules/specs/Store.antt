@@ -49,6 +49,11 @@ abbrev pub without : {A : Type 0} → ℕ → List (ℕ × A) → List (ℕ × A
 without n [] = []
 without n (entry ∷ entries) = if entry.0 == n then entries else entry ∷ without n entries
 
+-- the entries of other numbers
+abbrev pub others : {A : Type 0} → ℕ → List (ℕ × A) → List (ℕ × A)
+others n [] = []
+others n (entry ∷ entries) = if entry.0 == n then others n entries else entry ∷ others n entries
+
 -- complete: the accepted bytes are as many as were declared
 abbrev pub is_complete : Upload → Bool
 is_complete u = length u.accepted == u.declared
@@ -73,9 +78,9 @@ new_upload new = record { from = new.from; to = new.to; mode = new.mode; declare
 abbrev pub created_store : Store → New → Store
 created_store m new = record m { uploads = m.uploads ++ (m.next, new_upload new) ∷ []; next = m.next + 1 }
 
--- `delete`: the upload of a number is there no more. The next number stays, so no upload gets that number again
+-- `delete`: only the uploads of other numbers are there. The next number stays, so no upload gets that number again
 abbrev pub deleted_store : Store → ℕ → Store
-deleted_store m n = record m { uploads = without n m.uploads }
+deleted_store m n = record m { uploads = others n m.uploads }
 
 -- (with deferred lengths: `declared_store`)
 -- `append`: bytes at the end of an upload
