@@ -13,7 +13,7 @@ use Rattle.upload_rules.specs.declared.errors.UploadError.TheVariants as errors
 use Rattle.upload_rules.specs.declared.errors.UploadRefusal.{UploadRefusal}
 use Rattle.tus_action.specs.Faults.{stop_of}
 use Rattle.tus_action.specs.Acts.{Giving, piece_of, pending_of, pending_after}
-use Rattle.tus_action.specs.Serves.{GivesAs, GivingIs, Gives, giving_behind}
+use Rattle.tus_action.specs.Serves.{GivesAs, IsGiving, GivingIs, GivesPiece, IsGiven, Gives, giving_behind}
 use Rattle.tus_action.specs.declared.acts.Giving as given
 
 -- a list was made longer, and a buffer was read over what is new of it
@@ -75,10 +75,23 @@ pending_some : (number : ℕ) (left : List ℕ) (closes : Bool) (b : ℕ) → 0 
 pending_some number [] closes b some is = absurd (omega arith)
 pending_some number (x ∷ left) closes b some is = refl
 
-behind_case : (m : Store) (g : given.Giving) (h : Giving) (up : Upload) → GivesAs m g h up → (c : ℕ) → c ≡ min (g.length - g.given) 65536
-    → (b : Bool) → nat_le g.length (g.given + c) ≡ b
+-- behind a whole piece the rest of the text is left
+left_behind : (m : Store) (g : given.Giving) (h : Giving) (up : Upload) → GivesAs m g h up → g.given + 65536 < g.length
+    → GivesAs m (record g { given = g.given + 65536 }) (record h { left = drop 65536 h.left }) up
+left_behind m g h up gives more =
+    let text : List ℕ = text_of m.indexes up in record {
+      number = gives.number;
+      found = gives.found;
+      some = omega arith;
+      within = gives.within;
+      left = ap (drop 65536) gives.left ∙ drop-drop 65536 g.given (take g.length text);
+      closes = gives.closes;
+    }
+
+behind_case : (m : Store) (g : given.Giving) (h : Giving) (up : Upload) → GivesAs m g h up → IsGiving m g h → (c : ℕ)
+    → c ≡ min (g.length - g.given) 65536 → (b : Bool) → nat_le g.length (g.given + c) ≡ b
     → GivingIs m (if b then None else Some (record { number = g.number; length = g.length; given = g.given + c; closes = g.closes })) (pending_after h)
-behind_case m g h up gives c count true over =
+behind_case m g h up gives all c count true over =
     let text : List ℕ = text_of m.indexes up in
     let le : g.length ≤ g.given + c = leb-true g.length (g.given + c) over in
     let some : g.given ≤ g.length = gives.some in
@@ -88,7 +101,7 @@ behind_case m g h up gives c count true over =
     let ll : length h.left ≡ g.length - g.given = ap length gives.left ∙ (omega arith) in
     let none : drop 65536 h.left ≡ [] = drop_all 65536 h.left (omega arith) in
     subst (λ x. GivingIs m None (pending_of h.number x h.closes)) (sym none) (tt {0})
-behind_case m g h up gives c count false under =
+behind_case m g h up gives all c count false under =
     let text : List ℕ = text_of m.indexes up in
     let lt : g.given + c < g.length = leb-false g.length (g.given + c) under in
     let some : g.given ≤ g.length = gives.some in
@@ -98,20 +111,24 @@ behind_case m g h up gives c count false under =
     let ld : length (drop g.given (take g.length text)) ≡ length (take g.length text) - g.given = length-drop g.given (take g.length text) in
     let ll : length h.left ≡ g.length - g.given = ap length gives.left ∙ (omega arith) in
     let lr : length (drop 65536 h.left) ≡ length h.left - 65536 = length-drop 65536 h.left in
-    let rest : drop 65536 h.left ≡ drop (g.given + c) (take g.length text) =
-    ap (drop 65536) gives.left ∙ (drop-drop 65536 g.given (take g.length text) ∙ ap (λ k. drop (g.given + k) (take g.length text)) (sym c_is)) in
     let pending = pending_some h.number (drop 65536 h.left) h.closes (g.length - g.given - 65536) (omega arith) (omega arith) in
+    let rest : IsGiving m (record g { given = g.given + 65536 }) (record h { left = drop 65536 h.left }) = record {
+      number = all.number;
+      below = all.below;
+      closes = all.closes;
+      there = λ v found. left_behind m g h v (all.there v found) (omega (arith, c_is, lt));
+    } in
     subst (λ x. GivingIs m (Some (record { number = g.number; length = g.length; given = g.given + c; closes = g.closes })) x) (sym pending)
-    (up, record { number = gives.number; found = gives.found; some = omega arith; within = within; left = rest; closes = gives.closes })
+    (subst (λ k. IsGiving m (record { number = g.number; length = g.length; given = g.given + k; closes = g.closes }) (record h { left = drop 65536 h.left })) (sym c_is) rest)
 
 -- what is left behind the piece
-pub gives_on : (m : Store) (g : given.Giving) (h : Giving) (up : Upload) → GivesAs m g h up → (c : ℕ) → c ≡ min (g.length - g.given) 65536
-    → GivingIs m (giving_behind g c) (pending_after h)
-gives_on m g h up gives c count = behind_case m g h up gives c count (nat_le g.length (g.given + c)) refl
+pub gives_on : (m : Store) (g : given.Giving) (h : Giving) (up : Upload) → GivesAs m g h up → IsGiving m g h → (c : ℕ)
+    → c ≡ min (g.length - g.given) 65536 → GivingIs m (giving_behind g c) (pending_after h)
+gives_on m g h up gives all c count = behind_case m g h up gives all c count (nat_le g.length (g.given + c)) refl
 
 -- a text that can't be read: nothing was given
 pub unread : {U B T : Type 0} (u : Ghosts U B) (store : U) (w : World) (h : Giving) (refusal : Option UploadRefusal) (done : T → Type 0) (error : UploadError) (old new : List ℕ)
-    → Answers refusal (Err error) done (u.stands store w) → new ≡ old → Gives u store (Err (stop_of error)) old new w h
+    → Answers refusal (Err error) done (u.stands store w) → new ≡ old → GivesPiece u store (Err (stop_of error)) old new w h
 unread u store w h refusal done errors.NoMemory old new told same = (told.1, same)
 unread u store w h refusal done errors.DiskFault old new told same = same
 unread u store w h refusal done (errors.Refused f) old new told same = (told.1, same)

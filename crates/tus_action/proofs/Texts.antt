@@ -22,9 +22,9 @@ at_start n l closes = record { number = n; length = l; given = 0; closes = close
 abbrev pub whole_text : ℕ → List ℕ → Bool → Giving
 whole_text n text closes = record { number = n; left = text; closes = closes }
 
-pub starts : (m : Store) (n : ℕ) (rec : Record) (up : Upload) (closes : Bool) → upload_of m n ≡ Some up → Tells m.indexes n rec up
+starts_as : (m : Store) (n : ℕ) (rec : Record) (up : Upload) (closes : Bool) → upload_of m n ≡ Some up → Tells m.indexes n rec up
     → GivesAs m (at_start n rec.text_len closes) (whole_text n (text_of m.indexes up) closes) up
-starts m n rec up closes found tells =
+starts_as m n rec up closes found tells =
     let text : List ℕ = text_of m.indexes up in
     let size : rec.text_len ≡ length text = tells.text_len in
     let all : take rec.text_len text ≡ text = take_all rec.text_len text (omega arith) in

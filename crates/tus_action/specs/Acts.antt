@@ -2,16 +2,15 @@
 use Rattle.std.specs.Prelude.{ℕ, Bool, true, false, ◌||◌, List, [], ◌∷◌, ◌++◌, length, take, drop, if◌then◌else◌, Option, Some, None}
 use Rattle.tus_request.specs.declared.faults.Fault.{Fault}
 use Rattle.tus_request.specs.declared.faults.Fault.TheVariants.{NoSuch}
-use Rattle.tus_request.specs.Requests.{Creation, Options, Create, Head, Get, Patch as Patches, Action, Request, Verdict, Asks, Refuses}
-use Rattle.tus_request.specs.Replies.{reply_options, reply_created, reply_head, reply_patched, reply_text, reply_continue, reply_refused}
+use Rattle.tus_request.specs.Requests.{Creation, Options, Create, Head, Get, Patch as Patches, Delete, Action, Request, Verdict, Asks, Refuses}
+use Rattle.tus_request.specs.Replies.{reply_options, reply_created, reply_head, reply_patched, reply_deleted, reply_text, reply_continue, reply_refused}
 use Rattle.upload_rules.specs.declared.errors.UploadRefusal.{UploadRefusal}
 use Rattle.upload_rules.specs.Store.{New, Upload, upload_of, text_of}
 use Rattle.upload_rules.specs.World.{Patch, World, free_number}
-use Rattle.upload_rules.specs.Calls.{create_refusal, created, begin_refusal, begun, longer, appended, commit_refusal, spent, reached}
+use Rattle.upload_rules.specs.Calls.{create_refusal, created, terminate_refusal, terminated, begin_refusal, begun, longer, appended, commit_refusal, spent, reached}
 use Rattle.tus_action.specs.Faults.{fault_of}
 
 -- A text that is still to be given: of which upload, the bytes that are left, and whether the connection closes then.
--- (With terminations: a deleted upload closes the connection.)
 pub record Giving : Type 0 where
   pub number : ℕ
   pub left : List ℕ
@@ -40,6 +39,11 @@ new_of c = record { declared = c.declared; from = c.from; to = c.to; mode = c.mo
 abbrev pub post : World → Request → New → Option UploadRefusal → Acted
 post w r new None = replied (created w new) (reply_created w.store.next r.bare r.closes) r.closes
 post w r new (Some f) = replied w (reply_refused (fault_of f) true r.bare r.closes) r.closes
+
+-- a DELETE that passed its checks
+abbrev pub delete : World → Request → ℕ → Option UploadRefusal → Acted
+delete w r number None = replied (terminated w number) (reply_deleted r.closes) r.closes
+delete w r number (Some f) = refused_at w (fault_of f) r r.closes
 
 abbrev pub head : World → Request → Option Upload → Acted
 head w r None = refused_at w NoSuch r r.closes
@@ -82,13 +86,13 @@ patch w r number None = record {
   closes = false;
 }
 
--- (with terminations: Delete n, a change at its head moment)
 abbrev pub acted_on : World → Request → Action → Acted
 acted_on w r Options = replied w (reply_options r.closes) r.closes
 acted_on w r (Create c) = post w r (new_of c) (create_refusal w (new_of c))
 acted_on w r (Head n) = head w r (upload_of w.store n)
 acted_on w r (Get n) = get w r n (upload_of w.store n)
 acted_on w r (Patches n offset) = patch w r n (begin_refusal w n offset r.length)
+acted_on w r (Delete n) = delete w r n (terminate_refusal w n)
 
 abbrev pub acted : World → Verdict → Acted
 acted w (Asks r) = acted_on w r r.action

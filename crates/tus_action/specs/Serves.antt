@@ -1,7 +1,7 @@
 -- How a call that acts on the uploads stands to the rules.
-use Rattle.std.specs.Prelude.{◌≡◌, ◌≤◌, ◌+◌, nat_le, if◌then◌else◌, ℕ, Bool, false, List, ◌++◌, length, take, drop, Option, Some, None, Result, Ok, Err}
+use Rattle.std.specs.Prelude.{◌≡◌, ◌≤◌, ◌<◌, ◌+◌, nat_le, if◌then◌else◌, ℕ, Bool, true, false, List, ◌++◌, length, take, drop, Option, Some, None, Result, Ok, Err}
 use Rattle.upload_rules.specs.Store.{Store, Upload, upload_of, text_of, find}
-use Rattle.upload_rules.specs.World.{Patch, World}
+use Rattle.upload_rules.specs.World.{Patch, World, is_there}
 use Rattle.upload_rules.specs.declared.uploads.Uploads.{Ghosts}
 use Rattle.tus_request.specs.Requests.{Action, Create}
 use Rattle.upload_rules.specs.Records.{IsWellFormed, IsOffered}
@@ -12,6 +12,8 @@ use Rattle.tus_action.specs.Faults.{fault_of}
 use Rattle.tus_action.specs.Acts.{Acted, Giving, new_of, piece_of, pending_after}
 use Rattle.tus_action.specs.declared.acts.Acted as code
 use Rattle.tus_action.specs.declared.acts.Giving as given
+use Rattle.tus_action.specs.declared.acts.Given.{Given}
+use Rattle.tus_action.specs.declared.acts.Given.TheVariants.{Piece, Last, Gone}
 use Rattle.tus_action.specs.declared.acts.Stop.{Stop}
 use Rattle.tus_action.specs.declared.acts.Stop.TheVariants.{NoMemory, DiskFault}
 
@@ -30,9 +32,16 @@ pub record GivesAs (m : Store) (g : given.Giving) (h : Giving) (up : Upload) : T
   pub left : h.left ≡ drop g.given (take g.length (text_of m.indexes up))
   pub closes : g.closes ≡ h.closes
 
+-- the text that is still to be given: of an upload that may be gone meanwhile. No other upload gets its number
+pub record IsGiving (m : Store) (g : given.Giving) (h : Giving) : Type 0 where
+  pub number : g.number ≡ h.number
+  pub below : h.number < m.next
+  pub closes : g.closes ≡ h.closes
+  pub there : (up : Upload) → upload_of m h.number ≡ Some up → GivesAs m g h up
+
 abbrev pub GivingIs : Store → Option given.Giving → Option Giving → Type 0
 GivingIs m None None = Unit {0}
-GivingIs m (Some g) (Some h) = (up : Upload) × GivesAs m g h up
+GivingIs m (Some g) (Some h) = IsGiving m g h
 GivingIs m _ _ = ⊥
 
 -- what was done is what the rules say
@@ -63,10 +72,23 @@ Ends u store (Err NoMemory) gone w = u.stands store gone
 Ends u store (Err DiskFault) gone w = Unit {0}
 
 -- the next piece is written; or the device failed, or memory was wanting, and nothing was written
-abbrev pub Gives : {U B : Type 0} → Ghosts U B → U → Result (Option given.Giving) Stop → List ℕ → List ℕ → World → Giving → Type 0
-Gives u store (Ok g) old new w h = u.stands store w × GivingIs w.store g (pending_after h) × (new ≡ old ++ piece_of h)
-Gives u store (Err NoMemory) old new w h = u.stands store w × (new ≡ old)
-Gives u store (Err DiskFault) old new w h = new ≡ old
+abbrev pub GivesPiece : {U B : Type 0} → Ghosts U B → U → Result (Option given.Giving) Stop → List ℕ → List ℕ → World → Giving → Type 0
+GivesPiece u store (Ok g) old new w h = u.stands store w × GivingIs w.store g (pending_after h) × (new ≡ old ++ piece_of h)
+GivesPiece u store (Err NoMemory) old new w h = u.stands store w × (new ≡ old)
+GivesPiece u store (Err DiskFault) old new w h = new ≡ old
+
+-- the next piece of the text of an upload, or nothing where the upload is gone
+abbrev pub IsGiven : Store → Given → List ℕ → List ℕ → Giving → Option Upload → Type 0
+IsGiven m (Piece g) old new h (Some up) = GivingIs m (Some g) (pending_after h) × (new ≡ old ++ piece_of h)
+IsGiven m Last old new h (Some up) = (pending_after h ≡ None) × (new ≡ old ++ piece_of h)
+IsGiven m Gone old new h None = new ≡ old
+IsGiven m _ old new h _ = ⊥
+
+-- as the uploads say. The device may fail, or memory be wanting, only where the upload is there, and then nothing was written
+abbrev pub Gives : {U B : Type 0} → Ghosts U B → U → Result Given Stop → List ℕ → List ℕ → World → Giving → Type 0
+Gives u store (Ok given) old new w h = u.stands store w × IsGiven w.store given old new h (upload_of w.store h.number)
+Gives u store (Err NoMemory) old new w h = (is_there (upload_of w.store h.number) ≡ true) × u.stands store w × (new ≡ old)
+Gives u store (Err DiskFault) old new w h = (is_there (upload_of w.store h.number) ≡ true) × (new ≡ old)
 
 -- what a POST makes fits a record, and its text has an output encoding
 abbrev pub CanBeMade : Action → Type 0

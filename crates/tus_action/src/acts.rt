@@ -39,6 +39,17 @@ pub struct Giving {
     pub closes: bool,
 }
 
+/// What became of a text that more was asked of.
+#[derive(Clone, Copy, Debug, PartialEq, Eq, Drop)]
+pub enum Given {
+    /// A piece was given, and this is left behind it.
+    Piece(Giving),
+    /// The last piece was given.
+    Last,
+    /// Nothing was given: the upload was deleted.
+    Gone,
+}
+
 /// What a request did: what is open now, and whether the connection closes.
 pub struct Acted<B> {
     /// The draft of an append whose body is to come.

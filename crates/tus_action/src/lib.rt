@@ -8,7 +8,7 @@ pub mod refusals;
 pub mod requests;
 mod writes;
 
-pub use acts::{Acted, Giving, Stop};
+pub use acts::{Acted, Given, Giving, Stop};
 pub use bodies::{cut_body, end_body, feed_body};
 pub use reads::give_more;
 pub use refusals::fault_of;

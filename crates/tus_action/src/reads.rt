@@ -1,13 +1,13 @@
 //! Requests that read the uploads: HEAD and GET, and the further pieces of a text.
 ghost use Rattle.std.specs.Prelude.{◌≡◌, ◌++◌, ◌+◌, ◌≤◌, Some, None, IsErrOf, OnOk, IfOk};
-ghost use Rattle.upload_rules.specs.Store.{upload_of};
+ghost use Rattle.upload_rules.specs.Store.{Upload, upload_of};
 ghost use Rattle.upload_rules.specs.World.{World};
 ghost use Rattle.upload_rules.specs.Answers.{Quiet, Counts};
 ghost use Rattle.tus_request.specs.Requests.{Request};
 ghost use Rattle.tus_action.specs.Acts.{head, get, Giving as Pending};
-ghost use Rattle.tus_action.specs.Serves.{Serves, Gives, GivingIs};
+ghost use Rattle.tus_action.specs.Serves.{Serves, Gives, GivesPiece, IsGiving};
 
-use crate::acts::{Acted, Giving, Stop};
+use crate::acts::{Acted, Given, Giving, Stop};
 use crate::refusals::refuse;
 use std::alloc::Global;
 use tus_request::replies::{reply_head, reply_text};
@@ -54,14 +54,16 @@ pub(crate) fn show<U: Uploads>(
     }
 }
 
-/// Gives the next piece of a text, 65,536 bytes or all that are left where they are fewer: appends it to `out`.
-pub fn give_more<U: Uploads>(
+// Gives the next piece of the text of an upload that is there, 65,536 bytes or all that are left where they are fewer:
+// appends it to `out`.
+fn next_piece<U: Uploads>(
     store: &mut U,
     giving: Giving,
     out: &mut Vec<u8>,
 ) -> Result<Option<Giving>, Stop>
-    ensures answer { (w : World) (h : Pending) → U.stands store.old w → GivingIs w.store (Some giving) (Some h)
-        → Gives U.Uploads store.new result out.old.items out.new.items w h }
+    ensures answer { (w : World) (h : Pending) (up : Upload) → U.stands store.old w → IsGiving w.store giving h
+        → upload_of w.store h.number ≡ Some up
+        → GivesPiece U.Uploads store.new result out.old.items out.new.items w h }
     ensures crash { Quiet (U.moment store.old) (U.moment store.new) (U.left_only store.old) (U.left_only store.new) }
     ensures counts { Counts (IsErrOf result Stop.DiskFault) (U.failures store.old) (U.failures store.new) }
 {
@@ -76,6 +78,28 @@ pub fn give_more<U: Uploads>(
             out.truncate(before);
             Err(Stop::from(error))
         }
+    }
+}
+
+/// Gives the next piece of a text, 65,536 bytes or all that are left where they are fewer: appends it to `out`. Nothing
+/// is given where the upload was deleted.
+pub fn give_more<U: Uploads>(
+    store: &mut U,
+    giving: Giving,
+    out: &mut Vec<u8>,
+) -> Result<Given, Stop>
+    ensures answer { (w : World) (h : Pending) → U.stands store.old w → IsGiving w.store giving h
+        → Gives U.Uploads store.new result out.old.items out.new.items w h }
+    ensures crash { Quiet (U.moment store.old) (U.moment store.new) (U.left_only store.old) (U.left_only store.new) }
+    ensures counts { Counts (IsErrOf result Stop.DiskFault) (U.failures store.old) (U.failures store.new) }
+{
+    if store.record(giving.number).is_none() {
+        return Ok(Given::Gone);
+    }
+    match next_piece(store, giving, out) {
+        Ok(Some(left)) => Ok(Given::Piece(left)),
+        Ok(None) => Ok(Given::Last),
+        Err(stop) => Err(stop),
     }
 }
 
@@ -111,7 +135,7 @@ pub(crate) fn give_text<U: Uploads>(
         given: 0,
         closes,
     };
-    match give_more(store, giving, out) {
+    match next_piece(store, giving, out) {
         Ok(left) => Ok(Acted::giving(left, closes)),
         Err(stop) => {
             out.truncate(before);

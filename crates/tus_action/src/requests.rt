@@ -9,7 +9,7 @@ ghost use Rattle.tus_action.specs.Serves.{Serves, CanBeMade, CanBeRead};
 
 use crate::acts::{Acted, Stop};
 use crate::reads::{give_text, show};
-use crate::writes::{begin, create};
+use crate::writes::{begin, create, delete};
 use std::alloc::Global;
 use tus_request::replies::reply_options;
 use tus_request::{Action, Request};
@@ -69,5 +69,6 @@ pub fn act<U: Uploads>(
                 alloc, store, number, offset, length, bare, expects, closes, out,
             )
         }
+        Action::Delete(number) => delete(alloc, store, number, bare, closes, out),
     }
 }

@@ -1,18 +1,18 @@
-//! Requests that change the uploads: a POST, and a PATCH at its head.
+//! Requests that change the uploads: a POST, a DELETE, and a PATCH at its head.
 ghost use Rattle.std.specs.Prelude.{◌≡◌, ◌++◌, [], Some, IsErrOf, OnOk, OnErr, if◌then◌else◌};
 ghost use Rattle.upload_rules.specs.World.{World};
-ghost use Rattle.upload_rules.specs.Calls.{create_refusal, create_outcome, begin_refusal};
+ghost use Rattle.upload_rules.specs.Calls.{create_refusal, create_outcome, terminate_refusal, terminate_outcome, begin_refusal};
 ghost use Rattle.upload_rules.specs.Answers.{Limits, Quiet, Counts};
 ghost use Rattle.upload_rules.specs.Records.{IsWellFormed, IsOffered};
 ghost use Rattle.tus_request.specs.Requests.{Request};
 ghost use Rattle.tus_request.specs.Replies.{reply_continue as continue_bytes};
-ghost use Rattle.tus_action.specs.Acts.{post, patch};
+ghost use Rattle.tus_action.specs.Acts.{post, delete as deleted, patch};
 ghost use Rattle.tus_action.specs.Serves.{Serves};
 
 use crate::acts::{Acted, Stop};
 use crate::refusals::refuse;
 use std::alloc::{AllocError, Global};
-use tus_request::replies::{reply_continue, reply_created};
+use tus_request::replies::{reply_continue, reply_created, reply_deleted};
 use upload_rules::{New, Uploads};
 
 /// Makes an upload. The reply is built first.
@@ -46,6 +46,39 @@ pub(crate) fn create<U: Uploads>(
         Err(error) => {
             out.truncate(before);
             refuse(alloc, error, true, bare, closes, out)
+        }
+    }
+}
+
+/// Takes an upload away. The reply is built first.
+pub(crate) fn delete<U: Uploads>(
+    alloc: Global,
+    store: &mut U,
+    number: u64,
+    bare: bool,
+    closes: bool,
+    out: &mut Vec<u8>,
+) -> Result<Acted<U::Draft>, Stop>
+    ensures answer { (w : World) (r : Request) → U.stands store.old w → bare ≡ r.bare → closes ≡ r.closes
+        → Serves U.Uploads store.new result out.old.items out.new.items w
+        (deleted w r number (terminate_refusal w number)) }
+    ensures crash { (w : World) → U.stands store.old w
+        → Limits (U.moment store.old) (U.moment store.new) (U.left_only store.old) (U.left_only store.new) w.store
+        (terminate_outcome w number) }
+    ensures unmade { (w : World) → U.stands store.old w → IsErrOf result Stop.NoMemory
+        → Limits (U.moment store.old) (U.moment store.new) (U.left_only store.old)
+        (U.left_only store.new) w.store w.store }
+    ensures counts { Counts (IsErrOf result Stop.DiskFault) (U.failures store.old) (U.failures store.new) }
+{
+    let before = out.as_slice().len();
+    let Ok(()) = reply_deleted(alloc, bare, closes, out) else {
+        return Err(Stop::NoMemory);
+    };
+    match store.terminate(number) {
+        Ok(()) => Ok(Acted::replied(closes)),
+        Err(error) => {
+            out.truncate(before);
+            refuse(alloc, error, false, bare, closes, out)
         }
     }
 }

@@ -83,6 +83,7 @@ impl Table {
 
 impl Uploads for Table {
     ghost use Rattle.upload_rules.specs.Table.{TableStands};
+    ghost use Rattle.upload_rules.specs.Numbers.{upload_below};
 
     type Draft = TableDraft;
 
@@ -97,6 +98,8 @@ impl Uploads for Table {
     ghost left_only = { λ t blocks since ms. Unit {0} };
 
     ghost failures = { λ t. 0 };
+
+    ghost below = { λ t w number u stands there. upload_below t w stands number u there };
 
     ghost durable = { λ t w ms stands among. tt };
 

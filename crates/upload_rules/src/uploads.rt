@@ -1,5 +1,5 @@
 //! Uploads: each call is stated for every world that the store stands for.
-ghost use Rattle.std.specs.Prelude.{◌≡◌, ◌≤◌, ◌+◌, ℕ, List, length, Option, Some, None, IsErrOf, option_copied};
+ghost use Rattle.std.specs.Prelude.{◌≡◌, ◌≤◌, ◌<◌, ◌+◌, ℕ, List, length, Option, Some, None, IsErrOf, option_copied};
 ghost use Rattle.enc_model.specs.Indexes.{IndexSet as Indexes};
 ghost use Rattle.upload_rules.specs.Store.{Upload, Store, upload_of, find};
 ghost use Rattle.upload_rules.specs.World.{Patch, World, free_number};
@@ -125,6 +125,9 @@ pub trait Uploads {
         ensures no_memory { IsErrOf result UploadError.NoMemory → ⊥ }
         ensures crash { Quiet (moment self.old) (moment self.new) (left_only self.old) (left_only self.new) }
         ensures counts { Counts (IsErrOf result UploadError.DiskFault) (failures self.old) (failures self.new) };
+
+    /// Each upload's number is below the next one.
+    ghost below: { (store : Self) (w : World) (number : ℕ) (u : Upload) → stands store w → upload_of w.store number ≡ Some u → number < w.store.next };
 
     /// A store that stands for a world is on the device.
     ghost durable: { (store : Self) (w : World) (ms : List Store) → stands store w → Among w.store ms → left_only store w.blocks (moment store) ms };

@@ -6,15 +6,15 @@ use Rattle.tus_action.specs.Serves.{ActedAs}
 use Rattle.tus_action.proofs.Texts.{get_acts_as, get_stops}
 use Rattle.tus_action.proofs.reads.give_text.Goals as goal
 
-pub returns-in-Ok-give_more-clause-answer : goal.returns-in-Ok-give_more-clause-answer
-returns-in-Ok-give_more-clause-answer g c = λ w r stands bare closes.
+pub returns-in-Ok-next_piece-clause-answer : goal.returns-in-Ok-next_piece-clause-answer
+returns-in-Ok-next_piece-clause-answer g c = λ w r stands bare closes.
     let n = c.args.number in
     let rec = c.in-Some.record.now in
     let old = c.args.out.now.items in
     let tells : TellsOf w.store.indexes (with_number n (upload_of w.store n)) (Some rec) = c.in-Some.ensures w stands in
-    subst (λ a. ActedAs g.U.Uploads c.give_more.new.store a old c.give_more.new.out.items (get w r n (upload_of w.store n))) (sym c.giving.ensures)
-    (get_acts_as g.U.Uploads c.give_more.new.store w r n rec c.in-Ok-give_more.left old c.reply_text.new.out.items c.give_more.new.out.items
-    c.args.bare c.args.closes (upload_of w.store n) refl tells bare c.if-bare.false closes c.in-Ok.ensures.ok (λ h is. c.in-Ok-give_more.ensures.answer w h stands is))
+    subst (λ a. ActedAs g.U.Uploads c.next_piece.new.store a old c.next_piece.new.out.items (get w r n (upload_of w.store n))) (sym c.giving.ensures)
+    (get_acts_as g.U.Uploads c.next_piece.new.store w r n rec c.in-Ok-next_piece.left old c.reply_text.new.out.items c.next_piece.new.out.items
+    c.args.bare c.args.closes (upload_of w.store n) refl tells bare c.if-bare.false closes c.in-Ok.ensures.ok (λ h up is there. c.in-Ok-next_piece.ensures.answer w h up stands is there))
 
 pub returns-in-Err-clause-answer : goal.returns-in-Err-clause-answer
 returns-in-Err-clause-answer g c = λ w r stands bare closes.
@@ -22,6 +22,6 @@ returns-in-Err-clause-answer g c = λ w r stands bare closes.
     let rec = c.in-Some.record.now in
     let old = c.args.out.now.items in
     let tells : TellsOf w.store.indexes (with_number n (upload_of w.store n)) (Some rec) = c.in-Some.ensures w stands in
-    get_stops g.U.Uploads c.give_more.new.store w c.args.closes n rec c.in-Err.stop old _ c.reply_text.new.out.items c.give_more.new.out.items c.truncate.new.self.items
+    get_stops g.U.Uploads c.next_piece.new.store w c.args.closes n rec c.in-Err.stop old _ c.reply_text.new.out.items c.next_piece.new.out.items c.truncate.new.self.items
     (length c.as_slice-before.result.now) _ (upload_of w.store n) refl tells c.in-Ok.ensures.ok (ap length c.as_slice-before.ensures.value) c.truncate.ensures.items
-    (λ h is. c.in-Err.ensures.answer w h stands is)
+    (λ h up is there. c.in-Err.ensures.answer w h up stands is there)
