@@ -1,5 +1,5 @@
 -- The pieces of a text that is given.
-use Rattle.std.proofs.Common.{◌≡◌, ◌≤◌, ◌<◌, ◌+◌, ◌-◌, min, arith, ℕ, Bool, true, false, List, [], ◌∷◌, ◌++◌, length, take, drop, nat_le, Option, Some, None, Err, refl, sym, subst, ap, ◌∙◌, if◌then◌else◌, append-nil}
+use Rattle.std.proofs.Common.{◌≡◌, ◌≤◌, ◌<◌, ◌+◌, ◌-◌, min, arith, ℕ, Bool, true, false, List, [], ◌∷◌, ◌++◌, length, take, drop, nat_le, Option, Some, None, Ok, Err, refl, sym, subst, ap, ◌∙◌, if◌then◌else◌, append-nil}
 use Rattle.std.proofs.lemmas.List.{length-take, length-drop, take_all, take-take, drop-drop, drop_all, drop-take, length-take-le, take-append-le}
 use borrow.Rule.Slice.PartMut.{put_mid, post_of}
 use Rattle.std.proofs.lemmas.Bool.{leb-true, leb-false}
@@ -7,6 +7,8 @@ use Rattle.upload_rules.specs.Store.{Store, Upload, upload_of, text_of}
 use Rattle.upload_rules.specs.Answers.{Answers}
 use Rattle.upload_rules.specs.Reading.{text_at, IsRead}
 use Rattle.upload_rules.specs.World.{World}
+use Rattle.upload_rules.specs.Records.{TellsOf, with_number}
+use Rattle.upload_rules.specs.declared.records.Record.{Record}
 use Rattle.upload_rules.specs.declared.uploads.Uploads.{Ghosts}
 use Rattle.upload_rules.specs.declared.errors.UploadError.{UploadError}
 use Rattle.upload_rules.specs.declared.errors.UploadError.TheVariants as errors
@@ -15,6 +17,7 @@ use Rattle.tus_action.specs.Faults.{stop_of}
 use Rattle.tus_action.specs.Acts.{Giving, piece_of, pending_of, pending_after}
 use Rattle.tus_action.specs.Serves.{GivesAs, IsGiving, GivingIs, GivesPiece, IsGiven, Gives, giving_behind}
 use Rattle.tus_action.specs.declared.acts.Giving as given
+use Rattle.tus_action.specs.declared.acts.Given.TheVariants.{Piece, Last}
 
 -- a list was made longer, and a buffer was read over what is new of it
 pub read_behind : (old zeros xs buf : List ℕ) (before n : ℕ) → before ≡ length old → xs ≡ take (before + n) old ++ zeros → length xs ≡ before + n
@@ -132,3 +135,28 @@ pub unread : {U B T : Type 0} (u : Ghosts U B) (store : U) (w : World) (h : Givi
 unread u store w h refusal done errors.NoMemory old new told same = (told.1, same)
 unread u store w h refusal done errors.DiskFault old new told same = same
 unread u store w h refusal done (errors.Refused f) old new told same = (told.1, same)
+
+-- the upload that a record tells of
+pub told_there : (m : Store) (n k : ℕ) (r : Record) → n ≡ k → TellsOf m.indexes (with_number n (upload_of m n)) (Some r) → (up : Upload) × (upload_of m k ≡ Some up)
+told_there m n k r same told = subst (λ i. (up : Upload) × (upload_of m i ≡ Some up)) same (of (upload_of m n) told)
+  where
+    of : (o : Option Upload) → TellsOf m.indexes (with_number n o) (Some r) → (up : Upload) × (o ≡ Some up)
+    of None told = absurd told
+    of (Some up) told = (up, refl)
+
+-- the piece that was given
+pub piece_given : {U B : Type 0} (u : Ghosts U B) (store : U) (w : World) (h : Giving) (up : Upload) (left : Option given.Giving) (g : given.Giving) (old new : List ℕ)
+    → upload_of w.store h.number ≡ Some up → left ≡ Some g → GivesPiece u store (Ok left) old new w h → Gives u store (Ok (Piece g)) old new w h
+piece_given u store w h up left g old new there is gave =
+    let rest = subst (λ l. GivingIs w.store l (pending_after h)) is gave.1 in
+    (gave.0, subst (IsGiven w.store (Piece g) old new h) (sym there) (rest, gave.2))
+
+pub last_given : {U B : Type 0} (u : Ghosts U B) (store : U) (w : World) (h : Giving) (up : Upload) (left : Option given.Giving) (old new : List ℕ)
+    → upload_of w.store h.number ≡ Some up → left ≡ None → GivesPiece u store (Ok left) old new w h → Gives u store (Ok Last) old new w h
+last_given u store w h up left old new there is gave =
+    let none = none_is w.store (pending_after h) (subst (λ l. GivingIs w.store l (pending_after h)) is gave.1) in
+    (gave.0, subst (IsGiven w.store Last old new h) (sym there) (none, gave.2))
+  where
+    none_is : (m : Store) (p : Option Giving) → GivingIs m None p → p ≡ None
+    none_is m None is = refl
+    none_is m (Some q) is = absurd is

@@ -1,6 +1,7 @@
 -- The first piece of a text behind the reply's head.
-use Rattle.std.proofs.Common.{◌≡◌, arith, ℕ, Bool, false, List, [], ◌++◌, length, take, drop, Option, Some, None, Ok, Err, refl, sym, subst, ap, ◌∙◌, if◌then◌else◌, append_assoc}
+use Rattle.std.proofs.Common.{◌≡◌, ◌<◌, arith, ℕ, Bool, false, List, [], ◌++◌, length, take, drop, Option, Some, None, Ok, Err, refl, sym, subst, ap, ◌∙◌, if◌then◌else◌, append_assoc}
 use Rattle.std.proofs.lemmas.List.{take_all}
+use Rattle.std.proofs.lemmas.Option.{same_Some}
 use Rattle.upload_rules.specs.Store.{Store, Upload, upload_of, text_of}
 use Rattle.upload_rules.specs.World.{World}
 use Rattle.upload_rules.specs.Records.{Tells, TellsOf, with_number}
@@ -9,7 +10,7 @@ use Rattle.upload_rules.specs.declared.uploads.Uploads.{Ghosts}
 use Rattle.tus_request.specs.Requests.{Request}
 use Rattle.tus_request.specs.Replies.{reply_text}
 use Rattle.tus_action.specs.Acts.{Acted, Giving, piece_size, pending_of, pending_after, is_pending, get}
-use Rattle.tus_action.specs.Serves.{GivesAs, GivingIs, DraftIs, ActedAs, Serves, Gives, replied_giving}
+use Rattle.tus_action.specs.Serves.{GivesAs, IsGiving, GivingIs, DraftIs, ActedAs, Serves, GivesPiece, replied_giving}
 use Rattle.tus_action.specs.declared.acts.Giving as given
 use Rattle.tus_action.specs.declared.acts.Stop.{Stop}
 use Rattle.tus_action.specs.declared.acts.Stop.TheVariants as Stops
@@ -29,6 +30,17 @@ starts_as m n rec up closes found tells =
     let size : rec.text_len ≡ length text = tells.text_len in
     let all : take rec.text_len text ≡ text = take_all rec.text_len text (omega arith) in
     record { number = refl; found = found; some = omega arith; within = omega arith; left = sym all; closes = refl }
+
+-- the text of an upload, with nothing given
+pub starts : (m : Store) (n : ℕ) (rec : Record) (up : Upload) (closes : Bool) → n < m.next → upload_of m n ≡ Some up → Tells m.indexes n rec up
+    → IsGiving m (at_start n rec.text_len closes) (whole_text n (text_of m.indexes up) closes)
+starts m n rec up closes below found tells = record {
+  number = refl;
+  below = below;
+  closes = refl;
+  there = λ v is. subst (λ w. GivesAs m (at_start n rec.text_len closes) (whole_text n (text_of m.indexes up) closes) w)
+      (same_Some up v (sym found ∙ is)) (starts_as m n rec up closes found tells);
+}
 
 given_closes : (B : Type 0) (m : Store) (left : Option given.Giving) (p : Option Giving) (closes : Bool) → GivingIs m left p
     → (replied_giving {B = B} left closes).closes ≡ (if is_pending p then false else closes)
@@ -50,15 +62,15 @@ no_draft u w (Some g) closes = tt {0}
 
 -- the reply's head and the first piece
 pub get_acts : {U B : Type 0} (u : Ghosts U B) (store : U) (w : World) (r : Request) (n : ℕ) (rec : Record) (left : Option given.Giving) (old mid new : List ℕ)
-    (o : Option Upload) → upload_of w.store n ≡ o → TellsOf w.store.indexes (with_number n o) (Some rec) → r.bare ≡ false
+    (o : Option Upload) → ((v : Upload) → upload_of w.store n ≡ Some v → n < w.store.next) → upload_of w.store n ≡ o → TellsOf w.store.indexes (with_number n o) (Some rec) → r.bare ≡ false
     → mid ≡ old ++ reply_text rec.to rec.text_len false r.closes
-    → ((h : Giving) → GivingIs w.store (Some (at_start n rec.text_len r.closes)) (Some h) → Gives u store (Ok left) mid new w h)
+    → ((h : Giving) (up : Upload) → IsGiving w.store (at_start n rec.text_len r.closes) h → upload_of w.store h.number ≡ Some up → GivesPiece u store (Ok left) mid new w h)
     → ActedAs u store (replied_giving left r.closes) old new (get w r n o)
-get_acts u store w r n rec left old mid new None e tells bare head gives = absurd tells
-get_acts {B = B} u store w r n rec left old mid new (Some up) e tells bare head gives =
+get_acts u store w r n rec left old mid new None below e tells bare head gives = absurd tells
+get_acts {B = B} u store w r n rec left old mid new (Some up) below e tells bare head gives =
     let text : List ℕ = text_of w.store.indexes up in
     let h : Giving = whole_text n text r.closes in
-    let g = gives h (up, starts w.store n rec up r.closes e tells) in
+    let g = gives h up (starts w.store n rec up r.closes (below up e) e tells) e in
     let pend : pending_after h ≡ pending_of n (if r.bare then [] else drop piece_size text) r.closes =
     ap (λ b. pending_of n (if b then [] else drop piece_size text) r.closes) (sym bare) in
     let is : GivingIs w.store left (pending_of n (if r.bare then [] else drop piece_size text) r.closes) = subst (λ p. GivingIs w.store left p) pend g.1 in
@@ -76,26 +88,26 @@ get_acts {B = B} u store w r n rec left old mid new (Some up) e tells bare head 
 
 -- the first piece wasn't given: the head is taken back
 pub get_stops : {U B : Type 0} (u : Ghosts U B) (store : U) (w : World) (closes : Bool) (n : ℕ) (rec : Record) (stop : Stop) (old more mid out new : List ℕ) (k : ℕ) (m : Acted)
-    (o : Option Upload) → upload_of w.store n ≡ o → TellsOf w.store.indexes (with_number n o) (Some rec)
+    (o : Option Upload) → ((v : Upload) → upload_of w.store n ≡ Some v → n < w.store.next) → upload_of w.store n ≡ o → TellsOf w.store.indexes (with_number n o) (Some rec)
     → mid ≡ old ++ more → k ≡ length old → new ≡ take k out
-    → ((h : Giving) → GivingIs w.store (Some (at_start n rec.text_len closes)) (Some h) → Gives u store (Err stop) mid out w h)
+    → ((h : Giving) (up : Upload) → IsGiving w.store (at_start n rec.text_len closes) h → upload_of w.store h.number ≡ Some up → GivesPiece u store (Err stop) mid out w h)
     → Serves {B = B} u store (Err stop) old new w m
-get_stops u store w closes n rec stop old more mid out new k m None e tells head size cut gives = absurd tells
-get_stops u store w closes n rec Stops.NoMemory old more mid out new k m (Some up) e tells head size cut gives =
-    let g = gives (whole_text n (text_of w.store.indexes up) closes) (up, starts w.store n rec up closes e tells) in
+get_stops u store w closes n rec stop old more mid out new k m None below e tells head size cut gives = absurd tells
+get_stops u store w closes n rec Stops.NoMemory old more mid out new k m (Some up) below e tells head size cut gives =
+    let g = gives (whole_text n (text_of w.store.indexes up) closes) up (starts w.store n rec up closes (below up e) e tells) e in
     (g.0, taken_back old more new k size (cut ∙ ap (take k) (g.1 ∙ head)))
-get_stops u store w closes n rec Stops.DiskFault old more mid out new k m (Some up) e tells head size cut gives =
-    let g = gives (whole_text n (text_of w.store.indexes up) closes) (up, starts w.store n rec up closes e tells) in
+get_stops u store w closes n rec Stops.DiskFault old more mid out new k m (Some up) below e tells head size cut gives =
+    let g = gives (whole_text n (text_of w.store.indexes up) closes) up (starts w.store n rec up closes (below up e) e tells) e in
     taken_back old more new k size (cut ∙ ap (take k) (g ∙ head))
 
 -- the same with the flags that the code was given
 pub get_acts_as : {U B : Type 0} (u : Ghosts U B) (store : U) (w : World) (r : Request) (n : ℕ) (rec : Record) (left : Option given.Giving) (old mid new : List ℕ)
-    (bare closes : Bool) (o : Option Upload) → upload_of w.store n ≡ o → TellsOf w.store.indexes (with_number n o) (Some rec) → bare ≡ r.bare → bare ≡ false → closes ≡ r.closes
+    (bare closes : Bool) (o : Option Upload) → ((v : Upload) → upload_of w.store n ≡ Some v → n < w.store.next) → upload_of w.store n ≡ o → TellsOf w.store.indexes (with_number n o) (Some rec) → bare ≡ r.bare → bare ≡ false → closes ≡ r.closes
     → mid ≡ old ++ reply_text rec.to rec.text_len bare closes
-    → ((h : Giving) → GivingIs w.store (Some (at_start n rec.text_len closes)) (Some h) → Gives u store (Ok left) mid new w h)
+    → ((h : Giving) (up : Upload) → IsGiving w.store (at_start n rec.text_len closes) h → upload_of w.store h.number ≡ Some up → GivesPiece u store (Ok left) mid new w h)
     → ActedAs u store (replied_giving left closes) old new (get w r n o)
-get_acts_as u store w r n rec left old mid new bare closes o e tells bare_is not_bare closes_is head gives =
+get_acts_as u store w r n rec left old mid new bare closes o below e tells bare_is not_bare closes_is head gives =
     subst (λ c. ActedAs u store (replied_giving left c) old new (get w r n o)) (sym closes_is)
-    (get_acts u store w r n rec left old mid new o e tells (sym bare_is ∙ not_bare)
+    (get_acts u store w r n rec left old mid new o below e tells (sym bare_is ∙ not_bare)
     (head ∙ (ap (λ b. old ++ reply_text rec.to rec.text_len b closes) not_bare ∙ ap (λ c. old ++ reply_text rec.to rec.text_len false c) closes_is))
-    (λ h is. gives h (subst (λ c. GivingIs w.store (Some (at_start n rec.text_len c)) (Some h)) (sym closes_is) is)))
+    (λ h up is there. gives h up (subst (λ c. IsGiving w.store (at_start n rec.text_len c) h) (sym closes_is) is) there))

@@ -93,9 +93,9 @@ pub fn give_more<U: Uploads>(
     ensures crash { Quiet (U.moment store.old) (U.moment store.new) (U.left_only store.old) (U.left_only store.new) }
     ensures counts { Counts (IsErrOf result Stop.DiskFault) (U.failures store.old) (U.failures store.new) }
 {
-    if store.record(giving.number).is_none() {
+    let Some(_there) = store.record(giving.number) else {
         return Ok(Given::Gone);
-    }
+    };
     match next_piece(store, giving, out) {
         Ok(Some(left)) => Ok(Given::Piece(left)),
         Ok(None) => Ok(Given::Last),

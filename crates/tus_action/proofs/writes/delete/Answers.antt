@@ -1,4 +1,4 @@
-use Rattle.std.proofs.Common.{◌≡◌, ℕ, List, ap, sym, ◌∙◌, subst, take, length, true}
+use Rattle.std.proofs.Common.{◌≡◌, ℕ, List, ap, sym, ◌∙◌, subst, take, length, false}
 use Rattle.upload_rules.specs.Calls.{terminate_refusal}
 use Rattle.tus_action.specs.Acts.{delete, replied}
 use Rattle.tus_action.specs.Faults.{fault_of}
