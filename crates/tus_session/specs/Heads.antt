@@ -1,7 +1,7 @@
 -- A head that is whole.
 use Rattle.std.specs.Prelude.{◌≡◌, ◌-◌, ◌+◌, ◌<◌, ◌^◌, ℕ, List, ◌++◌, length, None}
 use Rattle.upload_rules.specs.World.{World}
-use Rattle.tus_request.specs.Requests.{Request, Action, Options, Create, Head, Get, Patch, Verdict}
+use Rattle.tus_request.specs.Requests.{Request, Action, Options, Create, Head, Get, Patch, Delete, Verdict}
 use Rattle.tus_request.specs.Answers.{Judged}
 use Rattle.tus_session.specs.Streams.{InHead, cut}
 use Rattle.tus_session.specs.Turns.{Conn, reader}
@@ -25,6 +25,7 @@ OffsetFits (Create c) = Unit {0}
 OffsetFits (Head number) = Unit {0}
 OffsetFits (Get number) = Unit {0}
 OffsetFits (Patch number offset) = offset < 10 ^ 18
+OffsetFits (Delete number) = Unit {0}
 
 pub record IsSmall (r : Request) : Type 0 where
   pub count : r.length < 10 ^ 18
@@ -37,3 +38,4 @@ ReachedIs (Create c) count reached = Unit {0}
 ReachedIs (Head number) count reached = Unit {0}
 ReachedIs (Get number) count reached = Unit {0}
 ReachedIs (Patch number offset) count reached = reached ≡ offset + count
+ReachedIs (Delete number) count reached = Unit {0}

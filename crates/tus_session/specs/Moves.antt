@@ -1,19 +1,22 @@
 -- What a turn of one connection leaves to the others.
-use Rattle.std.specs.Prelude.{◌≡◌, ◌⊎◌, ℕ, List, ◌++◌, Option, Some, None}
+use Rattle.std.specs.Prelude.{◌≡◌, ◌≤◌, ◌<◌, ◌⊎◌, ℕ, List, ◌++◌, Option, Some, None}
 use Rattle.upload_rules.specs.Store.{Upload, Store, upload_of, text_of, with_bytes, find}
 use Rattle.upload_rules.specs.World.{Patch, World}
 use Rattle.upload_rules.specs.Apart.{IsApart}
 
--- the upload is there, and neither its bytes nor its text lost any
-abbrev pub Longer : Store → Store → ℕ → Upload → Type 0
-Longer m m' n up =
-    (bytes : List ℕ) × (more : List ℕ) × (upload_of m' n ≡ Some (with_bytes up bytes))
-    × (text_of m'.indexes (with_bytes up bytes) ≡ text_of m.indexes up ++ more)
+-- the upload that was there has bytes behind it or none, and so has its text
+pub record Longer (m m' : Store) (up up' : Upload) : Type 0 where
+  pub bytes : List ℕ
+  pub more : List ℕ
+  pub is : up' ≡ with_bytes up bytes
+  pub text : text_of m'.indexes up' ≡ text_of m.indexes up ++ more
 
--- each upload is there, with bytes behind it or none
+-- an upload of a number that was given was there before, and lost neither bytes nor text; others may be gone
 pub record Grows (m m' : Store) : Type 0 where
   pub indexes : m'.indexes ≡ m.indexes
-  pub uploads : (n : ℕ) (up : Upload) → upload_of m n ≡ Some up → Longer m m' n up
+  pub next : m.next ≤ m'.next
+  pub uploads : (n : ℕ) (up' : Upload) → n < m.next → upload_of m' n ≡ Some up'
+      → (up : Upload) × (upload_of m n ≡ Some up) × Longer m m' up up'
 
 -- From one world to the next by the connection that had one draft and now has another: all other patches are as they were,
 -- and no draft number is taken that was another's

@@ -1,14 +1,15 @@
 -- What a session stands for.
-use Rattle.std.specs.Prelude.{◌≡◌, ◌+◌, ◌≤◌, ◌-◌, ℕ, List, [], length, get_or, Option, Some, None}
+use Rattle.std.specs.Prelude.{◌≡◌, ◌+◌, ◌≤◌, ◌<◌, ◌-◌, ℕ, List, [], length, get_or, Option, Some, None}
 use Rattle.tus_request.specs.Requests.{Request, Asks, body_length}
 use Rattle.tus_request.specs.Buffers.{bytes_of}
-use Rattle.upload_rules.specs.Store.{Upload, upload_of, with_bytes, find}
+use Rattle.upload_rules.specs.Store.{upload_of, find}
+use Rattle.upload_rules.specs.Grown.{GrewFrom}
 use Rattle.upload_rules.specs.World.{Patch, World}
 use Rattle.upload_rules.specs.Apart.{IsApart}
 use Rattle.upload_rules.specs.Calls.{dropped}
 use Rattle.upload_rules.specs.declared.uploads.Uploads.{Ghosts}
 use Rattle.tus_action.specs.Acts.{Giving}
-use Rattle.tus_action.specs.Serves.{GivesAs}
+use Rattle.tus_action.specs.Serves.{IsGiving}
 use Rattle.tus_session.specs.Streams.{Asked, Rest, InHead, InBody, cut}
 use Rattle.tus_session.specs.Turns.{Conn, reader}
 use Rattle.tus_session.specs.History.{State}
@@ -23,10 +24,6 @@ abbrev pub RestIs : List ℕ → ℕ → Rest → Type 0
 RestIs head left (InHead h) = (head ≡ h) × (left ≡ 0)
 RestIs head left (InBody r) = (head ≡ []) × (left ≡ body_length r.verdict - length r.body)
 
--- the upload that a patch began at is there, with bytes behind it or none
-abbrev pub IsThere : World → Patch → Type 0
-IsThere w p = (more : List ℕ) × (upload_of w.store p.number ≡ Some (with_bytes p.began more))
-
 -- the request that a body belongs to, and the open patch that it is
 pub record PatchesAs {U B : Type 0} (u : Ghosts U B) (w : World) (b : Patching B) (d : ℕ) (asked : Asked) (r : Request) (p : Patch) : Type 0 where
   pub number : u.number_of b.draft ≡ d
@@ -37,7 +34,8 @@ pub record PatchesAs {U B : Type 0} (u : Ghosts U B) (w : World) (b : Patching B
   pub body : p.body ≡ asked.body
   pub reached : b.reached ≡ length p.began.accepted + p.count
   pub fits : length p.began.accepted + p.count ≤ p.began.declared
-  pub grown : IsThere w p
+  pub below : p.number < w.store.next
+  pub grown : GrewFrom p (upload_of w.store p.number)
   pub bare : b.bare ≡ r.bare
   pub closes : b.closes ≡ r.closes
 
@@ -49,7 +47,7 @@ PatchIs u w (InBody asked) b d = (r : Request) × (p : Patch) × PatchesAs u w b
 abbrev pub TaskIs : {U B : Type 0} → Ghosts U B → World → Rest → Task B → Option ℕ → Option Giving → Type 0
 TaskIs u w rest tasks.Idle None None = Unit {0}
 TaskIs u w rest (tasks.Patch b) (Some d) None = PatchIs u w rest b d
-TaskIs u w rest (tasks.Text g) None (Some h) = (up : Upload) × GivesAs w.store g h up
+TaskIs u w rest (tasks.Text g) None (Some h) = IsGiving w.store g h
 TaskIs u w rest _ _ _ = ⊥
 
 -- a connection is the history's

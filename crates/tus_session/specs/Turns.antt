@@ -1,11 +1,11 @@
 -- What an event makes of the world and of its connection.
-use Rattle.std.specs.Prelude.{ℕ, ◌-◌, Bool, true, false, List, [], ◌++◌, length, take, drop, if◌then◌else◌, Option, Some, None}
+use Rattle.std.specs.Prelude.{ℕ, ◌-◌, Bool, true, false, List, [], ◌++◌, length, take, if◌then◌else◌, Option, Some, None}
 use Rattle.tus_request.specs.Answers.{answer_of}
 use Rattle.enc_model.specs.Indexes.{offers}
-use Rattle.upload_rules.specs.Store.{find}
+use Rattle.upload_rules.specs.Store.{Upload, find, upload_of}
 use Rattle.upload_rules.specs.World.{Patch, World}
 use Rattle.upload_rules.specs.Calls.{commit_refusal, spent, dropped}
-use Rattle.tus_action.specs.Acts.{Giving, Acted, acted, is_pending, pending_of, piece_size, fed, commit_with}
+use Rattle.tus_action.specs.Acts.{Giving, Acted, acted, is_pending, pending_after, piece_of, fed, commit_with}
 use Rattle.tus_session.specs.Streams.{Asked, Reader, Moments, moments, taken}
 
 -- an open connection: its stream, its open patch's draft number, and its pending text
@@ -72,19 +72,18 @@ came_on w k piece None = came_to (reader w) w k piece (taken (reader w) k.stream
 unfoldable pub came_turn : World → Conn → List ℕ → Turn
 came_turn w k piece = came_on w k piece k.pending
 
--- `more`: the next piece (with terminations: nothing and a close, where the upload is gone)
+-- `more`: the next piece, and what is left of the text then; of a deleted upload nothing, and the connection closes
 abbrev pub given_up : Conn → Bool → Option Giving → Option Conn
 given_up k closes None = if closes then None else Some (record k { pending = None })
 given_up k closes (Some g) = Some (record k { pending = Some g })
 
+abbrev pub give_on : World → Conn → Giving → Option Upload → Turn
+give_on w k g None = record { world = w; conn = None; bytes = []; taken = 0 }
+give_on w k g (Some u) = record { world = w; conn = given_up k g.closes (pending_after g); bytes = piece_of g; taken = 0 }
+
 abbrev pub more_on : World → Conn → Option Giving → Turn
 more_on w k None = record { world = w; conn = Some k; bytes = []; taken = 0 }
-more_on w k (Some g) = record {
-  world = w;
-  conn = given_up k g.closes (pending_of g.number (drop piece_size g.left) g.closes);
-  bytes = take piece_size g.left;
-  taken = 0;
-}
+more_on w k (Some g) = give_on w k g (upload_of w.store g.number)
 
 unfoldable pub more_turn : World → Conn → Turn
 more_turn w k = more_on w k k.pending

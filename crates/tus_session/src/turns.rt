@@ -9,7 +9,7 @@ ghost use Rattle.tus_session.specs.Turned.{Turned, Ended};
 
 use crate::conns::{Link, Patching, Place, Task};
 use crate::{Answer, SessionError};
-use tus_action::{Stop, cut_body, give_more};
+use tus_action::{Given, Stop, cut_body, give_more};
 use tus_request::HeadBuffer;
 use upload_rules::Uploads;
 
@@ -32,7 +32,8 @@ pub(crate) fn waits(taken: usize, more: bool) -> Answer
     }
 }
 
-// The next piece of the text that is still to be given, if there is one.
+// The next piece of the text that is still to be given, if there is one. The connection closes where its upload was
+// deleted.
 pub(crate) fn more_of<U: Uploads>(
     store: &mut U,
     link: Link<U::Draft>,
@@ -51,7 +52,7 @@ pub(crate) fn more_of<U: Uploads>(
         task => return unmoved(Link { head, left, task }, false),
     };
     match give_more(store, giving, out) {
-        Ok(Some(rest)) => {
+        Ok(Given::Piece(rest)) => {
             let answer = Answer {
                 taken: 0,
                 closes: false,
@@ -64,13 +65,21 @@ pub(crate) fn more_of<U: Uploads>(
             };
             (Place::Open(link), Ok(answer))
         }
-        Ok(None) => {
+        Ok(Given::Last) => {
             let answer = Answer {
                 taken: 0,
                 closes: giving.closes,
                 more: false,
             };
             (place_of(head, left, giving.closes), Ok(answer))
+        }
+        Ok(Given::Gone) => {
+            let answer = Answer {
+                taken: 0,
+                closes: true,
+                more: false,
+            };
+            (Place::Closed, Ok(answer))
         }
         Err(Stop::NoMemory) => (Place::Closed, Err(SessionError::NoMemory)),
         Err(Stop::DiskFault) => (Place::Closed, Err(SessionError::DiskFault)),
