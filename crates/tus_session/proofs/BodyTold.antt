@@ -11,6 +11,7 @@ use Rattle.tus_request.specs.Answers.{answer_of}
 use Rattle.tus_request.specs.Requests.{Request, Asks, body_length}
 use Rattle.upload_rules.specs.Store.{Upload, upload_of, with_bytes, find}
 use Rattle.upload_rules.specs.World.{Patch, World}
+use Rattle.upload_rules.specs.Grown.{GrewFrom}
 use Rattle.upload_rules.specs.Calls.{dropped, spent, commit_refusal, appended_at}
 use Rattle.upload_rules.specs.Calls.{longer as longer_patch}
 use Rattle.upload_rules.proofs.Finds.{find_replaced_same}
@@ -19,7 +20,7 @@ use Rattle.tus_action.specs.Acts.{Giving, Acted, fed, fed_patch, commit_with}
 use Rattle.tus_session.specs.Streams.{Asked, InHead, InBody, Rest, cut}
 use Rattle.tus_session.specs.Turns.{Conn, Turn, reader, came_on, came_turn}
 use Rattle.tus_session.specs.History.{is_closed, has_text}
-use Rattle.tus_session.specs.Stands.{IsThere, PatchesAs, RestIs, TaskIs, LinkIs, PlaceIs, draft_at}
+use Rattle.tus_session.specs.Stands.{PatchesAs, RestIs, TaskIs, LinkIs, PlaceIs, draft_at}
 use Rattle.tus_session.specs.Heads.{InsideHead}
 use Rattle.tus_session.specs.Moves.{Moves}
 use Rattle.tus_session.specs.Turned.{TurnedAs, Turned}
@@ -34,7 +35,7 @@ use Rattle.tus_session.specs.declared.conns.Place.{Place}
 use Rattle.tus_session.specs.declared.conns.Place.TheVariants.{Closed, Open}
 use Rattle.tus_session.proofs.BodyTurns.{part_turn, rest_turn}
 use Rattle.tus_session.proofs.Feeding.{fed_body, fed_began, fed_number, fed_count}
-use Rattle.tus_session.proofs.Frames.{there_more}
+use Rattle.tus_session.proofs.Frames.{grown_more}
 use Rattle.tus_session.proofs.Opening.{still}
 use Rattle.tus_session.proofs.Moved.{feed_moves, spend_moves, both_moves}
 use Rattle.tus_session.proofs.NewRests.{body_part_rest, body_whole_rest}
@@ -65,19 +66,29 @@ module _ {U B : Type 0} (u : Ghosts U B) where
       record { kept = subst (RestIs (bytes_of k.head) k.left) (sym here) kept; does = tt } in
       subst (λ p. PlaceIs u w' p (Some (plain s' None))) (sym e) link
 
+  -- of another patch that began at the same upload
+  grew_as : (p q : Patch) (o : Option Upload) → q.began ≡ p.began → GrewFrom p o → GrewFrom q o
+  grew_as p q None same grown = tt
+  grew_as p q (Some up) same (more, is) = (more, is ∙ ap (λ x. with_bytes x more) (sym same))
+
   module _ (w : World) (b : Patching B) (asked : Asked) (r : Request) (p : Patch)
       (is : PatchesAs u w b (u.number_of b.draft) asked r p) where
     abbrev d : ℕ
     d = u.number_of b.draft
 
-    there_fed : (q : List ℕ) → IsThere (fed w d q) (fed_patch w d p q)
-    there_fed q =
-        let moves = feed_moves w d p q is.found in
-        let a = there_more w (fed w d q) p moves.grows is.grown in
-        let P : ℕ → Upload → Type 0 = λ n up. (more : List ℕ)
-        × (upload_of (fed w d q).store n ≡ Some (with_bytes up more)) in
-        let x : P p.number (fed_patch w d p q).began = subst (P p.number) (sym (fed_began w d p q)) a in
-        subst (λ n. P n (fed_patch w d p q).began) (sym (fed_number w d p q)) x
+    below_fed : (q : List ℕ) → (fed_patch w d p q).number < (fed w d q).store.next
+    below_fed q =
+        let number = fed_number w d p q in
+        let next = (feed_moves w d p q is.found).grows.next in
+        let below = is.below in
+        omega (arith, number, next, below)
+
+    grown_fed : (q : List ℕ) → GrewFrom (fed_patch w d p q) (upload_of (fed w d q).store (fed_patch w d p q).number)
+    grown_fed q =
+        let v = fed w d q in
+        let grown = grown_more w v p (feed_moves w d p q is.found).grows is.below is.grown in
+        subst (λ n. GrewFrom (fed_patch w d p q) (upload_of v.store n)) (sym (fed_number w d p q))
+        (grew_as p (fed_patch w d p q) (upload_of v.store p.number) (fed_began w d p q) grown)
 
     abbrev began_length : List ℕ → Type 0
     began_length q = length (fed_patch w d p q).began.accepted ≡ length p.began.accepted
@@ -103,7 +114,8 @@ module _ {U B : Type 0} (u : Ghosts U B) where
           body = fed_body w d p q ∙ ap (λ x. x ++ q) is.body;
           reached = omega arith;
           fits = omega arith;
-          grown = there_fed q;
+          below = below_fed q;
+          grown = grown_fed q;
           bare = bare ∙ is.bare;
           closes = closes ∙ is.closes;
         }
@@ -139,7 +151,7 @@ module _ {U B : Type 0} (u : Ghosts U B) where
         let body : length p1.body ≡ length p.body + length q = ap length (fed_body w d p q) ∙ length-append p.body q in
         let fits = is.fits in
         both_moves w w1 (spent w1 d p1 (commit_refusal w1 d p1)) (Some d) (Some d) None (feed_moves w d p q is.found)
-        (spend_moves w1 d p1 (there_fed q) (omega arith) (omega arith))
+        (spend_moves w1 d p1 (grown_fed q) (omega arith) (omega arith))
 
 pub fed_found : (w : World) (d : ℕ) (p : Patch) (q : List ℕ) → find d w.patches ≡ Some p
     → find d (fed w d q).patches ≡ Some (fed_patch w d p q)
@@ -322,6 +334,7 @@ module _ {U B : Type 0} (u : Ghosts U B) (w : World) (conn : Conn) (k : Link B) 
     body = is.patches.body;
     reached = is.patches.reached;
     fits = is.patches.fits;
+    below = is.patches.below;
     grown = is.patches.grown;
     bare = is.patches.bare;
     closes = is.patches.closes;

@@ -1,48 +1,62 @@
 -- A turn on one connection leaves the others as they were.
-use Rattle.std.proofs.Common.{◌≡◌, ℕ, ◌+◌, List, ◌++◌, length, take, drop, Option, Some, None, refl, sym, ◌∙◌, ap, subst, arith, append_assoc}
+use Rattle.std.proofs.Common.{◌≡◌, ◌<◌, ℕ, ◌+◌, List, ◌++◌, length, take, drop, Option, Some, None, refl, sym, ◌∙◌, ap, subst, arith, append_assoc}
 use Rattle.std.proofs.lemmas.List.{length-append, take-append-le}
 use Rattle.tus_request.specs.Buffers.{bytes_of}
 use Rattle.enc_model.specs.Indexes.{offers}
 use Rattle.tus_request.specs.Answers.{answer_of}
-use Rattle.upload_rules.specs.Store.{Upload, text_of, with_bytes, find}
+use Rattle.upload_rules.specs.Store.{Upload, upload_of, text_of, with_bytes, find}
+use Rattle.upload_rules.specs.Grown.{GrewFrom}
 use Rattle.upload_rules.specs.World.{Patch, World}
 use Rattle.upload_rules.specs.declared.uploads.Uploads.{Ghosts}
 use Rattle.tus_action.specs.Acts.{Giving}
-use Rattle.tus_action.specs.Serves.{GivesAs}
+use Rattle.tus_action.specs.Serves.{GivesAs, IsGiving}
 use Rattle.tus_action.specs.declared.acts.Giving as given
 use Rattle.tus_session.specs.Streams.{Rest, InHead, InBody, cut}
 use Rattle.tus_session.specs.Turns.{Conn, reader}
-use Rattle.tus_session.specs.Stands.{IsThere, PatchIs, TaskIs, RestIs, LinkIs, PlaceIs, draft_at}
-use Rattle.tus_session.specs.Moves.{Grows, Moves}
+use Rattle.tus_session.specs.Stands.{PatchIs, TaskIs, RestIs, LinkIs, PlaceIs, draft_at}
+use Rattle.tus_session.specs.Moves.{Longer, Grows, Moves}
 use Rattle.tus_session.specs.declared.conns.Patching.{Patching}
 use Rattle.tus_session.specs.declared.conns.Task.{Task}
 use Rattle.tus_session.specs.declared.conns.Task.TheVariants as tasks
 use Rattle.tus_session.specs.declared.conns.Place.{Place}
 use Rattle.tus_session.specs.declared.conns.Place.TheVariants.{Closed, Open}
 
-pub there_more : (w w' : World) (p : Patch) → Grows w.store w'.store → IsThere w p → IsThere w' p
-there_more w w' p grows (more, found) =
-    let g = grows.uploads p.number (with_bytes p.began more) found in
-    (more ++ g.0, g.2 ∙ ap (λ x. Some (record p.began { accepted = x })) (append_assoc p.began.accepted more g.0))
+-- the upload that a patch began at has more bytes, or is gone
+pub grown_more : (w w' : World) (p : Patch) → Grows w.store w'.store → p.number < w.store.next → GrewFrom p (upload_of w.store p.number)
+    → GrewFrom p (upload_of w'.store p.number)
+grown_more w w' p grows below grown = grown_at (upload_of w'.store p.number) refl
+  where
+    grown_at : (o : Option Upload) → upload_of w'.store p.number ≡ o → GrewFrom p o
+    grown_at None e = tt
+    grown_at (Some up) e =
+        let g = grows.uploads p.number up below e in
+        let old : GrewFrom p (Some g.0) = subst (GrewFrom p) g.1 grown in
+        let l = g.2 in
+        (old.0 ++ l.bytes, l.is ∙ (ap (λ x. with_bytes x l.bytes) old.1 ∙ ap (λ x. record p.began { accepted = x }) (append_assoc p.began.accepted old.0 l.bytes)))
 
-gives_more : (w w' : World) (g : given.Giving) (h : Giving) (up : Upload) → Grows w.store w'.store → GivesAs w.store g h up → (up' : Upload) × GivesAs w'.store g h up'
-gives_more w w' g h up grows is =
-    let m = grows.uploads h.number up is.found in
+gives_as : (w w' : World) (g : given.Giving) (h : Giving) (up up' : Upload) → upload_of w'.store h.number ≡ Some up' → Longer w.store w'.store up up'
+    → GivesAs w.store g h up → GivesAs w'.store g h up'
+gives_as w w' g h up up' found m is =
     let t = text_of w.store.indexes up in
-    let n : length (t ++ m.1) ≡ length t + length m.1 = length-append t m.1 in
+    let n : length (t ++ m.more) ≡ length t + length m.more = length-append t m.more in
     let within = is.within in
-    let l : length (text_of w'.store.indexes (with_bytes up m.0)) ≡ length t + length m.1 = ap length m.3 ∙ n in
-    let f : take g.length (text_of w'.store.indexes (with_bytes up m.0)) ≡ take g.length t = ap (take g.length) m.3 ∙ take-append-le g.length t m.1 within in (
-      with_bytes up m.0,
-      record {
-        number = is.number;
-        found = m.2;
-        some = is.some;
-        within = omega arith;
-        left = is.left ∙ ap (drop g.given) (sym f);
-        closes = is.closes;
-      },
-    )
+    let l : length (text_of w'.store.indexes up') ≡ length t + length m.more = ap length m.text ∙ n in
+    let f : take g.length (text_of w'.store.indexes up') ≡ take g.length t = ap (take g.length) m.text ∙ take-append-le g.length t m.more within in record {
+      number = is.number;
+      found = found;
+      some = is.some;
+      within = omega arith;
+      left = is.left ∙ ap (drop g.given) (sym f);
+      closes = is.closes;
+    }
+
+gives_more : (w w' : World) (g : given.Giving) (h : Giving) → Grows w.store w'.store → IsGiving w.store g h → IsGiving w'.store g h
+gives_more w w' g h grows is = record {
+  number = is.number;
+  below = (let b = is.below in let n = grows.next in omega (arith, b, n));
+  closes = is.closes;
+  there = λ up found. (let m = grows.uploads h.number up is.below found in gives_as w w' g h m.0 up found m.2 (is.there m.0 m.1));
+}
 
 module _ {U B : Type 0} (u : Ghosts U B) where
   patch_moved : (w w' : World) (own : Option ℕ) (b : Patching B) (d : ℕ) (rest : Rest) → Grows w.store w'.store
@@ -61,7 +75,8 @@ module _ {U B : Type 0} (u : Ghosts U B) where
       body = is.body;
       reached = is.reached;
       fits = is.fits;
-      grown = there_more w w' p grows is.grown;
+      below = (let b = is.below in let n = grows.next in omega (arith, b, n));
+      grown = grown_more w w' p grows is.below is.grown;
       bare = is.bare;
       closes = is.closes;
     },
@@ -76,7 +91,7 @@ module _ {U B : Type 0} (u : Ghosts U B) where
   task_moved w w' own own' rest (tasks.Patch b) (Some d) None moves ne is = patch_moved w w' own b d rest moves.grows moves.others (ne d refl) is
   task_moved w w' own own' rest (tasks.Patch b) (Some d) (Some h) moves ne is = absurd is
   task_moved w w' own own' rest (tasks.Text g) None None moves ne is = absurd is
-  task_moved w w' own own' rest (tasks.Text g) None (Some h) moves ne (up, is) = gives_more w w' g h up moves.grows is
+  task_moved w w' own own' rest (tasks.Text g) None (Some h) moves ne is = gives_more w w' g h moves.grows is
   task_moved w w' own own' rest (tasks.Text g) (Some d) pending moves ne is = absurd is
 
   link_moved : (w w' : World) (own own' : Option ℕ) (head : List ℕ) (left : ℕ) (task : Task B) (conn : Conn) → Moves w w' own own'

@@ -1,13 +1,15 @@
 -- The next piece of a text.
-use Rattle.std.proofs.Common.{◌≡◌, ℕ, Bool, true, false, List, [], ◌++◌, Option, Some, None, Result, Ok, refl, sym, ap, subst, append-nil, if◌then◌else◌}
+use Rattle.std.proofs.Common.{◌≡◌, ℕ, Bool, true, false, List, [], ◌++◌, Option, Some, None, Result, Ok, refl, sym, ◌∙◌, ap, subst, append-nil, if◌then◌else◌}
 use Rattle.tus_request.specs.Buffers.{bytes_of}
+use Rattle.upload_rules.specs.Store.{Store, Upload, upload_of}
 use Rattle.upload_rules.specs.World.{World}
 use Rattle.upload_rules.specs.declared.uploads.Uploads.{Ghosts}
 use Rattle.tus_action.specs.Acts.{Giving, is_pending, pending_after, piece_of}
-use Rattle.tus_action.specs.Serves.{GivingIs}
+use Rattle.tus_action.specs.Serves.{GivingIs, IsGiven}
 use Rattle.tus_action.specs.declared.acts.Giving as given
+use Rattle.tus_action.specs.declared.acts.Given.TheVariants.{Piece, Last, Gone}
 use Rattle.tus_session.specs.Streams.{Rest, cut}
-use Rattle.tus_session.specs.Turns.{Conn, Turn, reader, left_world, given_up, more_on, more_turn}
+use Rattle.tus_session.specs.Turns.{Conn, Turn, reader, left_world, given_up, give_on, more_on, more_turn}
 use Rattle.tus_session.specs.Stands.{TaskIs, LinkIs}
 use Rattle.tus_session.specs.Moves.{Moves}
 use Rattle.tus_session.specs.Turned.{TurnedAs, Turned}
@@ -19,7 +21,7 @@ use Rattle.tus_session.specs.declared.conns.Place.TheVariants.{Closed, Open}
 use Rattle.tus_session.specs.declared.conns.Task.{Task}
 use Rattle.tus_session.specs.declared.conns.Task.TheVariants as tasks
 use Rattle.tus_session.proofs.Opening.{still}
-use Rattle.tus_session.proofs.Tasks.{IsGiving}
+use Rattle.tus_session.proofs.Tasks.{IsGivingText}
 
 abbrev unmoved_turn : World → Conn → Turn
 unmoved_turn w conn = record { world = w; conn = Some conn; bytes = []; taken = 0 }
@@ -31,9 +33,16 @@ more_none_is : (w : World) (conn : Conn) → conn.pending ≡ None → unmoved_t
 unfolding more_turn
 more_none_is w conn e = sym (ap (more_on w conn) e)
 
-more_some_is : (w : World) (conn : Conn) (h : Giving) → conn.pending ≡ Some h → given_turn w conn h ≡ more_turn w conn
+more_some_is : (w : World) (conn : Conn) (h : Giving) (up : Upload) → conn.pending ≡ Some h → upload_of w.store h.number ≡ Some up → given_turn w conn h ≡ more_turn w conn
 unfolding more_turn
-more_some_is w conn h e = sym (ap (more_on w conn) e)
+more_some_is w conn h up e there = sym (ap (more_on w conn) e ∙ ap (give_on w conn h) there)
+
+abbrev gone_turn : World → Turn
+gone_turn w = record { world = w; conn = None; bytes = []; taken = 0 }
+
+more_gone_is : (w : World) (conn : Conn) (h : Giving) → conn.pending ≡ Some h → upload_of w.store h.number ≡ None → gone_turn w ≡ more_turn w conn
+unfolding more_turn
+more_gone_is w conn h e none = sym (ap (more_on w conn) e ∙ ap (give_on w conn h) none)
 
 module _ {U B : Type 0} (u : Ghosts U B) where
   -- a connection stays as it is, and nothing is given
@@ -75,7 +84,7 @@ module _ {U B : Type 0} (u : Ghosts U B) where
   idle_stays w rest draft e = subst (λ d. TaskIs u w rest tasks.Idle d None) (sym e) tt
 
   module _ (store : U) (w : World) (k : Link B) (conn : Conn) (g : given.Giving) (stands : u.stands store w) (link : LinkIs u w (bytes_of k.head) k.left k.task conn)
-      (is : IsGiving w g conn.draft conn.pending) where
+      (is : IsGivingText w g conn.draft conn.pending) where
     some_turned : (old new : List ℕ) (rest : given.Giving) (pending : Option Giving) → GivingIs w.store (Some rest) pending → new ≡ old ++ piece_of is.h
         → TurnedAs u store (Open (record k { task = tasks.Text rest })) (record { taken = 0; closes = false; more = true }) old new w conn.draft
         (record { world = w; conn = given_up conn is.h.closes pending; bytes = piece_of is.h; taken = 0 })
@@ -91,11 +100,11 @@ module _ {U B : Type 0} (u : Ghosts U B) where
     }
 
     -- more of the text is left
-    pub more_some : (old new : List ℕ) (rest : given.Giving) → GivingIs w.store (Some rest) (pending_after is.h) → new ≡ old ++ piece_of is.h
+    pub more_some : (old new : List ℕ) (rest : given.Giving) (up : Upload) → upload_of w.store is.h.number ≡ Some up → GivingIs w.store (Some rest) (pending_after is.h) → new ≡ old ++ piece_of is.h
         → TurnedAs u store (Open (record k { task = tasks.Text rest })) (record { taken = 0; closes = false; more = true }) old new w conn.draft (more_turn w conn)
-    more_some old new rest given e =
+    more_some old new rest up there given e =
         subst (TurnedAs u store (Open (record k { task = tasks.Text rest })) (record { taken = 0; closes = false; more = true }) old new w conn.draft)
-        (more_some_is w conn is.h is.pending_is) (some_turned old new rest (pending_after is.h) given e)
+        (more_some_is w conn is.h up is.pending_is there) (some_turned old new rest (pending_after is.h) given e)
 
     abbrev pub idle_place : Bool → Place B
     idle_place closes = if closes then Closed else Open (record k { task = tasks.Idle })
@@ -131,11 +140,26 @@ module _ {U B : Type 0} (u : Ghosts U B) where
         (record { world = w; conn = given_up conn b None; bytes = piece_of is.h; taken = 0 })) same (none_closes old new closes e)
 
     -- the text is given
-    pub more_done : (old new : List ℕ) → GivingIs w.store None (pending_after is.h) → new ≡ old ++ piece_of is.h
+    pub more_done : (old new : List ℕ) (up : Upload) → upload_of w.store is.h.number ≡ Some up → pending_after is.h ≡ None → new ≡ old ++ piece_of is.h
         → TurnedAs u store (idle_place g.closes) (record { taken = 0; closes = g.closes; more = false }) old new w conn.draft (more_turn w conn)
-    more_done old new given e =
+    more_done old new up there last e =
         subst (TurnedAs u store (idle_place g.closes) (record { taken = 0; closes = g.closes; more = false }) old new w conn.draft)
-        (more_some_is w conn is.h is.pending_is) (none_turned old new g.closes (pending_after is.h) given is.gives.closes e)
+        (more_some_is w conn is.h up is.pending_is there)
+        (none_turned old new g.closes (pending_after is.h) (subst (GivingIs w.store None) (sym last) tt) is.gives.closes e)
+
+    -- the upload was deleted
+    pub more_gone : (old new : List ℕ) → upload_of w.store is.h.number ≡ None → new ≡ old
+        → TurnedAs u store Closed (record { taken = 0; closes = true; more = false }) old new w conn.draft (more_turn w conn)
+    more_gone old new none e =
+        subst (TurnedAs u store Closed (record { taken = 0; closes = true; more = false }) old new w conn.draft) (more_gone_is w conn is.h is.pending_is none) (record {
+          shown = stands;
+          here = tt;
+          moves = subst (λ o. Moves w w o None) (sym is.draft_is) (still w None);
+          taken = refl;
+          closes = refl;
+          more = refl;
+          bytes = e ∙ sym (append-nil old);
+        })
 
     -- memory was wanting
     pub more_left : u.stands store (left_world w conn.draft)
@@ -152,3 +176,21 @@ module _ {U B : Type 0} (u : Ghosts U B) where
   turned_ok store place place' r a old new w own t e f is =
       let x : Turned u store place (Ok a) old new w own t = subst (λ p. TurnedAs u store p a old new w own t) (sym e) is in
       subst (λ r. Turned u store place r old new w own t) (sym f) x
+
+-- WHAT WAS GIVEN TELLS OF THE UPLOAD
+
+-- a piece is given of an upload that is there
+pub piece_of_upload : (m : Store) (g : given.Giving) (old new : List ℕ) (h : Giving) (o : Option Upload) → IsGiven m (Piece g) old new h o
+    → (up : Upload) × (o ≡ Some up) × GivingIs m (Some g) (pending_after h) × (new ≡ old ++ piece_of h)
+piece_of_upload m g old new h None is = absurd is
+piece_of_upload m g old new h (Some up) is = (up, refl, is.0, is.1)
+
+pub last_of_upload : (m : Store) (old new : List ℕ) (h : Giving) (o : Option Upload) → IsGiven m Last old new h o
+    → (up : Upload) × (o ≡ Some up) × (pending_after h ≡ None) × (new ≡ old ++ piece_of h)
+last_of_upload m old new h None is = absurd is
+last_of_upload m old new h (Some up) is = (up, refl, is.0, is.1)
+
+-- and nothing of one that is gone
+pub gone_with_upload : (m : Store) (old new : List ℕ) (h : Giving) (o : Option Upload) → IsGiven m Gone old new h o → (o ≡ None) × (new ≡ old)
+gone_with_upload m old new h None is = (refl, is)
+gone_with_upload m old new h (Some up) is = absurd is

@@ -3,20 +3,22 @@ use Rattle.std.proofs.Common.{◌≡◌, ◌⊎◌, inl, inr, ℕ, zero, suc, �
 use Rattle.std.proofs.lemmas.Bool.Decides.{nat_tests}
 use Rattle.std.proofs.lemmas.Bool.{cases_eq, eqb-true, ne_eqb, cases_Bool}
 use Rattle.std.proofs.lemmas.List.{length-append}
-use Rattle.upload_rules.specs.Store.{New, Upload, Store, upload_of, text_of, text_with, with_bytes, find, replaced, without, is_complete, new_upload, created_store, appended_store, appended_to}
+use Rattle.std.proofs.lemmas.Option.{same_Some}
+use Rattle.upload_rules.specs.Store.{New, Upload, Store, upload_of, text_of, text_with, with_bytes, find, replaced, without, others, is_complete, new_upload, created_store, deleted_store, appended_store, appended_to}
 use Rattle.upload_rules.specs.World.{Patch, World, is_there, least_from, free_number, completes, patch_text}
 use Rattle.upload_rules.specs.Room.{is_short}
 use Rattle.upload_rules.specs.Apart.{IsApart}
+use Rattle.upload_rules.specs.Grown.{GrewFrom}
 use Rattle.upload_rules.specs.declared.errors.UploadRefusal.{UploadRefusal}
 use Rattle.upload_rules.specs.declared.errors.UploadRefusal.TheVariants.{Offset, Unencodable, Full}
-use Rattle.upload_rules.specs.Calls.{dropped, committed, committed_store, spent, created, longer, is_empty, commit_refusal, offset_refusal, text_refusal, or_else, refuse_if}
-use Rattle.upload_rules.proofs.Finds.{find_without_other, find_without_same, none_without, find_replaced_same, find_replaced_other, none_replaced, length_without}
+use Rattle.upload_rules.specs.Calls.{dropped, committed, committed_store, spent, created, terminated, longer, is_empty, commit_refusal, offset_refusal, text_refusal, or_else, refuse_if}
+use Rattle.upload_rules.proofs.Deleted.{none_in_others, find_in_others}
+use Rattle.upload_rules.proofs.Finds.{find_push_other, find_without_other, find_without_same, none_without, find_replaced_same, find_replaced_other, none_replaced, length_without}
 use Rattle.tus_action.specs.Acts.{fed}
-use Rattle.tus_session.specs.Stands.{IsThere}
 use Rattle.tus_session.specs.Turns.{left_world}
 use Rattle.tus_session.specs.Moves.{Longer, Grows, Moves}
 use Rattle.tus_session.proofs.Growth.{text_longer}
-use Rattle.tus_session.proofs.Opening.{same_grows, still}
+use Rattle.tus_session.proofs.Opening.{same_longer, same_grows, still}
 
 abbrev Patches : Type 0
 Patches = List (ℕ × Patch)
@@ -148,19 +150,23 @@ open_moves w d p free = record {
 
 -- THE STORE CHANGES
 
+longer_both : (m m1 m2 : Store) (u v x : Upload) → Longer m m1 u v → Longer m1 m2 v x → Longer m m2 u x
+longer_both m m1 m2 u v x a b = record {
+  bytes = a.bytes ++ b.bytes;
+  more = a.more ++ b.more;
+  is = b.is ∙ ap (λ z. with_bytes z b.bytes) a.is ∙ ap (λ z. record u { accepted = z }) (append_assoc u.accepted a.bytes b.bytes);
+  text = b.text ∙ (ap (λ t. t ++ b.more) a.text ∙ append_assoc (text_of m.indexes u) a.more b.more);
+}
+
 -- one step after another
 pub grows_both : (m m1 m2 : Store) → Grows m m1 → Grows m1 m2 → Grows m m2
 grows_both m m1 m2 a b = record {
   indexes = b.indexes ∙ a.indexes;
-  uploads = λ n up found.
-      let x = a.uploads n up found in
-      let y = b.uploads n (with_bytes up x.0) x.2 in
-      let e : with_bytes (with_bytes up x.0) y.0 ≡ with_bytes up (x.0 ++ y.0) = ap (λ z. record up { accepted = z }) (append_assoc up.accepted x.0 y.0) in (
-        x.0 ++ y.0,
-        x.1 ++ y.1,
-        y.2 ∙ ap Some e,
-        ap (text_of m2.indexes) (sym e) ∙ (y.3 ∙ (ap (λ t. t ++ y.1) x.3 ∙ append_assoc (text_of m.indexes up) x.1 y.1)),
-      );
+  next = (let l = a.next in let r = b.next in omega (arith, l, r));
+  uploads = λ n up lt there.
+      let y = b.uploads n up (let l = a.next in omega (arith, l, lt)) there in
+      let x = a.uploads n y.0 lt y.1 in
+      (x.0, x.1, longer_both m m1 m2 x.0 y.0 up x.2 y.2);
 }
 
 own_or : (own : Option ℕ) (e : ℕ) → (own ≡ Some e) ⊎ (own ≡ Some e → ⊥)
@@ -205,24 +211,30 @@ stored_moves w m own grows = let s = still w own in record {
   unique = s.unique;
 }
 
-find_created : (n m : ℕ) (up new : Upload) (uploads : List (ℕ × Upload)) → find n uploads ≡ Some up → find n (uploads ++ (m, new) ∷ []) ≡ Some up
-find_created n m up new [] h = absurd (cc)
-find_created n m up new (x ∷ xs) h = let ih = find_created n m up new xs in grind (arith, nat_tests)
-
-same_longer : (m m' : Store) (n : ℕ) (up : Upload) → m'.indexes ≡ m.indexes → upload_of m' n ≡ Some up → Longer m m' n up
-same_longer m m' n up same found =
-    let s : with_bytes up [] ≡ up = ap (λ x. record up { accepted = x }) (append-nil up.accepted) in (
-      [],
-      [],
-      found ∙ ap Some (sym s),
-      ap (λ x. text_of x (with_bytes up [])) same ∙ (ap (text_of m.indexes) s ∙ sym (append-nil (text_of m.indexes up))),
-    )
-
 -- an upload is made
 pub create_moves : (w : World) (new : New) (own : Option ℕ) → Moves w (created w new) own own
 create_moves w new own = stored_moves w (created_store w.store new) own (record {
   indexes = refl;
-  uploads = λ n up found. same_longer w.store (created_store w.store new) n up refl (find_created n w.store.next up (new_upload new) w.store.uploads found);
+  next = omega arith;
+  uploads = λ n up lt there. (
+    up,
+    sym (find_push_other n w.store.next (new_upload new) w.store.uploads (λ e. omega (arith, lt, e))) ∙ there,
+    same_longer w.store (created_store w.store new) up refl,
+  );
+})
+
+-- an upload is taken away
+pub delete_moves : (w : World) (number : ℕ) (own : Option ℕ) → Moves w (terminated w number) own own
+delete_moves w number own = stored_moves w (deleted_store w.store number) own (record {
+  indexes = refl;
+  next = omega arith;
+  uploads = λ n up lt there. elim (cases_eq number n) [
+    | inl same ↦
+        let none : find n (others number w.store.uploads) ≡ None = subst (λ k. find k (others number w.store.uploads) ≡ None) same (none_in_others number w.store.uploads) in
+        let x : Some up ≡ None = sym there ∙ none in
+        absurd (cc)
+    | inr ne ↦ (up, sym (find_in_others number n w.store.uploads ne) ∙ there, same_longer w.store (deleted_store w.store number) up refl)
+  ];
 })
 
 -- bytes are put behind an upload that isn't complete
@@ -232,16 +244,16 @@ append_grows_at m number bytes u done there unfinished value =
     let m' : Store = record m { uploads = replaced number (with_bytes u bytes) m.uploads } in
     record {
       indexes = refl;
-      uploads = λ n up found. elim (cases_eq number n) [
+      next = omega arith;
+      uploads = λ n up lt found. elim (cases_eq number n) [
         | inl is ↦
-            let same : Some u ≡ Some up = sym there ∙ (ap (λ i. find i m.uploads) is ∙ found) in
-            let us : u ≡ up = cc in
-            let more = text_longer m.indexes u bytes done unfinished value in
             let f : find number (replaced number (with_bytes u bytes) m.uploads) ≡ Some (with_bytes u bytes) =
             find_replaced_same number u (with_bytes u bytes) m.uploads there in
-            let l : Longer m m' number u = (bytes, more.0, f, more.1) in
-            subst (λ i. Longer m m' i up) is (subst (λ x. Longer m m' number x) us l)
-        | inr ne ↦ same_longer m m' n up refl (find_replaced_other number n (with_bytes u bytes) m.uploads ne ∙ found)
+            let same : Some (with_bytes u bytes) ≡ Some up = sym f ∙ (ap (λ i. find i (replaced number (with_bytes u bytes) m.uploads)) is ∙ found) in
+            let more = text_longer m.indexes u bytes done unfinished value in
+            let l : Longer m m' u (with_bytes u bytes) = record { bytes = bytes; more = more.0; is = refl; text = more.1 } in
+            (u, ap (λ i. find i m.uploads) (sym is) ∙ there, subst (Longer m m' u) (same_Some (with_bytes u bytes) up same) l)
+        | inr ne ↦ (up, sym (find_replaced_other number n (with_bytes u bytes) m.uploads ne) ∙ found, same_longer m m' up refl)
       ];
     }
 
@@ -287,24 +299,30 @@ none_behind xs (y ∷ ys) e =
     let n : length (xs ++ y ∷ ys) ≡ length xs + length (y ∷ ys) = length-append xs (y ∷ ys) in
     absurd (omega arith)
 
+-- the upload of a patch whose offset isn't refused is there
+there_still : (p : Patch) (o : Option Upload) → GrewFrom p o → offset_refusal p o ≡ None → (more : List ℕ) × (o ≡ Some (with_bytes p.began more))
+there_still p None grown none = absurd (cc)
+there_still p (Some u) (more, is) none = (more, ap Some is)
+
 -- what is committed is put behind an upload that isn't complete
-store_grows : (w : World) (d : ℕ) (p : Patch) → IsThere w p → length p.began.accepted + p.count ≤ p.began.declared → length p.body ≤ p.count
+store_grows : (w : World) (d : ℕ) (p : Patch) → GrewFrom p (upload_of w.store p.number) → length p.began.accepted + p.count ≤ p.began.declared → length p.body ≤ p.count
     → offset_refusal p (upload_of w.store p.number) ≡ None → text_refusal w d p ≡ None → (b : Bool) → is_empty p.body ≡ b
     → Grows w.store (if b then w.store else appended_store w.store p.number p.body)
-store_grows w d p there fits short none valued true e = same_grows w.store
-store_grows w d p (more, found) fits short none valued false e =
-    let u = with_bytes p.began more in
-    let n : length u.accepted ≡ length p.began.accepted = offset_same p (upload_of w.store p.number) u found none in
-    let nil = none_behind p.began.accepted more n in
+store_grows w d p grown fits short none valued true e = same_grows w.store
+store_grows w d p grown fits short none valued false e =
+    let there = there_still p (upload_of w.store p.number) grown none in
+    let u = with_bytes p.began there.0 in
+    let n : length u.accepted ≡ length p.began.accepted = offset_same p (upload_of w.store p.number) u there.1 none in
+    let nil = none_behind p.began.accepted there.0 n in
     let same : p.began ≡ u = sym (ap (λ x. record p.began { accepted = x }) (append-nil p.began.accepted)) ∙ ap (with_bytes p.began) (sym nil) in
     let value = subst (λ x. (text_with w.store.indexes x p.body (completes p)).fault ≡ None) same (has_value w d p e valued) in
     let some = not_empty p.body e in
     let unfinished : is_complete u ≡ false = ne_eqb (length u.accepted) u.declared (omega arith) in
-    let now = append_grows_at w.store p.number p.body u (completes p) found unfinished value in
-    subst (λ o. Grows w.store (appended_to w.store p.number p.body o)) (sym found) now
+    let now = append_grows_at w.store p.number p.body u (completes p) there.1 unfinished value in
+    subst (λ o. Grows w.store (appended_to w.store p.number p.body o)) (sym there.1) now
 
 -- the patch is spent
-spend_on : (w : World) (d : ℕ) (p : Patch) → IsThere w p → length p.began.accepted + p.count ≤ p.began.declared → length p.body ≤ p.count
+spend_on : (w : World) (d : ℕ) (p : Patch) → GrewFrom p (upload_of w.store p.number) → length p.began.accepted + p.count ≤ p.began.declared → length p.body ≤ p.count
     → (o : Option UploadRefusal) → commit_refusal w d p ≡ o → Moves w (spent w d p o) (Some d) None
 unfolding commit_refusal
 spend_on w d p there fits short (Some f) e = drop_moves w d
@@ -314,6 +332,6 @@ spend_on w d p there fits short None e =
     let grows : Grows w.store m = store_grows w d p there fits short none (or_else_second (offset_refusal p (upload_of w.store p.number)) (text_refusal w d p) e) (is_empty p.body) refl in
     both_moves w (record w { store = m }) (committed w d p) (Some d) (Some d) None (stored_moves w m (Some d) grows) (drop_moves (record w { store = m }) d)
 
-pub spend_moves : (w : World) (d : ℕ) (p : Patch) → IsThere w p → length p.began.accepted + p.count ≤ p.began.declared → length p.body ≤ p.count
+pub spend_moves : (w : World) (d : ℕ) (p : Patch) → GrewFrom p (upload_of w.store p.number) → length p.began.accepted + p.count ≤ p.began.declared → length p.body ≤ p.count
     → Moves w (spent w d p (commit_refusal w d p)) (Some d) None
 spend_moves w d p there fits short = spend_on w d p there fits short (commit_refusal w d p) refl

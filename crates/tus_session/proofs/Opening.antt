@@ -4,14 +4,14 @@ use Rattle.std.proofs.lemmas.Bool.{lt-ltb, le-ltb, cases_eq}
 use Rattle.tus_request.specs.Buffers.{bytes_of}
 use Rattle.enc_model.specs.Indexes.{offers}
 use Rattle.tus_request.proofs.Fronts.{steady}
-use Rattle.upload_rules.specs.Store.{Store, find, text_of}
+use Rattle.upload_rules.specs.Store.{Upload, Store, find, text_of}
 use Rattle.upload_rules.specs.World.{Patch, World, at_rest}
 use Rattle.upload_rules.specs.declared.uploads.Uploads.{Ghosts}
 use Rattle.tus_session.specs.Streams.{InHead, cut}
 use Rattle.tus_session.specs.Turns.{Conn, fresh, reader}
 use Rattle.tus_session.specs.History.{State, Opened, Served, Done, Refused, put, kept, opened_at, beginning, step, Step}
 use Rattle.tus_session.specs.Stands.{RestIs, TaskIs, PlaceIs, draft_at, SessionStands}
-use Rattle.tus_session.specs.Moves.{Grows, Moves}
+use Rattle.tus_session.specs.Moves.{Longer, Grows, Moves}
 use Rattle.tus_session.specs.Told.{Follows}
 use Rattle.tus_session.specs.declared.conns.Task.TheVariants as tasks
 use Rattle.tus_session.specs.declared.conns.Link.{Link}
@@ -21,16 +21,17 @@ use Rattle.tus_session.specs.declared.errors.SessionError.TheVariants.{TooMany}
 use Rattle.tus_session.proofs.Unfinished.{empty_cut}
 use Rattle.tus_session.proofs.InPlace.{in_place, is_set, beyond, open_at}
 
-pub same_grows : (m : Store) → Grows m m
-same_grows m = record {
-  indexes = refl;
-  uploads = λ n up e. (
-    [],
-    [],
-    e ∙ ap (λ x. Some (record up { accepted = x })) (sym (append-nil up.accepted)),
-    ap (λ x. text_of m.indexes (record up { accepted = x })) (append-nil up.accepted) ∙ sym (append-nil (text_of m.indexes up)),
-  );
+-- the same upload
+pub same_longer : (m m' : Store) (up : Upload) → m'.indexes ≡ m.indexes → Longer m m' up up
+same_longer m m' up same = record {
+  bytes = [];
+  more = [];
+  is = ap (λ x. record up { accepted = x }) (sym (append-nil up.accepted));
+  text = ap (λ x. text_of x up) same ∙ sym (append-nil (text_of m.indexes up));
 }
+
+pub same_grows : (m : Store) → Grows m m
+same_grows m = record { indexes = refl; next = omega arith; uploads = λ n up lt there. (up, there, same_longer m m up refl) }
 
 -- nothing moved
 pub still : (w : World) (own : Option ℕ) → Moves w w own own

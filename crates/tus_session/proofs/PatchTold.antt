@@ -10,6 +10,7 @@ use Rattle.tus_request.proofs.Fronts.{steady}
 use Rattle.tus_request.specs.Requests.{Request, Asks}
 use Rattle.upload_rules.specs.Store.{Store, find, without}
 use Rattle.upload_rules.specs.World.{Patch, World}
+use Rattle.upload_rules.specs.Grown.{GrewFrom}
 use Rattle.upload_rules.specs.Calls.{first_patch, dropped}
 use Rattle.upload_rules.specs.declared.uploads.Uploads.{Ghosts}
 use Rattle.tus_action.specs.Acts.{Acted, acted, fed, fed_patch, commit_with}
@@ -167,7 +168,8 @@ module _ {U B : Type 0} (u : Ghosts U B) (w : World) (conn : Conn) (h bytes : Li
     (is : IsWhole w conn h bytes n before (Asks r))
     (x : Opened w r (acted w (Asks r))) (b : Patching B) (number : u.number_of b.draft ≡ x.d)
     (holds : u.holds b.draft (first_patch x.number r.length x.up))
-    (reached : ReachedIs r.action r.length b.reached) (bare : b.bare ≡ r.bare) (closes : b.closes ≡ r.closes) where
+    (reached : ReachedIs r.action r.length b.reached) (bare : b.bare ≡ r.bare) (closes : b.closes ≡ r.closes)
+    (below : x.number < w.store.next) where
   abbrev pub own : ℕ
   own = u.number_of b.draft
 
@@ -206,7 +208,8 @@ module _ {U B : Type 0} (u : Ghosts U B) (w : World) (conn : Conn) (h bytes : Li
         body = refl;
         reached = omega arith;
         fits = omega arith;
-        grown = ([], x.there ∙ ap (λ z. Some (record x.up { accepted = z })) (sym (append-nil x.up.accepted)));
+        below = below;
+        grown = subst (GrewFrom p0) (sym x.there) ([], ap (λ z. record x.up { accepted = z }) (sym (append-nil x.up.accepted)));
         bare = bare;
         closes = closes;
       }

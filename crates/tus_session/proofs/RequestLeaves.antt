@@ -1,16 +1,16 @@
 -- What a request leaves open behind its head: nothing, a text, or a patch.
 use Rattle.std.proofs.Common.{ℕ, ◌+◌, ◌≤◌, ◌≡◌, ◌==◌, Bool, true, false, List, [], ◌∷◌, Option, Some, None, length, drop, refl, ap, if◌then◌else◌, nat_lt}
 use Rattle.std.proofs.lemmas.Bool.{ltb-false, eqb-true}
-use Rattle.tus_request.specs.Requests.{Request, Action, Options, Create, Head, Get, Asks}
+use Rattle.tus_request.specs.Requests.{Request, Action, Options, Create, Head, Get, Delete, Asks}
 use Rattle.tus_request.specs.Requests.{Patch as Patches}
 use Rattle.upload_rules.specs.Store.{New, Upload, upload_of, find, text_of}
 use Rattle.upload_rules.specs.World.{World, free_number}
-use Rattle.upload_rules.specs.Calls.{create_refusal, begin_refusal, begin_refusal_at, begun_at, first_patch, refuse_if}
+use Rattle.upload_rules.specs.Calls.{create_refusal, terminate_refusal, begin_refusal, begin_refusal_at, begun_at, first_patch, refuse_if}
 use Rattle.upload_rules.specs.declared.errors.UploadRefusal.{UploadRefusal}
 use Rattle.upload_rules.specs.declared.errors.UploadRefusal.TheVariants.{Offset, TooLong}
-use Rattle.tus_action.specs.Acts.{Acted, Giving, acted, acted_on, post, new_of, head, get, giving, patch, piece_size}
+use Rattle.tus_action.specs.Acts.{Acted, Giving, acted, acted_on, post, new_of, delete, head, get, giving, patch, piece_size}
 use Rattle.tus_session.specs.Moves.{Moves}
-use Rattle.tus_session.proofs.Moved.{create_moves, free_none}
+use Rattle.tus_session.proofs.Moved.{create_moves, delete_moves, free_none}
 use Rattle.tus_session.proofs.Opening.{still}
 
 -- a patch is open
@@ -37,6 +37,10 @@ pub data Leaves (w : World) (r : Request) (a : Acted) : Type 0 where
 posted : (w : World) (r : Request) (new : New) (o : Option UploadRefusal) → Leaves w r (post w r new o)
 posted w r new None = Nothing (create_moves w new None) refl refl
 posted w r new (Some f) = Nothing (still w None) refl refl
+
+deleted : (w : World) (r : Request) (number : ℕ) (o : Option UploadRefusal) → Leaves w r (delete w r number o)
+deleted w r number None = Nothing (delete_moves w number None) refl refl
+deleted w r number (Some f) = Nothing (still w None) refl refl
 
 shown : (w : World) (r : Request) (o : Option Upload) → Leaves w r (head w r o)
 shown w r None = Nothing (still w None) refl refl
@@ -101,6 +105,7 @@ leaves_on w r (Create c) e = posted w r (new_of c) (create_refusal w (new_of c))
 leaves_on w r (Head n) e = shown w r (upload_of w.store n)
 leaves_on w r (Get n) e = got w r n (upload_of w.store n)
 leaves_on w r (Patches n offset) e = patched w r n offset e (begin_refusal w n offset r.length) refl
+leaves_on w r (Delete n) e = deleted w r n (terminate_refusal w n)
 
 pub leaves : (w : World) (r : Request) → Leaves w r (acted w (Asks r))
 leaves w r = leaves_on w r r.action refl

@@ -3,14 +3,14 @@ use Rattle.std.proofs.Common.{◌≡◌, ◌⊎◌, inl, inr, ℕ, ◌<◌, List
 use Rattle.enc_model.specs.Indexes.{offers}
 use Rattle.tus_request.specs.Requests.{Request, body_length}
 use Rattle.tus_request.proofs.Fronts.{steady}
-use Rattle.upload_rules.specs.Store.{Store, Upload, find}
+use Rattle.upload_rules.specs.Store.{Store, find}
 use Rattle.upload_rules.specs.World.{Patch, World}
 use Rattle.upload_rules.specs.declared.errors.UploadRefusal.{UploadRefusal}
 use Rattle.upload_rules.specs.declared.uploads.Uploads.{Ghosts}
 use Rattle.upload_rules.specs.Answers.{Limits}
 use Rattle.upload_rules.specs.Calls.{dropped, committed_store, spent, commit_refusal, commit_outcome, outcome}
 use Rattle.tus_action.specs.Acts.{Giving}
-use Rattle.tus_action.specs.Serves.{GivesAs}
+use Rattle.tus_action.specs.Serves.{IsGiving}
 use Rattle.tus_action.specs.declared.acts.Giving as given
 use Rattle.tus_session.specs.Streams.{Asked, Rest, InHead, InBody, cut}
 use Rattle.tus_session.specs.Turns.{Conn, reader, left_world, ended_on, ended_with, ended_world}
@@ -34,12 +34,12 @@ pub record IsPatching {U B : Type 0} (u : Ghosts U B) (w : World) (rest : Rest) 
   pub rest_is : rest ≡ InBody asked
   pub patches : PatchesAs u w b d asked r p
 
-pub record IsGiving (w : World) (g : given.Giving) (draft : Option ℕ) (pending : Option Giving) : Type 0 where
+-- a text that is still to be given
+pub record IsGivingText (w : World) (g : given.Giving) (draft : Option ℕ) (pending : Option Giving) : Type 0 where
   pub h : Giving
-  pub up : Upload
   pub draft_is : draft ≡ None
   pub pending_is : pending ≡ Some h
-  pub gives : GivesAs w.store g h up
+  pub gives : IsGiving w.store g h
 
 module _ {U B : Type 0} (u : Ghosts U B) where
   pub idle_at : (w : World) (rest : Rest) (draft : Option ℕ) (pending : Option Giving) → TaskIs u w rest tasks.Idle draft pending → (draft ≡ None) × (pending ≡ None)
@@ -55,9 +55,9 @@ module _ {U B : Type 0} (u : Ghosts U B) where
   patch_at w (InBody asked) b (Some d) None (r, p, is) = record { d = d; asked = asked; r = r; p = p; draft_is = refl; idle = refl; rest_is = refl; patches = is }
 
   pub text_at : (w : World) (rest : Rest) (g : given.Giving) (draft : Option ℕ) (pending : Option Giving) → TaskIs u w rest (tasks.Text g) draft pending
-      → IsGiving w g draft pending
+      → IsGivingText w g draft pending
   text_at w rest g None None is = absurd is
-  text_at w rest g None (Some h) (up, is) = record { h = h; up = up; draft_is = refl; pending_is = refl; gives = is }
+  text_at w rest g None (Some h) is = record { h = h; draft_is = refl; pending_is = refl; gives = is }
   text_at w rest g (Some d) pending is = absurd is
 
 -- a body under way wants bytes
@@ -142,7 +142,7 @@ module _ {U B : Type 0} (u : Ghosts U B) where
   patching w rest task b draft pending is e = patch_at u w rest b draft pending (subst (λ t. TaskIs u w rest t draft pending) e is)
 
   pub giving : (w : World) (rest : Rest) (task : Task B) (g : given.Giving) (draft : Option ℕ) (pending : Option Giving) → TaskIs u w rest task draft pending
-      → task ≡ tasks.Text g → IsGiving w g draft pending
+      → task ≡ tasks.Text g → IsGivingText w g draft pending
   giving w rest task g draft pending is e = text_at u w rest g draft pending (subst (λ t. TaskIs u w rest t draft pending) e is)
 
   pub idling : (w : World) (rest : Rest) (task : Task B) (draft : Option ℕ) (pending : Option Giving) → TaskIs u w rest task draft pending

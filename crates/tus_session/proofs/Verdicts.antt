@@ -2,7 +2,7 @@
 use Rattle.std.proofs.Common.{◌≡◌, ℕ, List}
 use Rattle.enc_model.specs.Indexes.{IndexSet, offers}
 use Rattle.tus_request.specs.Answers.{Judged, answer_of}
-use Rattle.tus_request.specs.Requests.{Request, Action, Options, Create, Head, Get, Patch, Asks}
+use Rattle.tus_request.specs.Requests.{Request, Action, Options, Create, Head, Get, Patch, Delete, Asks}
 use Rattle.tus_request.specs.Sound.{IsSoundAction}
 use Rattle.tus_request.proofs.SoundRequests.{request_sound}
 use Rattle.upload_rules.specs.World.{World}
@@ -15,6 +15,7 @@ offset_fits x (Create c) s = tt {0}
 offset_fits x (Head n) s = tt {0}
 offset_fits x (Get n) s = tt {0}
 offset_fits x (Patch n offset) s = s
+offset_fits x (Delete n) s = tt {0}
 
 -- its numbers are small
 pub small : (x : IndexSet) (s : List ℕ) (n : ℕ) (r : Request) → answer_of (offers x) s ≡ Judged n (Asks r) → IsSmall r
@@ -28,6 +29,7 @@ action_made x (Create c) s = record { no_utf16 = s.no_utf16; short = s.short; pr
 action_made x (Head n) s = tt {0}
 action_made x (Get n) s = tt {0}
 action_made x (Patch n offset) s = tt {0}
+action_made x (Delete n) s = tt {0}
 
 -- what a POST asks for can be made
 pub makeable : (x : IndexSet) (s : List ℕ) (n : ℕ) (r : Request) → answer_of (offers x) s ≡ Judged n (Asks r) → CanBeMade r.action
@@ -39,6 +41,7 @@ action_read w (Create c) s = record { from = s.from; to = s.to }
 action_read w (Head n) s = tt {0}
 action_read w (Get n) s = tt {0}
 action_read w (Patch n offset) s = tt {0}
+action_read w (Delete n) s = tt {0}
 
 -- a POST asks for what the index set offers
 pub usable : (w : World) (s : List ℕ) (n : ℕ) (r : Request) → answer_of (offers w.store.indexes) s ≡ Judged n (Asks r) → CanBeRead w r.action

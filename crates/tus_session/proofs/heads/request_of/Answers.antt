@@ -47,18 +47,19 @@ returns-in-Ok-answer-clause-answer g c w conn h n stands is =
     let done = c.in-Ok.ensures.answer w stands in
     let draft = subst (λ o. DraftIs U (acted w (Asks r)).world o (acted w (Asks r)).draft) c.in-Some.is done.draft in
     let x = opens U w r c.in-Some.draft draft in
+    let below = g.met.U.Uploads.below c.args.store.now w x.number x.up stands x.there in
     let b : Patching g.row.U-Draft.Denot = record { draft = c.in-Some.draft; reached = c.reached_by-reached.result; bare = c.args.request.bare; closes = c.args.request.closes } in
     let f = draft_first w conn h bytes n c.args.before r is x U c.in-Some.draft draft in
     let reached = c.reached_by-reached.ensures c.requires.small in
-    let v0 = v U w conn h bytes n c.args.before r is x b f.0 f.1 reached refl refl in
-    let p = p0 U w conn h bytes n c.args.before r is x b f.0 f.1 reached refl refl in
+    let v0 = v U w conn h bytes n c.args.before r is x b f.0 f.1 reached refl refl below in
+    let p = p0 U w conn h bytes n c.args.before r is x b f.0 f.1 reached refl refl below in
     let shown : U.stands c.act.new.store v0 = subst (U.stands c.act.new.store) (own_opened w r (acted w (Asks r)) x (U.number_of c.in-Some.draft) f.0).world_is done.stands in
-    let found = first_as U w conn h bytes n c.args.before r is x b f.0 f.1 reached refl refl in
-    let whole = reached_whole U w conn h bytes n c.args.before r is x b f.0 f.1 reached refl refl in
+    let found = first_as U w conn h bytes n c.args.before r is x b f.0 f.1 reached refl refl below in
+    let whole = reached_whole U w conn h bytes n c.args.before r is x b f.0 f.1 reached refl refl below in
     let k : Link g.row.U-Draft.Denot = record { head = c.args.head; left = 0; task = Idle } in
     let all : 0 + r.length ≡ r.length = omega arith in
     rw c.in-Ok-answer.is at
-    (patch_opened U w conn h bytes n c.args.before r is x b f.0 f.1 reached refl refl c.body_of-place.new.store c.body_of-place.result.0 c.args.out.now.items c.act.new.out.items c.body_of-place.new.out.items
+    (patch_opened U w conn h bytes n c.args.before r is x b f.0 f.1 reached refl refl below c.body_of-place.new.store c.body_of-place.result.0 c.args.out.now.items c.act.new.out.items c.body_of-place.new.out.items
     c.body_of-place.new.out.items k c.requires.cleared done.bytes c.body_of-place.result.1 _ (slice_is c.args.before bytes)
     (λ few. c.body_of-place.ensures.part few v0 p shown found f.1 (omega arith))
     (λ few. c.body_of-place.ensures.part_out few)
@@ -73,17 +74,18 @@ returns-in-Ok-answer-clause-crash g c w conn h n stands is =
     let done = c.in-Ok.ensures.answer w stands in
     let draft = subst (λ o. DraftIs U (acted w (Asks r)).world o (acted w (Asks r)).draft) c.in-Some.is done.draft in
     let x = opens U w r c.in-Some.draft draft in
+    let below = g.met.U.Uploads.below c.args.store.now w x.number x.up stands x.there in
     let b : Patching g.row.U-Draft.Denot = record { draft = c.in-Some.draft; reached = c.reached_by-reached.result; bare = c.args.request.bare; closes = c.args.request.closes } in
     let f = draft_first w conn h bytes n c.args.before r is x U c.in-Some.draft draft in
     let reached = c.reached_by-reached.ensures c.requires.small in
-    let v0 = v U w conn h bytes n c.args.before r is x b f.0 f.1 reached refl refl in
-    let p = p0 U w conn h bytes n c.args.before r is x b f.0 f.1 reached refl refl in
+    let v0 = v U w conn h bytes n c.args.before r is x b f.0 f.1 reached refl refl below in
+    let p = p0 U w conn h bytes n c.args.before r is x b f.0 f.1 reached refl refl below in
     let shown : U.stands c.act.new.store v0 = subst (U.stands c.act.new.store) (own_opened w r (acted w (Asks r)) x (U.number_of c.in-Some.draft) f.0).world_is done.stands in
-    let found = first_as U w conn h bytes n c.args.before r is x b f.0 f.1 reached refl refl in
-    let whole = reached_whole U w conn h bytes n c.args.before r is x b f.0 f.1 reached refl refl in
+    let found = first_as U w conn h bytes n c.args.before r is x b f.0 f.1 reached refl refl below in
+    let whole = reached_whole U w conn h bytes n c.args.before r is x b f.0 f.1 reached refl refl below in
     let k : Link g.row.U-Draft.Denot = record { head = c.args.head; left = 0; task = Idle } in
     let all : 0 + r.length ≡ r.length = omega arith in
-    patch_limits U w conn h bytes n c.args.before r is x b f.0 f.1 reached refl refl _ (slice_is c.args.before bytes) (c.act.ensures.crash w stands)
+    patch_limits U w conn h bytes n c.args.before r is x b f.0 f.1 reached refl refl below _ (slice_is c.args.before bytes) (c.act.ensures.crash w stands)
     (λ few. c.body_of-place.ensures.part_crash few v0 p shown found f.1)
     (λ enough. c.body_of-place.ensures.rest_crash enough v0 p r shown found f.1 (omega arith))
 
@@ -95,24 +97,25 @@ returns-in-Err-clause-answer g c w conn h n stands is =
     let done = c.in-Ok.ensures.answer w stands in
     let draft = subst (λ o. DraftIs U (acted w (Asks r)).world o (acted w (Asks r)).draft) c.in-Some.is done.draft in
     let x = opens U w r c.in-Some.draft draft in
+    let below = g.met.U.Uploads.below c.args.store.now w x.number x.up stands x.there in
     let b : Patching g.row.U-Draft.Denot = record { draft = c.in-Some.draft; reached = c.reached_by-reached.result; bare = c.args.request.bare; closes = c.args.request.closes } in
     let f = draft_first w conn h bytes n c.args.before r is x U c.in-Some.draft draft in
     let reached = c.reached_by-reached.ensures c.requires.small in
-    let v0 = v U w conn h bytes n c.args.before r is x b f.0 f.1 reached refl refl in
-    let p = p0 U w conn h bytes n c.args.before r is x b f.0 f.1 reached refl refl in
+    let v0 = v U w conn h bytes n c.args.before r is x b f.0 f.1 reached refl refl below in
+    let p = p0 U w conn h bytes n c.args.before r is x b f.0 f.1 reached refl refl below in
     let shown : U.stands c.act.new.store v0 = subst (U.stands c.act.new.store) (own_opened w r (acted w (Asks r)) x (U.number_of c.in-Some.draft) f.0).world_is done.stands in
-    let found = first_as U w conn h bytes n c.args.before r is x b f.0 f.1 reached refl refl in
-    let whole = reached_whole U w conn h bytes n c.args.before r is x b f.0 f.1 reached refl refl in
+    let found = first_as U w conn h bytes n c.args.before r is x b f.0 f.1 reached refl refl below in
+    let whole = reached_whole U w conn h bytes n c.args.before r is x b f.0 f.1 reached refl refl below in
     let k : Link g.row.U-Draft.Denot = record { head = c.args.head; left = 0; task = Idle } in
     let all : 0 + r.length ≡ r.length = omega arith in
     rw c.in-Err.is at
-    (patch_opened U w conn h bytes n c.args.before r is x b f.0 f.1 reached refl refl c.body_of-place.new.store c.body_of-place.result.0 c.args.out.now.items c.act.new.out.items c.body_of-place.new.out.items
+    (patch_opened U w conn h bytes n c.args.before r is x b f.0 f.1 reached refl refl below c.body_of-place.new.store c.body_of-place.result.0 c.args.out.now.items c.act.new.out.items c.body_of-place.new.out.items
     c.truncate.new.self.items k c.requires.cleared done.bytes c.body_of-place.result.1 _ (slice_is c.args.before bytes)
     (λ few. c.body_of-place.ensures.part few v0 p shown found f.1 (omega arith))
     (λ few. c.body_of-place.ensures.part_out few)
     (λ enough. c.body_of-place.ensures.rest enough v0 p r shown found f.1 all whole refl refl)
     (subst (λ a. OutIs a c.args.out.now.items c.body_of-place.new.out.items c.truncate.new.self.items) (sym c.in-Err.is)
-    (taken_back U w conn h bytes n c.args.before r is x b f.0 f.1 reached refl refl c.body_of-place.new.store c.body_of-place.result.0 c.args.out.now.items c.act.new.out.items c.body_of-place.new.out.items
+    (taken_back U w conn h bytes n c.args.before r is x b f.0 f.1 reached refl refl below c.body_of-place.new.store c.body_of-place.result.0 c.args.out.now.items c.act.new.out.items c.body_of-place.new.out.items
     c.truncate.new.self.items k c.requires.cleared done.bytes c.in-Err.error _ c.len-start.result (λ few. c.body_of-place.ensures.part_out few)
     (λ enough. rw c.in-Err.is at (c.body_of-place.ensures.rest enough v0 p r shown found f.1 all whole refl refl)) (omega (arith, c.len-start.ensures, c.args.out.now.ok.0)) c.truncate.ensures.items)))
 
@@ -124,16 +127,17 @@ returns-in-Err-clause-crash g c w conn h n stands is =
     let done = c.in-Ok.ensures.answer w stands in
     let draft = subst (λ o. DraftIs U (acted w (Asks r)).world o (acted w (Asks r)).draft) c.in-Some.is done.draft in
     let x = opens U w r c.in-Some.draft draft in
+    let below = g.met.U.Uploads.below c.args.store.now w x.number x.up stands x.there in
     let b : Patching g.row.U-Draft.Denot = record { draft = c.in-Some.draft; reached = c.reached_by-reached.result; bare = c.args.request.bare; closes = c.args.request.closes } in
     let f = draft_first w conn h bytes n c.args.before r is x U c.in-Some.draft draft in
     let reached = c.reached_by-reached.ensures c.requires.small in
-    let v0 = v U w conn h bytes n c.args.before r is x b f.0 f.1 reached refl refl in
-    let p = p0 U w conn h bytes n c.args.before r is x b f.0 f.1 reached refl refl in
+    let v0 = v U w conn h bytes n c.args.before r is x b f.0 f.1 reached refl refl below in
+    let p = p0 U w conn h bytes n c.args.before r is x b f.0 f.1 reached refl refl below in
     let shown : U.stands c.act.new.store v0 = subst (U.stands c.act.new.store) (own_opened w r (acted w (Asks r)) x (U.number_of c.in-Some.draft) f.0).world_is done.stands in
-    let found = first_as U w conn h bytes n c.args.before r is x b f.0 f.1 reached refl refl in
-    let whole = reached_whole U w conn h bytes n c.args.before r is x b f.0 f.1 reached refl refl in
+    let found = first_as U w conn h bytes n c.args.before r is x b f.0 f.1 reached refl refl below in
+    let whole = reached_whole U w conn h bytes n c.args.before r is x b f.0 f.1 reached refl refl below in
     let k : Link g.row.U-Draft.Denot = record { head = c.args.head; left = 0; task = Idle } in
     let all : 0 + r.length ≡ r.length = omega arith in
-    patch_limits U w conn h bytes n c.args.before r is x b f.0 f.1 reached refl refl _ (slice_is c.args.before bytes) (c.act.ensures.crash w stands)
+    patch_limits U w conn h bytes n c.args.before r is x b f.0 f.1 reached refl refl below _ (slice_is c.args.before bytes) (c.act.ensures.crash w stands)
     (λ few. c.body_of-place.ensures.part_crash few v0 p shown found f.1)
     (λ enough. c.body_of-place.ensures.rest_crash enough v0 p r shown found f.1 (omega arith))
