@@ -8,3 +8,4 @@ pub mod Durable
 pub mod Checks
 pub mod Refusals
 pub mod Loaded
+pub mod Numbers

@@ -18,7 +18,7 @@ use crate::opening::prepare;
 use enc_index::IndexSet;
 use spool_disk::Disk;
 use spool_drafts::SpoolDraft;
-use spool_kept::{Kept, OpenFault, append, begin, commit, create, drop_open};
+use spool_kept::{Kept, OpenFault, append, begin, commit, create, drop_open, terminate};
 use std::alloc::Global;
 use upload_rules::{New, Record, UploadError, Uploads};
 
@@ -131,6 +131,7 @@ impl<D: Disk> Uploads for Spool<D> {
     ghost use Rattle.spool_image.specs.LeftOnly.{SpoolLeft};
     ghost use Rattle.spool_image.specs.Spool.{SpoolStands};
     ghost use Rattle.spool_image.specs.Durable.{durable_left};
+    ghost use Rattle.spool_image.specs.Numbers.{upload_below};
 
     type Draft = SpoolAppend;
 
@@ -145,6 +146,8 @@ impl<D: Disk> Uploads for Spool<D> {
     ghost left_only = { λ s blocks t ms. SpoolLeft D.Disk s.disk s.kept.layout blocks t ms };
 
     ghost failures = { λ s. D.failures s.disk };
+
+    ghost below = { λ s w number u stands there. upload_below s.disk s.kept s.drafts.items w number u stands there };
 
     ghost durable = { λ s w ms stands among. durable_left s.disk s.kept s.drafts.items w ms s.room (D.only_now s.disk) stands among };
 
@@ -166,6 +169,16 @@ impl<D: Disk> Uploads for Spool<D> {
 
     fn create(&mut self, new: New) -> Result<u64, UploadError> {
         create(self.alloc, &mut self.disk, &mut self.kept, new)
+    }
+
+    fn terminate(&mut self, number: u64) -> Result<(), UploadError> {
+        terminate(
+            self.alloc,
+            &mut self.disk,
+            &mut self.kept,
+            &mut self.drafts,
+            number,
+        )
     }
 
     fn begin(&mut self, number: u64, offset: u64, count: u64) -> Result<SpoolAppend, UploadError> {

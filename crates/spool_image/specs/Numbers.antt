@@ -1,0 +1,19 @@
+-- The numbers of a spool's uploads are below the next one.
+use Rattle.std.specs.Prelude.{◌≡◌, ◌<◌, ℕ, List, Option, Some}
+use Rattle.std.proofs.Common.{arith}
+use Rattle.spool_disk.specs.declared.disk.Disk.{Ghosts}
+use Rattle.spool_drafts.specs.declared.draft.SpoolDraft.{SpoolDraft}
+use Rattle.spool_kept.specs.Drafting.{StandsFor}
+use Rattle.spool_kept.specs.Holding.{Holding}
+use Rattle.upload_rules.specs.Store.{Upload, upload_of}
+use Rattle.upload_rules.specs.World.{World}
+
+pub upload_below : {D : Type 0} {disk : Ghosts D} (d : D) (h : Holding) (drafts : List (Option SpoolDraft)) (w : World)
+    (number : ℕ) (u : Upload) → StandsFor disk d h drafts w → upload_of w.store number ≡ Some u → number < w.store.next
+upload_below d h drafts w number u stands there =
+    let shows = stands.stored.shows in
+    let slot = shows.all number u there in
+    let less = (shows.sound.records slot.slot slot.used slot.there).below in
+    let is = slot.number in
+    let next = shows.next in
+    omega (arith, less, is, next)
