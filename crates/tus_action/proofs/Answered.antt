@@ -1,5 +1,6 @@
 -- What a call of the uploads leaves.
-use Rattle.std.proofs.Common.{◌≡◌, ◌==◌, arith, ℕ, Bool, true, false, List, [], ◌∷◌, ◌++◌, length, take, Option, Some, None, Result, Ok, Err, refl, sym, subst, ap, ◌∙◌, if◌then◌else◌}
+use Rattle.std.proofs.Common.{◌≡◌, ◌==◌, arith, ℕ, Bool, true, false, List, [], ◌∷◌, ◌++◌, length, take, Option, Some}
+use Rattle.std.proofs.Common.{None, Result, Ok, Err, refl, sym, subst, ap, ◌∙◌, if◌then◌else◌}
 use Rattle.upload_rules.specs.declared.errors.UploadRefusal.{UploadRefusal}
 use Rattle.upload_rules.specs.declared.errors.UploadError.{UploadError}
 use Rattle.upload_rules.specs.declared.errors.UploadError.TheVariants.{NoMemory, DiskFault, Refused}
@@ -21,7 +22,8 @@ use Rattle.upload_rules.specs.Calls.{longer, appended, appended_at, dropped, spe
 same_number : (n : ℕ) → (n == n) ≡ true
 same_number n = grind (arith)
 
-found_here : {A : Type 0} (n : ℕ) (x : A) (entries : List (ℕ × A)) (o : Option A) → (if n == n then Some x else o) ≡ Some x
+found_here : {A : Type 0} (n : ℕ) (x : A) (entries : List (ℕ × A)) (o : Option A)
+    → (if n == n then Some x else o) ≡ Some x
 found_here n x entries o = ap (λ b. if b then Some x else o) (same_number n)
 
 find_case : {A : Type 0} (n k : ℕ) (x y z : A) (es : List (ℕ × A)) (b : Bool) → (k == n) ≡ b
@@ -30,9 +32,11 @@ find_case : {A : Type 0} (n k : ℕ) (x y z : A) (es : List (ℕ × A)) (b : Boo
 find_case n k x y z es true t e more = found_here n x es (find n es)
 find_case n k x y z es false t e more = ap (λ b. if b then Some z else find n (replaced n x es)) t ∙ more e
 
-pub find_replaced : {A : Type 0} (n : ℕ) (x y : A) (entries : List (ℕ × A)) → find n entries ≡ Some y → find n (replaced n x entries) ≡ Some x
+pub find_replaced : {A : Type 0} (n : ℕ) (x y : A) (entries : List (ℕ × A)) → find n entries ≡ Some y
+    → find n (replaced n x entries) ≡ Some x
 find_replaced n x y [] e = absurd (cc)
-find_replaced n x y (entry ∷ es) e = find_case n entry.0 x y entry.1 es (entry.0 == n) refl e (λ h. find_replaced n x y es h)
+find_replaced n x y (entry ∷ es) e =
+    find_case n entry.0 x y entry.1 es (entry.0 == n) refl e (λ h. find_replaced n x y es h)
 
 pub find_appended : (w : World) (d : ℕ) (p : Patch) (piece : List ℕ) → find d w.patches ≡ Some p
     → find d (appended w d piece).patches ≡ Some (longer w d p piece)
@@ -49,24 +53,29 @@ pub fed_some : (w : World) (d : ℕ) (piece : List ℕ) → (piece ≡ [] → �
 fed_some w d [] some = absurd (some refl)
 fed_some w d (b ∷ piece) some = refl
 
-pub fed_patch_some : (w : World) (d : ℕ) (p : Patch) (piece : List ℕ) → (piece ≡ [] → ⊥) → longer w d p piece ≡ fed_patch w d p piece
+pub fed_patch_some : (w : World) (d : ℕ) (p : Patch) (piece : List ℕ) → (piece ≡ [] → ⊥)
+    → longer w d p piece ≡ fed_patch w d p piece
 fed_patch_some w d p [] some = absurd (some refl)
 fed_patch_some w d p (b ∷ piece) some = refl
 
-pub refused_answer : {T : Type 0} (done : T → Type 0) (same : Type 0) (refusal : Option UploadRefusal) (e : UploadError) (f : UploadRefusal) → e ≡ Refused f
+pub refused_answer : {T : Type 0} (done : T → Type 0) (same : Type 0) (refusal : Option UploadRefusal) (e : UploadError)
+    (f : UploadRefusal) → e ≡ Refused f
     → Answers {T = T} refusal (Err e) done same → (refusal ≡ Some f) × same
 refused_answer {T = T} done same refusal e f is h = subst (λ x. Answers {T = T} refusal (Err x) done same) is h
 
-pub memory_answer : {T : Type 0} (done : T → Type 0) (same : Type 0) (refusal : Option UploadRefusal) (e : UploadError) → e ≡ NoMemory
+pub memory_answer : {T : Type 0} (done : T → Type 0) (same : Type 0) (refusal : Option UploadRefusal) (e : UploadError)
+    → e ≡ NoMemory
     → Answers {T = T} refusal (Err e) done same → IsLate refusal × same
 memory_answer {T = T} done same refusal e is h = subst (λ x. Answers {T = T} refusal (Err x) done same) is h
 
 -- the list isn't empty
 pub some_items : {A : Type 0} (b : Bool) (list : List A) → b ≡ (length list == 0) → b ≡ false → list ≡ [] → ⊥
-some_items b list is not_empty none = let e : true ≡ false = ap (λ l. length l == 0) (sym none) ∙ (sym is ∙ not_empty) in absurd (cc)
+some_items b list is not_empty none = let e : true ≡ false =
+    ap (λ l. length l == 0) (sym none) ∙ (sym is ∙ not_empty) in absurd (cc)
 
 -- bytes that were not taken: the draft is dropped
-pub fed_gone : {U B : Type 0} (u : Ghosts U B) (store next : U) (w : World) (e : UploadError) (d d' : ℕ) (w' : World) (p : Patch) (done : Unit {0} → Type 0)
+pub fed_gone : {U B : Type 0} (u : Ghosts U B) (store next : U) (w : World) (e : UploadError) (d d' : ℕ) (w' : World)
+    (p : Patch) (done : Unit {0} → Type 0)
     → Answers {T = Unit {0}} None (Err e) done (u.stands store w)
     → (u.stands store w → u.stands next (dropped w d')) → d' ≡ d → Feeds u next (Err (stop_of e)) (dropped w d) w' d p
 fed_gone u store next w NoMemory d d' w' p done a drops same = subst (λ x. u.stands next (dropped w x)) same (drops a.1)
@@ -78,33 +87,53 @@ pub taken_back : {A : Type 0} (old more new : List A) (n : ℕ) → n ≡ length
 taken_back old more new n is e = e ∙ (ap (λ k. take k (old ++ more)) is ∙ take-append_seam old more)
 
 -- a call on the uploads that gave no answer, where its refusal changes nothing but what is gone
-pub refused_serves : {U B : Type 0} (u : Ghosts U B) (store : U) (gone : World) (m : Option UploadRefusal → Acted) (refusal : Option UploadRefusal) (e : UploadError)
-    (result : Result (code.Acted B) Stop) (on_files bare closes : Bool) (old new : List ℕ) {T : Type 0} (done : T → Type 0)
+pub refused_serves : {U B : Type 0} (u : Ghosts U B) (store : U) (gone : World) (m : Option UploadRefusal → Acted)
+    (refusal : Option UploadRefusal) (e : UploadError)
+    (result : Result (code.Acted B) Stop) (on_files bare closes : Bool) (old new : List ℕ) {T : Type 0}
+    (done : T → Type 0)
     → ((f : UploadRefusal) → m (Some f) ≡ replied gone (reply_refused (fault_of f) on_files bare closes) closes)
     → Answers {T = T} refusal (Err e) done (u.stands store gone) → RepliesTo result e on_files bare closes old new
     → Serves u store result old new gone (m refusal)
 refused_serves u store gone m refusal (Refused f) (Ok a) on_files bare closes old new done replies_to answered replies =
     subst (λ x. Serves u store (Ok a) old new gone (m x)) (sym answered.0)
     (subst (λ x. Serves u store (Ok a) old new gone x) (sym (replies_to f))
-    (subst (λ x. Serves u store (Ok x) old new gone (replied gone (reply_refused (fault_of f) on_files bare closes) closes)) (sym replies.0)
+    (subst (λ x. Serves u store (Ok x) old new gone
+    (replied gone (reply_refused (fault_of f) on_files bare closes) closes)) (sym replies.0)
     (record { stands = answered.1; draft = tt {0}; giving = tt {0}; closes = refl; bytes = replies.1 })))
-refused_serves u store gone m refusal (Refused f) (Err Stops.NoMemory) on_files bare closes old new done replies_to answered replies = (answered.1, replies)
-refused_serves u store gone m refusal (Refused f) (Err Stops.DiskFault) on_files bare closes old new done replies_to answered replies = absurd replies
-refused_serves u store gone m refusal NoMemory (Err Stops.NoMemory) on_files bare closes old new done replies_to answered replies = (answered.1, replies)
-refused_serves u store gone m refusal NoMemory (Err Stops.DiskFault) on_files bare closes old new done replies_to answered replies = absurd replies
-refused_serves u store gone m refusal NoMemory (Ok a) on_files bare closes old new done replies_to answered replies = absurd replies
-refused_serves u store gone m refusal DiskFault (Err Stops.NoMemory) on_files bare closes old new done replies_to answered replies = absurd replies
-refused_serves u store gone m refusal DiskFault (Err Stops.DiskFault) on_files bare closes old new done replies_to answered replies = replies
-refused_serves u store gone m refusal DiskFault (Ok a) on_files bare closes old new done replies_to answered replies = absurd replies
+refused_serves u store gone m refusal (Refused f) (Err Stops.NoMemory) on_files bare closes old new done replies_to
+    answered replies = (answered.1, replies)
+refused_serves u store gone m refusal (Refused f) (Err Stops.DiskFault) on_files bare closes old new done replies_to
+    answered replies = absurd replies
+refused_serves u store gone m refusal NoMemory (Err Stops.NoMemory) on_files bare closes old new done replies_to
+    answered replies = (answered.1, replies)
+refused_serves u store gone m refusal NoMemory (Err Stops.DiskFault) on_files bare closes old new done replies_to
+    answered replies = absurd replies
+refused_serves u store gone m refusal NoMemory (Ok a) on_files bare closes old new done replies_to answered replies =
+    absurd replies
+refused_serves u store gone m refusal DiskFault (Err Stops.NoMemory) on_files bare closes old new done replies_to
+    answered replies = absurd replies
+refused_serves u store gone m refusal DiskFault (Err Stops.DiskFault) on_files bare closes old new done replies_to
+    answered replies = replies
+refused_serves u store gone m refusal DiskFault (Ok a) on_files bare closes old new done replies_to answered replies =
+    absurd replies
 
 -- refused for memory, by the call itself or behind its refusal: nothing was made
-pub nothing_made : {m0 m1 : ℕ} {l0 l1 : Option ℕ → ℕ → List Store → Type 0} {B T : Type 0} (before after : Store) (refusal : Option UploadRefusal) (e : UploadError)
-    (result : Result (code.Acted B) Stop) (on_files bare closes : Bool) (old new : List ℕ) (done : T → Type 0) (same : Type 0)
-    → Answers {T = T} refusal (Err e) done same → RepliesTo result e on_files bare closes old new → IsErrOf result Stops.NoMemory
-    → Limits m0 m1 l0 l1 before (outcome refusal before after) → (e ≡ NoMemory → Limits m0 m1 l0 l1 before before) → Limits m0 m1 l0 l1 before before
-nothing_made {m0} {m1} {l0} {l1} before after refusal (Refused f) result on_files bare closes old new done same answered replies is limits unmade =
+pub nothing_made : {m0 m1 : ℕ} {l0 l1 : Option ℕ → ℕ → List Store → Type 0} {B T : Type 0} (before after : Store)
+    (refusal : Option UploadRefusal) (e : UploadError)
+    (result : Result (code.Acted B) Stop) (on_files bare closes : Bool) (old new : List ℕ) (done : T → Type 0)
+    (same : Type 0)
+    → Answers {T = T} refusal (Err e) done same → RepliesTo result e on_files bare closes old new
+    → IsErrOf result Stops.NoMemory
+    → Limits m0 m1 l0 l1 before (outcome refusal before after) → (e ≡ NoMemory → Limits m0 m1 l0 l1 before before)
+    → Limits m0 m1 l0 l1 before before
+nothing_made {m0} {m1} {l0} {l1} before after refusal (Refused f) result on_files bare closes old new done same answered
+    replies is limits unmade =
     subst (λ x. Limits m0 m1 l0 l1 before (outcome x before after)) answered.0 limits
-nothing_made before after refusal NoMemory result on_files bare closes old new done same answered replies is limits unmade = unmade refl
-nothing_made before after refusal DiskFault (Ok a) on_files bare closes old new done same answered replies is limits unmade = absurd replies
-nothing_made before after refusal DiskFault (Err Stops.NoMemory) on_files bare closes old new done same answered replies is limits unmade = absurd replies
-nothing_made before after refusal DiskFault (Err Stops.DiskFault) on_files bare closes old new done same answered replies is limits unmade = absurd (cc)
+nothing_made before after refusal NoMemory result on_files bare closes old new done same answered replies is limits
+    unmade = unmade refl
+nothing_made before after refusal DiskFault (Ok a) on_files bare closes old new done same answered replies is limits
+    unmade = absurd replies
+nothing_made before after refusal DiskFault (Err Stops.NoMemory) on_files bare closes old new done same answered replies
+    is limits unmade = absurd replies
+nothing_made before after refusal DiskFault (Err Stops.DiskFault) on_files bare closes old new done same answered
+    replies is limits unmade = absurd (cc)

@@ -1,6 +1,9 @@
 -- The pieces of a text that is given.
-use Rattle.std.proofs.Common.{◌≡◌, ◌≤◌, ◌<◌, ◌+◌, ◌-◌, min, arith, ℕ, Bool, true, false, List, [], ◌∷◌, ◌++◌, length, take, drop, nat_le, Option, Some, None, Ok, Err, refl, sym, subst, ap, ◌∙◌, if◌then◌else◌, append-nil}
-use Rattle.std.proofs.lemmas.List.{length-take, length-drop, take_all, take-take, drop-drop, drop_all, drop-take, length-take-le, take-append-le}
+use Rattle.std.proofs.Common.{◌≡◌, ◌≤◌, ◌<◌, ◌+◌, ◌-◌, min, arith, ℕ, Bool, true, false, List, [], ◌∷◌, ◌++◌, length}
+use Rattle.std.proofs.Common.{take, drop, nat_le, Option, Some, None, Ok, Err, refl, sym, subst, ap, ◌∙◌, if◌then◌else◌}
+use Rattle.std.proofs.Common.{append-nil}
+use Rattle.std.proofs.lemmas.List.{length-take, length-drop, take_all, take-take, drop-drop, drop_all, drop-take}
+use Rattle.std.proofs.lemmas.List.{length-take-le, take-append-le}
 use borrow.Rule.Slice.PartMut.{put_mid, post_of}
 use Rattle.std.proofs.lemmas.Bool.{leb-true, leb-false}
 use Rattle.upload_rules.specs.Store.{Store, Upload, upload_of, text_of}
@@ -20,16 +23,20 @@ use Rattle.tus_action.specs.declared.acts.Giving as given
 use Rattle.tus_action.specs.declared.acts.Given.TheVariants.{Piece, Last}
 
 -- a list was made longer, and a buffer was read over what is new of it
-pub read_behind : (old zeros xs buf : List ℕ) (before n : ℕ) → before ≡ length old → xs ≡ take (before + n) old ++ zeros → length xs ≡ before + n
-    → length buf ≡ length (take (length xs - before) (drop before xs)) → (put_mid before (length xs - before) xs buf ≡ old ++ buf) × (length buf ≡ n)
+pub read_behind : (old zeros xs buf : List ℕ) (before n : ℕ) → before ≡ length old → xs ≡ take (before + n) old ++ zeros
+    → length xs ≡ before + n
+    → length buf ≡ length (take (length xs - before) (drop before xs))
+    → (put_mid before (length xs - before) xs buf ≡ old ++ buf) × (length buf ≡ n)
 read_behind old zeros xs buf before n size more all filled =
     let k : ℕ = length xs - before in
     let whole : take (before + n) old ≡ old = take_all (before + n) old (omega arith) in
     let cut : take before (old ++ zeros) ≡ take before old = take-append-le before old zeros (omega arith) in
-    let front : take before xs ≡ old = ap (take before) (more ∙ ap (λ x. x ++ zeros) whole) ∙ (cut ∙ take_all before old (omega arith)) in
+    let front : take before xs ≡ old =
+    ap (take before) (more ∙ ap (λ x. x ++ zeros) whole) ∙ (cut ∙ take_all before old (omega arith)) in
     let behind : length (drop before xs) ≡ length xs - before = length-drop before xs in
     let none : post_of before k xs ≡ [] = drop_all k (drop before xs) (omega arith) in (
-      ap (λ x. x ++ (buf ++ post_of before k xs)) front ∙ ap (λ ys. old ++ ys) (ap (λ ys. buf ++ ys) none ∙ append-nil buf),
+      ap (λ x. x ++ (buf ++ post_of before k xs)) front ∙ ap (λ ys. old ++ ys)
+          (ap (λ ys. buf ++ ys) none ∙ append-nil buf),
       filled ∙ (length-take-le k (drop before xs) (omega arith) ∙ omega arith),
     )
 
@@ -51,25 +58,32 @@ take_least n k xs c false more e =
     ap (λ x. take x xs) is ∙ sym (take-take n k xs (omega arith))
 
 -- the piece that is read is the next one
-pub piece_is : (text : List ℕ) (l g c n : ℕ) (zeros piece : List ℕ) → g ≤ l → l ≤ length text → c ≡ min (l - g) 65536 → length zeros ≡ c
+pub piece_is : (text : List ℕ) (l g c n : ℕ) (zeros piece : List ℕ) → g ≤ l → l ≤ length text → c ≡ min (l - g) 65536
+    → length zeros ≡ c
     → IsRead text g n zeros piece → piece ≡ take 65536 (drop g (take l text))
 piece_is text l g c n zeros piece some within count size read =
     let ld : length (drop g text) ≡ length text - g = length-drop g text in
     let all : n ≡ c = read.count ∙ (omega arith) in
     let rest : drop n zeros ≡ [] = drop_all n zeros (omega arith) in
-    read.bytes ∙ (ap (λ r. take n (drop g text) ++ r) rest ∙ (append-nil (take n (drop g text)) ∙ (ap (λ k. take k (drop g text)) all
-    ∙ (take_least 65536 (l - g) (drop g text) c (nat_le (l - g) 65536) refl count ∙ ap (take 65536) (sym (left_is text l g some))))))
+    read.bytes ∙ (ap (λ r. take n (drop g text) ++ r) rest
+    ∙ (append-nil (take n (drop g text)) ∙ (ap (λ k. take k (drop g text)) all
+    ∙ (take_least 65536 (l - g) (drop g text) c (nat_le (l - g) 65536) refl count
+    ∙ ap (take 65536) (sym (left_is text l g some))))))
 
-text_here : (m : Store) (n k : ℕ) (up : Upload) → n ≡ k → upload_of m k ≡ Some up → text_at m (upload_of m n) ≡ text_of m.indexes up
+text_here : (m : Store) (n k : ℕ) (up : Upload) → n ≡ k → upload_of m k ≡ Some up
+    → text_at m (upload_of m n) ≡ text_of m.indexes up
 text_here m n k up is found = ap (λ x. text_at m (upload_of m x)) is ∙ ap (text_at m) found
 
 -- what is read is the next piece
-pub given_piece : (m : Store) (g : given.Giving) (h : Giving) (up : Upload) → GivesAs m g h up → (c n : ℕ) (zeros piece : List ℕ)
-    → c ≡ min (g.length - g.given) 65536 → length zeros ≡ c → IsRead (text_at m (upload_of m g.number)) g.given n zeros piece → piece ≡ piece_of h
+pub given_piece : (m : Store) (g : given.Giving) (h : Giving) (up : Upload) → GivesAs m g h up
+    → (c n : ℕ) (zeros piece : List ℕ)
+    → c ≡ min (g.length - g.given) 65536 → length zeros ≡ c → IsRead (text_at m (upload_of m g.number)) g.given n zeros
+    piece → piece ≡ piece_of h
 given_piece m g h up gives c n zeros piece count size read =
     let text : List ℕ = text_of m.indexes up in
     let here : text_at m (upload_of m g.number) ≡ text = text_here m g.number h.number up gives.number gives.found in
-    piece_is text g.length g.given c n zeros piece gives.some gives.within count size (subst (λ t. IsRead t g.given n zeros piece) here read)
+    piece_is text g.length g.given c n zeros piece gives.some gives.within count size
+    (subst (λ t. IsRead t g.given n zeros piece) here read)
     ∙ ap (take 65536) (sym gives.left)
 
 -- a list that isn't empty is pending
@@ -93,14 +107,16 @@ left_behind m g h up gives more =
 
 behind_case : (m : Store) (g : given.Giving) (h : Giving) (up : Upload) → GivesAs m g h up → IsGiving m g h → (c : ℕ)
     → c ≡ min (g.length - g.given) 65536 → (b : Bool) → nat_le g.length (g.given + c) ≡ b
-    → GivingIs m (if b then None else Some (record { number = g.number; length = g.length; given = g.given + c; closes = g.closes })) (pending_after h)
+    → GivingIs m (if b then None else Some
+    (record { number = g.number; length = g.length; given = g.given + c; closes = g.closes })) (pending_after h)
 behind_case m g h up gives all c count true over =
     let text : List ℕ = text_of m.indexes up in
     let le : g.length ≤ g.given + c = leb-true g.length (g.given + c) over in
     let some : g.given ≤ g.length = gives.some in
     let within : g.length ≤ length text = gives.within in
     let lt : length (take g.length text) ≡ g.length = length-take-le g.length text within in
-    let ld : length (drop g.given (take g.length text)) ≡ length (take g.length text) - g.given = length-drop g.given (take g.length text) in
+    let ld : length (drop g.given (take g.length text)) ≡ length (take g.length text) - g.given =
+    length-drop g.given (take g.length text) in
     let ll : length h.left ≡ g.length - g.given = ap length gives.left ∙ (omega arith) in
     let none : drop 65536 h.left ≡ [] = drop_all 65536 h.left (omega arith) in
     subst (λ x. GivingIs m None (pending_of h.number x h.closes)) (sym none) (tt {0})
@@ -111,18 +127,22 @@ behind_case m g h up gives all c count false under =
     let within : g.length ≤ length text = gives.within in
     let c_is : c ≡ 65536 = omega arith in
     let ltk : length (take g.length text) ≡ g.length = length-take-le g.length text within in
-    let ld : length (drop g.given (take g.length text)) ≡ length (take g.length text) - g.given = length-drop g.given (take g.length text) in
+    let ld : length (drop g.given (take g.length text)) ≡ length (take g.length text) - g.given =
+    length-drop g.given (take g.length text) in
     let ll : length h.left ≡ g.length - g.given = ap length gives.left ∙ (omega arith) in
     let lr : length (drop 65536 h.left) ≡ length h.left - 65536 = length-drop 65536 h.left in
-    let pending = pending_some h.number (drop 65536 h.left) h.closes (g.length - g.given - 65536) (omega arith) (omega arith) in
+    let pending = pending_some h.number (drop 65536 h.left) h.closes (g.length - g.given - 65536) (omega arith)
+    (omega arith) in
     let rest : IsGiving m (record g { given = g.given + 65536 }) (record h { left = drop 65536 h.left }) = record {
       number = all.number;
       below = all.below;
       closes = all.closes;
       there = λ v found. left_behind m g h v (all.there v found) (omega (arith, c_is, lt));
     } in
-    subst (λ x. GivingIs m (Some (record { number = g.number; length = g.length; given = g.given + c; closes = g.closes })) x) (sym pending)
-    (subst (λ k. IsGiving m (record { number = g.number; length = g.length; given = g.given + k; closes = g.closes }) (record h { left = drop 65536 h.left })) (sym c_is) rest)
+    subst (λ x. GivingIs m (Some
+    (record { number = g.number; length = g.length; given = g.given + c; closes = g.closes })) x) (sym pending)
+    (subst (λ k. IsGiving m (record { number = g.number; length = g.length; given = g.given + k; closes = g.closes })
+    (record h { left = drop 65536 h.left })) (sym c_is) rest)
 
 -- what is left behind the piece
 pub gives_on : (m : Store) (g : given.Giving) (h : Giving) (up : Upload) → GivesAs m g h up → IsGiving m g h → (c : ℕ)
@@ -130,14 +150,17 @@ pub gives_on : (m : Store) (g : given.Giving) (h : Giving) (up : Upload) → Giv
 gives_on m g h up gives all c count = behind_case m g h up gives all c count (nat_le g.length (g.given + c)) refl
 
 -- a text that can't be read: nothing was given
-pub unread : {U B T : Type 0} (u : Ghosts U B) (store : U) (w : World) (h : Giving) (refusal : Option UploadRefusal) (done : T → Type 0) (error : UploadError) (old new : List ℕ)
-    → Answers refusal (Err error) done (u.stands store w) → new ≡ old → GivesPiece u store (Err (stop_of error)) old new w h
+pub unread : {U B T : Type 0} (u : Ghosts U B) (store : U) (w : World) (h : Giving) (refusal : Option UploadRefusal)
+    (done : T → Type 0) (error : UploadError) (old new : List ℕ)
+    → Answers refusal (Err error) done (u.stands store w) → new ≡ old → GivesPiece u store (Err (stop_of error)) old new
+    w h
 unread u store w h refusal done errors.NoMemory old new told same = (told.1, same)
 unread u store w h refusal done errors.DiskFault old new told same = same
 unread u store w h refusal done (errors.Refused f) old new told same = (told.1, same)
 
 -- the upload that a record tells of
-pub told_there : (m : Store) (n k : ℕ) (r : Record) → n ≡ k → TellsOf m.indexes (with_number n (upload_of m n)) (Some r) → (up : Upload) × (upload_of m k ≡ Some up)
+pub told_there : (m : Store) (n k : ℕ) (r : Record) → n ≡ k → TellsOf m.indexes (with_number n (upload_of m n)) (Some r)
+    → (up : Upload) × (upload_of m k ≡ Some up)
 told_there m n k r same told = subst (λ i. (up : Upload) × (upload_of m i ≡ Some up)) same (of (upload_of m n) told)
   where
     of : (o : Option Upload) → TellsOf m.indexes (with_number n o) (Some r) → (up : Upload) × (o ≡ Some up)
@@ -145,14 +168,18 @@ told_there m n k r same told = subst (λ i. (up : Upload) × (upload_of m i ≡ 
     of (Some up) told = (up, refl)
 
 -- the piece that was given
-pub piece_given : {U B : Type 0} (u : Ghosts U B) (store : U) (w : World) (h : Giving) (up : Upload) (left : Option given.Giving) (g : given.Giving) (old new : List ℕ)
-    → upload_of w.store h.number ≡ Some up → left ≡ Some g → GivesPiece u store (Ok left) old new w h → Gives u store (Ok (Piece g)) old new w h
+pub piece_given : {U B : Type 0} (u : Ghosts U B) (store : U) (w : World) (h : Giving) (up : Upload)
+    (left : Option given.Giving) (g : given.Giving) (old new : List ℕ)
+    → upload_of w.store h.number ≡ Some up → left ≡ Some g → GivesPiece u store (Ok left) old new w h
+    → Gives u store (Ok (Piece g)) old new w h
 piece_given u store w h up left g old new there is gave =
     let rest = subst (λ l. GivingIs w.store l (pending_after h)) is gave.1 in
     (gave.0, subst (IsGiven w.store (Piece g) old new h) (sym there) (rest, gave.2))
 
-pub last_given : {U B : Type 0} (u : Ghosts U B) (store : U) (w : World) (h : Giving) (up : Upload) (left : Option given.Giving) (old new : List ℕ)
-    → upload_of w.store h.number ≡ Some up → left ≡ None → GivesPiece u store (Ok left) old new w h → Gives u store (Ok Last) old new w h
+pub last_given : {U B : Type 0} (u : Ghosts U B) (store : U) (w : World) (h : Giving) (up : Upload)
+    (left : Option given.Giving) (old new : List ℕ)
+    → upload_of w.store h.number ≡ Some up → left ≡ None → GivesPiece u store (Ok left) old new w h
+    → Gives u store (Ok Last) old new w h
 last_given u store w h up left old new there is gave =
     let none = none_is w.store (pending_after h) (subst (λ l. GivingIs w.store l (pending_after h)) is gave.1) in
     (gave.0, subst (IsGiven w.store Last old new h) (sym there) (none, gave.2))

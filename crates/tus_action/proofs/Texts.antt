@@ -1,5 +1,6 @@
 -- The first piece of a text behind the reply's head.
-use Rattle.std.proofs.Common.{◌≡◌, ◌<◌, arith, ℕ, Bool, false, List, [], ◌++◌, length, take, drop, Option, Some, None, Ok, Err, refl, sym, subst, ap, ◌∙◌, if◌then◌else◌, append_assoc}
+use Rattle.std.proofs.Common.{◌≡◌, ◌<◌, arith, ℕ, Bool, false, List, [], ◌++◌, length, take, drop, Option, Some, None}
+use Rattle.std.proofs.Common.{Ok, Err, refl, sym, subst, ap, ◌∙◌, if◌then◌else◌, append_assoc}
 use Rattle.std.proofs.lemmas.List.{take_all}
 use Rattle.std.proofs.lemmas.Option.{same_Some}
 use Rattle.upload_rules.specs.Store.{Store, Upload, upload_of, text_of}
@@ -23,7 +24,8 @@ at_start n l closes = record { number = n; length = l; given = 0; closes = close
 abbrev pub whole_text : ℕ → List ℕ → Bool → Giving
 whole_text n text closes = record { number = n; left = text; closes = closes }
 
-starts_as : (m : Store) (n : ℕ) (rec : Record) (up : Upload) (closes : Bool) → upload_of m n ≡ Some up → Tells m.indexes n rec up
+starts_as : (m : Store) (n : ℕ) (rec : Record) (up : Upload) (closes : Bool) → upload_of m n ≡ Some up
+    → Tells m.indexes n rec up
     → GivesAs m (at_start n rec.text_len closes) (whole_text n (text_of m.indexes up) closes) up
 starts_as m n rec up closes found tells =
     let text : List ℕ = text_of m.indexes up in
@@ -32,7 +34,8 @@ starts_as m n rec up closes found tells =
     record { number = refl; found = found; some = omega arith; within = omega arith; left = sym all; closes = refl }
 
 -- the text of an upload, with nothing given
-pub starts : (m : Store) (n : ℕ) (rec : Record) (up : Upload) (closes : Bool) → n < m.next → upload_of m n ≡ Some up → Tells m.indexes n rec up
+pub starts : (m : Store) (n : ℕ) (rec : Record) (up : Upload) (closes : Bool) → n < m.next → upload_of m n ≡ Some up
+    → Tells m.indexes n rec up
     → IsGiving m (at_start n rec.text_len closes) (whole_text n (text_of m.indexes up) closes)
 starts m n rec up closes below found tells = record {
   number = refl;
@@ -42,7 +45,8 @@ starts m n rec up closes below found tells = record {
       (same_Some up v (sym found ∙ is)) (starts_as m n rec up closes found tells);
 }
 
-given_closes : (B : Type 0) (m : Store) (left : Option given.Giving) (p : Option Giving) (closes : Bool) → GivingIs m left p
+given_closes : (B : Type 0) (m : Store) (left : Option given.Giving) (p : Option Giving) (closes : Bool)
+    → GivingIs m left p
     → (replied_giving {B = B} left closes).closes ≡ (if is_pending p then false else closes)
 given_closes B m None None closes is = refl
 given_closes B m (Some g) (Some h) closes is = refl
@@ -56,15 +60,19 @@ given_is B m (Some g) (Some h) closes is = is
 given_is B m None (Some h) closes is = absurd is
 given_is B m (Some g) None closes is = absurd is
 
-no_draft : {U B : Type 0} (u : Ghosts U B) (w : World) (left : Option given.Giving) (closes : Bool) → DraftIs u w (replied_giving {B = B} left closes).draft None
+no_draft : {U B : Type 0} (u : Ghosts U B) (w : World) (left : Option given.Giving) (closes : Bool)
+    → DraftIs u w (replied_giving {B = B} left closes).draft None
 no_draft u w None closes = tt {0}
 no_draft u w (Some g) closes = tt {0}
 
 -- the reply's head and the first piece
-pub get_acts : {U B : Type 0} (u : Ghosts U B) (store : U) (w : World) (r : Request) (n : ℕ) (rec : Record) (left : Option given.Giving) (old mid new : List ℕ)
-    (o : Option Upload) → ((v : Upload) → upload_of w.store n ≡ Some v → n < w.store.next) → upload_of w.store n ≡ o → TellsOf w.store.indexes (with_number n o) (Some rec) → r.bare ≡ false
+pub get_acts : {U B : Type 0} (u : Ghosts U B) (store : U) (w : World) (r : Request) (n : ℕ) (rec : Record)
+    (left : Option given.Giving) (old mid new : List ℕ)
+    (o : Option Upload) → ((v : Upload) → upload_of w.store n ≡ Some v → n < w.store.next) → upload_of w.store n ≡ o
+    → TellsOf w.store.indexes (with_number n o) (Some rec) → r.bare ≡ false
     → mid ≡ old ++ reply_text rec.to rec.text_len false r.closes
-    → ((h : Giving) (up : Upload) → IsGiving w.store (at_start n rec.text_len r.closes) h → upload_of w.store h.number ≡ Some up → GivesPiece u store (Ok left) mid new w h)
+    → ((h : Giving) (up : Upload) → IsGiving w.store (at_start n rec.text_len r.closes) h
+    → upload_of w.store h.number ≡ Some up → GivesPiece u store (Ok left) mid new w h)
     → ActedAs u store (replied_giving left r.closes) old new (get w r n o)
 get_acts u store w r n rec left old mid new None below e tells bare head gives = absurd tells
 get_acts {B = B} u store w r n rec left old mid new (Some up) below e tells bare head gives =
@@ -73,41 +81,56 @@ get_acts {B = B} u store w r n rec left old mid new (Some up) below e tells bare
     let g = gives h up (starts w.store n rec up r.closes (below up e) e tells) e in
     let pend : pending_after h ≡ pending_of n (if r.bare then [] else drop piece_size text) r.closes =
     ap (λ b. pending_of n (if b then [] else drop piece_size text) r.closes) (sym bare) in
-    let is : GivingIs w.store left (pending_of n (if r.bare then [] else drop piece_size text) r.closes) = subst (λ p. GivingIs w.store left p) pend g.1 in
+    let is : GivingIs w.store left (pending_of n (if r.bare then [] else drop piece_size text) r.closes) =
+    subst (λ p. GivingIs w.store left p) pend g.1 in
     let reply : reply_text rec.to rec.text_len false r.closes ≡ reply_text up.to (length text) false r.closes =
-    ap (λ t. reply_text t rec.text_len false r.closes) tells.to ∙ ap (λ l. reply_text up.to l false r.closes) tells.text_len in
+    ap (λ t. reply_text t rec.text_len false r.closes) tells.to ∙ ap (λ l. reply_text up.to l false r.closes)
+    tells.text_len in
     let bytes : new ≡ old ++ (reply_text up.to (length text) false r.closes ++ take piece_size text) =
-    g.2 ∙ (ap (λ x. x ++ take piece_size text) (head ∙ ap (λ x. old ++ x) reply) ∙ append_assoc old (reply_text up.to (length text) false r.closes) (take piece_size text)) in
+    g.2 ∙ (ap (λ x. x ++ take piece_size text) (head ∙ ap (λ x. old ++ x) reply)
+    ∙ append_assoc old (reply_text up.to (length text) false r.closes) (take piece_size text)) in
     record {
       stands = g.0;
       draft = no_draft u w left r.closes;
       giving = given_is B w.store left _ r.closes is;
       closes = given_closes B w.store left _ r.closes is;
-      bytes = bytes ∙ ap (λ b. old ++ (reply_text up.to (length text) b r.closes ++ (if b then [] else take piece_size text))) (sym bare);
+      bytes = bytes ∙ ap (λ b. old ++ (reply_text up.to (length text) b
+          r.closes ++ (if b then [] else take piece_size text))) (sym bare);
     }
 
 -- the first piece wasn't given: the head is taken back
-pub get_stops : {U B : Type 0} (u : Ghosts U B) (store : U) (w : World) (closes : Bool) (n : ℕ) (rec : Record) (stop : Stop) (old more mid out new : List ℕ) (k : ℕ) (m : Acted)
-    (o : Option Upload) → ((v : Upload) → upload_of w.store n ≡ Some v → n < w.store.next) → upload_of w.store n ≡ o → TellsOf w.store.indexes (with_number n o) (Some rec)
+pub get_stops : {U B : Type 0} (u : Ghosts U B) (store : U) (w : World) (closes : Bool) (n : ℕ) (rec : Record)
+    (stop : Stop) (old more mid out new : List ℕ) (k : ℕ) (m : Acted)
+    (o : Option Upload) → ((v : Upload) → upload_of w.store n ≡ Some v → n < w.store.next) → upload_of w.store n ≡ o
+    → TellsOf w.store.indexes (with_number n o) (Some rec)
     → mid ≡ old ++ more → k ≡ length old → new ≡ take k out
-    → ((h : Giving) (up : Upload) → IsGiving w.store (at_start n rec.text_len closes) h → upload_of w.store h.number ≡ Some up → GivesPiece u store (Err stop) mid out w h)
+    → ((h : Giving) (up : Upload) → IsGiving w.store (at_start n rec.text_len closes) h
+    → upload_of w.store h.number ≡ Some up → GivesPiece u store (Err stop) mid out w h)
     → Serves {B = B} u store (Err stop) old new w m
 get_stops u store w closes n rec stop old more mid out new k m None below e tells head size cut gives = absurd tells
 get_stops u store w closes n rec Stops.NoMemory old more mid out new k m (Some up) below e tells head size cut gives =
-    let g = gives (whole_text n (text_of w.store.indexes up) closes) up (starts w.store n rec up closes (below up e) e tells) e in
+    let g = gives (whole_text n (text_of w.store.indexes up) closes) up
+    (starts w.store n rec up closes (below up e) e tells) e in
     (g.0, taken_back old more new k size (cut ∙ ap (take k) (g.1 ∙ head)))
 get_stops u store w closes n rec Stops.DiskFault old more mid out new k m (Some up) below e tells head size cut gives =
-    let g = gives (whole_text n (text_of w.store.indexes up) closes) up (starts w.store n rec up closes (below up e) e tells) e in
+    let g = gives (whole_text n (text_of w.store.indexes up) closes) up
+    (starts w.store n rec up closes (below up e) e tells) e in
     taken_back old more new k size (cut ∙ ap (take k) (g ∙ head))
 
 -- the same with the flags that the code was given
-pub get_acts_as : {U B : Type 0} (u : Ghosts U B) (store : U) (w : World) (r : Request) (n : ℕ) (rec : Record) (left : Option given.Giving) (old mid new : List ℕ)
-    (bare closes : Bool) (o : Option Upload) → ((v : Upload) → upload_of w.store n ≡ Some v → n < w.store.next) → upload_of w.store n ≡ o → TellsOf w.store.indexes (with_number n o) (Some rec) → bare ≡ r.bare → bare ≡ false → closes ≡ r.closes
+pub get_acts_as : {U B : Type 0} (u : Ghosts U B) (store : U) (w : World) (r : Request) (n : ℕ) (rec : Record)
+    (left : Option given.Giving) (old mid new : List ℕ)
+    (bare closes : Bool) (o : Option Upload) → ((v : Upload) → upload_of w.store n ≡ Some v → n < w.store.next)
+    → upload_of w.store n ≡ o → TellsOf w.store.indexes (with_number n o) (Some rec) → bare ≡ r.bare → bare ≡ false
+    → closes ≡ r.closes
     → mid ≡ old ++ reply_text rec.to rec.text_len bare closes
-    → ((h : Giving) (up : Upload) → IsGiving w.store (at_start n rec.text_len closes) h → upload_of w.store h.number ≡ Some up → GivesPiece u store (Ok left) mid new w h)
+    → ((h : Giving) (up : Upload) → IsGiving w.store (at_start n rec.text_len closes) h
+    → upload_of w.store h.number ≡ Some up → GivesPiece u store (Ok left) mid new w h)
     → ActedAs u store (replied_giving left closes) old new (get w r n o)
 get_acts_as u store w r n rec left old mid new bare closes o below e tells bare_is not_bare closes_is head gives =
     subst (λ c. ActedAs u store (replied_giving left c) old new (get w r n o)) (sym closes_is)
     (get_acts u store w r n rec left old mid new o below e tells (sym bare_is ∙ not_bare)
-    (head ∙ (ap (λ b. old ++ reply_text rec.to rec.text_len b closes) not_bare ∙ ap (λ c. old ++ reply_text rec.to rec.text_len false c) closes_is))
-    (λ h up is there. gives h up (subst (λ c. IsGiving w.store (at_start n rec.text_len c) h) (sym closes_is) is) there))
+    (head ∙ (ap (λ b. old ++ reply_text rec.to rec.text_len b closes) not_bare
+    ∙ ap (λ c. old ++ reply_text rec.to rec.text_len false c) closes_is))
+    (λ h up is there. gives h up (subst (λ c. IsGiving w.store (at_start n rec.text_len c) h) (sym closes_is) is)
+    there))

@@ -1,13 +1,17 @@
 -- What a request does at its head moment, and what the end of a body is answered.
-use Rattle.std.specs.Prelude.{ℕ, Bool, true, false, ◌||◌, List, [], ◌∷◌, ◌++◌, length, take, drop, if◌then◌else◌, Option, Some, None}
+use Rattle.std.specs.Prelude.{ℕ, Bool, true, false, ◌||◌, List, [], ◌∷◌, ◌++◌, length, take, drop, if◌then◌else◌}
+use Rattle.std.specs.Prelude.{Option, Some, None}
 use Rattle.tus_request.specs.declared.faults.Fault.{Fault}
 use Rattle.tus_request.specs.declared.faults.Fault.TheVariants.{NoSuch}
-use Rattle.tus_request.specs.Requests.{Creation, Options, Create, Head, Get, Patch as Patches, Delete, Action, Request, Verdict, Asks, Refuses}
-use Rattle.tus_request.specs.Replies.{reply_options, reply_created, reply_head, reply_patched, reply_deleted, reply_text, reply_continue, reply_refused}
+use Rattle.tus_request.specs.Requests.{Creation, Options, Create, Head, Get, Patch as Patches, Delete, Action, Request}
+use Rattle.tus_request.specs.Requests.{Verdict, Asks, Refuses}
+use Rattle.tus_request.specs.Replies.{reply_options, reply_created, reply_head, reply_patched, reply_deleted}
+use Rattle.tus_request.specs.Replies.{reply_text, reply_continue, reply_refused}
 use Rattle.upload_rules.specs.declared.errors.UploadRefusal.{UploadRefusal}
 use Rattle.upload_rules.specs.Store.{New, Upload, upload_of, text_of}
 use Rattle.upload_rules.specs.World.{Patch, World, free_number}
-use Rattle.upload_rules.specs.Calls.{create_refusal, created, terminate_refusal, terminated, begin_refusal, begun, longer, appended, commit_refusal, spent, reached}
+use Rattle.upload_rules.specs.Calls.{create_refusal, created, terminate_refusal, terminated, begin_refusal, begun}
+use Rattle.upload_rules.specs.Calls.{longer, appended, commit_refusal, spent, reached}
 use Rattle.tus_action.specs.Faults.{fault_of}
 
 -- A text that is still to be given: of which upload, the bytes that are left, and whether the connection closes then.

@@ -1,5 +1,6 @@
 -- How a call that acts on the uploads stands to the rules.
-use Rattle.std.specs.Prelude.{◌≡◌, ◌≤◌, ◌<◌, ◌+◌, nat_le, if◌then◌else◌, ℕ, Bool, true, false, List, ◌++◌, length, take, drop, Option, Some, None, Result, Ok, Err}
+use Rattle.std.specs.Prelude.{◌≡◌, ◌≤◌, ◌<◌, ◌+◌, nat_le, if◌then◌else◌, ℕ, Bool, true, false, List, ◌++◌, length, take}
+use Rattle.std.specs.Prelude.{drop, Option, Some, None, Result, Ok, Err}
 use Rattle.upload_rules.specs.Store.{Store, Upload, upload_of, text_of, find}
 use Rattle.upload_rules.specs.World.{Patch, World, is_there}
 use Rattle.upload_rules.specs.declared.uploads.Uploads.{Ghosts}
@@ -45,7 +46,8 @@ GivingIs m (Some g) (Some h) = IsGiving m g h
 GivingIs m _ _ = ⊥
 
 -- what was done is what the rules say
-pub record ActedAs {U B : Type 0} (u : Ghosts U B) (store : U) (a : code.Acted B) (old new : List ℕ) (m : Acted) : Type 0 where
+pub record ActedAs {U B : Type 0} (u : Ghosts U B) (store : U) (a : code.Acted B) (old new : List ℕ) (m : Acted) : Type
+    0 where
   pub stands : u.stands store m.world
   pub draft : DraftIs u m.world a.draft m.draft
   pub giving : GivingIs m.world.store a.giving m.pending
@@ -54,7 +56,8 @@ pub record ActedAs {U B : Type 0} (u : Ghosts U B) (store : U) (a : code.Acted B
 
 -- It is done as the rules say. Or memory was wanting, and the store stands for the world without what was begun, and nothing was written.
 -- Or the device failed, and nothing was written.
-abbrev pub Serves : {U B : Type 0} → Ghosts U B → U → Result (code.Acted B) Stop → List ℕ → List ℕ → World → Acted → Type 0
+abbrev pub Serves : {U B : Type 0} → Ghosts U B → U → Result (code.Acted B) Stop → List ℕ → List ℕ → World → Acted
+    → Type 0
 Serves u store (Ok a) old new gone m = ActedAs u store a old new m
 Serves u store (Err NoMemory) old new gone m = u.stands store gone × (new ≡ old)
 Serves u store (Err DiskFault) old new gone m = new ≡ old
@@ -72,8 +75,10 @@ Ends u store (Err NoMemory) gone w = u.stands store gone
 Ends u store (Err DiskFault) gone w = Unit {0}
 
 -- the next piece is written; or the device failed, or memory was wanting, and nothing was written
-abbrev pub GivesPiece : {U B : Type 0} → Ghosts U B → U → Result (Option given.Giving) Stop → List ℕ → List ℕ → World → Giving → Type 0
-GivesPiece u store (Ok g) old new w h = u.stands store w × GivingIs w.store g (pending_after h) × (new ≡ old ++ piece_of h)
+abbrev pub GivesPiece : {U B : Type 0} → Ghosts U B → U → Result (Option given.Giving) Stop → List ℕ → List ℕ → World
+    → Giving → Type 0
+GivesPiece u store (Ok g) old new w h =
+    u.stands store w × GivingIs w.store g (pending_after h) × (new ≡ old ++ piece_of h)
 GivesPiece u store (Err NoMemory) old new w h = u.stands store w × (new ≡ old)
 GivesPiece u store (Err DiskFault) old new w h = new ≡ old
 
@@ -87,7 +92,8 @@ IsGiven m _ old new h _ = ⊥
 -- as the uploads say. The device may fail, or memory be wanting, only where the upload is there, and then nothing was written
 abbrev pub Gives : {U B : Type 0} → Ghosts U B → U → Result Given Stop → List ℕ → List ℕ → World → Giving → Type 0
 Gives u store (Ok given) old new w h = u.stands store w × IsGiven w.store given old new h (upload_of w.store h.number)
-Gives u store (Err NoMemory) old new w h = (is_there (upload_of w.store h.number) ≡ true) × u.stands store w × (new ≡ old)
+Gives u store (Err NoMemory) old new w h =
+    (is_there (upload_of w.store h.number) ≡ true) × u.stands store w × (new ≡ old)
 Gives u store (Err DiskFault) old new w h = (is_there (upload_of w.store h.number) ≡ true) × (new ≡ old)
 
 -- what a POST makes fits a record, and its text has an output encoding
@@ -105,7 +111,8 @@ abbrev pub replied_only : {B : Type 0} → Bool → code.Acted B
 replied_only closes = record { draft = None; giving = None; closes = closes }
 
 -- A call on the uploads gave no answer: its refusal is replied to, unless memory is wanting; and what isn't refused stops here.
-abbrev pub RepliesTo : {B : Type 0} → Result (code.Acted B) Stop → UploadError → Bool → Bool → Bool → List ℕ → List ℕ → Type 0
+abbrev pub RepliesTo : {B : Type 0} → Result (code.Acted B) Stop → UploadError → Bool → Bool → Bool → List ℕ → List ℕ
+    → Type 0
 RepliesTo (Ok a) (errors.Refused f) on_files bare closes old new =
     (a ≡ replied_only closes) × (new ≡ old ++ reply_refused (fault_of f) on_files bare closes)
 RepliesTo (Err NoMemory) (errors.Refused f) on_files bare closes old new = new ≡ old

@@ -1,7 +1,8 @@
 //! Requests that change the uploads: a POST, a DELETE, and a PATCH at its head.
 ghost use Rattle.std.specs.Prelude.{◌≡◌, ◌++◌, [], Some, IsErrOf, OnOk, OnErr, if◌then◌else◌};
 ghost use Rattle.upload_rules.specs.World.{World};
-ghost use Rattle.upload_rules.specs.Calls.{create_refusal, create_outcome, terminate_refusal, terminate_outcome, begin_refusal};
+ghost use Rattle.upload_rules.specs.Calls.{create_refusal, create_outcome, terminate_refusal, terminate_outcome};
+ghost use Rattle.upload_rules.specs.Calls.{begin_refusal};
 ghost use Rattle.upload_rules.specs.Answers.{Limits, Quiet, Counts};
 ghost use Rattle.upload_rules.specs.Records.{IsWellFormed, IsOffered};
 ghost use Rattle.tus_request.specs.Requests.{Request};

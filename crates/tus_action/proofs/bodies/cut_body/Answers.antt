@@ -3,7 +3,8 @@ use Rattle.tus_action.proofs.bodies.cut_body.Goals as goal
 
 pub returns-in-Err-Refused-clause-answer : goal.returns-in-Err-Refused-clause-answer
 returns-in-Err-Refused-clause-answer g c = λ w p stands found holds.
-    let a = refused_answer _ _ _ _ _ c.in-Err-Refused.field-0-is (c.in-Err-Refused.ensures.answer w p stands found holds) in
+    let a = refused_answer _ _ _ _ _ c.in-Err-Refused.field-0-is
+    (c.in-Err-Refused.ensures.answer w p stands found holds) in
     spent_refused (λ v. g.U.Uploads.stands c.commit.new.self v) w _ p _ _ a.0 a.1
 
 pub returns-in-Err-NoMemory-clause-answer : goal.returns-in-Err-NoMemory-clause-answer

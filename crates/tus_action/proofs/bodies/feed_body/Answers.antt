@@ -23,6 +23,7 @@ returns-in-Ok-clause-answer g c = λ w p stands found holds fits.
 pub returns-in-Err-clause-answer : goal.returns-in-Err-clause-answer
 returns-in-Err-clause-answer g c = λ w p stands found holds fits.
     let d = g.U.Uploads.number_of c.args.draft in
-    subst (λ s. Feeds g.U.Uploads c.drop_open.new.self (Err s) (dropped w d) (fed w d c.args.piece.now) d (fed_patch w d p c.args.piece.now)) (sym c.from.ensures)
+    subst (λ s. Feeds g.U.Uploads c.drop_open.new.self (Err s) (dropped w d) (fed w d c.args.piece.now) d
+    (fed_patch w d p c.args.piece.now)) (sym c.from.ensures)
     (fed_gone g.U.Uploads c.append.new.self c.drop_open.new.self w c.in-Err.error d _ _ _ _
     (c.in-Err.ensures.answer w p stands found holds fits) (c.drop_open.ensures.stands w) c.append.ensures.same)

@@ -12,9 +12,13 @@ returns-in-Ok-next_piece-clause-answer g c = λ w r stands bare closes.
     let rec = c.in-Some.record.now in
     let old = c.args.out.now.items in
     let tells : TellsOf w.store.indexes (with_number n (upload_of w.store n)) (Some rec) = c.in-Some.ensures w stands in
-    subst (λ a. ActedAs g.U.Uploads c.next_piece.new.store a old c.next_piece.new.out.items (get w r n (upload_of w.store n))) (sym c.giving.ensures)
-    (get_acts_as g.U.Uploads c.next_piece.new.store w r n rec c.in-Ok-next_piece.left old c.reply_text.new.out.items c.next_piece.new.out.items
-    c.args.bare c.args.closes (upload_of w.store n) (λ v is. g.met.U.Uploads.below c.args.store.now w n v stands is) refl tells bare c.if-bare.false closes c.in-Ok.ensures.ok (λ h up is there. c.in-Ok-next_piece.ensures.answer w h up stands is there))
+    subst (λ a. ActedAs g.U.Uploads c.next_piece.new.store a old c.next_piece.new.out.items
+    (get w r n (upload_of w.store n))) (sym c.giving.ensures)
+    (get_acts_as g.U.Uploads c.next_piece.new.store w r n rec c.in-Ok-next_piece.left old c.reply_text.new.out.items
+    c.next_piece.new.out.items
+    c.args.bare c.args.closes (upload_of w.store n) (λ v is. g.met.U.Uploads.below c.args.store.now w n v stands is)
+    refl tells bare c.if-bare.false closes c.in-Ok.ensures.ok
+    (λ h up is there. c.in-Ok-next_piece.ensures.answer w h up stands is there))
 
 pub returns-in-Err-clause-answer : goal.returns-in-Err-clause-answer
 returns-in-Err-clause-answer g c = λ w r stands bare closes.
@@ -22,6 +26,9 @@ returns-in-Err-clause-answer g c = λ w r stands bare closes.
     let rec = c.in-Some.record.now in
     let old = c.args.out.now.items in
     let tells : TellsOf w.store.indexes (with_number n (upload_of w.store n)) (Some rec) = c.in-Some.ensures w stands in
-    get_stops g.U.Uploads c.next_piece.new.store w c.args.closes n rec c.in-Err.stop old _ c.reply_text.new.out.items c.next_piece.new.out.items c.truncate.new.self.items
-    (length c.as_slice-before.result.now) _ (upload_of w.store n) (λ v is. g.met.U.Uploads.below c.args.store.now w n v stands is) refl tells c.in-Ok.ensures.ok (ap length c.as_slice-before.ensures.value) c.truncate.ensures.items
+    get_stops g.U.Uploads c.next_piece.new.store w c.args.closes n rec c.in-Err.stop old _ c.reply_text.new.out.items
+    c.next_piece.new.out.items c.truncate.new.self.items
+    (length c.as_slice-before.result.now) _ (upload_of w.store n)
+    (λ v is. g.met.U.Uploads.below c.args.store.now w n v stands is) refl tells c.in-Ok.ensures.ok
+    (ap length c.as_slice-before.ensures.value) c.truncate.ensures.items
     (λ h up is there. c.in-Err.ensures.answer w h up stands is there)

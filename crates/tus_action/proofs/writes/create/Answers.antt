@@ -11,10 +11,14 @@ pub returns-in-Err-clause-answer : goal.returns-in-Err-clause-answer
 returns-in-Err-clause-answer g c = λ w r stands bare closes.
     let old : List ℕ = c.args.out.now.items in
     let before : ℕ = length c.as_slice-before.result.now in
-    let back : c.truncate.new.self.items ≡ old = taken_back old _ c.truncate.new.self.items before (ap length c.as_slice-before.ensures.value)
+    let back : c.truncate.new.self.items ≡ old =
+    taken_back old _ c.truncate.new.self.items before (ap length c.as_slice-before.ensures.value)
     (c.truncate.ensures.items ∙ ap (λ l. take before l) c.in-Ok.ensures.ok) in
-    refused_serves g.U.Uploads c.create.new.self w (post w r c.args.new) (create_refusal w c.args.new) c.in-Err.error c.refuse.result true c.args.bare c.args.closes
+    refused_serves g.U.Uploads c.create.new.self w (post w r c.args.new) (create_refusal w c.args.new) c.in-Err.error
+    c.refuse.result true c.args.bare c.args.closes
     old c.refuse.new.out.items _
-    (λ f. sym (ap (λ b. replied w (reply_refused (fault_of f) true c.args.bare b) b) closes ∙ ap (λ b. replied w (reply_refused (fault_of f) true b r.closes) r.closes) bare))
+    (λ f. sym (ap (λ b. replied w (reply_refused (fault_of f) true c.args.bare b) b) closes
+    ∙ ap (λ b. replied w (reply_refused (fault_of f) true b r.closes) r.closes) bare))
     (c.in-Err.ensures.answer w stands)
-    (subst (λ l. RepliesTo c.refuse.result c.in-Err.error true c.args.bare c.args.closes l c.refuse.new.out.items) back c.refuse.ensures.answer)
+    (subst (λ l. RepliesTo c.refuse.result c.in-Err.error true c.args.bare c.args.closes l c.refuse.new.out.items) back
+    c.refuse.ensures.answer)
