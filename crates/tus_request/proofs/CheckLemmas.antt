@@ -14,9 +14,11 @@ use Rattle.tus_request.specs.declared.faults.Fault.TheVariants.{Coding}
 pub same_values : (f g : List ℕ → List (List ℕ)) → ((name : List ℕ) → f name ≡ g name) → f ≡ g
 same_values f g same = λ i. λ name. same name i
 
-pub checked_is : (offers : Encoding → Bool) (line : Line) (given : List ℕ → List (List ℕ)) (codings lengths : List (List ℕ)) (a : Asking) (len : ℕ)
+pub checked_is : (offers : Encoding → Bool) (line : Line) (given : List ℕ → List (List ℕ))
+    (codings lengths : List (List ℕ)) (a : Asking) (len : ℕ)
     → is_given codings ≡ false → length_in lengths ≡ Some len → a ≡ asking line given len
-    → decided offers a ≡ (if is_given codings then cut_off line Coding else measured offers line given (length_in lengths))
+    → decided offers a ≡ (if is_given codings then cut_off line Coding else measured offers line given
+    (length_in lengths))
 checked_is offers line given codings lengths a len e f g = rw (e, f) (ap (decided offers) g)
 
 plain_is_visible : (b : ℕ) → is_plain b ≡ true → is_visible_or_blank b ≡ true
@@ -32,7 +34,8 @@ plain_is_text (b ∷ bytes) e =
     let p = and_true (is_plain b) (list_all is_plain bytes) e in
     rw (plain_is_visible b p.0, plain_is_text bytes p.1)
 
-no_metadata_with : (b : ℕ) (bytes : List ℕ) → ¬ (IsVisibleAscii (b ∷ bytes)) → (v : Bool) → is_metadata (b ∷ bytes) ≡ v → v ≡ false
+no_metadata_with : (b : ℕ) (bytes : List ℕ) → ¬ (IsVisibleAscii (b ∷ bytes)) → (v : Bool) → is_metadata (b ∷ bytes) ≡ v
+    → v ≡ false
 no_metadata_with b bytes not false e = refl
 no_metadata_with b bytes not true e =
     let p = and_true (nat_le (length (b ∷ bytes)) 1536) (list_all is_plain (b ∷ bytes)) e in

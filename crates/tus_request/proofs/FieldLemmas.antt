@@ -1,5 +1,6 @@
 -- A map of fields, one more field at a time.
-use Rattle.std.specs.Prelude.{◌≡◌, ◌≢◌, ℕ, ◌+◌, ◌<◌, ◌≤◌, ◌⊎◌, Bool, true, false, List, [], ◌∷◌, ◌++◌, length, map, bytes_eq}
+use Rattle.std.specs.Prelude.{◌≡◌, ◌≢◌, ℕ, ◌+◌, ◌<◌, ◌≤◌, ◌⊎◌, Bool, true, false, List, [], ◌∷◌, ◌++◌, length, map}
+use Rattle.std.specs.Prelude.{bytes_eq}
 use Rattle.std.proofs.Common.{arith, ap, ◌∙◌, refl, inl, inr, take, get_or}
 use Rattle.std.proofs.lemmas.List.{map-append, length-append, append-nil, take_more, length-map, length-take-le}
 use Rattle.std.proofs.lemmas.List.Sums.{sum_by-cons}
@@ -28,12 +29,25 @@ length_append (e ∷ m) name v =
       | inr f ↦ let k = length_append m name v in rw f (omega arith)
     ]
 
-count_append : (m : Entries FieldValue) (name : List ℕ) (v : FieldValue) → value_count (append m name v) ≡ value_count m + 1
+count_append : (m : Entries FieldValue) (name : List ℕ) (v : FieldValue)
+    → value_count (append m name v) ≡ value_count m + 1
 count_append [] name v = refl
 count_append (e ∷ m) name v =
     elim (true_or_false (bytes_eq e.0 name)) [
-      | inl t ↦ rw t (omega (arith, sum_by-cons (λ (e : List ℕ × List FieldValue). length e.1) e m, sum_by-cons (λ (e : List ℕ × List FieldValue). length e.1) (e.0, e.1 ++ v ∷ []) m, length-append e.1 (v ∷ [])))
-      | inr f ↦ rw f (omega (arith, sum_by-cons (λ (e : List ℕ × List FieldValue). length e.1) e m, sum_by-cons (λ (e : List ℕ × List FieldValue). length e.1) e (append m name v), count_append m name v))
+      | inl t ↦ rw t (omega (
+        arith,
+        sum_by-cons (λ (e : List ℕ × List FieldValue). length e.1) e m,
+        sum_by-cons
+            (λ (e : List ℕ × List FieldValue). length e.1) (e.0, e.1 ++ v ∷ []) m,
+        length-append e.1 (v ∷ []),
+      ))
+      | inr f ↦ rw f (omega (
+        arith,
+        sum_by-cons (λ (e : List ℕ × List FieldValue). length e.1) e m,
+        sum_by-cons
+            (λ (e : List ℕ × List FieldValue). length e.1) e (append m name v),
+        count_append m name v,
+      ))
     ]
 
 values_more : (fields : List (List ℕ × List ℕ)) (field : List ℕ × List ℕ) (name : List ℕ)
@@ -72,9 +86,21 @@ bytes_eq_other a b other = go (bytes_eq a b) (bytes_eq-Decides a b)
 shows_more : (m : Entries FieldValue) (fields : List (List ℕ × List ℕ)) (name value asked : List ℕ) → IsByName m fields
     → values (append m (lowercase name) (plain_value value)) asked ≡ values_in (fields ++ (name, value) ∷ []) asked
 shows_more m fields name value asked was = elim (same_or_not (lowercase name) asked) [
-  | inl e ↦ rw (← e, values_more fields (name, value) (lowercase name), bytes_eq_same (lowercase name), get_all-append_same m (lowercase name) (plain_value value))
-      (map-append (λ (v : FieldValue). v.bytes) (get_all m (lowercase name)) (plain_value value ∷ []) ∙ ap (λ t. t ++ value ∷ []) (was.shows (lowercase name)))
-  | inr n ↦ rw (values_more fields (name, value) asked, bytes_eq_other (lowercase name) asked n, get_all-append_other m (lowercase name) asked (plain_value value) n, append-nil)
+  | inl e ↦ rw (
+    ← e,
+    values_more fields (name, value) (lowercase name),
+    bytes_eq_same (lowercase name),
+    get_all-append_same m (lowercase name) (plain_value value),
+  )
+      (map-append (λ (v : FieldValue). v.bytes) (get_all m (lowercase name)) (plain_value value ∷ [])
+      ∙ ap (λ t. t ++ value ∷ []) (was.shows (lowercase name)))
+  | inr n ↦ rw (
+    values_more fields (name, value) asked,
+    bytes_eq_other (lowercase name) asked n,
+    get_all-append_other m
+        (lowercase name) asked (plain_value value) n,
+    append-nil,
+  )
       (was.shows asked)
 ]
 
@@ -82,17 +108,34 @@ pub field_more : (m : Entries FieldValue) (fields : List (List ℕ × List ℕ))
     → IsByName (append m (lowercase name) (plain_value value)) (fields ++ (name, value) ∷ [])
 field_more m fields name value was = record {
   shows = λ asked. shows_more m fields name value asked was;
-  few_names = omega (arith, was.few_names, length_append m (lowercase name) (plain_value value), length-append fields ((name, value) ∷ []));
-  few_values = omega (arith, was.few_values, count_append m (lowercase name) (plain_value value), length-append fields ((name, value) ∷ []));
+  few_names = omega (
+    arith,
+    was.few_names,
+    length_append m (lowercase name) (plain_value value),
+    length-append fields
+        ((name, value) ∷ []),
+  );
+  few_values = omega (
+    arith,
+    was.few_values,
+    count_append m (lowercase name) (plain_value value),
+    length-append fields
+        ((name, value) ∷ []),
+  );
 }
 
 pub header_more : (headers : List Header) (i : ℕ) (d : Header) (m : Entries FieldValue) → i < length headers
     → IsByName m (map header_parts (take i headers))
     → IsByName (with_field m (header_parts (get_or headers i d))) (map header_parts (take (i + 1) headers))
 header_more headers i d m inside was =
-    let e : map header_parts (take (i + 1) headers) ≡ map header_parts (take i headers) ++ header_parts (get_or headers i d) ∷ [] =
-    ap (map header_parts) (take_more headers i d inside) ∙ map-append header_parts (take i headers) (get_or headers i d ∷ []) in
-    rw e (field_more m (map header_parts (take i headers)) (header_parts (get_or headers i d)).0 (header_parts (get_or headers i d)).1 was)
+    let e : map header_parts (take (i + 1) headers) ≡ map header_parts (take i headers) ++ header_parts
+    (get_or headers i d) ∷ [] =
+    ap (map header_parts) (take_more headers i d inside) ∙ map-append header_parts (take i headers)
+    (get_or headers i d ∷ []) in
+    rw e (field_more m (map header_parts (take i headers)) (header_parts (get_or headers i d)).0
+    (header_parts (get_or headers i d)).1 was)
 
-pub few_taken : (headers : List Header) (i : ℕ) → length headers ≤ 64 → i ≤ length headers → length (map header_parts (take i headers)) ≤ 64
-few_taken headers i few inside = omega (arith, length-map (take i headers) header_parts, length-take-le i headers inside)
+pub few_taken : (headers : List Header) (i : ℕ) → length headers ≤ 64 → i ≤ length headers
+    → length (map header_parts (take i headers)) ≤ 64
+few_taken headers i few inside =
+    omega (arith, length-map (take i headers) header_parts, length-take-le i headers inside)

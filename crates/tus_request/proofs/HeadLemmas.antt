@@ -1,5 +1,6 @@
 -- A request head of the grammar is a head by its lines.
-use Rattle.std.specs.Prelude.{◌≡◌, ℕ, ◌+◌, ◌<◌, ◌≤◌, Bool, true, false, List, [], ◌∷◌, ◌++◌, length, ◌==◌, nat_eq, Option, Some, All, IsTrue}
+use Rattle.std.specs.Prelude.{◌≡◌, ℕ, ◌+◌, ◌<◌, ◌≤◌, Bool, true, false, List, [], ◌∷◌, ◌++◌, length, ◌==◌, nat_eq}
+use Rattle.std.specs.Prelude.{Option, Some, All, IsTrue}
 use Rattle.std.proofs.Common.{arith, ap, sym, ◌∙◌, refl, suc, append_assoc}
 use Rattle.std.specs.List.{flat_map}
 use Rattle.std.proofs.lemmas.List.{length-append, append-nil}
@@ -8,7 +9,9 @@ use Rattle.std.proofs.lemmas.List.Elements.{All-head, All-tail}
 use Rattle.std.proofs.lemmas.Bool.Decides.{nat_tests}
 use Rattle.http_header.specs.Token as token
 use Rattle.http_header.proofs.TokenLemmas.{token_byte_range}
-use Rattle.httparse.specs.Grammar.{is_token_byte, is_uri_byte, is_value_byte, AllPass, LineEnd, crlf, lf, print_end, print_blank, print_version, Field, IsField, print_field, RequestHead, IsRequestHead, print_request}
+use Rattle.httparse.specs.Grammar.{is_token_byte, is_uri_byte, is_value_byte, AllPass, LineEnd, crlf, lf, print_end}
+use Rattle.httparse.specs.Grammar.{print_blank, print_version, Field, IsField, print_field, RequestHead, IsRequestHead}
+use Rattle.httparse.specs.Grammar.{print_request}
 use Rattle.httparse.proofs.GrammarLemmas.{print_request-append, cons-append}
 use Rattle.tus_request.specs.Lines.{lines, is_empty_line, Extent, head_extent}
 use Rattle.tus_request.proofs.LineLemmas.{further, extent_after, after_text, after_empty, at_end, further_zero}
@@ -35,10 +38,14 @@ ended_line text rest crlf none =
     rw (e, d) (line_at (text ++ 13 ∷ []) rest (no_feed_append text (13 ∷ []) none (refl, tt)))
 ended_line text rest lf none = line_at text rest none
 
-no_feed_from : (test : ℕ → Bool) → ((b : ℕ) → IsTrue (test b) → (b == 10) ≡ false) → (text : List ℕ) → AllPass test text → HasNoFeed text
+no_feed_from : (test : ℕ → Bool) → ((b : ℕ) → IsTrue (test b) → (b == 10) ≡ false) → (text : List ℕ) → AllPass test text
+    → HasNoFeed text
 no_feed_from test none [] all = tt
-no_feed_from test none (b ∷ text) all =
-    (none b (All-head (λ b. IsTrue (test b)) b text all), no_feed_from test none text (All-tail (λ b. IsTrue (test b)) b text all))
+no_feed_from test none (b ∷ text) all = (
+  none b (All-head (λ b. IsTrue (test b)) b text all),
+  no_feed_from test none text
+      (All-tail (λ b. IsTrue (test b)) b text all),
+)
 
 pub same_token : (b : ℕ) → is_token_byte b ≡ token.is_token_byte b
 unfolding is_token_byte token.is_token_byte
@@ -65,7 +72,8 @@ not_empty b text high =
 
 token_line : (name more : List ℕ) → 0 < length name → AllPass is_token_byte name → is_empty_line (name ++ more) ≡ false
 token_line [] more some all = absurd (omega arith)
-token_line (b ∷ name) more some all = not_empty b (name ++ more) (token_is_high b (All-head (λ b. IsTrue (is_token_byte b)) b name all))
+token_line (b ∷ name) more some all =
+    not_empty b (name ++ more) (token_is_high b (All-head (λ b. IsTrue (is_token_byte b)) b name all))
 
 pub end_is_empty : (end : LineEnd) → is_empty_line (print_end end) ≡ true
 end_is_empty crlf = refl
@@ -78,10 +86,12 @@ blanks : (ends : List LineEnd) (len : ℕ) (rest : List ℕ)
 blanks [] len rest = let z : len + 0 ≡ len = omega arith in rw z
 blanks (end ∷ ends) len rest =
     let p : print_blank (end ∷ ends) ≡ print_end end ++ print_blank ends = flat_map-cons print_end end ends in
-    let a : (print_end end ++ print_blank ends) ++ rest ≡ print_end end ++ (print_blank ends ++ rest) = append_assoc (print_end end) (print_blank ends) rest in
+    let a : (print_end end ++ print_blank ends) ++ rest ≡ print_end end ++ (print_blank ends ++ rest) =
+    append_assoc (print_end end) (print_blank ends) rest in
     let l : lines (print_end end ++ (print_blank ends ++ rest)) ≡ print_end end ∷ lines (print_blank ends ++ rest) =
     ended_line [] (print_blank ends ++ rest) end tt in
-    let s : len + length (print_end end) + length (print_blank ends) ≡ len + length (print_end end ++ print_blank ends) =
+    let s : len + length (print_end end) + length (print_blank ends) ≡ len + length
+    (print_end end ++ print_blank ends) =
     omega (arith, length-append (print_end end) (print_blank ends)) in
     rw (p, a, l) (
     after_empty len (print_end end) (lines (print_blank ends ++ rest)) (end_is_empty end)
@@ -94,26 +104,33 @@ field_line f rest is =
     let none : HasNoFeed (f.name ++ (58 ∷ f.raw)) =
     no_feed_append f.name (58 ∷ f.raw) (no_feed_from is_token_byte token_no_feed f.name is.name.1)
     (refl, no_feed_from is_value_byte value_no_feed f.raw is.raw) in
-    let a : print_field f ++ rest ≡ (f.name ++ (58 ∷ f.raw)) ++ (print_end f.end ++ rest) = append_assoc (f.name ++ (58 ∷ f.raw)) (print_end f.end) rest in
+    let a : print_field f ++ rest ≡ (f.name ++ (58 ∷ f.raw)) ++ (print_end f.end ++ rest) =
+    append_assoc (f.name ++ (58 ∷ f.raw)) (print_end f.end) rest in
     rw a (ended_line (f.name ++ (58 ∷ f.raw)) rest f.end none)
 
 pub field_text : (f : Field) → IsField f → is_empty_line (print_field f) ≡ false
 field_text f is =
-    let a : print_field f ≡ f.name ++ ((58 ∷ f.raw) ++ print_end f.end) = append_assoc f.name (58 ∷ f.raw) (print_end f.end) in
+    let a : print_field f ≡ f.name ++ ((58 ∷ f.raw) ++ print_end f.end) =
+    append_assoc f.name (58 ∷ f.raw) (print_end f.end) in
     rw a (token_line f.name ((58 ∷ f.raw) ++ print_end f.end) is.name.0 is.name.1)
 
 -- the field lines behind a line that isn't empty
 field_lines : (fields : List Field) (len texts : ℕ) (rest : List ℕ) → All IsField fields
     → further len (suc texts) (extent_after (suc texts) (lines (flat_map print_field fields ++ rest)))
-    ≡ further (len + length (flat_map print_field fields)) (suc (texts + length fields)) (extent_after (suc (texts + length fields)) (lines rest))
-field_lines [] len texts rest all = let z : len + 0 ≡ len = omega arith in let t : texts + 0 ≡ texts = omega arith in rw (z, t)
+    ≡ further (len + length (flat_map print_field fields)) (suc (texts + length fields))
+    (extent_after (suc (texts + length fields)) (lines rest))
+field_lines [] len texts rest all = let z : len + 0 ≡ len = omega arith in let t : texts + 0 ≡ texts =
+    omega arith in rw (z, t)
 field_lines (f ∷ fields) len texts rest all =
     let is = All-head IsField f fields all in
-    let p : flat_map print_field (f ∷ fields) ≡ print_field f ++ flat_map print_field fields = flat_map-cons print_field f fields in
-    let a : (print_field f ++ flat_map print_field fields) ++ rest ≡ print_field f ++ (flat_map print_field fields ++ rest) =
+    let p : flat_map print_field (f ∷ fields) ≡ print_field f ++ flat_map print_field fields =
+    flat_map-cons print_field f fields in
+    let a : (print_field f ++ flat_map print_field fields) ++ rest ≡ print_field
+    f ++ (flat_map print_field fields ++ rest) =
     append_assoc (print_field f) (flat_map print_field fields) rest in
     let l = field_line f (flat_map print_field fields ++ rest) is in
-    let s : len + length (print_field f) + length (flat_map print_field fields) ≡ len + length (print_field f ++ flat_map print_field fields) =
+    let s : len + length (print_field f) + length (flat_map print_field fields) ≡ len + length
+    (print_field f ++ flat_map print_field fields) =
     omega (arith, length-append (print_field f) (flat_map print_field fields)) in
     let t : suc texts + length fields ≡ texts + length (f ∷ fields) = omega arith in
     rw (p, a, l) (
@@ -130,30 +147,40 @@ minor_no_feed minor low = let k : (48 + minor == 10) ≡ false = grind (arith, n
 
 pub request_line_no_feed : (h : RequestHead) → IsRequestHead h → HasNoFeed (request_line h)
 request_line_no_feed h is =
-    no_feed_append h.method _ (no_feed_from is_token_byte token_no_feed h.method is.method.1)
-    (refl, no_feed_append h.target _ (no_feed_from is_uri_byte uri_no_feed h.target is.target.1) (refl, minor_no_feed h.minor is.minor))
+    no_feed_append h.method _ (no_feed_from is_token_byte token_no_feed h.method is.method.1) (
+      refl,
+      no_feed_append h.target _ (no_feed_from is_uri_byte uri_no_feed h.target is.target.1)
+          (refl, minor_no_feed h.minor is.minor),
+    )
 
-regroup : (m t v e f l r : List ℕ) → m ++ 32 ∷ (t ++ 32 ∷ (v ++ (e ++ ((f ++ l) ++ r)))) ≡ (m ++ 32 ∷ (t ++ 32 ∷ v)) ++ (e ++ (f ++ (l ++ r)))
+regroup : (m t v e f l r : List ℕ)
+    → m ++ 32 ∷ (t ++ 32 ∷ (v ++ (e ++ ((f ++ l) ++ r)))) ≡ (m ++ 32 ∷ (t ++ 32 ∷ v)) ++ (e ++ (f ++ (l ++ r)))
 regroup m t v e f l r = simp (append_assoc, cons-append)
 
 pub whole : (h : RequestHead) (rest : List ℕ) → print_request h ++ rest
-    ≡ print_blank h.blank ++ (request_line h ++ (print_end h.line_end ++ (flat_map print_field h.fields ++ (print_end h.last ++ rest))))
+    ≡ print_blank h.blank ++ (request_line
+    h ++ (print_end h.line_end ++ (flat_map print_field h.fields ++ (print_end h.last ++ rest))))
 whole h rest =
     print_request-append h rest
     ∙ ap (λ t. print_blank h.blank ++ t)
-    (regroup h.method h.target (print_version h.minor) (print_end h.line_end) (flat_map print_field h.fields) (print_end h.last) rest)
+    (regroup h.method h.target (print_version h.minor) (print_end h.line_end) (flat_map print_field h.fields)
+    (print_end h.last) rest)
 
-five : (b q e f l : List ℕ) → length b + length (q ++ e) + length f + length l ≡ length (b ++ (q ++ (e ++ (f ++ (l ++ [])))))
+five : (b q e f l : List ℕ) → length b + length (q ++ e) + length f + length l ≡ length
+    (b ++ (q ++ (e ++ (f ++ (l ++ [])))))
 five b q e f l = omega (arith, length-append {A = ℕ})
 
 pub whole_length : (h : RequestHead)
-    → length (print_blank h.blank) + length (request_line h ++ print_end h.line_end) + length (flat_map print_field h.fields) + length (print_end h.last)
+    → length (print_blank h.blank) + length (request_line h ++ print_end h.line_end) + length
+    (flat_map print_field h.fields) + length (print_end h.last)
     ≡ length (print_request h)
 whole_length h =
-    five (print_blank h.blank) (request_line h) (print_end h.line_end) (flat_map print_field h.fields) (print_end h.last)
+    five (print_blank h.blank) (request_line h) (print_end h.line_end) (flat_map print_field h.fields)
+    (print_end h.last)
     ∙ ap length (sym (whole h []) ∙ append-nil (print_request h))
 
-pub request_line_text : (h : RequestHead) (more : List ℕ) → IsRequestHead h → is_empty_line (request_line h ++ more) ≡ false
+pub request_line_text : (h : RequestHead) (more : List ℕ) → IsRequestHead h
+    → is_empty_line (request_line h ++ more) ≡ false
 request_line_text h more is =
     let a : request_line h ++ more ≡ h.method ++ ((32 ∷ (h.target ++ 32 ∷ print_version h.minor)) ++ more) =
     append_assoc h.method (32 ∷ (h.target ++ 32 ∷ print_version h.minor)) more in
@@ -162,30 +189,44 @@ request_line_text h more is =
 -- a request head is the head at the front of what it begins, and its lines that aren't empty are the
 -- request line and the fields
 pub request_extent : (h : RequestHead) (rest : List ℕ) → IsRequestHead h
-    → head_extent (print_request h ++ rest) ≡ Some (record { len = length (print_request h); texts = suc (length h.fields) })
+    → head_extent (print_request h ++ rest) ≡ Some (record {
+      len = length (print_request h);
+      texts = suc (length h.fields);
+    })
 request_extent h rest is =
-    let line : lines (request_line h ++ (print_end h.line_end ++ (flat_map print_field h.fields ++ (print_end h.last ++ rest))))
+    let line : lines (request_line
+    h ++ (print_end h.line_end ++ (flat_map print_field h.fields ++ (print_end h.last ++ rest))))
     ≡ (request_line h ++ print_end h.line_end) ∷ lines (flat_map print_field h.fields ++ (print_end h.last ++ rest)) =
-    ended_line (request_line h) (flat_map print_field h.fields ++ (print_end h.last ++ rest)) h.line_end (request_line_no_feed h is) in
+    ended_line (request_line h) (flat_map print_field h.fields ++ (print_end h.last ++ rest)) h.line_end
+    (request_line_no_feed h is) in
     let end : lines (print_end h.last ++ rest) ≡ print_end h.last ∷ lines rest = ended_line [] rest h.last tt in
     let n = length (print_blank h.blank) in
     let m = length (request_line h ++ print_end h.line_end) in
-    let len : 0 + length (print_blank h.blank) + length (request_line h ++ print_end h.line_end) + length (flat_map print_field h.fields) + length (print_end h.last)
+    let len : 0 + length (print_blank h.blank) + length (request_line h ++ print_end h.line_end) + length
+    (flat_map print_field h.fields) + length (print_end h.last)
     ≡ length (print_request h) = omega (arith, whole_length h) in
     let count : suc (0 + length h.fields) ≡ suc (length h.fields) = omega arith in
-    let step : further (0 + n) 0 (extent_after 0 (lines (request_line h ++ (print_end h.line_end ++ (flat_map print_field h.fields ++ (print_end h.last ++ rest))))))
+    let step : further (0 + n) 0
+    (extent_after 0 (lines (request_line
+    h ++ (print_end h.line_end ++ (flat_map print_field h.fields ++ (print_end h.last ++ rest))))))
     ≡ further (0 + n + m) 1 (extent_after 1 (lines (flat_map print_field h.fields ++ (print_end h.last ++ rest)))) =
-    rw line (after_text (0 + n) 0 (request_line h ++ print_end h.line_end) (lines (flat_map print_field h.fields ++ (print_end h.last ++ rest)))
+    rw line (after_text (0 + n) 0 (request_line h ++ print_end h.line_end)
+    (lines (flat_map print_field h.fields ++ (print_end h.last ++ rest)))
     (request_line_text h (print_end h.line_end) is)) in
     let k = 0 + n + m + length (flat_map print_field h.fields) in
-    let stop : further k (suc (0 + length h.fields)) (extent_after (suc (0 + length h.fields)) (lines (print_end h.last ++ rest)))
+    let stop : further k (suc (0 + length h.fields))
+    (extent_after (suc (0 + length h.fields)) (lines (print_end h.last ++ rest)))
     ≡ Some (record { len = k + length (print_end h.last); texts = suc (0 + length h.fields) }) =
     rw end (at_end k (suc (0 + length h.fields)) (print_end h.last) (lines rest) (omega arith) (end_is_empty h.last)) in
-    let sizes : ◌≡◌ {A = Option Extent} (Some (record { len = k + length (print_end h.last); texts = suc (0 + length h.fields) }))
+    let sizes : ◌≡◌ {A = Option Extent}
+    (Some (record { len = k + length (print_end h.last); texts = suc (0 + length h.fields) }))
     (Some (record { len = length (print_request h); texts = suc (length h.fields) })) = rw (len, count) in
     rw (whole h rest) (
-    further_zero (head_extent (print_blank h.blank ++ (request_line h ++ (print_end h.line_end ++ (flat_map print_field h.fields ++ (print_end h.last ++ rest))))))
-    ∙ blanks h.blank 0 (request_line h ++ (print_end h.line_end ++ (flat_map print_field h.fields ++ (print_end h.last ++ rest))))
+    further_zero (head_extent
+    (print_blank h.blank ++ (request_line
+    h ++ (print_end h.line_end ++ (flat_map print_field h.fields ++ (print_end h.last ++ rest))))))
+    ∙ blanks h.blank 0 (request_line
+    h ++ (print_end h.line_end ++ (flat_map print_field h.fields ++ (print_end h.last ++ rest))))
     ∙ step
     ∙ field_lines h.fields (0 + n + m) 0 (print_end h.last ++ rest) is.fields
     ∙ stop

@@ -1,5 +1,6 @@
 -- What a stream comes to, by the first 8,192 bytes of it alone.
-use Rattle.std.proofs.Common.{◌≡◌, ◌-◌, ◌≤◌, ◌<◌, ◌+◌, min, ℕ, Bool, true, false, List, [], ◌++◌, length, take, refl, sym, ◌∙◌, ap, arith, Option, Some, None, nat_lt, if◌then◌else◌, inl, inr}
+use Rattle.std.proofs.Common.{◌≡◌, ◌-◌, ◌≤◌, ◌<◌, ◌+◌, min, ℕ, Bool, true, false, List, [], ◌++◌, length, take, refl}
+use Rattle.std.proofs.Common.{sym, ◌∙◌, ap, arith, Option, Some, None, nat_lt, if◌then◌else◌, inl, inr}
 use Rattle.std.proofs.lemmas.List.{take_all, take-take, length-take-le}
 use Rattle.std.proofs.Math.Seq.{take-append-add}
 use Rattle.std.proofs.lemmas.Bool.{cases_lt, ltb-true, le-ltb}
@@ -18,10 +19,13 @@ use Rattle.tus_request.proofs.Fronts.{extent_fits, take_bound}
 -- what a head may need of a piece
 take_onto : (n : ℕ) (a b : List ℕ) → length a ≤ n → take n (a ++ b) ≡ a ++ take (n - length a) b
 take_onto n a b within =
-    let e : n ≡ length a + (n - length a) = omega arith in ap (λ k. take k (a ++ b)) e ∙ take-append-add a b (n - length a)
+    let e : n ≡ length a + (n - length a) =
+    omega arith in ap (λ k. take k (a ++ b)) e ∙ take-append-add a b (n - length a)
 
-pub filled : (n : ℕ) (a b : List ℕ) (m : ℕ) → length a ≤ n → m ≡ min (length b) (n - length a) → a ++ take m b ≡ take n (a ++ b)
-filled n a b m within e = ap (λ k. a ++ take k b) e ∙ (ap (λ ys. a ++ ys) (take_min (n - length a) b) ∙ sym (take_onto n a b within))
+pub filled : (n : ℕ) (a b : List ℕ) (m : ℕ) → length a ≤ n → m ≡ min (length b) (n - length a)
+    → a ++ take m b ≡ take n (a ++ b)
+filled n a b m within e =
+    ap (λ k. a ++ take k b) e ∙ (ap (λ ys. a ++ ys) (take_min (n - length a) b) ∙ sym (take_onto n a b within))
 
 is_short : (s : List ℕ) → nat_lt (length (take 8192 s)) 8192 ≡ nat_lt (length s) 8192
 is_short s = elim (cases_lt (length s) 8192) [
@@ -32,10 +36,12 @@ is_short s = elim (cases_lt (length s) 8192) [
 ]
 
 module _ (offers : Encoding → Bool) where
-  limited_case : (s : List ℕ) (o : Option Extent) → ((e : Extent) → o ≡ Some e → e.len ≤ 8192) → answer_with offers (take 8192 s) o ≡ answer_with offers s o
+  limited_case : (s : List ℕ) (o : Option Extent) → ((e : Extent) → o ≡ Some e → e.len ≤ 8192)
+      → answer_with offers (take 8192 s) o ≡ answer_with offers s o
   limited_case s None within = ap (λ b. if b then More else Judged 8192 (no_head HeadTooLong)) (is_short s)
   limited_case s (Some e) within =
-      ap (λ x. if nat_lt 65 e.texts then Judged e.len (no_head HeadTooLong) else whole_answer offers x) (take-take e.len 8192 s (within e refl))
+      ap (λ x. if nat_lt 65 e.texts then Judged e.len (no_head HeadTooLong) else whole_answer offers x)
+      (take-take e.len 8192 s (within e refl))
 
   front_within : (s : List ℕ) (e : Extent) → head_extent (take 8192 s) ≡ Some e → e.len ≤ 8192
   front_within s e is = let fits = (extent_fits (take 8192 s) e is).bound in let few = take_bound 8192 s in omega arith
@@ -47,11 +53,13 @@ module _ (offers : Encoding → Bool) where
       ap (λ x. answer_with offers (take 8192 s) (head_extent x)) (take-take 8192 8192 s (omega arith))
       ∙ limited_case s (head_extent (take 8192 s)) (front_within s)
 
-  short_case : (s : List ℕ) (b : Bool) → nat_lt (length s) 8192 ≡ b → (if b then More else Judged 8192 (no_head HeadTooLong)) ≡ More → take 8192 s ≡ s
+  short_case : (s : List ℕ) (b : Bool) → nat_lt (length s) 8192 ≡ b
+      → (if b then More else Judged 8192 (no_head HeadTooLong)) ≡ More → take 8192 s ≡ s
   short_case s true short e = let lt : length s < 8192 = ltb-true (length s) 8192 short in take_all 8192 s (omega arith)
   short_case s false long e = absurd (cc)
 
-  judged_case : (s : List ℕ) (e : Extent) (b : Bool) → (if b then Judged e.len (no_head HeadTooLong) else whole_answer offers (take e.len s)) ≡ More → take 8192 s ≡ s
+  judged_case : (s : List ℕ) (e : Extent) (b : Bool)
+      → (if b then Judged e.len (no_head HeadTooLong) else whole_answer offers (take e.len s)) ≡ More → take 8192 s ≡ s
   judged_case s e true is = absurd (cc)
   judged_case s e false is = absurd (cc)
 

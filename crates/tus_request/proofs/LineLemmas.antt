@@ -1,5 +1,6 @@
 -- The lines of a head, one after another.
-use Rattle.std.specs.Prelude.{◌≡◌, ℕ, ◌+◌, ◌-◌, ◌<◌, ◌≤◌, ◌⊎◌, Bool, true, false, List, [], ◌∷◌, length, take, drop, ◌==◌, nat_lt, if◌then◌else◌, Option, Some, None, option_map}
+use Rattle.std.specs.Prelude.{◌≡◌, ℕ, ◌+◌, ◌-◌, ◌<◌, ◌≤◌, ◌⊎◌, Bool, true, false, List, [], ◌∷◌, length, take, drop}
+use Rattle.std.specs.Prelude.{◌==◌, nat_lt, if◌then◌else◌, Option, Some, None, option_map}
 use Rattle.std.proofs.Common.{arith, ◌∙◌, refl, zero, suc, get_or, add_assoc, inl, inr, add-one}
 use Rattle.std.specs.List.{position}
 use Rattle.std.proofs.lemmas.List.Quantifiers.{position-Some}
@@ -20,7 +21,8 @@ no_line (b ∷ bytes) none =
     rw (none 0 (omega arith), rest)
 
 one_line : (bytes : List ℕ) (i : ℕ) → i < length bytes → (get_or bytes i 0 == 10) ≡ true
-    → ((k : ℕ) → k < i → (get_or bytes k 0 == 10) ≡ false) → lines bytes ≡ take (suc i) bytes ∷ lines (drop (suc i) bytes)
+    → ((k : ℕ) → k < i → (get_or bytes k 0 == 10) ≡ false) → lines bytes ≡ take (suc i) bytes ∷ lines
+    (drop (suc i) bytes)
 one_line [] i inside feed none = absurd (omega arith)
 one_line (b ∷ bytes) zero inside feed none = rw feed
 one_line (b ∷ bytes) (suc i) inside feed none =
@@ -57,17 +59,20 @@ further_none len texts zero = refl
 further_none len texts (suc n) = refl
 
 extent_cons : (line : List ℕ) (o : Option (List (List ℕ)))
-    → option_map extent_of (option_map (λ more. line ∷ more) o) ≡ further (length line) (if is_empty_line line then 0 else 1) (option_map extent_of o)
+    → option_map extent_of (option_map (λ more. line ∷ more) o) ≡ further (length line)
+    (if is_empty_line line then 0 else 1) (option_map extent_of o)
 extent_cons line None = refl
 extent_cons line (Some head) = refl
 
-further_twice : (len texts m n : ℕ) (o : Option Extent) → further len texts (further m n o) ≡ further (len + m) (texts + n) o
+further_twice : (len texts m n : ℕ) (o : Option Extent) → further len texts (further m n o) ≡ further (len + m)
+    (texts + n) o
 further_twice len texts m n None = refl
 further_twice len texts m n (Some e) = rw (add_assoc, add_assoc)
 
 -- a line that isn't empty
 pub after_text : (len texts : ℕ) (line : List ℕ) (rest : List (List ℕ)) → is_empty_line line ≡ false
-    → further len texts (extent_after texts (line ∷ rest)) ≡ further (len + length line) (suc texts) (extent_after (suc texts) rest)
+    → further len texts (extent_after texts (line ∷ rest)) ≡ further (len + length line) (suc texts)
+    (extent_after (suc texts) rest)
 after_text len zero line rest e =
     let k = rw e at (extent_cons line (up_to_empty rest)) in
     rw (e, k) (further_twice len 0 (length line) 1 (option_map extent_of (up_to_empty rest)))
@@ -100,7 +105,8 @@ pub record IsSoFar (bytes rest : List ℕ) (len texts : ℕ) : Type 0 where
 
 pub further_zero : (o : Option Extent) → o ≡ further 0 0 o
 further_zero None = refl
-further_zero (Some e) = let l : 0 + e.len ≡ e.len = omega arith in let t : 0 + e.texts ≡ e.texts = omega arith in rw (l, t)
+further_zero (Some e) = let l : 0 + e.len ≡ e.len = omega arith in let t : 0 + e.texts ≡ e.texts =
+    omega arith in rw (l, t)
 
 pub at_start : (bytes : List ℕ) → IsSoFar bytes bytes 0 0
 at_start bytes = record { extent = further_zero (head_extent bytes); all = omega arith; few = omega arith }
@@ -142,7 +148,10 @@ empty_more bytes rest len texts last line more was feed front back text none =
 -- the empty line that ends the head
 pub ends_here : (bytes rest : List ℕ) (len texts last : ℕ) (line : List ℕ) → IsSoFar bytes rest len texts
     → position (λ b. b == 10) rest ≡ Some last → line ≡ take (last + 1) rest
-    → is_empty_line line ≡ true → 0 < texts → head_extent bytes ≡ Some (record { len = len + length line; texts = texts })
+    → is_empty_line line ≡ true → 0 < texts → head_extent bytes ≡ Some (record {
+      len = len + length line;
+      texts = texts;
+    })
 ends_here bytes rest len texts last line was feed front text some =
     let s = lines_some rest last feed in
     let ls : lines rest ≡ line ∷ lines (drop (last + 1) rest) = rw front s.1 in

@@ -1,5 +1,6 @@
 -- Pairs, one after another.
-use Rattle.std.specs.Prelude.{◌≡◌, ℕ, ◌+◌, ◌<◌, Bool, true, false, ◌||◌, List, [], ◌∷◌, ◌++◌, length, map, drop, bytes_eq, if◌then◌else◌, Some, None}
+use Rattle.std.specs.Prelude.{◌≡◌, ℕ, ◌+◌, ◌<◌, Bool, true, false, ◌||◌, List, [], ◌∷◌, ◌++◌, length, map, drop}
+use Rattle.std.specs.Prelude.{bytes_eq, if◌then◌else◌, Some, None}
 use Rattle.std.proofs.Common.{arith, ap, sym, ◌∙◌, refl, get_or}
 use Rattle.std.proofs.lemmas.List.{at_drop_more, at_drop_all, length-map, get_or-map}
 use Rattle.tus_request.specs.Texts.{trimmed}
@@ -8,16 +9,19 @@ use Rattle.tus_request.specs.Pairs.{pair_shown}
 use Rattle.tus_request.specs.declared.metadata.Pair.{Pair}
 
 pub has_key_turn : (key : List ℕ) (pairs : List Pair) (i : ℕ) (x : Pair) → i < length pairs → x ≡ get_or pairs i x
-    → has_key key (map pair_shown (drop i pairs)) ≡ (bytes_eq x.key.now key || has_key key (map pair_shown (drop (i + 1) pairs)))
+    → has_key key (map pair_shown (drop i pairs)) ≡ (bytes_eq x.key.now key || has_key key
+    (map pair_shown (drop (i + 1) pairs)))
 has_key_turn key pairs i x inside is =
     at_drop_more (λ t. has_key key (map pair_shown t)) pairs i x inside
     ∙ ap (λ (y : Pair). bytes_eq y.key.now key || has_key key (map pair_shown (drop (i + 1) pairs))) (sym is)
 
 pub setting_turn : (key other : List ℕ) (pairs : List Pair) (i : ℕ) (x : Pair) → i < length pairs → x ≡ get_or pairs i x
-    → setting key other (map pair_shown (drop i pairs)) ≡ (if bytes_eq x.key.now key then x.value.items else setting key other (map pair_shown (drop (i + 1) pairs)))
+    → setting key other (map pair_shown (drop i pairs)) ≡ (if bytes_eq x.key.now key then x.value.items else setting key
+    other (map pair_shown (drop (i + 1) pairs)))
 setting_turn key other pairs i x inside is =
     at_drop_more (λ t. setting key other (map pair_shown t)) pairs i x inside
-    ∙ ap (λ (y : Pair). if bytes_eq y.key.now key then y.value.items else setting key other (map pair_shown (drop (i + 1) pairs))) (sym is)
+    ∙ ap (λ (y : Pair). if bytes_eq y.key.now key then y.value.items else setting key other
+    (map pair_shown (drop (i + 1) pairs))) (sym is)
 
 none_left : (rest : List (List ℕ)) → pairs_from None rest ≡ None
 none_left [] = refl
@@ -27,8 +31,10 @@ none_left (part ∷ rest) = refl
 abbrev pub trims : List (List ℕ) → List (List ℕ)
 trims texts = map (trimmed (32 ∷ [])) texts
 
-pairs_turn : (seen : List KeyValue) (texts : List (List ℕ)) (n : ℕ) (part : List ℕ) → (n < length texts) × (part ≡ get_or texts n part)
-    → pairs_from (Some seen) (drop n (trims texts)) ≡ pairs_from (with_pair seen (pair_of (trimmed (32 ∷ []) part))) (drop (n + 1) (trims texts))
+pairs_turn : (seen : List KeyValue) (texts : List (List ℕ)) (n : ℕ) (part : List ℕ)
+    → (n < length texts) × (part ≡ get_or texts n part)
+    → pairs_from (Some seen) (drop n (trims texts)) ≡ pairs_from (with_pair seen (pair_of (trimmed (32 ∷ []) part)))
+    (drop (n + 1) (trims texts))
 pairs_turn seen texts n part h =
     let inside : n < length (trims texts) = omega (arith, h.0, length-map texts (trimmed (32 ∷ []))) in
     let same : get_or (trims texts) n (trimmed (32 ∷ []) part) ≡ trimmed (32 ∷ []) part =
@@ -37,20 +43,26 @@ pairs_turn seen texts n part h =
     ∙ ap (λ t. pairs_from (with_pair seen (pair_of t)) (drop (n + 1) (trims texts))) same
 
 -- a part that is no pair
-pub pairs_bad : (seen : List KeyValue) (texts : List (List ℕ)) (n : ℕ) (part : List ℕ) → (n < length texts) × (part ≡ get_or texts n part)
+pub pairs_bad : (seen : List KeyValue) (texts : List (List ℕ)) (n : ℕ) (part : List ℕ)
+    → (n < length texts) × (part ≡ get_or texts n part)
     → pair_of (trimmed (32 ∷ []) part) ≡ None → pairs_from (Some seen) (drop n (trims texts)) ≡ None
 pairs_bad seen texts n part h e =
-    pairs_turn seen texts n part h ∙ ap (λ p. pairs_from (with_pair seen p) (drop (n + 1) (trims texts))) e ∙ none_left (drop (n + 1) (trims texts))
+    pairs_turn seen texts n part h ∙ ap (λ p. pairs_from (with_pair seen p) (drop (n + 1) (trims texts))) e
+    ∙ none_left (drop (n + 1) (trims texts))
 
 -- a pair whose key was there
-pub pairs_twice : (seen : List KeyValue) (texts : List (List ℕ)) (n : ℕ) (part : List ℕ) (p : KeyValue) → (n < length texts) × (part ≡ get_or texts n part)
-    → pair_of (trimmed (32 ∷ []) part) ≡ Some p → has_key p.0 seen ≡ true → pairs_from (Some seen) (drop n (trims texts)) ≡ None
+pub pairs_twice : (seen : List KeyValue) (texts : List (List ℕ)) (n : ℕ) (part : List ℕ) (p : KeyValue)
+    → (n < length texts) × (part ≡ get_or texts n part)
+    → pair_of (trimmed (32 ∷ []) part) ≡ Some p → has_key p.0 seen ≡ true
+    → pairs_from (Some seen) (drop n (trims texts)) ≡ None
 pairs_twice seen texts n part p h e twice =
     pairs_turn seen texts n part h ∙ ap (λ q. pairs_from (with_pair seen q) (drop (n + 1) (trims texts))) e
-    ∙ ap (λ (b : Bool). pairs_from (if b then None else Some (seen ++ p ∷ [])) (drop (n + 1) (trims texts))) twice ∙ none_left (drop (n + 1) (trims texts))
+    ∙ ap (λ (b : Bool). pairs_from (if b then None else Some (seen ++ p ∷ [])) (drop (n + 1) (trims texts))) twice
+    ∙ none_left (drop (n + 1) (trims texts))
 
 -- one pair more
-pub pairs_more : (seen : List KeyValue) (texts : List (List ℕ)) (n : ℕ) (part : List ℕ) (p : KeyValue) → (n < length texts) × (part ≡ get_or texts n part)
+pub pairs_more : (seen : List KeyValue) (texts : List (List ℕ)) (n : ℕ) (part : List ℕ) (p : KeyValue)
+    → (n < length texts) × (part ≡ get_or texts n part)
     → pair_of (trimmed (32 ∷ []) part) ≡ Some p → has_key p.0 seen ≡ false
     → pairs_from (Some seen) (drop n (trims texts)) ≡ pairs_from (Some (seen ++ p ∷ [])) (drop (n + 1) (trims texts))
 pairs_more seen texts n part p h e new =
@@ -58,5 +70,7 @@ pairs_more seen texts n part p h e new =
     ∙ ap (λ (b : Bool). pairs_from (if b then None else Some (seen ++ p ∷ [])) (drop (n + 1) (trims texts))) new
 
 -- no part is left
-pub pairs_end : (seen : List KeyValue) (texts : List (List ℕ)) (n : ℕ) → n ≡ length texts → pairs_from (Some seen) (drop n (trims texts)) ≡ Some seen
-pairs_end seen texts n e = at_drop_all (λ t. pairs_from (Some seen) t) (trims texts) n (omega (arith, length-map texts (trimmed (32 ∷ []))))
+pub pairs_end : (seen : List KeyValue) (texts : List (List ℕ)) (n : ℕ) → n ≡ length texts
+    → pairs_from (Some seen) (drop n (trims texts)) ≡ Some seen
+pairs_end seen texts n e =
+    at_drop_all (λ t. pairs_from (Some seen) t) (trims texts) n (omega (arith, length-map texts (trimmed (32 ∷ []))))

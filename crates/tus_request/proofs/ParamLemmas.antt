@@ -1,5 +1,6 @@
 -- What the parameter of `/files/{number}` takes of a path.
-use Rattle.std.specs.Prelude.{◌≡◌, ℕ, ◌+◌, ◌-◌, ◌<◌, ◌≤◌, true, ltb, leb, List, [], ◌∷◌, ◌++◌, length, drop, codes, IsUtf8, slice_index}
+use Rattle.std.specs.Prelude.{◌≡◌, ℕ, ◌+◌, ◌-◌, ◌<◌, ◌≤◌, true, ltb, leb, List, [], ◌∷◌, ◌++◌, length, drop, codes}
+use Rattle.std.specs.Prelude.{IsUtf8, slice_index}
 use Rattle.std.proofs.Common.{arith, ap, ◌∙◌, refl, get_or, zero, suc}
 use Rattle.std.proofs.lemmas.Bool.Decides.{nat_tests}
 use Rattle.std.proofs.lemmas.Str.{IsUtf8-drop, IsCharBoundary-after_ascii, IsUtf8-from_ascii}
@@ -25,23 +26,28 @@ past_word (x ∷ word) len token at low fits =
     let e = past_word word len (token + 1) (at + 1) low.1 (omega arith) in
     rw (low.0, n, e, t, a)
 
-walk_one : (pattern text path : List ℕ) (name : ℕ × ℕ) (token at : ℕ) → wild_from pattern (length path) 0 0 ≡ (token, at)
-    → walk pattern text path (name ∷ []) 0 0 ≡ (part_of text name.0 name.1, part_of path at (wild_stop pattern token path at)) ∷ []
+walk_one : (pattern text path : List ℕ) (name : ℕ × ℕ) (token at : ℕ) → wild_from pattern (length path) 0
+    0 ≡ (token, at)
+    → walk pattern text path (name ∷ []) 0
+    0 ≡ (part_of text name.0 name.1, part_of path at (wild_stop pattern token path at)) ∷ []
 walk_one pattern text path name token at e = rw e
 
 -- from the seventh byte to the end
-seventh : (path part : List ℕ) → drop 7 path ≡ part → length path ≡ length part + 7 → part_of path 7 (length path) ≡ part
+seventh : (path part : List ℕ) → drop 7 path ≡ part → length path ≡ length part + 7
+    → part_of path 7 (length path) ≡ part
 seventh path part e len =
     let n : length path - 7 ≡ length part = omega arith in
     let low : leb 7 (length path) ≡ true = grind (arith, nat_tests) in
     let high : leb (length path) (length path) ≡ true = grind (arith, nat_tests) in
     rw (low, high, n, e, take-length)
 
-pub upload_walk : (part : List ℕ) → walk upload_route.pattern upload_route.text (codes "/files/" ++ part) upload_route.names 0 0
+pub upload_walk : (part : List ℕ) → walk upload_route.pattern upload_route.text (codes "/files/" ++ part)
+    upload_route.names 0 0
     ≡ (codes "number", part) ∷ []
 upload_walk part =
     let len : length (codes "/files/" ++ part) ≡ length part + 7 = omega arith in
-    let w = past_word (codes "/files/") (length (codes "/files/" ++ part)) 0 0 (refl, (refl, (refl, (refl, (refl, (refl, (refl, tt))))))) (omega arith) in
+    let w = past_word (codes "/files/") (length (codes "/files/" ++ part)) 0 0
+    (refl, (refl, (refl, (refl, (refl, (refl, (refl, tt))))))) (omega arith) in
     walk_one upload_route.pattern upload_route.text (codes "/files/" ++ part) (8, 14) 7 7 w
     ∙ ap (λ p. (codes "number", p) ∷ []) (seventh (codes "/files/" ++ part) part refl len)
 

@@ -1,8 +1,10 @@
 -- From what the parser says of a whole head to its answer.
-use Rattle.std.specs.Prelude.{◌≡◌, ℕ, ◌+◌, ◌<◌, ◌≤◌, Bool, true, false, List, [], ◌∷◌, ◌++◌, length, map, take, drop, min, nat_le, nat_lt, if◌then◌else◌, All, Option, Some, None, Result, Ok, Err, IfOk, OnErr}
+use Rattle.std.specs.Prelude.{◌≡◌, ℕ, ◌+◌, ◌<◌, ◌≤◌, Bool, true, false, List, [], ◌∷◌, ◌++◌, length, map, take, drop}
+use Rattle.std.specs.Prelude.{min, nat_le, nat_lt, if◌then◌else◌, All, Option, Some, None, Result, Ok, Err, IfOk, OnErr}
 use Rattle.std.proofs.Common.{arith, ap, sym, ◌∙◌, refl, inl, inr, suc, get_or, subst, Bor, option_copied}
 use Rattle.std.specs.List.{flat_map}
-use Rattle.std.proofs.lemmas.List.{length-append, length-map, append_assoc, append-nil, take_all, length-take-le, take-append-drop, take-append-le}
+use Rattle.std.proofs.lemmas.List.{length-append, length-map, append_assoc, append-nil, take_all, length-take-le}
+use Rattle.std.proofs.lemmas.List.{take-append-drop, take-append-le}
 use Rattle.std.proofs.lemmas.Bool.Decides.{nat_tests}
 use Rattle.tus_request.proofs.LineLemmas.{true_or_false}
 use Rattle.std.proofs.lemmas.List.Concat.{flat_map-cons}
@@ -11,14 +13,16 @@ use Rattle.http_header.specs.Token as token
 use Rattle.httparse.specs.declared.borrowed.Header.{Header}
 use Rattle.httparse.specs.Borrowed.{header_parts}
 use Rattle.httparse.specs.Spans.{name_and_value, RequestOverflows}
-use Rattle.httparse.specs.Grammar.{is_token_byte, is_value_byte, AllPass, Field, IsField, trim_ows, print_field, print_end, RequestHead, ReadsRequest, HasNoRequest, print_request}
+use Rattle.httparse.specs.Grammar.{is_token_byte, is_value_byte, AllPass, Field, IsField, trim_ows, print_field}
+use Rattle.httparse.specs.Grammar.{print_end, RequestHead, ReadsRequest, HasNoRequest, print_request}
 use Rattle.httparse.proofs.TrimLemmas.{AllPass-trim_ows}
 use Rattle.httparse.proofs.GrammarLemmas.{request_unique}
 use Rattle.tus_request.specs.Lines.{Extent, head_extent}
 use Rattle.tus_request.specs.Fields.{IsUsable}
 use Rattle.enc_model.specs.declared.Encoding.{Encoding}
 use Rattle.tus_request.specs.Answers.{Answer, More, Judged, answer_with, whole_answer as answer_whole, answer_of}
-use Rattle.tus_request.specs.Grammar.{Front, unfinished, too_long, whole, front_with, front, IsWhole, IsFrontAnswer, IsAnswer, IsShortHead, IsShortHeadOf, IsHeadAnswer}
+use Rattle.tus_request.specs.Grammar.{Front, unfinished, too_long, whole, front_with, front, IsWhole, IsFrontAnswer}
+use Rattle.tus_request.specs.Grammar.{IsAnswer, IsShortHead, IsShortHeadOf, IsHeadAnswer}
 use Rattle.tus_request.specs.declared.faults.Fault.TheVariants.{HeadTooLong}
 use Rattle.tus_request.specs.Requests.{Verdict}
 use Rattle.tus_request.specs.Fields.{values_in}
@@ -28,15 +32,18 @@ use Rattle.tus_request.proofs.ReadingLemmas.{finds, found_reads}
 use Rattle.tus_request.proofs.HeadLemmas.{request_extent, same_token, whole_length}
 
 -- a request head at the front of a whole head is all of it, and has as many fields as lines behind the first
-pub fills : (head more : List ℕ) (e : Extent) (h : RequestHead) (rest : List ℕ) → IsShortHeadOf head more e → ReadsRequest head h rest
+pub fills : (head more : List ℕ) (e : Extent) (h : RequestHead) (rest : List ℕ) → IsShortHeadOf head more e
+    → ReadsRequest head h rest
     → (length h.fields ≤ 64) × (length (print_request h) ≡ length head) × (rest ≡ [])
 fills head more e h rest is reads =
-    let whole : head ++ more ≡ print_request h ++ (rest ++ more) = ap (λ t. t ++ more) reads.1 ∙ append_assoc (print_request h) rest more in
+    let whole : head ++ more ≡ print_request h ++ (rest ++ more) =
+    ap (λ t. t ++ more) reads.1 ∙ append_assoc (print_request h) rest more in
     let same : Some e ≡ Some (record { len = length (print_request h); texts = suc (length h.fields) }) =
     sym is.extent ∙ ap head_extent whole ∙ request_extent h (rest ++ more) reads.0 in
     let len : e.len ≡ length (print_request h) = cc in
     let texts : e.texts ≡ suc (length h.fields) = cc in
-    let sum : length head ≡ length (print_request h) + length rest = ap length reads.1 ∙ length-append (print_request h) rest in
+    let sum : length head ≡ length (print_request h) + length rest =
+    ap length reads.1 ∙ length-append (print_request h) rest in
     (omega (arith, is.few), omega (arith, is.all), no_length rest (omega (arith, is.all)))
   where
     no_length : (xs : List ℕ) → length xs ≡ 0 → xs ≡ []
@@ -54,7 +61,8 @@ tokens : (text : List ℕ) → AllPass is_token_byte text → AllPass token.is_t
 tokens text all = λ k d inside. rw (← same_token (get_or text k d)) (all k d inside)
 
 -- a name and a value of the grammar
-usable_one : (x : Header) (f : Field) → header_parts x ≡ name_and_value f → IsField f → length f.name ≤ 65535 → IsUsable x
+usable_one : (x : Header) (f : Field) → header_parts x ≡ name_and_value f → IsField f → length f.name ≤ 65535
+    → IsUsable x
 usable_one x f same is short =
     let n : x.name.now ≡ f.name = ap (λ p. p.0) same in
     let v : x.value.now ≡ trim_ows f.raw = ap (λ p. p.1) same in (
@@ -70,16 +78,21 @@ usable (x ∷ headers) [] same all short = absurd (cc)
 usable (x ∷ headers) (f ∷ fields) same all short =
     let first : header_parts x ≡ name_and_value f = cc in
     let rest : map header_parts headers ≡ map name_and_value fields = cc in
-    let sum : length (flat_map print_field (f ∷ fields)) ≡ length (print_field f) + length (flat_map print_field fields) =
+    let sum : length (flat_map print_field (f ∷ fields)) ≡ length (print_field f) + length
+    (flat_map print_field fields) =
     ap length (flat_map-cons print_field f fields) ∙ length-append (print_field f) (flat_map print_field fields) in
-    let field : length (print_field f) ≡ length (f.name ++ (58 ∷ f.raw)) + length (print_end f.end) = length-append (f.name ++ (58 ∷ f.raw)) (print_end f.end) in
-    let name : length (f.name ++ (58 ∷ f.raw)) ≡ length f.name + length (58 ∷ f.raw) = length-append f.name (58 ∷ f.raw) in
+    let field : length (print_field f) ≡ length (f.name ++ (58 ∷ f.raw)) + length (print_end f.end) =
+    length-append (f.name ++ (58 ∷ f.raw)) (print_end f.end) in
+    let name : length (f.name ++ (58 ∷ f.raw)) ≡ length f.name + length (58 ∷ f.raw) =
+    length-append f.name (58 ∷ f.raw) in
     All-cons IsUsable x headers
     (usable_one x f first (All-head IsField f fields all) (omega arith))
     (usable headers fields rest (All-tail IsField f fields all) (omega arith))
 
-pub same_count : (headers : List Header) (fields : List Field) → map header_parts headers ≡ map name_and_value fields → length headers ≡ length fields
-same_count headers fields same = sym (length-map headers header_parts) ∙ ap length same ∙ length-map fields name_and_value
+pub same_count : (headers : List Header) (fields : List Field) → map header_parts headers ≡ map name_and_value fields
+    → length headers ≡ length fields
+same_count headers fields same =
+    sym (length-map headers header_parts) ∙ ap length same ∙ length-map fields name_and_value
 
 -- the fields take no more bytes than the head
 pub fields_within : (h : RequestHead) → length (flat_map print_field h.fields) ≤ length (print_request h)
@@ -96,11 +109,13 @@ take_min n bytes =
     ]
 
 -- what an option of a text shows
-pub shown_by : (o : Option (Bor (List ℕ))) (r : Bor (List ℕ)) (v : List ℕ) → o ≡ Some r → option_copied o ≡ Some v → r.now ≡ v
+pub shown_by : (o : Option (Bor (List ℕ))) (r : Bor (List ℕ)) (v : List ℕ) → o ≡ Some r → option_copied o ≡ Some v
+    → r.now ≡ v
 shown_by o r v e k = let t : option_copied (Some r) ≡ Some v = rw e at k in cc
 
 -- what is read is a whole head within the limits
-pub short_head : (start : List ℕ) (e : Extent) → length start ≤ 8192 → head_extent start ≡ Some e → e.len ≤ length start → e.texts ≤ 65
+pub short_head : (start : List ℕ) (e : Extent) → length start ≤ 8192 → head_extent start ≡ Some e → e.len ≤ length start
+    → e.texts ≤ 65
     → IsShortHead (take e.len start)
 short_head start e short some within few =
     let n : length (take e.len start) ≡ e.len = length-take-le e.len start within in (
@@ -117,7 +132,8 @@ short_head start e short some within few =
 pub start_is : (bytes : List ℕ) (m : ℕ) → m ≡ min (length bytes) 8192 → take m bytes ≡ take 8192 bytes
 start_is bytes m e = rw e (take_min 8192 bytes)
 
-pub start_short : (bytes : List ℕ) (m : ℕ) → m ≡ min (length bytes) 8192 → (length (take m bytes) ≤ 8192) × (length (take m bytes) ≡ min (length bytes) 8192)
+pub start_short : (bytes : List ℕ) (m : ℕ) → m ≡ min (length bytes) 8192
+    → (length (take m bytes) ≤ 8192) × (length (take m bytes) ≡ min (length bytes) 8192)
 start_short bytes m e =
     let l : length (take m bytes) ≡ m = length-take-le m bytes (omega arith) in
     (omega arith, l ∙ e)
@@ -133,7 +149,8 @@ not_read head none = go (request_of head) refl
     go None e = refl
     go (Some h) e = absurd (none h [] (found_reads head h e))
 
-pub whole_front : (bytes : List ℕ) (e : Extent) → head_extent (take 8192 bytes) ≡ Some e → e.texts ≤ 65 → IsWhole (front bytes)
+pub whole_front : (bytes : List ℕ) (e : Extent) → head_extent (take 8192 bytes) ≡ Some e → e.texts ≤ 65
+    → IsWhole (front bytes)
 whole_front bytes e some few =
     let l : nat_lt 65 e.texts ≡ false = grind (arith, nat_tests) in
     let f : front bytes ≡ whole (take e.len bytes) = rw (some, l) in
@@ -143,15 +160,20 @@ pub on_err : {A E P : Type 0} (r : Result A E) → P → OnErr r P
 on_err (Ok a) p = tt
 on_err (Err e) p = p
 
-pub same_line : (h : RequestHead) (line : Line) → line.method ≡ h.method → line.target ≡ h.target → line.minor ≡ h.minor → line ≡ line_of h
+pub same_line : (h : RequestHead) (line : Line) → line.method ≡ h.method → line.target ≡ h.target → line.minor ≡ h.minor
+    → line ≡ line_of h
 same_line h line m t v = λ i. record { method = m i; target = t i; minor = v i }
 
 module _ (offers : Encoding → Bool) where
   pub same_verdict : (h : RequestHead) (line : Line) (headers : List Header) (v : Verdict) → line ≡ line_of h
-      → map header_parts headers ≡ map name_and_value h.fields → v ≡ checked offers line (values_in (map header_parts headers)) → v ≡ verdict_on offers h
-  same_verdict h line headers v l f e = e ∙ ap (λ x. checked offers x (values_in (map header_parts headers))) l ∙ ap (λ x. checked offers (line_of h) (values_in x)) f
+      → map header_parts headers ≡ map name_and_value h.fields → v ≡ checked offers line
+      (values_in (map header_parts headers)) → v ≡ verdict_on offers h
+  same_verdict h line headers v l f e =
+      e ∙ ap (λ x. checked offers x (values_in (map header_parts headers))) l
+      ∙ ap (λ x. checked offers (line_of h) (values_in x)) f
 
-  pub unfinished_answer : (bytes : List ℕ) → head_extent (take 8192 bytes) ≡ None → length bytes < 8192 → IsAnswer offers bytes More
+  pub unfinished_answer : (bytes : List ℕ) → head_extent (take 8192 bytes) ≡ None → length bytes < 8192
+      → IsAnswer offers bytes More
   unfinished_answer bytes none short =
       let l : nat_lt (length bytes) 8192 ≡ true = grind (arith, nat_tests) in
       let f : front bytes ≡ unfinished = rw (none, l) in
@@ -166,7 +188,8 @@ module _ (offers : Encoding → Bool) where
       let r : Judged 8192 (no_head HeadTooLong) ≡ Judged 8192 (no_head HeadTooLong) = refl in
       rw f r
 
-  pub no_extent_answer : (bytes : List ℕ) (came : ℕ) (a : Answer) → head_extent (take 8192 bytes) ≡ None → came ≡ min (length bytes) 8192
+  pub no_extent_answer : (bytes : List ℕ) (came : ℕ) (a : Answer) → head_extent (take 8192 bytes) ≡ None
+      → came ≡ min (length bytes) 8192
       → a ≡ (if nat_lt came 8192 then More else Judged 8192 (no_head HeadTooLong)) → IsAnswer offers bytes a
   no_extent_answer bytes came a none is e =
       elim (true_or_false (nat_lt came 8192)) [
@@ -186,13 +209,15 @@ module _ (offers : Encoding → Bool) where
       let r : Judged e.len (no_head HeadTooLong) ≡ Judged e.len (no_head HeadTooLong) = refl in
       rw f r
 
-  pub whole_answer : (bytes : List ℕ) (e : Extent) (a : Answer) → head_extent (take 8192 bytes) ≡ Some e → e.len ≤ length (take 8192 bytes) → e.texts ≤ 65
+  pub whole_answer : (bytes : List ℕ) (e : Extent) (a : Answer) → head_extent (take 8192 bytes) ≡ Some e
+      → e.len ≤ length (take 8192 bytes) → e.texts ≤ 65
       → IsHeadAnswer offers (take e.len (take 8192 bytes)) a → IsAnswer offers bytes a
   whole_answer bytes e a some within few is =
       let l : nat_lt 65 e.texts ≡ false = grind (arith, nat_tests) in
       let f : front bytes ≡ whole (take e.len bytes) = rw (some, l) in
       let same : take e.len bytes ≡ take e.len (take 8192 bytes) =
-      ap (take e.len) (sym (take-append-drop 8192 bytes)) ∙ take-append-le e.len (take 8192 bytes) (drop 8192 bytes) within in
+      ap (take e.len) (sym (take-append-drop 8192 bytes)) ∙ take-append-le e.len (take 8192 bytes) (drop 8192 bytes)
+      within in
       rw f (rw same is)
 
   head_answer_unique : (head : List ℕ) (x y : Answer) → IsHeadAnswer offers head x → IsHeadAnswer offers head y → x ≡ y
@@ -211,7 +236,8 @@ module _ (offers : Encoding → Bool) where
   pub answer_unique : (bytes : List ℕ) (x y : Answer) → IsAnswer offers bytes x → IsAnswer offers bytes y → x ≡ y
   answer_unique bytes x y a b = front_answer_unique (front bytes) x y a b
 
-  head_answer_is : (head : List ℕ) (a : Answer) → IsHeadAnswer offers head a → a ≡ Judged (length head) (judged offers (request_of head))
+  head_answer_is : (head : List ℕ) (a : Answer) → IsHeadAnswer offers head a
+      → a ≡ Judged (length head) (judged offers (request_of head))
   head_answer_is head a (inl is) = is.1 ∙ ap (λ o. Judged (length head) (judged offers o)) (sym (not_read head is.0))
   head_answer_is head a (inr is) = is.2 ∙ ap (λ o. Judged (length head) (judged offers o)) (sym (finds head is.0 is.1))
 
@@ -220,12 +246,14 @@ module _ (offers : Encoding → Bool) where
   none_is bytes a true is = is
   none_is bytes a false is = is
 
-  some_is : (bytes : List ℕ) (a : Answer) (e : Extent) (b : Bool) → IsFrontAnswer offers (if b then too_long e.len else whole (take e.len bytes)) a
+  some_is : (bytes : List ℕ) (a : Answer) (e : Extent) (b : Bool) → IsFrontAnswer offers
+      (if b then too_long e.len else whole (take e.len bytes)) a
       → a ≡ (if b then Judged e.len (no_head HeadTooLong) else answer_whole offers (take e.len bytes))
   some_is bytes a e true is = is
   some_is bytes a e false is = head_answer_is (take e.len bytes) a is
 
-  answer_with_is : (bytes : List ℕ) (a : Answer) (o : Option Extent) → IsFrontAnswer offers (front_with bytes o) a → a ≡ answer_with offers bytes o
+  answer_with_is : (bytes : List ℕ) (a : Answer) (o : Option Extent) → IsFrontAnswer offers (front_with bytes o) a
+      → a ≡ answer_with offers bytes o
   answer_with_is bytes a None is = none_is bytes a (nat_lt (length bytes) 8192) is
   answer_with_is bytes a (Some e) is = some_is bytes a e (nat_lt 65 e.texts) is
 

@@ -57,7 +57,8 @@ module _ {K : Type 0} where
   pub found_parts : (word path : List ℕ) (f u r : K) → found word path f u ≡ Some r
       → ((path ≡ word) × (r ≡ f)) ⊎ ((part : List ℕ) × (path ≡ word ++ 47 ∷ part) × (r ≡ u))
   found_parts [] [] f u r h = inl (refl, cc)
-  found_parts [] (b ∷ []) f u r h = elim (true_or_false (47 == b)) [ inl e ↦ absurd (cc (rw e at h)) | inr e ↦ absurd (cc (rw e at h)) ]
+  found_parts [] (b ∷ []) f u r h =
+      elim (true_or_false (47 == b)) [ inl e ↦ absurd (cc (rw e at h)) | inr e ↦ absurd (cc (rw e at h)) ]
   found_parts [] (b ∷ c ∷ rest) f u r h =
       elim (true_or_false (47 == b)) [
         | inl e ↦ let n : b ≡ 47 = grind (arith, nat_tests) in

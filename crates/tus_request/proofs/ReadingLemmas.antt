@@ -1,5 +1,6 @@
 -- The guess is the head, where there is one.
-use Rattle.std.specs.Prelude.{◌≡◌, ℕ, ◌+◌, ◌-◌, ◌<◌, Bool, true, false, List, [], ◌∷◌, ◌++◌, length, map, ◌==◌, ◌&&◌, nat_eq, nat_lt, nat_le, All, IsTrue, bytes_eq, Some}
+use Rattle.std.specs.Prelude.{◌≡◌, ℕ, ◌+◌, ◌-◌, ◌<◌, Bool, true, false, List, [], ◌∷◌, ◌++◌, length, map, ◌==◌, ◌&&◌}
+use Rattle.std.specs.Prelude.{nat_eq, nat_lt, nat_le, All, IsTrue, bytes_eq, Some}
 use Rattle.std.proofs.Common.{arith, ap, sym, ◌∙◌, refl, append_assoc}
 use Rattle.std.specs.List.{flat_map}
 use Rattle.std.proofs.lemmas.List.Concat.{flat_map-cons}
@@ -12,26 +13,36 @@ use Rattle.tus_request.proofs.FieldLemmas.{bytes_eq_same}
 use Rattle.std.proofs.lemmas.Bool.Decides.{nat_tests}
 use Rattle.std.proofs.lemmas.List.{append-nil}
 use Rattle.httparse.proofs.GrammarLemmas.{cons-append}
-use Rattle.httparse.specs.Grammar.{is_token_byte, is_uri_byte, is_value_byte, AllPass, LineEnd, crlf, lf, print_end, print_blank, print_version, Field, IsField, print_field, RequestHead, IsRequestHead, print_request, is_token, IsToken, ReadsRequest}
+use Rattle.httparse.specs.Grammar.{is_token_byte, is_uri_byte, is_value_byte, AllPass, LineEnd, crlf, lf, print_end}
+use Rattle.httparse.specs.Grammar.{print_blank, print_version, Field, IsField, print_field, RequestHead, IsRequestHead}
+use Rattle.httparse.specs.Grammar.{print_request, is_token, IsToken, ReadsRequest}
 use Rattle.tus_request.specs.Lines.{lines, is_empty_line}
-use Rattle.tus_request.specs.Reading.{before, behind, text_of, end_of, field_of, fields_of, last_of, blank_of, filled, head_with, guess, is_field, is_request_head, request_of}
-use Rattle.tus_request.proofs.HeadLemmas.{ended_line, field_line, field_text, end_is_empty, whole, request_line, request_line_no_feed, request_line_text, token_is_high}
+use Rattle.tus_request.specs.Reading.{before, behind, text_of, end_of, field_of, fields_of, last_of, blank_of, filled}
+use Rattle.tus_request.specs.Reading.{head_with, guess, is_field, is_request_head, request_of}
+use Rattle.tus_request.proofs.HeadLemmas.{ended_line, field_line, field_text, end_is_empty, whole, request_line}
+use Rattle.tus_request.proofs.HeadLemmas.{request_line_no_feed, request_line_text, token_is_high}
 
 -- no byte is the mark
 abbrev pub Lacks : ℕ → List ℕ → Type 0
 Lacks mark [] = Unit {0}
 Lacks mark (b ∷ text) = ((b == mark) ≡ false) × Lacks mark text
 
-lacks_from : (mark : ℕ) (test : ℕ → Bool) → ((b : ℕ) → IsTrue (test b) → (b == mark) ≡ false) → (text : List ℕ) → AllPass test text → Lacks mark text
+lacks_from : (mark : ℕ) (test : ℕ → Bool) → ((b : ℕ) → IsTrue (test b) → (b == mark) ≡ false) → (text : List ℕ)
+    → AllPass test text → Lacks mark text
 lacks_from mark test none [] all = tt
-lacks_from mark test none (b ∷ text) all =
-    (none b (All-head (λ b. IsTrue (test b)) b text all), lacks_from mark test none text (All-tail (λ b. IsTrue (test b)) b text all))
+lacks_from mark test none (b ∷ text) all = (
+  none b (All-head (λ b. IsTrue (test b)) b text all),
+  lacks_from mark test none text
+      (All-tail (λ b. IsTrue (test b)) b text all),
+)
 
-before_mark : (mark : ℕ) (text rest : List ℕ) → Lacks mark text → (mark == mark) ≡ true → before mark (text ++ mark ∷ rest) ≡ text
+before_mark : (mark : ℕ) (text rest : List ℕ) → Lacks mark text → (mark == mark) ≡ true
+    → before mark (text ++ mark ∷ rest) ≡ text
 before_mark mark [] rest none same = rw same
 before_mark mark (b ∷ text) rest none same = rw (none.0, before_mark mark text rest none.1 same)
 
-behind_mark : (mark : ℕ) (text rest : List ℕ) → Lacks mark text → (mark == mark) ≡ true → behind mark (text ++ mark ∷ rest) ≡ rest
+behind_mark : (mark : ℕ) (text rest : List ℕ) → Lacks mark text → (mark == mark) ≡ true
+    → behind mark (text ++ mark ∷ rest) ≡ rest
 behind_mark mark [] rest none same = rw same
 behind_mark mark (b ∷ text) rest none same = rw (none.0, behind_mark mark text rest none.1 same)
 
@@ -40,7 +51,8 @@ abbrev pub IsInline : List ℕ → Type 0
 IsInline [] = Unit {0}
 IsInline (b ∷ text) = ((b == 10) ≡ false) × ((b == 13) ≡ false) × IsInline text
 
-inline_from : (test : ℕ → Bool) → ((b : ℕ) → IsTrue (test b) → ((b == 10) ≡ false) × ((b == 13) ≡ false)) → (text : List ℕ) → AllPass test text → IsInline text
+inline_from : (test : ℕ → Bool) → ((b : ℕ) → IsTrue (test b) → ((b == 10) ≡ false) × ((b == 13) ≡ false))
+    → (text : List ℕ) → AllPass test text → IsInline text
 inline_from test none [] all = tt
 inline_from test none (b ∷ text) all =
     let n = none b (All-head (λ b. IsTrue (test b)) b text all) in
@@ -100,28 +112,35 @@ token_no_colon b t = go (b == 58) refl
 
 pub field_back : (f : Field) → IsField f → field_of (print_field f) ≡ f
 field_back f is =
-    let a : print_field f ≡ f.name ++ 58 ∷ (f.raw ++ print_end f.end) = append_assoc f.name (58 ∷ f.raw) (print_end f.end) in
-    let n = before_mark 58 f.name (f.raw ++ print_end f.end) (lacks_from 58 is_token_byte token_no_colon f.name is.name.1) refl in
-    let v = behind_mark 58 f.name (f.raw ++ print_end f.end) (lacks_from 58 is_token_byte token_no_colon f.name is.name.1) refl in
+    let a : print_field f ≡ f.name ++ 58 ∷ (f.raw ++ print_end f.end) =
+    append_assoc f.name (58 ∷ f.raw) (print_end f.end) in
+    let n = before_mark 58 f.name (f.raw ++ print_end f.end)
+    (lacks_from 58 is_token_byte token_no_colon f.name is.name.1) refl in
+    let v = behind_mark 58 f.name (f.raw ++ print_end f.end)
+    (lacks_from 58 is_token_byte token_no_colon f.name is.name.1) refl in
     let i = inline_from is_value_byte value_inline f.raw is.raw in
     let e : end_of (print_field f) ≡ f.end = end_ended (f.name ++ 58 ∷ f.raw) f.end
     (inline_append f.name (58 ∷ f.raw) (inline_from is_token_byte token_inline f.name is.name.1) (refl, refl, i)) in
     rw (e, a, n, v, text_ended f.raw f.end i)
 
 -- the lines of a head, as lists
-blank_lines : (ends : List LineEnd) (rest : List ℕ) → lines (print_blank ends ++ rest) ≡ map print_end ends ++ lines rest
+blank_lines : (ends : List LineEnd) (rest : List ℕ) → lines (print_blank ends ++ rest) ≡ map print_end ends ++ lines
+    rest
 blank_lines [] rest = refl
 blank_lines (end ∷ ends) rest =
     let p : print_blank (end ∷ ends) ≡ print_end end ++ print_blank ends = flat_map-cons print_end end ends in
-    let a : (print_end end ++ print_blank ends) ++ rest ≡ print_end end ++ (print_blank ends ++ rest) = append_assoc (print_end end) (print_blank ends) rest in
+    let a : (print_end end ++ print_blank ends) ++ rest ≡ print_end end ++ (print_blank ends ++ rest) =
+    append_assoc (print_end end) (print_blank ends) rest in
     rw (p, a) (ended_line [] (print_blank ends ++ rest) end tt ∙ ap (λ t. print_end end ∷ t) (blank_lines ends rest))
 
 fields_as_lines : (fields : List Field) (rest : List ℕ) → All IsField fields
     → lines (flat_map print_field fields ++ rest) ≡ map print_field fields ++ lines rest
 fields_as_lines [] rest all = refl
 fields_as_lines (f ∷ fields) rest all =
-    let p : flat_map print_field (f ∷ fields) ≡ print_field f ++ flat_map print_field fields = flat_map-cons print_field f fields in
-    let a : (print_field f ++ flat_map print_field fields) ++ rest ≡ print_field f ++ (flat_map print_field fields ++ rest) =
+    let p : flat_map print_field (f ∷ fields) ≡ print_field f ++ flat_map print_field fields =
+    flat_map-cons print_field f fields in
+    let a : (print_field f ++ flat_map print_field fields) ++ rest ≡ print_field
+    f ++ (flat_map print_field fields ++ rest) =
     append_assoc (print_field f) (flat_map print_field fields) rest in
     rw (p, a) (
     field_line f (flat_map print_field fields ++ rest) (All-head IsField f fields all)
@@ -138,28 +157,34 @@ filled_back : (ends : List LineEnd) (line : List ℕ) (rest : List (List ℕ)) �
 filled_back [] line rest text = rw text
 filled_back (end ∷ ends) line rest text = rw (end_is_empty end, filled_back ends line rest text)
 
-fields_back : (fields : List Field) (last : LineEnd) → All IsField fields → fields_of (map print_field fields ++ print_end last ∷ []) ≡ fields
+fields_back : (fields : List Field) (last : LineEnd) → All IsField fields
+    → fields_of (map print_field fields ++ print_end last ∷ []) ≡ fields
 fields_back [] last all = rw (end_is_empty last)
 fields_back (f ∷ fields) last all =
     let is = All-head IsField f fields all in
     rw (field_text f is, field_back f is, fields_back fields last (All-tail IsField f fields all))
 
-last_back : (fields : List Field) (last : LineEnd) → All IsField fields → last_of (map print_field fields ++ print_end last ∷ []) ≡ last
+last_back : (fields : List Field) (last : LineEnd) → All IsField fields
+    → last_of (map print_field fields ++ print_end last ∷ []) ≡ last
 last_back [] last all = rw (end_is_empty last) (end_ended [] last tt)
-last_back (f ∷ fields) last all = rw (field_text f (All-head IsField f fields all), last_back fields last (All-tail IsField f fields all))
+last_back (f ∷ fields) last all =
+    rw (field_text f (All-head IsField f fields all), last_back fields last (All-tail IsField f fields all))
 
 last_line : (end : LineEnd) → lines (print_end end ++ []) ≡ print_end end ∷ []
 last_line end = ended_line [] [] end tt
 
 -- the lines of a head
 pub head_as_lines : (h : RequestHead) → IsRequestHead h
-    → lines (print_request h) ≡ map print_end h.blank ++ (request_line h ++ print_end h.line_end) ∷ (map print_field h.fields ++ print_end h.last ∷ [])
+    → lines (print_request h) ≡ map print_end
+    h.blank ++ (request_line h ++ print_end h.line_end) ∷ (map print_field h.fields ++ print_end h.last ∷ [])
 head_as_lines h is =
     let w = sym (append-nil (print_request h)) ∙ whole h [] in
     rw w (
-    blank_lines h.blank (request_line h ++ (print_end h.line_end ++ (flat_map print_field h.fields ++ (print_end h.last ++ []))))
+    blank_lines h.blank (request_line
+    h ++ (print_end h.line_end ++ (flat_map print_field h.fields ++ (print_end h.last ++ []))))
     ∙ ap (λ t. map print_end h.blank ++ t) (
-    ended_line (request_line h) (flat_map print_field h.fields ++ (print_end h.last ++ [])) h.line_end (request_line_no_feed h is)
+    ended_line (request_line h) (flat_map print_field h.fields ++ (print_end h.last ++ [])) h.line_end
+    (request_line_no_feed h is)
     ∙ ap (λ t. (request_line h ++ print_end h.line_end) ∷ t) (
     fields_as_lines h.fields (print_end h.last ++ []) is.fields
     ∙ ap (λ t. map print_field h.fields ++ t) (last_line h.last)
@@ -174,40 +199,57 @@ request_line_inline : (h : RequestHead) → IsRequestHead h → IsInline (reques
 request_line_inline h is =
     let x : (48 + h.minor == 10) ≡ false = let k = is.minor in grind (arith, nat_tests) in
     let y : (48 + h.minor == 13) ≡ false = let k = is.minor in grind (arith, nat_tests) in
-    let v : IsInline (print_version h.minor) = (refl, refl, (refl, refl, (refl, refl, (refl, refl, (refl, refl, (refl, refl, (refl, refl, (x, y, tt)))))))) in
+    let v : IsInline (print_version h.minor) =
+    (refl, refl, (refl, refl, (refl, refl, (refl, refl, (refl, refl, (refl, refl, (refl, refl, (x, y, tt)))))))) in
     inline_append h.method _ (inline_from is_token_byte token_inline h.method is.method.1)
     (refl, refl, inline_append h.target _ (inline_from is_uri_byte uri_inline h.target is.target.1) (refl, refl, v))
 
-same_head : (h : RequestHead) (method target : List ℕ) (minor : ℕ) (line_end : LineEnd) (fields : List Field) (last : LineEnd)
-    → method ≡ h.method → target ≡ h.target → minor ≡ h.minor → line_end ≡ h.line_end → fields ≡ h.fields → last ≡ h.last
-    → ◌≡◌ {A = RequestHead} (record { blank = h.blank; method = method; target = target; minor = minor; line_end = line_end; fields = fields; last = last }) h
+same_head : (h : RequestHead) (method target : List ℕ) (minor : ℕ) (line_end : LineEnd) (fields : List Field)
+    (last : LineEnd)
+    → method ≡ h.method → target ≡ h.target → minor ≡ h.minor → line_end ≡ h.line_end → fields ≡ h.fields
+    → last ≡ h.last
+    → ◌≡◌ {A = RequestHead} (record {
+      blank = h.blank;
+      method = method;
+      target = target;
+      minor = minor;
+      line_end = line_end;
+      fields = fields;
+      last = last;
+    }) h
 same_head h method target minor line_end fields last a b c d e f = rw (a, b, c, d, e, f)
 
 -- the guess of a head's bytes is the head
 pub guess_back : (h : RequestHead) → IsRequestHead h → guess (print_request h) ≡ h
 guess_back h is =
     let q = request_line h ++ print_end h.line_end in
-    let text : is_empty_line (request_line h ++ print_end h.line_end) ≡ false = request_line_text h (print_end h.line_end) is in
+    let text : is_empty_line (request_line h ++ print_end h.line_end) ≡ false =
+    request_line_text h (print_end h.line_end) is in
     let rest = map print_field h.fields ++ print_end h.last ∷ [] in
     let parts = line_parts h.method h.target (print_version h.minor) (print_end h.line_end) in
     let lm = lacks_from 32 is_token_byte token_no_space h.method is.method.1 in
     let lt = lacks_from 32 is_uri_byte uri_no_space h.target is.target.1 in
     let bm : before 32 (request_line h ++ print_end h.line_end) ≡ h.method =
     rw parts (before_mark 32 h.method (h.target ++ 32 ∷ (print_version h.minor ++ print_end h.line_end)) lm refl) in
-    let hm : behind 32 (request_line h ++ print_end h.line_end) ≡ h.target ++ 32 ∷ (print_version h.minor ++ print_end h.line_end) =
+    let hm : behind 32 (request_line h ++ print_end h.line_end) ≡ h.target ++ 32 ∷ (print_version h.minor ++ print_end
+    h.line_end) =
     rw parts (behind_mark 32 h.method (h.target ++ 32 ∷ (print_version h.minor ++ print_end h.line_end)) lm refl) in
     let bt = before_mark 32 h.target (print_version h.minor ++ print_end h.line_end) lt refl in
     let ht = behind_mark 32 h.target (print_version h.minor ++ print_end h.line_end) lt refl in
     let digit : 48 + h.minor - 48 ≡ h.minor = omega arith in
-    let en : end_of (request_line h ++ print_end h.line_end) ≡ h.line_end = end_ended (request_line h) h.line_end (request_line_inline h is) in
+    let en : end_of (request_line h ++ print_end h.line_end) ≡ h.line_end =
+    end_ended (request_line h) h.line_end (request_line_inline h is) in
     let fs = fields_back h.fields h.last is.fields in
     let la = last_back h.fields h.last is.fields in
-    let w : head_with h.blank ((request_line h ++ print_end h.line_end) ∷ (map print_field h.fields ++ print_end h.last ∷ [])) ≡ h =
+    let w : head_with h.blank
+    ((request_line h ++ print_end h.line_end) ∷ (map print_field h.fields ++ print_end h.last ∷ [])) ≡ h =
     same_head h _ _ _ _ _ _ bm (rw hm bt) (rw (hm, ht) digit) en fs la in
     rw (
       head_as_lines h is,
-      blank_back h.blank (request_line h ++ print_end h.line_end) (map print_field h.fields ++ print_end h.last ∷ []) text,
-      filled_back h.blank (request_line h ++ print_end h.line_end) (map print_field h.fields ++ print_end h.last ∷ []) text,
+      blank_back h.blank (request_line h ++ print_end h.line_end) (map print_field h.fields ++ print_end h.last ∷ [])
+          text,
+      filled_back h.blank (request_line h ++ print_end h.line_end) (map print_field h.fields ++ print_end h.last ∷ [])
+          text,
     ) w
 
 both : (a b : Bool) → a ≡ true → b ≡ true → (a && b) ≡ true
@@ -233,20 +275,25 @@ fields_test : (fields : List Field) → All IsField fields → list_all is_field
 fields_test [] all = refl
 fields_test (f ∷ fields) all =
     let is = All-head IsField f fields all in
-    both _ _ (both _ _ (token_test f.name is.name) (list_all-from_AllPass is_value_byte f.raw is.raw)) (fields_test fields (All-tail IsField f fields all))
+    both _ _ (both _ _ (token_test f.name is.name) (list_all-from_AllPass is_value_byte f.raw is.raw))
+    (fields_test fields (All-tail IsField f fields all))
 
 fields_are : (fields : List Field) → list_all is_field fields ≡ true → All IsField fields
 fields_are [] e = λ k d inside. absurd (omega arith)
 fields_are (f ∷ fields) e =
     let p = both_of _ _ e in
     let q = both_of _ _ p.0 in
-    All-cons IsField f fields (record { name = token_of f.name q.0; raw = AllPass-from_list_all is_value_byte f.raw q.1 }) (fields_are fields p.1)
+    All-cons IsField f fields (record {
+      name = token_of f.name q.0;
+      raw = AllPass-from_list_all is_value_byte f.raw q.1;
+    }) (fields_are fields p.1)
 
 head_test : (h : RequestHead) → IsRequestHead h → is_request_head h ≡ true
 head_test h is =
     let m : nat_le h.minor 1 ≡ true = let k = is.minor in grind (arith, nat_tests) in
     both _ _ (both _ _ (both _ _ (both _ _ (both _ _ (token_test h.method is.method) (nonempty h.target is.target.0))
-    (list_all-from_AllPass is_uri_byte h.target is.target.1)) (is_utf8-from_IsUtf8 h.target is.target_text)) m) (fields_test h.fields is.fields)
+    (list_all-from_AllPass is_uri_byte h.target is.target.1)) (is_utf8-from_IsUtf8 h.target
+    is.target_text)) m) (fields_test h.fields is.fields)
 
 head_is : (h : RequestHead) → is_request_head h ≡ true → IsRequestHead h
 head_is h e =
@@ -276,7 +323,8 @@ finds head h reads =
 pub found_reads : (head : List ℕ) (h : RequestHead) → request_of head ≡ Some h → ReadsRequest head h []
 found_reads head h e = go (is_request_head (guess head) && bytes_eq head (print_request (guess head))) refl
   where
-    go : (v : Bool) → (is_request_head (guess head) && bytes_eq head (print_request (guess head))) ≡ v → ReadsRequest head h []
+    go : (v : Bool) → (is_request_head (guess head) && bytes_eq head (print_request (guess head))) ≡ v
+        → ReadsRequest head h []
     go false t = let k = rw t at e in absurd (cc)
     go true t =
         let k = rw t at e in

@@ -1,5 +1,6 @@
 -- What `first` answers on two rows: a word with a slash and a parameter behind it, and the word.
-use Rattle.std.specs.Prelude.{◌≡◌, ℕ, ◌-◌, ◌<◌, ◌⊎◌, Bool, true, false, cond, ◌==◌, List, [], ◌∷◌, ◌++◌, length, Option, Some, None, codes}
+use Rattle.std.specs.Prelude.{◌≡◌, ℕ, ◌-◌, ◌<◌, ◌⊎◌, Bool, true, false, cond, ◌==◌, List, [], ◌∷◌, ◌++◌, length, Option}
+use Rattle.std.specs.Prelude.{Some, None, codes}
 use Rattle.std.proofs.Common.{arith, ap, ◌∙◌, refl, zero, suc, get_or, inl, inr}
 use Rattle.matchit.specs.Rows.{RowsOf, param_token, catch_all_token}
 use Rattle.matchit.specs.Seek.{seek, first, has_slash, own, or_else}
@@ -68,7 +69,8 @@ module _ {K : Type 0} where
 
   -- a last parameter
   one_param : (v : Bool) (path rest : List ℕ) (u : K) → length path ≡ suc (length rest)
-      → or_else (seek ((cond {A = ℕ × RowsOf K} v (0, []) (length path, ([], u) ∷ [])).0 - 1) (cond {A = ℕ × RowsOf K} v (0, []) (length path, ([], u) ∷ [])).1 rest) None
+      → or_else (seek ((cond {A = ℕ × RowsOf K} v (0, []) (length path, ([], u) ∷ [])).0 - 1)
+      (cond {A = ℕ × RowsOf K} v (0, []) (length path, ([], u) ∷ [])).1 rest) None
       ≡ cond v None (Some u)
   one_param true path rest u e = rw (seek_nothing (0 - 1) rest)
   one_param false path rest u e =

@@ -1,9 +1,12 @@
 -- The search for a head's end finds it where it is.
-use Rattle.std.proofs.Common.{◌≡◌, ◌<◌, ◌⊎◌, inl, inr, ℕ, Bool, true, false, List, [], ◌∷◌, ◌++◌, length, take, refl, sym, ◌∙◌, ap, subst, arith, Option, Some, None, option_map, nat_lt, nat_le, ◌||◌, if◌then◌else◌, ◌==◌}
+use Rattle.std.proofs.Common.{◌≡◌, ◌<◌, ◌⊎◌, inl, inr, ℕ, Bool, true, false, List, [], ◌∷◌, ◌++◌, length, take, refl}
+use Rattle.std.proofs.Common.{sym, ◌∙◌, ap, subst, arith, Option, Some, None, option_map, nat_lt, nat_le, ◌||◌}
+use Rattle.std.proofs.Common.{if◌then◌else◌, ◌==◌}
 use Rattle.std.proofs.lemmas.List.{take_all}
 use Rattle.std.proofs.lemmas.Bool.{eqb-true, ltb-true, lt-ltb, leb-false, lt-leb}
 use Rattle.enc_model.specs.declared.Encoding.{Encoding}
-use Rattle.tus_request.specs.Lines.{lines, onto_first, is_empty_line, up_to_empty, head_lines, Extent, extent_of, head_extent}
+use Rattle.tus_request.specs.Lines.{lines, onto_first, is_empty_line, up_to_empty, head_lines, Extent, extent_of}
+use Rattle.tus_request.specs.Lines.{head_extent}
 use Rattle.tus_request.specs.Searches.{behind_text, behind_byte, behind_bytes, is_over}
 use Rattle.tus_request.specs.Buffers.{is_judged}
 use Rattle.tus_request.specs.declared.faults.Fault.TheVariants.{HeadTooLong}
@@ -65,13 +68,16 @@ not_empty b line e f = rw (e, f) refl
 not_empty_cr : (b : ℕ) (line : List ℕ) → (b == 10) ≡ false → is_empty_line (13 ∷ b ∷ line) ≡ false
 not_empty_cr b line e = rw e refl
 
-head_text : (line : List ℕ) (ls : Lines) → is_empty_line line ≡ false → has (head_lines (line ∷ ls)) ≡ has (up_to_empty ls)
+head_text : (line : List ℕ) (ls : Lines) → is_empty_line line ≡ false → has (head_lines (line ∷ ls)) ≡ has
+    (up_to_empty ls)
 head_text line ls e = rw e (has_map (λ more. line ∷ more) (up_to_empty ls))
 
-up_text : (line : List ℕ) (ls : Lines) → is_empty_line line ≡ false → has (up_to_empty (line ∷ ls)) ≡ has (up_to_empty ls)
+up_text : (line : List ℕ) (ls : Lines) → is_empty_line line ≡ false → has (up_to_empty (line ∷ ls)) ≡ has
+    (up_to_empty ls)
 up_text line ls e = rw e (has_map (λ more. line ∷ more) (up_to_empty ls))
 
-text_case : (s : Search) (b : ℕ) (ls : Lines) → (b == 10) ≡ false → (b == 13) ≡ false → sees s (onto_first b ls) ≡ sees (behind_text s) ls
+text_case : (s : Search) (b : ℕ) (ls : Lines) → (b == 10) ≡ false → (b == 13) ≡ false
+    → sees s (onto_first b ls) ≡ sees (behind_text s) ls
 unfolding sees has
 text_case Front b [] e f = refl
 text_case Front b (line ∷ ls) e f = head_text (b ∷ line) ls (not_empty b line e f)
@@ -88,7 +94,8 @@ text_case Over b ls e f = refl
 becomes : (s : Search) (b : ℕ) → (b == 10) ≡ false → (b == 13) ≡ false → behind_byte s b ≡ behind_text s
 becomes s b e f = rw (e, f) refl
 
-sees_text : (s : Search) (b : ℕ) (ls : Lines) → (b == 10) ≡ false → (b == 13) ≡ false → sees s (onto_first b ls) ≡ sees (behind_byte s b) ls
+sees_text : (s : Search) (b : ℕ) (ls : Lines) → (b == 10) ≡ false → (b == 13) ≡ false
+    → sees s (onto_first b ls) ≡ sees (behind_byte s b) ls
 sees_text s b ls e f = text_case s b ls e f ∙ ap (λ t. sees t ls) (sym (becomes s b e f))
 
 -- ANY BYTE
@@ -96,7 +103,8 @@ lines_feed : (bytes : List ℕ) (b : ℕ) (c : Bool) → (b == 10) ≡ c
     → lines (b ∷ bytes) ≡ (if c then (b ∷ []) ∷ lines bytes else onto_first b (lines bytes))
 lines_feed bytes b c e = rw e refl
 
-step_case : (s : Search) (b : ℕ) (bytes : List ℕ) → ((b == 10) ≡ true) ⊎ ((b == 10) ≡ false) → ((b == 13) ≡ true) ⊎ ((b == 13) ≡ false)
+step_case : (s : Search) (b : ℕ) (bytes : List ℕ) → ((b == 10) ≡ true) ⊎ ((b == 10) ≡ false)
+    → ((b == 13) ≡ true) ⊎ ((b == 13) ≡ false)
     → sees s (lines (b ∷ bytes)) ≡ sees (behind_byte s b) (lines bytes)
 step_case s b bytes (inl lf) other =
     let is : 10 ≡ b = sym (eqb-true b 10 lf) in
@@ -104,7 +112,8 @@ step_case s b bytes (inl lf) other =
 step_case s b bytes (inr no_lf) (inl cr) =
     let is : 13 ≡ b = sym (eqb-true b 13 cr) in
     subst (λ c. sees s (lines (c ∷ bytes)) ≡ sees (behind_byte s c) (lines bytes)) is (sees_cr s (lines bytes))
-step_case s b bytes (inr no_lf) (inr no_cr) = ap (sees s) (lines_feed bytes b false no_lf) ∙ sees_text s b (lines bytes) no_lf no_cr
+step_case s b bytes (inr no_lf) (inr no_cr) =
+    ap (sees s) (lines_feed bytes b false no_lf) ∙ sees_text s b (lines bytes) no_lf no_cr
 
 sees_none : (s : Search) → sees s [] ≡ is_over s
 unfolding sees has
@@ -117,7 +126,8 @@ sees_none Over = refl
 
 sees_all : (s : Search) (bytes : List ℕ) → sees s (lines bytes) ≡ is_over (behind_bytes s bytes)
 sees_all s [] = sees_none s
-sees_all s (b ∷ bytes) = step_case s b bytes (true_or_false (b == 10)) (true_or_false (b == 13)) ∙ sees_all (behind_byte s b) bytes
+sees_all s (b ∷ bytes) = step_case s b bytes (true_or_false (b == 10)) (true_or_false (b == 13))
+    ∙ sees_all (behind_byte s b) bytes
 
 has_none : {A B : Type 0} (f : A → B) (o : Option A) → has o ≡ false → option_map f o ≡ None
 unfolding has
@@ -140,7 +150,8 @@ an_end bytes e = sym (sees_all Front bytes) ∙ has_some extent_of (head_lines (
 
 module _ (offers : Encoding → Bool) where
   -- a head that isn't whole, and may become so
-  pub unended : (bytes : List ℕ) → length bytes < 8192 → is_over (behind_bytes Front bytes) ≡ false → answer_of offers bytes ≡ More
+  pub unended : (bytes : List ℕ) → length bytes < 8192 → is_over (behind_bytes Front bytes) ≡ false
+      → answer_of offers bytes ≡ More
   unfolding answer_of
   unended bytes short e =
       let all : take 8192 bytes ≡ bytes = take_all 8192 bytes (omega arith) in
@@ -152,16 +163,19 @@ module _ (offers : Encoding → Bool) where
   long_case bytes true e = refl
   long_case bytes false e = absurd (cc)
 
-  judged_case : (bytes : List ℕ) (e : Extent) (b : Bool) → (if b then Judged e.len (no_head HeadTooLong) else whole_answer offers (take e.len bytes)) ≡ More → ⊥
+  judged_case : (bytes : List ℕ) (e : Extent) (b : Bool)
+      → (if b then Judged e.len (no_head HeadTooLong) else whole_answer offers (take e.len bytes)) ≡ More → ⊥
   judged_case bytes e true is = absurd (cc)
   judged_case bytes e false is = absurd (cc)
 
-  open_case : (bytes : List ℕ) (o : Option Extent) → answer_with offers bytes o ≡ More → (length bytes < 8192) × (o ≡ None)
+  open_case : (bytes : List ℕ) (o : Option Extent) → answer_with offers bytes o ≡ More
+      → (length bytes < 8192) × (o ≡ None)
   open_case bytes None is = (ltb-true (length bytes) 8192 (long_case bytes (nat_lt (length bytes) 8192) is), refl)
   open_case bytes (Some e) is = absurd (judged_case bytes e (nat_lt 65 e.texts) is)
 
   -- only such a head isn't judged
-  pub open_head : (bytes : List ℕ) → answer_of offers bytes ≡ More → (length bytes < 8192) × (is_over (behind_bytes Front bytes) ≡ false)
+  pub open_head : (bytes : List ℕ) → answer_of offers bytes ≡ More
+      → (length bytes < 8192) × (is_over (behind_bytes Front bytes) ≡ false)
   unfolding answer_of
   open_head bytes is =
       let o = open_case bytes (head_extent (take 8192 bytes)) is in
@@ -181,7 +195,8 @@ module _ (offers : Encoding → Bool) where
   pub judged : (bytes : List ℕ) → is_judged bytes ≡ true → answer_of offers bytes ≡ More → ⊥
   judged bytes e is =
       let o = open_head bytes is in
-      let none : is_judged bytes ≡ false = ap (λ b. b || nat_le 8192 (length bytes)) o.1 ∙ lt-leb 8192 (length bytes) o.0 in
+      let none : is_judged bytes ≡ false =
+      ap (λ b. b || nat_le 8192 (length bytes)) o.1 ∙ lt-leb 8192 (length bytes) o.0 in
       let both : true ≡ false = sym e ∙ none in
       absurd (cc)
 

@@ -1,5 +1,6 @@
 -- Parts of texts.
-use Rattle.std.specs.Prelude.{◌≡◌, ℕ, ◌+◌, ◌<◌, ◌≤◌, true, false, List, [], ◌∷◌, length, take, drop, ◌==◌, nat_lt, Some, None}
+use Rattle.std.specs.Prelude.{◌≡◌, ℕ, ◌+◌, ◌<◌, ◌≤◌, true, false, List, [], ◌∷◌, length, take, drop, ◌==◌, nat_lt, Some}
+use Rattle.std.specs.Prelude.{None}
 use Rattle.std.proofs.Common.{arith, ap, refl, zero, suc, get_or, inl, inr, add-one}
 use Rattle.std.specs.List.{position, position_or_len, before_first}
 use Rattle.std.proofs.lemmas.List.Quantifiers.{position-Some}
@@ -10,7 +11,8 @@ use Rattle.tus_request.proofs.LineLemmas.{true_or_false}
 
 -- the mark stands at a place, and not before
 cut_at : (mark : ℕ) (text : List ℕ) (i : ℕ) → i < length text → (get_or text i 0 == mark) ≡ true
-    → ((k : ℕ) → k < i → (get_or text k 0 == mark) ≡ false) → (before mark text ≡ take i text) × (behind mark text ≡ drop (suc i) text)
+    → ((k : ℕ) → k < i → (get_or text k 0 == mark) ≡ false)
+    → (before mark text ≡ take i text) × (behind mark text ≡ drop (suc i) text)
 cut_at mark [] i inside there none = absurd (omega arith)
 cut_at mark (b ∷ text) zero inside there none = (rw there, rw there)
 cut_at mark (b ∷ text) (suc i) inside there none =
@@ -18,7 +20,8 @@ cut_at mark (b ∷ text) (suc i) inside there none =
     (rw (none 0 (omega arith), h.0), rw (none 0 (omega arith), h.1))
 
 -- the mark stands nowhere
-uncut : (mark : ℕ) (text : List ℕ) → ((k : ℕ) → k < length text → (get_or text k 0 == mark) ≡ false) → (before mark text ≡ text) × (behind mark text ≡ [])
+uncut : (mark : ℕ) (text : List ℕ) → ((k : ℕ) → k < length text → (get_or text k 0 == mark) ≡ false)
+    → (before mark text ≡ text) × (behind mark text ≡ [])
 uncut mark [] none = (refl, refl)
 uncut mark (b ∷ text) none =
     let h = uncut mark text (λ k l. none (suc k) (omega arith)) in
@@ -31,7 +34,8 @@ cut_some mark text i e =
     let h = cut_at mark text i p.0 p.1 p.2 in
     (p.0, h.0, rw add-one h.1)
 
-pub cut_none : (mark : ℕ) (text : List ℕ) → position (λ b. b == mark) text ≡ None → (before mark text ≡ text) × (behind mark text ≡ [])
+pub cut_none : (mark : ℕ) (text : List ℕ) → position (λ b. b == mark) text ≡ None
+    → (before mark text ≡ text) × (behind mark text ≡ [])
 cut_none mark text e =
     let past : length text ≤ position_or_len (λ b. b == mark) text =
     elim (true_or_false (nat_lt (position_or_len (λ b. b == mark) text) (length text))) [
@@ -46,6 +50,7 @@ before_first_is mark (b ∷ text) =
     elim (true_or_false (b == mark)) [
       | inl t ↦ rw t
       | inr f ↦
-          let n : 1 + position_or_len (λ b. b == mark) text ≡ suc (position_or_len (λ b. b == mark) text) = omega arith in
+          let n : 1 + position_or_len (λ b. b == mark) text ≡ suc (position_or_len (λ b. b == mark) text) =
+          omega arith in
           rw (f, n) (ap (λ t. b ∷ t) (before_first_is mark text))
     ]

@@ -1,7 +1,10 @@
 -- The refusals, with their numbers.
 use Rattle.std.specs.Prelude.{ℕ}
 use Rattle.tus_request.specs.declared.faults.Fault.{Fault}
-use Rattle.tus_request.specs.declared.faults.Fault.TheVariants.{Unencodable, NoSuch, Offset, TooLong, Slots, TooLarge, Full, Malformed, HeadTooLong, Coding, BadLength, TusVersion, NoRoute, BadMethod, MediaType, BadHeader, BadMetadata, BadLabel}
+use Rattle.tus_request.specs.declared.faults.Fault.TheVariants.{Unencodable, NoSuch, Offset, TooLong, Slots, TooLarge}
+use Rattle.tus_request.specs.declared.faults.Fault.TheVariants.{Full, Malformed, HeadTooLong, Coding, BadLength}
+use Rattle.tus_request.specs.declared.faults.Fault.TheVariants.{TusVersion, NoRoute, BadMethod, MediaType, BadHeader}
+use Rattle.tus_request.specs.declared.faults.Fault.TheVariants.{BadMetadata, BadLabel}
 
 abbrev pub fault_number : Fault → ℕ
 fault_number Unencodable = 6

@@ -1,5 +1,6 @@
 -- The metadata of an upload (tus 1.0.0, "Upload-Metadata").
-use Rattle.std.specs.Prelude.{ℕ, Bool, false, ◌&&◌, ◌||◌, List, [], ◌∷◌, ◌++◌, map, length, codes, bytes_eq, nat_le, if◌then◌else◌, Option, Some, None, option_map}
+use Rattle.std.specs.Prelude.{ℕ, Bool, false, ◌&&◌, ◌||◌, List, [], ◌∷◌, ◌++◌, map, length, codes, bytes_eq, nat_le}
+use Rattle.std.specs.Prelude.{if◌then◌else◌, Option, Some, None, option_map}
 use Rattle.std.specs.List.{list_all}
 use Rattle.enc_model.specs.declared.Encoding.{Encoding}
 use Rattle.enc_model.specs.declared.Mode.{Mode}
@@ -60,7 +61,8 @@ setting key other [] = other
 setting key other (pair ∷ pairs) = if bytes_eq pair.0 key then pair.1 else setting key other pairs
 
 abbrev pub mode_of : List ℕ → Option Mode
-mode_of name = if bytes_eq name (codes "html") then Some Html else if bytes_eq name (codes "fatal") then Some Fatal else None
+mode_of name = if bytes_eq name (codes "html") then Some Html else if bytes_eq name (codes "fatal") then Some Fatal
+    else None
 
 -- the encoding of the bytes, that of the text, and what becomes of characters that the latter hasn't
 pub record Choice : Type 0 where
@@ -77,5 +79,6 @@ choice_with (Some from) (Some to) (Some mode) = Some (record { from = from; to =
 -- what the keys `from`, `to` and `mode` ask for, if there is such; other keys don't count
 abbrev pub choice_of : List KeyValue → Option Choice
 choice_of pairs =
-    choice_with (encoding_of (setting (codes "from") (codes "utf-8") pairs)) (encoding_of (setting (codes "to") (codes "utf-8") pairs))
+    choice_with (encoding_of (setting (codes "from") (codes "utf-8") pairs))
+    (encoding_of (setting (codes "to") (codes "utf-8") pairs))
     (mode_of (setting (codes "mode") (codes "html") pairs))

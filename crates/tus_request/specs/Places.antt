@@ -1,5 +1,6 @@
 -- What a path names.
-use Rattle.std.specs.Prelude.{ℕ, Bool, true, false, List, [], ◌∷◌, ◌++◌, if◌then◌else◌, ◌==◌, Option, Some, None, option_map, codes, bytes_eq}
+use Rattle.std.specs.Prelude.{ℕ, Bool, true, false, List, [], ◌∷◌, ◌++◌, if◌then◌else◌, ◌==◌, Option, Some, None}
+use Rattle.std.specs.Prelude.{option_map, codes, bytes_eq}
 use Rattle.tus_request.specs.Number.{upload_number}
 use Rattle.tus_request.specs.declared.places.Place.{Place}
 use Rattle.tus_request.specs.declared.places.Place.TheVariants.{Files, Upload}

@@ -1,8 +1,10 @@
 -- The request head that some bytes are, as a function.
-use Rattle.std.specs.Prelude.{ℕ, ◌-◌, Bool, ◌&&◌, List, [], ◌∷◌, length, nat_lt, nat_le, bytes_eq, if◌then◌else◌, ◌==◌, Option, Some, None, get_or}
+use Rattle.std.specs.Prelude.{ℕ, ◌-◌, Bool, ◌&&◌, List, [], ◌∷◌, length, nat_lt, nat_le, bytes_eq, if◌then◌else◌, ◌==◌}
+use Rattle.std.specs.Prelude.{Option, Some, None, get_or}
 use Rattle.std.specs.List.{list_all}
 use Rattle.std.specs.Str.{is_utf8}
-use Rattle.httparse.specs.Grammar.{LineEnd, crlf, lf, is_token, is_uri_byte, is_value_byte, Field, RequestHead, print_request}
+use Rattle.httparse.specs.Grammar.{LineEnd, crlf, lf, is_token, is_uri_byte, is_value_byte, Field, RequestHead}
+use Rattle.httparse.specs.Grammar.{print_request}
 use Rattle.tus_request.specs.Lines.{lines, is_empty_line}
 
 -- what stands in front of a byte, and behind it
@@ -46,7 +48,15 @@ filled [] = []
 filled (line ∷ rest) = if is_empty_line line then filled rest else line ∷ rest
 
 abbrev pub head_with : List LineEnd → List (List ℕ) → RequestHead
-head_with blank [] = record { blank = blank; method = []; target = []; minor = 0; line_end = lf; fields = []; last = lf }
+head_with blank [] = record {
+  blank = blank;
+  method = [];
+  target = [];
+  minor = 0;
+  line_end = lf;
+  fields = [];
+  last = lf;
+}
 head_with blank (line ∷ rest) = record {
   blank = blank;
   method = before 32 line;
@@ -71,4 +81,5 @@ is_request_head h =
 
 -- the request head that the bytes are, if they are one: a guess that is printed and compared
 abbrev pub request_of : List ℕ → Option RequestHead
-request_of head = if is_request_head (guess head) && bytes_eq head (print_request (guess head)) then Some (guess head) else None
+request_of head = if is_request_head (guess head) && bytes_eq head (print_request (guess head)) then Some (guess head)
+    else None

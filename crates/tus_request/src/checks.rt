@@ -69,7 +69,8 @@ pub(crate) fn judge(
 ) -> Result<Verdict, AllocError>
     requires few { length headers.now ≤ 64 }
     requires usable { All IsUsable headers.now }
-    ensures { IfOk result (λ v. verdict_shown v ≡ checked (offers set.now) (line_shown line.entry) (values_in (map header_parts headers.now))) }
+    ensures { IfOk result (λ v. verdict_shown v ≡ checked (offers set.now) (line_shown line.entry)
+        (values_in (map header_parts headers.now))) }
 {
     let fields = by_name(alloc, headers)?;
     check(alloc, line, &fields, set)

@@ -35,5 +35,6 @@ pub fn one_value(text: &[u8])
 
 /// A request that passed its checks is sound: its numbers are small, its encodings are offered, its metadata is plain.
 pub fn sound_requests(bytes: &[u8], set: &IndexSet)
-    ensures { (n : ℕ) (r : Request) → answer_of (offers set.now) bytes.now ≡ Judged n (Asks r) → IsSoundRequest (offers set.now) r }
+    ensures { (n : ℕ) (r : Request) → answer_of (offers set.now) bytes.now ≡ Judged n (Asks r)
+        → IsSoundRequest (offers set.now) r }
 {}

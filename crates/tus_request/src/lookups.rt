@@ -4,7 +4,8 @@ ghost use Rattle.std.specs.List.{list_any};
 ghost use Rattle.http_header.specs.Token.{lowercase};
 ghost use Rattle.tus_request.specs.Fields.{values};
 ghost use Rattle.tus_request.specs.Texts.{any_case, lists_word};
-ghost use Rattle.tus_request.specs.Checks.{is_given, first_or, only, number_in, length_in, is_word_when, is_patch_media};
+ghost use Rattle.tus_request.specs.Checks.{is_given, first_or, only, number_in, length_in, is_word_when};
+ghost use Rattle.tus_request.specs.Checks.{is_patch_media};
 
 use crate::number::number;
 use crate::texts::{front, is_word, lists_word};

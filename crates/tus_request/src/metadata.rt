@@ -3,7 +3,8 @@ ghost use Rattle.std.specs.Prelude.{◌≡◌, IfOk, map, option_map, Some, [], 
 ghost use Rattle.tus_request.specs.Value.{IsValueOf, value_of};
 ghost use Rattle.tus_request.specs.Texts.{parts, trimmed};
 ghost use Rattle.std.specs.List.{list_all};
-ghost use Rattle.tus_request.specs.Metadata.{is_plain, pair_value, pair_of, has_key, pairs_from, is_metadata, metadata_of, setting, mode_of, choice_of};
+ghost use Rattle.tus_request.specs.Metadata.{is_plain, pair_value, pair_of, has_key, pairs_from, is_metadata};
+ghost use Rattle.tus_request.specs.Metadata.{metadata_of, setting, mode_of, choice_of};
 ghost use Rattle.tus_request.specs.Pairs.{pair_shown, choice_shown, bytes_shown, pairs_shown};
 
 use crate::texts::{behind, front, trimmed};

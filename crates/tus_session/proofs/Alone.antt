@@ -1,5 +1,6 @@
 -- A turn is what it is from the unfinished part of the stream alone.
-use Rattle.std.proofs.Common.{ℕ, [], ◌++◌, ◌-◌, ◌≡◌, Bool, true, false, List, Option, Some, None, length, take, refl, ◌∙◌, ap, sym, append-nil, if◌then◌else◌, option_map}
+use Rattle.std.proofs.Common.{ℕ, [], ◌++◌, ◌-◌, ◌≡◌, Bool, true, false, List, Option, Some, None, length, take, refl}
+use Rattle.std.proofs.Common.{◌∙◌, ap, sym, append-nil, if◌then◌else◌, option_map}
 use Rattle.tus_request.proofs.Fronts.{steady}
 use Rattle.tus_request.specs.Steady.{IsSteady}
 use Rattle.enc_model.specs.Indexes.{offers}
@@ -22,14 +23,24 @@ conn_again : (x y : List ℕ) (d : Option ℕ) (g : Option Giving) (closes : Boo
 conn_again x y d g true = refl
 conn_again x y d g false = refl
 
-turn_again : (k : Conn) (u piece : List ℕ) (n : ℕ) (a : Acted) → turn_of k piece n a ≡ restreamed k.stream piece (turn_of (with_stream u k) piece n a)
+turn_again : (k : Conn) (u piece : List ℕ) (n : ℕ) (a : Acted) → turn_of k piece n a ≡ restreamed k.stream piece
+    (turn_of (with_stream u k) piece n a)
 turn_again k u piece n a =
     ap (λ c. record { world = a.world; conn = c; bytes = a.bytes; taken = n })
     (conn_again (k.stream ++ take n piece) (u ++ take n piece) a.draft a.pending a.closes)
 
 with_again : (k : Conn) (u piece : List ℕ) (n : ℕ) (m : Moments) (a : Acted) (b : Bool)
-    → (elim b [ true ↦ turn_of k piece (n - length m.came) a | false ↦ turn_of k piece n (body_step a m.came m.body a.draft) ])
-    ≡ restreamed k.stream piece (elim b [ true ↦ turn_of (with_stream u k) piece (n - length m.came) a | false ↦ turn_of (with_stream u k) piece n (body_step a m.came m.body a.draft) ])
+    → (elim b [
+      | true ↦ turn_of k piece (n - length m.came) a
+      | false ↦ turn_of k piece n
+          (body_step a m.came m.body a.draft)
+    ])
+    ≡ restreamed k.stream piece
+    (elim b [
+      | true ↦ turn_of (with_stream u k) piece (n - length m.came) a
+      | false ↦ turn_of (with_stream u k) piece
+          n (body_step a m.came m.body a.draft)
+    ])
 with_again k u piece n m a true = turn_again k u piece (n - length m.came) a
 with_again k u piece n m a false = turn_again k u piece n (body_step a m.came m.body a.draft)
 

@@ -1,5 +1,6 @@
 -- The end of a session: its drafts are dropped, one place after another.
-use Rattle.std.proofs.Common.{◌≡◌, ◌≢◌, inl, inr, ℕ, suc, ◌+◌, ◌<◌, List, [], ◌∷◌, ◌++◌, length, take, drop, get_or, append_assoc, Option, Some, None, refl, sym, ◌∙◌, ap, subst, arith}
+use Rattle.std.proofs.Common.{◌≡◌, ◌≢◌, inl, inr, ℕ, suc, ◌+◌, ◌<◌, List, [], ◌∷◌, ◌++◌, length, take, drop, get_or}
+use Rattle.std.proofs.Common.{append_assoc, Option, Some, None, refl, sym, ◌∙◌, ap, subst, arith}
 use Rattle.std.proofs.lemmas.Bool.{cases_eq, cases_lt}
 use Rattle.std.proofs.lemmas.Bool.Decides.{nat_tests}
 use Rattle.std.proofs.lemmas.List.{length-append, take-append-drop}
@@ -32,13 +33,15 @@ pub record IsClosing {U B : Type 0} (u : Ghosts U B) (st : State) (left : ℕ) (
   pub owned : (d : ℕ) (p : Patch) → find d v.patches ≡ Some p → (c : ℕ) × (c < left) × (draft_at (st.conns c) ≡ Some d)
 
 module _ {U B : Type 0} (u : Ghosts U B) where
-  conn_below : (places : List (Place B)) (store : U) (st : State) (c d : ℕ) → SessionStands u places store st → draft_at (st.conns c) ≡ Some d → c < length places
+  conn_below : (places : List (Place B)) (store : U) (st : State) (c d : ℕ) → SessionStands u places store st
+      → draft_at (st.conns c) ≡ Some d → c < length places
   conn_below places store st c d stands e = elim (cases_lt c (length places)) [
     | inl lt ↦ lt
     | inr le ↦ let x : Some d ≡ None = sym e ∙ ap draft_at (beyond u places store st c stands le) in absurd (cc)
   ]
 
-  pub begins_closing : (places : List (Place B)) (store : U) (st : State) → SessionStands u places store st → IsClosing u st (length places) store st.world
+  pub begins_closing : (places : List (Place B)) (store : U) (st : State) → SessionStands u places store st
+      → IsClosing u st (length places) store st.world
   begins_closing places store st stands = record {
     shown = stands.shown;
     uploads = refl;
@@ -48,7 +51,8 @@ module _ {U B : Type 0} (u : Ghosts U B) where
   }
 
   -- a place that has no draft
-  pub none_closing : (st : State) (left : ℕ) (store : U) (v : World) → IsClosing u st (suc left) store v → draft_at (st.conns left) ≡ None → IsClosing u st left store v
+  pub none_closing : (st : State) (left : ℕ) (store : U) (v : World) → IsClosing u st (suc left) store v
+      → draft_at (st.conns left) ≡ None → IsClosing u st left store v
   none_closing st left store v is none = record {
     shown = is.shown;
     uploads = is.uploads;
@@ -56,12 +60,14 @@ module _ {U B : Type 0} (u : Ghosts U B) where
     unique = is.unique;
     owned = λ d p found.
         let c = is.owned d p found in
-        let ne : c.0 ≢ left = λ e. let x : Some d ≡ None = sym c.2 ∙ (ap (λ i. draft_at (st.conns i)) e ∙ none) in absurd (cc) in
+        let ne : c.0 ≢ left = λ e. let x : Some d ≡ None =
+        sym c.2 ∙ (ap (λ i. draft_at (st.conns i)) e ∙ none) in absurd (cc) in
         (c.0, omega (arith, c.1, ne), c.2);
   }
 
   -- a place whose draft is dropped
-  pub draft_closing : (st : State) (left : ℕ) (store store' : U) (v : World) (d : ℕ) → IsClosing u st (suc left) store v → draft_at (st.conns left) ≡ Some d
+  pub draft_closing : (st : State) (left : ℕ) (store store' : U) (v : World) (d : ℕ) → IsClosing u st (suc left) store v
+      → draft_at (st.conns left) ≡ Some d
       → u.stands store' (dropped v d) → IsClosing u st left store' (dropped v d)
   draft_closing st left store store' v d is own shown = record {
     shown = shown;
@@ -70,37 +76,61 @@ module _ {U B : Type 0} (u : Ghosts U B) where
     unique = apart_without d v.patches is.unique;
     owned = λ e p found. elim (cases_eq d e) [
       | inl same ↦
-          let none : find e (without d v.patches) ≡ None = subst (λ n. find n (without d v.patches) ≡ None) same (find_without_same d v.patches is.unique) in
+          let none : find e (without d v.patches) ≡ None =
+          subst (λ n. find n (without d v.patches) ≡ None) same (find_without_same d v.patches is.unique) in
           let x : Some p ≡ None = sym found ∙ none in absurd (cc)
       | inr ne ↦
           let c = is.owned e p (sym (find_without_other d e v.patches ne) ∙ found) in
-          let other : c.0 ≢ left = λ same. ne (let x : Some d ≡ Some e = sym own ∙ (ap (λ i. draft_at (st.conns i)) (sym same) ∙ c.2) in let y : d ≡ e = cc in y) in
+          let other : c.0 ≢ left = λ same. ne
+          (let x : Some d ≡ Some e = sym own
+          ∙ (ap (λ i. draft_at (st.conns i)) (sym same) ∙ c.2) in let y : d ≡ e = cc in y) in
           (c.0, omega (arith, c.1, other), c.2)
     ];
   }
 
-  task_closing : (st : State) (left : ℕ) (store store' : U) (v : World) (task : Task B) (conn : Conn) → IsClosing u st (suc left) store v → st.conns left ≡ Some conn
+  task_closing : (st : State) (left : ℕ) (store store' : U) (v : World) (task : Task B) (conn : Conn)
+      → IsClosing u st (suc left) store v → st.conns left ≡ Some conn
       → TaskIs u st.world (cut (reader st.world) conn.stream).rest task conn.draft conn.pending
       → u.stands store' (dropped_by u v task) → (v' : World) × IsClosing u st left store' v'
   task_closing st left store store' v tasks.Idle conn is e does shown =
-      let none = (idling u st.world (cut (reader st.world) conn.stream).rest tasks.Idle conn.draft conn.pending does refl).0 in
-      let now : IsClosing u st (suc left) store' v = record { shown = shown; uploads = is.uploads; blocks = is.blocks; unique = is.unique; owned = is.owned } in
+      let none = (idling u st.world (cut (reader st.world) conn.stream).rest tasks.Idle conn.draft conn.pending does
+      refl).0 in
+      let now : IsClosing u st (suc left) store' v = record {
+        shown = shown;
+        uploads = is.uploads;
+        blocks = is.blocks;
+        unique = is.unique;
+        owned = is.owned;
+      } in
       (v, none_closing st left store' v now (ap draft_at e ∙ none))
   task_closing st left store store' v (tasks.Text g) conn is e does shown =
-      let none = (giving u st.world (cut (reader st.world) conn.stream).rest (tasks.Text g) g conn.draft conn.pending does refl).draft_is in
-      let now : IsClosing u st (suc left) store' v = record { shown = shown; uploads = is.uploads; blocks = is.blocks; unique = is.unique; owned = is.owned } in
+      let none = (giving u st.world (cut (reader st.world) conn.stream).rest (tasks.Text g) g conn.draft conn.pending
+      does refl).draft_is in
+      let now : IsClosing u st (suc left) store' v = record {
+        shown = shown;
+        uploads = is.uploads;
+        blocks = is.blocks;
+        unique = is.unique;
+        owned = is.owned;
+      } in
       (v, none_closing st left store' v now (ap draft_at e ∙ none))
   task_closing st left store store' v (tasks.Patch b) conn is e does shown =
-      let open_is = patching u st.world (cut (reader st.world) conn.stream).rest (tasks.Patch b) b conn.draft conn.pending does refl in
-      let stands : u.stands store' (dropped v open_is.d) = subst (λ n. u.stands store' (dropped v n)) open_is.patches.number shown in
+      let open_is = patching u st.world (cut (reader st.world) conn.stream).rest (tasks.Patch b) b conn.draft
+      conn.pending does refl in
+      let stands : u.stands store' (dropped v open_is.d) =
+      subst (λ n. u.stands store' (dropped v n)) open_is.patches.number shown in
       (dropped v open_is.d, draft_closing st left store store' v open_is.d is (ap draft_at e ∙ open_is.draft_is) stands)
 
-  pub link_closing : (st : State) (left : ℕ) (store store' : U) (v : World) (k : Link B) (o : Option Conn) → IsClosing u st (suc left) store v → st.conns left ≡ o
-      → PlaceIs u st.world (Open k) o → u.stands store' (dropped_by u v k.task) → (v' : World) × IsClosing u st left store' v'
+  pub link_closing : (st : State) (left : ℕ) (store store' : U) (v : World) (k : Link B) (o : Option Conn)
+      → IsClosing u st (suc left) store v → st.conns left ≡ o
+      → PlaceIs u st.world (Open k) o → u.stands store' (dropped_by u v k.task)
+      → (v' : World) × IsClosing u st left store' v'
   link_closing st left store store' v k None is e place shown = absurd place
-  link_closing st left store store' v k (Some conn) is e place shown = task_closing st left store store' v k.task conn is e place.does shown
+  link_closing st left store store' v k (Some conn) is e place shown =
+      task_closing st left store store' v k.task conn is e place.does shown
 
-  pub closed_closing : (st : State) (left : ℕ) (store : U) (v : World) (o : Option Conn) → IsClosing u st (suc left) store v → st.conns left ≡ o
+  pub closed_closing : (st : State) (left : ℕ) (store : U) (v : World) (o : Option Conn)
+      → IsClosing u st (suc left) store v → st.conns left ≡ o
       → PlaceIs u st.world Closed o → (v' : World) × IsClosing u st left store v'
   closed_closing st left store v None is e place = (v, none_closing st left store v is (ap draft_at e))
   closed_closing st left store v (Some conn) is e place = absurd place
@@ -110,11 +140,22 @@ module _ {U B : Type 0} (u : Ghosts U B) where
   no_patches (x ∷ patches) none = absurd (none x.0 x.1 (grind (arith, nat_tests)))
 
   -- no place is left
-  pub all_closed : (st : State) (store : U) (v : World) → IsClosing u st 0 store v → u.stands store (at_rest st.world.store st.world.blocks)
+  pub all_closed : (st : State) (store : U) (v : World) → IsClosing u st 0 store v
+      → u.stands store (at_rest st.world.store st.world.blocks)
   all_closed st store v is =
-      let none : v.patches ≡ [] = no_patches v.patches (λ d p found. let c = is.owned d p found in let l : c.0 < 0 = c.1 in absurd (omega arith)) in
-      let a : u.stands store (record { store = v.store; patches = []; blocks = v.blocks }) = subst (λ ps. u.stands store (record { store = v.store; patches = ps; blocks = v.blocks })) none is.shown in
-      let b : u.stands store (record { store = st.world.store; patches = []; blocks = v.blocks }) = subst (λ m. u.stands store (record { store = m; patches = []; blocks = v.blocks })) is.uploads a in
+      let none : v.patches ≡ [] =
+      no_patches v.patches (λ d p found. let c = is.owned d p found in let l : c.0 < 0 = c.1 in absurd
+      (omega arith)) in
+      let a : u.stands store (record {
+        store = v.store;
+        patches = [];
+        blocks = v.blocks;
+      }) = subst (λ ps. u.stands store (record { store = v.store; patches = ps; blocks = v.blocks })) none is.shown in
+      let b : u.stands store (record {
+        store = st.world.store;
+        patches = [];
+        blocks = v.blocks;
+      }) = subst (λ m. u.stands store (record { store = m; patches = []; blocks = v.blocks })) is.uploads a in
       subst (λ n. u.stands store (record { store = st.world.store; patches = []; blocks = n })) is.blocks b
 
 get_seam : {A : Type 0} (front behind : List A) (x other : A) → get_or (front ++ x ∷ behind) (length front) other ≡ x
@@ -127,11 +168,13 @@ pub record Popped {B : Type 0} (all old new : List (Place B)) (x : Place B) : Ty
   pub here : get_or all (length new) Closed ≡ x
   pub count : length old ≡ suc (length new)
 
-pub popped : {B : Type 0} (all old new : List (Place B)) (x : Place B) → old ≡ take (length old) all → old ≡ new ++ x ∷ [] → Popped all old new x
+pub popped : {B : Type 0} (all old new : List (Place B)) (x : Place B) → old ≡ take (length old) all
+    → old ≡ new ++ x ∷ [] → Popped all old new x
 popped all old new x front items =
     let rest = drop (length old) all in
     let whole : all ≡ new ++ x ∷ rest =
-    sym (take-append-drop (length old) all) ∙ (ap (λ ys. ys ++ rest) (sym front ∙ items) ∙ append_assoc new (x ∷ []) rest) in
+    sym (take-append-drop (length old) all)
+    ∙ (ap (λ ys. ys ++ rest) (sym front ∙ items) ∙ append_assoc new (x ∷ []) rest) in
     let n : length (new ++ x ∷ []) ≡ length new + length (x ∷ []) = length-append new (x ∷ []) in
     let m : length old ≡ length (new ++ x ∷ []) = ap length items in
     record {
@@ -140,20 +183,24 @@ popped all old new x front items =
       count = omega arith;
     }
 
-module _ {U B : Type 0} (u : Ghosts U B) (all old new : List (Place B)) (first : U) (st : State) (stands : SessionStands u all first st) where
+module _ {U B : Type 0} (u : Ghosts U B) (all old new : List (Place B)) (first : U) (st : State)
+    (stands : SessionStands u all first st) where
   place_there : (x : Place B) → Popped all old new x → PlaceIs u st.world x (st.conns (length new))
   place_there x is = subst (λ p. PlaceIs u st.world p (st.conns (length new))) is.here (stands.each (length new))
 
-  one_less : (store : U) (v : World) (x : Place B) → Popped all old new x → IsClosing u st (length old) store v → IsClosing u st (suc (length new)) store v
+  one_less : (store : U) (v : World) (x : Place B) → Popped all old new x → IsClosing u st (length old) store v
+      → IsClosing u st (suc (length new)) store v
   one_less store v x is closing = subst (λ n. IsClosing u st n store v) is.count closing
 
-  pub after_closed : (store : U) (v : World) (x : Place B) → x ≡ Closed → Popped all old new x → IsClosing u st (length old) store v
+  pub after_closed : (store : U) (v : World) (x : Place B) → x ≡ Closed → Popped all old new x
+      → IsClosing u st (length old) store v
       → (v' : World) × IsClosing u st (length new) store v'
   after_closed store v x e is closing =
       closed_closing u st (length new) store v (st.conns (length new)) (one_less store v x is closing) refl
       (subst (λ p. PlaceIs u st.world p (st.conns (length new))) e (place_there x is))
 
-  pub after_open : (store store' : U) (v : World) (x : Place B) (k : Link B) → x ≡ Open k → Popped all old new x → IsClosing u st (length old) store v
+  pub after_open : (store store' : U) (v : World) (x : Place B) (k : Link B) → x ≡ Open k → Popped all old new x
+      → IsClosing u st (length old) store v
       → u.stands store' (dropped_by u v k.task) → (v' : World) × IsClosing u st (length new) store' v'
   after_open store store' v x k e is closing shown =
       link_closing u st (length new) store store' v k (st.conns (length new)) (one_less store v x is closing) refl

@@ -1,19 +1,24 @@
 -- A stream's cut goes on from its unfinished part.
-use Rattle.std.proofs.Common.{ℕ, zero, suc, ◌+◌, ◌-◌, ◌<◌, ◌≤◌, ◌≡◌, Bool, true, false, List, [], ◌∷◌, ◌++◌, Option, Some, None, length, take, drop, subst, refl, sym, ◌∙◌, ap, arith, append_assoc, append-nil, nat_lt, slice_get}
+use Rattle.std.proofs.Common.{ℕ, zero, suc, ◌+◌, ◌-◌, ◌<◌, ◌≤◌, ◌≡◌, Bool, true, false, List, [], ◌∷◌, ◌++◌, Option}
+use Rattle.std.proofs.Common.{Some, None, length, take, drop, subst, refl, sym, ◌∙◌, ap, arith, append_assoc}
+use Rattle.std.proofs.Common.{append-nil, nat_lt, slice_get}
 use Rattle.std.proofs.lemmas.List.{length-append, length-drop, take-append-le, drop-append-le, take-append-drop}
 use Rattle.std.proofs.lemmas.Bool.{ltb-false, le-ltb}
 use Rattle.std.proofs.Math.Seq.{take-append_seam}
 use Rattle.tus_request.specs.Requests.{Verdict, body_length}
 use Rattle.tus_request.specs.Steady.{IsSteady}
 use Rattle.tus_request.specs.Answers.{Answer, More, Judged}
-use Rattle.tus_session.specs.Streams.{Asked, Rest, Cut, Reader, onto, behind_head, by_answer, cut_within, cut, rest_bytes, span, headed, heads_of, taken_to, taken_of, taken, Moments, moments_of, moments, rest_body, body_of}
+use Rattle.tus_session.specs.Streams.{Asked, Rest, Cut, Reader, onto, behind_head, by_answer, cut_within, cut}
+use Rattle.tus_session.specs.Streams.{rest_bytes, span, headed, heads_of, taken_to, taken_of, taken, Moments}
+use Rattle.tus_session.specs.Streams.{moments_of, moments, rest_body, body_of}
 
 -- the whole requests of a stream in front of another cut
 abbrev pub after_whole : List Asked → Cut → Cut
 after_whole rs c = record { whole = rs ++ c.whole; rest = c.rest }
 
 -- two cuts that agree on shorter streams
-head_same : (f g : List ℕ → Cut) (head : List ℕ) (v : Verdict) (rest : List ℕ) (b : Bool) → f (drop (body_length v) rest) ≡ g (drop (body_length v) rest)
+head_same : (f g : List ℕ → Cut) (head : List ℕ) (v : Verdict) (rest : List ℕ) (b : Bool)
+    → f (drop (body_length v) rest) ≡ g (drop (body_length v) rest)
     → behind_head f head v rest b ≡ behind_head g head v rest b
 head_same f g head v rest true e = refl
 head_same f g head v rest false e = ap (onto (record { head = head; verdict = v; body = take (body_length v) rest })) e
@@ -32,7 +37,8 @@ answer_same answer steady f g s (Judged n v) e same =
     (same (drop (body_length v) (drop n s)) (shorter s n (body_length v) (steady.some s n v e) (steady.within s n v e)))
 
 -- enough requests are enough
-enough : (answer : Reader) → IsSteady answer → (n m : ℕ) (s : List ℕ) → length s < n → length s < m → cut_within answer n s ≡ cut_within answer m s
+enough : (answer : Reader) → IsSteady answer → (n m : ℕ) (s : List ℕ) → length s < n → length s < m
+    → cut_within answer n s ≡ cut_within answer m s
 enough answer steady zero m s p q = absurd (omega arith)
 enough answer steady (suc n) zero s p q = absurd (omega arith)
 enough answer steady (suc n) (suc m) s p q =
@@ -43,7 +49,8 @@ enough answer steady (suc n) (suc m) s p q =
 pub cut_steps : (answer : Reader) → IsSteady answer → (s : List ℕ) → cut answer s ≡ by_answer (cut answer) s (answer s)
 unfolding cut
 cut_steps answer steady s =
-    answer_same answer steady (cut_within answer (length s)) (λ t. cut_within answer (suc (length t)) t) s (answer s) refl
+    answer_same answer steady (cut_within answer (length s)) (λ t. cut_within answer (suc (length t)) t) s (answer s)
+    refl
     (λ t shorter. enough answer steady (length s) (suc (length t)) t shorter (omega arith))
 
 -- THE CUT GOES ON: the whole requests so far, and then the cut of what is left with what comes
@@ -56,18 +63,23 @@ body_there : (f : List ℕ → Cut) (head : List ℕ) (v : Verdict) (rest p : Li
 body_there f head v rest p fits =
     let n : length (rest ++ p) ≡ length rest + length p = length-append rest p in
     ap (behind_head f head v (rest ++ p)) (le-ltb (length (rest ++ p)) (body_length v) (omega arith))
-    ∙ (ap (λ x. onto (record { head = head; verdict = v; body = x }) (f (drop (body_length v) (rest ++ p)))) (take-append-le (body_length v) rest p fits)
-    ∙ ap (λ x. onto (record { head = head; verdict = v; body = take (body_length v) rest }) (f x)) (drop-append-le (body_length v) rest p fits))
+    ∙ (ap (λ x. onto (record { head = head; verdict = v; body = x }) (f (drop (body_length v) (rest ++ p))))
+    (take-append-le (body_length v) rest p fits)
+    ∙ ap (λ x. onto (record { head = head; verdict = v; body = take (body_length v) rest }) (f x))
+    (drop-append-le (body_length v) rest p fits))
 
 pub head_there : (f : List ℕ → Cut) (n : ℕ) (v : Verdict) (s p : List ℕ) → n ≤ length s
-    → by_answer f (s ++ p) (Judged n v) ≡ behind_head f (take n s) v (drop n s ++ p) (nat_lt (length (drop n s ++ p)) (body_length v))
+    → by_answer f (s ++ p) (Judged n v) ≡ behind_head f (take n s) v (drop n s ++ p)
+    (nat_lt (length (drop n s ++ p)) (body_length v))
 head_there f n v s p within =
-    ap (λ x. behind_head f x v (drop n (s ++ p)) (nat_lt (length (drop n (s ++ p))) (body_length v))) (take-append-le n s p within)
+    ap (λ x. behind_head f x v (drop n (s ++ p)) (nat_lt (length (drop n (s ++ p))) (body_length v)))
+    (take-append-le n s p within)
     ∙ ap (λ x. behind_head f (take n s) v x (nat_lt (length x) (body_length v))) (drop-append-le n s p within)
 
 on_body : (answer : Reader) → IsSteady answer → (s p : List ℕ) (n : ℕ) (v : Verdict) → answer s ≡ Judged n v
     → ((t : List ℕ) → length t < length s → GoesOn answer p t (cut answer t))
-    → (b : Bool) → nat_lt (length (drop n s)) (body_length v) ≡ b → GoesOn answer p s (behind_head (cut answer) (take n s) v (drop n s) b)
+    → (b : Bool) → nat_lt (length (drop n s)) (body_length v) ≡ b → GoesOn answer p s
+    (behind_head (cut answer) (take n s) v (drop n s) b)
 on_body answer steady s p n v e goes true under = ap (λ x. cut answer (x ++ p)) (sym (take-append-drop n s))
 on_body answer steady s p n v e goes false there =
     let within = steady.within s n v e in
@@ -76,15 +88,18 @@ on_body answer steady s p n v e goes false there =
     ∙ (ap (by_answer (cut answer) (s ++ p)) (steady.keeps s p n v e)
     ∙ (head_there (cut answer) n v s p within
     ∙ (body_there (cut answer) (take n s) v (drop n s) p (ltb-false (length (drop n s)) (body_length v) there)
-    ∙ ap (onto (record { head = take n s; verdict = v; body = take (body_length v) (drop n s) })) (goes t (shorter s n (body_length v) (steady.some s n v e) within)))))
+    ∙ ap (onto (record { head = take n s; verdict = v; body = take (body_length v) (drop n s) }))
+    (goes t (shorter s n (body_length v) (steady.some s n v e) within)))))
 
 on_answer : (answer : Reader) → IsSteady answer → (s p : List ℕ) (a : Answer) → answer s ≡ a
-    → ((t : List ℕ) → length t < length s → GoesOn answer p t (cut answer t)) → GoesOn answer p s (by_answer (cut answer) s a)
+    → ((t : List ℕ) → length t < length s → GoesOn answer p t (cut answer t))
+    → GoesOn answer p s (by_answer (cut answer) s a)
 on_answer answer steady s p More e goes = refl
 on_answer answer steady s p (Judged n v) e goes =
     on_body answer steady s p n v e goes (nat_lt (length (drop n s)) (body_length v)) refl
 
-goes_within : (answer : Reader) → IsSteady answer → (n : ℕ) (s p : List ℕ) → length s < n → GoesOn answer p s (cut answer s)
+goes_within : (answer : Reader) → IsSteady answer → (n : ℕ) (s p : List ℕ) → length s < n
+    → GoesOn answer p s (cut answer s)
 goes_within answer steady zero s p short = absurd (omega arith)
 goes_within answer steady (suc n) s p short =
     subst (λ c. GoesOn answer p s c) (sym (cut_steps answer steady s))
@@ -99,12 +114,15 @@ Covers s c = span c.whole + length (rest_bytes c.rest) ≡ length s
 
 cover_body : (answer : Reader) → IsSteady answer → (s : List ℕ) (n : ℕ) (v : Verdict) → n ≤ length s → 0 < n
     → ((t : List ℕ) → length t < length s → Covers t (cut answer t))
-    → (b : Bool) → nat_lt (length (drop n s)) (body_length v) ≡ b → Covers s (behind_head (cut answer) (take n s) v (drop n s) b)
-cover_body answer steady s n v within some covers true under = let e : length (take n s ++ drop n s) ≡ length s = ap length (take-append-drop n s) in omega arith
+    → (b : Bool) → nat_lt (length (drop n s)) (body_length v) ≡ b → Covers s
+    (behind_head (cut answer) (take n s) v (drop n s) b)
+cover_body answer steady s n v within some covers true under = let e : length (take n s ++ drop n s) ≡ length s =
+    ap length (take-append-drop n s) in omega arith
 cover_body answer steady s n v within some covers false there =
     let t = drop (body_length v) (drop n s) in
     let c = covers t (shorter s n (body_length v) some within) in
-    let a : length (take n s) + length (drop n s) ≡ length s = sym (length-append (take n s) (drop n s)) ∙ ap length (take-append-drop n s) in
+    let a : length (take n s) + length (drop n s) ≡ length s =
+    sym (length-append (take n s) (drop n s)) ∙ ap length (take-append-drop n s) in
     let b : length (take (body_length v) (drop n s)) + length t ≡ length (drop n s) =
     sym (length-append (take (body_length v) (drop n s)) t) ∙ ap length (take-append-drop (body_length v) (drop n s)) in
     omega arith
@@ -113,7 +131,8 @@ cover_answer : (answer : Reader) → IsSteady answer → (s : List ℕ) (a : Ans
     → ((t : List ℕ) → length t < length s → Covers t (cut answer t)) → Covers s (by_answer (cut answer) s a)
 cover_answer answer steady s More e covers = omega arith
 cover_answer answer steady s (Judged n v) e covers =
-    cover_body answer steady s n v (steady.within s n v e) (steady.some s n v e) covers (nat_lt (length (drop n s)) (body_length v)) refl
+    cover_body answer steady s n v (steady.within s n v e) (steady.some s n v e) covers
+    (nat_lt (length (drop n s)) (body_length v)) refl
 
 covers_within : (answer : Reader) → IsSteady answer → (n : ℕ) (s : List ℕ) → length s < n → Covers s (cut answer s)
 covers_within answer steady zero s short = absurd (omega arith)
@@ -127,7 +146,10 @@ covers answer steady s = covers_within answer steady (suc (length s)) s (omega a
 abbrev IsCut : Cut → Cut → Type 0
 IsCut c d = c ≡ d
 
-both : (ws ws' : List Asked) (r r' : Rest) → ws ≡ ws' → r ≡ r' → IsCut (record { whole = ws; rest = r }) (record { whole = ws'; rest = r' })
+both : (ws ws' : List Asked) (r r' : Rest) → ws ≡ ws' → r ≡ r' → IsCut (record {
+  whole = ws;
+  rest = r;
+}) (record { whole = ws'; rest = r' })
 both ws ws' r r' e f = ap (λ x. record { whole = x; rest = r }) e ∙ ap (λ x. record { whole = ws'; rest = x }) f
 
 -- A cut without its whole requests: that of what is left
@@ -146,7 +168,8 @@ left_alone answer steady s =
     let c = cut answer s in
     let u = rest_bytes c.rest in
     let e : c ≡ after_whole c.whole (cut answer u) =
-    ap (cut answer) (sym (append-nil s)) ∙ (goes_on answer steady s [] ∙ ap (λ x. after_whole c.whole (cut answer x)) (append-nil u)) in
+    ap (cut answer) (sym (append-nil s))
+    ∙ (goes_on answer steady s [] ∙ ap (λ x. after_whole c.whole (cut answer x)) (append-nil u)) in
     let w : (cut answer u).whole ≡ [] = none_more c.whole (cut answer u).whole (ap (λ x. x.whole) e) in
     let r : (cut answer u).rest ≡ c.rest = sym (ap (λ x. x.rest) e) in
     both (cut answer u).whole [] (cut answer u).rest c.rest w r
@@ -169,16 +192,22 @@ IsMoments m n = m ≡ n
 three : {h h' b b' : Option Asked} {c c' : List ℕ} → h ≡ h' → b ≡ b' → c ≡ c'
     → IsMoments (record { head = h; body = b; came = c }) (record { head = h'; body = b'; came = c' })
 three {h} {h'} {b} {b'} {c} {c'} e f g =
-    ap (λ x. record { head = x; body = b; came = c }) e ∙ (ap (λ x. record { head = h'; body = x; came = c }) f ∙ ap (λ x. record { head = h'; body = b'; came = x }) g)
+    ap (λ x. record {
+      head = x;
+      body = b;
+      came = c;
+    }) e ∙ (ap (λ x. record { head = h'; body = x; came = c }) f ∙ ap (λ x. record { head = h'; body = b'; came = x }) g)
 
 -- behind whole requests, the moments are those without them
 moments_behind : (ws : List Asked) (r : Rest) (d : Cut)
     → moments_of (record { whole = ws; rest = r }) (after_whole ws d) ≡ moments_of (record { whole = []; rest = r }) d
 moments_behind ws r d =
     let heads : (ws ++ d.whole) ++ headed d.rest ≡ ws ++ heads_of d = append_assoc ws d.whole (headed d.rest) in
-    let h : slice_get ((ws ++ d.whole) ++ headed d.rest) (length (ws ++ headed r)) ≡ slice_get (heads_of d) (length (headed r)) =
+    let h : slice_get ((ws ++ d.whole) ++ headed d.rest) (length (ws ++ headed r)) ≡ slice_get (heads_of d)
+    (length (headed r)) =
     ap (λ x. slice_get x (length (ws ++ headed r))) heads
-    ∙ (ap (slice_get (ws ++ heads_of d)) (length-append ws (headed r)) ∙ get_behind ws (heads_of d) (length (headed r))) in
+    ∙ (ap (slice_get (ws ++ heads_of d)) (length-append ws (headed r)) ∙ get_behind ws (heads_of d)
+    (length (headed r))) in
     let b : slice_get (ws ++ d.whole) (length ws) ≡ slice_get d.whole 0 = get_first_behind ws d.whole in
     let c : slice_get ((ws ++ d.whole) ++ headed d.rest) (length ws) ≡ slice_get (heads_of d) 0 =
     ap (λ x. slice_get x (length ws)) heads ∙ get_first_behind ws (heads_of d) in
@@ -188,7 +217,8 @@ moments_behind ws r d =
 abbrev pub left : Reader → List ℕ → List ℕ
 left answer s = rest_bytes (cut answer s).rest
 
-pub moments_alone : (answer : Reader) → IsSteady answer → (s q : List ℕ) → moments answer s q ≡ moments answer (left answer s) q
+pub moments_alone : (answer : Reader) → IsSteady answer → (s q : List ℕ)
+    → moments answer s q ≡ moments answer (left answer s) q
 unfolding moments
 moments_alone answer steady s q =
     let c = cut answer s in
@@ -207,11 +237,16 @@ by_end ws s u p d covers (Some r) =
     omega arith
 
 taken_behind : (ws : List Asked) (r : Rest) (s u p : List ℕ) (d : Cut) → span ws + length u ≡ length s
-    → taken_of s p (record { whole = ws; rest = r }) (after_whole ws d) ≡ taken_of u p (record { whole = []; rest = r }) d
+    → taken_of s p (record {
+      whole = ws;
+      rest = r;
+    }) (after_whole ws d) ≡ taken_of u p (record { whole = []; rest = r }) d
 taken_behind ws r s u p d covers =
-    ap (taken_to s p (after_whole ws d) (length ws)) (get_first_behind ws d.whole) ∙ by_end ws s u p d covers (slice_get d.whole 0)
+    ap (taken_to s p (after_whole ws d) (length ws)) (get_first_behind ws d.whole)
+    ∙ by_end ws s u p d covers (slice_get d.whole 0)
 
-pub taken_alone : (answer : Reader) → IsSteady answer → (s p : List ℕ) → taken answer s p ≡ taken answer (left answer s) p
+pub taken_alone : (answer : Reader) → IsSteady answer → (s p : List ℕ) → taken answer s p ≡ taken answer (left answer s)
+    p
 unfolding taken
 taken_alone answer steady s p =
     let c = cut answer s in

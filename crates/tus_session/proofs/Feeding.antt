@@ -1,5 +1,6 @@
 -- A patch whose body goes on.
-use Rattle.std.proofs.Common.{◌≡◌, ℕ, ◌+◌, ◌==◌, Bool, true, false, List, [], ◌∷◌, ◌++◌, length, Option, Some, None, refl, sym, ◌∙◌, ap, subst, arith, append-nil, if◌then◌else◌}
+use Rattle.std.proofs.Common.{◌≡◌, ℕ, ◌+◌, ◌==◌, Bool, true, false, List, [], ◌∷◌, ◌++◌, length, Option, Some, None}
+use Rattle.std.proofs.Common.{refl, sym, ◌∙◌, ap, subst, arith, append-nil, if◌then◌else◌}
 use Rattle.std.proofs.lemmas.Bool.Decides.{nat_tests}
 use Rattle.std.proofs.lemmas.List.{length-append}
 use Rattle.upload_rules.specs.Store.{find, without, replaced}
@@ -44,7 +45,8 @@ fed_store w d (b ∷ piece) = appended_store_is w d (b ∷ piece) (find d w.patc
 without_first : (d : ℕ) (q : Patch) (xs : List (ℕ × Patch)) → without d ((d, q) ∷ xs) ≡ xs
 without_first d q xs = grind (arith, nat_tests)
 
-without_case : (d : ℕ) (q : Patch) (x : ℕ × Patch) (xs : List (ℕ × Patch)) → without d (replaced d q xs) ≡ without d xs → (b : Bool) → (x.0 == d) ≡ b
+without_case : (d : ℕ) (q : Patch) (x : ℕ × Patch) (xs : List (ℕ × Patch)) → without d (replaced d q xs) ≡ without d xs
+    → (b : Bool) → (x.0 == d) ≡ b
     → without d (if b then (d, q) ∷ xs else x ∷ replaced d q xs) ≡ (if b then xs else x ∷ without d xs)
 without_case d q x xs ih true e = without_first d q xs
 without_case d q x xs ih false e = rw e (ap (λ ys. x ∷ ys) ih)
@@ -53,25 +55,30 @@ pub without_replaced : (d : ℕ) (q : Patch) (xs : List (ℕ × Patch)) → with
 without_replaced d q [] = refl
 without_replaced d q (x ∷ xs) = without_case d q x xs (without_replaced d q xs) (x.0 == d) refl
 
-pub drop_fed : (w : World) (d : ℕ) (p : Patch) (piece : List ℕ) → find d w.patches ≡ Some p → dropped (fed w d piece) d ≡ dropped w d
+pub drop_fed : (w : World) (d : ℕ) (p : Patch) (piece : List ℕ) → find d w.patches ≡ Some p
+    → dropped (fed w d piece) d ≡ dropped w d
 drop_fed w d p [] found = refl
 drop_fed w d p (b ∷ piece) found =
     ap (λ o. dropped (appended_at w d (b ∷ piece) o) d) found
     ∙ ap (λ ps. record w { patches = ps }) (without_replaced d (longer w d p (b ∷ piece)) w.patches)
 
 -- the offset behind the whole body
-pub reached_fed : (w : World) (d : ℕ) (p : Patch) (piece : List ℕ) (n : ℕ) → length p.body + length piece ≡ p.count → n ≡ length p.began.accepted + p.count
+pub reached_fed : (w : World) (d : ℕ) (p : Patch) (piece : List ℕ) (n : ℕ) → length p.body + length piece ≡ p.count
+    → n ≡ length p.began.accepted + p.count
     → n ≡ reached (fed_patch w d p piece)
 reached_fed w d p piece n all e =
-    let a : length (fed_patch w d p piece).began.accepted ≡ length p.began.accepted = ap (λ u. length u.accepted) (fed_began w d p piece) in
-    let b : length (fed_patch w d p piece).body ≡ length p.body + length piece = ap length (fed_body w d p piece) ∙ length-append p.body piece in
+    let a : length (fed_patch w d p piece).began.accepted ≡ length p.began.accepted =
+    ap (λ u. length u.accepted) (fed_began w d p piece) in
+    let b : length (fed_patch w d p piece).body ≡ length p.body + length piece =
+    ap length (fed_body w d p piece) ∙ length-append p.body piece in
     omega arith
 
 -- the store behind the body's end
 pub ended_store : (w : World) (d : ℕ) (p : Patch) (piece : List ℕ) (r : Request)
     → commit_outcome (fed w d piece) d (fed_patch w d p piece) ≡ (ended_by w d p piece r).world.store
 ended_store w d p piece r =
-    sym (spent_store (fed w d piece) d (fed_patch w d p piece) (commit_refusal (fed w d piece) d (fed_patch w d p piece)))
+    sym (spent_store (fed w d piece) d (fed_patch w d p piece)
+    (commit_refusal (fed w d piece) d (fed_patch w d p piece)))
 
 module _ {U B : Type 0} (u : Ghosts U B) where
   none_draft : (w : World) (o : Option B) → DraftIs u w o None → o ≡ None
@@ -79,14 +86,16 @@ module _ {U B : Type 0} (u : Ghosts U B) where
   none_draft w (Some b) is = absurd is
 
   -- a reply was given, and no draft is open
-  pub answered_as : (store : U) (place : Place B) (acted : code.Acted B) (old new : List ℕ) (k : Link B) (taken : ℕ) (m : Acted) → ActedAs u store acted old new m → m.draft ≡ None
+  pub answered_as : (store : U) (place : Place B) (acted : code.Acted B) (old new : List ℕ) (k : Link B) (taken : ℕ)
+      (m : Acted) → ActedAs u store acted old new m → m.draft ≡ None
       → (acted.draft ≡ None → place ≡ (if acted.closes then Closed else Open (record k { task = tasks.Idle })))
       → Answered u store place (took taken acted.closes) old new k taken m
   answered_as store place acted old new k taken m is none at =
       let d : DraftIs u m.world acted.draft None = subst (DraftIs u m.world acted.draft) none is.draft in
       record {
         shown = is.stands;
-        place_is = at (none_draft m.world acted.draft d) ∙ ap (λ b. if b then Closed else Open (record k { task = tasks.Idle })) is.closes;
+        place_is = at (none_draft m.world acted.draft d) ∙ ap
+            (λ b. if b then Closed else Open (record k { task = tasks.Idle })) is.closes;
         answer_is = ap (took taken) is.closes;
         bytes = is.bytes;
       }

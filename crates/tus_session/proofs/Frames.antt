@@ -1,5 +1,6 @@
 -- A turn on one connection leaves the others as they were.
-use Rattle.std.proofs.Common.{◌≡◌, ◌<◌, ℕ, ◌+◌, List, ◌++◌, length, take, drop, Option, Some, None, refl, sym, ◌∙◌, ap, subst, arith, append_assoc}
+use Rattle.std.proofs.Common.{◌≡◌, ◌<◌, ℕ, ◌+◌, List, ◌++◌, length, take, drop, Option, Some, None, refl, sym, ◌∙◌, ap}
+use Rattle.std.proofs.Common.{subst, arith, append_assoc}
 use Rattle.std.proofs.lemmas.List.{length-append, take-append-le}
 use Rattle.tus_request.specs.Buffers.{bytes_of}
 use Rattle.enc_model.specs.Indexes.{offers}
@@ -22,7 +23,8 @@ use Rattle.tus_session.specs.declared.conns.Place.{Place}
 use Rattle.tus_session.specs.declared.conns.Place.TheVariants.{Closed, Open}
 
 -- the upload that a patch began at has more bytes, or is gone
-pub grown_more : (w w' : World) (p : Patch) → Grows w.store w'.store → p.number < w.store.next → GrewFrom p (upload_of w.store p.number)
+pub grown_more : (w w' : World) (p : Patch) → Grows w.store w'.store → p.number < w.store.next
+    → GrewFrom p (upload_of w.store p.number)
     → GrewFrom p (upload_of w'.store p.number)
 grown_more w w' p grows below grown = grown_at (upload_of w'.store p.number) refl
   where
@@ -31,17 +33,22 @@ grown_more w w' p grows below grown = grown_at (upload_of w'.store p.number) ref
     grown_at (Some up) e =
         let g = grows.uploads p.number up below e in
         let old : GrewFrom p (Some g.0) = subst (GrewFrom p) g.1 grown in
-        let l = g.2 in
-        (old.0 ++ l.bytes, l.is ∙ (ap (λ x. with_bytes x l.bytes) old.1 ∙ ap (λ x. record p.began { accepted = x }) (append_assoc p.began.accepted old.0 l.bytes)))
+        let l = g.2 in (
+          old.0 ++ l.bytes,
+          l.is ∙ (ap (λ x. with_bytes x l.bytes) old.1
+              ∙ ap (λ x. record p.began { accepted = x }) (append_assoc p.began.accepted old.0 l.bytes)),
+        )
 
-gives_as : (w w' : World) (g : given.Giving) (h : Giving) (up up' : Upload) → upload_of w'.store h.number ≡ Some up' → Longer w.store w'.store up up'
+gives_as : (w w' : World) (g : given.Giving) (h : Giving) (up up' : Upload) → upload_of w'.store h.number ≡ Some up'
+    → Longer w.store w'.store up up'
     → GivesAs w.store g h up → GivesAs w'.store g h up'
 gives_as w w' g h up up' found m is =
     let t = text_of w.store.indexes up in
     let n : length (t ++ m.more) ≡ length t + length m.more = length-append t m.more in
     let within = is.within in
     let l : length (text_of w'.store.indexes up') ≡ length t + length m.more = ap length m.text ∙ n in
-    let f : take g.length (text_of w'.store.indexes up') ≡ take g.length t = ap (take g.length) m.text ∙ take-append-le g.length t m.more within in record {
+    let f : take g.length (text_of w'.store.indexes up') ≡ take g.length t =
+    ap (take g.length) m.text ∙ take-append-le g.length t m.more within in record {
       number = is.number;
       found = found;
       some = is.some;
@@ -50,12 +57,14 @@ gives_as w w' g h up up' found m is =
       closes = is.closes;
     }
 
-gives_more : (w w' : World) (g : given.Giving) (h : Giving) → Grows w.store w'.store → IsGiving w.store g h → IsGiving w'.store g h
+gives_more : (w w' : World) (g : given.Giving) (h : Giving) → Grows w.store w'.store → IsGiving w.store g h
+    → IsGiving w'.store g h
 gives_more w w' g h grows is = record {
   number = is.number;
   below = (let b = is.below in let n = grows.next in omega (arith, b, n));
   closes = is.closes;
-  there = λ up found. (let m = grows.uploads h.number up is.below found in gives_as w w' g h m.0 up found m.2 (is.there m.0 m.1));
+  there = λ up found. (let m = grows.uploads h.number up is.below found in gives_as w w' g h m.0 up found m.2
+      (is.there m.0 m.1));
 }
 
 module _ {U B : Type 0} (u : Ghosts U B) where
@@ -82,20 +91,25 @@ module _ {U B : Type 0} (u : Ghosts U B) where
     },
   )
 
-  task_moved : (w w' : World) (own own' : Option ℕ) (rest : Rest) (task : Task B) (draft : Option ℕ) (pending : Option Giving) → Moves w w' own own'
-      → ((e : ℕ) → draft ≡ Some e → own ≡ Some e → ⊥) → TaskIs u w rest task draft pending → TaskIs u w' rest task draft pending
+  task_moved : (w w' : World) (own own' : Option ℕ) (rest : Rest) (task : Task B) (draft : Option ℕ)
+      (pending : Option Giving) → Moves w w' own own'
+      → ((e : ℕ) → draft ≡ Some e → own ≡ Some e → ⊥) → TaskIs u w rest task draft pending
+      → TaskIs u w' rest task draft pending
   task_moved w w' own own' rest tasks.Idle None None moves ne is = tt
   task_moved w w' own own' rest tasks.Idle None (Some h) moves ne is = absurd is
   task_moved w w' own own' rest tasks.Idle (Some d) pending moves ne is = absurd is
   task_moved w w' own own' rest (tasks.Patch b) None pending moves ne is = absurd is
-  task_moved w w' own own' rest (tasks.Patch b) (Some d) None moves ne is = patch_moved w w' own b d rest moves.grows moves.others (ne d refl) is
+  task_moved w w' own own' rest (tasks.Patch b) (Some d) None moves ne is =
+      patch_moved w w' own b d rest moves.grows moves.others (ne d refl) is
   task_moved w w' own own' rest (tasks.Patch b) (Some d) (Some h) moves ne is = absurd is
   task_moved w w' own own' rest (tasks.Text g) None None moves ne is = absurd is
   task_moved w w' own own' rest (tasks.Text g) None (Some h) moves ne is = gives_more w w' g h moves.grows is
   task_moved w w' own own' rest (tasks.Text g) (Some d) pending moves ne is = absurd is
 
-  link_moved : (w w' : World) (own own' : Option ℕ) (head : List ℕ) (left : ℕ) (task : Task B) (conn : Conn) → Moves w w' own own'
-      → ((e : ℕ) → conn.draft ≡ Some e → own ≡ Some e → ⊥) → LinkIs u w head left task conn → LinkIs u w' head left task conn
+  link_moved : (w w' : World) (own own' : Option ℕ) (head : List ℕ) (left : ℕ) (task : Task B) (conn : Conn)
+      → Moves w w' own own'
+      → ((e : ℕ) → conn.draft ≡ Some e → own ≡ Some e → ⊥) → LinkIs u w head left task conn
+      → LinkIs u w' head left task conn
   link_moved w w' own own' head left task conn moves ne is =
       let e : (cut (reader w) conn.stream).rest ≡ (cut (reader w') conn.stream).rest =
       ap (λ x. (cut (answer_of (offers x)) conn.stream).rest) (sym moves.grows.indexes) in
@@ -110,9 +124,11 @@ module _ {U B : Type 0} (u : Ghosts U B) where
   place_moved w w' own own' Closed None moves ne is = tt
   place_moved w w' own own' Closed (Some conn) moves ne is = absurd is
   place_moved w w' own own' (Open k) None moves ne is = absurd is
-  place_moved w w' own own' (Open k) (Some conn) moves ne is = link_moved w w' own own' (bytes_of k.head) k.left k.task conn moves ne is
+  place_moved w w' own own' (Open k) (Some conn) moves ne is =
+      link_moved w w' own own' (bytes_of k.head) k.left k.task conn moves ne is
 
-  task_draft : (w : World) (rest : Rest) (task : Task B) (draft : Option ℕ) (pending : Option Giving) (d : ℕ) → TaskIs u w rest task draft pending → draft ≡ Some d
+  task_draft : (w : World) (rest : Rest) (task : Task B) (draft : Option ℕ) (pending : Option Giving) (d : ℕ)
+      → TaskIs u w rest task draft pending → draft ≡ Some d
       → (p : Patch) × (find d w.patches ≡ Some p)
   task_draft w rest tasks.Idle None None d is e = absurd (cc)
   task_draft w rest tasks.Idle None (Some h) d is e = absurd is
@@ -126,9 +142,11 @@ module _ {U B : Type 0} (u : Ghosts U B) where
   task_draft w rest (tasks.Text g) (Some x) pending d is e = absurd is
 
   -- a draft's patch is open
-  pub draft_found : (w : World) (place : Place B) (conn : Option Conn) (d : ℕ) → PlaceIs u w place conn → draft_at conn ≡ Some d
+  pub draft_found : (w : World) (place : Place B) (conn : Option Conn) (d : ℕ) → PlaceIs u w place conn
+      → draft_at conn ≡ Some d
       → (p : Patch) × (find d w.patches ≡ Some p)
   draft_found w Closed None d is e = absurd (cc)
   draft_found w Closed (Some conn) d is e = absurd is
   draft_found w (Open k) None d is e = absurd is
-  draft_found w (Open k) (Some conn) d is e = task_draft w (cut (reader w) conn.stream).rest k.task conn.draft conn.pending d is.does e
+  draft_found w (Open k) (Some conn) d is e =
+      task_draft w (cut (reader w) conn.stream).rest k.task conn.draft conn.pending d is.does e

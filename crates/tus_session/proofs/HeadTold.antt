@@ -1,5 +1,6 @@
 -- From what a head comes to, to the turn's answer.
-use Rattle.std.proofs.Common.{ℕ, ◌+◌, ◌-◌, ◌≤◌, ◌≡◌, inl, inr, Bool, true, false, List, [], ◌++◌, Option, Some, None, length, take, drop, min, refl, sym, ◌∙◌, ap, subst, arith, append-nil, if◌then◌else◌}
+use Rattle.std.proofs.Common.{ℕ, ◌+◌, ◌-◌, ◌≤◌, ◌≡◌, inl, inr, Bool, true, false, List, [], ◌++◌, Option, Some, None}
+use Rattle.std.proofs.Common.{length, take, drop, min, refl, sym, ◌∙◌, ap, subst, arith, append-nil, if◌then◌else◌}
 use Rattle.std.proofs.lemmas.Bool.{cases_lt}
 use Rattle.std.proofs.lemmas.List.{length-take-le, take_all, length-append, length-drop}
 use Rattle.tus_request.specs.Buffers.{bytes_of}
@@ -27,7 +28,8 @@ use Rattle.tus_session.specs.declared.conns.Task.TheVariants as tasks
 use Rattle.tus_session.specs.declared.conns.Place.{Place}
 use Rattle.tus_session.specs.declared.conns.Place.TheVariants.{Closed, Open}
 use Rattle.tus_session.proofs.BodyTold.{plain, idle_here, rest_same}
-use Rattle.tus_session.proofs.HeadTurns.{more_turn_is, head_within, front_judged, front_body, part_turn_is, whole_turn_is}
+use Rattle.tus_session.proofs.HeadTurns.{more_turn_is, head_within, front_judged, front_body, part_turn_is}
+use Rattle.tus_session.proofs.HeadTurns.{whole_turn_is}
 use Rattle.tus_session.proofs.NewRests.{head_more_rest, head_part_rest, head_whole_rest, drop_behind}
 use Rattle.tus_session.proofs.Opening.{still}
 use Rattle.tus_session.proofs.Unfinished.{judged_as}
@@ -36,28 +38,47 @@ is_steady : (w : World) → IsSteady (reader w)
 is_steady w = steady (offers w.store.indexes)
 
 -- without a patch or a text, what the head did is all
-came_plain : (k : Conn) (piece : List ℕ) (n : ℕ) (m : Moments) (a : Acted) → a.pending ≡ None → a.draft ≡ None → came_with k piece n m a ≡ turn_of k piece n a
+came_plain : (k : Conn) (piece : List ℕ) (n : ℕ) (m : Moments) (a : Acted) → a.pending ≡ None → a.draft ≡ None
+    → came_with k piece n m a ≡ turn_of k piece n a
 came_plain k piece n m a idle none =
-    ap (λ b. elim b as (λ _. Turn) [ true ↦ turn_of k piece (n - length m.came) a | false ↦ turn_of k piece n (body_step a m.came m.body a.draft) ]) (ap is_pending idle)
+    ap (λ b. elim b as (λ _. Turn) [
+      | true ↦ turn_of k piece (n - length m.came) a
+      | false ↦ turn_of k piece n (body_step a m.came m.body a.draft)
+    ]) (ap is_pending idle)
     ∙ ap (λ d. turn_of k piece n (body_step a m.came m.body d)) none
 
 abbrev pub answered_turn : Acted → List ℕ → ℕ → Turn
-answered_turn a s n = record { world = a.world; conn = if a.closes then None else Some (plain s None); bytes = a.bytes; taken = n }
+answered_turn a s n = record {
+  world = a.world;
+  conn = if a.closes then None else Some (plain s None);
+  bytes = a.bytes;
+  taken = n;
+}
 
-turn_plain : (k : Conn) (piece : List ℕ) (n : ℕ) (a : Acted) → a.pending ≡ None → a.draft ≡ None → turn_of k piece n a ≡ answered_turn a (k.stream ++ take n piece) n
+turn_plain : (k : Conn) (piece : List ℕ) (n : ℕ) (a : Acted) → a.pending ≡ None → a.draft ≡ None
+    → turn_of k piece n a ≡ answered_turn a (k.stream ++ take n piece) n
 turn_plain k piece n a idle none =
     let s = k.stream ++ take n piece in
-    let T : Option ℕ → Option Giving → Turn = λ d g. record { world = a.world; conn = if a.closes then None else Some (record { stream = s; draft = d; pending = g }); bytes = a.bytes; taken = n } in
+    let T : Option ℕ → Option Giving → Turn = λ d g. record {
+      world = a.world;
+      conn = if a.closes then None else Some (record { stream = s; draft = d; pending = g });
+      bytes = a.bytes;
+      taken = n;
+    } in
     ap (λ d. T d a.pending) none ∙ ap (T None) idle
 
 module _ {U B : Type 0} (u : Ghosts U B) where
-  answered_as_turn : (store' : U) (place : Place B) (x : code.Answer) (old new : List ℕ) (w : World) (k : Link B) (a : Acted) (s' : List ℕ) (rest : Rest) (n : ℕ)
-      → u.stands store' a.world → Moves w a.world None None → place ≡ (if a.closes then Closed else Open (record k { task = tasks.Idle })) → RestIs (bytes_of k.head) k.left rest
+  answered_as_turn : (store' : U) (place : Place B) (x : code.Answer) (old new : List ℕ) (w : World) (k : Link B)
+      (a : Acted) (s' : List ℕ) (rest : Rest) (n : ℕ)
+      → u.stands store' a.world → Moves w a.world None None
+      → place ≡ (if a.closes then Closed else Open (record k { task = tasks.Idle }))
+      → RestIs (bytes_of k.head) k.left rest
       → (cut (reader w) s').rest ≡ rest → x ≡ took n a.closes → new ≡ old ++ a.bytes
       → TurnedAs u store' place x old new w None (answered_turn a s' n)
   answered_as_turn store' place x old new w k a s' rest n shown moves place_is kept here answer_is bytes = record {
     shown = shown;
-    here = idle_here u a.world place k a.closes s' rest place_is kept (rest_same w a.world s' moves.grows.indexes ∙ here);
+    here = idle_here u a.world place k a.closes s' rest place_is kept
+        (rest_same w a.world s' moves.grows.indexes ∙ here);
     moves = moves_as a.closes;
     taken = ap (λ y. y.taken) answer_is;
     closes = ap (λ y. y.closes) answer_is ∙ closes_is a.closes;
@@ -78,8 +99,10 @@ module _ {U B : Type 0} (u : Ghosts U B) where
       more_is false = refl
 
   -- the head isn't whole yet
-  pub more_told : (store : U) (place : Place B) (x : code.Answer) (out : List ℕ) (w : World) (conn : Conn) (h bytes : List ℕ) (k : Link B) → u.stands store w → InsideHead w conn h
-      → reader w (h ++ bytes) ≡ More → place ≡ Open (record k { task = tasks.Idle }) → (bytes_of k.head) ≡ h ++ bytes → k.left ≡ 0 → x ≡ took (length bytes) false
+  pub more_told : (store : U) (place : Place B) (x : code.Answer) (out : List ℕ) (w : World) (conn : Conn)
+      (h bytes : List ℕ) (k : Link B) → u.stands store w → InsideHead w conn h
+      → reader w (h ++ bytes) ≡ More → place ≡ Open (record k { task = tasks.Idle }) → (bytes_of k.head) ≡ h ++ bytes
+      → k.left ≡ 0 → x ≡ took (length bytes) false
       → TurnedAs u store place x out out w conn.draft (came_turn w conn bytes)
   more_told store place x out w conn h bytes k stands inside more place_is head_is left_is answer_is =
       let a : Acted = record { world = w; draft = None; bytes = []; pending = None; closes = false } in
@@ -87,18 +110,23 @@ module _ {U B : Type 0} (u : Ghosts U B) where
       let turn : came_turn w conn bytes ≡ answered_turn a (conn.stream ++ bytes) (length bytes) =
       more_turn_is w conn h inside bytes more ∙ ap (λ q. answered_turn a (conn.stream ++ q) (length bytes)) t in
       let here = head_more_rest (reader w) (is_steady w) conn.stream h inside.rest bytes more in
-      let now = answered_as_turn store place x out out w k a (conn.stream ++ bytes) (InHead (h ++ bytes)) (length bytes) stands (still w None) place_is (head_is, left_is) here answer_is (sym (append-nil out)) in
+      let now = answered_as_turn store place x out out w k a (conn.stream ++ bytes) (InHead (h ++ bytes)) (length bytes)
+      stands (still w None) place_is (head_is, left_is) here answer_is (sym (append-nil out)) in
       subst (λ d. TurnedAs u store place x out out w d (came_turn w conn bytes)) (sym inside.draft)
       (subst (TurnedAs u store place x out out w None) (sym turn) now)
 
-  module _ (store' : U) (w : World) (conn : Conn) (h bytes : List ℕ) (n before : ℕ) (v : Verdict) (is : IsWhole w conn h bytes n before v) where
+  module _ (store' : U) (w : World) (conn : Conn) (h bytes : List ℕ) (n before : ℕ) (v : Verdict)
+      (is : IsWhole w conn h bytes n before v) where
     abbrev behind : List ℕ
     behind = drop before bytes
 
     -- what the head did is all: the rest of the body is dropped
-    pub no_patch_told : (place : Place B) (x : code.Answer) (old new : List ℕ) (k : Link B) → u.stands store' (acted w v).world → Moves w (acted w v).world None None
+    pub no_patch_told : (place : Place B) (x : code.Answer) (old new : List ℕ) (k : Link B)
+        → u.stands store' (acted w v).world → Moves w (acted w v).world None None
         → (acted w v).draft ≡ None → (acted w v).pending ≡ None
-        → place ≡ (if (acted w v).closes then Closed else Open (record k { left = body_length v - min (body_length v) (length behind); task = tasks.Idle })) → (bytes_of k.head) ≡ []
+        → place ≡ (if (acted w v).closes then Closed else Open
+        (record k { left = body_length v - min (body_length v) (length behind); task = tasks.Idle })) → (bytes_of
+        k.head) ≡ []
         → x ≡ took (before + min (body_length v) (length behind)) (acted w v).closes → new ≡ old ++ (acted w v).bytes
         → TurnedAs u store' place x old new w conn.draft (came_turn w conn bytes)
     no_patch_told place x old new k shown moves none idle place_is head_is answer_is bytes_are =
@@ -113,57 +141,78 @@ module _ {U B : Type 0} (u : Ghosts U B) where
               let t : take (length bytes) bytes ≡ bytes = take_all (length bytes) bytes (omega arith) in
               let turn : came_turn w conn bytes ≡ answered_turn a (conn.stream ++ bytes) (length bytes) =
               part_turn_is w conn h is.inside bytes n before v is.judged is.before_is few
-              ∙ (came_plain conn bytes (length bytes) (record { head = Some (judged_as (h ++ bytes) n v); body = None; came = behind }) a idle none
-              ∙ (turn_plain conn bytes (length bytes) a idle none ∙ ap (λ q. answered_turn a (conn.stream ++ q) (length bytes)) t)) in
+              ∙ (came_plain conn bytes (length bytes)
+              (record { head = Some (judged_as (h ++ bytes) n v); body = None; came = behind }) a idle none
+              ∙ (turn_plain conn bytes (length bytes) a idle none ∙ ap
+              (λ q. answered_turn a (conn.stream ++ q) (length bytes)) t)) in
               let b : drop n (h ++ bytes) ≡ behind = drop_behind h bytes before n within.0 in
               let lb : length (drop n (h ++ bytes)) ≡ length behind = ap length b in
-              let here = head_part_rest (reader w) (is_steady w) conn.stream h is.inside.rest bytes n v is.judged (omega arith) in
+              let here = head_part_rest (reader w) (is_steady w) conn.stream h is.inside.rest bytes n v is.judged
+              (omega arith) in
               let left_is : m - min m (length behind) ≡ m - length (drop n (h ++ bytes)) = omega arith in
               let count : before + min m (length behind) ≡ length bytes = omega arith in
-              let now = answered_as_turn store' place x old new w k' a (conn.stream ++ bytes) (InBody (judged_as (h ++ bytes) n v)) (length bytes) shown moves place_is (head_is, left_is) here
+              let now = answered_as_turn store' place x old new w k' a (conn.stream ++ bytes)
+              (InBody (judged_as (h ++ bytes) n v)) (length bytes) shown moves place_is (head_is, left_is) here
               (answer_is ∙ ap (λ i. took i a.closes) count) bytes_are in
               subst (TurnedAs u store' place x old new w None) (sym turn) now
           | inr enough ↦
               let q = take (before + m) bytes in
               let turn : came_turn w conn bytes ≡ answered_turn a (conn.stream ++ q) (before + m) =
               whole_turn_is w conn h is.inside bytes n before v is.judged is.before_is enough
-              ∙ (came_plain conn bytes (before + m) (record { head = Some (judged_as (h ++ q) n v); body = Some (judged_as (h ++ q) n v); came = take m behind }) a idle none ∙ turn_plain conn bytes (before + m) a idle none) in
-              let b : drop n (h ++ q) ≡ take m behind = front_body w conn h is.inside bytes n before v is.judged is.before_is m in
+              ∙ (came_plain conn bytes (before + m)
+              (record {
+                head = Some (judged_as (h ++ q) n v);
+                body = Some (judged_as (h ++ q) n v);
+                came = take m behind;
+              }) a idle none ∙ turn_plain conn bytes (before + m) a idle none) in
+              let b : drop n (h ++ q) ≡ take m behind =
+              front_body w conn h is.inside bytes n before v is.judged is.before_is m in
               let all : length (drop n (h ++ q)) ≡ m = ap length b ∙ length-take-le m behind enough in
-              let here = head_whole_rest (reader w) (is_steady w) conn.stream h is.inside.rest q n v (front_judged w conn h is.inside bytes n before v is.judged is.before_is m) all in
+              let here = head_whole_rest (reader w) (is_steady w) conn.stream h is.inside.rest q n v
+              (front_judged w conn h is.inside bytes n before v is.judged is.before_is m) all in
               let left_is : m - min m (length behind) ≡ 0 = omega arith in
               let count : before + min m (length behind) ≡ before + m = omega arith in
-              let now = answered_as_turn store' place x old new w k' a (conn.stream ++ q) (InHead []) (before + m) shown moves place_is (head_is, left_is) here
+              let now = answered_as_turn store' place x old new w k' a (conn.stream ++ q) (InHead []) (before + m) shown
+              moves place_is (head_is, left_is) here
               (answer_is ∙ ap (λ i. took i a.closes) count) bytes_are in
               subst (TurnedAs u store' place x old new w None) (sym turn) now
         ])
 
 -- WHAT READING TELLS
-pub judged_by : (x : IndexSet) (s : List ℕ) (p p' : Parsed) → answer_shown p ≡ answer_of (offers x) s → p ≡ p' → answer_of (offers x) s ≡ answer_shown p'
+pub judged_by : (x : IndexSet) (s : List ℕ) (p p' : Parsed) → answer_shown p ≡ answer_of (offers x) s → p ≡ p'
+    → answer_of (offers x) s ≡ answer_shown p'
 judged_by x s p p' f g = sym f ∙ ap answer_shown g
 
-pub within_bytes : (x : IndexSet) (h bytes : List ℕ) (n : ℕ) (v : Verdict) → answer_of (offers x) (h ++ bytes) ≡ Judged n v → n - length h ≤ length bytes
+pub within_bytes : (x : IndexSet) (h bytes : List ℕ) (n : ℕ) (v : Verdict)
+    → answer_of (offers x) (h ++ bytes) ≡ Judged n v → n - length h ≤ length bytes
 within_bytes x h bytes n v e =
     let within = (steady (offers x)).within (h ++ bytes) n v e in
     let l : length (h ++ bytes) ≡ length h + length bytes = length-append h bytes in
     omega arith
 
-pub in_world : (w : World) (x : IndexSet) (s : List ℕ) (a : Answer) → x ≡ w.store.indexes → answer_of (offers x) s ≡ a → reader w s ≡ a
+pub in_world : (w : World) (x : IndexSet) (s : List ℕ) (a : Answer) → x ≡ w.store.indexes → answer_of (offers x) s ≡ a
+    → reader w s ≡ a
 in_world w x s a e f = ap (λ y. answer_of (offers y) s) (sym e) ∙ f
 
 -- the rest of the bytes, as a range of them
-pub slice_rest : (before : ℕ) (bytes : List ℕ) → length (take (length bytes - before) (drop before bytes)) ≡ length (drop before bytes)
+pub slice_rest : (before : ℕ) (bytes : List ℕ) → length (take (length bytes - before) (drop before bytes)) ≡ length
+    (drop before bytes)
 slice_rest before bytes =
     let l : length (drop before bytes) ≡ length bytes - before = length-drop before bytes in
     ap length (take_all (length bytes - before) (drop before bytes) (omega arith))
 
-module _ {U B : Type 0} (u : Ghosts U B) (store' : U) (w : World) (conn : Conn) (h bytes : List ℕ) (n before : ℕ) (v : Verdict) (is : IsWhole w conn h bytes n before v) where
-  pub no_patch_len : (place : Place B) (x : code.Answer) (old new : List ℕ) (k : Link B) (len : ℕ) → len ≡ length (drop before bytes)
-      → u.stands store' (acted w v).world → Moves w (acted w v).world None None → (acted w v).draft ≡ None → (acted w v).pending ≡ None
-      → place ≡ (if (acted w v).closes then Closed else Open (record k { left = body_length v - min (body_length v) len; task = tasks.Idle })) → (bytes_of k.head) ≡ []
+module _ {U B : Type 0} (u : Ghosts U B) (store' : U) (w : World) (conn : Conn) (h bytes : List ℕ) (n before : ℕ)
+    (v : Verdict) (is : IsWhole w conn h bytes n before v) where
+  pub no_patch_len : (place : Place B) (x : code.Answer) (old new : List ℕ) (k : Link B) (len : ℕ)
+      → len ≡ length (drop before bytes)
+      → u.stands store' (acted w v).world → Moves w (acted w v).world None None → (acted w v).draft ≡ None
+      → (acted w v).pending ≡ None
+      → place ≡ (if (acted w v).closes then Closed else Open
+      (record k { left = body_length v - min (body_length v) len; task = tasks.Idle })) → (bytes_of k.head) ≡ []
       → x ≡ took (before + min (body_length v) len) (acted w v).closes → new ≡ old ++ (acted w v).bytes
       → TurnedAs u store' place x old new w conn.draft (came_turn w conn bytes)
   no_patch_len place x old new k len len_is shown moves none idle place_is head_is answer_is bytes_are =
       no_patch_told u store' w conn h bytes n before v is place x old new k shown moves none idle
-      (place_is ∙ ap (λ i. if (acted w v).closes then Closed else Open (record k { left = body_length v - min (body_length v) i; task = tasks.Idle })) len_is)
+      (place_is ∙ ap (λ i. if (acted w v).closes then Closed else Open
+      (record k { left = body_length v - min (body_length v) i; task = tasks.Idle })) len_is)
       head_is (answer_is ∙ ap (λ i. took (before + min (body_length v) i) (acted w v).closes) len_is) bytes_are

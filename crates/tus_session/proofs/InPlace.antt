@@ -1,5 +1,7 @@
 -- A connection in its place again, behind an event.
-use Rattle.std.proofs.Common.{◌≡◌, ◌≢◌, inl, inr, ℕ, zero, suc, ◌<◌, ◌≤◌, List, [], ◌∷◌, length, get_or, slice_set, Option, Some, None, refl, sym, ◌∙◌, ap, subst, arith, get_or-set_same, get_or-set_other, length-set}
+use Rattle.std.proofs.Common.{◌≡◌, ◌≢◌, inl, inr, ℕ, zero, suc, ◌<◌, ◌≤◌, List, [], ◌∷◌, length, get_or, slice_set}
+use Rattle.std.proofs.Common.{Option, Some, None, refl, sym, ◌∙◌, ap, subst, arith, get_or-set_same, get_or-set_other}
+use Rattle.std.proofs.Common.{length-set}
 use Rattle.std.proofs.lemmas.Bool.Decides.{nat_tests}
 use Rattle.std.proofs.lemmas.Bool.{cases_eq}
 use Rattle.std.proofs.lemmas.Grind.{common_steps}
@@ -28,9 +30,11 @@ pub record IsPut {B : Type 0} (places all : List (Place B)) (k : ℕ) (next : Pl
   pub others : (j : ℕ) → j ≢ k → get_or all j Closed ≡ get_or places j Closed
 
 module _ {U B : Type 0} (u : Ghosts U B) where
-  module _ (places all : List (Place B)) (store store' : U) (st : State) (w' : World) (k : ℕ) (next : Place B) (conn' : Option Conn)
+  module _ (places all : List (Place B)) (store store' : U) (st : State) (w' : World) (k : ℕ) (next : Place B)
+      (conn' : Option Conn)
       (stands : SessionStands u places store st) (is_put : IsPut places all k next)
-      (moves : Moves st.world w' (draft_at (st.conns k)) (draft_at conn')) (shown : u.stands store' w') (here : PlaceIs u w' next conn') where
+      (moves : Moves st.world w' (draft_at (st.conns k)) (draft_at conn')) (shown : u.stands store' w')
+      (here : PlaceIs u w' next conn') where
     each_there : (c : ℕ) → PlaceIs u w' (get_or all c Closed) (with_conn st.conns k conn' c)
     each_there c = elim (cases_eq c k) [
       | inl is ↦
@@ -42,7 +46,8 @@ module _ {U B : Type 0} (u : Ghosts U B) where
           let a : PlaceIs u w' (get_or places c Closed) (st.conns c) =
           place_moved u st.world w' (draft_at (st.conns k)) (draft_at conn') (get_or places c Closed) (st.conns c) moves
           (λ e f g. ne (stands.apart c k e f g)) (stands.each c) in
-          let b : PlaceIs u w' (get_or all c Closed) (st.conns c) = subst (λ x. PlaceIs u w' x (st.conns c)) (sym (is_put.others c ne)) a in
+          let b : PlaceIs u w' (get_or all c Closed) (st.conns c) =
+          subst (λ x. PlaceIs u w' x (st.conns c)) (sym (is_put.others c ne)) a in
           subst (λ x. PlaceIs u w' (get_or all c Closed) x) (sym (conns_else st.conns k c conn' ne)) b
     ]
 
@@ -50,27 +55,35 @@ module _ {U B : Type 0} (u : Ghosts U B) where
     not_both : (e d : ℕ) → e ≢ k → draft_at conn' ≡ Some d → draft_at (st.conns e) ≡ Some d → ⊥
     not_both e d ne f g = elim (moves.fresh d f) [
       | inl own ↦ ne (stands.apart e k d g own)
-      | inr none ↦ let p = draft_found u st.world (get_or places e Closed) (st.conns e) d (stands.each e) g in let x : Some p.0 ≡ None = sym p.1 ∙ none in absurd (cc)
+      | inr none ↦ let p = draft_found u st.world (get_or places e Closed) (st.conns e) d (stands.each e)
+          g in let x : Some p.0 ≡ None = sym p.1 ∙ none in absurd (cc)
     ]
 
-    apart_there : (c e d : ℕ) → draft_at (with_conn st.conns k conn' c) ≡ Some d → draft_at (with_conn st.conns k conn' e) ≡ Some d → c ≡ e
+    apart_there : (c e d : ℕ) → draft_at (with_conn st.conns k conn' c) ≡ Some d
+        → draft_at (with_conn st.conns k conn' e) ≡ Some d → c ≡ e
     apart_there c e d f g = elim (cases_eq c k) [
       | inl is ↦ elim (cases_eq e k) [
         | inl is' ↦ is ∙ sym is'
         | inr ne' ↦
-            let a : draft_at conn' ≡ Some d = ap draft_at (sym (conns_here st.conns k conn')) ∙ (ap (λ i. draft_at (with_conn st.conns k conn' i)) (sym is) ∙ f) in
+            let a : draft_at conn' ≡ Some d =
+            ap draft_at (sym (conns_here st.conns k conn'))
+            ∙ (ap (λ i. draft_at (with_conn st.conns k conn' i)) (sym is) ∙ f) in
             absurd (not_both e d ne' a (ap draft_at (sym (conns_else st.conns k e conn' ne')) ∙ g))
       ]
       | inr ne ↦ elim (cases_eq e k) [
         | inl is' ↦
-            let a : draft_at conn' ≡ Some d = ap draft_at (sym (conns_here st.conns k conn')) ∙ (ap (λ i. draft_at (with_conn st.conns k conn' i)) (sym is') ∙ g) in
+            let a : draft_at conn' ≡ Some d =
+            ap draft_at (sym (conns_here st.conns k conn'))
+            ∙ (ap (λ i. draft_at (with_conn st.conns k conn' i)) (sym is') ∙ g) in
             absurd (not_both c d ne a (ap draft_at (sym (conns_else st.conns k c conn' ne)) ∙ f))
         | inr ne' ↦
-            stands.apart c e d (ap draft_at (sym (conns_else st.conns k c conn' ne)) ∙ f) (ap draft_at (sym (conns_else st.conns k e conn' ne')) ∙ g)
+            stands.apart c e d (ap draft_at (sym (conns_else st.conns k c conn' ne)) ∙ f)
+            (ap draft_at (sym (conns_else st.conns k e conn' ne')) ∙ g)
       ]
     ]
 
-    owned_there : (d : ℕ) (p : Patch) → find d w'.patches ≡ Some p → (c : ℕ) × (draft_at (with_conn st.conns k conn' c) ≡ Some d)
+    owned_there : (d : ℕ) (p : Patch) → find d w'.patches ≡ Some p
+        → (c : ℕ) × (draft_at (with_conn st.conns k conn' c) ≡ Some d)
     owned_there d p found = elim (moves.back d p stands.unique found) [
       | inl own ↦ (k, ap draft_at (conns_here st.conns k conn') ∙ own)
       | inr other ↦
@@ -89,14 +102,16 @@ module _ {U B : Type 0} (u : Ghosts U B) where
       owned = owned_there;
     }
 
-  pub is_set : (places : List (Place B)) (k : ℕ) (next : Place B) → k < length places → IsPut places (slice_set places k next) k next
+  pub is_set : (places : List (Place B)) (k : ℕ) (next : Place B) → k < length places
+      → IsPut places (slice_set places k next) k next
   is_set places k next lt = record {
     count = length-set places k next;
     here = get_or-set_same places k next Closed lt;
     others = λ j ne. get_or-set_other places k j next Closed ne;
   }
 
-  pub is_set_twice : (places : List (Place B)) (k : ℕ) (x next : Place B) → k < length places → IsPut places (slice_set (slice_set places k x) k next) k next
+  pub is_set_twice : (places : List (Place B)) (k : ℕ) (x next : Place B) → k < length places
+      → IsPut places (slice_set (slice_set places k x) k next) k next
   is_set_twice places k x next lt =
       let taken = slice_set places k x in
       record {
@@ -106,9 +121,11 @@ module _ {U B : Type 0} (u : Ghosts U B) where
       }
 
   -- what a connection's place tells
-  pub place_at : (places : List (Place B)) (store : U) (st : State) (k : ℕ) (x : Place B) → SessionStands u places store st → k < length places
+  pub place_at : (places : List (Place B)) (store : U) (st : State) (k : ℕ) (x : Place B)
+      → SessionStands u places store st → k < length places
       → x ≡ get_or places k x → PlaceIs u st.world x (st.conns k)
-  place_at places store st k x stands lt e = subst (λ y. PlaceIs u st.world y (st.conns k)) (sym (e ∙ get_or-any places k x Closed lt)) (stands.each k)
+  place_at places store st k x stands lt e =
+      subst (λ y. PlaceIs u st.world y (st.conns k)) (sym (e ∙ get_or-any places k x Closed lt)) (stands.each k)
     where
       get_or-any : (xs : List (Place B)) (i : ℕ) (a b : Place B) → i < length xs → get_or xs i a ≡ get_or xs i b
       get_or-any xs i a b lt = grind (arith, common_steps)
@@ -121,21 +138,30 @@ module _ {U B : Type 0} (u : Ghosts U B) where
   past places k le = grind (arith, common_steps)
 
   -- no connection is open beyond the places
-  pub beyond : (places : List (Place B)) (store : U) (st : State) (k : ℕ) → SessionStands u places store st → length places ≤ k → st.conns k ≡ None
-  beyond places store st k stands le = closed_none st.world (st.conns k) (subst (λ y. PlaceIs u st.world y (st.conns k)) (past places k le) (stands.each k))
+  pub beyond : (places : List (Place B)) (store : U) (st : State) (k : ℕ) → SessionStands u places store st
+      → length places ≤ k → st.conns k ≡ None
+  beyond places store st k stands le =
+      closed_none st.world (st.conns k)
+      (subst (λ y. PlaceIs u st.world y (st.conns k)) (past places k le) (stands.each k))
 
-  pub closed_at : (places : List (Place B)) (store : U) (st : State) (k : ℕ) (x : Place B) → SessionStands u places store st → k < length places
+  pub closed_at : (places : List (Place B)) (store : U) (st : State) (k : ℕ) (x : Place B)
+      → SessionStands u places store st → k < length places
       → x ≡ get_or places k x → x ≡ Closed → st.conns k ≡ None
-  closed_at places store st k x stands lt e is = closed_none st.world (st.conns k) (subst (λ y. PlaceIs u st.world y (st.conns k)) is (place_at places store st k x stands lt e))
+  closed_at places store st k x stands lt e is =
+      closed_none st.world (st.conns k)
+      (subst (λ y. PlaceIs u st.world y (st.conns k)) is (place_at places store st k x stands lt e))
 
   some_conn : (w : World) (k : Link B) (conn : Option Conn) → PlaceIs u w (Open k) conn → (c : Conn) × (conn ≡ Some c)
   some_conn w k None is = absurd is
   some_conn w k (Some c) is = (c, refl)
 
-  pub open_at : (places : List (Place B)) (store : U) (st : State) (c : ℕ) (x : Place B) (k : Link B) → SessionStands u places store st → c < length places
-      → x ≡ get_or places c x → x ≡ Open k → (conn : Conn) × (st.conns c ≡ Some conn) × PlaceIs u st.world (Open k) (Some conn)
+  pub open_at : (places : List (Place B)) (store : U) (st : State) (c : ℕ) (x : Place B) (k : Link B)
+      → SessionStands u places store st → c < length places
+      → x ≡ get_or places c x → x ≡ Open k → (conn : Conn) × (st.conns c ≡ Some conn) × PlaceIs u st.world (Open k)
+      (Some conn)
   open_at places store st c x k stands lt e is =
-      let at : PlaceIs u st.world (Open k) (st.conns c) = subst (λ y. PlaceIs u st.world y (st.conns c)) is (place_at places store st c x stands lt e) in
+      let at : PlaceIs u st.world (Open k) (st.conns c) =
+      subst (λ y. PlaceIs u st.world y (st.conns c)) is (place_at places store st c x stands lt e) in
       let some = some_conn st.world k (st.conns c) at in
       (some.0, some.1, subst (λ o. PlaceIs u st.world (Open k) o) some.1 at)
 
@@ -146,8 +172,10 @@ set_same (y ∷ xs) (suc c) x e = ap (λ zs. y ∷ zs) (set_same xs c x e)
 
 module _ {U B : Type 0} (u : Ghosts U B) where
   -- a closed place is closed again
-  pub closed_again : (places : List (Place B)) (store : U) (st : State) (c : ℕ) (x y : Place B) → SessionStands u places store st → c < length places
+  pub closed_again : (places : List (Place B)) (store : U) (st : State) (c : ℕ) (x y : Place B)
+      → SessionStands u places store st → c < length places
       → x ≡ get_or places c x → x ≡ Closed → y ≡ Closed → SessionStands u (slice_set places c y) store st
   closed_again places store st c x y stands lt e is again =
       let here : get_or places c Closed ≡ Closed = subst (λ z. get_or places c z ≡ z) is (sym e) in
-      subst (λ z. SessionStands u (slice_set places c z) store st) (sym again) (subst (λ ps. SessionStands u ps store st) (sym (set_same places c Closed here)) stands)
+      subst (λ z. SessionStands u (slice_set places c z) store st) (sym again)
+      (subst (λ ps. SessionStands u ps store st) (sym (set_same places c Closed here)) stands)

@@ -16,14 +16,18 @@ module _ {m0 m1 m2 : ℕ} {l0 l1 l2 : Option ℕ → ℕ → List Store → Type
     limits = λ n t ms le left x y. l.limits n t ms (omega (arith, f.later)) (f.limits n t ms le left x x) x y;
   }
 
-pub quiet_limits : {m0 m1 : ℕ} {l0 l1 : Option ℕ → ℕ → List Store → Type 0} (a b : Store) → Quiet m0 m1 l0 l1 → Limits m0 m1 l0 l1 a b
+pub quiet_limits : {m0 m1 : ℕ} {l0 l1 : Option ℕ → ℕ → List Store → Type 0} (a b : Store) → Quiet m0 m1 l0 l1
+    → Limits m0 m1 l0 l1 a b
 quiet_limits a b q = record { later = q.later; limits = λ n t ms le left x y. q.keeps n t ms le left }
 
-pub still_limits : {m0 m1 : ℕ} {l0 l1 : Option ℕ → ℕ → List Store → Type 0} {a : Store} (b : Store) → Limits m0 m1 l0 l1 a a → Limits m0 m1 l0 l1 a b
+pub still_limits : {m0 m1 : ℕ} {l0 l1 : Option ℕ → ℕ → List Store → Type 0} {a : Store} (b : Store)
+    → Limits m0 m1 l0 l1 a a → Limits m0 m1 l0 l1 a b
 still_limits b l = record { later = l.later; limits = λ n t ms le left x y. l.limits n t ms le left x x }
 
-pub limits_from : {m0 m1 : ℕ} {l0 l1 : Option ℕ → ℕ → List Store → Type 0} {a b c : Store} → a ≡ b → Limits m0 m1 l0 l1 a c → Limits m0 m1 l0 l1 b c
+pub limits_from : {m0 m1 : ℕ} {l0 l1 : Option ℕ → ℕ → List Store → Type 0} {a b c : Store} → a ≡ b
+    → Limits m0 m1 l0 l1 a c → Limits m0 m1 l0 l1 b c
 limits_from {m0} {m1} {l0} {l1} {a} {b} {c} e h = subst (λ z. Limits m0 m1 l0 l1 z c) e h
 
-pub limits_both : {m0 m1 : ℕ} {l0 l1 : Option ℕ → ℕ → List Store → Type 0} {a b : Store} → a ≡ b → Limits m0 m1 l0 l1 a a → Limits m0 m1 l0 l1 b b
+pub limits_both : {m0 m1 : ℕ} {l0 l1 : Option ℕ → ℕ → List Store → Type 0} {a b : Store} → a ≡ b
+    → Limits m0 m1 l0 l1 a a → Limits m0 m1 l0 l1 b b
 limits_both {m0} {m1} {l0} {l1} {a} {b} e h = subst (λ z. Limits m0 m1 l0 l1 z z) e h

@@ -1,5 +1,6 @@
 -- The next piece of a text.
-use Rattle.std.proofs.Common.{◌≡◌, ℕ, Bool, true, false, List, [], ◌++◌, Option, Some, None, Result, Ok, refl, sym, ◌∙◌, ap, subst, append-nil, if◌then◌else◌}
+use Rattle.std.proofs.Common.{◌≡◌, ℕ, Bool, true, false, List, [], ◌++◌, Option, Some, None, Result, Ok, refl, sym, ◌∙◌}
+use Rattle.std.proofs.Common.{ap, subst, append-nil, if◌then◌else◌}
 use Rattle.tus_request.specs.Buffers.{bytes_of}
 use Rattle.upload_rules.specs.Store.{Store, Upload, upload_of}
 use Rattle.upload_rules.specs.World.{World}
@@ -27,27 +28,39 @@ abbrev unmoved_turn : World → Conn → Turn
 unmoved_turn w conn = record { world = w; conn = Some conn; bytes = []; taken = 0 }
 
 abbrev given_turn : World → Conn → Giving → Turn
-given_turn w conn h = record { world = w; conn = given_up conn h.closes (pending_after h); bytes = piece_of h; taken = 0 }
+given_turn w conn h = record {
+  world = w;
+  conn = given_up conn h.closes (pending_after h);
+  bytes = piece_of h;
+  taken = 0;
+}
 
 more_none_is : (w : World) (conn : Conn) → conn.pending ≡ None → unmoved_turn w conn ≡ more_turn w conn
 unfolding more_turn
 more_none_is w conn e = sym (ap (more_on w conn) e)
 
-more_some_is : (w : World) (conn : Conn) (h : Giving) (up : Upload) → conn.pending ≡ Some h → upload_of w.store h.number ≡ Some up → given_turn w conn h ≡ more_turn w conn
+more_some_is : (w : World) (conn : Conn) (h : Giving) (up : Upload) → conn.pending ≡ Some h
+    → upload_of w.store h.number ≡ Some up → given_turn w conn h ≡ more_turn w conn
 unfolding more_turn
 more_some_is w conn h up e there = sym (ap (more_on w conn) e ∙ ap (give_on w conn h) there)
 
 abbrev gone_turn : World → Turn
 gone_turn w = record { world = w; conn = None; bytes = []; taken = 0 }
 
-more_gone_is : (w : World) (conn : Conn) (h : Giving) → conn.pending ≡ Some h → upload_of w.store h.number ≡ None → gone_turn w ≡ more_turn w conn
+more_gone_is : (w : World) (conn : Conn) (h : Giving) → conn.pending ≡ Some h → upload_of w.store h.number ≡ None
+    → gone_turn w ≡ more_turn w conn
 unfolding more_turn
 more_gone_is w conn h e none = sym (ap (more_on w conn) e ∙ ap (give_on w conn h) none)
 
 module _ {U B : Type 0} (u : Ghosts U B) where
   -- a connection stays as it is, and nothing is given
-  pub stays : (store : U) (w : World) (k : Link B) (conn : Conn) (more : Bool) (out : List ℕ) → u.stands store w → LinkIs u w (bytes_of k.head) k.left k.task conn
-      → more ≡ is_pending conn.pending → TurnedAs u store (Open k) (record { taken = 0; closes = false; more = more }) out out w conn.draft (unmoved_turn w conn)
+  pub stays : (store : U) (w : World) (k : Link B) (conn : Conn) (more : Bool) (out : List ℕ) → u.stands store w
+      → LinkIs u w (bytes_of k.head) k.left k.task conn
+      → more ≡ is_pending conn.pending → TurnedAs u store (Open k) (record {
+        taken = 0;
+        closes = false;
+        more = more;
+      }) out out w conn.draft (unmoved_turn w conn)
   stays store w k conn more out stands link e = record {
     shown = stands;
     here = link;
@@ -58,7 +71,8 @@ module _ {U B : Type 0} (u : Ghosts U B) where
     bytes = sym (append-nil out);
   }
 
-  no_text : (w : World) (rest : Rest) (task : Task B) (draft : Option ℕ) (pending : Option Giving) → TaskIs u w rest task draft pending
+  no_text : (w : World) (rest : Rest) (task : Task B) (draft : Option ℕ) (pending : Option Giving)
+      → TaskIs u w rest task draft pending
       → ((g : given.Giving) → task ≡ tasks.Text g → ⊥) → pending ≡ None
   no_text w rest tasks.Idle None None is not = refl
   no_text w rest tasks.Idle None (Some h) is not = absurd is
@@ -69,29 +83,45 @@ module _ {U B : Type 0} (u : Ghosts U B) where
   no_text w rest (tasks.Text g) draft pending is not = absurd (not g refl)
 
   -- no text is to be given
-  pub more_nothing : (store : U) (w : World) (k : Link B) (conn : Conn) (out : List ℕ) → u.stands store w → LinkIs u w (bytes_of k.head) k.left k.task conn
+  pub more_nothing : (store : U) (w : World) (k : Link B) (conn : Conn) (out : List ℕ) → u.stands store w
+      → LinkIs u w (bytes_of k.head) k.left k.task conn
       → ((g : given.Giving) → k.task ≡ tasks.Text g → ⊥)
-      → TurnedAs u store (Open k) (record { taken = 0; closes = false; more = false }) out out w conn.draft (more_turn w conn)
+      → TurnedAs u store (Open k) (record {
+        taken = 0;
+        closes = false;
+        more = false;
+      }) out out w conn.draft (more_turn w conn)
   more_nothing store w k conn out stands link not =
       let none = no_text w (cut (reader w) conn.stream).rest k.task conn.draft conn.pending link.does not in
-      subst (TurnedAs u store (Open k) (record { taken = 0; closes = false; more = false }) out out w conn.draft) (more_none_is w conn none)
+      subst (TurnedAs u store (Open k) (record { taken = 0; closes = false; more = false }) out out w conn.draft)
+      (more_none_is w conn none)
       (stays store w k conn false out stands link (sym (ap is_pending none)))
 
-  text_stays : (w : World) (rest : Rest) (g : given.Giving) (h : Giving) (draft : Option ℕ) → draft ≡ None → GivingIs w.store (Some g) (Some h) → TaskIs u w rest (tasks.Text g) draft (Some h)
+  text_stays : (w : World) (rest : Rest) (g : given.Giving) (h : Giving) (draft : Option ℕ) → draft ≡ None
+      → GivingIs w.store (Some g) (Some h) → TaskIs u w rest (tasks.Text g) draft (Some h)
   text_stays w rest g h draft e is = subst (λ d. TaskIs u w rest (tasks.Text g) d (Some h)) (sym e) is
 
   idle_stays : (w : World) (rest : Rest) (draft : Option ℕ) → draft ≡ None → TaskIs u w rest tasks.Idle draft None
   idle_stays w rest draft e = subst (λ d. TaskIs u w rest tasks.Idle d None) (sym e) tt
 
-  module _ (store : U) (w : World) (k : Link B) (conn : Conn) (g : given.Giving) (stands : u.stands store w) (link : LinkIs u w (bytes_of k.head) k.left k.task conn)
+  module _ (store : U) (w : World) (k : Link B) (conn : Conn) (g : given.Giving) (stands : u.stands store w)
+      (link : LinkIs u w (bytes_of k.head) k.left k.task conn)
       (is : IsGivingText w g conn.draft conn.pending) where
-    some_turned : (old new : List ℕ) (rest : given.Giving) (pending : Option Giving) → GivingIs w.store (Some rest) pending → new ≡ old ++ piece_of is.h
-        → TurnedAs u store (Open (record k { task = tasks.Text rest })) (record { taken = 0; closes = false; more = true }) old new w conn.draft
+    some_turned : (old new : List ℕ) (rest : given.Giving) (pending : Option Giving)
+        → GivingIs w.store (Some rest) pending → new ≡ old ++ piece_of is.h
+        → TurnedAs u store (Open (record k { task = tasks.Text rest })) (record {
+          taken = 0;
+          closes = false;
+          more = true;
+        }) old new w conn.draft
         (record { world = w; conn = given_up conn is.h.closes pending; bytes = piece_of is.h; taken = 0 })
     some_turned old new rest None given e = absurd given
     some_turned old new rest (Some h) given e = record {
       shown = stands;
-      here = record { kept = link.kept; does = text_stays w (cut (reader w) conn.stream).rest rest h conn.draft is.draft_is given };
+      here = record {
+        kept = link.kept;
+        does = text_stays w (cut (reader w) conn.stream).rest rest h conn.draft is.draft_is given;
+      };
       moves = still w conn.draft;
       taken = refl;
       closes = refl;
@@ -100,17 +130,27 @@ module _ {U B : Type 0} (u : Ghosts U B) where
     }
 
     -- more of the text is left
-    pub more_some : (old new : List ℕ) (rest : given.Giving) (up : Upload) → upload_of w.store is.h.number ≡ Some up → GivingIs w.store (Some rest) (pending_after is.h) → new ≡ old ++ piece_of is.h
-        → TurnedAs u store (Open (record k { task = tasks.Text rest })) (record { taken = 0; closes = false; more = true }) old new w conn.draft (more_turn w conn)
+    pub more_some : (old new : List ℕ) (rest : given.Giving) (up : Upload) → upload_of w.store is.h.number ≡ Some up
+        → GivingIs w.store (Some rest) (pending_after is.h) → new ≡ old ++ piece_of is.h
+        → TurnedAs u store (Open (record k { task = tasks.Text rest })) (record {
+          taken = 0;
+          closes = false;
+          more = true;
+        }) old new w conn.draft (more_turn w conn)
     more_some old new rest up there given e =
-        subst (TurnedAs u store (Open (record k { task = tasks.Text rest })) (record { taken = 0; closes = false; more = true }) old new w conn.draft)
+        subst (TurnedAs u store (Open (record k { task = tasks.Text rest }))
+        (record { taken = 0; closes = false; more = true }) old new w conn.draft)
         (more_some_is w conn is.h up is.pending_is there) (some_turned old new rest (pending_after is.h) given e)
 
     abbrev pub idle_place : Bool → Place B
     idle_place closes = if closes then Closed else Open (record k { task = tasks.Idle })
 
     none_closes : (old new : List ℕ) (closes : Bool) → new ≡ old ++ piece_of is.h
-        → TurnedAs u store (idle_place closes) (record { taken = 0; closes = closes; more = false }) old new w conn.draft
+        → TurnedAs u store (idle_place closes) (record {
+          taken = 0;
+          closes = closes;
+          more = false;
+        }) old new w conn.draft
         (record { world = w; conn = given_up conn closes None; bytes = piece_of is.h; taken = 0 })
     none_closes old new true e = record {
       shown = stands;
@@ -131,27 +171,50 @@ module _ {U B : Type 0} (u : Ghosts U B) where
       bytes = e;
     }
 
-    none_turned : (old new : List ℕ) (closes : Bool) (pending : Option Giving) → GivingIs w.store None pending → closes ≡ is.h.closes → new ≡ old ++ piece_of is.h
-        → TurnedAs u store (idle_place closes) (record { taken = 0; closes = closes; more = false }) old new w conn.draft
+    none_turned : (old new : List ℕ) (closes : Bool) (pending : Option Giving) → GivingIs w.store None pending
+        → closes ≡ is.h.closes → new ≡ old ++ piece_of is.h
+        → TurnedAs u store (idle_place closes) (record {
+          taken = 0;
+          closes = closes;
+          more = false;
+        }) old new w conn.draft
         (record { world = w; conn = given_up conn is.h.closes pending; bytes = piece_of is.h; taken = 0 })
     none_turned old new closes (Some h) given same e = absurd given
     none_turned old new closes None given same e =
-        subst (λ b. TurnedAs u store (idle_place closes) (record { taken = 0; closes = closes; more = false }) old new w conn.draft
-        (record { world = w; conn = given_up conn b None; bytes = piece_of is.h; taken = 0 })) same (none_closes old new closes e)
+        subst (λ b. TurnedAs u store (idle_place closes) (record { taken = 0; closes = closes; more = false }) old new w
+        conn.draft
+        (record {
+          world = w;
+          conn = given_up conn b None;
+          bytes = piece_of is.h;
+          taken = 0;
+        })) same (none_closes old new closes e)
 
     -- the text is given
-    pub more_done : (old new : List ℕ) (up : Upload) → upload_of w.store is.h.number ≡ Some up → pending_after is.h ≡ None → new ≡ old ++ piece_of is.h
-        → TurnedAs u store (idle_place g.closes) (record { taken = 0; closes = g.closes; more = false }) old new w conn.draft (more_turn w conn)
+    pub more_done : (old new : List ℕ) (up : Upload) → upload_of w.store is.h.number ≡ Some up
+        → pending_after is.h ≡ None → new ≡ old ++ piece_of is.h
+        → TurnedAs u store (idle_place g.closes) (record {
+          taken = 0;
+          closes = g.closes;
+          more = false;
+        }) old new w conn.draft (more_turn w conn)
     more_done old new up there last e =
-        subst (TurnedAs u store (idle_place g.closes) (record { taken = 0; closes = g.closes; more = false }) old new w conn.draft)
+        subst (TurnedAs u store (idle_place g.closes) (record { taken = 0; closes = g.closes; more = false }) old new w
+        conn.draft)
         (more_some_is w conn is.h up is.pending_is there)
-        (none_turned old new g.closes (pending_after is.h) (subst (GivingIs w.store None) (sym last) tt) is.gives.closes e)
+        (none_turned old new g.closes (pending_after is.h) (subst (GivingIs w.store None) (sym last) tt) is.gives.closes
+        e)
 
     -- the upload was deleted
     pub more_gone : (old new : List ℕ) → upload_of w.store is.h.number ≡ None → new ≡ old
-        → TurnedAs u store Closed (record { taken = 0; closes = true; more = false }) old new w conn.draft (more_turn w conn)
+        → TurnedAs u store Closed (record {
+          taken = 0;
+          closes = true;
+          more = false;
+        }) old new w conn.draft (more_turn w conn)
     more_gone old new none e =
-        subst (TurnedAs u store Closed (record { taken = 0; closes = true; more = false }) old new w conn.draft) (more_gone_is w conn is.h is.pending_is none) (record {
+        subst (TurnedAs u store Closed (record { taken = 0; closes = true; more = false }) old new w conn.draft)
+        (more_gone_is w conn is.h is.pending_is none) (record {
           shown = stands;
           here = tt;
           moves = subst (λ o. Moves w w o None) (sym is.draft_is) (still w None);
@@ -171,16 +234,19 @@ module _ {U B : Type 0} (u : Ghosts U B) where
 
 module _ {U B : Type 0} (u : Ghosts U B) where
   -- under other names for the place and the answer
-  pub turned_ok : (store : U) (place place' : Place B) (r : Result Answer SessionError) (a : Answer) (old new : List ℕ) (w : World) (own : Option ℕ) (t : Turn)
+  pub turned_ok : (store : U) (place place' : Place B) (r : Result Answer SessionError) (a : Answer) (old new : List ℕ)
+      (w : World) (own : Option ℕ) (t : Turn)
       → place ≡ place' → r ≡ Ok a → TurnedAs u store place' a old new w own t → Turned u store place r old new w own t
   turned_ok store place place' r a old new w own t e f is =
-      let x : Turned u store place (Ok a) old new w own t = subst (λ p. TurnedAs u store p a old new w own t) (sym e) is in
+      let x : Turned u store place (Ok a) old new w own t =
+      subst (λ p. TurnedAs u store p a old new w own t) (sym e) is in
       subst (λ r. Turned u store place r old new w own t) (sym f) x
 
 -- WHAT WAS GIVEN TELLS OF THE UPLOAD
 
 -- a piece is given of an upload that is there
-pub piece_of_upload : (m : Store) (g : given.Giving) (old new : List ℕ) (h : Giving) (o : Option Upload) → IsGiven m (Piece g) old new h o
+pub piece_of_upload : (m : Store) (g : given.Giving) (old new : List ℕ) (h : Giving) (o : Option Upload)
+    → IsGiven m (Piece g) old new h o
     → (up : Upload) × (o ≡ Some up) × GivingIs m (Some g) (pending_after h) × (new ≡ old ++ piece_of h)
 piece_of_upload m g old new h None is = absurd is
 piece_of_upload m g old new h (Some up) is = (up, refl, is.0, is.1)
@@ -191,6 +257,7 @@ last_of_upload m old new h None is = absurd is
 last_of_upload m old new h (Some up) is = (up, refl, is.0, is.1)
 
 -- and nothing of one that is gone
-pub gone_with_upload : (m : Store) (old new : List ℕ) (h : Giving) (o : Option Upload) → IsGiven m Gone old new h o → (o ≡ None) × (new ≡ old)
+pub gone_with_upload : (m : Store) (old new : List ℕ) (h : Giving) (o : Option Upload) → IsGiven m Gone old new h o
+    → (o ≡ None) × (new ≡ old)
 gone_with_upload m old new h None is = (refl, is)
 gone_with_upload m old new h (Some up) is = absurd is

@@ -1,19 +1,25 @@
 -- What the calls on uploads leave to the other connections.
-use Rattle.std.proofs.Common.{◌≡◌, ◌⊎◌, inl, inr, ℕ, zero, suc, ◌+◌, ◌<◌, ◌≤◌, ◌==◌, Bool, true, false, List, [], ◌∷◌, ◌++◌, length, if◌then◌else◌, Option, Some, None, refl, sym, ◌∙◌, ap, subst, arith, append-nil, append_assoc}
+use Rattle.std.proofs.Common.{◌≡◌, ◌⊎◌, inl, inr, ℕ, zero, suc, ◌+◌, ◌<◌, ◌≤◌, ◌==◌, Bool, true, false, List, [], ◌∷◌}
+use Rattle.std.proofs.Common.{◌++◌, length, if◌then◌else◌, Option, Some, None, refl, sym, ◌∙◌, ap, subst, arith}
+use Rattle.std.proofs.Common.{append-nil, append_assoc}
 use Rattle.std.proofs.lemmas.Bool.Decides.{nat_tests}
 use Rattle.std.proofs.lemmas.Bool.{cases_eq, eqb-true, ne_eqb, cases_Bool}
 use Rattle.std.proofs.lemmas.List.{length-append}
 use Rattle.std.proofs.lemmas.Option.{same_Some}
-use Rattle.upload_rules.specs.Store.{New, Upload, Store, upload_of, text_of, text_with, with_bytes, find, replaced, without, others, is_complete, new_upload, created_store, deleted_store, appended_store, appended_to}
+use Rattle.upload_rules.specs.Store.{New, Upload, Store, upload_of, text_of, text_with, with_bytes, find, replaced}
+use Rattle.upload_rules.specs.Store.{without, others, is_complete, new_upload, created_store, deleted_store}
+use Rattle.upload_rules.specs.Store.{appended_store, appended_to}
 use Rattle.upload_rules.specs.World.{Patch, World, is_there, least_from, free_number, completes, patch_text}
 use Rattle.upload_rules.specs.Room.{is_short}
 use Rattle.upload_rules.specs.Apart.{IsApart}
 use Rattle.upload_rules.specs.Grown.{GrewFrom}
 use Rattle.upload_rules.specs.declared.errors.UploadRefusal.{UploadRefusal}
 use Rattle.upload_rules.specs.declared.errors.UploadRefusal.TheVariants.{Offset, Unencodable, Full}
-use Rattle.upload_rules.specs.Calls.{dropped, committed, committed_store, spent, created, terminated, longer, is_empty, commit_refusal, offset_refusal, text_refusal, or_else, refuse_if}
+use Rattle.upload_rules.specs.Calls.{dropped, committed, committed_store, spent, created, terminated, longer, is_empty}
+use Rattle.upload_rules.specs.Calls.{commit_refusal, offset_refusal, text_refusal, or_else, refuse_if}
 use Rattle.upload_rules.proofs.Deleted.{none_in_others, find_in_others}
-use Rattle.upload_rules.proofs.Finds.{find_push_other, find_without_other, find_without_same, none_without, find_replaced_same, find_replaced_other, none_replaced, length_without}
+use Rattle.upload_rules.proofs.Finds.{find_push_other, find_without_other, find_without_same, none_without}
+use Rattle.upload_rules.proofs.Finds.{find_replaced_same, find_replaced_other, none_replaced, length_without}
 use Rattle.tus_action.specs.Acts.{fed}
 use Rattle.tus_session.specs.Turns.{left_world}
 use Rattle.tus_session.specs.Moves.{Longer, Grows, Moves}
@@ -25,7 +31,8 @@ Patches = List (ℕ × Patch)
 
 -- FINDING AND KEEPING APART
 
-without_case : {A : Type 0} (d : ℕ) (x : ℕ × A) (xs : List (ℕ × A)) → IsApart (x ∷ xs) → IsApart (without d xs) → (b : Bool) → IsApart (if b then xs else x ∷ without d xs)
+without_case : {A : Type 0} (d : ℕ) (x : ℕ × A) (xs : List (ℕ × A)) → IsApart (x ∷ xs) → IsApart (without d xs)
+    → (b : Bool) → IsApart (if b then xs else x ∷ without d xs)
 without_case d x xs apart rest true = apart.1
 without_case d x xs apart rest false = (none_without d x.0 xs apart.0, rest)
 
@@ -33,7 +40,8 @@ pub apart_without : {A : Type 0} (d : ℕ) (xs : List (ℕ × A)) → IsApart xs
 apart_without d [] apart = tt
 apart_without d (x ∷ xs) apart = without_case d x xs apart (apart_without d xs apart.1) (x.0 == d)
 
-replaced_case : {A : Type 0} (d : ℕ) (a : A) (x : ℕ × A) (xs : List (ℕ × A)) → IsApart (x ∷ xs) → IsApart (replaced d a xs) → (b : Bool) → (x.0 == d) ≡ b
+replaced_case : {A : Type 0} (d : ℕ) (a : A) (x : ℕ × A) (xs : List (ℕ × A)) → IsApart (x ∷ xs)
+    → IsApart (replaced d a xs) → (b : Bool) → (x.0 == d) ≡ b
     → IsApart (if b then (d, a) ∷ xs else x ∷ replaced d a xs)
 replaced_case d a x xs apart rest true e = (subst (λ n. find n xs ≡ None) (eqb-true x.0 d e) apart.0, apart.1)
 replaced_case d a x xs apart rest false e = (none_replaced d x.0 a xs apart.0, rest)
@@ -52,7 +60,8 @@ drop_moves w d = record {
   others = λ e p ne found. find_without_other d e w.patches (some_ne d e ne) ∙ found;
   back = λ e p apart found. elim (cases_eq d e) [
     | inl is ↦
-        let none : find e (without d w.patches) ≡ None = subst (λ n. find n (without d w.patches) ≡ None) is (find_without_same d w.patches apart) in
+        let none : find e (without d w.patches) ≡ None =
+        subst (λ n. find n (without d w.patches) ≡ None) is (find_without_same d w.patches apart) in
         let x : Some p ≡ None = sym found ∙ none in
         absurd (cc)
     | inr ne ↦ inr (λ h. ne (let x : d ≡ e = cc in x), (p, sym (find_without_other d e w.patches ne) ∙ found))
@@ -66,12 +75,16 @@ left_moves w None = still w None
 left_moves w (Some d) = drop_moves w d
 
 -- the draft's patch grows
-pub feed_moves : (w : World) (d : ℕ) (p : Patch) (piece : List ℕ) → find d w.patches ≡ Some p → Moves w (fed w d piece) (Some d) (Some d)
+pub feed_moves : (w : World) (d : ℕ) (p : Patch) (piece : List ℕ) → find d w.patches ≡ Some p
+    → Moves w (fed w d piece) (Some d) (Some d)
 feed_moves w d p [] found = still w (Some d)
 feed_moves w d p (b ∷ piece) found =
     let q = longer w d p (b ∷ piece) in
     let w' : World = record w { patches = replaced d q w.patches } in
-    let e : w' ≡ fed w d (b ∷ piece) = ap (λ o. elim o as (λ _. World) [ None ↦ w | Some p ↦ record w { patches = replaced d (longer w d p (b ∷ piece)) w.patches } ]) (sym found) in
+    let e : w' ≡ fed w d (b ∷ piece) =
+    ap (λ o. elim o as (λ _. World)
+    [ None ↦ w | Some p ↦ record w { patches = replaced d (longer w d p (b ∷ piece)) w.patches } ]) (sym
+    found) in
     let now : Moves w w' (Some d) (Some d) = record {
       grows = same_grows w.store;
       others = λ e p ne there. find_replaced_other d e q w.patches (some_ne d e ne) ∙ there;
@@ -102,16 +115,25 @@ at_least zero m patches same full = omega arith
 at_least (suc n) m patches same full =
     let there = one_is (find n patches) (full n (omega arith)) in
     let shorter = length_without n there.0 patches there.1 in
-    let rest = at_least n n (without n patches) refl (λ k lt. ap is_there (find_without_other n k patches (omega arith)) ∙ full k (omega arith)) in
+    let rest = at_least n n (without n patches) refl
+    (λ k lt. ap is_there (find_without_other n k patches (omega arith)) ∙ full k (omega arith)) in
     omega (arith, shorter, rest)
 
-one_more_full : (n : ℕ) (patches : Patches) → IsFull n patches → is_there (find n patches) ≡ true → IsFull (n + 1) patches
-one_more_full n patches full there k lt = elim (cases_eq k n) [ inl is ↦ subst (λ i. is_there (find i patches) ≡ true) (sym is) there | inr ne ↦ full k (omega arith) ]
+one_more_full : (n : ℕ) (patches : Patches) → IsFull n patches → is_there (find n patches) ≡ true
+    → IsFull (n + 1) patches
+one_more_full n patches full there k lt =
+    elim (cases_eq k n) [
+      | inl is ↦ subst (λ i. is_there (find i patches) ≡ true) (sym is) there
+      | inr ne ↦ full k
+          (omega arith)
+    ]
 
-none_least : (left n : ℕ) (patches : Patches) → IsFull n patches → length patches ≤ n + left → find (least_from left n patches) patches ≡ None
+none_least : (left n : ℕ) (patches : Patches) → IsFull n patches → length patches ≤ n + left
+    → find (least_from left n patches) patches ≡ None
 none_least zero n patches full high =
     elim (cases_Bool (is_there (find n patches))) [
-      | inl there ↦ let more = at_least (n + 1) (n + 1) patches refl (one_more_full n patches full there) in absurd (omega (arith, more))
+      | inl there ↦ let more = at_least (n + 1) (n + 1) patches refl (one_more_full n patches full there) in absurd
+          (omega (arith, more))
       | inr free ↦ none_is (find n patches) free
     ]
 none_least (suc left) n patches full high =
@@ -154,7 +176,8 @@ longer_both : (m m1 m2 : Store) (u v x : Upload) → Longer m m1 u v → Longer 
 longer_both m m1 m2 u v x a b = record {
   bytes = a.bytes ++ b.bytes;
   more = a.more ++ b.more;
-  is = b.is ∙ ap (λ z. with_bytes z b.bytes) a.is ∙ ap (λ z. record u { accepted = z }) (append_assoc u.accepted a.bytes b.bytes);
+  is = b.is ∙ ap (λ z. with_bytes z b.bytes) a.is ∙ ap (λ z. record u { accepted = z })
+      (append_assoc u.accepted a.bytes b.bytes);
   text = b.text ∙ (ap (λ t. t ++ b.more) a.text ∙ append_assoc (text_of m.indexes u) a.more b.more);
 }
 
@@ -182,7 +205,11 @@ both_moves w w1 w2 x y z a b = record {
   grows = grows_both w.store w1.store w2.store a.grows b.grows;
   others = λ e p ne found.
       b.others e p
-      (λ h. elim (a.fresh e h) [ inl own ↦ ne own | inr none ↦ let c : Some p ≡ None = sym found ∙ none in absurd (cc) ])
+      (λ h. elim (a.fresh e h) [
+        | inl own ↦ ne own
+        | inr none ↦ let c : Some p ≡ None = sym found
+            ∙ none in absurd (cc)
+      ])
       (a.others e p ne found);
   back = λ e p apart found. elim (b.back e p (a.unique apart) found) [
     | inl own ↦ inl own
@@ -230,16 +257,24 @@ delete_moves w number own = stored_moves w (deleted_store w.store number) own (r
   next = omega arith;
   uploads = λ n up lt there. elim (cases_eq number n) [
     | inl same ↦
-        let none : find n (others number w.store.uploads) ≡ None = subst (λ k. find k (others number w.store.uploads) ≡ None) same (none_in_others number w.store.uploads) in
+        let none : find n (others number w.store.uploads) ≡ None =
+        subst (λ k. find k (others number w.store.uploads) ≡ None) same (none_in_others number w.store.uploads) in
         let x : Some up ≡ None = sym there ∙ none in
         absurd (cc)
-    | inr ne ↦ (up, sym (find_in_others number n w.store.uploads ne) ∙ there, same_longer w.store (deleted_store w.store number) up refl)
+    | inr ne ↦ (
+      up,
+      sym (find_in_others number n w.store.uploads ne) ∙ there,
+      same_longer w.store
+          (deleted_store w.store number) up refl,
+    )
   ];
 })
 
 -- bytes are put behind an upload that isn't complete
-append_grows_at : (m : Store) (number : ℕ) (bytes : List ℕ) (u : Upload) (done : Bool) → upload_of m number ≡ Some u → is_complete u ≡ false
-    → (text_with m.indexes u bytes done).fault ≡ None → Grows m (record m { uploads = replaced number (with_bytes u bytes) m.uploads })
+append_grows_at : (m : Store) (number : ℕ) (bytes : List ℕ) (u : Upload) (done : Bool) → upload_of m number ≡ Some u
+    → is_complete u ≡ false
+    → (text_with m.indexes u bytes done).fault ≡ None → Grows m
+    (record m { uploads = replaced number (with_bytes u bytes) m.uploads })
 append_grows_at m number bytes u done there unfinished value =
     let m' : Store = record m { uploads = replaced number (with_bytes u bytes) m.uploads } in
     record {
@@ -249,11 +284,26 @@ append_grows_at m number bytes u done there unfinished value =
         | inl is ↦
             let f : find number (replaced number (with_bytes u bytes) m.uploads) ≡ Some (with_bytes u bytes) =
             find_replaced_same number u (with_bytes u bytes) m.uploads there in
-            let same : Some (with_bytes u bytes) ≡ Some up = sym f ∙ (ap (λ i. find i (replaced number (with_bytes u bytes) m.uploads)) is ∙ found) in
+            let same : Some (with_bytes u bytes) ≡ Some up =
+            sym f ∙ (ap (λ i. find i (replaced number (with_bytes u bytes) m.uploads)) is ∙ found) in
             let more = text_longer m.indexes u bytes done unfinished value in
-            let l : Longer m m' u (with_bytes u bytes) = record { bytes = bytes; more = more.0; is = refl; text = more.1 } in
-            (u, ap (λ i. find i m.uploads) (sym is) ∙ there, subst (Longer m m' u) (same_Some (with_bytes u bytes) up same) l)
-        | inr ne ↦ (up, sym (find_replaced_other number n (with_bytes u bytes) m.uploads ne) ∙ found, same_longer m m' up refl)
+            let l : Longer m m' u (with_bytes u bytes) = record {
+              bytes = bytes;
+              more = more.0;
+              is = refl;
+              text = more.1;
+            } in (
+              u,
+              ap (λ i. find i m.uploads) (sym is) ∙ there,
+              subst (Longer m m' u)
+                  (same_Some (with_bytes u bytes) up same) l,
+            )
+        | inr ne ↦ (
+          up,
+          sym (find_replaced_other number n (with_bytes u bytes) m.uploads ne)
+              ∙ found,
+          same_longer m m' up refl,
+        )
       ];
     }
 
@@ -264,10 +314,12 @@ or_else_none (Some f) b e = absurd (cc)
 same_length : (a b : ℕ) (f : UploadRefusal) → refuse_if (if a == b then false else true) f ≡ None → a ≡ b
 same_length a b f e = elim (cases_eq a b) [
   | inl is ↦ is
-  | inr ne ↦ let x : (a == b) ≡ false = ne_eqb a b ne in let y : Some f ≡ None = ap (λ t. refuse_if (if t then false else true) f) (sym x) ∙ e in absurd (cc)
+  | inr ne ↦ let x : (a == b) ≡ false = ne_eqb a b ne in let y : Some f ≡ None =
+      ap (λ t. refuse_if (if t then false else true) f) (sym x) ∙ e in absurd (cc)
 ]
 
-offset_same : (p : Patch) (o : Option Upload) (u : Upload) → o ≡ Some u → offset_refusal p o ≡ None → length u.accepted ≡ length p.began.accepted
+offset_same : (p : Patch) (o : Option Upload) (u : Upload) → o ≡ Some u → offset_refusal p o ≡ None
+    → length u.accepted ≡ length p.began.accepted
 offset_same p None u is e = absurd (cc)
 offset_same p (Some v) u is e =
     let x : v ≡ u = cc in
@@ -281,17 +333,20 @@ or_else_second : (a b : Option UploadRefusal) → or_else a b ≡ None → b ≡
 or_else_second None b e = e
 or_else_second (Some f) b e = absurd (cc)
 
-no_fault : (o : Option ℕ) (rest : Option UploadRefusal) → (if is_there o then Some Unencodable else rest) ≡ None → o ≡ None
+no_fault : (o : Option ℕ) (rest : Option UploadRefusal) → (if is_there o then Some Unencodable else rest) ≡ None
+    → o ≡ None
 no_fault None rest e = refl
 no_fault (Some c) rest e = absurd (cc)
 
 -- a text that is committed has a value
-has_value : (w : World) (d : ℕ) (p : Patch) → is_empty p.body ≡ false → text_refusal w d p ≡ None → (text_with w.store.indexes p.began p.body (completes p)).fault ≡ None
+has_value : (w : World) (d : ℕ) (p : Patch) → is_empty p.body ≡ false → text_refusal w d p ≡ None
+    → (text_with w.store.indexes p.began p.body (completes p)).fault ≡ None
 unfolding patch_text
 has_value w d p e none =
     let fault = (patch_text w.store.indexes p (completes p)).fault in
     let rest = refuse_if (is_short w d p (completes p)) Full in
-    no_fault fault rest (sym (ap (λ b. if b then None else (if is_there fault then Some Unencodable else rest)) e) ∙ none)
+    no_fault fault rest (sym (ap (λ b. if b then None else (if is_there fault then Some Unencodable else rest)) e)
+    ∙ none)
 
 none_behind : (xs ys : List ℕ) → length (xs ++ ys) ≡ length xs → ys ≡ []
 none_behind xs [] e = refl
@@ -300,13 +355,16 @@ none_behind xs (y ∷ ys) e =
     absurd (omega arith)
 
 -- the upload of a patch whose offset isn't refused is there
-there_still : (p : Patch) (o : Option Upload) → GrewFrom p o → offset_refusal p o ≡ None → (more : List ℕ) × (o ≡ Some (with_bytes p.began more))
+there_still : (p : Patch) (o : Option Upload) → GrewFrom p o → offset_refusal p o ≡ None
+    → (more : List ℕ) × (o ≡ Some (with_bytes p.began more))
 there_still p None grown none = absurd (cc)
 there_still p (Some u) (more, is) none = (more, ap Some is)
 
 -- what is committed is put behind an upload that isn't complete
-store_grows : (w : World) (d : ℕ) (p : Patch) → GrewFrom p (upload_of w.store p.number) → length p.began.accepted + p.count ≤ p.began.declared → length p.body ≤ p.count
-    → offset_refusal p (upload_of w.store p.number) ≡ None → text_refusal w d p ≡ None → (b : Bool) → is_empty p.body ≡ b
+store_grows : (w : World) (d : ℕ) (p : Patch) → GrewFrom p (upload_of w.store p.number)
+    → length p.began.accepted + p.count ≤ p.began.declared → length p.body ≤ p.count
+    → offset_refusal p (upload_of w.store p.number) ≡ None → text_refusal w d p ≡ None → (b : Bool)
+    → is_empty p.body ≡ b
     → Grows w.store (if b then w.store else appended_store w.store p.number p.body)
 store_grows w d p grown fits short none valued true e = same_grows w.store
 store_grows w d p grown fits short none valued false e =
@@ -314,24 +372,32 @@ store_grows w d p grown fits short none valued false e =
     let u = with_bytes p.began there.0 in
     let n : length u.accepted ≡ length p.began.accepted = offset_same p (upload_of w.store p.number) u there.1 none in
     let nil = none_behind p.began.accepted there.0 n in
-    let same : p.began ≡ u = sym (ap (λ x. record p.began { accepted = x }) (append-nil p.began.accepted)) ∙ ap (with_bytes p.began) (sym nil) in
-    let value = subst (λ x. (text_with w.store.indexes x p.body (completes p)).fault ≡ None) same (has_value w d p e valued) in
+    let same : p.began ≡ u = sym (ap (λ x. record p.began { accepted = x }) (append-nil p.began.accepted))
+    ∙ ap (with_bytes p.began) (sym nil) in
+    let value = subst (λ x. (text_with w.store.indexes x p.body (completes p)).fault ≡ None) same
+    (has_value w d p e valued) in
     let some = not_empty p.body e in
     let unfinished : is_complete u ≡ false = ne_eqb (length u.accepted) u.declared (omega arith) in
     let now = append_grows_at w.store p.number p.body u (completes p) there.1 unfinished value in
     subst (λ o. Grows w.store (appended_to w.store p.number p.body o)) (sym there.1) now
 
 -- the patch is spent
-spend_on : (w : World) (d : ℕ) (p : Patch) → GrewFrom p (upload_of w.store p.number) → length p.began.accepted + p.count ≤ p.began.declared → length p.body ≤ p.count
+spend_on : (w : World) (d : ℕ) (p : Patch) → GrewFrom p (upload_of w.store p.number)
+    → length p.began.accepted + p.count ≤ p.began.declared → length p.body ≤ p.count
     → (o : Option UploadRefusal) → commit_refusal w d p ≡ o → Moves w (spent w d p o) (Some d) None
 unfolding commit_refusal
 spend_on w d p there fits short (Some f) e = drop_moves w d
 spend_on w d p there fits short None e =
     let none = or_else_none (offset_refusal p (upload_of w.store p.number)) (text_refusal w d p) e in
     let m = committed_store w.store p in
-    let grows : Grows w.store m = store_grows w d p there fits short none (or_else_second (offset_refusal p (upload_of w.store p.number)) (text_refusal w d p) e) (is_empty p.body) refl in
-    both_moves w (record w { store = m }) (committed w d p) (Some d) (Some d) None (stored_moves w m (Some d) grows) (drop_moves (record w { store = m }) d)
+    let grows : Grows w.store m =
+    store_grows w d p there fits short none
+    (or_else_second (offset_refusal p (upload_of w.store p.number)) (text_refusal w d p) e) (is_empty p.body)
+    refl in
+    both_moves w (record w { store = m }) (committed w d p) (Some d) (Some d) None (stored_moves w m (Some d) grows)
+    (drop_moves (record w { store = m }) d)
 
-pub spend_moves : (w : World) (d : ℕ) (p : Patch) → GrewFrom p (upload_of w.store p.number) → length p.began.accepted + p.count ≤ p.began.declared → length p.body ≤ p.count
+pub spend_moves : (w : World) (d : ℕ) (p : Patch) → GrewFrom p (upload_of w.store p.number)
+    → length p.began.accepted + p.count ≤ p.began.declared → length p.body ≤ p.count
     → Moves w (spent w d p (commit_refusal w d p)) (Some d) None
 spend_moves w d p there fits short = spend_on w d p there fits short (commit_refusal w d p) refl

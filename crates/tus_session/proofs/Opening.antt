@@ -1,5 +1,7 @@
 -- A connection is opened; a session begins.
-use Rattle.std.proofs.Common.{◌≡◌, ◌⊎◌, inl, inr, ℕ, zero, suc, ◌<◌, ◌≤◌, Bool, true, false, List, [], ◌∷◌, ◌++◌, length, get_or, slice_set, if◌then◌else◌, Option, Some, None, refl, sym, ◌∙◌, ap, subst, arith, nat_lt, append-nil}
+use Rattle.std.proofs.Common.{◌≡◌, ◌⊎◌, inl, inr, ℕ, zero, suc, ◌<◌, ◌≤◌, Bool, true, false, List, [], ◌∷◌, ◌++◌}
+use Rattle.std.proofs.Common.{length, get_or, slice_set, if◌then◌else◌, Option, Some, None, refl, sym, ◌∙◌, ap, subst}
+use Rattle.std.proofs.Common.{arith, nat_lt, append-nil}
 use Rattle.std.proofs.lemmas.Bool.{lt-ltb, le-ltb, cases_eq}
 use Rattle.tus_request.specs.Buffers.{bytes_of}
 use Rattle.enc_model.specs.Indexes.{offers}
@@ -31,25 +33,33 @@ same_longer m m' up same = record {
 }
 
 pub same_grows : (m : Store) → Grows m m
-same_grows m = record { indexes = refl; next = omega arith; uploads = λ n up lt there. (up, there, same_longer m m up refl) }
+same_grows m = record {
+  indexes = refl;
+  next = omega arith;
+  uploads = λ n up lt there. (up, there, same_longer m m up refl);
+}
 
 -- nothing moved
 pub still : (w : World) (own : Option ℕ) → Moves w w own own
 still w own = record {
   grows = same_grows w.store;
   others = λ e p ne found. found;
-  back = λ e p apart found. elim own as (λ o. (o ≡ Some e) ⊎ ((o ≡ Some e → ⊥) × ((q : Patch) × (find e w.patches ≡ Some q)))) [
-    | None ↦ inr (λ h. absurd (cc), (p, found))
-    | Some d ↦ elim (cases_eq d e) [ inl is ↦ inl (ap Some is) | inr ne ↦ inr (λ h. ne (let x : d ≡ e = cc in x), (p, found)) ]
-  ];
+  back = λ e p apart found. elim own as
+      (λ o. (o ≡ Some e) ⊎ ((o ≡ Some e → ⊥) × ((q : Patch) × (find e w.patches ≡ Some q)))) [
+        | None ↦ inr (λ h. absurd (cc), (p, found))
+        | Some d ↦ elim (cases_eq d e)
+            [ inl is ↦ inl (ap Some is) | inr ne ↦ inr (λ h. ne (let x : d ≡ e = cc in x), (p, found)) ]
+      ];
   fresh = λ e h. inl h;
   unique = λ h. h;
 }
 
 module _ {U B : Type 0} (u : Ghosts U B) where
-  new_place : (w : World) (k : Link B) → (bytes_of k.head) ≡ [] → k.left ≡ 0 → k.task ≡ tasks.Idle → PlaceIs u w (Open k) (Some fresh)
+  new_place : (w : World) (k : Link B) → (bytes_of k.head) ≡ [] → k.left ≡ 0 → k.task ≡ tasks.Idle
+      → PlaceIs u w (Open k) (Some fresh)
   new_place w k e f g =
-      let c : InHead [] ≡ (cut (reader w) []).rest = sym (ap (λ x. x.rest) (empty_cut (reader w) (steady (offers w.store.indexes)))) in
+      let c : InHead [] ≡ (cut (reader w) []).rest =
+      sym (ap (λ x. x.rest) (empty_cut (reader w) (steady (offers w.store.indexes)))) in
       let a : RestIs (bytes_of k.head) k.left (InHead []) = (e, f) in
       let t : TaskIs u w (InHead []) k.task None None = subst (λ x. TaskIs u w (InHead []) x None None) (sym g) tt in
       record {
@@ -57,42 +67,57 @@ module _ {U B : Type 0} (u : Ghosts U B) where
         does = subst (λ r. TaskIs u w r k.task None None) c t;
       }
 
-  opened_step : (places : List (Place B)) (store : U) (st : State) (c : ℕ) (k : Link B) → SessionStands u places store st → c < length places → (o : Option Conn)
+  opened_step : (places : List (Place B)) (store : U) (st : State) (c : ℕ) (k : Link B)
+      → SessionStands u places store st → c < length places → (o : Option Conn)
       → st.conns c ≡ o → o ≡ None → (bytes_of k.head) ≡ [] → k.left ≡ 0 → k.task ≡ tasks.Idle
       → Follows u (slice_set places c (Open k)) store (opened_at st c o).state (opened_at st c o).outcome Done
   opened_step places store st c k stands lt (Some conn) is none e f g = absurd (cc)
   opened_step places store st c k stands lt None is none e f g =
       let n : nat_lt c 16 ≡ true = lt-ltb c 16 (omega (arith, stands.count)) in
       let d : None ≡ draft_at (st.conns c) = ap draft_at (sym is) in
-      let moves : Moves st.world st.world (draft_at (st.conns c)) None = subst (λ o. Moves st.world st.world o None) d (still st.world None) in
+      let moves : Moves st.world st.world (draft_at (st.conns c)) None =
+      subst (λ o. Moves st.world st.world o None) d (still st.world None) in
       let s : SessionStands u (slice_set places c (Open k)) store (put st st.world c (Some fresh)) =
-      in_place u places (slice_set places c (Open k)) store store st st.world c (Open k) (Some fresh) stands (is_set u places c (Open k) lt) moves stands.shown (new_place st.world k e f g) in
-      let P : Bool → Type 0 = λ b. let x : Step = (if b then record { state = put st st.world c (Some fresh); outcome = Done } else kept st TooMany) in
+      in_place u places (slice_set places c (Open k)) store store st st.world c (Open k) (Some fresh) stands
+      (is_set u places c (Open k) lt) moves stands.shown (new_place st.world k e f g) in
+      let P : Bool → Type 0 = λ b. let x : Step = (if b then record {
+        state = put st st.world c (Some fresh);
+        outcome = Done;
+      } else kept st TooMany) in
       Follows u (slice_set places c (Open k)) store x.state x.outcome Done in
       let now : P true = record { stands = s; outcome = refl } in
       subst P (sym n) now
 
-  pub opened : (places : List (Place B)) (store : U) (st : State) (c : ℕ) (k : Link B) → SessionStands u places store st → c < length places → st.conns c ≡ None
+  pub opened : (places : List (Place B)) (store : U) (st : State) (c : ℕ) (k : Link B) → SessionStands u places store st
+      → c < length places → st.conns c ≡ None
       → (bytes_of k.head) ≡ [] → k.left ≡ 0 → k.task ≡ tasks.Idle
-      → Follows u (slice_set places c (Open k)) store (step st (Opened c) Served).state (step st (Opened c) Served).outcome Done
+      → Follows u (slice_set places c (Open k)) store (step st (Opened c) Served).state
+      (step st (Opened c) Served).outcome Done
   unfolding step
-  opened places store st c k stands lt none e f g = opened_step places store st c k stands lt (st.conns c) refl none e f g
+  opened places store st c k stands lt none e f g =
+      opened_step places store st c k stands lt (st.conns c) refl none e f g
 
-  pub not_below : (places : List (Place B)) (store : U) (st : State) (c : ℕ) → SessionStands u places store st → length places ≤ c
+  pub not_below : (places : List (Place B)) (store : U) (st : State) (c : ℕ) → SessionStands u places store st
+      → length places ≤ c
       → Follows u places store st (step st (Opened c) Served).outcome (Refused TooMany)
   unfolding step
   not_below places store st c stands le =
       let n : nat_lt c 16 ≡ false = le-ltb c 16 (omega (arith, stands.count)) in
       let none = beyond u places store st c stands le in
-      let P : Bool → Type 0 = λ b. let x : Step = (if b then record { state = put st st.world c (Some fresh); outcome = Done } else kept st TooMany) in
+      let P : Bool → Type 0 = λ b. let x : Step = (if b then record {
+        state = put st st.world c (Some fresh);
+        outcome = Done;
+      } else kept st TooMany) in
       Follows u places store st x.outcome (Refused TooMany) in
       let Q : Option Conn → Type 0 = λ o. Follows u places store st (opened_at st c o).outcome (Refused TooMany) in
       let now : P false = record { stands = stands; outcome = refl } in
       let later : Q None = subst P (sym n) now in
       subst Q (sym none) later
 
-  pub is_open : (places : List (Place B)) (store : U) (st : State) (c : ℕ) (x : Place B) (k : Link B) → SessionStands u places store st → c < length places
-      → x ≡ get_or places c x → x ≡ Open k → Follows u places store st (step st (Opened c) Served).outcome (Refused TooMany)
+  pub is_open : (places : List (Place B)) (store : U) (st : State) (c : ℕ) (x : Place B) (k : Link B)
+      → SessionStands u places store st → c < length places
+      → x ≡ get_or places c x → x ≡ Open k → Follows u places store st (step st (Opened c) Served).outcome
+      (Refused TooMany)
   unfolding step
   is_open places store st c x k stands lt e is =
       let o = open_at u places store st c x k stands lt e is in
@@ -101,7 +126,8 @@ module _ {U B : Type 0} (u : Ghosts U B) where
       subst Q (sym o.1) now
 
   -- so many closed places
-  pub begun : (places : List (Place B)) (store : U) (m : Store) (blocks : Option ℕ) → u.stands store (at_rest m blocks) → length places ≡ 16
+  pub begun : (places : List (Place B)) (store : U) (m : Store) (blocks : Option ℕ) → u.stands store (at_rest m blocks)
+      → length places ≡ 16
       → ((c : ℕ) → get_or places c Closed ≡ Closed) → SessionStands u places store (beginning m blocks)
   begun places store m blocks shown count all = record {
     count = count;
@@ -113,7 +139,8 @@ module _ {U B : Type 0} (u : Ghosts U B) where
   }
 
 -- one closed place more
-pub closed_push : {B : Type 0} (xs : List (Place B)) → ((c : ℕ) → get_or xs c Closed ≡ Closed) → (c : ℕ) → get_or (xs ++ Closed ∷ []) c Closed ≡ Closed
+pub closed_push : {B : Type 0} (xs : List (Place B)) → ((c : ℕ) → get_or xs c Closed ≡ Closed) → (c : ℕ)
+    → get_or (xs ++ Closed ∷ []) c Closed ≡ Closed
 closed_push [] h zero = refl
 closed_push [] h (suc c) = refl
 closed_push (x ∷ xs) h zero = h zero

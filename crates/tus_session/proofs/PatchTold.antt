@@ -209,7 +209,8 @@ module _ {U B : Type 0} (u : Ghosts U B) (w : World) (conn : Conn) (h bytes : Li
         reached = omega arith;
         fits = omega arith;
         below = below;
-        grown = subst (GrewFrom p0) (sym x.there) ([], ap (λ z. record x.up { accepted = z }) (sym (append-nil x.up.accepted)));
+        grown = subst (GrewFrom p0) (sym x.there)
+            ([], ap (λ z. record x.up { accepted = z }) (sym (append-nil x.up.accepted)));
         bare = bare;
         closes = closes;
       }

@@ -1,14 +1,17 @@
 -- What a request leaves open behind its head: nothing, a text, or a patch.
-use Rattle.std.proofs.Common.{ℕ, ◌+◌, ◌≤◌, ◌≡◌, ◌==◌, Bool, true, false, List, [], ◌∷◌, Option, Some, None, length, drop, refl, ap, if◌then◌else◌, nat_lt}
+use Rattle.std.proofs.Common.{ℕ, ◌+◌, ◌≤◌, ◌≡◌, ◌==◌, Bool, true, false, List, [], ◌∷◌, Option, Some, None, length}
+use Rattle.std.proofs.Common.{drop, refl, ap, if◌then◌else◌, nat_lt}
 use Rattle.std.proofs.lemmas.Bool.{ltb-false, eqb-true}
 use Rattle.tus_request.specs.Requests.{Request, Action, Options, Create, Head, Get, Delete, Asks}
 use Rattle.tus_request.specs.Requests.{Patch as Patches}
 use Rattle.upload_rules.specs.Store.{New, Upload, upload_of, find, text_of}
 use Rattle.upload_rules.specs.World.{World, free_number}
-use Rattle.upload_rules.specs.Calls.{create_refusal, terminate_refusal, begin_refusal, begin_refusal_at, begun_at, first_patch, refuse_if}
+use Rattle.upload_rules.specs.Calls.{create_refusal, terminate_refusal, begin_refusal, begin_refusal_at, begun_at}
+use Rattle.upload_rules.specs.Calls.{first_patch, refuse_if}
 use Rattle.upload_rules.specs.declared.errors.UploadRefusal.{UploadRefusal}
 use Rattle.upload_rules.specs.declared.errors.UploadRefusal.TheVariants.{Offset, TooLong}
-use Rattle.tus_action.specs.Acts.{Acted, Giving, acted, acted_on, post, new_of, delete, head, get, giving, patch, piece_size}
+use Rattle.tus_action.specs.Acts.{Acted, Giving, acted, acted_on, post, new_of, delete, head, get, giving, patch}
+use Rattle.tus_action.specs.Acts.{piece_size}
 use Rattle.tus_session.specs.Moves.{Moves}
 use Rattle.tus_session.proofs.Moved.{create_moves, delete_moves, free_none}
 use Rattle.tus_session.proofs.Opening.{still}
@@ -46,13 +49,19 @@ shown : (w : World) (r : Request) (o : Option Upload) → Leaves w r (head w r o
 shown w r None = Nothing (still w None) refl refl
 shown w r (Some u) = Nothing (still w None) refl refl
 
-given : (w : World) (r : Request) (number : ℕ) (u : Upload) (text left : List ℕ) → Leaves w r (giving w r number u text left)
+given : (w : World) (r : Request) (number : ℕ) (u : Upload) (text left : List ℕ)
+    → Leaves w r (giving w r number u text left)
 given w r number u text [] = Nothing (still w None) refl refl
-given w r number u text (b ∷ left) = Text (record { number = number; left = b ∷ left; closes = r.closes }) refl refl refl refl
+given w r number u text (b ∷ left) = Text (record {
+  number = number;
+  left = b ∷ left;
+  closes = r.closes;
+}) refl refl refl refl
 
 got : (w : World) (r : Request) (number : ℕ) (o : Option Upload) → Leaves w r (get w r number o)
 got w r number None = Nothing (still w None) refl refl
-got w r number (Some u) = given w r number u (text_of w.store.indexes u) (if r.bare then [] else drop piece_size (text_of w.store.indexes u))
+got w r number (Some u) =
+    given w r number u (text_of w.store.indexes u) (if r.bare then [] else drop piece_size (text_of w.store.indexes u))
 
 -- a patch that isn't refused
 pub record Begins (offset count : ℕ) (o : Option Upload) : Type 0 where
@@ -66,7 +75,8 @@ fits_case true e = absurd (cc)
 fits_case false e = refl
 
 begins_case : (offset count : ℕ) (u : Upload) (b : Bool) → (length u.accepted == offset) ≡ b
-    → (if b then refuse_if (nat_lt u.declared (offset + count)) TooLong else Some Offset) ≡ None → Begins offset count (Some u)
+    → (if b then refuse_if (nat_lt u.declared (offset + count)) TooLong else Some Offset) ≡ None
+    → Begins offset count (Some u)
 begins_case offset count u true same e = record {
   up = u;
   there = refl;
@@ -79,7 +89,8 @@ begins : (offset count : ℕ) (o : Option Upload) → begin_refusal_at offset co
 begins offset count None e = absurd (cc)
 begins offset count (Some u) e = begins_case offset count u (length u.accepted == offset) refl e
 
-patched : (w : World) (r : Request) (number offset : ℕ) → r.action ≡ Patches number offset → (o : Option UploadRefusal) → begin_refusal w number offset r.length ≡ o → Leaves w r (patch w r number o)
+patched : (w : World) (r : Request) (number offset : ℕ) → r.action ≡ Patches number offset → (o : Option UploadRefusal)
+    → begin_refusal w number offset r.length ≡ o → Leaves w r (patch w r number o)
 patched w r number offset action (Some f) e = Nothing (still w None) refl refl
 patched w r number offset action None e =
     let b = begins offset r.length (upload_of w.store number) e in

@@ -2,11 +2,15 @@
 use Rattle.std.proofs.Common.{◌≡◌, ℕ, Bool, true, false, Option, Some, None, refl, if◌then◌else◌, nat_lt}
 use Rattle.upload_rules.specs.World.{World}
 use Rattle.tus_session.specs.Turns.{Conn, left_world, fresh}
-use Rattle.tus_session.specs.History.{State, Event, Opened, Came, More, Ended, OutOfMemory, Failed, Done, put, kept, opened_at, lost_at, failed_at, step}
+use Rattle.tus_session.specs.History.{State, Event, Opened, Came, More, Ended, OutOfMemory, Failed, Done, put, kept}
+use Rattle.tus_session.specs.History.{opened_at, lost_at, failed_at, step}
 use Rattle.tus_session.specs.declared.errors.SessionError.TheVariants.{TooMany}
 
 put_uploads : (st : State) (c : ℕ) (b : Bool)
-    → (if b then record { state = put st st.world c (Some fresh); outcome = Done } else kept st TooMany).state.world.store ≡ st.world.store
+    → (if b then record {
+      state = put st st.world c (Some fresh);
+      outcome = Done;
+    } else kept st TooMany).state.world.store ≡ st.world.store
 put_uploads st c true = refl
 put_uploads st c false = refl
 

@@ -32,7 +32,8 @@ action_made x (Patch n offset) s = tt {0}
 action_made x (Delete n) s = tt {0}
 
 -- what a POST asks for can be made
-pub makeable : (x : IndexSet) (s : List ℕ) (n : ℕ) (r : Request) → answer_of (offers x) s ≡ Judged n (Asks r) → CanBeMade r.action
+pub makeable : (x : IndexSet) (s : List ℕ) (n : ℕ) (r : Request) → answer_of (offers x) s ≡ Judged n (Asks r)
+    → CanBeMade r.action
 makeable x s n r e = let p = request_sound (offers x) s n r e in action_made x r.action p.action_is
 
 action_read : (w : World) (a : Action) → IsSoundAction (offers w.store.indexes) a → CanBeRead w a
@@ -44,5 +45,6 @@ action_read w (Patch n offset) s = tt {0}
 action_read w (Delete n) s = tt {0}
 
 -- a POST asks for what the index set offers
-pub usable : (w : World) (s : List ℕ) (n : ℕ) (r : Request) → answer_of (offers w.store.indexes) s ≡ Judged n (Asks r) → CanBeRead w r.action
+pub usable : (w : World) (s : List ℕ) (n : ℕ) (r : Request) → answer_of (offers w.store.indexes) s ≡ Judged n (Asks r)
+    → CanBeRead w r.action
 usable w s n r e = let p = request_sound (offers w.store.indexes) s n r e in action_read w r.action p.action_is

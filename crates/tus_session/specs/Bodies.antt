@@ -20,7 +20,8 @@ abbrev pub took : ℕ → Bool → Answer
 took n closes = record { taken = n; closes = closes; more = false }
 
 -- the patch goes on: the same but for its draft
-pub record GoesOn {U B : Type 0} (u : Ghosts U B) (store : U) (place : Place B) (a : Answer) (k : Link B) (b b' : Patching B) (taken : ℕ) (w : World) (p : Patch) : Type 0 where
+pub record GoesOn {U B : Type 0} (u : Ghosts U B) (store : U) (place : Place B) (a : Answer) (k : Link B)
+    (b b' : Patching B) (taken : ℕ) (w : World) (p : Patch) : Type 0 where
   pub place_is : place ≡ Open (record k { task = tasks.Patch b' })
   pub answer_is : a ≡ took taken false
   pub number : u.number_of b'.draft ≡ u.number_of b.draft
@@ -31,23 +32,27 @@ pub record GoesOn {U B : Type 0} (u : Ghosts U B) (store : U) (place : Place B) 
   pub bare : b'.bare ≡ b.bare
   pub closes : b'.closes ≡ b.closes
 
-abbrev pub GoesOnSome : {U B : Type 0} → Ghosts U B → U → Place B → Answer → Link B → Patching B → ℕ → World → Patch → Type 0
+abbrev pub GoesOnSome : {U B : Type 0} → Ghosts U B → U → Place B → Answer → Link B → Patching B → ℕ → World → Patch
+    → Type 0
 GoesOnSome {U} {B} u store place a k b taken w p = (b' : Patching B) × GoesOn u store place a k b b' taken w p
 
-abbrev pub Parts : {U B : Type 0} → Ghosts U B → U → Place B → Result Answer SessionError → Link B → Patching B → ℕ → World → Patch → World → Type 0
+abbrev pub Parts : {U B : Type 0} → Ghosts U B → U → Place B → Result Answer SessionError → Link B → Patching B → ℕ
+    → World → Patch → World → Type 0
 Parts u store place (Ok a) k b taken w p gone = GoesOnSome u store place a k b taken w p
 Parts u store place (Err NoMemory) k b taken w p gone = u.stands store gone × (place ≡ Closed)
 Parts u store place (Err DiskFault) k b taken w p gone = Unit {0}
 Parts u store place (Err f) k b taken w p gone = ⊥
 
 -- an answer was given, and nothing is open
-pub record Answered {U B : Type 0} (u : Ghosts U B) (store : U) (place : Place B) (a : Answer) (old new : List ℕ) (k : Link B) (taken : ℕ) (m : Acted) : Type 0 where
+pub record Answered {U B : Type 0} (u : Ghosts U B) (store : U) (place : Place B) (a : Answer) (old new : List ℕ)
+    (k : Link B) (taken : ℕ) (m : Acted) : Type 0 where
   pub shown : u.stands store m.world
   pub place_is : place ≡ (if m.closes then Closed else Open (record k { task = tasks.Idle }))
   pub answer_is : a ≡ took taken m.closes
   pub bytes : new ≡ old ++ m.bytes
 
-abbrev pub Replies : {U B : Type 0} → Ghosts U B → U → Place B → Result Answer SessionError → List ℕ → List ℕ → Link B → ℕ → Acted → World → Type 0
+abbrev pub Replies : {U B : Type 0} → Ghosts U B → U → Place B → Result Answer SessionError → List ℕ → List ℕ → Link B
+    → ℕ → Acted → World → Type 0
 Replies u store place (Ok a) old new k taken m gone = Answered u store place a old new k taken m
 Replies u store place (Err NoMemory) old new k taken m gone = u.stands store gone × (place ≡ Closed) × (new ≡ old)
 Replies u store place (Err DiskFault) old new k taken m gone = new ≡ old
@@ -55,4 +60,5 @@ Replies u store place (Err f) old new k taken m gone = ⊥
 
 -- the body's end, with the rest of the body
 abbrev pub ended_by : World → ℕ → Patch → List ℕ → Request → Acted
-ended_by w d p piece r = committed_as (fed w d piece) d (fed_patch w d p piece) r (commit_refusal (fed w d piece) d (fed_patch w d p piece))
+ended_by w d p piece r = committed_as (fed w d piece) d (fed_patch w d p piece) r
+    (commit_refusal (fed w d piece) d (fed_patch w d p piece))

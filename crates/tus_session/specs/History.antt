@@ -19,7 +19,8 @@ pub data Mark : Type 0 where
 abbrev pub Marked : Type 0
 Marked = Event × Mark
 
--- what the call answers: the bytes given, how many were taken, whether it closed and whether more is to be given; nothing; or a refusal
+-- what the call answers: the bytes given, how many were taken, whether it closed and whether more is to be given;
+-- nothing; or a refusal
 pub data Outcome : Type 0 where
   Gave : List ℕ → ℕ → Bool → Bool → Outcome
   Done : Outcome
@@ -52,7 +53,10 @@ is_closed None = true
 is_closed (Some k) = false
 
 abbrev pub turned : State → ℕ → Turn → Step
-turned st c t = record { state = put st t.world c t.conn; outcome = Gave t.bytes t.taken (is_closed t.conn) (has_text t.conn) }
+turned st c t = record {
+  state = put st t.world c t.conn;
+  outcome = Gave t.bytes t.taken (is_closed t.conn) (has_text t.conn);
+}
 
 abbrev pub opened_at : State → ℕ → Option Conn → Step
 opened_at st c (Some k) = kept st TooMany

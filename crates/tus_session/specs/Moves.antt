@@ -18,7 +18,8 @@ pub record Grows (m m' : Store) : Type 0 where
   pub uploads : (n : ℕ) (up' : Upload) → n < m.next → upload_of m' n ≡ Some up'
       → (up : Upload) × (upload_of m n ≡ Some up) × Longer m m' up up'
 
--- From one world to the next by the connection that had one draft and now has another: all other patches are as they were,
+-- From one world to the next by the connection that had one draft and now has another: all other patches are as they
+-- were,
 -- and no draft number is taken that was another's
 pub record Moves (w w' : World) (own own' : Option ℕ) : Type 0 where
   pub grows : Grows w.store w'.store

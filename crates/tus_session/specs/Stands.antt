@@ -25,7 +25,8 @@ RestIs head left (InHead h) = (head ≡ h) × (left ≡ 0)
 RestIs head left (InBody r) = (head ≡ []) × (left ≡ body_length r.verdict - length r.body)
 
 -- the request that a body belongs to, and the open patch that it is
-pub record PatchesAs {U B : Type 0} (u : Ghosts U B) (w : World) (b : Patching B) (d : ℕ) (asked : Asked) (r : Request) (p : Patch) : Type 0 where
+pub record PatchesAs {U B : Type 0} (u : Ghosts U B) (w : World) (b : Patching B) (d : ℕ) (asked : Asked) (r : Request)
+    (p : Patch) : Type 0 where
   pub number : u.number_of b.draft ≡ d
   pub found : find d w.patches ≡ Some p
   pub holds : u.holds b.draft p
@@ -51,7 +52,8 @@ TaskIs u w rest (tasks.Text g) None (Some h) = IsGiving w.store g h
 TaskIs u w rest _ _ _ = ⊥
 
 -- a connection is the history's
-pub record LinkIs {U B : Type 0} (u : Ghosts U B) (w : World) (head : List ℕ) (left : ℕ) (task : Task B) (conn : Conn) : Type 0 where
+pub record LinkIs {U B : Type 0} (u : Ghosts U B) (w : World) (head : List ℕ) (left : ℕ) (task : Task B)
+    (conn : Conn) : Type 0 where
   pub kept : RestIs head left (cut (reader w) conn.stream).rest
   pub does : TaskIs u w (cut (reader w) conn.stream).rest task conn.draft conn.pending
 
@@ -65,14 +67,15 @@ draft_at None = None
 draft_at (Some conn) = conn.draft
 
 -- the store shows the history's world, each place is the history's, and no two connections have one draft
-pub record SessionStands {U B : Type 0} (u : Ghosts U B) (places : List (Place B)) (store : U) (st : State) : Type 0 where
-  pub count : length places ≡ 16
-  pub shown : u.stands store st.world
-  pub each : (c : ℕ) → PlaceIs u st.world (get_or places c Closed) (st.conns c)
-  pub apart : (c e d : ℕ) → draft_at (st.conns c) ≡ Some d → draft_at (st.conns e) ≡ Some d → c ≡ e
-  pub unique : IsApart st.world.patches
-  -- over a spool: the open patches are those of the connections, so that the blocks that are reserved are the needs
-  pub owned : (d : ℕ) (p : Patch) → find d st.world.patches ≡ Some p → (c : ℕ) × (draft_at (st.conns c) ≡ Some d)
+pub record SessionStands {U B : Type 0} (u : Ghosts U B) (places : List (Place B)) (store : U) (st : State) : Type 0
+  where
+    pub count : length places ≡ 16
+    pub shown : u.stands store st.world
+    pub each : (c : ℕ) → PlaceIs u st.world (get_or places c Closed) (st.conns c)
+    pub apart : (c e d : ℕ) → draft_at (st.conns c) ≡ Some d → draft_at (st.conns e) ≡ Some d → c ≡ e
+    pub unique : IsApart st.world.patches
+    -- over a spool: the open patches are those of the connections, so that the blocks that are reserved are the needs
+    pub owned : (d : ℕ) (p : Patch) → find d st.world.patches ≡ Some p → (c : ℕ) × (draft_at (st.conns c) ≡ Some d)
 
 -- the world without the draft that is open
 abbrev pub dropped_by : {U B : Type 0} → Ghosts U B → World → Task B → World

@@ -1,5 +1,6 @@
 -- How a stream is cut into requests, and the moments of an event.
-use Rattle.std.specs.Prelude.{ℕ, zero, suc, ◌+◌, ◌-◌, Bool, true, false, List, [], ◌∷◌, ◌++◌, length, take, drop, slice_get, nat_lt, Option, Some, None}
+use Rattle.std.specs.Prelude.{ℕ, zero, suc, ◌+◌, ◌-◌, Bool, true, false, List, [], ◌∷◌, ◌++◌, length, take, drop}
+use Rattle.std.specs.Prelude.{slice_get, nat_lt, Option, Some, None}
 use Rattle.tus_request.specs.Requests.{Verdict, body_length}
 use Rattle.tus_request.specs.Answers.{Answer, More, Judged}
 
@@ -28,7 +29,10 @@ onto r c = record { whole = r ∷ c.whole; rest = c.rest }
 
 -- behind a head, either the rest is part of its body, or the body is there and the cut goes on
 abbrev pub behind_head : (List ℕ → Cut) → List ℕ → Verdict → List ℕ → Bool → Cut
-behind_head go head v rest true = record { whole = []; rest = InBody (record { head = head; verdict = v; body = rest }) }
+behind_head go head v rest true = record {
+  whole = [];
+  rest = InBody (record { head = head; verdict = v; body = rest });
+}
 behind_head go head v rest false =
     onto (record { head = head; verdict = v; body = take (body_length v) rest }) (go (drop (body_length v) rest))
 
@@ -94,7 +98,11 @@ pub record Moments : Type 0 where
   pub came : List ℕ
 
 abbrev pub moments_of : Cut → Cut → Moments
-moments_of before after = record { head = head_between before after; body = body_between before after; came = came_between before after }
+moments_of before after = record {
+  head = head_between before after;
+  body = body_between before after;
+  came = came_between before after;
+}
 
 unfoldable pub moments : Reader → List ℕ → List ℕ → Moments
 moments answer s more = moments_of (cut answer s) (cut answer (s ++ more))

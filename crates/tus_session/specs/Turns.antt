@@ -1,5 +1,6 @@
 -- What an event makes of the world and of its connection.
-use Rattle.std.specs.Prelude.{ℕ, ◌-◌, Bool, true, false, List, [], ◌++◌, length, take, if◌then◌else◌, Option, Some, None}
+use Rattle.std.specs.Prelude.{ℕ, ◌-◌, Bool, true, false, List, [], ◌++◌, length, take, if◌then◌else◌, Option, Some}
+use Rattle.std.specs.Prelude.{None}
 use Rattle.tus_request.specs.Answers.{answer_of}
 use Rattle.enc_model.specs.Indexes.{offers}
 use Rattle.upload_rules.specs.Store.{Upload, find, upload_of}
@@ -32,7 +33,8 @@ at_body w d (Some r) = commit_with w d r.verdict (find d w.patches)
 -- what came of the body, and its moment, where a patch is open
 abbrev pub body_step : Acted → List ℕ → Option Asked → Option ℕ → Acted
 body_step a piece moment None = a
-body_step a piece moment (Some d) = let b = at_body (fed a.world d piece) d moment in record b { bytes = a.bytes ++ b.bytes }
+body_step a piece moment (Some d) = let b =
+    at_body (fed a.world d piece) d moment in record b { bytes = a.bytes ++ b.bytes }
 
 -- TURNS: the world, the connection unless it closed, the bytes that were given, and how many were taken
 pub record Turn : Type 0 where
@@ -45,9 +47,15 @@ abbrev pub conn_of : List ℕ → Acted → Option Conn
 conn_of stream a = if a.closes then None else Some (record { stream = stream; draft = a.draft; pending = a.pending })
 
 abbrev pub turn_of : Conn → List ℕ → ℕ → Acted → Turn
-turn_of k piece n a = record { world = a.world; conn = conn_of (k.stream ++ take n piece) a; bytes = a.bytes; taken = n }
+turn_of k piece n a = record {
+  world = a.world;
+  conn = conn_of (k.stream ++ take n piece) a;
+  bytes = a.bytes;
+  taken = n;
+}
 
--- the head moment first. Where it leaves a text pending, the call stops at the head's end, which the body's bytes came behind
+-- the head moment first. Where it leaves a text pending, the call stops at the head's end, which the body's bytes came
+-- behind
 abbrev pub came_with : Conn → List ℕ → ℕ → Moments → Acted → Turn
 came_with k piece n m a =
     elim (is_pending a.pending) [
@@ -79,7 +87,12 @@ given_up k closes (Some g) = Some (record k { pending = Some g })
 
 abbrev pub give_on : World → Conn → Giving → Option Upload → Turn
 give_on w k g None = record { world = w; conn = None; bytes = []; taken = 0 }
-give_on w k g (Some u) = record { world = w; conn = given_up k g.closes (pending_after g); bytes = piece_of g; taken = 0 }
+give_on w k g (Some u) = record {
+  world = w;
+  conn = given_up k g.closes (pending_after g);
+  bytes = piece_of g;
+  taken = 0;
+}
 
 abbrev pub more_on : World → Conn → Option Giving → Turn
 more_on w k None = record { world = w; conn = Some k; bytes = []; taken = 0 }

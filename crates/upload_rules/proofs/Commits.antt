@@ -1,5 +1,6 @@
 -- A body behind its upload's bytes.
-use Rattle.std.proofs.Common.{◌≡◌, ℕ, ◌+◌, ◌<◌, ◌≤◌, ◌^◌, Bool, false, List, [], ◌++◌, length, Result, Ok, Err, OnErr, refl, sym, ◌∙◌, ap, subst, arith, append-nil, length-append, ◌==◌}
+use Rattle.std.proofs.Common.{◌≡◌, ℕ, ◌+◌, ◌<◌, ◌≤◌, ◌^◌, Bool, false, List, [], ◌++◌, length, Result, Ok, Err, OnErr}
+use Rattle.std.proofs.Common.{refl, sym, ◌∙◌, ap, subst, arith, append-nil, length-append, ◌==◌}
 use Rattle.std.proofs.lemmas.Bool.{ne_eqb}
 use Rattle.enc_model.specs.Indexes.{IndexSet, tables}
 use Rattle.enc_model.specs.Decode.{text}
@@ -27,28 +28,34 @@ unfolding text_of
 text_of_is x u = refl
 
 -- the upload with the body is complete where the body completes it
-complete_with : (u : Upload) (bytes : List ℕ) (done : Bool) → (length u.accepted + length bytes == u.declared) ≡ done → is_complete (with_bytes u bytes) ≡ done
+complete_with : (u : Upload) (bytes : List ℕ) (done : Bool) → (length u.accepted + length bytes == u.declared) ≡ done
+    → is_complete (with_bytes u bytes) ≡ done
 complete_with u bytes done is = ap (λ n. n == u.declared) (length-append u.accepted bytes) ∙ is
 
 -- its text, and the text of the upload with the body
-whole_with_bytes : (x : IndexSet) (u : Upload) (bytes : List ℕ) (done : Bool) → (length u.accepted + length bytes == u.declared) ≡ done
+whole_with_bytes : (x : IndexSet) (u : Upload) (bytes : List ℕ) (done : Bool)
+    → (length u.accepted + length bytes == u.declared) ≡ done
     → text_with x (with_bytes u bytes) [] (is_complete (with_bytes u bytes)) ≡ text_with x u bytes done
 whole_with_bytes x u bytes done is =
     ap (text_with x (with_bytes u bytes) []) (complete_with u bytes done is)
     ∙ ap (λ b. text (tables x) u.from u.to u.mode b done) (append-nil (u.accepted ++ bytes))
 
-pub text_with_bytes : (x : IndexSet) (u : Upload) (bytes : List ℕ) (done : Bool) → (length u.accepted + length bytes == u.declared) ≡ done
+pub text_with_bytes : (x : IndexSet) (u : Upload) (bytes : List ℕ) (done : Bool)
+    → (length u.accepted + length bytes == u.declared) ≡ done
     → text_of x (with_bytes u bytes) ≡ (text_with x u bytes done).bytes
-text_with_bytes x u bytes done is = text_of_is x (with_bytes u bytes) ∙ ap (λ r. r.bytes) (whole_with_bytes x u bytes done is)
+text_with_bytes x u bytes done is =
+    text_of_is x (with_bytes u bytes) ∙ ap (λ r. r.bytes) (whole_with_bytes x u bytes done is)
 
 -- and where transcoding stands
-transcoder_with_bytes : (x : IndexSet) (u : Upload) (bytes : List ℕ) (done : Bool) → (length u.accepted + length bytes == u.declared) ≡ done
+transcoder_with_bytes : (x : IndexSet) (u : Upload) (bytes : List ℕ) (done : Bool)
+    → (length u.accepted + length bytes == u.declared) ≡ done
     → transcoder_with x (with_bytes u bytes) [] (is_complete (with_bytes u bytes)) ≡ transcoder_with x u bytes done
 transcoder_with_bytes x u bytes done is =
     ap (transcoder_with x (with_bytes u bytes) []) (complete_with u bytes done is)
     ∙ ap (λ b. transcoder_over (tables x) u.from u.to u.mode b done) (append-nil (u.accepted ++ bytes))
 
-state_with_bytes : (x : IndexSet) (u : Upload) (bytes : List ℕ) (done : Bool) → (length u.accepted + length bytes == u.declared) ≡ done
+state_with_bytes : (x : IndexSet) (u : Upload) (bytes : List ℕ) (done : Bool)
+    → (length u.accepted + length bytes == u.declared) ≡ done
     → state_of x (with_bytes u bytes) ≡ state_with x u bytes done
 unfolding state_with
 state_with_bytes x u bytes done is = ap state_bytes (transcoder_with_bytes x u bytes done is)
@@ -68,7 +75,8 @@ module _ (x : IndexSet) (next : ℕ) (p : Patch) (o : OpenAppend) (stands : Appe
     text = holds;
   }
 
-  pub with_piece : (piece : List ℕ) (came : ℕ) (text : NewText) → length p.body + length piece ≤ p.count → came ≡ length p.body + length piece
+  pub with_piece : (piece : List ℕ) (came : ℕ) (text : NewText) → length p.body + length piece ≤ p.count
+      → came ≡ length p.body + length piece
       → HoldsText x p.began (p.body ++ piece) text
       → AppendStands x next (record p { body = p.body ++ piece }) (record o { came = came; text = text })
   with_piece piece came text held is holds = record {
@@ -85,16 +93,22 @@ module _ (x : IndexSet) (next : ℕ) (p : Patch) (o : OpenAppend) (stands : Appe
 
   module _ (some : 0 < length p.body) (s : Slot) (kept : SlotStands x p.number p.began s) where
     pub open_still : is_complete p.began ≡ false
-    open_still = ne_eqb (length p.began.accepted) p.began.declared (λ e. (let h = stands.held in let w = stands.within in omega (arith, e, h, w, some)))
+    open_still = ne_eqb (length p.began.accepted) p.began.declared
+        (λ e. (let h = stands.held in let w = stands.within in omega (arith, e, h, w, some)))
 
     pub reaches : length p.began.accepted + length p.body < 2 ^ 64
     reaches = let h = stands.held in let w = stands.within in let f = stands.fits in omega (arith, h, w, f)
 
     -- why the body isn't put behind
-    pub not_put : (e : UploadError) (done : Bool) → done ≡ completes p → IsEnded x p.began p.body done (Err e) → IsPut x p s (Err e)
+    pub not_put : (e : UploadError) (done : Bool) → done ≡ completes p → IsEnded x p.began p.body done (Err e)
+        → IsPut x p s (Err e)
     not_put NoMemory done is ended = kept
     not_put DiskFault done is ended = absurd ended
-    not_put (Refused refusals.Unencodable) done is ended = (ap is_there (ap (λ r. r.fault) (patch_text_is x p (completes p) ∙ ap (text_with x p.began p.body) (sym is))) ∙ ended, kept)
+    not_put (Refused refusals.Unencodable) done is ended = (
+      ap is_there (ap (λ r. r.fault) (patch_text_is x p (completes p) ∙ ap (text_with x p.began p.body) (sym is)))
+          ∙ ended,
+      kept,
+    )
     not_put (Refused refusals.NoSuch) done is ended = absurd ended
     not_put (Refused refusals.Offset) done is ended = absurd ended
     not_put (Refused refusals.TooLong) done is ended = absurd ended
@@ -103,14 +117,20 @@ module _ (x : IndexSet) (next : ℕ) (p : Patch) (o : OpenAppend) (stands : Appe
     not_put (Refused refusals.Full) done is ended = absurd ended
 
     -- the slot with the body
-    pub put_there : (n : ℕ) (done : Bool) (state more : List ℕ) (new : Slot) → n ≡ length p.began.accepted + length p.body → done ≡ completes p
+    pub put_there : (n : ℕ) (done : Bool) (state more : List ℕ) (new : Slot)
+        → n ≡ length p.began.accepted + length p.body → done ≡ completes p
         → IsWhole x p.began p.body done state more
-        → new.text.items ≡ s.text.items ++ more → new.record ≡ record s.record { accepted = n; text_len = length new.text.items; state = state }
+        → new.text.items ≡ s.text.items ++ more → new.record ≡ record s.record {
+          accepted = n;
+          text_len = length new.text.items;
+          state = state;
+        }
         → IsPut x p new (Ok n)
     put_there n done state more new count is whole text told =
         let u = p.began in
         let all : new.text.items ≡ text_of x (with_bytes u p.body) =
-        text ∙ ap (λ z. z ++ more) (kept.text ∙ text_of_is x u ∙ ap (λ b. (text_with x u [] b).bytes) open_still) ∙ whole.rest
+        text ∙ ap (λ z. z ++ more) (kept.text ∙ text_of_is x u ∙ ap (λ b. (text_with x u [] b).bytes) open_still)
+        ∙ whole.rest
         ∙ sym (text_with_bytes x u p.body done (sym is)) in (
           count,
           ap (λ r. r.fault) (patch_text_is x p (completes p) ∙ ap (text_with x u p.body) (sym is)) ∙ whole.encodable,
@@ -123,7 +143,8 @@ module _ (x : IndexSet) (next : ℕ) (p : Patch) (o : OpenAppend) (stands : Appe
               from = ap (λ (r : Record). r.from) told ∙ kept.tells.from;
               to = ap (λ (r : Record). r.to) told ∙ kept.tells.to;
               mode = ap (λ (r : Record). r.mode) told ∙ kept.tells.mode;
-              state = ap (λ (r : Record). r.state) told ∙ whole.state_is ∙ sym (state_with_bytes x u p.body done (sym is));
+              state = ap (λ (r : Record). r.state) told ∙ whole.state_is
+                  ∙ sym (state_with_bytes x u p.body done (sym is));
               metadata = ap (λ (r : Record). r.metadata.bytes.items) told ∙ kept.tells.metadata;
             };
             text = all;

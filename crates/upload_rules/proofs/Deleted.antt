@@ -1,5 +1,6 @@
 -- A table without one of its uploads.
-use Rattle.std.proofs.Common.{◌≡◌, ◌⊎◌, ℕ, zero, suc, ◌+◌, ◌<◌, ◌≤◌, List, [], ◌∷◌, length, get_or, slice_index, Some, None, refl, sym, ◌∙◌, ap, subst, arith, inl, inr, eq-eqb, Vec, Global}
+use Rattle.std.proofs.Common.{◌≡◌, ◌⊎◌, ℕ, zero, suc, ◌+◌, ◌<◌, ◌≤◌, List, [], ◌∷◌, length, get_or, slice_index, Some}
+use Rattle.std.proofs.Common.{None, refl, sym, ◌∙◌, ap, subst, arith, inl, inr, eq-eqb, Vec, Global}
 use Rattle.std.specs.List.{remove}
 use Rattle.std.proofs.lemmas.Bool.{cases_eq, cases_lt, ne_eqb}
 use Rattle.std.proofs.lemmas.List.Edits.{length-remove, get_or-remove_above, get_or-remove_below}
@@ -100,7 +101,8 @@ below_removed ns i top lt below k inside =
 -- THE SLOTS
 
 module _ (x : IndexSet) where
-  none_of : (n : ℕ) (us : List (ℕ × Upload)) (ss : List Slot) → AllStand x us ss → IsNowhere (numbers ss) n → others n us ≡ us
+  none_of : (n : ℕ) (us : List (ℕ × Upload)) (ss : List Slot) → AllStand x us ss → IsNowhere (numbers ss) n
+      → others n us ≡ us
   none_of n [] ss all other = refl
   none_of n (u ∷ us) [] all other = absurd all
   none_of n (u ∷ us) (t ∷ ss) all other =
@@ -114,19 +116,25 @@ module _ (x : IndexSet) where
   removed n (u ∷ us) [] place all lt here rising = absurd all
   removed n (u ∷ us) (t ∷ ss) zero all lt here rising =
       let e : u.0 ≡ n = sym all.0.tells.number_is ∙ here in
-      let greater : IsNowhere (numbers ss) n = λ k l same. (let r = rising 0 (suc k) (omega arith) (omega arith) in omega (arith, r, same, here)) in
+      let greater : IsNowhere (numbers ss) n =
+      λ k l same. (let r = rising 0 (suc k) (omega arith) (omega arith) in omega (arith, r, same, here)) in
       rw (eq-eqb u.0 n e) (subst (λ l. AllStand x l ss) (sym (none_of n us ss all.1 greater)) all.1)
   removed n (u ∷ us) (t ∷ ss) (suc place) all lt here rising =
       let less = rising 0 (suc place) (omega arith) (let c = count_of (t ∷ ss) in omega (arith, c, lt)) in
       let ne : u.0 ≡ n → ⊥ = λ e. (let f = all.0.tells.number_is in omega (arith, e, f, less, here)) in
-      rw (ne_eqb u.0 n ne) (all.0, removed n us ss place all.1 (omega arith) here (λ i j l inside. rising (suc i) (suc j) (omega arith) (omega arith)))
+      rw (ne_eqb u.0 n ne) (
+        all.0,
+        removed n us ss place all.1 (omega arith) here
+            (λ i j l inside. rising (suc i) (suc j) (omega arith) (omega arith)),
+      )
 
 -- WORLDS
 
 grown_deleted : (w : World) (n : ℕ) → IsGrown w → IsGrown (terminated w n)
 grown_deleted w n grown = record {
   each = λ d p found. elim (cases_eq n p.number) [
-    | inl same ↦ subst (GrewFrom p) (sym (subst (λ k. find k (others n w.store.uploads) ≡ None) same (none_in_others n w.store.uploads))) tt
+    | inl same ↦ subst (GrewFrom p)
+        (sym (subst (λ k. find k (others n w.store.uploads) ≡ None) same (none_in_others n w.store.uploads))) tt
     | inr other ↦ subst (GrewFrom p) (sym (find_in_others n p.number w.store.uploads other)) (grown.each d p found)
   ];
 }
@@ -135,23 +143,27 @@ module _ (t : Table) (w : World) (stands : TableStands t w) (n : ℕ) where
   pub not_there : IsNowhere (numbers t.slots.items) n → terminate_refusal w n ≡ Some refusals.NoSuch
   not_there other = ap no_such (no_upload t w stands n other)
 
-  pub deletes : (place : ℕ) (slots : Vec Slot Global) → IsFirstAt (numbers t.slots.items) n place → slots.items ≡ remove t.slots.items place
+  pub deletes : (place : ℕ) (slots : Vec Slot Global) → IsFirstAt (numbers t.slots.items) n place
+      → slots.items ≡ remove t.slots.items place
       → TableStands (record t { slots = slots }) (terminated w n)
   deletes place slots first is =
       let lt : place < length t.slots.items = let l = first.within in omega (arith, l, count_of t.slots.items) in
-      let same : numbers slots.items ≡ remove (numbers t.slots.items) place = ap numbers is ∙ numbers_removed t.slots.items place in
+      let same : numbers slots.items ≡ remove (numbers t.slots.items) place =
+      ap numbers is ∙ numbers_removed t.slots.items place in
       record {
         indexes = stands.indexes;
         next = stands.next;
         slots = subst (AllStand w.store.indexes (others n w.store.uploads)) (sym is)
             (removed w.store.indexes n w.store.uploads t.slots.items place stands.slots lt first.here stands.rising);
         rising = subst IsRising (sym same) (rising_removed (numbers t.slots.items) place first.within stands.rising);
-        below = subst (λ ns. IsBelow ns w.store.next) (sym same) (below_removed (numbers t.slots.items) place w.store.next first.within stands.below);
+        below = subst (λ ns. IsBelow ns w.store.next) (sym same)
+            (below_removed (numbers t.slots.items) place w.store.next first.within stands.below);
         appends = stands.appends;
         apart = stands.apart;
         grown = grown_deleted w n stands.grown;
         unlimited = stands.unlimited;
       }
 
-  pub there : (place : ℕ) (s : Slot) → IsFirstAt (numbers t.slots.items) n place → s ≡ get_or t.slots.items place s → terminate_refusal w n ≡ None
+  pub there : (place : ℕ) (s : Slot) → IsFirstAt (numbers t.slots.items) n place → s ≡ get_or t.slots.items place s
+      → terminate_refusal w n ≡ None
   there place s first is = ap no_such (upload_at t w stands n place s first is).1

@@ -24,9 +24,11 @@ module _ {A : Type 0} where
 
   pub find_without_same : (d : ℕ) (xs : List (ℕ × A)) → IsApart xs → find d (without d xs) ≡ None
   find_without_same d [] apart = refl
-  find_without_same d (x ∷ xs) apart = let ih = find_without_same d xs apart.1 in let first = apart.0 in grind (arith, nat_tests)
+  find_without_same d (x ∷ xs) apart = let ih = find_without_same d xs apart.1 in let first =
+      apart.0 in grind (arith, nat_tests)
 
-  pub find_replaced_same : (d : ℕ) (a b : A) (xs : List (ℕ × A)) → find d xs ≡ Some a → find d (replaced d b xs) ≡ Some b
+  pub find_replaced_same : (d : ℕ) (a b : A) (xs : List (ℕ × A)) → find d xs ≡ Some a
+      → find d (replaced d b xs) ≡ Some b
   find_replaced_same d a b [] h = absurd cc
   find_replaced_same d a b (x ∷ xs) h = let ih = find_replaced_same d a b xs in grind (arith, nat_tests)
 
@@ -49,7 +51,8 @@ module _ {A : Type 0} where
   -- what is there has one of the numbers
   pub found_below : (n top : ℕ) (a : A) (xs : List (ℕ × A)) → AllBelow top xs → find n xs ≡ Some a → n < top
   found_below n top a [] all h = absurd cc
-  found_below n top a (x ∷ xs) all h = let ih = found_below n top a xs all.1 in let first = all.0 in grind (arith, nat_tests)
+  found_below n top a (x ∷ xs) all h = let ih = found_below n top a xs all.1 in let first =
+      all.0 in grind (arith, nat_tests)
 
   -- what is there, put in its place
   pub replaced_same : (n : ℕ) (a : A) (xs : List (ℕ × A)) → find n xs ≡ Some a → replaced n a xs ≡ xs

@@ -1,5 +1,6 @@
 -- Worlds that stay grown.
-use Rattle.std.proofs.Common.{◌≡◌, ℕ, ◌<◌, List, [], ◌∷◌, ◌++◌, Option, Some, None, refl, sym, ◌∙◌, ap, subst, arith, Bool, inl, inr, ◌⊎◌, eq-eqb, append_assoc, append-nil}
+use Rattle.std.proofs.Common.{◌≡◌, ℕ, ◌<◌, List, [], ◌∷◌, ◌++◌, Option, Some, None, refl, sym, ◌∙◌, ap, subst, arith}
+use Rattle.std.proofs.Common.{Bool, inl, inr, ◌⊎◌, eq-eqb, append_assoc, append-nil}
 use Rattle.std.proofs.lemmas.Bool.{cases_eq, ne_eqb}
 use Rattle.std.proofs.lemmas.Option.{same_Some}
 use Rattle.upload_rules.specs.Store.{New, Upload, find, upload_of, replaced, without, with_bytes, created_store}
@@ -7,38 +8,52 @@ use Rattle.upload_rules.specs.World.{Patch, World}
 use Rattle.upload_rules.specs.Calls.{created, first_patch, dropped}
 use Rattle.upload_rules.specs.Grown.{GrewFrom, IsGrown}
 use Rattle.upload_rules.specs.Apart.{IsApart}
-use Rattle.upload_rules.proofs.Finds.{find_push_other, find_without_other, find_without_same, find_replaced_same, find_replaced_other}
+use Rattle.upload_rules.proofs.Finds.{find_push_other, find_without_other, find_without_same, find_replaced_same}
+use Rattle.upload_rules.proofs.Finds.{find_replaced_other}
 
 grew_along : (p : Patch) (a b : Option Upload) → a ≡ b → GrewFrom p a → GrewFrom p b
 grew_along p a b e h = subst (GrewFrom p) e h
 
 -- a patch's upload with more bytes
 grew_more : (p : Patch) (u : Upload) (body : List ℕ) → GrewFrom p (Some u) → GrewFrom p (Some (with_bytes u body))
-grew_more p u body h = (h.0 ++ body, ap (λ v. with_bytes v body) h.1 ∙ ap (λ z. record p.began { accepted = z }) (append_assoc p.began.accepted h.0 body))
+grew_more p u body h = (
+  h.0 ++ body,
+  ap (λ v. with_bytes v body) h.1 ∙ ap (λ z. record p.began { accepted = z })
+      (append_assoc p.began.accepted h.0 body),
+)
 
 grew_at_once : (p : Patch) (u : Upload) → p.began ≡ u → GrewFrom p (Some u)
 grew_at_once p u e = ([], sym e ∙ ap (λ z. record p.began { accepted = z }) (sym (append-nil p.began.accepted)))
 
 -- what is found after the changes of patches was there before
-kept_without : (d e : ℕ) (p : Patch) (ps : List (ℕ × Patch)) → IsApart ps → find e (without d ps) ≡ Some p → find e ps ≡ Some p
+kept_without : (d e : ℕ) (p : Patch) (ps : List (ℕ × Patch)) → IsApart ps → find e (without d ps) ≡ Some p
+    → find e ps ≡ Some p
 kept_without d e p ps apart h =
     elim (cases_eq d e) [
-      | inl same ↦ absurd (let n = subst (λ k. find k (without d ps) ≡ None) same (find_without_same d ps apart) in let c = sym n ∙ h in cc)
+      | inl same ↦ absurd (let n = subst (λ k. find k (without d ps) ≡ None) same
+          (find_without_same d ps apart) in let c = sym n ∙ h in cc)
       | inr other ↦ sym (find_without_other d e ps other) ∙ h
     ]
 
-kept_replaced : (d e : ℕ) (p q r : Patch) (ps : List (ℕ × Patch)) → find d ps ≡ Some p → find e (replaced d q ps) ≡ Some r
+kept_replaced : (d e : ℕ) (p q r : Patch) (ps : List (ℕ × Patch)) → find d ps ≡ Some p
+    → find e (replaced d q ps) ≡ Some r
     → ((d ≡ e) × (q ≡ r)) ⊎ (find e ps ≡ Some r)
 kept_replaced d e p q r ps there h =
     elim (cases_eq d e) [
-      | inl same ↦ inl (same, same_Some q r (sym (subst (λ k. find k (replaced d q ps) ≡ Some q) same (find_replaced_same d p q ps there)) ∙ h))
+      | inl same ↦ inl (
+        same,
+        same_Some q r
+            (sym (subst (λ k. find k (replaced d q ps) ≡ Some q) same (find_replaced_same d p q ps there)) ∙ h),
+      )
       | inr other ↦ inr (sym (find_replaced_other d e q ps other) ∙ h)
     ]
 
-kept_more : (d e : ℕ) (q r : Patch) (ps : List (ℕ × Patch)) → find e ((d, q) ∷ ps) ≡ Some r → (q ≡ r) ⊎ (find e ps ≡ Some r)
+kept_more : (d e : ℕ) (q r : Patch) (ps : List (ℕ × Patch)) → find e ((d, q) ∷ ps) ≡ Some r
+    → (q ≡ r) ⊎ (find e ps ≡ Some r)
 kept_more d e q r ps h =
     elim (cases_eq d e) [
-      | inl same ↦ (let f : find e ((d, q) ∷ ps) ≡ Some q = rw (eq-eqb d e same) refl in inl (same_Some q r (sym f ∙ h)))
+      | inl same ↦ (let f : find e ((d, q) ∷ ps) ≡ Some q = rw (eq-eqb d e same) refl in inl
+          (same_Some q r (sym f ∙ h)))
       | inr other ↦ (let f : find e ((d, q) ∷ ps) ≡ find e ps = rw (ne_eqb d e other) refl in inr (sym f ∙ h))
     ]
 
@@ -47,7 +62,8 @@ module _ (w : World) (grown : IsGrown w) where
   grown_dropped d apart = record { each = λ e p found. grown.each e p (kept_without d e p w.patches apart found) }
 
   -- with more of a patch's body
-  pub grown_longer : (d : ℕ) (p : Patch) (body : List ℕ) (short : Bool) → find d w.patches ≡ Some p → IsGrown (record w { patches = replaced d (record p { body = body; short = short }) w.patches })
+  pub grown_longer : (d : ℕ) (p : Patch) (body : List ℕ) (short : Bool) → find d w.patches ≡ Some p
+      → IsGrown (record w { patches = replaced d (record p { body = body; short = short }) w.patches })
   grown_longer d p body short there = record {
     each = λ e r found. elim (kept_replaced d e p (record p { body = body; short = short }) r w.patches there found) [
       | inl same ↦ subst (λ q. GrewFrom q (upload_of w.store q.number)) same.1 (grown.each d p there)
@@ -55,16 +71,20 @@ module _ (w : World) (grown : IsGrown w) where
     ];
   }
 
-  pub grown_begun : (n count : ℕ) (u : Upload) (d : ℕ) → upload_of w.store n ≡ Some u → IsGrown (record w { patches = (d, first_patch n count u) ∷ w.patches })
+  pub grown_begun : (n count : ℕ) (u : Upload) (d : ℕ) → upload_of w.store n ≡ Some u
+      → IsGrown (record w { patches = (d, first_patch n count u) ∷ w.patches })
   grown_begun n count u d there = record {
     each = λ e r found. elim (kept_more d e (first_patch n count u) r w.patches found) [
-      | inl same ↦ subst (λ q. GrewFrom q (upload_of w.store q.number)) same (grew_along (first_patch n count u) (Some u) (upload_of w.store n) (sym there) (grew_at_once (first_patch n count u) u refl))
+      | inl same ↦ subst (λ q. GrewFrom q (upload_of w.store q.number)) same
+          (grew_along (first_patch n count u) (Some u) (upload_of w.store n) (sym there)
+          (grew_at_once (first_patch n count u) u refl))
       | inr old ↦ grown.each e r old
     ];
   }
 
   -- with an upload more, whose number is above those of the patches
-  pub grown_created : (new : New) → ((d : ℕ) (p : Patch) → find d w.patches ≡ Some p → p.number < w.store.next) → IsGrown (created w new)
+  pub grown_created : (new : New) → ((d : ℕ) (p : Patch) → find d w.patches ≡ Some p → p.number < w.store.next)
+      → IsGrown (created w new)
   grown_created new below = record {
     each = λ d p there.
         let other : w.store.next ≡ p.number → ⊥ = λ e. (let b = below d p there in omega (arith, e, b)) in
@@ -73,13 +93,18 @@ module _ (w : World) (grown : IsGrown w) where
   }
 
   -- with a body behind an upload
-  pub grown_put : (n : ℕ) (u : Upload) (body : List ℕ) → upload_of w.store n ≡ Some u → IsGrown (record w { store = record w.store { uploads = replaced n (with_bytes u body) w.store.uploads } })
+  pub grown_put : (n : ℕ) (u : Upload) (body : List ℕ) → upload_of w.store n ≡ Some u
+      → IsGrown (record w { store = record w.store { uploads = replaced n (with_bytes u body) w.store.uploads } })
   grown_put n u body there = record {
     each = λ d p found. elim (cases_eq n p.number) [
-      | inl same ↦ grew_along p (Some (with_bytes u body)) (find p.number (replaced n (with_bytes u body) w.store.uploads))
-          (sym (subst (λ k. find k (replaced n (with_bytes u body) w.store.uploads) ≡ Some (with_bytes u body)) same (find_replaced_same n u (with_bytes u body) w.store.uploads there)))
-          (grew_more p u body (grew_along p (upload_of w.store p.number) (Some u) (subst (λ k. find k w.store.uploads ≡ Some u) same there) (grown.each d p found)))
-      | inr other ↦ grew_along p (upload_of w.store p.number) (find p.number (replaced n (with_bytes u body) w.store.uploads))
+      | inl same ↦ grew_along p (Some (with_bytes u body))
+          (find p.number (replaced n (with_bytes u body) w.store.uploads))
+          (sym (subst (λ k. find k (replaced n (with_bytes u body) w.store.uploads) ≡ Some (with_bytes u body)) same
+          (find_replaced_same n u (with_bytes u body) w.store.uploads there)))
+          (grew_more p u body (grew_along p (upload_of w.store p.number) (Some u)
+          (subst (λ k. find k w.store.uploads ≡ Some u) same there) (grown.each d p found)))
+      | inr other ↦ grew_along p (upload_of w.store p.number)
+          (find p.number (replaced n (with_bytes u body) w.store.uploads))
           (sym (find_replaced_other n p.number (with_bytes u body) w.store.uploads other)) (grown.each d p found)
     ];
   }

@@ -1,5 +1,6 @@
 -- The slots of a table and the uploads that they stand for, place by place.
-use Rattle.std.proofs.Common.{◌≡◌, ℕ, zero, suc, ◌<◌, ◌≤◌, List, [], ◌∷◌, ◌++◌, length, get_or, slice_index, Some, None, refl, sym, ◌∙◌, subst, arith, set, eq-eqb}
+use Rattle.std.proofs.Common.{◌≡◌, ℕ, zero, suc, ◌<◌, ◌≤◌, List, [], ◌∷◌, ◌++◌, length, get_or, slice_index, Some, None}
+use Rattle.std.proofs.Common.{refl, sym, ◌∙◌, subst, arith, set, eq-eqb}
 use Rattle.std.proofs.lemmas.Bool.{ne_eqb, lt-ltb, le-ltb}
 use Rattle.enc_model.specs.Indexes.{IndexSet}
 use Rattle.upload_rules.specs.declared.slots.Slot.{Slot}
@@ -16,8 +17,10 @@ module _ (x : IndexSet) where
   counts (u ∷ us) (s ∷ ss) all = let h = counts us ss all.1 in omega (arith, h)
 
   -- the upload of the slot at the number's place
-  pub found : (n : ℕ) (us : List (ℕ × Upload)) (ss : List Slot) (place : ℕ) (s : Slot) → AllStand x us ss → place < length ss
-      → slice_index (numbers ss) place ≡ n → ((k : ℕ) → k < place → slice_index (numbers ss) k ≡ n → ⊥) → s ≡ get_or ss place s
+  pub found : (n : ℕ) (us : List (ℕ × Upload)) (ss : List Slot) (place : ℕ) (s : Slot) → AllStand x us ss
+      → place < length ss
+      → slice_index (numbers ss) place ≡ n → ((k : ℕ) → k < place → slice_index (numbers ss) k ≡ n → ⊥)
+      → s ≡ get_or ss place s
       → (u : Upload) × (find n us ≡ Some u) × SlotStands x n u s
   found n [] [] place s all lt here before is = absurd (omega arith)
   found n [] (t ∷ ss) place s all lt here before is = absurd all
@@ -30,7 +33,8 @@ module _ (x : IndexSet) where
       let rest = found n us ss place s all.1 (omega arith) here (λ k l e. before (suc k) (omega arith) e) is in
       (rest.0, rw (ne_eqb u.0 n ne) rest.1, rest.2)
 
-  pub none_found : (n : ℕ) (us : List (ℕ × Upload)) (ss : List Slot) → AllStand x us ss → IsNowhere (numbers ss) n → find n us ≡ None
+  pub none_found : (n : ℕ) (us : List (ℕ × Upload)) (ss : List Slot) → AllStand x us ss → IsNowhere (numbers ss) n
+      → find n us ≡ None
   none_found n [] ss all other = refl
   none_found n (u ∷ us) [] all other = absurd all
   none_found n (u ∷ us) (t ∷ ss) all other =
@@ -38,8 +42,10 @@ module _ (x : IndexSet) where
       rw (ne_eqb u.0 n ne) (none_found n us ss all.1 (λ k l e. other (suc k) (omega arith) e))
 
   -- another slot for the upload at the number's place
-  pub put : (n : ℕ) (us : List (ℕ × Upload)) (ss : List Slot) (place : ℕ) (u' : Upload) (s' : Slot) → AllStand x us ss → place < length ss
-      → slice_index (numbers ss) place ≡ n → ((k : ℕ) → k < place → slice_index (numbers ss) k ≡ n → ⊥) → SlotStands x n u' s'
+  pub put : (n : ℕ) (us : List (ℕ × Upload)) (ss : List Slot) (place : ℕ) (u' : Upload) (s' : Slot) → AllStand x us ss
+      → place < length ss
+      → slice_index (numbers ss) place ≡ n → ((k : ℕ) → k < place → slice_index (numbers ss) k ≡ n → ⊥)
+      → SlotStands x n u' s'
       → AllStand x (replaced n u' us) (set ss place s')
   put n [] [] place u' s' all lt here before new = absurd (omega arith)
   put n [] (t ∷ ss) place u' s' all lt here before new = absurd all
@@ -49,9 +55,14 @@ module _ (x : IndexSet) where
       rw (eq-eqb u.0 n e) (new, all.1)
   put n (u ∷ us) (t ∷ ss) (suc place) u' s' all lt here before new =
       let ne : u.0 ≡ n → ⊥ = λ e. before 0 (omega arith) (all.0.tells.number_is ∙ e) in
-      rw (ne_eqb u.0 n ne) (all.0, put n us ss place u' s' all.1 (omega arith) here (λ k l e. before (suc k) (omega arith) e) new)
+      rw (ne_eqb u.0 n ne) (
+        all.0,
+        put n us ss place u' s' all.1 (omega arith) here
+            (λ k l e. before (suc k) (omega arith) e) new,
+      )
 
-  pub push : (n : ℕ) (u : Upload) (s : Slot) (us : List (ℕ × Upload)) (ss : List Slot) → AllStand x us ss → SlotStands x n u s
+  pub push : (n : ℕ) (u : Upload) (s : Slot) (us : List (ℕ × Upload)) (ss : List Slot) → AllStand x us ss
+      → SlotStands x n u s
       → AllStand x (us ++ (n, u) ∷ []) (ss ++ s ∷ [])
   push n u s [] [] all new = (new, tt)
   push n u s [] (t ∷ ss) all new = absurd all
@@ -59,8 +70,10 @@ module _ (x : IndexSet) where
   push n u s (v ∷ us) (t ∷ ss) all new = (all.0, push n u s us ss all.1 new)
 
   -- the upload of the least number above n
-  pub next_found : (n : ℕ) (us : List (ℕ × Upload)) (ss : List Slot) (place : ℕ) (s : Slot) → AllStand x us ss → place < length ss
-      → ((k : ℕ) → k < place → slice_index (numbers ss) k ≤ n) → n < slice_index (numbers ss) place → s ≡ get_or ss place s
+  pub next_found : (n : ℕ) (us : List (ℕ × Upload)) (ss : List Slot) (place : ℕ) (s : Slot) → AllStand x us ss
+      → place < length ss
+      → ((k : ℕ) → k < place → slice_index (numbers ss) k ≤ n) → n < slice_index (numbers ss) place
+      → s ≡ get_or ss place s
       → (u : ℕ × Upload) × (above n us ≡ Some u) × SlotStands x u.0 u.1 s
   next_found n [] [] place s all lt before here is = absurd (omega arith)
   next_found n [] (t ∷ ss) place s all lt before here is = absurd all
@@ -76,7 +89,8 @@ module _ (x : IndexSet) where
       let rest = next_found n us ss place s all.1 (omega arith) (λ k b. before (suc k) (omega arith)) here is in
       (rest.0, rw (le-ltb n u.0 l) rest.1, rest.2)
 
-  pub no_next : (n : ℕ) (us : List (ℕ × Upload)) (ss : List Slot) → AllStand x us ss → ((k : ℕ) → k < length ss → slice_index (numbers ss) k ≤ n) → above n us ≡ None
+  pub no_next : (n : ℕ) (us : List (ℕ × Upload)) (ss : List Slot) → AllStand x us ss
+      → ((k : ℕ) → k < length ss → slice_index (numbers ss) k ≤ n) → above n us ≡ None
   no_next n [] ss all before = refl
   no_next n (u ∷ us) [] all before = absurd all
   no_next n (u ∷ us) (t ∷ ss) all before =
@@ -86,7 +100,8 @@ module _ (x : IndexSet) where
       rw (le-ltb n u.0 l) (no_next n us ss all.1 (λ k b. before (suc k) (omega arith)))
 
   -- the numbers of the uploads are those of the slots
-  pub all_below : (top : ℕ) (us : List (ℕ × Upload)) (ss : List Slot) → AllStand x us ss → ((k : ℕ) → k < length (numbers ss) → slice_index (numbers ss) k < top) → AllBelow top us
+  pub all_below : (top : ℕ) (us : List (ℕ × Upload)) (ss : List Slot) → AllStand x us ss
+      → ((k : ℕ) → k < length (numbers ss) → slice_index (numbers ss) k < top) → AllBelow top us
   all_below top [] ss all below = tt
   all_below top (u ∷ us) [] all below = absurd all
   all_below top (u ∷ us) (t ∷ ss) all below =

@@ -22,33 +22,43 @@ module _ (t : Table) (w : World) (stands : TableStands t w) (n : ℕ) where
   pub upload_at : (place : ℕ) (s : Slot) → IsFirstAt (numbers t.slots.items) n place → s ≡ get_or t.slots.items place s
       → (u : Upload) × (upload_of w.store n ≡ Some u) × SlotStands w.store.indexes n u s
   upload_at place s first is =
-      found w.store.indexes n w.store.uploads t.slots.items place s stands.slots (let l = first.within in omega (arith, l, count_of t.slots.items)) first.here first.before is
+      found w.store.indexes n w.store.uploads t.slots.items place s stands.slots
+      (let l = first.within in omega (arith, l, count_of t.slots.items)) first.here first.before is
 
-  pub no_slot : (o : Option Slot) → o ≡ None → IsNowhere (numbers t.slots.items) n → IsSlotOf w.store.indexes n (upload_of w.store n) o
-  no_slot o e other = subst (λ u. IsSlotOf w.store.indexes n u o) (sym (no_upload other)) (subst (IsSlotOf w.store.indexes n None) (sym e) tt)
+  pub no_slot : (o : Option Slot) → o ≡ None → IsNowhere (numbers t.slots.items) n
+      → IsSlotOf w.store.indexes n (upload_of w.store n) o
+  no_slot o e other = subst (λ u. IsSlotOf w.store.indexes n u o) (sym (no_upload other))
+      (subst (IsSlotOf w.store.indexes n None) (sym e) tt)
 
   pub slot_at : (place : ℕ) (s : Slot) → IsFirstAt (numbers t.slots.items) n place → s ≡ get_or t.slots.items place s
       → IsSlotOf w.store.indexes n (upload_of w.store n) (Some s)
-  slot_at place s first is = let u = upload_at place s first is in subst (λ o. IsSlotOf w.store.indexes n o (Some s)) (sym u.1) u.2
+  slot_at place s first is = let u =
+      upload_at place s first is in subst (λ o. IsSlotOf w.store.indexes n o (Some s)) (sym u.1) u.2
 
   -- the upload of the least number above n
-  pub following : (place : ℕ) (s : Slot) → IsDivided (numbers t.slots.items) n place → place < length t.slots.items → s ≡ get_or t.slots.items place s
+  pub following : (place : ℕ) (s : Slot) → IsDivided (numbers t.slots.items) n place → place < length t.slots.items
+      → s ≡ get_or t.slots.items place s
       → TellsOf w.store.indexes (above n w.store.uploads) (Some s.record)
   following place s parts lt is =
-      let u = next_found w.store.indexes n w.store.uploads t.slots.items place s stands.slots lt parts.before (parts.behind place (omega arith) (omega (arith, lt, count_of t.slots.items))) is in
+      let u = next_found w.store.indexes n w.store.uploads t.slots.items place s stands.slots lt parts.before
+      (parts.behind place (omega arith) (omega (arith, lt, count_of t.slots.items))) is in
       subst (λ o. TellsOf w.store.indexes o (Some s.record)) (sym u.1) u.2.tells
 
-  pub none_following : (place : ℕ) (r : Option Record) → IsDivided (numbers t.slots.items) n place → length t.slots.items ≤ place → r ≡ None
+  pub none_following : (place : ℕ) (r : Option Record) → IsDivided (numbers t.slots.items) n place
+      → length t.slots.items ≤ place → r ≡ None
       → TellsOf w.store.indexes (above n w.store.uploads) r
   none_following place r parts le none =
-      let e = no_next w.store.indexes n w.store.uploads t.slots.items stands.slots (λ k lt. parts.before k (omega arith)) in
+      let e = no_next w.store.indexes n w.store.uploads t.slots.items stands.slots
+      (λ k lt. parts.before k (omega arith)) in
       subst (λ o. TellsOf w.store.indexes o r) (sym e) (subst (TellsOf w.store.indexes None) (sym none) tt)
 
 -- what is told of the slot's upload
-pub told : (y : IndexSet) (n : ℕ) (u : Option Upload) (s : Slot) → IsSlotOf y n u (Some s) → TellsOf y (with_number n u) (Some s.record)
+pub told : (y : IndexSet) (n : ℕ) (u : Option Upload) (s : Slot) → IsSlotOf y n u (Some s)
+    → TellsOf y (with_number n u) (Some s.record)
 told y n None s h = absurd h
 told y n (Some u) s h = h.tells
 
-pub not_told : (y : IndexSet) (n : ℕ) (u : Option Upload) (r : Option Record) → r ≡ None → IsSlotOf y n u None → TellsOf y (with_number n u) r
+pub not_told : (y : IndexSet) (n : ℕ) (u : Option Upload) (r : Option Record) → r ≡ None → IsSlotOf y n u None
+    → TellsOf y (with_number n u) r
 not_told y n None r e h = subst (TellsOf y None) (sym e) tt
 not_told y n (Some u) r e h = absurd h

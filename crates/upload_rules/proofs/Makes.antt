@@ -1,5 +1,6 @@
 -- A table's `create` and `begin`.
-use Rattle.std.proofs.Common.{◌≡◌, ℕ, ◌<◌, ◌≤◌, ◌^◌, List, length, Option, Some, None, Ok, refl, sym, ◌∙◌, ap, subst, arith, Vec, Global}
+use Rattle.std.proofs.Common.{◌≡◌, ℕ, ◌<◌, ◌≤◌, ◌^◌, List, length, Option, Some, None, Ok, refl, sym, ◌∙◌, ap, subst}
+use Rattle.std.proofs.Common.{arith, Vec, Global}
 use Rattle.std.proofs.lemmas.Bool.{le-ltb, le-leb, lt-leb}
 use Rattle.upload_rules.specs.declared.errors.UploadRefusal.TheVariants as refusals
 use Rattle.upload_rules.specs.declared.appends.OpenAppend.{OpenAppend}
@@ -19,24 +20,43 @@ module _ (t : Table) (w : World) (stands : TableStands t w) where
   as_many : length w.store.uploads ≡ length t.slots.items
   as_many = counts w.store.indexes w.store.uploads t.slots.items stands.slots
 
-  pub many : (new : New) → new.declared ≤ 1073741824 → 512 ≤ length t.slots.items → create_refusal w new ≡ Some refusals.Slots
-  many new small full = rw (le-ltb 1073741824 new.declared small, le-leb 512 (length w.store.uploads) (omega (arith, as_many, full))) refl
+  pub many : (new : New) → new.declared ≤ 1073741824 → 512 ≤ length t.slots.items
+      → create_refusal w new ≡ Some refusals.Slots
+  many new small full = rw (
+    le-ltb 1073741824 new.declared small,
+    le-leb 512 (length w.store.uploads)
+        (omega (arith, as_many, full)),
+  ) refl
 
-  pub spent_numbers : (new : New) → new.declared ≤ 1073741824 → length t.slots.items < 512 → 10 ^ 18 ≤ t.next → create_refusal w new ≡ Some refusals.Slots
+  pub spent_numbers : (new : New) → new.declared ≤ 1073741824 → length t.slots.items < 512 → 10 ^ 18 ≤ t.next
+      → create_refusal w new ≡ Some refusals.Slots
   spent_numbers new small room last =
-      rw (le-ltb 1073741824 new.declared small, lt-leb 512 (length w.store.uploads) (omega (arith, as_many, room)), le-leb (10 ^ 18) w.store.next (let n = stands.next in omega (arith, n, last))) refl
+      rw (
+        le-ltb 1073741824 new.declared small,
+        lt-leb 512 (length w.store.uploads) (omega (arith, as_many, room)),
+        le-leb (10 ^ 18) w.store.next (let n = stands.next in omega (arith, n, last)),
+      ) refl
 
-  pub creatable : (new : New) → new.declared ≤ 1073741824 → length t.slots.items < 512 → t.next < 10 ^ 18 → create_refusal w new ≡ None
+  pub creatable : (new : New) → new.declared ≤ 1073741824 → length t.slots.items < 512 → t.next < 10 ^ 18
+      → create_refusal w new ≡ None
   creatable new small room next =
-      rw (le-ltb 1073741824 new.declared small, lt-leb 512 (length w.store.uploads) (omega (arith, as_many, room)), lt-leb (10 ^ 18) w.store.next (let n = stands.next in omega (arith, n, next))) refl
+      rw (
+        le-ltb 1073741824 new.declared small,
+        lt-leb 512 (length w.store.uploads) (omega (arith, as_many, room)),
+        lt-leb (10 ^ 18) w.store.next (let n = stands.next in omega (arith, n, next)),
+      ) refl
 
-  pub begun_done : (holds : Patch → Type 0) (any : (p : Patch) → holds p) (n offset count : ℕ) (u : Option Upload) (o : OpenAppend) (d : ℕ) (v : Appends) → upload_of w.store n ≡ u
+  pub begun_done : (holds : Patch → Type 0) (any : (p : Patch) → holds p) (n offset count : ℕ) (u : Option Upload)
+      (o : OpenAppend) (d : ℕ) (v : Appends) → upload_of w.store n ≡ u
       → IsOpened w n offset count u (Ok o) → IsPlaced t.appends.items o d v.items
-      → (begin_refusal w n offset count ≡ None) × ((d ≡ free_number w) × IsBegun holds n count (upload_of w.store n) × TableStands (record t { appends = v }) (begun w n count))
+      → (begin_refusal w n offset count ≡ None) × ((d ≡ free_number w) × IsBegun holds n count
+      (upload_of w.store n) × TableStands (record t { appends = v }) (begun w n count))
   begun_done holds any n offset count None o d v there opened placed = absurd opened
   begun_done holds any n offset count (Some u) o d v there opened placed =
-      let b = begins t w stands n count u d o v there placed opened.1 in
-      (ap (begin_refusal_at offset count) there ∙ opened.0, (b.0, subst (IsBegun holds n count) (sym there) (any (first_patch n count u)), b.1))
+      let b = begins t w stands n count u d o v there placed opened.1 in (
+        ap (begin_refusal_at offset count) there ∙ opened.0,
+        (b.0, subst (IsBegun holds n count) (sym there) (any (first_patch n count u)), b.1),
+      )
 
   -- as it was, where a growth was refused
   pub not_created : (v : Vec Slot Global) → v.items ≡ t.slots.items → TableStands (record t { slots = v }) w

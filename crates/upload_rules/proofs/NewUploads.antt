@@ -39,16 +39,26 @@ unfolding decode decoded
 decode_nothing t e false = refl
 decode_nothing t e true = nothing_ended t e
 
-nothing_coded : (f : Encoder) (mode : Mode) → coded f mode InAscii [] ≡ record { bytes = []; state = InAscii; fault = None }
+nothing_coded : (f : Encoder) (mode : Mode) → coded f mode InAscii [] ≡ record {
+  bytes = [];
+  state = InAscii;
+  fault = None;
+}
 unfolding coded coded_within
 nothing_coded f mode = refl
 
 -- the text of no bytes, complete or not
-text_of_nothing : (t : Tables) (from to : Encoding) (mode : Mode) (done : Bool) → text t from to mode [] done ≡ record { bytes = []; state = InAscii; fault = None }
+text_of_nothing : (t : Tables) (from to : Encoding) (mode : Mode) (done : Bool) → text t from to mode [] done ≡ record {
+  bytes = [];
+  state = InAscii;
+  fault = None;
+}
 text_of_nothing t from to mode false =
-    text_open t from to mode [] ∙ ap (coded (encoder t to) mode InAscii) (decode_nothing t from false) ∙ nothing_coded (encoder t to) mode
+    text_open t from to mode [] ∙ ap (coded (encoder t to) mode InAscii) (decode_nothing t from false)
+    ∙ nothing_coded (encoder t to) mode
 text_of_nothing t from to mode true =
-    text_done t from to mode [] ∙ ap (λ z. ended_coded (coded (encoder t to) mode InAscii z)) (decode_nothing t from true) ∙ ap ended_coded (nothing_coded (encoder t to) mode)
+    text_done t from to mode [] ∙ ap (λ z. ended_coded (coded (encoder t to) mode InAscii z))
+    (decode_nothing t from true) ∙ ap ended_coded (nothing_coded (encoder t to) mode)
 
 pub new_text : (x : IndexSet) (new : New) → text_of x (new_upload new) ≡ []
 unfolding text_of
@@ -62,8 +72,14 @@ pub new_open : (x : IndexSet) (new : New) (t : Standing) → t ≡ start new.fro
     → t.transcoder ≡ transcoder_with x (new_upload new) [] (is_complete (new_upload new))
 new_open x new t is some =
     ap (λ s. s.transcoder) is
-    ∙ rw (ne_eqb 0 new.declared (λ e. some (sym e)), ap phase_of (decoded_none (tables x) new.from), ap (λ r. r.state) (text_of_nothing (tables x) new.from new.to new.mode false)) refl
+    ∙ rw (
+      ne_eqb 0 new.declared (λ e. some (sym e)),
+      ap phase_of (decoded_none (tables x) new.from),
+      ap (λ r. r.state)
+          (text_of_nothing (tables x) new.from new.to new.mode false),
+    ) refl
 
-pub new_complete : (x : IndexSet) (new : New) (t : Standing) → t ≡ finished (start new.from new.to new.mode) → new.declared ≡ 0
+pub new_complete : (x : IndexSet) (new : New) (t : Standing) → t ≡ finished (start new.from new.to new.mode)
+    → new.declared ≡ 0
     → t.transcoder ≡ transcoder_with x (new_upload new) [] (is_complete (new_upload new))
 new_complete x new t is none = ap (λ s. s.transcoder) is ∙ rw (eq-eqb 0 new.declared (sym none)) refl

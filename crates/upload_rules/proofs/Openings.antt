@@ -1,5 +1,6 @@
 -- The append that `begin` opens.
-use Rattle.std.proofs.Common.{◌≡◌, ℕ, ◌+◌, ◌-◌, ◌<◌, ◌≤◌, ◌^◌, [], length, Option, Some, None, Ok, refl, sym, ◌∙◌, arith, eq-eqb}
+use Rattle.std.proofs.Common.{◌≡◌, ℕ, ◌+◌, ◌-◌, ◌<◌, ◌≤◌, ◌^◌, [], length, Option, Some, None, Ok, refl, sym, ◌∙◌}
+use Rattle.std.proofs.Common.{arith, eq-eqb}
 use Rattle.std.proofs.lemmas.Bool.{le-ltb}
 use Rattle.enc_model.specs.Indexes.{IndexSet}
 use Rattle.enc_stream.specs.StateBytes.{IsSound}
@@ -17,13 +18,17 @@ use Rattle.upload_rules.proofs.Finds.{found_below}
 use Rattle.upload_rules.proofs.Kept.{all_below}
 
 -- what is asked of the rules holds of the upload
-allowed : (offset count : ℕ) (u : Upload) → length u.accepted ≡ offset → offset + count ≤ u.declared → begin_refusal_at offset count (Some u) ≡ None
+allowed : (offset count : ℕ) (u : Upload) → length u.accepted ≡ offset → offset + count ≤ u.declared
+    → begin_refusal_at offset count (Some u) ≡ None
 allowed offset count u at fits = rw (eq-eqb (length u.accepted) offset at, le-ltb u.declared (offset + count) fits) refl
 
 module _ (t : Table) (w : World) (stands : TableStands t w) where
-  pub opens : (n offset count : ℕ) (u : Option Upload) (s : Slot) (text : NewText) → upload_of w.store n ≡ u → IsSlotOf w.store.indexes n u (Some s)
-      → s.record.accepted ≡ offset → offset ≤ s.record.declared → count ≤ s.record.declared - offset → s.record.declared < 2 ^ 64
-      → ((x : IndexSet) (n : ℕ) (u : Upload) → Tells x n s.record u → (text_with x u [] (is_complete u)).fault ≡ None → IsSound (transcoder_with x u [] (is_complete u)) → HoldsText x u [] text)
+  pub opens : (n offset count : ℕ) (u : Option Upload) (s : Slot) (text : NewText) → upload_of w.store n ≡ u
+      → IsSlotOf w.store.indexes n u (Some s)
+      → s.record.accepted ≡ offset → offset ≤ s.record.declared → count ≤ s.record.declared - offset
+      → s.record.declared < 2 ^ 64
+      → ((x : IndexSet) (n : ℕ) (u : Upload) → Tells x n s.record u → (text_with x u [] (is_complete u)).fault ≡ None
+      → IsSound (transcoder_with x u [] (is_complete u)) → HoldsText x u [] text)
       → IsOpened w n offset count u (Ok (record { number = n; offset = offset; came = 0; text = text }))
   opens n offset count None s text there held at less fits small holds = absurd held
   opens n offset count (Some u) s text there held at less fits small holds =
@@ -37,7 +42,8 @@ module _ (t : Table) (w : World) (stands : TableStands t w) where
           held = omega arith;
           within = omega (arith, here, same, less, fits);
           fits = omega (arith, same, small);
-          below = found_below n w.store.next u w.store.uploads (all_below w.store.indexes w.store.next w.store.uploads t.slots.items stands.slots stands.below) there;
+          below = found_below n w.store.next u w.store.uploads
+              (all_below w.store.indexes w.store.next w.store.uploads t.slots.items stands.slots stands.below) there;
           roomy = refl;
           text = holds w.store.indexes n u held.tells held.encodable held.sound;
         },

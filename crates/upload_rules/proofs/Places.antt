@@ -1,5 +1,6 @@
 -- Places in a list of slots whose numbers rise.
-use Rattle.std.proofs.Common.{◌≡◌, ℕ, zero, suc, ◌+◌, ◌<◌, ◌≤◌, true, false, List, [], ◌∷◌, length, get_or, slice_index, Option, Some, None, sym, ◌∙◌, ap, subst, arith, inl, inr, leb, eqb, MatchOption}
+use Rattle.std.proofs.Common.{◌≡◌, ℕ, zero, suc, ◌+◌, ◌<◌, ◌≤◌, true, false, List, [], ◌∷◌, length, get_or, slice_index}
+use Rattle.std.proofs.Common.{Option, Some, None, sym, ◌∙◌, ap, subst, arith, inl, inr, leb, eqb, MatchOption}
 use Rattle.std.specs.Bool.{then_some}
 use Rattle.std.proofs.lemmas.Bool.{leb-true, leb-false, eqb-true, eqb-false, cases_Bool, cases_order}
 use Rattle.std.proofs.lemmas.List.{get_or-map, length-map}
@@ -12,7 +13,8 @@ pub slot_there : (slots : List Slot) (k : ℕ) → k < length slots → Slot
 slot_there [] k lt = absurd (omega arith)
 slot_there (s ∷ slots) k lt = s
 
-pub number_at : (slots : List Slot) (k : ℕ) (d : Slot) → k < length slots → slice_index (numbers slots) k ≡ number_of (get_or slots k d)
+pub number_at : (slots : List Slot) (k : ℕ) (d : Slot) → k < length slots
+    → slice_index (numbers slots) k ≡ number_of (get_or slots k d)
 number_at slots k d lt = get_or-map number_of slots k d 0 lt
 
 pub count_of : (slots : List Slot) → length (numbers slots) ≡ length slots
@@ -23,7 +25,8 @@ not_falling slots rising i j d le lt =
     let a = number_at slots i d (omega arith) in
     let b = number_at slots j d lt in
     elim (cases_order i j) [
-      | inl same ↦ (let e : number_of (get_or slots i d) ≡ number_of (get_or slots j d) = ap (λ k. number_of (get_or slots k d)) same in omega (arith, e))
+      | inl same ↦ (let e : number_of (get_or slots i d) ≡ number_of (get_or slots j d) = ap
+          (λ k. number_of (get_or slots k d)) same in omega (arith, e))
       | inr other ↦ elim other [
         | inl below ↦ (let r = rising i j below (omega (arith, count_of slots)) in omega (arith, a, b, r))
         | inr above ↦ absurd (omega arith)
@@ -32,7 +35,8 @@ not_falling slots rising i j d le lt =
 
 -- where the slots of numbers up to n end
 pub divided : (slots : List Slot) (n place : ℕ) → place ≤ length slots
-    → IsPartitionPoint (λ s. leb (number_of s) n ≡ true) (λ s. leb (number_of s) n ≡ false) slots place → IsDivided (numbers slots) n place
+    → IsPartitionPoint (λ s. leb (number_of s) n ≡ true) (λ s. leb (number_of s) n ≡ false) slots place
+    → IsDivided (numbers slots) n place
 divided slots n place within point = record {
   within = omega (arith, count_of slots);
   before = λ k lt. (
@@ -56,7 +60,8 @@ module _ (ns : List ℕ) (n : ℕ) (rising : IsRising ns) where
     before = λ k less same. (let r = rising k place less lt in omega (arith, r, same, here));
   }
 
-  pub nowhere : (end : ℕ) → IsDivided ns n end → ((place : ℕ) → place + 1 ≡ end → slice_index ns place ≡ n → ⊥) → IsNowhere ns n
+  pub nowhere : (end : ℕ) → IsDivided ns n end → ((place : ℕ) → place + 1 ≡ end → slice_index ns place ≡ n → ⊥)
+      → IsNowhere ns n
   nowhere zero parts other k lt same = let b = parts.behind k (omega arith) lt in omega (arith, b, same)
   nowhere (suc place) parts other k lt same =
       elim (cases_order k place) [
@@ -71,7 +76,8 @@ module _ (ns : List ℕ) (n : ℕ) (rising : IsRising ns) where
       ]
 
 -- the slot before that place is the number's, or there is none
-pub place_found : (slots : List Slot) (n place end : ℕ) (s : Slot) (answer : Option ℕ) → IsRising (numbers slots) → IsDivided (numbers slots) n end
+pub place_found : (slots : List Slot) (n place end : ℕ) (s : Slot) (answer : Option ℕ) → IsRising (numbers slots)
+    → IsDivided (numbers slots) n end
     → place + 1 ≡ end → place < length slots → answer ≡ then_some (eqb (number_of (get_or slots place s)) n) place
     → MatchOption answer (IsNowhere (numbers slots) n) (IsFirstAt (numbers slots) n)
 place_found slots n place end s answer rising parts next lt is =
@@ -85,5 +91,6 @@ place_found slots n place end s answer rising parts next lt is =
           (let e : answer ≡ None = is ∙ ap (λ b. then_some b place) other in
           subst (λ o. MatchOption o (IsNowhere (numbers slots) n) (IsFirstAt (numbers slots) n)) (sym e)
           (nowhere (numbers slots) n rising end parts (λ k before same. eqb-false _ n other
-          (let k_is : place ≡ k = omega (arith, before, next) in sym here ∙ ap (slice_index (numbers slots)) k_is ∙ same))))
+          (let k_is : place ≡ k = omega (arith, before, next) in sym here ∙ ap (slice_index (numbers slots)) k_is
+          ∙ same))))
     ]

@@ -1,18 +1,22 @@
 -- The same number and offset mean the same accepted bytes.
-use Rattle.std.proofs.Common.{◌≡◌, ℕ, ◌+◌, List, [], ◌∷◌, ◌++◌, length, Option, Some, None, sym, ◌∙◌, ap, arith, append-nil}
+use Rattle.std.proofs.Common.{◌≡◌, ℕ, ◌+◌, List, [], ◌∷◌, ◌++◌, length, Option, Some, None, sym, ◌∙◌, ap, arith}
+use Rattle.std.proofs.Common.{append-nil}
 use Rattle.std.proofs.lemmas.List.{length-append}
 use Rattle.std.proofs.lemmas.Option.{none-some, same_Some}
 use Rattle.upload_rules.specs.Store.{Upload, upload_of, find, with_bytes}
 use Rattle.upload_rules.specs.World.{Patch, World}
 use Rattle.upload_rules.specs.Grown.{GrewFrom, IsGrown}
 
-same_bytes : (began : Upload) (more : List ℕ) → length (began.accepted ++ more) ≡ length began.accepted → with_bytes began more ≡ began
+same_bytes : (began : Upload) (more : List ℕ) → length (began.accepted ++ more) ≡ length began.accepted
+    → with_bytes began more ≡ began
 same_bytes began [] e = ap (λ x. record began { accepted = x }) (append-nil began.accepted)
 same_bytes began (b ∷ more) e =
-    let l : length (began.accepted ++ b ∷ more) ≡ length began.accepted + length (b ∷ more) = length-append began.accepted (b ∷ more) in
+    let l : length (began.accepted ++ b ∷ more) ≡ length began.accepted + length (b ∷ more) =
+    length-append began.accepted (b ∷ more) in
     absurd (omega arith)
 
-grew_same : (p : Patch) (o : Option Upload) (u : Upload) → GrewFrom p o → o ≡ Some u → length u.accepted ≡ length p.began.accepted → u ≡ p.began
+grew_same : (p : Patch) (o : Option Upload) (u : Upload) → GrewFrom p o → o ≡ Some u
+    → length u.accepted ≡ length p.began.accepted → u ≡ p.began
 grew_same p None u g f e = absurd (none-some u f)
 grew_same p (Some v) u g f e =
     let h : v ≡ u = same_Some v u f in
@@ -21,6 +25,7 @@ grew_same p (Some v) u g f e =
     k ∙ same_bytes p.began g.0 l
 
 -- an open patch whose offset is still the count of accepted bytes began at the upload as it is
-pub same_upload : (w : World) (d : ℕ) (p : Patch) (u : Upload) → IsGrown w → find d w.patches ≡ Some p → upload_of w.store p.number ≡ Some u
+pub same_upload : (w : World) (d : ℕ) (p : Patch) (u : Upload) → IsGrown w → find d w.patches ≡ Some p
+    → upload_of w.store p.number ≡ Some u
     → length u.accepted ≡ length p.began.accepted → u ≡ p.began
 same_upload w d p u grown found there e = grew_same p (upload_of w.store p.number) u (grown.each d p found) there e

@@ -1,11 +1,14 @@
 -- The text of more bytes: what a prefix of them comes to, and more behind it.
-use Rattle.std.proofs.Common.{◌≡◌, ℕ, Bool, true, false, List, ◌++◌, Option, Some, None, refl, sym, ◌∙◌, ap, subst, append_assoc, inl, inr}
+use Rattle.std.proofs.Common.{◌≡◌, ℕ, Bool, true, false, List, ◌++◌, Option, Some, None, refl, sym, ◌∙◌, ap, subst}
+use Rattle.std.proofs.Common.{append_assoc, inl, inr}
 use Rattle.std.proofs.lemmas.Bool.{cases_Bool}
 use Rattle.enc_model.specs.declared.Encoding.{Encoding}
 use Rattle.enc_model.specs.declared.Mode.{Mode}
-use Rattle.enc_model.specs.Encode.{Tables, Shift, InAscii, Encoder, Coded, behind, coded, encoder, encode, encoder_end, ended_coded}
+use Rattle.enc_model.specs.Encode.{Tables, Shift, InAscii, Encoder, Coded, behind, coded, encoder, encode, encoder_end}
+use Rattle.enc_model.specs.Encode.{ended_coded}
 use Rattle.enc_model.specs.Stream.{Run}
-use Rattle.enc_model.specs.Decode.{Decoded, Held, Reading, Decoding, decoded, decoded_text, decode, advance, conclude, undecided, text}
+use Rattle.enc_model.specs.Decode.{Decoded, Held, Reading, Decoding, decoded, decoded_text, decode, advance, conclude}
+use Rattle.enc_model.specs.Decode.{undecided, text}
 use Rattle.enc_model.specs.Transcode.{phase_of, fed, fed_end}
 use Rattle.enc_model.proofs.Pieces.{advance_more, conclude_all, decoded_held, decoded_reading}
 use Rattle.enc_model.proofs.Steady.{encoder_steady}
@@ -13,13 +16,15 @@ use Rattle.enc_model.proofs.Transcoding.{coded_both, coded_fault}
 
 -- DECODING
 
-fed_more : (t : Tables) (e : Encoding) (d : Decoded) (c : List ℕ) → decoded_text (advance t e d c) ≡ decoded_text d ++ (fed t e (phase_of d) c).text
+fed_more : (t : Tables) (e : Encoding) (d : Decoded) (c : List ℕ) → decoded_text (advance t e d c) ≡ decoded_text
+    d ++ (fed t e (phase_of d) c).text
 unfolding advance fed
 fed_more t e (Held b) c = refl
 fed_more t e (Reading r) c = refl
 
 decode_more : (t : Tables) (e : Encoding) (b c : List ℕ) →
-    decoded_text (decoded t e (b ++ c) false) ≡ decoded_text (decoded t e b false) ++ (fed t e (phase_of (decoded t e b false)) c).text
+    decoded_text (decoded t e (b ++ c) false) ≡ decoded_text
+    (decoded t e b false) ++ (fed t e (phase_of (decoded t e b false)) c).text
 decode_more t e b c = ap decoded_text (sym (advance_more t e b c)) ∙ fed_more t e (decoded t e b false) c
 
 -- what the end adds to what was decoded
@@ -30,12 +35,14 @@ end_held : (t : Tables) (e : Encoding) (b : List ℕ) → EndsAs t e b (Held b)
 unfolding fed_end
 end_held t e b = refl
 
-end_reading : (t : Tables) (e : Encoding) (b : List ℕ) (r : Run Decoding) → conclude t e (Reading r) ≡ decoded t e b true → EndsAs t e b (Reading r)
+end_reading : (t : Tables) (e : Encoding) (b : List ℕ) (r : Run Decoding)
+    → conclude t e (Reading r) ≡ decoded t e b true → EndsAs t e b (Reading r)
 unfolding conclude fed_end
 end_reading t e b r all = ap decoded_text (sym all)
 
 pub decode_end : (t : Tables) (e : Encoding) (b : List ℕ) →
-    decoded_text (decoded t e b true) ≡ decoded_text (decoded t e b false) ++ fed_end t e (phase_of (decoded t e b false))
+    decoded_text (decoded t e b true) ≡ decoded_text (decoded t e b false) ++ fed_end t e
+    (phase_of (decoded t e b false))
 decode_end t e b =
     elim (cases_Bool (undecided b)) [
       | inl held ↦ subst (EndsAs t e b) (sym (decoded_held t e b held)) (end_held t e b)
@@ -44,30 +51,48 @@ decode_end t e b =
           subst (EndsAs t e b) (sym is) (end_reading t e b _ (ap (conclude t e) (sym is) ∙ conclude_all t e b))
     ]
 
-decode_open : (t : Tables) (e : Encoding) (b : List ℕ) (done : Bool) → decode t e b done ≡ decoded_text (decoded t e b done)
+decode_open : (t : Tables) (e : Encoding) (b : List ℕ) (done : Bool) → decode t e b done ≡ decoded_text
+    (decoded t e b done)
 unfolding decode
 decode_open t e b done = refl
 
 -- what is decoded of more bytes has what is decoded of these in front
-pub decode_behind : (t : Tables) (e : Encoding) (b c : List ℕ) (done : Bool) → (more : List ℕ) × (decode t e (b ++ c) done ≡ decode t e b false ++ more)
-decode_behind t e b c false = ((fed t e (phase_of (decoded t e b false)) c).text, decode_open t e (b ++ c) false ∙ decode_more t e b c ∙ ap (λ z. z ++ (fed t e (phase_of (decoded t e b false)) c).text) (sym (decode_open t e b false)))
+pub decode_behind : (t : Tables) (e : Encoding) (b c : List ℕ) (done : Bool)
+    → (more : List ℕ) × (decode t e (b ++ c) done ≡ decode t e b false ++ more)
+decode_behind t e b c false = (
+  (fed t e (phase_of (decoded t e b false)) c).text,
+  decode_open t e (b ++ c) false ∙ decode_more t e b c
+      ∙ ap (λ z. z ++ (fed t e (phase_of (decoded t e b false)) c).text) (sym (decode_open t e b false)),
+)
 decode_behind t e b c true =
     let x = decoded_text (decoded t e b false) in
     let y = (fed t e (phase_of (decoded t e b false)) c).text in
-    let z = fed_end t e (phase_of (decoded t e (b ++ c) false)) in
-    (y ++ z, decode_open t e (b ++ c) true ∙ decode_end t e (b ++ c) ∙ ap (λ d. d ++ z) (decode_more t e b c) ∙ append_assoc x y z ∙ ap (λ d. d ++ (y ++ z)) (sym (decode_open t e b false)))
+    let z = fed_end t e (phase_of (decoded t e (b ++ c) false)) in (
+      y ++ z,
+      decode_open t e (b ++ c) true ∙ decode_end t e (b ++ c) ∙ ap (λ d. d ++ z) (decode_more t e b c)
+          ∙ append_assoc x y z ∙ ap (λ d. d ++ (y ++ z)) (sym (decode_open t e b false)),
+    )
 
 -- ENCODING
 
-ended_behind_of : (front bytes : List ℕ) (s : Shift) (fault : Option ℕ) → let r : Coded = record { bytes = bytes; state = s; fault = fault } in
+ended_behind_of : (front bytes : List ℕ) (s : Shift) (fault : Option ℕ) → let r : Coded = record {
+  bytes = bytes;
+  state = s;
+  fault = fault;
+} in
     ended_coded (behind front r) ≡ behind front (ended_coded r)
-ended_behind_of front bytes s None = ap (λ z. record { bytes = z; state = InAscii; fault = None }) (append_assoc front bytes (encoder_end s))
+ended_behind_of front bytes s None = ap (λ z. record {
+  bytes = z;
+  state = InAscii;
+  fault = None;
+}) (append_assoc front bytes (encoder_end s))
 ended_behind_of front bytes s (Some c) = refl
 
 pub ended_behind : (front : List ℕ) (r : Coded) → ended_coded (behind front r) ≡ behind front (ended_coded r)
 ended_behind front r = ended_behind_of front r.bytes r.state r.fault
 
-ended_fault_of : (bytes : List ℕ) (s : Shift) (fault : Option ℕ) → (ended_coded (record { bytes = bytes; state = s; fault = fault })).fault ≡ fault
+ended_fault_of : (bytes : List ℕ) (s : Shift) (fault : Option ℕ)
+    → (ended_coded (record { bytes = bytes; state = s; fault = fault })).fault ≡ fault
 ended_fault_of bytes s None = refl
 ended_fault_of bytes s (Some c) = refl
 
@@ -89,12 +114,14 @@ module _ (t : Tables) (from to : Encoding) (mode : Mode) where
   unfolding text encode
   text_done b = refl
 
-  fault_of : (b : List ℕ) (done : Bool) → (text t from to mode b done).fault ≡ (coded f mode InAscii (decode t from b done)).fault
+  fault_of : (b : List ℕ) (done : Bool)
+      → (text t from to mode b done).fault ≡ (coded f mode InAscii (decode t from b done)).fault
   fault_of b false = ap (λ r. r.fault) (text_open b)
   fault_of b true = ap (λ r. r.fault) (text_done b) ∙ ended_fault (coded f mode InAscii (decode t from b true))
 
   -- a character without a code stays one
-  pub fault_stays : (b c : List ℕ) (done : Bool) (d : ℕ) → (text t from to mode b false).fault ≡ Some d → (text t from to mode (b ++ c) done).fault ≡ Some d
+  pub fault_stays : (b c : List ℕ) (done : Bool) (d : ℕ) → (text t from to mode b false).fault ≡ Some d
+      → (text t from to mode (b ++ c) done).fault ≡ Some d
   fault_stays b c done d h =
       let both = decode_behind t from b c done in
       let first : (coded f mode InAscii (decode t from b false)).fault ≡ Some d = sym (fault_of b false) ∙ h in
@@ -104,14 +131,16 @@ module _ (t : Tables) (from to : Encoding) (mode : Mode) where
       ∙ first
 
   grown_of : (b c : List ℕ) (done : Bool) → (text t from to mode b false).fault ≡ None
-      → (more : Coded) × (coded f mode InAscii (decode t from (b ++ c) done) ≡ behind (text t from to mode b false).bytes more)
+      → (more : Coded) × (coded f mode InAscii (decode t from (b ++ c) done) ≡ behind
+      (text t from to mode b false).bytes more)
   grown_of b c done h =
       let both = decode_behind t from b c done in
       let r = coded f mode InAscii (decode t from b false) in
       let first : r.fault ≡ None = sym (fault_of b false) ∙ h in
       let more = coded f mode r.state both.0 in (
         more,
-        ap (coded f mode InAscii) both.1 ∙ coded_both f (encoder_steady t to) mode InAscii (decode t from b false) both.0 first
+        ap (coded f mode InAscii) both.1 ∙ coded_both f (encoder_steady t to) mode InAscii (decode t from b false)
+            both.0 first
             ∙ ap (λ z. behind z.bytes more) (sym (text_open b)),
       )
 
@@ -120,5 +149,8 @@ module _ (t : Tables) (from to : Encoding) (mode : Mode) where
       → (more : List ℕ) × ((text t from to mode (b ++ c) done).bytes ≡ (text t from to mode b false).bytes ++ more)
   text_behind b c false h = let g = grown_of b c false h in (g.0.bytes, ap (λ r. r.bytes) (text_open (b ++ c) ∙ g.1))
   text_behind b c true h =
-      let g = grown_of b c true h in
-      ((ended_coded g.0).bytes, ap (λ r. r.bytes) (text_done (b ++ c) ∙ ap ended_coded g.1 ∙ ended_behind (text t from to mode b false).bytes g.0))
+      let g = grown_of b c true h in (
+        (ended_coded g.0).bytes,
+        ap (λ r. r.bytes)
+            (text_done (b ++ c) ∙ ap ended_coded g.1 ∙ ended_behind (text t from to mode b false).bytes g.0),
+      )

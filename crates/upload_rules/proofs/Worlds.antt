@@ -1,5 +1,6 @@
 -- What each call makes of a table and of the world that it stands for.
-use Rattle.std.proofs.Common.{◌≡◌, ℕ, zero, suc, ◌+◌, ◌<◌, true, false, List, [], ◌∷◌, ◌++◌, length, set, slice_index, Option, Some, None, refl, sym, ◌∙◌, ap, subst, arith, inl, inr, Vec, Global}
+use Rattle.std.proofs.Common.{◌≡◌, ℕ, zero, suc, ◌+◌, ◌<◌, true, false, List, [], ◌∷◌, ◌++◌, length, set, slice_index}
+use Rattle.std.proofs.Common.{Option, Some, None, refl, sym, ◌∙◌, ap, subst, arith, inl, inr, Vec, Global}
 use Rattle.std.proofs.lemmas.Bool.{cases_lt}
 use Rattle.std.proofs.lemmas.List.{map-append, length-append, get_or_append_left}
 use Rattle.std.proofs.Math.Seq.{map-set_same}
@@ -15,7 +16,8 @@ use Rattle.upload_rules.specs.Appends.{AppendStands}
 use Rattle.enc_model.specs.Indexes.{IndexSet}
 use Rattle.upload_rules.specs.Table.{TableStands}
 use Rattle.upload_rules.proofs.FreeNumbers.{is_free}
-use Rattle.upload_rules.proofs.Patches.{apart_without, apart_replaced, held_on, draft_of, patch_there, dropped_stand, appended_stand, begun_stand}
+use Rattle.upload_rules.proofs.Patches.{apart_without, apart_replaced, held_on, draft_of, patch_there, dropped_stand}
+use Rattle.upload_rules.proofs.Patches.{appended_stand, begun_stand}
 use Rattle.upload_rules.proofs.Growing.{grown_dropped, grown_longer, grown_begun, grown_created, grown_put}
 use Rattle.upload_rules.proofs.Places.{number_at}
 use Rattle.upload_rules.proofs.Kept.{push, put}
@@ -23,7 +25,8 @@ use Rattle.upload_rules.proofs.Kept.{push, put}
 abbrev pub Appends : Type 0
 Appends = Vec (Option OpenAppend) Global
 
-weaker : (x : IndexSet) (next : ℕ) (p : Patch) (o : OpenAppend) → AppendStands x next p o → AppendStands x (next + 1) p o
+weaker : (x : IndexSet) (next : ℕ) (p : Patch) (o : OpenAppend) → AppendStands x next p o
+    → AppendStands x (next + 1) p o
 weaker x next p o h = record {
   number = h.number;
   offset = h.offset;
@@ -43,7 +46,8 @@ rising_push ns n rising below i j lt inside =
     let long : length (ns ++ n ∷ []) ≡ length ns + 1 = length-append ns (n ∷ []) in
     let first : slice_index (ns ++ n ∷ []) i ≡ slice_index ns i = get_or_append_left ns (n ∷ []) 0 i (omega arith) in
     elim (cases_lt j (length ns)) [
-      | inl l ↦ (let second : slice_index (ns ++ n ∷ []) j ≡ slice_index ns j = get_or_append_left ns (n ∷ []) 0 j l in let r = rising i j lt l in omega (arith, first, second, r))
+      | inl l ↦ (let second : slice_index (ns ++ n ∷ []) j ≡ slice_index ns j = get_or_append_left ns (n ∷ []) 0 j
+          l in let r = rising i j lt l in omega (arith, first, second, r))
       | inr ge ↦
           (let last : j ≡ length ns = omega arith in
           let second : slice_index (ns ++ n ∷ []) j ≡ n = ap (slice_index (ns ++ n ∷ [])) last ∙ last_of ns n in
@@ -66,22 +70,26 @@ none_at ns n below k lt e = let b = below k lt in omega (arith, b, e)
 -- THE CALLS
 
 module _ (t : Table) (w : World) (stands : TableStands t w) where
-  pub drops : (d : ℕ) (v : Appends) → v.items ≡ set t.appends.items d None → TableStands (record t { appends = v }) (dropped w d)
+  pub drops : (d : ℕ) (v : Appends) → v.items ≡ set t.appends.items d None
+      → TableStands (record t { appends = v }) (dropped w d)
   drops d v is = record {
     indexes = stands.indexes;
     next = stands.next;
     slots = stands.slots;
     rising = stands.rising;
     below = stands.below;
-    appends = dropped_stand (AppendStands w.store.indexes w.store.next) w.patches t.appends.items v.items stands.appends d stands.apart is;
+    appends = dropped_stand (AppendStands w.store.indexes w.store.next) w.patches t.appends.items v.items stands.appends
+        d stands.apart is;
     apart = apart_without d w.patches stands.apart;
     grown = grown_dropped w stands.grown d stands.apart;
     unlimited = stands.unlimited;
   }
 
   -- with another append for a patch that has more of its body
-  pub appends_more : (d : ℕ) (p : Patch) (body : List ℕ) (o : OpenAppend) (v : Appends) → find d w.patches ≡ Some p → d < length t.appends.items
-      → v.items ≡ set t.appends.items d (Some o) → AppendStands w.store.indexes w.store.next (record p { body = body }) o
+  pub appends_more : (d : ℕ) (p : Patch) (body : List ℕ) (o : OpenAppend) (v : Appends) → find d w.patches ≡ Some p
+      → d < length t.appends.items
+      → v.items ≡ set t.appends.items d (Some o) → AppendStands w.store.indexes w.store.next (record p { body = body })
+      o
       → TableStands (record t { appends = v }) (record w { patches = replaced d (record p { body = body }) w.patches })
   appends_more d p body o v there lt is held = record {
     indexes = stands.indexes;
@@ -89,30 +97,37 @@ module _ (t : Table) (w : World) (stands : TableStands t w) where
     slots = stands.slots;
     rising = stands.rising;
     below = stands.below;
-    appends = appended_stand (AppendStands w.store.indexes w.store.next) w.patches t.appends.items v.items stands.appends d p (record p { body = body }) o there lt is held;
+    appends = appended_stand (AppendStands w.store.indexes w.store.next) w.patches t.appends.items v.items
+        stands.appends d p (record p { body = body }) o there lt is held;
     apart = apart_replaced d (record p { body = body }) w.patches stands.apart;
     grown = grown_longer w stands.grown d p body p.short there;
     unlimited = stands.unlimited;
   }
 
   -- with a patch more
-  pub begins : (n count : ℕ) (u : Upload) (d : ℕ) (o : OpenAppend) (v : Appends) → upload_of w.store n ≡ Some u → IsPlaced t.appends.items o d v.items
+  pub begins : (n count : ℕ) (u : Upload) (d : ℕ) (o : OpenAppend) (v : Appends) → upload_of w.store n ≡ Some u
+      → IsPlaced t.appends.items o d v.items
       → AppendStands w.store.indexes w.store.next (first_patch n count u) o
       → (d ≡ free_number w) × TableStands (record t { appends = v }) (begun w n count)
   begins n count u d o v there placed held =
-      let none : is_there (find d w.patches) ≡ false = not_there (find d w.patches) (draft_at t.appends.items d) (stands.appends d) placed.free in
-      let full : (k : ℕ) → k < d → is_there (find k w.patches) ≡ true = λ k lt. (patch_there (AppendStands w.store.indexes w.store.next) (find k w.patches) (draft_at t.appends.items k) (stands.appends k)).1 (placed.least k lt) in
+      let none : is_there (find d w.patches) ≡ false =
+      not_there (find d w.patches) (draft_at t.appends.items d) (stands.appends d) placed.free in
+      let full : (k : ℕ) → k < d → is_there (find k w.patches) ≡ true =
+      λ k lt. (patch_there (AppendStands w.store.indexes w.store.next) (find k w.patches)
+      (draft_at t.appends.items k) (stands.appends k)).1 (placed.least k lt) in
       let free = sym (is_free w d full none) in (
         free,
         subst (λ o. TableStands (record t { appends = v }) (begun_at w n count o)) (sym there)
-            (subst (λ k. TableStands (record t { appends = v }) (record w { patches = (k, first_patch n count u) ∷ w.patches })) free
+            (subst (λ k. TableStands (record t { appends = v })
+            (record w { patches = (k, first_patch n count u) ∷ w.patches })) free
             (record {
               indexes = stands.indexes;
               next = stands.next;
               slots = stands.slots;
               rising = stands.rising;
               below = stands.below;
-              appends = begun_stand (AppendStands w.store.indexes w.store.next) w.patches t.appends.items v.items stands.appends d (first_patch n count u) o placed held;
+              appends = begun_stand (AppendStands w.store.indexes w.store.next) w.patches t.appends.items v.items
+                  stands.appends d (first_patch n count u) o placed held;
               apart = (none_there (find d w.patches) none, stands.apart);
               grown = grown_begun w stands.grown n count u d there;
               unlimited = stands.unlimited;
@@ -123,44 +138,58 @@ module _ (t : Table) (w : World) (stands : TableStands t w) where
       none_there None e = refl
       none_there (Some p) e = absurd cc
 
-      not_there : (q : Option Patch) (o : Option OpenAppend) → DraftOf (AppendStands w.store.indexes w.store.next) q o → o ≡ None → is_there q ≡ false
+      not_there : (q : Option Patch) (o : Option OpenAppend) → DraftOf (AppendStands w.store.indexes w.store.next) q o
+          → o ≡ None → is_there q ≡ false
       not_there None o h e = refl
       not_there (Some p) None h e = absurd h
       not_there (Some p) (Some o) h e = absurd cc
 
   -- with an upload more
-  pub creates : (new : New) (s : Slot) (v : Vec Slot Global) (next : ℕ) → v.items ≡ t.slots.items ++ s ∷ [] → next ≡ t.next + 1 → SlotStands w.store.indexes t.next (new_upload new) s
+  pub creates : (new : New) (s : Slot) (v : Vec Slot Global) (next : ℕ) → v.items ≡ t.slots.items ++ s ∷ []
+      → next ≡ t.next + 1 → SlotStands w.store.indexes t.next (new_upload new) s
       → TableStands (record t { slots = v; next = next }) (created w new)
   creates new s v next is one held =
       let number : number_of s ≡ w.store.next = held.tells.number_is ∙ stands.next in
-      let all : numbers v.items ≡ numbers t.slots.items ++ w.store.next ∷ [] = ap numbers is ∙ map-append number_of t.slots.items (s ∷ []) ∙ ap (λ n. numbers t.slots.items ++ n ∷ []) number in
+      let all : numbers v.items ≡ numbers t.slots.items ++ w.store.next ∷ [] =
+      ap numbers is ∙ map-append number_of t.slots.items (s ∷ []) ∙ ap (λ n. numbers t.slots.items ++ n ∷ [])
+      number in
       record {
         indexes = stands.indexes;
         next = one ∙ ap (λ n. n + 1) stands.next;
         slots = subst (AllStand w.store.indexes (w.store.uploads ++ (w.store.next, new_upload new) ∷ [])) (sym is)
-            (push w.store.indexes w.store.next (new_upload new) s w.store.uploads t.slots.items stands.slots (subst (λ n. SlotStands w.store.indexes n (new_upload new) s) stands.next held));
+            (push w.store.indexes w.store.next (new_upload new) s w.store.uploads t.slots.items stands.slots
+            (subst (λ n. SlotStands w.store.indexes n (new_upload new) s) stands.next held));
         rising = subst IsRising (sym all) (rising_push (numbers t.slots.items) w.store.next stands.rising stands.below);
-        below = subst (λ ns. IsBelow ns (w.store.next + 1)) (sym all) (below_push (numbers t.slots.items) w.store.next stands.below);
-        appends = λ d. held_on (AppendStands w.store.indexes w.store.next) (AppendStands w.store.indexes (w.store.next + 1)) (find d w.patches) (draft_at t.appends.items d) (λ p o is. weaker w.store.indexes w.store.next p o) (stands.appends d);
+        below = subst (λ ns. IsBelow ns (w.store.next + 1)) (sym all)
+            (below_push (numbers t.slots.items) w.store.next stands.below);
+        appends = λ d. held_on (AppendStands w.store.indexes w.store.next)
+            (AppendStands w.store.indexes (w.store.next + 1)) (find d w.patches) (draft_at t.appends.items d)
+            (λ p o is. weaker w.store.indexes w.store.next p o) (stands.appends d);
         apart = stands.apart;
         grown = grown_created w stands.grown new (λ d p there.
-            let a = draft_of (AppendStands w.store.indexes w.store.next) p (find d w.patches) (draft_at t.appends.items d) there (stands.appends d) in
+            let a = draft_of (AppendStands w.store.indexes w.store.next) p (find d w.patches)
+            (draft_at t.appends.items d) there (stands.appends d) in
             a.2.below);
         unlimited = stands.unlimited;
       }
 
   -- with a body behind an upload
-  pub puts : (n : ℕ) (u : Upload) (body : List ℕ) (place : ℕ) (s : Slot) (v : Vec Slot Global) → upload_of w.store n ≡ Some u → IsFirstAt (numbers t.slots.items) n place
-      → place < length t.slots.items → v.items ≡ set t.slots.items place s → SlotStands w.store.indexes n (with_bytes u body) s
-      → TableStands (record t { slots = v }) (record w { store = record w.store { uploads = replaced n (with_bytes u body) w.store.uploads } })
+  pub puts : (n : ℕ) (u : Upload) (body : List ℕ) (place : ℕ) (s : Slot) (v : Vec Slot Global)
+      → upload_of w.store n ≡ Some u → IsFirstAt (numbers t.slots.items) n place
+      → place < length t.slots.items → v.items ≡ set t.slots.items place s
+      → SlotStands w.store.indexes n (with_bytes u body) s
+      → TableStands (record t { slots = v })
+      (record w { store = record w.store { uploads = replaced n (with_bytes u body) w.store.uploads } })
   puts n u body place s v there first lt is held =
       let same : numbers v.items ≡ numbers t.slots.items =
-      ap numbers is ∙ map-set_same number_of t.slots.items place s s (held.tells.number_is ∙ sym first.here ∙ number_at t.slots.items place s lt) in
+      ap numbers is ∙ map-set_same number_of t.slots.items place s s
+      (held.tells.number_is ∙ sym first.here ∙ number_at t.slots.items place s lt) in
       record {
         indexes = stands.indexes;
         next = stands.next;
         slots = subst (AllStand w.store.indexes (replaced n (with_bytes u body) w.store.uploads)) (sym is)
-            (put w.store.indexes n w.store.uploads t.slots.items place (with_bytes u body) s stands.slots lt first.here first.before held);
+            (put w.store.indexes n w.store.uploads t.slots.items place (with_bytes u body) s stands.slots lt first.here
+            first.before held);
         rising = subst IsRising (sym same) stands.rising;
         below = subst (λ ns. IsBelow ns w.store.next) (sym same) stands.below;
         appends = stands.appends;

@@ -15,7 +15,8 @@ IsLate (Some Unencodable) = Unit {0}
 IsLate (Some Full) = Unit {0}
 IsLate (Some e) = ⊥
 
--- The answer is the refusal that the rules give, where they give one. Else the call is done, or memory or the device refused it.
+-- The answer is the refusal that the rules give, where they give one. Else the call is done, or memory or the device
+-- refused it.
 abbrev pub Answers : {T : Type 0} → Option UploadRefusal → Result T UploadError → (T → Type 0) → Type 0 → Type 0
 Answers refusal (Ok t) done same = (refusal ≡ None) × done t
 Answers refusal (Err NoMemory) done same = IsLate refusal × same

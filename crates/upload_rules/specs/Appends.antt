@@ -25,7 +25,9 @@ pub record AppendStands (x : IndexSet) (next : ℕ) (p : Patch) (o : OpenAppend)
 
 -- what a commit of a body that isn't empty makes of its slot
 abbrev pub IsPut : IndexSet → Patch → Slot → Result ℕ UploadError → Type 0
-IsPut x p s (Ok n) = (n ≡ reached p) × ((patch_text x p (completes p)).fault ≡ None) × SlotStands x p.number (with_bytes p.began p.body) s
+IsPut x p s (Ok n) = (n ≡ reached p) × ((patch_text x p (completes p)).fault ≡ None) × SlotStands x p.number
+    (with_bytes p.began p.body) s
 IsPut x p s (Err NoMemory) = SlotStands x p.number p.began s
-IsPut x p s (Err (Refused refusals.Unencodable)) = (is_there (patch_text x p (completes p)).fault ≡ true) × SlotStands x p.number p.began s
+IsPut x p s (Err (Refused refusals.Unencodable)) =
+    (is_there (patch_text x p (completes p)).fault ≡ true) × SlotStands x p.number p.began s
 IsPut x p s (Err e) = ⊥

@@ -1,8 +1,11 @@
 -- What the calls make of a world, and why they are refused.
-use Rattle.std.specs.Prelude.{ℕ, ◌+◌, ◌^◌, Bool, true, false, List, [], ◌∷◌, ◌++◌, length, nat_lt, nat_le, ◌==◌, if◌then◌else◌, Option, Some, None}
+use Rattle.std.specs.Prelude.{ℕ, ◌+◌, ◌^◌, Bool, true, false, List, [], ◌∷◌, ◌++◌, length, nat_lt, nat_le, ◌==◌}
+use Rattle.std.specs.Prelude.{if◌then◌else◌, Option, Some, None}
 use Rattle.upload_rules.specs.declared.errors.UploadRefusal.{UploadRefusal}
-use Rattle.upload_rules.specs.declared.errors.UploadRefusal.TheVariants.{TooLarge, Slots, NoSuch, Offset, TooLong, Unencodable, Full}
-use Rattle.upload_rules.specs.Store.{New, Upload, Store, find, replaced, without, upload_of, created_store, deleted_store, appended_store}
+use Rattle.upload_rules.specs.declared.errors.UploadRefusal.TheVariants.{TooLarge, Slots, NoSuch, Offset, TooLong}
+use Rattle.upload_rules.specs.declared.errors.UploadRefusal.TheVariants.{Unencodable, Full}
+use Rattle.upload_rules.specs.Store.{New, Upload, Store, find, replaced, without, upload_of, created_store}
+use Rattle.upload_rules.specs.Store.{deleted_store, appended_store}
 use Rattle.upload_rules.specs.World.{Patch, World, is_there, free_number, completes, patch_text}
 use Rattle.upload_rules.specs.Reading.{no_such}
 use Rattle.upload_rules.specs.Room.{is_short}
@@ -86,7 +89,8 @@ abbrev pub offset_refusal : Patch → Option Upload → Option UploadRefusal
 offset_refusal p None = Some NoSuch
 offset_refusal p (Some u) = refuse_if (if length u.accepted == length p.began.accepted then false else true) Offset
 
--- (with deferred lengths: LengthSet and TooLong stand between Offset and Unencodable, and an empty body that declares is no empty body)
+-- (with deferred lengths: LengthSet and TooLong stand between Offset and Unencodable, and an empty body that declares
+-- is no empty body)
 -- the first that holds of NoSuch, Offset, Unencodable and Full
 unfoldable pub commit_refusal : World → ℕ → Patch → Option UploadRefusal
 commit_refusal w d p = or_else (offset_refusal p (upload_of w.store p.number)) (text_refusal w d p)

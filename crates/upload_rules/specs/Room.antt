@@ -1,5 +1,6 @@
 -- Room: how many blocks a patch needs, and how many the others leave free.
-use Rattle.std.specs.Prelude.{ℕ, ◌+◌, ◌-◌, ◌/◌, Bool, false, ◌||◌, List, [], ◌∷◌, length, nat_lt, ◌==◌, if◌then◌else◌, Option, Some, None}
+use Rattle.std.specs.Prelude.{ℕ, ◌+◌, ◌-◌, ◌/◌, Bool, false, ◌||◌, List, [], ◌∷◌, length, nat_lt, ◌==◌, if◌then◌else◌}
+use Rattle.std.specs.Prelude.{Option, Some, None}
 use Rattle.enc_model.specs.Encode.{Coded}
 use Rattle.enc_model.specs.Indexes.{IndexSet}
 use Rattle.upload_rules.specs.Store.{Upload, text_of}
@@ -43,4 +44,5 @@ exceeds (Some n) taken wanted = nat_lt n (taken + wanted)
 -- the patch is short of room: it was before, or its need exceeds what the others leave free
 unfoldable pub is_short : World → ℕ → Patch → Bool → Bool
 is_short w d p done =
-    p.short || exceeds w.blocks (used w.store.indexes w.store.uploads + needs_but d w.store.indexes w.patches) (wants w.store.indexes p done)
+    p.short || exceeds w.blocks (used w.store.indexes w.store.uploads + needs_but d w.store.indexes w.patches)
+    (wants w.store.indexes p done)

@@ -12,7 +12,13 @@ use Rattle.upload_rules.specs.Store.{Upload, is_complete}
 -- where decoding and encoding end over the bytes, the end among them or not
 abbrev pub transcoder_over : Tables → Encoding → Encoding → Mode → List ℕ → Bool → Transcoder
 transcoder_over t from to mode b false =
-    record { from = from; to = to; mode = mode; phase = phase_of (decoded t from b false); shift = (text t from to mode b false).state }
+    record {
+      from = from;
+      to = to;
+      mode = mode;
+      phase = phase_of (decoded t from b false);
+      shift = (text t from to mode b false).state;
+    }
 transcoder_over t from to mode b true = record { from = from; to = to; mode = mode; phase = Over; shift = InAscii }
 
 -- over the accepted bytes and these further ones

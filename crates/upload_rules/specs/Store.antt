@@ -61,7 +61,8 @@ is_complete u = length u.accepted == u.declared
 abbrev pub with_bytes : Upload → List ℕ → Upload
 with_bytes u bytes = record u { accepted = u.accepted ++ bytes }
 
--- what the text is with these further bytes, the end among them or not: its bytes, or the first code point that has no code
+-- what the text is with these further bytes, the end among them or not: its bytes, or the first code point that has no
+-- code
 abbrev pub text_with : IndexSet → Upload → List ℕ → Bool → Coded
 text_with x u bytes done = text (tables x) u.from u.to u.mode (u.accepted ++ bytes) done
 
@@ -72,7 +73,14 @@ text_of x u = (text_with x u [] (is_complete u)).bytes
 -- CHANGES
 
 abbrev pub new_upload : New → Upload
-new_upload new = record { from = new.from; to = new.to; mode = new.mode; declared = new.declared; metadata = new.metadata; accepted = [] }
+new_upload new = record {
+  from = new.from;
+  to = new.to;
+  mode = new.mode;
+  declared = new.declared;
+  metadata = new.metadata;
+  accepted = [];
+}
 
 -- `create`: the next number, with no accepted bytes
 abbrev pub created_store : Store → New → Store

@@ -20,7 +20,8 @@ pub record TableStands (t : Table) (w : World) : Type 0 where
   pub slots : AllStand w.store.indexes w.store.uploads t.slots.items
   pub rising : IsRising (numbers t.slots.items)
   pub below : IsBelow (numbers t.slots.items) w.store.next
-  pub appends : (d : ℕ) → DraftOf (AppendStands w.store.indexes w.store.next) (find d w.patches) (draft_at t.appends.items d)
+  pub appends : (d : ℕ) → DraftOf (AppendStands w.store.indexes w.store.next) (find d w.patches)
+      (draft_at t.appends.items d)
   pub apart : IsApart w.patches
   pub grown : IsGrown w
   pub unlimited : w.blocks ≡ None
@@ -34,5 +35,7 @@ IsSlotOf x n _ _ = ⊥
 -- an append of an upload as it is, or the rules' refusal
 abbrev pub IsOpened : World → ℕ → ℕ → ℕ → Option Upload → Result OpenAppend UploadRefusal → Type 0
 IsOpened w n offset count None (Ok o) = ⊥
-IsOpened w n offset count (Some u) (Ok o) = (begin_refusal_at offset count (Some u) ≡ None) × AppendStands w.store.indexes w.store.next (first_patch n count u) o
+IsOpened w n offset count (Some u) (Ok o) =
+    (begin_refusal_at offset count (Some u) ≡ None) × AppendStands w.store.indexes w.store.next (first_patch n count u)
+    o
 IsOpened w n offset count u (Err e) = begin_refusal_at offset count u ≡ Some e

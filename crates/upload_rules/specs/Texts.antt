@@ -44,7 +44,8 @@ IsGrowing (Growing t text) = Unit {0}
 IsGrowing Unencodable = ⊥
 IsGrowing Complete = ⊥
 
--- the text with an append's bytes, the end among them or not, has a value, these are what is new in it, and this is the state then
+-- the text with an append's bytes, the end among them or not, has a value, these are what is new in it, and this is the
+-- state then
 pub record IsWhole (x : IndexSet) (u : Upload) (bytes : List ℕ) (done : Bool) (state text : List ℕ) : Type 0 where
   pub state_is : state ≡ state_with x u bytes done
   pub sound : IsSound (transcoder_with x u bytes done)

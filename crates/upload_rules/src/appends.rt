@@ -28,9 +28,11 @@ pub(crate) struct OpenAppend {
 impl OpenAppend {
     /// With a piece more of its body; as it was, where a growth is refused.
     pub(crate) fn feed(&mut self, indexes: &IndexSet, piece: &[u8]) -> Result<(), AllocError>
-        ensures ok { (next : ℕ) (p : Patch) → AppendStands indexes.now next p self.old → length p.body + length piece.now ≤ p.count
+        ensures ok { (next : ℕ) (p : Patch) → AppendStands indexes.now next p self.old
+            → length p.body + length piece.now ≤ p.count
             → OnOk result (AppendStands indexes.now next (record p { body = p.body ++ piece.now }) self.new) }
-        ensures err { (next : ℕ) (p : Patch) → AppendStands indexes.now next p self.old → OnErr result (AppendStands indexes.now next p self.new) }
+        ensures err { (next : ℕ) (p : Patch) → AppendStands indexes.now next p self.old
+            → OnErr result (AppendStands indexes.now next p self.new) }
     {
         let text = mem::replace(&mut self.text, NewText::Unencodable);
         let (text, outcome) = text.with(indexes, piece);
@@ -42,7 +44,8 @@ impl OpenAppend {
 
     /// Puts the new text behind the slot's, and answers the new count of accepted bytes.
     pub(crate) fn put_behind(self, slot: &mut Slot, indexes: &IndexSet) -> Result<u64, UploadError>
-        ensures put { (next : ℕ) (p : Patch) → AppendStands indexes.now next p self → 0 < length p.body → SlotStands indexes.now p.number p.began slot.old
+        ensures put { (next : ℕ) (p : Patch) → AppendStands indexes.now next p self → 0 < length p.body
+            → SlotStands indexes.now p.number p.began slot.old
             → IsPut indexes.now p slot.new result }
         ensures no_device { IsErrOf result UploadError.DiskFault → ⊥ }
     {

@@ -6,18 +6,23 @@ ghost use Rattle.upload_rules.specs.Store.{Upload, find, upload_of, text_of, tex
 ghost use Rattle.upload_rules.specs.World.{World, Patch};
 ghost use Rattle.upload_rules.specs.Grown.{IsGrown};
 
-/// The same upload and the same count of accepted bytes mean the same accepted bytes: an open patch whose offset is still
+/// The same upload and the same count of accepted bytes mean the same accepted bytes: an open patch whose offset is
+/// still
 /// the count began at the upload as it is.
 pub fn same_offset()
-    ensures { (w : World) (d : ℕ) (p : Patch) (u : Upload) → IsGrown w → find d w.patches ≡ Some p → upload_of w.store p.number ≡ Some u
+    ensures { (w : World) (d : ℕ) (p : Patch) (u : Upload) → IsGrown w → find d w.patches ≡ Some p
+        → upload_of w.store p.number ≡ Some u
         → length u.accepted ≡ length p.began.accepted → u ≡ p.began }
 {}
 
-/// While an upload isn't complete, its text is a prefix of its text with more bytes. A character without a code stays one,
+/// While an upload isn't complete, its text is a prefix of its text with more bytes. A character without a code stays
+/// one,
 /// whatever comes behind it.
 pub fn text_grows()
-    ensures front { (x : IndexSet) (u : Upload) (bytes : List ℕ) → is_complete u ≡ false → (text_with x u [] false).fault ≡ None
+    ensures front { (x : IndexSet) (u : Upload) (bytes : List ℕ) → is_complete u ≡ false
+        → (text_with x u [] false).fault ≡ None
         → (more : List ℕ) × (text_of x (with_bytes u bytes) ≡ text_of x u ++ more) }
-    ensures fault { (x : IndexSet) (u : Upload) (bytes more : List ℕ) (done : Bool) (c : ℕ) → (text_with x u bytes false).fault ≡ Some c
+    ensures fault { (x : IndexSet) (u : Upload) (bytes more : List ℕ) (done : Bool) (c : ℕ)
+        → (text_with x u bytes false).fault ≡ Some c
         → (text_with x u (bytes ++ more) done).fault ≡ Some c }
 {}

@@ -28,7 +28,8 @@ pub struct Record {
     pub to: Encoding,
     /// What is done with a character that `to` lacks.
     pub mode: Mode,
-    /// Where transcoding stands over the accepted bytes, as `Transcoder::pack` writes it: behind the end where all are accepted.
+    /// Where transcoding stands over the accepted bytes, as `Transcoder::pack` writes it: behind the end where all are
+    /// accepted.
     pub state: [u8; 32],
     /// The metadata as it was given: bytes 20 to 7E.
     pub metadata: String,
@@ -52,7 +53,8 @@ pub struct New {
 impl Model for New {
     ghost Value = { Fields };
 
-    ghost view = { λ n. record { declared = n.declared; from = n.from; to = n.to; mode = n.mode; metadata = n.metadata.bytes.items } };
+    ghost view = { λ n. record
+        { declared = n.declared; from = n.from; to = n.to; mode = n.mode; metadata = n.metadata.bytes.items } };
 }
 
 impl Record {
@@ -90,9 +92,11 @@ impl Record {
 
     /// Whether `count` bytes may come at an offset: refused with `Offset`, `TooLong`.
     pub fn admits(&self, offset: u64, count: u64) -> Result<(), UploadRefusal>
-        ensures room { IsOk result → (self.now.accepted ≡ offset) × (offset + count ≤ self.now.declared) × (self.now.declared < 2 ^ 64) }
+        ensures room { IsOk result
+            → (self.now.accepted ≡ offset) × (offset + count ≤ self.now.declared) × (self.now.declared < 2 ^ 64) }
         ensures rules { (x : IndexSet) (n : ℕ) (u : Upload) → Tells x n self.now u
-            → MatchResult result (λ _. begin_refusal_at offset count (Some u) ≡ None) (λ e. begin_refusal_at offset count (Some u) ≡ Some e) }
+            → MatchResult result (λ _. begin_refusal_at offset count (Some u) ≡ None)
+            (λ e. begin_refusal_at offset count (Some u) ≡ Some e) }
     {
         if self.accepted != offset {
             return Err(UploadRefusal::Offset);

@@ -1,6 +1,7 @@
 //! The uploads of a table, by ascending numbers.
 
-ghost use Rattle.std.specs.Prelude.{◌≡◌, ◌++◌, ◌<◌, ◌≤◌, [], ℕ, length, IfOk, OnOk, OnErr, MatchOption, IfSome, slice_index};
+ghost use Rattle.std.specs.Prelude.{◌≡◌, ◌++◌, ◌<◌, ◌≤◌, [], ℕ, length, IfOk, OnOk, OnErr, MatchOption, IfSome};
+ghost use Rattle.std.specs.Prelude.{slice_index};
 ghost use Rattle.enc_stream.specs.Standing.{IsOutput};
 ghost use Rattle.upload_rules.specs.Store.{new_upload};
 ghost use Rattle.upload_rules.specs.Reading.{IsRead};
@@ -39,7 +40,9 @@ impl Slot {
         state: [u8; 32],
     ) -> Result<(), AllocError>
         ensures text { OnOk result (self.new.text.items ≡ self.old.text.items ++ text.now) }
-        ensures record { OnOk result (self.new.record ≡ record self.old.record { accepted = accepted; text_len = length self.new.text.items; state = state }) }
+        ensures record { OnOk result
+            (self.new.record ≡ record self.old.record
+            { accepted = accepted; text_len = length self.new.text.items; state = state }) }
         ensures same { OnErr result ((self.new.text.items ≡ self.old.text.items) × (self.new.record ≡ self.old.record)) }
     {
         self.text.extend_from_slice(text)?;
@@ -61,7 +64,8 @@ pub(crate) fn places_to(slots: &[Slot], number: u64) -> usize
 /// The place of a number.
 pub(crate) fn place_of(slots: &[Slot], number: u64) -> Option<usize>
     ensures within { IfSome result (λ place. place < length slots.now) }
-    ensures place { IsRising (numbers slots.now) → MatchOption result (IsNowhere (numbers slots.now) number) (IsFirstAt (numbers slots.now) number) }
+    ensures place { IsRising (numbers slots.now) → MatchOption result (IsNowhere (numbers slots.now) number)
+        (IsFirstAt (numbers slots.now) number) }
 {
     let place = places_to(slots, number).checked_sub(1)?;
     (slots[place].record.number == number).then_some(place)

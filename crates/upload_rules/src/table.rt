@@ -55,7 +55,8 @@ impl Table {
 
     /// The slot of a number.
     fn slot(&self, number: u64) -> Option<&Slot>
-        ensures { (w : World) → TableStands self.now w → IsSlotOf w.store.indexes number (upload_of w.store number) (option_copied result) }
+        ensures { (w : World) → TableStands self.now w → IsSlotOf w.store.indexes number (upload_of w.store number)
+            (option_copied result) }
     {
         let place = place_of(&self.slots, number)?;
         Some(&self.slots[place])
@@ -63,7 +64,8 @@ impl Table {
 
     /// The append that `begin` opens, if the rules allow it.
     fn opened(&self, number: u64, offset: u64, count: u64) -> Result<OpenAppend, UploadRefusal>
-        ensures { (w : World) → TableStands self.now w → IsOpened w number offset count (upload_of w.store number) result }
+        ensures { (w : World) → TableStands self.now w → IsOpened w number offset count (upload_of w.store number)
+            result }
     {
         let Some(slot) = self.slot(number) else {
             return Err(UploadRefusal::NoSuch);

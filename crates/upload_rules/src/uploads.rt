@@ -3,7 +3,9 @@ ghost use Rattle.std.specs.Prelude.{◌≡◌, ◌≤◌, ◌<◌, ◌+◌, ℕ,
 ghost use Rattle.enc_model.specs.Indexes.{IndexSet as Indexes};
 ghost use Rattle.upload_rules.specs.Store.{Upload, Store, upload_of, find};
 ghost use Rattle.upload_rules.specs.World.{Patch, World, free_number};
-ghost use Rattle.upload_rules.specs.Calls.{create_refusal, created, create_outcome, terminate_refusal, terminated, terminate_outcome, begin_refusal, begun, appended, longer, commit_refusal, committed, commit_outcome, dropped, reached};
+ghost use Rattle.upload_rules.specs.Calls.{create_refusal, created, create_outcome, terminate_refusal, terminated};
+ghost use Rattle.upload_rules.specs.Calls.{terminate_outcome, begin_refusal, begun, appended, longer, commit_refusal};
+ghost use Rattle.upload_rules.specs.Calls.{committed, commit_outcome, dropped, reached};
 ghost use Rattle.upload_rules.specs.Answers.{Answers, IsBegun, Among, Limits, Quiet, Counts};
 ghost use Rattle.upload_rules.specs.Records.{TellsOf, with_number, above, IsWellFormed, IsOffered};
 ghost use Rattle.upload_rules.specs.Reading.{no_such, text_at, IsRead};
@@ -37,11 +39,13 @@ pub trait Uploads {
 
     /// The upload of a number.
     fn record(&self, number: u64) -> Option<&Record>
-        ensures { (w : World) → stands self.now w → TellsOf w.store.indexes (with_number number (upload_of w.store number)) (option_copied result) };
+        ensures { (w : World) → stands self.now w → TellsOf w.store.indexes
+            (with_number number (upload_of w.store number)) (option_copied result) };
 
     /// The upload of the least number above this one.
     fn record_after(&self, number: u64) -> Option<&Record>
-        ensures { (w : World) → stands self.now w → TellsOf w.store.indexes (above number w.store.uploads) (option_copied result) };
+        ensures { (w : World) → stands self.now w → TellsOf w.store.indexes (above number w.store.uploads)
+            (option_copied result) };
 
     /// The number that the next upload gets.
     fn next_number(&self) -> u64
@@ -51,14 +55,17 @@ pub trait Uploads {
     fn indexes(&self) -> &IndexSet
         ensures { (w : World) → stands self.now w → result.now ≡ w.store.indexes };
 
-    /// Makes an upload without bytes, and answers its number: refused with `TooLarge`, `Slots`, `NoMemory`, `DiskFault`.
+    /// Makes an upload without bytes, and answers its number: refused with `TooLarge`, `Slots`, `NoMemory`,
+    /// `DiskFault`.
     fn create(&mut self, new: New) -> Result<u64, UploadError>
         requires well_formed { IsWellFormed new }
         requires offered { (w : World) → stands self.old w → IsOffered w.store.indexes new }
         ensures answer { (w : World) → stands self.old w
-            → Answers (create_refusal w new) result (λ n. (n ≡ w.store.next) × stands self.new (created w new)) (stands self.new w) }
+            → Answers (create_refusal w new) result (λ n. (n ≡ w.store.next) × stands self.new (created w new))
+            (stands self.new w) }
         ensures crash { (w : World) → stands self.old w
-            → Limits (moment self.old) (moment self.new) (left_only self.old) (left_only self.new) w.store (create_outcome w new) }
+            → Limits (moment self.old) (moment self.new) (left_only self.old) (left_only self.new) w.store
+            (create_outcome w new) }
         ensures unmade { (w : World) → stands self.old w → IsErrOf result UploadError.NoMemory
             → Limits (moment self.old) (moment self.new) (left_only self.old) (left_only self.new) w.store w.store }
         ensures counts { Counts (IsErrOf result UploadError.DiskFault) (failures self.old) (failures self.new) };
@@ -67,46 +74,59 @@ pub trait Uploads {
     /// again, and an open draft of it can only be refused from then on.
     fn terminate(&mut self, number: u64) -> Result<(), UploadError>
         ensures answer { (w : World) → stands self.old w
-            → Answers (terminate_refusal w number) result (λ done. stands self.new (terminated w number)) (stands self.new w) }
+            → Answers (terminate_refusal w number) result (λ done. stands self.new (terminated w number))
+            (stands self.new w) }
         ensures crash { (w : World) → stands self.old w
-            → Limits (moment self.old) (moment self.new) (left_only self.old) (left_only self.new) w.store (terminate_outcome w number) }
+            → Limits (moment self.old) (moment self.new) (left_only self.old) (left_only self.new) w.store
+            (terminate_outcome w number) }
         ensures unmade { (w : World) → stands self.old w → IsErrOf result UploadError.NoMemory
             → Limits (moment self.old) (moment self.new) (left_only self.old) (left_only self.new) w.store w.store }
         ensures counts { Counts (IsErrOf result UploadError.DiskFault) (failures self.old) (failures self.new) };
 
-    /// Opens a draft of `count` bytes at an offset, under the least number that is free: refused with `NoSuch`, `Offset`, `TooLong`, `NoMemory`.
+    /// Opens a draft of `count` bytes at an offset, under the least number that is free: refused with `NoSuch`,
+    /// `Offset`, `TooLong`, `NoMemory`.
     fn begin(&mut self, number: u64, offset: u64, count: u64) -> Result<Self::Draft, UploadError>
         ensures answer { (w : World) → stands self.old w
             → Answers (begin_refusal w number offset count) result
-            (λ draft. (Self.number_of draft ≡ free_number w) × IsBegun (holds draft) number count (upload_of w.store number) × stands self.new (begun w number count))
+            (λ draft. (Self.number_of draft ≡ free_number w) × IsBegun (holds draft) number count
+            (upload_of w.store number) × stands self.new (begun w number count))
             (stands self.new w) }
         ensures no_device { IsErrOf result UploadError.DiskFault → ⊥ }
         ensures crash { Quiet (moment self.old) (moment self.new) (left_only self.old) (left_only self.new) }
         ensures counts { failures self.new ≡ failures self.old };
 
-    /// Adds bytes to a draft, at most its count in all: refused with `NoMemory`, `DiskFault`, after which the draft may only be dropped.
+    /// Adds bytes to a draft, at most its count in all: refused with `NoMemory`, `DiskFault`, after which the draft may
+    /// only be dropped.
     /// Text that can't be encoded or stored is kept as the draft's fault.
     fn append(&mut self, draft: &mut Self::Draft, piece: &[u8]) -> Result<(), UploadError>
         ensures same { Self.number_of draft.new ≡ Self.number_of draft.old }
-        ensures answer { (w : World) (p : Patch) → stands self.old w → find (Self.number_of draft.old) w.patches ≡ Some p → holds draft.old p
+        ensures answer { (w : World) (p : Patch) → stands self.old w → find (Self.number_of draft.old) w.patches ≡ Some
+            p → holds draft.old p
             → length p.body + length piece.now ≤ p.count
             → Answers None result
-            (λ done. holds draft.new (longer w (Self.number_of draft.old) p piece.now) × stands self.new (appended w (Self.number_of draft.old) piece.now))
+            (λ done. holds draft.new (longer w (Self.number_of draft.old) p piece.now) × stands self.new
+            (appended w (Self.number_of draft.old) piece.now))
             (stands self.new w) }
-        ensures crash { (w : World) (p : Patch) → stands self.old w → find (Self.number_of draft.old) w.patches ≡ Some p → holds draft.old p
+        ensures crash { (w : World) (p : Patch) → stands self.old w → find (Self.number_of draft.old) w.patches ≡ Some p
+            → holds draft.old p
             → Quiet (moment self.old) (moment self.new) (left_only self.old) (left_only self.new) }
         ensures counts { Counts (IsErrOf result UploadError.DiskFault) (failures self.old) (failures self.new) };
 
-    /// Puts a draft's text behind its upload's, and answers the new offset: refused with `NoSuch`, `Offset`, `Unencodable`, `Full`, `NoMemory`, `DiskFault`.
+    /// Puts a draft's text behind its upload's, and answers the new offset: refused with `NoSuch`, `Offset`,
+    /// `Unencodable`, `Full`, `NoMemory`, `DiskFault`.
     /// The draft is spent in every case.
     fn commit(&mut self, draft: Self::Draft) -> Result<u64, UploadError>
-        ensures answer { (w : World) (p : Patch) → stands self.old w → find (Self.number_of draft) w.patches ≡ Some p → holds draft p
+        ensures answer { (w : World) (p : Patch) → stands self.old w → find (Self.number_of draft) w.patches ≡ Some p
+            → holds draft p
             → Answers (commit_refusal w (Self.number_of draft) p) result
             (λ n. (n ≡ reached p) × stands self.new (committed w (Self.number_of draft) p))
             (stands self.new (dropped w (Self.number_of draft))) }
-        ensures crash { (w : World) (p : Patch) → stands self.old w → find (Self.number_of draft) w.patches ≡ Some p → holds draft p
-            → Limits (moment self.old) (moment self.new) (left_only self.old) (left_only self.new) w.store (commit_outcome w (Self.number_of draft) p) }
-        ensures unmade { (w : World) (p : Patch) → stands self.old w → find (Self.number_of draft) w.patches ≡ Some p → holds draft p → IsErrOf result UploadError.NoMemory
+        ensures crash { (w : World) (p : Patch) → stands self.old w → find (Self.number_of draft) w.patches ≡ Some p
+            → holds draft p
+            → Limits (moment self.old) (moment self.new) (left_only self.old) (left_only self.new) w.store
+            (commit_outcome w (Self.number_of draft) p) }
+        ensures unmade { (w : World) (p : Patch) → stands self.old w → find (Self.number_of draft) w.patches ≡ Some p
+            → holds draft p → IsErrOf result UploadError.NoMemory
             → Limits (moment self.old) (moment self.new) (left_only self.old) (left_only self.new) w.store w.store }
         ensures counts { Counts (IsErrOf result UploadError.DiskFault) (failures self.old) (failures self.new) };
 
@@ -127,8 +147,10 @@ pub trait Uploads {
         ensures counts { Counts (IsErrOf result UploadError.DiskFault) (failures self.old) (failures self.new) };
 
     /// Each upload's number is below the next one.
-    ghost below: { (store : Self) (w : World) (number : ℕ) (u : Upload) → stands store w → upload_of w.store number ≡ Some u → number < w.store.next };
+    ghost below: { (store : Self) (w : World) (number : ℕ) (u : Upload) → stands store w
+        → upload_of w.store number ≡ Some u → number < w.store.next };
 
     /// A store that stands for a world is on the device.
-    ghost durable: { (store : Self) (w : World) (ms : List Store) → stands store w → Among w.store ms → left_only store w.blocks (moment store) ms };
+    ghost durable: { (store : Self) (w : World) (ms : List Store) → stands store w → Among w.store ms
+        → left_only store w.blocks (moment store) ms };
 }

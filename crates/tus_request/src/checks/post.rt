@@ -41,7 +41,8 @@ fn check_metadata(
     set: &IndexSet,
     declared: u64,
 ) -> Result<Verdict, AllocError>
-    ensures { IfOk result (λ v. verdict_shown v ≡ with_metadata (offers set.now) (asking_shown asking.now) declared (values asking.now.fields.now (codes "upload-metadata"))) }
+    ensures { IfOk result (λ v. verdict_shown v ≡ with_metadata (offers set.now) (asking_shown asking.now) declared
+        (values asking.now.fields.now (codes "upload-metadata"))) }
 {
     let mut values = asking.fields.get_all("upload-metadata").iter();
     let Some(value) = values.next() else {
@@ -61,7 +62,8 @@ fn check_value(
     declared: u64,
     value: &HeaderValue,
 ) -> Result<Verdict, AllocError>
-    ensures { IfOk result (λ v. verdict_shown v ≡ with_pairs (offers set.now) (asking_shown asking.now) declared value.now.bytes (metadata_of value.now.bytes)) }
+    ensures { IfOk result (λ v. verdict_shown v ≡ with_pairs (offers set.now) (asking_shown asking.now) declared
+        value.now.bytes (metadata_of value.now.bytes)) }
 {
     match value.to_str() {
         Ok(metadata) => check_pairs(alloc, asking, set, declared, metadata),
@@ -77,7 +79,8 @@ fn check_pairs(
     declared: u64,
     metadata: &str,
 ) -> Result<Verdict, AllocError>
-    ensures { IfOk result (λ v. verdict_shown v ≡ with_pairs (offers set.now) (asking_shown asking.now) declared metadata.now (metadata_of metadata.now)) }
+    ensures { IfOk result (λ v. verdict_shown v ≡ with_pairs (offers set.now) (asking_shown asking.now) declared
+        metadata.now (metadata_of metadata.now)) }
 {
     match read(alloc, metadata.as_bytes())? {
         Some(pairs) => check_choice(alloc, asking, set, declared, metadata, choice_of(&pairs)),
@@ -94,7 +97,8 @@ fn check_choice(
     metadata: &str,
     choice: Option<Choice>,
 ) -> Result<Verdict, AllocError>
-    ensures { IfOk result (λ v. verdict_shown v ≡ with_choice (offers set.now) (asking_shown asking.now) declared metadata.now (option_map choice_shown choice)) }
+    ensures { IfOk result (λ v. verdict_shown v ≡ with_choice (offers set.now) (asking_shown asking.now) declared
+        metadata.now (option_map choice_shown choice)) }
 {
     let Some(choice) = choice else {
         return Ok(refused(asking, Fault::BadLabel));

@@ -10,5 +10,7 @@ use Rattle.tus_request.proofs.checks.judge.Goals as goal
 
 pub returns : goal.returns
 returns c =
-    let same = same_values (values c.in_ok-fields.fields) (values_in (map header_parts c.args.headers.now)) c.in_ok-fields.ensures in
-    if_ok_more c.check.result c.check.ensures (λ v is. is ∙ ap (checked (offers c.args.set.now) (line_shown c.args.line)) same)
+    let same = same_values (values c.in_ok-fields.fields) (values_in (map header_parts c.args.headers.now))
+    c.in_ok-fields.ensures in
+    if_ok_more c.check.result c.check.ensures
+    (λ v is. is ∙ ap (checked (offers c.args.set.now) (line_shown c.args.line)) same)

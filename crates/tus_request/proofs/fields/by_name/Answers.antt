@@ -5,4 +5,5 @@ use Rattle.tus_request.proofs.fields.by_name.Goals as goal
 pub loop-header-preserved : goal.loop-header-preserved
 loop-header-preserved c =
     rw c.in_ok-put.ensures
-    (header_more c.args.headers.now c.loop-header.header-index _ c.loop-header.fields (omega arith) c.loop-header.invariant)
+    (header_more c.args.headers.now c.loop-header.header-index _ c.loop-header.fields (omega arith)
+    c.loop-header.invariant)

@@ -4,4 +4,6 @@ use Rattle.tus_request.proofs.ParseLemmas.{if_ok_more, answer_is}
 use Rattle.tus_request.proofs.heads.parse.Goals as goal
 
 pub returns-clause-function : goal.returns-clause-function
-returns-clause-function c = if_ok_more c.parse_head.result c.parse_head.ensures.grammar (λ a is. answer_is (offers c.args.set.now) c.args.bytes.now (answer_shown a) is)
+returns-clause-function c =
+    if_ok_more c.parse_head.result c.parse_head.ensures.grammar
+    (λ a is. answer_is (offers c.args.set.now) c.args.bytes.now (answer_shown a) is)

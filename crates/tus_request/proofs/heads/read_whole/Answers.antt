@@ -5,7 +5,8 @@ use Rattle.httparse.specs.Borrowed.{HoldsSomeRequest}
 use Rattle.httparse.specs.Spans.{RequestOverflows}
 use Rattle.enc_model.specs.Indexes.{offers}
 use Rattle.tus_request.specs.CheckParts.{verdict_shown}
-use Rattle.tus_request.proofs.ParseLemmas.{fills, none_where_failed, usable, same_count, fields_within, shown_by, same_line, same_verdict}
+use Rattle.tus_request.proofs.ParseLemmas.{fills, none_where_failed, usable, same_count, fields_within, shown_by}
+use Rattle.tus_request.proofs.ParseLemmas.{same_line, same_verdict}
 use Rattle.tus_request.specs.Answers.{Judged}
 use Rattle.tus_request.proofs.heads.read_whole.Goals as goal
 
@@ -17,14 +18,16 @@ returns-in-Err c =
 
 pub judge-requires-clause-few : goal.judge-requires-clause-few
 judge-requires-clause-few c =
-    let holds : HoldsSomeRequest c.args.head.now c.parse.new.self c.in-Ok-Complete.field-0-0 = rw c.in-Ok-Complete.field-0-is at c.in-Ok-Complete.ensures.complete in
+    let holds : HoldsSomeRequest c.args.head.now c.parse.new.self c.in-Ok-Complete.field-0-0 =
+    rw c.in-Ok-Complete.field-0-is at c.in-Ok-Complete.ensures.complete in
     let q = c.requires in
     let f = fills c.args.head.now q.0 q.1 holds.0 _ q.2 holds.1.reads in
     omega (arith, f.0, same_count _ holds.0.fields holds.1.fields)
 
 pub judge-requires-clause-usable : goal.judge-requires-clause-usable
 judge-requires-clause-usable c =
-    let holds : HoldsSomeRequest c.args.head.now c.parse.new.self c.in-Ok-Complete.field-0-0 = rw c.in-Ok-Complete.field-0-is at c.in-Ok-Complete.ensures.complete in
+    let holds : HoldsSomeRequest c.args.head.now c.parse.new.self c.in-Ok-Complete.field-0-0 =
+    rw c.in-Ok-Complete.field-0-is at c.in-Ok-Complete.ensures.complete in
     let q = c.requires in
     let f = fills c.args.head.now q.0 q.1 holds.0 _ q.2 holds.1.reads in
     let w = fields_within holds.0 in
@@ -33,7 +36,8 @@ judge-requires-clause-usable c =
 
 pub returns : goal.returns
 returns c =
-    let holds : HoldsSomeRequest c.args.head.now c.parse.new.self c.in-Ok-Complete.field-0-0 = rw c.in-Ok-Complete.field-0-is at c.in-Ok-Complete.ensures.complete in
+    let holds : HoldsSomeRequest c.args.head.now c.parse.new.self c.in-Ok-Complete.field-0-0 =
+    rw c.in-Ok-Complete.field-0-is at c.in-Ok-Complete.ensures.complete in
     let q = c.requires in
     let f = fills c.args.head.now q.0 q.1 holds.0 _ q.2 holds.1.reads in
     let all = rw f.2 at holds.1.reads in
@@ -41,10 +45,19 @@ returns c =
     let t = shown_by c.parse.new.self.path c.unwrap-2.result holds.0.target (search rules) holds.1.path in
     let s : Some c.unwrap-3.result ≡ Some holds.0.minor = sym c.unwrap-3.ensures ∙ holds.1.version in
     let v : c.unwrap-3.result ≡ holds.0.minor = cc in
-    let line = same_line holds.0 (record { method = c.unwrap.result.now; target = c.unwrap-2.result.now; minor = c.unwrap-3.result }) m t v in
+    let line = same_line holds.0 (record {
+      method = c.unwrap.result.now;
+      target = c.unwrap-2.result.now;
+      minor = c.unwrap-3.result;
+    }) m t v in
     inr (
       holds.0,
       all,
       c.answer.ensures ∙ ap (λ x. Judged (length c.args.head.now) x)
-          (same_verdict (offers c.args.set.now) holds.0 (record { method = c.unwrap.result.now; target = c.unwrap-2.result.now; minor = c.unwrap-3.result }) c.parse.new.self.headers.now (verdict_shown c.in_ok-verdict.verdict) line holds.1.fields c.in_ok-verdict.ensures),
+          (same_verdict (offers c.args.set.now) holds.0
+          (record {
+            method = c.unwrap.result.now;
+            target = c.unwrap-2.result.now;
+            minor = c.unwrap-3.result;
+          }) c.parse.new.self.headers.now (verdict_shown c.in_ok-verdict.verdict) line holds.1.fields c.in_ok-verdict.ensures),
     )

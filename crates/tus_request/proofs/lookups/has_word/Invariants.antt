@@ -6,4 +6,5 @@ use Rattle.tus_request.specs.Fields.{values}
 use Rattle.tus_request.proofs.lookups.has_word.Given as goal
 
 abbrev pub invariant-loop-value : goal.invariant-loop-value
-invariant-loop-value l = list_any (any_case l.word) (map (λ v. v.bytes) l.value-iterator) ≡ list_any (any_case l.word) (values l.fields (lowercase l.name))
+invariant-loop-value l = list_any (any_case l.word) (map (λ v. v.bytes) l.value-iterator) ≡ list_any (any_case l.word)
+    (values l.fields (lowercase l.name))

@@ -12,44 +12,65 @@ use Rattle.tus_request.proofs.metadata.read_pairs.Goals as goal
 
 pub returns-in_default : goal.returns-in_default
 returns-in_default c =
-    let t = YieldsList-turn (YieldsList-from_slice_split _ (λ b. b == 44) c.args.text.now (ap (λ s. split_rest s) c.into_iter-part-iterator.ensures.into_iter_gives ∙ c.split-part-items.ensures.rest)
+    let t = YieldsList-turn (YieldsList-from_slice_split _ (λ b. b == 44) c.args.text.now
+    (ap (λ s. split_rest s) c.into_iter-part-iterator.ensures.into_iter_gives ∙ c.split-part-items.ensures.rest)
     (ap (λ s. split_done s) c.into_iter-part-iterator.ensures.into_iter_gives ∙ c.split-part-items.ensures.done)
-    (ap (λ s. split_callee s) c.into_iter-part-iterator.ensures.into_iter_gives ∙ c.split-part-items.ensures.closure) (λ x r q k. search (rules, tests)))
+    (ap (λ s. split_callee s) c.into_iter-part-iterator.ensures.into_iter_gives ∙ c.split-part-items.ensures.closure)
+    (λ x r q k. search (rules, tests)))
     c.loop-part.yielded _ c.loop-part.yielded_by _ _ c.in-Some.part c.in-Some.is c.next.ensures.steps in
     let e = rw c.in_default.is at c.in_ok-pair.ensures in
     let p : pair_of (trimmed (32 ∷ []) c.in-Some.part.now) ≡ None = ap pair_of (sym c.trimmed.ensures) ∙ sym e in
-    sym (sym c.loop-part.invariant ∙ pairs_bad (map pair_shown c.loop-part.pairs.items) (parts c.args.text.now) (length c.loop-part.yielded) c.in-Some.part.now t p)
+    sym (sym c.loop-part.invariant ∙ pairs_bad (map pair_shown c.loop-part.pairs.items) (parts c.args.text.now)
+    (length c.loop-part.yielded) c.in-Some.part.now t p)
 
 pub returns-then-has_key : goal.returns-then-has_key
 returns-then-has_key c =
-    let t = YieldsList-turn (YieldsList-from_slice_split _ (λ b. b == 44) c.args.text.now (ap (λ s. split_rest s) c.into_iter-part-iterator.ensures.into_iter_gives ∙ c.split-part-items.ensures.rest)
+    let t = YieldsList-turn (YieldsList-from_slice_split _ (λ b. b == 44) c.args.text.now
+    (ap (λ s. split_rest s) c.into_iter-part-iterator.ensures.into_iter_gives ∙ c.split-part-items.ensures.rest)
     (ap (λ s. split_done s) c.into_iter-part-iterator.ensures.into_iter_gives ∙ c.split-part-items.ensures.done)
-    (ap (λ s. split_callee s) c.into_iter-part-iterator.ensures.into_iter_gives ∙ c.split-part-items.ensures.closure) (λ x r q k. search (rules, tests)))
+    (ap (λ s. split_callee s) c.into_iter-part-iterator.ensures.into_iter_gives ∙ c.split-part-items.ensures.closure)
+    (λ x r q k. search (rules, tests)))
     c.loop-part.yielded _ c.loop-part.yielded_by _ _ c.in-Some.part c.in-Some.is c.next.ensures.steps in
     let e = rw c.in-Some-2.is at c.in_ok-pair.ensures in
-    let p : pair_of (trimmed (32 ∷ []) c.in-Some.part.now) ≡ Some (pair_shown c.in-Some-2.pair) = ap pair_of (sym c.trimmed.ensures) ∙ sym e in
+    let p : pair_of (trimmed (32 ∷ []) c.in-Some.part.now) ≡ Some (pair_shown c.in-Some-2.pair) =
+    ap pair_of (sym c.trimmed.ensures) ∙ sym e in
     let k : has_key c.in-Some-2.pair.key.now (map pair_shown c.loop-part.pairs.items) ≡ true =
-    ap (λ t. has_key c.in-Some-2.pair.key.now (map pair_shown t)) (sym c.deref.ensures.value) ∙ sym c.has_key.ensures ∙ c.if-has_key.true in
-    sym (sym c.loop-part.invariant ∙ pairs_twice (map pair_shown c.loop-part.pairs.items) (parts c.args.text.now) (length c.loop-part.yielded) c.in-Some.part.now (pair_shown c.in-Some-2.pair) t p k)
+    ap (λ t. has_key c.in-Some-2.pair.key.now (map pair_shown t)) (sym c.deref.ensures.value) ∙ sym c.has_key.ensures
+    ∙ c.if-has_key.true in
+    sym (sym c.loop-part.invariant ∙ pairs_twice (map pair_shown c.loop-part.pairs.items) (parts c.args.text.now)
+    (length c.loop-part.yielded) c.in-Some.part.now (pair_shown c.in-Some-2.pair) t p k)
 
 pub loop-part-preserved : goal.loop-part-preserved
 loop-part-preserved c =
-    let t = YieldsList-turn (YieldsList-from_slice_split _ (λ b. b == 44) c.args.text.now (ap (λ s. split_rest s) c.into_iter-part-iterator.ensures.into_iter_gives ∙ c.split-part-items.ensures.rest)
+    let t = YieldsList-turn (YieldsList-from_slice_split _ (λ b. b == 44) c.args.text.now
+    (ap (λ s. split_rest s) c.into_iter-part-iterator.ensures.into_iter_gives ∙ c.split-part-items.ensures.rest)
     (ap (λ s. split_done s) c.into_iter-part-iterator.ensures.into_iter_gives ∙ c.split-part-items.ensures.done)
-    (ap (λ s. split_callee s) c.into_iter-part-iterator.ensures.into_iter_gives ∙ c.split-part-items.ensures.closure) (λ x r q k. search (rules, tests)))
+    (ap (λ s. split_callee s) c.into_iter-part-iterator.ensures.into_iter_gives ∙ c.split-part-items.ensures.closure)
+    (λ x r q k. search (rules, tests)))
     c.loop-part.yielded _ c.loop-part.yielded_by _ _ c.in-Some.part c.in-Some.is c.next.ensures.steps in
     let e = rw c.in-Some-2.is at c.in_ok-pair.ensures in
-    let p : pair_of (trimmed (32 ∷ []) c.in-Some.part.now) ≡ Some (pair_shown c.in-Some-2.pair) = ap pair_of (sym c.trimmed.ensures) ∙ sym e in
+    let p : pair_of (trimmed (32 ∷ []) c.in-Some.part.now) ≡ Some (pair_shown c.in-Some-2.pair) =
+    ap pair_of (sym c.trimmed.ensures) ∙ sym e in
     let k : has_key c.in-Some-2.pair.key.now (map pair_shown c.loop-part.pairs.items) ≡ false =
-    ap (λ t. has_key c.in-Some-2.pair.key.now (map pair_shown t)) (sym c.deref.ensures.value) ∙ sym c.has_key.ensures ∙ c.if-has_key.false in
-    let m = pairs_more (map pair_shown c.loop-part.pairs.items) (parts c.args.text.now) (length c.loop-part.yielded) c.in-Some.part.now (pair_shown c.in-Some-2.pair) t p k in
-    rw (c.in_ok-push.ensures.items, map_push pair_shown c.loop-part.pairs.items c.in-Some-2.pair, length_push c.loop-part.yielded c.in-Some.part)
+    ap (λ t. has_key c.in-Some-2.pair.key.now (map pair_shown t)) (sym c.deref.ensures.value) ∙ sym c.has_key.ensures
+    ∙ c.if-has_key.false in
+    let m = pairs_more (map pair_shown c.loop-part.pairs.items) (parts c.args.text.now) (length c.loop-part.yielded)
+    c.in-Some.part.now (pair_shown c.in-Some-2.pair) t p k in
+    rw (
+      c.in_ok-push.ensures.items,
+      map_push pair_shown c.loop-part.pairs.items c.in-Some-2.pair,
+      length_push
+          c.loop-part.yielded c.in-Some.part,
+    )
     (sym m ∙ c.loop-part.invariant)
 
 pub returns : goal.returns
 returns c =
-    let t = YieldsList-end (YieldsList-from_slice_split _ (λ b. b == 44) c.args.text.now (ap (λ s. split_rest s) c.into_iter-part-iterator.ensures.into_iter_gives ∙ c.split-part-items.ensures.rest)
+    let t = YieldsList-end (YieldsList-from_slice_split _ (λ b. b == 44) c.args.text.now
+    (ap (λ s. split_rest s) c.into_iter-part-iterator.ensures.into_iter_gives ∙ c.split-part-items.ensures.rest)
     (ap (λ s. split_done s) c.into_iter-part-iterator.ensures.into_iter_gives ∙ c.split-part-items.ensures.done)
-    (ap (λ s. split_callee s) c.into_iter-part-iterator.ensures.into_iter_gives ∙ c.split-part-items.ensures.closure) (λ x r q k. search (rules, tests)))
+    (ap (λ s. split_callee s) c.into_iter-part-iterator.ensures.into_iter_gives ∙ c.split-part-items.ensures.closure)
+    (λ x r q k. search (rules, tests)))
     c.loop-part.yielded _ c.loop-part.yielded_by _ _ c.in-None.is c.next.ensures.steps in
-    sym (sym c.loop-part.invariant ∙ pairs_end (map pair_shown c.loop-part.pairs.items) (parts c.args.text.now) (length c.loop-part.yielded) t.1)
+    sym (sym c.loop-part.invariant ∙ pairs_end (map pair_shown c.loop-part.pairs.items) (parts c.args.text.now)
+    (length c.loop-part.yielded) t.1)

@@ -4,10 +4,12 @@ use Rattle.tus_request.proofs.metadata.setting.Goals as goal
 
 pub returns-then-eq : goal.returns-then-eq
 returns-then-eq c =
-    let t = setting_turn c.args.key.now c.args.other.now c.args.pairs.now c.loop-pair.pair-index c.pair-item.result c.loop-pair-test.true c.pair-item.is in
+    let t = setting_turn c.args.key.now c.args.other.now c.args.pairs.now c.loop-pair.pair-index c.pair-item.result
+    c.loop-pair-test.true c.pair-item.is in
     c.as_slice.ensures.value ∙ sym (sym c.loop-pair.invariant ∙ rw (sym c.eq.ensures ∙ c.if-eq.true) at t)
 
 pub loop-pair-preserved : goal.loop-pair-preserved
 loop-pair-preserved c =
-    let t = setting_turn c.args.key.now c.args.other.now c.args.pairs.now c.loop-pair.pair-index c.pair-item.result c.loop-pair-test.true c.pair-item.is in
+    let t = setting_turn c.args.key.now c.args.other.now c.args.pairs.now c.loop-pair.pair-index c.pair-item.result
+    c.loop-pair-test.true c.pair-item.is in
     sym (rw (sym c.eq.ensures ∙ c.if-eq.false) at t) ∙ c.loop-pair.invariant

@@ -15,5 +15,6 @@ pub returns-in-None : goal.returns-in-None
 returns-in-None c =
     let s = split_once_first 63 c.args.target.now c.split_once.result c.split_once.ensures.cases (omega arith) in
     let t = rw c.in-None.is at s in
-    let a : take (position_or_len (λ b. b == 63) c.args.target.now) c.args.target.now ≡ c.args.target.now = take_all _ c.args.target.now (omega arith) in
+    let a : take (position_or_len (λ b. b == 63) c.args.target.now) c.args.target.now ≡ c.args.target.now =
+    take_all _ c.args.target.now (omega arith) in
     sym a ∙ before_first_is 63 c.args.target.now

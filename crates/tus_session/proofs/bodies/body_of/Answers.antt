@@ -4,6 +4,7 @@ use Rattle.tus_session.proofs.bodies.body_of.Goals as goal
 
 pub returns-else-bytes-left-clause-rest_crash : goal.returns-else-bytes-left-clause-rest_crash
 returns-else-bytes-left-clause-rest_crash g c enough w p r stands found holds few =
-    let l : length (take c.args.left c.args.bytes.now) ≡ c.args.left = length-take-le c.args.left c.args.bytes.now enough in
+    let l : length (take c.args.left c.args.bytes.now) ≡ c.args.left =
+    length-take-le c.args.left c.args.bytes.now enough in
     let short : length p.body + length (take c.args.left c.args.bytes.now) ≤ p.count = omega arith in
     c.finish.ensures.crash w p r stands found holds short

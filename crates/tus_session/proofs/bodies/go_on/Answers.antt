@@ -4,7 +4,12 @@ use Rattle.tus_session.proofs.bodies.go_on.Goals as goal
 pub returns-in-Ok-clause-answer : goal.returns-in-Ok-clause-answer
 returns-in-Ok-clause-answer g c w p stands found holds few =
     let a = c.in-Ok.ensures.answer w p stands found holds few in (
-      record { draft = c.in-Ok.draft; reached = c.args.patch.reached; bare = c.args.patch.bare; closes = c.args.patch.closes },
+      record {
+        draft = c.in-Ok.draft;
+        reached = c.args.patch.reached;
+        bare = c.args.patch.bare;
+        closes = c.args.patch.closes;
+      },
       record {
         place_is = refl;
         answer_is = refl;

@@ -18,9 +18,11 @@ returns-in-Text-clause-answer g c w conn stands link =
     let is = giving g.U.Uploads w _ _ c.in-Text.giving conn.draft conn.pending link.does c.in-Text.is in
     let k = record c.args.link { task = Text c.in-Text.giving } in
     let now = subst (λ t. LinkIs g.U.Uploads w (bytes_of c.args.link.head) c.args.link.left t conn) c.in-Text.is link in
-    let turn = stays g.U.Uploads c.args.store.now w k conn true c.args.out.now.items stands now (sym (ap is_pending is.pending_is)) in
+    let turn = stays g.U.Uploads c.args.store.now w k conn true c.args.out.now.items stands now
+    (sym (ap is_pending is.pending_is)) in
     turned_ok g.U.Uploads _ _ _ _ _ _ _ w conn.draft _ c.unmoved.ensures.place c.unmoved.ensures.answer
-    (subst (TurnedAs g.U.Uploads c.args.store.now (Open k) (record { taken = 0; closes = false; more = true }) c.args.out.now.items c.args.out.now.items w conn.draft)
+    (subst (TurnedAs g.U.Uploads c.args.store.now (Open k) (record { taken = 0; closes = false; more = true })
+    c.args.out.now.items c.args.out.now.items w conn.draft)
     (text_turn_is w conn c.args.bytes.now is.h is.pending_is) turn)
 
 pub returns-in-Patch-clause-answer : goal.returns-in-Patch-clause-answer
@@ -32,7 +34,8 @@ returns-in-Patch-clause-answer g c w conn stands link =
     patch_told g.U.Uploads w conn c.args.link b is link.kept _ _ _ _ c.args.bytes.now c.body_of.result.1
     (λ few. c.body_of.ensures.part few w is.p stands found is.patches.holds (omega arith))
     (λ few. c.body_of.ensures.part_out few)
-    (λ enough. c.body_of.ensures.rest enough w is.p is.r stands found is.patches.holds all is.patches.reached is.patches.bare is.patches.closes)
+    (λ enough. c.body_of.ensures.rest enough w is.p is.r stands found is.patches.holds all is.patches.reached
+    is.patches.bare is.patches.closes)
 
 pub returns-in-Patch-clause-crash : goal.returns-in-Patch-clause-crash
 returns-in-Patch-clause-crash g c w conn stands link =
@@ -51,7 +54,8 @@ pub returns-in-Idle-clause-answer : goal.returns-in-Idle-clause-answer
 returns-in-Idle-clause-answer g c w conn stands link =
     let is = idling g.U.Uploads w _ _ conn.draft conn.pending link.does c.in-Idle.is in
     let some : 0 < c.args.link.left = omega arith in
-    skip_told g.U.Uploads _ w conn c.args.link stands is.0 is.1 link.kept some _ _ _ c.args.bytes.now c.skip-place.ensures.place c.skip-place.ensures.answer
+    skip_told g.U.Uploads _ w conn c.args.link stands is.0 is.1 link.kept some _ _ _ c.args.bytes.now
+    c.skip-place.ensures.place c.skip-place.ensures.answer
 
 pub returns-in-Idle-2-clause-answer : goal.returns-in-Idle-2-clause-answer
 returns-in-Idle-2-clause-answer g c w conn stands link =

@@ -1,4 +1,5 @@
-use Rattle.tus_session.proofs.Tasks.{patching, no_draft, ends_idle, ends_patch, ends_left, ends_store, found_as, limits_same, limits_to}
+use Rattle.tus_session.proofs.Tasks.{patching, no_draft, ends_idle, ends_patch, ends_left, ends_store, found_as}
+use Rattle.tus_session.proofs.Tasks.{limits_same, limits_to}
 use Rattle.tus_session.proofs.turns.end_of.Goals as goal
 
 pub returns-in-Idle-clause-answer : goal.returns-in-Idle-clause-answer
@@ -18,7 +19,8 @@ pub returns-in-Err-NoMemory-clause-answer : goal.returns-in-Err-NoMemory-clause-
 returns-in-Err-NoMemory-clause-answer g c w conn stands link =
     let is = patching g.U.Uploads w _ _ c.in-Patch.field-0 conn.draft conn.pending link.does c.in-Patch.is in
     let found = found_as g.U.Uploads c.args.store.now w conn c.in-Patch.field-0 is in
-    ends_left g.U.Uploads _ w conn c.in-Patch.field-0 is (rw c.in-Err-NoMemory.field-0-is at (c.in-Err-NoMemory.ensures.answer w is.p stands found is.patches.holds))
+    ends_left g.U.Uploads _ w conn c.in-Patch.field-0 is
+    (rw c.in-Err-NoMemory.field-0-is at (c.in-Err-NoMemory.ensures.answer w is.p stands found is.patches.holds))
 
 pub returns-in-Ok-clause-crash : goal.returns-in-Ok-clause-crash
 returns-in-Ok-clause-crash g c w conn stands link =

@@ -16,5 +16,7 @@ invariant_of-self-2-clause-searched c =
 pub returns : goal.returns
 returns c =
     c.in_ok-extend_from_slice.ensures.items
-    ∙ filled 8192 c.args.self.now.bytes.items c.args.piece.now c.min.result (omega (arith, c.args.self.now.short, c.args.self.now.bytes.ok.0))
-    (c.min.ensures ∙ ap (λ k. min (length c.args.piece.now) (8192 - k)) (omega (arith, c.len-room.ensures, c.args.self.now.bytes.ok.0)))
+    ∙ filled 8192 c.args.self.now.bytes.items c.args.piece.now c.min.result
+    (omega (arith, c.args.self.now.short, c.args.self.now.bytes.ok.0))
+    (c.min.ensures ∙ ap (λ k. min (length c.args.piece.now) (8192 - k))
+    (omega (arith, c.len-room.ensures, c.args.self.now.bytes.ok.0)))

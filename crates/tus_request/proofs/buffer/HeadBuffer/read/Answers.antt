@@ -11,7 +11,8 @@ pub returns-then-not-is_judged : goal.returns-then-not-is_judged
 returns-then-not-is_judged c =
     let all : List ℕ = bytes_of c.args.self.now ++ c.args.piece.now in
     let set = offers c.args.set.now in
-    let asks : answer_of set (bytes_of c.fill.new.self) ≡ More = unjudged set (bytes_of c.fill.new.self) (sym c.is_judged.ensures ∙ c.if-not-is_judged.true) in
+    let asks : answer_of set (bytes_of c.fill.new.self) ≡ More =
+    unjudged set (bytes_of c.fill.new.self) (sym c.is_judged.ensures ∙ c.if-not-is_judged.true) in
     let more : answer_of set all ≡ More = sym (ap (answer_of set) c.in_ok-fill.ensures ∙ limited set all) ∙ asks in
     record { function = sym more; rest = c.in_ok-fill.ensures ∙ more_short set all more }
 
@@ -19,7 +20,8 @@ pub returns-clause-function : goal.returns-clause-function
 returns-clause-function c =
     let all : List ℕ = bytes_of c.args.self.now ++ c.args.piece.now in
     let set = offers c.args.set.now in
-    c.in_ok-parsed.ensures.function ∙ (ap (answer_of set) (c.deref.ensures.value ∙ c.in_ok-fill.ensures) ∙ limited set all)
+    c.in_ok-parsed.ensures.function
+    ∙ (ap (answer_of set) (c.deref.ensures.value ∙ c.in_ok-fill.ensures) ∙ limited set all)
 
 pub returns-clause-rest : goal.returns-clause-rest
 returns-clause-rest c =

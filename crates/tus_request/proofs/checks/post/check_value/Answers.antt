@@ -10,7 +10,8 @@ use Rattle.tus_request.proofs.checks.post.check_value.Goals as goal
 pub returns-in-Ok : goal.returns-in-Ok
 returns-in-Ok c =
     if_ok_more c.check_pairs.result c.check_pairs.ensures
-    (λ v is. is ∙ ap (λ t. with_pairs (offers c.args.set.now) (asking_shown c.args.asking.now) c.args.declared t (metadata_of t)) c.in-Ok.ensures.ok)
+    (λ v is. is ∙ ap (λ t. with_pairs (offers c.args.set.now) (asking_shown c.args.asking.now) c.args.declared t
+    (metadata_of t)) c.in-Ok.ensures.ok)
 
 pub returns-in-Err : goal.returns-in-Err
 returns-in-Err c =

@@ -24,6 +24,7 @@ pub loop-byte-preserved : goal.loop-byte-preserved
 loop-byte-preserved c =
     let bytes : List ℕ = c.args.bytes.now in
     let i : ℕ = c.loop-byte.byte-index in
-    let rest : drop i bytes ≡ get_or bytes i 0 ∷ drop (i + 1) bytes = rw add-one (drop-cons bytes i 0 c.loop-byte-test.true) in
+    let rest : drop i bytes ≡ get_or bytes i 0 ∷ drop (i + 1) bytes =
+    rw add-one (drop-cons bytes i 0 c.loop-byte-test.true) in
     ap (λ s. behind_bytes s (drop (i + 1) bytes)) c.behind_byte-search.ensures
     ∙ (sym (ap (behind_bytes c.loop-byte.search) rest) ∙ c.loop-byte.invariant)

@@ -8,34 +8,46 @@ use Rattle.tus_session.proofs.session.Session.came.Goals as goal
 
 pub returns-then-conn-len-clause-answer : goal.returns-then-conn-len-clause-answer
 returns-then-conn-len-clause-answer g c st stands =
-    let none = beyond g.U.Uploads c.args.self.now.places.items _ st c.args.conn stands (omega (arith, c.if-conn-len.true, c.len.ensures, c.args.self.now.places.ok.0)) in
+    let none = beyond g.U.Uploads c.args.self.now.places.items _ st c.args.conn stands
+    (omega (arith, c.if-conn-len.true, c.len.ensures, c.args.self.now.places.ok.0)) in
     (none_came g.U.Uploads _ _ st c.args.conn c.args.bytes.now stands none, refl)
 
 pub returns-in-Closed-clause-answer : goal.returns-in-Closed-clause-answer
 returns-in-Closed-clause-answer g c st stands =
-    let lt : c.args.conn < length c.args.self.now.places.items = omega (arith, c.if-conn-len.false, c.len.ensures, c.args.self.now.places.ok.0) in
+    let lt : c.args.conn < length c.args.self.now.places.items =
+    omega (arith, c.if-conn-len.false, c.len.ensures, c.args.self.now.places.ok.0) in
     let is = sym c.replace.ensures.value ∙ c.in-Closed.is in
-    let none = closed_at g.U.Uploads c.args.self.now.places.items _ st c.args.conn _ stands lt c.index_mut.ensures.value is in
-    let again = closed_again g.U.Uploads c.args.self.now.places.items _ st c.args.conn _ _ stands lt c.index_mut.ensures.value is c.replace.ensures.after in
+    let none = closed_at g.U.Uploads c.args.self.now.places.items _ st c.args.conn _ stands lt c.index_mut.ensures.value
+    is in
+    let again = closed_again g.U.Uploads c.args.self.now.places.items _ st c.args.conn _ _ stands lt
+    c.index_mut.ensures.value is c.replace.ensures.after in
     (none_came g.U.Uploads _ _ st c.args.conn c.args.bytes.now again none, refl)
 
 pub returns-clause-answer : goal.returns-clause-answer
 returns-clause-answer g c st stands =
-    let lt : c.args.conn < length c.args.self.now.places.items = omega (arith, c.if-conn-len.false, c.len.ensures, c.args.self.now.places.ok.0) in
-    let o = open_at g.U.Uploads c.args.self.now.places.items _ st c.args.conn _ c.in-Open.link stands lt c.index_mut.ensures.value (sym c.replace.ensures.value ∙ c.in-Open.is) in
+    let lt : c.args.conn < length c.args.self.now.places.items =
+    omega (arith, c.if-conn-len.false, c.len.ensures, c.args.self.now.places.ok.0) in
+    let o = open_at g.U.Uploads c.args.self.now.places.items _ st c.args.conn _ c.in-Open.link stands lt
+    c.index_mut.ensures.value (sym c.replace.ensures.value ∙ c.in-Open.is) in
     rw c.put_back.ensures
     (told g.U.Uploads c.args.self.now.places.items _ _ _ st _ (Came c.args.conn c.args.bytes.now) o.0 stands
     (is_set_twice g.U.Uploads c.args.self.now.places.items c.args.conn c.replace.new.dest c.came_of.result.0 lt) tt
-    (came_turn st.world o.0 c.args.bytes.now) c.came_of.result.1 _ _ (came_is st c.args.conn c.args.bytes.now o.0 o.1) (c.came_of.ensures.answer st.world o.0 stands.shown o.2))
+    (came_turn st.world o.0 c.args.bytes.now) c.came_of.result.1 _ _ (came_is st c.args.conn c.args.bytes.now o.0 o.1)
+    (c.came_of.ensures.answer st.world o.0 stands.shown o.2))
 
 pub returns-clause-crash : goal.returns-clause-crash
 returns-clause-crash g c st stands =
-    let lt : c.args.conn < length c.args.self.now.places.items = omega (arith, c.if-conn-len.false, c.len.ensures, c.args.self.now.places.ok.0) in
-    let o = open_at g.U.Uploads c.args.self.now.places.items _ st c.args.conn _ c.in-Open.link stands lt c.index_mut.ensures.value (sym c.replace.ensures.value ∙ c.in-Open.is) in
-    limits_to (ap (λ x. x.state.world.store) (sym (came_is st c.args.conn c.args.bytes.now o.0 o.1).step_is)) (c.came_of.ensures.crash st.world o.0 stands.shown o.2)
+    let lt : c.args.conn < length c.args.self.now.places.items =
+    omega (arith, c.if-conn-len.false, c.len.ensures, c.args.self.now.places.ok.0) in
+    let o = open_at g.U.Uploads c.args.self.now.places.items _ st c.args.conn _ c.in-Open.link stands lt
+    c.index_mut.ensures.value (sym c.replace.ensures.value ∙ c.in-Open.is) in
+    limits_to (ap (λ x. x.state.world.store) (sym (came_is st c.args.conn c.args.bytes.now o.0 o.1).step_is))
+    (c.came_of.ensures.crash st.world o.0 stands.shown o.2)
 
 pub returns-clause-unmade : goal.returns-clause-unmade
 returns-clause-unmade g c st stands none_left =
-    let lt : c.args.conn < length c.args.self.now.places.items = omega (arith, c.if-conn-len.false, c.len.ensures, c.args.self.now.places.ok.0) in
-    let o = open_at g.U.Uploads c.args.self.now.places.items _ st c.args.conn _ c.in-Open.link stands lt c.index_mut.ensures.value (sym c.replace.ensures.value ∙ c.in-Open.is) in
+    let lt : c.args.conn < length c.args.self.now.places.items =
+    omega (arith, c.if-conn-len.false, c.len.ensures, c.args.self.now.places.ok.0) in
+    let o = open_at g.U.Uploads c.args.self.now.places.items _ st c.args.conn _ c.in-Open.link stands lt
+    c.index_mut.ensures.value (sym c.replace.ensures.value ∙ c.in-Open.is) in
     c.came_of.ensures.unmade st.world o.0 stands.shown o.2 none_left

@@ -15,11 +15,13 @@ loop-place-init g c = record {
 pub loop-place-preserved-in-Closed : goal.loop-place-preserved-in-Closed
 loop-place-preserved-in-Closed g c =
     let inv = c.loop-place.invariant in
-    let is = popped c.args.self.places.items c.loop-place.places.items c.pop.new.self.items c.in-Some.place inv.front c.in-Some.ensures.items in
+    let is = popped c.args.self.places.items c.loop-place.places.items c.pop.new.self.items c.in-Some.place inv.front
+    c.in-Some.ensures.items in
     record {
       kept = λ st stands.
           let v = inv.kept st stands in
-          after_closed g.U.Uploads c.args.self.places.items c.loop-place.places.items c.pop.new.self.items c.args.store.now st stands c.loop-place.store v.0 c.in-Some.place c.in-Closed.is is v.1;
+          after_closed g.U.Uploads c.args.self.places.items c.loop-place.places.items c.pop.new.self.items
+          c.args.store.now st stands c.loop-place.store v.0 c.in-Some.place c.in-Closed.is is v.1;
       front = is.front;
       below = omega (arith, inv.below, is.count);
       counts = inv.counts;
@@ -29,11 +31,13 @@ loop-place-preserved-in-Closed g c =
 pub loop-place-preserved : goal.loop-place-preserved
 loop-place-preserved g c =
     let inv = c.loop-place.invariant in
-    let is = popped c.args.self.places.items c.loop-place.places.items c.pop.new.self.items c.in-Some.place inv.front c.in-Some.ensures.items in
+    let is = popped c.args.self.places.items c.loop-place.places.items c.pop.new.self.items c.in-Some.place inv.front
+    c.in-Some.ensures.items in
     record {
       kept = λ st stands.
           let v = inv.kept st stands in
-          after_open g.U.Uploads c.args.self.places.items c.loop-place.places.items c.pop.new.self.items c.args.store.now st stands c.loop-place.store c.drop_link.new.store v.0 c.in-Some.place c.in-Open.link
+          after_open g.U.Uploads c.args.self.places.items c.loop-place.places.items c.pop.new.self.items
+          c.args.store.now st stands c.loop-place.store c.drop_link.new.store v.0 c.in-Some.place c.in-Open.link
           c.in-Open.is is v.1 (c.drop_link.ensures.kept v.0 v.1.shown);
       front = is.front;
       below = omega (arith, inv.below, is.count);
@@ -47,6 +51,8 @@ loop-place-preserved g c =
 
 pub returns-clause-kept : goal.returns-clause-kept
 returns-clause-kept g c st stands =
-    let none : length c.loop-place.places.items ≡ 0 = omega (arith, c.in_default.ensures.cases.0, c.loop-place.places.ok.0) in
+    let none : length c.loop-place.places.items ≡ 0 =
+    omega (arith, c.in_default.ensures.cases.0, c.loop-place.places.ok.0) in
     let v = c.loop-place.invariant.kept st stands in
-    all_closed g.U.Uploads st c.loop-place.store v.0 (subst (λ n. IsClosing g.U.Uploads st n c.loop-place.store v.0) none v.1)
+    all_closed g.U.Uploads st c.loop-place.store v.0
+    (subst (λ n. IsClosing g.U.Uploads st n c.loop-place.store v.0) none v.1)

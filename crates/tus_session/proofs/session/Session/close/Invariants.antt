@@ -8,11 +8,13 @@ use Rattle.tus_session.proofs.session.Session.close.Given as goal
 
 abbrev pub invariant-loop-place : goal.invariant-loop-place
 invariant-loop-place g l = record {
-  kept : (st : State) → SessionStands g.U.Uploads l.fn.self.places.items l.fn.store st → (v : World) × IsClosing g.U.Uploads st (length l.places.items) l.store v;
+  kept : (st : State) → SessionStands g.U.Uploads l.fn.self.places.items l.fn.store st
+      → (v : World) × IsClosing g.U.Uploads st (length l.places.items) l.store v;
   front : l.places.items ≡ take (length l.places.items) l.fn.self.places.items;
   below : length l.places.items ≤ length l.fn.self.places.items;
   counts : g.U.Uploads.failures l.store ≡ g.U.Uploads.failures l.fn.store;
-  crash : Quiet (g.U.Uploads.moment l.fn.store) (g.U.Uploads.moment l.store) (g.U.Uploads.left_only l.fn.store) (g.U.Uploads.left_only l.store);
+  crash : Quiet (g.U.Uploads.moment l.fn.store) (g.U.Uploads.moment l.store) (g.U.Uploads.left_only l.fn.store)
+      (g.U.Uploads.left_only l.store);
 }
 
 abbrev pub decreases-loop-place : goal.decreases-loop-place

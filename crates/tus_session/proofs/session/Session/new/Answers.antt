@@ -7,7 +7,8 @@ use Rattle.tus_session.proofs.session.Session.new.Goals as goal
 pub loop-preserved : goal.loop-preserved
 loop-preserved g c = record {
   count =
-      let e : length c.push.new.self.items ≡ length (c.loop.places.items ++ Closed ∷ []) = ap length c.in-Ok.ensures.items in
+      let e : length c.push.new.self.items ≡ length (c.loop.places.items ++ Closed ∷ []) =
+      ap length c.in-Ok.ensures.items in
       let n = length_push c.loop.places.items Closed in
       let before = c.loop.invariant.count in
       omega arith;

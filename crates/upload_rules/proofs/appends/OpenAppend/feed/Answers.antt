@@ -10,7 +10,8 @@ returns-in_err-outcome-clause-err c = λ next p stands.
     let x = c.args.indexes.now in
     let text : NewText = c.with-text.result.0 in
     let before = subst (HoldsText x p.began p.body) (sym c.replace-text.ensures.value) stands.text in
-    let after = subst (λ (r : Result (Unit {0}) AllocError). OnErr r (HoldsText x p.began p.body text)) c.in_err-outcome.was (c.with-text.ensures.err p.began p.body before) in
+    let after = subst (λ (r : Result (Unit {0}) AllocError). OnErr r (HoldsText x p.began p.body text))
+    c.in_err-outcome.was (c.with-text.ensures.err p.began p.body before) in
     in_any_case c.from_residual.result (with_text x next p c.args.self.now stands text after)
 
 pub returns-clause-ok : goal.returns-clause-ok
@@ -18,6 +19,8 @@ returns-clause-ok c = λ next p stands held.
     let x = c.args.indexes.now in
     let text : NewText = c.with-text.result.0 in
     let before = subst (HoldsText x p.began p.body) (sym c.replace-text.ensures.value) stands.text in
-    let after = subst (λ (r : Result (Unit {0}) AllocError). OnOk r (HoldsText x p.began (p.body ++ c.args.piece.now) text)) c.in_ok-outcome.was (c.with-text.ensures.ok p.began p.body before) in
+    let after = subst (λ (r : Result (Unit {0}) AllocError). OnOk r
+    (HoldsText x p.began (p.body ++ c.args.piece.now) text)) c.in_ok-outcome.was (c.with-text.ensures.ok p.began
+    p.body before) in
     with_piece x next p c.args.self.now stands c.args.piece.now c.saturating_add-self.result text held
     (omega (arith, c.saturating_add-self.ensures, stands.came, held, stands.within, stands.fits)) after

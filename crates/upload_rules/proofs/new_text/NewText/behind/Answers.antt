@@ -19,18 +19,22 @@ returns-in_err-unpack-clause-holds c x n u tells ok sound =
 pub returns-clause-holds : goal.returns-clause-holds
 unfolding state_with
 returns-clause-holds c x n u tells ok sound =
-    let open_still : is_complete u ≡ false = ne_eqb (length u.accepted) u.declared (λ e. c.if-upload.false (tells.accepted ∙ e ∙ sym tells.declared)) in
+    let open_still : is_complete u ≡ false =
+    ne_eqb (length u.accepted) u.declared (λ e. c.if-upload.false (tells.accepted ∙ e ∙ sym tells.declared)) in
     let k = c.in_ok-unpack.ensures.only (transcoder_with x u [] (is_complete u)) sound (sym tells.state) in
     let is : c.in_ok-unpack.field-0 ≡ standing (transcoder_with x u [] (is_complete u)) = cc in
-    let encodable : (text_with x u [] false).fault ≡ None = ap (λ b. (text_with x u [] b).fault) (sym open_still) ∙ ok in (
+    let encodable : (text_with x u [] false).fault ≡ None =
+    ap (λ b. (text_with x u [] b).fault) (sym open_still) ∙ ok in (
       reads x u [] c.in_ok-unpack.field-0 encodable (is ∙ ap (λ b. standing (transcoder_with x u [] b)) open_still),
       ap (λ l. (text_with x u [] false).bytes ++ l) c.new.ensures.items ∙ append-nil (text_with x u [] false).bytes,
     )
 
 pub returns-clause-goes_on : goal.returns-clause-goes_on
 returns-clause-goes_on c =
-    let same : (s : Transcoder) → IsSound s → c.args.upload.now.state ≡ state_bytes s → c.in_ok-unpack.field-0 ≡ standing s =
-    λ s sound is. same_Some c.in_ok-unpack.field-0 (standing s) (sym c.in_ok-unpack.was ∙ c.unpack.ensures.only s sound (sym is)) in
+    let same : (s : Transcoder) → IsSound s → c.args.upload.now.state ≡ state_bytes s
+    → c.in_ok-unpack.field-0 ≡ standing s =
+    λ s sound is. same_Some c.in_ok-unpack.field-0 (standing s)
+    (sym c.in_ok-unpack.was ∙ c.unpack.ensures.only s sound (sym is)) in
     record {
       from = λ s sound is. ap (λ (t : Standing). t.transcoder.from) (same s sound is);
       to = λ s sound is. ap (λ (t : Standing). t.transcoder.to) (same s sound is);

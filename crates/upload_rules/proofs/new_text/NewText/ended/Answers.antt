@@ -14,7 +14,8 @@ use Rattle.upload_rules.proofs.new_text.NewText.ended.Goals as goal
 use Rattle.upload_rules.proofs.new_text.NewText.ended.Goals.{then-completes+in-Ok, else-completes}
 
 -- what isn't growing has no value, or its upload is complete
-no_text : (x : IndexSet) (u : Upload) (bytes : List ℕ) (done : Bool) (t : NewText) → ((transcoder : Standing) (text : Vec ℕ Global) → t ≡ Growing transcoder text → ⊥)
+no_text : (x : IndexSet) (u : Upload) (bytes : List ℕ) (done : Bool) (t : NewText)
+    → ((transcoder : Standing) (text : Vec ℕ Global) → t ≡ Growing transcoder text → ⊥)
     → HoldsText x u bytes t → is_complete u ≡ false → is_there (text_with x u bytes done).fault ≡ true
 no_text x u bytes done (Growing transcoder text) other holds still = absurd (other transcoder text refl)
 no_text x u bytes done Unencodable other holds still = unencodable_ended x u bytes done holds
@@ -30,7 +31,9 @@ returns-in-Err-Unencodable-clause-ended c = λ u bytes holds still.
     let held = subst (HoldsText x u bytes) c.in-Growing.is holds in
     ap (λ b. is_there (text_with x u bytes b).fault) c.if-completes.true
     ∙ end_fault x u bytes c.in-Growing.transcoder held.0 c.in-Err-Unencodable.field-0-0
-    (code_fault c.in-Err-Unencodable.field-0 c.in-Err-Unencodable.field-0-0 (added_end (tables x) c.in-Growing.transcoder.transcoder) _ _ _ _ c.in-Err-Unencodable.field-0-is c.in-Err-Unencodable.ensures.refused)
+    (code_fault c.in-Err-Unencodable.field-0 c.in-Err-Unencodable.field-0-0
+    (added_end (tables x) c.in-Growing.transcoder.transcoder) _ _ _ _ c.in-Err-Unencodable.field-0-is
+    c.in-Err-Unencodable.ensures.refused)
 
 pub returns-clause-ended : goal.returns-clause-ended
 returns-clause-ended c = λ u bytes holds still.
@@ -38,24 +41,29 @@ returns-clause-ended c = λ u bytes holds still.
     let held = subst (HoldsText x u bytes) c.in-Growing.is holds in
     elim c.if-completes.branch [
       | then-completes+in-Ok w ↦
-          let packed : c.pack.result ≡ state_bytes w.finish.new.self.transcoder = c.pack.ensures.bytes ∙ ap (λ t. state_bytes t.transcoder) w.transcoder-is in
+          let packed : c.pack.result ≡ state_bytes w.finish.new.self.transcoder =
+          c.pack.ensures.bytes ∙ ap (λ t. state_bytes t.transcoder) w.transcoder-is in
           let sound = subst (λ t. IsSound t.transcoder) w.transcoder-is c.pack.ensures.sound in
-          let whole = whole_ended x u bytes c.in-Growing.transcoder held.0 w.finish.new.self c.pack.result c.in-Growing.text.items w.finish.new.out.items
+          let whole = whole_ended x u bytes c.in-Growing.transcoder held.0 w.finish.new.self c.pack.result
+          c.in-Growing.text.items w.finish.new.out.items
           w.in-Ok.ensures.over packed sound held.1 w.in-Ok.ensures.no_fault w.in-Ok.ensures.added in
           subst (λ b. IsWhole x u bytes b c.pack.result c.if-completes.text.items) (sym w.if-completes.true)
           (subst (λ (t : Vec ℕ Global). IsWhole x u bytes true c.pack.result t.items) (sym w.text-is) whole)
       | else-completes w ↦
-          let packed : c.pack.result ≡ state_bytes c.in-Growing.transcoder.transcoder = c.pack.ensures.bytes ∙ ap (λ t. state_bytes t.transcoder) w.transcoder-is in
+          let packed : c.pack.result ≡ state_bytes c.in-Growing.transcoder.transcoder =
+          c.pack.ensures.bytes ∙ ap (λ t. state_bytes t.transcoder) w.transcoder-is in
           let sound = subst (λ t. IsSound t.transcoder) w.transcoder-is c.pack.ensures.sound in
           subst (λ b. IsWhole x u bytes b c.pack.result c.if-completes.text.items) (sym w.if-completes.false)
           (subst (λ (t : Vec ℕ Global). IsWhole x u bytes false c.pack.result t.items) (sym w.text-is)
-          (whole_open x u bytes c.in-Growing.transcoder held.0 c.pack.result c.in-Growing.text.items packed sound held.1))
+          (whole_open x u bytes c.in-Growing.transcoder held.0 c.pack.result c.in-Growing.text.items packed sound
+          held.1))
     ]
 
 -- WHATEVER THE UPLOAD
 
 -- the encodings and the mode stay
-same_encodings : (state packed : List ℕ) (t : Standing) (text : Vec ℕ Global) (next : Transcoder) → IsState state → GoesOn state (Growing t text) → next.from ≡ t.transcoder.from → next.to ≡ t.transcoder.to
+same_encodings : (state packed : List ℕ) (t : Standing) (text : Vec ℕ Global) (next : Transcoder) → IsState state
+    → GoesOn state (Growing t text) → next.from ≡ t.transcoder.from → next.to ≡ t.transcoder.to
     → next.mode ≡ t.transcoder.mode → packed ≡ state_bytes next → IsSound next → SameEncodings state packed
 same_encodings state packed t text next old goes from to mode is sound = record {
   before = old.transcoder;
@@ -72,12 +80,15 @@ same_encodings state packed t text next old goes from to mode is sound = record 
 pub returns-clause-same : goal.returns-clause-same
 returns-clause-same c state old goes =
     let held = subst (GoesOn state) c.in-Growing.is goes in
-    let same = same_encodings state c.pack.result c.in-Growing.transcoder c.in-Growing.text c.if-completes.transcoder.transcoder old held in
+    let same = same_encodings state c.pack.result c.in-Growing.transcoder c.in-Growing.text
+    c.if-completes.transcoder.transcoder old held in
     elim c.if-completes.branch [
       | then-completes+in-Ok w ↦
           let is = w.transcoder-is ∙ w.in-Ok.ensures.over in
-          same (ap (λ (t : Standing). t.transcoder.from) is) (ap (λ (t : Standing). t.transcoder.to) is) (ap (λ (t : Standing). t.transcoder.mode) is) c.pack.ensures.bytes c.pack.ensures.sound
+          same (ap (λ (t : Standing). t.transcoder.from) is) (ap (λ (t : Standing). t.transcoder.to) is)
+          (ap (λ (t : Standing). t.transcoder.mode) is) c.pack.ensures.bytes c.pack.ensures.sound
       | else-completes w ↦
           let is = w.transcoder-is in
-          same (ap (λ (t : Standing). t.transcoder.from) is) (ap (λ (t : Standing). t.transcoder.to) is) (ap (λ (t : Standing). t.transcoder.mode) is) c.pack.ensures.bytes c.pack.ensures.sound
+          same (ap (λ (t : Standing). t.transcoder.from) is) (ap (λ (t : Standing). t.transcoder.to) is)
+          (ap (λ (t : Standing). t.transcoder.mode) is) c.pack.ensures.bytes c.pack.ensures.sound
     ]

@@ -7,14 +7,16 @@ use Rattle.upload_rules.proofs.new_text.NewText.with.Goals as goal
 
 pub returns-in-Unencodable-clause-ok : goal.returns-in-Unencodable-clause-ok
 returns-in-Unencodable-clause-ok c = λ u bytes holds.
-    stays_unencodable c.args.indexes.now u bytes c.args.piece.now false (subst (HoldsText c.args.indexes.now u bytes) c.in-Unencodable.is holds)
+    stays_unencodable c.args.indexes.now u bytes c.args.piece.now false
+    (subst (HoldsText c.args.indexes.now u bytes) c.in-Unencodable.is holds)
 
 pub returns-in-Ok-clause-ok : goal.returns-in-Ok-clause-ok
 returns-in-Ok-clause-ok c = λ u bytes holds.
     let x = c.args.indexes.now in
     let held = subst (HoldsText x u bytes) c.in-Growing.is holds in
     let reading = subst (IsReading x u bytes) (sym c.copy-next.ensures) held.0 in
-    further x u bytes c.copy-next.result reading c.args.piece.now c.in-Growing.text.items c.feed.new.out.items c.feed.new.self held.1
+    further x u bytes c.copy-next.result reading c.args.piece.now c.in-Growing.text.items c.feed.new.out.items
+    c.feed.new.self held.1
     c.in-Ok.ensures.no_fault c.in-Ok.ensures.next c.in-Ok.ensures.added
 
 pub returns-in-Err-Unencodable-clause-ok : goal.returns-in-Err-Unencodable-clause-ok
@@ -23,4 +25,6 @@ returns-in-Err-Unencodable-clause-ok c = λ u bytes holds.
     let held = subst (HoldsText x u bytes) c.in-Growing.is holds in
     let reading = subst (IsReading x u bytes) (sym c.copy-next.ensures) held.0 in
     piece_fault x u bytes c.copy-next.result reading c.args.piece.now c.in-Err-Unencodable.field-0-0
-    (code_fault c.in-Err-Unencodable.field-0 c.in-Err-Unencodable.field-0-0 (added (tables x) c.copy-next.result.transcoder c.args.piece.now) _ _ _ _ c.in-Err-Unencodable.field-0-is c.in-Err-Unencodable.ensures.refused)
+    (code_fault c.in-Err-Unencodable.field-0 c.in-Err-Unencodable.field-0-0
+    (added (tables x) c.copy-next.result.transcoder c.args.piece.now) _ _ _ _ c.in-Err-Unencodable.field-0-is
+    c.in-Err-Unencodable.ensures.refused)

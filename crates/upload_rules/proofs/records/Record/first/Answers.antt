@@ -18,10 +18,14 @@ returns c = λ x.
     elim c.if-declared-eq0.branch [
       | then-declared-eq0 w ↦
           ap (λ (t : Standing). t.transcoder) w.transcoder-is
-          ∙ new_complete x new w.ended-transcoder.result (w.ended-transcoder.ensures ∙ ap (λ (n : New). finished (start n.from n.to n.mode)) is) (sym declared ∙ w.if-declared-eq0.true)
+          ∙ new_complete x new w.ended-transcoder.result
+          (w.ended-transcoder.ensures ∙ ap (λ (n : New). finished (start n.from n.to n.mode)) is)
+          (sym declared ∙ w.if-declared-eq0.true)
       | else-declared-eq0 w ↦
           ap (λ (t : Standing). t.transcoder) w.transcoder-is
-          ∙ new_open x new w.new-transcoder.result (w.new-transcoder.ensures.value ∙ ap (λ (n : New). start n.from n.to n.mode) is) (λ e. w.if-declared-eq0.false (declared ∙ e))
+          ∙ new_open x new w.new-transcoder.result
+          (w.new-transcoder.ensures.value ∙ ap (λ (n : New). start n.from n.to n.mode) is)
+          (λ e. w.if-declared-eq0.false (declared ∙ e))
     ] in
     record {
       tells = record {

@@ -4,17 +4,21 @@ use Rattle.upload_rules.specs.Answers.{IsLate}
 use Rattle.upload_rules.proofs.Makes.{many, spent_numbers, creatable, not_created}
 use Rattle.upload_rules.proofs.Worlds.{creates}
 use Rattle.upload_rules.proofs.table.TableUploads.create.Goals as goal
-use Rattle.upload_rules.proofs.table.TableUploads.create.Goals.{then-len-ge-SLOT_COUNT-via-then-len-ge-SLOT_COUNT, then-len-ge-SLOT_COUNT-via-else-len-ge-SLOT_COUNT+then-self-ge-NUMBERS_END}
+use Rattle.upload_rules.proofs.table.TableUploads.create.Goals.{then-len-ge-SLOT_COUNT-via-then-len-ge-SLOT_COUNT}
+use Rattle.upload_rules.proofs.table.TableUploads.create.Goals.{then-len-ge-SLOT_COUNT-via-else-len-ge-SLOT_COUNT+then-self-ge-NUMBERS_END}
 
 pub returns-then-len-ge-SLOT_COUNT-clause-answer : goal.returns-then-len-ge-SLOT_COUNT-clause-answer
 returns-then-len-ge-SLOT_COUNT-clause-answer c = λ w stands.
     let t = c.args.self.now in
-    let small : c.args.new.declared ≤ 1073741824 = omega (arith, c.if-new-gt-LENGTH_LIMIT.false, ap (λ (n : New). n.declared) c.new.view_is) in
+    let small : c.args.new.declared ≤ 1073741824 =
+    omega (arith, c.if-new-gt-LENGTH_LIMIT.false, ap (λ (n : New). n.declared) c.new.view_is) in
     let long = c.len.ensures in (
       elim c.then-len-ge-SLOT_COUNT.branch [
-        | then-len-ge-SLOT_COUNT-via-then-len-ge-SLOT_COUNT v ↦ many t w stands c.args.new small (omega (arith, v.if-len-ge-SLOT_COUNT.true, long))
+        | then-len-ge-SLOT_COUNT-via-then-len-ge-SLOT_COUNT v ↦ many t w stands c.args.new small
+            (omega (arith, v.if-len-ge-SLOT_COUNT.true, long))
         | then-len-ge-SLOT_COUNT-via-else-len-ge-SLOT_COUNT+then-self-ge-NUMBERS_END v ↦
-            spent_numbers t w stands c.args.new small (omega (arith, v.if-len-ge-SLOT_COUNT.false, long)) v.if-self-ge-NUMBERS_END.true
+            spent_numbers t w stands c.args.new small (omega (arith, v.if-len-ge-SLOT_COUNT.false, long))
+            v.if-self-ge-NUMBERS_END.true
       ],
       stands,
     )
@@ -22,24 +26,28 @@ returns-then-len-ge-SLOT_COUNT-clause-answer c = λ w stands.
 pub returns-then-is_err-clause-answer : goal.returns-then-is_err-clause-answer
 returns-then-is_err-clause-answer c = λ w stands.
     let t = c.args.self.now in
-    let small : c.args.new.declared ≤ 1073741824 = omega (arith, c.if-new-gt-LENGTH_LIMIT.false, ap (λ (n : New). n.declared) c.new.view_is) in
+    let small : c.args.new.declared ≤ 1073741824 =
+    omega (arith, c.if-new-gt-LENGTH_LIMIT.false, ap (λ (n : New). n.declared) c.new.view_is) in
     let room : length t.slots.items < 512 = omega (arith, c.if-len-ge-SLOT_COUNT.false, c.len.ensures) in
     let more = t.slots.items ++ c.new-2.result ∷ [] in (
       subst IsLate (sym (creatable t w stands c.args.new small room c.if-self-ge-NUMBERS_END.false)) tt,
       not_created t w stands c.push.new.self
-          (c.push.ensures.items ∙ ap (λ b. if b then more else t.slots.items) (c.is_err.ensures.negation ∙ ap not c.if-is_err.true)),
+          (c.push.ensures.items ∙ ap (λ b. if b then more else t.slots.items)
+          (c.is_err.ensures.negation ∙ ap not c.if-is_err.true)),
     )
 
 pub returns-clause-answer : goal.returns-clause-answer
 returns-clause-answer c = λ w stands.
     let t = c.args.self.now in
-    let small : c.args.new.declared ≤ 1073741824 = omega (arith, c.if-new-gt-LENGTH_LIMIT.false, ap (λ (n : New). n.declared) c.new.view_is) in
+    let small : c.args.new.declared ≤ 1073741824 =
+    omega (arith, c.if-new-gt-LENGTH_LIMIT.false, ap (λ (n : New). n.declared) c.new.view_is) in
     let room : length t.slots.items < 512 = omega (arith, c.if-len-ge-SLOT_COUNT.false, c.len.ensures) in
     let more = t.slots.items ++ c.new-2.result ∷ [] in (
       creatable t w stands c.args.new small room c.if-self-ge-NUMBERS_END.false,
       (
         stands.next,
         creates t w stands c.args.new c.new-2.result c.push.new.self _
-            (c.push.ensures.items ∙ ap (λ b. if b then more else t.slots.items) (c.is_err.ensures.negation ∙ ap not c.if-is_err.false)) refl (c.new-2.ensures w.store.indexes),
+            (c.push.ensures.items ∙ ap (λ b. if b then more else t.slots.items)
+            (c.is_err.ensures.negation ∙ ap not c.if-is_err.false)) refl (c.new-2.ensures w.store.indexes),
       ),
     )
