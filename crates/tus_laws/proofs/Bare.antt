@@ -7,11 +7,12 @@ use Rattle.upload_rules.specs.declared.errors.UploadRefusal.TheVariants.{Unencod
 use Rattle.upload_rules.specs.Store.{New, Upload, find, replaced, without, upload_of}
 use Rattle.upload_rules.specs.World.{Patch, World, is_there, least_from, free_number, completes, patch_text}
 use Rattle.upload_rules.specs.Room.{is_short, exceeds, used, needs_but, wants}
-use Rattle.upload_rules.specs.Calls.{or_else, refuse_if, create_refusal, begin_refusal, begun_at, first_patch, longer, appended_at, is_empty, offset_refusal, commit_refusal, committed_store, spent}
+use Rattle.upload_rules.specs.Calls.{or_else, refuse_if, create_refusal, terminate_refusal, begin_refusal, begun_at, first_patch, longer, appended_at, is_empty, offset_refusal, commit_refusal, committed_store, spent}
 use Rattle.upload_rules.proofs.Finds.{find_replaced_same}
-use Rattle.tus_request.specs.Requests.{Request, Action, Options, Create, Head, Get, Asks, Refuses, Verdict}
-use Rattle.tus_request.specs.Requests.{Patch as Patches}
-use Rattle.tus_action.specs.Acts.{Acted, acted, acted_on, post, new_of, head, get, patch, fed, fed_patch, commit_with, patched_reply}
+use Rattle.tus_request.specs.Requests.{Request, Action, Options, Create, Head, Get, Patch as Patches, Delete}
+use Rattle.tus_request.specs.Requests.{Asks, Refuses, Verdict}
+use Rattle.tus_action.specs.Acts.{Acted, acted, acted_on, post, delete, new_of, head, get, patch}
+use Rattle.tus_action.specs.Acts.{fed, fed_patch, commit_with, patched_reply}
 
 abbrev pub Entry : Type 0
 Entry = ℕ × Patch
@@ -91,6 +92,10 @@ module _ (w : World) (r : Request) where
   post_bare new None = refl
   post_bare new (Some f) = refl
 
+  delete_bare : (number : ℕ) (o : Option UploadRefusal) → SameHead w (λ v. delete v r number o)
+  delete_bare number None = refl
+  delete_bare number (Some f) = refl
+
   head_bare : (o : Option Upload) → SameHead w (λ v. head v r o)
   head_bare None = refl
   head_bare (Some u) = refl
@@ -117,6 +122,7 @@ module _ (w : World) (r : Request) where
   action_bare (Head n) = head_bare (upload_of w.store n)
   action_bare (Get n) = get_bare n (upload_of w.store n)
   action_bare (Patches n offset) = patch_bare n (begin_refusal w n offset r.length)
+  action_bare (Delete n) = delete_bare n (terminate_refusal w n)
 
 pub acted_bare : (w : World) (v : Verdict) → acted (bared w) v ≡ with_world (bared (acted w v).world) (acted w v)
 acted_bare w (Asks r) = action_bare w r r.action

@@ -5,17 +5,20 @@ use Rattle.upload_rules.specs.declared.errors.UploadRefusal.{UploadRefusal}
 use Rattle.upload_rules.specs.Store.{New, Upload, find, upload_of, appended_store}
 use Rattle.upload_rules.specs.World.{Patch, World}
 use Rattle.upload_rules.specs.Calls.{create_refusal, begin_refusal, begun_at, is_empty, commit_refusal, spent}
-use Rattle.tus_request.specs.Requests.{Request, Action, Options, Create, Head, Get, Asks, Refuses, Verdict}
-use Rattle.tus_request.specs.Requests.{Patch as Patches}
-use Rattle.tus_action.specs.Acts.{Acted, Giving, acted, acted_on, post, new_of, head, get, patch, is_pending, fed, commit_with}
+use Rattle.tus_request.specs.Requests.{Request, Action, Options, Create, Head, Get, Patch as Patches, Delete}
+use Rattle.tus_request.specs.Requests.{Asks, Refuses, Verdict}
+use Rattle.tus_action.specs.Acts.{Acted, Giving, acted, acted_on, post, delete, new_of, head, get, patch}
+use Rattle.tus_action.specs.Acts.{is_pending, fed, commit_with}
+use Rattle.upload_rules.specs.Reading.{no_such}
 use Rattle.tus_session.specs.Streams.{Asked, Moments, taken}
-use Rattle.tus_session.specs.Turns.{Conn, Turn, reader, at_head, at_body, body_step, turn_of, came_with, came_on, came_turn, more_on, more_turn, ended_with, ended_on, ended_world, left_world, fresh}
+use Rattle.tus_session.specs.Turns.{Conn, Turn, reader, at_head, at_body, body_step, turn_of, came_with, came_on}
+use Rattle.tus_session.specs.Turns.{came_turn, give_on, more_on, more_turn, ended_with, ended_on, ended_world}
 use Rattle.tus_session.specs.History.{State, Event, Opened, Came, More, Ended, Served, OutOfMemory, Failed, Done, put, kept, opened_at, came_at, more_at, ended_at, lost_at, failed_at, step}
 use Rattle.tus_session.specs.declared.errors.SessionError.TheVariants.{TooMany}
 use Rattle.tus_session.proofs.Feeding.{fed_store}
 use Rattle.tus_session.proofs.Unmade.{opened_uploads}
 use Rattle.tus_session.proofs.RequestLeaves.{Leaves, Nothing as Idle, Text, Patching, leaves}
-use Rattle.tus_laws.specs.Patches.{moments_in, at_its_head, BodyCame, BodyCut, IsDoneOn, DonePatch, IsAccepted, IsRefused, Changed, Nothing, Made, Put}
+use Rattle.tus_laws.specs.Patches.{moments_in, at_its_head, BodyCame, BodyCut, IsDoneOn, DonePatch, IsAccepted, IsRefused, Changed, Nothing, Made, Put, Deleted}
 
 -- A HEAD
 
@@ -44,6 +47,11 @@ module _ (st : State) (e : Event) where
   posted r new None = Made new refl
   posted r new (Some f) = Nothing refl
 
+  deleted : (r : Request) (number : ℕ) (o : Option Upload) → upload_of st.world.store number ≡ o
+      → Changed st e (delete st.world r number (no_such o)).world.store
+  deleted r number None none = Nothing refl
+  deleted r number (Some u) there = Deleted number u there refl
+
   shown : (r : Request) (o : Option Upload) → Changed st e (head st.world r o).world.store
   shown r None = Nothing refl
   shown r (Some u) = Nothing refl
@@ -62,6 +70,7 @@ module _ (st : State) (e : Event) where
   by_action r (Head n) = shown r (upload_of st.world.store n)
   by_action r (Get n) = got r n (upload_of st.world.store n)
   by_action r (Patches n offset) = patched r n (begin_refusal st.world n offset r.length)
+  by_action r (Delete n) = deleted r n (upload_of st.world.store n) refl
 
   by_verdict : (v : Verdict) → Changed st e (acted st.world v).world.store
   by_verdict (Asks r) = by_action r r.action
@@ -193,9 +202,13 @@ came_changed st c piece k here (Some g) text = Nothing (ap (λ x. x.store) (came
 
 -- THE OTHER EVENTS
 
+give_case : (w : World) (k : Conn) (g : Giving) (o : Option Upload) → (give_on w k g o).world ≡ w
+give_case w k g None = refl
+give_case w k g (Some u) = refl
+
 more_case : (w : World) (k : Conn) (o : Option Giving) → (more_on w k o).world ≡ w
 more_case w k None = refl
-more_case w k (Some g) = refl
+more_case w k (Some g) = give_case w k g (upload_of w.store g.number)
 
 more_world : (w : World) (k : Conn) → (more_turn w k).world ≡ w
 unfolding more_turn

@@ -9,7 +9,7 @@ use Rattle.upload_rules.specs.declared.errors.UploadRefusal.TheVariants.{Full}
 use Rattle.tus_request.specs.Requests.{Request, Asks}
 use Rattle.tus_action.specs.Acts.{Acted, Giving, is_pending, pending_of, piece_size, fed, fed_patch}
 use Rattle.tus_session.specs.Streams.{Asked, Moments, cut, rest_body, taken}
-use Rattle.tus_session.specs.Turns.{Conn, Turn, fresh, reader, body_step, turn_of, came_with, came_turn, given_up, more_on, more_turn, ended_with, ended_world}
+use Rattle.tus_session.specs.Turns.{Conn, Turn, fresh, reader, body_step, turn_of, came_with, came_turn, given_up, give_on, more_on, more_turn, ended_with, ended_world}
 use Rattle.tus_session.specs.Turns.{came_on as came_turn_on}
 use Rattle.tus_session.specs.Turns.{ended_on as ended_world_on}
 use Rattle.tus_session.specs.History.{State, Step, Event, Opened, Came, More, Ended, Marked, Served, Done, put, kept, turned, opened_at, came_at, more_at, ended_at, conn_in, step, history, beginning}
@@ -19,7 +19,7 @@ use Rattle.tus_session.specs.Stands.{draft_at}
 use Rattle.tus_session.proofs.Tolds.{came_is, ended_step}
 use Rattle.tus_session.proofs.BodyTold.{rest_same}
 use Rattle.tus_session.proofs.Feeding.{fed_body}
-use Rattle.tus_laws.specs.Patches.{moments_in, at_its_head, BodyCame, BodyCut, DonePatch, IsRefused, Changed, Nothing, Made, Put}
+use Rattle.tus_laws.specs.Patches.{moments_in, at_its_head, BodyCame, BodyCut, DonePatch, IsRefused, Changed, Nothing, Made, Put, Deleted}
 use Rattle.tus_laws.specs.Cuts.{head_moment, body_moment, came_moments, cut_moment, came_on, ended_on, event_moments, all_moments, bytes_of, given, text_left, still_to_give, KeepsText, AllSmooth}
 use Rattle.tus_laws.proofs.Changes.{served_changed, ended_spent}
 use Rattle.tus_laws.proofs.Bare.{bared, fed_there, ended_calm}
@@ -35,6 +35,7 @@ appended_indexes m n bytes (Some u) = refl
 changed_indexes : (st : State) (e : Event) (after : Store) → Changed st e after → after.indexes ≡ st.world.store.indexes
 changed_indexes st e after (Nothing is) = ap (λ m. m.indexes) is
 changed_indexes st e after (Made new is) = ap (λ m. m.indexes) is
+changed_indexes st e after (Deleted n u there is) = ap (λ m. m.indexes) is
 changed_indexes st e after (Put x body accepted is) =
     ap (λ m. m.indexes) is ∙ appended_indexes st.world.store x.patch.number x.patch.body (upload_of st.world.store x.patch.number)
 
@@ -112,15 +113,21 @@ module _ (st : State) (sound : Sound st) (g : ℕ → List ℕ) (r : Rep) (sim :
         (λ i is d e. absurd (none-some d (sym none ∙ (ap (λ x. x.draft) (same_Some j i is) ∙ e))))
         text
 
-    more_case : (o : Option Giving) → k.pending ≡ o → After g c r (turned st c (more_on st.world k o))
-    more_case None idle = same_conn
-    more_case (Some h) text =
-        given_conn h.number h.closes (drop piece_size h.left) (take piece_size h.left) (text_no_draft h text)
-        (ap still_to_give here ∙ (ap text_left text ∙ sym (take-append-drop piece_size h.left)))
+    there_case : (h : Giving) → k.pending ≡ Some h → (u : Upload) → upload_of st.world.store h.number ≡ Some u
+        → After g c r (turned st c (give_on st.world k h (upload_of st.world.store h.number)))
+    there_case h text u there =
+        subst (λ o. After g c r (turned st c (give_on st.world k h o))) (sym there)
+        (given_conn h.number h.closes (drop piece_size h.left) (take piece_size h.left) (text_no_draft h text)
+        (ap still_to_give here ∙ (ap text_left text ∙ sym (take-append-drop piece_size h.left))))
 
-    more_after : After g c r (turned st c (more_turn st.world k))
+    more_case : KeepsText st (More c) → (o : Option Giving) → k.pending ≡ o
+        → After g c r (turned st c (more_on st.world k o))
+    more_case keeps None idle = same_conn
+    more_case keeps (Some h) text = let there = keeps k h here text in there_case h text there.0 there.1
+
+    more_after : KeepsText st (More c) → After g c r (turned st c (more_turn st.world k))
     unfolding more_turn
-    more_after = more_case k.pending refl
+    more_after keeps = more_case keeps k.pending refl
 
     -- THE END of a connection
     module _ (d : ℕ) (is : k.draft ≡ Some d) (roomy : (x : DonePatch st (Ended c)) → IsRefused x Full → ⊥) (text : still_to_give (st.conns c) ≡ []) where
@@ -337,9 +344,9 @@ module _ (st : State) (sound : Sound st) (g : ℕ → List ℕ) (r : Rep) (sim :
   came_at_after c piece roomy None is = refused_after st sound g r sim c Closed
   came_at_after c piece roomy (Some k) is = came_case st sound g r sim c k is piece roomy k.pending refl
 
-  more_at_after : (c : ℕ) (o : Option Conn) → st.conns c ≡ o → After g c r (more_at st c o)
-  more_at_after c None is = refused_after st sound g r sim c Closed
-  more_at_after c (Some k) is = more_after st sound g r sim c k is
+  more_at_after : (c : ℕ) → KeepsText st (More c) → (o : Option Conn) → st.conns c ≡ o → After g c r (more_at st c o)
+  more_at_after c keeps None is = refused_after st sound g r sim c Closed
+  more_at_after c keeps (Some k) is = more_after st sound g r sim c k is keeps
 
   ended_at_after : (c : ℕ) → ((x : DonePatch st (Ended c)) → IsRefused x Full → ⊥) → still_to_give (st.conns c) ≡ [] → (o : Option Conn) → st.conns c ≡ o
       → After g c (replay r (ended_on st.world c o)) (ended_at st c o)
@@ -350,7 +357,7 @@ module _ (st : State) (sound : Sound st) (g : ℕ → List ℕ) (r : Rep) (sim :
   unfolding step
   event_after (Opened c) roomy text = opened_after st sound g r sim c (st.conns c) refl
   event_after (Came c piece) roomy text = came_at_after c piece roomy (st.conns c) refl
-  event_after (More c) roomy text = more_at_after c (st.conns c) refl
+  event_after (More c) roomy text = more_at_after c text (st.conns c) refl
   event_after (Ended c) roomy text = ended_at_after c roomy text (st.conns c) refl
 
 -- THE HISTORY
