@@ -89,7 +89,8 @@ module _ (start : State) (past between : List Marked) (e f : Event) (x : DonePat
       ∙ ap (λ s. appended_store s x.patch.number x.patch.body) (done_uploads (history start past) e x)
 
   behind : upload_of (store_at start ((e, Served) ∷ past)) x.patch.number ≡ Some (with_bytes end.upload x.patch.body)
-  behind = ap (λ s. upload_of s x.patch.number) put_behind ∙ put_there m x.patch.number x.patch.body end.upload end.there
+  behind =
+      ap (λ s. upload_of s x.patch.number) put_behind ∙ put_there m x.patch.number x.patch.body end.upload end.there
 
   some_bytes : (bytes : List ℕ) → is_empty bytes ≡ false → (more : List ℕ)
       → length ((end.upload.accepted ++ bytes) ++ more) ≡ length end.upload.accepted → ⊥
@@ -109,7 +110,8 @@ module _ (start : State) (past between : List Marked) (e f : Event) (x : DonePat
       ∙ (ap (upload_of y.world.store) same.number ∙ there) in
       let put = with_bytes end.upload x.patch.body in
       let grown = later_grows start ((e, Served) ∷ past) between above x.patch.number put u behind there' in
-      let count_is : length u.accepted ≡ length (with_bytes put grown.0).accepted = ap (λ v. length v.accepted) grown.1 in
+      let count_is : length u.accepted ≡ length (with_bytes put grown.0).accepted =
+      ap (λ v. length v.accepted) grown.1 in
       refused_at y.world y.draft y.patch u there
       (λ count. some_bytes x.patch.body body grown.0 (sym count_is ∙ (count ∙ (sym same.offset ∙ sym end.count))))
 

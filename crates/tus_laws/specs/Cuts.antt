@@ -94,7 +94,7 @@ KeepsText st (More c) =
     → (u : Upload) × (upload_of st.world.store g.number ≡ Some u)
 KeepsText st (Ended c) = still_to_give (st.conns c) ≡ []
 
--- an event is served, no PATCH that is done at it is refused for room, and no text is lost
+-- an event is served, no PATCH that is done at it is refused for room, and no text is cut off
 pub record IsSmooth (st : State) (e : Marked) : Type 0 where
   pub served : e.1 ≡ Served
   pub roomy : (x : DonePatch st e.0) → IsRefused x Full → ⊥

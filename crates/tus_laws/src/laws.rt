@@ -37,8 +37,8 @@ pub fn one_winner()
         → (step st e Served).state.world.store ≡ st.world.store }
 {}
 
-/// An event makes at most one change: an upload is made; or the body of a PATCH that is accepted is put behind the bytes
-/// of its upload; or an upload that was there is deleted. An event that isn't served makes none.
+/// An event makes at most one change: an upload is made; or the body of a PATCH that is accepted is put behind its
+/// upload's bytes; or an upload that was there is deleted. An event that isn't served makes none.
 pub fn one_change()
     ensures served { (st : State) (e : Event) → Changed st e (step st e Served).state.world.store }
     ensures memory { (st : State) (e : Event) → (step st e OutOfMemory).state.world.store ≡ st.world.store }
