@@ -1,17 +1,21 @@
 -- Worlds without the bodies of their open patches, and without a limit of blocks.
-use Rattle.std.proofs.Common.{◌≡◌, ◌==◌, ℕ, zero, suc, ◌+◌, Bool, true, false, List, [], ◌∷◌, length, if◌then◌else◌, Option, Some, None, option_map, refl, sym, ◌∙◌, ap, arith}
+use Rattle.std.proofs.Common.{◌≡◌, ◌==◌, ℕ, zero, suc, ◌+◌, Bool, true, false, List, [], ◌∷◌, length, if◌then◌else◌}
+use Rattle.std.proofs.Common.{Option, Some, None, option_map, refl, sym, ◌∙◌, ap, arith}
 use Rattle.std.proofs.lemmas.Option.{same_Some}
 use Rattle.std.proofs.lemmas.Bool.Decides.{nat_tests}
 use Rattle.upload_rules.specs.declared.errors.UploadRefusal.{UploadRefusal}
 use Rattle.upload_rules.specs.declared.errors.UploadRefusal.TheVariants.{Unencodable, Full}
-use Rattle.upload_rules.specs.Store.{New, Upload, find, replaced, without, upload_of}
+use Rattle.upload_rules.specs.Store.{New, Upload, Store, find, replaced, without, upload_of}
 use Rattle.upload_rules.specs.World.{Patch, World, is_there, least_from, free_number, completes, patch_text}
 use Rattle.upload_rules.specs.Room.{is_short, exceeds, used, needs_but, wants}
-use Rattle.upload_rules.specs.Calls.{or_else, refuse_if, create_refusal, begin_refusal, begun_at, first_patch, longer, appended_at, is_empty, offset_refusal, commit_refusal, committed_store, spent}
+use Rattle.upload_rules.specs.Calls.{or_else, refuse_if, create_refusal, terminate_refusal, begin_refusal, begun_at}
+use Rattle.upload_rules.specs.Calls.{first_patch, longer, appended_at, is_empty, offset_refusal, commit_refusal}
+use Rattle.upload_rules.specs.Calls.{committed_store, spent}
 use Rattle.upload_rules.proofs.Finds.{find_replaced_same}
-use Rattle.tus_request.specs.Requests.{Request, Action, Options, Create, Head, Get, Asks, Refuses, Verdict}
-use Rattle.tus_request.specs.Requests.{Patch as Patches}
-use Rattle.tus_action.specs.Acts.{Acted, acted, acted_on, post, new_of, head, get, patch, fed, fed_patch, commit_with, patched_reply}
+use Rattle.tus_request.specs.Requests.{Request, Action, Options, Create, Head, Get, Patch as Patches, Delete}
+use Rattle.tus_request.specs.Requests.{Asks, Refuses, Verdict}
+use Rattle.tus_action.specs.Acts.{Acted, acted, acted_on, post, delete, new_of, head, get, patch}
+use Rattle.tus_action.specs.Acts.{fed, fed_patch, commit_with, patched_reply}
 
 abbrev pub Entry : Type 0
 Entry = ℕ × Patch
@@ -35,7 +39,8 @@ pub find_bares : (d : ℕ) (es : List Entry) → find d (bares es) ≡ option_ma
 find_bares d [] = refl
 find_bares d (e ∷ es) = by_test (find_bares d es) (e.0 == d)
   where
-    by_test : find d (bares es) ≡ option_map bare (find d es) → (b : Bool) → (if b then Some (bare e.1) else find d (bares es)) ≡ option_map bare (if b then Some e.1 else find d es)
+    by_test : find d (bares es) ≡ option_map bare (find d es) → (b : Bool)
+        → (if b then Some (bare e.1) else find d (bares es)) ≡ option_map bare (if b then Some e.1 else find d es)
     by_test ih true = refl
     by_test ih false = ih
 
@@ -43,15 +48,18 @@ pub bares_without : (d : ℕ) (es : List Entry) → bares (without d es) ≡ wit
 bares_without d [] = refl
 bares_without d (e ∷ es) = by_test (bares_without d es) (e.0 == d)
   where
-    by_test : bares (without d es) ≡ without d (bares es) → (b : Bool) → bares (if b then es else e ∷ without d es) ≡ (if b then bares es else (e.0, bare e.1) ∷ without d (bares es))
+    by_test : bares (without d es) ≡ without d (bares es) → (b : Bool)
+        → bares (if b then es else e ∷ without d es) ≡ (if b then bares es else (e.0, bare e.1) ∷ without d (bares es))
     by_test ih true = refl
     by_test ih false = ap (λ xs. (e.0, bare e.1) ∷ xs) ih
 
-pub bares_replaced : (d : ℕ) (p q : Patch) (es : List Entry) → find d es ≡ Some p → bare q ≡ bare p → bares (replaced d q es) ≡ bares es
+pub bares_replaced : (d : ℕ) (p q : Patch) (es : List Entry) → find d es ≡ Some p → bare q ≡ bare p
+    → bares (replaced d q es) ≡ bares es
 bares_replaced d p q [] there same = refl
 bares_replaced d p q (e ∷ es) there same = by_test (λ there. bares_replaced d p q es there same) (e.0 == d) refl
   where
-    by_test : (find d es ≡ Some p → bares (replaced d q es) ≡ bares es) → (b : Bool) → (e.0 == d) ≡ b → bares (if b then (d, q) ∷ es else e ∷ replaced d q es) ≡ (e.0, bare e.1) ∷ bares es
+    by_test : (find d es ≡ Some p → bares (replaced d q es) ≡ bares es) → (b : Bool) → (e.0 == d) ≡ b
+        → bares (if b then (d, q) ∷ es else e ∷ replaced d q es) ≡ (e.0, bare e.1) ∷ bares es
     by_test ih true is =
         let here : e.1 ≡ p = same_Some e.1 p (sym (ap (λ b. if b then Some e.1 else find d es) is) ∙ there) in
         let number : d ≡ e.0 = grind (arith, nat_tests) in
@@ -75,11 +83,13 @@ there_bare (Some p) = refl
 least_bares : (left n : ℕ) (es : List Entry) → least_from left n (bares es) ≡ least_from left n es
 least_bares zero n es = refl
 least_bares (suc left) n es =
-    ap (λ b. if b then least_from left (n + 1) (bares es) else n) (ap is_there (find_bares n es) ∙ there_bare (find n es))
+    ap (λ b. if b then least_from left (n + 1) (bares es) else n)
+    (ap is_there (find_bares n es) ∙ there_bare (find n es))
     ∙ ap (λ m. if is_there (find n es) then m else n) (least_bares left (n + 1) es)
 
 pub free_bares : (w : World) → free_number (bared w) ≡ free_number w
-free_bares w = ap (λ n. least_from n 0 (bares w.patches)) (length_bares w.patches) ∙ least_bares (length w.patches) 0 w.patches
+free_bares w =
+    ap (λ n. least_from n 0 (bares w.patches)) (length_bares w.patches) ∙ least_bares (length w.patches) 0 w.patches
 
 -- A HEAD on a bare world
 
@@ -91,6 +101,10 @@ module _ (w : World) (r : Request) where
   post_bare new None = refl
   post_bare new (Some f) = refl
 
+  delete_bare : (number : ℕ) (o : Option UploadRefusal) → SameHead w (λ v. delete v r number o)
+  delete_bare number None = refl
+  delete_bare number (Some f) = refl
+
   head_bare : (o : Option Upload) → SameHead w (λ v. head v r o)
   head_bare None = refl
   head_bare (Some u) = refl
@@ -99,16 +113,20 @@ module _ (w : World) (r : Request) where
   get_bare number None = refl
   get_bare number (Some u) = refl
 
-  begun_bare : (number count : ℕ) (o : Option Upload) → begun_at (bared w) number count o ≡ bared (begun_at w number count o)
+  begun_bare : (number count : ℕ) (o : Option Upload)
+      → begun_at (bared w) number count o ≡ bared (begun_at w number count o)
   begun_bare number count None = refl
   begun_bare number count (Some u) =
-      ap (λ d. record { store = w.store; patches = (d, first_patch number count u) ∷ bares w.patches; blocks = None }) (free_bares w)
+      ap (λ d. record { store = w.store; patches = (d, first_patch number count u) ∷ bares w.patches; blocks = None })
+      (free_bares w)
 
   patch_bare : (number : ℕ) (o : Option UploadRefusal) → SameHead w (λ v. patch v r number o)
   patch_bare number None =
       let a = patch w r number None in
-      ap (λ v. record { world = v; draft = Some (free_number (bared w)); bytes = a.bytes; pending = None; closes = false }) (begun_bare number r.length (upload_of w.store number))
-      ∙ ap (λ d. record { world = bared a.world; draft = Some d; bytes = a.bytes; pending = None; closes = false }) (free_bares w)
+      let opened : World → ℕ → Acted =
+      λ v d. record { world = v; draft = Some d; bytes = a.bytes; pending = None; closes = false } in
+      ap (λ v. opened v (free_number (bared w))) (begun_bare number r.length (upload_of w.store number))
+      ∙ ap (opened (bared a.world)) (free_bares w)
   patch_bare number (Some f) = refl
 
   action_bare : (action : Action) → SameHead w (λ v. acted_on v r action)
@@ -117,6 +135,7 @@ module _ (w : World) (r : Request) where
   action_bare (Head n) = head_bare (upload_of w.store n)
   action_bare (Get n) = get_bare n (upload_of w.store n)
   action_bare (Patches n offset) = patch_bare n (begin_refusal w n offset r.length)
+  action_bare (Delete n) = delete_bare n (terminate_refusal w n)
 
 pub acted_bare : (w : World) (v : Verdict) → acted (bared w) v ≡ with_world (bared (acted w v).world) (acted w v)
 acted_bare w (Asks r) = action_bare w r r.action
@@ -125,19 +144,24 @@ acted_bare w (Refuses x) = refl
 -- A BODY
 
 -- the patch with the bytes that came is there
-pub fed_there : (w : World) (d : ℕ) (p : Patch) (piece : List ℕ) → find d w.patches ≡ Some p → find d (fed w d piece).patches ≡ Some (fed_patch w d p piece)
+pub fed_there : (w : World) (d : ℕ) (p : Patch) (piece : List ℕ) → find d w.patches ≡ Some p
+    → find d (fed w d piece).patches ≡ Some (fed_patch w d p piece)
 fed_there w d p [] there = there
 fed_there w d p (b ∷ piece) there =
-    ap (λ o. find d (appended_at w d (b ∷ piece) o).patches) there ∙ find_replaced_same d p (longer w d p (b ∷ piece)) w.patches there
+    ap (λ o. find d (appended_at w d (b ∷ piece) o).patches) there
+    ∙ find_replaced_same d p (longer w d p (b ∷ piece)) w.patches there
 
-pub fed_bare : (w : World) (d : ℕ) (p : Patch) (piece : List ℕ) → find d w.patches ≡ Some p → bared (fed w d piece) ≡ bared w
+pub fed_bare : (w : World) (d : ℕ) (p : Patch) (piece : List ℕ) → find d w.patches ≡ Some p
+    → bared (fed w d piece) ≡ bared w
 fed_bare w d p [] there = refl
 fed_bare w d p (b ∷ piece) there =
     ap (λ o. bared (appended_at w d (b ∷ piece) o)) there
-    ∙ ap (λ es. record { store = w.store; patches = es; blocks = None }) (bares_replaced d p (longer w d p (b ∷ piece)) w.patches there refl)
+    ∙ ap (λ es. record { store = w.store; patches = es; blocks = None })
+    (bares_replaced d p (longer w d p (b ∷ piece)) w.patches there refl)
 
 -- on a bare world it is never short
-pub fed_calm : (w : World) (d : ℕ) (p : Patch) (body : List ℕ) → fed_patch (bared w) d (bare p) body ≡ record p { body = body; short = false }
+pub fed_calm : (w : World) (d : ℕ) (p : Patch) (body : List ℕ)
+    → fed_patch (bared w) d (bare p) body ≡ record p { body = body; short = false }
 unfolding is_short
 fed_calm w d p [] = refl
 fed_calm w d p (b ∷ body) = refl
@@ -157,22 +181,27 @@ same_refusal None false true short roomy = refl
 same_refusal None false false true roomy = absurd (roomy refl)
 same_refusal None false false false roomy = refl
 
-pub commit_calm : (v u : World) (d : ℕ) (p : Patch) → u.store ≡ v.store → u.blocks ≡ None → (commit_refusal v d p ≡ Some Full → ⊥)
+pub commit_calm : (v u : World) (d : ℕ) (p : Patch) → u.store ≡ v.store → u.blocks ≡ None
+    → (commit_refusal v d p ≡ Some Full → ⊥)
     → commit_refusal u d (calm p) ≡ commit_refusal v d p
 unfolding commit_refusal is_short patch_text
 commit_calm v u d p store unlimited roomy =
     let done = completes p in
     let o = offset_refusal p (upload_of v.store p.number) in
     let none : is_short u d (calm p) done ≡ false =
-    ap (λ n. exceeds n (used u.store.indexes u.store.uploads + needs_but d u.store.indexes u.patches) (wants u.store.indexes (calm p) done)) unlimited in
-    ap (λ s. or_else (offset_refusal p (upload_of u.store p.number))
-    (if is_empty p.body then None else if is_there (patch_text u.store.indexes p done).fault then Some Unencodable else refuse_if s Full)) none
-    ∙ ap (λ m. or_else (offset_refusal p (upload_of m p.number))
-    (if is_empty p.body then None else if is_there (patch_text m.indexes p done).fault then Some Unencodable else refuse_if false Full)) store
-    ∙ sym (same_refusal o (is_empty p.body) (is_there (patch_text v.store.indexes p done).fault) (is_short v d p done) roomy)
+    let taken = used u.store.indexes u.store.uploads + needs_but d u.store.indexes u.patches in
+    ap (λ n. exceeds n taken (wants u.store.indexes (calm p) done)) unlimited in
+    let refusal : Store → Bool → Option UploadRefusal =
+    λ m short. or_else (offset_refusal p (upload_of m p.number)) (if is_empty p.body then None
+    else if is_there (patch_text m.indexes p done).fault then Some Unencodable
+    else refuse_if short Full) in
+    let fault = is_there (patch_text v.store.indexes p done).fault in
+    ap (refusal u.store) none ∙ ap (λ m. refusal m false) store
+    ∙ sym (same_refusal o (is_empty p.body) fault (is_short v d p done) roomy)
 
 -- what the commit makes, and its reply
-spent_calm : (v u : World) (d : ℕ) (p : Patch) (o : Option UploadRefusal) → u.store ≡ v.store → bares u.patches ≡ bares v.patches
+spent_calm : (v u : World) (d : ℕ) (p : Patch) (o : Option UploadRefusal) → u.store ≡ v.store
+    → bares u.patches ≡ bares v.patches
     → bared (spent u d (calm p) o) ≡ bared (spent v d p o)
 spent_calm v u d p o store patches = by_refusal o
   where
@@ -184,12 +213,15 @@ spent_calm v u d p o store patches = by_refusal o
         ap (λ es. record { store = committed_store u.store p; patches = es; blocks = None }) rest
         ∙ ap (λ m. record { store = committed_store m p; patches = bares (without d v.patches); blocks = None }) store
     by_refusal (Some f) =
-        ap (λ es. record { store = u.store; patches = es; blocks = None }) rest ∙ ap (λ m. record { store = m; patches = bares (without d v.patches); blocks = None }) store
+        ap (λ es. record { store = u.store; patches = es; blocks = None }) rest
+        ∙ ap (λ m. record { store = m; patches = bares (without d v.patches); blocks = None }) store
 
-pub ended_calm : (v u : World) (d : ℕ) (p : Patch) → u.store ≡ v.store → u.blocks ≡ None → bares u.patches ≡ bares v.patches → (commit_refusal v d p ≡ Some Full → ⊥)
+pub ended_calm : (v u : World) (d : ℕ) (p : Patch) → u.store ≡ v.store → u.blocks ≡ None
+    → bares u.patches ≡ bares v.patches → (commit_refusal v d p ≡ Some Full → ⊥)
     → bared (spent u d (calm p) (commit_refusal u d (calm p))) ≡ bared (spent v d p (commit_refusal v d p))
 ended_calm v u d p store unlimited patches roomy =
-    ap (λ o. bared (spent u d (calm p) o)) (commit_calm v u d p store unlimited roomy) ∙ spent_calm v u d p (commit_refusal v d p) store patches
+    ap (λ o. bared (spent u d (calm p) o)) (commit_calm v u d p store unlimited roomy)
+    ∙ spent_calm v u d p (commit_refusal v d p) store patches
 
 reply_calm : (p : Patch) (r : Request) (o : Option UploadRefusal) → patched_reply (calm p) r o ≡ patched_reply p r o
 reply_calm p r None = refl
@@ -201,16 +233,21 @@ pub record SameCommit (a b : Acted) : Type 0 where
   pub draft : a.draft ≡ b.draft
   pub bytes : a.bytes ≡ b.bytes
 
-pub done_calm : (v u : World) (d : ℕ) (p : Patch) (t : Verdict) → u.store ≡ v.store → u.blocks ≡ None → bares u.patches ≡ bares v.patches
+pub done_calm : (v u : World) (d : ℕ) (p : Patch) (t : Verdict) → u.store ≡ v.store → u.blocks ≡ None
+    → bares u.patches ≡ bares v.patches
     → ((r : Request) → t ≡ Asks r → commit_refusal v d p ≡ Some Full → ⊥)
     → SameCommit (commit_with u d t (Some (calm p))) (commit_with v d t (Some p))
 done_calm v u d p (Asks r) store unlimited patches roomy = record {
   world = ended_calm v u d p store unlimited patches (roomy r refl);
   draft = refl;
-  bytes = ap (patched_reply (calm p) r) (commit_calm v u d p store unlimited (roomy r refl)) ∙ reply_calm p r (commit_refusal v d p);
+  bytes =
+      ap (patched_reply (calm p) r) (commit_calm v u d p store unlimited (roomy r refl))
+      ∙ reply_calm p r (commit_refusal v d p);
 }
 done_calm v u d p (Refuses x) store unlimited patches roomy = record {
-  world = ap (λ es. record { store = u.store; patches = es; blocks = None }) patches ∙ ap (λ m. record { store = m; patches = bares v.patches; blocks = None }) store;
+  world =
+      ap (λ es. record { store = u.store; patches = es; blocks = None }) patches
+      ∙ ap (λ m. record { store = m; patches = bares v.patches; blocks = None }) store;
   draft = refl;
   bytes = refl;
 }

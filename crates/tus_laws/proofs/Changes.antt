@@ -1,31 +1,38 @@
 -- What an event makes of the uploads.
-use Rattle.std.proofs.Common.{◌≡◌, ◌-◌, ℕ, Bool, true, false, List, length, Option, Some, None, refl, sym, ◌∙◌, ap, subst, if◌then◌else◌, nat_lt}
+use Rattle.std.proofs.Common.{◌≡◌, ◌-◌, ℕ, Bool, true, false, List, length, Option, Some, None, refl, sym, ◌∙◌, ap}
+use Rattle.std.proofs.Common.{subst, if◌then◌else◌}
 use Rattle.std.proofs.lemmas.Option.{none-some}
 use Rattle.upload_rules.specs.declared.errors.UploadRefusal.{UploadRefusal}
 use Rattle.upload_rules.specs.Store.{New, Upload, find, upload_of, appended_store}
 use Rattle.upload_rules.specs.World.{Patch, World}
 use Rattle.upload_rules.specs.Calls.{create_refusal, begin_refusal, begun_at, is_empty, commit_refusal, spent}
-use Rattle.tus_request.specs.Requests.{Request, Action, Options, Create, Head, Get, Asks, Refuses, Verdict}
-use Rattle.tus_request.specs.Requests.{Patch as Patches}
-use Rattle.tus_action.specs.Acts.{Acted, Giving, acted, acted_on, post, new_of, head, get, patch, is_pending, fed, commit_with}
+use Rattle.tus_request.specs.Requests.{Request, Action, Options, Create, Head, Get, Patch as Patches, Delete}
+use Rattle.tus_request.specs.Requests.{Asks, Refuses, Verdict}
+use Rattle.tus_action.specs.Acts.{Acted, Giving, acted, acted_on, post, delete, new_of, head, get, patch}
+use Rattle.tus_action.specs.Acts.{is_pending, fed, commit_with}
+use Rattle.upload_rules.specs.Reading.{no_such}
 use Rattle.tus_session.specs.Streams.{Asked, Moments, taken}
-use Rattle.tus_session.specs.Turns.{Conn, Turn, reader, at_head, at_body, body_step, turn_of, came_with, came_on, came_turn, more_on, more_turn, ended_with, ended_on, ended_world, left_world, fresh}
-use Rattle.tus_session.specs.History.{State, Event, Opened, Came, More, Ended, Served, OutOfMemory, Failed, Done, put, kept, opened_at, came_at, more_at, ended_at, lost_at, failed_at, step}
-use Rattle.tus_session.specs.declared.errors.SessionError.TheVariants.{TooMany}
+use Rattle.tus_session.specs.Turns.{Conn, Turn, reader, at_head, at_body, body_step, turn_of, came_with, came_on}
+use Rattle.tus_session.specs.Turns.{came_turn, give_on, more_on, more_turn, ended_with, ended_on, ended_world}
+use Rattle.tus_session.specs.History.{State, Event, Opened, Came, More, Ended, Served}
+use Rattle.tus_session.specs.History.{came_at, more_at, ended_at, step}
 use Rattle.tus_session.proofs.Feeding.{fed_store}
 use Rattle.tus_session.proofs.Unmade.{opened_uploads}
 use Rattle.tus_session.proofs.RequestLeaves.{Leaves, Nothing as Idle, Text, Patching, leaves}
-use Rattle.tus_laws.specs.Patches.{moments_in, at_its_head, BodyCame, BodyCut, IsDoneOn, DonePatch, IsAccepted, IsRefused, Changed, Nothing, Made, Put}
+use Rattle.tus_laws.specs.Patches.{moments_in, at_its_head, BodyCame, BodyCut, IsDoneOn, DonePatch, IsAccepted}
+use Rattle.tus_laws.specs.Patches.{IsRefused, Changed, Nothing, Made, Put, Deleted}
 
 -- A HEAD
 
 -- a head that opens a patch leaves the uploads
-leaves_uploads : (w : World) (r : Request) (a : Acted) (d : ℕ) → Leaves w r a → a.draft ≡ Some d → (a.world.store ≡ w.store) × (a.pending ≡ None)
+leaves_uploads : (w : World) (r : Request) (a : Acted) (d : ℕ) → Leaves w r a → a.draft ≡ Some d
+    → (a.world.store ≡ w.store) × (a.pending ≡ None)
 leaves_uploads w r a d (Idle moves none idle) e = absurd (none-some d (sym none ∙ e))
 leaves_uploads w r a d (Text h same none some stays) e = absurd (none-some d (sym none ∙ e))
 leaves_uploads w r a d (Patching y) e = (ap (λ x. x.store) y.world_is, y.idle)
 
-verdict_uploads : (w : World) (v : Verdict) (d : ℕ) → (acted w v).draft ≡ Some d → ((acted w v).world.store ≡ w.store) × ((acted w v).pending ≡ None)
+verdict_uploads : (w : World) (v : Verdict) (d : ℕ) → (acted w v).draft ≡ Some d
+    → ((acted w v).world.store ≡ w.store) × ((acted w v).pending ≡ None)
 verdict_uploads w (Asks r) d e = leaves_uploads w r (acted w (Asks r)) d (leaves w r) e
 verdict_uploads w (Refuses x) d e = absurd (none-some d e)
 
@@ -43,6 +50,11 @@ module _ (st : State) (e : Event) where
   posted : (r : Request) (new : New) (o : Option UploadRefusal) → Changed st e (post st.world r new o).world.store
   posted r new None = Made new refl
   posted r new (Some f) = Nothing refl
+
+  deleted : (r : Request) (number : ℕ) (o : Option Upload) → upload_of st.world.store number ≡ o
+      → Changed st e (delete st.world r number (no_such o)).world.store
+  deleted r number None none = Nothing refl
+  deleted r number (Some u) there = Deleted number u there refl
 
   shown : (r : Request) (o : Option Upload) → Changed st e (head st.world r o).world.store
   shown r None = Nothing refl
@@ -62,6 +74,7 @@ module _ (st : State) (e : Event) where
   by_action r (Head n) = shown r (upload_of st.world.store n)
   by_action r (Get n) = got r n (upload_of st.world.store n)
   by_action r (Patches n offset) = patched r n (begin_refusal st.world n offset r.length)
+  by_action r (Delete n) = deleted r n (upload_of st.world.store n) refl
 
   by_verdict : (v : Verdict) → Changed st e (acted st.world v).world.store
   by_verdict (Asks r) = by_action r r.action
@@ -73,22 +86,26 @@ module _ (st : State) (e : Event) where
 
   -- A PATCH THAT IS DONE
 
-  pub done_uploads_came : (c : ℕ) (piece : List ℕ) (k : Conn) (v : World) (d : ℕ) (p : Patch) → BodyCame st.world k piece v d p → v.store ≡ st.world.store
+  pub done_uploads_came : (c : ℕ) (piece : List ℕ) (k : Conn) (v : World) (d : ℕ) (p : Patch)
+      → BodyCame st.world k piece v d p → v.store ≡ st.world.store
   done_uploads_came c piece k v d p x =
       ap (λ y. y.store) x.world ∙ fed_store (at_its_head st.world k piece).world d (moments_in st.world k piece).came
       ∙ (head_uploads st.world k.draft (moments_in st.world k piece).head d x.draft_open).0
 
-  put_case : (x : DonePatch st e) → x.world.store ≡ st.world.store → IsAccepted x → (b : Bool) → is_empty x.patch.body ≡ b
+  put_case : (x : DonePatch st e) → x.world.store ≡ st.world.store → IsAccepted x → (b : Bool)
+      → is_empty x.patch.body ≡ b
       → Changed st e (if b then x.world.store else appended_store x.world.store x.patch.number x.patch.body)
   put_case x same accepted true is = Nothing same
   put_case x same accepted false is = Put x is accepted (ap (λ m. appended_store m x.patch.number x.patch.body) same)
 
-  spent_changed : (x : DonePatch st e) → x.world.store ≡ st.world.store → (o : Option UploadRefusal) → commit_refusal x.world x.draft x.patch ≡ o
+  spent_changed : (x : DonePatch st e) → x.world.store ≡ st.world.store → (o : Option UploadRefusal)
+      → commit_refusal x.world x.draft x.patch ≡ o
       → Changed st e (spent x.world x.draft x.patch o).store
   spent_changed x same None is = put_case x same is (is_empty x.patch.body) refl
   spent_changed x same (Some f) is = Nothing same
 
-pub done_uploads_at : (st : State) (e : Event) (k : Conn) (v : World) (d : ℕ) (p : Patch) → IsDoneOn st e k v d p → v.store ≡ st.world.store
+pub done_uploads_at : (st : State) (e : Event) (k : Conn) (v : World) (d : ℕ) (p : Patch) → IsDoneOn st e k v d p
+    → v.store ≡ st.world.store
 done_uploads_at st (Opened c) k v d p done = absurd done
 done_uploads_at st (Came c piece) k v d p done = done_uploads_came st (Came c piece) c piece k v d p done.1
 done_uploads_at st (More c) k v d p done = absurd done
@@ -100,16 +117,25 @@ done_uploads st e x = done_uploads_at st e x.conn x.world x.draft x.patch x.done
 
 -- BYTES THAT CAME
 
-with_idle : (k : Conn) (piece : List ℕ) (n : ℕ) (m : Moments) (a : Acted) → a.pending ≡ None → (came_with k piece n m a).world ≡ (body_step a m.came m.body a.draft).world
-with_idle k piece n m a idle =
-    ap (λ b. (elim b as (λ _. Turn) [ true ↦ turn_of k piece (n - length m.came) a | false ↦ turn_of k piece n (body_step a m.came m.body a.draft) ]).world) (ap is_pending idle)
+-- a call's turn, by whether its head leaves a text to be given
+abbrev turn_by : Conn → List ℕ → ℕ → Moments → Acted → Bool → Turn
+turn_by k piece n m a text =
+    elim text as (λ _. Turn) [
+      | true ↦ turn_of k piece (n - length m.came) a
+      | false ↦ turn_of k piece n (body_step a m.came m.body a.draft)
+    ]
 
-with_text : (k : Conn) (piece : List ℕ) (n : ℕ) (m : Moments) (a : Acted) (g : Giving) → a.pending ≡ Some g → (came_with k piece n m a).world ≡ a.world
-with_text k piece n m a g text =
-    ap (λ b. (elim b as (λ _. Turn) [ true ↦ turn_of k piece (n - length m.came) a | false ↦ turn_of k piece n (body_step a m.came m.body a.draft) ]).world) (ap is_pending text)
+pub with_idle : (k : Conn) (piece : List ℕ) (n : ℕ) (m : Moments) (a : Acted) → a.pending ≡ None
+    → came_with k piece n m a ≡ turn_of k piece n (body_step a m.came m.body a.draft)
+with_idle k piece n m a idle = ap (turn_by k piece n m a) (ap is_pending idle)
+
+pub with_text : (k : Conn) (piece : List ℕ) (n : ℕ) (m : Moments) (a : Acted) (g : Giving) → a.pending ≡ Some g
+    → came_with k piece n m a ≡ turn_of k piece (n - length m.came) a
+with_text k piece n m a g text = ap (turn_by k piece n m a) (ap is_pending text)
 
 came_world : (w : World) (k : Conn) (piece : List ℕ) → k.pending ≡ None
-    → (came_turn w k piece).world ≡ (came_with k piece (taken (reader w) k.stream piece) (moments_in w k piece) (at_its_head w k piece)).world
+    → (came_turn w k piece).world
+    ≡ (came_with k piece (taken (reader w) k.stream piece) (moments_in w k piece) (at_its_head w k piece)).world
 unfolding came_turn
 came_world w k piece idle = ap (λ g. (came_on w k piece g).world) idle
 
@@ -118,14 +144,16 @@ unfolding came_turn
 came_none w k piece g e = ap (λ g. (came_on w k piece g).world) e
 
 -- the world behind the last byte of a body
-pub came_spent : (w : World) (k : Conn) (piece : List ℕ) (v : World) (d : ℕ) (p : Patch) → BodyCame w k piece v d p → (came_turn w k piece).world ≡ spent v d p (commit_refusal v d p)
+pub came_spent : (w : World) (k : Conn) (piece : List ℕ) (v : World) (d : ℕ) (p : Patch) → BodyCame w k piece v d p
+    → (came_turn w k piece).world ≡ spent v d p (commit_refusal v d p)
 came_spent w k piece v d p x =
     let m = moments_in w k piece in
     let a = at_its_head w k piece in
     let u = fed a.world d m.came in
     let there : find d u.patches ≡ Some p = subst (λ y. find d y.patches ≡ Some p) x.world x.found in
     came_world w k piece x.nothing_to_give
-    ∙ with_idle k piece (taken (reader w) k.stream piece) m a (head_uploads w k.draft m.head d x.draft_open).1
+    ∙ ap (λ t. t.world)
+    (with_idle k piece (taken (reader w) k.stream piece) m a (head_uploads w k.draft m.head d x.draft_open).1)
     ∙ ap (λ o. (body_step a m.came m.body o).world) x.draft_open
     ∙ ap (λ o. (at_body u d o).world) x.body_moment
     ∙ ap (λ t. (commit_with u d t (find d u.patches)).world) x.asks
@@ -152,7 +180,8 @@ module _ (st : State) (c : ℕ) (piece : List ℕ) (k : Conn) (here : st.conns c
     same : v.store ≡ st.world.store
     same = fed_store a.world d m.came ∙ (head_uploads st.world k.draft m.head d open_is).0
 
-    by_found : (r : Asked) (q : Request) → m.body ≡ Some r → r.verdict ≡ Asks q → (o : Option Patch) → find d v.patches ≡ o → IsChanged (commit_with v d (Asks q) o).world
+    by_found : (r : Asked) (q : Request) → m.body ≡ Some r → r.verdict ≡ Asks q → (o : Option Patch)
+        → find d v.patches ≡ o → IsChanged (commit_with v d (Asks q) o).world
     by_found r q ends asks None found = Nothing same
     by_found r q ends asks (Some p) found =
         let came : BodyCame st.world k piece v d p = record {
@@ -165,10 +194,12 @@ module _ (st : State) (c : ℕ) (piece : List ℕ) (k : Conn) (here : st.conns c
           world = refl;
           found = found;
         } in
-        let x : DonePatch st (Came c piece) = record { conn = k; world = v; draft = d; patch = p; done = (here, came) } in
+        let x : DonePatch st (Came c piece) =
+        record { conn = k; world = v; draft = d; patch = p; done = (here, came) } in
         spent_changed st (Came c piece) x same (commit_refusal v d p) refl
 
-    by_asked : (r : Asked) → m.body ≡ Some r → (t : Verdict) → r.verdict ≡ t → IsChanged (commit_with v d t (find d v.patches)).world
+    by_asked : (r : Asked) → m.body ≡ Some r → (t : Verdict) → r.verdict ≡ t
+        → IsChanged (commit_with v d t (find d v.patches)).world
     by_asked r ends (Asks q) asks = by_found r q ends asks (find d v.patches) refl
     by_asked r ends (Refuses x) asks = Nothing same
 
@@ -180,37 +211,51 @@ module _ (st : State) (c : ℕ) (piece : List ℕ) (k : Conn) (here : st.conns c
   by_draft None none = head_changed st (Came c piece) k.draft m.head
   by_draft (Some d) is = by_moment d is m.body refl
 
-  by_text : (o : Option Giving) → a.pending ≡ o → IsChanged (came_with k piece (taken (reader w) k.stream piece) m a).world
-  by_text None e = subst IsChanged (sym (with_idle k piece (taken (reader w) k.stream piece) m a e)) (by_draft a.draft refl)
-  by_text (Some g) e = subst IsChanged (sym (with_text k piece (taken (reader w) k.stream piece) m a g e)) (head_changed st (Came c piece) k.draft m.head)
+  by_text : (o : Option Giving) → a.pending ≡ o
+      → IsChanged (came_with k piece (taken (reader w) k.stream piece) m a).world
+  by_text None e =
+      let n = taken (reader w) k.stream piece in
+      subst (λ t. IsChanged t.world) (sym (with_idle k piece n m a e)) (by_draft a.draft refl)
+  by_text (Some g) e =
+      let n = taken (reader w) k.stream piece in
+      subst (λ t. IsChanged t.world) (sym (with_text k piece n m a g e))
+      (head_changed st (Came c piece) k.draft m.head)
 
   idle_changed : IsChanged (came_turn st.world k piece).world
   idle_changed = subst IsChanged (sym (came_world st.world k piece idle)) (by_text a.pending refl)
 
-came_changed : (st : State) (c : ℕ) (piece : List ℕ) (k : Conn) → st.conns c ≡ Some k → (o : Option Giving) → k.pending ≡ o → Changed st (Came c piece) (came_turn st.world k piece).world.store
+came_changed : (st : State) (c : ℕ) (piece : List ℕ) (k : Conn) → st.conns c ≡ Some k → (o : Option Giving)
+    → k.pending ≡ o → Changed st (Came c piece) (came_turn st.world k piece).world.store
 came_changed st c piece k here None idle = idle_changed st c piece k here idle
 came_changed st c piece k here (Some g) text = Nothing (ap (λ x. x.store) (came_none st.world k piece g text))
 
 -- THE OTHER EVENTS
 
+give_case : (w : World) (k : Conn) (g : Giving) (o : Option Upload) → (give_on w k g o).world ≡ w
+give_case w k g None = refl
+give_case w k g (Some u) = refl
+
 more_case : (w : World) (k : Conn) (o : Option Giving) → (more_on w k o).world ≡ w
 more_case w k None = refl
-more_case w k (Some g) = refl
+more_case w k (Some g) = give_case w k g (upload_of w.store g.number)
 
 more_world : (w : World) (k : Conn) → (more_turn w k).world ≡ w
 unfolding more_turn
 more_world w k = more_case w k k.pending
 
-pub ended_spent : (w : World) (k : Conn) (d : ℕ) (p : Patch) → k.draft ≡ Some d → find d w.patches ≡ Some p → ended_world w k ≡ spent w d p (commit_refusal w d p)
+pub ended_spent : (w : World) (k : Conn) (d : ℕ) (p : Patch) → k.draft ≡ Some d → find d w.patches ≡ Some p
+    → ended_world w k ≡ spent w d p (commit_refusal w d p)
 unfolding ended_world
 ended_spent w k d p open_is found = ap (ended_on w) open_is ∙ ap (ended_with w d) found
 
 module _ (st : State) (c : ℕ) (k : Conn) (here : st.conns c ≡ Some k) where
-  cut_case : (d : ℕ) → k.draft ≡ Some d → (o : Option Patch) → find d st.world.patches ≡ o → Changed st (Ended c) (ended_with st.world d o).store
+  cut_case : (d : ℕ) → k.draft ≡ Some d → (o : Option Patch) → find d st.world.patches ≡ o
+      → Changed st (Ended c) (ended_with st.world d o).store
   cut_case d open_is None found = Nothing refl
   cut_case d open_is (Some p) found =
       let cut : BodyCut st.world k st.world d p = record { draft_open = open_is; world = refl; found = found } in
-      let x : DonePatch st (Ended c) = record { conn = k; world = st.world; draft = d; patch = p; done = (here, cut) } in
+      let x : DonePatch st (Ended c) =
+      record { conn = k; world = st.world; draft = d; patch = p; done = (here, cut) } in
       spent_changed st (Ended c) x refl (commit_refusal st.world d p) refl
 
   draft_case : (o : Option ℕ) → k.draft ≡ o → Changed st (Ended c) (ended_on st.world o).store
@@ -221,7 +266,8 @@ module _ (st : State) (c : ℕ) (k : Conn) (here : st.conns c ≡ Some k) where
   unfolding ended_world
   ended_changed = draft_case k.draft refl
 
-came_at_changed : (st : State) (c : ℕ) (piece : List ℕ) (o : Option Conn) → st.conns c ≡ o → Changed st (Came c piece) (came_at st c piece o).state.world.store
+came_at_changed : (st : State) (c : ℕ) (piece : List ℕ) (o : Option Conn) → st.conns c ≡ o
+    → Changed st (Came c piece) (came_at st c piece o).state.world.store
 came_at_changed st c piece None here = Nothing refl
 came_at_changed st c piece (Some k) here = came_changed st c piece k here k.pending refl
 
@@ -229,7 +275,8 @@ more_at_changed : (st : State) (c : ℕ) (o : Option Conn) → Changed st (More 
 more_at_changed st c None = Nothing refl
 more_at_changed st c (Some k) = Nothing (ap (λ x. x.store) (more_world st.world k))
 
-ended_at_changed : (st : State) (c : ℕ) (o : Option Conn) → st.conns c ≡ o → Changed st (Ended c) (ended_at st c o).state.world.store
+ended_at_changed : (st : State) (c : ℕ) (o : Option Conn) → st.conns c ≡ o
+    → Changed st (Ended c) (ended_at st c o).state.world.store
 ended_at_changed st c None here = Nothing refl
 ended_at_changed st c (Some k) here = ended_changed st c k here
 
@@ -242,19 +289,25 @@ served_changed st (More c) = more_at_changed st c (st.conns c)
 served_changed st (Ended c) = ended_at_changed st c (st.conns c) refl
 
 -- the world behind a patch that is done
-done_world_at : (st : State) (e : Event) (k : Conn) (v : World) (d : ℕ) (p : Patch) → IsDoneOn st e k v d p → (step st e Served).state.world ≡ spent v d p (commit_refusal v d p)
+done_world_at : (st : State) (e : Event) (k : Conn) (v : World) (d : ℕ) (p : Patch) → IsDoneOn st e k v d p
+    → (step st e Served).state.world ≡ spent v d p (commit_refusal v d p)
 unfolding step
 done_world_at st (Opened c) k v d p done = absurd done
-done_world_at st (Came c piece) k v d p done = ap (λ o. (came_at st c piece o).state.world) done.0 ∙ came_spent st.world k piece v d p done.1
+done_world_at st (Came c piece) k v d p done =
+    ap (λ o. (came_at st c piece o).state.world) done.0 ∙ came_spent st.world k piece v d p done.1
 done_world_at st (More c) k v d p done = absurd done
 done_world_at st (Ended c) k v d p done =
     let x = done.1 in
     let found : find d st.world.patches ≡ Some p = subst (λ y. find d y.patches ≡ Some p) x.world x.found in
-    ap (λ o. (ended_at st c o).state.world) done.0 ∙ ended_spent st.world k d p x.draft_open found ∙ ap (λ y. spent y d p (commit_refusal y d p)) (sym x.world)
+    ap (λ o. (ended_at st c o).state.world) done.0 ∙ ended_spent st.world k d p x.draft_open found
+    ∙ ap (λ y. spent y d p (commit_refusal y d p)) (sym x.world)
 
-pub done_world : (st : State) (e : Event) (x : DonePatch st e) → (step st e Served).state.world ≡ spent x.world x.draft x.patch (commit_refusal x.world x.draft x.patch)
+pub done_world : (st : State) (e : Event) (x : DonePatch st e)
+    → (step st e Served).state.world ≡ spent x.world x.draft x.patch (commit_refusal x.world x.draft x.patch)
 done_world st e x = done_world_at st e x.conn x.world x.draft x.patch x.done
 
 -- one that is refused makes nothing
-pub refused_same : (st : State) (e : Event) (x : DonePatch st e) (why : UploadRefusal) → IsRefused x why → (step st e Served).state.world.store ≡ st.world.store
-refused_same st e x why is = ap (λ y. y.store) (done_world st e x) ∙ ap (λ o. (spent x.world x.draft x.patch o).store) is ∙ done_uploads st e x
+pub refused_same : (st : State) (e : Event) (x : DonePatch st e) (why : UploadRefusal) → IsRefused x why
+    → (step st e Served).state.world.store ≡ st.world.store
+refused_same st e x why is =
+    ap (λ y. y.store) (done_world st e x) ∙ ap (λ o. (spent x.world x.draft x.patch o).store) is ∙ done_uploads st e x

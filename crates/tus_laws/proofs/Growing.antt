@@ -1,13 +1,16 @@
--- Accepted bytes only grow along a history, and the next number with them.
-use Rattle.std.proofs.Common.{◌≡◌, ◌⊎◌, inl, inr, ℕ, ◌+◌, ◌<◌, ◌≤◌, List, [], ◌∷◌, ◌++◌, length, Option, Some, None, refl, sym, ◌∙◌, ap, subst, arith, append-nil, append_assoc}
+-- Along a history the next number grows, and an upload's accepted bytes, until the upload is deleted.
+use Rattle.std.proofs.Common.{◌≡◌, ◌⊎◌, inl, inr, ℕ, ◌+◌, ◌<◌, ◌≤◌, List, [], ◌∷◌, ◌++◌, length, Option, Some, None}
+use Rattle.std.proofs.Common.{refl, sym, ◌∙◌, ap, subst, arith, append-nil, append_assoc}
 use Rattle.std.proofs.lemmas.Option.{none-some, same_Some}
 use Rattle.std.proofs.lemmas.List.{length-append}
 use Rattle.std.proofs.lemmas.Bool.{cases_eq}
 use Rattle.std.proofs.lemmas.Bool.Decides.{nat_tests}
-use Rattle.upload_rules.specs.Store.{New, Upload, Store, find, upload_of, with_bytes, new_upload, created_store, appended_to, appended_store}
+use Rattle.upload_rules.specs.Store.{New, Upload, Store, find, upload_of, with_bytes, new_upload}
+use Rattle.upload_rules.specs.Store.{created_store, deleted_store, appended_to, appended_store}
 use Rattle.upload_rules.proofs.Finds.{find_replaced_same, find_replaced_other}
+use Rattle.upload_rules.proofs.Deleted.{none_in_others, find_in_others}
 use Rattle.tus_session.specs.History.{State, Event, Mark, Marked, Served, OutOfMemory, Failed, step, history}
-use Rattle.tus_laws.specs.Patches.{Changed, Nothing, Made, Put, IsAbove}
+use Rattle.tus_laws.specs.Patches.{Changed, Nothing, Made, Put, Deleted, IsAbove}
 use Rattle.tus_session.proofs.Unmade.{memory_same, fault_same}
 use Rattle.tus_laws.proofs.Changes.{served_changed}
 
@@ -16,93 +19,55 @@ store_at start past = (history start past).world.store
 
 -- ONE CHANGE
 
--- each upload is there, with bytes behind its own or none
-abbrev pub Keeps : Store → Store → Type 0
-Keeps m m' = (n : ℕ) (u : Upload) → upload_of m n ≡ Some u → (more : List ℕ) × (upload_of m' n ≡ Some (with_bytes u more))
+-- the upload was there, with bytes behind it now or none
+record WasThere (m : Store) (n : ℕ) (v : Upload) : Type 0 where
+  upload : Upload
+  there : upload_of m n ≡ Some upload
+  more : List ℕ
+  is : v ≡ with_bytes upload more
 
-no_bytes : (u : Upload) → with_bytes u [] ≡ u
-no_bytes u = ap (λ x. record u { accepted = x }) (append-nil u.accepted)
-
-same_keeps : (m m' : Store) → m' ≡ m → Keeps m m'
-same_keeps m m' same n u there = ([], ap (λ x. upload_of x n) same ∙ there ∙ ap Some (sym (no_bytes u)))
-
-keeps_both : (a b c : Store) → Keeps a b → Keeps b c → Keeps a c
-keeps_both a b c first second n u there =
-    let x = first n u there in
-    let y = second n (with_bytes u x.0) x.1 in
-    (x.0 ++ y.0, y.1 ∙ ap (λ z. Some (record u { accepted = z })) (append_assoc u.accepted x.0 y.0))
-
-find_made : (n m : ℕ) (u new : Upload) (uploads : List (ℕ × Upload)) → find n uploads ≡ Some u → find n (uploads ++ (m, new) ∷ []) ≡ Some u
-find_made n m u new [] there = absurd (none-some u there)
-find_made n m u new (x ∷ xs) there = let ih = find_made n m u new xs in grind (arith, nat_tests)
-
-made_keeps : (m : Store) (new : New) → Keeps m (created_store m new)
-made_keeps m new n u there = ([], find_made n m.next u (new_upload new) m.uploads there ∙ ap Some (sym (no_bytes u)))
-
--- the upload with a body behind it
-pub put_there : (m : Store) (number : ℕ) (body : List ℕ) (v : Upload) → upload_of m number ≡ Some v → upload_of (appended_store m number body) number ≡ Some (with_bytes v body)
-put_there m number body v there =
-    ap (λ o. upload_of (appended_to m number body o) number) there ∙ find_replaced_same number v (with_bytes v body) m.uploads there
-
-put_keeps_at : (m : Store) (number : ℕ) (body : List ℕ) (o : Option Upload) → upload_of m number ≡ o → Keeps m (appended_store m number body)
-put_keeps_at m number body None none n u found = same_keeps m (appended_store m number body) (ap (appended_to m number body) none) n u found
-put_keeps_at m number body (Some v) there n u found = elim (cases_eq number n) [
-  | inl is ↦
-      let same : v ≡ u = same_Some v u (sym there ∙ ap (upload_of m) is ∙ found) in
-      (body, ap (upload_of (appended_store m number body)) (sym is) ∙ put_there m number body v there ∙ ap (λ x. Some (with_bytes x body)) same)
-  | inr ne ↦ (
-    [],
-    ap (λ o. upload_of (appended_to m number body o) n) there ∙ find_replaced_other number n (with_bytes v body) m.uploads ne ∙ found ∙ ap Some (sym (no_bytes u)),
-  )
-]
-
-keeps_along : (m after after' : Store) → after ≡ after' → Keeps m after' → Keeps m after
-keeps_along m after after' e keeps = subst (Keeps m) (sym e) keeps
-
-changed_keeps : (st : State) (e : Event) (after : Store) → Changed st e after → Keeps st.world.store after
-changed_keeps st e after (Nothing is) = same_keeps st.world.store after is
-changed_keeps st e after (Made new is) = keeps_along st.world.store after (created_store st.world.store new) is (made_keeps st.world.store new)
-changed_keeps st e after (Put x body accepted is) =
-    keeps_along st.world.store after (appended_store st.world.store x.patch.number x.patch.body) is
-    (put_keeps_at st.world.store x.patch.number x.patch.body (upload_of st.world.store x.patch.number) refl)
-
-event_keeps : (st : State) (e : Event) (mark : Mark) → Keeps st.world.store (step st e mark).state.world.store
-event_keeps st e Served = changed_keeps st e (step st e Served).state.world.store (served_changed st e)
-event_keeps st e OutOfMemory = same_keeps st.world.store (step st e OutOfMemory).state.world.store (memory_same st e)
-event_keeps st e Failed = same_keeps st.world.store (step st e Failed).state.world.store (fault_same st e)
-
--- ALONG A HISTORY
-
-pub later_keeps : (start : State) (past later : List Marked) → Keeps (store_at start past) (store_at start (later ++ past))
-later_keeps start past [] = same_keeps (store_at start past) (store_at start past) refl
-later_keeps start past (e ∷ later) =
-    keeps_both (store_at start past) (store_at start (later ++ past)) (store_at start (e ∷ (later ++ past)))
-    (later_keeps start past later) (event_keeps (history start (later ++ past)) e.0 e.1)
-
-none_more : (xs ys : List ℕ) → length xs ≡ length (xs ++ ys) → ys ≡ []
-none_more xs [] e = refl
-none_more xs (y ∷ ys) e = let n : length (xs ++ y ∷ ys) ≡ length xs + length (y ∷ ys) = length-append xs (y ∷ ys) in absurd (omega arith)
-
--- the same upload and the same count mean the same accepted bytes
-pub later_same : (start : State) (past later : List Marked) (n : ℕ) (u v : Upload) → upload_of (store_at start past) n ≡ Some u
-    → upload_of (store_at start (later ++ past)) n ≡ Some v → length u.accepted ≡ length v.accepted → v ≡ u
-later_same start past later n u v there there' count =
-    let grown = later_keeps start past later n u there in
-    let is : v ≡ with_bytes u grown.0 = same_Some v (with_bytes u grown.0) (sym there' ∙ grown.1) in
-    let none : grown.0 ≡ [] = none_more u.accepted grown.0 (count ∙ ap (λ x. length x.accepted) is) in
-    is ∙ ap (with_bytes u) none ∙ no_bytes u
-
--- NUMBERS
-
--- the next number only grows, and stays above those of the uploads
-record Numbers (m m' : Store) : Type 0 where
+-- From one store to a later one the next number doesn't fall, and stays above those of the uploads. An upload whose
+-- number was given by then was there then
+record Keeps (m m' : Store) : Type 0 where
   next : m.next ≤ m'.next
   above : IsAbove m → IsAbove m'
+  uploads : (n : ℕ) (v : Upload) → n < m.next → upload_of m' n ≡ Some v → WasThere m n v
 
-same_numbers : (m m' : Store) → m' ≡ m → Numbers m m'
-same_numbers m m' same = subst (Numbers m) (sym same) (let n : m.next ≤ m.next = omega arith in record { next = n; above = λ h. h })
+same_there : (m : Store) (n : ℕ) (v : Upload) → upload_of m n ≡ Some v → WasThere m n v
+same_there m n v there = record {
+  upload = v;
+  there = there;
+  more = [];
+  is = ap (λ x. record v { accepted = x }) (sym (append-nil v.accepted));
+}
 
-found_made : (n m : ℕ) (u new : Upload) (uploads : List (ℕ × Upload)) → find n (uploads ++ (m, new) ∷ []) ≡ Some u → (find n uploads ≡ Some u) ⊎ (m ≡ n)
+itself_keeps : (m : Store) → Keeps m m
+itself_keeps m = record { next = omega arith; above = λ h. h; uploads = λ n v lt there. same_there m n v there }
+
+same_keeps : (m m' : Store) → m' ≡ m → Keeps m m'
+same_keeps m m' same = subst (Keeps m) (sym same) (itself_keeps m)
+
+keeps_both : (a b c : Store) → Keeps a b → Keeps b c → Keeps a c
+keeps_both a b c first second =
+    let le : a.next ≤ b.next = first.next in
+    let le' : b.next ≤ c.next = second.next in
+    record {
+      next = omega arith;
+      above = λ h. second.above (first.above h);
+      uploads = λ n v lt found.
+          let y = second.uploads n v (omega arith) found in
+          let x = first.uploads n y.upload lt y.there in
+          record {
+            upload = x.upload;
+            there = x.there;
+            more = x.more ++ y.more;
+            is = y.is ∙ (ap (λ u. with_bytes u y.more) x.is
+                ∙ ap (λ z. record x.upload { accepted = z }) (append_assoc x.upload.accepted x.more y.more));
+          };
+    }
+
+found_made : (n m : ℕ) (u new : Upload) (uploads : List (ℕ × Upload)) → find n (uploads ++ (m, new) ∷ []) ≡ Some u
+    → (find n uploads ≡ Some u) ⊎ (m ≡ n)
 found_made n m u new [] found = elim (cases_eq m n) [ inl is ↦ inr is | inr ne ↦ inl (grind (arith, nat_tests)) ]
 found_made n m u new (x ∷ xs) found = elim (cases_eq x.0 n) [
   | inl is ↦ inl (grind (arith, nat_tests))
@@ -111,47 +76,141 @@ found_made n m u new (x ∷ xs) found = elim (cases_eq x.0 n) [
       elim (found_made n m u new xs rest) [ inl old ↦ inl (grind (arith, nat_tests)) | inr is ↦ inr is ]
 ]
 
-made_numbers : (m : Store) (new : New) → Numbers m (created_store m new)
-made_numbers m new = record {
+made_keeps : (m : Store) (new : New) → Keeps m (created_store m new)
+made_keeps m new = record {
   next = omega arith;
   above = λ above n u found. elim (found_made n m.next u (new_upload new) m.uploads found) [
     | inl old ↦ let lt = above n u old in let more : n < m.next + 1 = omega (arith, lt) in more
     | inr is ↦ let more : n < m.next + 1 = omega (arith, is) in more
   ];
-}
-
-put_numbers_at : (m : Store) (number : ℕ) (body : List ℕ) (o : Option Upload) → upload_of m number ≡ o → Numbers m (appended_to m number body o)
-put_numbers_at m number body None none = same_numbers m m refl
-put_numbers_at m number body (Some v) there = record {
-  next = omega arith;
-  above = λ above n u found. elim (cases_eq number n) [
-    | inl is ↦ above n v (ap (upload_of m) (sym is) ∙ there)
-    | inr ne ↦ above n u (sym (find_replaced_other number n (with_bytes v body) m.uploads ne) ∙ found)
+  uploads = λ n v lt found. elim (found_made n m.next v (new_upload new) m.uploads found) [
+    | inl old ↦ same_there m n v old
+    | inr is ↦ absurd (omega (arith, lt, is))
   ];
 }
 
-numbers_along : (m after after' : Store) → after ≡ after' → Numbers m after' → Numbers m after
-numbers_along m after after' e numbers = subst (Numbers m) (sym e) numbers
+-- the upload with a body behind it
+pub put_there : (m : Store) (number : ℕ) (body : List ℕ) (v : Upload) → upload_of m number ≡ Some v
+    → upload_of (appended_store m number body) number ≡ Some (with_bytes v body)
+put_there m number body v there =
+    ap (λ o. upload_of (appended_to m number body o) number) there
+    ∙ find_replaced_same number v (with_bytes v body) m.uploads there
 
-changed_numbers : (st : State) (e : Event) (after : Store) → Changed st e after → Numbers st.world.store after
-changed_numbers st e after (Nothing is) = same_numbers st.world.store after is
-changed_numbers st e after (Made new is) = numbers_along st.world.store after (created_store st.world.store new) is (made_numbers st.world.store new)
-changed_numbers st e after (Put x body accepted is) =
-    numbers_along st.world.store after (appended_store st.world.store x.patch.number x.patch.body) is
-    (put_numbers_at st.world.store x.patch.number x.patch.body (upload_of st.world.store x.patch.number) refl)
+put_keeps_at : (m : Store) (number : ℕ) (body : List ℕ) (o : Option Upload) → upload_of m number ≡ o
+    → Keeps m (appended_to m number body o)
+put_keeps_at m number body None none = itself_keeps m
+put_keeps_at m number body (Some u) there = record {
+  next = omega arith;
+  above = λ above n v found. elim (cases_eq number n) [
+    | inl is ↦ above n u (ap (upload_of m) (sym is) ∙ there)
+    | inr ne ↦ above n v (sym (find_replaced_other number n (with_bytes u body) m.uploads ne) ∙ found)
+  ];
+  uploads = λ n v lt found. elim (cases_eq number n) [
+    | inl is ↦
+        let put = find_replaced_same number u (with_bytes u body) m.uploads there in
+        let here = ap (upload_of (appended_to m number body (Some u))) is ∙ found in
+        record {
+          upload = u;
+          there = ap (upload_of m) (sym is) ∙ there;
+          more = body;
+          is = same_Some v (with_bytes u body) (sym here ∙ put);
+        }
+    | inr ne ↦ same_there m n v (sym (find_replaced_other number n (with_bytes u body) m.uploads ne) ∙ found)
+  ];
+}
 
-event_numbers : (st : State) (e : Event) (mark : Mark) → Numbers st.world.store (step st e mark).state.world.store
-event_numbers st e Served = changed_numbers st e (step st e Served).state.world.store (served_changed st e)
-event_numbers st e OutOfMemory = same_numbers st.world.store (step st e OutOfMemory).state.world.store (memory_same st e)
-event_numbers st e Failed = same_numbers st.world.store (step st e Failed).state.world.store (fault_same st e)
+found_deleted : (m : Store) (gone n : ℕ) (v : Upload) → upload_of (deleted_store m gone) n ≡ Some v
+    → upload_of m n ≡ Some v
+found_deleted m gone n v found = elim (cases_eq gone n) [
+  | inl is ↦
+      let here = ap (upload_of (deleted_store m gone)) is ∙ found in
+      absurd (none-some v (sym (none_in_others gone m.uploads) ∙ here))
+  | inr ne ↦ sym (find_in_others gone n m.uploads ne) ∙ found
+]
+
+deleted_keeps : (m : Store) (gone : ℕ) → Keeps m (deleted_store m gone)
+deleted_keeps m gone = record {
+  next = omega arith;
+  above = λ above n v found. above n v (found_deleted m gone n v found);
+  uploads = λ n v lt found. same_there m n v (found_deleted m gone n v found);
+}
+
+keeps_along : (m after after' : Store) → after ≡ after' → Keeps m after' → Keeps m after
+keeps_along m after after' e keeps = subst (Keeps m) (sym e) keeps
+
+changed_keeps : (st : State) (e : Event) (after : Store) → Changed st e after → Keeps st.world.store after
+changed_keeps st e after (Nothing is) = same_keeps st.world.store after is
+changed_keeps st e after (Made new is) =
+    let m = st.world.store in keeps_along m after (created_store m new) is (made_keeps m new)
+changed_keeps st e after (Put x body accepted is) =
+    let m = st.world.store in
+    let p = x.patch in
+    keeps_along m after (appended_store m p.number p.body) is
+    (put_keeps_at m p.number p.body (upload_of m p.number) refl)
+changed_keeps st e after (Deleted n u there is) =
+    let m = st.world.store in keeps_along m after (deleted_store m n) is (deleted_keeps m n)
+
+event_keeps : (st : State) (e : Event) (mark : Mark) → Keeps st.world.store (step st e mark).state.world.store
+event_keeps st e Served = changed_keeps st e (step st e Served).state.world.store (served_changed st e)
+event_keeps st e OutOfMemory =
+    same_keeps st.world.store (step st e OutOfMemory).state.world.store (memory_same st e)
+event_keeps st e Failed = same_keeps st.world.store (step st e Failed).state.world.store (fault_same st e)
+
+-- ALONG A HISTORY
+
+later_keeps : (start : State) (past later : List Marked) → Keeps (store_at start past) (store_at start (later ++ past))
+later_keeps start past [] = itself_keeps (store_at start past)
+later_keeps start past (e ∷ later) =
+    keeps_both (store_at start past) (store_at start (later ++ past)) (store_at start (e ∷ (later ++ past)))
+    (later_keeps start past later) (event_keeps (history start (later ++ past)) e.0 e.1)
 
 pub always_above : (start : State) (past : List Marked) → IsAbove start.world.store → IsAbove (store_at start past)
 always_above start [] above = above
-always_above start (e ∷ past) above = (event_numbers (history start past) e.0 e.1).above (always_above start past above)
+always_above start (e ∷ past) above =
+    (event_keeps (history start past) e.0 e.1).above (always_above start past above)
 
-pub next_grows : (start : State) (past later : List Marked) → (store_at start past).next ≤ (store_at start (later ++ past)).next
-next_grows start past [] = omega arith
-next_grows start past (e ∷ later) =
-    let before = next_grows start past later in
-    let now = (event_numbers (history start (later ++ past)) e.0 e.1).next in
-    omega (arith, before, now)
+pub next_grows : (start : State) (past later : List Marked)
+    → (store_at start past).next ≤ (store_at start (later ++ past)).next
+next_grows start past later = (later_keeps start past later).next
+
+-- an upload that is still there has bytes behind it or none
+pub later_grows : (start : State) (past later : List Marked) → IsAbove start.world.store → (n : ℕ) (u v : Upload)
+    → upload_of (store_at start past) n ≡ Some u → upload_of (store_at start (later ++ past)) n ≡ Some v
+    → (more : List ℕ) × (v ≡ with_bytes u more)
+later_grows start past later above n u v there there' =
+    let was = (later_keeps start past later).uploads n v (always_above start past above n u there) there' in
+    let same : was.upload ≡ u = same_Some was.upload u (sym was.there ∙ there) in
+    (was.more, was.is ∙ ap (λ x. with_bytes x was.more) same)
+
+none_more : (xs ys : List ℕ) → length xs ≡ length (xs ++ ys) → ys ≡ []
+none_more xs [] e = refl
+none_more xs (y ∷ ys) e =
+    let n : length (xs ++ y ∷ ys) ≡ length xs + length (y ∷ ys) = length-append xs (y ∷ ys) in
+    absurd (omega arith)
+
+-- the same upload and the same count mean the same accepted bytes
+pub later_same : (start : State) (past later : List Marked) → IsAbove start.world.store → (n : ℕ) (u v : Upload)
+    → upload_of (store_at start past) n ≡ Some u → upload_of (store_at start (later ++ past)) n ≡ Some v
+    → length u.accepted ≡ length v.accepted → v ≡ u
+later_same start past later above n u v there there' count =
+    let grown = later_grows start past later above n u v there there' in
+    let none : grown.0 ≡ [] = none_more u.accepted grown.0 (count ∙ ap (λ x. length x.accepted) grown.1) in
+    grown.1 ∙ (ap (with_bytes u) none ∙ ap (λ x. record u { accepted = x }) (append-nil u.accepted))
+
+-- an upload that is gone stays away
+gone_case : (start : State) (past later : List Marked) (n : ℕ) → n < (store_at start past).next
+    → upload_of (store_at start past) n ≡ None → (o : Option Upload)
+    → upload_of (store_at start (later ++ past)) n ≡ o → o ≡ None
+gone_case start past later n lt none None is = refl
+gone_case start past later n lt none (Some v) is =
+    let was = (later_keeps start past later).uploads n v lt is in
+    absurd (none-some was.upload (sym none ∙ was.there))
+
+pub later_gone : (start : State) (past between later : List Marked) → IsAbove start.world.store → (n : ℕ) (u : Upload)
+    → upload_of (store_at start past) n ≡ Some u → upload_of (store_at start (between ++ past)) n ≡ None
+    → upload_of (store_at start (later ++ (between ++ past))) n ≡ None
+later_gone start past between later above n u there none =
+    let lt = always_above start past above n u there in
+    let le = next_grows start past between in
+    gone_case start (between ++ past) later n (omega (arith, lt, le)) none
+    (upload_of (store_at start (later ++ (between ++ past))) n) refl

@@ -1,5 +1,7 @@
 -- A history gives what the replay of its moments gives.
-use Rattle.std.proofs.Common.{◌≡◌, ◌-◌, inl, ℕ, Bool, true, false, List, [], ◌∷◌, ◌++◌, length, take, drop, if◌then◌else◌, nat_lt, Option, Some, None, refl, sym, ◌∙◌, ap, subst, append-nil, append_assoc}
+use Rattle.std.proofs.Common.{◌≡◌, ◌-◌, inl, ℕ, Bool, true, false, List, [], ◌∷◌, ◌++◌, length, take, drop}
+use Rattle.std.proofs.Common.{if◌then◌else◌, nat_lt, Option, Some, None, refl, sym, ◌∙◌, ap, subst, append-nil}
+use Rattle.std.proofs.Common.{append_assoc}
 use Rattle.std.proofs.lemmas.Option.{none-some, same_Some}
 use Rattle.std.proofs.lemmas.List.{take-append-drop}
 use Rattle.upload_rules.specs.Store.{Upload, Store, find, upload_of, appended_to}
@@ -7,28 +9,35 @@ use Rattle.upload_rules.specs.World.{Patch, World, at_rest}
 use Rattle.upload_rules.specs.Calls.{commit_refusal, spent}
 use Rattle.upload_rules.specs.declared.errors.UploadRefusal.TheVariants.{Full}
 use Rattle.tus_request.specs.Requests.{Request, Asks}
-use Rattle.tus_action.specs.Acts.{Acted, Giving, is_pending, pending_of, piece_size, fed, fed_patch}
+use Rattle.tus_action.specs.Acts.{Acted, Giving, pending_of, piece_size, fed, fed_patch}
 use Rattle.tus_session.specs.Streams.{Asked, Moments, cut, rest_body, taken}
-use Rattle.tus_session.specs.Turns.{Conn, Turn, fresh, reader, body_step, turn_of, came_with, came_turn, given_up, more_on, more_turn, ended_with, ended_world}
+use Rattle.tus_session.specs.Turns.{Conn, fresh, reader, body_step, turn_of, came_with, came_turn, given_up}
+use Rattle.tus_session.specs.Turns.{give_on, more_on, more_turn, ended_with, ended_world}
 use Rattle.tus_session.specs.Turns.{came_on as came_turn_on}
 use Rattle.tus_session.specs.Turns.{ended_on as ended_world_on}
-use Rattle.tus_session.specs.History.{State, Step, Event, Opened, Came, More, Ended, Marked, Served, Done, put, kept, turned, opened_at, came_at, more_at, ended_at, conn_in, step, history, beginning}
+use Rattle.tus_session.specs.History.{State, Step, Event, Opened, Came, More, Ended, Marked, Served, Done, put, kept}
+use Rattle.tus_session.specs.History.{turned, opened_at, came_at, more_at, ended_at, conn_in, step, history, beginning}
 use Rattle.tus_session.specs.declared.errors.SessionError.{SessionError}
 use Rattle.tus_session.specs.declared.errors.SessionError.TheVariants.{TooMany, Closed}
 use Rattle.tus_session.specs.Stands.{draft_at}
 use Rattle.tus_session.proofs.Tolds.{came_is, ended_step}
 use Rattle.tus_session.proofs.BodyTold.{rest_same}
 use Rattle.tus_session.proofs.Feeding.{fed_body}
-use Rattle.tus_laws.specs.Patches.{moments_in, at_its_head, BodyCame, BodyCut, DonePatch, IsRefused, Changed, Nothing, Made, Put}
-use Rattle.tus_laws.specs.Cuts.{head_moment, body_moment, came_moments, cut_moment, came_on, ended_on, event_moments, all_moments, bytes_of, given, text_left, still_to_give, KeepsText, AllSmooth}
-use Rattle.tus_laws.proofs.Changes.{served_changed, ended_spent}
+use Rattle.tus_laws.specs.Patches.{moments_in, at_its_head, BodyCame, BodyCut, DonePatch, IsRefused, Changed, Nothing}
+use Rattle.tus_laws.specs.Patches.{Made, Put, Deleted}
+use Rattle.tus_laws.specs.Cuts.{head_moment, body_moment, came_moments, cut_moment, came_on, ended_on, event_moments}
+use Rattle.tus_laws.specs.Cuts.{all_moments, bytes_of, given, text_left, still_to_give, KeepsText, AllSmooth}
+use Rattle.tus_laws.proofs.Changes.{served_changed, with_idle, with_text, ended_spent}
 use Rattle.tus_laws.proofs.Bare.{bared, fed_there, ended_calm}
 use Rattle.tus_laws.proofs.Bodies.{Holds, DraftHolds, Brings, BringsAll, brings_all}
-use Rattle.tus_laws.proofs.Turning.{Opens, head_opens, body_opens, commit_idle, spent_else, Rep, replay, replay_both, act_cut, here_set, else_set, Did, did_head, part_did, whole_did, found_u, store_u, blocks_u, patches_u}
+use Rattle.tus_laws.proofs.Turning.{Opens, head_opens, body_opens, commit_idle, spent_else, Rep, replay, replay_both}
+use Rattle.tus_laws.proofs.Turning.{act_cut, here_set, else_set, Did, did_head, part_did, whole_did, found_u, store_u}
+use Rattle.tus_laws.proofs.Turning.{blocks_u, patches_u}
 use Rattle.tus_laws.proofs.Replays.{Sound, Sim, Keeps, Replays, sound_put, sim_put, sim_same, more_given, came_after}
 
 -- THE INDEXES stay
-appended_indexes : (m : Store) (n : ℕ) (bytes : List ℕ) (o : Option Upload) → (appended_to m n bytes o).indexes ≡ m.indexes
+appended_indexes : (m : Store) (n : ℕ) (bytes : List ℕ) (o : Option Upload)
+    → (appended_to m n bytes o).indexes ≡ m.indexes
 appended_indexes m n bytes None = refl
 appended_indexes m n bytes (Some u) = refl
 
@@ -36,7 +45,9 @@ changed_indexes : (st : State) (e : Event) (after : Store) → Changed st e afte
 changed_indexes st e after (Nothing is) = ap (λ m. m.indexes) is
 changed_indexes st e after (Made new is) = ap (λ m. m.indexes) is
 changed_indexes st e after (Put x body accepted is) =
-    ap (λ m. m.indexes) is ∙ appended_indexes st.world.store x.patch.number x.patch.body (upload_of st.world.store x.patch.number)
+    ap (λ m. m.indexes) is
+    ∙ appended_indexes st.world.store x.patch.number x.patch.body (upload_of st.world.store x.patch.number)
+changed_indexes st e after (Deleted n u there is) = ap (λ m. m.indexes) is
 
 same_indexes : (st : State) (e : Event) → (step st e Served).state.world.store.indexes ≡ st.world.store.indexes
 same_indexes st e = changed_indexes st e (step st e Served).state.world.store (served_changed st e)
@@ -50,8 +61,10 @@ module _ (st : State) (sound : Sound st) (g : ℕ → List ℕ) (r : Rep) (sim :
   refused_after why = (sound, sim_same st g r c sim)
 
   -- the world and the patches stay
-  still_after : (o : Option Conn) (bytes : List ℕ) → draft_at o ≡ draft_at (st.conns c) → ((k : Conn) → o ≡ Some k → DraftHolds st.world k)
-      → ((k : Conn) → o ≡ Some k → (d : ℕ) → k.draft ≡ Some d → k.pending ≡ None) → still_to_give (st.conns c) ≡ bytes ++ still_to_give o
+  still_after : (o : Option Conn) (bytes : List ℕ) → draft_at o ≡ draft_at (st.conns c)
+      → ((k : Conn) → o ≡ Some k → DraftHolds st.world k)
+      → ((k : Conn) → o ≡ Some k → (d : ℕ) → k.draft ≡ Some d → k.pending ≡ None)
+      → still_to_give (st.conns c) ≡ bytes ++ still_to_give o
       → Sound (put st st.world c o) × Sim (put st st.world c o) (more_given g c bytes) r
   still_after o bytes own holds idle text =
       let keeps : Keeps st sound st.world c o = record {
@@ -70,13 +83,26 @@ module _ (st : State) (sound : Sound st) (g : ℕ → List ℕ) (r : Rep) (sim :
       } in
       (sound_put st sound st.world c o keeps, sim_put st g r r st.world c o bytes sim replays)
 
+  -- the connection is closed, and no patch was open on it
+  closed_after : (bytes : List ℕ) → draft_at (st.conns c) ≡ None → still_to_give (st.conns c) ≡ bytes ++ []
+      → Sound (put st st.world c None) × Sim (put st st.world c None) (more_given g c bytes) r
+  closed_after bytes own text =
+      still_after None bytes (sym own) (λ j is. absurd (none-some j is)) (λ j is. absurd (none-some j is)) text
+
+  -- the connection stays, and no patch is open on it before or after
+  patchless_after : (j : Conn) (bytes : List ℕ) → j.draft ≡ None → draft_at (st.conns c) ≡ None
+      → still_to_give (st.conns c) ≡ bytes ++ text_left j.pending
+      → Sound (put st st.world c (Some j)) × Sim (put st st.world c (Some j)) (more_given g c bytes) r
+  patchless_after j bytes none own text =
+      let no_patch : (i : Conn) (d : ℕ) → Some j ≡ Some i → i.draft ≡ Some d → ⊥ =
+      λ i d is e. none-some d (sym none ∙ (ap (λ x. x.draft) (same_Some j i is) ∙ e)) in
+      still_after (Some j) bytes (none ∙ sym own) (λ i is d e. absurd (no_patch i d is e))
+      (λ i is d e. absurd (no_patch i d is e)) text
+
   -- OPENED
-  opened_case : st.conns c ≡ None → (b : Bool) → After g c r (if b then record { state = put st st.world c (Some fresh); outcome = Done } else kept st TooMany)
-  opened_case none true =
-      still_after (Some fresh) [] (ap draft_at (sym none))
-      (λ k is. let f = same_Some fresh k is in λ d e. absurd (none-some d (ap (λ x. x.draft) f ∙ e)))
-      (λ k is d e. absurd (none-some d (ap (λ x. x.draft) (same_Some fresh k is) ∙ e)))
-      (ap still_to_give none)
+  opened_case : st.conns c ≡ None → (b : Bool)
+      → After g c r (if b then record { state = put st st.world c (Some fresh); outcome = Done } else kept st TooMany)
+  opened_case none true = patchless_after fresh [] refl (ap draft_at none) (ap still_to_give none)
   opened_case none false = refused_after TooMany
 
   opened_after : (o : Option Conn) → st.conns c ≡ o → After g c r (opened_at st c o)
@@ -86,7 +112,8 @@ module _ (st : State) (sound : Sound st) (g : ℕ → List ℕ) (r : Rep) (sim :
   module _ (k : Conn) (here : st.conns c ≡ Some k) where
     same_conn : Sound (put st st.world c (Some k)) × Sim (put st st.world c (Some k)) (more_given g c []) r
     same_conn =
-        still_after (Some k) [] (ap draft_at (sym here)) (λ j is. sound.holds c j (here ∙ is)) (λ j is. sound.idle c j (here ∙ is)) (ap still_to_give here)
+        still_after (Some k) [] (ap draft_at (sym here)) (λ j is. sound.holds c j (here ∙ is))
+        (λ j is. sound.idle c j (here ∙ is)) (ap still_to_give here)
 
     text_no_draft_at : (h : Giving) → k.pending ≡ Some h → (o : Option ℕ) → k.draft ≡ o → k.draft ≡ None
     text_no_draft_at h text None is = is
@@ -96,34 +123,37 @@ module _ (st : State) (sound : Sound st) (g : ℕ → List ℕ) (r : Rep) (sim :
     text_no_draft h text = text_no_draft_at h text k.draft refl
 
     -- MORE of a text
-    given_conn : (number : ℕ) (closes : Bool) (left bytes : List ℕ) → k.draft ≡ None → still_to_give (st.conns c) ≡ bytes ++ left
-        → let o = given_up k closes (pending_of number left closes) in Sound (put st st.world c o) × Sim (put st st.world c o) (more_given g c bytes) r
-    given_conn number true [] bytes none text =
-        still_after None bytes (sym (ap draft_at here ∙ none)) (λ j is. absurd (none-some j is)) (λ j is. absurd (none-some j is)) text
+    given_conn : (number : ℕ) (closes : Bool) (left bytes : List ℕ) → k.draft ≡ None
+        → still_to_give (st.conns c) ≡ bytes ++ left
+        → let o = given_up k closes (pending_of number left closes) in
+        Sound (put st st.world c o) × Sim (put st st.world c o) (more_given g c bytes) r
+    given_conn number true [] bytes none text = closed_after bytes (ap draft_at here ∙ none) text
     given_conn number false [] bytes none text =
-        still_after (Some (record k { pending = None })) bytes (ap draft_at (sym here))
-        (λ j is d e. absurd (none-some d (sym none ∙ (ap (λ x. x.draft) (same_Some (record k { pending = None }) j is) ∙ e))))
-        (λ j is d e. absurd (none-some d (sym none ∙ (ap (λ x. x.draft) (same_Some (record k { pending = None }) j is) ∙ e))))
-        text
+        patchless_after (record k { pending = None }) bytes none (ap draft_at here ∙ none) text
     given_conn number closes (b ∷ left) bytes none text =
         let j : Conn = record k { pending = Some (record { number = number; left = b ∷ left; closes = closes }) } in
-        still_after (Some j) bytes (ap draft_at (sym here))
-        (λ i is d e. absurd (none-some d (sym none ∙ (ap (λ x. x.draft) (same_Some j i is) ∙ e))))
-        (λ i is d e. absurd (none-some d (sym none ∙ (ap (λ x. x.draft) (same_Some j i is) ∙ e))))
-        text
+        patchless_after j bytes none (ap draft_at here ∙ none) text
 
-    more_case : (o : Option Giving) → k.pending ≡ o → After g c r (turned st c (more_on st.world k o))
-    more_case None idle = same_conn
-    more_case (Some h) text =
-        given_conn h.number h.closes (drop piece_size h.left) (take piece_size h.left) (text_no_draft h text)
-        (ap still_to_give here ∙ (ap text_left text ∙ sym (take-append-drop piece_size h.left)))
+    -- a piece is given, since the upload is there
+    there_case : (h : Giving) → k.pending ≡ Some h → (u : Upload) → upload_of st.world.store h.number ≡ Some u
+        → After g c r (turned st c (give_on st.world k h (upload_of st.world.store h.number)))
+    there_case h text u there =
+        subst (λ o. After g c r (turned st c (give_on st.world k h o))) (sym there)
+        (given_conn h.number h.closes (drop piece_size h.left) (take piece_size h.left) (text_no_draft h text)
+        (ap still_to_give here ∙ (ap text_left text ∙ sym (take-append-drop piece_size h.left))))
 
-    more_after : After g c r (turned st c (more_turn st.world k))
+    more_case : KeepsText st (More c) → (o : Option Giving) → k.pending ≡ o
+        → After g c r (turned st c (more_on st.world k o))
+    more_case keeps None idle = same_conn
+    more_case keeps (Some h) text = let there = keeps k h here text in there_case h text there.0 there.1
+
+    more_after : KeepsText st (More c) → After g c r (turned st c (more_turn st.world k))
     unfolding more_turn
-    more_after = more_case k.pending refl
+    more_after keeps = more_case keeps k.pending refl
 
     -- THE END of a connection
-    module _ (d : ℕ) (is : k.draft ≡ Some d) (roomy : (x : DonePatch st (Ended c)) → IsRefused x Full → ⊥) (text : still_to_give (st.conns c) ≡ []) where
+    module _ (d : ℕ) (is : k.draft ≡ Some d) (roomy : (x : DonePatch st (Ended c)) → IsRefused x Full → ⊥)
+        (text : still_to_give (st.conns c) ≡ []) where
       abbrev h : Holds st.world k d
       h = sound.holds c k here d is
 
@@ -137,15 +167,22 @@ module _ (st : State) (sound : Sound st) (g : ℕ → List ℕ) (r : Rep) (sim :
       cut_here = record { draft_open = is; world = refl; found = h.found }
 
       not_full : commit_refusal st.world d h.patch ≡ Some Full → ⊥
-      not_full full = let x : DonePatch st (Ended c) = record { conn = k; world = st.world; draft = d; patch = h.patch; done = (here, cut_here) } in roomy x full
+      not_full full =
+          let x : DonePatch st (Ended c) =
+          record { conn = k; world = st.world; draft = d; patch = h.patch; done = (here, cut_here) } in
+          roomy x full
 
       ends : ended_world st.world k ≡ w'
       ends = ended_spent st.world k d h.patch is h.found
 
       cut_keeps : Keeps st sound w' c None
       cut_keeps = record {
-        indexes = ap (λ w. w.store.indexes) (sym ends) ∙ (ap (λ x. x.state.world.store.indexes) (sym (ended_step st c k here)) ∙ same_indexes st (Ended c));
-        others = λ e p there ne. spent_else st.world d e h.patch (commit_refusal st.world d h.patch) (λ same. ne (ap draft_at here ∙ (is ∙ ap Some same))) ∙ there;
+        indexes =
+            ap (λ w. w.store.indexes) (sym ends)
+            ∙ (ap (λ x. x.state.world.store.indexes) (sym (ended_step st c k here)) ∙ same_indexes st (Ended c));
+        others =
+            λ e p there ne. spent_else st.world d e h.patch (commit_refusal st.world d h.patch)
+            (λ same. ne (ap draft_at here ∙ (is ∙ ap Some same))) ∙ there;
         fresh = λ e f. absurd (none-some e f);
         holds = λ j f. absurd (none-some j f);
         idle = λ j f. absurd (none-some j f);
@@ -159,7 +196,8 @@ module _ (st : State) (sound : Sound st) (g : ℕ → List ℕ) (r : Rep) (sim :
           let u = fed (bared st.world) d body in
           ap (λ v. bared (ended_with (fed v d body) d (find d (fed v d body).patches))) sim.world
           ∙ (ap (λ o. bared (ended_with u d o)) (found_u st.world d h.patch [] body h.found whole)
-          ∙ ended_calm st.world u d h.patch (store_u st.world d h.patch [] body h.found whole) (blocks_u st.world d h.patch [] body h.found whole)
+          ∙ ended_calm st.world u d h.patch (store_u st.world d h.patch [] body h.found whole)
+          (blocks_u st.world d h.patch [] body h.found whole)
           (patches_u st.world d h.patch [] body h.found whole) not_full)
 
       cut_replays : Replays st g r (act_cut r c body (Some d)) w' c None []
@@ -171,27 +209,33 @@ module _ (st : State) (sound : Sound st) (g : ℕ → List ℕ) (r : Rep) (sim :
         given = λ e ne. refl;
       }
 
-      cut_after : After g c (act_cut r c body (r.drafts c)) (record { state = put st (ended_world st.world k) c None; outcome = Done })
+      cut_after : After g c (act_cut r c body (r.drafts c))
+          (record { state = put st (ended_world st.world k) c None; outcome = Done })
       cut_after =
-          let now : After g c (act_cut r c body (Some d)) (record { state = put st w' c None; outcome = Done }) =
-          (sound_put st sound w' c None cut_keeps, sim_put st g r (act_cut r c body (Some d)) w' c None [] sim cut_replays) in
+          let now : After g c (act_cut r c body (Some d)) (record { state = put st w' c None; outcome = Done }) = (
+            sound_put st sound w' c None cut_keeps,
+            sim_put st g r (act_cut r c body (Some d)) w' c None [] sim cut_replays,
+          ) in
           let own : r.drafts c ≡ Some d = sim.drafts c ∙ (ap draft_at here ∙ is) in
-          subst (λ o. After g c (act_cut r c body o) (record { state = put st (ended_world st.world k) c None; outcome = Done })) (sym own)
-          (subst (λ w. After g c (act_cut r c body (Some d)) (record { state = put st w c None; outcome = Done })) (sym ends) now)
+          let left : World → Step = λ w. record { state = put st w c None; outcome = Done } in
+          subst (λ o. After g c (act_cut r c body o) (left (ended_world st.world k))) (sym own)
+          (subst (λ w. After g c (act_cut r c body (Some d)) (left w)) (sym ends) now)
 
     none_ended : k.draft ≡ None → ended_world st.world k ≡ st.world
     unfolding ended_world
     none_ended none = ap (ended_world_on st.world) none
 
-    end_case : ((x : DonePatch st (Ended c)) → IsRefused x Full → ⊥) → still_to_give (st.conns c) ≡ [] → (o : Option ℕ) → k.draft ≡ o
-        → After g c (replay r (cut_moment st.world c k o)) (record { state = put st (ended_world st.world k) c None; outcome = Done })
+    end_case : ((x : DonePatch st (Ended c)) → IsRefused x Full → ⊥) → still_to_give (st.conns c) ≡ []
+        → (o : Option ℕ) → k.draft ≡ o → After g c (replay r (cut_moment st.world c k o))
+        (record { state = put st (ended_world st.world k) c None; outcome = Done })
     end_case roomy text None none =
         subst (λ w. After g c r (record { state = put st w c None; outcome = Done })) (sym (none_ended none))
-        (still_after None [] (sym (ap draft_at here ∙ none)) (λ j is. absurd (none-some j is)) (λ j is. absurd (none-some j is)) text)
+        (closed_after [] (ap draft_at here ∙ none) text)
     end_case roomy text (Some d) is = cut_after d is roomy text
 
     -- BYTES that came
-    module _ (piece : List ℕ) (idle : k.pending ≡ None) (roomy : (x : DonePatch st (Came c piece)) → IsRefused x Full → ⊥) where
+    module _ (piece : List ℕ) (idle : k.pending ≡ None)
+        (roomy : (x : DonePatch st (Came c piece)) → IsRefused x Full → ⊥) where
       abbrev w : World
       w = st.world
 
@@ -221,27 +265,34 @@ module _ (st : State) (sound : Sound st) (g : ℕ → List ℕ) (r : Rep) (sim :
       turn_is = ap (came_turn_on st.world k piece) idle
 
       turn_text : (h : Giving) → a.pending ≡ Some h → came_turn st.world k piece ≡ turn_of k piece (n - length m.came) a
-      turn_text h e =
-          turn_is ∙ ap (λ b. elim b as (λ _. Turn) [ true ↦ turn_of k piece (n - length m.came) a | false ↦ turn_of k piece n (body_step a m.came m.body a.draft) ]) (ap is_pending e)
+      turn_text h e = turn_is ∙ with_text k piece n m a h e
 
       turn_body : a.pending ≡ None → came_turn st.world k piece ≡ turn_of k piece n (body_step a m.came m.body a.draft)
-      turn_body e =
-          turn_is ∙ ap (λ b. elim b as (λ _. Turn) [ true ↦ turn_of k piece (n - length m.came) a | false ↦ turn_of k piece n (body_step a m.came m.body a.draft) ]) (ap is_pending e)
+      turn_body e = turn_is ∙ with_idle k piece n m a e
 
       abbrev Goal : Type 0
-      Goal = After g c (replay r (head_moment c m.head ++ body_moment c a.draft m.body)) (turned st c (came_turn st.world k piece))
+      Goal =
+          After g c (replay r (head_moment c m.head ++ body_moment c a.draft m.body))
+          (turned st c (came_turn st.world k piece))
 
-      turn_indexes : (i : ℕ) (z : Acted) → came_turn st.world k piece ≡ turn_of k piece i z → z.world.store.indexes ≡ st.world.store.indexes
+      turn_indexes : (i : ℕ) (z : Acted) → came_turn st.world k piece ≡ turn_of k piece i z
+          → z.world.store.indexes ≡ st.world.store.indexes
       turn_indexes i z turn =
-          ap (λ t. t.world.store.indexes) (sym turn) ∙ (ap (λ x. x.state.world.store.indexes) (sym (came_is st c piece k here).step_is) ∙ same_indexes st (Came c piece))
+          ap (λ t. t.world.store.indexes) (sym turn)
+          ∙ (ap (λ x. x.state.world.store.indexes) (sym (came_is st c piece k here).step_is)
+          ∙ same_indexes st (Came c piece))
 
-      conclude : (i : ℕ) (z : Acted) (o : Option ℕ) (x : Option Asked) → came_turn st.world k piece ≡ turn_of k piece i z → a.draft ≡ o → m.body ≡ x
+      conclude : (i : ℕ) (z : Acted) (o : Option ℕ) (x : Option Asked)
+          → came_turn st.world k piece ≡ turn_of k piece i z → a.draft ≡ o → m.body ≡ x
           → Opens st.world k.draft z → Did r (replay r1 (body_moment c o x)) c z
-          → ((d : ℕ) → z.draft ≡ Some d → Holds z.world (record { stream = k.stream ++ take i piece; draft = z.draft; pending = z.pending }) d) → Goal
+          → ((d : ℕ) → z.draft ≡ Some d
+          → Holds z.world (record { stream = k.stream ++ take i piece; draft = z.draft; pending = z.pending }) d)
+          → Goal
       conclude i z o x turn own ends opens did holds =
           let r' = replay r1 (body_moment c o x) in
           let after : After g c r' (turned st c (turn_of k piece i z)) =
-          came_after st sound g r r' sim c k here idle (k.stream ++ take i piece) z opens did (turn_indexes i z turn) holds in
+          came_after st sound g r r' sim c k here idle (k.stream ++ take i piece) z opens did
+          (turn_indexes i z turn) holds in
           let same : replay r (head_moment c m.head ++ body_moment c a.draft m.body) ≡ r' =
           replay_both r (head_moment c m.head) (body_moment c a.draft m.body)
           ∙ (ap (λ y. replay r1 (body_moment c y m.body)) own ∙ ap (λ y. replay r1 (body_moment c o y)) ends) in
@@ -259,7 +310,9 @@ module _ (st : State) (sound : Sound st) (g : ℕ → List ℕ) (r : Rep) (sim :
         part_goal none =
             let z = body_step a m.came None (Some d) in
             let turn : came_turn st.world k piece ≡ turn_of k piece n z =
-            turn_body no_text ∙ (ap (λ o. turn_of k piece n (body_step a m.came m.body o)) is ∙ ap (λ x. turn_of k piece n (body_step a m.came x (Some d))) none) in
+            turn_body no_text
+            ∙ (ap (λ o. turn_of k piece n (body_step a m.came m.body o)) is
+            ∙ ap (λ x. turn_of k piece n (body_step a m.came x (Some d))) none) in
             let part = b.part none in
             let s = k.stream ++ take n piece in
             let holds : Holds z.world (record { stream = s; draft = z.draft; pending = z.pending }) d = record {
@@ -271,14 +324,17 @@ module _ (st : State) (sound : Sound st) (g : ℕ → List ℕ) (r : Rep) (sim :
             } in
             conclude n z (Some d) None turn is none (body_opens st.world k.draft a first_opens m.came None (Some d) is)
             (part_did st.world r r1 c a first_did d b.patch m.came is no_text b.found)
-            (λ e f. subst (Holds z.world (record { stream = s; draft = z.draft; pending = z.pending })) (same_Some d e f) holds)
+            (λ e f. subst (Holds z.world (record { stream = s; draft = z.draft; pending = z.pending }))
+            (same_Some d e f) holds)
 
         whole_goal : (x : Asked) → m.body ≡ Some x → Goal
         whole_goal x ends =
             let z = body_step a m.came (Some x) (Some d) in
             let v = fed a.world d m.came in
             let turn : came_turn st.world k piece ≡ turn_of k piece n z =
-            turn_body no_text ∙ (ap (λ o. turn_of k piece n (body_step a m.came m.body o)) is ∙ ap (λ y. turn_of k piece n (body_step a m.came y (Some d))) ends) in
+            turn_body no_text
+            ∙ (ap (λ o. turn_of k piece n (body_step a m.came m.body o)) is
+            ∙ ap (λ y. turn_of k piece n (body_step a m.came y (Some d))) ends) in
             let enough : (y : Request) → x.verdict ≡ Asks y → commit_refusal v d q ≡ Some Full → ⊥ = λ y asks full.
             let came : BodyCame st.world k piece v d q = record {
               nothing_to_give = idle;
@@ -290,10 +346,12 @@ module _ (st : State) (sound : Sound st) (g : ℕ → List ℕ) (r : Rep) (sim :
               world = refl;
               found = fed_there a.world d b.patch m.came b.found;
             } in
-            let done : DonePatch st (Came c piece) = record { conn = k; world = v; draft = d; patch = q; done = (here, came) } in
+            let done : DonePatch st (Came c piece) =
+            record { conn = k; world = v; draft = d; patch = q; done = (here, came) } in
             roomy done full in
             let none = (commit_idle v d x.verdict (find d v.patches)).0 in
-            conclude n z (Some d) (Some x) turn is ends (body_opens st.world k.draft a first_opens m.came (Some x) (Some d) is)
+            conclude n z (Some d) (Some x) turn is ends
+            (body_opens st.world k.draft a first_opens m.came (Some x) (Some d) is)
             (whole_did st.world r r1 c a first_did d b.patch m.came x is no_text b.found (b.whole x ends) enough)
             (λ e f. absurd (none-some e (sym none ∙ f)))
 
@@ -303,7 +361,9 @@ module _ (st : State) (sound : Sound st) (g : ℕ → List ℕ) (r : Rep) (sim :
 
       by_draft : a.pending ≡ None → (o : Option ℕ) → a.draft ≡ o → Goal
       by_draft no_text None none =
-          conclude n a None m.body (turn_body no_text ∙ ap (λ o. turn_of k piece n (body_step a m.came m.body o)) none) none refl first_opens first_did
+          conclude n a None m.body
+          (turn_body no_text ∙ ap (λ o. turn_of k piece n (body_step a m.came m.body o)) none)
+          none refl first_opens first_did
           (λ d is. absurd (none-some d (sym none ∙ is)))
       by_draft no_text (Some d) is = by_moment no_text d is m.body refl
 
@@ -315,42 +375,49 @@ module _ (st : State) (sound : Sound st) (g : ℕ → List ℕ) (r : Rep) (sim :
       by_text None e = by_draft e a.draft refl
       by_text (Some h) e =
           let none = text_draft h e a.draft refl in
-          conclude (n - length m.came) a None m.body (turn_text h e) none refl first_opens first_did (λ d is. absurd (none-some d (sym none ∙ is)))
+          conclude (n - length m.came) a None m.body (turn_text h e) none refl first_opens first_did
+          (λ d is. absurd (none-some d (sym none ∙ is)))
 
       came_goal : Goal
       came_goal = by_text a.pending refl
 
-    nothing_taken : (piece : List ℕ) (h : Giving) → k.pending ≡ Some h → came_turn st.world k piece ≡ record { world = st.world; conn = Some k; bytes = []; taken = 0 }
+    nothing_taken : (piece : List ℕ) (h : Giving) → k.pending ≡ Some h
+        → came_turn st.world k piece ≡ record { world = st.world; conn = Some k; bytes = []; taken = 0 }
     unfolding came_turn
     nothing_taken piece h e = ap (came_turn_on st.world k piece) e
 
-    came_case : (piece : List ℕ) → ((x : DonePatch st (Came c piece)) → IsRefused x Full → ⊥) → (o : Option Giving) → k.pending ≡ o
+    came_case : (piece : List ℕ) → ((x : DonePatch st (Came c piece)) → IsRefused x Full → ⊥) → (o : Option Giving)
+        → k.pending ≡ o
         → After g c (replay r (came_moments st.world c piece k o)) (turned st c (came_turn st.world k piece))
     came_case piece roomy None idle = came_goal piece idle roomy
-    came_case piece roomy (Some h) text = subst (λ t. After g c r (turned st c t)) (sym (nothing_taken piece h text)) same_conn
+    came_case piece roomy (Some h) text =
+        subst (λ t. After g c r (turned st c t)) (sym (nothing_taken piece h text)) same_conn
 
 -- EACH EVENT
 
 module _ (st : State) (sound : Sound st) (g : ℕ → List ℕ) (r : Rep) (sim : Sim st g r) where
-  came_at_after : (c : ℕ) (piece : List ℕ) → ((x : DonePatch st (Came c piece)) → IsRefused x Full → ⊥) → (o : Option Conn) → st.conns c ≡ o
+  came_at_after : (c : ℕ) (piece : List ℕ) → ((x : DonePatch st (Came c piece)) → IsRefused x Full → ⊥)
+      → (o : Option Conn) → st.conns c ≡ o
       → After g c (replay r (came_on st.world c piece o)) (came_at st c piece o)
   came_at_after c piece roomy None is = refused_after st sound g r sim c Closed
   came_at_after c piece roomy (Some k) is = came_case st sound g r sim c k is piece roomy k.pending refl
 
-  more_at_after : (c : ℕ) (o : Option Conn) → st.conns c ≡ o → After g c r (more_at st c o)
-  more_at_after c None is = refused_after st sound g r sim c Closed
-  more_at_after c (Some k) is = more_after st sound g r sim c k is
+  more_at_after : (c : ℕ) → KeepsText st (More c) → (o : Option Conn) → st.conns c ≡ o → After g c r (more_at st c o)
+  more_at_after c keeps None is = refused_after st sound g r sim c Closed
+  more_at_after c keeps (Some k) is = more_after st sound g r sim c k is keeps
 
-  ended_at_after : (c : ℕ) → ((x : DonePatch st (Ended c)) → IsRefused x Full → ⊥) → still_to_give (st.conns c) ≡ [] → (o : Option Conn) → st.conns c ≡ o
+  ended_at_after : (c : ℕ) → ((x : DonePatch st (Ended c)) → IsRefused x Full → ⊥) → still_to_give (st.conns c) ≡ []
+      → (o : Option Conn) → st.conns c ≡ o
       → After g c (replay r (ended_on st.world c o)) (ended_at st c o)
   ended_at_after c roomy text None is = refused_after st sound g r sim c Closed
   ended_at_after c roomy text (Some k) is = end_case st sound g r sim c k is roomy text k.draft refl
 
-  event_after : (e : Event) → ((x : DonePatch st e) → IsRefused x Full → ⊥) → KeepsText st e → After g (conn_in e) (replay r (event_moments st e)) (step st e Served)
+  event_after : (e : Event) → ((x : DonePatch st e) → IsRefused x Full → ⊥) → KeepsText st e
+      → After g (conn_in e) (replay r (event_moments st e)) (step st e Served)
   unfolding step
   event_after (Opened c) roomy text = opened_after st sound g r sim c (st.conns c) refl
   event_after (Came c piece) roomy text = came_at_after c piece roomy (st.conns c) refl
-  event_after (More c) roomy text = more_at_after c (st.conns c) refl
+  event_after (More c) roomy text = more_at_after c text (st.conns c) refl
   event_after (Ended c) roomy text = ended_at_after c roomy text (st.conns c) refl
 
 -- THE HISTORY
@@ -372,7 +439,8 @@ begins m blocks = record {
   sim = record { world = refl; drafts = λ c. refl; given = λ c. refl };
 }
 
-all_there : (m : Store) (blocks : Option ℕ) (past : List Marked) → AllSmooth (beginning m blocks) past → IsThere (beginning m blocks) (first_rep m blocks) past
+all_there : (m : Store) (blocks : Option ℕ) (past : List Marked) → AllSmooth (beginning m blocks) past
+    → IsThere (beginning m blocks) (first_rep m blocks) past
 all_there m blocks [] smooth = begins m blocks
 all_there m blocks (e ∷ past) (before, now) =
     let start = beginning m blocks in
@@ -385,10 +453,12 @@ all_there m blocks (e ∷ past) (before, now) =
     let marked : After g (conn_in e.0) (replay r (event_moments st e.0)) (step st e.0 e.1) =
     subst (λ k. After g (conn_in e.0) (replay r (event_moments st e.0)) (step st e.0 k)) (sym now.served) after in
     let joined : After g (conn_in e.0) (replay r0 (all_moments start past ++ event_moments st e.0)) (step st e.0 e.1) =
-    subst (λ x. After g (conn_in e.0) x (step st e.0 e.1)) (sym (replay_both r0 (all_moments start past) (event_moments st e.0))) marked in
+    subst (λ x. After g (conn_in e.0) x (step st e.0 e.1))
+    (sym (replay_both r0 (all_moments start past) (event_moments st e.0))) marked in
     record { sound = joined.0; sim = joined.1 }
 
-pub same_bytes : (m : Store) (blocks : Option ℕ) (past other : List Marked) (c : ℕ) → AllSmooth (beginning m blocks) past → AllSmooth (beginning m blocks) other
+pub same_bytes : (m : Store) (blocks : Option ℕ) (past other : List Marked) (c : ℕ)
+    → AllSmooth (beginning m blocks) past → AllSmooth (beginning m blocks) other
     → all_moments (beginning m blocks) past ≡ all_moments (beginning m blocks) other
     → given (beginning m blocks) c past ++ still_to_give ((history (beginning m blocks) past).conns c)
     ≡ given (beginning m blocks) c other ++ still_to_give ((history (beginning m blocks) other).conns c)
@@ -396,9 +466,11 @@ same_bytes m blocks past other c smooth smooth' same =
     sym ((all_there m blocks past smooth).sim.given c)
     ∙ (ap (λ ms. (replay (first_rep m blocks) ms).given c) same ∙ (all_there m blocks other smooth').sim.given c)
 
-pub same_uploads : (m : Store) (blocks : Option ℕ) (past other : List Marked) → AllSmooth (beginning m blocks) past → AllSmooth (beginning m blocks) other
+pub same_uploads : (m : Store) (blocks : Option ℕ) (past other : List Marked) → AllSmooth (beginning m blocks) past
+    → AllSmooth (beginning m blocks) other
     → all_moments (beginning m blocks) past ≡ all_moments (beginning m blocks) other
     → (history (beginning m blocks) past).world.store ≡ (history (beginning m blocks) other).world.store
 same_uploads m blocks past other smooth smooth' same =
     ap (λ w. w.store) (sym (all_there m blocks past smooth).sim.world)
-    ∙ (ap (λ ms. (replay (first_rep m blocks) ms).world.store) same ∙ ap (λ w. w.store) (all_there m blocks other smooth').sim.world)
+    ∙ (ap (λ ms. (replay (first_rep m blocks) ms).world.store) same
+    ∙ ap (λ w. w.store) (all_there m blocks other smooth').sim.world)

@@ -3,11 +3,12 @@
 -- An example. Upload 1 is to have five bytes, and has none. Two connections PATCH it at offset 0, with five bytes each:
 --   the first sends its head and `he`: its PATCH is open, and began at an upload without accepted bytes;
 --   the second sends its head and `hello`: its PATCH is done, and accepted, and the upload has the five bytes;
---   the first sends `LLO`: its PATCH is done with the body `heLLO`. It began at offset 0, and the upload has five bytes by now:
---   it is refused with `Offset`, which is answered 409, and the upload has the same five bytes as before.
+--   the first sends `LLO`: its PATCH is done with the body `heLLO`. It began at offset 0, and the upload has five bytes
+--   by now: it is refused with `Offset`, which is answered 409, and the upload has the same five bytes as before.
+-- Had a third connection sent a DELETE of upload 1 before that, the PATCH would be refused with `NoSuch`, answered 404.
 use Rattle.std.specs.Prelude.{◌≡◌, ◌<◌, ℕ, false, List, length, take, Some, None}
 use Rattle.upload_rules.specs.declared.errors.UploadRefusal.{UploadRefusal}
-use Rattle.upload_rules.specs.Store.{New, Upload, Store, find, upload_of, created_store, appended_store}
+use Rattle.upload_rules.specs.Store.{New, Upload, Store, find, upload_of, created_store, deleted_store, appended_store}
 use Rattle.upload_rules.specs.World.{Patch, World}
 use Rattle.upload_rules.specs.Calls.{is_empty, commit_refusal}
 use Rattle.tus_request.specs.Requests.{Request, Asks}
@@ -24,8 +25,8 @@ moments_in w k piece = moments (reader w) k.stream (take (taken (reader w) k.str
 abbrev pub at_its_head : World → Conn → List ℕ → Acted
 at_its_head w k piece = at_head w k.draft (moments_in w k piece).head
 
--- The last byte of a PATCH's body comes on a connection. The PATCH was open, or its head is in the same call; the bytes of its body
--- that came with it are given to it, and in the world v that this makes it is committed or refused.
+-- The last byte of a PATCH's body comes on a connection. The PATCH was open, or its head is in the same call; the bytes
+-- of its body that came with it are given to it, and in the world v that this makes it is committed or refused.
 pub record BodyCame (w : World) (k : Conn) (piece : List ℕ) (v : World) (d : ℕ) (p : Patch) : Type 0 where
   pub nothing_to_give : k.pending ≡ None
   pub asked : Asked
@@ -48,7 +49,8 @@ IsDoneOn st (Came c piece) k v d p = (st.conns c ≡ Some k) × BodyCame st.worl
 IsDoneOn st (More c) k v d p = ⊥
 IsDoneOn st (Ended c) k v d p = (st.conns c ≡ Some k) × BodyCut st.world k v d p
 
--- A PATCH IS DONE at an event that is served: on this connection, in this world, under this draft number, with its whole body
+-- A PATCH IS DONE at an event that is served: on this connection, in this world, under this draft number, with its
+-- whole body
 pub record DonePatch (st : State) (e : Event) : Type 0 where
   pub conn : Conn
   pub world : World
@@ -71,11 +73,15 @@ pub record SamePlace {st st' : State} {e e' : Event} (x : DonePatch st e) (y : D
   pub number : x.patch.number ≡ y.patch.number
   pub offset : length x.patch.began.accepted ≡ length y.patch.began.accepted
 
--- WHAT A SERVED EVENT MAKES of the uploads: nothing; a new upload; or the body of a PATCH that is accepted, behind its upload's bytes
+-- WHAT A SERVED EVENT MAKES of the uploads: nothing; a new upload; the body of a PATCH that is accepted, behind its
+-- upload's bytes; or one upload that was there is deleted
 pub data Changed (st : State) (e : Event) (after : Store) : Type 0 where
   Nothing : after ≡ st.world.store → Changed st e after
   Made : (new : New) → after ≡ created_store st.world.store new → Changed st e after
-  Put : (x : DonePatch st e) → HasBody x → IsAccepted x → after ≡ appended_store st.world.store x.patch.number x.patch.body → Changed st e after
+  Put : (x : DonePatch st e) → HasBody x → IsAccepted x
+      → after ≡ appended_store st.world.store x.patch.number x.patch.body → Changed st e after
+  Deleted : (n : ℕ) (u : Upload) → upload_of st.world.store n ≡ Some u → after ≡ deleted_store st.world.store n
+      → Changed st e after
 
 -- the next number is above those of the uploads
 abbrev pub IsAbove : Store → Type 0

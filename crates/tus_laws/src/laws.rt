@@ -2,7 +2,7 @@
 
 ghost use Rattle.std.specs.Prelude.{◌≡◌, ◌<◌, ◌≤◌, ◌++◌, ◌∷◌, ℕ, List, Option, Some, None, length, slice_get};
 ghost use Rattle.upload_rules.specs.declared.errors.UploadRefusal.{UploadRefusal};
-ghost use Rattle.upload_rules.specs.declared.errors.UploadRefusal.TheVariants.{Offset};
+ghost use Rattle.upload_rules.specs.declared.errors.UploadRefusal.TheVariants.{NoSuch, Offset};
 ghost use Rattle.upload_rules.specs.Store.{Upload, Store, find, upload_of, with_bytes};
 ghost use Rattle.upload_rules.specs.World.{World};
 ghost use Rattle.upload_rules.specs.Calls.{first_patch};
@@ -16,46 +16,54 @@ ghost use Rattle.tus_laws.specs.Patches.{DonePatch, IsAccepted, IsRefused, HasBo
 ghost use Rattle.tus_laws.specs.Cuts.{all_moments, given, still_to_give, AllSmooth};
 
 /// Of two PATCHes with bodies that aren't empty and that began at one offset of one upload at most one is accepted, and
-/// the other
-/// changes nothing: behind one that is accepted, each later one is refused with `Offset`. A PATCH began at the offset
-/// that it named.
+/// the other changes nothing: behind one that is accepted each later one is refused, with `Offset` while the upload is
+/// there, and with `NoSuch` once it is gone. A PATCH began at the offset that it named. The history starts with a next
+/// number above those of its uploads, so that no upload gets the number of a deleted one.
 pub fn one_winner()
     ensures begins { (w : World) (r : Request) (number offset d : ℕ) → r.action ≡ Patch number offset
         → (acted w (Asks r)).draft ≡ Some d
         → (u : Upload) × (upload_of w.store number ≡ Some u) × (length u.accepted ≡ offset)
         × (find d (acted w (Asks r)).world.patches ≡ Some (first_patch number r.length u)) }
     ensures one { (start : State) (past between : List Marked) (e f : Event) (x : DonePatch (history start past) e)
-        (y : DonePatch (history start (between ++ (e, Served) ∷ past)) f) → SamePlace x y → HasBody x → HasBody y
-        → IsAccepted x → IsAccepted y → ⊥ }
+        (y : DonePatch (history start (between ++ (e, Served) ∷ past)) f) → IsAbove start.world.store → SamePlace x y
+        → HasBody x → HasBody y → IsAccepted x → IsAccepted y → ⊥ }
     ensures later { (start : State) (past between : List Marked) (e f : Event) (x : DonePatch (history start past) e)
-        (y : DonePatch (history start (between ++ (e, Served) ∷ past)) f) → SamePlace x y → HasBody x → IsAccepted x
+        (y : DonePatch (history start (between ++ (e, Served) ∷ past)) f) → IsAbove start.world.store → SamePlace x y
+        → HasBody x → IsAccepted x → (u : Upload) → upload_of y.world.store y.patch.number ≡ Some u
         → IsRefused y Offset }
+    ensures gone { (st : State) (e : Event) (x : DonePatch st e) → upload_of x.world.store x.patch.number ≡ None
+        → IsRefused x NoSuch }
     ensures loser { (st : State) (e : Event) (x : DonePatch st e) (why : UploadRefusal) → IsRefused x why
         → (step st e Served).state.world.store ≡ st.world.store }
 {}
 
-/// An event makes at most one change: an upload, or the body of a PATCH that is accepted, behind the bytes of its
-/// upload.
-/// An event that isn't served makes none.
+/// An event makes at most one change: an upload is made; or the body of a PATCH that is accepted is put behind its
+/// upload's bytes; or an upload that was there is deleted. An event that isn't served makes none.
 pub fn one_change()
     ensures served { (st : State) (e : Event) → Changed st e (step st e Served).state.world.store }
     ensures memory { (st : State) (e : Event) → (step st e OutOfMemory).state.world.store ≡ st.world.store }
     ensures fault { (st : State) (e : Event) → (step st e Failed).state.world.store ≡ st.world.store }
 {}
 
-/// Accepted bytes only grow, so at two moments of a history the same upload with the same count of accepted bytes has
-/// the same accepted bytes.
+/// An upload's accepted bytes only grow for as long as it is there, so at two moments of a history the same upload with
+/// the same count of accepted bytes has the same accepted bytes. An upload that is gone stays away. The history starts
+/// with a next number above those of its uploads.
 pub fn same_offset()
-    ensures grows { (start : State) (past later : List Marked) (n : ℕ) (u : Upload)
+    ensures grows { (start : State) (past later : List Marked) → IsAbove start.world.store → (n : ℕ) (u v : Upload)
         → upload_of (history start past).world.store n ≡ Some u
-        → (more : List ℕ) × (upload_of (history start (later ++ past)).world.store n ≡ Some (with_bytes u more)) }
-    ensures same { (start : State) (past later : List Marked) (n : ℕ) (u v : Upload)
+        → upload_of (history start (later ++ past)).world.store n ≡ Some v
+        → (more : List ℕ) × (v ≡ with_bytes u more) }
+    ensures same { (start : State) (past later : List Marked) → IsAbove start.world.store → (n : ℕ) (u v : Upload)
         → upload_of (history start past).world.store n ≡ Some u
         → upload_of (history start (later ++ past)).world.store n ≡ Some v → length u.accepted ≡ length v.accepted
         → v ≡ u }
+    ensures gone { (start : State) (past between later : List Marked) → IsAbove start.world.store → (n : ℕ) (u : Upload)
+        → upload_of (history start past).world.store n ≡ Some u
+        → upload_of (history start (between ++ past)).world.store n ≡ None
+        → upload_of (history start (later ++ (between ++ past))).world.store n ≡ None }
 {}
 
-/// A number is never used again: the next number is above those of all uploads, and only grows.
+/// A number is never used again: the next number is above those of all uploads, and never falls.
 pub fn new_numbers()
     ensures above { (start : State) (past : List Marked) → IsAbove start.world.store
         → IsAbove (history start past).world.store }
@@ -64,9 +72,8 @@ pub fn new_numbers()
 {}
 
 /// A call's moments are those of its stream, whatever comes behind it: with `i` whole requests before the call, the
-/// request of its body
-/// moment is the stream's request number `i`; and likewise for the head, whose bytes and verdict stay, among the
-/// requests with whole heads.
+/// request of its body moment is the stream's request number `i`; and likewise for the head, whose bytes and verdict
+/// stay, among the requests with whole heads.
 pub fn moments_of_streams()
     ensures body { (w : World) (s piece more : List ℕ) (r : Asked) → (moments (reader w) s piece).body ≡ Some r
         → slice_get (cut (reader w) ((s ++ piece) ++ more)).whole (length (cut (reader w) s).whole) ≡ Some r }
@@ -77,10 +84,9 @@ pub fn moments_of_streams()
 {}
 
 /// How the streams are cut doesn't matter: two histories from one store, with the same moments in the same order, give
-/// each connection
-/// the same bytes, the text that it is still to be given with them, and leave the same uploads. Every event is served,
-/// no PATCH is
-/// refused for room, and no connection ends before its text is taken.
+/// each connection the same bytes, the text that it is still to be given with them, and leave the same uploads. Every
+/// event is served, no PATCH is refused for room, no connection is closed because the upload of its text was deleted,
+/// and none ends before its text is taken.
 pub fn any_cut()
     ensures bytes { (m : Store) (blocks : Option ℕ) (past other : List Marked) (c : ℕ)
         → AllSmooth (beginning m blocks) past → AllSmooth (beginning m blocks) other

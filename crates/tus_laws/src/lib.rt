@@ -1,5 +1,5 @@
 //! Laws over histories of events: of PATCHes that began at one offset of one upload at most one is accepted, and how
-//streams are cut doesn't matter.
+//! streams are cut doesn't matter.
 #![tactic(auto)]
 
 mod laws;
