@@ -1,7 +1,6 @@
 //! A gateway for resumable uploads of text in old and new encodings.
 #![tactic(auto)]
 
-mod command_line;
 mod failures;
 mod faults;
 mod formatting;
@@ -15,10 +14,10 @@ mod tests;
 
 use clap::Error;
 use clap::error::ErrorKind;
-use command_line::{Order, read_order};
 use failures::Failure;
 use faults::Fault;
 use formatting::format_file;
+use gateway_orders::{Order, read_order};
 use listing::list_file;
 use scripting::run_script;
 use serving::serve_file;
@@ -39,8 +38,8 @@ fn main(rt: HostRuntime) -> ExitCode {
 // Does what the command line asks for: the status that the program ends with.
 fn run(rt: &HostRuntime, words: &[String]) -> ExitCode {
     match read_order(rt.alloc(), words) {
-        Ok(Order::Nothing) => ExitCode::from(USAGE),
-        Ok(order) => ended(rt, obey(rt, order)),
+        Ok(Some(order)) => ended(rt, obey(rt, order)),
+        Ok(None) => ExitCode::from(USAGE),
         Err(error) => ended(rt, told(rt, error)),
     }
 }
@@ -76,7 +75,6 @@ fn obey<'a>(rt: &HostRuntime, order: Order<'a>) -> Result<ExitCode, Failure<'a>>
         Order::Script { spool } => run_script(rt, alloc, spool)?,
         Order::Serve(service) => serve_file(rt, alloc, service)?,
         Order::List { spool } => list_file(rt, alloc, spool)?,
-        Order::Nothing => {}
     }
     Ok(ExitCode::SUCCESS)
 }

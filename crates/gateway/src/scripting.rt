@@ -34,7 +34,8 @@ pub(crate) fn run_script<'a>(
     }
 }
 
-/// Runs a script from `reader` over the spool on a disk, and writes to `writer` what its calls give. The disk is handed back.
+/// Runs a script from `reader` over the spool on a disk, and writes to `writer` what its calls give. The disk is handed
+/// back.
 pub(crate) fn run_over_disk<D: Disk + Drop, R: CountedRead, W: CountedWrite>(
     alloc: Global,
     reader: &mut R,

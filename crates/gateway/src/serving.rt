@@ -4,23 +4,11 @@ use crate::failures::{Failure, Task};
 use crate::faults::Fault;
 use crate::spool_files::open_spool;
 use gateway_engine::Gateway;
+use gateway_orders::Service;
 use gateway_serve::{Outcome, serve_on};
 use std::alloc::Global;
 use std::io;
 use std::net::{Ipv4Addr, SocketAddr, TcpListener};
-
-/// What to serve: the spool in a file, at a port of 127.0.0.1.
-#[derive(Clone, Copy, Debug, PartialEq, Eq, Drop)]
-pub(crate) struct Service<'a> {
-    /// The path of the file.
-    pub(crate) spool: &'a str,
-    /// The port: any where it is 0.
-    pub(crate) port: u16,
-    /// It ends once so many connections were closed.
-    pub(crate) connections: u64,
-    /// It ends behind so many turns.
-    pub(crate) turns: u64,
-}
 
 /// Serves the spool in a file, at a port of 127.0.0.1 that is printed. At the end the number of connections is told
 /// on standard error.

@@ -5,6 +5,7 @@ use crate::formatting::format_file;
 use crate::listing::list_on;
 use crate::scripting::run_over_disk;
 use crate::spool_files::open_spool;
+use gateway_orders::{Order, Service, read_order};
 use spool_disk::FileDisk;
 use std::alloc::{AllocError, Global};
 use std::fs;
@@ -22,11 +23,13 @@ say 1 POST /files HTTP/1.1\nsay 1 Tus-Resumable: 1.0.0\nsay 1 Upload-Length: 0\n
 say 1 Upload-Metadata: from dXRmLTE2bGU=,mode ZmF0YWw=\nsay 1\n";
 
 const WRITTEN: &[u8] = b"< 1 110\n\
-HTTP/1.1 201 Created\r\nTus-Resumable: 1.0.0\r\nCache-Control: no-store\r\nLocation: /files/1\r\nContent-Length: 0\r\n\r\n\n\
+HTTP/1.1 201 Created\r\nTus-Resumable: 1.0.0\r\nCache-Control: no-store\r\n\
+Location: /files/1\r\nContent-Length: 0\r\n\r\n\n\
 < 1 92\n\
 HTTP/1.1 204 No Content\r\nTus-Resumable: 1.0.0\r\nCache-Control: no-store\r\nUpload-Offset: 5\r\n\r\n\n\
 < 1 110\n\
-HTTP/1.1 201 Created\r\nTus-Resumable: 1.0.0\r\nCache-Control: no-store\r\nLocation: /files/2\r\nContent-Length: 0\r\n\r\n\n";
+HTTP/1.1 201 Created\r\nTus-Resumable: 1.0.0\r\nCache-Control: no-store\r\n\
+Location: /files/2\r\nContent-Length: 0\r\n\r\n\n";
 
 const LISTED: &[u8] = b"1 5/6 5 UTF-8 UTF-8 html\n2 0/0 0 UTF-16LE UTF-8 fatal\n";
 
@@ -85,5 +88,72 @@ fn failure_says_what_the_system_said(rt: HostRuntime) -> Result<(), Fail> {
     }
     drop(used);
     fs::remove_file(&rt, "gateway_used_test")?;
+    Ok(())
+}
+
+/// Command lines that ask for something, and what for.
+const ORDERS: [(&str, Order); 5] = [
+    (
+        "gateway format new --blocks 16 --indexes idx",
+        Order::Format {
+            spool: "new",
+            blocks: 16,
+            indexes: "idx",
+        },
+    ),
+    ("gateway script -", Order::Script { spool: "-" }),
+    (
+        "gateway serve --turns 18446744073709551615 --connections 7 --port=65535 old",
+        Order::Serve(Service {
+            spool: "old",
+            port: 65_535,
+            connections: 7,
+            turns: 18_446_744_073_709_551_615,
+        }),
+    ),
+    (
+        "gateway serve old --port 0 --connections 0 --turns 0",
+        Order::Serve(Service {
+            spool: "old",
+            port: 0,
+            connections: 0,
+            turns: 0,
+        }),
+    ),
+    ("gateway list old", Order::List { spool: "old" }),
+];
+
+/// Command lines that ask for nothing: with a word too few, one too many, one that doesn't read, and for help.
+const NO_ORDERS: [&str; 9] = [
+    "gateway",
+    "gateway list",
+    "gateway format new --blocks 16",
+    "gateway list old older",
+    "gateway delete old",
+    "gateway format new --blocks -1 --indexes idx",
+    "gateway serve old --port 65536 --connections 1 --turns 1",
+    "gateway help",
+    "gateway list --help",
+];
+
+/// The words of a line.
+fn words_of(alloc: Global, line: &str) -> Result<Vec<String>, AllocError> {
+    let mut words = Vec::new(alloc);
+    for word in line.split(' ') {
+        words.push(String::from_str(alloc, word)?)?;
+    }
+    Ok(words)
+}
+
+#[test]
+fn command_lines(rt: HostRuntime) -> Result<(), Fail> {
+    for (line, order) in ORDERS.iter() {
+        let words = words_of(rt.alloc(), line)?;
+        assert_eq!(rt; read_order(rt.alloc(), &words)?, Some(*order), "{line}");
+    }
+    for line in NO_ORDERS.iter() {
+        let words = words_of(rt.alloc(), line)?;
+        assert!(rt; read_order(rt.alloc(), &words).is_err(), "{line}");
+    }
     Ok(())
 }

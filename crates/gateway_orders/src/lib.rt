@@ -1,0 +1,7 @@
+//! What the program is asked for: its command line, read as an order.
+#![tactic(auto)]
+
+mod commands;
+mod orders;
+
+pub use orders::{Order, Service, read_order};
