@@ -106,7 +106,8 @@ returns-in-Err-clause-answer g c w p s there =
       head.head_refused g.D.Disk c.args.disk.now c.args.kept.now before c.args.number c.in-Some.draft w p s there
           (sym c.in-Some.ensures.taken) c.in-Err.refusal c.in-Err.ensures,
       drops g.D.Disk c.args.disk.now c.args.kept.now _ before c.taken.new.drafts.items c.args.number w
-          (reserves_only c.args.kept.now _ _ c.kept.view_is refl c.give_back.ensures.rows) c.taken.ensures.after gives s,
+          (reserves_only c.args.kept.now _ _ c.kept.view_is refl c.give_back.ensures.rows) c.taken.ensures.after
+          gives s,
     )
 
 pub returns-then-came-eq0-clause-answer : goal.returns-then-came-eq0-clause-answer
