@@ -31,4 +31,5 @@ pub mod CommitSpent
 pub mod CommitHead
 pub mod LastWritten
 pub mod OfUploads
+pub mod CommitFits
 pub mod Facts

@@ -1,5 +1,6 @@
 // A new upload is made.
-ghost use Rattle.std.specs.Prelude.{◌≡◌, ◌↔◌, ◌⊎◌, ◌≤◌, ◌<◌, ◌+◌, ◌*◌, ◌^◌, ℕ, List, Option, IsErr, IsErrOf, IsSome, IfOk, OnOk, IfSome, MatchOption, Some, None, length, get_or};
+ghost use Rattle.std.specs.Prelude.{◌≡◌, ◌↔◌, ◌⊎◌, ◌≤◌, ◌<◌, ◌+◌, ◌*◌, ◌^◌, ℕ, List, Option, Some, None, length};
+ghost use Rattle.std.specs.Prelude.{get_or, IsErr, IsErrOf, IsSome, IfOk, OnOk, IfSome, MatchOption};
 ghost use Rattle.spool_disk.specs.Disk.{Counts};
 ghost use Rattle.spool_disk.specs.Views.{Lasts};
 ghost use Rattle.spool_journal.specs.Image.{journal_pages, all_pages, InArea};
@@ -41,16 +42,13 @@ fn free_slot(slots: &[Option<KeptRecord>]) -> Option<u32>
 }
 
 impl Kept {
-    // A slot for a new upload: none where 512 are in use, or the next number is the last one or in use.
+    // A slot for a new upload: none where 512 are in use, or the next number is the last one.
     fn slot_for_new(&self) -> Option<u32>
         ensures room { IfSome result (HasRoomAt self.now) }
         ensures few { (v : View) (m : Store) → KeepsView self.now v → Shows v m
             → MatchOption result ((512 ≤ length m.uploads) ⊎ (10 ^ 18 ≤ m.next)) (λ s. length m.uploads < 512) }
     {
         if self.order.len() >= SLOTS as usize || self.next >= NUMBERS_END {
-            return None;
-        }
-        if self.slot_of(self.next).is_some() {
             return None;
         }
         free_slot(&self.slots)
@@ -107,7 +105,8 @@ impl Kept {
         ensures area { IfOk result (λ pages. InArea (journal_pages self.old.layout) pages) }
         ensures some { IfOk result (λ pages. 1 ≤ length pages) }
         ensures changes { (v : View) → v.blocks ≡ self.old.layout → v.slots ≡ self.old.slots
-            → IfOk result (λ pages. Changes pages v (record (with_record v slot «record») { next = self.old.next + 1 })) }
+            → IfOk result (λ pages. Changes pages v (record (with_record v slot «record»)
+            { next = self.old.next + 1 })) }
         ensures unmade { IsErr result → self.new ≡ self.old }
     {
         let pages = self.pages_with(alloc, slot, &record)?;
@@ -137,7 +136,8 @@ pub fn create<D: Disk>(
     ensures fits { (drafts : List (Option Draft)) → DraftsFit kept.old drafts → DraftsFit kept.new drafts }
     ensures answer { (m : Store) → Stored D.Disk disk.old kept.old m
         → Answers (create_refusal (at_rest m None) new) result
-        (λ n. (n ≡ m.next) × Stored D.Disk disk.new kept.new (created_store m new)) (Stored D.Disk disk.new kept.new m) }
+        (λ n. (n ≡ m.next) × Stored D.Disk disk.new kept.new (created_store m new))
+        (Stored D.Disk disk.new kept.new m) }
     ensures crash { (m : Store) → Stored D.Disk disk.old kept.old m
         → Lasts D.Disk disk.old disk.new (ShowsEither kept.old.layout m
         (outcome (create_refusal (at_rest m None) new) m (created_store m new))) }
