@@ -1,5 +1,7 @@
--- What an encoder gives for one character is written in the end, since its state takes the reference's characters as they are.
-use Rattle.std.proofs.Common.{ℕ, ◌<◌, ◌≤◌, ◌≡◌, false, List, [], ◌∷◌, Option, Some, None, refl, sym, ◌∙◌, ap, arith, append_assoc, append-nil, ◌⊎◌, inl, inr}
+-- What an encoder gives for one character is written in the end, since its state takes the reference's characters as
+-- they are.
+use Rattle.std.proofs.Common.{ℕ, ◌<◌, ◌≤◌, ◌≡◌, false, List, [], ◌∷◌, Option, Some, None, refl, sym, ◌∙◌, ap, arith}
+use Rattle.std.proofs.Common.{append_assoc, append-nil, ◌⊎◌, inl, inr}
 use Rattle.std.specs.Str.{IsUtf8, chars}
 use Rattle.std.proofs.lemmas.Str.{encodes-chars}
 use lib.Utf8.{encode, encodes}
@@ -11,7 +13,10 @@ use Rattle.enc_model.specs.declared.Encoding.TheVariants as encodings
 use Rattle.enc_model.specs.declared.Mode.{Mode}
 use Rattle.enc_model.specs.declared.Mode.TheVariants.{Html, Fatal}
 use Rattle.enc_model.specs.Index.{Index}
-use Rattle.enc_model.specs.Encode.{Shift, InAscii, InRoman, InJis, Written, Wrote, Again, Lacks, Encoder, Coded, behind, reference, coded, joined, all_codes, behind_written, settled, code_within, plain_code, code_of, IsNoAgain, Tables, is_jis, shift_jis_encoder, euc_jp_encoder, iso2022_encoder, single_encoder, utf8_bytes, utf8_encoder, encoder}
+use Rattle.enc_model.specs.Encode.{Shift, InAscii, InRoman, InJis, Written, Wrote, Again, Lacks, Encoder, Coded, behind}
+use Rattle.enc_model.specs.Encode.{reference, coded, joined, all_codes, behind_written, settled, code_within}
+use Rattle.enc_model.specs.Encode.{plain_code, code_of, IsNoAgain, Tables, is_jis, shift_jis_encoder, euc_jp_encoder}
+use Rattle.enc_model.specs.Encode.{iso2022_encoder, single_encoder, utf8_bytes, utf8_encoder, encoder}
 use Rattle.enc_model.proofs.Coding.{ArePlain, reference_plain, coded_is}
 use Rattle.enc_model.proofs.Steady.{encoder_steady}
 use Rattle.enc_encode.specs.declared.shift.ShiftState.{ShiftState}
@@ -60,13 +65,15 @@ single_plain i z x l h = grind (arith, nat_tests)
 utf8_plain : (z : Shift) (x : ℕ) → 0x20 ≤ x → x < 0x5C → StandsFor utf8_encoder z x
 utf8_plain z x l h = grind (arith, nat_tests)
 
-iso_plain : (i k : Index) (z : Shift) (x : ℕ) → is_jis z ≡ false → 0x20 ≤ x → x < 0x5C → StandsFor (iso2022_encoder i k) z x
+iso_plain : (i k : Index) (z : Shift) (x : ℕ) → is_jis z ≡ false → 0x20 ≤ x → x < 0x5C
+    → StandsFor (iso2022_encoder i k) z x
 unfolding iso2022_encoder
 iso_plain i k InAscii x e l h = grind (arith, nat_tests)
 iso_plain i k InRoman x e l h = grind (arith, nat_tests)
 iso_plain i k InJis x e l h = absurd cc
 
-iso_out : (i k : Index) (s : Shift) (c : ℕ) → AtLacks (settled (iso2022_encoder i k) c (iso2022_encoder i k s c)) (λ z. is_jis z ≡ false)
+iso_out : (i k : Index) (s : Shift) (c : ℕ) → AtLacks (settled (iso2022_encoder i k) c (iso2022_encoder i k s c))
+    (λ z. is_jis z ≡ false)
 unfolding iso2022_encoder
 iso_out i k InAscii c = grind (arith, nat_tests)
 iso_out i k InRoman c = grind (arith, nat_tests)
@@ -82,14 +89,18 @@ encoder_plain t encodings.Utf8 s c x l h = tt
 encoder_plain t encodings.Utf16Be s c x l h = tt
 encoder_plain t encodings.Utf16Le s c x l h = tt
 encoder_plain t encodings.ShiftJis s c x l h =
-    let f = shift_jis_encoder t.jis0208 in anywhere (settled f c (f s c)) (λ z. StandsFor f z x) (λ z. sjis_plain t.jis0208 z x l h)
+    let f = shift_jis_encoder t.jis0208 in anywhere (settled f c (f s c)) (λ z. StandsFor f z x)
+    (λ z. sjis_plain t.jis0208 z x l h)
 encoder_plain t encodings.EucJp s c x l h =
-    let f = euc_jp_encoder t.jis0208 in anywhere (settled f c (f s c)) (λ z. StandsFor f z x) (λ z. euc_plain t.jis0208 z x l h)
+    let f = euc_jp_encoder t.jis0208 in anywhere (settled f c (f s c)) (λ z. StandsFor f z x)
+    (λ z. euc_plain t.jis0208 z x l h)
 encoder_plain t encodings.Iso2022Jp s c x l h =
     let f = iso2022_encoder t.jis0208 t.katakana in
-    weaker (settled f c (f s c)) (λ z. is_jis z ≡ false) (λ z. StandsFor f z x) (λ z o. iso_plain t.jis0208 t.katakana z x o l h) (iso_out t.jis0208 t.katakana s c)
+    weaker (settled f c (f s c)) (λ z. is_jis z ≡ false) (λ z. StandsFor f z x)
+    (λ z o. iso_plain t.jis0208 t.katakana z x o l h) (iso_out t.jis0208 t.katakana s c)
 encoder_plain t e s c x l h =
-    let f = single_encoder (t.single e) in anywhere (settled f c (f s c)) (λ z. StandsFor f z x) (λ z. single_plain (t.single e) z x l h)
+    let f = single_encoder (t.single e) in anywhere (settled f c (f s c)) (λ z. StandsFor f z x)
+    (λ z. single_plain (t.single e) z x l h)
 
 -- THE CODE OF ONE CHARACTER
 
@@ -100,7 +111,8 @@ joined_end r = go r.fault refl
     go None e = rw (e, append-nil) refl
     go (Some d) e = rw e refl
 
-within_final : (f : Encoder) (mode : Mode) (w : Written) → ((x : ℕ) → 0x20 ≤ x → x < 0x5C → AtLacks w (λ z. StandsFor f z x)) →
+within_final : (f : Encoder) (mode : Mode) (w : Written)
+    → ((x : ℕ) → 0x20 ≤ x → x < 0x5C → AtLacks w (λ z. StandsFor f z x)) →
     code_within mode (all_codes (plain_code f)) w ≡ final mode w
 within_final f mode (Wrote b s) p = refl
 within_final f mode (Again b s) p = refl
@@ -119,7 +131,11 @@ coded_one t e mode s c =
 pub final_behind : (mode : Mode) (x : List ℕ) (w : Written) → final mode (behind_written x w) ≡ behind x (final mode w)
 final_behind mode x (Wrote b s) = refl
 final_behind mode x (Again b s) = refl
-final_behind Html x (Lacks b s d) = ap (λ z. record { bytes = z; state = s; fault = None }) (append_assoc x b (reference d))
+final_behind Html x (Lacks b s d) = ap (λ z. record {
+  bytes = z;
+  state = s;
+  fault = None;
+}) (append_assoc x b (reference d))
 final_behind Fatal x (Lacks b s d) = refl
 
 settled_once : (f : Encoder) (s : Shift) (c : ℕ) (w : Written) → f s c ≡ w → IsNoAgain w → settled f c (f s c) ≡ w
@@ -129,7 +145,8 @@ settled_once f s c (Lacks b z d) e n = rw e refl
 
 module _ (t : Tables) (to : Encoding) (mode : Mode) (s : Shift) (c : ℕ) where
   -- where it does not ask again
-  pub coded_once : (w : Written) → w ≡ encoder t to s c → IsNoAgain w → coded (encoder t to) mode s (c ∷ []) ≡ final mode w
+  pub coded_once : (w : Written) → w ≡ encoder t to s c → IsNoAgain w → coded (encoder t to) mode s (c ∷ []) ≡ final
+      mode w
   coded_once w e n = coded_one t to mode s c ∙ ap (final mode) (settled_once (encoder t to) s c w (sym e) n)
 
   -- where it does
@@ -148,7 +165,8 @@ not_again (code.Lacks b s d) n = tt
 
 -- A RUN OF ASCII
 
-ascii_stands : (t : Tables) (e : Encoding) (s : Shift) (x : ℕ) → (e ≡ encodings.Iso2022Jp → ⊥) → x < 128 → StandsFor (encoder t e) s x
+ascii_stands : (t : Tables) (e : Encoding) (s : Shift) (x : ℕ) → (e ≡ encodings.Iso2022Jp → ⊥) → x < 128
+    → StandsFor (encoder t e) s x
 unfolding shift_jis_encoder euc_jp_encoder single_encoder
 ascii_stands t encodings.Utf8 s x n l = grind (arith, nat_tests)
 ascii_stands t encodings.Utf16Be s x n l = grind (arith, nat_tests)
@@ -158,20 +176,31 @@ ascii_stands t encodings.EucJp s x n l = grind (arith, nat_tests)
 ascii_stands t encodings.Iso2022Jp s x n l = absurd (n refl)
 ascii_stands t e s x n l = grind (arith, nat_tests)
 
-own_stands : (f : Encoder) (mode : Mode) (s : Shift) (x : ℕ) → StandsFor f s x → code_of f mode s x ≡ record { bytes = x ∷ []; state = s; fault = None }
+own_stands : (f : Encoder) (mode : Mode) (s : Shift) (x : ℕ) → StandsFor f s x → code_of f mode s x ≡ record {
+  bytes = x ∷ [];
+  state = s;
+  fault = None;
+}
 own_stands f mode s x e = rw e refl
 
-ascii_run : (f : Encoder) (mode : Mode) (s : Shift) (xs : List ℕ) → ((x : ℕ) → x < 128 → StandsFor f s x) → All (λ b. b < 128) xs →
+ascii_run : (f : Encoder) (mode : Mode) (s : Shift) (xs : List ℕ) → ((x : ℕ) → x < 128 → StandsFor f s x)
+    → All (λ b. b < 128) xs →
     all_codes (code_of f mode) s xs ≡ record { bytes = xs; state = s; fault = None }
 ascii_run f mode s [] each a = refl
 ascii_run f mode s (x ∷ xs) each a =
-    rw (own_stands f mode s x (each x (All-head (λ b. b < 128) x xs a)), ascii_run f mode s xs each (All-tail (λ b. b < 128) x xs a)) refl
+    rw (
+      own_stands f mode s x (each x (All-head (λ b. b < 128) x xs a)),
+      ascii_run f mode s xs each
+          (All-tail (λ b. b < 128) x xs a),
+    ) refl
 
 -- outside ISO-2022-JP it stands for itself
-pub ascii_code : (t : Tables) (e : Encoding) (mode : Mode) (s : Shift) (xs : List ℕ) → (e ≡ encodings.Iso2022Jp → ⊥) → All (λ b. b < 128) xs →
+pub ascii_code : (t : Tables) (e : Encoding) (mode : Mode) (s : Shift) (xs : List ℕ) → (e ≡ encodings.Iso2022Jp → ⊥)
+    → All (λ b. b < 128) xs →
     coded (encoder t e) mode s xs ≡ record { bytes = xs; state = s; fault = None }
 ascii_code t e mode s xs n a =
-    coded_is (encoder t e) (encoder_steady t e) mode s xs ∙ ascii_run (encoder t e) mode s xs (λ x l. ascii_stands t e s x n l) a
+    coded_is (encoder t e) (encoder_steady t e) mode s xs ∙ ascii_run (encoder t e) mode s xs
+    (λ x l. ascii_stands t e s x n l) a
 
 -- A TEXT IN UTF-8
 
@@ -179,18 +208,26 @@ bytes_are : (c : ℕ) → utf8_bytes c ≡ encode c
 unfolding encode
 bytes_are c = refl
 
-text_run : (mode : Mode) (s : Shift) (cs : List ℕ) → all_codes (code_of utf8_encoder mode) s cs ≡ record { bytes = encodes cs; state = s; fault = None }
+text_run : (mode : Mode) (s : Shift) (cs : List ℕ) → all_codes (code_of utf8_encoder mode) s cs ≡ record {
+  bytes = encodes cs;
+  state = s;
+  fault = None;
+}
 text_run mode s [] = refl
-text_run mode s (c ∷ cs) = ap (λ b. behind b (all_codes (code_of utf8_encoder mode) s cs)) (bytes_are c) ∙ ap (behind (encode c)) (text_run mode s cs)
+text_run mode s (c ∷ cs) =
+    ap (λ b. behind b (all_codes (code_of utf8_encoder mode) s cs)) (bytes_are c)
+    ∙ ap (behind (encode c)) (text_run mode s cs)
 
 -- the encodings whose texts are in UTF-8
-pub utf8_texts : (t : Tables) (e : Encoding) → (e ≡ encodings.Utf8) ⊎ ((e ≡ encodings.Utf16Be) ⊎ (e ≡ encodings.Utf16Le)) → encoder t e ≡ utf8_encoder
+pub utf8_texts : (t : Tables) (e : Encoding)
+    → (e ≡ encodings.Utf8) ⊎ ((e ≡ encodings.Utf16Be) ⊎ (e ≡ encodings.Utf16Le)) → encoder t e ≡ utf8_encoder
 utf8_texts t e (inl h) = rw h refl
 utf8_texts t e (inr (inl h)) = rw h refl
 utf8_texts t e (inr (inr h)) = rw h refl
 
 -- its characters' code is the text itself
-pub text_code : (t : Tables) (e : Encoding) (mode : Mode) (s : Shift) (bs : List ℕ) → encoder t e ≡ utf8_encoder → IsUtf8 bs →
+pub text_code : (t : Tables) (e : Encoding) (mode : Mode) (s : Shift) (bs : List ℕ) → encoder t e ≡ utf8_encoder
+    → IsUtf8 bs →
     coded (encoder t e) mode s (chars bs) ≡ record { bytes = bs; state = s; fault = None }
 text_code t e mode s bs is u =
     ap (λ f. coded f mode s (chars bs)) is

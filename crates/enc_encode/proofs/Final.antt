@@ -12,12 +12,14 @@ use Rattle.enc_encode.specs.Growth.{Appended, Stopped}
 use Rattle.enc_encode.proofs.Growth.{front, both, behind_part}
 
 -- refused before an error's own bytes
-pub lacks_front : (mode : Mode) (b : List ℕ) (s : Shift) (d : ℕ) {Z : Type 0} {old new : Vec ℕ Z} → Stopped old b new → Stopped old (final mode (Lacks b s d)).bytes new
+pub lacks_front : (mode : Mode) (b : List ℕ) (s : Shift) (d : ℕ) {Z : Type 0} {old new : Vec ℕ Z} → Stopped old b new
+    → Stopped old (final mode (Lacks b s d)).bytes new
 lacks_front Html b s d p = front (reference d) p
 lacks_front Fatal b s d p = p
 
 -- behind a part of the code
-pub gave_behind : {Z : Type 0} {old mid : Vec ℕ Z} (b : List ℕ) (code : Coded) (new : Vec ℕ Z) (r : Result ShiftState EncodeError) →
+pub gave_behind : {Z : Type 0} {old mid : Vec ℕ Z} (b : List ℕ) (code : Coded) (new : Vec ℕ Z)
+    (r : Result ShiftState EncodeError) →
     Appended old b mid → Gave code mid new r → Gave (behind b code) old new r
 gave_behind b code new (Ok next) p q = (q.0, q.1, both p q.2)
 gave_behind b code new (Err NoMemory) p q = behind_part p q

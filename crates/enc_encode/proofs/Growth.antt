@@ -1,5 +1,6 @@
 -- A vector that grows in parts.
-use Rattle.std.proofs.Common.{ℕ, List, [], ◌++◌, ◌≡◌, ◌<◌, ◌≤◌, ◌+◌, refl, sym, ◌∙◌, ap, append_assoc, append-nil, arith, length, length-append, Vec, Result, Ok, Err, vec_capacity, vec_len, if◌then◌else◌}
+use Rattle.std.proofs.Common.{ℕ, List, [], ◌++◌, ◌≡◌, ◌<◌, ◌≤◌, ◌+◌, refl, sym, ◌∙◌, ap, append_assoc, append-nil}
+use Rattle.std.proofs.Common.{arith, length, length-append, Vec, Result, Ok, Err, vec_capacity, vec_len, if◌then◌else◌}
 use Rattle.std.specs.Result.{IsErrAnd, OnErr, is_ok}
 use Rattle.enc_model.specs.Transcode.{GrownByPrefix}
 use Rattle.enc_encode.specs.Growth.{Appended, Stopped, Grew}
@@ -32,7 +33,10 @@ module _ {Z : Type 0} where
       new.items ≡ (if is_ok r then old.items ++ x else old.items) → vec_capacity old ≤ vec_capacity new →
       OnErr r (vec_capacity old < vec_len old + length x) → Grew old x new r
   at_once old x new (Ok v) e a f = record { items = e; capacity = a }
-  at_once old x new (Err v) e a f = record { items = grown_none old.items x new.items e; full = let l = old.ok.0 in omega (arith, f, l) }
+  at_once old x new (Err v) e a f = record {
+    items = grown_none old.items x new.items e;
+    full = let l = old.ok.0 in omega (arith, f, l);
+  }
 
   -- refused in its first part
   pub front : {old : Vec ℕ Z} {x : List ℕ} {new : Vec ℕ Z} (y : List ℕ) → Stopped old x new → Stopped old (x ++ y) new
@@ -42,26 +46,31 @@ module _ {Z : Type 0} where
   }
 
   -- refused behind a part
-  pub behind_part : {old : Vec ℕ Z} {x y : List ℕ} {mid new : Vec ℕ Z} → Appended old x mid → Stopped mid y new → Stopped old (x ++ y) new
+  pub behind_part : {old : Vec ℕ Z} {x y : List ℕ} {mid new : Vec ℕ Z} → Appended old x mid → Stopped mid y new
+      → Stopped old (x ++ y) new
   behind_part {old} {x} {y} {mid} {new} p q = record {
     items = grown_more old.items x y mid.items new.items p.items q.items;
     full =
-        let l = length-append x y in let m = length-append old.items x in let i : length mid.items ≡ length (old.items ++ x) = ap length p.items in
+        let l = length-append x y in let m =
+        length-append old.items x in let i : length mid.items ≡ length (old.items ++ x) = ap length p.items in
         let f = q.full in let a = p.capacity in omega (arith, l, m, i, f, a);
   }
 
   -- a part, and then another
-  pub both : {old : Vec ℕ Z} {x y : List ℕ} {mid new : Vec ℕ Z} → Appended old x mid → Appended mid y new → Appended old (x ++ y) new
+  pub both : {old : Vec ℕ Z} {x y : List ℕ} {mid new : Vec ℕ Z} → Appended old x mid → Appended mid y new
+      → Appended old (x ++ y) new
   both {old} {x} {y} {mid} {new} p q = record {
     items = q.items ∙ ap (λ z. z ++ y) p.items ∙ append_assoc old.items x y;
     capacity = let a = p.capacity in let b = q.capacity in omega (arith, a, b);
   }
 
-  pub more : {X E : Type 0} {old : Vec ℕ Z} {x : List ℕ} (y : List ℕ) {mid : Vec ℕ Z} (new : Vec ℕ Z) (r : Result X E) → Appended old x mid → Grew mid y new r → Grew old (x ++ y) new r
+  pub more : {X E : Type 0} {old : Vec ℕ Z} {x : List ℕ} (y : List ℕ) {mid : Vec ℕ Z} (new : Vec ℕ Z) (r : Result X E)
+      → Appended old x mid → Grew mid y new r → Grew old (x ++ y) new r
   more y new (Ok w) p q = both p q
   more y new (Err w) p q = behind_part p q
 
   -- at the exit of a `?`
-  pub exit : {X E : Type 0} {old : Vec ℕ Z} {x : List ℕ} {new : Vec ℕ Z} (Q : E → Type 0) (r : Result X E) → IsErrAnd r Q → Stopped old x new → Grew old x new r
+  pub exit : {X E : Type 0} {old : Vec ℕ Z} {x : List ℕ} {new : Vec ℕ Z} (Q : E → Type 0) (r : Result X E)
+      → IsErrAnd r Q → Stopped old x new → Grew old x new r
   exit Q (Ok v) h p = absurd h
   exit Q (Err v) h p = p

@@ -1,5 +1,6 @@
 -- Codes behind bytes that are held.
-use Rattle.std.proofs.Common.{ℕ, ◌≡◌, List, [], ◌++◌, Vec, Result, Ok, Err, sym, ◌∙◌, ap, subst, append_assoc, append-nil, arith}
+use Rattle.std.proofs.Common.{ℕ, ◌≡◌, List, [], ◌++◌, Vec, Result, Ok, Err, sym, ◌∙◌, ap, subst, append_assoc}
+use Rattle.std.proofs.Common.{append-nil, arith}
 use Rattle.enc_model.specs.Encode.{Tables, Coded, coded, encoder, behind}
 use Rattle.enc_model.proofs.Steady.{encoder_steady}
 use Rattle.enc_model.proofs.Transcoding.{coded_both}
@@ -12,9 +13,11 @@ use Rattle.enc_encode.specs.Reasons.{Gave}
 use Rattle.enc_encode.specs.State.{shift_of, EncoderState, code_from}
 use Rattle.enc_encode.proofs.Growth.{front, both, behind_part}
 
-parts_behind : (held a b front mid more kept : List ℕ) → held ++ a ≡ front ++ mid → mid ++ b ≡ more ++ kept → held ++ (a ++ b) ≡ (front ++ more) ++ kept
+parts_behind : (held a b front mid more kept : List ℕ) → held ++ a ≡ front ++ mid → mid ++ b ≡ more ++ kept
+    → held ++ (a ++ b) ≡ (front ++ more) ++ kept
 parts_behind held a b front mid more kept e f =
-    sym (append_assoc held a b) ∙ ap (λ z. z ++ b) e ∙ append_assoc front mid b ∙ ap (λ z. front ++ z) f ∙ sym (append_assoc front more kept)
+    sym (append_assoc held a b) ∙ ap (λ z. z ++ b) e ∙ append_assoc front mid b ∙ ap (λ z. front ++ z) f
+    ∙ sym (append_assoc front more kept)
 
 whole_behind : (held a b front mid : List ℕ) → held ++ a ≡ front ++ mid → front ++ (mid ++ b) ≡ held ++ (a ++ b)
 whole_behind held a b front mid e = sym (append_assoc front mid b) ∙ ap (λ z. z ++ b) (sym e) ∙ append_assoc held a b
@@ -27,19 +30,23 @@ module _ {Z : Type 0} where
   pub all_held : (out : Vec ℕ Z) (held bytes kept : List ℕ) → kept ≡ held ++ bytes → Passed out held bytes out kept
   all_held out held bytes kept e = record { front = []; parts = sym e; appended = nothing_appended out }
 
-  pub none_held : {old : Vec ℕ Z} {held : List ℕ} {new : Vec ℕ Z} (kept : List ℕ) → kept ≡ [] → Appended old held new → Passed old held [] new kept
+  pub none_held : {old : Vec ℕ Z} {held : List ℕ} {new : Vec ℕ Z} (kept : List ℕ) → kept ≡ [] → Appended old held new
+      → Passed old held [] new kept
   none_held {held = held} kept e a = record { front = held; parts = ap (λ z. held ++ z) (sym e); appended = a }
 
   -- more that is held behind the rest
-  pub held_more : {old : Vec ℕ Z} {held : List ℕ} {new : Vec ℕ Z} {mid : List ℕ} (bytes kept : List ℕ) → kept ≡ mid ++ bytes → Passed old held [] new mid → Passed old held bytes new kept
+  pub held_more : {old : Vec ℕ Z} {held : List ℕ} {new : Vec ℕ Z} {mid : List ℕ} (bytes kept : List ℕ)
+      → kept ≡ mid ++ bytes → Passed old held [] new mid → Passed old held bytes new kept
   held_more {held = held} {mid = mid} bytes kept e p = record {
     front = p.front;
-    parts = ap (λ z. z ++ bytes) (sym (append-nil held) ∙ p.parts) ∙ append_assoc p.front mid bytes ∙ ap (λ z. p.front ++ z) (sym e);
+    parts = ap (λ z. z ++ bytes) (sym (append-nil held) ∙ p.parts) ∙ append_assoc p.front mid bytes
+        ∙ ap (λ z. p.front ++ z) (sym e);
     appended = p.appended;
   }
 
   -- a code behind another
-  pub kept_behind : (a code : Coded) (old : Vec ℕ Z) (held : List ℕ) (mid : Vec ℕ Z) (kept : List ℕ) (new : Vec ℕ Z) (last : List ℕ) (r : Result ShiftState EncodeError) →
+  pub kept_behind : (a code : Coded) (old : Vec ℕ Z) (held : List ℕ) (mid : Vec ℕ Z) (kept : List ℕ) (new : Vec ℕ Z)
+      (last : List ℕ) (r : Result ShiftState EncodeError) →
       Passed old held a.bytes mid kept → Kept code mid kept new last r → Kept (behind a.bytes code) old held new last r
   kept_behind a code old held mid kept new last (Ok next) p q = (
     q.0,
@@ -51,33 +58,50 @@ module _ {Z : Type 0} where
     },
   )
   kept_behind a code old held mid kept new last (Err NoMemory) p q =
-      subst (λ z. Stopped old z new) (whole_behind held a.bytes code.bytes p.front kept p.parts) (behind_part p.appended q)
-  kept_behind a code old held mid kept new last (Err (Unencodable c)) p q =
-      (q.0, subst (λ z. Appended old z new) (whole_behind held a.bytes code.bytes p.front kept p.parts) (both p.appended q.1))
+      subst (λ z. Stopped old z new) (whole_behind held a.bytes code.bytes p.front kept p.parts)
+      (behind_part p.appended q)
+  kept_behind a code old held mid kept new last (Err (Unencodable c)) p q = (
+    q.0,
+    subst (λ z. Appended old z new) (whole_behind held a.bytes code.bytes p.front kept p.parts)
+        (both p.appended q.1),
+  )
 
   -- what was appended after all that was held
-  pub kept_given : (code : Coded) (old : Vec ℕ Z) (held : List ℕ) (mid new : Vec ℕ Z) (r : Result ShiftState EncodeError) →
+  pub kept_given : (code : Coded) (old : Vec ℕ Z) (held : List ℕ) (mid new : Vec ℕ Z)
+      (r : Result ShiftState EncodeError) →
       Appended old held mid → Gave code mid new r → Kept code old held new [] r
-  kept_given code old held mid new (Ok next) p q =
-      (q.0, q.1, record { front = held ++ code.bytes; parts = sym (append-nil (held ++ code.bytes)); appended = both p q.2 })
+  kept_given code old held mid new (Ok next) p q = (
+    q.0,
+    q.1,
+    record {
+      front = held ++ code.bytes;
+      parts = sym (append-nil (held ++ code.bytes));
+      appended = both p q.2;
+    },
+  )
   kept_given code old held mid new (Err NoMemory) p q = behind_part p q
   kept_given code old held mid new (Err (Unencodable c)) p q = (q.0, both p q.1)
 
 module _ (t : Tables) (e : EncoderState) {Z : Type 0} where
-  pub kept_then : (x y : List ℕ) (old : Vec ℕ Z) (mid : Vec ℕ Z) (kept : List ℕ) (new : Vec ℕ Z) (last : List ℕ) (s : ShiftState) (r : Result ShiftState EncodeError) →
-      Kept (code_from t e x) old [] mid kept (Ok s) → Kept (coded (encoder t e.to) e.mode (shift_of s) y) mid kept new last r → Kept (code_from t e (x ++ y)) old [] new last r
+  pub kept_then : (x y : List ℕ) (old : Vec ℕ Z) (mid : Vec ℕ Z) (kept : List ℕ) (new : Vec ℕ Z) (last : List ℕ)
+      (s : ShiftState) (r : Result ShiftState EncodeError) →
+      Kept (code_from t e x) old [] mid kept (Ok s) → Kept (coded (encoder t e.to) e.mode (shift_of s) y) mid kept new
+      last r → Kept (code_from t e (x ++ y)) old [] new last r
   kept_then x y old mid kept new last s r p q =
       let a = code_from t e x in
       rw (coded_both (encoder t e.to) (encoder_steady t e.to) e.mode e.shift x y p.0, ← p.1)
       (kept_behind a (coded (encoder t e.to) e.mode (shift_of s) y) old [] mid kept new last r p.2 q)
 
-pub kept_error : {Z : Type 0} (code : Coded) (old new : Vec ℕ Z) (kept : List ℕ) (d : EncodeError) → Kept code old [] new kept (Err d) → Gave code old new (Err d)
+pub kept_error : {Z : Type 0} (code : Coded) (old new : Vec ℕ Z) (kept : List ℕ) (d : EncodeError)
+    → Kept code old [] new kept (Err d) → Gave code old new (Err d)
 kept_error code old new kept NoMemory p = p
 kept_error code old new kept (Unencodable c) p = p
 
 -- the rest that is held is appended, or a part of it
-pub flushed : {Z : Type 0} (code : Coded) (old mid new : Vec ℕ Z) (kept : List ℕ) (s : ShiftState) → Kept code old [] mid kept (Ok s) → Appended mid kept new → Gave code old new (Ok s)
+pub flushed : {Z : Type 0} (code : Coded) (old mid new : Vec ℕ Z) (kept : List ℕ) (s : ShiftState)
+    → Kept code old [] mid kept (Ok s) → Appended mid kept new → Gave code old new (Ok s)
 flushed code old mid new kept s p q = (p.0, p.1, subst (λ z. Appended old z new) (sym p.2.parts) (both p.2.appended q))
 
-pub unflushed : {Z : Type 0} (code : Coded) (old mid new : Vec ℕ Z) (kept : List ℕ) (s : ShiftState) → Kept code old [] mid kept (Ok s) → Stopped mid kept new → Gave code old new (Err NoMemory)
+pub unflushed : {Z : Type 0} (code : Coded) (old mid new : Vec ℕ Z) (kept : List ℕ) (s : ShiftState)
+    → Kept code old [] mid kept (Ok s) → Stopped mid kept new → Gave code old new (Err NoMemory)
 unflushed code old mid new kept s p q = subst (λ z. Stopped old z new) (sym p.2.parts) (behind_part p.2.appended q)

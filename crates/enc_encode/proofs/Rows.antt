@@ -3,9 +3,11 @@ use Rattle.std.proofs.Common.{◌≡◌, [], ◌∷◌, refl, Some}
 use Rattle.std.specs.Fmt.{digits}
 use Rattle.enc_model.specs.declared.Mode.TheVariants.{Html, Fatal}
 use Rattle.enc_model.specs.Index.{Index, code, pointer_where}
-use Rattle.enc_model.specs.Encode.{InAscii, coded, coded_within, ended_coded, iso2022_encoder, shift_jis_encoder, single_encoder}
+use Rattle.enc_model.specs.Encode.{InAscii, coded, coded_within, ended_coded, iso2022_encoder, shift_jis_encoder}
+use Rattle.enc_model.specs.Encode.{single_encoder}
 
--- U+FF62 and U+FF61 where the katakana index has them the other way round and jis0208 has U+FF61 alone: the first is looked up in
+-- U+FF62 and U+FF61 where the katakana index has them the other way round and jis0208 has U+FF61 alone: the first is
+-- looked up in
 -- full width, the second is an error for what stands in its place
 abbrev turned : Index
 turned = (0, 0xFF62) ∷ (1, 0xFF61) ∷ []
@@ -30,6 +32,10 @@ excluded_range = refl
 latin : Index
 latin = (0, 0x20AC) ∷ (105, 0xE9) ∷ []
 
-refused_in_fatal_mode : coded (single_encoder latin) Fatal InAscii (0xE9 ∷ 0x3042 ∷ 0x41 ∷ []) ≡ record { bytes = 0xE9 ∷ []; state = InAscii; fault = Some 0x3042 }
+refused_in_fatal_mode : coded (single_encoder latin) Fatal InAscii (0xE9 ∷ 0x3042 ∷ 0x41 ∷ []) ≡ record {
+  bytes = 0xE9 ∷ [];
+  state = InAscii;
+  fault = Some 0x3042;
+}
 unfolding latin single_encoder coded coded_within pointer_where
 refused_in_fatal_mode = refl

@@ -1,5 +1,6 @@
 -- The codes of several characters, one behind the other.
-use Rattle.std.proofs.Common.{ℕ, ◌≡◌, List, [], ◌++◌, Vec, Result, Ok, Err, Option, Some, None, refl, sym, append-nil, arith}
+use Rattle.std.proofs.Common.{ℕ, ◌≡◌, List, [], ◌++◌, Vec, Result, Ok, Err, Option, Some, None, refl, sym, append-nil}
+use Rattle.std.proofs.Common.{arith}
 use Rattle.enc_model.specs.Encode.{Tables, Shift, Coded, coded, coded_within, joined, encoder}
 use Rattle.enc_model.proofs.Coding.{coded_append}
 use Rattle.enc_model.proofs.Steady.{encoder_steady}
@@ -19,19 +20,30 @@ module _ (t : Tables) (e : EncoderState) where
   unfolding coded coded_within
   coded_nothing = refl
 
-  pub gave_nothing : {Z : Type 0} (out : Vec ℕ Z) (s : ShiftState) → shift_of s ≡ e.shift → Gave (code_from t e []) out out (Ok s)
-  gave_nothing out s h = rw coded_nothing (refl, h, record { items = sym (append-nil out.items); capacity = omega arith })
+  pub gave_nothing : {Z : Type 0} (out : Vec ℕ Z) (s : ShiftState) → shift_of s ≡ e.shift
+      → Gave (code_from t e []) out out (Ok s)
+  gave_nothing out s h = rw coded_nothing (
+    refl,
+    h,
+    record {
+      items = sym (append-nil out.items);
+      capacity = omega arith;
+    },
+  )
 
   -- a part, and then more
-  pub gave_then : {Z : Type 0} (x y : List ℕ) (old mid new : Vec ℕ Z) (s : ShiftState) (r : Result ShiftState EncodeError) →
-      Gave (code_from t e x) old mid (Ok s) → Gave (code_from t (record e { shift = shift_of s }) y) mid new r → Gave (code_from t e (x ++ y)) old new r
+  pub gave_then : {Z : Type 0} (x y : List ℕ) (old mid new : Vec ℕ Z) (s : ShiftState)
+      (r : Result ShiftState EncodeError) →
+      Gave (code_from t e x) old mid (Ok s) → Gave (code_from t (record e { shift = shift_of s }) y) mid new r
+      → Gave (code_from t e (x ++ y)) old new r
   gave_then x y old mid new s r p q =
       let f = encoder t e.to in
       let a = code_from t e x in
       rw (coded_both f (encoder_steady t e.to) e.mode e.shift x y p.0, ← p.1)
       (gave_behind a.bytes (coded f e.mode (shift_of s) y) new r p.2 q)
 
-  stopped_more : {Z : Type 0} (old new : Vec ℕ Z) (r : Coded) (m : Shift → Coded) → Stopped old r.bytes new → Stopped old (joined r m).bytes new
+  stopped_more : {Z : Type 0} (old new : Vec ℕ Z) (r : Coded) (m : Shift → Coded) → Stopped old r.bytes new
+      → Stopped old (joined r m).bytes new
   stopped_more old new r m p = go r.fault refl
     where
       go : (z : Option ℕ) → r.fault ≡ z → Stopped old (joined r m).bytes new
@@ -44,16 +56,31 @@ module _ (t : Tables) (e : EncoderState) where
   gave_stop x y old new NoMemory p =
       rw (coded_append (encoder t e.to) (encoder_steady t e.to) e.mode e.shift x y)
       (stopped_more old new (code_from t e x) (λ next. coded (encoder t e.to) e.mode next y) p)
-  gave_stop x y old new (Unencodable c) p = rw (coded_fault (encoder t e.to) (encoder_steady t e.to) e.mode e.shift x y c p.0) p
+  gave_stop x y old new (Unencodable c) p =
+      rw (coded_fault (encoder t e.to) (encoder_steady t e.to) e.mode e.shift x y c p.0) p
 
   -- an error is a refusal
-  pub gave_refused : {Z : Type 0} (x : List ℕ) (old new : Vec ℕ Z) (d : EncodeError) → Gave (code_from t e x) old new (Err d) →
+  pub gave_refused : {Z : Type 0} (x : List ℕ) (old new : Vec ℕ Z) (d : EncodeError)
+      → Gave (code_from t e x) old new (Err d) →
       Refused (encoder t e.to) e.mode (coder e old.items) x (reason_of d) (coder e new.items)
-  gave_refused x old new NoMemory p = record { front = p.items.front; rest = p.items.rest; parts = p.items.parts; out = p.items.out; reason = tt }
+  gave_refused x old new NoMemory p = record {
+    front = p.items.front;
+    rest = p.items.rest;
+    parts = p.items.parts;
+    out = p.items.out;
+    reason = tt;
+  }
   gave_refused x old new (Unencodable c) p =
-      record { front = (code_from t e x).bytes; rest = []; parts = sym (append-nil (code_from t e x).bytes); out = p.1.items; reason = p.0 }
+      record {
+        front = (code_from t e x).bytes;
+        rest = [];
+        parts = sym (append-nil (code_from t e x).bytes);
+        out = p.1.items;
+        reason = p.0;
+      }
 
-  pub gave_explains : {Z : Type 0} (X : Type 0) (x : List ℕ) (old new : Vec ℕ Z) (d : EncodeError) → Gave (code_from t e x) old new (Err d) →
+  pub gave_explains : {Z : Type 0} (X : Type 0) (x : List ℕ) (old new : Vec ℕ Z) (d : EncodeError)
+      → Gave (code_from t e x) old new (Err d) →
       Explains {X = X} (code_from t e x) old new (Err d)
   gave_explains X x old new NoMemory p = p.full
   gave_explains X x old new (Unencodable c) p = p.1.items

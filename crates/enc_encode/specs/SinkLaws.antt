@@ -1,5 +1,6 @@
 -- An encoder that writes to a vector is a sink.
-use Rattle.std.proofs.Common.{ℕ, ◌≡◌, ◌≤◌, List, ◌++◌, Option, Some, None, refl, ◌∙◌, ap, subst, arith, length, length-append, Vec, vec_capacity}
+use Rattle.std.proofs.Common.{ℕ, ◌≡◌, ◌≤◌, List, ◌++◌, Option, Some, None, refl, ◌∙◌, ap, subst, arith, length}
+use Rattle.std.proofs.Common.{length-append, Vec, vec_capacity}
 use Rattle.std.specs.declared.alloc.Global.{Global}
 use Rattle.enc_model.specs.Sink.{IsSink}
 use Rattle.enc_model.specs.Encode.{Shift, Coded, encoder, joined}
@@ -17,9 +18,11 @@ use Rattle.enc_encode.specs.Sinks.{SinkState, Setting, setting_of, coder_of, cod
 room_front : (old : Vec ℕ Global) (x y : List ℕ) → NoRoom old x → NoRoom old (x ++ y)
 room_front old x y h = let l = length-append x y in omega (arith, l, h)
 
-room_behind : (old mid : Vec ℕ Global) (x y : List ℕ) → mid.items ≡ old.items ++ x → vec_capacity old ≤ vec_capacity mid → NoRoom mid y → NoRoom old (x ++ y)
+room_behind : (old mid : Vec ℕ Global) (x y : List ℕ) → mid.items ≡ old.items ++ x → vec_capacity old ≤ vec_capacity mid
+    → NoRoom mid y → NoRoom old (x ++ y)
 room_behind old mid x y e c h =
-    let l = length-append x y in let m = length-append old.items x in let i : length mid.items ≡ length (old.items ++ x) = ap length e in
+    let l = length-append x y in let m =
+    length-append old.items x in let i : length mid.items ≡ length (old.items ++ x) = ap length e in
     omega (arith, l, m, i, c, h)
 
 room_joined : (old : Vec ℕ Global) (r : Coded) (m : Shift → Coded) → NoRoom old r.bytes → NoRoom old (joined r m).bytes
@@ -35,15 +38,21 @@ TookBy g a text b = Took (encoder (tables g.set) g.to) g.mode (coder_of a) text 
 abbrev RefusedBy : Setting → SinkState → List ℕ → EncodeError → SinkState → Type 0
 RefusedBy g a text e b = Refused (encoder (tables g.set) g.to) g.mode (coder_of a) text (reason_of e) (coder_of b)
 
-abbrev laws : (g : Setting) → IsSink (Took (encoder (tables g.set) g.to) g.mode) (Refused (encoder (tables g.set) g.to) g.mode)
+abbrev laws : (g : Setting) → IsSink (Took (encoder (tables g.set) g.to) g.mode)
+    (Refused (encoder (tables g.set) g.to) g.mode)
 laws g = coder_sink (encoder (tables g.set) g.to) (encoder_steady (tables g.set) g.to) g.mode
 
-later_memory : (a b : SinkState) (x y : List ℕ) (e : EncodeError) → SinkTook a x b → (e ≡ NoMemory → NoRoom b.out (code_in (setting_of a) b.encoder.shift y).bytes) →
+later_memory : (a b : SinkState) (x y : List ℕ) (e : EncodeError) → SinkTook a x b
+    → (e ≡ NoMemory → NoRoom b.out (code_in (setting_of a) b.encoder.shift y).bytes) →
     e ≡ NoMemory → NoRoom a.out (code_in (setting_of a) a.encoder.shift (x ++ y)).bytes
 later_memory a b x y e p q h =
     let g = setting_of a in
     let r = code_in g a.encoder.shift x in
-    rw (coded_both (encoder (tables g.set) g.to) (encoder_steady (tables g.set) g.to) g.mode a.encoder.shift x y p.took.fault, ← p.took.state)
+    rw (
+      coded_both (encoder (tables g.set) g.to) (encoder_steady (tables g.set) g.to) g.mode a.encoder.shift x y
+          p.took.fault,
+      ← p.took.state,
+    )
     (room_behind a.out b.out r.bytes (code_in g b.encoder.shift y).bytes p.took.out p.capacity (q h))
 
 pub encoder_sink : IsSink SinkTook SinkRefused
@@ -51,18 +60,22 @@ encoder_sink = record {
   none = λ a. record { setting = refl; took = (laws (setting_of a)).none (coder_of a); capacity = omega arith };
   both = λ a b c x y p q. record {
     setting = q.setting ∙ p.setting;
-    took = (laws (setting_of a)).both (coder_of a) (coder_of b) (coder_of c) x y p.took (subst (λ g. TookBy g b y c) p.setting q.took);
+    took = (laws (setting_of a)).both (coder_of a) (coder_of b) (coder_of c) x y p.took
+        (subst (λ g. TookBy g b y c) p.setting q.took);
     capacity = let h = p.capacity in let i = q.capacity in omega (arith, h, i);
   };
   later = λ a b c x y e p q. record {
     setting = q.setting ∙ p.setting;
-    refused = (laws (setting_of a)).later (coder_of a) (coder_of b) (coder_of c) x y (reason_of e) p.took (subst (λ g. RefusedBy g b y e c) p.setting q.refused);
-    memory = later_memory a b x y e p (subst (λ g. e ≡ NoMemory → NoRoom b.out (code_in g b.encoder.shift y).bytes) p.setting q.memory);
+    refused = (laws (setting_of a)).later (coder_of a) (coder_of b) (coder_of c) x y (reason_of e) p.took
+        (subst (λ g. RefusedBy g b y e c) p.setting q.refused);
+    memory = later_memory a b x y e p
+        (subst (λ g. e ≡ NoMemory → NoRoom b.out (code_in g b.encoder.shift y).bytes) p.setting q.memory);
   };
   more = λ a b x y e p. record {
     setting = p.setting;
     refused = (laws (setting_of a)).more (coder_of a) (coder_of b) x y (reason_of e) p.refused;
-    memory = λ h. let g = setting_of a in rw (coded_append (encoder (tables g.set) g.to) (encoder_steady (tables g.set) g.to) g.mode a.encoder.shift x y)
+    memory = λ h. let g = setting_of a in rw
+        (coded_append (encoder (tables g.set) g.to) (encoder_steady (tables g.set) g.to) g.mode a.encoder.shift x y)
         (room_joined a.out (code_in g a.encoder.shift x) (λ next. code_in g next y) (p.memory h));
   };
 }

@@ -41,5 +41,6 @@ pub record SinkTook (a : SinkState) (text : List ℕ) (b : SinkState) : Type 0 w
 -- it wrote a part of the code's front, for want of memory where there was no room for the code
 pub record SinkRefused (a : SinkState) (text : List ℕ) (why : EncodeError) (b : SinkState) : Type 0 where
   pub setting : setting_of b ≡ setting_of a
-  pub refused : Refused (encoder (tables a.set) a.encoder.to) a.encoder.mode (coder_of a) text (reason_of why) (coder_of b)
+  pub refused : Refused (encoder (tables a.set) a.encoder.to) a.encoder.mode (coder_of a) text (reason_of why)
+      (coder_of b)
   pub memory : why ≡ NoMemory → NoRoom a.out (code_in (setting_of a) a.encoder.shift text).bytes

@@ -1,6 +1,7 @@
 //! Bytes that are gathered before they are appended.
 
-ghost use Rattle.std.specs.Prelude.{◌≡◌, ◌<◌, ◌≤◌, ◌+◌, ◌++◌, [], ℕ, OnOk, OnErr, IfSome, MatchResult, length, option_copied, take, unwrap_or};
+ghost use Rattle.std.specs.Prelude.{◌≡◌, ◌<◌, ◌≤◌, ◌+◌, ◌++◌, [], ℕ, OnOk, OnErr, IfSome, MatchResult, length};
+ghost use Rattle.std.specs.Prelude.{option_copied, take, unwrap_or};
 ghost use Rattle.enc_encode.specs.Code.{bytes_of};
 ghost use Rattle.enc_encode.specs.Growth.{Appended, Stopped};
 ghost use Rattle.enc_encode.specs.Held.{Passed};
@@ -35,7 +36,8 @@ impl Model for Buffer {
     ghost invariant = { λ b. b.len ≤ 512 };
 }
 
-/// The byte of a text's first character, if it is outside ASCII and a single-byte encoding has it, and the rest of the text.
+/// The byte of a text's first character, if it is outside ASCII and a single-byte encoding has it, and the rest of the
+/// text.
 #[inline(always)]
 fn first_single<'a>(pointers: &Pointers, text: &'a str) -> Option<(u8, &'a str)>
     requires { FewPointers pointers.now }
@@ -99,7 +101,8 @@ impl Buffer {
         Ok(())
     }
 
-    /// Puts the first so many bytes of some lanes behind the others. All lanes are stored, so that nothing depends on how many.
+    /// Puts the first so many bytes of some lanes behind the others. All lanes are stored, so that nothing depends on
+    /// how many.
     #[inline(always)]
     pub fn push_front(&mut self, lanes: [u8; LANES], count: usize)
         requires few { count ≤ LANES }
@@ -111,8 +114,10 @@ impl Buffer {
         self.len += count;
     }
 
-    /// Puts the bytes of characters outside ASCII at a text's front behind the others: as many as a single-byte encoding has one
-    /// after the other, and as there is room for. Gives the rest of the text. The length is a local of the loop, which a register
+    /// Puts the bytes of characters outside ASCII at a text's front behind the others: as many as a single-byte
+    /// encoding has one
+    /// after the other, and as there is room for. Gives the rest of the text. The length is a local of the loop, which
+    /// a register
     /// can hold.
     #[inline(always)]
     pub fn push_singles<'a>(&mut self, pointers: Option<&Pointers>, text: &'a str) -> &'a str

@@ -1,8 +1,10 @@
 //! The encoder.
 
-ghost use Rattle.std.specs.Prelude.{◌≡◌, ◌⊎◌, ◌<◌, ◌≤◌, ◌++◌, ◌∷◌, [], ℕ, List, Ok, Err, vec_capacity, length, OnOk, OnErr, IfOk, IfErr, IfSome, IsOk, All, option_copied, unwrap_or};
+ghost use Rattle.std.specs.Prelude.{◌≡◌, ◌⊎◌, ◌<◌, ◌≤◌, ◌++◌, ◌∷◌, [], ℕ, List, Ok, Err, vec_capacity, length, OnOk};
+ghost use Rattle.std.specs.Prelude.{OnErr, IfOk, IfErr, IfSome, IsOk, All, option_copied, unwrap_or};
 ghost use Rattle.std.specs.Str.{chars};
-ghost use Rattle.enc_encode.specs.State.{EncoderState, shift_of, code_of_shift, code_of_shift_of, shifted, coder, code_from};
+ghost use Rattle.enc_encode.specs.State.{EncoderState, shift_of, code_of_shift, code_of_shift_of, shifted, coder};
+ghost use Rattle.enc_encode.specs.State.{code_from};
 ghost use Rattle.enc_encode.specs.Growth.{NoRoom};
 ghost use Rattle.enc_encode.specs.Held.{Kept, HeldFront, IsOwnFront};
 ghost use Rattle.enc_encode.specs.Reasons.{Gave, Explains, reason_of};
@@ -104,7 +106,8 @@ impl Encoder {
         c: char,
         out: &mut Vec<u8>,
     ) -> Result<ShiftState, EncodeError>
-        ensures { Gave (coded (encoder (tables set.now) self.now.to) self.now.mode (shift_of shift) (c ∷ [])) out.old out.new result }
+        ensures { Gave (coded (encoder (tables set.now) self.now.to) self.now.mode (shift_of shift) (c ∷ [])) out.old
+            out.new result }
     {
         match written(set, self.to, shift, c) {
             Written::Again(bytes, next) => {
@@ -120,8 +123,10 @@ impl Encoder {
     /// # Errors
     ///
     /// `Unencodable(d)` in fatal mode, where the encoding lacks the character; `d` is the character itself, or what the
-    /// encoder put in its place (U+FF0D for U+2212, a full-width katakana for a half-width one, U+FFFD for 0E, 0F and 1B
-    /// in ISO-2022-JP). `NoMemory` if `out` could not grow. The encoder is then as it was, and `out` has grown by a prefix
+    /// encoder put in its place (U+FF0D for U+2212, a full-width katakana for a half-width one, U+FFFD for 0E, 0F and
+    /// 1B
+    /// in ISO-2022-JP). `NoMemory` if `out` could not grow. The encoder is then as it was, and `out` has grown by a
+    /// prefix
     /// of what was to come.
     pub fn put(&mut self, set: &IndexSet, c: char, out: &mut Vec<u8>) -> Result<(), EncodeError>
         ensures given { let f = encoder (tables set.now) self.old.to in
@@ -145,7 +150,8 @@ impl Encoder {
     ) -> Result<ShiftState, EncodeError>
         requires to { self.now.to ≡ Encoding.Iso2022Jp }
         requires ascii { b < 128 }
-        ensures { (t : Tables) → Gave (coded (encoder t self.now.to) self.now.mode (shift_of shift) (b ∷ [])) out.old out.new result }
+        ensures { (t : Tables) → Gave (coded (encoder t self.now.to) self.now.mode (shift_of shift) (b ∷ [])) out.old
+            out.new result }
     {
         match iso2022_ascii(shift, b) {
             Written::Again(bytes, next) => {
@@ -214,7 +220,8 @@ impl Encoder {
         out: &mut Vec<u8>,
     ) -> Result<ShiftState, EncodeError>
         requires { to ≡ self.now.to }
-        ensures { Kept (coded (encoder (tables set.now) self.now.to) self.now.mode (shift_of shift) (c ∷ [])) out.old held.old out.new held.new result }
+        ensures { Kept (coded (encoder (tables set.now) self.now.to) self.now.mode (shift_of shift) (c ∷ [])) out.old
+            held.old out.new held.new result }
     {
         if let Written::Wrote(bytes, next) = written(set, to, shift, c) {
             held.make_room(out)?;
@@ -225,7 +232,8 @@ impl Encoder {
         self.encode(set, shift, c, out)
     }
 
-    /// Puts the code of a text's front behind bytes that are held, or appends both: of ASCII in lanes, or else of one character.
+    /// Puts the code of a text's front behind bytes that are held, or appends both: of ASCII in lanes, or else of one
+    /// character.
     /// Gives the state that it leads to, and the rest of the text.
     #[inline(always)]
     fn hold_front<'a>(
@@ -240,8 +248,11 @@ impl Encoder {
         requires same { to ≡ self.now.to }
         requires some { 0 < length text.now }
         ensures shorter { IfOk result (λ r. length r.1.now < length text.now) }
-        ensures ok { IfOk result (λ r. HeldFront (code_from (tables set.now) (shifted self.now (shift_of shift))) text.now r.1.now out.old held.old out.new held.new (Ok r.0)) }
-        ensures err { IfErr result (λ e. (rest : List ℕ) × HeldFront (code_from (tables set.now) (shifted self.now (shift_of shift))) text.now rest out.old held.old out.new held.new (Err e)) }
+        ensures ok { IfOk result (λ r. HeldFront (code_from (tables set.now) (shifted self.now (shift_of shift)))
+            text.now r.1.now out.old held.old out.new held.new (Ok r.0)) }
+        ensures err { IfErr result
+            (λ e. (rest : List ℕ) × HeldFront (code_from (tables set.now) (shifted self.now (shift_of shift))) text.now rest
+            out.old held.old out.new held.new (Err e)) }
     {
         if let Some((lanes, front)) = own_front(to, text) {
             held.make_room(out)?;
@@ -258,7 +269,8 @@ impl Encoder {
         }
     }
 
-    /// Appends the codes of a text's characters, and gives the state that they lead to. For a single-byte encoding the table of its
+    /// Appends the codes of a text's characters, and gives the state that they lead to. For a single-byte encoding the
+    /// table of its
     /// pointers is given, so that it is found once a text.
     #[inline(always)]
     fn encode_chars(
@@ -365,7 +377,8 @@ impl Encoder {
     ///
     /// `AllocError` if `out` could not grow; all is then as it was. In the state `Ascii` it takes no memory.
     pub fn finish(&mut self, out: &mut Vec<u8>) -> Result<(), AllocError>
-        ensures ok { OnOk result ((out.new.items ≡ out.old.items ++ encoder_end self.old.shift) × (self.new ≡ shifted self.old InAscii)) }
+        ensures ok { OnOk result ((out.new.items ≡ out.old.items ++ encoder_end self.old.shift) × (self.new ≡ shifted
+            self.old InAscii)) }
         ensures err { OnErr result ((out.new.items ≡ out.old.items) × (self.new ≡ self.old)) }
         ensures memory { OnErr result (NoRoom out.old (encoder_end self.old.shift)) }
         ensures ascii { self.old.shift ≡ InAscii → IsOk result × (out.new ≡ out.old) }

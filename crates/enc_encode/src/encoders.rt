@@ -3,7 +3,8 @@
 ghost use Rattle.std.specs.Prelude.{◌≡◌, ◌<◌, IfSome};
 ghost use Rattle.enc_encode.specs.Code.{written_of, bytes_of};
 ghost use Rattle.enc_encode.specs.State.{shift_of};
-ghost use Rattle.enc_model.specs.Encode.{utf8_bytes, minus, shift_jis_pointer, below_8836, encoder, single_encoder, shift_jis_encoder, euc_jp_encoder};
+ghost use Rattle.enc_model.specs.Encode.{utf8_bytes, minus, shift_jis_pointer, below_8836, encoder, single_encoder};
+ghost use Rattle.enc_model.specs.Encode.{shift_jis_encoder, euc_jp_encoder};
 ghost use Rattle.enc_model.specs.Index.{pointer};
 ghost use Rattle.enc_model.specs.Indexes.{tables};
 

@@ -57,7 +57,8 @@ fn double_byte(set: &IndexSet, shift: ShiftState, c: char) -> Written
 /// A character that is looked up in jis0208, half-width katakana in full width.
 #[inline(always)]
 fn looked_up(set: &IndexSet, shift: ShiftState, c: char) -> Written
-    ensures { written_of result ≡ iso2022_wide (tables set.now).jis0208 (shift_of shift) (minus c) (widened (tables set.now).katakana (minus c)) }
+    ensures { written_of result ≡ iso2022_wide (tables set.now).jis0208 (shift_of shift) (minus c)
+        (widened (tables set.now).katakana (minus c)) }
 {
     let c = without_minus(c);
     match widened(set, c) {

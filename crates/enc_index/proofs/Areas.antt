@@ -1,5 +1,8 @@
 -- What an area says, against the set that wrote it.
-use Rattle.std.proofs.Common.{◌≡◌, ℕ, zero, suc, ◌+◌, ◌-◌, ◌*◌, ◌/◌, ◌%◌, ◌^◌, ◌<◌, ◌≤◌, Bool, true, false, cond, ◌&&◌, List, [], ◌∷◌, ◌++◌, length, Option, Some, None, refl, sym, ◌∙◌, ap, arith, slice_index, slice_index_or, IfSome, unwrap_or, SomeIff, MatchOption, nat_lt, nat_le, ◌==◌, inl, inr, lit<, lit≤, subst}
+use Rattle.std.proofs.Common.{◌≡◌, ℕ, zero, suc, ◌+◌, ◌-◌, ◌*◌, ◌/◌, ◌%◌, ◌^◌, ◌<◌, ◌≤◌, Bool, true, false, cond, ◌&&◌}
+use Rattle.std.proofs.Common.{List, [], ◌∷◌, ◌++◌, length, Option, Some, None, refl, sym, ◌∙◌, ap, arith, slice_index}
+use Rattle.std.proofs.Common.{slice_index_or, IfSome, unwrap_or, SomeIff, MatchOption, nat_lt, nat_le, ◌==◌, inl, inr}
+use Rattle.std.proofs.Common.{lit<, lit≤, subst}
 use Rattle.std.proofs.lemmas.Bool.Decides.{nat_tests}
 use Rattle.std.proofs.lemmas.Bool.{cases_lt, leb-true, ltb-true}
 use Rattle.std.proofs.lemmas.List.{get_or_past}
@@ -13,19 +16,23 @@ use Rattle.enc_index.specs.Sets.{IsIndex, IsIndexSet}
 use Rattle.enc_index.proofs.Lookups.{code_of_none}
 use Rattle.enc_index.proofs.Reading.{none}
 use Rattle.std.specs.Int.{to_be_bytes, w32}
-use Rattle.enc_index.specs.Area.{nth_file, flag, spot_of, entry_of, entry_at, area_byte, IsAreaOf, word_of, scalar_of, IsFileIn}
+use Rattle.enc_index.specs.Area.{nth_file, flag, spot_of, entry_of, entry_at, area_byte, IsAreaOf, word_of, scalar_of}
+use Rattle.enc_index.specs.Area.{IsFileIn}
 
-pub from_scalar : (word : ℕ) (r : Option ℕ) → SomeIff r (IsScalar word) word → MatchOption r (OutOfScalarRange word) (λ _. InScalarRange word) → r ≡ scalar_of word
+pub from_scalar : (word : ℕ) (r : Option ℕ) → SomeIff r (IsScalar word) word
+    → MatchOption r (OutOfScalarRange word) (λ _. InScalarRange word) → r ≡ scalar_of word
 from_scalar word None v h = let none : is_scalar word ≡ false = grind (arith, nat_tests, h) in rw none refl
 from_scalar word (Some c) v h = let one : is_scalar word ≡ true = grind (arith, nat_tests, h) in rw one (ap Some v.1)
 
 -- CODE POINTS
 
-scalar_of_scalar : (word : ℕ) (b : Bool) → is_scalar word ≡ b → IfSome (cond b (Some word) (none)) (λ c. is_scalar c ≡ true)
+scalar_of_scalar : (word : ℕ) (b : Bool) → is_scalar word ≡ b → IfSome (cond b (Some word) (none))
+    (λ c. is_scalar c ≡ true)
 scalar_of_scalar word true e = e
 scalar_of_scalar word false e = tt
 
-pub codes_scalar : (codes : List (Option ℕ)) (n : ℕ) (word : ℕ → ℕ) → length codes ≡ n → ((k : ℕ) → k < n → slice_index_or codes k None ≡ scalar_of (word k)) → AreScalars codes
+pub codes_scalar : (codes : List (Option ℕ)) (n : ℕ) (word : ℕ → ℕ) → length codes ≡ n
+    → ((k : ℕ) → k < n → slice_index_or codes k None ≡ scalar_of (word k)) → AreScalars codes
 codes_scalar codes n word e h k =
     elim (cases_lt k (length codes)) [
       | inl l ↦ rw (h k (omega arith)) (scalar_of_scalar (word k) (is_scalar (word k)) refl)
@@ -42,15 +49,23 @@ record Ascending (low bound : ℕ) (pair : ℕ × ℕ) (index : Index) : Type 0 
   scalar : is_scalar pair.1 ≡ true
   rest : ascends (suc pair.0) bound index ≡ true
 
-ascending : (low bound : ℕ) (pair : ℕ × ℕ) (index : Index) → ascends low bound (pair ∷ index) ≡ true → Ascending low bound pair index
+ascending : (low bound : ℕ) (pair : ℕ × ℕ) (index : Index) → ascends low bound (pair ∷ index) ≡ true
+    → Ascending low bound pair index
 unfolding ascends
 ascending low bound pair index a =
-    let outer = both_true ((nat_le low pair.0 && nat_lt pair.0 bound) && is_scalar pair.1) (ascends (suc pair.0) bound index) a in
+    let outer = both_true ((nat_le low pair.0 && nat_lt pair.0 bound) && is_scalar pair.1)
+    (ascends (suc pair.0) bound index) a in
     let middle = both_true (nat_le low pair.0 && nat_lt pair.0 bound) (is_scalar pair.1) outer.0 in
     let inner = both_true (nat_le low pair.0) (nat_lt pair.0 bound) middle.0 in
-    record { from = leb-true low pair.0 inner.0; below = ltb-true pair.0 bound inner.1; scalar = middle.1; rest = outer.1 }
+    record {
+      from = leb-true low pair.0 inner.0;
+      below = ltb-true pair.0 bound inner.1;
+      scalar = middle.1;
+      rest = outer.1;
+    }
 
-code_scalar : (low bound : ℕ) (index : Index) (p c : ℕ) → ascends low bound index ≡ true → code index p ≡ Some c → is_scalar c ≡ true
+code_scalar : (low bound : ℕ) (index : Index) (p c : ℕ) → ascends low bound index ≡ true → code index p ≡ Some c
+    → is_scalar c ≡ true
 unfolding code
 code_scalar low bound [] p c a e = absurd cc
 code_scalar low bound (pair ∷ index) p c a e =
@@ -73,11 +88,13 @@ none_below low bound (pair ∷ index) p a l =
     let rest = none_below (suc pair.0) bound index p parts.rest (omega arith) in
     grind (arith, nat_tests, rest, from)
 
-entry_scalar : (index : Index) (pointers p : ℕ) (o : Option ℕ) → IsIndex pointers index → code index p ≡ o → scalar_of (unwrap_or o 0xFFFFFFFF) ≡ o
+entry_scalar : (index : Index) (pointers p : ℕ) (o : Option ℕ) → IsIndex pointers index → code index p ≡ o
+    → scalar_of (unwrap_or o 0xFFFFFFFF) ≡ o
 entry_scalar index pointers p None v e = refl
 entry_scalar index pointers p (Some c) v e = rw (code_scalar 0 pointers index p c v e) refl
 
-skip_one : (q bound : ℕ) (index : Index) → ascends q bound index ≡ true → code index q ≡ None → ascends (suc q) bound index ≡ true
+skip_one : (q bound : ℕ) (index : Index) → ascends q bound index ≡ true → code index q ≡ None
+    → ascends (suc q) bound index ≡ true
 unfolding ascends code
 skip_one q bound [] a e = refl
 skip_one q bound (pair ∷ index) a e =
@@ -86,28 +103,36 @@ skip_one q bound (pair ∷ index) a e =
     let below = parts.below in
     let scalar = parts.scalar in
     let rest = parts.rest in
-    elim (cases_lt q pair.0) [ inl l ↦ grind (arith, nat_tests, l, below, scalar, rest) | inr g ↦ (let same : q ≡ pair.0 = omega arith in absurd (grind (arith, nat_tests, same, e))) ]
+    elim (cases_lt q pair.0) [
+      | inl l ↦ grind (arith, nat_tests, l, below, scalar, rest)
+      | inr g ↦
+          (let same : q ≡ pair.0 = omega arith in absurd (grind (arith, nat_tests, same, e)))
+    ]
 
 pair_is : (pair : ℕ × ℕ) (q c : ℕ) → pair.0 ≡ q → pair.1 ≡ c → (q, c) ≡ pair
 pair_is pair q c e d = ap (λ x. (x, c)) (sym e) ∙ ap (λ y. (pair.0, y)) (sym d)
 
 -- the head of an index that has a code point at the least pointer
-first_is : (q bound c : ℕ) (pair : ℕ × ℕ) (index : Index) → ascends q bound (pair ∷ index) ≡ true → Some c ≡ code (pair ∷ index) q → (pair.0 ≡ q) × (pair.1 ≡ c)
+first_is : (q bound c : ℕ) (pair : ℕ × ℕ) (index : Index) → ascends q bound (pair ∷ index) ≡ true
+    → Some c ≡ code (pair ∷ index) q → (pair.0 ≡ q) × (pair.1 ≡ c)
 unfolding code
 first_is q bound c pair index a e =
     let parts = ascending q bound pair index a in
     let from = parts.from in
     elim (cases_lt q pair.0) [
-      | inl l ↦ (let none = none_below (suc pair.0) bound index q parts.rest (omega arith) in absurd (grind (arith, nat_tests, l, none, e)))
+      | inl l ↦ (let none = none_below (suc pair.0) bound index q parts.rest (omega arith) in absurd
+          (grind (arith, nat_tests, l, none, e)))
       | inr g ↦ (let same : pair.0 ≡ q = omega arith in (same, grind (arith, nat_tests, same, e)))
     ]
 
-behind_first : (q k : ℕ) (pair : ℕ × ℕ) (index : Index) → pair.0 ≡ q → code (pair ∷ index) (q + suc k) ≡ code index (suc q + k)
+behind_first : (q k : ℕ) (pair : ℕ × ℕ) (index : Index) → pair.0 ≡ q → code (pair ∷ index) (q + suc k) ≡ code index
+    (suc q + k)
 unfolding code
 behind_first q k pair index e = let same : q + suc k ≡ suc q + k = omega arith in rw same (grind (arith, nat_tests, e))
 
 -- the pairs of a table that has an index's code points
-dense : (q bound : ℕ) (entries : List (Option ℕ)) (index : Index) → bound ≡ q + length entries → ascends q bound index ≡ true →
+dense : (q bound : ℕ) (entries : List (Option ℕ)) (index : Index) → bound ≡ q + length entries
+    → ascends q bound index ≡ true →
     ((k : ℕ) → k < length entries → slice_index_or entries k None ≡ code index (q + k)) → pairs_from q entries ≡ index
 unfolding pairs_from
 dense q bound [] [] e a h = refl
@@ -118,36 +143,46 @@ dense q bound [] (pair ∷ index) e a h =
     absurd (omega arith)
 dense q bound (None ∷ entries) index e a h =
     let here : code index q ≡ None = ap (code index) (omega arith) ∙ sym (h zero (omega arith)) in
-    dense (suc q) bound entries index (omega arith) (skip_one q bound index a here) (λ k l. h (suc k) (omega arith) ∙ ap (code index) (omega arith))
+    dense (suc q) bound entries index (omega arith) (skip_one q bound index a here)
+    (λ k l. h (suc k) (omega arith) ∙ ap (code index) (omega arith))
 dense q bound (Some c ∷ entries) [] e a h = absurd (some_of_none c (q + 0) (h zero (omega arith)))
 dense q bound (Some c ∷ entries) (pair ∷ index) e a h =
     let here : Some c ≡ code (pair ∷ index) q = h zero (omega arith) ∙ ap (code (pair ∷ index)) (omega arith) in
     let first = first_is q bound c pair index a here in
     let parts = ascending q bound pair index a in
     let tail : ascends (suc q) bound index ≡ true = rw (← first.0) parts.rest in
-    let rest = dense (suc q) bound entries index (omega arith) tail (λ k l. h (suc k) (omega arith) ∙ behind_first q k pair index first.0) in
+    let rest = dense (suc q) bound entries index (omega arith) tail
+    (λ k l. h (suc k) (omega arith) ∙ behind_first q k pair index first.0) in
     ap (λ ps. (q, c) ∷ ps) rest ∙ ap (λ p. p ∷ index) (pair_is pair q c first.0 first.1)
 
 -- a file's table that was read from an area
-pub file_given : (area : List ℕ) (file start pointers : ℕ) (index : Index) (codes : List (Option ℕ)) → IsFileIn area file start pointers (Some index) → length codes ≡ pointers →
-    ((k : ℕ) → k < pointers → slice_index_or codes k None ≡ scalar_of (word_of area (start + k))) → pairs_from 0 codes ≡ index
+pub file_given : (area : List ℕ) (file start pointers : ℕ) (index : Index) (codes : List (Option ℕ))
+    → IsFileIn area file start pointers (Some index) → length codes ≡ pointers →
+    ((k : ℕ) → k < pointers → slice_index_or codes k None ≡ scalar_of (word_of area (start + k)))
+    → pairs_from 0 codes ≡ index
 file_given area file start pointers index codes f e h =
     dense 0 pointers codes index (omega arith) f.valid (λ k l.
     let inside : k < pointers = omega arith in
-    h k inside ∙ ap scalar_of (f.words k inside) ∙ entry_scalar index pointers k (code index k) f.valid refl ∙ ap (code index) (omega arith))
+    h k inside ∙ ap scalar_of (f.words k inside) ∙ entry_scalar index pointers k (code index k) f.valid refl
+    ∙ ap (code index) (omega arith))
 
 -- a file that was not set has another flag
-pub not_flagged : (area : List ℕ) (file start pointers : ℕ) → IsFileIn area file start pointers None → slice_index area file ≡ 1 → ⊥
+pub not_flagged : (area : List ℕ) (file start pointers : ℕ) → IsFileIn area file start pointers None
+    → slice_index area file ≡ 1 → ⊥
 not_flagged area file start pointers f e = let zero_flag = f.flagged in omega arith
 
-pub file_back : (area : List ℕ) (file start pointers : ℕ) (codes : List (Option ℕ)) (table : Index) (index : Option Index) → slice_index area file ≡ 1 → table ≡ pairs_from 0 codes → length codes ≡ pointers →
-    ((k : ℕ) → k < pointers → slice_index_or codes k None ≡ scalar_of (word_of area (start + k))) → IsFileIn area file start pointers index → Some table ≡ index
+pub file_back : (area : List ℕ) (file start pointers : ℕ) (codes : List (Option ℕ)) (table : Index)
+    (index : Option Index) → slice_index area file ≡ 1 → table ≡ pairs_from 0 codes → length codes ≡ pointers →
+    ((k : ℕ) → k < pointers → slice_index_or codes k None ≡ scalar_of (word_of area (start + k)))
+    → IsFileIn area file start pointers index → Some table ≡ index
 file_back area file start pointers codes table None e t n h f = absurd (not_flagged area file start pointers f e)
-file_back area file start pointers codes table (Some index) e t n h f = ap Some (t ∙ file_given area file start pointers index codes f n h)
+file_back area file start pointers codes table (Some index) e t n h f =
+    ap Some (t ∙ file_given area file start pointers index codes f n h)
 
 -- THE SINGLE-BYTE ENCODINGS
 
-pub valid_more : (n : ℕ) (xs : List (Option Index)) (x : Option Index) → ((k : ℕ) → IfSome (slice_index_or xs k None) (IsIndex n)) → IfSome x (IsIndex n) →
+pub valid_more : (n : ℕ) (xs : List (Option Index)) (x : Option Index)
+    → ((k : ℕ) → IfSome (slice_index_or xs k None) (IsIndex n)) → IfSome x (IsIndex n) →
     (k : ℕ) → IfSome (slice_index_or (xs ++ x ∷ []) k None) (IsIndex n)
 valid_more n [] x h v zero = v
 valid_more n [] x h v (suc k) = tt
@@ -159,7 +194,8 @@ valid_more n (y ∷ xs) x h v (suc k) = valid_more n xs x (λ j. h (suc j)) v k
 abbrev four : ℕ → ℕ → ℕ → ℕ → List ℕ
 four a b c d = a ∷ b ∷ c ∷ d ∷ []
 
-byte_at : (x : IndexSet) (entry k : ℕ) → entry < 22099 → k < 4 → area_byte x (32 + 4 * entry + k) ≡ slice_index (to_be_bytes w32 (entry_at x entry)) k
+byte_at : (x : IndexSet) (entry k : ℕ) → entry < 22099 → k < 4 → area_byte x (32 + 4 * entry + k) ≡ slice_index
+    (to_be_bytes w32 (entry_at x entry)) k
 unfolding area_byte
 byte_at x entry k h l =
     let place = 32 + 4 * entry + k in
@@ -170,11 +206,19 @@ byte_at x entry k h l =
     let where_in : (place - 32) % 4 ≡ k = omega arith in
     rw (area_byte, past_flags, past_zeros, inside, which, where_in) refl
 
-word_is : (x : IndexSet) (area : List ℕ) (entry value : ℕ) → IsAreaOf x area → entry < 22099 → entry_at x entry ≡ value → value < 2 ^ 32 → word_of area entry ≡ value
+word_is : (x : IndexSet) (area : List ℕ) (entry value : ℕ) → IsAreaOf x area → entry < 22099 → entry_at x entry ≡ value
+    → value < 2 ^ 32 → word_of area entry ≡ value
 word_is x area entry value a h e v =
     let from = λ (k : ℕ) (place : ℕ) (l : k < 4) (p : place ≡ 32 + 4 * entry + k).
-    a.bytes place (omega arith) ∙ ap (area_byte x) p ∙ byte_at x entry k h l ∙ ap (λ w. slice_index (to_be_bytes w32 w) k) e in
-    rw (from 0 (32 + 4 * entry) (omega arith) (omega arith), from 1 (32 + 4 * entry + 1) (omega arith) refl, from 2 (32 + 4 * entry + 2) (omega arith) refl, from 3 (32 + 4 * entry + 3) (omega arith) refl)
+    a.bytes place (omega arith) ∙ ap (area_byte x) p ∙ byte_at x entry k h l
+    ∙ ap (λ w. slice_index (to_be_bytes w32 w) k) e in
+    rw (
+      from 0 (32 + 4 * entry) (omega arith) (omega arith),
+      from 1 (32 + 4 * entry + 1) (omega arith) refl,
+      from 2
+          (32 + 4 * entry + 2) (omega arith) refl,
+      from 3 (32 + 4 * entry + 3) (omega arith) refl,
+    )
     (from_be_bytes-to_be_bytes_4 value v)
 
 -- THE FILES
@@ -183,7 +227,8 @@ small : (o : Option ℕ) → IfSome o (λ c. is_scalar c ≡ true) → unwrap_or
 small None h = lit< tt
 small (Some c) h = grind (arith, nat_tests, h)
 
-some_scalar : (index : Index) (pointers p : ℕ) (o : Option ℕ) → IsIndex pointers index → code index p ≡ o → IfSome o (λ c. is_scalar c ≡ true)
+some_scalar : (index : Index) (pointers p : ℕ) (o : Option ℕ) → IsIndex pointers index → code index p ≡ o
+    → IfSome o (λ c. is_scalar c ≡ true)
 some_scalar index pointers p None v e = tt
 some_scalar index pointers p (Some c) v e = code_scalar 0 pointers index p c v e
 
@@ -192,9 +237,12 @@ code_small None pointers p v = rw (code_of_none p) (lit< tt)
 code_small (Some index) pointers p v = small (code index p) (some_scalar index pointers p (code index p) v refl)
 
 -- the words of a file, whose entries stand from one number on
-words_is : (x : IndexSet) (area : List ℕ) (start pointers : ℕ) (index : Option Index) → IsAreaOf x area → start + pointers ≤ 22099 → IfSome index (IsIndex pointers) →
-    ((k : ℕ) → k < pointers → entry_at x (start + k) ≡ entry_of index k) → (k : ℕ) → k < pointers → word_of area (start + k) ≡ entry_of index k
-words_is x area start pointers index a l v h k i = word_is x area (start + k) (entry_of index k) a (omega arith) (h k i) (code_small index pointers k v)
+words_is : (x : IndexSet) (area : List ℕ) (start pointers : ℕ) (index : Option Index) → IsAreaOf x area
+    → start + pointers ≤ 22099 → IfSome index (IsIndex pointers) →
+    ((k : ℕ) → k < pointers → entry_at x (start + k) ≡ entry_of index k) → (k : ℕ) → k < pointers
+    → word_of area (start + k) ≡ entry_of index k
+words_is x area start pointers index a l v h k i =
+    word_is x area (start + k) (entry_of index k) a (omega arith) (h k i) (code_small index pointers k v)
 
 spot_jis0208 : (k : ℕ) → k < 11280 → spot_of (0 + k) ≡ (0, k)
 spot_jis0208 k h =
@@ -223,7 +271,8 @@ spot_single n k h =
     let pointer : (20179 + 128 * n + k - 20179) % 128 ≡ k = omega arith in
     rw (first, second, third, file, pointer) refl
 
-entry_in : (x : IndexSet) (entry file p : ℕ) → spot_of entry ≡ (file, p) → entry_at x entry ≡ entry_of (nth_file x file) p
+entry_in : (x : IndexSet) (entry file p : ℕ) → spot_of entry ≡ (file, p)
+    → entry_at x entry ≡ entry_of (nth_file x file) p
 unfolding entry_at
 entry_in x entry file p e = ap (λ spot. entry_of (nth_file x spot.0) spot.1) e
 
@@ -231,7 +280,8 @@ flag_at : (x : IndexSet) (file : ℕ) → file < 18 → area_byte x file ≡ fla
 unfolding area_byte
 flag_at x file h = let first : nat_lt file 18 ≡ true = grind (arith, nat_tests, h) in rw (area_byte, first) refl
 
-file_in : (x : IndexSet) (area : List ℕ) (file start pointers : ℕ) → IsAreaOf x area → file < 18 → start + pointers ≤ 22099 → IfSome (nth_file x file) (IsIndex pointers) →
+file_in : (x : IndexSet) (area : List ℕ) (file start pointers : ℕ) → IsAreaOf x area → file < 18
+    → start + pointers ≤ 22099 → IfSome (nth_file x file) (IsIndex pointers) →
     ((k : ℕ) → k < pointers → spot_of (start + k) ≡ (file, k)) → IsFileIn area file start pointers (nth_file x file)
 file_in x area file start pointers a f l v spot = record {
   flagged = a.bytes file (omega arith) ∙ flag_at x file f;
@@ -256,17 +306,21 @@ nth_single x n =
     let place : 3 + n - 3 ≡ n = omega arith in
     rw (first, second, third, place) refl
 
-pub single_in : (x : IndexSet) (area : List ℕ) → IsIndexSet x → IsAreaOf x area → (n : ℕ) → n < 15 → IsFileIn area (3 + n) (20179 + 128 * n) 128 (slice_index_or x.single n None)
+pub single_in : (x : IndexSet) (area : List ℕ) → IsIndexSet x → IsAreaOf x area → (n : ℕ) → n < 15
+    → IsFileIn area (3 + n) (20179 + 128 * n) 128 (slice_index_or x.single n None)
 single_in x area v a n h =
     let same = nth_single x n in
     let InPlace : Option Index → Type 0 = λ index. IsFileIn area (3 + n) (20179 + 128 * n) 128 index in
     let Valid : Option Index → Type 0 = λ index. IfSome index (IsIndex 128) in
-    subst InPlace same (file_in x area (3 + n) (20179 + 128 * n) 128 a (omega arith) (omega arith) (subst Valid (sym same) (v.single n)) (spot_single n))
+    subst InPlace same (file_in x area (3 + n) (20179 + 128 * n) 128 a (omega arith) (omega arith)
+    (subst Valid (sym same) (v.single n)) (spot_single n))
 
 abbrev pub made : Option Index → Option Index → Option Index → List (Option Index) → IndexSet
 made a b c d = record { jis0208 = a; jis0212 = b; katakana = c; single = d }
 
-pub set_is : (x : IndexSet) (jis0208 jis0212 katakana : Option Index) (single : List (Option Index)) → jis0208 ≡ x.jis0208 → jis0212 ≡ x.jis0212 → katakana ≡ x.katakana → single ≡ x.single →
+pub set_is : (x : IndexSet) (jis0208 jis0212 katakana : Option Index) (single : List (Option Index))
+    → jis0208 ≡ x.jis0208 → jis0212 ≡ x.jis0212 → katakana ≡ x.katakana → single ≡ x.single →
     made jis0208 jis0212 katakana single ≡ x
 set_is x a b c d ea eb ec ed =
-    ap (λ y. made y b c d) ea ∙ ap (λ y. made x.jis0208 y c d) eb ∙ ap (λ y. made x.jis0208 x.jis0212 y d) ec ∙ ap (λ y. made x.jis0208 x.jis0212 x.katakana y) ed
+    ap (λ y. made y b c d) ea ∙ ap (λ y. made x.jis0208 y c d) eb ∙ ap (λ y. made x.jis0208 x.jis0212 y d) ec
+    ∙ ap (λ y. made x.jis0208 x.jis0212 x.katakana y) ed

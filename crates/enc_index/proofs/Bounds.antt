@@ -1,5 +1,6 @@
 -- A pointer that is found is one of its kind.
-use Rattle.std.proofs.Common.{ℕ, zero, suc, ◌<◌, ◌≡◌, List, [], ◌∷◌, Bool, true, false, Option, Some, None, refl, arith, subst, sym, ◌∙◌, nat_le, nat_lt, ◌==◌, ◌&&◌, if◌then◌else◌, slice_index_or, set}
+use Rattle.std.proofs.Common.{ℕ, zero, suc, ◌<◌, ◌≡◌, List, [], ◌∷◌, Bool, true, false, Option, Some, None, refl, arith}
+use Rattle.std.proofs.Common.{subst, sym, ◌∙◌, nat_le, nat_lt, ◌==◌, ◌&&◌, if◌then◌else◌, slice_index_or, set}
 use Rattle.std.specs.Prelude.{IfSome}
 use Rattle.std.proofs.lemmas.List.{length-set}
 use Rattle.std.proofs.lemmas.Bool.Decides.{nat_tests}
@@ -18,7 +19,8 @@ Below n found = IfSome found (λ p. p < n)
 
 below_least : (n p : ℕ) (q : Option ℕ) → p < n → Below n q → Below n (least p q)
 below_least n p None l h = l
-below_least n p (Some q) l h = elim (nat_lt q p) as (λ v. Below n (if v then Some q else Some p)) [ true ↦ h | false ↦ l ]
+below_least n p (Some q) l h =
+    elim (nat_lt q p) as (λ v. Below n (if v then Some q else Some p)) [ true ↦ h | false ↦ l ]
 
 and_left : (a b : Bool) → (a && b) ≡ true → a ≡ true
 and_left true b e = refl
@@ -33,14 +35,19 @@ first_below : (low n : ℕ) (pair : ℕ × ℕ) (index : Index) → ascends low 
 unfolding ascends
 first_below low n pair index e =
     let front = and_left (nat_le low pair.0 && nat_lt pair.0 n && is_scalar pair.1) (ascends (suc pair.0) n index) e in
-    let test : nat_lt pair.0 n ≡ true = and_right (nat_le low pair.0) (nat_lt pair.0 n) (and_left (nat_le low pair.0 && nat_lt pair.0 n) (is_scalar pair.1) front) in
+    let test : nat_lt pair.0 n ≡ true =
+    and_right (nat_le low pair.0) (nat_lt pair.0 n)
+    (and_left (nat_le low pair.0 && nat_lt pair.0 n) (is_scalar pair.1) front) in
     grind (arith, nat_tests, test)
 
-others : (low n : ℕ) (pair : ℕ × ℕ) (index : Index) → ascends low n (pair ∷ index) ≡ true → ascends (suc pair.0) n index ≡ true
+others : (low n : ℕ) (pair : ℕ × ℕ) (index : Index) → ascends low n (pair ∷ index) ≡ true
+    → ascends (suc pair.0) n index ≡ true
 unfolding ascends
-others low n pair index e = and_right (nat_le low pair.0 && nat_lt pair.0 n && is_scalar pair.1) (ascends (suc pair.0) n index) e
+others low n pair index e =
+    and_right (nat_le low pair.0 && nat_lt pair.0 n && is_scalar pair.1) (ascends (suc pair.0) n index) e
 
-below_in : (keeps : ℕ → Bool) (low n : ℕ) (index : Index) (c : ℕ) → ascends low n index ≡ true → Below n (pointer_where keeps index c)
+below_in : (keeps : ℕ → Bool) (low n : ℕ) (index : Index) (c : ℕ) → ascends low n index ≡ true
+    → Below n (pointer_where keeps index c)
 unfolding pointer_where
 below_in keeps low n [] c e = tt
 below_in keeps low n (pair ∷ index) c e =
@@ -59,13 +66,16 @@ index_in x is Jis0212 = is.jis0212
 index_in x is Katakana = is.katakana
 index_in x is (Single e) = at_place_is x is (place_of e)
 
-pub below_found : (keeps : ℕ → Bool) (x : IndexSet) (kind : Kind) (c : ℕ) (index : Index) → IsIndexSet x → Some index ≡ index_of x kind →
+pub below_found : (keeps : ℕ → Bool) (x : IndexSet) (kind : Kind) (c : ℕ) (index : Index) → IsIndexSet x
+    → Some index ≡ index_of x kind →
     IfSome (pointer_where keeps index c) (λ p. p < pointers_of kind)
 below_found keeps x kind c index is e =
-    let h : IsIndex (pointers_of kind) index = subst (λ y. IfSome y (IsIndex (pointers_of kind))) (sym e) (index_in x is kind) in
+    let h : IsIndex (pointers_of kind) index =
+    subst (λ y. IfSome y (IsIndex (pointers_of kind))) (sym e) (index_in x is kind) in
     below_in keeps 0 (pointers_of kind) index c h
 
-set_keeps : (single : List (Option Index)) (place : ℕ) (index : Index) → IsIndex 128 index → ((k : ℕ) → IfSome (slice_index_or single k None) (IsIndex 128)) →
+set_keeps : (single : List (Option Index)) (place : ℕ) (index : Index) → IsIndex 128 index
+    → ((k : ℕ) → IfSome (slice_index_or single k None) (IsIndex 128)) →
     (k : ℕ) → IfSome (slice_index_or (set single place (Some index)) k None) (IsIndex 128)
 set_keeps [] place index valid is k = is k
 set_keeps (first ∷ single) zero index valid is zero = valid
@@ -74,7 +84,8 @@ set_keeps (first ∷ single) (suc place) index valid is zero = is zero
 set_keeps (first ∷ single) (suc place) index valid is (suc k) = set_keeps single place index valid (λ n. is (suc n)) k
 
 -- a set into which an index of a single-byte encoding was put
-pub put_single : (x : IndexSet) (place : ℕ) (index : Index) → IsIndexSet x → IsIndex 128 index → IsIndexSet (record x { single = set x.single place (Some index) })
+pub put_single : (x : IndexSet) (place : ℕ) (index : Index) → IsIndexSet x → IsIndex 128 index
+    → IsIndexSet (record x { single = set x.single place (Some index) })
 put_single x place index is valid = record {
   jis0208 = is.jis0208;
   jis0212 = is.jis0212;

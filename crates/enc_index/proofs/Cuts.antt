@@ -1,5 +1,6 @@
 -- Cutting a text at a mark, from one byte to the next.
-use Rattle.std.proofs.Common.{◌≡◌, ℕ, ◌+◌, ◌-◌, ◌<◌, ◌≤◌, List, [], ◌∷◌, ◌++◌, length, take, drop, get_or, Some, None, refl, arith, append_assoc}
+use Rattle.std.proofs.Common.{◌≡◌, ℕ, ◌+◌, ◌-◌, ◌<◌, ◌≤◌, List, [], ◌∷◌, ◌++◌, length, take, drop, get_or, Some, None}
+use Rattle.std.proofs.Common.{refl, arith, append_assoc}
 use Rattle.std.proofs.lemmas.Bool.Decides.{nat_tests}
 use Rattle.std.proofs.lemmas.List.{drop_more, drop_all, take_more, take_all, length-drop}
 use Rattle.enc_index.specs.Files.{before, behind, without_spaces}
@@ -13,7 +14,8 @@ module _ (mark : ℕ) (bytes : List ℕ) (i : ℕ) (h : i < length bytes) where
   unfolding behind
   behind_here e = rw (drop_more bytes i 0 h) (grind (arith, nat_tests, e))
 
-  before_next : (get_or bytes i 0 ≡ mark → ⊥) → before mark (drop i bytes) ≡ get_or bytes i 0 ∷ before mark (drop (i + 1) bytes)
+  before_next : (get_or bytes i 0 ≡ mark → ⊥) → before mark (drop i bytes) ≡ get_or bytes i 0 ∷ before mark
+      (drop (i + 1) bytes)
   unfolding before
   before_next e = rw (drop_more bytes i 0 h) (grind (arith, nat_tests, e))
 
@@ -21,7 +23,8 @@ module _ (mark : ℕ) (bytes : List ℕ) (i : ℕ) (h : i < length bytes) where
   unfolding behind
   behind_next e = rw (drop_more bytes i 0 h) (grind (arith, nat_tests, e))
 
-  pub front_next : (get_or bytes i 0 ≡ mark → ⊥) → take i bytes ++ before mark (drop i bytes) ≡ take (i + 1) bytes ++ before mark (drop (i + 1) bytes)
+  pub front_next : (get_or bytes i 0 ≡ mark → ⊥) → take i bytes ++ before mark (drop i bytes) ≡ take (i + 1)
+      bytes ++ before mark (drop (i + 1) bytes)
   front_next e = rw (before_next e, take_more bytes i 0 h, append_assoc) refl
 
 pub before_end : (mark : ℕ) (bytes : List ℕ) (i : ℕ) → length bytes ≤ i → before mark (drop i bytes) ≡ []
@@ -32,11 +35,13 @@ pub behind_end : (mark : ℕ) (bytes : List ℕ) (i : ℕ) → length bytes ≤ 
 unfolding behind
 behind_end mark bytes i h = rw (drop_all i bytes h) refl
 
-pub spaces_here : (bytes : List ℕ) (i : ℕ) → i < length bytes → (get_or bytes i 0 ≡ 32 → ⊥) → without_spaces (drop i bytes) ≡ drop i bytes
+pub spaces_here : (bytes : List ℕ) (i : ℕ) → i < length bytes → (get_or bytes i 0 ≡ 32 → ⊥)
+    → without_spaces (drop i bytes) ≡ drop i bytes
 unfolding without_spaces
 spaces_here bytes i h e = rw (drop_more bytes i 0 h) (grind (arith, nat_tests, e))
 
-pub spaces_next : (bytes : List ℕ) (i : ℕ) → i < length bytes → get_or bytes i 0 ≡ 32 → without_spaces (drop i bytes) ≡ without_spaces (drop (i + 1) bytes)
+pub spaces_next : (bytes : List ℕ) (i : ℕ) → i < length bytes → get_or bytes i 0 ≡ 32
+    → without_spaces (drop i bytes) ≡ without_spaces (drop (i + 1) bytes)
 unfolding without_spaces
 spaces_next bytes i h e = rw (drop_more bytes i 0 h) (grind (arith, nat_tests, e))
 

@@ -1,6 +1,8 @@
 -- The first line of a text, and the lines behind it.
-use Rattle.std.proofs.Common.{◌≡◌, ℕ, suc, ◌+◌, ◌<◌, true, false, cond, List, [], ◌∷◌, length, Option, Some, None, Ok, Err, refl, ap, arith, ◌==◌}
-use Rattle.enc_index.specs.Files.{before, behind, pieces, onto, without_cr, without_crs, lines_of, with_line, with_lines}
+use Rattle.std.proofs.Common.{◌≡◌, ℕ, suc, ◌+◌, ◌<◌, true, false, cond, List, [], ◌∷◌, length, Option, Some, None, Ok}
+use Rattle.std.proofs.Common.{Err, refl, ap, arith, ◌==◌}
+use Rattle.enc_index.specs.Files.{before, behind, pieces, onto, without_cr, without_crs, lines_of, with_line}
+use Rattle.enc_index.specs.Files.{with_lines}
 use Rattle.enc_model.specs.Index.{Index}
 use Rattle.enc_index.specs.declared.kind.ReadError.{ReadError}
 
@@ -13,13 +15,20 @@ unfolding pieces before behind
 pieces_cut [] = refl
 pieces_cut (b ∷ bytes) =
     let rest = pieces_cut bytes in
-    elim (b == 0x0A) as (λ t. cond t ([] ∷ pieces bytes) (onto b (pieces bytes)) ≡ cond t [] (b ∷ before 0x0A bytes) ∷ pieces_behind (cond t (Some bytes) (behind 0x0A bytes))) [ true ↦ refl | false ↦ ap (onto b) rest ]
+    elim (b == 0x0A) as (λ t. cond t ([] ∷ pieces bytes) (onto b (pieces bytes)) ≡ cond t []
+    (b ∷ before 0x0A bytes) ∷ pieces_behind (cond t (Some bytes) (behind 0x0A bytes))) [
+      | true ↦ refl
+      | false ↦ ap
+          (onto b) rest
+    ]
 
-first_of_more : (line : List ℕ) (rest : List ℕ) → without_crs (line ∷ pieces rest) ≡ without_cr line ∷ without_crs (pieces rest)
+first_of_more : (line : List ℕ) (rest : List ℕ) → without_crs (line ∷ pieces rest) ≡ without_cr line ∷ without_crs
+    (pieces rest)
 unfolding without_crs
 first_of_more line rest = rw (pieces_cut rest) refl
 
-pub lines_next : (bytes rest : List ℕ) → behind 0x0A bytes ≡ Some rest → lines_of bytes ≡ without_cr (before 0x0A bytes) ∷ lines_of rest
+pub lines_next : (bytes rest : List ℕ) → behind 0x0A bytes ≡ Some rest → lines_of bytes ≡ without_cr
+    (before 0x0A bytes) ∷ lines_of rest
 lines_next bytes rest e = rw (pieces_cut bytes, e) (first_of_more (before 0x0A bytes) rest)
 
 pub lines_last : (bytes : List ℕ) → behind 0x0A bytes ≡ None → lines_of bytes ≡ before 0x0A bytes ∷ []
@@ -37,12 +46,14 @@ behind_shorter mark (b ∷ bytes) rest e =
 
 -- LINE BY LINE
 
-pub lines_on : (bound n : ℕ) (index next : Index) (line : List ℕ) (lines : List (List ℕ)) → with_line bound n index line ≡ Ok next →
+pub lines_on : (bound n : ℕ) (index next : Index) (line : List ℕ) (lines : List (List ℕ))
+    → with_line bound n index line ≡ Ok next →
     with_lines bound n index (line ∷ lines) ≡ with_lines bound (n + 1) next lines
 unfolding with_lines
 lines_on bound n index next line lines e = rw e refl
 
-pub lines_bad : (bound n : ℕ) (index : Index) (e : ReadError) (line : List ℕ) (lines : List (List ℕ)) → with_line bound n index line ≡ Err e →
+pub lines_bad : (bound n : ℕ) (index : Index) (e : ReadError) (line : List ℕ) (lines : List (List ℕ))
+    → with_line bound n index line ≡ Err e →
     with_lines bound n index (line ∷ lines) ≡ Err e
 unfolding with_lines
 lines_bad bound n index e line lines h = rw h refl

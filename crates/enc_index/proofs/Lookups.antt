@@ -1,5 +1,6 @@
 -- Look-ups in entries and in the set.
-use Rattle.std.proofs.Common.{◌≡◌, ℕ, zero, suc, ◌+◌, ◌<◌, Bool, List, [], ◌∷◌, Option, Some, None, refl, arith, slice_index_or}
+use Rattle.std.proofs.Common.{◌≡◌, ℕ, zero, suc, ◌+◌, ◌<◌, Bool, List, [], ◌∷◌, Option, Some, None, refl, arith}
+use Rattle.std.proofs.Common.{slice_index_or}
 use Rattle.std.proofs.lemmas.Bool.Decides.{nat_tests}
 use Rattle.enc_model.specs.Index.{code, pointer_where}
 use Rattle.enc_model.specs.Indexes.{IndexSet, tables, pairs_of}
@@ -31,7 +32,8 @@ code_below q (Some c ∷ entries) p h =
     let rest = code_below (suc q) entries p (omega arith) in
     grind (arith, nat_tests, rest)
 
-code_at : (q : ℕ) (entries : List (Option ℕ)) (p k : ℕ) → p ≡ q + k → code (pairs_from q entries) p ≡ slice_index_or entries k None
+code_at : (q : ℕ) (entries : List (Option ℕ)) (p k : ℕ) → p ≡ q + k → code (pairs_from q entries) p ≡ slice_index_or
+    entries k None
 unfolding pairs_from code
 code_at q [] p k e = refl
 code_at q (None ∷ entries) p zero e = code_below (suc q) entries p (omega arith)

@@ -18,21 +18,29 @@ still_fits radix i most r h fits =
     let below : radix ^ (i + 1) ≤ radix ^ most = pow-le-pow_right (omega arith) (omega arith) in
     omega arith
 
-pub room_for_digit : (radix value i digit most : ℕ) → 2 ≤ radix → radix ^ most ≤ 2 ^ 32 → i < most → value < radix ^ i → digit < radix → value * radix + digit < 2 ^ 32
-room_for_digit radix value i digit most r fits h v d = let a = grown radix value i digit v d in let b = still_fits radix i most r h fits in omega arith
+pub room_for_digit : (radix value i digit most : ℕ) → 2 ≤ radix → radix ^ most ≤ 2 ^ 32 → i < most → value < radix ^ i
+    → digit < radix → value * radix + digit < 2 ^ 32
+room_for_digit radix value i digit most r fits h v d = let a = grown radix value i digit v d in let b =
+    still_fits radix i most r h fits in omega arith
 
-pub room_for_radix : (radix value i most : ℕ) → 2 ≤ radix → radix ^ most ≤ 2 ^ 32 → i < most → value < radix ^ i → value * radix < 2 ^ 32
-room_for_radix radix value i most r fits h v = let a = room_for_digit radix value i 0 most r fits h v (omega arith) in omega arith
+pub room_for_radix : (radix value i most : ℕ) → 2 ≤ radix → radix ^ most ≤ 2 ^ 32 → i < most → value < radix ^ i
+    → value * radix < 2 ^ 32
+room_for_radix radix value i most r fits h v = let a =
+    room_for_digit radix value i 0 most r fits h v (omega arith) in omega arith
 
-pub onward_next : (radix value : ℕ) (digits : List ℕ) (i : ℕ) → i < length digits → digit_value (get_or digits i 0) < radix →
-    onward radix value (drop i digits) ≡ onward radix (value * radix + digit_value (get_or digits i 0)) (drop (i + 1) digits)
+pub onward_next : (radix value : ℕ) (digits : List ℕ) (i : ℕ) → i < length digits
+    → digit_value (get_or digits i 0) < radix →
+    onward radix value (drop i digits) ≡ onward radix (value * radix + digit_value (get_or digits i 0))
+    (drop (i + 1) digits)
 unfolding onward
 onward_next radix value digits i h d = rw (drop_more digits i 0 h) (grind (arith, nat_tests, d))
 
-pub onward_bad : (radix value : ℕ) (digits : List ℕ) (i : ℕ) → i < length digits → (digit_value (get_or digits i 0) < radix → ⊥) → onward radix value (drop i digits) ≡ None
+pub onward_bad : (radix value : ℕ) (digits : List ℕ) (i : ℕ) → i < length digits
+    → (digit_value (get_or digits i 0) < radix → ⊥) → onward radix value (drop i digits) ≡ None
 unfolding onward
 onward_bad radix value digits i h d = rw (drop_more digits i 0 h) (grind (arith, nat_tests, d))
 
-pub onward_end : (radix value : ℕ) (digits : List ℕ) (i : ℕ) → length digits ≤ i → onward radix value (drop i digits) ≡ Some value
+pub onward_end : (radix value : ℕ) (digits : List ℕ) (i : ℕ) → length digits ≤ i
+    → onward radix value (drop i digits) ≡ Some value
 unfolding onward
 onward_end radix value digits i h = rw (drop_all i digits h) refl

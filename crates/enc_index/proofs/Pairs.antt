@@ -1,5 +1,6 @@
 -- A pair put into the table.
-use Rattle.std.proofs.Common.{◌≡◌, ℕ, zero, suc, ◌+◌, ◌<◌, true, false, List, [], ◌∷◌, length, Option, Some, None, Ok, Err, refl, sym, ap, arith, slice_index_or, slice_set, is_some, nat_lt}
+use Rattle.std.proofs.Common.{◌≡◌, ℕ, zero, suc, ◌+◌, ◌<◌, true, false, List, [], ◌∷◌, length, Option, Some, None, Ok}
+use Rattle.std.proofs.Common.{Err, refl, sym, ap, arith, slice_index_or, slice_set, is_some, nat_lt}
 use Rattle.std.proofs.lemmas.Bool.Decides.{nat_tests}
 use Rattle.std.specs.Char.{InScalarRange}
 use Rattle.enc_model.specs.Index.{Index}
@@ -13,13 +14,15 @@ pub scalar_test : (c : ℕ) → InScalarRange c → is_scalar c ≡ true
 scalar_test c h = grind (arith, nat_tests, h)
 
 -- in front of greater pointers
-in_front : (p c q : ℕ) (entries : List (Option ℕ)) → p < q → inserted p c (pairs_from q entries) ≡ (p, c) ∷ pairs_from q entries
+in_front : (p c q : ℕ) (entries : List (Option ℕ)) → p < q → inserted p c (pairs_from q entries) ≡ (p, c) ∷ pairs_from q
+    entries
 unfolding inserted pairs_from
 in_front p c q [] h = refl
 in_front p c q (None ∷ entries) h = in_front p c (suc q) entries (omega arith)
 in_front p c q (Some d ∷ entries) h = grind (arith, nat_tests)
 
-placed_at : (q : ℕ) (entries : List (Option ℕ)) (p k c : ℕ) → p ≡ q + k → k < length entries → slice_index_or entries k None ≡ None →
+placed_at : (q : ℕ) (entries : List (Option ℕ)) (p k c : ℕ) → p ≡ q + k → k < length entries
+    → slice_index_or entries k None ≡ None →
     pairs_from q (slice_set entries k (Some c)) ≡ inserted p c (pairs_from q entries)
 unfolding inserted pairs_from
 placed_at q [] p k c e h n = absurd (omega arith)
@@ -36,19 +39,23 @@ none_of : (o : Option ℕ) → is_some o ≡ false → o ≡ None
 none_of None e = refl
 none_of (Some c) e = absurd cc
 
-pub pair_put : (entries : List (Option ℕ)) (n : ℕ) (pair : ℕ × ℕ) → pair.0 < length entries → is_scalar pair.1 ≡ true → is_some (slice_index_or entries pair.0 None) ≡ false →
-    with_pair (length entries) n (pairs_from 0 entries) (Some pair) ≡ Ok (pairs_from 0 (slice_set entries pair.0 (Some pair.1)))
+pub pair_put : (entries : List (Option ℕ)) (n : ℕ) (pair : ℕ × ℕ) → pair.0 < length entries → is_scalar pair.1 ≡ true
+    → is_some (slice_index_or entries pair.0 None) ≡ false →
+    with_pair (length entries) n (pairs_from 0 entries) (Some pair) ≡ Ok
+    (pairs_from 0 (slice_set entries pair.0 (Some pair.1)))
 pair_put entries n pair h s e =
     let inside : nat_lt pair.0 (length entries) ≡ true = grind (arith, nat_tests, h) in
     let none = none_of (slice_index_or entries pair.0 None) e in
     let placed = placed_at 0 entries pair.0 pair.0 pair.1 (omega arith) h none in
     rw (inside, s, code_entry entries pair.0, none) (ap Ok (sym placed))
 
-given : (n : ℕ) (pair : ℕ × ℕ) (index : Index) (o : Option ℕ) → is_some o ≡ true → unless_given n pair index o ≡ Err (Twice n)
+given : (n : ℕ) (pair : ℕ × ℕ) (index : Index) (o : Option ℕ) → is_some o ≡ true
+    → unless_given n pair index o ≡ Err (Twice n)
 given n pair index None e = absurd cc
 given n pair index (Some c) e = refl
 
-pub pair_twice : (entries : List (Option ℕ)) (n : ℕ) (pair : ℕ × ℕ) → pair.0 < length entries → is_scalar pair.1 ≡ true → is_some (slice_index_or entries pair.0 None) ≡ true →
+pub pair_twice : (entries : List (Option ℕ)) (n : ℕ) (pair : ℕ × ℕ) → pair.0 < length entries → is_scalar pair.1 ≡ true
+    → is_some (slice_index_or entries pair.0 None) ≡ true →
     with_pair (length entries) n (pairs_from 0 entries) (Some pair) ≡ Err (Twice n)
 pair_twice entries n pair h s e =
     let inside : nat_lt pair.0 (length entries) ≡ true = grind (arith, nat_tests, h) in

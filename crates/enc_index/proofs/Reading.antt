@@ -1,5 +1,6 @@
 -- A table at its beginning, and at its end.
-use Rattle.std.proofs.Common.{◌≡◌, ℕ, zero, suc, ◌+◌, ◌≤◌, true, List, [], ◌∷◌, length, replicate, Option, Some, None, Ok, Err, refl, sym, ◌∙◌, ap, arith, slice_index_or, IsErrAnd, Result}
+use Rattle.std.proofs.Common.{◌≡◌, ℕ, zero, suc, ◌+◌, ◌≤◌, true, List, [], ◌∷◌, length, replicate, Option, Some, None}
+use Rattle.std.proofs.Common.{Ok, Err, refl, sym, ◌∙◌, ap, arith, slice_index_or, IsErrAnd, Result}
 use Rattle.std.proofs.lemmas.Bool.Decides.{nat_tests}
 use Rattle.std.proofs.lemmas.List.{length-replicate}
 use Rattle.enc_model.specs.Index.{Index}
@@ -32,31 +33,37 @@ at_first bound n entries lines e = rw (e, length-replicate bound none, no_pairs_
 pub scalars_at_first : (bound : ℕ) (entries : List (Option ℕ)) → entries ≡ replicate bound None → AreScalars entries
 scalars_at_first bound entries e k = rw (e, no_code bound k) (tt)
 
-pub read_refused : (kind : Kind) (bytes : List ℕ) (e : ReadError) → with_lines (pointers_of kind) 1 [] (lines_of bytes) ≡ Err e → IsReading kind bytes (Err e)
+pub read_refused : (kind : Kind) (bytes : List ℕ) (e : ReadError) → with_lines (pointers_of kind) 1 []
+    (lines_of bytes) ≡ Err e → IsReading kind bytes (Err e)
 unfolding file_of
 read_refused kind bytes (Line n) h = h
 read_refused kind bytes (Range n) h = h
 read_refused kind bytes (Twice n) h = h
 read_refused kind bytes NoMemory h = tt
 
-pub read_done : (kind : Kind) (bytes : List ℕ) (index : Index) → with_lines (pointers_of kind) 1 [] (lines_of bytes) ≡ Ok index → file_of kind bytes ≡ Ok index
+pub read_done : (kind : Kind) (bytes : List ℕ) (index : Index) → with_lines (pointers_of kind) 1 []
+    (lines_of bytes) ≡ Ok index → file_of kind bytes ≡ Ok index
 unfolding file_of
 read_done kind bytes index h = h
 
 -- the pairs of a table ascend
-pairs_ascend : (low q bound : ℕ) (entries : List (Option ℕ)) → low ≤ q → bound ≡ q + length entries → AreScalars entries → ascends low bound (pairs_from q entries) ≡ true
+pairs_ascend : (low q bound : ℕ) (entries : List (Option ℕ)) → low ≤ q → bound ≡ q + length entries → AreScalars entries
+    → ascends low bound (pairs_from q entries) ≡ true
 unfolding ascends pairs_from
 pairs_ascend low q bound [] l e s = refl
-pairs_ascend low q bound (None ∷ entries) l e s = pairs_ascend low (suc q) bound entries (omega arith) (omega arith) (λ k. s (suc k))
+pairs_ascend low q bound (None ∷ entries) l e s =
+    pairs_ascend low (suc q) bound entries (omega arith) (omega arith) (λ k. s (suc k))
 pairs_ascend low q bound (Some c ∷ entries) l e s =
     let rest = pairs_ascend (suc q) (suc q) bound entries (omega arith) (omega arith) (λ k. s (suc k)) in
     let scalar : is_scalar c ≡ true = s zero in
     grind (arith, nat_tests, rest, scalar)
 
-pub table_ascends : (bound : ℕ) (entries : List (Option ℕ)) → length entries ≡ bound → AreScalars entries → ascends 0 bound (pairs_from 0 entries) ≡ true
+pub table_ascends : (bound : ℕ) (entries : List (Option ℕ)) → length entries ≡ bound → AreScalars entries
+    → ascends 0 bound (pairs_from 0 entries) ≡ true
 table_ascends bound entries e s = pairs_ascend 0 0 bound entries (omega arith) (omega arith) s
 
-pub refused_by : (kind : Kind) (bytes : List ℕ) (r : Result KindedIndex ReadError) (e : ReadError) → IsErrAnd r (λ x. x ≡ e) →
+pub refused_by : (kind : Kind) (bytes : List ℕ) (r : Result KindedIndex ReadError) (e : ReadError)
+    → IsErrAnd r (λ x. x ≡ e) →
     with_lines (pointers_of kind) 1 [] (lines_of bytes) ≡ Err e → IsReading kind bytes r
 refused_by kind bytes (Ok index) e h lines = absurd h
 refused_by kind bytes (Err x) e h lines = read_refused kind bytes x (lines ∙ ap Err (sym h))

@@ -5,17 +5,20 @@ use Rattle.enc_index.specs.declared.kind.Kind.TheVariants.{Jis0208, Katakana}
 use Rattle.enc_index.specs.declared.kind.ReadError.TheVariants.{Line, Range, Twice}
 use Rattle.enc_model.specs.Indexes.{IndexSet, no_indexes}
 use Rattle.enc_index.specs.Area.{area_byte, entry_at}
-use Rattle.enc_index.specs.Files.{before, behind, pieces, without_crs, onward, without_spaces, pair_of, inserted, with_line, with_lines, file_of}
+use Rattle.enc_index.specs.Files.{before, behind, pieces, without_crs, onward, without_spaces, pair_of, inserted}
+use Rattle.enc_index.specs.Files.{with_line, with_lines, file_of}
 
 -- a line of two fields, with its LF
 line : List ℕ → List ℕ → List ℕ
 line pointer point = pointer ++ 0x09 ∷ point ++ 0x0A ∷ []
 
 small : List ℕ
-small = codes "# test" ++ 0x0A ∷ 0x0A ∷ [] ++ line (codes "  0") (codes "0x3000") ++ line (codes "60") (codes "FF0D") ++ line (codes "61") (codes "FF0D")
+small = codes "# test" ++ 0x0A ∷ 0x0A ∷ [] ++ line (codes "  0") (codes "0x3000") ++ line (codes "60")
+    (codes "FF0D") ++ line (codes "61") (codes "FF0D")
 
 accepted : file_of Jis0208 small ≡ Ok ((0, 0x3000) ∷ (60, 0xFF0D) ∷ (61, 0xFF0D) ∷ [])
-unfolding line small before behind pieces without_crs onward without_spaces pair_of code inserted with_line with_lines file_of
+unfolding line small before behind pieces without_crs onward without_spaces pair_of code inserted with_line with_lines
+    file_of
 accepted = refl
 
 least : pointer ((0, 0x3000) ∷ (60, 0xFF0D) ∷ (61, 0xFF0D) ∷ []) 0xFF0D ≡ Some 60
@@ -23,7 +26,8 @@ unfolding pointer_where
 least = refl
 
 sixth_again : file_of Jis0208 (small ++ line (codes "60") (codes "3001")) ≡ Err (Twice 6)
-unfolding line small before behind pieces without_crs onward without_spaces pair_of code inserted with_line with_lines file_of
+unfolding line small before behind pieces without_crs onward without_spaces pair_of code inserted with_line with_lines
+    file_of
 sixth_again = refl
 
 out_of_range : file_of Jis0208 (line (codes "11280") (codes "3001")) ≡ Err (Range 1)
@@ -51,7 +55,8 @@ unfolding line before behind pieces without_crs onward without_spaces pair_of co
 no_digit = refl
 
 -- CR LF, pointers out of order, and a third field
-crlf : file_of Katakana (codes "2" ++ 0x09 ∷ codes "30f2" ++ 0x09 ∷ codes "x" ++ 0x0D ∷ 0x0A ∷ 0x0D ∷ 0x0A ∷ codes "0" ++ 0x09 ∷ codes "3002" ++ 0x0D ∷ 0x0A ∷ []) ≡ Ok ((0, 0x3002) ∷ (2, 0x30F2) ∷ [])
+crlf : file_of Katakana (codes "2" ++ 0x09 ∷ codes "30f2" ++ 0x09 ∷ codes "x" ++ 0x0D ∷ 0x0A ∷ 0x0D ∷ 0x0A ∷ codes
+    "0" ++ 0x09 ∷ codes "3002" ++ 0x0D ∷ 0x0A ∷ []) ≡ Ok ((0, 0x3002) ∷ (2, 0x30F2) ∷ [])
 unfolding line before behind pieces without_crs onward without_spaces pair_of code inserted with_line with_lines file_of
 crlf = refl
 

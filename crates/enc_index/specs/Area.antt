@@ -1,5 +1,6 @@
 -- The index area: an index set as 90,112 bytes, which are 22 pages of 4,096.
-use Rattle.std.specs.Prelude.{◌≡◌, ℕ, ◌+◌, ◌-◌, ◌*◌, ◌/◌, ◌%◌, ◌<◌, List, [], ◌∷◌, Option, Some, None, Result, Ok, Err, IfSome, length, slice_index, slice_index_or, unwrap_or, ◌==◌, nat_lt, if◌then◌else◌}
+use Rattle.std.specs.Prelude.{◌≡◌, ℕ, ◌+◌, ◌-◌, ◌*◌, ◌/◌, ◌%◌, ◌<◌, List, [], ◌∷◌, Option, Some, None, Result, Ok, Err}
+use Rattle.std.specs.Prelude.{IfSome, length, slice_index, slice_index_or, unwrap_or, ◌==◌, nat_lt, if◌then◌else◌}
 use Rattle.std.specs.Int.{to_be_bytes, from_be_bytes, w32}
 use Rattle.enc_model.specs.Index.{Index, code}
 use Rattle.enc_model.specs.Indexes.{IndexSet, pairs_of}
@@ -35,7 +36,8 @@ entry_of index pointer = unwrap_or (code (pairs_of index) pointer) 0xFFFFFFFF
 unfoldable pub entry_at : IndexSet → ℕ → ℕ
 entry_at x entry = entry_of (nth_file x (spot_of entry).0) (spot_of entry).1
 
--- A byte of the area: 18 flags, 1 where the file was set; zeros to byte 31; 22,099 entries of 4 bytes, big-endian; zeros.
+-- A byte of the area: 18 flags, 1 where the file was set; zeros to byte 31; 22,099 entries of 4 bytes, big-endian;
+-- zeros.
 unfoldable pub area_byte : IndexSet → ℕ → ℕ
 area_byte x place =
     if nat_lt place 18 then flag (nth_file x place)
@@ -59,7 +61,8 @@ Gives (Err e) x = e ≡ NoMemory
 abbrev pub word_of : List ℕ → ℕ → ℕ
 word_of area entry =
     let place = 32 + 4 * entry in
-    from_be_bytes w32 (slice_index area place ∷ slice_index area (place + 1) ∷ slice_index area (place + 2) ∷ slice_index area (place + 3) ∷ [])
+    from_be_bytes w32 (slice_index area place ∷ slice_index area (place + 1) ∷ slice_index area
+    (place + 2) ∷ slice_index area (place + 3) ∷ [])
 
 abbrev pub scalar_of : ℕ → Option ℕ
 scalar_of word = if is_scalar word then Some word else None

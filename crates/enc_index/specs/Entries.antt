@@ -1,5 +1,6 @@
 -- An index as a table: at each pointer a code point or none.
-use Rattle.std.specs.Prelude.{◌≡◌, ℕ, suc, Bool, true, ◌&&◌, ◌==◌, List, [], ◌∷◌, Option, Some, None, IfSome, length, slice_index, slice_index_or, ◌<◌, nat_le, nat_lt, if◌then◌else◌}
+use Rattle.std.specs.Prelude.{◌≡◌, ℕ, suc, Bool, true, ◌&&◌, ◌==◌, List, [], ◌∷◌, Option, Some, None, IfSome, length}
+use Rattle.std.specs.Prelude.{slice_index, slice_index_or, ◌<◌, nat_le, nat_lt, if◌then◌else◌}
 use Rattle.enc_model.specs.Index.{Index, pointer, pointer_where, pointer_sjis}
 use Rattle.enc_index.specs.Bytes.{byte_char}
 use Rattle.enc_index.specs.Scalars.{is_scalar}
@@ -37,4 +38,5 @@ AreScalars entries = (k : ℕ) → IfSome (slice_index_or entries k None) (λ c.
 -- the pointers ascend from one number to below another, and the code points are scalar values
 unfoldable pub ascends : ℕ → ℕ → Index → Bool
 ascends low bound [] = true
-ascends low bound (pair ∷ index) = nat_le low pair.0 && nat_lt pair.0 bound && is_scalar pair.1 && ascends (suc pair.0) bound index
+ascends low bound (pair ∷ index) =
+    nat_le low pair.0 && nat_lt pair.0 bound && is_scalar pair.1 && ascends (suc pair.0) bound index

@@ -1,5 +1,6 @@
 -- Index files: which pairs the lines give, or the first bad line.
-use Rattle.std.specs.Prelude.{ℕ, ◌+◌, ◌-◌, ◌*◌, Bool, true, ◌&&◌, List, [], ◌∷◌, Option, Some, None, Result, Ok, Err, length, drop, take, slice_index, ◌==◌, nat_lt, nat_le, if◌then◌else◌}
+use Rattle.std.specs.Prelude.{ℕ, ◌+◌, ◌-◌, ◌*◌, Bool, true, ◌&&◌, List, [], ◌∷◌, Option, Some, None, Result, Ok, Err}
+use Rattle.std.specs.Prelude.{length, drop, take, slice_index, ◌==◌, nat_lt, nat_le, if◌then◌else◌}
 use Rattle.std.specs.Char.{digit_value}
 use Rattle.enc_model.specs.Index.{Index, code}
 use Rattle.enc_model.specs.Decode.{begins}
@@ -126,7 +127,8 @@ and_then (Err e) more = Err e
 -- the lines from the n-th on
 unfoldable pub with_lines : ℕ → ℕ → Index → List (List ℕ) → Result Index ReadError
 with_lines bound n index [] = Ok index
-with_lines bound n index (line ∷ lines) = and_then (with_line bound n index line) (λ next. with_lines bound (n + 1) next lines)
+with_lines bound n index (line ∷ lines) =
+    and_then (with_line bound n index line) (λ next. with_lines bound (n + 1) next lines)
 
 -- what a file gives: its pairs, or its first bad line, counted from 1
 unfoldable pub file_of : Kind → List ℕ → Result Index ReadError

@@ -1,6 +1,7 @@
 //! The index area: an index set as bytes.
 
-ghost use Rattle.std.specs.Prelude.{◌≡◌, ℕ, ◌+◌, ◌*◌, ◌<◌, ◌≤◌, ◌↔◌, List, Option, None, IfOk, IfSome, IsTrue, length, slice_index, slice_index_or};
+ghost use Rattle.std.specs.Prelude.{◌≡◌, ℕ, ◌+◌, ◌*◌, ◌<◌, ◌≤◌, ◌↔◌, List, Option, None, IfOk, IfSome, IsTrue, length};
+ghost use Rattle.std.specs.Prelude.{slice_index, slice_index_or};
 ghost use Rattle.enc_model.specs.Index.{Index};
 ghost use Rattle.enc_model.specs.Indexes.{IndexSet};
 ghost use Rattle.enc_index.specs.Sets.{IsIndex, IsIndexSet};
@@ -88,7 +89,8 @@ fn codes_of(
     requires long { length area.now ≡ 90112 }
     requires inside { start + pointers ≤ 22099 }
     ensures long { IfOk result (λ codes. length codes.items ≡ pointers) }
-    ensures codes { IfOk result (λ codes. (k : ℕ) → k < pointers → slice_index_or codes.items k None ≡ scalar_of (word_of area.now (start + k))) }
+    ensures codes { IfOk result
+        (λ codes. (k : ℕ) → k < pointers → slice_index_or codes.items k None ≡ scalar_of (word_of area.now (start + k))) }
 {
     let mut codes = Vec::new(alloc);
     for pointer in 0..pointers {
@@ -109,7 +111,8 @@ fn table_of(
     requires file { file < 18 }
     requires inside { start + pointers ≤ 22099 }
     ensures valid { IfOk result (λ table. IfSome table (IsIndex pointers)) }
-    ensures given_back { (index : Option Index) → IsFileIn area.now file start pointers index → IfOk result (λ table. table ≡ index) }
+    ensures given_back { (index : Option Index) → IsFileIn area.now file start pointers index
+        → IfOk result (λ table. table ≡ index) }
 {
     if area[file] != 1 {
         return Ok(None);
@@ -124,7 +127,9 @@ fn single_of(alloc: Global, area: &[u8]) -> Result<Vec<Option<Table>>, AllocErro
     requires { length area.now ≡ 90112 }
     ensures places { IfOk result (λ single. length single.items ≡ 15) }
     ensures valid { IfOk result (λ single. (k : ℕ) → IfSome (slice_index_or single.items k None) (IsIndex 128)) }
-    ensures given_back { (single : List (Option Index)) → length single ≡ 15 → ((k : ℕ) → k < 15 → IsFileIn area.now (3 + k) (20179 + 128 * k) 128 (slice_index_or single k None)) → IfOk result (λ tables. tables.items ≡ single) }
+    ensures given_back { (single : List (Option Index)) → length single ≡ 15
+        → ((k : ℕ) → k < 15 → IsFileIn area.now (3 + k) (20179 + 128 * k) 128 (slice_index_or single k None))
+        → IfOk result (λ tables. tables.items ≡ single) }
 {
     let mut single = Vec::new(alloc);
     for place in 0..15usize {
@@ -159,8 +164,10 @@ fn is_area_of(set: &IndexSet, area: &[u8]) -> bool
 }
 
 impl IndexSet {
-    /// A page of the index area: 4,096 of its 90,112 bytes. They are a byte for each of the eighteen files, jis0208, jis0212,
-    /// katakana and the single-byte encodings, 1 where it was set; zeros to byte 31; the files' tables, of 4 bytes for each
+    /// A page of the index area: 4,096 of its 90,112 bytes. They are a byte for each of the eighteen files, jis0208,
+    /// jis0212,
+    /// katakana and the single-byte encodings, 1 where it was set; zeros to byte 31; the files' tables, of 4 bytes for
+    /// each
     /// pointer, the code point or FFFFFFFF, big-endian; and zeros.
     pub fn to_area(&self, page: usize) -> [u8; 4096]
         requires { page < 22 }

@@ -1,8 +1,10 @@
 //! The lines of an index file.
 
-ghost use Rattle.std.specs.Prelude.{◌≡◌, ℕ, ◌+◌, ◌<◌, ◌≤◌, ◌^◌, length, ◌∷◌, IfSome, Option, Some, Ok, Err, MatchResult, option_copied};
+ghost use Rattle.std.specs.Prelude.{◌≡◌, ℕ, ◌+◌, ◌<◌, ◌≤◌, ◌^◌, length, ◌∷◌, IfSome, Option, Some, Ok, Err};
+ghost use Rattle.std.specs.Prelude.{MatchResult, option_copied};
 ghost use Rattle.enc_index.specs.Entries.{pairs_from, AreScalars};
-ghost use Rattle.enc_index.specs.Files.{lines_behind, before, behind, without_cr, is_dropped, number, without_spaces, without_0x, pair_of, with_pair, with_line, with_lines, lines_of};
+ghost use Rattle.enc_index.specs.Files.{lines_behind, before, behind, without_cr, is_dropped, number, without_spaces};
+ghost use Rattle.enc_index.specs.Files.{without_0x, pair_of, with_pair, with_line, with_lines, lines_of};
 
 use crate::kind::ReadError;
 
@@ -96,7 +98,10 @@ fn put_pair(
     line_number: usize,
     pair: (u32, u32),
 ) -> Result<(), ReadError>
-    ensures pairs { MatchResult result (λ _. with_pair (length codes.old) line_number (pairs_from 0 codes.old) (Some pair) ≡ Ok (pairs_from 0 codes.new)) (λ e. with_pair (length codes.old) line_number (pairs_from 0 codes.old) (Some pair) ≡ Err e) }
+    ensures pairs { MatchResult result
+        (λ _. with_pair (length codes.old) line_number (pairs_from 0 codes.old) (Some pair) ≡ Ok
+        (pairs_from 0 codes.new)) (λ e. with_pair (length codes.old) line_number (pairs_from 0 codes.old)
+        (Some pair) ≡ Err e) }
     ensures scalars { AreScalars codes.old → AreScalars codes.new }
 {
     let place = pair.0 as usize;
@@ -123,7 +128,9 @@ fn is_dropped(line: &[u8]) -> bool
 /// Puts what a line says into the table.
 #[tactic(auto, unfolding(crate::specs::Files::with_line))]
 fn read_line(codes: &mut [Option<char>], line_number: usize, line: &[u8]) -> Result<(), ReadError>
-    ensures pairs { MatchResult result (λ _. with_line (length codes.old) line_number (pairs_from 0 codes.old) line.now ≡ Ok (pairs_from 0 codes.new)) (λ e. with_line (length codes.old) line_number (pairs_from 0 codes.old) line.now ≡ Err e) }
+    ensures pairs { MatchResult result
+        (λ _. with_line (length codes.old) line_number (pairs_from 0 codes.old) line.now ≡ Ok (pairs_from 0 codes.new))
+        (λ e. with_line (length codes.old) line_number (pairs_from 0 codes.old) line.now ≡ Err e) }
     ensures scalars { AreScalars codes.old → AreScalars codes.new }
 {
     if is_dropped(line) {
@@ -151,7 +158,10 @@ fn next_line(text: &[u8]) -> (&[u8], Option<&[u8]>)
 /// Puts what the lines of a text say into the table, up to the first bad one.
 #[tactic(auto, using(crate::proofs::Lines::lines_on, crate::proofs::Lines::lines_bad, crate::proofs::Lines::lines_done))]
 fn read_lines(codes: &mut [Option<char>], bytes: &[u8]) -> Result<(), ReadError>
-    ensures pairs { MatchResult result (λ _. with_lines (length codes.old) 1 (pairs_from 0 codes.old) (lines_of bytes.now) ≡ Ok (pairs_from 0 codes.new)) (λ e. with_lines (length codes.old) 1 (pairs_from 0 codes.old) (lines_of bytes.now) ≡ Err e) }
+    ensures pairs { MatchResult result
+        (λ _. with_lines (length codes.old) 1 (pairs_from 0 codes.old) (lines_of bytes.now) ≡ Ok
+        (pairs_from 0 codes.new)) (λ e. with_lines (length codes.old) 1 (pairs_from 0 codes.old)
+        (lines_of bytes.now) ≡ Err e) }
     ensures scalars { AreScalars codes.old → AreScalars codes.new }
 {
     let mut text = bytes;
@@ -169,7 +179,10 @@ fn read_lines(codes: &mut [Option<char>], bytes: &[u8]) -> Result<(), ReadError>
 
 /// Puts what the lines of a file say into the table, up to the first bad one.
 pub fn read_file(codes: &mut Vec<Option<char>>, bytes: &[u8]) -> Result<(), ReadError>
-    ensures pairs { MatchResult result (λ _. with_lines (length codes.old.items) 1 (pairs_from 0 codes.old.items) (lines_of bytes.now) ≡ Ok (pairs_from 0 codes.new.items)) (λ e. with_lines (length codes.old.items) 1 (pairs_from 0 codes.old.items) (lines_of bytes.now) ≡ Err e) }
+    ensures pairs { MatchResult result
+        (λ _. with_lines (length codes.old.items) 1 (pairs_from 0 codes.old.items) (lines_of bytes.now) ≡ Ok
+        (pairs_from 0 codes.new.items)) (λ e. with_lines (length codes.old.items) 1 (pairs_from 0 codes.old.items)
+        (lines_of bytes.now) ≡ Err e) }
     ensures scalars { AreScalars codes.old.items → AreScalars codes.new.items }
     ensures length { length codes.new.items ≡ length codes.old.items }
 {

@@ -12,7 +12,8 @@ use std::marker::Model;
 /// What stands at a code point that has no pointer.
 const NO_POINTER: u16 = u16::MAX;
 
-/// The pointers of an index by code point. A look-up takes one step; the table is as long as the greatest code point, at 2 bytes
+/// The pointers of an index by code point. A look-up takes one step; the table is as long as the greatest code point,
+/// at 2 bytes
 /// each.
 #[derive(Drop)]
 pub struct Pointers {

@@ -41,7 +41,8 @@ fn byte_char(codes: &[Option<char>], byte: u8) -> char
 /// The characters that the bytes stand for where this is the index of a single-byte encoding, in UTF-8.
 pub fn ready_bytes(alloc: Global, codes: &[Option<char>]) -> Result<Vec<Utf8Char>, AllocError>
     ensures long { IfOk result (λ ready. length ready.items ≡ 256) }
-    ensures chars { IfOk result (λ ready. (b : ℕ) → b < 256 → slice_index ready.items b ≡ byte_char (pairs_from 0 codes.now) b) }
+    ensures chars { IfOk result
+        (λ ready. (b : ℕ) → b < 256 → slice_index ready.items b ≡ byte_char (pairs_from 0 codes.now) b) }
 {
     let mut ready = Vec::with_capacity(alloc, BYTES)?;
     for byte in 0..BYTES {

@@ -1,6 +1,7 @@
 //! The index files that were set.
 
-ghost use Rattle.std.specs.Prelude.{◌≡◌, ◌<◌, ℕ, Option, None, IfOk, IfSome, MatchOption, option_copied, length, slice_index, slice_index_or, replicate};
+ghost use Rattle.std.specs.Prelude.{◌≡◌, ◌<◌, ℕ, Option, None, IfOk, IfSome, MatchOption, option_copied, length};
+ghost use Rattle.std.specs.Prelude.{slice_index, slice_index_or, replicate};
 ghost use Rattle.enc_model.specs.Index.{code, pointer, pointer_sjis};
 ghost use Rattle.enc_model.specs.Indexes.{no_indexes, tables, offers, place_of, single_of};
 ghost use Rattle.enc_index.specs.Files.{pointers_of};
@@ -43,9 +44,21 @@ impl Model for IndexSet {
 
     ghost Value = { IndexSet };
 
-    ghost view = { λ s. record { jis0208 = s.tables.value.jis0208; jis0212 = s.tables.value.jis0212; katakana = s.tables.value.katakana; single = s.tables.value.single.items } };
+    ghost view = { λ s. record {
+      jis0208 = s.tables.value.jis0208;
+      jis0212 = s.tables.value.jis0212;
+      katakana = s.tables.value.katakana;
+      single = s.tables.value.single.items;
+    } };
 
-    ghost invariant = { λ s. IsIndexSet (record { jis0208 = s.tables.value.jis0208; jis0212 = s.tables.value.jis0212; katakana = s.tables.value.katakana; single = s.tables.value.single.items }) };
+    ghost invariant = { λ s. IsIndexSet
+        (record {
+          jis0208 = s.tables.value.jis0208;
+          jis0212 = s.tables.value.jis0212;
+          katakana =
+              s.tables.value.katakana;
+          single = s.tables.value.single.items;
+        }) };
 }
 
 /// The place of a single-byte encoding among the fifteen.
@@ -107,8 +120,10 @@ impl IndexSet {
         katakana: Option<Table>,
         single: Vec<Option<Table>>,
     ) -> Result<IndexSet, AllocError>
-        requires { IsIndexSet (record { jis0208 = jis0208; jis0212 = jis0212; katakana = katakana; single = single.items }) }
-        ensures { IfOk result (λ set. set ≡ record { jis0208 = jis0208; jis0212 = jis0212; katakana = katakana; single = single.items }) }
+        requires { IsIndexSet (record
+            { jis0208 = jis0208; jis0212 = jis0212; katakana = katakana; single = single.items }) }
+        ensures { IfOk result (λ set. set ≡ record
+            { jis0208 = jis0208; jis0212 = jis0212; katakana = katakana; single = single.items }) }
     {
         let tables = Tables {
             jis0208,
@@ -135,7 +150,8 @@ impl IndexSet {
         }
     }
 
-    /// Puts an index in its kind's place, in place of the one that was there. An index of `Single` of no single-byte encoding
+    /// Puts an index in its kind's place, in place of the one that was there. An index of `Single` of no single-byte
+    /// encoding
     /// is put nowhere. Takes no memory.
     pub fn set(&mut self, index: Index)
         ensures { self.new ≡ with_index self.old index }
@@ -211,7 +227,8 @@ impl IndexSet {
     #[inline(always)]
     pub fn ready_bytes(&self, encoding: Encoding) -> Option<&[Utf8Char]>
         ensures long { IfSome result (λ s. length s.now ≡ 256) }
-        ensures chars { IfSome result (λ s. (b : ℕ) → b < 256 → slice_index s.now b ≡ byte_char ((tables self.now).single encoding) b) }
+        ensures chars { IfSome result
+            (λ s. (b : ℕ) → b < 256 → slice_index s.now b ≡ byte_char ((tables self.now).single encoding) b) }
     {
         Some(self.single_table(encoding)?.ready_bytes())
     }
@@ -220,7 +237,8 @@ impl IndexSet {
     #[tactic(auto, using(crate::proofs::Lookups::pointer_of_none, crate::proofs::Lookups::table_is))]
     #[inline(always)]
     pub fn pointers(&self, kind: Kind) -> Option<&Pointers>
-        ensures value { MatchOption result ((c : ℕ) → pointer (table_of (tables self.now) kind) c ≡ None) (λ p. (c : ℕ) → found p.now c ≡ pointer (table_of (tables self.now) kind) c) }
+        ensures value { MatchOption result ((c : ℕ) → pointer (table_of (tables self.now) kind) c ≡ None)
+            (λ p. (c : ℕ) → found p.now c ≡ pointer (table_of (tables self.now) kind) c) }
         ensures bounded { IfSome result (λ p. (c : ℕ) → IfSome (found p.now c) (λ n. n < pointers_of kind)) }
     {
         let _ = &self.tables.jis0208;
@@ -231,7 +249,8 @@ impl IndexSet {
     #[tactic(auto, using(crate::proofs::Lookups::pointer_of_none))]
     #[inline(always)]
     fn pointers_sjis(&self) -> Option<&Pointers>
-        ensures value { MatchOption result ((c : ℕ) → pointer_sjis (tables self.now).jis0208 c ≡ None) (λ p. (c : ℕ) → found p.now c ≡ pointer_sjis (tables self.now).jis0208 c) }
+        ensures value { MatchOption result ((c : ℕ) → pointer_sjis (tables self.now).jis0208 c ≡ None)
+            (λ p. (c : ℕ) → found p.now c ≡ pointer_sjis (tables self.now).jis0208 c) }
         ensures bounded { IfSome result (λ p. (c : ℕ) → IfSome (found p.now c) (λ n. n < 11280)) }
     {
         Some(self.tables.jis0208.as_ref()?.pointers_sjis())

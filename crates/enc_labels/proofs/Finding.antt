@@ -1,5 +1,6 @@
 -- A look-up that goes down a table.
-use Rattle.std.proofs.Common.{◌≡◌, ℕ, ◌+◌, ◌<◌, ◌≤◌, Bool, false, List, ◌∷◌, length, map, drop, get_or, Some, None, Option, refl, sym, ◌∙◌, bytes_eq, arith}
+use Rattle.std.proofs.Common.{◌≡◌, ℕ, ◌+◌, ◌<◌, ◌≤◌, Bool, false, List, ◌∷◌, length, map, drop, get_or, Some, None}
+use Rattle.std.proofs.Common.{Option, refl, sym, ◌∙◌, bytes_eq, arith}
 use Rattle.std.proofs.lemmas.List.{at_drop_more, at_drop_all}
 use Rattle.std.proofs.lemmas.Slice.Eq.{bytes_eq-Decides}
 use Rattle.enc_model.specs.declared.Encoding.{Encoding}
@@ -21,11 +22,14 @@ module _ {X : Type 0} (f : X → List ℕ × Encoding) (name : List ℕ) where
   miss : (x : X) → ((f x).0 ≡ name → ⊥) → bytes_eq (f x).0 name ≡ false
   miss x h = grind (arith, (bytes_eq-Decides (f x).0 name).0, h)
 
-  pub found_here : (xs : List X) (i : ℕ) (d : X) → i < length xs → (f (get_or xs i d)).0 ≡ name → left (drop i xs) ≡ Some (f (get_or xs i d)).1
+  pub found_here : (xs : List X) (i : ℕ) (d : X) → i < length xs → (f (get_or xs i d)).0 ≡ name
+      → left (drop i xs) ≡ Some (f (get_or xs i d)).1
   found_here xs i d h e = at_drop_more left xs i d h ∙ first_hit (get_or xs i d) (drop (i + 1) xs) e
 
-  pub found_next : (xs : List X) (i : ℕ) (d : X) → i < length xs → ((f (get_or xs i d)).0 ≡ name → ⊥) → left (drop (i + 1) xs) ≡ left (drop i xs)
-  found_next xs i d h e = sym (at_drop_more left xs i d h ∙ first_missed (get_or xs i d) (drop (i + 1) xs) _ refl (miss (get_or xs i d) e))
+  pub found_next : (xs : List X) (i : ℕ) (d : X) → i < length xs → ((f (get_or xs i d)).0 ≡ name → ⊥)
+      → left (drop (i + 1) xs) ≡ left (drop i xs)
+  found_next xs i d h e = sym
+      (at_drop_more left xs i d h ∙ first_missed (get_or xs i d) (drop (i + 1) xs) _ refl (miss (get_or xs i d) e))
 
   pub found_past : (xs : List X) (i : ℕ) → length xs ≤ i → left (drop i xs) ≡ None
   unfolding found

@@ -1,5 +1,7 @@
--- Names and labels of the encodings (Encoding Standard, "Names and labels"; of each encoding only if the gateway has it).
-use Rattle.std.specs.Prelude.{ℕ, ◌-◌, List, [], ◌∷◌, ◌++◌, map, take, drop, length, Option, Some, None, bytes_eq, if◌then◌else◌, codes}
+-- Names and labels of the encodings (Encoding Standard, "Names and labels"; of each encoding only if the gateway has
+-- it).
+use Rattle.std.specs.Prelude.{ℕ, ◌-◌, List, [], ◌∷◌, ◌++◌, map, take, drop, length, Option, Some, None, bytes_eq}
+use Rattle.std.specs.Prelude.{if◌then◌else◌, codes}
 use Rattle.std.specs.Borrow.{Bor}
 use Rattle.std.specs.List.{prefix_len, suffix_len}
 use Rattle.std.specs.Char.{is_ascii_whitespace, to_ascii_lowercase}
@@ -19,27 +21,36 @@ rows encoding names = map (λ name. (name, encoding)) names
 -- every label, in lower case, with its encoding
 unfoldable pub labels : List (List ℕ × Encoding)
 labels =
-    rows e.Utf8 (codes "unicode-1-1-utf-8" ∷ codes "unicode11utf8" ∷ codes "unicode20utf8" ∷ codes "utf-8" ∷ codes "utf8" ∷ codes "x-unicode20utf8" ∷ [])
+    rows e.Utf8 (codes "unicode-1-1-utf-8" ∷ codes "unicode11utf8" ∷ codes "unicode20utf8" ∷ codes "utf-8" ∷ codes
+    "utf8" ∷ codes "x-unicode20utf8" ∷ [])
     ++ rows e.Utf16Be (codes "unicodefffe" ∷ codes "utf-16be" ∷ [])
-    ++ rows e.Utf16Le (codes "csunicode" ∷ codes "iso-10646-ucs-2" ∷ codes "ucs-2" ∷ codes "unicode" ∷ codes "unicodefeff" ∷ codes "utf-16" ∷ codes "utf-16le" ∷ [])
-    ++ rows e.ShiftJis (codes "csshiftjis" ∷ codes "ms932" ∷ codes "ms_kanji" ∷ codes "shift-jis" ∷ codes "shift_jis" ∷ codes "sjis" ∷ codes "windows-31j" ∷ codes "x-sjis" ∷ [])
+    ++ rows e.Utf16Le (codes "csunicode" ∷ codes "iso-10646-ucs-2" ∷ codes "ucs-2" ∷ codes "unicode" ∷ codes
+    "unicodefeff" ∷ codes "utf-16" ∷ codes "utf-16le" ∷ [])
+    ++ rows e.ShiftJis (codes "csshiftjis" ∷ codes "ms932" ∷ codes "ms_kanji" ∷ codes "shift-jis" ∷ codes
+    "shift_jis" ∷ codes "sjis" ∷ codes "windows-31j" ∷ codes "x-sjis" ∷ [])
     ++ rows e.EucJp (codes "cseucpkdfmtjapanese" ∷ codes "euc-jp" ∷ codes "x-euc-jp" ∷ [])
     ++ rows e.Iso2022Jp (codes "csiso2022jp" ∷ codes "iso-2022-jp" ∷ [])
     ++ rows e.Ibm866 (codes "866" ∷ codes "cp866" ∷ codes "csibm866" ∷ codes "ibm866" ∷ [])
-    ++ rows e.Iso8859X2 (codes "csisolatin2" ∷ codes "iso-8859-2" ∷ codes "iso-ir-101" ∷ codes "iso8859-2" ∷ codes "iso88592" ∷ codes "iso_8859-2" ∷ codes "iso_8859-2:1987" ∷ codes "l2" ∷ codes "latin2" ∷ [])
-    ++ rows e.Iso8859X5 (codes "csisolatincyrillic" ∷ codes "cyrillic" ∷ codes "iso-8859-5" ∷ codes "iso-ir-144" ∷ codes "iso8859-5" ∷ codes "iso88595" ∷ codes "iso_8859-5" ∷ codes "iso_8859-5:1988" ∷ [])
-    ++ rows e.Iso8859X15 (codes "csisolatin9" ∷ codes "iso-8859-15" ∷ codes "iso8859-15" ∷ codes "iso885915" ∷ codes "iso_8859-15" ∷ codes "l9" ∷ [])
+    ++ rows e.Iso8859X2 (codes "csisolatin2" ∷ codes "iso-8859-2" ∷ codes "iso-ir-101" ∷ codes "iso8859-2" ∷ codes
+    "iso88592" ∷ codes "iso_8859-2" ∷ codes "iso_8859-2:1987" ∷ codes "l2" ∷ codes "latin2" ∷ [])
+    ++ rows e.Iso8859X5 (codes "csisolatincyrillic" ∷ codes "cyrillic" ∷ codes "iso-8859-5" ∷ codes "iso-ir-144" ∷ codes
+    "iso8859-5" ∷ codes "iso88595" ∷ codes "iso_8859-5" ∷ codes "iso_8859-5:1988" ∷ [])
+    ++ rows e.Iso8859X15 (codes "csisolatin9" ∷ codes "iso-8859-15" ∷ codes "iso8859-15" ∷ codes "iso885915" ∷ codes
+    "iso_8859-15" ∷ codes "l9" ∷ [])
     ++ rows e.Koi8R (codes "cskoi8r" ∷ codes "koi" ∷ codes "koi8" ∷ codes "koi8-r" ∷ codes "koi8_r" ∷ [])
     ++ rows e.Macintosh (codes "csmacintosh" ∷ codes "mac" ∷ codes "macintosh" ∷ codes "x-mac-roman" ∷ [])
     ++ rows e.Windows1250 (codes "cp1250" ∷ codes "windows-1250" ∷ codes "x-cp1250" ∷ [])
     ++ rows e.Windows1251 (codes "cp1251" ∷ codes "windows-1251" ∷ codes "x-cp1251" ∷ [])
     ++ rows e.Windows1252 (
-    codes "ansi_x3.4-1968" ∷ codes "ascii" ∷ codes "cp1252" ∷ codes "cp819" ∷ codes "csisolatin1" ∷ codes "ibm819" ∷ codes "iso-8859-1" ∷ codes "iso-ir-100" ∷ codes "iso8859-1"
-    ∷ codes "iso88591" ∷ codes "iso_8859-1" ∷ codes "iso_8859-1:1987" ∷ codes "l1" ∷ codes "latin1" ∷ codes "us-ascii" ∷ codes "windows-1252" ∷ codes "x-cp1252" ∷ []
+    codes "ansi_x3.4-1968" ∷ codes "ascii" ∷ codes "cp1252" ∷ codes "cp819" ∷ codes "csisolatin1" ∷ codes
+    "ibm819" ∷ codes "iso-8859-1" ∷ codes "iso-ir-100" ∷ codes "iso8859-1"
+    ∷ codes "iso88591" ∷ codes "iso_8859-1" ∷ codes "iso_8859-1:1987" ∷ codes "l1" ∷ codes "latin1" ∷ codes
+    "us-ascii" ∷ codes "windows-1252" ∷ codes "x-cp1252" ∷ []
     )
     ++ rows e.Windows1253 (codes "cp1253" ∷ codes "windows-1253" ∷ codes "x-cp1253" ∷ [])
     ++ rows e.Windows1254 (
-    codes "cp1254" ∷ codes "csisolatin5" ∷ codes "iso-8859-9" ∷ codes "iso-ir-148" ∷ codes "iso8859-9" ∷ codes "iso88599" ∷ codes "iso_8859-9" ∷ codes "iso_8859-9:1989"
+    codes "cp1254" ∷ codes "csisolatin5" ∷ codes "iso-8859-9" ∷ codes "iso-ir-148" ∷ codes "iso8859-9" ∷ codes
+    "iso88599" ∷ codes "iso_8859-9" ∷ codes "iso_8859-9:1989"
     ∷ codes "l5" ∷ codes "latin5" ∷ codes "windows-1254" ∷ codes "x-cp1254" ∷ []
     )
     ++ rows e.Windows1255 (codes "cp1255" ∷ codes "windows-1255" ∷ codes "x-cp1255" ∷ [])

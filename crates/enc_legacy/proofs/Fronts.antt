@@ -17,35 +17,60 @@ use Rattle.enc_legacy.specs.EucJpState.{IsEucJpState}
 use Rattle.enc_legacy.specs.Singles.{single_in}
 use Rattle.enc_legacy.specs.SinglesCalm.{single_in_calm}
 
-pub sjis_own : (i : Index) (b : ℕ) → b < 128 → shift_jis i 0 (Some b) ≡ record { state = 0; answer = Point b; restored = [] }
+pub sjis_own : (i : Index) (b : ℕ) → b < 128 → shift_jis i 0 (Some b) ≡ record {
+  state = 0;
+  answer = Point b;
+  restored = [];
+}
 unfolding shift_jis
 sjis_own i b l = grind (arith, nat_tests)
 
-pub sjis_front : (i : Index) (s : ℕ) (bytes : List ℕ) (n : ℕ) → s ≡ 0 → n ≡ prefix_len is_ascii bytes → IsFront (shift_jis i) s bytes n
+pub sjis_front : (i : Index) (s : ℕ) (bytes : List ℕ) (n : ℕ) → s ≡ 0 → n ≡ prefix_len is_ascii bytes
+    → IsFront (shift_jis i) s bytes n
 sjis_front i s bytes n e h = rw e (front_ascii (shift_jis i) (shift_jis_calm i) 0 bytes n h (sjis_own i))
 
-pub euc_own : (i j : Index) (b : ℕ) → b < 128 → euc_jp i j euc_jp_start (Some b) ≡ record { state = euc_jp_start; answer = Point b; restored = [] }
+pub euc_own : (i j : Index) (b : ℕ) → b < 128 → euc_jp i j euc_jp_start (Some b) ≡ record {
+  state = euc_jp_start;
+  answer = Point b;
+  restored = [];
+}
 unfolding euc_jp
 euc_own i j b l = grind (arith, nat_tests)
 
-pub euc_front : (i j : Index) (s : EucJp) (bytes : List ℕ) (n : ℕ) → s ≡ euc_jp_start → n ≡ prefix_len is_ascii bytes → IsFront (euc_jp i j) s bytes n
+pub euc_front : (i j : Index) (s : EucJp) (bytes : List ℕ) (n : ℕ) → s ≡ euc_jp_start → n ≡ prefix_len is_ascii bytes
+    → IsFront (euc_jp i j) s bytes n
 euc_front i j s bytes n e h = rw e (front_ascii (euc_jp i j) (euc_jp_calm i j) euc_jp_start bytes n h (euc_own i j))
 
-single_own : (t : Tables) (e : Encoding) (b : ℕ) → b < 128 → single_in t e (Some b) ≡ record { state = e; answer = Point b; restored = [] }
+single_own : (t : Tables) (e : Encoding) (b : ℕ) → b < 128 → single_in t e (Some b) ≡ record {
+  state = e;
+  answer = Point b;
+  restored = [];
+}
 unfolding single_in
 single_own t e b l = grind (arith, nat_tests)
 
-pub single_front : (t : Tables) (e : Encoding) (bytes : List ℕ) (n : ℕ) → n ≡ prefix_len is_ascii bytes → IsFront (single_in t) e bytes n
+pub single_front : (t : Tables) (e : Encoding) (bytes : List ℕ) (n : ℕ) → n ≡ prefix_len is_ascii bytes
+    → IsFront (single_in t) e bytes n
 single_front t e bytes n h = front_ascii (single_in t) (single_in_calm t) e bytes n h (single_own t e)
 
 -- lanes that are ASCII throughout
 pub single_lanes : (t : Tables) (e : Encoding) (rest : List ℕ) (n : ℕ) → n ≡ prefix_len is_ascii (take n rest) →
-    All (λ b. b < 128) (take n rest) × (steps (single_in t) false e (take n rest) ≡ record { text = take n rest; state = e })
+    All (λ b. b < 128) (take n rest) × (steps (single_in t) false e (take n rest) ≡ record {
+      text = take n rest;
+      state = e;
+    })
 single_lanes t e rest n h =
     let front = single_front t e (take n rest) n h in
-    let same : take n (take n rest) ≡ take n rest = take_all n (take n rest) (let l = length-take n rest in omega (arith, l)) in
-    (subst (λ z. All (λ b. b < 128) z) same front.ascii, subst (λ z. steps (single_in t) false e z ≡ record { text = z; state = e }) same front.own)
+    let same : take n (take n rest) ≡ take n rest =
+    take_all n (take n rest) (let l = length-take n rest in omega (arith, l)) in (
+      subst (λ z. All (λ b. b < 128) z) same front.ascii,
+      subst
+          (λ z. steps (single_in t) false e z ≡ record { text = z; state = e }) same front.own,
+    )
 
-pub euc_start : (lead : ℕ) (flag : Bool) → IsEucJpState lead flag → lead ≡ 0 → record { lead = lead; flag = flag } ≡ euc_jp_start
+pub euc_start : (lead : ℕ) (flag : Bool) → IsEucJpState lead flag → lead ≡ 0 → record {
+  lead = lead;
+  flag = flag;
+} ≡ euc_jp_start
 euc_start lead flag (inl p) e = rw (e, p.1) refl
 euc_start lead flag (inr p) e = let l = p.0 in absurd (omega (arith, l, e))

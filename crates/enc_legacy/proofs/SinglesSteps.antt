@@ -1,5 +1,7 @@
 -- The steps of the single-byte decoders in one handler are those of each encoding's own.
-use Rattle.std.proofs.Common.{◌++◌, ◌-◌, ◌<◌, None, Option, All, map, slice_index, sym, nat_lt, if◌then◌else◌, ℕ, zero, suc, ◌≡◌, ◌+◌, ◌*◌, List, [], ◌∷◌, Bool, true, false, Some, Result, Ok, Err, OnOk, length, refl, ap, ◌∙◌}
+use Rattle.std.proofs.Common.{◌++◌, ◌-◌, ◌<◌, None, Option, All, map, slice_index, sym, nat_lt, if◌then◌else◌, ℕ, zero}
+use Rattle.std.proofs.Common.{suc, ◌≡◌, ◌+◌, ◌*◌, List, [], ◌∷◌, Bool, true, false, Some, Result, Ok, Err, OnOk, length}
+use Rattle.std.proofs.Common.{refl, ap, ◌∙◌}
 use Rattle.enc_model.specs.declared.Encoding.{Encoding}
 use Rattle.enc_model.specs.Encode.{Tables}
 use Rattle.std.specs.Prelude.{unwrap_or}
@@ -14,15 +16,22 @@ use Rattle.enc_legacy.specs.Singles.{single_in, single_start}
 use Rattle.enc_legacy.specs.SinglesCalm.{single_in_calm}
 
 in_within : (t : Tables) (n : ℕ) (ended : Bool) (e : Encoding) (bytes : List ℕ) →
-    steps_within n (single_in t) ended e bytes ≡ record { text = (steps_within n (single (t.single e)) ended single_start bytes).text; state = e }
+    steps_within n (single_in t) ended e bytes ≡ record {
+      text = (steps_within n (single (t.single e)) ended single_start bytes).text;
+      state = e;
+    }
 unfolding steps_within single_in single
 in_within t zero ended e bytes = refl
-in_within t (suc n) ended e (b ∷ bytes) = ap (after (said (single_in t e (Some b)).answer)) (in_within t n ended e bytes)
+in_within t (suc n) ended e (b ∷ bytes) =
+    ap (after (said (single_in t e (Some b)).answer)) (in_within t n ended e bytes)
 in_within t (suc n) false e [] = refl
 in_within t (suc n) true e [] = refl
 
 pub single_in_steps : (t : Tables) (ended : Bool) (e : Encoding) (bytes : List ℕ) →
-    steps (single_in t) ended e bytes ≡ record { text = (steps (single (t.single e)) ended single_start bytes).text; state = e }
+    steps (single_in t) ended e bytes ≡ record {
+      text = (steps (single (t.single e)) ended single_start bytes).text;
+      state = e;
+    }
 unfolding steps
 single_in_steps t ended e bytes = in_within t (3 * length bytes + 8) ended e bytes
 
@@ -34,21 +43,28 @@ same_encoding t ended e new bytes (Err x) is = tt
 
 -- WHAT THE BYTES STAND FOR
 
-char_said : (t : Bool) (b : ℕ) (o : Option ℕ) → said (if t then Point b else answer_of o) ++ [] ≡ (if t then b else unwrap_or o 0xFFFD) ∷ []
+char_said : (t : Bool) (b : ℕ) (o : Option ℕ) → said
+    (if t then Point b else answer_of o) ++ [] ≡ (if t then b else unwrap_or o 0xFFFD) ∷ []
 char_said true b o = refl
 char_said false b None = refl
 char_said false b (Some c) = refl
 
-byte_given : (t : Tables) (e : Encoding) (b : ℕ) → byte_of (single_in t) e b ≡ record { text = byte_char (t.single e) b ∷ []; state = e }
+byte_given : (t : Tables) (e : Encoding) (b : ℕ) → byte_of (single_in t) e b ≡ record {
+  text = byte_char (t.single e) b ∷ [];
+  state = e;
+}
 unfolding single_in
 byte_given t e b = ap (λ z. record { text = z; state = e }) (char_said (nat_lt b 0x80) b (code (t.single e) (b - 0x80)))
 
 -- where a table has at each byte what it stands for
-pub single_chars : (t : Tables) (e : Encoding) (chars bytes : List ℕ) → ((b : ℕ) → b < 256 → slice_index chars b ≡ byte_char (t.single e) b) →
+pub single_chars : (t : Tables) (e : Encoding) (chars bytes : List ℕ)
+    → ((b : ℕ) → b < 256 → slice_index chars b ≡ byte_char (t.single e) b) →
     All (λ b. b < 256) bytes → map (λ b. slice_index chars b) bytes ≡ (steps (single_in t) false e bytes).text
-single_chars t e chars bytes table all = sym (ap (λ run. run.text) (steps_bytes (single_in t) (single_in_calm t) e bytes) ∙ go bytes all)
+single_chars t e chars bytes table all =
+    sym (ap (λ run. run.text) (steps_bytes (single_in t) (single_in_calm t) e bytes) ∙ go bytes all)
   where
-    go : (bytes : List ℕ) → All (λ b. b < 256) bytes → (all_bytes (byte_of (single_in t)) e bytes).text ≡ map (λ b. slice_index chars b) bytes
+    go : (bytes : List ℕ) → All (λ b. b < 256) bytes → (all_bytes (byte_of (single_in t)) e bytes).text ≡ map
+        (λ b. slice_index chars b) bytes
     go [] a = refl
     go (b ∷ bytes) a =
         let f = byte_of (single_in t) in

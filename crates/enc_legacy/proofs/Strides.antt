@@ -1,5 +1,6 @@
 -- Steps over some bytes at once.
-use Rattle.std.proofs.Common.{Bool, true, false, ap, ◌==◌, IsTrue, IfSome, OnSome, Option, None, ℕ, sym, subst, ◌+◌, ◌-◌, ◌*◌, ◌<◌, ◌≤◌, ◌≡◌, List, [], ◌∷◌, Some, refl, ◌∙◌, arith, take, get_or, length, All}
+use Rattle.std.proofs.Common.{Bool, true, false, ap, ◌==◌, IsTrue, IfSome, OnSome, Option, None, ℕ, sym, subst, ◌+◌}
+use Rattle.std.proofs.Common.{◌-◌, ◌*◌, ◌<◌, ◌≤◌, ◌≡◌, List, [], ◌∷◌, Some, refl, ◌∙◌, arith, take, get_or, length, All}
 use Rattle.std.proofs.lemmas.Bool.Decides.{nat_tests}
 use Rattle.std.proofs.lemmas.List.{length-take, get_or-take}
 use Rattle.std.proofs.lemmas.List.Elements.{All-head, All-tail, All-from_get_or}
@@ -12,7 +13,8 @@ use Rattle.enc_model.specs.declared.Charset.TheVariants.{Ascii, Lead}
 use Rattle.enc_model.specs.declared.Place.TheVariants.{In, Trail}
 use Rattle.enc_model.specs.Index.{Index, code}
 use Rattle.enc_model.specs.Stream.{Handler, IsCalm, steps}
-use Rattle.enc_model.specs.Japanese.{shift_jis, shift_jis_pair, EucJp, euc_jp, euc_jp_start, euc_jp_pair, iso2022, Iso2022}
+use Rattle.enc_model.specs.Japanese.{shift_jis, shift_jis_pair, EucJp, euc_jp, euc_jp_start, euc_jp_pair, iso2022}
+use Rattle.enc_model.specs.Japanese.{Iso2022}
 use Rattle.enc_model.proofs.Calm.{shift_jis_calm, euc_jp_calm, iso2022_calm}
 use Rattle.enc_model.proofs.Steps.{steps_one, steps_bytes, steps_run, steps_append}
 use Rattle.enc_legacy.specs.ShiftJis.{IsShiftJisLead}
@@ -30,75 +32,129 @@ take_two (x ∷ y ∷ xs) l = refl
 
 module _ {S : Type 0} (h : Handler S) (calm : IsCalm h) where
   -- a byte that is a character
-  one_read : (s next : S) (rest : List ℕ) (c : ℕ) → 0 < length rest → h s (Some (get_or rest 0 0)) ≡ record { state = next; answer = Point c; restored = [] } →
+  one_read : (s next : S) (rest : List ℕ) (c : ℕ) → 0 < length rest → h s (Some (get_or rest 0 0)) ≡ record {
+    state = next;
+    answer = Point c;
+    restored = [];
+  } →
       steps h false s (take 1 rest) ≡ record { text = c ∷ []; state = next }
   one_read s next rest c l e = rw (take_one rest l) (steps_one h calm s (get_or rest 0 0) ∙ (rw e refl))
 
   -- two bytes that are one
-  two_read : (s mid next : S) (rest : List ℕ) (c : ℕ) → 2 ≤ length rest → h s (Some (get_or rest 0 0)) ≡ record { state = mid; answer = Nothing; restored = [] } →
+  two_read : (s mid next : S) (rest : List ℕ) (c : ℕ) → 2 ≤ length rest → h s (Some (get_or rest 0 0)) ≡ record {
+    state = mid;
+    answer = Nothing;
+    restored = [];
+  } →
       h mid (Some (get_or rest 1 0)) ≡ record { state = next; answer = Point c; restored = [] } →
       steps h false s (take 2 rest) ≡ record { text = c ∷ []; state = next }
-  two_read s mid next rest c l e f = rw (take_two rest l) (steps_bytes h calm s (get_or rest 0 0 ∷ get_or rest 1 0 ∷ []) ∙ (rw (e, f) refl))
+  two_read s mid next rest c l e f =
+      rw (take_two rest l) (steps_bytes h calm s (get_or rest 0 0 ∷ get_or rest 1 0 ∷ []) ∙ (rw (e, f) refl))
 
 -- SHIFT_JIS
 
-sjis_lead : (i : Index) (a : ℕ) → IsShiftJisLead a → shift_jis i 0 (Some a) ≡ record { state = a; answer = Nothing; restored = [] }
+sjis_lead : (i : Index) (a : ℕ) → IsShiftJisLead a → shift_jis i 0 (Some a) ≡ record {
+  state = a;
+  answer = Nothing;
+  restored = [];
+}
 unfolding shift_jis
 sjis_lead i a l = grind (arith, nat_tests, l)
 
-sjis_trail : (i : Index) (a b c : ℕ) → IsShiftJisLead a → shift_jis_pair i a b ≡ Some c → shift_jis i a (Some b) ≡ record { state = 0; answer = Point c; restored = [] }
+sjis_trail : (i : Index) (a b c : ℕ) → IsShiftJisLead a → shift_jis_pair i a b ≡ Some c → shift_jis i a (Some b) ≡ record {
+  state = 0;
+  answer = Point c;
+  restored = [];
+}
 unfolding shift_jis
 sjis_trail i a b c l e = rw e (grind (arith, nat_tests, l))
 
 pub sjis_one : (i : Index) (s : ℕ) (rest : List ℕ) → s ≡ 0 → 0 < length rest → get_or rest 0 0 < 128 →
     steps (shift_jis i) false s (take 1 rest) ≡ record { text = get_or rest 0 0 ∷ []; state = 0 }
-sjis_one i s rest e l a = rw e (one_read (shift_jis i) (shift_jis_calm i) 0 0 rest (get_or rest 0 0) l (sjis_own i (get_or rest 0 0) a))
+sjis_one i s rest e l a =
+    rw e (one_read (shift_jis i) (shift_jis_calm i) 0 0 rest (get_or rest 0 0) l (sjis_own i (get_or rest 0 0) a))
 
-pub sjis_two : (i : Index) (s : ℕ) (rest : List ℕ) (c : ℕ) → s ≡ 0 → 2 ≤ length rest → IsShiftJisLead (get_or rest 0 0) →
-    shift_jis_pair i (get_or rest 0 0) (get_or rest 1 0) ≡ Some c → steps (shift_jis i) false s (take 2 rest) ≡ record { text = c ∷ []; state = 0 }
+pub sjis_two : (i : Index) (s : ℕ) (rest : List ℕ) (c : ℕ) → s ≡ 0 → 2 ≤ length rest → IsShiftJisLead (get_or rest 0 0)
+    →
+    shift_jis_pair i (get_or rest 0 0) (get_or rest 1 0) ≡ Some c → steps (shift_jis i) false s (take 2 rest) ≡ record {
+      text = c ∷ [];
+      state = 0;
+    }
 sjis_two i s rest c e l lead pair =
     let a = get_or rest 0 0 in
-    rw e (two_read (shift_jis i) (shift_jis_calm i) 0 a 0 rest c l (sjis_lead i a lead) (sjis_trail i a (get_or rest 1 0) c lead pair))
+    rw e (two_read (shift_jis i) (shift_jis_calm i) 0 a 0 rest c l (sjis_lead i a lead)
+    (sjis_trail i a (get_or rest 1 0) c lead pair))
 
-pub sjis_ascii : (i : Index) (s : ℕ) → s ≡ 0 → (b : ℕ) → b < 128 → steps (shift_jis i) false s (b ∷ []) ≡ record { text = b ∷ []; state = s }
+pub sjis_ascii : (i : Index) (s : ℕ) → s ≡ 0 → (b : ℕ) → b < 128 → steps (shift_jis i) false s (b ∷ []) ≡ record {
+  text = b ∷ [];
+  state = s;
+}
 sjis_ascii i s e b l = sjis_one i s (b ∷ []) e (omega arith) l ∙ ap (λ z. record { text = b ∷ []; state = z }) (sym e)
 
-pub sjis_pairs : {A : Type 0} (now : A → ℕ) (i : Index) (s a b : ℕ) (o : Option A) → s ≡ 0 → OnSome o (IsShiftJisLead a) → IfSome o (λ c. shift_jis_pair i a b ≡ Some (now c)) →
+pub sjis_pairs : {A : Type 0} (now : A → ℕ) (i : Index) (s a b : ℕ) (o : Option A) → s ≡ 0 → OnSome o (IsShiftJisLead a)
+    → IfSome o (λ c. shift_jis_pair i a b ≡ Some (now c)) →
     IfSome o (λ c. steps (shift_jis i) false s (a ∷ b ∷ []) ≡ record { text = now c ∷ []; state = s })
 sjis_pairs now i s a b None e lead pair = tt
 sjis_pairs now i s a b (Some c) e lead pair =
-    sjis_two i s (a ∷ b ∷ []) (now c) e (omega arith) lead pair ∙ ap (λ z. record { text = now c ∷ []; state = z }) (sym e)
+    sjis_two i s (a ∷ b ∷ []) (now c) e (omega arith) lead pair ∙ ap (λ z. record {
+      text = now c ∷ [];
+      state = z;
+    }) (sym e)
 
 -- EUC-JP
 
-euc_lead : (i j : Index) (a : ℕ) → IsRow a → euc_jp i j euc_jp_start (Some a) ≡ record { state = record { lead = a; flag = false }; answer = Nothing; restored = [] }
+euc_lead : (i j : Index) (a : ℕ) → IsRow a → euc_jp i j euc_jp_start (Some a) ≡ record
+    { state = record { lead = a; flag = false }; answer = Nothing; restored = [] }
 unfolding euc_jp
 euc_lead i j a l = grind (arith, nat_tests, l)
 
 euc_trail : (i j : Index) (a b c : ℕ) → IsRow a → euc_jp_pair i j false a b ≡ Some c →
-    euc_jp i j (record { lead = a; flag = false }) (Some b) ≡ record { state = euc_jp_start; answer = Point c; restored = [] }
+    euc_jp i j (record {
+      lead = a;
+      flag = false;
+    }) (Some b) ≡ record { state = euc_jp_start; answer = Point c; restored = [] }
 unfolding euc_jp
 euc_trail i j a b c l e = rw e (grind (arith, nat_tests, l))
 
 pub euc_one : (i j : Index) (s : EucJp) (rest : List ℕ) → s ≡ euc_jp_start → 0 < length rest → get_or rest 0 0 < 128 →
     steps (euc_jp i j) false s (take 1 rest) ≡ record { text = get_or rest 0 0 ∷ []; state = euc_jp_start }
-euc_one i j s rest e l a = rw e (one_read (euc_jp i j) (euc_jp_calm i j) euc_jp_start euc_jp_start rest (get_or rest 0 0) l (euc_own i j (get_or rest 0 0) a))
+euc_one i j s rest e l a =
+    rw e (one_read (euc_jp i j) (euc_jp_calm i j) euc_jp_start euc_jp_start rest (get_or rest 0 0) l
+    (euc_own i j (get_or rest 0 0) a))
 
-pub euc_two : (i j : Index) (s : EucJp) (rest : List ℕ) (c : ℕ) → s ≡ euc_jp_start → 2 ≤ length rest → IsRow (get_or rest 0 0) →
-    euc_jp_pair i j false (get_or rest 0 0) (get_or rest 1 0) ≡ Some c → steps (euc_jp i j) false s (take 2 rest) ≡ record { text = c ∷ []; state = euc_jp_start }
+pub euc_two : (i j : Index) (s : EucJp) (rest : List ℕ) (c : ℕ) → s ≡ euc_jp_start → 2 ≤ length rest
+    → IsRow (get_or rest 0 0) →
+    euc_jp_pair i j false (get_or rest 0 0) (get_or rest 1 0) ≡ Some c → steps (euc_jp i j) false s (take 2 rest) ≡ record {
+      text = c ∷ [];
+      state = euc_jp_start;
+    }
 euc_two i j s rest c e l lead pair =
     let a = get_or rest 0 0 in
-    rw e (two_read (euc_jp i j) (euc_jp_calm i j) euc_jp_start (record { lead = a; flag = false }) euc_jp_start rest c l (euc_lead i j a lead)
+    rw e (two_read (euc_jp i j) (euc_jp_calm i j) euc_jp_start (record { lead = a; flag = false }) euc_jp_start rest c l
+    (euc_lead i j a lead)
     (euc_trail i j a (get_or rest 1 0) c lead pair))
 
-pub euc_ascii : (i j : Index) (s : EucJp) → s ≡ euc_jp_start → (b : ℕ) → b < 128 → steps (euc_jp i j) false s (b ∷ []) ≡ record { text = b ∷ []; state = s }
-euc_ascii i j s e b l = euc_one i j s (b ∷ []) e (omega arith) l ∙ ap (λ (z : EucJp). record { text = b ∷ []; state = z }) (sym e)
+pub euc_ascii : (i j : Index) (s : EucJp) → s ≡ euc_jp_start → (b : ℕ) → b < 128 → steps (euc_jp i j) false s (b ∷ []) ≡ record {
+  text = b ∷ [];
+  state = s;
+}
+euc_ascii i j s e b l = euc_one i j s (b ∷ []) e (omega arith) l ∙ ap (λ (z : EucJp). record {
+  text = b ∷ [];
+  state = z;
+}) (sym e)
 
-pub euc_pairs : {A : Type 0} (now : A → ℕ) (i j : Index) (s : EucJp) (a b : ℕ) (o : Option A) → s ≡ euc_jp_start → OnSome o (IsRow a) →
-    IfSome o (λ c. euc_jp_pair i j false a b ≡ Some (now c)) → IfSome o (λ c. steps (euc_jp i j) false s (a ∷ b ∷ []) ≡ record { text = now c ∷ []; state = s })
+pub euc_pairs : {A : Type 0} (now : A → ℕ) (i j : Index) (s : EucJp) (a b : ℕ) (o : Option A) → s ≡ euc_jp_start
+    → OnSome o (IsRow a) →
+    IfSome o (λ c. euc_jp_pair i j false a b ≡ Some (now c)) → IfSome o (λ c. steps (euc_jp i j) false s (a ∷ b ∷ []) ≡ record {
+      text = now c ∷ [];
+      state = s;
+    })
 euc_pairs now i j s a b None e lead pair = tt
 euc_pairs now i j s a b (Some c) e lead pair =
-    euc_two i j s (a ∷ b ∷ []) (now c) e (omega arith) lead pair ∙ ap (λ (z : EucJp). record { text = now c ∷ []; state = z }) (sym e)
+    euc_two i j s (a ∷ b ∷ []) (now c) e (omega arith) lead pair ∙ ap (λ (z : EucJp). record {
+      text = now c ∷ [];
+      state = z;
+    }) (sym e)
 
 -- a test of no lead that was passed
 pub no_lead : (lead : ℕ) → IsTrue (lead == 0) → lead ≡ 0
@@ -112,20 +168,24 @@ iso_lead : (i : Index) (a : ℕ) (output : Charset) (flag : Bool) → 0x21 ≤ a
 unfolding iso2022
 iso_lead i a output flag l h = grind (arith, nat_tests)
 
-iso_trail : (i : Index) (a b c : ℕ) (output : Charset) → 0x21 ≤ b → b ≤ 0x7E → code i ((a - 0x21) * 94 + (b - 0x21)) ≡ Some c →
+iso_trail : (i : Index) (a b c : ℕ) (output : Charset) → 0x21 ≤ b → b ≤ 0x7E
+    → code i ((a - 0x21) * 94 + (b - 0x21)) ≡ Some c →
     iso2022 i (record { place = Trail a; output = output; flag = false }) (Some b)
     ≡ record { state = record { place = In Lead; output = output; flag = false }; answer = Point c; restored = [] }
 unfolding iso2022
 iso_trail i a b c output l h e = rw e (grind (arith, nat_tests))
 
-pub iso_two : (i : Index) (output : Charset) (flag : Bool) (rest : List ℕ) (c : ℕ) → 2 ≤ length rest → (0x21 ≤ get_or rest 0 0) × (get_or rest 0 0 ≤ 0x7E) →
-    (0x21 ≤ get_or rest 1 0) × (get_or rest 1 0 ≤ 0x7E) → code i ((get_or rest 0 0 - 0x21) * 94 + (get_or rest 1 0 - 0x21)) ≡ Some c →
+pub iso_two : (i : Index) (output : Charset) (flag : Bool) (rest : List ℕ) (c : ℕ) → 2 ≤ length rest
+    → (0x21 ≤ get_or rest 0 0) × (get_or rest 0 0 ≤ 0x7E) →
+    (0x21 ≤ get_or rest 1 0) × (get_or rest 1 0 ≤ 0x7E) → code i
+    ((get_or rest 0 0 - 0x21) * 94 + (get_or rest 1 0 - 0x21)) ≡ Some c →
     steps (iso2022 i) false (record { place = In Lead; output = output; flag = flag }) (take 2 rest)
     ≡ record { text = c ∷ []; state = record { place = In Lead; output = output; flag = false } }
 iso_two i output flag rest c l lead trail e =
     let a = get_or rest 0 0 in
     let b = get_or rest 1 0 in
-    two_read (iso2022 i) (iso2022_calm i) _ _ _ rest c l (iso_lead i a output flag lead.0 lead.1) (iso_trail i a b c output trail.0 trail.1 e)
+    two_read (iso2022 i) (iso2022_calm i) _ _ _ rest c l (iso_lead i a output flag lead.0 lead.1)
+    (iso_trail i a b c output trail.0 trail.1 e)
 
 iso_own : (i : Index) (output : Charset) (flag : Bool) (b : ℕ) → is_plain_2022 b ≡ true →
     iso2022 i (record { place = In Ascii; output = output; flag = flag }) (Some b)
@@ -133,7 +193,8 @@ iso_own : (i : Index) (output : Charset) (flag : Bool) (b : ℕ) → is_plain_20
 unfolding iso2022
 iso_own i output flag b p = grind (arith, nat_tests, p)
 
-iso_run : (i : Index) (output : Charset) (flag : Bool) (run : List ℕ) → 0 < length run → All (λ b. is_plain_2022 b ≡ true) run →
+iso_run : (i : Index) (output : Charset) (flag : Bool) (run : List ℕ) → 0 < length run
+    → All (λ b. is_plain_2022 b ≡ true) run →
     steps (iso2022 i) false (record { place = In Ascii; output = output; flag = flag }) run
     ≡ record { text = run; state = record { place = In Ascii; output = output; flag = false } }
 iso_run i output flag [] l all = absurd (omega (arith, l))
@@ -145,24 +206,29 @@ iso_run i output flag (b ∷ run) l all =
     let first : steps h false s (b ∷ []) ≡ record { text = b ∷ []; state = next } =
     steps_one h calm s b ∙ (rw (iso_own i output flag b (All-head (λ x. is_plain_2022 x ≡ true) b run all)) refl) in
     let rest : steps h false next run ≡ record { text = run; state = next } =
-    steps_run h calm (λ x. is_plain_2022 x ≡ true) next (λ x p. iso_own i output false x p) run (All-tail (λ x. is_plain_2022 x ≡ true) b run all) in
+    steps_run h calm (λ x. is_plain_2022 x ≡ true) next (λ x p. iso_own i output false x p) run
+    (All-tail (λ x. is_plain_2022 x ≡ true) b run all) in
     steps_append h calm false s (b ∷ []) run ∙ (rw (first, rest) refl)
 
-plain_all : (bytes : List ℕ) (n : ℕ) → n ≡ prefix_len is_plain_2022 bytes → All (λ b. is_plain_2022 b ≡ true) (take n bytes)
+plain_all : (bytes : List ℕ) (n : ℕ) → n ≡ prefix_len is_plain_2022 bytes
+    → All (λ b. is_plain_2022 b ≡ true) (take n bytes)
 plain_all bytes n e =
     All-from_get_or (λ b. is_plain_2022 b ≡ true) (take n bytes) 0 (λ k l.
     let m : k < n = let t = length-take n bytes in omega (arith, l, t) in
-    subst (λ b. is_plain_2022 b ≡ true) (sym (get_or-take n bytes k 0 m)) (prefix_len_passes is_plain_2022 bytes k 0 (subst (λ z. k < z) e m)))
+    subst (λ b. is_plain_2022 b ≡ true) (sym (get_or-take n bytes k 0 m))
+    (prefix_len_passes is_plain_2022 bytes k 0 (subst (λ z. k < z) e m)))
 
 plain_ascii : (b : ℕ) → is_plain_2022 b ≡ true → b < 128
 plain_ascii b p = grind (arith, nat_tests, p)
 
 -- a run in ASCII, which clears the flag
-pub iso_front : (i : Index) (output : Charset) (flag : Bool) (rest : List ℕ) (n : ℕ) → n ≡ prefix_len is_plain_2022 rest → 0 < n →
+pub iso_front : (i : Index) (output : Charset) (flag : Bool) (rest : List ℕ) (n : ℕ) → n ≡ prefix_len is_plain_2022 rest
+    → 0 < n →
     All (λ b. b < 128) (take n rest)
     × (steps (iso2022 i) false (record { place = In Ascii; output = output; flag = flag }) (take n rest)
     ≡ record { text = take n rest; state = record { place = In Ascii; output = output; flag = false } })
 iso_front i output flag rest n e some =
     let all = plain_all rest n e in
-    let long : 0 < length (take n rest) = let t = length-take n rest in let w = prefix_len-le-length is_plain_2022 rest in omega (arith, t, w, some, e) in
+    let long : 0 < length (take n rest) = let t = length-take n rest in let w =
+    prefix_len-le-length is_plain_2022 rest in omega (arith, t, w, some, e) in
     (λ k d l. plain_ascii (get_or (take n rest) k d) (all k d l), iso_run i output flag (take n rest) long all)

@@ -13,4 +13,8 @@ single_start = SingleState
 unfoldable pub single_in : Tables → Handler Encoding
 single_in t e None = record { state = e; answer = Finished; restored = [] }
 single_in t e (Some b) =
-    record { state = e; answer = if nat_lt b 0x80 then Point b else answer_of (code (t.single e) (b - 0x80)); restored = [] }
+    record {
+      state = e;
+      answer = if nat_lt b 0x80 then Point b else answer_of (code (t.single e) (b - 0x80));
+      restored = [];
+    }

@@ -9,7 +9,8 @@ few : (t : Tables) (s : Encoding) (b : ℕ) → length (single_in t s (Some b)).
 unfolding single_in
 few t s b = lit≤ tt
 
-quiet : (t : Tables) (s : Encoding) (b : ℕ) → IsQuiet (single_in t) (single_in t s (Some b)).state (single_in t s (Some b)).restored
+quiet : (t : Tables) (s : Encoding) (b : ℕ) → IsQuiet (single_in t) (single_in t s (Some b)).state
+    (single_in t s (Some b)).restored
 unfolding single_in
 quiet t s b = tt
 

@@ -15,7 +15,8 @@ use enc_model::{Answer, Batch, BlockDecoder, Decoder, Restored, Sink, Utf8Char, 
 use lane_kernels::ascii_front;
 use std::marker::Model;
 
-/// A decoder of EUC-JP (Encoding Standard, section 12.1.1): the lead that is kept, or 0, and whether it is one of jis0212.
+/// A decoder of EUC-JP (Encoding Standard, section 12.1.1): the lead that is kept, or 0, and whether it is one of
+/// jis0212.
 #[derive(Drop)]
 pub struct EucJpState {
     lead: u8,
@@ -97,7 +98,8 @@ impl Decoder for EucJpState {
 #[inline(always)]
 fn ready_pair(indexes: &IndexSet, lead: u8, b: u8) -> Option<&Utf8Char>
     ensures lead { OnSome result (IsRow lead) }
-    ensures char { IfSome result (λ c. euc_jp_pair (tables indexes.now).jis0208 (tables indexes.now).jis0212 false lead b ≡ Some c.now) }
+    ensures char { IfSome result
+        (λ c. euc_jp_pair (tables indexes.now).jis0208 (tables indexes.now).jis0212 false lead b ≡ Some c.now) }
 {
     if lead < 0xA1 || 0xFE < lead || b < 0xA1 || 0xFE < b {
         return None;
@@ -182,8 +184,12 @@ impl EucJpState {
         piece: &[u8],
         sink: &mut S,
     ) -> Result<(), S::Refusal>
-        ensures given { Given S.takes S.refuses sink.old (steps (euc_jp (tables indexes.now).jis0208 (tables indexes.now).jis0212) false self.old piece.now).text sink.new result }
-        ensures state { OnOk result (self.new ≡ (steps (euc_jp (tables indexes.now).jis0208 (tables indexes.now).jis0212) false self.old piece.now).state) }
+        ensures given { Given S.takes S.refuses sink.old
+            (steps (euc_jp (tables indexes.now).jis0208 (tables indexes.now).jis0212) false self.old piece.now).text
+            sink.new result }
+        ensures state { OnOk result
+            (self.new ≡ (steps (euc_jp (tables indexes.now).jis0208 (tables indexes.now).jis0212) false self.old
+            piece.now).state) }
     {
         feed(self, indexes, piece, sink)
     }
@@ -194,8 +200,10 @@ impl EucJpState {
     ///
     /// The sink's refusal, at once; nothing more is said of the state then.
     pub fn finish<S: Sink>(&mut self, indexes: &IndexSet, sink: &mut S) -> Result<(), S::Refusal>
-        ensures given { Given S.takes S.refuses sink.old (steps (euc_jp (tables indexes.now).jis0208 (tables indexes.now).jis0212) true self.old []).text sink.new result }
-        ensures state { OnOk result (self.new ≡ (steps (euc_jp (tables indexes.now).jis0208 (tables indexes.now).jis0212) true self.old []).state) }
+        ensures given { Given S.takes S.refuses sink.old
+            (steps (euc_jp (tables indexes.now).jis0208 (tables indexes.now).jis0212) true self.old []).text sink.new result }
+        ensures state { OnOk result
+            (self.new ≡ (steps (euc_jp (tables indexes.now).jis0208 (tables indexes.now).jis0212) true self.old []).state) }
     {
         finish(self, indexes, sink)
     }

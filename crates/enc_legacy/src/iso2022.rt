@@ -4,7 +4,8 @@ ghost use Rattle.std.specs.Prelude.{◌≡◌, OnOk, OnSome, IfSome, ◌+◌, �
 ghost use Rattle.enc_legacy.specs.Iso2022State.{IsStand};
 ghost use Rattle.enc_model.specs.Stream.{restored_bytes, IsCalm, steps};
 ghost use Rattle.enc_model.specs.Sink.{Given};
-ghost use Rattle.enc_model.specs.Japanese.{Iso2022, iso2022, iso2022_start, iso2022_answer, iso2022_byte, iso2022_end, iso2022_plain, answer_of, escape_of, introducer_byte};
+ghost use Rattle.enc_model.specs.Japanese.{Iso2022, iso2022, iso2022_start, iso2022_answer, iso2022_byte, iso2022_end};
+ghost use Rattle.enc_model.specs.Japanese.{iso2022_plain, answer_of, escape_of, introducer_byte};
 ghost use Rattle.enc_model.specs.Index.{code};
 ghost use Rattle.enc_model.proofs.Calm.{iso2022_calm};
 ghost use Rattle.enc_model.specs.Indexes.{tables};
@@ -19,7 +20,8 @@ use enc_model::{
 use lane_kernels::plain_front_2022;
 use std::marker::Model;
 
-/// A decoder of ISO-2022-JP (Encoding Standard, section 12.2.1): where it stands, the output state, to which an escape that
+/// A decoder of ISO-2022-JP (Encoding Standard, section 12.2.1): where it stands, the output state, to which an escape
+/// that
 /// means nothing goes back, and a flag, set between an escape and the next byte.
 #[derive(Drop)]
 pub struct Iso2022State {
@@ -136,7 +138,8 @@ impl Iso2022State {
     /// A byte behind 1B and one more.
     fn escaped(&mut self, lead: Introducer, b: u8) -> (Answer, Restored)
         ensures answer { result.0 ≡ (iso2022_byte [] (Place.Escape lead) self.old.output self.old.flag b).answer }
-        ensures restored { restored_bytes result.1 ≡ (iso2022_byte [] (Place.Escape lead) self.old.output self.old.flag b).restored }
+        ensures restored { restored_bytes
+            result.1 ≡ (iso2022_byte [] (Place.Escape lead) self.old.output self.old.flag b).restored }
         ensures state { self.new ≡ (iso2022_byte [] (Place.Escape lead) self.old.output self.old.flag b).state }
     {
         match escape(lead, b) {
@@ -322,8 +325,10 @@ impl Iso2022State {
         piece: &[u8],
         sink: &mut S,
     ) -> Result<(), S::Refusal>
-        ensures given { Given S.takes S.refuses sink.old (steps (iso2022 (tables indexes.now).jis0208) false self.old piece.now).text sink.new result }
-        ensures state { OnOk result (self.new ≡ (steps (iso2022 (tables indexes.now).jis0208) false self.old piece.now).state) }
+        ensures given { Given S.takes S.refuses sink.old
+            (steps (iso2022 (tables indexes.now).jis0208) false self.old piece.now).text sink.new result }
+        ensures state { OnOk result
+            (self.new ≡ (steps (iso2022 (tables indexes.now).jis0208) false self.old piece.now).state) }
     {
         feed(self, indexes, piece, sink)
     }
@@ -334,7 +339,8 @@ impl Iso2022State {
     ///
     /// The sink's refusal, at once; nothing more is said of the state then.
     pub fn finish<S: Sink>(&mut self, indexes: &IndexSet, sink: &mut S) -> Result<(), S::Refusal>
-        ensures given { Given S.takes S.refuses sink.old (steps (iso2022 (tables indexes.now).jis0208) true self.old []).text sink.new result }
+        ensures given { Given S.takes S.refuses sink.old
+            (steps (iso2022 (tables indexes.now).jis0208) true self.old []).text sink.new result }
         ensures state { OnOk result (self.new ≡ (steps (iso2022 (tables indexes.now).jis0208) true self.old []).state) }
     {
         finish(self, indexes, sink)

@@ -190,8 +190,10 @@ impl ShiftJisState {
         piece: &[u8],
         sink: &mut S,
     ) -> Result<(), S::Refusal>
-        ensures given { Given S.takes S.refuses sink.old (steps (shift_jis (tables indexes.now).jis0208) false self.old piece.now).text sink.new result }
-        ensures state { OnOk result (self.new ≡ (steps (shift_jis (tables indexes.now).jis0208) false self.old piece.now).state) }
+        ensures given { Given S.takes S.refuses sink.old
+            (steps (shift_jis (tables indexes.now).jis0208) false self.old piece.now).text sink.new result }
+        ensures state { OnOk result
+            (self.new ≡ (steps (shift_jis (tables indexes.now).jis0208) false self.old piece.now).state) }
     {
         feed(self, indexes, piece, sink)
     }
@@ -202,7 +204,8 @@ impl ShiftJisState {
     ///
     /// The sink's refusal, at once; nothing more is said of the state then.
     pub fn finish<S: Sink>(&mut self, indexes: &IndexSet, sink: &mut S) -> Result<(), S::Refusal>
-        ensures given { Given S.takes S.refuses sink.old (steps (shift_jis (tables indexes.now).jis0208) true self.old []).text sink.new result }
+        ensures given { Given S.takes S.refuses sink.old
+            (steps (shift_jis (tables indexes.now).jis0208) true self.old []).text sink.new result }
         ensures state { OnOk result (self.new ≡ (steps (shift_jis (tables indexes.now).jis0208) true self.old []).state) }
     {
         finish(self, indexes, sink)

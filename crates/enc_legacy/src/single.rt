@@ -115,7 +115,8 @@ impl SingleState {
         piece: &[u8],
         sink: &mut S,
     ) -> Result<(), S::Refusal>
-        ensures given { Given S.takes S.refuses sink.old (steps (single ((tables indexes.now).single self.old)) false single_start piece.now).text sink.new result }
+        ensures given { Given S.takes S.refuses sink.old
+            (steps (single ((tables indexes.now).single self.old)) false single_start piece.now).text sink.new result }
         ensures state { OnOk result (self.new ≡ self.old) }
     {
         feed(self, indexes, piece, sink)
@@ -127,7 +128,8 @@ impl SingleState {
     ///
     /// The sink's refusal, at once; nothing more is said of the state then.
     pub fn finish<S: Sink>(&mut self, indexes: &IndexSet, sink: &mut S) -> Result<(), S::Refusal>
-        ensures given { Given S.takes S.refuses sink.old (steps (single ((tables indexes.now).single self.old)) true single_start []).text sink.new result }
+        ensures given { Given S.takes S.refuses sink.old
+            (steps (single ((tables indexes.now).single self.old)) true single_start []).text sink.new result }
         ensures state { OnOk result (self.new ≡ self.old) }
     {
         finish(self, indexes, sink)

@@ -14,7 +14,8 @@ pub trait Strider: Decoder {
         requires room { length batch.old + 12 * length rest.now ≤ ROOM }
         ensures some { 0 < result }
         ensures within { result ≤ length rest.now }
-        ensures text { BatchTook batch.old (steps (Self.handler tables.now) false self.old (take result rest.now)).text batch.new }
+        ensures text { BatchTook batch.old (steps (Self.handler tables.now) false self.old (take result rest.now)).text
+            batch.new }
         ensures state { self.new ≡ (steps (Self.handler tables.now) false self.old (take result rest.now)).state };
 }
 
@@ -22,7 +23,8 @@ pub trait Strider: Decoder {
 pub trait PairReader: Decoder {
     /// Whether ASCII stands for itself from here.
     fn takes_ascii(&self, tables: &Self::Tables) -> bool
-        ensures { IsTrue result → (b : ℕ) → b < 128 → steps (Self.handler tables.now) false self.now (b ∷ []) ≡ record { text = b ∷ []; state = self.now } };
+        ensures { IsTrue result → (b : ℕ) → b < 128 → steps (Self.handler tables.now) false self.now (b ∷ []) ≡ record
+            { text = b ∷ []; state = self.now } };
 
     /// The character that two bytes stand for from here, where a table has it ready.
     fn ready_pair<'a>(
@@ -31,7 +33,8 @@ pub trait PairReader: Decoder {
         first: u8,
         second: u8,
     ) -> Option<&'a Utf8Char>
-        ensures { IfSome result (λ c. steps (Self.handler tables.now) false self.now (first ∷ second ∷ []) ≡ record { text = c.now ∷ []; state = self.now }) };
+        ensures { IfSome result (λ c. steps (Self.handler tables.now) false self.now (first ∷ second ∷ []) ≡ record
+            { text = c.now ∷ []; state = self.now }) };
 }
 
 /// Reads ASCII, or a pair that is ready, or else one byte, and says how many bytes.
@@ -46,7 +49,8 @@ pub fn read_pair<D: PairReader>(
     requires room { length batch.old + 12 * length rest.now ≤ ROOM }
     ensures some { 0 < result }
     ensures within { result ≤ length rest.now }
-    ensures text { BatchTook batch.old (steps (D.handler tables.now) false state.old (take result rest.now)).text batch.new }
+    ensures text { BatchTook batch.old (steps (D.handler tables.now) false state.old (take result rest.now)).text
+        batch.new }
     ensures state { state.new ≡ (steps (D.handler tables.now) false state.old (take result rest.now)).state }
 {
     let first = rest[0];

@@ -1,9 +1,13 @@
 -- What holds of every steady encoder: it goes code point by code point, and so in any cut.
-use Rattle.std.proofs.Common.{ℕ, zero, suc, ◌+◌, ◌*◌, ◌<◌, ◌≤◌, ◌≡◌, true, false, List, [], ◌∷◌, ◌++◌, Option, Some, None, length, refl, sym, ◌∙◌, ap, arith, append_assoc, length-append, lit≤, lit<, ◌/◌, ◌%◌, ◌==◌, if◌then◌else◌}
+use Rattle.std.proofs.Common.{ℕ, zero, suc, ◌+◌, ◌*◌, ◌<◌, ◌≤◌, ◌≡◌, true, false, List, [], ◌∷◌, ◌++◌, Option, Some}
+use Rattle.std.proofs.Common.{None, length, refl, sym, ◌∙◌, ap, arith, append_assoc, length-append, lit≤, lit<, ◌/◌}
+use Rattle.std.proofs.Common.{◌%◌, ◌==◌, if◌then◌else◌}
 use Rattle.std.specs.Fmt.{decimal, digits, digits_onto, digit_glyph}
 use Rattle.enc_model.specs.declared.Mode.{Mode}
 use Rattle.enc_model.specs.declared.Mode.TheVariants.{Html, Fatal}
-use Rattle.enc_model.specs.Encode.{Shift, Written, Wrote, Again, Lacks, Encoder, Coded, behind, went, reference, coded_within, coded, joined, all_codes, behind_written, settled, code_within, plain_code, code_of, IsWrote, IsNoAgain, IsSteady}
+use Rattle.enc_model.specs.Encode.{Shift, Written, Wrote, Again, Lacks, Encoder, Coded, behind, went, reference}
+use Rattle.enc_model.specs.Encode.{coded_within, coded, joined, all_codes, behind_written, settled, code_within}
+use Rattle.enc_model.specs.Encode.{plain_code, code_of, IsWrote, IsNoAgain, IsSteady}
 
 behind_behind : (x y : List ℕ) (r : Coded) → behind x (behind y r) ≡ behind (x ++ y) r
 behind_behind x y r = simp append_assoc
@@ -34,7 +38,8 @@ pub all_codes_append : (g : Shift → ℕ → Coded) (s : Shift) (a b : List ℕ
 all_codes_append g s [] b = refl
 all_codes_append g s (c ∷ a) b =
     let r = g s c in
-    joined_more r (λ next. all_codes g next (a ++ b)) (λ next. joined (all_codes g next a) (λ z. all_codes g z b)) (λ next. all_codes_append g next a b)
+    joined_more r (λ next. all_codes g next (a ++ b)) (λ next. joined (all_codes g next a) (λ z. all_codes g z b))
+    (λ next. all_codes_append g next a b)
     ∙ sym (joined_joined r (λ next. all_codes g next a) (λ next. all_codes g next b))
 
 -- A CODE POINT'S OWN
@@ -77,7 +82,8 @@ digits_short zero n acc = omega arith
 digits_short (suc k) n acc =
     let d = digit_glyph false (n % 10) in
     let ih = digits_short k (n / 10) (d ∷ acc) in
-    elim (n / 10 == 0) as (λ v. length (if v then d ∷ acc else digits_onto k 10 false (n / 10) (d ∷ acc)) ≤ suc k + length acc)
+    elim (n / 10 == 0) as (λ v. length (if v then d ∷ acc else digits_onto k 10 false (n / 10) (d ∷ acc)) ≤ suc
+    k + length acc)
     [ true ↦ omega arith | false ↦ omega (arith, ih) ]
 
 plain_append : (a b : List ℕ) → ArePlain a → ArePlain b → ArePlain (a ++ b)
@@ -86,14 +92,19 @@ plain_append (c ∷ a) b p q = (p.0, p.1, plain_append a b p.2 q)
 
 pub reference_plain : (d : ℕ) → ArePlain (reference d)
 unfolding digits
-reference_plain d = (lit≤ tt, lit< tt, (lit≤ tt, lit< tt, plain_append (decimal d) (0x3B ∷ []) (digits_plain 64 d [] tt) (lit≤ tt, lit< tt, tt)))
+reference_plain d = (
+  lit≤ tt,
+  lit< tt,
+  (lit≤ tt, lit< tt, plain_append (decimal d) (0x3B ∷ []) (digits_plain 64 d [] tt) (lit≤ tt, lit< tt, tt)),
+)
 
 reference_short : (d : ℕ) → length (reference d) ≤ 67
 unfolding digits
 reference_short d = let h = digits_short 64 d [] in let e = length-append (decimal d) (0x3B ∷ []) in omega (arith, h, e)
 
 module _ (f : Encoder) (steady : IsSteady f) (mode : Mode) where
-  one_fault : (w : Written) → (code_within Html (λ next cs. record { bytes = []; state = next; fault = None }) w).fault ≡ None
+  one_fault : (w : Written)
+      → (code_within Html (λ next cs. record { bytes = []; state = next; fault = None }) w).fault ≡ None
   one_fault (Wrote b s) = refl
   one_fault (Again b s) = refl
   one_fault (Lacks b s d) = refl
@@ -105,32 +116,43 @@ module _ (f : Encoder) (steady : IsSteady f) (mode : Mode) where
   plain_fault [] s = refl
   plain_fault (c ∷ r) s =
       let one = plain_code f s c in
-      ap (λ z. z.fault) (joined_none one (λ next. all_codes (plain_code f) next r) (one_fault (settled f c (f s c)))) ∙ plain_fault r one.state
+      ap (λ z. z.fault) (joined_none one (λ next. all_codes (plain_code f) next r) (one_fault (settled f c (f s c))))
+      ∙ plain_fault r one.state
 
   -- one of them
   plain_wrote : (c : ℕ) (r cs : List ℕ) (front : List ℕ) (v : Written) (j : ℕ) (x : Coded) → IsWrote v →
-      ((s : Shift) → ((m : ℕ) → j ≤ m + 2 * length r → coded_within m f mode (all_codes (plain_code f) s r).state cs ≡ x) →
+      ((s : Shift) → ((m : ℕ) → j ≤ m + 2 * length r → coded_within m f mode (all_codes (plain_code f) s r).state
+      cs ≡ x) →
       coded_within j f mode s (r ++ cs) ≡ behind (all_codes (plain_code f) s r).bytes x) →
       ((m : ℕ) → j ≤ m + 2 * length r →
-      coded_within m f mode (joined (code_within Html (λ next z. record { bytes = []; state = next; fault = None }) (behind_written front v)) (λ next. all_codes (plain_code f) next r)).state cs ≡ x) →
+      coded_within m f mode (joined
+      (code_within Html (λ next z. record { bytes = []; state = next; fault = None }) (behind_written front v))
+      (λ next. all_codes (plain_code f) next r)).state cs ≡ x) →
       behind front (went mode (coded_within j f mode) c (r ++ cs) v)
-      ≡ behind (joined (code_within Html (λ next z. record { bytes = []; state = next; fault = None }) (behind_written front v)) (λ next. all_codes (plain_code f) next r)).bytes x
+      ≡ behind (joined (code_within Html (λ next z. record { bytes = []; state = next; fault = None })
+      (behind_written front v)) (λ next. all_codes (plain_code f) next r)).bytes x
   plain_wrote c r cs front (Wrote b s) j x w ih h =
       let rest = all_codes (plain_code f) s r in
-      behind_behind front b (coded_within j f mode s (r ++ cs)) ∙ ap (behind (front ++ b)) (ih s h) ∙ behind_behind (front ++ b) rest.bytes x
+      behind_behind front b (coded_within j f mode s (r ++ cs)) ∙ ap (behind (front ++ b)) (ih s h)
+      ∙ behind_behind (front ++ b) rest.bytes x
   plain_wrote c r cs front (Again b s) j x w ih h = absurd w
   plain_wrote c r cs front (Lacks b s d) j x w ih h = absurd w
 
   plain_case : (c : ℕ) (r cs : List ℕ) (w : Written) (i : ℕ) (x : Coded) → IsWrote (settled f c w) → 2 * length r ≤ i →
-      ((j : ℕ) (s : Shift) → 2 * length r ≤ j → ((m : ℕ) → j ≤ m + 2 * length r → coded_within m f mode (all_codes (plain_code f) s r).state cs ≡ x) →
+      ((j : ℕ) (s : Shift) → 2 * length r ≤ j
+      → ((m : ℕ) → j ≤ m + 2 * length r → coded_within m f mode (all_codes (plain_code f) s r).state cs ≡ x) →
       coded_within j f mode s (r ++ cs) ≡ behind (all_codes (plain_code f) s r).bytes x) →
       ((m : ℕ) → suc i ≤ m + 2 * length r + 1 →
-      coded_within m f mode (joined (code_within Html (λ next z. record { bytes = []; state = next; fault = None }) (settled f c w)) (λ next. all_codes (plain_code f) next r)).state cs ≡ x) →
+      coded_within m f mode (joined
+      (code_within Html (λ next z. record { bytes = []; state = next; fault = None }) (settled f c w))
+      (λ next. all_codes (plain_code f) next r)).state cs ≡ x) →
       went mode (coded_within (suc i) f mode) c (r ++ cs) w
-      ≡ behind (joined (code_within Html (λ next z. record { bytes = []; state = next; fault = None }) (settled f c w)) (λ next. all_codes (plain_code f) next r)).bytes x
+      ≡ behind (joined (code_within Html (λ next z. record { bytes = []; state = next; fault = None }) (settled f c w))
+      (λ next. all_codes (plain_code f) next r)).bytes x
   unfolding coded_within
   plain_case c r cs (Wrote b s) i x w l ih h =
-      plain_wrote c r cs [] (Wrote b s) (suc i) x tt (λ s z. ih (suc i) s (omega arith) z) (λ m k. h m (omega (arith, k)))
+      plain_wrote c r cs [] (Wrote b s) (suc i) x tt (λ s z. ih (suc i) s (omega arith) z)
+      (λ m k. h m (omega (arith, k)))
   plain_case c r cs (Again b s) i x w l ih h =
       plain_wrote c r cs b (f s c) i x (wrote_behind b (f s c) w) (λ s z. ih i s l z) (λ m k. h m (omega (arith, k)))
   plain_case c r cs (Lacks b s d) i x w l ih h = absurd w
@@ -144,7 +166,8 @@ module _ (f : Encoder) (steady : IsSteady f) (mode : Mode) where
   plain_run (c ∷ r) s cs zero x p l h = absurd (omega arith)
   plain_run (c ∷ r) s cs (suc zero) x p l h = absurd (omega arith)
   plain_run (c ∷ r) s cs (suc (suc i)) x p l h =
-      plain_case c r cs (f s c) i x (steady.ascii s c p.0 p.1) (omega arith) (λ j z q k. plain_run r z cs j x p.2 q k) (λ m k. h m (omega (arith, k)))
+      plain_case c r cs (f s c) i x (steady.ascii s c p.0 p.1) (omega arith) (λ j z q k. plain_run r z cs j x p.2 q k)
+      (λ m k. h m (omega (arith, k)))
 
   -- a reference, and then the rest
   reference_run : (d : ℕ) (s : Shift) (cs : List ℕ) (n : ℕ) → 134 + 136 * length cs ≤ n →
@@ -154,7 +177,8 @@ module _ (f : Encoder) (steady : IsSteady f) (mode : Mode) where
   reference_run d s cs n l ih =
       let r = all_codes (plain_code f) s (reference d) in
       let short = reference_short d in
-      plain_run (reference d) s cs n (all_codes (code_of f mode) r.state cs) (reference_plain d) (omega (arith, short)) (λ m k. ih r.state m (omega (arith, k, short)))
+      plain_run (reference d) s cs n (all_codes (code_of f mode) r.state cs) (reference_plain d) (omega (arith, short))
+      (λ m k. ih r.state m (omega (arith, k, short)))
       ∙ sym (joined_none r (λ next. all_codes (code_of f mode) next cs) (plain_fault (reference d) s))
 
   own_case : (c : ℕ) (cs : List ℕ) (w : Written) (n : ℕ) → IsNoAgain w → 134 + 136 * length cs ≤ n →
@@ -164,17 +188,20 @@ module _ (f : Encoder) (steady : IsSteady f) (mode : Mode) where
   own_case c cs (Wrote b s) n a l ih = ap (behind b) (ih s n (omega arith))
   own_case c cs (Again b s) n a l ih = absurd a
   own_case c cs (Lacks b s d) n a l ih =
-      elim mode as (λ y. went y (coded_within n f mode) c cs (Lacks b s d) ≡ joined (code_within y (all_codes (plain_code f)) (Lacks b s d)) (λ next. all_codes (code_of f mode) next cs)) [
+      elim mode as (λ y. went y (coded_within n f mode) c cs (Lacks b s d) ≡ joined
+      (code_within y (all_codes (plain_code f)) (Lacks b s d)) (λ next. all_codes (code_of f mode) next cs)) [
         | Html ↦
             let r = all_codes (plain_code f) s (reference d) in
-            ap (behind b) (reference_run d s cs n l ih) ∙ sym (joined_behind b r (λ next. all_codes (code_of f mode) next cs))
+            ap (behind b) (reference_run d s cs n l ih) ∙ sym
+            (joined_behind b r (λ next. all_codes (code_of f mode) next cs))
         | Fatal ↦ refl
       ]
 
   code_case : (c : ℕ) (cs : List ℕ) (w : Written) (n : ℕ) → IsNoAgain (settled f c w) → 135 + 136 * length cs ≤ n →
       ((z : Shift) (m : ℕ) → 136 * length cs ≤ m → coded_within m f mode z cs ≡ all_codes (code_of f mode) z cs) →
       went mode (coded_within n f mode) c cs w
-      ≡ joined (code_within mode (all_codes (plain_code f)) (settled f c w)) (λ next. all_codes (code_of f mode) next cs)
+      ≡ joined (code_within mode (all_codes (plain_code f)) (settled f c w))
+      (λ next. all_codes (code_of f mode) next cs)
   unfolding coded_within
   code_case c cs (Wrote b s) n a l ih = own_case c cs (Wrote b s) n tt (omega arith) ih
   code_case c cs (Lacks b s d) n a l ih = own_case c cs (Lacks b s d) n tt (omega arith) ih
@@ -186,7 +213,8 @@ module _ (f : Encoder) (steady : IsSteady f) (mode : Mode) where
       ∙ sym (joined_behind b (code_within mode (all_codes (plain_code f)) w) more)
       ∙ ap (λ r. joined r more) (sym (code_behind mode (all_codes (plain_code f)) b w))
 
-  main_run : (cs : List ℕ) (s : Shift) (n : ℕ) → 136 * length cs ≤ n → coded_within n f mode s cs ≡ all_codes (code_of f mode) s cs
+  main_run : (cs : List ℕ) (s : Shift) (n : ℕ) → 136 * length cs ≤ n → coded_within n f mode s cs ≡ all_codes
+      (code_of f mode) s cs
   unfolding coded_within
   main_run [] s zero l = refl
   main_run [] s (suc n) l = refl
@@ -198,9 +226,11 @@ module _ (f : Encoder) (steady : IsSteady f) (mode : Mode) where
   coded_is s cs = main_run cs s (136 * length cs) (omega arith)
 
   -- THE LAW: the code of a ++ b is that of a, and where it has no fault then that of b.
-  pub coded_append : (s : Shift) (a b : List ℕ) → coded f mode s (a ++ b) ≡ joined (coded f mode s a) (λ next. coded f mode next b)
+  pub coded_append : (s : Shift) (a b : List ℕ) → coded f mode s (a ++ b) ≡ joined (coded f mode s a)
+      (λ next. coded f mode next b)
   coded_append s a b =
       coded_is s (a ++ b)
       ∙ all_codes_append (code_of f mode) s a b
-      ∙ joined_more (all_codes (code_of f mode) s a) (λ next. all_codes (code_of f mode) next b) (λ next. coded f mode next b) (λ next. sym (coded_is next b))
+      ∙ joined_more (all_codes (code_of f mode) s a) (λ next. all_codes (code_of f mode) next b)
+      (λ next. coded f mode next b) (λ next. sym (coded_is next b))
       ∙ ap (λ r. joined r (λ next. coded f mode next b)) (sym (coded_is s a))

@@ -1,5 +1,6 @@
 -- Bytes that stand for themselves.
-use Rattle.std.proofs.Common.{Result, ℕ, ◌<◌, ◌≡◌, ◌++◌, false, List, [], Some, All, sym, ap, subst, arith, take, drop, take-append-drop, get_or}
+use Rattle.std.proofs.Common.{Result, ℕ, ◌<◌, ◌≡◌, ◌++◌, false, List, [], Some, All, sym, ap, subst, arith, take, drop}
+use Rattle.std.proofs.Common.{take-append-drop, get_or}
 use Rattle.std.proofs.lemmas.Bool.Decides.{nat_tests}
 use Rattle.std.proofs.lemmas.List.Sums.{prefix_len-le-length, prefix_len_passes}
 use Rattle.std.proofs.lemmas.List.Folds.{length-prefix_len}
@@ -40,13 +41,18 @@ module _ {S : Type 0} (h : Handler S) where
       }
 
   -- a front that was given
-  pub front_given : {X E A : Type 0} (takes : A → List ℕ → A → Type 0) (refuses : A → List ℕ → E → A → Type 0) (s : S) (bytes : List ℕ) (n : ℕ) (a b : A) (r : Result X E) →
-      IsFront h s bytes n → Given takes refuses a (take n bytes) b r → Given takes refuses a (steps h false s (take n bytes)).text b r
-  front_given takes refuses s bytes n a b r f g = subst (λ z. Given takes refuses a z b r) (ap (λ run. run.text) (sym f.own)) g
+  pub front_given : {X E A : Type 0} (takes : A → List ℕ → A → Type 0) (refuses : A → List ℕ → E → A → Type 0) (s : S)
+      (bytes : List ℕ) (n : ℕ) (a b : A) (r : Result X E) →
+      IsFront h s bytes n → Given takes refuses a (take n bytes) b r → Given takes refuses a
+      (steps h false s (take n bytes)).text b r
+  front_given takes refuses s bytes n a b r f g =
+      subst (λ z. Given takes refuses a z b r) (ap (λ run. run.text) (sym f.own)) g
 
   -- a refusal of a front
-  pub refused_front : {A E : Type 0} (refuses : A → List ℕ → E → A → Type 0) → ((a b : A) (x y : List ℕ) (e : E) → refuses a x e b → refuses a (x ++ y) e b) →
-      IsCalm h → (s : S) (rest : List ℕ) (n : ℕ) (a b : A) (e : E) → refuses a (steps h false s (take n rest)).text e b → refuses a (steps h false s rest).text e b
+  pub refused_front : {A E : Type 0} (refuses : A → List ℕ → E → A → Type 0)
+      → ((a b : A) (x y : List ℕ) (e : E) → refuses a x e b → refuses a (x ++ y) e b) →
+      IsCalm h → (s : S) (rest : List ℕ) (n : ℕ) (a b : A) (e : E) → refuses a (steps h false s (take n rest)).text e b
+      → refuses a (steps h false s rest).text e b
   refused_front refuses more calm s rest n a b e r =
       let first = steps h false s (take n rest) in
       subst (λ p. refuses a (steps h false s p).text e b) (take-append-drop n rest)

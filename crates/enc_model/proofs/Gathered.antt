@@ -1,7 +1,9 @@
 -- A text that grows by a character.
-use Rattle.std.proofs.Common.{ℕ, ◌+◌, ◌*◌, ◌/◌, ◌%◌, ◌<◌, ◌≤◌, ◌≡◌, true, false, List, [], ◌∷◌, ◌++◌, Some, refl, sym, ◌∙◌, ap, arith, length, length-append, append-nil}
+use Rattle.std.proofs.Common.{ℕ, ◌+◌, ◌*◌, ◌/◌, ◌%◌, ◌<◌, ◌≤◌, ◌≡◌, true, false, List, [], ◌∷◌, ◌++◌, Some, refl, sym}
+use Rattle.std.proofs.Common.{◌∙◌, ap, arith, length, length-append, append-nil}
 use Rattle.std.proofs.lemmas.Bool.Decides.{nat_tests}
-use Rattle.std.proofs.lemmas.Str.{IsUtf8-nil, IsUtf8-append, IsUtf8-encode, IsUtf8-from_is_utf8, is_utf8-from_IsUtf8, chars-append, chars-encodes, encodes-chars, length-encode, len_utf8_bounds}
+use Rattle.std.proofs.lemmas.Str.{IsUtf8-nil, IsUtf8-append, IsUtf8-encode, IsUtf8-from_is_utf8, is_utf8-from_IsUtf8}
+use Rattle.std.proofs.lemmas.Str.{chars-append, chars-encodes, encodes-chars, length-encode, len_utf8_bounds}
 use Rattle.std.specs.Str.{IsUtf8, is_utf8, chars}
 use Rattle.std.specs.Char.{IsScalar}
 use lib.Utf8.{encode, encodes, scalar}
@@ -22,7 +24,8 @@ pub nothing : is_utf8 [] ≡ true
 nothing = is_utf8-from_IsUtf8 [] IsUtf8-nil
 
 pub char_more : (old : List ℕ) (c : ℕ) → is_utf8 old ≡ true → IsScalar c → is_utf8 (old ++ encode c) ≡ true
-char_more old c u s = is_utf8-from_IsUtf8 (old ++ encode c) (IsUtf8-append old (encode c) (IsUtf8-from_is_utf8 old u) (IsUtf8-encode c s))
+char_more old c u s = is_utf8-from_IsUtf8 (old ++ encode c)
+    (IsUtf8-append old (encode c) (IsUtf8-from_is_utf8 old u) (IsUtf8-encode c s))
 
 pub one_byte : (c : ℕ) → c < 128 → encode c ≡ c ∷ []
 unfolding encode
@@ -32,11 +35,13 @@ pub two_bytes : (c : ℕ) → 128 ≤ c → c < 2048 → encode c ≡ (192 + c /
 unfolding encode
 two_bytes c l h = grind (arith, nat_tests)
 
-pub three_bytes : (c : ℕ) → 2048 ≤ c → c < 65536 → encode c ≡ (224 + c / 4096) ∷ (128 + c / 64 % 64) ∷ (128 + c % 64) ∷ []
+pub three_bytes : (c : ℕ) → 2048 ≤ c → c < 65536 → encode
+    c ≡ (224 + c / 4096) ∷ (128 + c / 64 % 64) ∷ (128 + c % 64) ∷ []
 unfolding encode
 three_bytes c l h = grind (arith, nat_tests)
 
-pub four_bytes : (c : ℕ) → 65536 ≤ c → encode c ≡ (240 + c / 262144) ∷ (128 + c / 4096 % 64) ∷ (128 + c / 64 % 64) ∷ (128 + c % 64) ∷ []
+pub four_bytes : (c : ℕ) → 65536 ≤ c → encode
+    c ≡ (240 + c / 262144) ∷ (128 + c / 4096 % 64) ∷ (128 + c / 64 % 64) ∷ (128 + c % 64) ∷ []
 unfolding encode
 four_bytes c l = grind (arith, nat_tests)
 
@@ -44,20 +49,26 @@ pub one_char : (c : ℕ) → IsScalar c → chars (encode c) ≡ c ∷ []
 one_char c s = ap chars (sym (append-nil (encode c))) ∙ chars-encodes (c ∷ []) (and_from (scalar c) true s refl)
 
 -- a batch took a character, or a text
-pub took_char : (old new : List ℕ) (c : ℕ) → is_utf8 old ≡ true → IsScalar c → new ≡ old ++ encode c → BatchTook old (c ∷ []) new
+pub took_char : (old new : List ℕ) (c : ℕ) → is_utf8 old ≡ true → IsScalar c → new ≡ old ++ encode c
+    → BatchTook old (c ∷ []) new
 took_char old new c u s e =
     let size = len_utf8_bounds c in
     let l = length-append old (encode c) in
     let n : length new ≡ length (old ++ encode c) = ap length e in
     let k = length-encode c in
-    record { text = ap chars e ∙ chars-append old (encode c) (IsUtf8-from_is_utf8 old u) ∙ ap (λ z. chars old ++ z) (one_char c s); size = omega (arith, size, l, n, k) }
+    record {
+      text = ap chars e ∙ chars-append old (encode c) (IsUtf8-from_is_utf8 old u) ∙ ap (λ z. chars old ++ z) (one_char c s);
+      size = omega (arith, size, l, n, k);
+    }
 
 encodes_size : (cs : List ℕ) → length (encodes cs) ≤ 4 * length cs
 encodes_size [] = omega arith
-encodes_size (c ∷ cs) = let i = encodes_size cs in let l = length-append (encode c) (encodes cs) in let k = length-encode c in let b = len_utf8_bounds c in omega (arith, i, l, k, b)
+encodes_size (c ∷ cs) = let i = encodes_size cs in let l = length-append (encode c) (encodes cs) in let k =
+    length-encode c in let b = len_utf8_bounds c in omega (arith, i, l, k, b)
 
 pub chars_size : (bs : List ℕ) → IsUtf8 bs → length bs ≤ 4 * length (chars bs)
-chars_size bs u = let e = encodes_size (chars bs) in let l : length (encodes (chars bs)) ≡ length bs = ap length (encodes-chars bs u) in omega (arith, e, l)
+chars_size bs u = let e = encodes_size (chars bs) in let l : length (encodes (chars bs)) ≡ length bs =
+    ap length (encodes-chars bs u) in omega (arith, e, l)
 
 pub took_text : (old new bs : List ℕ) → is_utf8 old ≡ true → IsUtf8 bs → new ≡ old ++ bs → BatchTook old (chars bs) new
 took_text old new bs u v e =
@@ -69,15 +80,19 @@ took_text old new bs u v e =
 pub text_more : (old bs : List ℕ) → is_utf8 old ≡ true → IsUtf8 bs → is_utf8 (old ++ bs) ≡ true
 text_more old bs u v = is_utf8-from_IsUtf8 (old ++ bs) (IsUtf8-append old bs (IsUtf8-from_is_utf8 old u) v)
 
-pub still_text : (old new : List ℕ) (c : ℕ) → is_utf8 old ≡ true → IsScalar c → new ≡ old ++ encode c → is_utf8 new ≡ true
+pub still_text : (old new : List ℕ) (c : ℕ) → is_utf8 old ≡ true → IsScalar c → new ≡ old ++ encode c
+    → is_utf8 new ≡ true
 still_text old new c u s e = ap is_utf8 e ∙ char_more old c u s
 
 ascii_scalars : (bs : List ℕ) → All (λ b. b < 128) bs → (scalars bs ≡ true) × (encodes bs ≡ bs)
 ascii_scalars [] a = (refl, refl)
 ascii_scalars (b ∷ bs) a =
     let l = All-head (λ x. x < 128) b bs a in
-    let i = ascii_scalars bs (All-tail (λ x. x < 128) b bs a) in
-    (and_from (scalar b) (scalars bs) (low_scalar b (omega (arith, l))) i.0, ap (λ z. z ++ encodes bs) (one_byte b l) ∙ ap (λ z. b ∷ z) i.1)
+    let i = ascii_scalars bs (All-tail (λ x. x < 128) b bs a) in (
+      and_from (scalar b) (scalars bs) (low_scalar b (omega (arith, l))) i.0,
+      ap (λ z. z ++ encodes bs) (one_byte b l)
+          ∙ ap (λ z. b ∷ z) i.1,
+    )
 
 pub ascii_utf8 : (bs : List ℕ) → All (λ b. b < 128) bs → IsUtf8 bs
 ascii_utf8 bs a = let i = ascii_scalars bs a in (bs, (i.0, i.1))
@@ -117,15 +132,20 @@ module _ {S : Type 0} (h : Handler S) (calm : IsCalm h) where
       omega (arith, i, o, q, f, l, m)
 
   pub steps_size : (s : S) (bs : List ℕ) → length (steps h false s bs).text ≤ 3 * length bs
-  steps_size s bs = let b = bytes_size s bs in let e : length (steps h false s bs).text ≡ length (all_bytes (byte_of h) s bs).text = ap (λ r. length r.text) (steps_bytes h calm s bs) in omega (arith, b, e)
+  steps_size s bs = let b =
+      bytes_size s bs in let e : length (steps h false s bs).text ≡ length (all_bytes (byte_of h) s bs).text =
+      ap (λ r. length r.text) (steps_bytes h calm s bs) in omega (arith, b, e)
 
   -- so there is room for the text of so many bytes
-  pub no_refusal : {E : Type 0} (s : S) (bytes old new : List ℕ) (e : E) → length old + 12 * length bytes ≤ 3072 → BatchRefused old (steps h false s bytes).text e new → ⊥
+  pub no_refusal : {E : Type 0} (s : S) (bytes old new : List ℕ) (e : E) → length old + 12 * length bytes ≤ 3072
+      → BatchRefused old (steps h false s bytes).text e new → ⊥
   no_refusal s bytes old new e room full = let z = steps_size s bytes in absurd (omega (arith, z, room, full))
 
   -- and behind the text of the first of them room for that of the rest
-  pub room_left : (s : S) (bytes rest old new : List ℕ) (at : ℕ) → at ≤ length bytes → rest ≡ take (length bytes - at) (drop at bytes) →
-      BatchTook old (steps h false s (take at bytes)).text new → length old + 12 * length bytes ≤ 3072 → length new + 12 * length rest ≤ 3072
+  pub room_left : (s : S) (bytes rest old new : List ℕ) (at : ℕ) → at ≤ length bytes
+      → rest ≡ take (length bytes - at) (drop at bytes) →
+      BatchTook old (steps h false s (take at bytes)).text new → length old + 12 * length bytes ≤ 3072
+      → length new + 12 * length rest ≤ 3072
   room_left s bytes rest old new at l is took room =
       let z = steps_size s (take at bytes) in
       let n = took.size in

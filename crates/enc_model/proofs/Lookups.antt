@@ -1,5 +1,6 @@
 -- Looking a pointer up pair by pair.
-use Rattle.std.proofs.Common.{ℕ, suc, ◌+◌, ◌<◌, ◌≤◌, ◌≡◌, [], ◌∷◌, Some, None, length, drop, get_or, drop-cons, add-one, arith}
+use Rattle.std.proofs.Common.{ℕ, suc, ◌+◌, ◌<◌, ◌≤◌, ◌≡◌, [], ◌∷◌, Some, None, length, drop, get_or, drop-cons, add-one}
+use Rattle.std.proofs.Common.{arith}
 use Rattle.std.proofs.lemmas.Grind.{common_steps}
 use Rattle.enc_model.specs.Index.{Index, code}
 
@@ -11,11 +12,14 @@ code_tail : (x : ℕ × ℕ) (xs : Index) (p : ℕ) → (x.0 ≡ p → ⊥) → 
 unfolding code
 code_tail x xs p e = grind (arith, e)
 
-pub code_here : (xs : Index) (i p : ℕ) → i < length xs → (get_or xs i (0, 0)).0 ≡ p → code (drop i xs) p ≡ Some (get_or xs i (0, 0)).1
+pub code_here : (xs : Index) (i p : ℕ) → i < length xs → (get_or xs i (0, 0)).0 ≡ p
+    → code (drop i xs) p ≡ Some (get_or xs i (0, 0)).1
 code_here xs i p l e = rw (drop-cons xs i (0, 0)) (code_head (get_or xs i (0, 0)) (drop (suc i) xs) p e)
 
-pub code_next : (xs : Index) (i p : ℕ) → i < length xs → ((get_or xs i (0, 0)).0 ≡ p → ⊥) → code (drop (i + 1) xs) p ≡ code (drop i xs) p
-code_next xs i p l e = rw (drop-cons xs i (0, 0), add-one) (let h = code_tail (get_or xs i (0, 0)) (drop (suc i) xs) p e in cc)
+pub code_next : (xs : Index) (i p : ℕ) → i < length xs → ((get_or xs i (0, 0)).0 ≡ p → ⊥)
+    → code (drop (i + 1) xs) p ≡ code (drop i xs) p
+code_next xs i p l e = rw (drop-cons xs i (0, 0), add-one)
+    (let h = code_tail (get_or xs i (0, 0)) (drop (suc i) xs) p e in cc)
 
 pub code_end : (xs : Index) (i p : ℕ) → length xs ≤ i → code (drop i xs) p ≡ None
 unfolding code

@@ -1,5 +1,6 @@
 -- A piece that is read part by part.
-use Rattle.std.proofs.Common.{ℕ, ◌+◌, ◌-◌, ◌≡◌, List, Result, Ok, Err, false, sym, ◌∙◌, ap, subst, take, drop, length, take-append-drop, IfErr, OnOk, IsErrAnd}
+use Rattle.std.proofs.Common.{ℕ, ◌+◌, ◌-◌, ◌≡◌, List, Result, Ok, Err, false, sym, ◌∙◌, ap, subst, take, drop, length}
+use Rattle.std.proofs.Common.{take-append-drop, IfErr, OnOk, IsErrAnd}
 use Rattle.std.proofs.lemmas.List.{take_rest}
 use Rattle.std.proofs.Math.Seq.{take-add}
 use Rattle.enc_model.specs.Stream.{Handler, IsCalm, steps}
@@ -12,7 +13,8 @@ if_err (Err v) e P i p = rw i p
 
 module _ {S : Type 0} (h : Handler S) (calm : IsCalm h) where
   -- a part more of what is left behind a place, taken or refused
-  pub part_taken : {A E : Type 0} (takes : A → List ℕ → A → Type 0) (refuses : A → List ℕ → E → A → Type 0) (sink : IsSink takes refuses)
+  pub part_taken : {A E : Type 0} (takes : A → List ℕ → A → Type 0) (refuses : A → List ℕ → E → A → Type 0)
+      (sink : IsSink takes refuses)
       (s next : S) (piece rest : List ℕ) (i n : ℕ) (a m c : A) → rest ≡ take (length piece - i) (drop i piece) →
       next ≡ (steps h false s (take i piece)).state → takes a (steps h false s (take i piece)).text m →
       takes m (steps h false next (take n rest)).text c → takes a (steps h false s (take (i + n) piece)).text c
@@ -23,16 +25,20 @@ module _ {S : Type 0} (h : Handler S) (calm : IsCalm h) where
       (subst (λ z. takes m (steps h false next (take n z)).text c) (is ∙ take_rest piece i) g))
 
   -- the rest behind a place
-  pub rest_given : {A X E : Type 0} (takes : A → List ℕ → A → Type 0) (refuses : A → List ℕ → E → A → Type 0) (sink : IsSink takes refuses)
-      (s next : S) (piece rest : List ℕ) (i : ℕ) (a m c : A) (res : Result X E) → rest ≡ take (length piece - i) (drop i piece) →
+  pub rest_given : {A X E : Type 0} (takes : A → List ℕ → A → Type 0) (refuses : A → List ℕ → E → A → Type 0)
+      (sink : IsSink takes refuses)
+      (s next : S) (piece rest : List ℕ) (i : ℕ) (a m c : A) (res : Result X E)
+      → rest ≡ take (length piece - i) (drop i piece) →
       next ≡ (steps h false s (take i piece)).state → takes a (steps h false s (take i piece)).text m →
-      Given takes refuses m (steps h false next rest).text c res → Given takes refuses a (steps h false s piece).text c res
+      Given takes refuses m (steps h false next rest).text c res → Given takes refuses a (steps h false s piece).text c
+      res
   rest_given takes refuses sink s next piece rest i a m c res is e t g =
       subst (λ p. Given takes refuses a (steps h false s p).text c res) (take-append-drop i piece)
       (feed_more takes refuses sink h calm s next (take i piece) (drop i piece) a m c res e t
       (subst (λ z. Given takes refuses m (steps h false next z).text c res) (is ∙ take_rest piece i) g))
 
-  pub part_refused : {A E : Type 0} (takes : A → List ℕ → A → Type 0) (refuses : A → List ℕ → E → A → Type 0) (sink : IsSink takes refuses)
+  pub part_refused : {A E : Type 0} (takes : A → List ℕ → A → Type 0) (refuses : A → List ℕ → E → A → Type 0)
+      (sink : IsSink takes refuses)
       (s next : S) (piece rest : List ℕ) (i : ℕ) (a m c : A) (why : E) → rest ≡ take (length piece - i) (drop i piece) →
       next ≡ (steps h false s (take i piece)).state → takes a (steps h false s (take i piece)).text m →
       refuses m (steps h false next rest).text why c → refuses a (steps h false s piece).text why c
@@ -40,10 +46,13 @@ module _ {S : Type 0} (h : Handler S) (calm : IsCalm h) where
       let refused : Result ℕ E = Err why in
       rest_given takes refuses sink s next piece rest i a m c refused is e t g
 
-  pub rest_state : {X E : Type 0} (s next end : S) (piece rest : List ℕ) (i : ℕ) (res : Result X E) → rest ≡ take (length piece - i) (drop i piece) →
-      next ≡ (steps h false s (take i piece)).state → OnOk res (end ≡ (steps h false next rest).state) → OnOk res (end ≡ (steps h false s piece).state)
+  pub rest_state : {X E : Type 0} (s next end : S) (piece rest : List ℕ) (i : ℕ) (res : Result X E)
+      → rest ≡ take (length piece - i) (drop i piece) →
+      next ≡ (steps h false s (take i piece)).state → OnOk res (end ≡ (steps h false next rest).state)
+      → OnOk res (end ≡ (steps h false s piece).state)
   rest_state s next end piece rest i (Ok v) is e f =
-      state_more h calm s next end (take i piece) (drop i piece) e (f ∙ ap (λ z. (steps h false next z).state) (is ∙ take_rest piece i))
+      state_more h calm s next end (take i piece) (drop i piece) e
+      (f ∙ ap (λ z. (steps h false next z).state) (is ∙ take_rest piece i))
       ∙ ap (λ p. (steps h false s p).state) (take-append-drop i piece)
   rest_state s next end piece rest i (Err v) is e f = tt
 
@@ -51,5 +60,6 @@ module _ {S : Type 0} (h : Handler S) (calm : IsCalm h) where
       next ≡ (steps h false s (take i piece)).state → end ≡ (steps h false next (take n rest)).state →
       end ≡ (steps h false s (take (i + n) piece)).state
   part_state s next end piece rest i n is e f =
-      state_more h calm s next end (take i piece) (take n (drop i piece)) e (f ∙ ap (λ z. (steps h false next (take n z)).state) (is ∙ take_rest piece i))
+      state_more h calm s next end (take i piece) (take n (drop i piece)) e
+      (f ∙ ap (λ z. (steps h false next (take n z)).state) (is ∙ take_rest piece i))
       ∙ ap (λ p. (steps h false s p).state) (sym (take-add i n piece))

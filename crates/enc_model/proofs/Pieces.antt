@@ -1,21 +1,28 @@
 -- Decoding with a BOM, in any cut.
-use Rattle.std.proofs.Common.{ℕ, ◌≡◌, Bool, true, false, List, [], ◌∷◌, ◌++◌, refl, sym, ◌∙◌, ap, arith, append-nil, if◌then◌else◌}
+use Rattle.std.proofs.Common.{ℕ, ◌≡◌, Bool, true, false, List, [], ◌∷◌, ◌++◌, refl, sym, ◌∙◌, ap, arith, append-nil}
+use Rattle.std.proofs.Common.{if◌then◌else◌}
 use Rattle.enc_model.specs.declared.Encoding.{Encoding}
 use Rattle.enc_model.specs.Encode.{Tables}
-use Rattle.enc_model.specs.Decode.{Decoding, OfUtf8, OfUtf16, OfShiftJis, OfEucJp, OfIso2022, OfSingle, run_as, behind_run, decoding, decoding_start, sniffed, undecided, Held, Reading, decoded, advance, conclude}
+use Rattle.enc_model.specs.Decode.{Decoding, OfUtf8, OfUtf16, OfShiftJis, OfEucJp, OfIso2022, OfSingle, run_as}
+use Rattle.enc_model.specs.Decode.{behind_run, decoding, decoding_start, sniffed, undecided, Held, Reading, decoded}
+use Rattle.enc_model.specs.Decode.{advance, conclude}
 use Rattle.enc_model.proofs.Steps.{steps_append}
 use Rattle.enc_model.proofs.Calm.{utf8_calm, utf16_calm, single_calm, shift_jis_calm, euc_jp_calm, iso2022_calm}
 
 -- the law, whichever encoding it is
 pub decoding_append : (t : Tables) (ended : Bool) (s : Decoding) (b c : List ℕ) →
-    decoding t ended s (b ++ c) ≡ (let first = decoding t false s b in behind_run first.text (decoding t ended first.state c))
+    decoding t ended s (b ++ c) ≡ (let first = decoding t false s b in behind_run first.text
+    (decoding t ended first.state c))
 unfolding decoding
 decoding_append t ended (OfUtf8 s) b c = ap (run_as OfUtf8) (steps_append _ utf8_calm ended s b c)
 decoding_append t ended (OfUtf16 o s) b c = ap (run_as (OfUtf16 o)) (steps_append _ (utf16_calm o) ended s b c)
-decoding_append t ended (OfShiftJis s) b c = ap (run_as OfShiftJis) (steps_append _ (shift_jis_calm t.jis0208) ended s b c)
-decoding_append t ended (OfEucJp s) b c = ap (run_as OfEucJp) (steps_append _ (euc_jp_calm t.jis0208 t.jis0212) ended s b c)
+decoding_append t ended (OfShiftJis s) b c =
+    ap (run_as OfShiftJis) (steps_append _ (shift_jis_calm t.jis0208) ended s b c)
+decoding_append t ended (OfEucJp s) b c =
+    ap (run_as OfEucJp) (steps_append _ (euc_jp_calm t.jis0208 t.jis0212) ended s b c)
 decoding_append t ended (OfIso2022 s) b c = ap (run_as OfIso2022) (steps_append _ (iso2022_calm t.jis0208) ended s b c)
-decoding_append t ended (OfSingle e s) b c = ap (run_as (OfSingle e)) (steps_append _ (single_calm (t.single e)) ended s b c)
+decoding_append t ended (OfSingle e s) b c =
+    ap (run_as (OfSingle e)) (steps_append _ (single_calm (t.single e)) ended s b c)
 
 -- more bytes don't make undecided what was decided
 decided_more : (b c : List ℕ) → undecided b ≡ false → undecided (b ++ c) ≡ false
@@ -28,7 +35,8 @@ decided_more (x ∷ y ∷ []) (z ∷ c) h = refl
 decided_more (x ∷ y ∷ z ∷ b) c h = refl
 
 -- nor do they change what was sniffed
-sniffed_more : (e : Encoding) (b c : List ℕ) → undecided b ≡ false → sniffed e (b ++ c) ≡ ((sniffed e b).0, (sniffed e b).1 ++ c)
+sniffed_more : (e : Encoding) (b c : List ℕ) → undecided b ≡ false → sniffed e
+    (b ++ c) ≡ ((sniffed e b).0, (sniffed e b).1 ++ c)
 sniffed_more e [] c h = absurd cc
 sniffed_more e (x ∷ []) c h = grind (arith, h)
 sniffed_more e (x ∷ y ∷ []) c h = grind (arith, h)
@@ -41,10 +49,12 @@ decoded_held t e b h = rw h refl
 pub decoded_reading : (t : Tables) (e : Encoding) (b : List ℕ) → undecided b ≡ false →
     decoded t e b false ≡ Reading (decoding t false (decoding_start (sniffed e b).0) (sniffed e b).1)
 unfolding decoded
-decoded_reading t e b h = ap (λ u. if u then Held b else Reading (decoding t false (decoding_start (sniffed e b).0) (sniffed e b).1)) h
+decoded_reading t e b h =
+    ap (λ u. if u then Held b else Reading (decoding t false (decoding_start (sniffed e b).0) (sniffed e b).1)) h
 
 -- THE LAW OF DECODING: the bytes so far, and then one piece more.
-pub advance_more : (t : Tables) (e : Encoding) (b c : List ℕ) → advance t e (decoded t e b false) c ≡ decoded t e (b ++ c) false
+pub advance_more : (t : Tables) (e : Encoding) (b c : List ℕ) → advance t e (decoded t e b false) c ≡ decoded t e
+    (b ++ c) false
 unfolding advance
 advance_more t e b c = go (undecided b) refl
   where

@@ -11,5 +11,8 @@ own : (b : ℕ) → b < 0x80 → utf8 utf8_start (Some b) ≡ record { state = u
 unfolding utf8
 own b l = grind (arith, nat_tests)
 
-pub utf8_ascii : (run : List ℕ) → All (λ b. b < 0x80) run → steps utf8 false utf8_start run ≡ record { text = run; state = utf8_start }
+pub utf8_ascii : (run : List ℕ) → All (λ b. b < 0x80) run → steps utf8 false utf8_start run ≡ record {
+  text = run;
+  state = utf8_start;
+}
 utf8_ascii = steps_run utf8 utf8_calm (λ b. b < 0x80) utf8_start own

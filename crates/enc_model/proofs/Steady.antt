@@ -4,13 +4,16 @@ use Rattle.std.proofs.lemmas.Bool.Decides.{nat_tests}
 use Rattle.enc_model.specs.declared.Encoding.{Encoding}
 use Rattle.enc_model.specs.declared.Encoding.TheVariants as encodings
 use Rattle.enc_model.specs.Index.{Index}
-use Rattle.enc_model.specs.Encode.{Shift, InAscii, InRoman, InJis, settled, IsWrote, IsNoAgain, IsSteady, shift_jis_encoder, euc_jp_encoder, iso2022_encoder, single_encoder, utf8_encoder, encoder, Tables}
+use Rattle.enc_model.specs.Encode.{Shift, InAscii, InRoman, InJis, settled, IsWrote, IsNoAgain, IsSteady}
+use Rattle.enc_model.specs.Encode.{shift_jis_encoder, euc_jp_encoder, iso2022_encoder, single_encoder, utf8_encoder}
+use Rattle.enc_model.specs.Encode.{encoder, Tables}
 
 sjis_once : (i : Index) (s : Shift) (c : ℕ) → IsNoAgain (settled (shift_jis_encoder i) c (shift_jis_encoder i s c))
 unfolding shift_jis_encoder
 sjis_once i s c = grind (arith, nat_tests)
 
-sjis_ascii : (i : Index) (s : Shift) (c : ℕ) → 0x20 ≤ c → c < 0x5C → IsWrote (settled (shift_jis_encoder i) c (shift_jis_encoder i s c))
+sjis_ascii : (i : Index) (s : Shift) (c : ℕ) → 0x20 ≤ c → c < 0x5C → IsWrote
+    (settled (shift_jis_encoder i) c (shift_jis_encoder i s c))
 unfolding shift_jis_encoder
 sjis_ascii i s c l h = grind (arith, nat_tests)
 
@@ -18,11 +21,13 @@ euc_once : (i : Index) (s : Shift) (c : ℕ) → IsNoAgain (settled (euc_jp_enco
 unfolding euc_jp_encoder
 euc_once i s c = grind (arith, nat_tests)
 
-euc_ascii : (i : Index) (s : Shift) (c : ℕ) → 0x20 ≤ c → c < 0x5C → IsWrote (settled (euc_jp_encoder i) c (euc_jp_encoder i s c))
+euc_ascii : (i : Index) (s : Shift) (c : ℕ) → 0x20 ≤ c → c < 0x5C → IsWrote
+    (settled (euc_jp_encoder i) c (euc_jp_encoder i s c))
 unfolding euc_jp_encoder
 euc_ascii i s c l h = grind (arith, nat_tests)
 
-iso_ascii : (i k : Index) (s : Shift) (c : ℕ) → 0x20 ≤ c → c < 0x5C → IsWrote (settled (iso2022_encoder i k) c (iso2022_encoder i k s c))
+iso_ascii : (i k : Index) (s : Shift) (c : ℕ) → 0x20 ≤ c → c < 0x5C → IsWrote
+    (settled (iso2022_encoder i k) c (iso2022_encoder i k s c))
 unfolding iso2022_encoder
 iso_ascii i k InAscii c l h = grind (arith, nat_tests)
 iso_ascii i k InRoman c l h = grind (arith, nat_tests)
@@ -38,7 +43,8 @@ single_once : (i : Index) (s : Shift) (c : ℕ) → IsNoAgain (settled (single_e
 unfolding single_encoder
 single_once i s c = grind (arith, nat_tests)
 
-single_ascii : (i : Index) (s : Shift) (c : ℕ) → 0x20 ≤ c → c < 0x5C → IsWrote (settled (single_encoder i) c (single_encoder i s c))
+single_ascii : (i : Index) (s : Shift) (c : ℕ) → 0x20 ≤ c → c < 0x5C → IsWrote
+    (settled (single_encoder i) c (single_encoder i s c))
 unfolding single_encoder
 single_ascii i s c l h = grind (arith, nat_tests)
 
@@ -51,5 +57,8 @@ encoder_steady t encodings.Utf16Be = utf8_steady
 encoder_steady t encodings.Utf16Le = utf8_steady
 encoder_steady t encodings.ShiftJis = record { once = sjis_once t.jis0208; ascii = sjis_ascii t.jis0208 }
 encoder_steady t encodings.EucJp = record { once = euc_once t.jis0208; ascii = euc_ascii t.jis0208 }
-encoder_steady t encodings.Iso2022Jp = record { once = iso_once t.jis0208 t.katakana; ascii = iso_ascii t.jis0208 t.katakana }
+encoder_steady t encodings.Iso2022Jp = record {
+  once = iso_once t.jis0208 t.katakana;
+  ascii = iso_ascii t.jis0208 t.katakana;
+}
 encoder_steady t e = record { once = single_once (t.single e); ascii = single_ascii (t.single e) }

@@ -1,9 +1,11 @@
 -- What holds of every calm handler: its steps go byte by byte, and so in any cut.
-use Rattle.std.proofs.Common.{ℕ, zero, suc, ◌+◌, ◌*◌, ◌≤◌, ◌≡◌, Bool, true, false, List, [], ◌∷◌, ◌++◌, Some, None, length, refl, sym, ◌∙◌, ap, arith, append_assoc, append-nil, ◌-◌, All}
+use Rattle.std.proofs.Common.{ℕ, zero, suc, ◌+◌, ◌*◌, ◌≤◌, ◌≡◌, Bool, true, false, List, [], ◌∷◌, ◌++◌, Some, None}
+use Rattle.std.proofs.Common.{length, refl, sym, ◌∙◌, ap, arith, append_assoc, append-nil, ◌-◌, All}
 use Rattle.std.proofs.lemmas.List.Elements.{All-head, All-tail}
 use Rattle.enc_model.specs.declared.Answer.{Answer}
 use Rattle.enc_model.specs.declared.Answer.TheVariants.{Point, Finished}
-use Rattle.enc_model.specs.Stream.{Step, Handler, Run, said, after, steps_within, steps, all_bytes, byte_of, quick, end_to, end_of, ending, IsQuiet, Ends, IsCalm}
+use Rattle.enc_model.specs.Stream.{Step, Handler, Run, said, after, steps_within, steps, all_bytes, byte_of, quick}
+use Rattle.enc_model.specs.Stream.{end_to, end_of, ending, IsQuiet, Ends, IsCalm}
 
 pub after_after : {S : Type 0} (x y : List ℕ) (r : Run S) → after x (after y r) ≡ after (x ++ y) r
 after_after x y r = simp append_assoc
@@ -31,14 +33,16 @@ module _ {S : Type 0} (h : Handler S) where
       let t = h s (Some b) in
       let rest = all_bytes (quick h) t.state r in
       let go = steps_within m h ended rest.state bytes in
-      rw q.0 (ap (after (said t.answer)) (quiet_run r t.state ended bytes k m q.1 (omega arith)) ∙ after_after (said t.answer) rest.text go)
+      rw q.0 (ap (after (said t.answer)) (quiet_run r t.state ended bytes k m q.1 (omega arith))
+      ∙ after_after (said t.answer) rest.text go)
 
   -- the end, by its answer
   end_case : (d k : ℕ) (t : Step S) (a : Answer) →
       ((n : ℕ) (s : S) → Ends d h s → 2 * d ≤ n → steps_within n h true s [] ≡ end_to d h s) →
       (elim a as (λ _. Type 0) [
         | Finished ↦ Unit {0}
-        | _ ↦ (length t.restored ≤ 1) × IsQuiet h t.state t.restored × Ends d h (all_bytes (quick h) t.state t.restored).state
+        | _ ↦ (length t.restored ≤ 1) × IsQuiet h t.state t.restored × Ends d h
+            (all_bytes (quick h) t.state t.restored).state
       ]) →
       2 * d + 1 ≤ k →
       ◌≡◌ {A = Run S} (elim a as (λ _. Run S) [
@@ -55,7 +59,9 @@ module _ {S : Type 0} (h : Handler S) where
       let few : length t.restored ≤ 1 = e.0 in
       let flat : t.restored ++ [] ≡ t.restored = append-nil t.restored in
       let run = quiet_run t.restored t.state true [] k (k - length t.restored) e.1 (omega arith) in
-      ap (after (said t.answer)) (ap (steps_within k h true t.state) (sym flat) ∙ run ∙ ap (after r.text) (ih (k - length t.restored) r.state e.2 (omega arith)))
+      ap (after (said t.answer))
+      (ap (steps_within k h true t.state) (sym flat) ∙ run ∙ ap (after r.text)
+      (ih (k - length t.restored) r.state e.2 (omega arith)))
       ∙ after_after (said t.answer) r.text (end_to d h r.state)
 
   end_run : (d n : ℕ) (s : S) → Ends d h s → 2 * d ≤ n → steps_within n h true s [] ≡ end_to d h s
@@ -85,7 +91,8 @@ module _ {S : Type 0} (h : Handler S) where
 
   -- The steps go byte by byte, and then to the end.
   pub steps_are : IsCalm h → (ended : Bool) (s : S) (bytes : List ℕ) →
-      steps h ended s bytes ≡ after (all_bytes (byte_of h) s bytes).text (ending h ended (all_bytes (byte_of h) s bytes).state)
+      steps h ended s bytes ≡ after (all_bytes (byte_of h) s bytes).text
+      (ending h ended (all_bytes (byte_of h) s bytes).state)
   unfolding steps
   steps_are calm ended s bytes = bytes_run calm bytes s ended (3 * length bytes + 8) (omega arith)
 
@@ -97,7 +104,8 @@ module _ {S : Type 0} (h : Handler S) where
 
   quiet_depth : (r : List ℕ) (s : S) → IsQuiet h s r → all_bytes (byte_of h) s r ≡ all_bytes (quick h) s r
   quiet_depth [] s q = refl
-  quiet_depth (b ∷ r) s q = let t = h s (Some b) in rw (q.0, append-nil) (ap (after (said t.answer)) (quiet_depth r t.state q.1))
+  quiet_depth (b ∷ r) s q = let t =
+      h s (Some b) in rw (q.0, append-nil) (ap (after (said t.answer)) (quiet_depth r t.state q.1))
 
   -- One byte: its answer, and the answers to what it restores.
   pub steps_one : IsCalm h → (s : S) (b : ℕ) → steps h false s (b ∷ []) ≡ byte_of h s b
@@ -119,11 +127,14 @@ module _ {S : Type 0} (h : Handler S) where
       let rest = all_bytes (byte_of h) again.state bytes in
       let tail : all_bytes (byte_of h) t.state (t.restored ++ bytes) ≡ after again.text rest =
       bytes_append (byte_of h) t.state t.restored bytes
-      ∙ ap (λ r. after r.text (all_bytes (byte_of h) r.state bytes)) (quiet_depth t.restored t.state (calm.quiet s b)) in
+      ∙ ap (λ r. after r.text (all_bytes (byte_of h) r.state bytes))
+      (quiet_depth t.restored t.state (calm.quiet s b)) in
       steps_are calm ended s (b ∷ bytes)
       ∙ sym (after_after (said t.answer ++ again.text) rest.text (ending h ended rest.state))
       ∙ sym (after_after (said t.answer) again.text (after rest.text (ending h ended rest.state)))
-      ∙ ap (after (said t.answer)) (after_after again.text rest.text (ending h ended rest.state) ∙ sym (steps_are calm ended t.state (t.restored ++ bytes) ∙ ap (whole ended) tail))
+      ∙ ap (after (said t.answer))
+      (after_after again.text rest.text (ending h ended rest.state)
+      ∙ sym (steps_are calm ended t.state (t.restored ++ bytes) ∙ ap (whole ended) tail))
 
   -- THE LAW: steps over b ++ c are steps over b, and then over c from the end state.
   pub steps_append : IsCalm h → (ended : Bool) (s : S) (b c : List ℕ) →

@@ -1,16 +1,23 @@
 -- What an encoder takes in parts, and a transcoder in any cut.
-use Rattle.std.proofs.Common.{ℕ, ◌≡◌, false, List, [], ◌++◌, Option, Some, None, refl, sym, ◌∙◌, ap, append_assoc, append-nil, subst}
+use Rattle.std.proofs.Common.{ℕ, ◌≡◌, false, List, [], ◌++◌, Option, Some, None, refl, sym, ◌∙◌, ap, append_assoc}
+use Rattle.std.proofs.Common.{append-nil, subst}
 use Rattle.enc_model.specs.declared.Encoding.{Encoding}
 use Rattle.enc_model.specs.declared.Mode.{Mode}
 use Rattle.enc_model.specs.Sink.{IsSink}
-use Rattle.enc_model.specs.Encode.{Tables, Shift, InAscii, Encoder, Coded, behind, coded, coded_within, encoder, IsSteady}
+use Rattle.enc_model.specs.Encode.{Tables, Shift, InAscii, Encoder, Coded, behind, coded, coded_within, encoder}
+use Rattle.enc_model.specs.Encode.{IsSteady}
 use Rattle.enc_model.specs.Decode.{Decoded, Held, Reading, decoded, decoded_text, advance}
-use Rattle.enc_model.specs.Transcode.{Coder, Took, Refused, IsReason, phase_of, Transcoder, fed, added, so_far, IsAt, stepped}
+use Rattle.enc_model.specs.Transcode.{Coder, Took, Refused, IsReason, phase_of, Transcoder, fed, added, so_far, IsAt}
+use Rattle.enc_model.specs.Transcode.{stepped}
 use Rattle.enc_model.proofs.Coding.{coded_append}
 use Rattle.enc_model.proofs.Steady.{encoder_steady}
 use Rattle.enc_model.proofs.Pieces.{advance_more}
 
-coded_none : (f : Encoder) (mode : Mode) (s : Shift) → coded f mode s [] ≡ record { bytes = []; state = s; fault = None }
+coded_none : (f : Encoder) (mode : Mode) (s : Shift) → coded f mode s [] ≡ record {
+  bytes = [];
+  state = s;
+  fault = None;
+}
 unfolding coded coded_within
 coded_none f mode s = refl
 
@@ -21,7 +28,8 @@ module _ (f : Encoder) (steady : IsSteady f) (mode : Mode) where
   coded_both s x y e = coded_append f steady mode s x y ∙ rw e refl
 
   -- with one, it is that of x
-  pub coded_fault : (s : Shift) (x y : List ℕ) (c : ℕ) → (coded f mode s x).fault ≡ Some c → coded f mode s (x ++ y) ≡ coded f mode s x
+  pub coded_fault : (s : Shift) (x y : List ℕ) (c : ℕ) → (coded f mode s x).fault ≡ Some c
+      → coded f mode s (x ++ y) ≡ coded f mode s x
   coded_fault s x y c e = coded_append f steady mode s x y ∙ rw e refl
 
   took_both : (a b c : Coder) (x y : List ℕ) → Took f mode a x b → Took f mode b y c → Took f mode a (x ++ y) c
@@ -32,7 +40,8 @@ module _ (f : Encoder) (steady : IsSteady f) (mode : Mode) where
       record {
         fault = ap (λ z. z.fault) (e ∙ ap (behind r.bytes) (sym same)) ∙ q.fault;
         state = q.state ∙ ap (λ z. z.state) (ap (behind r.bytes) same ∙ sym e);
-        out = q.out ∙ ap (λ z. z ++ (coded f mode b.state y).bytes) p.out ∙ append_assoc a.out r.bytes (coded f mode b.state y).bytes
+        out = q.out ∙ ap (λ z. z ++ (coded f mode b.state y).bytes) p.out
+            ∙ append_assoc a.out r.bytes (coded f mode b.state y).bytes
             ∙ ap (λ z. a.out ++ z.bytes) (ap (behind r.bytes) same ∙ sym e);
       }
 
@@ -40,7 +49,8 @@ module _ (f : Encoder) (steady : IsSteady f) (mode : Mode) where
   reason_behind None x r i = tt
   reason_behind (Some c) x r i = i
 
-  refused_later : (a b c : Coder) (x y : List ℕ) (w : Option ℕ) → Took f mode a x b → Refused f mode b y w c → Refused f mode a (x ++ y) w c
+  refused_later : (a b c : Coder) (x y : List ℕ) (w : Option ℕ) → Took f mode a x b → Refused f mode b y w c
+      → Refused f mode a (x ++ y) w c
   refused_later a b c x y w p q =
       let r = coded f mode a.state x in
       let e = coded_both a.state x y p.fault ∙ ap (λ s. behind r.bytes (coded f mode s y)) (sym p.state) in
@@ -75,7 +85,13 @@ module _ (f : Encoder) (steady : IsSteady f) (mode : Mode) where
           }
       go (Some c) e =
           let same = coded_fault a.state x y c e in
-          record { front = q.front; rest = q.rest; parts = ap (λ z. z.bytes) same ∙ q.parts; out = q.out; reason = subst (λ z. IsReason w z) (sym same) q.reason }
+          record {
+            front = q.front;
+            rest = q.rest;
+            parts = ap (λ z. z.bytes) same ∙ q.parts;
+            out = q.out;
+            reason = subst (λ z. IsReason w z) (sym same) q.reason;
+          }
 
   pub coder_sink : IsSink (Took f mode) (Refused f mode)
   coder_sink = record {
@@ -92,13 +108,15 @@ module _ (f : Encoder) (steady : IsSteady f) (mode : Mode) where
 -- A TRANSCODER
 
 fed_advance : (t : Tables) (e : Encoding) (d : Decoded) (c : List ℕ) →
-    (phase_of (advance t e d c) ≡ (fed t e (phase_of d) c).phase) × (decoded_text (advance t e d c) ≡ decoded_text d ++ (fed t e (phase_of d) c).text)
+    (phase_of (advance t e d c) ≡ (fed t e (phase_of d) c).phase) × (decoded_text (advance t e d c) ≡ decoded_text
+    d ++ (fed t e (phase_of d) c).text)
 unfolding advance fed
 fed_advance t e (Held b) c = (refl, refl)
 fed_advance t e (Reading r) c = (refl, refl)
 
 module _ (t : Tables) (s : Transcoder) (b c : List ℕ) (here : IsAt t s b) where
-  text_more : decoded_text (decoded t s.from (b ++ c) false) ≡ decoded_text (decoded t s.from b false) ++ (fed t s.from s.phase c).text
+  text_more : decoded_text (decoded t s.from (b ++ c) false) ≡ decoded_text
+      (decoded t s.from b false) ++ (fed t s.from s.phase c).text
   text_more =
       ap decoded_text (sym (advance_more t s.from b c))
       ∙ (fed_advance t s.from (decoded t s.from b false) c).1
@@ -108,7 +126,8 @@ module _ (t : Tables) (s : Transcoder) (b c : List ℕ) (here : IsAt t s b) wher
   whole =
       let f = encoder t s.to in
       ap (coded f s.mode InAscii) text_more
-      ∙ coded_both f (encoder_steady t s.to) s.mode InAscii (decoded_text (decoded t s.from b false)) (fed t s.from s.phase c).text here.fault
+      ∙ coded_both f (encoder_steady t s.to) s.mode InAscii (decoded_text (decoded t s.from b false))
+      (fed t s.from s.phase c).text here.fault
       ∙ ap (λ z. behind (so_far t s b).bytes (coded f s.mode z (fed t s.from s.phase c).text)) (sym here.shift)
 
   -- THE TEXT GROWS by what is added, with a fault or without.
@@ -121,7 +140,8 @@ module _ (t : Tables) (s : Transcoder) (b c : List ℕ) (here : IsAt t s b) wher
   -- Without a fault the next state is where the bytes and the piece end.
   pub at_next : (added t s c).fault ≡ None → IsAt t (stepped t s c) (b ++ c)
   at_next ok = record {
-    phase = ap (λ p. (fed t s.from p c).phase) here.phase ∙ sym (fed_advance t s.from (decoded t s.from b false) c).0 ∙ ap phase_of (advance_more t s.from b c);
+    phase = ap (λ p. (fed t s.from p c).phase) here.phase ∙ sym (fed_advance t s.from (decoded t s.from b false) c).0
+        ∙ ap phase_of (advance_more t s.from b c);
     fault = fault_added ∙ ok;
     shift = sym (ap (λ z. z.state) whole);
   }

@@ -6,7 +6,8 @@ use Rattle.enc_model.specs.declared.Mode.{Mode}
 use Rattle.enc_model.specs.Stream.{Run, steps}
 use Rattle.enc_model.specs.Utf8.{Utf8, utf8, utf8_start}
 use Rattle.enc_model.specs.Utf16.{Utf16, utf16, utf16_start}
-use Rattle.enc_model.specs.Japanese.{Single, SingleState, single, shift_jis, EucJp, euc_jp, euc_jp_start, Iso2022, iso2022, iso2022_start}
+use Rattle.enc_model.specs.Japanese.{Single, SingleState, single, shift_jis, EucJp, euc_jp, euc_jp_start, Iso2022}
+use Rattle.enc_model.specs.Japanese.{iso2022, iso2022_start}
 use Rattle.enc_model.specs.Encode.{Tables, Coded, encode}
 
 -- a decoder's state, with its encoding

@@ -1,5 +1,6 @@
 -- The encoders, and how one is run over a list of code points.
-use Rattle.std.specs.Prelude.{ℕ, zero, suc, ◌+◌, ◌-◌, ◌*◌, ◌/◌, ◌%◌, Bool, true, false, not, ◌&&◌, ◌||◌, List, [], ◌∷◌, ◌++◌, Option, Some, None, length, ◌==◌, ◌<◌, ◌≤◌, nat_lt, if◌then◌else◌, decimal}
+use Rattle.std.specs.Prelude.{ℕ, zero, suc, ◌+◌, ◌-◌, ◌*◌, ◌/◌, ◌%◌, Bool, true, false, not, ◌&&◌, ◌||◌, List, [], ◌∷◌}
+use Rattle.std.specs.Prelude.{◌++◌, Option, Some, None, length, ◌==◌, ◌<◌, ◌≤◌, nat_lt, if◌then◌else◌, decimal}
 use Rattle.enc_model.specs.declared.Encoding.{Encoding}
 use Rattle.enc_model.specs.declared.Encoding.TheVariants as encodings
 use Rattle.enc_model.specs.declared.Mode.{Mode}
@@ -19,7 +20,8 @@ pub data Shift : Type 0 where
   InRoman : Shift
   InJis : Shift
 
--- What an encoder gives for a code point: bytes, and then its state, the error's code point, and whether it wants the code point again.
+-- What an encoder gives for a code point: bytes, and then its state, the error's code point, and whether it wants the
+-- code point again.
 pub data Written : Type 0 where
   Wrote : List ℕ → Shift → Written
   Again : List ℕ → Shift → Written
@@ -76,7 +78,8 @@ euc_jp_encoder jis0208 s c =
     else if c == 0xA5 then Wrote (0x5C ∷ []) s
     else if c == 0x203E then Wrote (0x7E ∷ []) s
     else if within 0xFF61 0xFF9F c then Wrote (0x8E ∷ (c - 0xFF61 + 0xA1) ∷ []) s
-    else known s (minus c) (mapped (below_8836 (pointer jis0208 (minus c))) (λ p. (p / 94 + 0xA1) ∷ (p % 94 + 0xA1) ∷ []))
+    else known s (minus c) (mapped (below_8836 (pointer jis0208 (minus c)))
+    (λ p. (p / 94 + 0xA1) ∷ (p % 94 + 0xA1) ∷ []))
 
 abbrev pub to_ascii : List ℕ
 to_ascii = 0x1B ∷ 0x28 ∷ 0x42 ∷ []
@@ -164,7 +167,8 @@ coded_within zero f mode s cs = record { bytes = []; state = s; fault = None }
 coded_within (suc n) f mode s [] = record { bytes = []; state = s; fault = None }
 coded_within (suc n) f mode s (c ∷ cs) = went mode (coded_within n f mode) c cs (f s c)
 
--- As many calls as there can be: a code point is asked for at most twice, and so is each of the at most 67 of its reference.
+-- As many calls as there can be: a code point is asked for at most twice, and so is each of the at most 67 of its
+-- reference.
 unfoldable pub coded : Encoder → Mode → Shift → List ℕ → Coded
 coded f mode s cs = coded_within (136 * length cs) f mode s cs
 
@@ -218,7 +222,14 @@ pub record IsSteady (f : Encoder) : Type 0 where
 
 -- what the end adds where there was no error
 abbrev pub ended_coded : Coded → Coded
-ended_coded r = elim r.fault [ None ↦ record { bytes = r.bytes ++ encoder_end r.state; state = InAscii; fault = None } | Some c ↦ r ]
+ended_coded r = elim r.fault [
+  | None ↦ record {
+    bytes = r.bytes ++ encoder_end r.state;
+    state = InAscii;
+    fault = None;
+  }
+  | Some c ↦ r
+]
 
 unfoldable pub encode : Tables → Encoding → Mode → List ℕ → Bool → Coded
 encode t to mode cs ended =

@@ -5,7 +5,8 @@ use Rattle.enc_model.specs.declared.Encoding.TheVariants as encodings
 use Rattle.enc_model.specs.Index.{Index}
 use Rattle.enc_model.specs.Encode.{Tables}
 
--- an index for each file that was set; `single` has a place for each of the fifteen single-byte encodings, in their order
+-- an index for each file that was set; `single` has a place for each of the fifteen single-byte encodings, in their
+-- order
 pub record IndexSet : Type 0 where
   pub jis0208 : Option Index
   pub jis0212 : Option Index
@@ -60,7 +61,8 @@ tables x = record {
   single = λ e. pairs_of (single_of x e);
 }
 
--- UTF-8 and UTF-16 always; a single-byte encoding where its file was set; Shift_JIS needs jis0208, EUC-JP jis0208 and jis0212,
+-- UTF-8 and UTF-16 always; a single-byte encoding where its file was set; Shift_JIS needs jis0208, EUC-JP jis0208 and
+-- jis0212,
 -- ISO-2022-JP jis0208 and katakana
 abbrev pub offers : IndexSet → Encoding → Bool
 offers x encodings.Utf8 = true

@@ -1,5 +1,6 @@
 -- The decoders over an index: single bytes, Shift_JIS, EUC-JP and ISO-2022-JP.
-use Rattle.std.specs.Prelude.{ℕ, ◌+◌, ◌-◌, ◌*◌, Bool, true, false, not, ◌&&◌, ◌||◌, List, [], ◌∷◌, Option, Some, None, ◌==◌, nat_lt, if◌then◌else◌}
+use Rattle.std.specs.Prelude.{ℕ, ◌+◌, ◌-◌, ◌*◌, Bool, true, false, not, ◌&&◌, ◌||◌, List, [], ◌∷◌, Option, Some, None}
+use Rattle.std.specs.Prelude.{◌==◌, nat_lt, if◌then◌else◌}
 use Rattle.enc_model.specs.declared.Answer.{Answer}
 use Rattle.enc_model.specs.declared.Answer.TheVariants.{Point, Error, Nothing, Finished}
 use Rattle.enc_model.specs.declared.Charset.{Charset}
@@ -36,7 +37,8 @@ shift_jis_at lead b =
 
 -- what a pointer stands for: private use, or the index's code point
 abbrev pub shift_jis_code : Index → ℕ → Option ℕ
-shift_jis_code jis0208 pointer = if within 8836 10715 pointer then Some (0xE000 + (pointer - 8836)) else code jis0208 pointer
+shift_jis_code jis0208 pointer =
+    if within 8836 10715 pointer then Some (0xE000 + (pointer - 8836)) else code jis0208 pointer
 
 -- what two bytes stand for
 abbrev pub shift_jis_pair : Index → ℕ → ℕ → Option ℕ
@@ -74,7 +76,11 @@ euc_jp_pair jis0208 jis0212 flag lead b =
     else None
 
 unfoldable pub euc_jp : Index → Index → Handler EucJp
-euc_jp jis0208 jis0212 s None = record { state = euc_jp_start; answer = if s.lead == 0 then Finished else Error; restored = [] }
+euc_jp jis0208 jis0212 s None = record {
+  state = euc_jp_start;
+  answer = if s.lead == 0 then Finished else Error;
+  restored = [];
+}
 euc_jp jis0208 jis0212 s (Some b) =
     if s.lead == 0 then
     (if nat_lt b 0x80 then record { state = euc_jp_start; answer = Point b; restored = [] }
@@ -110,19 +116,22 @@ plain b = nat_lt b 0x80 && not ((b == 0x0E) || (b == 0x0F))
 
 abbrev pub iso2022_answer : Charset → ℕ → Answer
 iso2022_answer Ascii b = if plain b then Point b else Error
-iso2022_answer Roman b = if b == 0x5C then Point 0xA5 else if b == 0x7E then Point 0x203E else if plain b then Point b else Error
+iso2022_answer Roman b = if b == 0x5C then Point 0xA5 else if b == 0x7E then Point 0x203E else if plain b then Point b
+    else Error
 iso2022_answer Katakana b = if within 0x21 0x5F b then Point (0xFF61 + (b - 0x21)) else Error
 iso2022_answer Lead b = if within 0x21 0x7E b then Nothing else Error
 
 -- where a byte other than 1B leads in a state
 abbrev pub iso2022_plain : Charset → Charset → ℕ → Step Iso2022
 iso2022_plain Lead output b =
-    if within 0x21 0x7E b then iso2022_to (Trail b) output false Nothing [] else iso2022_to (In Lead) output false Error []
+    if within 0x21 0x7E b then iso2022_to (Trail b) output false Nothing [] else iso2022_to (In Lead) output false Error
+    []
 iso2022_plain set output b = iso2022_to (In set) output false (iso2022_answer set b) []
 
 -- what 1B and two bytes mean
 abbrev pub escape_of : Introducer → ℕ → Option Charset
-escape_of Paren b = if b == 0x42 then Some Ascii else if b == 0x4A then Some Roman else if b == 0x49 then Some Katakana else None
+escape_of Paren b = if b == 0x42 then Some Ascii else if b == 0x4A then Some Roman else if b == 0x49 then Some Katakana
+    else None
 escape_of Dollar b = if (b == 0x40) || (b == 0x42) then Some Lead else None
 
 abbrev pub iso2022_escape : Charset → Bool → Option Charset → List ℕ → Step Iso2022
@@ -141,7 +150,8 @@ iso2022_byte jis0208 EscapeStart output flag b =
     if b == 0x24 then iso2022_to (Escape Dollar) output flag Nothing []
     else if b == 0x28 then iso2022_to (Escape Paren) output flag Nothing []
     else iso2022_to (In output) output false Error (b ∷ [])
-iso2022_byte jis0208 (Escape lead) output flag b = iso2022_escape output flag (escape_of lead b) (introducer_byte lead ∷ b ∷ [])
+iso2022_byte jis0208 (Escape lead) output flag b =
+    iso2022_escape output flag (escape_of lead b) (introducer_byte lead ∷ b ∷ [])
 
 abbrev pub iso2022_end : Place → Charset → Bool → Step Iso2022
 iso2022_end (In set) output flag = iso2022_to (In set) output flag Finished []

@@ -11,6 +11,12 @@ pub prefix_sink : {E : Type 0} → IsSink {A = List ℕ} {E = E} (λ a x b. b �
 prefix_sink = record {
   none = λ a. sym (append-nil a);
   both = λ a b c x y p q. q ∙ ap (λ z. z ++ y) p ∙ append_assoc a x y;
-  later = λ a b c x y e p q. (x ++ q.0, q.1, ap (λ z. x ++ z) q.2 ∙ sym (append_assoc x q.0 q.1), q.3 ∙ ap (λ z. z ++ q.0) p ∙ append_assoc a x q.0);
+  later = λ a b c x y e p q. (
+    x ++ q.0,
+    q.1,
+    ap (λ z. x ++ z) q.2 ∙ sym (append_assoc x q.0 q.1),
+    q.3 ∙ ap (λ z. z ++ q.0) p
+        ∙ append_assoc a x q.0,
+  );
   more = λ a b x y e p. (p.0, p.1 ++ y, ap (λ z. z ++ y) p.2 ∙ append_assoc p.0 p.1 y, p.3);
 }

@@ -1,5 +1,6 @@
 -- How a decoder's handler is run over a list of bytes.
-use Rattle.std.specs.Prelude.{ℕ, zero, suc, ◌+◌, ◌*◌, ◌≤◌, ◌≡◌, Bool, true, false, List, [], ◌∷◌, ◌++◌, Option, Some, None, length}
+use Rattle.std.specs.Prelude.{ℕ, zero, suc, ◌+◌, ◌*◌, ◌≤◌, ◌≡◌, Bool, true, false, List, [], ◌∷◌, ◌++◌, Option, Some}
+use Rattle.std.specs.Prelude.{None, length}
 use Rattle.enc_model.specs.declared.Answer.{Answer}
 use Rattle.enc_model.specs.declared.Answer.TheVariants.{Point, Error, Nothing, Finished}
 use Rattle.enc_model.specs.declared.Restored.{Restored}
@@ -112,4 +113,5 @@ pub record IsCalm {S : Type 0} (h : Handler S) : Type 0 where
 -- THE STANDARD'S OWN FORM: a byte's answer, and then what it restores put back in front.
 abbrev pub PutsBack : {S : Type 0} → Handler S → Type 0
 PutsBack {S} h = (ended : Bool) (s : S) (b : ℕ) (bytes : List ℕ) →
-    steps h ended s (b ∷ bytes) ≡ (let t = h s (Some b) in after (said t.answer) (steps h ended t.state (t.restored ++ bytes)))
+    steps h ended s (b ∷ bytes) ≡ (let t = h s (Some b) in after (said t.answer)
+    (steps h ended t.state (t.restored ++ bytes)))

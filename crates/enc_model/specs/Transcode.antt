@@ -24,12 +24,13 @@ IsReason None r = Unit {0}
 IsReason (Some c) r = r.fault ≡ Some c
 
 -- it wrote a part of the code's front
-pub record Refused (f : Encoder) (mode : Mode) (old : Coder) (text : List ℕ) (why : Option ℕ) (new : Coder) : Type 0 where
-  pub front : List ℕ
-  pub rest : List ℕ
-  pub parts : (coded f mode old.state text).bytes ≡ front ++ rest
-  pub out : new.out ≡ old.out ++ front
-  pub reason : IsReason why (coded f mode old.state text)
+pub record Refused (f : Encoder) (mode : Mode) (old : Coder) (text : List ℕ) (why : Option ℕ) (new : Coder) : Type 0
+  where
+    pub front : List ℕ
+    pub rest : List ℕ
+    pub parts : (coded f mode old.state text).bytes ≡ front ++ rest
+    pub out : new.out ≡ old.out ++ front
+    pub reason : IsReason why (coded f mode old.state text)
 
 -- A TRANSCODER
 

@@ -18,10 +18,15 @@ unit_of big a b = if big then a * 256 + b else b * 256 + a
 abbrev pub utf16_unit : Option ℕ → ℕ → ℕ → ℕ → Step Utf16
 utf16_unit (Some lead) unit a b =
     if within 0xDC00 0xDFFF unit
-    then record { state = utf16_start; answer = Point (0x10000 + (lead - 0xD800) * 0x400 + (unit - 0xDC00)); restored = [] }
+    then record {
+      state = utf16_start;
+      answer = Point (0x10000 + (lead - 0xD800) * 0x400 + (unit - 0xDC00));
+      restored = [];
+    }
     else record { state = utf16_start; answer = Error; restored = a ∷ b ∷ [] }
 utf16_unit None unit a b =
-    if within 0xD800 0xDBFF unit then record { state = record { byte = None; lead = Some unit }; answer = Nothing; restored = [] }
+    if within 0xD800 0xDBFF unit then record
+    { state = record { byte = None; lead = Some unit }; answer = Nothing; restored = [] }
     else if within 0xDC00 0xDFFF unit then record { state = utf16_start; answer = Error; restored = [] }
     else record { state = utf16_start; answer = Point unit; restored = [] }
 

@@ -18,14 +18,21 @@ utf8_start = record { needed = 0; lower = 0x80; upper = 0xBF; point = 0; kept = 
 
 abbrev pub lead_of : ℕ → ℕ → ℕ → ℕ → ℕ → Step Utf8
 lead_of b needed lower upper point =
-    record { state = record { needed = needed; lower = lower; upper = upper; point = point; kept = b ∷ [] }; answer = Nothing; restored = [] }
+    record {
+      state = record { needed = needed; lower = lower; upper = upper; point = point; kept = b ∷ [] };
+      answer =
+          Nothing;
+      restored = [];
+    }
 
 abbrev pub utf8_first : ℕ → Step Utf8
 utf8_first b =
     if nat_lt b 0x80 then record { state = utf8_start; answer = Point b; restored = [] }
     else if within 0xC2 0xDF b then lead_of b 1 0x80 0xBF (b - 0xC0)
-    else if within 0xE0 0xEF b then lead_of b 2 (if b == 0xE0 then 0xA0 else 0x80) (if b == 0xED then 0x9F else 0xBF) (b - 0xE0)
-    else if within 0xF0 0xF4 b then lead_of b 3 (if b == 0xF0 then 0x90 else 0x80) (if b == 0xF4 then 0x8F else 0xBF) (b - 0xF0)
+    else if within 0xE0 0xEF b then lead_of b 2 (if b == 0xE0 then 0xA0 else 0x80) (if b == 0xED then 0x9F else 0xBF)
+    (b - 0xE0)
+    else if within 0xF0 0xF4 b then lead_of b 3 (if b == 0xF0 then 0x90 else 0x80) (if b == 0xF4 then 0x8F else 0xBF)
+    (b - 0xF0)
     else record { state = utf8_start; answer = Error; restored = [] }
 
 abbrev pub utf8_next : Utf8 → ℕ → Step Utf8

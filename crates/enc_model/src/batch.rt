@@ -1,6 +1,7 @@
 //! Text that is gathered before it is given on.
 
-ghost use Rattle.std.specs.Prelude.{◌≡◌, ◌≤◌, ◌<◌, ◌+◌, ◌*◌, ◌++◌, ◌∷◌, [], ℕ, List, All, length, take, true, map, slice_index, encode_utf8};
+ghost use Rattle.std.specs.Prelude.{◌≡◌, ◌≤◌, ◌<◌, ◌+◌, ◌*◌, ◌++◌, ◌∷◌, [], ℕ, List, All, length, take, true, map};
+ghost use Rattle.std.specs.Prelude.{slice_index, encode_utf8};
 ghost use Rattle.std.specs.Char.{IsScalar};
 ghost use Rattle.std.specs.Str.{chars, is_utf8};
 ghost use Rattle.enc_model.specs.Batches.{BatchTook, BatchRefused};
@@ -13,7 +14,8 @@ use std::str::from_utf8_unchecked;
 /// How many bytes of UTF-8 a batch has room for.
 pub const ROOM: usize = 3072;
 
-/// How many bytes of any encoding surely give no more: a byte gives at most three characters, itself one and each of the two
+/// How many bytes of any encoding surely give no more: a byte gives at most three characters, itself one and each of
+/// the two
 /// that it may restore.
 pub const BLOCK: usize = 256;
 

@@ -1,9 +1,11 @@
 //! A handler over pieces.
 
-ghost use Rattle.std.specs.Prelude.{◌≡◌, ◌≤◌, length, ℕ, ◌<◌, List, [], ◌∷◌, true, false, Option, None, OnOk, IfOk, IfErr, take, ◌+◌, ◌*◌};
+ghost use Rattle.std.specs.Prelude.{◌≡◌, ◌≤◌, length, ℕ, ◌<◌, List, [], ◌∷◌, true, false, Option, None, OnOk, IfOk};
+ghost use Rattle.std.specs.Prelude.{IfErr, take, ◌+◌, ◌*◌};
 ghost use Rattle.enc_model.specs.Front.{IsFront};
 ghost use Rattle.enc_model.specs.Batches.{BatchTook};
-ghost use Rattle.enc_model.specs.Stream.{Step, Handler, Run, IsCalm, restored_bytes, said, steps, quick, all_bytes, end_to};
+ghost use Rattle.enc_model.specs.Stream.{Step, Handler, Run, IsCalm, restored_bytes, said, steps, quick, all_bytes};
+ghost use Rattle.enc_model.specs.Stream.{end_to};
 ghost use Rattle.enc_model.specs.Sink.{Given};
 
 use crate::batch::{BLOCK, Batch, ROOM};
@@ -31,7 +33,8 @@ pub trait Decoder {
     ghost calm: { (t : Self.Tables) → IsCalm (handler t) };
 }
 
-/// A decoder that reads a block of bytes at once. It stands apart from `Decoder`, since its bodies call functions over that.
+/// A decoder that reads a block of bytes at once. It stands apart from `Decoder`, since its bodies call functions over
+/// that.
 pub trait BlockDecoder: Decoder {
     /// How many bytes at the front are ASCII and stand for themselves from here, as far as it looks.
     fn front(&self, tables: &Self::Tables, bytes: &[u8]) -> usize
@@ -79,8 +82,10 @@ fn reread<D: Decoder, S: Sink>(
     restored: Restored,
     sink: &mut S,
 ) -> Result<(), S::Refusal>
-    ensures given { Given S.takes S.refuses sink.old (all_bytes (quick (D.handler tables.now)) state.old (restored_bytes restored)).text sink.new result }
-    ensures state { OnOk result (state.new ≡ (all_bytes (quick (D.handler tables.now)) state.old (restored_bytes restored)).state) }
+    ensures given { Given S.takes S.refuses sink.old
+        (all_bytes (quick (D.handler tables.now)) state.old (restored_bytes restored)).text sink.new result }
+    ensures state { OnOk result
+        (state.new ≡ (all_bytes (quick (D.handler tables.now)) state.old (restored_bytes restored)).state) }
 {
     match restored {
         Restored::Zero => Ok(()),
@@ -100,7 +105,8 @@ fn step<D: Decoder, S: Sink>(
     byte: u8,
     sink: &mut S,
 ) -> Result<(), S::Refusal>
-    ensures given { Given S.takes S.refuses sink.old (steps (D.handler tables.now) false state.old (byte ∷ [])).text sink.new result }
+    ensures given { Given S.takes S.refuses sink.old (steps (D.handler tables.now) false state.old (byte ∷ [])).text
+        sink.new result }
     ensures state { OnOk result (state.new ≡ (steps (D.handler tables.now) false state.old (byte ∷ [])).state) }
 {
     let (answer, restored) = state.read(tables, Some(byte));
@@ -115,7 +121,8 @@ pub fn feed_each<D: Decoder, S: Sink>(
     piece: &[u8],
     sink: &mut S,
 ) -> Result<(), S::Refusal>
-    ensures given { Given S.takes S.refuses sink.old (steps (D.handler tables.now) false state.old piece.now).text sink.new result }
+    ensures given { Given S.takes S.refuses sink.old (steps (D.handler tables.now) false state.old piece.now).text
+        sink.new result }
     ensures state { OnOk result (state.new ≡ (steps (D.handler tables.now) false state.old piece.now).state) }
 {
     for byte in piece {
@@ -156,9 +163,12 @@ fn advance<D: BlockDecoder, S: Sink>(
 ) -> Result<usize, S::Refusal>
     requires { 0 < length rest.now }
     ensures some { IfOk result (λ n. (0 < n) × (n ≤ length rest.now)) }
-    ensures taken { IfOk result (λ n. S.takes sink.old (steps (D.handler tables.now) false state.old (take n rest.now)).text sink.new) }
-    ensures refused { IfErr result (λ e. S.refuses sink.old (steps (D.handler tables.now) false state.old rest.now).text e sink.new) }
-    ensures state { IfOk result (λ n. state.new ≡ (steps (D.handler tables.now) false state.old (take n rest.now)).state) }
+    ensures taken { IfOk result
+        (λ n. S.takes sink.old (steps (D.handler tables.now) false state.old (take n rest.now)).text sink.new) }
+    ensures refused { IfErr result
+        (λ e. S.refuses sink.old (steps (D.handler tables.now) false state.old rest.now).text e sink.new) }
+    ensures state { IfOk result
+        (λ n. state.new ≡ (steps (D.handler tables.now) false state.old (take n rest.now)).state) }
 {
     let front = next_front(state, tables, rest);
     if LONG_FRONT <= front {
@@ -179,7 +189,8 @@ fn feed_blocks<D: BlockDecoder, S: Sink>(
     piece: &[u8],
     sink: &mut S,
 ) -> Result<(), S::Refusal>
-    ensures given { Given S.takes S.refuses sink.old (steps (D.handler tables.now) false state.old piece.now).text sink.new result }
+    ensures given { Given S.takes S.refuses sink.old (steps (D.handler tables.now) false state.old piece.now).text
+        sink.new result }
     ensures state { OnOk result (state.new ≡ (steps (D.handler tables.now) false state.old piece.now).state) }
 {
     let mut batch = Batch::new();
@@ -198,9 +209,12 @@ fn give_fronts<D: BlockDecoder, S: Sink>(
     sink: &mut S,
 ) -> Result<usize, S::Refusal>
     ensures within { IfOk result (λ n. n ≤ length piece.now) }
-    ensures taken { IfOk result (λ n. S.takes sink.old (steps (D.handler tables.now) false state.now (take n piece.now)).text sink.new) }
-    ensures refused { IfErr result (λ e. S.refuses sink.old (steps (D.handler tables.now) false state.now piece.now).text e sink.new) }
-    ensures state { IfOk result (λ n. state.now ≡ (steps (D.handler tables.now) false state.now (take n piece.now)).state) }
+    ensures taken { IfOk result
+        (λ n. S.takes sink.old (steps (D.handler tables.now) false state.now (take n piece.now)).text sink.new) }
+    ensures refused { IfErr result
+        (λ e. S.refuses sink.old (steps (D.handler tables.now) false state.now piece.now).text e sink.new) }
+    ensures state { IfOk result
+        (λ n. state.now ≡ (steps (D.handler tables.now) false state.now (take n piece.now)).state) }
 {
     let mut at = 0;
     while at < piece.len() {
@@ -222,7 +236,8 @@ pub fn feed<D: BlockDecoder, S: Sink>(
     piece: &[u8],
     sink: &mut S,
 ) -> Result<(), S::Refusal>
-    ensures given { Given S.takes S.refuses sink.old (steps (D.handler tables.now) false state.old piece.now).text sink.new result }
+    ensures given { Given S.takes S.refuses sink.old (steps (D.handler tables.now) false state.old piece.now).text
+        sink.new result }
     ensures state { OnOk result (state.new ≡ (steps (D.handler tables.now) false state.old piece.now).state) }
 {
     let front = give_fronts(state, tables, piece, sink)?;
@@ -239,7 +254,8 @@ fn finish_within<D: Decoder, S: Sink>(
     calls: u8,
     sink: &mut S,
 ) -> Result<(), S::Refusal>
-    ensures given { Given S.takes S.refuses sink.old (end_to calls (D.handler tables.now) state.old).text sink.new result }
+    ensures given { Given S.takes S.refuses sink.old (end_to calls (D.handler tables.now) state.old).text sink.new
+        result }
     ensures state { OnOk result (state.new ≡ (end_to calls (D.handler tables.now) state.old).state) }
 {
     if calls == 0 {
@@ -260,7 +276,8 @@ pub fn finish<D: Decoder, S: Sink>(
     tables: &D::Tables,
     sink: &mut S,
 ) -> Result<(), S::Refusal>
-    ensures given { Given S.takes S.refuses sink.old (steps (D.handler tables.now) true state.old []).text sink.new result }
+    ensures given { Given S.takes S.refuses sink.old (steps (D.handler tables.now) true state.old []).text sink.new
+        result }
     ensures state { OnOk result (state.new ≡ (steps (D.handler tables.now) true state.old []).state) }
 {
     finish_within(state, tables, 4, sink)

@@ -25,18 +25,23 @@ pub fn restored_in_front()
 /// The steps over b ++ c are the steps over b, and then over c from the end state.
 pub fn in_any_cut()
     ensures { (t : Tables) (ended : Bool) (s : Decoding) (b c : List ℕ) →
-        decoding t ended s (b ++ c) ≡ behind_run (decoding t false s b).text (decoding t ended (decoding t false s b).state c) }
+        decoding t ended s (b ++ c) ≡ behind_run (decoding t false s b).text
+        (decoding t ended (decoding t false s b).state c) }
 {}
 
 /// Decoding with a BOM goes on from where it stands.
 pub fn with_a_bom()
-    ensures more { (t : Tables) (e : Encoding) (b c : List ℕ) → advance t e (decoded t e b false) c ≡ decoded t e (b ++ c) false }
+    ensures more { (t : Tables) (e : Encoding) (b c : List ℕ) → advance t e (decoded t e b false) c ≡ decoded t e
+        (b ++ c) false }
     ensures end { (t : Tables) (e : Encoding) (b : List ℕ) → conclude t e (decoded t e b false) ≡ decoded t e b true }
 {}
 
 /// From where a transcoder stands, the text grows by what a piece adds, and the next state is where all bytes end.
 pub fn text_grows()
-    ensures text { (t : Tables) (s : Transcoder) (b c : List ℕ) → IsAt t s b → (so_far t s (b ++ c)).bytes ≡ (so_far t s b).bytes ++ (added t s c).bytes }
-    ensures fault { (t : Tables) (s : Transcoder) (b c : List ℕ) → IsAt t s b → (so_far t s (b ++ c)).fault ≡ (added t s c).fault }
-    ensures next { (t : Tables) (s : Transcoder) (b c : List ℕ) → IsAt t s b → (added t s c).fault ≡ None → IsAt t (stepped t s c) (b ++ c) }
+    ensures text { (t : Tables) (s : Transcoder) (b c : List ℕ) → IsAt t s b
+        → (so_far t s (b ++ c)).bytes ≡ (so_far t s b).bytes ++ (added t s c).bytes }
+    ensures fault { (t : Tables) (s : Transcoder) (b c : List ℕ) → IsAt t s b
+        → (so_far t s (b ++ c)).fault ≡ (added t s c).fault }
+    ensures next { (t : Tables) (s : Transcoder) (b c : List ℕ) → IsAt t s b → (added t s c).fault ≡ None
+        → IsAt t (stepped t s c) (b ++ c) }
 {}

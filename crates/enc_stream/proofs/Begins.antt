@@ -7,7 +7,11 @@ use Rattle.enc_model.specs.Transcode.{IsAt, phase_of}
 use Rattle.enc_model.proofs.Pieces.{decoded_none}
 use Rattle.enc_stream.specs.Standing.{start}
 
-coded_none : (f : Encoder) (mode : Mode) (s : Shift) → coded f mode s [] ≡ record { bytes = []; state = s; fault = None }
+coded_none : (f : Encoder) (mode : Mode) (s : Shift) → coded f mode s [] ≡ record {
+  bytes = [];
+  state = s;
+  fault = None;
+}
 unfolding coded coded_within
 coded_none f mode s = refl
 

@@ -1,9 +1,11 @@
 -- The places of the state bytes.
-use Rattle.std.proofs.Common.{ℕ, zero, suc, ◌+◌, ◌≡◌, ◌≤◌, true, List, [], ◌∷◌, ◌++◌, length, get_or, refl, sym, ◌∙◌, ap, arith, lit≤}
+use Rattle.std.proofs.Common.{ℕ, zero, suc, ◌+◌, ◌≡◌, ◌≤◌, true, List, [], ◌∷◌, ◌++◌, length, get_or, refl, sym, ◌∙◌}
+use Rattle.std.proofs.Common.{ap, arith, lit≤}
 use Rattle.enc_model.specs.declared.Encoding.{Encoding}
 use Rattle.enc_model.specs.Decode.{Decoding, OfUtf8, OfUtf16, OfShiftJis, OfEucJp, OfIso2022, OfSingle, undecided}
 use Rattle.enc_model.specs.Transcode.{Transcoder, Phase, Before, During, Over}
-use Rattle.enc_stream.specs.StateBytes.{IsPhaseOf, IsReached, IsReachedIn, IsSound, encoding_number, mode_number, phase_number, shift_number, decoder_bytes, phase_bytes, padded, state_bytes}
+use Rattle.enc_stream.specs.StateBytes.{IsPhaseOf, IsReached, IsReachedIn, IsSound, encoding_number, mode_number}
+use Rattle.enc_stream.specs.StateBytes.{phase_number, shift_number, decoder_bytes, phase_bytes, padded, state_bytes}
 
 -- WHAT A PHASE KEEPS HAS AT MOST FIVE BYTES
 
@@ -38,7 +40,8 @@ five (a ∷ b ∷ c ∷ d ∷ []) rest = refl
 five (a ∷ b ∷ c ∷ d ∷ e ∷ xs) rest = refl
 
 twelve : (xs : List ℕ) → length xs ≤ 5 → (let front = padded 5 xs in
-    padded 12 xs ≡ get_or front 0 0 ∷ get_or front 1 0 ∷ get_or front 2 0 ∷ get_or front 3 0 ∷ get_or front 4 0 ∷ 0 ∷ 0 ∷ 0 ∷ 0 ∷ 0 ∷ 0 ∷ 0 ∷ [])
+    padded 12 xs ≡ get_or front 0 0 ∷ get_or front 1 0 ∷ get_or front 2 0 ∷ get_or front 3 0 ∷ get_or front 4
+    0 ∷ 0 ∷ 0 ∷ 0 ∷ 0 ∷ 0 ∷ 0 ∷ 0 ∷ [])
 twelve [] h = refl
 twelve (a ∷ []) h = refl
 twelve (a ∷ b ∷ []) h = refl
@@ -56,13 +59,16 @@ behind (suc n) (x ∷ xs) rest i = grind (arith, behind n xs rest i)
 -- THE BYTES OF A STATE, AND ITS PARTS
 
 pub packed : (s : Transcoder) (from to mode phase shift : ℕ) (kept : List ℕ) → IsSound s →
-    from ≡ encoding_number s.from → to ≡ encoding_number s.to → mode ≡ mode_number s.mode → phase ≡ phase_number s.phase → shift ≡ shift_number s.shift →
+    from ≡ encoding_number s.from → to ≡ encoding_number s.to → mode ≡ mode_number s.mode → phase ≡ phase_number s.phase
+    → shift ≡ shift_number s.shift →
     kept ≡ padded 5 (phase_bytes s.phase) →
-    from ∷ to ∷ mode ∷ phase ∷ get_or kept 0 0 ∷ get_or kept 1 0 ∷ get_or kept 2 0 ∷ get_or kept 3 0 ∷ get_or kept 4 0 ∷ 0 ∷ 0 ∷ 0 ∷ 0 ∷ 0 ∷ 0 ∷ 0
+    from ∷ to ∷ mode ∷ phase ∷ get_or kept 0 0 ∷ get_or kept 1 0 ∷ get_or kept 2 0 ∷ get_or kept 3 0 ∷ get_or kept 4
+    0 ∷ 0 ∷ 0 ∷ 0 ∷ 0 ∷ 0 ∷ 0 ∷ 0
     ∷ shift ∷ 0 ∷ 0 ∷ 0 ∷ 0 ∷ 0 ∷ 0 ∷ 0 ∷ 0 ∷ 0 ∷ 0 ∷ 0 ∷ 0 ∷ 0 ∷ 0 ∷ 0 ∷ []
     ≡ state_bytes s
 packed s from to mode phase shift kept sound e1 e2 e3 e4 e5 e6 =
-    rw (e1, e2, e3, e4, e5, e6, twelve (phase_bytes s.phase) (few s.from s.phase sound.fitting.phase sound.reached)) refl
+    rw (e1, e2, e3, e4, e5, e6, twelve (phase_bytes s.phase) (few s.from s.phase sound.fitting.phase sound.reached))
+    refl
 
 module _ (s : Transcoder) (bytes : List ℕ) (is : state_bytes s ≡ bytes) where
   pub from_there : encoding_number s.from ≡ get_or bytes 0 0
@@ -78,9 +84,11 @@ module _ (s : Transcoder) (bytes : List ℕ) (is : state_bytes s ≡ bytes) wher
   phase_there = ap (λ z. get_or z 3 0) is
 
   pub shift_there : shift_number s.shift ≡ get_or bytes 16 0
-  shift_there = sym (behind 12 (phase_bytes s.phase) (padded 16 (shift_number s.shift ∷ [])) 0) ∙ ap (λ z. get_or z 16 0) is
+  shift_there = sym (behind 12 (phase_bytes s.phase) (padded 16 (shift_number s.shift ∷ [])) 0)
+      ∙ ap (λ z. get_or z 16 0) is
 
-  pub kept_there : padded 5 (phase_bytes s.phase) ≡ get_or bytes 4 0 ∷ get_or bytes 5 0 ∷ get_or bytes 6 0 ∷ get_or bytes 7 0 ∷ get_or bytes 8 0 ∷ []
+  pub kept_there : padded 5 (phase_bytes s.phase) ≡ get_or bytes 4 0 ∷ get_or bytes 5 0 ∷ get_or bytes 6 0 ∷ get_or
+      bytes 7 0 ∷ get_or bytes 8 0 ∷ []
   kept_there =
       five (phase_bytes s.phase) (padded 16 (shift_number s.shift ∷ []))
       ∙ ap (λ z. get_or z 4 0 ∷ get_or z 5 0 ∷ get_or z 6 0 ∷ get_or z 7 0 ∷ get_or z 8 0 ∷ []) is

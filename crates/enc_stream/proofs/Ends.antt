@@ -1,5 +1,6 @@
 -- What a transcoder's end adds to the text.
-use Rattle.std.proofs.Common.{ℕ, ◌≡◌, ◌≤◌, ◌<◌, ◌+◌, Bool, true, false, List, ◌++◌, Option, Some, None, length, length-append, arith, refl, sym, ◌∙◌, ap, append_assoc, subst, Vec, vec_capacity}
+use Rattle.std.proofs.Common.{ℕ, ◌≡◌, ◌≤◌, ◌<◌, ◌+◌, Bool, true, false, List, ◌++◌, Option, Some, None, length}
+use Rattle.std.proofs.Common.{length-append, arith, refl, sym, ◌∙◌, ap, append_assoc, subst, Vec, vec_capacity}
 use Rattle.enc_model.specs.declared.Encoding.{Encoding}
 use Rattle.enc_model.specs.Encode.{Tables, InAscii, Coded, behind, coded, encoder, ended_coded, encoder_end, encode}
 use Rattle.enc_model.specs.Decode.{undecided, decoded, decoded_text, conclude, decode, text}
@@ -16,7 +17,8 @@ ended_behind : (x : List ℕ) (r : Coded) → ended_coded (behind x r) ≡ behin
 ended_behind x r = go r.fault refl
   where
     go : (f : Option ℕ) → r.fault ≡ f → ended_coded (behind x r) ≡ behind x (ended_coded r)
-    go None e = rw e (ap (λ z. record { bytes = z; state = InAscii; fault = None }) (append_assoc x r.bytes (encoder_end r.state)))
+    go None e = rw e (ap (λ z. record { bytes = z; state = InAscii; fault = None })
+        (append_assoc x r.bytes (encoder_end r.state)))
     go (Some c) e = rw e refl
 
 -- all that is decoded with the end is what was decoded and what the end gives
@@ -25,7 +27,8 @@ pub decode_end : (t : Tables) (e : Encoding) (b : List ℕ) →
 unfolding decode fed_end conclude
 decode_end t e b = go (undecided b) refl
   where
-    go : (u : Bool) → undecided b ≡ u → decode t e b true ≡ decoded_text (decoded t e b false) ++ fed_end t e (phase_of (decoded t e b false))
+    go : (u : Bool) → undecided b ≡ u → decode t e b true ≡ decoded_text (decoded t e b false) ++ fed_end t e
+        (phase_of (decoded t e b false))
     go true h = sym (ap (λ d. decoded_text d ++ fed_end t e (phase_of d)) (decoded_held t e b h))
     go false h =
         let d = decoded_reading t e b h in
@@ -33,7 +36,8 @@ decode_end t e b = go (undecided b) refl
         ∙ sym (ap (λ z. decoded_text z ++ fed_end t e (phase_of z)) d)
 
 -- From where a transcoder stands, the text with the end is the text so far and what the end adds.
-pub text_ended : (t : Tables) (s : Transcoder) (b : List ℕ) → IsAt t s b → text t s.from s.to s.mode b true ≡ behind (so_far t s b).bytes (added_end t s)
+pub text_ended : (t : Tables) (s : Transcoder) (b : List ℕ) → IsAt t s b
+    → text t s.from s.to s.mode b true ≡ behind (so_far t s b).bytes (added_end t s)
 unfolding text encode
 text_ended t s b here =
     let f = encoder t s.to in
@@ -47,7 +51,11 @@ text_ended t s b here =
 
 -- THE END'S BYTES, behind what was coded
 
-ended_none : (r : Coded) → r.fault ≡ None → ended_coded r ≡ record { bytes = r.bytes ++ encoder_end r.state; state = InAscii; fault = None }
+ended_none : (r : Coded) → r.fault ≡ None → ended_coded r ≡ record {
+  bytes = r.bytes ++ encoder_end r.state;
+  state = InAscii;
+  fault = None;
+}
 ended_none r e = rw e refl
 
 ended_fault : (r : Coded) (c : ℕ) → r.fault ≡ Some c → ended_coded r ≡ r
@@ -55,33 +63,46 @@ ended_fault r c e = rw e refl
 
 module _ {Z : Type 0} (r : Coded) (old mid new : Vec ℕ Z) where
   -- behind the code the bytes of the end were appended
-  pub end_written : IsWritten r old mid → new.items ≡ mid.items ++ encoder_end r.state → IsWritten (ended_coded r) old new
+  pub end_written : IsWritten r old mid → new.items ≡ mid.items ++ encoder_end r.state
+      → IsWritten (ended_coded r) old new
   end_written p e =
       let n = ended_none r p.fault in
       record {
         fault = ap (λ z. z.fault) n;
-        items = e ∙ ap (λ z. z ++ encoder_end r.state) p.items ∙ append_assoc old.items r.bytes (encoder_end r.state) ∙ ap (λ z. old.items ++ z.bytes) (sym n);
+        items = e ∙ ap (λ z. z ++ encoder_end r.state) p.items ∙ append_assoc old.items r.bytes (encoder_end r.state)
+            ∙ ap (λ z. old.items ++ z.bytes) (sym n);
       }
 
   -- there was no room for these
-  pub end_stopped : IsWritten r old mid → vec_capacity old ≤ vec_capacity mid → new.items ≡ mid.items → vec_capacity mid < length mid.items + length (encoder_end r.state) →
+  pub end_stopped : IsWritten r old mid → vec_capacity old ≤ vec_capacity mid → new.items ≡ mid.items
+      → vec_capacity mid < length mid.items + length (encoder_end r.state) →
       IsStopped NoMemory (ended_coded r) old new
   end_stopped p grown same full =
       let n = ended_none r p.fault in
       let l : length mid.items ≡ length (old.items ++ r.bytes) = ap length p.items in
       let m = length-append old.items r.bytes in
       let k = length-append r.bytes (encoder_end r.state) in
-      let room : vec_capacity old < length old.items + length (r.bytes ++ encoder_end r.state) = omega (arith, l, m, k, grown, full) in
+      let room : vec_capacity old < length old.items + length (r.bytes ++ encoder_end r.state) =
+      omega (arith, l, m, k, grown, full) in
       record {
         reason = subst (λ (z : Coded). vec_capacity old < length old.items + length z.bytes) (sym n) room;
-        items = record { front = r.bytes; rest = encoder_end r.state; parts = ap (λ z. z.bytes) n; out = same ∙ p.items };
+        items = record {
+          front = r.bytes;
+          rest = encoder_end r.state;
+          parts = ap (λ z. z.bytes) n;
+          out = same ∙ p.items;
+        };
       }
 
   -- or there was a stop before the end
   pub stopped_before : (e : TranscodeError) → IsStopped e r old new → IsStopped e (ended_coded r) old new
   stopped_before e p = go r.fault refl
     where
-      reason : (e : TranscodeError) → r.fault ≡ None → Stops e r old → Stops e (record { bytes = r.bytes ++ encoder_end r.state; state = InAscii; fault = None }) old
+      reason : (e : TranscodeError) → r.fault ≡ None → Stops e r old → Stops e (record {
+        bytes = r.bytes ++ encoder_end r.state;
+        state = InAscii;
+        fault = None;
+      }) old
       reason NoMemory n s = let k = length-append r.bytes (encoder_end r.state) in omega (arith, k, s)
       reason (Unencodable c) n s = absurd cc
       reason Spent n s = s
@@ -92,7 +113,8 @@ module _ {Z : Type 0} (r : Coded) (old mid new : Vec ℕ Z) where
         items = record {
           front = p.items.front;
           rest = p.items.rest ++ encoder_end r.state;
-          parts = ap (λ z. z ++ encoder_end r.state) p.items.parts ∙ append_assoc p.items.front p.items.rest (encoder_end r.state);
+          parts = ap (λ z. z ++ encoder_end r.state) p.items.parts ∙ append_assoc p.items.front p.items.rest
+              (encoder_end r.state);
           out = p.items.out;
         };
       })

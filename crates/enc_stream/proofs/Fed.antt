@@ -16,18 +16,26 @@ unfolding fed
 fed_held t e held piece h = ap fed_of (decoded_held t e (held ++ piece) h)
 
 -- then what was sniffed
-pub fed_sniffed : (t : Tables) (e in_effect : Encoding) (held piece rest : List ℕ) → undecided (held ++ piece) ≡ false → sniffed e (held ++ piece) ≡ (in_effect, rest) →
-    fed t e (Before held) piece ≡ (let r = decoding t false (decoding_start in_effect) rest in record { text = r.text; phase = During r.state })
+pub fed_sniffed : (t : Tables) (e in_effect : Encoding) (held piece rest : List ℕ) → undecided (held ++ piece) ≡ false
+    → sniffed e (held ++ piece) ≡ (in_effect, rest) →
+    fed t e (Before held) piece ≡ (let r = decoding t false (decoding_start in_effect) rest in record {
+      text = r.text;
+      phase = During r.state;
+    })
 unfolding fed
 fed_sniffed t e in_effect held piece rest h s =
     ap fed_of (decoded_reading t e (held ++ piece) h ∙ ap (λ z. Reading (decoding t false (decoding_start z.0) z.1)) s)
 
-pub fed_during : (t : Tables) (e : Encoding) (s : Decoding) (piece : List ℕ) → fed t e (During s) piece ≡ (let r = decoding t false s piece in record { text = r.text; phase = During r.state })
+pub fed_during : (t : Tables) (e : Encoding) (s : Decoding) (piece : List ℕ) → fed t e (During s) piece ≡ (let r = decoding t false s piece in record {
+  text = r.text;
+  phase = During r.state;
+})
 unfolding fed
 fed_during t e s piece = refl
 
 -- at the end held bytes are no BOM
-pub fed_end_held : (t : Tables) (e : Encoding) (held : Held) → fed_end t e (Before (held_bytes held)) ≡ (decoding t true (decoding_start e) (held_bytes held)).text
+pub fed_end_held : (t : Tables) (e : Encoding) (held : Held) → fed_end t e
+    (Before (held_bytes held)) ≡ (decoding t true (decoding_start e) (held_bytes held)).text
 unfolding fed_end decoded
 fed_end_held t e Nothing = refl
 fed_end_held t e Ef = refl

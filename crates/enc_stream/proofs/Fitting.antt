@@ -1,10 +1,12 @@
 -- A transcoder's parts go on fitting one another.
-use Rattle.std.proofs.Common.{ℕ, ◌≡◌, Bool, true, false, List, ◌++◌, refl, sym, ◌∙◌, subst, drop, inl, inr, rules, if◌then◌else◌}
+use Rattle.std.proofs.Common.{ℕ, ◌≡◌, Bool, true, false, List, ◌++◌, refl, sym, ◌∙◌, subst, drop, inl, inr, rules}
+use Rattle.std.proofs.Common.{if◌then◌else◌}
 use Rattle.enc_model.specs.declared.Encoding.{Encoding}
 use Rattle.enc_model.specs.declared.Encoding.TheVariants.{Utf8, Utf16Be, Utf16Le}
 use Rattle.enc_model.specs.declared.Mode.{Mode}
 use Rattle.enc_model.specs.Encode.{Tables, Shift, InAscii, coded, encoder}
-use Rattle.enc_model.specs.Decode.{Decoding, OfUtf8, OfUtf16, OfShiftJis, OfEucJp, OfIso2022, OfSingle, decoding, decoding_start, sniffed, undecided, begins, bom8, bom_be, bom_le}
+use Rattle.enc_model.specs.Decode.{Decoding, OfUtf8, OfUtf16, OfShiftJis, OfEucJp, OfIso2022, OfSingle, decoding}
+use Rattle.enc_model.specs.Decode.{decoding_start, sniffed, undecided, begins, bom8, bom_be, bom_le}
 use Rattle.enc_model.specs.Transcode.{Transcoder, Phase, Before, During, Over, Fed, fed, stepped}
 use Rattle.enc_stream.specs.StateBytes.{IsFitting, IsInEffect, IsOwn, IsPhaseOf, IsShiftIn, encoding_of}
 use Rattle.enc_stream.proofs.Fed.{fed_held, fed_sniffed}
@@ -12,7 +14,8 @@ use Rattle.enc_stream.proofs.Shifts.{coded_nothing, coded_in_ascii}
 
 -- THE DECODER
 
-still_own : (t : Tables) (ended : Bool) (s : Decoding) (piece : List ℕ) → IsOwn s → IsOwn (decoding t ended s piece).state
+still_own : (t : Tables) (ended : Bool) (s : Decoding) (piece : List ℕ) → IsOwn s
+    → IsOwn (decoding t ended s piece).state
 unfolding decoding
 still_own t ended (OfUtf8 s) piece own = tt
 still_own t ended (OfUtf16 big s) piece own = tt
@@ -21,7 +24,8 @@ still_own t ended (OfEucJp s) piece own = tt
 still_own t ended (OfIso2022 s) piece own = tt
 still_own t ended (OfSingle e s) piece own = own
 
-still_of : (t : Tables) (ended : Bool) (s : Decoding) (piece : List ℕ) → encoding_of (decoding t ended s piece).state ≡ encoding_of s
+still_of : (t : Tables) (ended : Bool) (s : Decoding) (piece : List ℕ) → encoding_of
+    (decoding t ended s piece).state ≡ encoding_of s
 unfolding decoding
 still_of t ended (OfUtf8 s) piece = refl
 still_of t ended (OfUtf16 big s) piece = refl
@@ -42,21 +46,26 @@ HasInEffect from r = IsInEffect from r.0
 sniffed_in_effect : (from : Encoding) (b : List ℕ) → IsInEffect from (sniffed from b).0
 sniffed_in_effect from b = go (begins bom8 b) (begins bom_be b) (begins bom_le b)
   where
-    go : (x y z : Bool) → HasInEffect from (if x then (Utf8, drop 3 b) else if y then (Utf16Be, drop 2 b) else if z then (Utf16Le, drop 2 b) else (from, b))
+    go : (x y z : Bool) → HasInEffect from
+        (if x then (Utf8, drop 3 b) else if y then (Utf16Be, drop 2 b) else if z then (Utf16Le, drop 2 b)
+        else (from, b))
     go true y z = inr (inl refl)
     go false true z = inr (inr (inl refl))
     go false false true = inr (inr (inr refl))
     go false false false = inl refl
 
-during_fits : (t : Tables) (from : Encoding) (s : Decoding) (piece : List ℕ) → IsOwn s → IsInEffect from (encoding_of s) →
+during_fits : (t : Tables) (from : Encoding) (s : Decoding) (piece : List ℕ) → IsOwn s → IsInEffect from (encoding_of s)
+    →
     IsPhaseOf from (During (decoding t false s piece).state)
-during_fits t from s piece own effect = (still_own t false s piece own, subst (IsInEffect from) (sym (still_of t false s piece)) effect)
+during_fits t from s piece own effect =
+    (still_own t false s piece own, subst (IsInEffect from) (sym (still_of t false s piece)) effect)
 
 -- THE PHASE AND THE ENCODER
 
 -- what a piece leads to
 abbrev Leads : Tables → Encoding → Encoding → Mode → Shift → Fed → Type 0
-Leads t from to mode shift r = IsPhaseOf from r.phase × IsShiftIn r.phase to (coded (encoder t to) mode shift r.text).state
+Leads t from to mode shift r =
+    IsPhaseOf from r.phase × IsShiftIn r.phase to (coded (encoder t to) mode shift r.text).state
 
 before_leads : (t : Tables) (from to : Encoding) (mode : Mode) (shift : Shift) (held piece : List ℕ) → shift ≡ InAscii →
     Leads t from to mode shift (fed t from (Before held) piece)
@@ -69,15 +78,18 @@ before_leads t from to mode shift held piece ascii = go (undecided (held ++ piec
         let rest = (sniffed from (held ++ piece)).1 in
         let first = decoding_start in_effect in
         rw (fed_sniffed t from in_effect held piece rest h refl) (
-          during_fits t from first rest (start_own in_effect) (subst (IsInEffect from) (sym (start_of in_effect)) (sniffed_in_effect from (held ++ piece))),
+          during_fits t from first rest (start_own in_effect)
+              (subst (IsInEffect from) (sym (start_of in_effect)) (sniffed_in_effect from (held ++ piece))),
           coded_in_ascii t to mode shift (decoding t false first rest).text (inr ascii),
         )
 
-leads : (t : Tables) (from to : Encoding) (mode : Mode) (phase : Phase) (shift : Shift) (piece : List ℕ) → IsPhaseOf from phase → IsShiftIn phase to shift →
+leads : (t : Tables) (from to : Encoding) (mode : Mode) (phase : Phase) (shift : Shift) (piece : List ℕ)
+    → IsPhaseOf from phase → IsShiftIn phase to shift →
     Leads t from to mode shift (fed t from phase piece)
 unfolding fed
 leads t from to mode (Before held) shift piece p q = before_leads t from to mode shift held piece q
-leads t from to mode (During s) shift piece p q = (during_fits t from s piece p.0 p.1, coded_in_ascii t to mode shift (decoding t false s piece).text q)
+leads t from to mode (During s) shift piece p q =
+    (during_fits t from s piece p.0 p.1, coded_in_ascii t to mode shift (decoding t false s piece).text q)
 leads t from to mode Over shift piece p q = (tt, coded_nothing (encoder t to) mode shift ∙ q)
 
 -- behind a piece they fit as before

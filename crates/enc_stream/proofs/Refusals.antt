@@ -13,24 +13,32 @@ use Rattle.enc_stream.specs.Standing.{Standing, spent_by, Stops, IsStopped, IsWr
 
 -- what a sink took
 pub sink_wrote : (a b : SinkState) (x : List ℕ) → SinkTook a x b →
-    IsWritten (code_from (tables a.set) a.encoder x) a.out b.out × (b.encoder ≡ shifted a.encoder (code_from (tables a.set) a.encoder x).state)
+    IsWritten (code_from (tables a.set) a.encoder x) a.out
+    b.out × (b.encoder ≡ shifted a.encoder (code_from (tables a.set) a.encoder x).state)
 sink_wrote a b x p = (
   record { fault = p.took.fault; items = p.took.out },
-  ap (λ (g : Setting). record { to = g.to; mode = g.mode; shift = b.encoder.shift }) p.setting ∙ ap (λ (s : Shift). shifted a.encoder s) p.took.state,
+  ap (λ (g : Setting). record {
+    to = g.to;
+    mode = g.mode;
+    shift = b.encoder.shift;
+  }) p.setting ∙ ap (λ (s : Shift). shifted a.encoder s) p.took.state,
 )
 
-stops : (a b : SinkState) (x : List ℕ) (e : EncodeError) → SinkRefused a x e b → Stops (error_of e) (code_from (tables a.set) a.encoder x) a.out
+stops : (a b : SinkState) (x : List ℕ) (e : EncodeError) → SinkRefused a x e b
+    → Stops (error_of e) (code_from (tables a.set) a.encoder x) a.out
 stops a b x encode.NoMemory p = p.memory refl
 stops a b x (encode.Unencodable c) p = p.refused.reason
 
 -- what it refused
-pub sink_stopped : (a b : SinkState) (x : List ℕ) (e : EncodeError) → SinkRefused a x e b → IsStopped (error_of e) (code_from (tables a.set) a.encoder x) a.out b.out
+pub sink_stopped : (a b : SinkState) (x : List ℕ) (e : EncodeError) → SinkRefused a x e b
+    → IsStopped (error_of e) (code_from (tables a.set) a.encoder x) a.out b.out
 sink_stopped a b x e p = record {
   reason = stops a b x e p;
   items = record { front = p.refused.front; rest = p.refused.rest; parts = p.refused.parts; out = p.refused.out };
 }
 
-pub stopped_answers : {Z : Type 0} (e : TranscodeError) (code : Coded) (old new : Vec ℕ Z) (before after : Standing) → IsStopped e code old new → after ≡ spent_by before →
+pub stopped_answers : {Z : Type 0} (e : TranscodeError) (code : Coded) (old new : Vec ℕ Z) (before after : Standing)
+    → IsStopped e code old new → after ≡ spent_by before →
     Answers e code old new before after
 stopped_answers NoMemory code old new before after p s = (p, s)
 stopped_answers (Unencodable c) code old new before after p s = (p, s)

@@ -16,7 +16,13 @@ abbrev none : Tables
 none = record { jis0208 = []; jis0212 = []; katakana = []; single = λ e. [] }
 
 abbrev behind : Encoding → List ℕ → Transcoder
-behind from b = record { from = from; to = Utf8; mode = Html; phase = phase_of (decoded none from b false); shift = InAscii }
+behind from b = record {
+  from = from;
+  to = Utf8;
+  mode = Html;
+  phase = phase_of (decoded none from b false);
+  shift = InAscii;
+}
 
 -- a BOM but for its last byte
 held : state_bytes (behind Utf8 (0xEF ∷ 0xBB ∷ [])) ≡ 0 ∷ 0 ∷ 0 ∷ 0 ∷ 2 ∷ 0xEF ∷ 0xBB ∷ replicate 25 0

@@ -6,7 +6,9 @@ use Rattle.enc_model.specs.declared.Encoding.TheVariants.{Utf8, Utf16Be, Utf16Le
 use Rattle.enc_model.specs.declared.Mode.{Mode}
 use Rattle.enc_model.specs.declared.Mode.TheVariants.{Html, Fatal}
 use Rattle.enc_model.specs.Index.{Index}
-use Rattle.enc_model.specs.Encode.{Tables, Shift, InAscii, Encoder, Written, Wrote, Again, Lacks, Coded, coded, coded_within, went, reference, encoder, shift_jis_encoder, euc_jp_encoder, single_encoder}
+use Rattle.enc_model.specs.Encode.{Tables, Shift, InAscii, Encoder, Written, Wrote, Again, Lacks, Coded, coded}
+use Rattle.enc_model.specs.Encode.{coded_within, went, reference, encoder, shift_jis_encoder, euc_jp_encoder}
+use Rattle.enc_model.specs.Encode.{single_encoder}
 
 abbrev shift_behind : Written → Shift
 shift_behind (Wrote bytes s) = s
@@ -17,14 +19,16 @@ shift_behind (Lacks bytes s c) = s
 abbrev IsStill : Encoder → Type 0
 IsStill f = (s : Shift) (c : ℕ) → shift_behind (f s c) ≡ s
 
-went_still : (mode : Mode) (go : Shift → List ℕ → Coded) (c : ℕ) (cs : List ℕ) (w : Written) → ((s : Shift) (cs : List ℕ) → (go s cs).state ≡ s) →
+went_still : (mode : Mode) (go : Shift → List ℕ → Coded) (c : ℕ) (cs : List ℕ) (w : Written)
+    → ((s : Shift) (cs : List ℕ) → (go s cs).state ≡ s) →
     (went mode go c cs w).state ≡ shift_behind w
 went_still mode go c cs (Wrote bytes s) h = h s cs
 went_still mode go c cs (Again bytes s) h = h s (c ∷ cs)
 went_still Html go c cs (Lacks bytes s d) h = h s (reference d ++ cs)
 went_still Fatal go c cs (Lacks bytes s d) h = refl
 
-within_still : (f : Encoder) → IsStill f → (mode : Mode) (n : ℕ) (s : Shift) (cs : List ℕ) → (coded_within n f mode s cs).state ≡ s
+within_still : (f : Encoder) → IsStill f → (mode : Mode) (n : ℕ) (s : Shift) (cs : List ℕ)
+    → (coded_within n f mode s cs).state ≡ s
 unfolding coded_within
 within_still f still mode zero s cs = refl
 within_still f still mode (suc n) s [] = refl
@@ -63,11 +67,13 @@ unfolding coded coded_within
 coded_nothing f mode s = refl
 
 -- from the first state the code of a text leads to it again, but for ISO-2022-JP
-pub coded_in_ascii : (t : Tables) (to : Encoding) (mode : Mode) (s : Shift) (cs : List ℕ) → (to ≡ Iso2022Jp) ⊎ (s ≡ InAscii) →
+pub coded_in_ascii : (t : Tables) (to : Encoding) (mode : Mode) (s : Shift) (cs : List ℕ)
+    → (to ≡ Iso2022Jp) ⊎ (s ≡ InAscii) →
     (to ≡ Iso2022Jp) ⊎ ((coded (encoder t to) mode s cs).state ≡ InAscii)
 coded_in_ascii t to mode s cs (inl iso) = inl iso
 coded_in_ascii t to mode s cs (inr ascii) = go (still t to)
   where
-    go : (to ≡ Iso2022Jp) ⊎ IsStill (encoder t to) → (to ≡ Iso2022Jp) ⊎ ((coded (encoder t to) mode s cs).state ≡ InAscii)
+    go : (to ≡ Iso2022Jp) ⊎ IsStill (encoder t to)
+        → (to ≡ Iso2022Jp) ⊎ ((coded (encoder t to) mode s cs).state ≡ InAscii)
     go (inl iso) = inl iso
     go (inr h) = inr (coded_still (encoder t to) h mode s cs ∙ ascii)

@@ -26,8 +26,11 @@ LacksOne Ff last e = (last ≡ 0xFE) × (e ≡ encodings.Utf16Le)
 
 -- What the held bytes and a piece are: still undecided, a BOM and the piece without its first bytes, or no BOM.
 abbrev pub Sniffs : Held → List ℕ → Sniffed → Type 0
-Sniffs held piece (Still next) = (undecided (held_bytes held ++ piece) ≡ true) × (held_bytes next ≡ held_bytes held ++ piece)
+Sniffs held piece (Still next) =
+    (undecided (held_bytes held ++ piece) ≡ true) × (held_bytes next ≡ held_bytes held ++ piece)
 Sniffs held piece (Bom e skip) =
-    (undecided (held_bytes held ++ piece) ≡ false) × (skip ≤ length piece) × ((from : Encoding) → sniffed from (held_bytes held ++ piece) ≡ (e, drop skip piece))
+    (undecided (held_bytes held ++ piece) ≡ false) × (skip ≤ length piece) × ((from : Encoding)
+    → sniffed from (held_bytes held ++ piece) ≡ (e, drop skip piece))
 Sniffs held piece Plain =
-    (undecided (held_bytes held ++ piece) ≡ false) × ((from : Encoding) → sniffed from (held_bytes held ++ piece) ≡ (from, held_bytes held ++ piece))
+    (undecided (held_bytes held ++ piece) ≡ false) × ((from : Encoding)
+    → sniffed from (held_bytes held ++ piece) ≡ (from, held_bytes held ++ piece))

@@ -1,5 +1,6 @@
 -- What callers see of a transcoder.
-use Rattle.std.specs.Prelude.{ℕ, ◌<◌, ◌+◌, ◌≡◌, Bool, true, false, ◌||◌, List, [], ◌++◌, Some, None, length, Vec, vec_capacity}
+use Rattle.std.specs.Prelude.{ℕ, ◌<◌, ◌+◌, ◌≡◌, Bool, true, false, ◌||◌, List, [], ◌++◌, Some, None, length, Vec}
+use Rattle.std.specs.Prelude.{vec_capacity}
 use Rattle.enc_model.specs.declared.Encoding.{Encoding}
 use Rattle.enc_model.specs.declared.Encoding.TheVariants as encodings
 use Rattle.enc_model.specs.declared.Mode.{Mode}
@@ -24,7 +25,8 @@ is_done s = s.spent || is_over s.transcoder.phase
 
 -- before the first byte
 abbrev pub start : Encoding → Encoding → Mode → Standing
-start from to mode = record { transcoder = record { from = from; to = to; mode = mode; phase = Before []; shift = InAscii }; spent = false }
+start from to mode = record
+    { transcoder = record { from = from; to = to; mode = mode; phase = Before []; shift = InAscii }; spent = false }
 
 -- behind a piece
 abbrev pub stepped_on : Tables → Standing → List ℕ → Standing

@@ -1,11 +1,17 @@
 -- THE 32 STATE BYTES OF A TRANSCODER, which the gateway keeps of an upload: the format is its own.
 --
 -- Bytes 0, 1, 2: the numbers of the source encoding, of the output encoding and of the mode. Byte 3: the phase.
--- From byte 4 on what the phase keeps: the count of held bytes and these, or the encoding in effect and its decoder's state.
+-- From byte 4 on what the phase keeps: the count of held bytes and these, or the encoding in effect and its decoder's
+-- state.
 -- Byte 16: the encoder's state. All others are 0.
-use Rattle.std.specs.Prelude.{ℕ, zero, suc, ◌/◌, ◌%◌, ◌≤◌, ◌<◌, ◌≡◌, ◌⊎◌, Bool, true, false, List, [], ◌∷◌, ◌++◌, Option, Some, None, length, if◌then◌else◌}
+use Rattle.std.specs.Prelude.{ℕ, zero, suc, ◌/◌, ◌%◌, ◌≤◌, ◌<◌, ◌≡◌, ◌⊎◌, Bool, true, false, List, [], ◌∷◌, ◌++◌}
+use Rattle.std.specs.Prelude.{Option, Some, None, length, if◌then◌else◌}
 use Rattle.enc_model.specs.declared.Encoding.{Encoding}
-use Rattle.enc_model.specs.declared.Encoding.TheVariants.{Utf8, Utf16Be, Utf16Le, ShiftJis, EucJp, Iso2022Jp, Ibm866, Iso8859X2, Iso8859X5, Iso8859X15, Koi8R, Macintosh, Windows1250, Windows1251, Windows1252, Windows1253, Windows1254, Windows1255, Windows1256, Windows1257, Windows1258}
+use Rattle.enc_model.specs.declared.Encoding.TheVariants.{Utf8, Utf16Be, Utf16Le, ShiftJis, EucJp, Iso2022Jp, Ibm866}
+use Rattle.enc_model.specs.declared.Encoding.TheVariants.{Iso8859X2, Iso8859X5, Iso8859X15, Koi8R, Macintosh}
+use Rattle.enc_model.specs.declared.Encoding.TheVariants.{Windows1250, Windows1251, Windows1252, Windows1253}
+use Rattle.enc_model.specs.declared.Encoding.TheVariants.{Windows1254, Windows1255, Windows1256, Windows1257}
+use Rattle.enc_model.specs.declared.Encoding.TheVariants.{Windows1258}
 use Rattle.enc_model.specs.declared.Mode.{Mode}
 use Rattle.enc_model.specs.declared.Mode.TheVariants.{Html, Fatal}
 use Rattle.enc_model.specs.declared.Charset.{Charset}
@@ -106,7 +112,8 @@ decoder_bytes (OfUtf8 s) = counted s.kept
 decoder_bytes (OfUtf16 big s) = utf16_bytes s.byte s.lead
 decoder_bytes (OfShiftJis lead) = lead ∷ []
 decoder_bytes (OfEucJp s) = s.lead ∷ flag_number s.flag ∷ []
-decoder_bytes (OfIso2022 s) = place_number s.place ∷ charset_number s.output ∷ place_lead s.place ∷ flag_number s.flag ∷ []
+decoder_bytes (OfIso2022 s) =
+    place_number s.place ∷ charset_number s.output ∷ place_lead s.place ∷ flag_number s.flag ∷ []
 decoder_bytes (OfSingle e s) = []
 
 -- the encoding that a decoder reads

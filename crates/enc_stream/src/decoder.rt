@@ -65,8 +65,10 @@ impl AnyDecoder {
         piece: &[u8],
         sink: &mut S,
     ) -> Result<(), S::Refusal>
-        ensures given { Given S.takes S.refuses sink.old (decoding (tables set.now) false (decoding_of self.old) piece.now).text sink.new result }
-        ensures state { OnOk result (decoding_of self.new ≡ (decoding (tables set.now) false (decoding_of self.old) piece.now).state) }
+        ensures given { Given S.takes S.refuses sink.old
+            (decoding (tables set.now) false (decoding_of self.old) piece.now).text sink.new result }
+        ensures state { OnOk result
+            (decoding_of self.new ≡ (decoding (tables set.now) false (decoding_of self.old) piece.now).state) }
     {
         match self {
             AnyDecoder::Utf8(state) => state.feed(piece, sink),
@@ -81,7 +83,8 @@ impl AnyDecoder {
     /// The steps of the end. Where the sink refuses, nothing more is said of the state.
     #[tactic(auto, unfolding(enc_model::specs::Decode::decoding))]
     pub fn finish<S: Sink>(&mut self, set: &IndexSet, sink: &mut S) -> Result<(), S::Refusal>
-        ensures { Given S.takes S.refuses sink.old (decoding (tables set.now) true (decoding_of self.old) []).text sink.new result }
+        ensures { Given S.takes S.refuses sink.old (decoding (tables set.now) true (decoding_of self.old) []).text
+            sink.new result }
     {
         match self {
             AnyDecoder::Utf8(state) => state.finish(sink),
@@ -128,7 +131,8 @@ impl AnyDecoder {
     /// The decoder that has this state. Bytes that no decoder packs may be read as some other state's.
     pub fn unpack(encoding: Encoding, bytes: [u8; 4]) -> Option<Self>
         ensures encoding { IfSome result (λ d. IsOwn (decoding_of d) × (encoding_of (decoding_of d) ≡ encoding)) }
-        ensures same { (s : Decoding) → IsOwn s → IsReached s → encoding_of s ≡ encoding → padded 4 (decoder_bytes s) ≡ bytes → MatchOption result ⊥ (λ d. decoding_of d ≡ s) }
+        ensures same { (s : Decoding) → IsOwn s → IsReached s → encoding_of s ≡ encoding
+            → padded 4 (decoder_bytes s) ≡ bytes → MatchOption result ⊥ (λ d. decoding_of d ≡ s) }
     {
         Some(match encoding {
             Encoding::Utf8 => AnyDecoder::Utf8(utf8_at(bytes)?),

@@ -91,7 +91,8 @@ impl Stage {
     /// The stage of this phase that keeps this. Bytes that no stage packs may be read as some other's.
     pub fn unpack(from: Encoding, phase: u8, kept: [u8; 5]) -> Option<Self>
         ensures fits { IfSome result (λ stage. IsPhaseOf from (phase_at stage) × (is_spent_at stage ≡ false)) }
-        ensures same { (p : Phase) → IsPhaseOf from p → IsReachedIn p → phase_number p ≡ phase → padded 5 (phase_bytes p) ≡ kept
+        ensures same { (p : Phase) → IsPhaseOf from p → IsReachedIn p → phase_number p ≡ phase
+            → padded 5 (phase_bytes p) ≡ kept
             → MatchOption result ⊥ (λ stage. phase_at stage ≡ p) }
     {
         let [first, second, third, fourth, fifth] = kept;
@@ -129,8 +130,10 @@ fn begin<S: Sink>(
     piece: &[u8],
     sink: &mut S,
 ) -> Result<AnyDecoder, S::Refusal>
-    ensures given { Given S.takes S.refuses sink.old (decoding (tables set.now) false (decoding_start encoding) piece.now).text sink.new result }
-    ensures state { IfOk result (λ d. decoding_of d ≡ (decoding (tables set.now) false (decoding_start encoding) piece.now).state) }
+    ensures given { Given S.takes S.refuses sink.old
+        (decoding (tables set.now) false (decoding_start encoding) piece.now).text sink.new result }
+    ensures state { IfOk result
+        (λ d. decoding_of d ≡ (decoding (tables set.now) false (decoding_start encoding) piece.now).state) }
 {
     let mut decoder = AnyDecoder::new(encoding);
     decoder.feed(set, piece, sink)?;
@@ -145,8 +148,11 @@ fn begin_plain<S: Sink>(
     piece: &[u8],
     sink: &mut S,
 ) -> Result<AnyDecoder, S::Refusal>
-    ensures given { Given S.takes S.refuses sink.old (decoding (tables set.now) false (decoding_start from) (held_bytes held ++ piece.now)).text sink.new result }
-    ensures state { IfOk result (λ d. decoding_of d ≡ (decoding (tables set.now) false (decoding_start from) (held_bytes held ++ piece.now)).state) }
+    ensures given { Given S.takes S.refuses sink.old
+        (decoding (tables set.now) false (decoding_start from) (held_bytes held ++ piece.now)).text sink.new result }
+    ensures state { IfOk result
+        (λ d. decoding_of d ≡ (decoding (tables set.now) false (decoding_start from)
+        (held_bytes held ++ piece.now)).state) }
 {
     let mut decoder = begin(from, set, bytes_of(held), sink)?;
     decoder.feed(set, piece, sink)?;
@@ -161,8 +167,11 @@ fn decide<S: Sink>(
     piece: &[u8],
     sink: &mut S,
 ) -> Result<Stage, S::Refusal>
-    ensures given { Given S.takes S.refuses sink.old (fed (tables set.now) from (Before (held_bytes held)) piece.now).text sink.new result }
-    ensures phase { IfOk result (λ stage. (phase_at stage ≡ (fed (tables set.now) from (Before (held_bytes held)) piece.now).phase) × (is_spent_at stage ≡ false)) }
+    ensures given { Given S.takes S.refuses sink.old
+        (fed (tables set.now) from (Before (held_bytes held)) piece.now).text sink.new result }
+    ensures phase { IfOk result
+        (λ stage. (phase_at stage ≡ (fed (tables set.now) from (Before (held_bytes held)) piece.now).phase) ×
+        (is_spent_at stage ≡ false)) }
 {
     match sniff(held, piece) {
         Sniffed::Still(next) => Ok(Stage::Before(next)),
@@ -187,8 +196,11 @@ pub fn go_on<S: Sink>(
     sink: &mut S,
 ) -> Result<Stage, S::Refusal>
     requires { is_done_at stage ≡ false }
-    ensures given { Given S.takes S.refuses sink.old (fed (tables set.now) from (phase_at stage) piece.now).text sink.new result }
-    ensures phase { IfOk result (λ next. (phase_at next ≡ (fed (tables set.now) from (phase_at stage) piece.now).phase) × (is_spent_at next ≡ false)) }
+    ensures given { Given S.takes S.refuses sink.old (fed (tables set.now) from (phase_at stage) piece.now).text
+        sink.new result }
+    ensures phase { IfOk result
+        (λ next. (phase_at next ≡ (fed (tables set.now) from (phase_at stage) piece.now).phase) × (is_spent_at
+        next ≡ false)) }
 {
     match stage {
         Stage::Before(held) => decide(from, held, set, piece, sink),
@@ -207,7 +219,8 @@ fn conclude_held<S: Sink>(
     set: &IndexSet,
     sink: &mut S,
 ) -> Result<(), S::Refusal>
-    ensures { Given S.takes S.refuses sink.old (fed_end (tables set.now) from (Before (held_bytes held))) sink.new result }
+    ensures { Given S.takes S.refuses sink.old (fed_end (tables set.now) from (Before (held_bytes held))) sink.new
+        result }
 {
     let mut decoder = begin(from, set, bytes_of(held), sink)?;
     decoder.finish(set, sink)

@@ -59,7 +59,8 @@ pub fn utf16_bytes(state: &Utf16State) -> [u8; 4]
 
 /// The state of these bytes.
 pub fn utf16_at(order: Order, bytes: [u8; 4]) -> Option<Utf16State>
-    ensures same { (s : Utf16) → IsReached (OfUtf16 (is_big order) s) → padded 4 (decoder_bytes (OfUtf16 (is_big order) s)) ≡ bytes → result ≡ Some (record { big = is_big order; state = s }) }
+    ensures same { (s : Utf16) → IsReached (OfUtf16 (is_big order) s) → padded 4
+        (decoder_bytes (OfUtf16 (is_big order) s)) ≡ bytes → result ≡ Some (record { big = is_big order; state = s }) }
     ensures order { IfSome result (λ s. s.big ≡ is_big order) }
 {
     let [kept, byte, high, low] = bytes;
@@ -98,7 +99,8 @@ pub fn euc_jp_bytes(state: &EucJpState) -> [u8; 4]
 
 /// The state of this lead and flag.
 pub fn euc_jp_at(lead: u8, flag: u8) -> Option<EucJpState>
-    ensures { (s : EucJp) → IsReached (OfEucJp s) → padded 4 (decoder_bytes (OfEucJp s)) ≡ lead ∷ flag ∷ 0 ∷ 0 ∷ [] → result ≡ Some s }
+    ensures { (s : EucJp) → IsReached (OfEucJp s) → padded 4 (decoder_bytes (OfEucJp s)) ≡ lead ∷ flag ∷ 0 ∷ 0 ∷ []
+        → result ≡ Some s }
 {
     match (lead, flag) {
         (0 | 0x8E | 0x8F, 0) => Some(EucJpState::keeping(lead, false)),
@@ -125,7 +127,8 @@ pub fn iso2022_bytes(state: &Iso2022State) -> [u8; 4]
 
 /// The state of these bytes.
 pub fn iso2022_at(bytes: [u8; 4]) -> Option<Iso2022State>
-    ensures { (s : Iso2022) → IsReached (OfIso2022 s) → padded 4 (decoder_bytes (OfIso2022 s)) ≡ bytes → result ≡ Some s }
+    ensures { (s : Iso2022) → IsReached (OfIso2022 s) → padded 4 (decoder_bytes (OfIso2022 s)) ≡ bytes
+        → result ≡ Some s }
 {
     let [place, output, lead, flag] = bytes;
     let output = charset_at(output)?;

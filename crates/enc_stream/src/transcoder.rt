@@ -1,6 +1,7 @@
 //! The transcoder.
 
-ghost use Rattle.std.specs.Prelude.{◌≡◌, ◌≢◌, ◌++◌, List, [], ℕ, Some, None, true, false, OnOk, IfErr, IfSome, MatchOption, IsErrOf, IsTrue, ◌↔◌};
+ghost use Rattle.std.specs.Prelude.{◌≡◌, ◌≢◌, ◌++◌, List, [], ℕ, Some, None, true, false, OnOk, IfErr, IfSome};
+ghost use Rattle.std.specs.Prelude.{MatchOption, IsErrOf, IsTrue, ◌↔◌};
 ghost use Rattle.enc_model.specs.Decode.{text as text_of};
 ghost use Rattle.enc_model.specs.Encode.{Tables};
 ghost use Rattle.enc_model.specs.Indexes.{tables};
@@ -9,7 +10,8 @@ ghost use Rattle.enc_encode.specs.State.{EncoderState};
 ghost use Rattle.enc_stream.specs.Progress.{progress_of};
 ghost use Rattle.enc_stream.specs.Stage.{phase_at};
 ghost use Rattle.enc_stream.specs.Standing.{is_done, start, stepped_on, finished, IsOutput, Answers};
-ghost use Rattle.enc_stream.specs.StateBytes.{IsShiftIn, IsSound, encoding_number, mode_number, shift_number, standing, state_bytes};
+ghost use Rattle.enc_stream.specs.StateBytes.{IsShiftIn, IsSound, encoding_number, mode_number, shift_number, standing};
+ghost use Rattle.enc_stream.specs.StateBytes.{state_bytes};
 
 use crate::error::TranscodeError;
 use crate::numbers::{
@@ -25,7 +27,8 @@ use enc_model::{Encoding, Mode};
 use std::marker::Model;
 use std::mem;
 
-/// A decoder and an encoder as one value: bytes in one encoding in, in any pieces, and the bytes of the same text in another out.
+/// A decoder and an encoder as one value: bytes in one encoding in, in any pieces, and the bytes of the same text in
+/// another out.
 #[derive(Drop)]
 pub struct Transcoder {
     from: Encoding,
@@ -41,20 +44,36 @@ impl Model for Transcoder {
     ghost use Rattle.enc_stream.specs.Stage.{phase_at, is_spent_at};
 
     ghost view = { λ s. record {
-      transcoder = record { from = s.from; to = s.encoder.to; mode = s.encoder.mode; phase = phase_at s.stage; shift = s.encoder.shift };
+      transcoder = record {
+        from = s.from;
+        to = s.encoder.to;
+        mode = s.encoder.mode;
+        phase = phase_at s.stage;
+        shift =
+            s.encoder.shift;
+      };
       spent = is_spent_at s.stage;
     } };
 
     ghost use Rattle.std.specs.Prelude.{◌≡◌, false};
     ghost use Rattle.enc_stream.specs.StateBytes.{IsFitting};
 
-    ghost invariant = { λ s. is_spent_at s.stage ≡ false → IsFitting (record { from = s.from; to = s.encoder.to; mode = s.encoder.mode; phase = phase_at s.stage; shift = s.encoder.shift }) };
+    ghost invariant = { λ s. is_spent_at s.stage ≡ false → IsFitting
+        (record {
+          from = s.from;
+          to = s.encoder.to;
+          mode = s.encoder.mode;
+          phase = phase_at s.stage;
+          shift =
+              s.encoder.shift;
+        }) };
 }
 
 /// The encoder of an output encoding, a mode and a state, each by its number.
 fn encoder_at(to: u8, mode: u8, shift: u8) -> Option<Encoder>
     ensures output { IfSome result (λ e. IsOutput e.to) }
-    ensures same { (e : EncoderState) → IsOutput e.to → encoding_number e.to ≡ to → mode_number e.mode ≡ mode → shift_number e.shift ≡ shift → result ≡ Some e }
+    ensures same { (e : EncoderState) → IsOutput e.to → encoding_number e.to ≡ to → mode_number e.mode ≡ mode
+        → shift_number e.shift ≡ shift → result ≡ Some e }
 {
     let to = encoding_at(to)?;
     if let Encoding::Utf16Be | Encoding::Utf16Le = to {
@@ -63,7 +82,8 @@ fn encoder_at(to: u8, mode: u8, shift: u8) -> Option<Encoder>
     Some(Encoder::resume(to, mode_at(mode)?, shift_at(shift)?))
 }
 
-/// Whether an encoder may stand there in this stage: only while text is decoded to ISO-2022-JP in another state than ASCII.
+/// Whether an encoder may stand there in this stage: only while text is decoded to ISO-2022-JP in another state than
+/// ASCII.
 fn is_encoder_in(stage: &Stage, encoder: Encoder) -> bool
     ensures { IsTrue result ↔ IsShiftIn (phase_at stage.now) encoder.to encoder.shift }
 {
@@ -72,7 +92,8 @@ fn is_encoder_in(stage: &Stage, encoder: Encoder) -> bool
 }
 
 impl Transcoder {
-    /// A transcoder that has read nothing. `to` is an output encoding, as 'get an output encoding' of the Encoding Standard
+    /// A transcoder that has read nothing. `to` is an output encoding, as 'get an output encoding' of the Encoding
+    /// Standard
     /// gives it (section 4.3): UTF-16 is none.
     pub fn new(from: Encoding, to: Encoding, mode: Mode) -> Self
         requires { IsOutput to }
@@ -154,14 +175,19 @@ impl Transcoder {
 
     /// Its 32 state bytes, of which `unpack` makes it again. Their form is the gateway's own:
     ///
-    /// - 0, 1, 2: the numbers of the source encoding and the output encoding, 0 to 20 in the order of `Encoding`; the mode, 0
+    /// - 0, 1, 2: the numbers of the source encoding and the output encoding, 0 to 20 in the order of `Encoding`; the
+    /// mode, 0
     ///   for html and 1 for fatal.
     /// - 3: 0 before a BOM is decided, 1 from then on, 2 behind the end.
     /// - 4 on, before the BOM is decided: how many bytes are held, and these.
-    /// - 4, from then on: the number of the encoding in effect. 5 on, its decoder's state. UTF-8: how many bytes are kept, and
-    ///   these. UTF-16: 1 for a byte that is kept plus 2 for a lead surrogate; the byte; the lead, the higher byte first.
-    ///   Shift_JIS: the lead or 0. EUC-JP: the lead or 0; 1 where it is one of jis0212. ISO-2022-JP: 0 to 3 for the sets ASCII,
-    ///   Roman, katakana and jis0208, 4 behind a lead, 5 behind 1B and 6 behind one byte more; the output state, 0 to 3; the
+    /// - 4, from then on: the number of the encoding in effect. 5 on, its decoder's state. UTF-8: how many bytes are
+    /// kept, and
+    ///   these. UTF-16: 1 for a byte that is kept plus 2 for a lead surrogate; the byte; the lead, the higher byte
+    /// first.
+    ///   Shift_JIS: the lead or 0. EUC-JP: the lead or 0; 1 where it is one of jis0212. ISO-2022-JP: 0 to 3 for the
+    /// sets ASCII,
+    ///   Roman, katakana and jis0208, 4 behind a lead, 5 behind 1B and 6 behind one byte more; the output state, 0 to
+    /// 3; the
     ///   byte that is kept or 0; the flag.
     /// - 16: the encoder's state, 0 for ASCII, 1 for Roman, 2 for jis0208.
     ///
@@ -216,7 +242,8 @@ impl Transcoder {
         })
     }
 
-    /// The transcoder of these state bytes, or None where they are those of none: each state has one spelling. It takes no
+    /// The transcoder of these state bytes, or None where they are those of none: each state has one spelling. It takes
+    /// no
     /// memory.
     pub fn unpack(bytes: &[u8; 32]) -> Option<Self>
         ensures unpacked { MatchOption result ((s : State) → IsSound s → state_bytes s ≢ bytes.now)
@@ -231,13 +258,16 @@ impl Transcoder {
         }
     }
 
-    /// Takes a piece: decodes it (Encoding Standard, sections 4 and 6, with the sniffing of a BOM) and appends its code to
+    /// Takes a piece: decodes it (Encoding Standard, sections 4 and 6, with the sniffing of a BOM) and appends its code
+    /// to
     /// `out`. What is incomplete waits for the next piece or the end. `set` is the index set of all calls.
     ///
     /// # Errors
     ///
-    /// `Spent` where a call was refused before or the end was taken; nothing changes then. `NoMemory` where `out` had no room
-    /// and could not grow, `Unencodable(c)` for the first code point without a code in fatal mode; `out` has then grown by a
+    /// `Spent` where a call was refused before or the end was taken; nothing changes then. `NoMemory` where `out` had
+    /// no room
+    /// and could not grow, `Unencodable(c)` for the first code point without a code in fatal mode; `out` has then grown
+    /// by a
     /// prefix of what was to come, and the transcoder is spent.
     pub fn feed(
         &mut self,
@@ -246,14 +276,16 @@ impl Transcoder {
         out: &mut Vec<u8>,
     ) -> Result<(), TranscodeError>
         ensures spent { IsErrOf result TranscodeError.Spent ↔ IsTrue (is_done self.old) }
-        ensures added { OnOk result (out.new.items ≡ out.old.items ++ (added (tables set.now) self.old.transcoder piece.now).bytes) }
+        ensures added { OnOk result
+            (out.new.items ≡ out.old.items ++ (added (tables set.now) self.old.transcoder piece.now).bytes) }
         ensures no_fault { OnOk result ((added (tables set.now) self.old.transcoder piece.now).fault ≡ None) }
         ensures next { OnOk result (self.new ≡ stepped_on (tables set.now) self.old piece.now) }
         ensures text { (b : List ℕ) → IsAt (tables set.now) self.old.transcoder b → OnOk result
             (IsAt (tables set.now) self.new.transcoder (b ++ piece.now)
             × ((before : List ℕ) → out.old.items ≡ before ++ (so_far (tables set.now) self.old.transcoder b).bytes
             → out.new.items ≡ before ++ (so_far (tables set.now) self.old.transcoder (b ++ piece.now)).bytes)) }
-        ensures refused { IfErr result (λ e. Answers e (added (tables set.now) self.old.transcoder piece.now) out.old out.new self.old self.new) }
+        ensures refused { IfErr result
+            (λ e. Answers e (added (tables set.now) self.old.transcoder piece.now) out.old out.new self.old self.new) }
     {
         if self.is_done() {
             return Err(TranscodeError::Spent);
@@ -272,14 +304,18 @@ impl Transcoder {
     /// As `feed`. After an `Ok` each call answers `Spent`.
     pub fn finish(&mut self, set: &IndexSet, out: &mut Vec<u8>) -> Result<(), TranscodeError>
         ensures spent { IsErrOf result TranscodeError.Spent ↔ IsTrue (is_done self.old) }
-        ensures added { OnOk result (out.new.items ≡ out.old.items ++ (added_end (tables set.now) self.old.transcoder).bytes) }
+        ensures added { OnOk result
+            (out.new.items ≡ out.old.items ++ (added_end (tables set.now) self.old.transcoder).bytes) }
         ensures no_fault { OnOk result ((added_end (tables set.now) self.old.transcoder).fault ≡ None) }
         ensures over { OnOk result (self.new ≡ finished self.old) }
         ensures text { (b : List ℕ) → IsAt (tables set.now) self.old.transcoder b → OnOk result
-            (((text_of (tables set.now) self.old.transcoder.from self.old.transcoder.to self.old.transcoder.mode b true).fault ≡ None)
+            (((text_of (tables set.now) self.old.transcoder.from self.old.transcoder.to self.old.transcoder.mode b
+            true).fault ≡ None)
             × ((before : List ℕ) → out.old.items ≡ before ++ (so_far (tables set.now) self.old.transcoder b).bytes
-            → out.new.items ≡ before ++ (text_of (tables set.now) self.old.transcoder.from self.old.transcoder.to self.old.transcoder.mode b true).bytes)) }
-        ensures refused { IfErr result (λ e. Answers e (added_end (tables set.now) self.old.transcoder) out.old out.new self.old self.new) }
+            → out.new.items ≡ before ++ (text_of (tables set.now) self.old.transcoder.from self.old.transcoder.to
+            self.old.transcoder.mode b true).bytes)) }
+        ensures refused { IfErr result
+            (λ e. Answers e (added_end (tables set.now) self.old.transcoder) out.old out.new self.old self.new) }
     {
         if self.is_done() {
             return Err(TranscodeError::Spent);

@@ -26,10 +26,15 @@ pub fn transcode(
     out: &mut Vec<u8>,
 ) -> Result<(Stage, Encoder), TranscodeError>
     requires { is_done_at stage ≡ false }
-    ensures written { let code = code_from (tables set.now) encoder (fed (tables set.now) from (phase_at stage) piece.now).text in
+    ensures written { let code = code_from (tables set.now) encoder
+        (fed (tables set.now) from (phase_at stage) piece.now).text in
         IfOk result (λ next. IsWritten code out.old out.new × (next.1 ≡ shifted encoder code.state)) }
-    ensures phase { IfOk result (λ next. (phase_at next.0 ≡ (fed (tables set.now) from (phase_at stage) piece.now).phase) × (is_spent_at next.0 ≡ false)) }
-    ensures stopped { IfErr result (λ e. IsStopped e (code_from (tables set.now) encoder (fed (tables set.now) from (phase_at stage) piece.now).text) out.old out.new) }
+    ensures phase { IfOk result
+        (λ next. (phase_at next.0 ≡ (fed (tables set.now) from (phase_at stage) piece.now).phase) × (is_spent_at
+        next.0 ≡ false)) }
+    ensures stopped { IfErr result
+        (λ e. IsStopped e (code_from (tables set.now) encoder
+        (fed (tables set.now) from (phase_at stage) piece.now).text) out.old out.new) }
 {
     let alloc = *out.allocator();
     let bytes = mem::replace(out, Vec::new(alloc));
@@ -53,7 +58,9 @@ fn transcode_end(
     ensures written { let code = code_from (tables set.now) encoder (fed_end (tables set.now) from (phase_at stage)) in
         IfOk result (λ next. IsWritten code out.old out.new × (next ≡ shifted encoder code.state)) }
     ensures capacity { OnOk result (vec_capacity out.old ≤ vec_capacity out.new) }
-    ensures stopped { IfErr result (λ e. IsStopped e (code_from (tables set.now) encoder (fed_end (tables set.now) from (phase_at stage))) out.old out.new) }
+    ensures stopped { IfErr result
+        (λ e. IsStopped e (code_from (tables set.now) encoder (fed_end (tables set.now) from (phase_at stage))) out.old
+        out.new) }
 {
     let alloc = *out.allocator();
     let bytes = mem::replace(out, Vec::new(alloc));
@@ -65,7 +72,8 @@ fn transcode_end(
     Ok(encoder)
 }
 
-/// Decodes the end, from any stage but the last two, and appends its code and the bytes of the end: the encoder behind it.
+/// Decodes the end, from any stage but the last two, and appends its code and the bytes of the end: the encoder behind
+/// it.
 #[tactic(auto, using(crate::proofs::Ends::end_written, crate::proofs::Ends::stopped_before))]
 pub fn write_end(
     stage: Stage,
@@ -75,9 +83,12 @@ pub fn write_end(
     out: &mut Vec<u8>,
 ) -> Result<Encoder, TranscodeError>
     requires { is_done_at stage ≡ false }
-    ensures written { let code = ended_coded (code_from (tables set.now) encoder (fed_end (tables set.now) from (phase_at stage))) in
+    ensures written { let code = ended_coded
+        (code_from (tables set.now) encoder (fed_end (tables set.now) from (phase_at stage))) in
         IfOk result (λ next. IsWritten code out.old out.new × (next ≡ shifted encoder InAscii)) }
-    ensures stopped { IfErr result (λ e. IsStopped e (ended_coded (code_from (tables set.now) encoder (fed_end (tables set.now) from (phase_at stage)))) out.old out.new) }
+    ensures stopped { IfErr result
+        (λ e. IsStopped e (ended_coded
+        (code_from (tables set.now) encoder (fed_end (tables set.now) from (phase_at stage)))) out.old out.new) }
 {
     let mut encoder = transcode_end(stage, from, encoder, set, out)?;
     encoder.finish(out)?;

@@ -1,5 +1,6 @@
 -- What is read at the front of a piece: a text, or a byte.
-use Rattle.std.proofs.Common.{ℕ, ◌+◌, ◌-◌, ◌≤◌, ◌≡◌, List, Result, Ok, Err, OnOk, false, refl, sym, ◌∙◌, ap, subst, take, drop, take-append-drop, length, arith}
+use Rattle.std.proofs.Common.{ℕ, ◌+◌, ◌-◌, ◌≤◌, ◌≡◌, List, Result, Ok, Err, OnOk, false, refl, sym, ◌∙◌, ap, subst}
+use Rattle.std.proofs.Common.{take, drop, take-append-drop, length, arith}
 use Rattle.std.proofs.lemmas.List.{length-take, take_rest}
 use Rattle.std.specs.Str.{IsUtf8, chars}
 use Rattle.enc_model.specs.Batches.{BatchTook}
@@ -12,36 +13,52 @@ use Rattle.enc_model.proofs.Feeding.{feed_more, state_more}
 use Rattle.enc_unicode.specs.Utf8State.{IsUtf8State}
 
 -- where no byte is needed it stands at a character's start
-pub at_start : (needed lower upper point seen : ℕ) (kept : List ℕ) → IsUtf8State needed lower upper point seen → needed ≡ 0 →
-    ◌≡◌ {A = Utf8} (record { needed = needed; lower = lower; upper = upper; point = point; kept = take seen kept }) utf8_start
+pub at_start : (needed lower upper point seen : ℕ) (kept : List ℕ) → IsUtf8State needed lower upper point seen
+    → needed ≡ 0 →
+    ◌≡◌ {A = Utf8} (record {
+      needed = needed;
+      lower = lower;
+      upper = upper;
+      point = point;
+      kept = take seen kept;
+    }) utf8_start
 at_start needed lower upper point seen kept is none =
     let p = is.none none in rw (none, p.0, p.1, p.2, p.3) refl
 
 -- the steps over a text that a piece begins with
 pub text_steps : (s : Utf8) (rest text : List ℕ) → s ≡ utf8_start → IsUtf8 text → text ≡ take (length text) rest →
     steps utf8 false s (take (length text) rest) ≡ record { text = chars text; state = utf8_start }
-text_steps s rest text e u is = ap (λ z. steps utf8 false z (take (length text) rest)) e ∙ ap (steps utf8 false utf8_start) (sym is) ∙ utf8_text text u
+text_steps s rest text e u is =
+    ap (λ z. steps utf8 false z (take (length text) rest)) e ∙ ap (steps utf8 false utf8_start) (sym is)
+    ∙ utf8_text text u
 
-pub text_refused : {A E : Type 0} (refuses : A → List ℕ → E → A → Type 0) (s : Utf8) (rest text : List ℕ) (a b : A) (why : E) → s ≡ utf8_start → IsUtf8 text → text ≡ take (length text) rest →
+pub text_refused : {A E : Type 0} (refuses : A → List ℕ → E → A → Type 0) (s : Utf8) (rest text : List ℕ) (a b : A)
+    (why : E) → s ≡ utf8_start → IsUtf8 text → text ≡ take (length text) rest →
     refuses a (chars text) why b → refuses a (steps utf8 false s (take (length text) rest)).text why b
-text_refused refuses s rest text a b why e u is t = subst (λ run. refuses a run.text why b) (sym (text_steps s rest text e u is)) t
+text_refused refuses s rest text a b why e u is t =
+    subst (λ run. refuses a run.text why b) (sym (text_steps s rest text e u is)) t
 
-module _ {A E : Type 0} (takes : A → List ℕ → A → Type 0) (refuses : A → List ℕ → E → A → Type 0) (sink : IsSink takes refuses) where
-  pub text_taken : (s : Utf8) (rest text : List ℕ) (a b : A) → s ≡ utf8_start → IsUtf8 text → text ≡ take (length text) rest →
+module _ {A E : Type 0} (takes : A → List ℕ → A → Type 0) (refuses : A → List ℕ → E → A → Type 0)
+    (sink : IsSink takes refuses) where
+  pub text_taken : (s : Utf8) (rest text : List ℕ) (a b : A) → s ≡ utf8_start → IsUtf8 text
+      → text ≡ take (length text) rest →
       takes a (chars text) b → takes a (steps utf8 false s (take (length text) rest)).text b
   text_taken s rest text a b e u is t = subst (λ run. takes a run.text b) (sym (text_steps s rest text e u is)) t
 
 -- a batch that took a text
-pub text_gathered : (s : Utf8) (rest text old new : List ℕ) → s ≡ utf8_start → IsUtf8 text → text ≡ take (length text) rest →
+pub text_gathered : (s : Utf8) (rest text old new : List ℕ) → s ≡ utf8_start → IsUtf8 text
+    → text ≡ take (length text) rest →
     BatchTook old (chars text) new → BatchTook old (steps utf8 false s (take (length text) rest)).text new
-text_gathered s rest text old new e u is t = subst (λ run. BatchTook old run.text new) (sym (text_steps s rest text e u is)) t
+text_gathered s rest text old new e u is t =
+    subst (λ run. BatchTook old run.text new) (sym (text_steps s rest text e u is)) t
 
 pub text_state : (s : Utf8) (rest text : List ℕ) → s ≡ utf8_start → IsUtf8 text → text ≡ take (length text) rest →
     s ≡ (steps utf8 false s (take (length text) rest)).state
 text_state s rest text e u is = e ∙ sym (ap (λ (z : Run Utf8). z.state) (text_steps s rest text e u is))
 
 -- a text at the front of what is left ends within all
-pub text_within_rest : (bytes text : List ℕ) (at : ℕ) → at ≤ length bytes → text ≡ take (length text) (take (length bytes - at) (drop at bytes)) →
+pub text_within_rest : (bytes text : List ℕ) (at : ℕ) → at ≤ length bytes
+    → text ≡ take (length text) (take (length bytes - at) (drop at bytes)) →
     at + length text ≤ length bytes
 text_within_rest bytes text at inside is =
     let rest = take (length bytes - at) (drop at bytes) in
@@ -50,18 +67,24 @@ text_within_rest bytes text at inside is =
     omega (arith, inside, short, long)
 
 -- what is behind the texts at a piece's front, given or refused
-pub rest_given : {A X E : Type 0} (takes : A → List ℕ → A → Type 0) (refuses : A → List ℕ → E → A → Type 0) (sink : IsSink takes refuses)
-    (s next : Utf8) (piece rest : List ℕ) (n : ℕ) (a m c : A) (res : Result X E) → rest ≡ take (length piece - n) (drop n piece) →
+pub rest_given : {A X E : Type 0} (takes : A → List ℕ → A → Type 0) (refuses : A → List ℕ → E → A → Type 0)
+    (sink : IsSink takes refuses)
+    (s next : Utf8) (piece rest : List ℕ) (n : ℕ) (a m c : A) (res : Result X E)
+    → rest ≡ take (length piece - n) (drop n piece) →
     next ≡ (steps utf8 false s (take n piece)).state → takes a (steps utf8 false s (take n piece)).text m →
-    Given takes refuses m (steps utf8 false next rest).text c res → Given takes refuses a (steps utf8 false s piece).text c res
+    Given takes refuses m (steps utf8 false next rest).text c res → Given takes refuses a
+    (steps utf8 false s piece).text c res
 rest_given takes refuses sink s next piece rest n a m c res is e t g =
     subst (λ p. Given takes refuses a (steps utf8 false s p).text c res) (take-append-drop n piece)
     (feed_more takes refuses sink utf8 utf8_calm s next (take n piece) (drop n piece) a m c res e t
     (subst (λ z. Given takes refuses m (steps utf8 false next z).text c res) (is ∙ take_rest piece n) g))
 
-pub rest_state : {X E : Type 0} (s next end : Utf8) (piece rest : List ℕ) (n : ℕ) (res : Result X E) → rest ≡ take (length piece - n) (drop n piece) →
-    next ≡ (steps utf8 false s (take n piece)).state → OnOk res (end ≡ (steps utf8 false next rest).state) → OnOk res (end ≡ (steps utf8 false s piece).state)
+pub rest_state : {X E : Type 0} (s next end : Utf8) (piece rest : List ℕ) (n : ℕ) (res : Result X E)
+    → rest ≡ take (length piece - n) (drop n piece) →
+    next ≡ (steps utf8 false s (take n piece)).state → OnOk res (end ≡ (steps utf8 false next rest).state)
+    → OnOk res (end ≡ (steps utf8 false s piece).state)
 rest_state s next end piece rest n (Ok v) is e f =
-    state_more utf8 utf8_calm s next end (take n piece) (drop n piece) e (f ∙ ap (λ z. (steps utf8 false next z).state) (is ∙ take_rest piece n))
+    state_more utf8 utf8_calm s next end (take n piece) (drop n piece) e
+    (f ∙ ap (λ z. (steps utf8 false next z).state) (is ∙ take_rest piece n))
     ∙ ap (λ p. (steps utf8 false s p).state) (take-append-drop n piece)
 rest_state s next end piece rest n (Err v) is e f = tt

@@ -36,7 +36,13 @@ behind_lead b s kept is = is ∙ behind_first b ∙ ap utf8_behind (sym kept)
 goes_on : (s : Utf8) (b : ℕ) → (s.needed ≡ 0 → ⊥) → (s.needed ≡ 1 → ⊥) → s.lower ≤ b → b ≤ s.upper →
     utf8 s (Some b)
     ≡ record {
-      state = record { needed = s.needed - 1; lower = 0x80; upper = 0xBF; point = s.point * 64 + (b - 0x80); kept = s.kept ++ b ∷ [] };
+      state = record {
+        needed = s.needed - 1;
+        lower = 0x80;
+        upper = 0xBF;
+        point = s.point * 64 + (b - 0x80);
+        kept = s.kept ++ b ∷ [];
+      };
       answer = Nothing;
       restored = [];
     }
@@ -44,11 +50,30 @@ unfolding utf8
 goes_on s b some more low high = grind (arith, common_steps)
 
 -- one byte more, where more than one is needed
-pub behind_next : (s : Utf8) (b : ℕ) (kept : List ℕ) → IsBehind s → (s.needed ≡ 0 → ⊥) → (s.needed ≡ 1 → ⊥) → s.lower ≤ b → b ≤ s.upper →
+pub behind_next : (s : Utf8) (b : ℕ) (kept : List ℕ) → IsBehind s → (s.needed ≡ 0 → ⊥) → (s.needed ≡ 1 → ⊥)
+    → s.lower ≤ b → b ≤ s.upper →
     kept ≡ s.kept ++ b ∷ [] →
-    IsBehind (record { needed = s.needed - 1; lower = 0x80; upper = 0xBF; point = s.point * 64 + (b - 0x80); kept = kept })
+    IsBehind (record {
+      needed = s.needed - 1;
+      lower = 0x80;
+      upper = 0xBF;
+      point = s.point * 64 + (b - 0x80);
+      kept = kept;
+    })
 behind_next s b kept is some more low high more_kept =
     let e = goes_on s b some more low high in
-    let next : Utf8 = record { needed = s.needed - 1; lower = 0x80; upper = 0xBF; point = s.point * 64 + (b - 0x80); kept = s.kept ++ b ∷ [] } in
+    let next : Utf8 = record {
+      needed = s.needed - 1;
+      lower = 0x80;
+      upper = 0xBF;
+      point = s.point * 64 + (b - 0x80);
+      kept = s.kept ++ b ∷ [];
+    } in
     let here : IsBehind next = sym (ap (λ t. t.state) e) ∙ behind_more s b is (ap (λ t. t.restored) e) in
-    subst (λ z. IsBehind (record { needed = s.needed - 1; lower = 0x80; upper = 0xBF; point = s.point * 64 + (b - 0x80); kept = z })) (sym more_kept) here
+    subst (λ z. IsBehind (record {
+      needed = s.needed - 1;
+      lower = 0x80;
+      upper = 0xBF;
+      point = s.point * 64 + (b - 0x80);
+      kept = z;
+    })) (sym more_kept) here

@@ -5,12 +5,24 @@ use Rattle.enc_model.specs.Utf8.{utf8, utf8_start}
 use Rattle.enc_unicode.specs.Utf8State.{utf8_behind}
 
 -- two bytes of four are kept
-two_of_four : utf8_behind (0xF0 ∷ 0x90 ∷ []) ≡ record { needed = 2; lower = 0x80; upper = 0xBF; point = 0x10; kept = 0xF0 ∷ 0x90 ∷ [] }
+two_of_four : utf8_behind (0xF0 ∷ 0x90 ∷ []) ≡ record {
+  needed = 2;
+  lower = 0x80;
+  upper = 0xBF;
+  point = 0x10;
+  kept = 0xF0 ∷ 0x90 ∷ [];
+}
 unfolding steps steps_within utf8
 two_of_four = refl
 
 -- a lead whose second byte is bounded
-bounded_second : utf8_behind (0xED ∷ []) ≡ record { needed = 2; lower = 0x80; upper = 0x9F; point = 0xD; kept = 0xED ∷ [] }
+bounded_second : utf8_behind (0xED ∷ []) ≡ record {
+  needed = 2;
+  lower = 0x80;
+  upper = 0x9F;
+  point = 0xD;
+  kept = 0xED ∷ [];
+}
 unfolding steps steps_within utf8
 bounded_second = refl
 

@@ -1,5 +1,7 @@
 -- The scalars of units in a batch, unit by unit.
-use Rattle.std.proofs.Common.{ℕ, suc, ◌+◌, ◌*◌, ◌<◌, ◌≤◌, ◌≡◌, Bool, true, false, cond, take, List, [], ◌∷◌, ◌++◌, Option, Some, None, All, refl, sym, ◌∙◌, ap, subst, arith, length, length-append, drop, take, get_or, append_assoc, append-nil}
+use Rattle.std.proofs.Common.{ℕ, suc, ◌+◌, ◌*◌, ◌<◌, ◌≤◌, ◌≡◌, Bool, true, false, cond, take, List, [], ◌∷◌, ◌++◌}
+use Rattle.std.proofs.Common.{Option, Some, None, All, refl, sym, ◌∙◌, ap, subst, arith, length, length-append, drop}
+use Rattle.std.proofs.Common.{take, get_or, append_assoc, append-nil}
 use Rattle.std.proofs.Math.Seq.{drop-cons, take-length}
 use Rattle.std.proofs.lemmas.List.{take_all, length-take-le, get_or-take}
 use Rattle.std.proofs.lemmas.List.Sums.{prefix_len-le-length, prefix_len_passes}
@@ -23,22 +25,31 @@ pub record Remains (old all now rest : List ℕ) : Type 0 where
 pub remains_all : (old all : List ℕ) → Remains old all old all
 remains_all old all = record { text = refl; size = omega arith }
 
-pub remains_more : (old all now x rest new : List ℕ) → Remains old all now (x ++ rest) → BatchTook now x new → Remains old all new rest
+pub remains_more : (old all now x rest new : List ℕ) → Remains old all now (x ++ rest) → BatchTook now x new
+    → Remains old all new rest
 remains_more old all now x rest new r t =
     let l = length-append x rest in
     let m = r.size in
     let n = t.size in
-    record { text = ap (λ z. z ++ rest) t.text ∙ append_assoc (chars now) x rest ∙ r.text; size = omega (arith, l, m, n) }
+    record {
+      text = ap (λ z. z ++ rest) t.text ∙ append_assoc (chars now) x rest ∙ r.text;
+      size = omega (arith, l, m, n);
+    }
 
 pub remains_none : (old all new : List ℕ) → Remains old all new [] → BatchTook old all new
-remains_none old all new r = let m = r.size in record { text = sym (append-nil (chars new)) ∙ r.text; size = omega (arith, m) }
+remains_none old all new r = let m = r.size in record {
+  text = sym (append-nil (chars new)) ∙ r.text;
+  size = omega (arith, m);
+}
 
 pub scalars_more : (lead : Option ℕ) (units : List ℕ) (i : ℕ) → i < length units →
-    scalars_of lead (drop i units) ≡ scalar_text (unit_scalar lead (get_or units i 0)) ++ scalars_of (lead_of (get_or units i 0)) (drop (i + 1) units)
+    scalars_of lead (drop i units) ≡ scalar_text (unit_scalar lead (get_or units i 0)) ++ scalars_of
+    (lead_of (get_or units i 0)) (drop (i + 1) units)
 scalars_more lead units i l =
     let unit = get_or units i 0 in
     let next : suc i ≡ i + 1 = omega arith in
-    ap (scalars_of lead) (drop-cons units i 0 l) ∙ ap (λ k. scalar_text (unit_scalar lead unit) ++ scalars_of (lead_of unit) (drop k units)) next
+    ap (scalars_of lead) (drop-cons units i 0 l) ∙ ap
+    (λ k. scalar_text (unit_scalar lead unit) ++ scalars_of (lead_of unit) (drop k units)) next
 
 pub few : (x : Option ℕ) → length (scalar_text x) ≤ 1
 few None = omega arith
@@ -58,7 +69,8 @@ ascii_scalars lead (unit ∷ units) a =
     rw (s.0, s.1) (ap (λ z. unit ∷ z) (ascii_scalars None units (All-tail (λ u. u < 128) unit units a)))
 
 -- a front of units below 80 that is there is its own text
-pub front_text : (units code : List ℕ) (from : ℕ) → from ≤ prefix_len is_ascii units → take from code ≡ take from units →
+pub front_text : (units code : List ℕ) (from : ℕ) → from ≤ prefix_len is_ascii units → take from code ≡ take from units
+    →
     IsUtf8 (take from code) × (chars (take from code) ≡ take from units)
 front_text units code from front there =
     let low : All (λ u. u < 128) (take from units) = All-from_get_or (λ u. u < 128) (take from units) 0 (λ k l.
@@ -73,7 +85,8 @@ pub prefix_within : (units : List ℕ) (from n : ℕ) → length units ≡ n →
 prefix_within units from n long front = omega (arith, long, front, prefix_len-le-length is_ascii units)
 
 -- a unit that is no surrogate is a scalar
-pub unit_scalar_at : (units : List ℕ) (at n : ℕ) → prefix_len is_scalar_unit units ≡ n → at < n → get_or units at 0 < 65536 → IsScalar (get_or units at 0)
+pub unit_scalar_at : (units : List ℕ) (at n : ℕ) → prefix_len is_scalar_unit units ≡ n → at < n
+    → get_or units at 0 < 65536 → IsScalar (get_or units at 0)
 unit_scalar_at units at n all inside small =
     let p = prefix_len_passes is_scalar_unit units at 0 (omega (arith, all, inside)) in
     is_scalar (get_or units at 0) small p
@@ -91,7 +104,8 @@ narrowed units bytes n long size all front there =
     (same, subst (λ z. All (λ u. u < 128) z) (take-length units ∙ sym same) low)
 
 -- units without surrogates are scalars of their own
-whole_unit : (lead : Option ℕ) (unit : ℕ) → is_scalar_unit unit ≡ true → (unit_scalar lead unit ≡ Some unit) × (lead_of unit ≡ None)
+whole_unit : (lead : Option ℕ) (unit : ℕ) → is_scalar_unit unit ≡ true
+    → (unit_scalar lead unit ≡ Some unit) × (lead_of unit ≡ None)
 whole_unit lead unit e =
     let x : is_lead unit ≡ false = grind (arith, nat_tests, e) in
     let y : is_trail unit ≡ false = grind (arith, nat_tests, e) in
@@ -101,7 +115,8 @@ whole_front : (b : Bool) (n k : ℕ) → cond b (1 + n) 0 ≡ suc k → (b ≡ t
 whole_front true n k e = (refl, omega (arith, e))
 whole_front false n k e = absurd (omega (arith, e))
 
-pub whole_scalars : (lead : Option ℕ) (units : List ℕ) → prefix_len is_scalar_unit units ≡ length units → scalars_of lead units ≡ units
+pub whole_scalars : (lead : Option ℕ) (units : List ℕ) → prefix_len is_scalar_unit units ≡ length units
+    → scalars_of lead units ≡ units
 whole_scalars lead [] whole = refl
 whole_scalars lead (unit ∷ units) whole =
     let f = whole_front (is_scalar_unit unit) (prefix_len is_scalar_unit units) (length units) whole in

@@ -1,5 +1,6 @@
 -- Text that bytes begin with, a character at a time.
-use Rattle.std.proofs.Common.{ℕ, ◌+◌, ◌-◌, ◌*◌, ◌/◌, ◌%◌, ◌<◌, ◌≤◌, ◌≡◌, true, List, [], ◌∷◌, ap, ap₂, take-append-drop, subst, sym, ◌∙◌, arith, length, take, drop, get_or}
+use Rattle.std.proofs.Common.{ℕ, ◌+◌, ◌-◌, ◌*◌, ◌/◌, ◌%◌, ◌<◌, ◌≤◌, ◌≡◌, true, List, [], ◌∷◌, ap, ap₂, take-append-drop}
+use Rattle.std.proofs.Common.{subst, sym, ◌∙◌, arith, length, take, drop, get_or}
 use Rattle.std.proofs.lemmas.Bool.Decides.{nat_tests}
 use Rattle.std.proofs.lemmas.Str.{IsUtf8-append, IsUtf8-encode}
 use Rattle.std.proofs.lemmas.List.Sums.{prefix_len-le-length}
@@ -18,7 +19,8 @@ low_scalar c l = grind (arith, nat_tests)
 follows : (y : ℕ) → within 0x80 0xBF y ≡ true → (0x80 ≤ y) × (y ≤ 0xBF)
 follows y e = (grind (arith, nat_tests, e), grind (arith, nat_tests, e))
 
-pub two_text : (bs : List ℕ) → 2 ≤ length bs → (0xC2 ≤ get_or bs 0 0) × (get_or bs 0 0 ≤ 0xDF) → within 0x80 0xBF (get_or bs 1 0) ≡ true → IsUtf8 (take 2 bs)
+pub two_text : (bs : List ℕ) → 2 ≤ length bs → (0xC2 ≤ get_or bs 0 0) × (get_or bs 0 0 ≤ 0xDF)
+    → within 0x80 0xBF (get_or bs 1 0) ≡ true → IsUtf8 (take 2 bs)
 two_text [] l f e = absurd (omega (arith, l))
 two_text (x ∷ []) l f e = absurd (omega (arith, l))
 two_text (x ∷ y ∷ rest) l f e =
@@ -30,7 +32,8 @@ two_text (x ∷ y ∷ rest) l f e =
     (two_bytes c (omega (arith, f.0, g.0)) (omega (arith, f.1, g.1)) ∙ ap₂ (λ a b. a ∷ b ∷ []) first second)
     (IsUtf8-encode c (low_scalar c (omega (arith, f.1, g.1))))
 
-pub three_text : (bs : List ℕ) → 3 ≤ length bs → (0xE1 ≤ get_or bs 0 0) × (get_or bs 0 0 ≤ 0xEC) → within 0x80 0xBF (get_or bs 1 0) ≡ true →
+pub three_text : (bs : List ℕ) → 3 ≤ length bs → (0xE1 ≤ get_or bs 0 0) × (get_or bs 0 0 ≤ 0xEC)
+    → within 0x80 0xBF (get_or bs 1 0) ≡ true →
     within 0x80 0xBF (get_or bs 2 0) ≡ true → IsUtf8 (take 3 bs)
 three_text [] l f e d = absurd (omega (arith, l))
 three_text (x ∷ []) l f e d = absurd (omega (arith, l))
@@ -49,11 +52,15 @@ three_text (x ∷ y ∷ z ∷ rest) l f e d =
 
 -- a run of ASCII
 pub ascii_text : (bs : List ℕ) (n : ℕ) → n ≡ prefix_len is_ascii bs → (n ≤ length bs) × IsUtf8 (take n bs)
-ascii_text bs n e =
-    (omega (arith, e, prefix_len-le-length is_ascii bs), subst (λ k. IsUtf8 (take k bs)) (sym e) (ascii_utf8 (take (prefix_len is_ascii bs) bs) (front_all bs)))
+ascii_text bs n e = (
+  omega (arith, e, prefix_len-le-length is_ascii bs),
+  subst (λ k. IsUtf8 (take k bs)) (sym e)
+      (ascii_utf8 (take (prefix_len is_ascii bs) bs) (front_all bs)),
+)
 
 -- a text, and one behind it
-pub text_goes_on : (bs : List ℕ) (at n : ℕ) → IsUtf8 (take at bs) → IsUtf8 (take n (drop at bs)) → IsUtf8 (take (at + n) bs)
+pub text_goes_on : (bs : List ℕ) (at n : ℕ) → IsUtf8 (take at bs) → IsUtf8 (take n (drop at bs))
+    → IsUtf8 (take (at + n) bs)
 text_goes_on bs at n t u = subst IsUtf8 (sym (take-add at n bs)) (IsUtf8-append (take at bs) (take n (drop at bs)) t u)
 
 -- the front of a front
@@ -66,5 +73,6 @@ front_of_front bs window text w t =
     let whole = ap length w ∙ length-take k bs in
     let long = ap length w in (
       omega (arith, short, whole),
-      t ∙ ap (take n) w ∙ sym (take-append-le n (take k bs) (drop k bs) (omega (arith, short, long))) ∙ ap (take n) (take-append-drop k bs),
+      t ∙ ap (take n) w ∙ sym (take-append-le n (take k bs) (drop k bs) (omega (arith, short, long)))
+          ∙ ap (take n) (take-append-drop k bs),
     )

@@ -95,7 +95,8 @@ fn decode_each(pairing: &mut Pairing, order: Order, bytes: &[u8], batch: &mut Ba
 /// The steps over 64 bytes if their units are paired, and whether they are.
 fn decode_paired(pairing: &mut Pairing, order: Order, bytes: &[u8; 64], batch: &mut Batch) -> bool
     requires { length batch.old + 128 ≤ ROOM }
-    ensures text { OnTrue result (BatchTook batch.old (steps (utf16 (is_big order)) false pairing.old bytes.now).text batch.new) }
+    ensures text { OnTrue result
+        (BatchTook batch.old (steps (utf16 (is_big order)) false pairing.old bytes.now).text batch.new) }
     ensures state { OnTrue result (pairing.new ≡ (steps (utf16 (is_big order)) false pairing.old bytes.now).state) }
     ensures unchanged { OnFalse result ((pairing.new ≡ pairing.old) × (batch.new ≡ batch.old)) }
 {
@@ -114,7 +115,8 @@ fn decode_some(pairing: &mut Pairing, order: Order, rest: &[u8], batch: &mut Bat
     requires some { 0 < length rest.now }
     requires room { length batch.old + 12 * length rest.now ≤ ROOM }
     ensures some { (0 < result) × (result ≤ length rest.now) }
-    ensures text { BatchTook batch.old (steps (utf16 (is_big order)) false pairing.old (take result rest.now)).text batch.new }
+    ensures text { BatchTook batch.old (steps (utf16 (is_big order)) false pairing.old (take result rest.now)).text
+        batch.new }
     ensures state { pairing.new ≡ (steps (utf16 (is_big order)) false pairing.old (take result rest.now)).state }
 {
     if let Some(bytes) = rest.first_chunk::<LANES>() {

@@ -204,7 +204,8 @@ impl Utf16State {
     ///
     /// The sink's refusal, at once; nothing more is said of the state then.
     pub fn feed<S: Sink>(&mut self, piece: &[u8], sink: &mut S) -> Result<(), S::Refusal>
-        ensures given { Given S.takes S.refuses sink.old (steps (utf16 self.old.big) false self.old.state piece.now).text sink.new result }
+        ensures given { Given S.takes S.refuses sink.old
+            (steps (utf16 self.old.big) false self.old.state piece.now).text sink.new result }
         ensures order { self.new.big ≡ self.old.big }
         ensures state { OnOk result (self.new.state ≡ (steps (utf16 self.old.big) false self.old.state piece.now).state) }
     {
@@ -217,7 +218,8 @@ impl Utf16State {
     ///
     /// The sink's refusal, at once; nothing more is said of the state then.
     pub fn finish<S: Sink>(&mut self, sink: &mut S) -> Result<(), S::Refusal>
-        ensures given { Given S.takes S.refuses sink.old (steps (utf16 self.old.big) true self.old.state []).text sink.new result }
+        ensures given { Given S.takes S.refuses sink.old (steps (utf16 self.old.big) true self.old.state []).text
+            sink.new result }
         ensures order { self.new.big ≡ self.old.big }
         ensures state { OnOk result (self.new.state ≡ (steps (utf16 self.old.big) true self.old.state []).state) }
     {

@@ -1,6 +1,7 @@
 //! The decoder of UTF-8.
 
-ghost use Rattle.std.specs.Prelude.{◌≡◌, ◌≢◌, IfSome, IfNone, IfOk, IfErr, OnOk, true, false, ◌<◌, ◌≤◌, ◌+◌, ◌*◌, [], ◌∷◌, length, take, Some};
+ghost use Rattle.std.specs.Prelude.{◌≡◌, ◌≢◌, IfSome, IfNone, IfOk, IfErr, OnOk, true, false, ◌<◌, ◌≤◌, ◌+◌, ◌*◌, []};
+ghost use Rattle.std.specs.Prelude.{◌∷◌, length, take, Some};
 ghost use Rattle.enc_unicode.specs.Utf8State.{IsUtf8State, IsBehind, utf8_behind};
 ghost use Rattle.enc_model.specs.Stream.{restored_bytes, IsCalm, steps};
 ghost use Rattle.enc_model.specs.Sink.{Given};
@@ -16,7 +17,8 @@ use enc_model::{Answer, BLOCK, Batch, Decoder, ROOM, Restored, Sink, decode_each
 use std::convert::Infallible;
 use std::marker::Model;
 
-/// A decoder of UTF-8 (Encoding Standard, section 8.1.1): how many bytes are still needed, the bounds of the next one, the code
+/// A decoder of UTF-8 (Encoding Standard, section 8.1.1): how many bytes are still needed, the bounds of the next one,
+/// the code
 /// point as far as it is known, and the bytes that it came from.
 #[derive(Drop)]
 pub struct Utf8State {
@@ -31,9 +33,11 @@ pub struct Utf8State {
 impl Model for Utf8State {
     ghost Value = { Utf8 };
 
-    ghost view = { λ s. record { needed = s.needed; lower = s.lower; upper = s.upper; point = s.point; kept = take s.seen s.kept } };
+    ghost view = { λ s. record
+        { needed = s.needed; lower = s.lower; upper = s.upper; point = s.point; kept = take s.seen s.kept } };
 
-    ghost invariant = { λ s. IsUtf8State s.needed s.lower s.upper s.point s.seen × IsBehind (record { needed = s.needed; lower = s.lower; upper = s.upper; point = s.point; kept = take s.seen s.kept }) };
+    ghost invariant = { λ s. IsUtf8State s.needed s.lower s.upper s.point s.seen × IsBehind
+        (record { needed = s.needed; lower = s.lower; upper = s.upper; point = s.point; kept = take s.seen s.kept }) };
 }
 
 impl Utf8State {
@@ -58,7 +62,8 @@ impl Utf8State {
         }
     }
 
-    /// The bytes that are kept: the front of a character that isn't whole yet, empty between characters. The state is the
+    /// The bytes that are kept: the front of a character that isn't whole yet, empty between characters. The state is
+    /// the
     /// one that they lead to from the start.
     pub fn kept(&self) -> &[u8]
         ensures bytes { result.now ≡ self.now.kept }
@@ -83,9 +88,11 @@ impl Utf8State {
     /// A decoder that needs more bytes behind a lead.
     fn needs(needed: u8, lower: u8, upper: u8, point: u32, lead: u8, seen: u8) -> Self
         requires valid { IsUtf8State needed lower upper point seen }
-        requires behind { IsBehind (record { needed = needed; lower = lower; upper = upper; point = point; kept = take seen (lead ∷ []) }) }
+        requires behind { IsBehind
+            (record { needed = needed; lower = lower; upper = upper; point = point; kept = take seen (lead ∷ []) }) }
         requires few { seen ≤ 1 }
-        ensures { result ≡ record { needed = needed; lower = lower; upper = upper; point = point; kept = take seen (lead ∷ []) } }
+        ensures { result ≡ record
+            { needed = needed; lower = lower; upper = upper; point = point; kept = take seen (lead ∷ []) } }
     {
         Utf8State {
             needed,
@@ -243,7 +250,8 @@ impl Utf8State {
         Ok(at)
     }
 
-    /// The steps over a piece, at whose front a text was looked for already where nothing is kept. Where no text begins, a
+    /// The steps over a piece, at whose front a text was looked for already where nothing is kept. Where no text
+    /// begins, a
     /// block is gathered first.
     fn feed_parts<S: Sink>(&mut self, piece: &[u8], sink: &mut S) -> Result<(), S::Refusal>
         ensures given { Given S.takes S.refuses sink.old (steps utf8 false self.old piece.now).text sink.new result }
@@ -273,7 +281,8 @@ impl Utf8State {
         }
     }
 
-    /// Goes on at the rest of a piece, and says how far: over the text at its front, or over a block where that is empty.
+    /// Goes on at the rest of a piece, and says how far: over the text at its front, or over a block where that is
+    /// empty.
     fn advance<S: Sink>(
         &mut self,
         rest: &[u8],

@@ -1,5 +1,6 @@
 -- The length of the longest prefix that passes, piece by piece.
-use Rattle.std.proofs.Common.{◌≡◌, ℕ, ◌+◌, ◌-◌, ◌<◌, ◌≤◌, Bool, cond, List, [], ◌∷◌, true, false, inl, inr, length, get_or, drop, refl, ap, ap₂, sym, ◌∙◌, arith}
+use Rattle.std.proofs.Common.{◌≡◌, ℕ, ◌+◌, ◌-◌, ◌<◌, ◌≤◌, Bool, cond, List, [], ◌∷◌, true, false, inl, inr, length}
+use Rattle.std.proofs.Common.{get_or, drop, refl, ap, ap₂, sym, ◌∙◌, arith}
 use Rattle.std.proofs.lemmas.Bool.{cases_eq, cases_lt, true≢false, eq-eqb, ne_eqb, cond-true, cond-false}
 use Rattle.std.proofs.lemmas.List.Folds.{prefix_len-append}
 use Rattle.std.proofs.lemmas.Simd.{length-chunk, chunk-drop, get_or-chunk}
@@ -26,17 +27,21 @@ pub chunk_stops : (p : ℕ → Bool) (i n : ℕ) (xs : List ℕ) → i + n ≤ l
 chunk_stops p i n xs room short =
     let long = length-chunk i n xs room in
     let other : prefix_len p (chunk i n xs) ≡ length (chunk i n xs) → ⊥ = λ e. omega (arith, e, long, short) in
-    ap (prefix_len p) (chunk-drop i n xs) ∙ prefix_len-append p (chunk i n xs) (drop (i + n) xs) ∙ cond-false _ _ _ (ne_eqb _ _ other)
+    ap (prefix_len p) (chunk-drop i n xs) ∙ prefix_len-append p (chunk i n xs) (drop (i + n) xs)
+    ∙ cond-false _ _ _ (ne_eqb _ _ other)
 
 -- a front that goes on at the next element, and one that ends there
-pub front_more : (p : ℕ → Bool) (xs : List ℕ) (at : ℕ) → at ≤ prefix_len p xs → at < length xs → p (get_or xs at 0) ≡ true → at + 1 ≤ prefix_len p xs
+pub front_more : (p : ℕ → Bool) (xs : List ℕ) (at : ℕ) → at ≤ prefix_len p xs → at < length xs
+    → p (get_or xs at 0) ≡ true → at + 1 ≤ prefix_len p xs
 front_more p xs at front inside passes =
     elim (cases_eq (prefix_len p xs) at) [
-      | inl here ↦ absurd (true≢false (sym passes ∙ ap (λ k. p (get_or xs k 0)) (sym here) ∙ prefix_len_stops p xs 0 (omega (arith, here, inside))))
+      | inl here ↦ absurd (true≢false
+          (sym passes ∙ ap (λ k. p (get_or xs k 0)) (sym here) ∙ prefix_len_stops p xs 0 (omega (arith, here, inside))))
       | inr other ↦ omega (arith, other, front)
     ]
 
-pub front_ends : (p : ℕ → Bool) (xs : List ℕ) (at : ℕ) → at ≤ prefix_len p xs → p (get_or xs at 0) ≡ false → prefix_len p xs ≡ at
+pub front_ends : (p : ℕ → Bool) (xs : List ℕ) (at : ℕ) → at ≤ prefix_len p xs → p (get_or xs at 0) ≡ false
+    → prefix_len p xs ≡ at
 front_ends p xs at front fails =
     elim (cases_eq (prefix_len p xs) at) [
       | inl here ↦ here
@@ -44,7 +49,8 @@ front_ends p xs at front fails =
     ]
 
 -- a front that goes on over a chunk
-pub chunk_goes_on : (p : ℕ → Bool) (at n : ℕ) (xs : List ℕ) → at + n ≤ length xs → at ≤ prefix_len p xs → prefix_len p (chunk at n xs) ≡ n → at + n ≤ prefix_len p xs
+pub chunk_goes_on : (p : ℕ → Bool) (at n : ℕ) (xs : List ℕ) → at + n ≤ length xs → at ≤ prefix_len p xs
+    → prefix_len p (chunk at n xs) ≡ n → at + n ≤ prefix_len p xs
 chunk_goes_on p at n xs room front whole =
     elim (cases_lt (prefix_len p xs) (at + n)) [
       | inl short ↦

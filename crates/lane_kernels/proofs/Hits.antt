@@ -1,5 +1,6 @@
 -- What a bitmask says of the lanes that were tested.
-use Rattle.std.proofs.Common.{◌≡◌, ℕ, ◌-◌, ◌%◌, ◌^◌, ◌≤◌, Bool, true, false, not, ◌||◌, cond, List, [], ◌∷◌, map, length, replicate, refl, ap, ap₂, ◌∙◌, ◌&&◌, arith, bit_or, bit_and}
+use Rattle.std.proofs.Common.{◌≡◌, ℕ, ◌-◌, ◌%◌, ◌^◌, ◌≤◌, Bool, true, false, not, ◌||◌, cond, List, [], ◌∷◌, map}
+use Rattle.std.proofs.Common.{length, replicate, refl, ap, ap₂, ◌∙◌, ◌&&◌, arith, bit_or, bit_and}
 use Rattle.std.proofs.lemmas.Simd.{mask_l-mod, first_set_mask_l, zip2_splat, zip2_splat_left, zip2_of_maps}
 use Rattle.std.proofs.lemmas.List.{length-map}
 use Rattle.std.specs.List.{prefix_len}
@@ -32,10 +33,12 @@ tops_hit w t (x ∷ v) = ap₂ (λ b bs. b ∷ bs) (top_hit w (t x)) (tops_hit w
 pub mask_of_hits : (w : Width) (t : ℕ → Bool) (v : List ℕ) {z : List ℕ} → length v ≤ 64 → z ≡ map (λ x. hit w (t x)) v →
     mask_l (map (top (hbits w)) z) % 2 ^ 64 ≡ mask_l (map t v)
 mask_of_hits w t v few is =
-    ap (λ l. mask_l l % 2 ^ 64) (ap (map (top (hbits w))) is ∙ tops_hit w t v) ∙ mask_l-mod (map t v) 64 (omega (arith, few, length-map v t))
+    ap (λ l. mask_l l % 2 ^ 64) (ap (map (top (hbits w))) is ∙ tops_hit w t v)
+    ∙ mask_l-mod (map t v) 64 (omega (arith, few, length-map v t))
 
 -- the first lane that was hit, where all are at most 64
-pub first_hit : (w : Width) (t : ℕ → Bool) (v : List ℕ) {z : List ℕ} (n : ℕ) → length v ≡ n → n ≤ 64 → z ≡ map (λ x. hit w (t x)) v →
+pub first_hit : (w : Width) (t : ℕ → Bool) (v : List ℕ) {z : List ℕ} (n : ℕ) → length v ≡ n → n ≤ 64
+    → z ≡ map (λ x. hit w (t x)) v →
     first_set (mask_l (map (top (hbits w)) z) % 2 ^ 64) n ≡ prefix_len (λ x. not (t x)) v
 first_hit w t v n long few is =
     ap (λ m. first_set m n) (mask_of_hits w t v (omega (arith, long, few)) is) ∙ first_set_mask_l t v n long few
@@ -46,12 +49,14 @@ or_hit true false = refl
 or_hit false true = refl
 or_hit false false = refl
 
-or_hits : (t u : ℕ → Bool) (v : List ℕ) → map (λ x. bit_or (hit w8 (t x)) (hit w8 (u x))) v ≡ map (λ x. hit w8 (t x || u x)) v
+or_hits : (t u : ℕ → Bool) (v : List ℕ) → map (λ x. bit_or (hit w8 (t x)) (hit w8 (u x))) v ≡ map
+    (λ x. hit w8 (t x || u x)) v
 or_hits t u [] = refl
 or_hits t u (x ∷ v) = ap₂ (λ y ys. y ∷ ys) (or_hit (t x) (u x)) (or_hits t u v)
 
 -- two tests joined
-pub either_hit : (t u : ℕ → Bool) (v : List ℕ) {a b : List ℕ} → a ≡ map (λ x. hit w8 (t x)) v → b ≡ map (λ x. hit w8 (u x)) v →
+pub either_hit : (t u : ℕ → Bool) (v : List ℕ) {a b : List ℕ} → a ≡ map (λ x. hit w8 (t x)) v
+    → b ≡ map (λ x. hit w8 (u x)) v →
     zip2 bit_or a b ≡ map (λ x. hit w8 (t x || u x)) v
 either_hit t u v p q = zip2_of_maps bit_or (λ x. hit w8 (t x)) (λ x. hit w8 (u x)) v p q ∙ or_hits t u v
 
@@ -71,11 +76,13 @@ and_hit true false = refl
 and_hit false true = refl
 and_hit false false = refl
 
-and_hits : (t u : ℕ → Bool) (v : List ℕ) → map (λ x. bit_and (hit w16 (t x)) (hit w16 (u x))) v ≡ map (λ x. hit w16 (t x && u x)) v
+and_hits : (t u : ℕ → Bool) (v : List ℕ) → map (λ x. bit_and (hit w16 (t x)) (hit w16 (u x))) v ≡ map
+    (λ x. hit w16 (t x && u x)) v
 and_hits t u [] = refl
 and_hits t u (x ∷ v) = ap₂ (λ y ys. y ∷ ys) (and_hit (t x) (u x)) (and_hits t u v)
 
 -- the same of units, where both tests are to hold
-pub both_hit : (t u : ℕ → Bool) (v : List ℕ) {a b : List ℕ} → a ≡ map (λ x. hit w16 (t x)) v → b ≡ map (λ x. hit w16 (u x)) v →
+pub both_hit : (t u : ℕ → Bool) (v : List ℕ) {a b : List ℕ} → a ≡ map (λ x. hit w16 (t x)) v
+    → b ≡ map (λ x. hit w16 (u x)) v →
     zip2 bit_and a b ≡ map (λ x. hit w16 (t x && u x)) v
 both_hit t u v p q = zip2_of_maps bit_and (λ x. hit w16 (t x)) (λ x. hit w16 (u x)) v p q ∙ and_hits t u v

@@ -1,5 +1,6 @@
 -- The definitions on worked examples.
-use Rattle.std.proofs.Common.{◌≡◌, ℕ, ◌+◌, ◌<◌, slice_index, false, true, [], ◌∷◌, Some, None, refl, arith, sym, zero, suc}
+use Rattle.std.proofs.Common.{◌≡◌, ℕ, ◌+◌, ◌<◌, slice_index, false, true, [], ◌∷◌, Some, None, refl, arith, sym, zero}
+use Rattle.std.proofs.Common.{suc}
 use Rattle.std.proofs.lemmas.Bool.{true≢false}
 use Rattle.std.specs.List.{prefix_len}
 use Rattle.std.specs.Char.{is_ascii}
@@ -34,7 +35,8 @@ lead_at_the_end = refl
 carried_pair : ArePaired (Some 0xD83D) (0xDE00 ∷ 0xD83D ∷ [])
 carried_pair = record { first = λ some. refl; next = next }
   where
-    next : (k : ℕ) → k + 1 < 2 → is_trail (slice_index (0xDE00 ∷ 0xD83D ∷ []) (k + 1)) ≡ is_lead (slice_index (0xDE00 ∷ 0xD83D ∷ []) k)
+    next : (k : ℕ) → k + 1 < 2 → is_trail (slice_index (0xDE00 ∷ 0xD83D ∷ []) (k + 1)) ≡ is_lead
+        (slice_index (0xDE00 ∷ 0xD83D ∷ []) k)
     next zero inside = refl
     next (suc k) inside = absurd (omega (arith, inside))
 

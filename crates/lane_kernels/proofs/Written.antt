@@ -1,6 +1,8 @@
 -- A list whose front was written over by that of another.
-use Rattle.std.proofs.Common.{◌≡◌, ℕ, suc, ◌+◌, ◌<◌, ◌≤◌, List, [], ◌∷◌, ◌++◌, length, length-append, length-drop, take, drop, get_or, set, ap, sym, ◌∙◌, arith, append_assoc, drop-cons}
-use Rattle.std.proofs.lemmas.List.{length-take-le, take-append-drop, take-take, drop-take, drop-drop, take_at, drop_at, set_at, take_more}
+use Rattle.std.proofs.Common.{◌≡◌, ℕ, suc, ◌+◌, ◌<◌, ◌≤◌, List, [], ◌∷◌, ◌++◌, length, length-append, length-drop, take}
+use Rattle.std.proofs.Common.{drop, get_or, set, ap, sym, ◌∙◌, arith, append_assoc, drop-cons}
+use Rattle.std.proofs.lemmas.List.{length-take-le, take-append-drop, take-take, drop-take, drop-drop, take_at, drop_at}
+use Rattle.std.proofs.lemmas.List.{set_at, take_more}
 use Rattle.std.proofs.lemmas.Slice.{drop-append-drop}
 use Rattle.std.proofs.lemmas.Simd.{put_chunk_is, length-chunk}
 use lib.Lanes.{chunk, put_chunk}
@@ -12,7 +14,8 @@ written_more new old at inside room =
     let x = get_or new at 0 in
     let long : length (take at new) ≡ at = length-take-le at new (omega (arith, inside)) in
     let next : suc at ≡ at + 1 = omega arith in
-    let first : drop at old ≡ get_or old at 0 ∷ drop (at + 1) old = drop-cons old at 0 room ∙ ap (λ k. get_or old at 0 ∷ drop k old) next in
+    let first : drop at old ≡ get_or old at 0 ∷ drop (at + 1) old =
+    drop-cons old at 0 room ∙ ap (λ k. get_or old at 0 ∷ drop k old) next in
     ap (λ rest. set (take at new ++ rest) at x) first
     ∙ set_at (take at new) (get_or old at 0) (drop (at + 1) old) x at long
     ∙ sym (append_assoc (take at new) (x ∷ []) (drop (at + 1) old))
@@ -33,7 +36,8 @@ written_chunk new old at n inside room =
     let more = chunk at n new in
     let long : length (take at new) ≡ at = length-take-le at new (omega (arith, inside)) in
     let chunk_long : length more ≡ n = length-chunk at n new inside in
-    let whole : length so_far ≡ length old = omega (arith, length-append (take at new) (drop at old), long, length-drop at old, room) in
+    let whole : length so_far ≡ length old =
+    omega (arith, length-append (take at new) (drop at old), long, length-drop at old, room) in
     put_chunk_is at so_far more (omega (arith, chunk_long, whole, room))
     ∙ ap (λ z. z ++ (more ++ drop (length more) (drop at so_far))) (take_at (take at new) (drop at old) at long)
     ∙ ap (λ z. take at new ++ (more ++ drop (length more) z)) (drop_at (take at new) (drop at old) at long)
@@ -43,5 +47,6 @@ written_chunk new old at n inside room =
     ∙ ap (λ z. z ++ drop (at + n) old) (take_chunk new at n)
 
 -- what lies behind is the old list's
-pub rest_kept : (new old : List ℕ) (at n : ℕ) → at ≤ length new → at ≤ n → drop n (take at new ++ drop at old) ≡ drop n old
+pub rest_kept : (new old : List ℕ) (at n : ℕ) → at ≤ length new → at ≤ n
+    → drop n (take at new ++ drop at old) ≡ drop n old
 rest_kept new old at n inside further = drop-append-drop at old (take at new) n further (length-take-le at new inside)

@@ -1,5 +1,6 @@
 -- What a step says.
-use Rattle.std.specs.Prelude.{ℕ, ◌+◌, ◌-◌, ◌*◌, Bool, true, false, not, List, [], ◌∷◌, ◌++◌, Option, Some, None, if◌then◌else◌}
+use Rattle.std.specs.Prelude.{ℕ, ◌+◌, ◌-◌, ◌*◌, Bool, true, false, not, List, [], ◌∷◌, ◌++◌, Option, Some, None}
+use Rattle.std.specs.Prelude.{if◌then◌else◌}
 use Rattle.lane_kernels.specs.Units.{is_lead, is_trail, lead_of}
 use Rattle.lane_kernels.specs.declared.pairing.Step.{Step}
 
@@ -29,7 +30,8 @@ pair_of (Some lead) trail = Some (0x10000 + (lead - 0xD800) * 0x400 + (trail - 0
 abbrev pub unit_scalar : Option ℕ → ℕ → Option ℕ
 unit_scalar carried unit = if is_lead unit then None else if is_trail unit then pair_of carried unit else Some unit
 
--- the scalars of units behind what is carried as a lead: one of each pair of surrogates, and one of each unit that is none
+-- the scalars of units behind what is carried as a lead: one of each pair of surrogates, and one of each unit that is
+-- none
 abbrev pub scalars_of : Option ℕ → List ℕ → List ℕ
 scalars_of carried [] = []
 scalars_of carried (unit ∷ units) = scalar_text (unit_scalar carried unit) ++ scalars_of (lead_of unit) units

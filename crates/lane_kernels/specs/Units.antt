@@ -1,5 +1,6 @@
 -- UTF-16 units: those that bytes make, and whether their surrogates stand in pairs.
-use Rattle.std.specs.Prelude.{ℕ, ◌+◌, ◌-◌, ◌<◌, ◌≡◌, Bool, true, not, List, [], ◌∷◌, length, slice_index, Option, Some, None, if◌then◌else◌}
+use Rattle.std.specs.Prelude.{ℕ, ◌+◌, ◌-◌, ◌<◌, ◌≡◌, Bool, true, not, List, [], ◌∷◌, length, slice_index, Option, Some}
+use Rattle.std.specs.Prelude.{None, if◌then◌else◌}
 use Rattle.std.specs.Option.{is_some}
 use Rattle.enc_model.specs.Index.{within}
 use Rattle.enc_model.specs.Utf16.{unit_of}
@@ -20,7 +21,8 @@ abbrev pub IsCarried : Option ℕ → Type 0
 IsCarried None = Unit {0}
 IsCarried (Some unit) = is_lead unit ≡ true
 
--- PAIRED UNITS, behind a carried lead or none: a unit is a trail just where a lead stands right in front of it. So each trail stands
+-- PAIRED UNITS, behind a carried lead or none: a unit is a trail just where a lead stands right in front of it. So each
+-- trail stands
 -- right behind a lead, and each lead has a trail right behind it, but for a lead that is the last unit.
 pub record ArePaired (carried : Option ℕ) (units : List ℕ) : Type 0 where
   -- in front of the first unit stands the carried lead

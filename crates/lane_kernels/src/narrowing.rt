@@ -75,7 +75,8 @@ fn narrow_by_units(units: &[u16], out: &mut [u8], at: usize) -> usize
     end
 }
 
-/// Writes the longest prefix of units below 80 that fits as bytes, and says how many. The rest of the output is unchanged.
+/// Writes the longest prefix of units below 80 that fits as bytes, and says how many. The rest of the output is
+/// unchanged.
 #[inline(always)]
 pub fn narrow(units: &[u16], out: &mut [u8]) -> usize
     ensures length { result ≡ min (prefix_len is_ascii units.now) (length out.old) }

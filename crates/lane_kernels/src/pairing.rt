@@ -6,7 +6,8 @@ ghost use Rattle.enc_model.specs.Stream.{steps};
 ghost use Rattle.enc_model.specs.declared.Answer.TheVariants.{Error};
 ghost use Rattle.enc_model.specs.Utf16.{Utf16, utf16, utf16_start, unit_of};
 ghost use Rattle.lane_kernels.specs.Orders.{is_big};
-ghost use Rattle.lane_kernels.specs.Units.{IsCarried, is_lead, is_trail, ArePaired, last_lead, lead_of, left_over, units_of, with_carried};
+ghost use Rattle.lane_kernels.specs.Units.{IsCarried, is_lead, is_trail, ArePaired, last_lead, lead_of, left_over};
+ghost use Rattle.lane_kernels.specs.Units.{units_of, with_carried};
 ghost use Rattle.lane_kernels.specs.Steps.{step_text, unit_fault, unit_scalar};
 
 use crate::order::Order;
@@ -72,13 +73,21 @@ impl Pairing {
         self.lead
     }
 
-    /// Makes 32 units of the carried byte, where there is one, and the 64 bytes, and says whether they are paired behind the carried
-    /// lead. Where they are, a byte left over and a last lead are carried on; where they aren't, what is carried stays. The units are
+    /// Makes 32 units of the carried byte, where there is one, and the 64 bytes, and says whether they are paired
+    /// behind the carried
+    /// lead. Where they are, a byte left over and a last lead are carried on; where they aren't, what is carried stays.
+    /// The units are
     /// written in either case.
     pub fn block(&mut self, order: Order, bytes: &[u8; 64], units: &mut [u16; 32]) -> bool
         ensures units { units.new ≡ units_of (is_big order) (with_carried self.old.byte bytes.now) }
-        ensures paired { IsTrue result ↔ ArePaired self.old.lead (units_of (is_big order) (with_carried self.old.byte bytes.now)) }
-        ensures carried { OnTrue result (self.new ≡ record { byte = left_over (with_carried self.old.byte bytes.now); lead = last_lead (units_of (is_big order) (with_carried self.old.byte bytes.now)) }) }
+        ensures paired { IsTrue result ↔ ArePaired self.old.lead
+            (units_of (is_big order) (with_carried self.old.byte bytes.now)) }
+        ensures carried { OnTrue result
+            (self.new ≡ record {
+              byte = left_over (with_carried self.old.byte bytes.now);
+              lead =
+                  last_lead (units_of (is_big order) (with_carried self.old.byte bytes.now));
+            }) }
         ensures kept { OnFalse result (self.new ≡ self.old) }
     {
         let lanes = units_behind(order, self.odd, bytes);

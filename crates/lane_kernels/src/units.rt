@@ -5,7 +5,8 @@ ghost use Rattle.std.specs.List.{prefix_len};
 ghost use Rattle.std.specs.Simd.Lanes.{mask_l};
 ghost use Rattle.enc_model.specs.Index.{within};
 ghost use Rattle.enc_model.specs.Utf16.{unit_of};
-ghost use Rattle.lane_kernels.specs.Units.{ArePaired, IsCarried, is_lead, is_scalar_unit, is_trail, lead_of, left_over, units_of, with_carried};
+ghost use Rattle.lane_kernels.specs.Units.{ArePaired, IsCarried, is_lead, is_scalar_unit, is_trail, lead_of, left_over};
+ghost use Rattle.lane_kernels.specs.Units.{units_of, with_carried};
 ghost use Rattle.lane_kernels.specs.Orders.{is_big};
 
 use crate::lanes::{LANES, first_set};
@@ -36,7 +37,8 @@ pub fn paired(lead: u16, trail: u16) -> char
     }
 }
 
-/// The first 64 of a byte and those behind it. It is rarely called, and kept apart so that its moves aren't mixed with plain loads.
+/// The first 64 of a byte and those behind it. It is rarely called, and kept apart so that its moves aren't mixed with
+/// plain loads.
 #[inline(never)]
 fn joined(first: u8, bytes: &[u8; 64]) -> [u8; 64]
     ensures { result ≡ take 64 (first ∷ bytes.now) }

@@ -1,5 +1,6 @@
 -- What stays known over the calls of a disk.
-use Rattle.std.proofs.Common.{◌≡◌, ℕ, List, length, inl, inr, refl, ◌∙◌, arith, ⊎_elim, Result, Ok, Err, IsOk, IsErr, OnOk, subst, sym}
+use Rattle.std.proofs.Common.{◌≡◌, ℕ, List, length, inl, inr, refl, ◌∙◌, arith, ⊎_elim, Result, Ok, Err, IsOk, IsErr}
+use Rattle.std.proofs.Common.{OnOk, subst, sym}
 use Rattle.std.proofs.lemmas.Bool.{cases_lt}
 use Rattle.spool_disk.specs.Disk.{span, In, IsImage, Elapses, Writes, Syncs, Keeps, Firm, Apart, Reads, Counts}
 use Rattle.spool_disk.specs.Views.{Lasts}
@@ -11,48 +12,64 @@ apart_at at n at' n' p (inl before) here there = omega (arith, here.below, there
 apart_at at n at' n' p (inr behind) here there = omega (arith, here.from, there.below)
 
 module _ {seen seen' : ℕ → ℕ} {loose loose' : ℕ → Type 0} where
-  pub firm_writes : {at at' : ℕ} {bytes xs : List ℕ} {done : Type 0} → Firm seen loose at xs → Writes at' bytes done seen seen' loose loose' → Apart at (length xs) at' (length bytes) → Firm seen' loose' at xs
+  pub firm_writes : {at at' : ℕ} {bytes xs : List ℕ} {done : Type 0} → Firm seen loose at xs
+      → Writes at' bytes done seen seen' loose loose' → Apart at (length xs) at' (length bytes)
+      → Firm seen' loose' at xs
   firm_writes {at = at} {at' = at'} {bytes = bytes} {xs = xs} has writes apart = record {
-    reads = span_same seen' seen at (length xs) (λ p here. writes.outside p (λ there. apart_at at (length xs) at' (length bytes) p apart here there)) ∙ has.reads;
-    firm = λ p here loose. ⊎_elim (has.firm p here) (λ there. apart_at at (length xs) at' (length bytes) p apart here there) (writes.loosens p loose);
+    reads = span_same seen' seen at (length xs)
+        (λ p here. writes.outside p (λ there. apart_at at (length xs) at' (length bytes) p apart here there))
+        ∙ has.reads;
+    firm = λ p here loose. ⊎_elim (has.firm p here)
+        (λ there. apart_at at (length xs) at' (length bytes) p apart here there) (writes.loosens p loose);
   }
 
-  pub firm_syncs : {at : ℕ} {xs : List ℕ} {done : Type 0} → Firm seen loose at xs → Syncs done seen seen' loose loose' → Firm seen' loose' at xs
+  pub firm_syncs : {at : ℕ} {xs : List ℕ} {done : Type 0} → Firm seen loose at xs → Syncs done seen seen' loose loose'
+      → Firm seen' loose' at xs
   firm_syncs {at = at} {xs = xs} has syncs = record {
     reads = span_same seen' seen at (length xs) (λ p here. syncs.outside p (has.firm p here)) ∙ has.reads;
     firm = λ p here loose. has.firm p here (syncs.loosens p loose);
   }
 
-  pub firm_keeps : {at : ℕ} {xs : List ℕ} → Firm seen loose at xs → Keeps seen seen' loose loose' → Firm seen' loose' at xs
+  pub firm_keeps : {at : ℕ} {xs : List ℕ} → Firm seen loose at xs → Keeps seen seen' loose loose'
+      → Firm seen' loose' at xs
   firm_keeps {at = at} {xs = xs} has keeps = record {
     reads = span_same seen' seen at (length xs) (λ p here. keeps.same p) ∙ has.reads;
     firm = λ p here loose. has.firm p here (keeps.loosens p loose);
   }
 
 -- what was written stands there once it is synced
-pub written_firm : {seen mid seen' : ℕ → ℕ} {loose between loose' : ℕ → Type 0} {at : ℕ} {bytes : List ℕ} {wrote synced : Type 0} → Writes at bytes wrote seen mid loose between → Syncs synced mid seen' between loose' → wrote → synced → Firm seen' loose' at bytes
+pub written_firm : {seen mid seen' : ℕ → ℕ} {loose between loose' : ℕ → Type 0} {at : ℕ} {bytes : List ℕ}
+    {wrote synced : Type 0} → Writes at bytes wrote seen mid loose between → Syncs synced mid seen' between loose'
+    → wrote → synced → Firm seen' loose' at bytes
 written_firm {mid = mid} {seen' = seen'} {at = at} {bytes = bytes} writes syncs wrote synced = record {
   reads = span_same seen' mid at (length bytes) (λ p here. syncs.same synced p) ∙ writes.inside wrote;
   firm = λ p here. syncs.firm synced p;
 }
 
-pub firm_image : {seen image : ℕ → ℕ} {loose : ℕ → Type 0} {at : ℕ} {xs : List ℕ} → Firm seen loose at xs → IsImage seen loose image → span image at (length xs) ≡ xs
-firm_image {seen = seen} {image = image} {at = at} {xs = xs} has is = span_same image seen at (length xs) (λ p here. is.same p (has.firm p here)) ∙ has.reads
+pub firm_image : {seen image : ℕ → ℕ} {loose : ℕ → Type 0} {at : ℕ} {xs : List ℕ} → Firm seen loose at xs
+    → IsImage seen loose image → span image at (length xs) ≡ xs
+firm_image {seen = seen} {image = image} {at = at} {xs = xs} has is =
+    span_same image seen at (length xs) (λ p here. is.same p (has.firm p here)) ∙ has.reads
 
 module _ {D : Type 0} {disk : Ghosts D} where
-  pub lasts_call : {old new : D} {P : (ℕ → ℕ) → Type 0} → Elapses (disk.moment old) (disk.moment new) (disk.left_since old) (disk.left_since new) (disk.seen new) (disk.loose new) → ((image : ℕ → ℕ) → IsImage (disk.seen new) (disk.loose new) image → P image) → Lasts disk old new P
+  pub lasts_call : {old new : D} {P : (ℕ → ℕ) → Type 0} → Elapses (disk.moment old) (disk.moment new)
+      (disk.left_since old) (disk.left_since new) (disk.seen new) (disk.loose new)
+      → ((image : ℕ → ℕ) → IsImage (disk.seen new) (disk.loose new) image → P image) → Lasts disk old new P
   lasts_call elapses here = record {
     later = elapses.later;
     nothing_else = λ t image le left. ⊎_elim inl (λ now. inr (here image now)) (elapses.nothing_else t image le left);
   }
 
-  pub lasts_on : {old mid new : D} {P : (ℕ → ℕ) → Type 0} → Lasts disk old mid P → Lasts disk mid new P → Lasts disk old new P
+  pub lasts_on : {old mid new : D} {P : (ℕ → ℕ) → Type 0} → Lasts disk old mid P → Lasts disk mid new P
+      → Lasts disk old new P
   lasts_on {old = old} a b = record {
     later = omega (arith, a.later, b.later);
-    nothing_else = λ t image le left. ⊎_elim (a.nothing_else t image le) inr (b.nothing_else t image (omega (arith, le, a.later)) left);
+    nothing_else = λ t image le left. ⊎_elim (a.nothing_else t image le) inr
+        (b.nothing_else t image (omega (arith, le, a.later)) left);
   }
 
-  pub lasts_more : {old new : D} {P Q : (ℕ → ℕ) → Type 0} → Lasts disk old new P → ((image : ℕ → ℕ) → P image → Q image) → Lasts disk old new Q
+  pub lasts_more : {old new : D} {P Q : (ℕ → ℕ) → Type 0} → Lasts disk old new P → ((image : ℕ → ℕ) → P image → Q image)
+      → Lasts disk old new Q
   lasts_more a more = record {
     later = a.later;
     nothing_else = λ t image le left. ⊎_elim inl (λ now. inr (more image now)) (a.nothing_else t image le left);
@@ -69,7 +86,8 @@ on_more (Err e) x more = tt
 -- a call that did not fail, and then another
 pub counts_on : {F G : Type 0} {a b c : ℕ} → Counts F a b → (F → ⊥) → Counts G b c → Counts G a c
 counts_on {G = G} {a = a} {b = b} {c = c} first not second =
-    let e : b ≡ a = elim (cases_lt a b) [ inl lt ↦ absurd (not (first.nothing_else lt)) | inr le ↦ omega (arith, first.later) ] in
+    let e : b ≡ a = elim (cases_lt a b)
+    [ inl lt ↦ absurd (not (first.nothing_else lt)) | inr le ↦ omega (arith, first.later) ] in
     subst (λ (n : ℕ). Counts G n c) e second
 
 pub not_err : {T E : Type 0} (t : T) (r : Result T E) → r ≡ Ok t → IsErr r → ⊥
@@ -83,22 +101,30 @@ counts_as counts f g = record {
   nothing_else = λ _. g;
 }
 
-pub reads_writes : {seen seen' : ℕ → ℕ} {loose loose' : ℕ → Type 0} {at at' : ℕ} {bytes xs : List ℕ} {done : Type 0} → Reads seen at xs → Writes at' bytes done seen seen' loose loose' → Apart at (length xs) at' (length bytes) → Reads seen' at xs
+pub reads_writes : {seen seen' : ℕ → ℕ} {loose loose' : ℕ → Type 0} {at at' : ℕ} {bytes xs : List ℕ} {done : Type 0}
+    → Reads seen at xs → Writes at' bytes done seen seen' loose loose' → Apart at (length xs) at' (length bytes)
+    → Reads seen' at xs
 reads_writes {seen = seen} {seen' = seen'} {at = at} {at' = at'} {bytes = bytes} {xs = xs} gives writes apart = record {
-  reads = span_same seen' seen at (length xs) (λ p here. writes.outside p (λ there. apart_at at (length xs) at' (length bytes) p apart here there)) ∙ gives.reads;
+  reads = span_same seen' seen at (length xs)
+      (λ p here. writes.outside p (λ there. apart_at at (length xs) at' (length bytes) p apart here there))
+      ∙ gives.reads;
 }
 
-pub reads_firm : {seen seen' : ℕ → ℕ} {loose loose' : ℕ → Type 0} {at : ℕ} {xs : List ℕ} {done : Type 0} → Reads seen at xs → Syncs done seen seen' loose loose' → done → Firm seen' loose' at xs
+pub reads_firm : {seen seen' : ℕ → ℕ} {loose loose' : ℕ → Type 0} {at : ℕ} {xs : List ℕ} {done : Type 0}
+    → Reads seen at xs → Syncs done seen seen' loose loose' → done → Firm seen' loose' at xs
 reads_firm {seen = seen} {seen' = seen'} {at = at} {xs = xs} gives syncs done = record {
   reads = span_same seen' seen at (length xs) (λ p here. syncs.same done p) ∙ gives.reads;
   firm = λ p here. syncs.firm done p;
 }
 
-pub reads_keeps : {seen seen' : ℕ → ℕ} {loose loose' : ℕ → Type 0} {at : ℕ} {xs : List ℕ} → Reads seen at xs → Keeps seen seen' loose loose' → Reads seen' at xs
+pub reads_keeps : {seen seen' : ℕ → ℕ} {loose loose' : ℕ → Type 0} {at : ℕ} {xs : List ℕ} → Reads seen at xs
+    → Keeps seen seen' loose loose' → Reads seen' at xs
 reads_keeps {seen = seen} {seen' = seen'} {at = at} {xs = xs} gives keeps = record {
   reads = span_same seen' seen at (length xs) (λ p here. keeps.same p) ∙ gives.reads;
 }
 
 -- a read of as many bytes gives them
-pub read_is : {seen : ℕ → ℕ} {at n : ℕ} {xs buf : List ℕ} → Reads seen at xs → buf ≡ span seen at n → length xs ≡ n → buf ≡ xs
-read_is {seen = seen} {at = at} {xs = xs} {buf = buf} gives is size = subst (λ (k : ℕ). buf ≡ span seen at k) (sym size) is ∙ gives.reads
+pub read_is : {seen : ℕ → ℕ} {at n : ℕ} {xs buf : List ℕ} → Reads seen at xs → buf ≡ span seen at n → length xs ≡ n
+    → buf ≡ xs
+read_is {seen = seen} {at = at} {xs = xs} {buf = buf} gives is size =
+    subst (λ (k : ℕ). buf ≡ span seen at k) (sym size) is ∙ gives.reads

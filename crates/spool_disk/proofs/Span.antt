@@ -1,5 +1,6 @@
 -- The bytes from a place on.
-use Rattle.std.proofs.Common.{◌≡◌, ◌⊎◌, inl, inr, ℕ, zero, suc, ◌+◌, ◌<◌, List, [], ◌∷◌, length, get_or, refl, subst, arith}
+use Rattle.std.proofs.Common.{◌≡◌, ◌⊎◌, inl, inr, ℕ, zero, suc, ◌+◌, ◌<◌, List, [], ◌∷◌, length, get_or, refl, subst}
+use Rattle.std.proofs.Common.{arith}
 use Rattle.std.proofs.lemmas.Bool.{cases_lt}
 use Rattle.spool_disk.specs.Disk.{span, In}
 
@@ -16,10 +17,12 @@ pub span_same : (f g : ℕ → ℕ) (at n : ℕ) → ((p : ℕ) → In at n p �
 unfolding span
 span_same f g at zero same = refl
 span_same f g at (suc n) same = cons_eq (same at record { from = omega arith; below = omega arith })
-    (span_same f g (at + 1) n (λ p within. same p record { from = omega (arith, within.from); below = omega (arith, within.below) }))
+    (span_same f g (at + 1) n
+    (λ p within. same p record { from = omega (arith, within.from); below = omega (arith, within.below) }))
 
 -- bytes by index
-pub span_is : (f : ℕ → ℕ) (at : ℕ) (xs : List ℕ) → ((k : ℕ) → k < length xs → f (at + k) ≡ get_or xs k 0) → span f at (length xs) ≡ xs
+pub span_is : (f : ℕ → ℕ) (at : ℕ) (xs : List ℕ) → ((k : ℕ) → k < length xs → f (at + k) ≡ get_or xs k 0)
+    → span f at (length xs) ≡ xs
 unfolding span
 span_is f at [] here = refl
 span_is f at (x ∷ xs) here =

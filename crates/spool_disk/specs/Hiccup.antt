@@ -18,7 +18,8 @@ fill_of disk = disk.fill
 abbrev pub missed_of : {D : Type 0} → HiccupDisk D → ℕ
 missed_of disk = disk.missed
 
--- A call: where it is the one that fails it does, and no later one; else the disk within is asked, and one fewer is waited for
+-- A call: where it is the one that fails it does, and no later one; else the disk within is asked, and one fewer is
+-- waited for
 pub record Waits {D : Type 0} (within : D → D → Type 0) (failed : Type 0) (old new : HiccupDisk D) : Type 0 where
   pub misses : wait_of old ≡ Some 0 → failed × (wait_of new ≡ None)
   pub passes : (wait_of old ≡ Some 0 → ⊥) → (missed_of new ≡ missed_of old) × within (within_of old) (within_of new)

@@ -10,7 +10,8 @@ Has disk d at bytes = Firm (disk.seen d) (disk.loose d) at bytes
 -- from old to new, a crash at any moment leaves an image with P
 pub record Lasts {D : Type 0} (disk : Ghosts D) (old new : D) (P : (ℕ → ℕ) → Type 0) : Type 0 where
   pub later : disk.moment old ≤ disk.moment new
-  pub nothing_else : (t : ℕ) (image : ℕ → ℕ) → t ≤ disk.moment old → disk.left_since new t image → disk.left_since old t image ⊎ P image
+  pub nothing_else : (t : ℕ) (image : ℕ → ℕ) → t ≤ disk.moment old → disk.left_since new t image
+      → disk.left_since old t image ⊎ P image
 
 -- a read gives these bytes from the place on
 abbrev pub Gives : {D : Type 0} (disk : Ghosts D) → D → ℕ → List ℕ → Type 0

@@ -80,8 +80,10 @@ fn scrawl<D: Disk>(disk: &mut D, at: u64, bytes: &[u8], filler: &[u8])
     requires { at + length bytes.now ≤ D.size disk.old }
     ensures size { D.size disk.new ≡ D.size disk.old }
     ensures honest { D.honest disk.old ↔ D.honest disk.new }
-    ensures writes { D.honest disk.old → Writes at bytes.now ⊥ (D.seen disk.old) (D.seen disk.new) (D.loose disk.old) (D.loose disk.new) }
-    ensures time { D.honest disk.old → Elapses (D.moment disk.old) (D.moment disk.new) (D.left_since disk.old) (D.left_since disk.new) (D.seen disk.new) (D.loose disk.new) }
+    ensures writes { D.honest disk.old → Writes at bytes.now ⊥ (D.seen disk.old) (D.seen disk.new) (D.loose disk.old)
+        (D.loose disk.new) }
+    ensures time { D.honest disk.old → Elapses (D.moment disk.old) (D.moment disk.new) (D.left_since disk.old)
+        (D.left_since disk.new) (D.seen disk.new) (D.loose disk.new) }
     ensures later { D.failures disk.old ≤ D.failures disk.new }
     ensures forward { D.moment disk.old ≤ D.moment disk.new }
 {
@@ -145,7 +147,8 @@ impl<D: CrashDisk> CrashDisk for HiccupDisk<D> {
     /// What is chosen of a crash of the disk within, and the call that fails behind it.
     type How = (D::How, u64);
 
-    ghost chosen = { λ how old new. D.chosen how.0 (within_of old) (within_of new) × (wait_of new ≡ Some how.1) × (fill_of new ≡ fill_of old) };
+    ghost chosen = { λ how old new. D.chosen how.0 (within_of old)
+        (within_of new) × (wait_of new ≡ Some how.1) × (fill_of new ≡ fill_of old) };
 
     fn restart(self, how: &(D::How, u64)) -> Self {
         let HiccupDisk {

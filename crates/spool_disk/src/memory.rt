@@ -15,7 +15,8 @@ pub struct MemoryDisk {
     unsynced: Vec<bool>,
     ghost same: { length synced.items ≡ length written.items },
     ghost marked: { length unsynced.items ≡ length written.items },
-    ghost agree: { (p : ℕ) → (get_or unsynced.items p false ≡ true → ⊥) → get_or written.items p 0 ≡ get_or synced.items p 0 },
+    ghost agree: { (p : ℕ) → (get_or unsynced.items p false ≡ true → ⊥)
+        → get_or written.items p 0 ≡ get_or synced.items p 0 },
 }
 
 impl MemoryDisk {
@@ -68,7 +69,8 @@ fn tear(written: &mut [u8], synced: &[u8], unsynced: &[bool], kind: Crash)
     requires same { length synced.now ≡ length written.old }
     requires marked { length unsynced.now ≡ length written.old }
     ensures kept { (p : ℕ) → (get_or unsynced.now p false ≡ true → ⊥) → get_or written.new p 0 ≡ get_or written.old p 0 }
-    ensures left { (p : ℕ) → get_or unsynced.now p false ≡ true → get_or written.new p 0 ≡ left_by kind (get_or synced.now p 0) (get_or written.old p 0) }
+    ensures left { (p : ℕ) → get_or unsynced.now p false ≡ true → get_or written.new p 0 ≡ left_by kind
+        (get_or synced.now p 0) (get_or written.old p 0) }
 {
     for i in 0..written.len() {
         if unsynced[i] {
@@ -165,7 +167,8 @@ impl CrashDisk for MemoryDisk {
 
     type How = Crash;
 
-    ghost chosen = { λ how old new. (p : ℕ) → loose_of old p → bytes_of new p ≡ left_by how (synced_of old p) (bytes_of old p) };
+    ghost chosen = { λ how old new. (p : ℕ) → loose_of old p → bytes_of new p ≡ left_by how (synced_of old p)
+        (bytes_of old p) };
 
     fn restart(self, how: &Crash) -> Self {
         self.crash(*how)

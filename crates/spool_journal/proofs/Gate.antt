@@ -1,8 +1,10 @@
 -- Images while the gate opens, while pages are placed, and while it closes.
-use Rattle.std.proofs.Common.{◌≡◌, ◌⊎◌, inl, inr, ℕ, suc, ◌+◌, ◌*◌, ◌/◌, ◌%◌, ◌<◌, ◌≤◌, Bool, cond, List, [], ◌∷◌, length, refl, sym, ◌∙◌, ap, subst, arith, ⊎_elim}
+use Rattle.std.proofs.Common.{◌≡◌, ◌⊎◌, inl, inr, ℕ, suc, ◌+◌, ◌*◌, ◌/◌, ◌%◌, ◌<◌, ◌≤◌, Bool, cond, List, [], ◌∷◌}
+use Rattle.std.proofs.Common.{length, refl, sym, ◌∙◌, ap, subst, arith, ⊎_elim}
 use Rattle.std.proofs.lemmas.Bool.{cases_eq}
 use Rattle.spool_disk.specs.Disk.{span, In, IsImage, Writes, Syncs}
-use Rattle.spool_journal.specs.Image.{byte_of, count, number, content, over, replayed, overlaid, laid, InJournal, Outside, InForm, page_number, page_byte}
+use Rattle.spool_journal.specs.Image.{byte_of, count, number, content, over, replayed, overlaid, laid, InJournal}
+use Rattle.spool_journal.specs.Image.{Outside, InForm, page_number, page_byte}
 use Rattle.spool_journal.specs.Phases.{Idle, ReadsAs, IsBefore, Ready, Opened, Hit, Placing, Upto, Placed, Settled}
 use Rattle.spool_journal.proofs.Over.{over_hit, over_pass, over_none, over_same, yes, no}
 use Rattle.spool_journal.proofs.Steps.{span_at, word_same, form_same}
@@ -19,19 +21,31 @@ pub record SameJournal (j : ℕ) (a b : ℕ → ℕ) : Type 0 where
 
 module _ {j : ℕ} {a b : ℕ → ℕ} where
   same_count : 1 ≤ j → SameJournal j a b → count a ≡ count b
-  same_count some same = word_same a b 8192 8192 (λ i lt. same.same (8192 + i) record { from = omega arith; below = omega (arith, lt, some) })
+  same_count some same = word_same a b 8192 8192 (λ i lt. same.same (8192 + i) record {
+    from = omega arith;
+    below = omega (arith, lt, some);
+  })
 
   same_number : j ≤ 385 → 1 ≤ j → SameJournal j a b → (k : ℕ) → k < j → number a k ≡ number b k
-  same_number few some same k below = word_same a b (8196 + 4 * k) (8196 + 4 * k) (λ i lt. same.same (8196 + 4 * k + i) record { from = omega arith; below = omega (arith, lt, below, few, some) })
+  same_number few some same k below = word_same a b (8196 + 4 * k) (8196 + 4 * k) (λ i lt. same.same (8196 + 4 * k + i) record {
+    from = omega arith;
+    below = omega (arith, lt, below, few, some);
+  })
 
   same_content : SameJournal j a b → (k x : ℕ) → k < j → x < 4096 → content a k x ≡ content b k x
-  same_content same k x below lt = same.same (4096 * (3 + k) + x) record { from = omega arith; below = omega (arith, lt, below) }
+  same_content same k x below lt = same.same (4096 * (3 + k) + x) record {
+    from = omega arith;
+    below = omega (arith, lt, below);
+  }
 
   -- b's journal is in form; so is a's, and replayed it gives what b's gives where the two agree elsewhere
   pub form_on : j ≤ 385 → 1 ≤ j → SameJournal j a b → InForm j (count b) (number b) → InForm j (count a) (number a)
-  form_on few some same form = form_same j (count b) (count a) (number b) (number a) (sym (same_count some same)) (λ k lt. sym (same_number few some same k (omega (arith, lt, form.few)))) form
+  form_on few some same form =
+      form_same j (count b) (count a) (number b) (number a) (sym (same_count some same))
+      (λ k lt. sym (same_number few some same k (omega (arith, lt, form.few)))) form
 
-  pub replay_on : j ≤ 385 → SameJournal j a b → InForm j (count b) (number b) → (p : ℕ) → (((k : ℕ) → k < count b → number b k ≡ p / 4096 → ⊥) → a p ≡ b p) → replayed a p ≡ replayed b p
+  pub replay_on : j ≤ 385 → SameJournal j a b → InForm j (count b) (number b) → (p : ℕ)
+      → (((k : ℕ) → k < count b → number b k ≡ p / 4096 → ⊥) → a p ≡ b p) → replayed a p ≡ replayed b p
   replay_on few same form p misses =
       let some : 1 ≤ j = omega (arith, form.some, form.few) in
       let c : count a ≡ count b = same_count some same in
@@ -42,15 +56,18 @@ module _ {j : ℕ} {a b : ℕ → ℕ} where
       (λ none. misses (λ k lt e. none k lt (same_number few some same k (omega (arith, lt, form.few)) ∙ e)))
 
 -- a place of a named page is in the metadata area
-pub hit_from : (j : ℕ) (image : ℕ → ℕ) (p : ℕ) → InForm j (count image) (number image) → Hit image p → 4096 * (25 + j) ≤ p
+pub hit_from : (j : ℕ) (image : ℕ → ℕ) (p : ℕ) → InForm j (count image) (number image) → Hit image p
+    → 4096 * (25 + j) ≤ p
 hit_from j image p form hit = let h = form.inside hit.k hit.below in omega (arith, h.from, hit.here)
 
 module _ {j : ℕ} {opened seen image : ℕ → ℕ} {loose : ℕ → Type 0} where
-  pub placing_image : j ≤ 385 → Placing j opened seen loose → IsImage seen loose image → ReadsAs j image (replayed opened)
+  pub placing_image : j ≤ 385 → Placing j opened seen loose → IsImage seen loose image
+      → ReadsAs j image (replayed opened)
   placing_image few placing is =
       record {
         form = λ e. form_on few (omega (arith, placing.form.some, placing.form.few)) journal placing.form;
-        same = λ p outside. open_view image p gate ∙ replay_on few journal placing.form p (λ none. at p (λ hit. none hit.k hit.below hit.here));
+        same = λ p outside. open_view image p gate ∙ replay_on few journal placing.form p
+            (λ none. at p (λ hit. none hit.k hit.below hit.here));
       }
     where
       at : (p : ℕ) → (Hit opened p → ⊥) → image p ≡ opened p
@@ -60,14 +77,18 @@ module _ {j : ℕ} {opened seen image : ℕ → ℕ} {loose : ℕ → Type 0} wh
       gate = at 4096 (λ hit. omega (arith, hit_from j opened 4096 placing.form hit)) ∙ placing.gate
 
       journal : SameJournal j image opened
-      journal = record { same = λ p within. at p (λ hit. omega (arith, hit_from j opened p placing.form hit, within.below)) }
+      journal = record {
+        same = λ p within. at p (λ hit. omega (arith, hit_from j opened p placing.form hit, within.below));
+      }
 
-  pub closing_image : j ≤ 385 → Placed j opened seen loose → ((p : ℕ) → (p ≡ 4096 → ⊥) → image p ≡ seen p) → ReadsAs j image (replayed opened)
+  pub closing_image : j ≤ 385 → Placed j opened seen loose → ((p : ℕ) → (p ≡ 4096 → ⊥) → image p ≡ seen p)
+      → ReadsAs j image (replayed opened)
   closing_image few placed same =
       record {
         form = λ e. form_on few (omega (arith, placed.form.some, placed.form.few)) journal placed.form;
         same = λ p outside. ⊎_elim
-            (λ (e : image 4096 ≡ 165). open_view image p e ∙ replay_on few journal placed.form p (λ none. at p (gateless p outside) (λ hit. none hit.k hit.below hit.here)))
+            (λ (e : image 4096 ≡ 165). open_view image p e ∙ replay_on few journal placed.form p
+            (λ none. at p (gateless p outside) (λ hit. none hit.k hit.below hit.here)))
             (λ (e : image 4096 ≡ 165 → ⊥). shut_view image p e ∙ same p (gateless p outside) ∙ placed.all p)
             (cases_eq (image 4096) 165);
       }
@@ -77,13 +98,21 @@ module _ {j : ℕ} {opened seen image : ℕ → ℕ} {loose : ℕ → Type 0} wh
       gateless p (inr le) e = omega (arith, le, e)
 
       at : (p : ℕ) → (p ≡ 4096 → ⊥) → (Hit opened p → ⊥) → image p ≡ opened p
-      at p away miss = same p away ∙ placed.all p ∙ over_none (number opened) (content opened) opened (count opened) p (λ k lt e. miss record { k = k; below = lt; here = e })
+      at p away miss = same p away ∙ placed.all p ∙ over_none (number opened) (content opened) opened (count opened) p (λ k lt e. miss record {
+        k = k;
+        below = lt;
+        here = e;
+      })
 
       journal : SameJournal j image opened
-      journal = record { same = λ p within. at p (λ e. omega (arith, e, within.from)) (λ hit. omega (arith, hit_from j opened p placed.form hit, within.below)) }
+      journal = record {
+        same = λ p within. at p (λ e. omega (arith, e, within.from)) (λ hit. omega (arith, hit_from j opened p placed.form hit, within.below));
+      }
 
 -- while the gate opens
-pub opening_image : {j : ℕ} {pages : List (ℕ × List ℕ)} {was seen image : ℕ → ℕ} {loose free : ℕ → Type 0} → j ≤ 385 → Ready j pages was seen loose → ((p : ℕ) → (p ≡ 4096 → ⊥) → image p ≡ seen p) → IsBefore j was free image ⊎ ReadsAs j image (laid pages was)
+pub opening_image : {j : ℕ} {pages : List (ℕ × List ℕ)} {was seen image : ℕ → ℕ} {loose free : ℕ → Type 0} → j ≤ 385
+    → Ready j pages was seen loose → ((p : ℕ) → (p ≡ 4096 → ⊥) → image p ≡ seen p)
+    → IsBefore j was free image ⊎ ReadsAs j image (laid pages was)
 opening_image {j = j} {pages = pages} {was = was} {seen = seen} {image = image} few ready same =
     ⊎_elim
     (λ (e : image 4096 ≡ 165). inr (record {
@@ -111,27 +140,38 @@ opening_image {j = j} {pages = pages} {was = was} {seen = seen} {image = image} 
     laid_over p outside =
         replay_on few journal ready.form p (λ _. same p (gateless p outside))
         ∙ ap (λ (n : ℕ). over (number seen) (content seen) seen n p) ready.matches.size
-        ∙ over_same (number seen) (page_number pages) (content seen) (page_byte pages) seen was (length pages) p ready.matches.numbers (λ k x lt below. ready.matches.contents k x lt below) (λ _. ready.same p (away p outside))
+        ∙ over_same (number seen) (page_number pages) (content seen) (page_byte pages) seen was (length pages) p
+        ready.matches.numbers (λ k x lt below. ready.matches.contents k x lt below)
+        (λ _. ready.same p (away p outside))
 
 -- the gate's byte alone was written
-pub gate_step : {seen seen' : ℕ → ℕ} {loose loose' : ℕ → Type 0} {done : Type 0} (v : ℕ) → Writes 4096 (v ∷ []) done seen seen' loose loose' → (p : ℕ) → (p ≡ 4096 → ⊥) → seen' p ≡ seen p
+pub gate_step : {seen seen' : ℕ → ℕ} {loose loose' : ℕ → Type 0} {done : Type 0} (v : ℕ)
+    → Writes 4096 (v ∷ []) done seen seen' loose loose' → (p : ℕ) → (p ≡ 4096 → ⊥) → seen' p ≡ seen p
 gate_step v writes p away = writes.outside p (λ here. away (alone p here))
   where
     alone : (p : ℕ) → In 4096 1 p → p ≡ 4096
     alone p here = omega (arith, here.from, here.below)
 
-pub gate_image : {seen seen' image : ℕ → ℕ} {loose loose' : ℕ → Type 0} {done : Type 0} (v : ℕ) → ((p : ℕ) → loose p → ⊥) → Writes 4096 (v ∷ []) done seen seen' loose loose' → IsImage seen' loose' image → (p : ℕ) → (p ≡ 4096 → ⊥) → image p ≡ seen p
-gate_image v firm writes is p away = is.same p (λ l. ⊎_elim (firm p) (λ here. away (alone p here)) (writes.loosens p l)) ∙ gate_step v writes p away
+pub gate_image : {seen seen' image : ℕ → ℕ} {loose loose' : ℕ → Type 0} {done : Type 0} (v : ℕ)
+    → ((p : ℕ) → loose p → ⊥) → Writes 4096 (v ∷ []) done seen seen' loose loose' → IsImage seen' loose' image → (p : ℕ)
+    → (p ≡ 4096 → ⊥) → image p ≡ seen p
+gate_image v firm writes is p away =
+    is.same p (λ l. ⊎_elim (firm p) (λ here. away (alone p here)) (writes.loosens p l)) ∙ gate_step v writes p away
   where
     alone : (p : ℕ) → In 4096 1 p → p ≡ 4096
     alone p here = omega (arith, here.from, here.below)
 
-pub gate_now : {seen seen' seen'' : ℕ → ℕ} {loose loose' loose'' : ℕ → Type 0} {done synced : Type 0} (v : ℕ) → Writes 4096 (v ∷ []) done seen seen' loose loose' → done → Syncs synced seen' seen'' loose' loose'' → synced → seen'' 4096 ≡ v
+pub gate_now : {seen seen' seen'' : ℕ → ℕ} {loose loose' loose'' : ℕ → Type 0} {done synced : Type 0} (v : ℕ)
+    → Writes 4096 (v ∷ []) done seen seen' loose loose' → done → Syncs synced seen' seen'' loose' loose'' → synced
+    → seen'' 4096 ≡ v
 unfolding span
-gate_now {seen' = seen'} v writes wrote syncs synced = syncs.same synced 4096 ∙ span_at seen' 4096 (v ∷ []) 0 (writes.inside wrote) (omega arith)
+gate_now {seen' = seen'} v writes wrote syncs synced =
+    syncs.same synced 4096 ∙ span_at seen' 4096 (v ∷ []) 0 (writes.inside wrote) (omega arith)
 
 -- the gate is open
-pub opened : {j : ℕ} {pages : List (ℕ × List ℕ)} {was seen seen' : ℕ → ℕ} {loose loose' : ℕ → Type 0} → j ≤ 385 → Ready j pages was seen loose → ((p : ℕ) → (p ≡ 4096 → ⊥) → seen' p ≡ seen p) → seen' 4096 ≡ 165 → ((p : ℕ) → loose' p → ⊥) → Opened j pages was seen' loose'
+pub opened : {j : ℕ} {pages : List (ℕ × List ℕ)} {was seen seen' : ℕ → ℕ} {loose loose' : ℕ → Type 0} → j ≤ 385
+    → Ready j pages was seen loose → ((p : ℕ) → (p ≡ 4096 → ⊥) → seen' p ≡ seen p) → seen' 4096 ≡ 165
+    → ((p : ℕ) → loose' p → ⊥) → Opened j pages was seen' loose'
 opened {j = j} {pages = pages} {was = was} {seen = seen} {seen' = seen'} few ready same gate firm = record {
   gate = gate;
   form = form_on few some journal ready.form;
@@ -139,7 +179,8 @@ opened {j = j} {pages = pages} {was = was} {seen = seen} {seen' = seen'} few rea
   matches = record {
     size = same_count some journal ∙ ready.matches.size;
     numbers = λ k lt. same_number few some journal k (omega (arith, lt, fits)) ∙ ready.matches.numbers k lt;
-    contents = λ k x lt below. same_content journal k x (omega (arith, lt, fits)) below ∙ ready.matches.contents k x lt below;
+    contents = λ k x lt below. same_content journal k x (omega (arith, lt, fits)) below
+        ∙ ready.matches.contents k x lt below;
   };
   laid_over = laid_over;
 }
@@ -165,9 +206,13 @@ opened {j = j} {pages = pages} {was = was} {seen = seen} {seen' = seen'} few rea
     laid_over p outside =
         replay_on few journal ready.form p (λ _. same p (gateless p outside))
         ∙ ap (λ (n : ℕ). over (number seen) (content seen) seen n p) ready.matches.size
-        ∙ over_same (number seen) (page_number pages) (content seen) (page_byte pages) seen was (length pages) p ready.matches.numbers (λ k x lt below. ready.matches.contents k x lt below) (λ _. ready.same p (away p outside))
+        ∙ over_same (number seen) (page_number pages) (content seen) (page_byte pages) seen was (length pages) p
+        ready.matches.numbers (λ k x lt below. ready.matches.contents k x lt below)
+        (λ _. ready.same p (away p outside))
 
-pub settled : {j : ℕ} {opened seen seen' : ℕ → ℕ} {loose loose' : ℕ → Type 0} → Placed j opened seen loose → ((p : ℕ) → (p ≡ 4096 → ⊥) → seen' p ≡ seen p) → seen' 4096 ≡ 0 → ((p : ℕ) → loose' p → ⊥) → Settled j (replayed opened) seen' loose'
+pub settled : {j : ℕ} {opened seen seen' : ℕ → ℕ} {loose loose' : ℕ → Type 0} → Placed j opened seen loose
+    → ((p : ℕ) → (p ≡ 4096 → ⊥) → seen' p ≡ seen p) → seen' 4096 ≡ 0 → ((p : ℕ) → loose' p → ⊥)
+    → Settled j (replayed opened) seen' loose'
 settled {j = j} placed same gate firm = record {
   firm = firm;
   closed = λ e. omega (arith, e, gate);
@@ -179,7 +224,9 @@ settled {j = j} placed same gate firm = record {
     gateless p (inr le) e = omega (arith, le, e)
 
 module _ {j : ℕ} {opened seen seen' : ℕ → ℕ} {loose loose' : ℕ → Type 0} {done : Type 0} where
-  pub placing_writes : (i page : ℕ) (bytes : List ℕ) → Placing j opened seen loose → i < count opened → number opened i ≡ page → length bytes ≡ 4096 → Writes (4096 * page) bytes done seen seen' loose loose' → Placing j opened seen' loose'
+  pub placing_writes : (i page : ℕ) (bytes : List ℕ) → Placing j opened seen loose → i < count opened
+      → number opened i ≡ page → length bytes ≡ 4096 → Writes (4096 * page) bytes done seen seen' loose loose'
+      → Placing j opened seen' loose'
   placing_writes i page bytes placing lt e size writes = record {
     gate = placing.gate;
     form = placing.form;
@@ -190,22 +237,31 @@ module _ {j : ℕ} {opened seen seen' : ℕ → ℕ} {loose loose' : ℕ → Typ
       hit : (p : ℕ) → In (4096 * page) (length bytes) p → Hit opened p
       hit p here = record { k = i; below = lt; here = omega (arith, here.from, here.below, e, size) }
 
-pub upto_writes : {seen seen' : ℕ → ℕ} {loose loose' : ℕ → Type 0} {done : Type 0} (opened : ℕ → ℕ) (i page : ℕ) (bytes : List ℕ) → Upto opened seen i → number opened i ≡ page → length bytes ≡ 4096 → ((x : ℕ) → x < 4096 → content opened i x ≡ byte_of bytes x) → Writes (4096 * page) bytes done seen seen' loose loose' → done → Upto opened seen' (i + 1)
+pub upto_writes : {seen seen' : ℕ → ℕ} {loose loose' : ℕ → Type 0} {done : Type 0} (opened : ℕ → ℕ) (i page : ℕ)
+    (bytes : List ℕ) → Upto opened seen i → number opened i ≡ page → length bytes ≡ 4096
+    → ((x : ℕ) → x < 4096 → content opened i x ≡ byte_of bytes x) → Writes (4096 * page) bytes done seen seen' loose
+    loose' → done → Upto opened seen' (i + 1)
 upto_writes {seen' = seen'} opened i page bytes upto e size same writes wrote p =
     let more : suc i ≡ i + 1 = omega arith in
     subst (λ (n : ℕ). seen' p ≡ over (number opened) (content opened) opened n p) more
     (⊎_elim
     (λ (h : number opened i ≡ p / 4096). inside h ∙ sym (over_hit (number opened) (content opened) opened i p h))
-    (λ (h : number opened i ≡ p / 4096 → ⊥). writes.outside p (λ here. h (omega (arith, here.from, here.below, e, size))) ∙ upto p ∙ sym (over_pass (number opened) (content opened) opened i p h))
+    (λ (h : number opened i ≡ p / 4096 → ⊥). writes.outside p
+    (λ here. h (omega (arith, here.from, here.below, e, size))) ∙ upto p
+    ∙ sym (over_pass (number opened) (content opened) opened i p h))
     (cases_eq (number opened i) (p / 4096)))
   where
     inside : number opened i ≡ p / 4096 → seen' p ≡ content opened i (p % 4096)
     inside h =
         let below : p % 4096 < 4096 = omega arith in
         let at : 4096 * page + p % 4096 ≡ p = omega (arith, h, e) in
-        subst (λ (q : ℕ). seen' q ≡ content opened i (p % 4096)) at (span_at seen' (4096 * page) bytes (p % 4096) (writes.inside wrote) (omega (arith, below, size)) ∙ sym (same (p % 4096) below))
+        subst (λ (q : ℕ). seen' q ≡ content opened i (p % 4096)) at
+        (span_at seen' (4096 * page) bytes (p % 4096) (writes.inside wrote) (omega (arith, below, size))
+        ∙ sym (same (p % 4096) below))
 
-pub placed_syncs : {j : ℕ} {opened seen seen' : ℕ → ℕ} {loose loose' : ℕ → Type 0} {done : Type 0} → Placing j opened seen loose → Upto opened seen (count opened) → Syncs done seen seen' loose loose' → done → Placed j opened seen' loose'
+pub placed_syncs : {j : ℕ} {opened seen seen' : ℕ → ℕ} {loose loose' : ℕ → Type 0} {done : Type 0}
+    → Placing j opened seen loose → Upto opened seen (count opened) → Syncs done seen seen' loose loose' → done
+    → Placed j opened seen' loose'
 placed_syncs placing upto syncs done = record {
   gate = placing.gate;
   form = placing.form;
@@ -217,17 +273,26 @@ pub upto_none : (opened : ℕ → ℕ) → Upto opened opened 0
 unfolding over
 upto_none opened p = refl
 
-pub opened_placing : {j : ℕ} {pages : List (ℕ × List ℕ)} {was seen : ℕ → ℕ} {loose : ℕ → Type 0} → Opened j pages was seen loose → Placing j seen seen loose
-opened_placing opened = record { gate = opened.gate; form = opened.form; same = λ p miss. refl; firm = λ p l. absurd (opened.firm p l) }
+pub opened_placing : {j : ℕ} {pages : List (ℕ × List ℕ)} {was seen : ℕ → ℕ} {loose : ℕ → Type 0}
+    → Opened j pages was seen loose → Placing j seen seen loose
+opened_placing opened = record {
+  gate = opened.gate;
+  form = opened.form;
+  same = λ p miss. refl;
+  firm = λ p l. absurd (opened.firm p l);
+}
 
-pub reads_more : {j : ℕ} {image a b : ℕ → ℕ} → ((p : ℕ) → Outside j p → a p ≡ b p) → ReadsAs j image a → ReadsAs j image b
+pub reads_more : {j : ℕ} {image a b : ℕ → ℕ} → ((p : ℕ) → Outside j p → a p ≡ b p) → ReadsAs j image a
+    → ReadsAs j image b
 reads_more same reads = record { form = reads.form; same = λ p outside. reads.same p outside ∙ same p outside }
 
-pub settled_more : {j : ℕ} {seen a b : ℕ → ℕ} {loose : ℕ → Type 0} → ((p : ℕ) → Outside j p → a p ≡ b p) → Settled j a seen loose → Settled j b seen loose
+pub settled_more : {j : ℕ} {seen a b : ℕ → ℕ} {loose : ℕ → Type 0} → ((p : ℕ) → Outside j p → a p ≡ b p)
+    → Settled j a seen loose → Settled j b seen loose
 settled_more same s = record { firm = s.firm; closed = s.closed; same = λ p outside. s.same p outside ∙ same p outside }
 
 -- where nothing was loose before the gate opened, the images before it are older images too
-pub ready_before : {j : ℕ} {was image : ℕ → ℕ} {risk free : ℕ → Type 0} → ((p : ℕ) → free p → ⊥) → IsBefore j was free image → IsBefore j was risk image
+pub ready_before : {j : ℕ} {was image : ℕ → ℕ} {risk free : ℕ → Type 0} → ((p : ℕ) → free p → ⊥)
+    → IsBefore j was free image → IsBefore j was risk image
 ready_before none before = record { closed = before.closed; same = λ p outside _. before.same p outside (none p) }
 
 -- where all is settled, the gate is closed and the metadata is what a read gives

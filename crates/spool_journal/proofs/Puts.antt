@@ -1,5 +1,6 @@
 -- What is known of pages once one more is put among them.
-use Rattle.std.proofs.Common.{◌≡◌, ◌≢◌, ◌⊎◌, inl, inr, ℕ, ◌+◌, ◌-◌, ◌<◌, ◌≤◌, List, [], length, sym, ◌∙◌, ap, subst, arith, ⊎_elim}
+use Rattle.std.proofs.Common.{◌≡◌, ◌≢◌, ◌⊎◌, inl, inr, ℕ, ◌+◌, ◌-◌, ◌<◌, ◌≤◌, List, [], length, sym, ◌∙◌, ap, subst}
+use Rattle.std.proofs.Common.{arith, ⊎_elim}
 use Rattle.std.specs.List.{insert}
 use Rattle.std.proofs.lemmas.Bool.{cases_eq, cases_lt}
 use Rattle.std.proofs.lemmas.List.Edits.{get_or-insert_at, get_or-insert_below, get_or-insert_above, length-insert}
@@ -19,17 +20,25 @@ module _ {old : List (ℕ × List ℕ)} {page : ℕ} {bytes : List ℕ} {new : L
   put_length is = ap (λ (l : List (ℕ × List ℕ)). length l) is.put ∙ length-insert old is.at (page, bytes) is.within
 
   -- each number is the new one or one from before
-  pub put_number : IsPut old page bytes new → (k : ℕ) → k < length new → (page_number new k ≡ page) ⊎ Among old (page_number new k)
+  pub put_number : IsPut old page bytes new → (k : ℕ) → k < length new → (page_number new k ≡ page) ⊎ Among old
+      (page_number new k)
   put_number is k lt = ⊎_elim
-      (λ (below : k < is.at). inr record { at = k; below = omega (arith, below, is.within); here = number_of _ _ k is.put ∙ ap (λ (p : ℕ × List ℕ). p.0) (get_or-insert_below old is.at (page, bytes) (0, []) k below is.within) })
+      (λ (below : k < is.at). inr record {
+        at = k;
+        below = omega (arith, below, is.within);
+        here = number_of _ _ k is.put ∙ ap (λ (p : ℕ × List ℕ). p.0) (get_or-insert_below old is.at (page, bytes) (0, []) k below is.within);
+      })
       (λ (from : is.at ≤ k). ⊎_elim
-      (λ (e : k ≡ is.at). inl (number_of _ _ k is.put ∙ ap (λ (i : ℕ). page_number (insert old is.at (page, bytes)) i) e ∙ ap (λ (p : ℕ × List ℕ). p.0) (get_or-insert_at old is.at (page, bytes) (0, []) is.within)))
+      (λ (e : k ≡ is.at). inl (number_of _ _ k is.put ∙ ap (λ (i : ℕ). page_number (insert old is.at (page, bytes)) i) e
+      ∙ ap (λ (p : ℕ × List ℕ). p.0) (get_or-insert_at old is.at (page, bytes) (0, []) is.within)))
       (λ (ne : k ≡ is.at → ⊥).
       let before : k ≡ k - 1 + 1 = omega (arith, from, ne) in
       inr record {
         at = k - 1;
         below = omega (arith, lt, put_length is, from, ne);
-        here = number_of _ _ k is.put ∙ ap (λ (i : ℕ). page_number (insert old is.at (page, bytes)) i) before ∙ ap (λ (p : ℕ × List ℕ). p.0) (get_or-insert_above old is.at (page, bytes) (0, []) (k - 1) (omega (arith, from, ne)) is.within);
+        here = number_of _ _ k is.put ∙ ap (λ (i : ℕ). page_number (insert old is.at (page, bytes)) i) before
+            ∙ ap (λ (p : ℕ × List ℕ). p.0)
+            (get_or-insert_above old is.at (page, bytes) (0, []) (k - 1) (omega (arith, from, ne)) is.within);
       })
       (cases_eq k is.at))
       (cases_lt k is.at)
@@ -41,7 +50,8 @@ module _ {old : List (ℕ × List ℕ)} {page : ℕ} {bytes : List ℕ} {new : L
       (put_number is k lt)
 
   -- a number that was not there and is not the new one
-  pub put_avoids : {other : ℕ} → IsPut old page bytes new → ((k : ℕ) → k < length old → page_number old k ≢ other) → page ≢ other → (k : ℕ) → k < length new → page_number new k ≢ other
+  pub put_avoids : {other : ℕ} → IsPut old page bytes new → ((k : ℕ) → k < length old → page_number old k ≢ other)
+      → page ≢ other → (k : ℕ) → k < length new → page_number new k ≢ other
   put_avoids is none ne k lt e = ⊎_elim
       (λ (same : page_number new k ≡ page). ne (sym same ∙ e))
       (λ (among : Among old (page_number new k)). none among.at among.below (sym among.here ∙ e))

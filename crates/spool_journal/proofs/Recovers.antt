@@ -1,7 +1,9 @@
 -- Steps of a recovery.
-use Rattle.std.proofs.Common.{◌≡◌, ◌⊎◌, inl, inr, ℕ, zero, suc, ◌+◌, ◌*◌, ◌<◌, ◌≤◌, ◌==◌, List, length, get_or, refl, sym, ◌∙◌, ap, subst, arith, ⊎_elim}
+use Rattle.std.proofs.Common.{◌≡◌, ◌⊎◌, inl, inr, ℕ, zero, suc, ◌+◌, ◌*◌, ◌<◌, ◌≤◌, ◌==◌, List, length, get_or, refl}
+use Rattle.std.proofs.Common.{sym, ◌∙◌, ap, subst, arith, ⊎_elim}
 use Rattle.spool_disk.specs.Disk.{span, IsImage, Keeps}
-use Rattle.spool_journal.specs.Image.{word, byte_of, journal_pages, all_pages, count, number, content, over, overlaid, laid, InForm, InArea, Ascends, page_number}
+use Rattle.spool_journal.specs.Image.{word, byte_of, journal_pages, all_pages, count, number, content, over, overlaid}
+use Rattle.spool_journal.specs.Image.{laid, InForm, InArea, Ascends, page_number}
 use Rattle.spool_journal.specs.Phases.{IsBefore, ReadsAs, Placing, Upto, Settled, Still, HeadOf}
 use Rattle.spool_disk.specs.Views.{Lasts}
 use Rattle.spool_disk.specs.declared.disk.Disk.{Ghosts}
@@ -21,28 +23,50 @@ pub get_span : (f : ℕ → ℕ) (at n x : ℕ) → x < n → get_or (span f at 
 unfolding span
 get_span f at zero x lt = omega (arith, lt)
 get_span f at (suc n) zero lt = let e : at ≡ at + 0 = omega arith in ap f e
-get_span f at (suc n) (suc x) lt = let e : at + 1 + x ≡ at + suc x = omega arith in get_span f (at + 1) n x (omega (arith, lt)) ∙ ap f e
+get_span f at (suc n) (suc x) lt = let e : at + 1 + x ≡ at + suc x =
+    omega arith in get_span f (at + 1) n x (omega (arith, lt)) ∙ ap f e
 
 module _ {seen seen' : ℕ → ℕ} {loose loose' : ℕ → Type 0} where
-  pub placing_keeps : {j : ℕ} {opened : ℕ → ℕ} → Placing j opened seen loose → Keeps seen seen' loose loose' → Placing j opened seen' loose'
-  placing_keeps placing keeps = record { gate = placing.gate; form = placing.form; same = λ p miss. keeps.same p ∙ placing.same p miss; firm = λ p l. placing.firm p (keeps.loosens p l) }
+  pub placing_keeps : {j : ℕ} {opened : ℕ → ℕ} → Placing j opened seen loose → Keeps seen seen' loose loose'
+      → Placing j opened seen' loose'
+  placing_keeps placing keeps = record {
+    gate = placing.gate;
+    form = placing.form;
+    same = λ p miss. keeps.same p ∙ placing.same p miss;
+    firm = λ p l. placing.firm p (keeps.loosens p l);
+  }
 
   pub still_keeps : {bytes : ℕ → ℕ} → Still bytes seen loose → Keeps seen seen' loose loose' → Still bytes seen' loose'
-  still_keeps still keeps = record { reads = λ p. keeps.same p ∙ still.reads p; firm = λ p l. still.firm p (keeps.loosens p l) }
+  still_keeps still keeps = record {
+    reads = λ p. keeps.same p ∙ still.reads p;
+    firm = λ p l. still.firm p (keeps.loosens p l);
+  }
 
-pub still_image : {bytes seen image : ℕ → ℕ} {loose : ℕ → Type 0} → Still bytes seen loose → IsImage seen loose image → (p : ℕ) → image p ≡ bytes p
+pub still_image : {bytes seen image : ℕ → ℕ} {loose : ℕ → Type 0} → Still bytes seen loose → IsImage seen loose image
+    → (p : ℕ) → image p ≡ bytes p
 still_image still is p = is.same p (still.firm p) ∙ still.reads p
 
 -- the bytes of a read page
-pub page_read : (f g : ℕ → ℕ) (at : ℕ) (bytes : List ℕ) (n : ℕ) → n ≡ 4096 → bytes ≡ span f at n → (x : ℕ) → x < 4096 → f (at + x) ≡ g (at + x) → byte_of bytes x ≡ g (at + x)
-page_read f g at bytes n size e x lt same = ap (λ (l : List ℕ). get_or l x 0) e ∙ get_span f at n x (omega (arith, size, lt)) ∙ same
+pub page_read : (f g : ℕ → ℕ) (at : ℕ) (bytes : List ℕ) (n : ℕ) → n ≡ 4096 → bytes ≡ span f at n → (x : ℕ) → x < 4096
+    → f (at + x) ≡ g (at + x) → byte_of bytes x ≡ g (at + x)
+page_read f g at bytes n size e x lt same =
+    ap (λ (l : List ℕ). get_or l x 0) e ∙ get_span f at n x (omega (arith, size, lt)) ∙ same
 
 -- the journal is as it was when the gate opened
-pub placing_content : {j : ℕ} {opened seen : ℕ → ℕ} {loose : ℕ → Type 0} → Placing j opened seen loose → (i x : ℕ) → i < count opened → x < 4096 → content seen i x ≡ content opened i x
-placing_content {j = j} {opened = opened} placing i x lt below = placing.same (4096 * (3 + i) + x) (λ hit. omega (arith, hit_from j opened _ placing.form hit, lt, below, placing.form.few))
+pub placing_content : {j : ℕ} {opened seen : ℕ → ℕ} {loose : ℕ → Type 0} → Placing j opened seen loose → (i x : ℕ)
+    → i < count opened → x < 4096 → content seen i x ≡ content opened i x
+placing_content {j = j} {opened = opened} placing i x lt below =
+    placing.same (4096 * (3 + i) + x)
+    (λ hit. omega (arith, hit_from j opened _ placing.form hit, lt, below, placing.form.few))
 
-pub still_placing : {j : ℕ} {bytes seen : ℕ → ℕ} {loose : ℕ → Type 0} → Still bytes seen loose → bytes 4096 ≡ 165 → InForm j (count bytes) (number bytes) → Placing j bytes seen loose
-still_placing still gate form = record { gate = gate; form = form; same = λ p miss. still.reads p; firm = λ p l. absurd (still.firm p l) }
+pub still_placing : {j : ℕ} {bytes seen : ℕ → ℕ} {loose : ℕ → Type 0} → Still bytes seen loose → bytes 4096 ≡ 165
+    → InForm j (count bytes) (number bytes) → Placing j bytes seen loose
+still_placing still gate form = record {
+  gate = gate;
+  form = form;
+  same = λ p miss. still.reads p;
+  firm = λ p l. absurd (still.firm p l);
+}
 
 pub still_upto : (bytes seen : ℕ → ℕ) {loose : ℕ → Type 0} → Still bytes seen loose → Upto bytes seen 0
 unfolding over
@@ -50,35 +74,57 @@ still_upto bytes seen still p = still.reads p
 
 -- what the head says is what the disk says
 pub head_count : (bytes : ℕ → ℕ) (head : List ℕ) → HeadOf bytes head → word (byte_of head) 0 ≡ count bytes
-head_count bytes head here = word_same (byte_of head) bytes 0 8192 (λ i lt. let e : 0 + i ≡ i = omega arith in ap (byte_of head) e ∙ here i (omega (arith, lt)))
+head_count bytes head here =
+    word_same (byte_of head) bytes 0 8192
+    (λ i lt. let e : 0 + i ≡ i = omega arith in ap (byte_of head) e ∙ here i (omega (arith, lt)))
 
-pub head_number : (bytes : ℕ → ℕ) (head : List ℕ) → HeadOf bytes head → (k : ℕ) → k < 385 → word (byte_of head) (4 + 4 * k) ≡ number bytes k
-head_number bytes head here k below = word_same (byte_of head) bytes (4 + 4 * k) (8196 + 4 * k) (λ i lt. let e : 8192 + (4 + 4 * k + i) ≡ 8196 + 4 * k + i = omega arith in here (4 + 4 * k + i) (omega (arith, lt, below)) ∙ ap bytes e)
+pub head_number : (bytes : ℕ → ℕ) (head : List ℕ) → HeadOf bytes head → (k : ℕ) → k < 385
+    → word (byte_of head) (4 + 4 * k) ≡ number bytes k
+head_number bytes head here k below =
+    word_same (byte_of head) bytes (4 + 4 * k) (8196 + 4 * k)
+    (λ i lt. let e : 8192 + (4 + 4 * k + i) ≡ 8196 + 4 * k + i = omega arith in here (4 + 4 * k + i)
+    (omega (arith, lt, below)) ∙ ap bytes e)
 
-pub head_form : (j : ℕ) (bytes : ℕ → ℕ) (head : List ℕ) → j ≤ 385 → HeadOf bytes head → InForm j (word (byte_of head) 0) (λ k. word (byte_of head) (4 + 4 * k)) → InForm j (count bytes) (number bytes)
-head_form j bytes head few here form = form_same j (word (byte_of head) 0) (count bytes) (λ k. word (byte_of head) (4 + 4 * k)) (number bytes) (head_count bytes head here) (λ k lt. head_number bytes head here k (omega (arith, few, lt, form.few))) form
+pub head_form : (j : ℕ) (bytes : ℕ → ℕ) (head : List ℕ) → j ≤ 385 → HeadOf bytes head
+    → InForm j (word (byte_of head) 0) (λ k. word (byte_of head) (4 + 4 * k)) → InForm j (count bytes) (number bytes)
+head_form j bytes head few here form =
+    form_same j (word (byte_of head) 0) (count bytes) (λ k. word (byte_of head) (4 + 4 * k)) (number bytes)
+    (head_count bytes head here) (λ k lt. head_number bytes head here k (omega (arith, few, lt, form.few))) form
 
-pub form_head : (j : ℕ) (bytes : ℕ → ℕ) (head : List ℕ) → j ≤ 385 → HeadOf bytes head → InForm j (count bytes) (number bytes) → InForm j (word (byte_of head) 0) (λ k. word (byte_of head) (4 + 4 * k))
-form_head j bytes head few here form = form_same j (count bytes) (word (byte_of head) 0) (number bytes) (λ k. word (byte_of head) (4 + 4 * k)) (sym (head_count bytes head here)) (λ k lt. sym (head_number bytes head here k (omega (arith, few, lt, form.few)))) form
+pub form_head : (j : ℕ) (bytes : ℕ → ℕ) (head : List ℕ) → j ≤ 385 → HeadOf bytes head
+    → InForm j (count bytes) (number bytes) → InForm j (word (byte_of head) 0) (λ k. word (byte_of head) (4 + 4 * k))
+form_head j bytes head few here form =
+    form_same j (count bytes) (word (byte_of head) 0) (number bytes) (λ k. word (byte_of head) (4 + 4 * k))
+    (sym (head_count bytes head here))
+    (λ k lt. sym (head_number bytes head here k (omega (arith, few, lt, form.few)))) form
 
 -- a gate that is closed from the first
-pub still_settled : {j : ℕ} {bytes seen : ℕ → ℕ} {loose : ℕ → Type 0} → Still bytes seen loose → (bytes 4096 ≡ 165 → ⊥) → Settled j (overlaid bytes) seen loose
+pub still_settled : {j : ℕ} {bytes seen : ℕ → ℕ} {loose : ℕ → Type 0} → Still bytes seen loose → (bytes 4096 ≡ 165 → ⊥)
+    → Settled j (overlaid bytes) seen loose
 still_settled {bytes = bytes} still closed = record {
   firm = still.firm;
   closed = λ e. closed (sym (still.reads 4096) ∙ e);
   same = λ p outside. still.reads p ∙ sym (shut_view bytes p closed);
 }
 
-pub page_read_at : (f g : ℕ → ℕ) (at at' : ℕ) (bytes : List ℕ) (n : ℕ) → n ≡ 4096 → at' ≡ at → bytes ≡ span f at' n → (x : ℕ) → x < 4096 → f (at + x) ≡ g (at + x) → byte_of bytes x ≡ g (at + x)
-page_read_at f g at at' bytes n size same_place e x lt same = page_read f g at bytes n size (subst (λ (a : ℕ). bytes ≡ span f a n) same_place e) x lt same
+pub page_read_at : (f g : ℕ → ℕ) (at at' : ℕ) (bytes : List ℕ) (n : ℕ) → n ≡ 4096 → at' ≡ at → bytes ≡ span f at' n
+    → (x : ℕ) → x < 4096 → f (at + x) ≡ g (at + x) → byte_of bytes x ≡ g (at + x)
+page_read_at f g at at' bytes n size same_place e x lt same =
+    page_read f g at bytes n size (subst (λ (a : ℕ). bytes ≡ span f a n) same_place e) x lt same
 
-pub items_few : (j : ℕ) (items pages : List (ℕ × List ℕ)) → j ≤ 385 → items ≡ pages → InArea j pages → Ascends pages → length items ≤ 385
-items_few j items pages few e inside ascends = let size : length items ≡ length pages = ap (λ (l : List (ℕ × List ℕ)). length l) e in omega (arith, few, size, few_pages j pages inside ascends)
+pub items_few : (j : ℕ) (items pages : List (ℕ × List ℕ)) → j ≤ 385 → items ≡ pages → InArea j pages → Ascends pages
+    → length items ≤ 385
+items_few j items pages few e inside ascends = let size : length items ≡ length pages =
+    ap (λ (l : List (ℕ × List ℕ)). length l) e in omega (arith, few, size, few_pages j pages inside ascends)
 
-pub items_journal : (n : ℕ) (items pages : List (ℕ × List ℕ)) (size : ℕ) → items ≡ pages → InArea (journal_pages n) pages → Ascends pages → 4096 * all_pages n ≤ size → 4096 * (3 + length items) ≤ size
-items_journal n items pages size e inside ascends room = let same : length items ≡ length pages = ap (λ (l : List (ℕ × List ℕ)). length l) e in omega (arith, same, few_pages (journal_pages n) pages inside ascends, all_is n, room)
+pub items_journal : (n : ℕ) (items pages : List (ℕ × List ℕ)) (size : ℕ) → items ≡ pages
+    → InArea (journal_pages n) pages → Ascends pages → 4096 * all_pages n ≤ size → 4096 * (3 + length items) ≤ size
+items_journal n items pages size e inside ascends room = let same : length items ≡ length pages =
+    ap (λ (l : List (ℕ × List ℕ)). length l) e in omega
+    (arith, same, few_pages (journal_pages n) pages inside ascends, all_is n, room)
 
-pub items_room : (n : ℕ) (items pages : List (ℕ × List ℕ)) (size : ℕ) → items ≡ pages → InArea (journal_pages n) pages → 4096 * all_pages n ≤ size → (k : ℕ) → k < length items → 4096 * (page_number items k + 1) ≤ size
+pub items_room : (n : ℕ) (items pages : List (ℕ × List ℕ)) (size : ℕ) → items ≡ pages → InArea (journal_pages n) pages
+    → 4096 * all_pages n ≤ size → (k : ℕ) → k < length items → 4096 * (page_number items k + 1) ≤ size
 items_room n items pages size e inside room k lt =
     let within = subst (InArea (journal_pages n)) (sym e) inside k lt in
     omega (arith, within.below, all_is n, room)
@@ -86,19 +132,25 @@ items_room n items pages size e inside room k lt =
 pub in_items : (i j : ℕ) (items pages : List (ℕ × List ℕ)) → i ≡ j → items ≡ pages → InArea j pages → InArea i items
 in_items i j items pages e f inside = subst (λ (n : ℕ). InArea n items) (sym e) (subst (InArea j) (sym f) inside)
 
-pub lasts_laid : {D : Type 0} {disk : Ghosts D} {old new : D} {i j : ℕ} {seen : ℕ → ℕ} {loose : ℕ → Type 0} {items pages : List (ℕ × List ℕ)} → i ≡ j → items ≡ pages
-    → Lasts disk old new (λ image. IsBefore i seen loose image ⊎ ReadsAs i image (laid items seen)) → Lasts disk old new (λ image. IsBefore j seen loose image ⊎ ReadsAs j image (laid pages seen))
+pub lasts_laid : {D : Type 0} {disk : Ghosts D} {old new : D} {i j : ℕ} {seen : ℕ → ℕ} {loose : ℕ → Type 0}
+    {items pages : List (ℕ × List ℕ)} → i ≡ j → items ≡ pages
+    → Lasts disk old new (λ image. IsBefore i seen loose image ⊎ ReadsAs i image (laid items seen))
+    → Lasts disk old new (λ image. IsBefore j seen loose image ⊎ ReadsAs j image (laid pages seen))
 lasts_laid {j = j} {seen = seen} {loose = loose} {items = items} same e lasts = lasts_more lasts (λ image either.
     ⊎_elim (λ before. inl (subst (λ (n : ℕ). IsBefore n seen loose image) same before))
-    (λ reads. inr (subst (λ (l : List (ℕ × List ℕ)). ReadsAs j image (laid l seen)) e (subst (λ (n : ℕ). ReadsAs n image (laid items seen)) same reads))) either)
+    (λ reads. inr (subst (λ (l : List (ℕ × List ℕ)). ReadsAs j image (laid l seen)) e
+    (subst (λ (n : ℕ). ReadsAs n image (laid items seen)) same reads))) either)
 
-pub gate_is : (gate : List ℕ) (seen bytes : ℕ → ℕ) → gate ≡ span seen 4096 1 → ((p : ℕ) → seen p ≡ bytes p) → (get_or gate 0 0 == 165) ≡ (bytes 4096 == 165)
+pub gate_is : (gate : List ℕ) (seen bytes : ℕ → ℕ) → gate ≡ span seen 4096 1 → ((p : ℕ) → seen p ≡ bytes p)
+    → (get_or gate 0 0 == 165) ≡ (bytes 4096 == 165)
 unfolding span
 gate_is gate seen bytes e same = ap (λ (b : ℕ). b == 165) (ap (λ (l : List ℕ). get_or l 0 0) e ∙ same 4096)
 
 -- a number under the one that was due
-pub not_in_form : (j n k least : ℕ) (num : ℕ → ℕ) → k < n → (k ≡ 0 → least ≡ 25 + j) → ((i : ℕ) → k ≡ i + 1 → least ≡ num i + 1) → num k < least → InForm j n num → ⊥
-not_in_form j n zero least num lt start due under form = let h = form.inside 0 lt in omega (arith, h.from, start refl, under)
+pub not_in_form : (j n k least : ℕ) (num : ℕ → ℕ) → k < n → (k ≡ 0 → least ≡ 25 + j)
+    → ((i : ℕ) → k ≡ i + 1 → least ≡ num i + 1) → num k < least → InForm j n num → ⊥
+not_in_form j n zero least num lt start due under form = let h =
+    form.inside 0 lt in omega (arith, h.from, start refl, under)
 not_in_form j n (suc k) least num lt start due under form =
     let e : suc k ≡ k + 1 = omega arith in
     let u : num (k + 1) < least = subst (λ (i : ℕ). num i < least) e under in

@@ -26,7 +26,8 @@ first_byte_highest = refl
 
 -- a journal of one page, which is to be page 0x011B, with 9 at its place 5; the gate's byte is given
 one_page : ℕ → ℕ → ℕ
-one_page gate p = if p == 4096 then gate else if p == 8195 then 1 else if p == 8198 then 0x01 else if p == 8199 then 0x1B else if p == 12293 then 9 else 0
+one_page gate p = if p == 4096 then gate else if p == 8195 then 1 else if p == 8198 then 0x01 else if p == 8199
+    then 0x1B else if p == 12293 then 9 else 0
 
 open_gate_shows_journal : overlaid (one_page 165) (4096 * 0x011B + 5) ≡ 9
 unfolding one_page word over

@@ -1,12 +1,15 @@
 -- Steps of the phases.
-use Rattle.std.proofs.Common.{◌≡◌, inl, inr, ℕ, zero, suc, ◌+◌, ◌*◌, ◌<◌, ◌≤◌, List, [], ◌∷◌, length, get_or, refl, sym, ◌∙◌, ap, subst, arith, ⊎_elim, Result, Ok, Err, OnOk}
+use Rattle.std.proofs.Common.{◌≡◌, inl, inr, ℕ, zero, suc, ◌+◌, ◌*◌, ◌<◌, ◌≤◌, List, [], ◌∷◌, length, get_or, refl, sym}
+use Rattle.std.proofs.Common.{◌∙◌, ap, subst, arith, ⊎_elim, Result, Ok, Err, OnOk}
 use Rattle.std.proofs.lemmas.Bool.{cases_lt}
 use Rattle.spool_disk.specs.Disk.{span, IsImage, Writes, Syncs, Counts}
-use Rattle.spool_journal.specs.Image.{word, byte_of, count, number, content, InMeta, InJournal, Outside, InForm, InArea, Ascends, page_number, page_byte}
+use Rattle.spool_journal.specs.Image.{word, byte_of, count, number, content, InMeta, InJournal, Outside, InForm, InArea}
+use Rattle.spool_journal.specs.Image.{Ascends, page_number, page_byte}
 use Rattle.spool_journal.specs.Phases.{IsBefore, Idle, Staging, Copied, Ready}
 
 -- the bytes of a span by index
-pub span_at : (f : ℕ → ℕ) (at : ℕ) (xs : List ℕ) (k : ℕ) → span f at (length xs) ≡ xs → k < length xs → f (at + k) ≡ get_or xs k 0
+pub span_at : (f : ℕ → ℕ) (at : ℕ) (xs : List ℕ) (k : ℕ) → span f at (length xs) ≡ xs → k < length xs
+    → f (at + k) ≡ get_or xs k 0
 unfolding span
 span_at f at [] k e lt = omega (arith, lt)
 span_at f at (x ∷ xs) zero e lt =
@@ -23,16 +26,20 @@ span_at f at (x ∷ xs) (suc k) e lt =
 pub word_same : (f g : ℕ → ℕ) (a b : ℕ) → ((i : ℕ) → i < 4 → f (a + i) ≡ g (b + i)) → word f a ≡ word g b
 unfolding word
 word_same f g a b same =
-    let e0 : f a ≡ g b = let z : a + 0 ≡ a = omega arith in let y : b + 0 ≡ b = omega arith in ap f (sym z) ∙ same 0 (omega arith) ∙ ap g y in
+    let e0 : f a ≡ g b = let z : a + 0 ≡ a = omega arith in let y : b + 0 ≡ b =
+    omega arith in ap f (sym z) ∙ same 0 (omega arith) ∙ ap g y in
     omega (arith, e0, same 1 (omega arith), same 2 (omega arith), same 3 (omega arith))
 
 module _ {was seen : ℕ → ℕ} {risk loose : ℕ → Type 0} {j : ℕ} where
-  pub staged_before : {image : ℕ → ℕ} → Idle j was risk → Staging j was risk seen loose → IsImage seen loose image → IsBefore j was risk image
+  pub staged_before : {image : ℕ → ℕ} → Idle j was risk → Staging j was risk seen loose → IsImage seen loose image
+      → IsBefore j was risk image
   staged_before idle staging is =
       let gate : InJournal j 4096 → ⊥ = λ within. omega (arith, within.from) in
       record {
-        closed = λ opened. idle.closed (sym (is.same 4096 (λ l. idle.gate (staging.firm 4096 gate l)) ∙ staging.same 4096 gate) ∙ opened);
-        same = λ p outside firm. let away = outside_journal p outside in is.same p (λ l. firm (staging.firm p away l)) ∙ staging.same p away;
+        closed = λ opened. idle.closed
+            (sym (is.same 4096 (λ l. idle.gate (staging.firm 4096 gate l)) ∙ staging.same 4096 gate) ∙ opened);
+        same = λ p outside firm. let away =
+            outside_journal p outside in is.same p (λ l. firm (staging.firm p away l)) ∙ staging.same p away;
       }
     where
       outside_journal : (p : ℕ) → Outside j p → InJournal j p → ⊥
@@ -45,35 +52,51 @@ module _ {was seen : ℕ → ℕ} {risk loose : ℕ → Type 0} {j : ℕ} where
       record {
         gate = λ l. idle.gate (staging.firm 4096 gate l);
         closed = λ opened. idle.closed (sym (staging.same 4096 gate) ∙ opened);
-        area = λ p within l. idle.area p within (staging.firm p (λ in_journal. omega (arith, within.from, in_journal.below)) l);
+        area = λ p within l. idle.area p within
+            (staging.firm p (λ in_journal. omega (arith, within.from, in_journal.below)) l);
       }
 
-  pub staging_writes : {seen' : ℕ → ℕ} {loose' : ℕ → Type 0} {at : ℕ} {bytes : List ℕ} {done : Type 0} → Staging j was risk seen loose → Writes at bytes done seen seen' loose loose' → 8192 ≤ at → at + length bytes ≤ 4096 * (3 + j) → Staging j was risk seen' loose'
+  pub staging_writes : {seen' : ℕ → ℕ} {loose' : ℕ → Type 0} {at : ℕ} {bytes : List ℕ} {done : Type 0}
+      → Staging j was risk seen loose → Writes at bytes done seen seen' loose loose' → 8192 ≤ at
+      → at + length bytes ≤ 4096 * (3 + j) → Staging j was risk seen' loose'
   staging_writes {seen' = seen'} {at = at} {bytes = bytes} staging writes from below = record {
-    same = λ p away. writes.outside p (λ here. away record { from = omega (arith, here.from, from); below = omega (arith, here.below, below) }) ∙ staging.same p away;
-    firm = λ p away l. ⊎_elim (λ before. staging.firm p away before) (λ here. absurd (away record { from = omega (arith, here.from, from); below = omega (arith, here.below, below) })) (writes.loosens p l);
+    same = λ p away. writes.outside p (λ here. away record {
+      from = omega (arith, here.from, from);
+      below = omega (arith, here.below, below);
+    }) ∙ staging.same p away;
+    firm = λ p away l. ⊎_elim (λ before. staging.firm p away before)
+        (λ here. absurd (away record
+        { from = omega (arith, here.from, from); below = omega (arith, here.below, below) })) (writes.loosens p l);
   }
 
-pub staging_syncs : {was seen seen' : ℕ → ℕ} {risk loose loose' : ℕ → Type 0} {j : ℕ} {done : Type 0} → Staging j was risk seen loose → Syncs done seen seen' loose loose' → done → Staging j was risk seen' loose'
+pub staging_syncs : {was seen seen' : ℕ → ℕ} {risk loose loose' : ℕ → Type 0} {j : ℕ} {done : Type 0}
+    → Staging j was risk seen loose → Syncs done seen seen' loose loose' → done → Staging j was risk seen' loose'
 staging_syncs staging syncs done = record {
   same = λ p away. syncs.same done p ∙ staging.same p away;
   firm = λ p away l. absurd (syncs.firm done p l);
 }
 
 -- an image of a sync is one from before it
-pub sync_image : {seen seen' image : ℕ → ℕ} {loose loose' : ℕ → Type 0} {done : Type 0} → Syncs done seen seen' loose loose' → IsImage seen' loose' image → IsImage seen loose image
+pub sync_image : {seen seen' image : ℕ → ℕ} {loose loose' : ℕ → Type 0} {done : Type 0}
+    → Syncs done seen seen' loose loose' → IsImage seen' loose' image → IsImage seen loose image
 sync_image syncs is = record { same = λ p firm. is.same p (λ l. firm (syncs.loosens p l)) ∙ syncs.outside p firm }
 
 pub staging_start : {was : ℕ → ℕ} {risk : ℕ → Type 0} {j : ℕ} → Staging j was risk was risk
 staging_start = record { same = λ p away. refl; firm = λ p away l. l }
 
-pub staging_on : {was mid seen : ℕ → ℕ} {risk between loose : ℕ → Type 0} {j : ℕ} → Staging j was risk mid between → Staging j mid between seen loose → Staging j was risk seen loose
-staging_on a b = record { same = λ p away. b.same p away ∙ a.same p away; firm = λ p away l. a.firm p away (b.firm p away l) }
+pub staging_on : {was mid seen : ℕ → ℕ} {risk between loose : ℕ → Type 0} {j : ℕ} → Staging j was risk mid between
+    → Staging j mid between seen loose → Staging j was risk seen loose
+staging_on a b = record {
+  same = λ p away. b.same p away ∙ a.same p away;
+  firm = λ p away l. a.firm p away (b.firm p away l);
+}
 
-pub before_on : {was mid image : ℕ → ℕ} {risk between : ℕ → Type 0} {j : ℕ} → Staging j was risk mid between → IsBefore j mid between image → IsBefore j was risk image
+pub before_on : {was mid image : ℕ → ℕ} {risk between : ℕ → Type 0} {j : ℕ} → Staging j was risk mid between
+    → IsBefore j mid between image → IsBefore j was risk image
 before_on {j = j} a b = record {
   closed = b.closed;
-  same = λ p outside firm. let away = outside_journal p outside in b.same p outside (λ l. firm (a.firm p away l)) ∙ a.same p away;
+  same = λ p outside firm. let away =
+      outside_journal p outside in b.same p outside (λ l. firm (a.firm p away l)) ∙ a.same p away;
 }
   where
     outside_journal : (p : ℕ) → Outside j p → InJournal j p → ⊥
@@ -81,25 +104,35 @@ before_on {j = j} a b = record {
     outside_journal p (inr e) within = omega (arith, within.below, e)
 
 -- one page more in the journal
-pub copied_more : {seen seen' : ℕ → ℕ} {loose loose' : ℕ → Type 0} {done : Type 0} (pages : List (ℕ × List ℕ)) (n : ℕ) (bytes : List ℕ) → Copied pages seen n → Writes (4096 * (3 + n)) bytes done seen seen' loose loose' → done → length bytes ≡ 4096 → ((x : ℕ) → page_byte pages n x ≡ get_or bytes x 0) → Copied pages seen' (n + 1)
+pub copied_more : {seen seen' : ℕ → ℕ} {loose loose' : ℕ → Type 0} {done : Type 0} (pages : List (ℕ × List ℕ)) (n : ℕ)
+    (bytes : List ℕ) → Copied pages seen n → Writes (4096 * (3 + n)) bytes done seen seen' loose loose' → done
+    → length bytes ≡ 4096 → ((x : ℕ) → page_byte pages n x ≡ get_or bytes x 0) → Copied pages seen' (n + 1)
 copied_more {seen = seen} {seen' = seen'} pages n bytes copied writes done size same k x lt below =
     ⊎_elim
-    (λ (before : k < n). writes.outside (4096 * (3 + k) + x) (λ here. omega (arith, here.from, before, below)) ∙ copied k x before below)
+    (λ (before : k < n). writes.outside (4096 * (3 + k) + x) (λ here. omega (arith, here.from, before, below))
+    ∙ copied k x before below)
     (λ (from : n ≤ k).
     let e : k ≡ n = omega (arith, lt, from) in
-    subst (λ (i : ℕ). content seen' i x ≡ page_byte pages i x) (sym e) (span_at seen' (4096 * (3 + n)) bytes x (writes.inside done) (omega (arith, below, size)) ∙ sym (same x)))
+    subst (λ (i : ℕ). content seen' i x ≡ page_byte pages i x) (sym e)
+    (span_at seen' (4096 * (3 + n)) bytes x (writes.inside done) (omega (arith, below, size)) ∙ sym (same x)))
     (cases_lt k n)
 
 -- a call that did not fail
 pub no_failure : {F : Type 0} {a b : ℕ} → Counts F a b → (F → ⊥) → b ≡ a
-no_failure {a = a} {b = b} counts not = ⊎_elim (λ (lt : a < b). absurd (not (counts.nothing_else lt))) (λ (le : b ≤ a). omega (arith, le, counts.later)) (cases_lt a b)
+no_failure {a = a} {b = b} counts not =
+    ⊎_elim (λ (lt : a < b). absurd (not (counts.nothing_else lt))) (λ (le : b ≤ a). omega (arith, le, counts.later))
+    (cases_lt a b)
 
 -- what was written and synced, by index
-pub head_at : {seen mid seen' : ℕ → ℕ} {loose between loose' : ℕ → Type 0} {wrote synced : Type 0} (at : ℕ) (bytes : List ℕ) → length bytes ≡ 4096 → Writes at bytes wrote seen mid loose between → wrote → Syncs synced mid seen' between loose' → synced → (i : ℕ) → i < 4096 → seen' (at + i) ≡ byte_of bytes i
-head_at {mid = mid} at bytes size writes wrote syncs synced i lt = syncs.same synced (at + i) ∙ span_at mid at bytes i (writes.inside wrote) (omega (arith, lt, size))
+pub head_at : {seen mid seen' : ℕ → ℕ} {loose between loose' : ℕ → Type 0} {wrote synced : Type 0} (at : ℕ)
+    (bytes : List ℕ) → length bytes ≡ 4096 → Writes at bytes wrote seen mid loose between → wrote
+    → Syncs synced mid seen' between loose' → synced → (i : ℕ) → i < 4096 → seen' (at + i) ≡ byte_of bytes i
+head_at {mid = mid} at bytes size writes wrote syncs synced i lt =
+    syncs.same synced (at + i) ∙ span_at mid at bytes i (writes.inside wrote) (omega (arith, lt, size))
 
 -- the numbers of n ascending pages of an area
-pub ascends_from : (j : ℕ) (numbers : ℕ → ℕ) (n : ℕ) → ((k : ℕ) → k < n → InMeta j (numbers k)) → ((k : ℕ) → k + 1 < n → numbers k < numbers (k + 1)) → (k : ℕ) → k < n → 25 + j + k ≤ numbers k
+pub ascends_from : (j : ℕ) (numbers : ℕ → ℕ) (n : ℕ) → ((k : ℕ) → k < n → InMeta j (numbers k))
+    → ((k : ℕ) → k + 1 < n → numbers k < numbers (k + 1)) → (k : ℕ) → k < n → 25 + j + k ≤ numbers k
 ascends_from j numbers n inside ascends zero lt = let h = inside 0 lt in omega (arith, h.from)
 ascends_from j numbers n inside ascends (suc k) lt =
     let e : suc k ≡ k + 1 = omega arith in
@@ -111,22 +144,35 @@ ascends_from j numbers n inside ascends (suc k) lt =
 pub few_pages : (j : ℕ) (pages : List (ℕ × List ℕ)) → InArea j pages → Ascends pages → length pages ≤ j
 few_pages j pages inside ascends = few (length pages) (page_number pages) inside ascends
   where
-    few : (n : ℕ) (numbers : ℕ → ℕ) → ((k : ℕ) → k < n → InMeta j (numbers k)) → ((k : ℕ) → k + 1 < n → numbers k < numbers (k + 1)) → n ≤ j
+    few : (n : ℕ) (numbers : ℕ → ℕ) → ((k : ℕ) → k < n → InMeta j (numbers k))
+        → ((k : ℕ) → k + 1 < n → numbers k < numbers (k + 1)) → n ≤ j
     few zero numbers inside ascends = omega arith
-    few (suc n) numbers inside ascends = let last = inside n (omega arith) in omega (arith, last.below, ascends_from j numbers (suc n) inside ascends n (omega arith))
+    few (suc n) numbers inside ascends = let last =
+        inside n (omega arith) in omega
+        (arith, last.below, ascends_from j numbers (suc n) inside ascends n (omega arith))
 
-pub form_same : (j n n' : ℕ) (num num' : ℕ → ℕ) → n ≡ n' → ((k : ℕ) → k < n → num k ≡ num' k) → InForm j n num → InForm j n' num'
+pub form_same : (j n n' : ℕ) (num num' : ℕ → ℕ) → n ≡ n' → ((k : ℕ) → k < n → num k ≡ num' k) → InForm j n num
+    → InForm j n' num'
 form_same j n n' num num' e same form = record {
   some = omega (arith, e, form.some);
   few = omega (arith, e, form.few);
   inside = λ k lt. subst (InMeta j) (same k (omega (arith, e, lt))) (form.inside k (omega (arith, e, lt)));
-  ascends = λ k lt. omega (arith, form.ascends k (omega (arith, e, lt)), same k (omega (arith, e, lt)), same (k + 1) (omega (arith, e, lt)));
+  ascends = λ k lt. omega (
+    arith,
+    form.ascends k (omega (arith, e, lt)),
+    same k (omega (arith, e, lt)),
+    same (k + 1)
+        (omega (arith, e, lt)),
+  );
 }
 
 -- the journal is written whole
-pub ready : {was mid seen : ℕ → ℕ} {risk between loose : ℕ → Type 0} {j : ℕ} (pages : List (ℕ × List ℕ)) (head : List ℕ) → 1 ≤ length pages → length pages ≤ 385 → length pages ≤ j → InArea j pages → Ascends pages
-    → Staging j was risk mid between → Copied pages mid (length pages) → word (byte_of head) 0 ≡ length pages → ((k : ℕ) → k < length pages → word (byte_of head) (4 + 4 * k) ≡ page_number pages k)
-    → Staging j mid between seen loose → ((i : ℕ) → i < 4096 → seen (8192 + i) ≡ byte_of head i) → ((p : ℕ) → 12288 ≤ p → seen p ≡ mid p) → ((p : ℕ) → loose p → ⊥) → Ready j pages was seen loose
+pub ready : {was mid seen : ℕ → ℕ} {risk between loose : ℕ → Type 0} {j : ℕ} (pages : List (ℕ × List ℕ)) (head : List ℕ)
+    → 1 ≤ length pages → length pages ≤ 385 → length pages ≤ j → InArea j pages → Ascends pages
+    → Staging j was risk mid between → Copied pages mid (length pages) → word (byte_of head) 0 ≡ length pages
+    → ((k : ℕ) → k < length pages → word (byte_of head) (4 + 4 * k) ≡ page_number pages k)
+    → Staging j mid between seen loose → ((i : ℕ) → i < 4096 → seen (8192 + i) ≡ byte_of head i)
+    → ((p : ℕ) → 12288 ≤ p → seen p ≡ mid p) → ((p : ℕ) → loose p → ⊥) → Ready j pages was seen loose
 ready {seen = seen} {j = j} pages head some few fits inside ascends a copied counted numbered b here kept firm =
     record {
       firm = firm;
@@ -136,17 +182,25 @@ ready {seen = seen} {j = j} pages head some few fits inside ascends a copied cou
         numbers = numbers;
         contents = λ k x lt below. kept _ (omega arith) ∙ copied k x lt below;
       };
-      form = form_same j (length pages) (count seen) (page_number pages) (number seen) (sym size) (λ k lt. sym (numbers k lt)) record { some = some; few = fits; inside = inside; ascends = ascends };
+      form = form_same j (length pages) (count seen) (page_number pages) (number seen) (sym size) (λ k lt. sym (numbers k lt)) record {
+        some = some;
+        few = fits;
+        inside = inside;
+        ascends = ascends;
+      };
     }
   where
     size : count seen ≡ length pages
-    size = word_same seen (byte_of head) 8192 0 (λ i lt. let e : i ≡ 0 + i = omega arith in here i (omega (arith, lt)) ∙ ap (byte_of head) e) ∙ counted
+    size = word_same seen (byte_of head) 8192 0
+        (λ i lt. let e : i ≡ 0 + i = omega arith in here i (omega (arith, lt)) ∙ ap (byte_of head) e) ∙ counted
 
     numbers : (k : ℕ) → k < length pages → number seen k ≡ page_number pages k
     numbers k lt = word_same seen (byte_of head) (8196 + 4 * k) (4 + 4 * k) (λ i below.
         let e : 8192 + (4 + 4 * k + i) ≡ 8196 + 4 * k + i = omega arith in
-        subst (λ (p : ℕ). seen p ≡ byte_of head (4 + 4 * k + i)) e (here (4 + 4 * k + i) (omega (arith, lt, below, few)))) ∙ numbered k lt
+        subst (λ (p : ℕ). seen p ≡ byte_of head (4 + 4 * k + i)) e
+        (here (4 + 4 * k + i) (omega (arith, lt, below, few)))) ∙ numbered k lt
 
-pub ready_ok : {T E A B C F X : Type 0} (r : Result T E) → OnOk r A → OnOk r B → OnOk r C → OnOk r F → (A → B → C → F → X) → OnOk r X
+pub ready_ok : {T E A B C F X : Type 0} (r : Result T E) → OnOk r A → OnOk r B → OnOk r C → OnOk r F
+    → (A → B → C → F → X) → OnOk r X
 ready_ok (Ok t) a b c f more = more a b c f
 ready_ok (Err e) a b c f more = tt

@@ -1,5 +1,6 @@
 -- A write into a block that no row owns.
-use Rattle.std.proofs.Common.{◌≡◌, ℕ, zero, suc, ◌+◌, ◌*◌, ◌/◌, ◌≤◌, ◌++◌, Bool, true, false, cond, List, [], ◌∷◌, Option, None, Some, length, get_or, take, refl, sym, ◌∙◌, ap, subst, arith, ⊎_elim}
+use Rattle.std.proofs.Common.{◌≡◌, ℕ, zero, suc, ◌+◌, ◌*◌, ◌/◌, ◌≤◌, ◌++◌, Bool, true, false, cond, List, [], ◌∷◌}
+use Rattle.std.proofs.Common.{Option, None, Some, length, get_or, take, refl, sym, ◌∙◌, ap, subst, arith, ⊎_elim}
 use Rattle.std.proofs.lemmas.Bool.{cases_eq}
 use Rattle.spool_disk.specs.Disk.{In, IsImage, Writes}
 use Rattle.spool_disk.proofs.Span.{span_same}
@@ -15,32 +16,40 @@ pub aside_else : (page : ℕ) (was image : ℕ → ℕ) (p : ℕ) → (page ≡ 
 aside_else page was image p e = ap (λ (b : Bool). cond b (was p) (image p)) (no page (p / 4096) e)
 
 -- but for the page, an image after the write is one from before it
-pub aside_image : {seen seen' image : ℕ → ℕ} {loose loose' : ℕ → Type 0} {done : Type 0} (page at : ℕ) (bytes : List ℕ) → 4096 * page ≤ at → at + length bytes ≤ 4096 * (page + 1) → Writes at bytes done seen seen' loose loose' → IsImage seen' loose' image → IsImage seen loose (aside page seen image)
+pub aside_image : {seen seen' image : ℕ → ℕ} {loose loose' : ℕ → Type 0} {done : Type 0} (page at : ℕ) (bytes : List ℕ)
+    → 4096 * page ≤ at → at + length bytes ≤ 4096 * (page + 1) → Writes at bytes done seen seen' loose loose'
+    → IsImage seen' loose' image → IsImage seen loose (aside page seen image)
 aside_image {seen = seen} {image = image} page at bytes from below writes is = record {
   same = λ p firm. ⊎_elim
       (λ (e : page ≡ p / 4096). aside_there page seen image p e)
-      (λ (e : page ≡ p / 4096 → ⊥). aside_else page seen image p e ∙ is.same p (λ l. ⊎_elim firm (λ here. e (inside p here)) (writes.loosens p l)) ∙ writes.outside p (λ here. e (inside p here)))
+      (λ (e : page ≡ p / 4096 → ⊥). aside_else page seen image p e ∙ is.same p
+      (λ l. ⊎_elim firm (λ here. e (inside p here)) (writes.loosens p l))
+      ∙ writes.outside p (λ here. e (inside p here)))
       (cases_eq page (p / 4096));
 }
   where
     inside : (p : ℕ) → In at (length bytes) p → page ≡ p / 4096
     inside p here = omega (arith, here.from, here.below, from, below)
 
-pub idle_writes : {j : ℕ} {seen seen' : ℕ → ℕ} {loose loose' : ℕ → Type 0} {done : Type 0} (at : ℕ) (bytes : List ℕ) → 4096 * (25 + 2 * j) ≤ at → Idle j seen loose → Writes at bytes done seen seen' loose loose' → Idle j seen' loose'
+pub idle_writes : {j : ℕ} {seen seen' : ℕ → ℕ} {loose loose' : ℕ → Type 0} {done : Type 0} (at : ℕ) (bytes : List ℕ)
+    → 4096 * (25 + 2 * j) ≤ at → Idle j seen loose → Writes at bytes done seen seen' loose loose' → Idle j seen' loose'
 idle_writes at bytes from idle writes = record {
   gate = λ l. ⊎_elim idle.gate (λ here. omega (arith, here.from, from)) (writes.loosens 4096 l);
   closed = λ e. idle.closed (sym (writes.outside 4096 (λ here. omega (arith, here.from, from))) ∙ e);
-  area = λ p within l. ⊎_elim (idle.area p within) (λ here. omega (arith, here.from, from, within.below)) (writes.loosens p l);
+  area = λ p within l. ⊎_elim (idle.area p within) (λ here. omega (arith, here.from, from, within.below))
+      (writes.loosens p l);
 }
 
 -- the block at an ordinal is another than one without owner
 module _ (image image' : ℕ → ℕ) (first x slot ordinal : ℕ) (same : SameBut (first + x) image image') where
-  same_block : (rows : List (Option (ℕ × ℕ))) (b : ℕ) → ((k : ℕ) → x ≡ b + k → get_or rows k None ≡ None) → block_bytes image first (block_at slot ordinal rows b) ≡ block_bytes image' first (block_at slot ordinal rows b)
+  same_block : (rows : List (Option (ℕ × ℕ))) (b : ℕ) → ((k : ℕ) → x ≡ b + k → get_or rows k None ≡ None)
+      → block_bytes image first (block_at slot ordinal rows b) ≡ block_bytes image' first (block_at slot ordinal rows b)
   unfolding block_at block_bytes owns
   same_block [] b none = refl
   same_block (row ∷ rows) b none =
       cond_case (owns slot ordinal row) (Some b) (block_at slot ordinal rows (b + 1))
-      (λ mine. span_same image image' (4096 * (first + b)) 4096 (λ p here. same p (λ e. differs mine (omega (arith, e, here.from, here.below)))))
+      (λ mine. span_same image image' (4096 * (first + b)) 4096
+      (λ p here. same p (λ e. differs mine (omega (arith, e, here.from, here.below)))))
       (same_block rows (b + 1) (λ k e. none (suc k) (omega (arith, e))))
     where
       unowned : (row : Option (ℕ × ℕ)) → row ≡ None → owns slot ordinal row ≡ true → ⊥
@@ -50,15 +59,21 @@ module _ (image image' : ℕ → ℕ) (first x slot ordinal : ℕ) (same : SameB
       differs : owns slot ordinal row ≡ true → x ≡ b → ⊥
       differs mine e = unowned row (none 0 (omega (arith, e))) mine
 
-      cond_case : (t : Bool) (a c : Option ℕ) → (t ≡ true → block_bytes image first a ≡ block_bytes image' first a) → block_bytes image first c ≡ block_bytes image' first c → block_bytes image first (cond t a c) ≡ block_bytes image' first (cond t a c)
+      cond_case : (t : Bool) (a c : Option ℕ) → (t ≡ true → block_bytes image first a ≡ block_bytes image' first a)
+          → block_bytes image first c ≡ block_bytes image' first c → block_bytes image first (cond t a c) ≡ block_bytes
+          image' first (cond t a c)
       cond_case true a c yes no = yes refl
       cond_case false a c yes no = no
 
-same_joined : (image image' : ℕ → ℕ) (first x slot : ℕ) (rows : List (Option (ℕ × ℕ))) → SameBut (first + x) image image' → get_or rows x None ≡ None → (ordinal n : ℕ) → joined image first rows slot ordinal n ≡ joined image' first rows slot ordinal n
+same_joined : (image image' : ℕ → ℕ) (first x slot : ℕ) (rows : List (Option (ℕ × ℕ)))
+    → SameBut (first + x) image image' → get_or rows x None ≡ None → (ordinal n : ℕ)
+    → joined image first rows slot ordinal n ≡ joined image' first rows slot ordinal n
 unfolding joined
 same_joined image image' first x slot rows same none ordinal zero = refl
 same_joined image image' first x slot rows same none ordinal (suc n) =
-    both (same_block image image' first x slot ordinal same rows 0 (λ k e. let f : x ≡ k = omega (arith, e) in subst (λ (i : ℕ). get_or rows i None ≡ None) f none)) (same_joined image image' first x slot rows same none (ordinal + 1) n)
+    both (same_block image image' first x slot ordinal same rows 0
+    (λ k e. let f : x ≡ k = omega (arith, e) in subst (λ (i : ℕ). get_or rows i None ≡ None) f none)) (same_joined
+    image image' first x slot rows same none (ordinal + 1) n)
   where
     both : {a b c d : List ℕ} → a ≡ b → c ≡ d → a ++ c ≡ b ++ d
     both e f = cc
@@ -66,17 +81,23 @@ same_joined image image' first x slot rows same none ordinal (suc n) =
 -- a page of text
 pub frame : (j block : ℕ) (a b : ℕ → ℕ) → j ≤ 385 → SameBut (25 + 2 * j + block) a b → Frame j (25 + 2 * j) block a b
 frame j block a b few same = record {
-  texts = λ rows slot len none. ap (λ (l : List ℕ). take len l) (same_joined a b (25 + 2 * j) block slot rows same none 0 ((len + 4095) / 4096));
-  form = λ formed gate. let f = formed (sym (same 4096 (λ e. omega (arith, e))) ∙ gate) in form_on few (omega (arith, f.some, f.few)) journal f;
+  texts = λ rows slot len none. ap (λ (l : List ℕ). take len l)
+      (same_joined a b (25 + 2 * j) block slot rows same none 0 ((len + 4095) / 4096));
+  form = λ formed gate. let f =
+      formed (sym (same 4096 (λ e. omega (arith, e))) ∙ gate) in form_on few (omega (arith, f.some, f.few)) journal f;
   others = λ formed p away. ⊎_elim
       (λ (e : a 4096 ≡ 165). let gate : b 4096 ≡ 165 = sym (same 4096 (λ f. omega (arith, f))) ∙ e in
       open_view a p e ∙ replay_on few journal (formed gate) p (λ _. same p away) ∙ sym (open_view b p gate))
-      (λ (e : a 4096 ≡ 165 → ⊥). shut_view a p e ∙ same p away ∙ sym (shut_view b p (λ f. e (same 4096 (λ g. omega (arith, g)) ∙ f))))
+      (λ (e : a 4096 ≡ 165 → ⊥). shut_view a p e ∙ same p away ∙ sym
+      (shut_view b p (λ f. e (same 4096 (λ g. omega (arith, g)) ∙ f))))
       (cases_eq (a 4096) 165);
 }
   where
     journal : SameJournal j a b
     journal = record { same = λ p within. same p (λ e. omega (arith, e, within.below)) }
 
-pub frame_aside : (j block : ℕ) (image was : ℕ → ℕ) → j ≤ 385 → Frame j (25 + 2 * j) block image (aside (25 + 2 * j + block) was image)
-frame_aside j block image was few = frame j block image (aside (25 + 2 * j + block) was image) few (λ p away. sym (aside_else (25 + 2 * j + block) was image p away))
+pub frame_aside : (j block : ℕ) (image was : ℕ → ℕ) → j ≤ 385 → Frame j (25 + 2 * j) block image
+    (aside (25 + 2 * j + block) was image)
+frame_aside j block image was few =
+    frame j block image (aside (25 + 2 * j + block) was image) few
+    (λ p away. sym (aside_else (25 + 2 * j + block) was image p away))

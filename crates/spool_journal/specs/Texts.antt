@@ -1,5 +1,6 @@
 -- The texts that an image shows.
-use Rattle.std.specs.Prelude.{◌≡◌, ℕ, zero, suc, ◌+◌, ◌*◌, ◌/◌, ◌==◌, ◌&&◌, ◌++◌, if◌then◌else◌, List, [], ◌∷◌, Bool, false, Option, None, Some, get_or, take}
+use Rattle.std.specs.Prelude.{◌≡◌, ℕ, zero, suc, ◌+◌, ◌*◌, ◌/◌, ◌==◌, ◌&&◌, ◌++◌, if◌then◌else◌, List, [], ◌∷◌, Bool}
+use Rattle.std.specs.Prelude.{false, Option, None, Some, get_or, take}
 use Rattle.spool_disk.specs.Disk.{span}
 use Rattle.spool_journal.specs.Image.{InForm, count, number, overlaid}
 
@@ -21,7 +22,8 @@ block_bytes image first (Some b) = span image (4096 * (first + b)) 4096
 -- the slot's next n blocks, joined by ordinal
 unfoldable pub joined : (ℕ → ℕ) → ℕ → List (Option (ℕ × ℕ)) → ℕ → ℕ → ℕ → List ℕ
 joined image first rows slot ordinal zero = []
-joined image first rows slot ordinal (suc n) = block_bytes image first (block_at slot ordinal rows 0) ++ joined image first rows slot (ordinal + 1) n
+joined image first rows slot ordinal (suc n) =
+    block_bytes image first (block_at slot ordinal rows 0) ++ joined image first rows slot (ordinal + 1) n
 
 -- the slot's text of this length
 abbrev pub text_shown : (ℕ → ℕ) → ℕ → List (Option (ℕ × ℕ)) → ℕ → ℕ → List ℕ
@@ -37,6 +39,8 @@ SameBut page a b = (p : ℕ) → (page ≡ p / 4096 → ⊥) → a p ≡ b p
 
 -- a page of text that no row owns changes no text, and no page of text changes what is read outside it
 pub record Frame (j first block : ℕ) (a b : ℕ → ℕ) : Type 0 where
-  pub texts : (rows : List (Option (ℕ × ℕ))) (slot len : ℕ) → get_or rows block None ≡ None → text_shown a first rows slot len ≡ text_shown b first rows slot len
+  pub texts : (rows : List (Option (ℕ × ℕ))) (slot len : ℕ) → get_or rows block None ≡ None
+      → text_shown a first rows slot len ≡ text_shown b first rows slot len
   pub form : (b 4096 ≡ 165 → InForm j (count b) (number b)) → a 4096 ≡ 165 → InForm j (count a) (number a)
-  pub others : (b 4096 ≡ 165 → InForm j (count b) (number b)) → (p : ℕ) → (first + block ≡ p / 4096 → ⊥) → overlaid a p ≡ overlaid b p
+  pub others : (b 4096 ≡ 165 → InForm j (count b) (number b)) → (p : ℕ) → (first + block ≡ p / 4096 → ⊥)
+      → overlaid a p ≡ overlaid b p

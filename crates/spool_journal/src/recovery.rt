@@ -1,8 +1,10 @@
 // What a crash left is made whole again. A recovery may crash too.
-ghost use Rattle.std.specs.Prelude.{◌≡◌, ◌⊎◌, ◌≤◌, ◌<◌, ◌*◌, ◌+◌, ◌↔◌, ℕ, length, IsErr, IfOk, OnOk, ◌==◌, true, false, Err};
+ghost use Rattle.std.specs.Prelude.{◌≡◌, ◌⊎◌, ◌≤◌, ◌<◌, ◌*◌, ◌+◌, ◌↔◌, ℕ, length, IsErr, IfOk, OnOk, ◌==◌, true, false};
+ghost use Rattle.std.specs.Prelude.{Err};
 ghost use Rattle.spool_disk.specs.Disk.{IsImage, Counts};
 ghost use Rattle.spool_disk.specs.Views.{Lasts};
-ghost use Rattle.spool_journal.specs.Image.{journal_pages, all_pages, replayed, overlaid, word, byte_of, content, count, number, InForm};
+ghost use Rattle.spool_journal.specs.Image.{journal_pages, all_pages, replayed, overlaid, word, byte_of, content};
+ghost use Rattle.spool_journal.specs.Image.{count, number, InForm};
 ghost use Rattle.spool_journal.specs.Phases.{Idle, ReadsAs, Still, Placing, Upto, Settled, HeadOf};
 
 use crate::places::{close_gate, place};
@@ -27,9 +29,12 @@ fn is_open<D: Disk>(disk: &mut D) -> Result<bool, DiskFault>
     ensures size { D.size disk.new ≡ D.size disk.old }
     ensures honest { D.honest disk.old ↔ D.honest disk.new }
     ensures counts { Counts (IsErr result) (D.failures disk.old) (D.failures disk.new) }
-    ensures still { D.honest disk.old → (bytes : ℕ → ℕ) → Still bytes (D.seen disk.old) (D.loose disk.old) → Still bytes (D.seen disk.new) (D.loose disk.new) }
-    ensures open { D.honest disk.old → (bytes : ℕ → ℕ) → Still bytes (D.seen disk.old) (D.loose disk.old) → IfOk result (λ shown. shown ≡ (bytes 4096 == 165)) }
-    ensures lasts { D.honest disk.old → (bytes : ℕ → ℕ) → Still bytes (D.seen disk.old) (D.loose disk.old) → Lasts D.Disk disk.old disk.new (λ image. (p : ℕ) → image p ≡ bytes p) }
+    ensures still { D.honest disk.old → (bytes : ℕ → ℕ) → Still bytes (D.seen disk.old) (D.loose disk.old)
+        → Still bytes (D.seen disk.new) (D.loose disk.new) }
+    ensures open { D.honest disk.old → (bytes : ℕ → ℕ) → Still bytes (D.seen disk.old) (D.loose disk.old)
+        → IfOk result (λ shown. shown ≡ (bytes 4096 == 165)) }
+    ensures lasts { D.honest disk.old → (bytes : ℕ → ℕ) → Still bytes (D.seen disk.old) (D.loose disk.old)
+        → Lasts D.Disk disk.old disk.new (λ image. (p : ℕ) → image p ≡ bytes p) }
 {
     let mut gate = [0];
     disk.read(4096, &mut gate)?;
@@ -42,9 +47,12 @@ fn read_head<D: Disk>(disk: &mut D, head: &mut [u8; PAGE]) -> Result<(), DiskFau
     ensures size { D.size disk.new ≡ D.size disk.old }
     ensures honest { D.honest disk.old ↔ D.honest disk.new }
     ensures counts { Counts (IsErr result) (D.failures disk.old) (D.failures disk.new) }
-    ensures still { D.honest disk.old → (bytes : ℕ → ℕ) → Still bytes (D.seen disk.old) (D.loose disk.old) → Still bytes (D.seen disk.new) (D.loose disk.new) }
-    ensures head { D.honest disk.old → (bytes : ℕ → ℕ) → Still bytes (D.seen disk.old) (D.loose disk.old) → OnOk result (HeadOf bytes head.new) }
-    ensures lasts { D.honest disk.old → (bytes : ℕ → ℕ) → Still bytes (D.seen disk.old) (D.loose disk.old) → Lasts D.Disk disk.old disk.new (λ image. (p : ℕ) → image p ≡ bytes p) }
+    ensures still { D.honest disk.old → (bytes : ℕ → ℕ) → Still bytes (D.seen disk.old) (D.loose disk.old)
+        → Still bytes (D.seen disk.new) (D.loose disk.new) }
+    ensures head { D.honest disk.old → (bytes : ℕ → ℕ) → Still bytes (D.seen disk.old) (D.loose disk.old)
+        → OnOk result (HeadOf bytes head.new) }
+    ensures lasts { D.honest disk.old → (bytes : ℕ → ℕ) → Still bytes (D.seen disk.old) (D.loose disk.old)
+        → Lasts D.Disk disk.old disk.new (λ image. (p : ℕ) → image p ≡ bytes p) }
 {
     disk.read(8192, head)
 }
@@ -65,7 +73,8 @@ fn get_word(head: &[u8; PAGE], at: usize) -> u32
 fn is_in_form(head: &[u8; PAGE], journal: u32) -> bool
     requires { journal ≤ 385 }
     ensures yes { result ≡ true → InForm journal (word (byte_of head.now) 0) (λ k. word (byte_of head.now) (4 + 4 * k)) }
-    ensures no { result ≡ false → InForm journal (word (byte_of head.now) 0) (λ k. word (byte_of head.now) (4 + 4 * k)) → ⊥ }
+    ensures no { result ≡ false → InForm journal (word (byte_of head.now) 0) (λ k. word (byte_of head.now) (4 + 4 * k))
+        → ⊥ }
 {
     let count = get_word(head, 0);
     if count == 0 || count > journal {
@@ -89,9 +98,15 @@ fn copy_page<D: Disk>(disk: &mut D, from: u32, to: u32) -> Result<(), DiskFault>
     ensures size { D.size disk.new ≡ D.size disk.old }
     ensures honest { D.honest disk.old ↔ D.honest disk.new }
     ensures counts { Counts (IsErr result) (D.failures disk.old) (D.failures disk.new) }
-    ensures placing { D.honest disk.old → (j i : ℕ) (opened : ℕ → ℕ) → Placing j opened (D.seen disk.old) (D.loose disk.old) → i < count opened → number opened i ≡ to → Placing j opened (D.seen disk.new) (D.loose disk.new) }
-    ensures upto { D.honest disk.old → (j i : ℕ) (opened : ℕ → ℕ) → Placing j opened (D.seen disk.old) (D.loose disk.old) → Upto opened (D.seen disk.old) i → i < count opened → number opened i ≡ to → from ≡ 3 + i → OnOk result (Upto opened (D.seen disk.new) (i + 1)) }
-    ensures lasts { D.honest disk.old → (j i : ℕ) → j ≤ 385 → (opened : ℕ → ℕ) → Placing j opened (D.seen disk.old) (D.loose disk.old) → i < count opened → number opened i ≡ to → Lasts D.Disk disk.old disk.new (λ image. ReadsAs j image (replayed opened)) }
+    ensures placing { D.honest disk.old → (j i : ℕ) (opened : ℕ → ℕ) → Placing j opened (D.seen disk.old)
+        (D.loose disk.old) → i < count opened → number opened i ≡ to → Placing j opened (D.seen disk.new)
+        (D.loose disk.new) }
+    ensures upto { D.honest disk.old → (j i : ℕ) (opened : ℕ → ℕ) → Placing j opened (D.seen disk.old)
+        (D.loose disk.old) → Upto opened (D.seen disk.old) i → i < count opened → number opened i ≡ to → from ≡ 3 + i
+        → OnOk result (Upto opened (D.seen disk.new) (i + 1)) }
+    ensures lasts { D.honest disk.old → (j i : ℕ) → j ≤ 385 → (opened : ℕ → ℕ)
+        → Placing j opened (D.seen disk.old) (D.loose disk.old) → i < count opened → number opened i ≡ to
+        → Lasts D.Disk disk.old disk.new (λ image. ReadsAs j image (replayed opened)) }
 {
     let mut bytes = [0; PAGE];
     disk.read(4096 * from as u64, &mut bytes)?;
@@ -106,9 +121,15 @@ fn replay<D: Disk>(disk: &mut D, head: &[u8; PAGE], journal: u32) -> Result<(), 
     ensures size { D.size disk.new ≡ D.size disk.old }
     ensures honest { D.honest disk.old ↔ D.honest disk.new }
     ensures counts { Counts (IsErr result) (D.failures disk.old) (D.failures disk.new) }
-    ensures placing { D.honest disk.old → (opened : ℕ → ℕ) → HeadOf opened head.now → Placing journal opened (D.seen disk.old) (D.loose disk.old) → Placing journal opened (D.seen disk.new) (D.loose disk.new) }
-    ensures upto { D.honest disk.old → (opened : ℕ → ℕ) → HeadOf opened head.now → Placing journal opened (D.seen disk.old) (D.loose disk.old) → Upto opened (D.seen disk.old) 0 → OnOk result (Upto opened (D.seen disk.new) (count opened)) }
-    ensures lasts { D.honest disk.old → (opened : ℕ → ℕ) → HeadOf opened head.now → Placing journal opened (D.seen disk.old) (D.loose disk.old) → Lasts D.Disk disk.old disk.new (λ image. ReadsAs journal image (replayed opened)) }
+    ensures placing { D.honest disk.old → (opened : ℕ → ℕ) → HeadOf opened head.now
+        → Placing journal opened (D.seen disk.old) (D.loose disk.old) → Placing journal opened (D.seen disk.new)
+        (D.loose disk.new) }
+    ensures upto { D.honest disk.old → (opened : ℕ → ℕ) → HeadOf opened head.now
+        → Placing journal opened (D.seen disk.old) (D.loose disk.old) → Upto opened (D.seen disk.old) 0
+        → OnOk result (Upto opened (D.seen disk.new) (count opened)) }
+    ensures lasts { D.honest disk.old → (opened : ℕ → ℕ) → HeadOf opened head.now
+        → Placing journal opened (D.seen disk.old) (D.loose disk.old) → Lasts D.Disk disk.old disk.new
+        (λ image. ReadsAs journal image (replayed opened)) }
 {
     let count = get_word(head, 0);
     for k in 0..count {
@@ -126,8 +147,12 @@ fn replay_all<D: Disk>(disk: &mut D, head: &[u8; PAGE], journal: u32) -> Result<
     ensures size { D.size disk.new ≡ D.size disk.old }
     ensures honest { D.honest disk.old ↔ D.honest disk.new }
     ensures counts { Counts (IsErr result) (D.failures disk.old) (D.failures disk.new) }
-    ensures settled { D.honest disk.old → (bytes : ℕ → ℕ) → HeadOf bytes head.now → Still bytes (D.seen disk.old) (D.loose disk.old) → bytes 4096 ≡ 165 → OnOk result (Settled journal (replayed bytes) (D.seen disk.new) (D.loose disk.new)) }
-    ensures lasts { D.honest disk.old → (bytes : ℕ → ℕ) → HeadOf bytes head.now → Still bytes (D.seen disk.old) (D.loose disk.old) → bytes 4096 ≡ 165 → Lasts D.Disk disk.old disk.new (λ image. ReadsAs journal image (replayed bytes)) }
+    ensures settled { D.honest disk.old → (bytes : ℕ → ℕ) → HeadOf bytes head.now
+        → Still bytes (D.seen disk.old) (D.loose disk.old) → bytes 4096 ≡ 165
+        → OnOk result (Settled journal (replayed bytes) (D.seen disk.new) (D.loose disk.new)) }
+    ensures lasts { D.honest disk.old → (bytes : ℕ → ℕ) → HeadOf bytes head.now
+        → Still bytes (D.seen disk.old) (D.loose disk.old) → bytes 4096 ≡ 165
+        → Lasts D.Disk disk.old disk.new (λ image. ReadsAs journal image (replayed bytes)) }
 {
     replay(disk, head, journal)?;
     sync_places(disk)?;
@@ -142,10 +167,15 @@ fn mend<D: Disk>(disk: &mut D, journal: u32) -> Result<(), RecoverError>
     ensures size { D.size disk.new ≡ D.size disk.old }
     ensures honest { D.honest disk.old ↔ D.honest disk.new }
     ensures counts { Counts (result ≡ Err RecoverError.DiskFault) (D.failures disk.old) (D.failures disk.new) }
-    ensures settled { D.honest disk.old → (bytes : ℕ → ℕ) → Still bytes (D.seen disk.old) (D.loose disk.old) → bytes 4096 ≡ 165 → OnOk result (Settled journal (replayed bytes) (D.seen disk.new) (D.loose disk.new)) }
-    ensures form { D.honest disk.old → (bytes : ℕ → ℕ) → Still bytes (D.seen disk.old) (D.loose disk.old) → OnOk result (InForm journal (count bytes) (number bytes)) }
-    ensures damaged { D.honest disk.old → (bytes : ℕ → ℕ) → Still bytes (D.seen disk.old) (D.loose disk.old) → result ≡ Err RecoverError.Damaged → InForm journal (count bytes) (number bytes) → ⊥ }
-    ensures lasts { D.honest disk.old → (bytes : ℕ → ℕ) → Still bytes (D.seen disk.old) (D.loose disk.old) → bytes 4096 ≡ 165 → Lasts D.Disk disk.old disk.new (λ image. ((p : ℕ) → image p ≡ bytes p) ⊎ ReadsAs journal image (replayed bytes)) }
+    ensures settled { D.honest disk.old → (bytes : ℕ → ℕ) → Still bytes (D.seen disk.old) (D.loose disk.old)
+        → bytes 4096 ≡ 165 → OnOk result (Settled journal (replayed bytes) (D.seen disk.new) (D.loose disk.new)) }
+    ensures form { D.honest disk.old → (bytes : ℕ → ℕ) → Still bytes (D.seen disk.old) (D.loose disk.old)
+        → OnOk result (InForm journal (count bytes) (number bytes)) }
+    ensures damaged { D.honest disk.old → (bytes : ℕ → ℕ) → Still bytes (D.seen disk.old) (D.loose disk.old)
+        → result ≡ Err RecoverError.Damaged → InForm journal (count bytes) (number bytes) → ⊥ }
+    ensures lasts { D.honest disk.old → (bytes : ℕ → ℕ) → Still bytes (D.seen disk.old) (D.loose disk.old)
+        → bytes 4096 ≡ 165 → Lasts D.Disk disk.old disk.new
+        (λ image. ((p : ℕ) → image p ≡ bytes p) ⊎ ReadsAs journal image (replayed bytes)) }
 {
     let mut head = [0; PAGE];
     read_head(disk, &mut head)?;
@@ -156,9 +186,12 @@ fn mend<D: Disk>(disk: &mut D, journal: u32) -> Result<(), RecoverError>
     Ok(())
 }
 
-/// Makes whole what a crash left: where the gate is open, it puts the journal's pages into their places, syncs, and closes
-/// the gate. `Damaged` where the gate is open and the journal head has a count that is not 1 to J, or page numbers that do not
-/// ascend or lie outside the metadata; then no byte was written. It takes no memory, and may be tried again after a fault.
+/// Makes whole what a crash left: where the gate is open, it puts the journal's pages into their places, syncs, and
+/// closes
+/// the gate. `Damaged` where the gate is open and the journal head has a count that is not 1 to J, or page numbers that
+/// do not
+/// ascend or lie outside the metadata; then no byte was written. It takes no memory, and may be tried again after a
+/// fault.
 pub fn recover<D: Disk>(disk: &mut D, layout: &Layout) -> Result<(), RecoverError>
     requires { 4096 * all_pages layout.now ≤ D.size disk.old }
     ensures size { D.size disk.new ≡ D.size disk.old }
@@ -166,17 +199,25 @@ pub fn recover<D: Disk>(disk: &mut D, layout: &Layout) -> Result<(), RecoverErro
     ensures counts { Counts (result ≡ Err RecoverError.DiskFault) (D.failures disk.old) (D.failures disk.new) }
 
     // Every image then is, outside gate and journal, what a plain reading gave.
-    ensures settled { D.honest disk.old → OnOk result (Settled (journal_pages layout.now) (overlaid (D.seen disk.old)) (D.seen disk.new) (D.loose disk.new)) }
+    ensures settled { D.honest disk.old → OnOk result
+        (Settled (journal_pages layout.now) (overlaid (D.seen disk.old)) (D.seen disk.new) (D.loose disk.new)) }
 
     // And so a commit may be made.
-    ensures idle { D.honest disk.old → OnOk result (Idle (journal_pages layout.now) (D.seen disk.new) (D.loose disk.new)) }
+    ensures idle { D.honest disk.old → OnOk result
+        (Idle (journal_pages layout.now) (D.seen disk.new) (D.loose disk.new)) }
 
     // It refuses exactly a journal head behind an open gate that is out of form.
-    ensures form { D.honest disk.old → OnOk result (D.seen disk.old 4096 ≡ 165 → InForm (journal_pages layout.now) (count (D.seen disk.old)) (number (D.seen disk.old))) }
-    ensures damaged { D.honest disk.old → result ≡ Err RecoverError.Damaged → (D.seen disk.old 4096 ≡ 165) × (InForm (journal_pages layout.now) (count (D.seen disk.old)) (number (D.seen disk.old)) → ⊥) }
+    ensures form { D.honest disk.old → OnOk result
+        (D.seen disk.old 4096 ≡ 165 → InForm (journal_pages layout.now) (count (D.seen disk.old))
+        (number (D.seen disk.old))) }
+    ensures damaged { D.honest disk.old → result ≡ Err RecoverError.Damaged
+        → (D.seen disk.old 4096 ≡ 165) × (InForm (journal_pages layout.now) (count (D.seen disk.old))
+        (number (D.seen disk.old)) → ⊥) }
 
     // A crash during it leaves what it might have left before, or what reads the same.
-    ensures lasts { D.honest disk.old → Lasts D.Disk disk.old disk.new (λ image. IsImage (D.seen disk.old) (D.loose disk.old) image ⊎ ReadsAs (journal_pages layout.now) image (overlaid (D.seen disk.old))) }
+    ensures lasts { D.honest disk.old → Lasts D.Disk disk.old disk.new
+        (λ image. IsImage (D.seen disk.old) (D.loose disk.old) image ⊎ ReadsAs (journal_pages layout.now) image
+        (overlaid (D.seen disk.old))) }
 
     // Where the gate is closed it writes nothing: every image is one from before, and so is what a read gives.
     ensures unwritten { D.honest disk.old → (D.seen disk.old 4096 ≡ 165 → ⊥)

@@ -6,4 +6,5 @@ use Rattle.enc_labels.proofs.encoding_of.Goals as goal
 
 pub returns : goal.returns
 unfolding encoding_of stripped labels
-returns c = c.find.ensures ∙ ap (λ name. found labels (map to_ascii_lowercase name)) (trim_ascii_is _ _ _ refl c.trim_ascii.ensures.value)
+returns c = c.find.ensures ∙ ap (λ name. found labels (map to_ascii_lowercase name))
+    (trim_ascii_is _ _ _ refl c.trim_ascii.ensures.value)

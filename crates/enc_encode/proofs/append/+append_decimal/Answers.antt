@@ -11,7 +11,8 @@ pub returns-in_err-append_decimal : goal.returns-in_err-append_decimal
 returns-in_err-append_decimal t c =
     let small : c.args.number < 2 ^ 64 = omega arith in
     rw (decimal_step c.args.number c.if-number-lt10.false small)
-    (exit _ c.from_residual.result c.from_residual.ensures.1 (front ((48 + c.args.number % 10) ∷ []) c.in_err-append_decimal.ensures))
+    (exit _ c.from_residual.result c.from_residual.ensures.1
+    (front ((48 + c.args.number % 10) ∷ []) c.in_err-append_decimal.ensures))
 
 pub returns : goal.returns
 returns t c =

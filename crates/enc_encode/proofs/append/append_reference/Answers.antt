@@ -4,7 +4,9 @@ use Rattle.enc_encode.proofs.Growth.{front, behind_part, more, exit}
 use Rattle.enc_encode.proofs.append.append_reference.Goals as goal
 
 pub returns-in_err-append : goal.returns-in_err-append
-returns-in_err-append c = exit _ c.from_residual.result c.from_residual.ensures.1 (front (decimal c.args.c ++ 0x3B ∷ []) c.in_err-append.ensures)
+returns-in_err-append c =
+    exit _ c.from_residual.result c.from_residual.ensures.1
+    (front (decimal c.args.c ++ 0x3B ∷ []) c.in_err-append.ensures)
 
 pub returns-in_err-append_decimal : goal.returns-in_err-append_decimal
 returns-in_err-append_decimal c =
@@ -12,4 +14,5 @@ returns-in_err-append_decimal c =
     (behind_part c.in_ok-append.ensures (front (0x3B ∷ []) c.in_err-append_decimal.ensures))
 
 pub returns : goal.returns
-returns c = more _ _ c.append-2.result c.in_ok-append.ensures (more _ _ c.append-2.result c.in_ok-append_decimal.ensures c.append-2.ensures)
+returns c = more _ _ c.append-2.result c.in_ok-append.ensures
+    (more _ _ c.append-2.result c.in_ok-append_decimal.ensures c.append-2.ensures)

@@ -8,10 +8,14 @@ use Rattle.enc_encode.proofs.written_out.write_out.Goals as goal
 pub returns-in_err-append-in-Lacks : goal.returns-in_err-append-in-Lacks
 returns-in_err-append-in-Lacks c =
     let p = err_from_is_err_and c.from_residual.result c.from_residual.ensures.1 in
-    rw (c.in-Lacks.is, p.1, p.2) (lacks_front c.args.mode (bytes_of c.in-Lacks.bytes) (shift_of c.in-Lacks.next) c.in-Lacks.c (rw c.as_slice.ensures at c.in_err-append-in-Lacks.ensures))
+    rw (c.in-Lacks.is, p.1, p.2)
+    (lacks_front c.args.mode (bytes_of c.in-Lacks.bytes) (shift_of c.in-Lacks.next) c.in-Lacks.c
+    (rw c.as_slice.ensures at c.in_err-append-in-Lacks.ensures))
 
 pub returns-in_err-append_reference-in-Html : goal.returns-in_err-append_reference-in-Html
 returns-in_err-append_reference-in-Html c =
     let r = c.from_residual-in_err-append_reference-in-Html in
     let p = err_from_is_err_and r.result r.ensures.1 in
-    rw (c.in-Lacks.is, c.in-Html.is, p.1, p.2) (behind_part (rw c.as_slice.ensures at c.in_ok-append-in-Lacks.ensures) c.in_err-append_reference-in-Html.ensures)
+    rw (c.in-Lacks.is, c.in-Html.is, p.1, p.2)
+    (behind_part (rw c.as_slice.ensures at c.in_ok-append-in-Lacks.ensures)
+    c.in_err-append_reference-in-Html.ensures)

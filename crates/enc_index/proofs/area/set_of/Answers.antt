@@ -4,7 +4,8 @@ use Rattle.enc_index.proofs.area.set_of.Goals as goal
 pub returns : goal.returns
 returns c = λ x v a.
     let area = c.args.area.now in
-    let same = set_is x c.in_ok-jis0208.jis0208 c.in_ok-jis0212.jis0212 c.in_ok-katakana.katakana c.in_ok-single.single.items
+    let same = set_is x c.in_ok-jis0208.jis0208 c.in_ok-jis0212.jis0212 c.in_ok-katakana.katakana
+    c.in_ok-single.single.items
     (c.in_ok-jis0208.ensures.given_back x.jis0208 (jis0208_in x area v a))
     (c.in_ok-jis0212.ensures.given_back x.jis0212 (jis0212_in x area v a))
     (c.in_ok-katakana.ensures.given_back x.katakana (katakana_in x area v a))

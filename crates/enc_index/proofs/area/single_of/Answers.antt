@@ -13,7 +13,9 @@ loop-place-preserved c =
       long = rw c.in_ok-push.ensures.items (length_push old table ∙ ap (λ n. n + 1) before.long);
       valid = rw c.in_ok-push.ensures.items (valid_more 128 old table before.valid c.in_ok-table_of.ensures.valid);
       given_back = λ single long files.
-          let same = c.in_ok-table_of.ensures.given_back (slice_index_or single place None) (files place c.loop-place-test.true) in
-          c.in_ok-push.ensures.items ∙ ap (λ xs. xs ++ table ∷ []) (before.given_back single long files) ∙ ap (λ y. take place single ++ y ∷ []) same
+          let same = c.in_ok-table_of.ensures.given_back (slice_index_or single place None)
+          (files place c.loop-place-test.true) in
+          c.in_ok-push.ensures.items ∙ ap (λ xs. xs ++ table ∷ []) (before.given_back single long files)
+          ∙ ap (λ y. take place single ++ y ∷ []) same
           ∙ sym (take_more single place None (omega arith));
     }

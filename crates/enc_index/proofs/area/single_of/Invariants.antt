@@ -8,6 +8,7 @@ abbrev pub invariant-loop-place : goal.invariant-loop-place
 invariant-loop-place l = record {
   long : length l.single.items ≡ l.place;
   valid : (k : ℕ) → IfSome (slice_index_or l.single.items k None) (IsIndex 128);
-  given_back : (single : List (Option Index)) → length single ≡ 15 → ((k : ℕ) → k < 15 → IsFileIn l.area (3 + k) (20179 + 128 * k) 128 (slice_index_or single k None)) →
+  given_back : (single : List (Option Index)) → length single ≡ 15
+      → ((k : ℕ) → k < 15 → IsFileIn l.area (3 + k) (20179 + 128 * k) 128 (slice_index_or single k None)) →
       l.single.items ≡ take l.place single;
 }

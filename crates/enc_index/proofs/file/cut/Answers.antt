@@ -5,13 +5,26 @@ use Rattle.enc_index.proofs.file.cut.Goals as goal
 
 pub returns-then-byte-mark-clause-before : goal.returns-then-byte-mark-clause-before
 returns-then-byte-mark-clause-before c =
-    rw (c.loop-place.invariant.front, before_here c.args.mark c.args.bytes.now c.loop-place.place c.loop-place-test.true c.if-byte-mark.true) (sym (append-nil _))
+    rw (
+      c.loop-place.invariant.front,
+      before_here c.args.mark c.args.bytes.now c.loop-place.place c.loop-place-test.true
+          c.if-byte-mark.true,
+    ) (sym (append-nil _))
 
 pub returns-then-byte-mark-clause-behind : goal.returns-then-byte-mark-clause-behind
 returns-then-byte-mark-clause-behind c =
-    rw (c.loop-place.invariant.back, behind_here c.args.mark c.args.bytes.now c.loop-place.place c.loop-place-test.true c.if-byte-mark.true) (ap Some (rest_of c.args.bytes.now (c.loop-place.place + 1)))
+    rw (
+      c.loop-place.invariant.back,
+      behind_here c.args.mark c.args.bytes.now c.loop-place.place c.loop-place-test.true
+          c.if-byte-mark.true,
+    ) (ap Some (rest_of c.args.bytes.now (c.loop-place.place + 1)))
 
 pub returns-clause-before : goal.returns-clause-before
 returns-clause-before c =
-    rw (c.loop-place.invariant.front, before_end c.args.mark c.args.bytes.now c.loop-place.place c.loop-place-test.false, take_all c.loop-place.place c.args.bytes.now c.loop-place-test.false)
+    rw (
+      c.loop-place.invariant.front,
+      before_end c.args.mark c.args.bytes.now c.loop-place.place
+          c.loop-place-test.false,
+      take_all c.loop-place.place c.args.bytes.now c.loop-place-test.false,
+    )
     (sym (append-nil _))

@@ -5,7 +5,8 @@ use Rattle.enc_index.proofs.file.read_lines.Given as goal
 
 abbrev pub invariant-loop-behind : goal.invariant-loop-behind
 invariant-loop-behind l = record {
-  pairs : with_lines (length l.fn.codes) 1 (pairs_from 0 l.fn.codes) (lines_of l.bytes) ≡ with_lines (length l.codes) l.line_number (pairs_from 0 l.codes) (lines_of l.text);
+  pairs : with_lines (length l.fn.codes) 1 (pairs_from 0 l.fn.codes) (lines_of l.bytes) ≡ with_lines (length l.codes)
+      l.line_number (pairs_from 0 l.codes) (lines_of l.text);
   scalars : AreScalars l.fn.codes → AreScalars l.codes;
   count : l.line_number + length l.text ≤ 1 + length l.bytes;
 }

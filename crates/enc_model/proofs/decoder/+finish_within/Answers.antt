@@ -12,10 +12,12 @@ returns-in_err-say g t c =
     let sink = g.met.S.Sink.is_sink in
     record {
       given = given_err g.S.Sink.takes g.S.Sink.refuses _ _ _ _ c.in_err-say.field-0.0 c.from_residual.ensures.1
-          (end_refused h g.S.Sink.takes g.S.Sink.refuses sink c.args.calls (c.args.calls - 1) c.args.state.now c.read-answer.result.0 r next
+          (end_refused h g.S.Sink.takes g.S.Sink.refuses sink c.args.calls (c.args.calls - 1) c.args.state.now
+          c.read-answer.result.0 r next
           c.args.sink.now c.say.new.sink c.in_err-say.field-0.0 step c.in_default.not-Finished
           c.read-answer.ensures.answer c.read-answer.ensures.restored c.read-answer.ensures.state
-          (sink.more c.args.sink.now c.say.new.sink (said c.read-answer.result.0) (all_bytes (quick h) next r).text c.in_err-say.field-0.0 c.in_err-say.ensures));
+          (sink.more c.args.sink.now c.say.new.sink (said c.read-answer.result.0) (all_bytes (quick h) next r).text
+          c.in_err-say.field-0.0 c.in_err-say.ensures));
       state = on_ok_err _ _ c.from_residual.ensures.0;
     }
 
@@ -27,11 +29,14 @@ returns-in_err-reread g t c =
     let step : c.args.calls ≡ suc (c.args.calls - 1) = omega (arith, c.if-calls-eq0.false) in
     let sink = g.met.S.Sink.is_sink in
     record {
-      given = given_err g.S.Sink.takes g.S.Sink.refuses _ _ _ _ c.in_err-reread.field-0.0 c.from_residual-in_err-reread.ensures.1
-          (end_refused h g.S.Sink.takes g.S.Sink.refuses sink c.args.calls (c.args.calls - 1) c.args.state.now c.read-answer.result.0 r next
+      given = given_err g.S.Sink.takes g.S.Sink.refuses _ _ _ _ c.in_err-reread.field-0.0
+          c.from_residual-in_err-reread.ensures.1
+          (end_refused h g.S.Sink.takes g.S.Sink.refuses sink c.args.calls (c.args.calls - 1) c.args.state.now
+          c.read-answer.result.0 r next
           c.args.sink.now c.reread.new.sink c.in_err-reread.field-0.0 step c.in_default.not-Finished
           c.read-answer.ensures.answer c.read-answer.ensures.restored c.read-answer.ensures.state
-          (sink.later c.args.sink.now c.say.new.sink c.reread.new.sink (said c.read-answer.result.0) (all_bytes (quick h) next r).text
+          (sink.later c.args.sink.now c.say.new.sink c.reread.new.sink (said c.read-answer.result.0)
+          (all_bytes (quick h) next r).text
           c.in_err-reread.field-0.0 c.in_ok-say.ensures c.in_err-reread.ensures.given));
       state = on_ok_err _ _ c.from_residual-in_err-reread.ensures.0;
     }
@@ -45,11 +50,15 @@ returns g t c =
     let sink = g.met.S.Sink.is_sink in
     let mid = c.reread.new.state in
     record {
-      given = end_given h g.S.Sink.takes g.S.Sink.refuses sink c.args.calls (c.args.calls - 1) c.args.state.now c.read-answer.result.0 r next mid
+      given = end_given h g.S.Sink.takes g.S.Sink.refuses sink c.args.calls (c.args.calls - 1) c.args.state.now
+          c.read-answer.result.0 r next mid
           c.args.sink.now c.say.new.sink c.reread.new.sink c.finish_within.new.sink c.finish_within.result
-          step c.in_default.not-Finished c.read-answer.ensures.answer c.read-answer.ensures.restored c.read-answer.ensures.state
+          step c.in_default.not-Finished c.read-answer.ensures.answer c.read-answer.ensures.restored
+          c.read-answer.ensures.state
           c.in_ok-reread.ensures.state c.in_ok-say.ensures c.in_ok-reread.ensures.given c.finish_within.ensures.given;
-      state = end_state h c.args.calls (c.args.calls - 1) c.args.state.now c.read-answer.result.0 r next mid c.finish_within.new.state c.finish_within.result
-          step c.in_default.not-Finished c.read-answer.ensures.answer c.read-answer.ensures.restored c.read-answer.ensures.state
+      state = end_state h c.args.calls (c.args.calls - 1) c.args.state.now c.read-answer.result.0 r next mid
+          c.finish_within.new.state c.finish_within.result
+          step c.in_default.not-Finished c.read-answer.ensures.answer c.read-answer.ensures.restored
+          c.read-answer.ensures.state
           c.in_ok-reread.ensures.state c.finish_within.ensures.state;
     }

@@ -9,8 +9,10 @@ returns-clause-given g c =
     let piece = c.args.piece.now in
     let n = c.in_ok-front.front in
     let e = c.in_ok-front.ensures in
-    rest_given h (g.met.D.Decoder.calm c.args.tables.now) g.S.Sink.takes g.S.Sink.refuses g.met.S.Sink.is_sink s s piece (take (length piece - n) (drop n piece)) n
-    c.args.sink.now c.give_fronts.new.sink c.feed_blocks.new.sink c.feed_blocks.result refl e.state e.taken c.feed_blocks.ensures.given
+    rest_given h (g.met.D.Decoder.calm c.args.tables.now) g.S.Sink.takes g.S.Sink.refuses g.met.S.Sink.is_sink s s piece
+    (take (length piece - n) (drop n piece)) n
+    c.args.sink.now c.give_fronts.new.sink c.feed_blocks.new.sink c.feed_blocks.result refl e.state e.taken
+    c.feed_blocks.ensures.given
 
 pub returns-clause-state : goal.returns-clause-state
 returns-clause-state g c =
@@ -18,5 +20,6 @@ returns-clause-state g c =
     let s = c.args.state.now in
     let piece = c.args.piece.now in
     let n = c.in_ok-front.front in
-    rest_state h (g.met.D.Decoder.calm c.args.tables.now) s s c.feed_blocks.new.state piece (take (length piece - n) (drop n piece)) n
+    rest_state h (g.met.D.Decoder.calm c.args.tables.now) s s c.feed_blocks.new.state piece
+    (take (length piece - n) (drop n piece)) n
     c.feed_blocks.result refl c.in_ok-front.ensures.state c.feed_blocks.ensures.state

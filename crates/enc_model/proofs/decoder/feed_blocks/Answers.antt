@@ -8,7 +8,8 @@ use Rattle.enc_model.proofs.decoder.feed_blocks.Goals as goal
 pub loop-at-init : goal.loop-at-init
 loop-at-init g c =
     let h = g.D.Decoder.handler c.args.tables.now in (
-      feed_begins g.S.Sink.takes g.S.Sink.refuses g.met.S.Sink.is_sink h (g.met.D.Decoder.calm c.args.tables.now) c.args.state.now c.args.sink.now,
+      feed_begins g.S.Sink.takes g.S.Sink.refuses g.met.S.Sink.is_sink h (g.met.D.Decoder.calm c.args.tables.now)
+          c.args.state.now c.args.sink.now,
       ap (λ run. run.state) (sym (steps_none h c.args.state.now)),
       omega arith,
     )
@@ -19,9 +20,12 @@ returns-in_err-at-clause-given g c =
     let calm = g.met.D.Decoder.calm c.args.tables.now in
     let piece = c.args.piece.now in
     let at = c.loop-at.at in
-    given_err g.S.Sink.takes g.S.Sink.refuses c.args.sink.now c.advance.new.sink _ c.from_residual.result c.in_err-at.field-0.0 c.from_residual.ensures.1
-    (part_refused h calm g.S.Sink.takes g.S.Sink.refuses g.met.S.Sink.is_sink c.args.state.now c.loop-at.state piece (take (length piece - at) (drop at piece)) at
-    c.args.sink.now c.loop-at.sink c.advance.new.sink c.in_err-at.field-0.0 refl c.loop-at.invariant.1 c.loop-at.invariant.0 c.in_err-at.ensures.refused)
+    given_err g.S.Sink.takes g.S.Sink.refuses c.args.sink.now c.advance.new.sink _ c.from_residual.result
+    c.in_err-at.field-0.0 c.from_residual.ensures.1
+    (part_refused h calm g.S.Sink.takes g.S.Sink.refuses g.met.S.Sink.is_sink c.args.state.now c.loop-at.state piece
+    (take (length piece - at) (drop at piece)) at
+    c.args.sink.now c.loop-at.sink c.advance.new.sink c.in_err-at.field-0.0 refl c.loop-at.invariant.1
+    c.loop-at.invariant.0 c.in_err-at.ensures.refused)
 
 pub loop-at-preserved : goal.loop-at-preserved
 loop-at-preserved g c =
@@ -32,8 +36,11 @@ loop-at-preserved g c =
     let rest = take (length piece - at) (drop at piece) in
     let n = c.in_ok-at.field-0 in
     let some = c.in_ok-at.ensures.some in (
-      part_taken h calm g.S.Sink.takes g.S.Sink.refuses g.met.S.Sink.is_sink c.args.state.now c.loop-at.state piece rest at n
-          c.args.sink.now c.loop-at.sink c.advance.new.sink refl c.loop-at.invariant.1 c.loop-at.invariant.0 c.in_ok-at.ensures.taken,
-      part_state h calm c.args.state.now c.loop-at.state c.advance.new.state piece rest at n refl c.loop-at.invariant.1 c.in_ok-at.ensures.state,
+      part_taken h calm g.S.Sink.takes g.S.Sink.refuses g.met.S.Sink.is_sink c.args.state.now c.loop-at.state piece rest
+          at n
+          c.args.sink.now c.loop-at.sink c.advance.new.sink refl c.loop-at.invariant.1 c.loop-at.invariant.0
+          c.in_ok-at.ensures.taken,
+      part_state h calm c.args.state.now c.loop-at.state c.advance.new.state piece rest at n refl c.loop-at.invariant.1
+          c.in_ok-at.ensures.state,
       grind (arith, common_steps),
     )

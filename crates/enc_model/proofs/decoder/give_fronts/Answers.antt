@@ -8,7 +8,8 @@ use Rattle.enc_model.proofs.decoder.give_fronts.Goals as goal
 pub loop-at-init : goal.loop-at-init
 loop-at-init g c =
     let h = g.D.Decoder.handler c.args.tables.now in record {
-      taken = feed_begins g.S.Sink.takes g.S.Sink.refuses g.met.S.Sink.is_sink h (g.met.D.Decoder.calm c.args.tables.now) c.args.state.now c.args.sink.now;
+      taken = feed_begins g.S.Sink.takes g.S.Sink.refuses g.met.S.Sink.is_sink h
+          (g.met.D.Decoder.calm c.args.tables.now) c.args.state.now c.args.sink.now;
       state = ap (λ run. run.state) (sym (steps_none h c.args.state.now));
       at = omega arith;
     }
@@ -26,9 +27,11 @@ returns-in_err-ascii-clause-refused g c =
     let s = c.args.state.now in
     let v = c.loop-at.invariant in
     if_err c.from_residual.result why _ c.from_residual.ensures.1
-    (part_refused h calm g.S.Sink.takes r g.met.S.Sink.is_sink s s piece rest at c.args.sink.now c.loop-at.sink c.ascii.new.self why refl v.state v.taken
+    (part_refused h calm g.S.Sink.takes r g.met.S.Sink.is_sink s s piece rest at c.args.sink.now c.loop-at.sink
+    c.ascii.new.self why refl v.state v.taken
     (feed_refused g.S.Sink.takes r g.met.S.Sink.is_sink h calm s rest front.result c.loop-at.sink c.ascii.new.self why
-    (subst (λ z. r c.loop-at.sink z why c.ascii.new.self) (ap (λ run. run.text) (sym front.ensures.own)) c.in_err-ascii.ensures)))
+    (subst (λ z. r c.loop-at.sink z why c.ascii.new.self) (ap (λ run. run.text) (sym front.ensures.own))
+    c.in_err-ascii.ensures)))
 
 pub loop-at-preserved : goal.loop-at-preserved
 loop-at-preserved g c =
@@ -45,7 +48,8 @@ loop-at-preserved g c =
     record {
       taken = part_taken h calm g.S.Sink.takes g.S.Sink.refuses g.met.S.Sink.is_sink s s piece rest at front.result
           c.args.sink.now c.loop-at.sink c.ascii.new.self refl v.state v.taken
-          (subst (λ z. g.S.Sink.takes c.loop-at.sink z c.ascii.new.self) (ap (λ run. run.text) (sym own)) c.in_ok-ascii.ensures);
+          (subst (λ z. g.S.Sink.takes c.loop-at.sink z c.ascii.new.self) (ap (λ run. run.text) (sym own))
+          c.in_ok-ascii.ensures);
       state = part_state h calm s s s piece rest at front.result refl v.state (ap (λ run. run.state) (sym own));
       at = grind (arith, common_steps);
     }

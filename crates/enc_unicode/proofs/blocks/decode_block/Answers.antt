@@ -15,7 +15,8 @@ use Rattle.enc_unicode.proofs.blocks.decode_block.Goals as goal
 
 pub loop-at-init : goal.loop-at-init
 loop-at-init c = (
-  feed_begins {E = Full} BatchTook BatchRefused batch_sink (utf16 (is_big c.args.order)) (utf16_calm (is_big c.args.order)) c.args.pairing.now c.args.batch.now,
+  feed_begins {E = Full} BatchTook BatchRefused batch_sink (utf16 (is_big c.args.order))
+      (utf16_calm (is_big c.args.order)) c.args.pairing.now c.args.batch.now,
   ap (λ (run : Run Utf16). run.state) (sym (steps_none (utf16 (is_big c.args.order)) c.args.pairing.now)),
   omega arith,
 )
@@ -24,7 +25,8 @@ pub decode_some-at-requires-clause-room : goal.decode_some-at-requires-clause-ro
 decode_some-at-requires-clause-room c =
     let block = c.args.block.now in
     let at = c.loop-at.at in
-    room_left (utf16 (is_big c.args.order)) (utf16_calm (is_big c.args.order)) c.args.pairing.now block (take (length block - at) (drop at block)) c.args.batch.now c.loop-at.batch at
+    room_left (utf16 (is_big c.args.order)) (utf16_calm (is_big c.args.order)) c.args.pairing.now block
+    (take (length block - at) (drop at block)) c.args.batch.now c.loop-at.batch at
     c.loop-at.invariant.2 refl c.loop-at.invariant.0 c.requires
 
 pub loop-at-preserved : goal.loop-at-preserved
@@ -34,8 +36,11 @@ loop-at-preserved c =
     let rest = take (length block - at) (drop at block) in
     let n = c.decode_some-at.result in
     let some = c.decode_some-at.ensures.some in (
-      part_taken (utf16 (is_big c.args.order)) (utf16_calm (is_big c.args.order)) {E = Full} BatchTook BatchRefused batch_sink c.args.pairing.now c.loop-at.pairing block rest at n
-          c.args.batch.now c.loop-at.batch c.decode_some-at.new.batch refl c.loop-at.invariant.1 c.loop-at.invariant.0 c.decode_some-at.ensures.text,
-      part_state (utf16 (is_big c.args.order)) (utf16_calm (is_big c.args.order)) c.args.pairing.now c.loop-at.pairing c.decode_some-at.new.pairing block rest at n refl c.loop-at.invariant.1 c.decode_some-at.ensures.state,
+      part_taken (utf16 (is_big c.args.order)) (utf16_calm (is_big c.args.order)) {E = Full} BatchTook BatchRefused
+          batch_sink c.args.pairing.now c.loop-at.pairing block rest at n
+          c.args.batch.now c.loop-at.batch c.decode_some-at.new.batch refl c.loop-at.invariant.1 c.loop-at.invariant.0
+          c.decode_some-at.ensures.text,
+      part_state (utf16 (is_big c.args.order)) (utf16_calm (is_big c.args.order)) c.args.pairing.now c.loop-at.pairing
+          c.decode_some-at.new.pairing block rest at n refl c.loop-at.invariant.1 c.decode_some-at.ensures.state,
       grind (arith, common_steps),
     )

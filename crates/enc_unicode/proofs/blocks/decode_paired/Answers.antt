@@ -21,7 +21,8 @@ returns-then-is_paired-clause-text c =
     let run = c.paired_units_decode.ensures big s bytes paired some in
     on_true c.block-is_paired.result _
     (subst (λ z. BatchTook c.args.batch.now z c.push_paired.new.batch)
-    (ap₂ scalars_of c.lead-carried.ensures.value e.units ∙ sym (ap (λ (z : Run Utf16). z.text) run)) c.push_paired.ensures)
+    (ap₂ scalars_of c.lead-carried.ensures.value e.units ∙ sym (ap (λ (z : Run Utf16). z.text) run))
+    c.push_paired.ensures)
 
 pub returns-then-is_paired-clause-state : goal.returns-then-is_paired-clause-state
 returns-then-is_paired-clause-state c =

@@ -29,6 +29,8 @@ returns-then-ascii-eq32 c =
 pub returns-then-scalar_front-eq32 : goal.returns-then-scalar_front-eq32
 returns-then-scalar_front-eq32 c =
     let units = c.args.units.now in
-    let whole : prefix_len is_scalar_unit units ≡ length units = omega (arith, c.scalar_front.ensures, c.if-scalar_front-eq32.true, c.told-units) in
+    let whole : prefix_len is_scalar_unit units ≡ length units =
+    omega (arith, c.scalar_front.ensures, c.if-scalar_front-eq32.true, c.told-units) in
     subst (λ z. BatchTook c.args.batch.now z c.push_str.new.self)
-    (ap chars c.from_utf8_unchecked.ensures ∙ c.write_scalars-len.ensures.text ∙ sym (whole_scalars c.args.carried units whole)) c.push_str.ensures
+    (ap chars c.from_utf8_unchecked.ensures ∙ c.write_scalars-len.ensures.text
+    ∙ sym (whole_scalars c.args.carried units whole)) c.push_str.ensures

@@ -6,7 +6,12 @@ use Rattle.enc_unicode.proofs.Scalars.{Remains, remains_all, remains_more, remai
 use Rattle.enc_unicode.proofs.blocks.push_units.Goals as goal
 
 pub loop-unit-init : goal.loop-unit-init
-loop-unit-init c = (c.requires.carried, remains_all c.args.batch.now (scalars_of c.args.carried c.args.units.now), omega arith)
+loop-unit-init c = (
+  c.requires.carried,
+  remains_all c.args.batch.now (scalars_of c.args.carried c.args.units.now),
+  omega
+      arith,
+)
 
 pub push_unit-requires-clause-carried : goal.push_unit-requires-clause-carried
 push_unit-requires-clause-carried c = c.loop-unit.invariant.0
@@ -32,9 +37,12 @@ loop-unit-preserved c =
     let one = few (unit_scalar c.loop-unit.lead unit) in
     let took = c.push_unit.ensures.size in
     let next = remains_more old all c.loop-unit.batch x rest c.push_unit.new.batch
-    (subst (λ z. Remains old all c.loop-unit.batch z) (scalars_more c.loop-unit.lead units i (omega (arith, c.loop-unit-test.true, c.told-units))) before) c.push_unit.ensures in (
+    (subst (λ z. Remains old all c.loop-unit.batch z)
+    (scalars_more c.loop-unit.lead units i (omega (arith, c.loop-unit-test.true, c.told-units)))
+    before) c.push_unit.ensures in (
       c.lead_in-lead.ensures.carried,
-      subst (λ z. Remains old all c.push_unit.new.batch (scalars_of z (drop (i + 1) units))) (sym c.lead_in-lead.ensures.value) next,
+      subst (λ z. Remains old all c.push_unit.new.batch (scalars_of z (drop (i + 1) units)))
+          (sym c.lead_in-lead.ensures.value) next,
       omega (arith, size, one, took),
     )
 
@@ -44,4 +52,5 @@ returns c =
     let all = scalars_of c.args.carried units in
     let end = drop_all c.loop-unit.unit-index units (omega (arith, c.loop-unit-test.false, c.told-units)) in
     remains_none c.args.batch.now all c.loop-unit.batch
-    (subst (λ z. Remains c.args.batch.now all c.loop-unit.batch (scalars_of c.loop-unit.lead z)) end c.loop-unit.invariant.1)
+    (subst (λ z. Remains c.args.batch.now all c.loop-unit.batch (scalars_of c.loop-unit.lead z)) end
+    c.loop-unit.invariant.1)

@@ -40,4 +40,5 @@ loop-at-preserved c =
 
 pub returns-clause-text : goal.returns-clause-text
 returns-clause-text c =
-    c.loop-at.invariant.text ∙ take_all c.loop-at.at c.args.units.now (omega (arith, c.loop-at-test.false, c.told-units))
+    c.loop-at.invariant.text ∙ take_all c.loop-at.at c.args.units.now
+    (omega (arith, c.loop-at-test.false, c.told-units))

@@ -25,7 +25,8 @@ returns-in_default-clause-code c =
     let second = (128 + unit / 64 % 64) ∷ [] in
     let third = (128 + unit % 64) ∷ [] in
     c.write_byte-in_default.ensures.code
-    ∙ ap (λ z. z ++ third) (c.write_byte-len-in_default-2.ensures.code ∙ ap (λ z. z ++ second) c.write_byte-len-in_default.ensures.code)
+    ∙ ap (λ z. z ++ third) (c.write_byte-len-in_default-2.ensures.code ∙ ap (λ z. z ++ second)
+    c.write_byte-len-in_default.ensures.code)
     ∙ append_assoc (old ++ first) second third
     ∙ append_assoc old first (second ++ third)
     ∙ ap (λ z. old ++ z) (sym (three_bytes unit least most))

@@ -4,9 +4,11 @@ use Rattle.enc_unicode.proofs.Scans.{front_of_front}
 use Rattle.enc_unicode.proofs.well_formed.other_len.Goals as goal
 
 pub returns-clause-few : goal.returns-clause-few
-returns-clause-few c = (front_of_front c.args.bytes.now c.first_four.result.now c.longest_text.result.now c.first_four.ensures c.longest_text.ensures).0
+returns-clause-few c = (front_of_front c.args.bytes.now c.first_four.result.now c.longest_text.result.now
+    c.first_four.ensures c.longest_text.ensures).0
 
 pub returns-clause-utf8 : goal.returns-clause-utf8
 returns-clause-utf8 c =
-    subst IsUtf8 (front_of_front c.args.bytes.now c.first_four.result.now c.longest_text.result.now c.first_four.ensures c.longest_text.ensures).1
+    subst IsUtf8 (front_of_front c.args.bytes.now c.first_four.result.now c.longest_text.result.now c.first_four.ensures
+    c.longest_text.ensures).1
     c.longest_text.utf8

@@ -10,5 +10,8 @@ by_characters-preserved c =
     let at = c.by_characters.at in
     let n = c.text_len-len.result in
     let found = c.text_len-len.ensures in
-    let rest = length-take-le (length bytes - at) (drop at bytes) (omega (arith, length-drop at bytes)) in
-    (omega (arith, found.few, rest, c.by_characters.invariant.0), text_goes_on bytes at n c.by_characters.invariant.1 (subst (λ rest. IsUtf8 (take n rest)) (take_rest bytes at) found.utf8))
+    let rest = length-take-le (length bytes - at) (drop at bytes) (omega (arith, length-drop at bytes)) in (
+      omega (arith, found.few, rest, c.by_characters.invariant.0),
+      text_goes_on bytes at n c.by_characters.invariant.1
+          (subst (λ rest. IsUtf8 (take n rest)) (take_rest bytes at) found.utf8),
+    )

@@ -9,6 +9,8 @@ use Rattle.lane_kernels.proofs.front.ascii_front.Goals as goal
 pub overflow_add-result : goal.overflow_add-result
 overflow_add-result c =
     let few = prefix_len-le-length is_ascii c.args.bytes.now in
-    let is : c.front.result ≡ prefix_len is_ascii (drop c.skip_ascii-skipped.result c.args.bytes.now) = grind (arith, common_steps) in
-    let total : c.skip_ascii-skipped.result + c.front.result ≤ length c.args.bytes.now = omega (arith, is, few, c.skip_ascii-skipped.ensures.passed) in
+    let is : c.front.result ≡ prefix_len is_ascii (drop c.skip_ascii-skipped.result c.args.bytes.now) =
+    grind (arith, common_steps) in
+    let total : c.skip_ascii-skipped.result + c.front.result ≤ length c.args.bytes.now =
+    omega (arith, is, few, c.skip_ascii-skipped.ensures.passed) in
     search (rules, total)

@@ -10,7 +10,8 @@ use Rattle.lane_kernels.proofs.front.front.Goals as goal
 pub returns-then-run-lt-LANES : goal.returns-then-run-lt-LANES
 returns-then-run-lt-LANES g c =
     let p = g.C.Class.has c.args.class.now in
-    let stops = chunk_stops p c.by_lanes.at 32 c.args.bytes.now (omega (arith, c.by_lanes-test.true)) (omega (arith, c.run-run.ensures, c.if-run-lt-LANES.true)) in
+    let stops = chunk_stops p c.by_lanes.at 32 c.args.bytes.now (omega (arith, c.by_lanes-test.true))
+    (omega (arith, c.run-run.ensures, c.if-run-lt-LANES.true)) in
     omega (arith, stops, c.run-run.ensures, c.by_lanes.invariant.passed)
 
 pub by_lanes-preserved : goal.by_lanes-preserved
@@ -19,7 +20,8 @@ by_lanes-preserved g c =
     let v = chunk c.by_lanes.at 32 c.args.bytes.now in
     let room : c.by_lanes.at + 32 ≤ length c.args.bytes.now = omega (arith, c.by_lanes-test.true) in
     let long = length-chunk c.by_lanes.at 32 c.args.bytes.now room in
-    let whole : prefix_len p v ≡ 32 = omega (arith, c.run-run.ensures, c.if-run-lt-LANES.false, prefix_len-le-length p v, long) in
+    let whole : prefix_len p v ≡ 32 =
+    omega (arith, c.run-run.ensures, c.if-run-lt-LANES.false, prefix_len-le-length p v, long) in
     let passes = chunk_passes p c.by_lanes.at 32 c.args.bytes.now room whole in
     record { in_range = room; passed = omega (arith, passes, c.by_lanes.invariant.passed) }
 
@@ -27,6 +29,8 @@ pub overflow_add-result-2 : goal.overflow_add-result-2
 overflow_add-result-2 g c =
     let p = g.C.Class.has c.args.class.now in
     let few = prefix_len-le-length p c.args.bytes.now in
-    let is : c.front_by_bytes.result ≡ prefix_len p (drop c.by_lanes.at c.args.bytes.now) = grind (arith, common_steps) in
-    let total : c.by_lanes.at + c.front_by_bytes.result ≤ length c.args.bytes.now = omega (arith, is, few, c.by_lanes.invariant.passed) in
+    let is : c.front_by_bytes.result ≡ prefix_len p (drop c.by_lanes.at c.args.bytes.now) =
+    grind (arith, common_steps) in
+    let total : c.by_lanes.at + c.front_by_bytes.result ≤ length c.args.bytes.now =
+    omega (arith, is, few, c.by_lanes.invariant.passed) in
     search (rules, total)

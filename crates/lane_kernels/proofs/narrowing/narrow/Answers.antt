@@ -13,9 +13,11 @@ by_lanes-preserved c =
     let inside : at + 32 ≤ length units = omega (arith, c.by_lanes-test.true) in
     let room : at + 32 ≤ length c.args.out.now = omega (arith, c.if-out-at-ge-LANES.true, c.by_lanes.auto.out) in
     record {
-      front = chunk_goes_on is_ascii at 32 units inside c.by_lanes.invariant.front (omega (arith, c.narrow_run.ensures, c.if-narrow_run-eq-LANES.true));
+      front = chunk_goes_on is_ascii at 32 units inside c.by_lanes.invariant.front
+          (omega (arith, c.narrow_run.ensures, c.if-narrow_run-eq-LANES.true));
       room = room;
-      written = c.write_lanes.ensures ∙ ap (λ out. put_chunk at out (chunk at 32 units)) c.by_lanes.invariant.written ∙ written_chunk units c.args.out.now at 32 inside room;
+      written = c.write_lanes.ensures ∙ ap (λ out. put_chunk at out (chunk at 32 units)) c.by_lanes.invariant.written
+          ∙ written_chunk units c.args.out.now at 32 inside room;
     }
 
 pub returns-clause-written : goal.returns-clause-written
@@ -23,6 +25,14 @@ returns-clause-written c =
     let n = c.narrow_by_units.result in
     let at = c.by_lanes.at in
     let inside = prefix_len-le-length is_ascii c.args.units.now in
-    let further : at ≤ n = omega (arith, c.narrow_by_units.ensures.length, c.by_lanes.invariant.front, c.by_lanes.invariant.room, c.by_lanes.auto.out) in
+    let further : at ≤ n = omega (
+      arith,
+      c.narrow_by_units.ensures.length,
+      c.by_lanes.invariant.front,
+      c.by_lanes.invariant.room,
+      c.by_lanes.auto.out,
+    ) in
     c.narrow_by_units.ensures.written
-    ∙ ap (λ rest. take n c.args.units.now ++ rest) (ap (drop n) c.by_lanes.invariant.written ∙ rest_kept c.args.units.now c.args.out.now at n (omega (arith, inside, c.by_lanes.invariant.front)) further)
+    ∙ ap (λ rest. take n c.args.units.now ++ rest)
+    (ap (drop n) c.by_lanes.invariant.written ∙ rest_kept c.args.units.now c.args.out.now at n
+    (omega (arith, inside, c.by_lanes.invariant.front)) further)

@@ -15,7 +15,8 @@ loop-end-preserved c =
     record {
       front = front_more is_ascii units at c.loop-end.invariant.front c.loop-end-test.true passes;
       room = omega (arith, c.if-end-out.true, c.loop-end.auto.out);
-      written = ap (λ out. set out at (get_or units at 0)) written ∙ written_more units c.args.out.now at c.loop-end-test.true (omega (arith, c.if-end-out.true, c.loop-end.auto.out));
+      written = ap (λ out. set out at (get_or units at 0)) written ∙ written_more units c.args.out.now at
+          c.loop-end-test.true (omega (arith, c.if-end-out.true, c.loop-end.auto.out));
     }
 
 pub returns-else-units-end-lt128-clause-length : goal.returns-else-units-end-lt128-clause-length
@@ -28,4 +29,10 @@ returns-else-units-end-lt128-clause-length c =
 
 pub returns-after-loop-end-clause-length : goal.returns-after-loop-end-clause-length
 returns-after-loop-end-clause-length c =
-    omega (arith, prefix_len-le-length is_ascii c.args.units.now, c.loop-end-test.false, c.loop-end.invariant.front, c.loop-end.invariant.room)
+    omega (
+      arith,
+      prefix_len-le-length is_ascii c.args.units.now,
+      c.loop-end-test.false,
+      c.loop-end.invariant.front,
+      c.loop-end.invariant.room,
+    )

@@ -11,7 +11,9 @@ small : (x : ℕ) → is_ascii x ≡ true → Fits w8 x
 small x e = let below : x < 128 = grind (arith, nat_tests) in record { fits = omega (arith, below) }
 
 all_small : (v : List ℕ) (n : ℕ) → length v ≡ n → prefix_len is_ascii v ≡ n → Each1 (Fits w8) v
-all_small v n long whole = Each1-from_get_or (Fits w8) v 0 (λ i lt. small _ (prefix_len_passes is_ascii v i 0 (omega (arith, lt, long, whole))))
+all_small v n long whole =
+    Each1-from_get_or (Fits w8) v 0
+    (λ i lt. small _ (prefix_len_passes is_ascii v i 0 (omega (arith, lt, long, whole))))
 
 same_lanes : (v : List ℕ) → map (λ x. x) v ≡ v
 same_lanes [] = refl

@@ -8,4 +8,5 @@ returns c =
     let low = c.args.lowest in
     let high = c.args.highest in
     mask_of_hits w16 (λ x. leb low x && leb x high) v (omega (arith, c.fits-units.0))
-    (both_hit (λ x. leb low x) (λ x. leb x high) v (compared_with w16 leb v 32 low c.fits-units.0) (compared w16 leb v 32 high c.fits-units.0))
+    (both_hit (λ x. leb low x) (λ x. leb x high) v (compared_with w16 leb v 32 low c.fits-units.0)
+    (compared w16 leb v 32 high c.fits-units.0))

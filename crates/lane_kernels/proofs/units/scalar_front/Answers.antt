@@ -6,4 +6,5 @@ use Rattle.lane_kernels.proofs.units.scalar_front.Goals as goal
 
 pub returns : goal.returns
 returns c =
-    c.first_set.ensures ∙ ap (λ mask. first_set mask 32) c.mask_within.ensures ∙ first_set_mask_l (within 0xD800 0xDFFF) c.args.units.now 32 c.told-units (omega arith)
+    c.first_set.ensures ∙ ap (λ mask. first_set mask 32) c.mask_within.ensures
+    ∙ first_set_mask_l (within 0xD800 0xDFFF) c.args.units.now 32 c.told-units (omega arith)

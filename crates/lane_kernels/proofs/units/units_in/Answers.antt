@@ -15,5 +15,6 @@ returns c =
           ∙ ap (map (λ unit. unit % 256 * 256 + unit / 256)) c.low_first-units.ensures
           ∙ high_units bytes (below_from_Fits w8 bytes c.fits-bytes.1)
           ∙ ap (λ order. units_of (is_big order) bytes) (sym w.in-Big.is)
-      | in-Little w ↦ w.result-is ∙ c.low_first-units.ensures ∙ ap (λ order. units_of (is_big order) bytes) (sym w.in-Little.is)
+      | in-Little w ↦ w.result-is ∙ c.low_first-units.ensures ∙ ap (λ order. units_of (is_big order) bytes)
+          (sym w.in-Little.is)
     ]

@@ -17,7 +17,8 @@ returns-in_err-open_gate-clause-lasts g c honest idle inside ascends =
     let fits = few_pages j _ inside ascends in
     let ready = c.in_ok-stage.ensures.ready honest j fits inside ascends in
     lasts_on (lasts_more (c.stage.ensures.lasts honest j fits idle) (λ image before. inl before))
-    (lasts_more (c.open_gate.ensures.lasts (c.stage.ensures.honest.0 honest) j few _ _ ready) (λ image either. ⊎_elim (λ before. inl (ready_before ready.firm before)) (λ reads. inr reads) either))
+    (lasts_more (c.open_gate.ensures.lasts (c.stage.ensures.honest.0 honest) j few _ _ ready)
+    (λ image either. ⊎_elim (λ before. inl (ready_before ready.firm before)) (λ reads. inr reads) either))
 
 pub returns-clause-done : goal.returns-clause-done
 returns-clause-done g c honest idle inside ascends =
@@ -25,8 +26,10 @@ returns-clause-done g c honest idle inside ascends =
     let few = c.requires.bound in
     let fits = few_pages j _ inside ascends in
     let mid = c.stage.ensures.honest.0 honest in
-    let opened = c.in_ok-open_gate.ensures.opened mid j few _ _ (c.in_ok-stage.ensures.ready honest j fits inside ascends) in
-    on_more c.finish.result (c.finish.ensures.settled (c.open_gate.ensures.honest.0 mid) j _ opened.matches (opened_placing opened) (upto_none _))
+    let opened = c.in_ok-open_gate.ensures.opened mid j few _ _
+    (c.in_ok-stage.ensures.ready honest j fits inside ascends) in
+    on_more c.finish.result (c.finish.ensures.settled (c.open_gate.ensures.honest.0 mid) j _ opened.matches
+    (opened_placing opened) (upto_none _))
     (λ settled. settled_more opened.laid_over settled)
 
 pub returns-clause-lasts : goal.returns-clause-lasts
@@ -39,5 +42,7 @@ returns-clause-lasts g c honest idle inside ascends =
     let opened = c.in_ok-open_gate.ensures.opened mid j few _ _ ready in
     lasts_on
     (lasts_on (lasts_more (c.stage.ensures.lasts honest j fits idle) (λ image before. inl before))
-    (lasts_more (c.open_gate.ensures.lasts mid j few _ _ ready) (λ image either. ⊎_elim (λ before. inl (ready_before ready.firm before)) (λ reads. inr reads) either)))
-    (lasts_more (c.finish.ensures.lasts (c.open_gate.ensures.honest.0 mid) j few _ opened.matches (opened_placing opened) (upto_none _)) (λ image reads. inr (reads_more opened.laid_over reads)))
+    (lasts_more (c.open_gate.ensures.lasts mid j few _ _ ready)
+    (λ image either. ⊎_elim (λ before. inl (ready_before ready.firm before)) (λ reads. inr reads) either)))
+    (lasts_more (c.finish.ensures.lasts (c.open_gate.ensures.honest.0 mid) j few _ opened.matches
+    (opened_placing opened) (upto_none _)) (λ image reads. inr (reads_more opened.laid_over reads)))

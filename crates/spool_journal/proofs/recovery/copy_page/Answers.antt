@@ -6,12 +6,15 @@ use Rattle.spool_journal.proofs.recovery.copy_page.Goals as goal
 
 pub returns-clause-placing : goal.returns-clause-placing
 returns-clause-placing g c honest j i opened placing lt e =
-    c.place.ensures.placing (c.read.ensures.honest.0 honest) j i opened (placing_keeps placing (c.read.ensures.keeps honest)) lt e
+    c.place.ensures.placing (c.read.ensures.honest.0 honest) j i opened
+    (placing_keeps placing (c.read.ensures.keeps honest)) lt e
 
 pub returns-clause-upto : goal.returns-clause-upto
 returns-clause-upto g c honest j i opened placing upto lt e from =
-    c.place.ensures.upto (c.read.ensures.honest.0 honest) i opened (λ p. (c.read.ensures.keeps honest).same p ∙ upto p) e
-    (λ x below. sym (page_read_at _ opened (4096 * (3 + i)) _ _ _ (search rules) (ap (λ (n : ℕ). 4096 * n) from) (c.in_ok-read.ensures.bytes honest refl) x below (placing_content placing i x lt below)))
+    c.place.ensures.upto (c.read.ensures.honest.0 honest) i opened (λ p. (c.read.ensures.keeps honest).same p ∙ upto p)
+    e
+    (λ x below. sym (page_read_at _ opened (4096 * (3 + i)) _ _ _ (search rules) (ap (λ (n : ℕ). 4096 * n) from)
+    (c.in_ok-read.ensures.bytes honest refl) x below (placing_content placing i x lt below)))
 
 pub returns-clause-lasts : goal.returns-clause-lasts
 returns-clause-lasts g c honest j i few opened placing lt e =

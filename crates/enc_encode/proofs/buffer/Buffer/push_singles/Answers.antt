@@ -8,7 +8,13 @@ pub returns-in_default : goal.returns-in_default
 returns-in_default c = singles_none _ c.args.text.now c.args.self.now c.args.self.now refl
 
 pub loop-len-init : goal.loop-len-init
-loop-len-init c = (c.utf8.text, c.self.invariant, c.self.told, singles_none _ c.args.text.now c.args.self.now (take c.self.inside.len c.self.inside.bytes) c.self.view_is)
+loop-len-init c = (
+  c.utf8.text,
+  c.self.invariant,
+  c.self.told,
+  singles_none _ c.args.text.now c.args.self.now
+      (take c.self.inside.len c.self.inside.bytes) c.self.view_is,
+)
 
 pub loop-len-preserved : goal.loop-len-preserved
 loop-len-preserved c =
@@ -24,5 +30,6 @@ loop-len-preserved c =
       IsUtf8-past_char rest left first.c v.0 first.parts,
       omega (arith, test),
       length-set bytes n b ∙ long,
-      singles_more _ c.args.text.now rest left c.args.self.now _ _ b v.0 v.3 first (take_more_set bytes n b (omega (arith, test, long))),
+      singles_more _ c.args.text.now rest left c.args.self.now _ _ b v.0 v.3 first
+          (take_more_set bytes n b (omega (arith, test, long))),
     )

@@ -10,7 +10,8 @@ use Rattle.enc_encode.proofs.encoder.Encoder.encode_chars.Goals as goal
 pub loop-rest-init : goal.loop-rest-init
 loop-rest-init c = (
   c.utf8.run,
-  front_none (tables c.args.set.now) c.args.self.now c.args.run.now c.self.inside.shift c.args.out.now c.new-held.result (ap (λ (e : EncoderState). e.shift) c.self.view_is) c.new-held.ensures,
+  front_none (tables c.args.set.now) c.args.self.now c.args.run.now c.self.inside.shift c.args.out.now c.new-held.result
+      (ap (λ (e : EncoderState). e.shift) c.self.view_is) c.new-held.ensures,
 )
 
 pub returns-in_err-next : goal.returns-in_err-next
@@ -23,7 +24,8 @@ returns-in_err-next c =
     let stop = c.in_err-next.ensures.err in
     let new = c.hold_front.new in
     rw (p.1, p.2) (front_error t e run stop.0 c.args.out.now new.out new.held d
-    (front_then t e run c.loop-rest.rest.now stop.0 c.args.out.now c.loop-rest.out c.loop-rest.held new.out new.held c.loop-rest.shift (Err d) c.loop-rest.invariant.1 stop.1))
+    (front_then t e run c.loop-rest.rest.now stop.0 c.args.out.now c.loop-rest.out c.loop-rest.held new.out new.held
+    c.loop-rest.shift (Err d) c.loop-rest.invariant.1 stop.1))
 
 pub loop-rest-preserved : goal.loop-rest-preserved
 loop-rest-preserved c =
@@ -40,7 +42,8 @@ loop-rest-preserved c =
     let kept = c.push_singles-rest.new.self in
     let singles = c.push_singles-rest.ensures in
     let text = left_text rest more.front behind c.loop-rest.invariant.0 more.own more.parts in
-    let by_front = front_then t e run rest behind old c.loop-rest.out c.loop-rest.held new.out new.held c.loop-rest.shift (Ok next) c.loop-rest.invariant.1 more in
+    let by_front = front_then t e run rest behind old c.loop-rest.out c.loop-rest.held new.out new.held
+    c.loop-rest.shift (Ok next) c.loop-rest.invariant.1 more in
     let by_singles = singles_held t e _ behind left next new.out new.held kept c.requires.singles singles in (
       left_text behind singles.front left text singles.own singles.parts,
       front_then t e run behind left old new.out new.held new.out kept next (Ok next) by_front by_singles,
@@ -51,14 +54,18 @@ returns-in_err-flush c =
     let t = tables c.args.set.now in
     let e = c.args.self.now in
     let run = c.args.run.now in
-    let kept = front_all t e run c.loop-rest.rest.now c.args.out.now c.loop-rest.out c.loop-rest.held c.loop-rest.shift c.loop-rest.invariant.1 c.loop-rest-test.ensures in
+    let kept = front_all t e run c.loop-rest.rest.now c.args.out.now c.loop-rest.out c.loop-rest.held c.loop-rest.shift
+    c.loop-rest.invariant.1 c.loop-rest-test.ensures in
     let p = err_from_is_err_and c.from_residual-in_err-flush.result c.from_residual-in_err-flush.ensures.1 in
-    rw (p.1, p.2) (unflushed (code_from t e (chars run)) c.args.out.now c.loop-rest.out c.flush.new.out c.loop-rest.held c.loop-rest.shift kept c.in_err-flush.ensures.err)
+    rw (p.1, p.2) (unflushed (code_from t e (chars run)) c.args.out.now c.loop-rest.out c.flush.new.out c.loop-rest.held
+    c.loop-rest.shift kept c.in_err-flush.ensures.err)
 
 pub returns : goal.returns
 returns c =
     let t = tables c.args.set.now in
     let e = c.args.self.now in
     let run = c.args.run.now in
-    let kept = front_all t e run c.loop-rest.rest.now c.args.out.now c.loop-rest.out c.loop-rest.held c.loop-rest.shift c.loop-rest.invariant.1 c.loop-rest-test.ensures in
-    flushed (code_from t e (chars run)) c.args.out.now c.loop-rest.out c.flush.new.out c.loop-rest.held c.loop-rest.shift kept c.in_ok-flush.ensures.ok.0
+    let kept = front_all t e run c.loop-rest.rest.now c.args.out.now c.loop-rest.out c.loop-rest.held c.loop-rest.shift
+    c.loop-rest.invariant.1 c.loop-rest-test.ensures in
+    flushed (code_from t e (chars run)) c.args.out.now c.loop-rest.out c.flush.new.out c.loop-rest.held
+    c.loop-rest.shift kept c.in_ok-flush.ensures.ok.0

@@ -5,4 +5,5 @@ use Rattle.enc_encode.specs.Reasons.{Gave}
 use Rattle.enc_encode.proofs.encoder.Encoder.encode_each.Given as goal
 
 abbrev pub invariant-loop-byte : goal.invariant-loop-byte
-invariant-loop-byte l = (t : Tables) → Gave (code_from t l.fn.self (take l.byte-index l.run)) l.fn.out l.out (Ok l.shift)
+invariant-loop-byte l = (t : Tables) → Gave (code_from t l.fn.self (take l.byte-index l.run)) l.fn.out l.out
+    (Ok l.shift)

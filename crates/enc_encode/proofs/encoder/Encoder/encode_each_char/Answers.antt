@@ -14,11 +14,13 @@ encode_chars-requires-in_default c =
     let t = tables c.args.set.now in
     let to = c.self.inside.to in
     let other = c.in_default in
-    let is = single_is t to other.not-Utf8 other.not-Utf16Be other.not-Utf16Le other.not-ShiftJis other.not-EucJp other.not-Iso2022Jp in
+    let is = single_is t to other.not-Utf8 other.not-Utf16Be other.not-Utf16Le other.not-ShiftJis other.not-EucJp
+    other.not-Iso2022Jp in
     let found = c.pointers-singles.ensures in
     let at = unwrap_or (option_copied c.pointers-singles.result) [] in
     let same = ap (λ (e : EncoderState). e.to) c.self.view_is in record {
       same = same;
-      singles = subst (λ z. AreSingles (encoder t z) at) same (singles_found t to c.pointers-singles.result is found.value);
+      singles = subst (λ z. AreSingles (encoder t z) at) same
+          (singles_found t to c.pointers-singles.result is found.value);
       few = few_found c.pointers-singles.result found.bounded;
     }

@@ -13,7 +13,8 @@ pub returns-in_err-append-in-Again : goal.returns-in_err-append-in-Again
 returns-in_err-append-in-Again c t =
     let e = c.args.self.now in
     let w = encoder t e.to (shift_of c.in-Again.next) c.args.b in
-    let code = coded_twice t e.to e.mode (shift_of c.args.shift) c.args.b (bytes_of c.in-Again.bytes) (shift_of c.in-Again.next) w (rw c.requires.to (c.in-Again.ensures t.jis0208 t.katakana)) refl in
+    let code = coded_twice t e.to e.mode (shift_of c.args.shift) c.args.b (bytes_of c.in-Again.bytes)
+    (shift_of c.in-Again.next) w (rw c.requires.to (c.in-Again.ensures t.jis0208 t.katakana)) refl in
     let p = err_from_is_err_and c.from_residual.result c.from_residual.ensures.1 in
     rw (code, p.1, p.2) (front (final e.mode w).bytes (rw c.as_slice.ensures at c.in_err-append-in-Again.ensures))
 
@@ -22,14 +23,21 @@ returns-in_ok-append-in-Again c t =
     let e = c.args.self.now in
     let bytes = bytes_of c.in-Again.bytes in
     let w = written_of c.iso2022_ascii-in-Again.result in
-    let code = coded_twice t e.to e.mode (shift_of c.args.shift) c.args.b bytes (shift_of c.in-Again.next) w (rw c.requires.to (c.in-Again.ensures t.jis0208 t.katakana))
+    let code = coded_twice t e.to e.mode (shift_of c.args.shift) c.args.b bytes (shift_of c.in-Again.next) w
+    (rw c.requires.to (c.in-Again.ensures t.jis0208 t.katakana))
     (rw c.requires.to (c.iso2022_ascii-in-Again.ensures t.jis0208 t.katakana)) in
     rw code
-    (gave_behind bytes (final e.mode w) c.write_out.new.out c.write_out.result (rw c.as_slice.ensures at c.in_ok-append-in-Again.ensures) (subst (λ m. Gave (final m w) c.append.new.out c.write_out.new.out c.write_out.result) (ap (λ (z : EncoderState). z.mode) c.self.view_is) c.write_out.ensures))
+    (gave_behind bytes (final e.mode w) c.write_out.new.out c.write_out.result
+    (rw c.as_slice.ensures at c.in_ok-append-in-Again.ensures)
+    (subst (λ m. Gave (final m w) c.append.new.out c.write_out.new.out c.write_out.result)
+    (ap (λ (z : EncoderState). z.mode) c.self.view_is) c.write_out.ensures))
 
 pub returns-in_default : goal.returns-in_default
 returns-in_default c t =
     let e = c.args.self.now in
-    let code = coded_once t e.to e.mode (shift_of c.args.shift) c.args.b (written_of c.iso2022_ascii.result) (rw c.requires.to (c.iso2022_ascii.ensures t.jis0208 t.katakana))
+    let code = coded_once t e.to e.mode (shift_of c.args.shift) c.args.b (written_of c.iso2022_ascii.result)
+    (rw c.requires.to (c.iso2022_ascii.ensures t.jis0208 t.katakana))
     (not_again c.iso2022_ascii.result c.in_default.not-Again) in
-    rw code (subst (λ m. Gave (final m (written_of c.iso2022_ascii.result)) c.args.out.now c.write_out-in_default.new.out c.write_out-in_default.result) (ap (λ (z : EncoderState). z.mode) c.self.view_is) c.write_out-in_default.ensures)
+    rw code (subst (λ m. Gave (final m (written_of c.iso2022_ascii.result)) c.args.out.now
+    c.write_out-in_default.new.out c.write_out-in_default.result) (ap (λ (z : EncoderState). z.mode)
+    c.self.view_is) c.write_out-in_default.ensures)

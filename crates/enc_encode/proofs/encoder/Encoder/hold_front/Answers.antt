@@ -14,10 +14,19 @@ pub returns-in_err-make_room-clause-err : goal.returns-in_err-make_room-clause-e
 returns-in_err-make_room-clause-err c =
     let p = err_from_is_err_and c.from_residual.result c.from_residual.ensures.1 in
     let code = code_from (tables c.args.set.now) (shifted c.args.self.now (shift_of c.args.shift)) (chars []) in
-    rw (p.1, p.2) (c.args.text.now, record { front = []; parts = refl; own = IsUtf8-nil; code = front code.bytes c.in_err-make_room.ensures.err })
+    rw (p.1, p.2) (
+      c.args.text.now,
+      record {
+        front = [];
+        parts = refl;
+        own = IsUtf8-nil;
+        code = front code.bytes c.in_err-make_room.ensures.err;
+      },
+    )
 
 pub range_from-requires : goal.range_from-requires
-range_from-requires c = λ some. own_cut c.args.to c.args.text.now c.in-Some.lanes.now c.in-Some.front c.utf8.text c.in-Some.ensures
+range_from-requires c = λ some. own_cut c.args.to c.args.text.now c.in-Some.lanes.now c.in-Some.front c.utf8.text
+    c.in-Some.ensures
 
 pub returns-in-Some-clause-ok : goal.returns-in-Some-clause-ok
 returns-in-Some-clause-ok c =
@@ -25,8 +34,10 @@ returns-in-Some-clause-ok c =
     let e = c.args.self.now in
     let text = c.args.text.now in
     let kept = c.push_front.new.self in
-    subst (λ z. HeldFront (code_from t (shifted e (shift_of c.args.shift))) text z c.args.out.now c.args.held.now c.make_room.new.out kept (Ok c.args.shift)) (sym c.range_from.ensures.value)
-    (ascii_held t e c.args.to text c.in-Some.lanes.now c.in-Some.front c.args.shift c.args.out.now c.args.held.now c.make_room.new.out c.make_room.new.self kept
+    subst (λ z. HeldFront (code_from t (shifted e (shift_of c.args.shift))) text z c.args.out.now c.args.held.now
+    c.make_room.new.out kept (Ok c.args.shift)) (sym c.range_from.ensures.value)
+    (ascii_held t e c.args.to text c.in-Some.lanes.now c.in-Some.front c.args.shift c.args.out.now c.args.held.now
+    c.make_room.new.out c.make_room.new.self kept
     c.requires.same c.in-Some.ensures c.in_ok-make_room.ensures.ok c.push_front.ensures)
 
 pub returns-in_err-next-in-Some-next-clause-err : goal.returns-in_err-next-in-Some-next-clause-err
@@ -36,8 +47,10 @@ returns-in_err-next-in-Some-next-clause-err c =
     let left = chars_rest c.next.new.self in
     rw (p.1, p.2) (
       left,
-      char_held (tables c.args.set.now) c.args.self.now c.args.text.now left c.in-Some-next.c c.args.shift c.args.out.now c.args.held.now c.hold.new.out c.hold.new.held
-          (Err c.in_err-next-in-Some-next.field-0.0) c.utf8.text (sym c.chars-chars.ensures.rest ∙ c.in-Some-next.ensures.steps.0) c.in_err-next-in-Some-next.ensures,
+      char_held (tables c.args.set.now) c.args.self.now c.args.text.now left c.in-Some-next.c c.args.shift
+          c.args.out.now c.args.held.now c.hold.new.out c.hold.new.held
+          (Err c.in_err-next-in-Some-next.field-0.0) c.utf8.text
+          (sym c.chars-chars.ensures.rest ∙ c.in-Some-next.ensures.steps.0) c.in_err-next-in-Some-next.ensures,
     )
 
 pub returns-clause-ok : goal.returns-clause-ok
@@ -46,6 +59,9 @@ returns-clause-ok c =
     let e = c.args.self.now in
     let text = c.args.text.now in
     let next = c.in_ok-next-in-Some-next.next in
-    subst (λ z. HeldFront (code_from t (shifted e (shift_of c.args.shift))) text z c.args.out.now c.args.held.now c.hold.new.out c.hold.new.held (Ok next)) (sym c.as_str.ensures)
-    (char_held t e text (chars_rest c.next.new.self) c.in-Some-next.c c.args.shift c.args.out.now c.args.held.now c.hold.new.out c.hold.new.held
-    (Ok next) c.utf8.text (sym c.chars-chars.ensures.rest ∙ c.in-Some-next.ensures.steps.0) c.in_ok-next-in-Some-next.ensures)
+    subst (λ z. HeldFront (code_from t (shifted e (shift_of c.args.shift))) text z c.args.out.now c.args.held.now
+    c.hold.new.out c.hold.new.held (Ok next)) (sym c.as_str.ensures)
+    (char_held t e text (chars_rest c.next.new.self) c.in-Some-next.c c.args.shift c.args.out.now c.args.held.now
+    c.hold.new.out c.hold.new.held
+    (Ok next) c.utf8.text (sym c.chars-chars.ensures.rest ∙ c.in-Some-next.ensures.steps.0)
+    c.in_ok-next-in-Some-next.ensures)

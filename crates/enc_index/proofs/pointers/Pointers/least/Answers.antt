@@ -26,7 +26,8 @@ loop-place-preserved-then-may_use c =
       within = omega arith;
       long = length-set c.loop-place.at.items c.in-Some.c _ ∙ c.loop-place.invariant.long;
       least = λ q. found_set c.loop-place.at.items c.in-Some.c _ q room (omega arith)
-          ∙ rw (c.loop-place.invariant.least q) (sym (past_taken _ entries _ _ next inside c.in-Some.c c.in-Some.is usable q));
+          ∙ rw (c.loop-place.invariant.least q)
+          (sym (past_taken _ entries _ _ next inside c.in-Some.c c.in-Some.is usable q));
     }
 
 pub loop-place-preserved-else-may_use : goal.loop-place-preserved-else-may_use
@@ -37,7 +38,8 @@ loop-place-preserved-else-may_use c =
     record {
       within = omega arith;
       long = c.loop-place.invariant.long;
-      least = λ q. c.loop-place.invariant.least q ∙ sym (past_unusable _ c.args.codes.now _ _ next inside c.in-Some.c c.in-Some.is unusable q);
+      least = λ q. c.loop-place.invariant.least q ∙ sym
+          (past_unusable _ c.args.codes.now _ _ next inside c.in-Some.c c.in-Some.is unusable q);
     }
 
 pub loop-place-preserved : goal.loop-place-preserved
@@ -47,5 +49,6 @@ loop-place-preserved c =
     record {
       within = omega arith;
       long = c.loop-place.invariant.long;
-      least = λ q. c.loop-place.invariant.least q ∙ sym (past_none _ c.args.codes.now _ _ next inside c.in_default.is q);
+      least = λ q. c.loop-place.invariant.least q ∙ sym
+          (past_none _ c.args.codes.now _ _ next inside c.in_default.is q);
     }

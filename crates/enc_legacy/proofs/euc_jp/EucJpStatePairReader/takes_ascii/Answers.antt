@@ -8,4 +8,5 @@ pub returns : goal.returns
 returns c is b l =
     let t = tables c.args._indexes.now in
     let i = c.self.inside in
-    euc_ascii t.jis0208 t.jis0212 c.args.self.now (sym c.self.view_is ∙ euc_start i.lead i.flag c.self.invariant (no_lead i.lead is)) b l
+    euc_ascii t.jis0208 t.jis0212 c.args.self.now
+    (sym c.self.view_is ∙ euc_start i.lead i.flag c.self.invariant (no_lead i.lead is)) b l

@@ -11,7 +11,8 @@ use Rattle.enc_legacy.proofs.iso2022.Iso2022StateStrider.stride.Goals as goal
 
 pub push_ascii-requires-clause-ascii : goal.push_ascii-requires-clause-ascii
 push_ascii-requires-clause-ascii c =
-    (iso_front (tables c.args.indexes.now).jis0208 c.self.inside.output c.self.inside.flag c.args.rest.now _ c.plain_front_2022-run.ensures c.if-run-gt0.true).0
+    (iso_front (tables c.args.indexes.now).jis0208 c.self.inside.output c.self.inside.flag c.args.rest.now _
+    c.plain_front_2022-run.ensures c.if-run-gt0.true).0
 
 pub returns-then-run-gt0-clause-text : goal.returns-then-run-gt0-clause-text
 returns-then-run-gt0-clause-text c =
@@ -23,7 +24,8 @@ returns-then-run-gt0-clause-text c =
     let is = (iso_front jis0208 i.output i.flag c.args.rest.now n c.plain_front_2022-run.ensures c.if-run-gt0.true).1 in
     let here : c.args.self.now ≡ record { place = In Ascii; output = i.output; flag = i.flag } =
     sym c.self.view_is ∙ ap (λ (p : Place). record { place = p; output = i.output; flag = i.flag }) place in
-    rw here (subst (λ z. BatchTook c.args.batch.now z c.push_ascii.new.self) (ap (λ run. run.text) (sym is)) c.push_ascii.ensures)
+    rw here (subst (λ z. BatchTook c.args.batch.now z c.push_ascii.new.self) (ap (λ run. run.text) (sym is))
+    c.push_ascii.ensures)
 
 pub returns-then-run-gt0-clause-state : goal.returns-then-run-gt0-clause-state
 returns-then-run-gt0-clause-state c =
@@ -46,10 +48,12 @@ returns-in-Some-clause-text c =
     let jis0208 = (tables c.args.indexes.now).jis0208 in
     let set = rw c.in-In-Lead.is at c.in-In-Lead.field-0-is in
     let place : i.place ≡ In Lead = c.in-In-Lead.is ∙ ap In set in
-    let is = iso_two jis0208 i.output i.flag c.args.rest.now c.in-Some.code.now c.if-rest-ge2.true e.lead e.trail e.char in
+    let is = iso_two jis0208 i.output i.flag c.args.rest.now c.in-Some.code.now c.if-rest-ge2.true e.lead e.trail
+    e.char in
     let here : c.args.self.now ≡ record { place = In Lead; output = i.output; flag = i.flag } =
     sym c.self.view_is ∙ ap (λ (p : Place). record { place = p; output = i.output; flag = i.flag }) place in
-    rw here (subst (λ z. BatchTook c.args.batch.now z c.push_code.new.self) (ap (λ run. run.text) (sym is)) c.push_code.ensures)
+    rw here (subst (λ z. BatchTook c.args.batch.now z c.push_code.new.self) (ap (λ run. run.text) (sym is))
+    c.push_code.ensures)
 
 pub returns-in-Some-clause-state : goal.returns-in-Some-clause-state
 returns-in-Some-clause-state c =
@@ -58,7 +62,8 @@ returns-in-Some-clause-state c =
     let jis0208 = (tables c.args.indexes.now).jis0208 in
     let set = rw c.in-In-Lead.is at c.in-In-Lead.field-0-is in
     let place : i.place ≡ In Lead = c.in-In-Lead.is ∙ ap In set in
-    let is = iso_two jis0208 i.output i.flag c.args.rest.now c.in-Some.code.now c.if-rest-ge2.true e.lead e.trail e.char in
+    let is = iso_two jis0208 i.output i.flag c.args.rest.now c.in-Some.code.now c.if-rest-ge2.true e.lead e.trail
+    e.char in
     let here : c.args.self.now ≡ record { place = In Lead; output = i.output; flag = i.flag } =
     sym c.self.view_is ∙ ap (λ (p : Place). record { place = p; output = i.output; flag = i.flag }) place in
     ap (λ (p : Place). record { place = p; output = i.output; flag = false }) place

@@ -10,4 +10,6 @@ returns-clause-given g c =
     (single_in_steps (tables c.args.indexes.now) false c.args.self.now c.args.piece.now) c.feed.ensures.given
 
 pub returns-clause-state : goal.returns-clause-state
-returns-clause-state g c = same_encoding (tables c.args.indexes.now) false c.args.self.now c.feed.new.state c.args.piece.now c.feed.result c.feed.ensures.state
+returns-clause-state g c =
+    same_encoding (tables c.args.indexes.now) false c.args.self.now c.feed.new.state c.args.piece.now c.feed.result
+    c.feed.ensures.state

@@ -10,4 +10,6 @@ returns-clause-given g c =
     (single_in_steps (tables c.args.indexes.now) true c.args.self.now []) c.finish.ensures.given
 
 pub returns-clause-state : goal.returns-clause-state
-returns-clause-state g c = same_encoding (tables c.args.indexes.now) true c.args.self.now c.finish.new.state [] c.finish.result c.finish.ensures.state
+returns-clause-state g c =
+    same_encoding (tables c.args.indexes.now) true c.args.self.now c.finish.new.state [] c.finish.result
+    c.finish.ensures.state

@@ -13,7 +13,13 @@ returns-clause-text c =
     let s = c.args.self.now.transcoder in
     let p = c.args.piece.now in
     let e = c.in_ok-next.encoder in
-    let now : Transcoder = record { from = c.self.inside.from; to = e.to; mode = e.mode; phase = phase_at c.in_ok-next.next; shift = e.shift } in
+    let now : Transcoder = record {
+      from = c.self.inside.from;
+      to = e.to;
+      mode = e.mode;
+      phase = phase_at c.in_ok-next.next;
+      shift = e.shift;
+    } in
     let next : now ≡ stepped t s p = search rules in
     let ok : (added t s p).fault ≡ None = search rules in
     let out : c.transcode.new.out.items ≡ c.args.out.now.items ++ (added t s p).bytes = search rules in
@@ -25,7 +31,13 @@ invariant_of-self-2 c not_spent =
     let s = c.args.self.now.transcoder in
     let p = c.args.piece.now in
     let e = c.in_ok-next.encoder in
-    let now : Transcoder = record { from = c.self.inside.from; to = e.to; mode = e.mode; phase = phase_at c.in_ok-next.next; shift = e.shift } in
+    let now : Transcoder = record {
+      from = c.self.inside.from;
+      to = e.to;
+      mode = e.mode;
+      phase = phase_at c.in_ok-next.next;
+      shift = e.shift;
+    } in
     let next : now ≡ stepped t s p = search rules in
     let before : IsFitting s = search rules in
     subst IsFitting (sym next) (stepped_fits t s p before)

@@ -6,5 +6,12 @@ use Rattle.enc_stream.proofs.transcoder.Transcoder.new.Goals as goal
 
 pub returns-clause-nothing_read : goal.returns-clause-nothing_read
 returns-clause-nothing_read c t =
-    subst (λ (e : EncoderState). IsAt t (record { from = c.args.from; to = e.to; mode = e.mode; phase = Before []; shift = e.shift }) []) (sym c.new.ensures)
+    subst (λ (e : EncoderState). IsAt t
+    (record {
+      from = c.args.from;
+      to = e.to;
+      mode = e.mode;
+      phase = Before [];
+      shift = e.shift;
+    }) []) (sym c.new.ensures)
     (start_at t c.args.from c.args.to c.args.mode)

@@ -7,5 +7,6 @@ pub returns-clause-bytes : goal.returns-clause-bytes
 returns-clause-bytes c =
     let s = c.args.self.now.transcoder in
     let sound : IsSound s = search rules in
-    packed s c.number_of_encoding.result c.number_of_encoding-2.result c.number_of_mode.result c.phase.result c.number_of_shift.result c.pack.result sound
+    packed s c.number_of_encoding.result c.number_of_encoding-2.result c.number_of_mode.result c.phase.result
+    c.number_of_shift.result c.pack.result sound
     (search rules) (search rules) (search rules) (search rules) (search rules) (search rules)

@@ -14,13 +14,16 @@ returns-in_err-text-clause-refused g c =
     let why = c.in_err-text.field-0.0 in
     let some : 0 < length text = search rules in
     if_err c.from_residual.result why _ c.from_residual.ensures.1
-    (feed_refused g.S.Sink.takes g.S.Sink.refuses g.met.S.Sink.is_sink utf8 utf8_calm c.args.self.now c.args.rest.now (length text) c.args.sink.now c.text.new.self why
-    (text_refused g.S.Sink.refuses c.args.self.now c.args.rest.now text c.args.sink.now c.text.new.self why (c.requires.start some) c.utf8.text c.requires.front c.in_err-text.ensures))
+    (feed_refused g.S.Sink.takes g.S.Sink.refuses g.met.S.Sink.is_sink utf8 utf8_calm c.args.self.now c.args.rest.now
+    (length text) c.args.sink.now c.text.new.self why
+    (text_refused g.S.Sink.refuses c.args.self.now c.args.rest.now text c.args.sink.now c.text.new.self why
+    (c.requires.start some) c.utf8.text c.requires.front c.in_err-text.ensures))
 
 pub returns-then-not-is_empty-clause-taken : goal.returns-then-not-is_empty-clause-taken
 returns-then-not-is_empty-clause-taken g c =
     let some : 0 < length c.args.text.now = search rules in
-    text_taken g.S.Sink.takes g.S.Sink.refuses g.met.S.Sink.is_sink c.args.self.now c.args.rest.now c.args.text.now c.args.sink.now c.text.new.self
+    text_taken g.S.Sink.takes g.S.Sink.refuses g.met.S.Sink.is_sink c.args.self.now c.args.rest.now c.args.text.now
+    c.args.sink.now c.text.new.self
     (c.requires.start some) c.utf8.text c.requires.front c.in_ok-text.ensures
 
 pub returns-then-not-is_empty-clause-state : goal.returns-then-not-is_empty-clause-state
@@ -33,13 +36,17 @@ returns-in_err-text-2-clause-refused g c =
     let r = g.S.Sink.refuses in
     let why = c.in_err-text-2.field-0.0 in
     let count = c.count-count.result in
-    let given = from_nothing c.clear.new.self (steps utf8 false c.args.self.now (take count c.args.rest.now)).text c.decode_block.new.batch c.clear.ensures c.decode_block.ensures.text in
+    let given = from_nothing c.clear.new.self (steps utf8 false c.args.self.now (take count c.args.rest.now)).text
+    c.decode_block.new.batch c.clear.ensures c.decode_block.ensures.text in
     if_err c.from_residual-in_err-text-2.result why _ c.from_residual-in_err-text-2.ensures.1
-    (feed_refused g.S.Sink.takes r g.met.S.Sink.is_sink utf8 utf8_calm c.args.self.now c.args.rest.now count c.args.sink.now c.text-2.new.self why
+    (feed_refused g.S.Sink.takes r g.met.S.Sink.is_sink utf8 utf8_calm c.args.self.now c.args.rest.now count
+    c.args.sink.now c.text-2.new.self why
     (subst (λ z. r c.args.sink.now z why c.text-2.new.self) given (rw c.as_str.ensures at c.in_err-text-2.ensures)))
 
 pub returns-clause-taken : goal.returns-clause-taken
 returns-clause-taken g c =
     let count = c.count-count.result in
-    let given = from_nothing c.clear.new.self (steps utf8 false c.args.self.now (take count c.args.rest.now)).text c.decode_block.new.batch c.clear.ensures c.decode_block.ensures.text in
-    subst (λ z. g.S.Sink.takes c.args.sink.now z c.text-2.new.self) given (rw c.as_str.ensures at c.in_ok-text-2.ensures)
+    let given = from_nothing c.clear.new.self (steps utf8 false c.args.self.now (take count c.args.rest.now)).text
+    c.decode_block.new.batch c.clear.ensures c.decode_block.ensures.text in
+    subst (λ z. g.S.Sink.takes c.args.sink.now z c.text-2.new.self) given
+    (rw c.as_str.ensures at c.in_ok-text-2.ensures)

@@ -23,7 +23,8 @@ pub decode_some-at-requires-clause-room : goal.decode_some-at-requires-clause-ro
 decode_some-at-requires-clause-room c =
     let block = c.args.block.now in
     let at = c.loop-at.at in
-    room_left utf8 utf8_calm c.args.self.now block (take (length block - at) (drop at block)) c.args.batch.now c.loop-at.batch at
+    room_left utf8 utf8_calm c.args.self.now block (take (length block - at) (drop at block)) c.args.batch.now
+    c.loop-at.batch at
     c.loop-at.invariant.2 refl c.loop-at.invariant.0 c.requires
 
 pub loop-at-preserved : goal.loop-at-preserved
@@ -33,8 +34,11 @@ loop-at-preserved c =
     let rest = take (length block - at) (drop at block) in
     let n = c.decode_some-at.result in
     let some = c.decode_some-at.ensures.some in (
-      part_taken utf8 utf8_calm {E = Full} BatchTook BatchRefused batch_sink c.args.self.now c.loop-at.self block rest at n
-          c.args.batch.now c.loop-at.batch c.decode_some-at.new.batch refl c.loop-at.invariant.1 c.loop-at.invariant.0 c.decode_some-at.ensures.text,
-      part_state utf8 utf8_calm c.args.self.now c.loop-at.self c.decode_some-at.new.self block rest at n refl c.loop-at.invariant.1 c.decode_some-at.ensures.state,
+      part_taken utf8 utf8_calm {E = Full} BatchTook BatchRefused batch_sink c.args.self.now c.loop-at.self block rest
+          at n
+          c.args.batch.now c.loop-at.batch c.decode_some-at.new.batch refl c.loop-at.invariant.1 c.loop-at.invariant.0
+          c.decode_some-at.ensures.text,
+      part_state utf8 utf8_calm c.args.self.now c.loop-at.self c.decode_some-at.new.self block rest at n refl
+          c.loop-at.invariant.1 c.decode_some-at.ensures.state,
       grind (arith, common_steps),
     )

@@ -6,12 +6,18 @@ use Rattle.enc_unicode.proofs.utf8.Utf8State.decode_some.Goals as goal
 pub returns-then-not-is_empty-clause-text : goal.returns-then-not-is_empty-clause-text
 returns-then-not-is_empty-clause-text c =
     let i = c.self.inside in
-    let start : c.args.self.now ≡ utf8_start = sym c.self.view_is ∙ at_start i.needed i.lower i.upper i.point i.seen i.kept c.self.invariant.0 c.if-self-eq0.true in
-    text_gathered c.args.self.now c.args.rest.now c.text_before_fault-text.result.now c.args.batch.now c.push_str.new.self
+    let start : c.args.self.now ≡ utf8_start =
+    sym c.self.view_is ∙ at_start i.needed i.lower i.upper i.point i.seen i.kept c.self.invariant.0
+    c.if-self-eq0.true in
+    text_gathered c.args.self.now c.args.rest.now c.text_before_fault-text.result.now c.args.batch.now
+    c.push_str.new.self
     start c.text_before_fault-text.utf8 c.text_before_fault-text.ensures c.push_str.ensures
 
 pub returns-then-not-is_empty-clause-state : goal.returns-then-not-is_empty-clause-state
 returns-then-not-is_empty-clause-state c =
     let i = c.self.inside in
-    let start : c.args.self.now ≡ utf8_start = sym c.self.view_is ∙ at_start i.needed i.lower i.upper i.point i.seen i.kept c.self.invariant.0 c.if-self-eq0.true in
-    text_state c.args.self.now c.args.rest.now c.text_before_fault-text.result.now start c.text_before_fault-text.utf8 c.text_before_fault-text.ensures
+    let start : c.args.self.now ≡ utf8_start =
+    sym c.self.view_is ∙ at_start i.needed i.lower i.upper i.point i.seen i.kept c.self.invariant.0
+    c.if-self-eq0.true in
+    text_state c.args.self.now c.args.rest.now c.text_before_fault-text.result.now start c.text_before_fault-text.utf8
+    c.text_before_fault-text.ensures

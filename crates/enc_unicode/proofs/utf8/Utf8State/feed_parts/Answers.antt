@@ -19,9 +19,12 @@ pub returns-in_err-at-clause-given : goal.returns-in_err-at-clause-given
 returns-in_err-at-clause-given g c =
     let piece = c.args.piece.now in
     let at = c.loop-at.at in
-    given_err g.S.Sink.takes g.S.Sink.refuses c.args.sink.now c.advance.new.sink _ c.from_residual.result c.in_err-at.field-0.0 c.from_residual.ensures.1
-    (part_refused utf8 utf8_calm g.S.Sink.takes g.S.Sink.refuses g.met.S.Sink.is_sink c.args.self.now c.loop-at.self piece (take (length piece - at) (drop at piece)) at
-    c.args.sink.now c.loop-at.sink c.advance.new.sink c.in_err-at.field-0.0 refl c.loop-at.invariant.1 c.loop-at.invariant.0 c.in_err-at.ensures.refused)
+    given_err g.S.Sink.takes g.S.Sink.refuses c.args.sink.now c.advance.new.sink _ c.from_residual.result
+    c.in_err-at.field-0.0 c.from_residual.ensures.1
+    (part_refused utf8 utf8_calm g.S.Sink.takes g.S.Sink.refuses g.met.S.Sink.is_sink c.args.self.now c.loop-at.self
+    piece (take (length piece - at) (drop at piece)) at
+    c.args.sink.now c.loop-at.sink c.advance.new.sink c.in_err-at.field-0.0 refl c.loop-at.invariant.1
+    c.loop-at.invariant.0 c.in_err-at.ensures.refused)
 
 pub loop-at-preserved : goal.loop-at-preserved
 loop-at-preserved g c =
@@ -30,8 +33,11 @@ loop-at-preserved g c =
     let rest = take (length piece - at) (drop at piece) in
     let n = c.in_ok-at.field-0 in
     let some = c.in_ok-at.ensures.some in (
-      part_taken utf8 utf8_calm g.S.Sink.takes g.S.Sink.refuses g.met.S.Sink.is_sink c.args.self.now c.loop-at.self piece rest at n
-          c.args.sink.now c.loop-at.sink c.advance.new.sink refl c.loop-at.invariant.1 c.loop-at.invariant.0 c.in_ok-at.ensures.taken,
-      part_state utf8 utf8_calm c.args.self.now c.loop-at.self c.advance.new.self piece rest at n refl c.loop-at.invariant.1 c.in_ok-at.ensures.state,
+      part_taken utf8 utf8_calm g.S.Sink.takes g.S.Sink.refuses g.met.S.Sink.is_sink c.args.self.now c.loop-at.self
+          piece rest at n
+          c.args.sink.now c.loop-at.sink c.advance.new.sink refl c.loop-at.invariant.1 c.loop-at.invariant.0
+          c.in_ok-at.ensures.taken,
+      part_state utf8 utf8_calm c.args.self.now c.loop-at.self c.advance.new.self piece rest at n refl
+          c.loop-at.invariant.1 c.in_ok-at.ensures.state,
       grind (arith, common_steps),
     )

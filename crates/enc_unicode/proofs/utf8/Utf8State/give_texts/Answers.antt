@@ -28,8 +28,10 @@ returns-in_err-text-clause-refused g c =
     if_err c.from_residual.result why _ c.from_residual.ensures.1
     (part_refused utf8 utf8_calm g.S.Sink.takes g.S.Sink.refuses g.met.S.Sink.is_sink s s bytes rest at
     c.args.sink.now c.by_windows.sink c.text.new.self why refl before.1 before.0
-    (feed_refused g.S.Sink.takes g.S.Sink.refuses g.met.S.Sink.is_sink utf8 utf8_calm s rest (length text) c.by_windows.sink c.text.new.self why
-    (text_refused g.S.Sink.refuses s rest text c.by_windows.sink c.text.new.self why (c.text_in_front-found.ensures.start some) c.text_in_front-found.utf8
+    (feed_refused g.S.Sink.takes g.S.Sink.refuses g.met.S.Sink.is_sink utf8 utf8_calm s rest (length text)
+    c.by_windows.sink c.text.new.self why
+    (text_refused g.S.Sink.refuses s rest text c.by_windows.sink c.text.new.self why
+    (c.text_in_front-found.ensures.start some) c.text_in_front-found.utf8
     c.text_in_front-found.ensures.front c.in_err-text.ensures)))
 
 pub by_windows-preserved : goal.by_windows-preserved
@@ -46,7 +48,9 @@ by_windows-preserved g c =
     let before = c.by_windows.invariant in (
       part_taken utf8 utf8_calm g.S.Sink.takes g.S.Sink.refuses g.met.S.Sink.is_sink s s bytes rest at (length text)
           c.args.sink.now c.by_windows.sink c.text.new.self refl before.1 before.0
-          (text_taken g.S.Sink.takes g.S.Sink.refuses g.met.S.Sink.is_sink s rest text c.by_windows.sink c.text.new.self start is_text front c.in_ok-text.ensures),
-      part_state utf8 utf8_calm s s s bytes rest at (length text) refl before.1 (text_state s rest text start is_text front),
+          (text_taken g.S.Sink.takes g.S.Sink.refuses g.met.S.Sink.is_sink s rest text c.by_windows.sink c.text.new.self
+          start is_text front c.in_ok-text.ensures),
+      part_state utf8 utf8_calm s s s bytes rest at (length text) refl before.1
+          (text_state s rest text start is_text front),
       text_within_rest bytes text at before.2 front,
     )

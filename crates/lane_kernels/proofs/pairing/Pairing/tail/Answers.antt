@@ -9,11 +9,15 @@ use Rattle.lane_kernels.proofs.Tails.{first_byte, first_fault, second_byte, seco
 use Rattle.lane_kernels.proofs.pairing.Pairing.tail.Goals as goal
 
 -- what is carried, as the handler's state
-carried : (odd lead : Option ℕ) (byte : Option ℕ) (state : Utf16) → odd ≡ byte → ◌≡◌ {A = Utf16} (record { byte = odd; lead = lead }) state →
+carried : (odd lead : Option ℕ) (byte : Option ℕ) (state : Utf16) → odd ≡ byte → ◌≡◌ {A = Utf16} (record {
+  byte = odd;
+  lead = lead;
+}) state →
     ◌≡◌ {A = Utf16} (record { byte = byte; lead = lead }) state
 carried odd lead byte state same is = ap (λ b. record { byte = b; lead = lead }) (sym same) ∙ is
 
-stepped : (big : Bool) (s t : Utf16) (byte : ℕ) (r : Run Utf16) → s ≡ t → steps (utf16 big) false s (byte ∷ []) ≡ r → r ≡ steps (utf16 big) false t (byte ∷ [])
+stepped : (big : Bool) (s t : Utf16) (byte : ℕ) (r : Run Utf16) → s ≡ t → steps (utf16 big) false s (byte ∷ []) ≡ r
+    → r ≡ steps (utf16 big) false t (byte ∷ [])
 stepped big s t byte r same is = sym is ∙ ap (λ z. steps (utf16 big) false z (byte ∷ [])) same
 
 pub returns-in_default-clause-fault : goal.returns-in_default-clause-fault
@@ -21,20 +25,23 @@ returns-in_default-clause-fault c =
     let lead = c.self.inside.lead in
     let before = carried c.self.inside.odd lead None c.args.self.now c.in_default.is c.self.view_is in (
       λ never. absurd (true≢false (sym never)),
-      λ fault. first_fault (is_big c.args.order) lead c.args.byte (ap (λ s. (utf16 (is_big c.args.order) s (Some c.args.byte)).answer) before ∙ fault),
+      λ fault. first_fault (is_big c.args.order) lead c.args.byte
+          (ap (λ s. (utf16 (is_big c.args.order) s (Some c.args.byte)).answer) before ∙ fault),
     )
 
 pub returns-in_default-clause-text : goal.returns-in_default-clause-text
 returns-in_default-clause-text c =
     let lead = c.self.inside.lead in
     let before = carried c.self.inside.odd lead None c.args.self.now c.in_default.is c.self.view_is in
-    ap (λ r. r.text) (stepped (is_big c.args.order) _ _ c.args.byte _ before (first_byte (is_big c.args.order) lead c.args.byte))
+    ap (λ r. r.text) (stepped (is_big c.args.order) _ _ c.args.byte _ before
+    (first_byte (is_big c.args.order) lead c.args.byte))
 
 pub returns-in_default-clause-state : goal.returns-in_default-clause-state
 returns-in_default-clause-state c =
     let lead = c.self.inside.lead in
     let before = carried c.self.inside.odd lead None c.args.self.now c.in_default.is c.self.view_is in
-    ap (λ r. r.state) (stepped (is_big c.args.order) _ _ c.args.byte _ before (first_byte (is_big c.args.order) lead c.args.byte))
+    ap (λ r. r.state) (stepped (is_big c.args.order) _ _ c.args.byte _ before
+    (first_byte (is_big c.args.order) lead c.args.byte))
 
 pub returns-clause-fault : goal.returns-clause-fault
 returns-clause-fault c =
@@ -53,8 +60,11 @@ returns-clause-text c =
     let lead = c.self.inside.lead in
     let first = c.in-Some.first in
     let before = carried c.self.inside.odd lead (Some first) c.args.self.now c.in-Some.is c.self.view_is in
-    ap₂ (λ fault scalar. fault_text fault ++ scalar_text scalar) (c.unit.ensures.fault ∙ ap (unit_fault lead) c.unit_in.ensures) (c.unit.ensures.scalar ∙ ap (unit_scalar lead) c.unit_in.ensures)
-    ∙ ap (λ r. r.text) (stepped (is_big c.args.order) _ _ c.args.byte _ before (second_byte (is_big c.args.order) lead first c.args.byte))
+    ap₂ (λ fault scalar. fault_text fault ++ scalar_text scalar)
+    (c.unit.ensures.fault ∙ ap (unit_fault lead) c.unit_in.ensures)
+    (c.unit.ensures.scalar ∙ ap (unit_scalar lead) c.unit_in.ensures)
+    ∙ ap (λ r. r.text) (stepped (is_big c.args.order) _ _ c.args.byte _ before
+    (second_byte (is_big c.args.order) lead first c.args.byte))
 
 pub returns-clause-state : goal.returns-clause-state
 returns-clause-state c =
@@ -63,4 +73,5 @@ returns-clause-state c =
     let before = carried c.self.inside.odd lead (Some first) c.args.self.now c.in-Some.is c.self.view_is in
     c.unit.ensures.state
     ∙ ap (λ unit. record { byte = None; lead = lead_of unit }) c.unit_in.ensures
-    ∙ ap (λ r. r.state) (stepped (is_big c.args.order) _ _ c.args.byte _ before (second_byte (is_big c.args.order) lead first c.args.byte))
+    ∙ ap (λ r. r.state) (stepped (is_big c.args.order) _ _ c.args.byte _ before
+    (second_byte (is_big c.args.order) lead first c.args.byte))
