@@ -32,3 +32,10 @@ pub mod CommitHead
 pub mod LastWritten
 pub mod OfUploads
 pub mod Facts
+pub mod Freed
+pub mod Unlisted
+pub mod TakenOut
+pub mod Others
+pub mod Deleted
+pub mod Terminated
+pub mod OfDeleted
