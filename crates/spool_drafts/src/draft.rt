@@ -263,8 +263,8 @@ impl SpoolDraft {
         self.came = self.came.saturating_add(count as u64);
     }
 
-    /// Its upload was deleted, and the block with the upload's last bytes is the draft's to read no more: where the new text isn't
-    /// begun, zeros stand for them. The draft keeps its blocks, and goes on. It takes no memory.
+    /// Forgets the block with the upload's last bytes, since the upload was deleted: where the new text isn't begun,
+    /// zeros stand for them. The draft keeps its blocks, and goes on. It takes no memory.
     pub fn forget_tail(&mut self)
         ensures tail { tail_of self.new ≡ [] }
         ensures same { (number_of self.new ≡ number_of self.old) × (offset_of self.new ≡ offset_of self.old)
@@ -274,8 +274,9 @@ impl SpoolDraft {
         ensures behind { (len : ℕ) (state : List ℕ) → IsBehind len state self.old → IsBehind len state self.new }
         ensures holds { (x : Indexes) (p : Patch) → Holds x p self.old → Holds x p self.new }
 
-        // On blocks of its own are the bytes that were there, with the committed text's last ones in front.
-        ensures content { (x : Indexes) (seen : ℕ → ℕ) (first : ℕ) (p : Patch) → 1 ≤ length (list_of self.old)
+        // Where it has blocks, it carries what it carried.
+        ensures content { (x : Indexes) (seen : ℕ → ℕ) (first : ℕ) (p : Patch)
+            → 1 ≤ length (list_of self.old)
             → Carries x seen first p self.old → Carries x seen first p self.new }
     {
         self.growth.tail = None;

@@ -21,8 +21,8 @@ use upload_rules::{UploadError, UploadRefusal};
 pub(crate) struct Growth {
     /// The length of the committed text in bytes.
     pub(crate) text_len: u64,
-    /// The block that its last bytes are on, where that isn't full: none either where they are nobody's any more, and zeros
-    /// stand for them.
+    /// The block that its last bytes are on, where it isn't full. None too once these are nobody's: then zeros stand
+    /// for them.
     pub(crate) tail: Option<BlockNo>,
     /// The new text, from those bytes on: none before the first new byte.
     pub(crate) on: Option<DraftText>,

@@ -66,8 +66,8 @@ impl DraftText {
         })
     }
 
-    /// No new text behind one whose last bytes, so many behind its last full block, are nobody's any more: zeros stand for them.
-    /// Nothing is read.
+    /// No new text behind one whose last bytes, so many behind its last full block, are nobody's any more: zeros stand
+    /// for them. Nothing is read.
     pub fn blank(alloc: Global, len: usize) -> Result<Self, AllocError>
         requires { len < 4096 }
         ensures none { IfOk result (λ draft. draft.blocks ≡ []) }
