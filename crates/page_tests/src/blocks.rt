@@ -37,3 +37,16 @@ fn taken_block_replaces_an_owned_one(rt: HostRuntime) -> Result<(), Fail> {
     }
     Ok(())
 }
+
+#[test]
+fn blocks_of_a_slot_become_free(rt: HostRuntime) -> Result<(), Fail> {
+    let rows = vec![in rt.alloc(); Some((7, 1)), None, Some((8, 0)), Some((7, 0))]?;
+    let mut blocks = Blocks::of(rt.alloc(), rows)?;
+    assert_eq!(rt; blocks.take(), Some(1));
+    blocks.disown(7);
+    assert_eq!(rt; blocks.rows(), [None, None, Some((8, 0)), None].as_slice());
+    assert!(rt; blocks.take().is_some());
+    assert!(rt; blocks.take().is_some());
+    assert_eq!(rt; blocks.take(), None);
+    Ok(())
+}

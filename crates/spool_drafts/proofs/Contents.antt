@@ -1,12 +1,12 @@
 -- The bytes of a draft.
-use Rattle.std.proofs.Common.{◌≡◌, ◌<◌, ◌≤◌, ◌+◌, ◌-◌, ◌*◌, ◌/◌, ◌%◌, ◌++◌, ℕ, List, [], ◌∷◌, None, Some, length, take, drop, get_or, sym, ◌∙◌, ap, arith, add-one, drop-cons, append-nil, length-append, length-take}
+use Rattle.std.proofs.Common.{◌≡◌, ◌<◌, ◌≤◌, ◌+◌, ◌-◌, ◌*◌, ◌/◌, ◌%◌, ◌++◌, ℕ, List, [], ◌∷◌, None, Some, length, take, drop, get_or, replicate, sym, ◌∙◌, ap, arith, add-one, drop-cons, append-nil, length-append, length-take}
 use Rattle.std.proofs.lemmas.List.{take-append-le, take-append-drop}
 use Rattle.spool_disk.specs.Disk.{span}
 use Rattle.spool_disk.proofs.Span.{length-span}
 use Rattle.spool_texts.proofs.Shown.{length-blocks_on, text_joined}
 use Rattle.spool_texts.specs.Drafts.{Draft, bytes_with, content_on, full_count, held_count}
 use Rattle.spool_texts.specs.TextOn.{blocks_on, text_on}
-use Rattle.spool_drafts.specs.Growth.{tail_list, bytes_on, count_with}
+use Rattle.spool_drafts.specs.Growth.{front_on, bytes_on, count_with}
 use Rattle.spool_drafts.specs.declared.growth.Growth.{Growth}
 
 -- a draft that reserved no block holds what is unfinished
@@ -16,8 +16,8 @@ content_empty seen first d text none is =
     let count : full_count d ≡ 0 = omega (arith, ap length none) in
     ap (λ (n : ℕ). blocks_on seen first (take n d.blocks) ++ d.unfinished) count ∙ is
 
--- one that begins holds the bytes on the committed block
-pub begun_bytes : (seen seen' : ℕ → ℕ) (first : ℕ) (g h : Growth) (text : Draft) → g.on ≡ None → h.on ≡ Some text → text.blocks ≡ [] → text.unfinished ≡ text_on seen first (tail_list g.tail) (g.text_len % 4096)
+-- one that begins holds the committed text's last bytes
+pub begun_bytes : (seen seen' : ℕ → ℕ) (first : ℕ) (g h : Growth) (text : Draft) → g.on ≡ None → h.on ≡ Some text → text.blocks ≡ [] → text.unfinished ≡ front_on seen first g.tail (g.text_len % 4096)
     → bytes_on seen' first h h.on ≡ bytes_on seen first g g.on
 begun_bytes seen seen' first g h text none some empty is =
     ap (bytes_on seen' first h) some ∙ content_empty seen' first text _ empty is ∙ sym (ap (bytes_on seen first g) none)
@@ -42,11 +42,10 @@ tail_on seen first len list fits some =
     ∙ ap (λ (k : ℕ). text_on seen first list k) (omega arith)
 
 pub no_tail_on : (seen : ℕ → ℕ) (first len : ℕ) (list : List ℕ) → len % 4096 ≡ 0
-    → text_on seen first list (4096 * (len / 4096)) ++ text_on seen first [] (len % 4096) ≡ text_on seen first list len
-unfolding blocks_on
+    → text_on seen first list (4096 * (len / 4096)) ++ replicate (len % 4096) 0 ≡ text_on seen first list len
 no_tail_on seen first len list whole =
     let full : 4096 * (len / 4096) ≡ len = omega (arith, whole) in
-    ap (λ (k : ℕ). text_on seen first list (4096 * (len / 4096)) ++ text_on seen first [] k) whole
+    ap (λ (k : ℕ). text_on seen first list (4096 * (len / 4096)) ++ replicate k 0) whole
     ∙ append-nil (text_on seen first list (4096 * (len / 4096)))
     ∙ ap (λ (k : ℕ). text_on seen first list k) full
 

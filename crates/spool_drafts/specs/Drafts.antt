@@ -35,7 +35,7 @@ came_of d = d.came
 abbrev pub list_of : SpoolDraft → List ℕ
 list_of d = list_on d.growth.on
 
--- the block that the committed text's last bytes are on, where it isn't full
+-- the block that the committed text's last bytes are on, where it isn't full: none once the draft forgot it
 abbrev pub tail_of : SpoolDraft → List ℕ
 tail_of d = tail_list d.growth.tail
 

@@ -1,5 +1,5 @@
 -- The new text of a draft, with the committed text's bytes behind its last full block in front.
-use Rattle.std.specs.Prelude.{◌≡◌, ◌⊎◌, ◌≤◌, ◌<◌, ◌*◌, ◌+◌, ◌-◌, ◌/◌, ◌%◌, ℕ, List, [], ◌∷◌, Option, None, Some, true, false, length, get_or, Result, Ok, Err}
+use Rattle.std.specs.Prelude.{◌≡◌, ◌⊎◌, ◌≤◌, ◌<◌, ◌*◌, ◌+◌, ◌-◌, ◌/◌, ◌%◌, ℕ, List, [], ◌∷◌, Option, None, Some, true, false, length, get_or, replicate, Result, Ok, Err}
 use Rattle.upload_rules.specs.declared.errors.UploadError.{UploadError}
 use Rattle.upload_rules.specs.declared.errors.UploadError.TheVariants.{Refused}
 use Rattle.upload_rules.specs.declared.errors.UploadRefusal.TheVariants as refusals
@@ -14,7 +14,7 @@ abbrev pub list_on : Option Draft → List ℕ
 list_on None = []
 list_on (Some text) = text.blocks
 
--- the block that the committed text's last bytes are on, where it isn't full
+-- the block that the committed text's last bytes are on, where it isn't full and they are still the upload's
 abbrev pub tail_list : Option ℕ → List ℕ
 tail_list None = []
 tail_list (Some block) = block ∷ []
@@ -25,10 +25,9 @@ pub record IsIn (list : List ℕ) (b : ℕ) : Type 0 where
   pub below : at < length list
   pub here : get_or list at 0 ≡ b
 
--- there is such a block where the committed text needs it, and it is one of so many
+-- that block is one of so many
 pub record IsTailed (blocks : ℕ) (g : Growth) : Type 0 where
   pub below : AllBelow blocks (tail_list g.tail)
-  pub long : g.text_len % 4096 ≤ 4096 * length (tail_list g.tail)
   pub few : g.text_len ≤ 4096 * 65536
 
 abbrev pub HoldsCount : Option Draft → ℕ → Type 0
@@ -42,9 +41,14 @@ pub record HoldsLen (g : Growth) (n : ℕ) : Type 0 where
   pub listed : length (list_on g.on) ≡ need_of g.text_len (n - g.text_len % 4096)
   pub count : HoldsCount g.on n
 
--- these bytes: before the first new one they are those on the committed block
+-- the committed text's last n bytes: those on the block, and zeros without one
+abbrev pub front_on : (ℕ → ℕ) → ℕ → Option ℕ → ℕ → List ℕ
+front_on seen first None n = replicate n 0
+front_on seen first (Some block) n = text_on seen first (block ∷ []) n
+
+-- these bytes: before the first new one they are the committed text's last
 abbrev pub bytes_on : (ℕ → ℕ) → ℕ → Growth → Option Draft → List ℕ
-bytes_on seen first g None = text_on seen first (tail_list g.tail) (g.text_len % 4096)
+bytes_on seen first g None = front_on seen first g.tail (g.text_len % 4096)
 bytes_on seen first g (Some text) = content_on seen first text
 
 -- nothing is held any more

@@ -14,7 +14,7 @@ ghost use Rattle.upload_rules.specs.World.{Patch};
 ghost use Rattle.upload_rules.specs.declared.errors.UploadRefusal.{UploadRefusal as Refusal};
 ghost use Rattle.spool_drafts.specs.Effect.{Effect};
 ghost use Rattle.spool_drafts.specs.Growth.{list_on};
-ghost use Rattle.spool_drafts.specs.Drafts.{Holds, Carries, EndsAs, EndsBehind, IsBegun, IsBehind, IsLonger, IsPlaced, with_piece, open_text, number_of, offset_of, came_of, list_of, committed_len_of, tail_of};
+ghost use Rattle.spool_drafts.specs.Drafts.{Holds, Carries, EndsAs, EndsBehind, IsBegun, IsBehind, IsLonger, IsPlaced, with_piece, open_text, number_of, offset_of, came_of, list_of, committed_len_of, fresh_of, tail_of};
 
 use crate::fresh::{finished, read_on};
 use crate::growth::Growth;
@@ -227,7 +227,8 @@ impl SpoolDraft {
         ensures refusal { (e : Refusal) → IsErrOf result (UploadError.Refused e)
             → (e ≡ UploadRefusal.Unencodable) ⊎ (e ≡ UploadRefusal.Full) }
 
-        // Nothing is written.
+        // Nothing is written, and nothing is read where the committed text has no unfinished block.
+        ensures unread { tail_of self.old ≡ [] → disk.new ≡ disk.old }
         ensures keeps { D.honest disk.old
             → OnlyRead (D.seen disk.old) (D.seen disk.new) (D.loose disk.old) (D.loose disk.new) }
         ensures lasts { D.honest disk.old
@@ -260,6 +261,25 @@ impl SpoolDraft {
     {
         self.fresh = fresh;
         self.came = self.came.saturating_add(count as u64);
+    }
+
+    /// Forgets the block with the upload's last bytes, since the upload was deleted: where the new text isn't begun,
+    /// zeros stand for them. The draft keeps its blocks, and goes on. It takes no memory.
+    pub fn forget_tail(&mut self)
+        ensures tail { tail_of self.new ≡ [] }
+        ensures same { (number_of self.new ≡ number_of self.old) × (offset_of self.new ≡ offset_of self.old)
+            × (came_of self.new ≡ came_of self.old) × (committed_len_of self.new ≡ committed_len_of self.old)
+            × (list_of self.new ≡ list_of self.old) × (fresh_of self.new ≡ fresh_of self.old) }
+        ensures placed { (blocks : ℕ) → IsPlaced blocks self.old → IsPlaced blocks self.new }
+        ensures behind { (len : ℕ) (state : List ℕ) → IsBehind len state self.old → IsBehind len state self.new }
+        ensures holds { (x : Indexes) (p : Patch) → Holds x p self.old → Holds x p self.new }
+
+        // Where it has blocks, it carries what it carried.
+        ensures content { (x : Indexes) (seen : ℕ → ℕ) (first : ℕ) (p : Patch)
+            → 1 ≤ length (list_of self.old)
+            → Carries x seen first p self.old → Carries x seen first p self.new }
+    {
+        self.growth.tail = None;
     }
 
     /// Gives the reserved blocks back, without memory and without the disk.

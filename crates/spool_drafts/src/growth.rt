@@ -6,7 +6,7 @@ ghost use Rattle.spool_journal.specs.Image.{journal_pages, all_pages};
 ghost use Rattle.spool_texts.specs.Drafts.{IsReserved, GivesBack, bytes_with, content_on, held_count};
 ghost use Rattle.spool_texts.specs.TextOn.{AllBelow, text_on};
 ghost use Rattle.spool_drafts.specs.Effect.{Effect, Regrasps, RunsShort};
-ghost use Rattle.spool_drafts.specs.Growth.{list_on, tail_list, bytes_on, count_with, IsTailed, HoldsLen, HoldsCount, GrowsTo, ClosesAs};
+ghost use Rattle.spool_drafts.specs.Growth.{list_on, tail_list, front_on, bytes_on, count_with, IsTailed, HoldsLen, HoldsCount, GrowsTo, ClosesAs};
 ghost use Rattle.upload_rules.specs.declared.errors.UploadRefusal.{UploadRefusal as Refusal};
 
 use spool_blocks::{BlockNo, Blocks};
@@ -21,9 +21,10 @@ use upload_rules::{UploadError, UploadRefusal};
 pub(crate) struct Growth {
     /// The length of the committed text in bytes.
     pub(crate) text_len: u64,
-    /// Its last block, where that isn't full.
+    /// The block that its last bytes are on, where it isn't full. None too once these are nobody's: then zeros stand
+    /// for them.
     pub(crate) tail: Option<BlockNo>,
-    /// The new text, from the bytes on that block on: none before the first new byte.
+    /// The new text, from those bytes on: none before the first new byte.
     pub(crate) on: Option<DraftText>,
     /// No block was free: no bytes are kept any more.
     pub(crate) short: bool,
@@ -171,7 +172,8 @@ impl Growth {
             → bytes_with (D.seen disk.new) (25 + 2 * journal_pages layout.now) (list_on self.new.on) last.items
             ≡ bytes_on (D.seen disk.old) (25 + 2 * journal_pages layout.now) self.old self.old.on ++ bytes.now) }
 
-        // Nothing is written.
+        // Nothing is written, and nothing is read where the committed text has no unfinished block.
+        ensures unread { tail_list self.old.tail ≡ [] → disk.new ≡ disk.old }
         ensures keeps { D.honest disk.old
             → Keeps (D.seen disk.old) (D.seen disk.new) (D.loose disk.old) (D.loose disk.new) }
         ensures lasts { D.honest disk.old
@@ -226,7 +228,7 @@ impl Growth {
         }
     }
 
-    // Begins the new text with the bytes on the committed text's last block, where it isn't begun.
+    // Begins the new text with the committed text's last bytes, where it isn't begun.
     fn open<D: Disk>(
         &mut self,
         alloc: Global,
@@ -240,6 +242,7 @@ impl Growth {
         ensures counts { Counts (IsErrOf result UploadError.DiskFault) (D.failures disk.old) (D.failures disk.new) }
         ensures no_refusal { (e : Refusal) → IsErrOf result (UploadError.Refused e) → ⊥ }
         ensures same { self.new ≡ record self.old { on = self.new.on } }
+        ensures unread { tail_list self.old.tail ≡ [] → disk.new ≡ disk.old }
         ensures list { list_on self.new.on ≡ list_on self.old.on }
         ensures some { OnOk result (self.new.on ≡ None → ⊥) }
         ensures holds { (n : ℕ) → HoldsLen self.old n → HoldsLen self.new n }
@@ -304,7 +307,7 @@ impl Growth {
     }
 }
 
-// The new text behind the committed one, of which the bytes on the last block are read.
+// The new text behind the committed one: the bytes on its last block are read, and without one zeros stand for them.
 fn begun<D: Disk>(
     alloc: Global,
     disk: &mut D,
@@ -314,23 +317,24 @@ fn begun<D: Disk>(
 ) -> Result<DraftText, UploadError>
     requires room { 4096 * all_pages layout.now ≤ D.size disk.old }
     requires below { AllBelow layout.now (tail_list tail) }
-    requires long { text_len % 4096 ≤ 4096 * length (tail_list tail) }
     ensures size { D.size disk.new ≡ D.size disk.old }
     ensures honest { D.honest disk.old ↔ D.honest disk.new }
     ensures counts { Counts (IsErrOf result UploadError.DiskFault) (D.failures disk.old) (D.failures disk.new) }
     ensures no_refusal { (e : Refusal) → IsErrOf result (UploadError.Refused e) → ⊥ }
+    ensures unread { tail_list tail ≡ [] → disk.new ≡ disk.old }
     ensures none { IfOk result (λ text. text.blocks ≡ []) }
     ensures tail { D.honest disk.old
         → IfOk result (λ text. text.unfinished
-        ≡ text_on (D.seen disk.old) (25 + 2 * journal_pages layout.now) (tail_list tail) (text_len % 4096)) }
+        ≡ front_on (D.seen disk.old) (25 + 2 * journal_pages layout.now) tail (text_len % 4096)) }
     ensures tail_size { IfOk result (λ text. length text.unfinished ≡ text_len % 4096) }
     ensures keeps { D.honest disk.old
         → Keeps (D.seen disk.old) (D.seen disk.new) (D.loose disk.old) (D.loose disk.new) }
     ensures lasts { D.honest disk.old → Lasts D.Disk disk.old disk.new (IsImage (D.seen disk.old) (D.loose disk.old)) }
 {
+    let len = text_len % PAGE as u64;
     let begun = match tail {
-        Some(block) => DraftText::begin(alloc, disk, layout, &[block], text_len % PAGE as u64),
-        None => DraftText::begin(alloc, disk, layout, &[], 0),
+        Some(block) => DraftText::begin(alloc, disk, layout, &[block], len),
+        None => DraftText::blank(alloc, len as usize).map_err(DraftError::from),
     };
     match begun {
         Ok(text) => Ok(text),

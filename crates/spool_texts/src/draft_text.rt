@@ -1,5 +1,5 @@
 // The new text of a draft.
-ghost use Rattle.std.specs.Prelude.{◌≡◌, ◌≤◌, ◌<◌, ◌≢◌, ◌*◌, ◌+◌, ◌-◌, ◌/◌, ◌%◌, ◌++◌, ◌^◌, ◌↔◌, ℕ, [], ◌∷◌, length, take, drop, min, true, get_or, IsOk, IsErr, IsErrOf, IfOk, OnOk, OnErr, vec_len, vec_capacity};
+ghost use Rattle.std.specs.Prelude.{◌≡◌, ◌≤◌, ◌<◌, ◌≢◌, ◌*◌, ◌+◌, ◌-◌, ◌/◌, ◌%◌, ◌++◌, ◌^◌, ◌↔◌, ℕ, [], ◌∷◌, length, take, drop, replicate, min, true, get_or, IsOk, IsErr, IsErrOf, IfOk, OnOk, OnErr, vec_len, vec_capacity};
 ghost use Rattle.spool_blocks.specs.Blocks.{IsFree, with_reserved};
 ghost use Rattle.spool_disk.specs.Disk.{Counts, IsImage, Keeps};
 ghost use Rattle.spool_disk.specs.Views.{Lasts};
@@ -63,6 +63,21 @@ impl DraftText {
             blocks: Vec::new(alloc),
             page,
             filled,
+        })
+    }
+
+    /// No new text behind one whose last bytes, so many behind its last full block, are nobody's any more: zeros stand
+    /// for them. Nothing is read.
+    pub fn blank(alloc: Global, len: usize) -> Result<Self, AllocError>
+        requires { len < 4096 }
+        ensures none { IfOk result (λ draft. draft.blocks ≡ []) }
+        ensures zeros { IfOk result (λ draft. draft.unfinished ≡ replicate len 0) }
+    {
+        let page = vec![in alloc; 0; PAGE]?;
+        Ok(DraftText {
+            blocks: Vec::new(alloc),
+            page,
+            filled: len,
         })
     }
 
