@@ -39,3 +39,4 @@ pub mod Others
 pub mod Deleted
 pub mod Terminated
 pub mod OfDeleted
+pub mod Forgotten

@@ -1,6 +1,6 @@
 -- The drafts, where an upload was taken away.
 use Rattle.std.proofs.Common.{◌≡◌, ◌≢◌, ℕ, ◌+◌, ◌*◌, ◌≤◌, List, Option, None, Some, length, get_or, refl, sym, ◌∙◌, ap, subst, arith}
-use Rattle.std.proofs.Common.{inl, inr, false}
+use Rattle.std.proofs.Common.{inl, inr, Bool, false}
 use Rattle.std.proofs.lemmas.Bool.{cases_eq}
 use Rattle.enc_model.specs.Indexes.{IndexSet}
 use Rattle.spool_blocks.specs.Blocks.{Held}
@@ -19,29 +19,30 @@ use Rattle.upload_rules.proofs.Deleted.{find_in_others, none_in_others}
 use Rattle.spool_kept.specs.Drafting.{DraftStands, DraftsFit, DraftsHold, DraftsStand, IsOwnedBy, StandsFor, lists_at}
 use Rattle.spool_kept.specs.Holding.{Holding, FitsTogether, IsUsedBy}
 use Rattle.spool_kept.specs.Stored.{Stored}
-use Rattle.spool_kept.specs.Terminating.{FreesBlocks, IsTakenOut}
+use Rattle.spool_kept.specs.Terminating.{FreesRows, IsTakenOut}
 use Rattle.spool_kept.proofs.ChangedSlots.{clash, in_use, one_value}
 use Rattle.spool_kept.proofs.DraftLonger.{held_both}
-use Rattle.spool_kept.proofs.DraftSpent.{bytes_same}
+use Rattle.spool_drafts.proofs.Stays.{bytes_same}
 use Rattle.spool_kept.proofs.Freed.{others_stay}
 use Rattle.spool_kept.proofs.TakenOut.{still_there, was_there}
 
 -- WHATEVER THE DISK SAID
 
 -- reserved blocks stay so
-reserved_still : (slot : ℕ) (old new : Held) (list : List ℕ) → FreesBlocks slot old new → IsReserved old list
+reserved_still : (slot : ℕ) (old new : Held) (list : List ℕ) → FreesRows slot old.rows new.rows
+    → new.reserved ≡ old.reserved → IsReserved old list
     → IsReserved new list
-reserved_still slot old new list frees is = record {
-  below = λ i lt. omega (arith, is.below i lt, frees.rows.size);
-  reserved = λ i lt. frees.reserved (get_or list i 0) ∙ is.reserved i lt;
-  no_owner = λ i lt. frees.rows.kept (get_or list i 0) (λ k owns. clash (is.no_owner i lt) owns) ∙ is.no_owner i lt;
+reserved_still slot old new list frees same is = record {
+  below = λ i lt. omega (arith, is.below i lt, frees.size);
+  reserved = λ i lt. ap (λ (xs : List Bool). get_or xs (get_or list i 0) false) same ∙ is.reserved i lt;
+  no_owner = λ i lt. frees.kept (get_or list i 0) (λ k owns. clash (is.no_owner i lt) owns) ∙ is.no_owner i lt;
   distinct = is.distinct;
 }
 
-pub hold_still : (n slot : ℕ) (old new : Held) (drafts : List (Option SpoolDraft)) → FreesBlocks slot old new
-    → DraftsHold n old drafts → DraftsHold n new drafts
-hold_still n slot old new drafts frees hold = record {
-  reserved = λ d. reserved_still slot old new (lists_at drafts d) frees (hold.reserved d);
+pub hold_still : (n slot : ℕ) (old new : Held) (drafts : List (Option SpoolDraft)) → FreesRows slot old.rows new.rows
+    → new.reserved ≡ old.reserved → DraftsHold n old drafts → DraftsHold n new drafts
+hold_still n slot old new drafts frees same hold = record {
+  reserved = λ d. reserved_still slot old new (lists_at drafts d) frees same (hold.reserved d);
   placed = hold.placed;
   distinct = hold.distinct;
 }
@@ -84,7 +85,7 @@ module _ (h h' : Holding) (number slot : ℕ) (used : IsUsedBy h.slots slot numb
         };
         owned = λ i lt.
             let own = owned.owned i lt in
-            let stay = others_stay slot h.blocks.rows h'.blocks.rows out.blocks.rows in
+            let stay = others_stay slot h.blocks.rows h'.blocks.rows out.rows in
             (own.0, stay.still (get_or list i 0) owned.slot own.0 other own.1);
       }
 
@@ -112,8 +113,8 @@ module _ (h h' : Holding) (number slot : ℕ) (used : IsUsedBy h.slots slot numb
           (find d w.patches) (draft_at drafts d) (λ p o found there s. stands_still p o s) (stand.each d);
       apart = stand.apart;
       grown = still_grown w number stand.grown;
-      limit = stand.limit ∙ ap (λ (n : ℕ). Some n) (sym out.blocks.rows.size);
-      all = λ b is. stand.all b (sym (out.blocks.reserved b) ∙ is);
+      limit = stand.limit ∙ ap (λ (n : ℕ). Some n) (sym out.rows.size);
+      all = λ b is. stand.all b (ap (λ (xs : List Bool). get_or xs b false) (sym out.reserved) ∙ is);
     }
 
   pub stands_after : {D : Type 0} (disk : Ghosts D) (d d' : D) (drafts : List (Option SpoolDraft)) (w : World)

@@ -104,6 +104,7 @@ module _ (h : Holding) (slot number : ℕ) (fits : FitsTogether h) (used : IsUse
     list_count = length-set h.lists slot [] ∙ fits.list_count;
     row_count = frees.size ∙ fits.row_count;
     rows_fit = rows_still_fit slot h.blocks.rows blocks.rows frees fits.rows_fit;
+    below = λ s q e. fits.below s q (was_there h.slots slot inside s q e).1;
     ordered = orders order is;
     listed = listed blocks.rows frees;
   }

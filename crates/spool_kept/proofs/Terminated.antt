@@ -62,7 +62,7 @@ module _ (h : Holding) (v : View) (m : Store) (number slot : ℕ) (keeps : Keeps
     after = deleted_view v slot h'.blocks.rows
 
     frees : FreesRows slot v.rows h'.blocks.rows
-    frees = subst (λ (rows : List Row). FreesRows slot rows h'.blocks.rows) keeps.rows out.blocks.rows
+    frees = subst (λ (rows : List Row). FreesRows slot rows h'.blocks.rows) keeps.rows out.rows
 
     shows_after : Shows (deleted_view v slot h'.blocks.rows) (deleted_store m number)
     shows_after = subst (λ (n : ℕ). Shows (deleted_view v slot h'.blocks.rows) (deleted_store m n)) used.is

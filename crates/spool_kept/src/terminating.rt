@@ -4,7 +4,6 @@ ghost use Rattle.spool_blocks.specs.Blocks.{Row as HeldRow};
 ghost use Rattle.spool_disk.specs.Disk.{Counts};
 ghost use Rattle.spool_disk.specs.Views.{Lasts};
 ghost use Rattle.spool_journal.specs.Image.{journal_pages, all_pages, InArea};
-ghost use Rattle.spool_drafts.specs.declared.draft.SpoolDraft.{SpoolDraft as Draft};
 ghost use Rattle.spool_pages.specs.Changes.{ChangesButRows, with_slot, SameRowsBut};
 ghost use Rattle.spool_pages.specs.View.{View, text_page};
 ghost use Rattle.upload_rules.specs.Answers.{Answers};
@@ -14,12 +13,12 @@ ghost use Rattle.upload_rules.specs.declared.errors.UploadRefusal.{UploadRefusal
 ghost use Rattle.spool_kept.specs.Drafting.{DraftsFit, StandsFor};
 ghost use Rattle.spool_kept.specs.Holding.{IsUsedBy, Lists, Rises};
 ghost use Rattle.spool_kept.specs.Stored.{ShowsEither};
-ghost use Rattle.spool_kept.specs.Terminating.{FreesBlocks, IsTakenOut, IsWithout};
+ghost use Rattle.spool_kept.specs.Terminating.{Forget, ForgetsOf, IsTakenOut, IsWithout};
 
 use crate::kept::Kept;
 use crate::order::{NumberedSlot, places_to};
-use spool_blocks::Blocks;
 use spool_disk::Disk;
+use spool_drafts::SpoolDraft;
 use spool_journal::Pages;
 use spool_pages::{change, fill_rows, pages_of_change};
 use std::alloc::{AllocError, Global};
@@ -35,12 +34,24 @@ fn take_number(order: &mut Vec<NumberedSlot>, number: u64)
     order.remove(place);
 }
 
-// Makes the slot's blocks free.
-fn free_blocks(blocks: &mut Blocks, slot: u32)
-    requires { slot < 512 }
-    ensures { FreesBlocks slot blocks.old blocks.new }
+// A draft of this number forgets its upload's last block. Another is as it was.
+fn forget_tail(draft: &mut Option<SpoolDraft>, number: u64)
+    ensures { ForgetsOf number draft.old draft.new }
 {
-    blocks.own(slot, 0, &[]);
+    if let Some(draft) = draft {
+        if draft.number() == number {
+            draft.forget_tail();
+        }
+    }
+}
+
+// Each draft of this number forgets its upload's last block.
+fn forget_tails(drafts: &mut Vec<Option<SpoolDraft>>, number: u64)
+    ensures { Forget number drafts.old.items drafts.new.items }
+{
+    for place in 0..drafts.len() {
+        forget_tail(&mut drafts[place], number);
+    }
 }
 
 impl Kept {
@@ -65,46 +76,51 @@ impl Kept {
     {
         take_number(&mut self.order, number);
         self.lists[slot as usize].clear();
-        free_blocks(&mut self.blocks, slot);
+        self.blocks.disown(slot);
         self.slots[slot as usize] = None;
     }
 }
 
-/// Takes the upload of a number away: refused with `NoSuch`, `NoMemory`, `DiskFault`. Every growth comes before the
-/// first write, and no block is free before the last one. After a fault of the device what is kept is ahead of the
+/// Takes the upload of a number away: refused with `NoSuch`, `NoMemory`, `DiskFault`. Its drafts keep their blocks, and
+/// forget its text. Every growth comes before the first write. After a fault of the device what is kept is ahead of the
 /// disk: the spool must be opened again.
 pub fn terminate<D: Disk>(
     alloc: Global,
     disk: &mut D,
     kept: &mut Kept,
+    drafts: &mut Vec<Option<SpoolDraft>>,
     number: u64,
 ) -> Result<(), UploadError>
     requires room { 4096 * all_pages kept.old.layout ≤ D.size disk.old }
+    requires fits { DraftsFit kept.old drafts.old.items }
+    ensures fits { DraftsFit kept.new drafts.new.items }
     ensures size { D.size disk.new ≡ D.size disk.old }
     ensures honest { D.honest disk.old ↔ D.honest disk.new }
     ensures counts { Counts (IsErrOf result UploadError.DiskFault) (D.failures disk.old) (D.failures disk.new) }
     ensures layout { kept.new.layout ≡ kept.old.layout }
-    ensures fits { (drafts : List (Option Draft)) → DraftsFit kept.old drafts → DraftsFit kept.new drafts }
 
     // Whatever the disk said, it is refused so exactly where no slot has the number.
     ensures no_such { IsErrOf result (UploadError.Refused UploadRefusal.NoSuch)
         ↔ ((slot : ℕ) → IsUsedBy kept.old.slots slot number → ⊥) }
     ensures taken_out { (IsErrOf result UploadError.NoMemory → ⊥) → (slot : ℕ)
         → IsUsedBy kept.old.slots slot number → IsTakenOut kept.old slot kept.new }
-    ensures unmade { IsErrOf result UploadError.NoMemory → (disk.new ≡ disk.old) × (kept.new ≡ kept.old) }
+    ensures forgets { (IsErrOf result UploadError.NoMemory → ⊥) → (slot : ℕ)
+        → IsUsedBy kept.old.slots slot number → Forget number drafts.old.items drafts.new.items }
+    ensures unmade { IsErrOf result UploadError.NoMemory
+        → (disk.new ≡ disk.old) × (kept.new ≡ kept.old) × (drafts.new.items ≡ drafts.old.items) }
     ensures refused { (e : Refusal) → IsErrOf result (UploadError.Refused e)
-        → (disk.new ≡ disk.old) × (kept.new ≡ kept.old) }
-    ensures answer { (w : World) (drafts : List (Option Draft)) → StandsFor D.Disk disk.old kept.old drafts w
+        → (disk.new ≡ disk.old) × (kept.new ≡ kept.old) × (drafts.new.items ≡ drafts.old.items) }
+    ensures answer { (w : World) → StandsFor D.Disk disk.old kept.old drafts.old.items w
         → Answers (terminate_refusal w number) result
-        (λ done. StandsFor D.Disk disk.new kept.new drafts (terminated w number))
-        (StandsFor D.Disk disk.new kept.new drafts w) }
+        (λ done. StandsFor D.Disk disk.new kept.new drafts.new.items (terminated w number))
+        (StandsFor D.Disk disk.new kept.new drafts.new.items w) }
 
     // A crash during it leaves the upload or its deletion.
-    ensures crash { (w : World) (drafts : List (Option Draft)) → StandsFor D.Disk disk.old kept.old drafts w
+    ensures crash { (w : World) → StandsFor D.Disk disk.old kept.old drafts.old.items w
         → Lasts D.Disk disk.old disk.new (ShowsEither kept.old.layout w.store (terminate_outcome w number)) }
 
     // No block is written by it.
-    ensures texts { (w : World) (drafts : List (Option Draft)) → StandsFor D.Disk disk.old kept.old drafts w
+    ensures texts { (w : World) → StandsFor D.Disk disk.old kept.old drafts.old.items w
         → OnOk result ((p : ℕ) → 4096 * text_page kept.old.layout ≤ p → D.seen disk.new p ≡ D.seen disk.old p) }
 {
     let Some(slot) = kept.slot_of(number) else {
@@ -114,6 +130,7 @@ pub fn terminate<D: Disk>(
         return Err(UploadError::NoMemory);
     };
     kept.take_out(number, slot);
+    forget_tails(drafts, number);
     fill_rows(&mut pages, &kept.layout, kept.blocks.rows());
     match change(disk, &kept.layout, &pages) {
         Ok(()) => Ok(()),

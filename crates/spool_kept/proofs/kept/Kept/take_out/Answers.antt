@@ -1,6 +1,5 @@
 use Rattle.std.proofs.Common.{rules, ◌≡◌, ◌∙◌, ◌<◌, ℕ, List, [], None, get_or, slice_set, sym, ap, subst, arith}
 use Rattle.spool_kept.specs.Holding.{Holding, FitsTogether, IsUsedBy, Lists}
-use Rattle.spool_kept.specs.Terminating.{FreesBlocks, IsTakenOut}
 use Rattle.spool_kept.specs.contracts.kept.Kept.{the_view}
 use Rattle.spool_kept.proofs.TakenOut.{fits_without, slot_below}
 use Rattle.spool_kept.proofs.kept.Kept.take_out.Goals as goal
@@ -22,7 +21,8 @@ invariant_of-self c =
       slots = slice_set h.slots slot None;
       order = c.take_number.new.order.items;
       lists = slice_set h.lists slot list;
-      blocks = c.free_blocks.new.blocks;
+      blocks = c.disown.new.self;
     })) (sym c.clear.ensures)
-    (fits_without h slot c.args.number c.self.invariant used c.take_number.new.order.items c.free_blocks.new.blocks
-    c.take_number.ensures c.free_blocks.ensures.rows)
+    (fits_without h slot c.args.number c.self.invariant used c.take_number.new.order.items c.disown.new.self
+    c.take_number.ensures
+    (record { size = c.disown.ensures.size; freed = c.disown.ensures.freed; kept = c.disown.ensures.kept }))
