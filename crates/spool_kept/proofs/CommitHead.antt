@@ -1,5 +1,5 @@
 -- What a commit finds of its draft's upload.
-use Rattle.std.proofs.Common.{Err, IsErrOf, refl, ◌↔◌, ◌≡◌, ℕ, ◌+◌, ◌*◌, List, Option, None, Some, length, get_or, sym, ◌∙◌, ap, subst, arith}
+use Rattle.std.proofs.Common.{Result, Err, IsErrOf, refl, inl, inr, ◌↔◌, ◌⊎◌, ◌≡◌, ℕ, ◌+◌, ◌*◌, List, Option, None, Some, length, get_or, sym, ◌∙◌, ap, subst, arith}
 use Rattle.spool_disk.specs.declared.disk.Disk.{Ghosts}
 use Rattle.spool_journal.specs.Image.{journal_pages}
 use Rattle.spool_drafts.specs.Drafts.{Holds, came_of, number_of, offset_of}
@@ -9,14 +9,15 @@ use Rattle.upload_rules.specs.Calls.{commit_refusal, committed, dropped, reached
 use Rattle.upload_rules.specs.Drafts.{draft_at}
 use Rattle.upload_rules.specs.Store.{Upload, find, upload_of}
 use Rattle.upload_rules.specs.World.{Patch, World}
+use Rattle.upload_rules.specs.declared.errors.UploadError.{UploadError}
 use Rattle.upload_rules.specs.declared.errors.UploadError.TheVariants.{Refused}
 use Rattle.upload_rules.specs.declared.errors.UploadRefusal.{UploadRefusal}
 use Rattle.upload_rules.specs.declared.errors.UploadRefusal.TheVariants.{NoSuch, Offset, TooLong, Unencodable, Slots, TooLarge, Full}
 use Rattle.upload_rules.proofs.Patches.{draft_of}
 use Rattle.upload_rules.proofs.Refusals.{no_such_upload, other_offset}
 use Rattle.upload_rules.proofs.Same.{same_upload}
-use Rattle.spool_kept.specs.Committing.{FindsSlot, HasSameCount, IsCommit}
-use Rattle.spool_kept.specs.Drafting.{DraftStands, DraftsHold, IsOfUpload, StandsFor}
+use Rattle.spool_kept.specs.Committing.{FindsSlot, HasOtherCount, HasSameCount, IsCommit}
+use Rattle.spool_kept.specs.Drafting.{DraftStands, DraftsHold, StandsFor}
 use Rattle.spool_kept.specs.Holding.{Holding, IsUsedBy}
 use Rattle.spool_kept.specs.Shows.{IsTold}
 use Rattle.spool_kept.proofs.Answered.{no_upload}
@@ -42,8 +43,14 @@ module _ {D : Type 0} (disk : Ghosts D) (d : D) (h : Holding) (drafts : List (Op
   head_refused NoSuch free =
       no_such_upload w number p (no_upload h s.stored.view w.store s.stored.keeps s.stored.shows p.number (λ slot used. free slot (subst (IsUsedBy h.slots slot) (sym held.number) used)))
   head_refused Offset other =
-      let is = told other.slot other.used other.there in
-      other_offset w number p is.upload (upload_there other.used is.upload other.number is.there) (λ same. other.count (is.tells.accepted ∙ same ∙ sym held.offset))
+      let is = told other.slot other.used.used other.used.there in
+      other_offset w number p is.upload (upload_there other.used.used is.upload other.used.is is.there)
+      (λ same. other.none other.slot (record {
+        used = other.used.used;
+        there = other.used.there;
+        number = other.used.is;
+        count = is.tells.accepted ∙ same ∙ sym held.offset;
+      }))
   head_refused TooLong found = absurd found
   head_refused Unencodable found = absurd found
   head_refused Slots found = absurd found
@@ -82,15 +89,40 @@ module _ {D : Type 0} (disk : Ghosts D) (d : D) (h : Holding) (drafts : List (Op
 
 -- WHATEVER THE DISK SAID
 
--- it is refused so exactly where the upload has another count
-pub at_offset : (slots : List (Option SlotRecord)) (o : SpoolDraft) (e : UploadRefusal) → FindsSlot slots o (Err e) → IsOfUpload slots o
-    → (IsErrOf {T = ℕ} (Err (Refused e)) (Refused Offset) ↔ ((s : ℕ) → HasSameCount slots o s → ⊥))
-at_offset slots o NoSuch free is =
-    let used : ⊥ = is.some free in
-    (λ refused. absurd used, λ none. absurd used)
-at_offset slots o Offset other is = (λ refused. other.none, λ none. refl)
-at_offset slots o TooLong found is = absurd found
-at_offset slots o Unencodable found is = absurd found
-at_offset slots o Slots found is = absurd found
-at_offset slots o TooLarge found is = absurd found
-at_offset slots o Full found is = absurd found
+-- it is refused so exactly where the draft's upload is gone
+abbrev pub IsGoneFor : {T : Type 0} → List (Option SlotRecord) → SpoolDraft → Result T UploadError → Type 0
+IsGoneFor slots o result = IsErrOf result (Refused NoSuch) ↔ ((s : ℕ) → IsUsedBy slots s (number_of o) → ⊥)
+
+-- and so exactly where that has another count
+abbrev pub IsOtherFor : {T : Type 0} → List (Option SlotRecord) → SpoolDraft → Result T UploadError → Type 0
+IsOtherFor slots o result = IsErrOf result (Refused Offset) ↔ HasOtherCount slots o
+
+abbrev pub IsExactFor : {T : Type 0} → List (Option SlotRecord) → SpoolDraft → Result T UploadError → Type 0
+IsExactFor slots o result = IsGoneFor slots o result × IsOtherFor slots o result
+
+pub refused_exactly : {T : Type 0} (slots : List (Option SlotRecord)) (o : SpoolDraft) (e : UploadRefusal)
+    → FindsSlot slots o (Err e) → IsExactFor {T = T} slots o (Err (Refused e))
+refused_exactly slots o NoSuch free =
+    ((λ refused. free, λ gone. refl), (λ refused. absurd cc, λ other. absurd (free other.slot other.used)))
+refused_exactly slots o Offset other =
+    ((λ refused. absurd cc, λ gone. absurd (gone other.slot other.used)), (λ refused. other, λ there. refl))
+refused_exactly slots o TooLong found = absurd found
+refused_exactly slots o Unencodable found = absurd found
+refused_exactly slots o Slots found = absurd found
+refused_exactly slots o TooLarge found = absurd found
+refused_exactly slots o Full found = absurd found
+
+-- with the same count it is refused with neither
+pub done_exactly : {T : Type 0} (slots : List (Option SlotRecord)) (o : SpoolDraft) (slot : ℕ) (result : Result T UploadError)
+    → HasSameCount slots o slot
+    → ((e : UploadRefusal) → IsErrOf result (Refused e) → (e ≡ Unencodable) ⊎ (e ≡ Full)) → IsExactFor slots o result
+done_exactly slots o slot result has late = (
+  (
+    λ refused. absurd (elim (late NoSuch refused) [ inl e ↦ cc | inr e ↦ cc ]),
+    λ gone. absurd (gone slot (record { used = has.used; there = has.there; is = has.number })),
+  ),
+  (
+    λ refused. absurd (elim (late Offset refused) [ inl e ↦ cc | inr e ↦ cc ]),
+    λ other. absurd (other.none slot has),
+  ),
+)

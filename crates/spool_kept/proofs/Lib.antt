@@ -31,6 +31,7 @@ pub mod CommitSpent
 pub mod CommitHead
 pub mod LastWritten
 pub mod OfUploads
+pub mod CommitFits
 pub mod Facts
 pub mod Freed
 pub mod Unlisted

@@ -9,7 +9,7 @@ use Rattle.spool_texts.proofs.Reserves.{in_either}
 use Rattle.spool_pages.specs.Rests.{Unowned}
 use Rattle.spool_pages.specs.View.{SlotRecord}
 use Rattle.spool_kept.specs.Changed.{HandsOver}
-use Rattle.spool_kept.specs.Holding.{Holding, FitsTogether, Lists, Orders, HasBlocks, IsListOf}
+use Rattle.spool_kept.specs.Holding.{Holding, FitsTogether, AreBelow, Lists, Orders, HasBlocks, IsListOf}
 use Rattle.spool_kept.proofs.ChangedSlots.{slot_here, slot_else, slot_is, in_use, one_value}
 use Rattle.spool_kept.proofs.HandedOver.{room_for, others_same, owned_now, fit_now}
 
@@ -62,6 +62,14 @@ module _ (h : Holding) (fits : FitsTogether h) (slot : ℕ) (r : SlotRecord) (th
       ];
     }
 
+    below_longer : AreBelow h.next (set h.slots slot (Some r'))
+    below_longer s q e = elim (slot_is h.slots slot r' s q inside e) [
+      | inl now ↦
+          let lt = fits.below slot r there in
+          omega (arith, lt, number, ap (λ (p : SlotRecord). p.number) now.1)
+      | inr old ↦ fits.below s q old.1
+    ]
+
     -- the list in the slot
     here_listed : (rows : List Row) (xs : List ℕ) (s : ℕ) → s ≡ slot → HasBlocks rows slot r'.text_len xs → IsListOf rows s (get_or (set h.slots slot (Some r')) s None) xs
     here_listed rows xs s same has' =
@@ -75,6 +83,7 @@ module _ (h : Holding) (fits : FitsTogether h) (slot : ℕ) (r : SlotRecord) (th
       list_count = fits.list_count;
       row_count = fits.row_count;
       rows_fit = fits.rows_fit;
+      below = below_longer;
       ordered = orders_longer;
       listed = λ s lt. elim (cases_eq s slot) [
         | inl same ↦ here_listed h.blocks.rows (get_or h.lists s []) s same
@@ -109,6 +118,7 @@ module _ (h : Holding) (fits : FitsTogether h) (slot : ℕ) (r : SlotRecord) (th
         list_count = length-set h.lists slot (take (r.text_len / 4096) (get_or h.lists slot []) ++ more) ∙ fits.list_count;
         row_count = hands.size ∙ fits.row_count;
         rows_fit = fit_now h.blocks.rows slot (r.text_len / 4096) more blocks.rows hands no_owner slot_few room fits.rows_fit;
+        below = below_longer;
         ordered = orders_longer;
         listed = λ s lt. elim (cases_eq s slot) [
           | inl same ↦

@@ -1,10 +1,10 @@
 -- As many uploads as slots in use.
-use Rattle.std.proofs.Common.{◌≡◌, inl, inr, ℕ, zero, suc, ◌<◌, ◌≤◌, ◌==◌, if◌then◌else◌, List, Option, None, Some, IsSome, IfSome, MatchOption, is_some, true, ◌⊎◌, ◌^◌, length, get_or, slice_index, refl, sym, ◌∙◌, ap, subst, arith, eq-eqb}
+use Rattle.std.proofs.Common.{◌≡◌, inl, inr, ℕ, zero, suc, ◌<◌, ◌≤◌, ◌==◌, if◌then◌else◌, List, Option, None, Some, IsSome, IfSome, MatchOption, ◌⊎◌, ◌^◌, length, get_or, slice_index, refl, sym, ◌∙◌, ap, subst, arith, eq-eqb}
 use Rattle.std.proofs.lemmas.Bool.{cases_eq, cases_order, ne_eqb}
 use Rattle.upload_rules.specs.Store.{Store}
 use Rattle.spool_pages.specs.View.{SlotRecord, View}
 use Rattle.spool_kept.specs.declared.order.NumberedSlot.{NumberedSlot}
-use Rattle.spool_kept.specs.Holding.{Holding, FitsTogether, IsUsedBy, Lists, Orders, numbered, number_at}
+use Rattle.spool_kept.specs.Holding.{Holding, FitsTogether, Lists, Orders, numbered, number_at}
 use Rattle.spool_kept.specs.Creating.{HasRoomAt}
 use Rattle.spool_kept.specs.Kept.{KeepsView}
 use Rattle.spool_kept.specs.Shows.{Shows}
@@ -95,18 +95,13 @@ module _ (h : Holding) (v : View) (m : Store) (kept : KeepsView h v) (shows : Sh
 
 -- A SLOT FOR A NEW UPLOAD
 
-pub some_of : {A : Type 0} (X : Type 0) (P : A → Type 0) (o : Option A) → MatchOption o X P → is_some o ≡ true → (a : A) × P a
-some_of X P None h e = absurd cc
-some_of X P (Some a) h e = (a, h)
-
-pub room_at : (h : Holding) (slots : List (Option SlotRecord)) → FitsTogether h → slots ≡ h.slots → h.next < 10 ^ 18 → ((t : ℕ) → IsUsedBy h.slots t h.next → ⊥) → (X : Type 0) (o : Option ℕ)
+pub room_at : (h : Holding) (slots : List (Option SlotRecord)) → FitsTogether h → slots ≡ h.slots → h.next < 10 ^ 18 → (X : Type 0) (o : Option ℕ)
     → MatchOption o X (λ s. (s < 512) × (get_or slots s None ≡ None)) → IfSome o (HasRoomAt h)
-room_at h slots fits same next unused X None e = tt
-room_at h slots fits same next unused X (Some s) e = record {
+room_at h slots fits same next X None e = tt
+room_at h slots fits same next X (Some s) e = record {
   within = e.0;
   free = ap (λ (xs : List (Option SlotRecord)). get_or xs s None) (sym same) ∙ e.1;
   next = next;
-  unused = λ t l. unused t (fits.ordered.names h.next t l);
 }
 
 module _ (h : Holding) (slots : List (Option SlotRecord)) (fits : FitsTogether h) (same : slots ≡ h.slots) (room : length h.order < 512) where
@@ -116,9 +111,3 @@ module _ (h : Holding) (slots : List (Option SlotRecord)) (fits : FitsTogether h
       let full = all_listed h.slots h.order fits.ordered (λ s lt. subst (λ (xs : List (Option SlotRecord)). IsSome (get_or xs s None)) same (all s lt)) in
       absurd (omega (arith, full, room))
   few_at v m kept shows P (Some s) e = let le = not_fewer h v m kept shows in omega (arith, le, room)
-
--- the next number is none of those in use
-pub next_free : (h : Holding) (v : View) (m : Store) → KeepsView h v → Shows v m → (t : ℕ) → IsUsedBy h.slots t h.next → ⊥
-next_free h v m kept shows t used =
-    let sound = shows.sound.records t used.used (ap (λ (xs : List (Option SlotRecord)). get_or xs t None) (sym kept.slots) ∙ used.there) in
-    omega (arith, sound.below, used.is, kept.next)

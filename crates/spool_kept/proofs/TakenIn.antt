@@ -5,8 +5,14 @@ use Rattle.std.proofs.lemmas.List.{length-set}
 use Rattle.spool_pages.specs.View.{SlotRecord}
 use Rattle.spool_kept.specs.Creating.{HasRoomAt}
 use Rattle.spool_kept.specs.declared.order.NumberedSlot.{NumberedSlot}
-use Rattle.spool_kept.specs.Holding.{Holding, FitsTogether, HasBlocks, IsListOf, AreListsTo, IsAdded, Lists, Orders}
+use Rattle.spool_kept.specs.Holding.{Holding, FitsTogether, AreBelow, HasBlocks, IsListOf, AreListsTo, IsAdded, Lists, Orders}
 use Rattle.spool_kept.proofs.ChangedSlots.{clash, slot_here, slot_else, slot_is}
+
+-- the next number is none of those in use
+pub next_free : (h : Holding) → FitsTogether h → (s : ℕ) → Lists h.order h.next s → ⊥
+next_free h fits s l =
+    let used = fits.ordered.names h.next s l in
+    omega (arith, fits.below s used.used used.there, used.is)
 
 module _ (h : Holding) (slot : ℕ) (r : SlotRecord) (fits : FitsTogether h) (room : HasRoomAt h slot) (number : r.number ≡ h.next) (no_text : r.text_len ≡ 0) where
   inside : slot < length h.slots
@@ -46,6 +52,12 @@ module _ (h : Holding) (slot : ℕ) (r : SlotRecord) (fits : FitsTogether h) (ro
     | inr other ↦ subst (λ (o : Option SlotRecord). IsListOf h.blocks.rows s o (get_or h.lists s [])) (sym (slot_else h.slots slot r s other)) (fits.listed s lt)
   ]
 
+  below : AreBelow (h.next + 1) (slice_set h.slots slot (Some r))
+  below s q e = elim (slot_is h.slots slot r s q inside e) [
+    | inl now ↦ omega (arith, ap (λ (p : SlotRecord). p.number) now.1, number)
+    | inr old ↦ omega (arith, fits.below s q old.1)
+  ]
+
   pub taken_fits : (order : List NumberedSlot) → IsAdded h.order h.next slot order
       → FitsTogether (record { layout = h.layout; next = h.next + 1; indexes = h.indexes; slots = slice_set h.slots slot (Some r); order = order; lists = h.lists; blocks = h.blocks })
   taken_fits order is = record {
@@ -53,6 +65,7 @@ module _ (h : Holding) (slot : ℕ) (r : SlotRecord) (fits : FitsTogether h) (ro
     list_count = fits.list_count;
     row_count = fits.row_count;
     rows_fit = fits.rows_fit;
+    below = below;
     ordered = orders order is;
     listed = listed;
   }

@@ -21,13 +21,10 @@ pub record HasSameCount (slots : List (Option SlotRecord)) (o : SpoolDraft) (slo
   pub number : used.number ≡ number_of o
   pub count : used.accepted ≡ offset_of o
 
--- another count, and so has each of that upload's slots
+-- a slot is in use by the draft's upload, and none has that count
 pub record HasOtherCount (slots : List (Option SlotRecord)) (o : SpoolDraft) : Type 0 where
   pub slot : ℕ
-  pub used : SlotRecord
-  pub there : get_or slots slot None ≡ Some used
-  pub number : used.number ≡ number_of o
-  pub count : used.accepted ≡ offset_of o → ⊥
+  pub used : IsUsedBy slots slot (number_of o)
   pub none : (s : ℕ) → HasSameCount slots o s → ⊥
 
 -- the draft is behind the text of the slot's upload

@@ -3,15 +3,14 @@ use Rattle.std.specs.Prelude.{◌≡◌, ℕ, ◌^◌, ◌+◌, ◌<◌, ◌≤�
 use Rattle.enc_model.specs.Indexes.{IndexSet}
 use Rattle.upload_rules.specs.Store.{New, new_upload}
 use Rattle.spool_pages.specs.View.{SlotRecord}
-use Rattle.spool_kept.specs.Holding.{Holding, FitsTogether, Lists, IsAdded}
+use Rattle.spool_kept.specs.Holding.{Holding, FitsTogether, IsAdded}
 use Rattle.spool_kept.specs.Shows.{IsSoundRecord, IsRecordOf}
 
--- a free slot, and a next number that is none of those in use and may be followed by another
+-- a free slot, and a next number that may be followed by another
 pub record HasRoomAt (h : Holding) (slot : ℕ) : Type 0 where
   pub within : slot < 512
   pub free : get_or h.slots slot None ≡ None
   pub next : h.next < 10 ^ 18
-  pub unused : (t : ℕ) → Lists h.order h.next t → ⊥
 
 -- the record is in the slot, under the next number, and all fits together
 pub record IsTakenIn (old : Holding) (slot : ℕ) (r : SlotRecord) (new : Holding) : Type 0 where

@@ -46,19 +46,24 @@ pub record IsKept (slots : List (Option SlotRecord)) (r : Record) : Type 0 where
   pub there : get_or slots slot None ≡ Some (said_of r)
   pub only : (s : ℕ) (q : SlotRecord) → get_or slots s None ≡ Some q → q.number ≡ r.number → q ≡ said_of r
 
--- The draft's upload is in a slot, with as many bytes as when the draft began, or more. With as many, the draft is
--- behind its text.
+-- Where the draft's upload is in a slot, it has as many bytes as when the draft began, or more. With as many, the draft
+-- is behind its text.
 pub record IsOfUpload (slots : List (Option SlotRecord)) (o : SpoolDraft) : Type 0 where
-  pub some : ((s : ℕ) → IsUsedBy slots s (number_of o) → ⊥) → ⊥
   pub grown : (s : ℕ) (r : SlotRecord) → get_or slots s None ≡ Some r → r.number ≡ number_of o
       → offset_of o ≤ r.accepted
   pub behind : (s : ℕ) (r : SlotRecord) → get_or slots s None ≡ Some r → r.number ≡ number_of o
       → r.accepted ≡ offset_of o → IsBehind r.text_len r.state o
 
--- the drafts fit what is kept, whatever the disk said
+-- it is so with each open draft
+abbrev pub EachDraft : (SpoolDraft → Type 0) → List (Option SpoolDraft) → Type 0
+EachDraft P drafts = (d : ℕ) (o : SpoolDraft) → draft_at drafts d ≡ Some o → P o
+
+-- The drafts fit what is kept, whatever the disk said. An upload may be gone while its drafts are open; its number is
+-- not given again.
 pub record DraftsFit (h : Holding) (drafts : List (Option SpoolDraft)) : Type 0 where
   pub blocks : DraftsHold h.layout h.blocks drafts
-  pub uploads : (d : ℕ) (o : SpoolDraft) → draft_at drafts d ≡ Some o → IsOfUpload h.slots o
+  pub below : EachDraft (λ o. number_of o < h.next) drafts
+  pub uploads : EachDraft (IsOfUpload h.slots) drafts
 
 -- all that is kept is as it was but for what is reserved
 pub record OnlyReserves (old new : Holding) : Type 0 where

@@ -6,6 +6,7 @@ use Rattle.spool_blocks.specs.Chains.{OwnsOneEach}
 use Rattle.upload_rules.specs.Room.{blocks_of}
 use Rattle.spool_pages.specs.Fits.{FitsRow}
 use Rattle.spool_pages.specs.View.{SlotRecord}
+use Rattle.spool_kept.specs.declared.kept.Kept.TheInside.{Inside}
 use Rattle.spool_kept.specs.declared.order.NumberedSlot.{NumberedSlot}
 
 -- THE ORDER: numbers of uploads with their slots
@@ -38,6 +39,10 @@ pub record Orders (slots : List (Option SlotRecord)) (order : List NumberedSlot)
   pub below : (n s : ℕ) → Lists order n s → s < end
   pub names : (n s : ℕ) → Lists order n s → IsUsedBy slots s n
   pub all : (s : ℕ) (r : SlotRecord) → s < end → get_or slots s None ≡ Some r → Lists order r.number s
+
+-- each number is below the next one
+abbrev pub AreBelow : ℕ → List (Option SlotRecord) → Type 0
+AreBelow next slots = (s : ℕ) (r : SlotRecord) → get_or slots s None ≡ Some r → r.number < next
 
 -- no two slots have the same number
 abbrev pub AreDistinct : List (Option SlotRecord) → Type 0
@@ -90,10 +95,23 @@ pub record Holding : Type 0 where
   pub lists : List (List ℕ)
   pub blocks : Held
 
+-- what the fields of a `Kept` hold
+abbrev pub held_of : Inside → Holding
+held_of k = record {
+  layout = k.layout;
+  next = k.next;
+  indexes = k.indexes;
+  slots = k.slots.items;
+  order = k.order.items;
+  lists = k.lists.items;
+  blocks = k.blocks;
+}
+
 pub record FitsTogether (h : Holding) : Type 0 where
   pub slot_count : length h.slots ≡ 512
   pub list_count : length h.lists ≡ 512
   pub row_count : length h.blocks.rows ≡ h.layout
   pub rows_fit : (b : ℕ) → FitsRow (get_or h.blocks.rows b None)
+  pub below : AreBelow h.next h.slots
   pub ordered : Orders h.slots h.order 512
   pub listed : AreListsTo h.blocks.rows h.slots h.lists 512

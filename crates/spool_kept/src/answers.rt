@@ -62,6 +62,7 @@ impl Kept {
         ensures long { IfSome result (λ u. u.upload.now.text_len ≤ 4096 * length u.list.now) }
         ensures few { IfSome result (λ u. length u.list.now ≤ 65536) }
         ensures owned { IfSome result (λ u. IsOwnedBy self.now.slots self.now.blocks.rows number u.list.now) }
+        ensures numbered { IfSome result (λ u. u.upload.now.number < self.now.next) }
         ensures kept { IfSome result (λ u. IsKept self.now.slots u.upload.now) }
         ensures told { (v : View) (m : Store) (bytes : ℕ → ℕ) → KeepsView self.now v → Shows v m → Says bytes v
             → MatchOption result (upload_of m number ≡ None)

@@ -1,9 +1,9 @@
 // The text of a draft is put behind its upload's.
-ghost use Rattle.std.specs.Prelude.{◌≡◌, ◌≤◌, ◌<◌, ◌*◌, ◌↔◌, ℕ, List, Option, Some, None, Err, get_or, slice_set, IsErrOf, IfOk};
+ghost use Rattle.std.specs.Prelude.{◌≡◌, ◌≤◌, ◌<◌, ◌*◌, ◌↔◌, ◌⊎◌, ℕ, List, Option, Some, None, Err, get_or, slice_set, IsErrOf, IfOk};
 ghost use Rattle.spool_disk.specs.Disk.{Counts};
 ghost use Rattle.spool_disk.specs.Views.{Lasts};
 ghost use Rattle.spool_journal.specs.Image.{journal_pages, all_pages};
-ghost use Rattle.spool_drafts.specs.Drafts.{IsPlaced, came_of, list_of};
+ghost use Rattle.spool_drafts.specs.Drafts.{IsPlaced, came_of, list_of, number_of};
 ghost use Rattle.spool_drafts.specs.Effect.{Effect};
 ghost use Rattle.spool_drafts.specs.declared.draft.SpoolDraft.{SpoolDraft as Draft};
 ghost use Rattle.spool_pages.specs.View.{SlotRecord as Said};
@@ -13,9 +13,11 @@ ghost use Rattle.upload_rules.specs.Calls.{commit_outcome, commit_refusal, commi
 ghost use Rattle.upload_rules.specs.Drafts.{draft_at};
 ghost use Rattle.upload_rules.specs.Store.{find};
 ghost use Rattle.upload_rules.specs.World.{Patch, World};
-ghost use Rattle.spool_kept.specs.Committing.{FindsSlot, HasSameCount, IsBehindSlot, IsCommit, OnlyRead};
+ghost use Rattle.upload_rules.specs.declared.errors.UploadRefusal.{UploadRefusal as Refusal};
+ghost use Rattle.spool_kept.specs.Committing.{FindsSlot, HasOtherCount, HasSameCount, IsBehindSlot, IsCommit, OnlyRead};
 ghost use Rattle.spool_kept.specs.Drafting.{DraftsFit, OnlyReserves, StandsFor};
 ghost use Rattle.spool_kept.specs.Extending.{IsPending, MayExtend};
+ghost use Rattle.spool_kept.specs.Holding.{IsUsedBy};
 ghost use Rattle.spool_kept.specs.Shows.{ImageShows};
 ghost use Rattle.spool_kept.specs.Stored.{ShowsEither, Stored};
 
@@ -71,7 +73,8 @@ fn ended<D: Disk>(
     ensures may { IfOk result (λ e. MayExtend kept.new e.0 (list_of draft.new)) }
     ensures more { IfOk result (λ e. (r : Said) → get_or kept.new.slots e.0.slot None ≡ Some r
         → r.accepted < e.0.accepted) }
-    ensures no_offset { IsErrOf result (UploadError.Refused UploadRefusal.Offset) → ⊥ }
+    ensures refusal { (e : Refusal) → IsErrOf result (UploadError.Refused e)
+        → (e ≡ UploadRefusal.Unencodable) ⊎ (e ≡ UploadRefusal.Full) }
     ensures answer { (drafts : List (Option Draft)) (number : ℕ) (w : World) (p : Patch)
         → IsCommit D.Disk disk.old kept.old drafts number draft.old w p
         → Answers (commit_refusal w number p) result
@@ -130,7 +133,8 @@ fn put_behind<D: Disk>(
     ensures layout { kept.new.layout ≡ kept.old.layout }
     ensures fits { (drafts : List (Option Draft)) (number : ℕ) → DraftsFit kept.old drafts
         → draft_at drafts number ≡ Some draft → DraftsFit kept.new (slice_set drafts number None) }
-    ensures no_offset { IsErrOf result (UploadError.Refused UploadRefusal.Offset) → ⊥ }
+    ensures refusal { (e : Refusal) → IsErrOf result (UploadError.Refused e)
+        → (e ≡ UploadRefusal.Unencodable) ⊎ (e ≡ UploadRefusal.Full) }
     ensures answer { (drafts : List (Option Draft)) (number : ℕ) (w : World) (p : Patch)
         → IsCommit D.Disk disk.old kept.old drafts number draft w p
         → Answers (commit_refusal w number p) result
@@ -184,10 +188,13 @@ pub fn commit<D: Disk>(
     ensures honest { D.honest disk.old ↔ D.honest disk.new }
     ensures counts { Counts (IsErrOf result UploadError.DiskFault) (D.failures disk.old) (D.failures disk.new) }
 
-    // Whatever the disk said, it is refused so exactly where the upload doesn't have as many bytes as when the draft
-    // began.
+    // Whatever the disk said, it is refused with these exactly where the draft's upload is gone, and where it is there
+    // without as many bytes as when the draft began.
+    ensures no_such { (o : Draft) → draft_at drafts.old.items number ≡ Some o
+        → (IsErrOf result (UploadError.Refused UploadRefusal.NoSuch)
+        ↔ ((s : ℕ) → IsUsedBy kept.old.slots s (number_of o) → ⊥)) }
     ensures offset { (o : Draft) → draft_at drafts.old.items number ≡ Some o
-        → (IsErrOf result (UploadError.Refused UploadRefusal.Offset) ↔ ((s : ℕ) → HasSameCount kept.old.slots o s → ⊥)) }
+        → (IsErrOf result (UploadError.Refused UploadRefusal.Offset) ↔ HasOtherCount kept.old.slots o) }
     ensures answer { (w : World) (p : Patch) → StandsFor D.Disk disk.old kept.old drafts.old.items w
         → find number w.patches ≡ Some p
         → Answers (commit_refusal w number p) result

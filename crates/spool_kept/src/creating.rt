@@ -41,16 +41,13 @@ fn free_slot(slots: &[Option<KeptRecord>]) -> Option<u32>
 }
 
 impl Kept {
-    // A slot for a new upload: none where 512 are in use, or the next number is the last one or in use.
+    // A slot for a new upload: none where 512 are in use, or the next number is the last one.
     fn slot_for_new(&self) -> Option<u32>
         ensures room { IfSome result (HasRoomAt self.now) }
         ensures few { (v : View) (m : Store) → KeepsView self.now v → Shows v m
             → MatchOption result ((512 ≤ length m.uploads) ⊎ (10 ^ 18 ≤ m.next)) (λ s. length m.uploads < 512) }
     {
         if self.order.len() >= SLOTS as usize || self.next >= NUMBERS_END {
-            return None;
-        }
-        if self.slot_of(self.next).is_some() {
             return None;
         }
         free_slot(&self.slots)

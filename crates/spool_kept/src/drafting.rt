@@ -1,5 +1,5 @@
 // The open drafts of a spool by their numbers: begun, made longer and dropped.
-ghost use Rattle.std.specs.Prelude.{◌≡◌, ◌≤◌, ◌*◌, ◌+◌, ◌↔◌, ℕ, [], Some, None, length, IsErrOf, IfOk};
+ghost use Rattle.std.specs.Prelude.{◌≡◌, ◌≤◌, ◌<◌, ◌*◌, ◌+◌, ◌↔◌, ℕ, [], Some, None, length, IsErrOf, IfOk};
 ghost use Rattle.spool_disk.specs.Disk.{Counts};
 ghost use Rattle.spool_disk.specs.Views.{Lasts};
 ghost use Rattle.spool_journal.specs.Image.{journal_pages, all_pages};
@@ -7,7 +7,7 @@ ghost use Rattle.upload_rules.specs.Answers.{Answers};
 ghost use Rattle.upload_rules.specs.Calls.{appended, begin_refusal, begun, dropped};
 ghost use Rattle.upload_rules.specs.Store.{Store, find};
 ghost use Rattle.upload_rules.specs.World.{Patch, World, free_number};
-ghost use Rattle.spool_drafts.specs.Drafts.{IsPlaced, list_of, tail_of};
+ghost use Rattle.spool_drafts.specs.Drafts.{IsPlaced, list_of, number_of, tail_of};
 ghost use Rattle.spool_pages.specs.View.{View, Says};
 ghost use Rattle.spool_kept.specs.Kept.{KeepsView};
 ghost use Rattle.spool_kept.specs.Drafting.{DraftsFit, IsOfUpload, IsOwnedBy, OnlyReserves, OpensAs, StandsFor};
@@ -30,6 +30,7 @@ fn opened(
     ensures none { IfOk result (λ o. list_of o ≡ []) }
     ensures placed { IfOk result (λ o. IsPlaced kept.now.layout o) }
     ensures owned { IfOk result (λ o. IsOwnedBy kept.now.slots kept.now.blocks.rows number (tail_of o)) }
+    ensures below { IfOk result (λ o. number_of o < kept.now.next) }
     ensures of_upload { IfOk result (IsOfUpload kept.now.slots) }
     ensures opened { (v : View) (m : Store) (bytes : ℕ → ℕ) → KeepsView kept.now v → Shows v m → Says bytes v
         → OpensAs m number offset count bytes (25 + 2 * journal_pages kept.now.layout) result }

@@ -3,7 +3,7 @@ ghost use Rattle.std.specs.Prelude.{◌≡◌, ◌≤◌, ◌<◌, ℕ, Err, Non
 ghost use Rattle.std.specs.Prelude.{replicate, length, get_or};
 ghost use Rattle.spool_blocks.specs.Chains.{OwnsOneEach};
 ghost use Rattle.upload_rules.specs.Room.{blocks_of};
-ghost use Rattle.spool_kept.specs.Holding.{Holding, FitsTogether, AreDistinct};
+ghost use Rattle.spool_kept.specs.Holding.{AreBelow, AreDistinct};
 ghost use Rattle.spool_kept.specs.Kept.{KeepsAlone};
 ghost use Rattle.spool_kept.specs.Loads.{LoadsAs, IsLate};
 ghost use Rattle.spool_kept.specs.Shows.{IsSound};
@@ -41,27 +41,15 @@ pub struct Kept {
 }
 
 impl Model for Kept {
+    ghost use Rattle.spool_kept.specs.Holding.{Holding};
+
     ghost Value = { Holding };
 
-    ghost view = { λ k. record {
-      layout = k.layout;
-      next = k.next;
-      indexes = k.indexes;
-      slots = k.slots.items;
-      order = k.order.items;
-      lists = k.lists.items;
-      blocks = k.blocks;
-    } };
+    ghost use Rattle.spool_kept.specs.Holding.{FitsTogether, held_of};
 
-    ghost invariant = { λ k. FitsTogether (record {
-      layout = k.layout;
-      next = k.next;
-      indexes = k.indexes;
-      slots = k.slots.items;
-      order = k.order.items;
-      lists = k.lists.items;
-      blocks = k.blocks;
-    }) };
+    ghost view = { held_of };
+
+    ghost invariant = { λ k. FitsTogether (held_of k) };
 }
 
 impl Kept {
@@ -82,6 +70,7 @@ impl Kept {
         requires slots { length slots.items ≡ 512 }
         requires rows { length blocks.rows ≡ layout }
         requires fits { (b : ℕ) → FitsRow (get_or blocks.rows b None) }
+        requires below { AreBelow next slots.items }
         ensures layout { IfOk result (λ kept. kept.layout ≡ layout) }
         ensures next { IfOk result (λ kept. kept.next ≡ next) }
         ensures indexes { IfOk result (λ kept. kept.indexes ≡ indexes) }

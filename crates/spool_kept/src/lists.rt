@@ -22,6 +22,8 @@ pub(crate) struct BlockList {
 }
 
 impl Model for BlockList {
+    ghost use Rattle.std.specs.Prelude.{ℕ, List};
+
     ghost Value = { List ℕ };
 
     ghost view = { λ l. l.blocks.items };

@@ -21,7 +21,11 @@ pub struct KeptRecord {
 }
 
 impl Model for KeptRecord {
+    ghost use Rattle.spool_pages.specs.View.{SlotRecord as Said};
+
     ghost Value = { Said };
+
+    ghost use Rattle.spool_kept.specs.Records.{FitsMemory, said_of};
 
     ghost view = { λ k. said_of k.record };
 

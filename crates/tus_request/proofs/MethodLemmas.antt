@@ -8,8 +8,8 @@ use Rattle.tus_request.specs.Methods.{verb_of}
 use Rattle.tus_request.specs.declared.methods.Verb.TheVariants.{Other}
 use Rattle.tus_request.proofs.FieldLemmas.{bytes_eq_other}
 
-token_text : (text : List ℕ) → 0 < length text → list_all is_token_byte text ≡ true → (method : List ℕ) → ¬ (IsToken method)
-    → bytes_eq method text ≡ false
+token_text : (text : List ℕ) → 0 < length text → list_all is_token_byte text ≡ true
+    → (method : List ℕ) → ¬ (IsToken method) → bytes_eq method text ≡ false
 token_text text some all method not =
     bytes_eq_other method text (λ e. not (rw e (some, AllPass-from_test is_token_byte text all)))
 
@@ -22,4 +22,5 @@ no_verb method not =
       token_text (codes "HEAD") (omega arith) refl method not,
       token_text (codes "PATCH") (omega arith) refl method not,
       token_text (codes "GET") (omega arith) refl method not,
+      token_text (codes "DELETE") (omega arith) refl method not,
     )

@@ -11,10 +11,12 @@ use Rattle.base64.specs.Decode.{groups_error, scan_steps, groups_bytes}
 use Rattle.std.specs.Str.{is_utf8, chars}
 use Rattle.httparse.specs.Grammar.{print_request, trim_ows, is_token_byte}
 use Rattle.tus_request.specs.declared.faults.Fault.{Fault}
-use Rattle.tus_request.specs.declared.faults.Fault.TheVariants.{Offset, TusVersion, BadMethod, Malformed, NoRoute, BadLength}
-use Rattle.tus_request.specs.Requests.{Verdict, Asks, Refuses, Patch, Options}
+use Rattle.tus_request.specs.declared.faults.Fault.TheVariants.{NoSuch, Offset, TusVersion, BadMethod}
+use Rattle.tus_request.specs.declared.faults.Fault.TheVariants.{Malformed, NoRoute, BadLength}
+use Rattle.tus_request.specs.Requests.{Verdict, Asks, Refuses, Action, Options, Patch, Delete}
 use Rattle.tus_request.specs.Answers.{Judged, More, answer_of}
-use Rattle.tus_request.specs.Replies.{crlf, reply_options, reply_created, reply_patched, reply_head, reply_text, reply_refused, reply_continue}
+use Rattle.tus_request.specs.Replies.{crlf, reply_options, reply_created, reply_head, reply_patched, reply_deleted}
+use Rattle.tus_request.specs.Replies.{reply_text, reply_refused, reply_continue}
 
 abbrev all : Encoding → Bool
 all e = true
@@ -24,8 +26,11 @@ line text more = text ++ (13 ∷ 10 ∷ more)
 
 -- REPLIES
 
-options_reply : length (reply_options false) ≡ 145
+options_reply : length (reply_options false) ≡ 157
 options_reply = refl
+
+closing_options_reply : length (reply_options true) ≡ 176
+closing_options_reply = refl
 
 created_reply : length (reply_created 1 false false) ≡ 110
 unfolding digits
@@ -34,6 +39,9 @@ created_reply = refl
 patched_reply : length (reply_patched 5 false) ≡ 92
 unfolding digits
 patched_reply = refl
+
+deleted_reply : length (reply_deleted false) ≡ 74
+deleted_reply = refl
 
 head_reply : length (reply_head 5 5 [] true false) ≡ 102
 unfolding digits
@@ -55,6 +63,18 @@ bad_method_reply : length (reply_refused BadMethod true false false) ≡ 138
 unfolding digits
 bad_method_reply = refl
 
+bad_method_on_an_upload : length (reply_refused BadMethod false false false) ≡ 158
+unfolding digits
+bad_method_on_an_upload = refl
+
+no_such_reply : length (reply_refused NoSuch false false false) ≡ 106
+unfolding digits
+no_such_reply = refl
+
+no_such_to_head : length (reply_refused NoSuch false true false) ≡ 87
+unfolding digits
+no_such_to_head = refl
+
 malformed_reply : length (reply_refused Malformed false false true) ≡ 128
 unfolding digits
 malformed_reply = refl
@@ -65,32 +85,55 @@ continue_reply = refl
 -- HEADS
 
 patch_head : List ℕ
-patch_head = line (codes "PATCH /files/1 HTTP/1.1") (line (codes "Tus-Resumable: 1.0.0") (line (codes "Upload-Offset: 0")
-    (line (codes "Content-Type: application/offset+octet-stream") (line (codes "Content-Length: 5") crlf))))
+patch_head =
+    line (codes "PATCH /files/1 HTTP/1.1")
+    (line (codes "Tus-Resumable: 1.0.0")
+    (line (codes "Upload-Offset: 0")
+    (line (codes "Content-Type: application/offset+octet-stream")
+    (line (codes "Content-Length: 5") crlf))))
 
-reads_patch : answer_of all (patch_head ++ codes "hel") ≡ Judged 133 (Asks (record { action = Patch 1 0; length = 5; bare = false; expects = false; closes = false }))
+-- asked for with a body of so many bytes
+abbrev asked : Action → ℕ → Verdict
+asked action length =
+    Asks (record { action = action; length = length; bare = false; expects = false; closes = false })
+
+reads_patch : answer_of all (patch_head ++ codes "hel") ≡ Judged 133 (asked (Patch 1 0) 5)
 unfolding patch_head answer_of print_request trim_ows is_token_byte is_utf8 chars lib.Utf8.encode
 reads_patch = refl
+
+delete_head : List ℕ
+delete_head = line (codes "DELETE /files/1 HTTP/1.1") (line (codes "Tus-Resumable: 1.0.0") crlf)
+
+reads_delete : answer_of all delete_head ≡ Judged 50 (asked (Delete 1) 0)
+unfolding delete_head answer_of print_request trim_ows is_token_byte is_utf8 chars lib.Utf8.encode
+reads_delete = refl
 
 waits_for_its_end : answer_of all (codes "GET /files/1 HTTP/1.1") ≡ More
 unfolding answer_of
 waits_for_its_end = refl
 
-old_version_of_options : answer_of all (line (codes "OPTIONS /files HTTP/1.1") (line (codes "Tus-Resumable: 0.2.2") crlf))
-    ≡ Judged 49 (Asks (record { action = Options; length = 0; bare = false; expects = false; closes = false }))
-unfolding answer_of print_request trim_ows is_token_byte is_utf8 chars lib.Utf8.encode
+options_head : List ℕ
+options_head = line (codes "OPTIONS /files HTTP/1.1") (line (codes "Tus-Resumable: 0.2.2") crlf)
+
+old_version_of_options : answer_of all options_head ≡ Judged 49 (asked Options 0)
+unfolding options_head answer_of print_request trim_ows is_token_byte is_utf8 chars lib.Utf8.encode
 old_version_of_options = refl
 
 -- refused, with no body
 abbrev refused : Fault → Bool → Bool → Verdict
-refused fault on_files closes = Refuses (record { fault = fault; length = 0; on_files = on_files; bare = false; closes = closes })
+refused fault on_files closes =
+    Refuses (record { fault = fault; length = 0; on_files = on_files; bare = false; closes = closes })
 
 leading_zero : answer_of all (line (codes "GET /files/01 HTTP/1.1") crlf) ≡ Judged 26 (refused NoRoute false false)
 unfolding answer_of print_request trim_ows is_token_byte is_utf8 chars lib.Utf8.encode
 leading_zero = refl
 
-two_lengths : answer_of all (line (codes "GET /files HTTP/1.1") (line (codes "Content-Length: 0") (line (codes "Content-Length: 0") crlf))) ≡ Judged 61 (refused BadLength true true)
-unfolding answer_of print_request trim_ows is_token_byte is_utf8 chars lib.Utf8.encode
+two_lengths_head : List ℕ
+two_lengths_head =
+    line (codes "GET /files HTTP/1.1") (line (codes "Content-Length: 0") (line (codes "Content-Length: 0") crlf))
+
+two_lengths : answer_of all two_lengths_head ≡ Judged 61 (refused BadLength true true)
+unfolding two_lengths_head answer_of print_request trim_ows is_token_byte is_utf8 chars lib.Utf8.encode
 two_lengths = refl
 
 malformed : answer_of all (line (codes "BAD") crlf) ≡ Judged 7 (refused Malformed false true)
@@ -121,7 +164,8 @@ by_default : choice_of [] ≡ Some (record { from = Utf8; to = Utf8; mode = Html
 unfolding encoding_of found labels stripped
 by_default = refl
 
-utf_16_is_read : choice_of ((codes "to", codes "UTF-16") ∷ (codes "from", codes "utf-16le") ∷ []) ≡ Some (record { from = Utf16Le; to = Utf8; mode = Html })
+utf_16_is_read : choice_of ((codes "to", codes "UTF-16") ∷ (codes "from", codes "utf-16le") ∷ [])
+    ≡ Some (record { from = Utf16Le; to = Utf8; mode = Html })
 unfolding encoding_of found labels stripped
 utf_16_is_read = refl
 

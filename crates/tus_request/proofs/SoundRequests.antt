@@ -3,7 +3,8 @@ use Rattle.std.specs.Prelude.{All, take, map, codes}
 use Rattle.std.specs.List.{list_all}
 use Rattle.std.specs.Char.{is_ascii_digit, digit_value}
 use Rattle.std.specs.Str.Parse.{digits_value, AllDigits}
-use Rattle.std.proofs.Common.{◌≡◌, ◌<◌, ◌≤◌, ◌+◌, ◌^◌, ℕ, Bool, true, false, ◌&&◌, List, [], ◌∷◌, length, nat_le, nat_lt, Option, Some, None, refl, sym, subst, ap, ◌∙◌, arith, if◌then◌else◌}
+use Rattle.std.proofs.Common.{◌≡◌, ◌<◌, ◌≤◌, ◌+◌, ◌^◌, ℕ, Bool, true, false, ◌&&◌, nat_le, nat_lt, if◌then◌else◌}
+use Rattle.std.proofs.Common.{List, [], ◌∷◌, length, Option, Some, None, refl, sym, subst, ap, ◌∙◌, arith}
 use Rattle.std.proofs.lemmas.Bool.{leb-true}
 use Rattle.std.proofs.lemmas.List.Elements.{All-cons}
 use Rattle.std.proofs.lemmas.Str.{digit_value_digit}
@@ -23,10 +24,11 @@ use Rattle.tus_request.specs.declared.methods.Verb.{Verb}
 use Rattle.tus_request.specs.declared.methods.Verb.TheVariants as verb
 use Rattle.tus_request.specs.declared.places.Place.{Place}
 use Rattle.tus_request.specs.declared.places.Place.TheVariants as place
-use Rattle.tus_request.specs.declared.faults.Fault.TheVariants.{Coding, TusVersion, BadLabel, BadHeader, MediaType, HeadTooLong}
+use Rattle.tus_request.specs.declared.faults.Fault.TheVariants.{HeadTooLong, Coding, TusVersion}
+use Rattle.tus_request.specs.declared.faults.Fault.TheVariants.{MediaType, BadHeader, BadLabel}
 use Rattle.tus_request.specs.Lines.{Extent, head_extent}
 use Rattle.tus_request.specs.Reading.{request_of}
-use Rattle.tus_request.specs.Requests.{Action, Options, Create, Head, Get, Request, Asks}
+use Rattle.tus_request.specs.Requests.{Action, Options, Create, Head, Get, Delete, Request, Asks}
 use Rattle.tus_request.specs.Answers.{More, Judged, answer_with, answer_of}
 use Rattle.tus_request.specs.Sound.{IsSoundAction, IsSoundRequest, IsSound, IsSoundAnswer}
 
@@ -56,7 +58,8 @@ small_text text p =
     let p : 10 ^ length text ≤ 10 ^ 18 = pow-le-pow_right {n = 10} (omega arith) {i = length text} {j = 18} short in
     omega arith
 
-number_case : (text : List ℕ) (n : ℕ) (b : Bool) → is_number text ≡ b → (if b then Some (digits_value 10 text) else None) ≡ Some n → n < 10 ^ 18
+number_case : (text : List ℕ) (n : ℕ) (b : Bool) → is_number text ≡ b
+    → (if b then Some (digits_value 10 text) else None) ≡ Some n → n < 10 ^ 18
 number_case text n true is q =
     subst (λ x. x < 10 ^ 18) (ap (λ o. elim o as (λ _. ℕ) [ None ↦ 0 | Some x ↦ x ]) q) (small_text text is)
 number_case text n false is q = absurd (cc)
@@ -83,7 +86,8 @@ all_plain (b ∷ bytes) p =
 abbrev IsPlainText : List ℕ → Type 0
 IsPlainText m = (length m ≤ 1536) × All (λ b. (0x20 ≤ b) × (b ≤ 0x7E)) m
 
-plain_case : (b : ℕ) (bytes : List ℕ) (o : Option (List KeyValue)) (pairs : List KeyValue) (t : Bool) → is_metadata (b ∷ bytes) ≡ t → (if t then o else None) ≡ Some pairs → IsPlainText (b ∷ bytes)
+plain_case : (b : ℕ) (bytes : List ℕ) (o : Option (List KeyValue)) (pairs : List KeyValue) (t : Bool)
+    → is_metadata (b ∷ bytes) ≡ t → (if t then o else None) ≡ Some pairs → IsPlainText (b ∷ bytes)
 plain_case b bytes o pairs true is q =
     let r = both (nat_le (length (b ∷ bytes)) 1536) (list_all is_plain (b ∷ bytes)) is in
     (leb-true (length (b ∷ bytes)) 1536 r.0, all_plain (b ∷ bytes) r.1)
@@ -128,7 +132,10 @@ plain_output e.Windows1258 = refl
 
 no_utf16 : (c : Encoding) → is_utf16 c ≡ false → NoUtf16 c
 unfolding is_utf16
-no_utf16 c p = ((λ q. let r : true ≡ false = sym (ap is_utf16 q) ∙ p in absurd (cc)), (λ q. let r : true ≡ false = sym (ap is_utf16 q) ∙ p in absurd (cc)))
+no_utf16 c p = (
+  (λ q. let r : true ≡ false = sym (ap is_utf16 q) ∙ p in absurd (cc)),
+  (λ q. let r : true ≡ false = sym (ap is_utf16 q) ∙ p in absurd (cc)),
+)
 
 choice_output : (a b : Option Encoding) (m : Option Mode) (c : Choice) → choice_with a b m ≡ Some c → NoUtf16 c.to
 choice_output None b m c q = absurd (cc)
@@ -140,49 +147,74 @@ choice_output (Some from) (Some to) (Some mode) c q =
 
 -- THE CHECKS
 module _ (offers : Encoding → Bool) where
-  passed_sound : (x : checks.Asking) (a : Action) → x.length < 10 ^ 18 → IsSoundAction offers a → IsSound offers (checks.passed x a)
+  passed_sound : (x : checks.Asking) (a : Action) → x.length < 10 ^ 18 → IsSoundAction offers a
+      → IsSound offers (checks.passed x a)
   passed_sound x a small sound = record { length_is = small; action_is = sound }
 
-  choice_if : (x : checks.Asking) (declared : ℕ) (metadata : List ℕ) (c : Choice) (b : Bool) → x.length < 10 ^ 18 → (offers c.from && offers c.to) ≡ b → NoUtf16 c.to → IsPlainText metadata
-      → IsSound offers (if b then checks.passed x (Create (record { declared = declared; from = c.from; to = c.to; mode = c.mode; metadata = metadata })) else checks.refused x BadLabel)
+  choice_if : (x : checks.Asking) (declared : ℕ) (metadata : List ℕ) (c : Choice) (b : Bool)
+      → x.length < 10 ^ 18 → (offers c.from && offers c.to) ≡ b → NoUtf16 c.to → IsPlainText metadata
+      → IsSound offers (if b
+      then checks.passed x (Create (record {
+        declared = declared;
+        from = c.from;
+        to = c.to;
+        mode = c.mode;
+        metadata = metadata;
+      }))
+      else checks.refused x BadLabel)
   choice_if x declared metadata c true small q to plain =
       let r = both (offers c.from) (offers c.to) q in
-      record { length_is = small; action_is = record { from = r.0; to = r.1; no_utf16 = to; short = plain.0; plain = plain.1 } }
+      record {
+        length_is = small;
+        action_is = record { from = r.0; to = r.1; no_utf16 = to; short = plain.0; plain = plain.1 };
+      }
   choice_if x declared metadata c false small q to plain = tt {0}
 
-  choice_sound : (x : checks.Asking) (declared : ℕ) (metadata : List ℕ) (o : Option Choice) → x.length < 10 ^ 18 → ((c : Choice) → o ≡ Some c → NoUtf16 c.to) → IsPlainText metadata
+  choice_sound : (x : checks.Asking) (declared : ℕ) (metadata : List ℕ) (o : Option Choice)
+      → x.length < 10 ^ 18 → ((c : Choice) → o ≡ Some c → NoUtf16 c.to) → IsPlainText metadata
       → IsSound offers (checks.with_choice offers x declared metadata o)
   choice_sound x declared metadata None small to plain = tt {0}
-  choice_sound x declared metadata (Some c) small to plain = choice_if x declared metadata c (offers c.from && offers c.to) small refl (to c refl) plain
+  choice_sound x declared metadata (Some c) small to plain =
+      choice_if x declared metadata c (offers c.from && offers c.to) small refl (to c refl) plain
 
-  pairs_sound : (x : checks.Asking) (declared : ℕ) (metadata : List ℕ) (o : Option (List KeyValue)) → x.length < 10 ^ 18 → ((pairs : List KeyValue) → o ≡ Some pairs → IsPlainText metadata)
+  pairs_sound : (x : checks.Asking) (declared : ℕ) (metadata : List ℕ) (o : Option (List KeyValue))
+      → x.length < 10 ^ 18 → ((pairs : List KeyValue) → o ≡ Some pairs → IsPlainText metadata)
       → IsSound offers (checks.with_pairs offers x declared metadata o)
   pairs_sound x declared metadata None small plain = tt {0}
   pairs_sound x declared metadata (Some pairs) small plain =
       choice_sound x declared metadata (choice_of pairs) small (λ c q. choice_output _ _ _ c q) (plain pairs refl)
 
-  metadata_sound : (x : checks.Asking) (declared : ℕ) (values : List (List ℕ)) → x.length < 10 ^ 18 → IsSound offers (checks.with_metadata offers x declared values)
+  metadata_sound : (x : checks.Asking) (declared : ℕ) (values : List (List ℕ)) → x.length < 10 ^ 18
+      → IsSound offers (checks.with_metadata offers x declared values)
   metadata_sound x declared [] small = pairs_sound x declared [] (metadata_of []) small (metadata_plain [])
-  metadata_sound x declared (value ∷ []) small = pairs_sound x declared value (metadata_of value) small (metadata_plain value)
+  metadata_sound x declared (value ∷ []) small =
+      pairs_sound x declared value (metadata_of value) small (metadata_plain value)
   metadata_sound x declared (value ∷ other ∷ values) small = tt {0}
 
-  declared_sound : (x : checks.Asking) (o : Option ℕ) → x.length < 10 ^ 18 → IsSound offers (checks.with_declared offers x o)
+  declared_sound : (x : checks.Asking) (o : Option ℕ) → x.length < 10 ^ 18
+      → IsSound offers (checks.with_declared offers x o)
   declared_sound x None small = tt {0}
   declared_sound x (Some declared) small = metadata_sound x declared (x.given (codes "upload-metadata")) small
 
   post_if : (x : checks.Asking) (b : Bool) → x.length < 10 ^ 18
-      → IsSound offers (if b then checks.refused x BadHeader else checks.with_declared offers x (checks.number_in (x.given (codes "upload-length"))))
+      → IsSound offers (if b
+      then checks.refused x BadHeader
+      else checks.with_declared offers x (checks.number_in (x.given (codes "upload-length"))))
   post_if x true small = tt {0}
   post_if x false small = declared_sound x (checks.number_in (x.given (codes "upload-length"))) small
 
-  offset_sound : (x : checks.Asking) (n : ℕ) (o : Option ℕ) → x.length < 10 ^ 18 → ((m : ℕ) → o ≡ Some m → m < 10 ^ 18) → IsSound offers (checks.at_offset x n o)
+  offset_sound : (x : checks.Asking) (n : ℕ) (o : Option ℕ) → x.length < 10 ^ 18
+      → ((m : ℕ) → o ≡ Some m → m < 10 ^ 18) → IsSound offers (checks.at_offset x n o)
   offset_sound x n None small less = tt {0}
   offset_sound x n (Some offset) small less = record { length_is = small; action_is = less offset refl }
 
   patch_if : (x : checks.Asking) (n : ℕ) (b : Bool) → x.length < 10 ^ 18
-      → IsSound offers (if b then checks.at_offset x n (checks.number_in (x.given (codes "upload-offset"))) else checks.refused x MediaType)
+      → IsSound offers (if b
+      then checks.at_offset x n (checks.number_in (x.given (codes "upload-offset")))
+      else checks.refused x MediaType)
   patch_if x n true small =
-      offset_sound x n (checks.number_in (x.given (codes "upload-offset"))) small (λ m q. when_small (checks.only (x.given (codes "upload-offset"))) m q)
+      offset_sound x n (checks.number_in (x.given (codes "upload-offset"))) small
+      (λ m q. when_small (checks.only (x.given (codes "upload-offset"))) m q)
   patch_if x n false small = tt {0}
 
   all_sound : (x : checks.Asking) (v : Verb) → x.length < 10 ^ 18 → IsSound offers (checks.on_all offers x v)
@@ -191,40 +223,55 @@ module _ (offers : Encoding → Bool) where
   all_sound x verb.Head small = tt {0}
   all_sound x verb.Patch small = tt {0}
   all_sound x verb.Get small = tt {0}
+  all_sound x verb.Delete small = tt {0}
   all_sound x verb.Other small = tt {0}
 
   upload_sound : (x : checks.Asking) (n : ℕ) (v : Verb) → x.length < 10 ^ 18 → IsSound offers (checks.on_upload x n v)
   upload_sound x n verb.Options small = passed_sound x Options small (tt {0})
   upload_sound x n verb.Post small = tt {0}
   upload_sound x n verb.Head small = passed_sound x (Head n) small (tt {0})
-  upload_sound x n verb.Patch small = patch_if x n (checks.is_patch_media (checks.only (x.given (codes "content-type")))) small
+  upload_sound x n verb.Patch small =
+      patch_if x n (checks.is_patch_media (checks.only (x.given (codes "content-type")))) small
   upload_sound x n verb.Get small = passed_sound x (Get n) small (tt {0})
+  upload_sound x n verb.Delete small = passed_sound x (Delete n) small (tt {0})
   upload_sound x n verb.Other small = tt {0}
 
-  place_sound : (x : checks.Asking) (p : Option Place) → x.length < 10 ^ 18 → IsSound offers (checks.on_place offers x p)
+  place_sound : (x : checks.Asking) (p : Option Place) → x.length < 10 ^ 18
+      → IsSound offers (checks.on_place offers x p)
   place_sound x None small = tt {0}
   place_sound x (Some place.Files) small = all_sound x x.verb small
   place_sound x (Some (place.Upload n)) small = upload_sound x n x.verb small
 
-  decided_if : (x : checks.Asking) (b : Bool) → x.length < 10 ^ 18 → IsSound offers (if b then checks.refused x TusVersion else checks.on_place offers x x.place)
+  decided_if : (x : checks.Asking) (b : Bool) → x.length < 10 ^ 18
+      → IsSound offers (if b then checks.refused x TusVersion else checks.on_place offers x x.place)
   decided_if x true small = tt {0}
   decided_if x false small = place_sound x x.place small
 
-  measured_sound : (line : checks.Line) (given : List ℕ → List (List ℕ)) (o : Option ℕ) → ((n : ℕ) → o ≡ Some n → n < 10 ^ 18) → IsSound offers (checks.measured offers line given o)
+  measured_sound : (line : checks.Line) (given : List ℕ → List (List ℕ)) (o : Option ℕ)
+      → ((n : ℕ) → o ≡ Some n → n < 10 ^ 18) → IsSound offers (checks.measured offers line given o)
   measured_sound line given None less = tt {0}
-  measured_sound line given (Some n) less = decided_if (checks.asking line given n) (checks.lacks_version (checks.asking line given n)) (less n refl)
+  measured_sound line given (Some n) less =
+      decided_if (checks.asking line given n) (checks.lacks_version (checks.asking line given n)) (less n refl)
 
   checked_if : (line : checks.Line) (given : List ℕ → List (List ℕ)) (b : Bool)
-      → IsSound offers (if b then checks.cut_off line Coding else checks.measured offers line given (checks.length_in (given (codes "content-length"))))
+      → IsSound offers (if b
+      then checks.cut_off line Coding
+      else checks.measured offers line given (checks.length_in (given (codes "content-length"))))
   checked_if line given true = tt {0}
-  checked_if line given false = measured_sound line given (checks.length_in (given (codes "content-length"))) (λ n q. length_small (given (codes "content-length")) n q)
+  checked_if line given false =
+      measured_sound line given (checks.length_in (given (codes "content-length")))
+      (λ n q. length_small (given (codes "content-length")) n q)
 
   judged_sound : (h : Option RequestHead) → IsSound offers (checks.judged offers h)
   judged_sound None = tt {0}
   judged_sound (Some h) =
-      checked_if (checks.line_of h) (values_in (map name_and_value h.fields)) (checks.is_given (values_in (map name_and_value h.fields) (codes "transfer-encoding")))
+      checked_if (checks.line_of h) (values_in (map name_and_value h.fields))
+      (checks.is_given (values_in (map name_and_value h.fields) (codes "transfer-encoding")))
 
-  few_if : (b : Bool) (n : ℕ) (bytes : List ℕ) → IsSoundAnswer offers (if b then Judged n (checks.no_head HeadTooLong) else Judged (length bytes) (checks.judged offers (request_of bytes)))
+  few_if : (b : Bool) (n : ℕ) (bytes : List ℕ)
+      → IsSoundAnswer offers (if b
+      then Judged n (checks.no_head HeadTooLong)
+      else Judged (length bytes) (checks.judged offers (request_of bytes)))
   few_if true n bytes = tt {0}
   few_if false n bytes = judged_sound (request_of bytes)
 
@@ -241,5 +288,6 @@ module _ (offers : Encoding → Bool) where
   answer_sound bytes = extent_sound bytes (head_extent (take 8192 bytes))
 
 -- a request that passed its checks is sound
-pub request_sound : (offers : Encoding → Bool) (bytes : List ℕ) (n : ℕ) (r : Request) → answer_of offers bytes ≡ Judged n (Asks r) → IsSoundRequest offers r
+pub request_sound : (offers : Encoding → Bool) (bytes : List ℕ) (n : ℕ) (r : Request)
+    → answer_of offers bytes ≡ Judged n (Asks r) → IsSoundRequest offers r
 request_sound offers bytes n r q = subst (IsSoundAnswer offers) q (answer_sound offers bytes)

@@ -1,5 +1,6 @@
 -- The checks of a head, in their order.
-use Rattle.std.specs.Prelude.{ℕ, Bool, true, false, not, ◌&&◌, ◌||◌, List, [], ◌∷◌, map, codes, bytes_eq, nat_lt, ◌==◌, if◌then◌else◌, Option, Some, None}
+use Rattle.std.specs.Prelude.{ℕ, Bool, true, false, not, ◌&&◌, ◌||◌, nat_lt, ◌==◌, if◌then◌else◌, Option, Some, None}
+use Rattle.std.specs.Prelude.{List, [], ◌∷◌, map, codes, bytes_eq}
 use Rattle.std.specs.List.{list_any}
 use Rattle.httparse.specs.Grammar.{RequestHead}
 use Rattle.httparse.specs.Spans.{name_and_value}
@@ -15,9 +16,10 @@ use Rattle.tus_request.specs.declared.methods.Verb.TheVariants as verb
 use Rattle.tus_request.specs.declared.places.Place.{Place}
 use Rattle.tus_request.specs.declared.places.Place.TheVariants as place
 use Rattle.tus_request.specs.declared.faults.Fault.{Fault}
-use Rattle.tus_request.specs.declared.faults.Fault.TheVariants.{Malformed, Coding, BadLength, TusVersion, NoRoute, BadMethod, MediaType, BadHeader, BadMetadata, BadLabel}
+use Rattle.tus_request.specs.declared.faults.Fault.TheVariants.{Malformed, Coding, BadLength, TusVersion, NoRoute}
+use Rattle.tus_request.specs.declared.faults.Fault.TheVariants.{BadMethod, MediaType, BadHeader, BadMetadata, BadLabel}
 use Rattle.tus_request.specs.Metadata.{KeyValue, metadata_of, Choice, choice_of}
-use Rattle.tus_request.specs.Requests.{Action, Options, Create, Head, Get, Patch, Verdict, Asks, Refuses}
+use Rattle.tus_request.specs.Requests.{Action, Options, Create, Head, Get, Patch, Delete, Verdict, Asks, Refuses}
 
 -- WHAT THE CHECKS READ
 
@@ -99,13 +101,31 @@ asking line given length = record {
 
 -- A request that is refused by a check of its fields. One that asked for 100 Continue is answered with a close.
 abbrev pub refused : Asking → Fault → Verdict
-refused x f = Refuses (record { fault = f; length = x.length; on_files = is_files x.place; bare = x.bare; closes = x.closes || x.expects })
+refused x f = Refuses (record {
+  fault = f;
+  length = x.length;
+  on_files = is_files x.place;
+  bare = x.bare;
+  closes = x.closes || x.expects;
+})
 
 abbrev pub passed : Asking → Action → Verdict
-passed x action = Asks (record { action = action; length = x.length; bare = x.bare; expects = false; closes = x.closes || x.expects })
+passed x action = Asks (record {
+  action = action;
+  length = x.length;
+  bare = x.bare;
+  expects = false;
+  closes = x.closes || x.expects;
+})
 
 abbrev pub passed_patch : Asking → ℕ → ℕ → Verdict
-passed_patch x number offset = Asks (record { action = Patch number offset; length = x.length; bare = x.bare; expects = x.expects; closes = x.closes })
+passed_patch x number offset = Asks (record {
+  action = Patch number offset;
+  length = x.length;
+  bare = x.bare;
+  expects = x.expects;
+  closes = x.closes;
+})
 
 -- the media type of an append, up to a semicolon
 abbrev pub is_patch_media : Option (List ℕ) → Bool
@@ -120,7 +140,8 @@ at_offset x number (Some offset) = passed_patch x number offset
 -- and before that, its media type
 abbrev pub patch_checked : Asking → ℕ → Verdict
 patch_checked x number =
-    if is_patch_media (only (x.given (codes "content-type"))) then at_offset x number (number_in (x.given (codes "upload-offset")))
+    if is_patch_media (only (x.given (codes "content-type")))
+    then at_offset x number (number_in (x.given (codes "upload-offset")))
     else refused x MediaType
 
 -- the encodings and the mode are known, and the index set offers the encodings
@@ -128,7 +149,13 @@ abbrev pub with_choice : (Encoding → Bool) → Asking → ℕ → List ℕ →
 with_choice offers x declared metadata None = refused x BadLabel
 with_choice offers x declared metadata (Some c) =
     if offers c.from && offers c.to
-    then passed x (Create (record { declared = declared; from = c.from; to = c.to; mode = c.mode; metadata = metadata }))
+    then passed x (Create (record {
+      declared = declared;
+      from = c.from;
+      to = c.to;
+      mode = c.mode;
+      metadata = metadata;
+    }))
     else refused x BadLabel
 
 -- and before that, the metadata is of its form
@@ -150,7 +177,8 @@ with_declared offers x (Some declared) = with_metadata offers x declared (x.give
 -- and a POST has no body
 abbrev pub post_checked : (Encoding → Bool) → Asking → Verdict
 post_checked offers x =
-    if nat_lt 0 x.length then refused x BadHeader else with_declared offers x (number_in (x.given (codes "upload-length")))
+    if nat_lt 0 x.length then refused x BadHeader
+    else with_declared offers x (number_in (x.given (codes "upload-length")))
 
 -- what is asked of all the uploads
 abbrev pub on_all : (Encoding → Bool) → Asking → Verb → Verdict
@@ -159,6 +187,7 @@ on_all offers x verb.Post = post_checked offers x
 on_all offers x verb.Head = refused x BadMethod
 on_all offers x verb.Patch = refused x BadMethod
 on_all offers x verb.Get = refused x BadMethod
+on_all offers x verb.Delete = refused x BadMethod
 on_all offers x verb.Other = refused x BadMethod
 
 -- what is asked of one
@@ -168,6 +197,7 @@ on_upload x n verb.Post = refused x BadMethod
 on_upload x n verb.Head = passed x (Head n)
 on_upload x n verb.Patch = patch_checked x n
 on_upload x n verb.Get = passed x (Get n)
+on_upload x n verb.Delete = passed x (Delete n)
 on_upload x n verb.Other = refused x BadMethod
 
 -- the path names something
@@ -190,7 +220,13 @@ decided offers x = if lacks_version x then refused x TusVersion else on_place of
 
 -- a request whose body has no known end
 abbrev pub cut_off : Line → Fault → Verdict
-cut_off line f = Refuses (record { fault = f; length = 0; on_files = is_files (line_place line); bare = is_bare line; closes = true })
+cut_off line f = Refuses (record {
+  fault = f;
+  length = 0;
+  on_files = is_files (line_place line);
+  bare = is_bare line;
+  closes = true;
+})
 
 -- the length of the body is known
 abbrev pub measured : (Encoding → Bool) → Line → (List ℕ → List (List ℕ)) → Option ℕ → Verdict

@@ -1,7 +1,7 @@
 -- The methods (RFC 9110, section 9; PATCH is of RFC 5789).
 use Rattle.std.specs.Prelude.{ℕ, List, codes, bytes_eq, if◌then◌else◌}
 use Rattle.tus_request.specs.declared.methods.Verb.{Verb}
-use Rattle.tus_request.specs.declared.methods.Verb.TheVariants.{Options, Post, Head, Patch, Get, Other}
+use Rattle.tus_request.specs.declared.methods.Verb.TheVariants.{Options, Post, Head, Patch, Get, Delete, Other}
 
 abbrev pub verb_of : List ℕ → Verb
 verb_of method =
@@ -10,4 +10,5 @@ verb_of method =
     else if bytes_eq method (codes "HEAD") then Head
     else if bytes_eq method (codes "PATCH") then Patch
     else if bytes_eq method (codes "GET") then Get
+    else if bytes_eq method (codes "DELETE") then Delete
     else Other

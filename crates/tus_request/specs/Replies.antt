@@ -4,7 +4,9 @@ use Rattle.std.specs.Fmt.{decimal}
 use Rattle.enc_model.specs.declared.Encoding.{Encoding}
 use Rattle.enc_labels.specs.Labels.{name_of}
 use Rattle.tus_request.specs.declared.faults.Fault.{Fault}
-use Rattle.tus_request.specs.declared.faults.Fault.TheVariants.{Unencodable, NoSuch, Offset, TooLong, Slots, TooLarge, Full, HeadTooLong, Coding, TusVersion, NoRoute, BadMethod, MediaType}
+use Rattle.tus_request.specs.declared.faults.Fault.TheVariants.{Unencodable, NoSuch, Offset, TooLong, Slots, TooLarge}
+use Rattle.tus_request.specs.declared.faults.Fault.TheVariants.{Full, HeadTooLong, Coding, TusVersion, NoRoute}
+use Rattle.tus_request.specs.declared.faults.Fault.TheVariants.{BadMethod, MediaType}
 use Rattle.tus_request.specs.Faults.{fault_number}
 
 abbrev pub crlf : List ℕ
@@ -37,27 +39,39 @@ unless_bare bare n = if bare then None else Some n
 
 abbrev pub options_lines : List ℕ
 options_lines =
-    header (codes "Tus-Version") (codes "1.0.0") ++ (header (codes "Tus-Extension") (codes "creation") ++ header (codes "Tus-Max-Size") (codes "1073741824"))
+    header (codes "Tus-Version") (codes "1.0.0")
+    ++ (header (codes "Tus-Extension") (codes "creation,termination")
+    ++ header (codes "Tus-Max-Size") (codes "1073741824"))
 
 abbrev pub reply_options : Bool → List ℕ
 reply_options closes = reply (codes "204 No Content") options_lines None closes
 
 abbrev pub reply_created : ℕ → Bool → Bool → List ℕ
 reply_created number bare closes =
-    reply (codes "201 Created") (header (codes "Location") (codes "/files/" ++ decimal number)) (unless_bare bare 0) closes
+    reply (codes "201 Created")
+    (header (codes "Location") (codes "/files/" ++ decimal number))
+    (unless_bare bare 0) closes
 
 abbrev pub reply_head : ℕ → ℕ → List ℕ → Bool → Bool → List ℕ
 reply_head offset declared metadata bare closes =
     reply (codes "200 OK")
-    (header (codes "Upload-Offset") (decimal offset) ++ (header (codes "Upload-Length") (decimal declared) ++ metadata_line metadata))
+    (header (codes "Upload-Offset") (decimal offset)
+    ++ (header (codes "Upload-Length") (decimal declared) ++ metadata_line metadata))
     (unless_bare bare 0) closes
 
 abbrev pub reply_patched : ℕ → Bool → List ℕ
-reply_patched offset closes = reply (codes "204 No Content") (header (codes "Upload-Offset") (decimal offset)) None closes
+reply_patched offset closes =
+    reply (codes "204 No Content") (header (codes "Upload-Offset") (decimal offset)) None closes
+
+-- a deletion has no lines of its own
+abbrev pub reply_deleted : Bool → List ℕ
+reply_deleted closes = reply (codes "204 No Content") [] None closes
 
 abbrev pub reply_text : Encoding → ℕ → Bool → Bool → List ℕ
 reply_text to length bare closes =
-    reply (codes "200 OK") (header (codes "Content-Type") (codes "text/plain; charset=" ++ name_of to)) (unless_bare bare length) closes
+    reply (codes "200 OK")
+    (header (codes "Content-Type") (codes "text/plain; charset=" ++ name_of to))
+    (unless_bare bare length) closes
 
 abbrev pub reply_continue : List ℕ
 reply_continue = codes "HTTP/1.1 100 Continue" ++ (crlf ++ crlf)
@@ -84,7 +98,8 @@ refusal_line f = header (codes "X-Refusal") (decimal (fault_number f))
 -- the line in front of a refusal's number, where it has one
 abbrev pub refusal_lead : Fault → Bool → List ℕ
 refusal_lead TusVersion on_files = header (codes "Tus-Version") (codes "1.0.0")
-refusal_lead BadMethod on_files = header (codes "Allow") (if on_files then codes "OPTIONS, POST" else codes "OPTIONS, HEAD, PATCH, GET")
+refusal_lead BadMethod on_files =
+    header (codes "Allow") (if on_files then codes "OPTIONS, POST" else codes "OPTIONS, HEAD, PATCH, GET, DELETE")
 refusal_lead f on_files = []
 
 abbrev pub refusal_lines : Fault → Bool → List ℕ

@@ -4,8 +4,8 @@ use Rattle.enc_model.specs.declared.Encoding.{Encoding}
 use Rattle.enc_model.specs.declared.Mode.{Mode}
 use Rattle.tus_request.specs.declared.faults.Fault.{Fault}
 
--- an upload to be made: how many bytes it will have, the encoding of these and of the text, what becomes of characters that
--- the latter hasn't, and the metadata as given
+-- an upload to be made: how many bytes it will have, the encoding of these and of the text, what becomes of characters
+-- that the latter hasn't, and the metadata as given
 pub record Creation : Type 0 where
   pub declared : ℕ
   pub from : Encoding
@@ -20,9 +20,10 @@ pub data Action : Type 0 where
   Head : ℕ → Action
   Get : ℕ → Action
   Patch : ℕ → ℕ → Action
+  Delete : ℕ → Action
 
--- a request that passed its checks: the bytes of its body, whether the request line says HEAD, whether it is a PATCH that
--- awaits 100 Continue, and whether the connection closes behind the reply, whatever it is
+-- a request that passed its checks: the bytes of its body, whether the request line says HEAD, whether it is a PATCH
+-- that awaits 100 Continue, and whether the connection closes behind the reply, whatever it is
 pub record Request : Type 0 where
   pub action : Action
   pub length : ℕ

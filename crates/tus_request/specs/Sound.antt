@@ -2,7 +2,8 @@
 use Rattle.std.specs.Prelude.{◌≡◌, ◌<◌, ◌≤◌, ◌^◌, Bool, true, All, length}
 use Rattle.enc_model.specs.declared.Encoding.{Encoding}
 use Rattle.enc_model.specs.declared.Encoding.TheVariants.{Utf16Be, Utf16Le}
-use Rattle.tus_request.specs.Requests.{Creation, Action, Options, Create, Head, Get, Patch, Request, Verdict, Asks, Refuses}
+use Rattle.tus_request.specs.Requests.{Action, Options, Create, Head, Get, Patch, Delete}
+use Rattle.tus_request.specs.Requests.{Creation, Request, Verdict, Asks, Refuses}
 use Rattle.tus_request.specs.Answers.{Answer, More, Judged}
 
 -- an upload to be made: its encodings are offered, its text isn't UTF-16, and its metadata is short and plain
@@ -19,6 +20,7 @@ IsSoundAction offers (Create c) = IsSoundCreation offers c
 IsSoundAction offers (Head number) = Unit {0}
 IsSoundAction offers (Get number) = Unit {0}
 IsSoundAction offers (Patch number offset) = offset < 10 ^ 18
+IsSoundAction offers (Delete number) = Unit {0}
 
 -- a number has at most 18 digits
 pub record IsSoundRequest (offers : Encoding → Bool) (r : Request) : Type 0 where

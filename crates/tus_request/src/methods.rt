@@ -14,6 +14,7 @@ pub(crate) enum Verb {
     Head,
     Patch,
     Get,
+    Delete,
     Other,
 }
 
@@ -32,6 +33,7 @@ pub(crate) fn verb_of(alloc: Global, name: &[u8]) -> Result<Verb, AllocError>
         "HEAD" => Verb::Head,
         "PATCH" => Verb::Patch,
         "GET" => Verb::Get,
+        "DELETE" => Verb::Delete,
         _ => Verb::Other,
     })
 }

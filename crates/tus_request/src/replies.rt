@@ -4,7 +4,8 @@
 //! that the connection closes.
 ghost use Rattle.std.specs.Prelude.{◌≡◌, ◌<◌, ◌+◌, ◌++◌, OnOk, OnErr};
 ghost use Rattle.std.specs.Vec.{vec_capacity, vec_len};
-ghost use Rattle.tus_request.specs.Replies.{reply_options, reply_created, reply_head, reply_patched, reply_text, reply_refused, reply_continue, unless_bare};
+ghost use Rattle.tus_request.specs.Replies.{reply_options, reply_created, reply_head, reply_patched, reply_deleted};
+ghost use Rattle.tus_request.specs.Replies.{reply_text, reply_refused, reply_continue, unless_bare};
 ghost use Rattle.tus_request.specs.ReplyParts.{reply_shown};
 
 use crate::faults::Fault;
@@ -110,6 +111,29 @@ pub fn reply_patched(
     let reply = Reply {
         status: Status::NoContent,
         lines: Lines::Offset(offset),
+        length: None,
+        closes,
+    };
+    append(alloc, &reply, out)
+}
+
+/// Appends the reply to a DELETE that deleted its upload.
+///
+/// # Errors
+///
+/// `AllocError` if memory is refused.
+pub fn reply_deleted(
+    alloc: Global,
+    _bare: bool,
+    closes: bool,
+    out: &mut Vec<u8>,
+) -> Result<(), AllocError>
+    ensures ok { OnOk result (out.new.items ≡ out.old.items ++ reply_deleted closes) }
+    ensures err { OnErr result (out.new.items ≡ out.old.items) }
+{
+    let reply = Reply {
+        status: Status::NoContent,
+        lines: Lines::Deleted,
         length: None,
         closes,
     };

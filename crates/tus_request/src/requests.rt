@@ -32,6 +32,8 @@ pub enum Action {
         /// How many bytes it should have before.
         offset: u64,
     },
+    /// The deletion of the upload of this number.
+    Delete(u64),
 }
 
 /// A request, as its head gives it.

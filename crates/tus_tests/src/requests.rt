@@ -59,8 +59,9 @@ fn an_upload_is_made(rt: HostRuntime) -> Result<(), Fail> {
 
 #[test]
 fn bytes_are_appended(rt: HostRuntime) -> Result<(), Fail> {
-    let head =
-        b"PATCH /files/17 HTTP/1.1\r\nTus-Resumable: 1.0.0\r\nUpload-Offset: 2\r\nContent-Type: Application/Offset+Octet-Stream;x\r\nContent-Length: 3\r\nExpect: 100-Continue\r\nConnection: keep-alive, Close\r\n\r\nabcGET";
+    let head = b"PATCH /files/17 HTTP/1.1\r\nTus-Resumable: 1.0.0\r\nUpload-Offset: 2\r\n\
+          Content-Type: Application/Offset+Octet-Stream;x\r\nContent-Length: 3\r\n\
+          Expect: 100-Continue\r\nConnection: keep-alive, Close\r\n\r\nabcGET";
     let answer = parsed(rt.alloc(), head)?;
     assert_eq!(rt;
         answer,
@@ -117,7 +118,8 @@ fn a_method_in_place_of_another(rt: HostRuntime) -> Result<(), Fail> {
 #[test]
 fn a_method_inside_another(rt: HostRuntime) -> Result<(), Fail> {
     let patch =
-        b"POST /files/2 HTTP/1.1\r\nTus-Resumable: 1.0.0\r\nX-HTTP-Method-Override: PATCH\r\nUpload-Offset: 7\r\nContent-Type: application/offset+octet-stream\r\nContent-Length: 3\r\n\r\n";
+        b"POST /files/2 HTTP/1.1\r\nTus-Resumable: 1.0.0\r\nX-HTTP-Method-Override: PATCH\r\n\
+          Upload-Offset: 7\r\nContent-Type: application/offset+octet-stream\r\nContent-Length: 3\r\n\r\n";
     assert_eq!(rt;
         parsed(rt.alloc(), patch)?,
         Parsed::Head {
@@ -137,6 +139,57 @@ fn a_method_inside_another(rt: HostRuntime) -> Result<(), Fail> {
     let head =
         b"GET /files/1 HTTP/1.1\r\nTus-Resumable: 1.0.0\r\nX-HTTP-Method-Override: HEAD\r\n\r\n";
     assert_eq!(rt; parsed(rt.alloc(), head)?, plain(head, Action::Head(1)));
+    Ok(())
+}
+
+#[test]
+fn an_upload_is_deleted(rt: HostRuntime) -> Result<(), Fail> {
+    let plainly = b"DELETE /files/17 HTTP/1.1\r\nTus-Resumable: 1.0.0\r\n\r\n";
+    assert_eq!(rt;
+        parsed(rt.alloc(), plainly)?,
+        plain(plainly, Action::Delete(17))
+    );
+    let inside =
+        b"POST /files/1 HTTP/1.1\r\nTus-Resumable: 1.0.0\r\nX-HTTP-Method-Override: DELETE\r\n\r\n";
+    assert_eq!(rt;
+        parsed(rt.alloc(), inside)?,
+        plain(inside, Action::Delete(1))
+    );
+    let with_a_body = b"DELETE /files/1 HTTP/1.1\r\nTus-Resumable: 1.0.0\r\n\
+          Content-Length: 3\r\nExpect: 100-continue\r\n\r\nabc";
+    assert_eq!(rt;
+        parsed(rt.alloc(), with_a_body)?,
+        Parsed::Head {
+            taken: with_a_body.len() - 3,
+            request: Request {
+                action: Action::Delete(1),
+                length: 3,
+                bare: false,
+                expects: false,
+                closes: true,
+            },
+        }
+    );
+    Ok(())
+}
+
+#[test]
+fn a_deletion_is_refused(rt: HostRuntime) -> Result<(), Fail> {
+    let version = b"DELETE /files/1 HTTP/1.1\r\n\r\n";
+    assert_eq!(rt;
+        parsed(rt.alloc(), version)?,
+        refusal(version, Fault::TusVersion, false, false)
+    );
+    let route = b"DELETE /files/01 HTTP/1.1\r\nTus-Resumable: 1.0.0\r\n\r\n";
+    assert_eq!(rt;
+        parsed(rt.alloc(), route)?,
+        refusal(route, Fault::NoRoute, false, false)
+    );
+    let lower = b"delete /files/1 HTTP/1.1\r\nTus-Resumable: 1.0.0\r\n\r\n";
+    assert_eq!(rt;
+        parsed(rt.alloc(), lower)?,
+        refusal(lower, Fault::BadMethod, false, false)
+    );
     Ok(())
 }
 
@@ -284,14 +337,14 @@ fn checks_in_their_order(rt: HostRuntime) -> Result<(), Fail> {
 
 #[test]
 fn bad_metadata(rt: HostRuntime) -> Result<(), Fail> {
-    let twice =
-        b"POST /files HTTP/1.1\r\nTus-Resumable: 1.0.0\r\nUpload-Length: 5\r\nUpload-Metadata: from dXRmLTg=,from dXRmLTg=\r\n\r\n";
+    let twice = b"POST /files HTTP/1.1\r\nTus-Resumable: 1.0.0\r\nUpload-Length: 5\r\n\
+          Upload-Metadata: from dXRmLTg=,from dXRmLTg=\r\n\r\n";
     assert_eq!(rt;
         parsed(rt.alloc(), twice)?,
         refusal(twice, Fault::BadMetadata, true, false)
     );
-    let klingon =
-        b"POST /files HTTP/1.1\r\nTus-Resumable: 1.0.0\r\nUpload-Length: 5\r\nUpload-Metadata: from a2xpbmdvbg==\r\n\r\n";
+    let klingon = b"POST /files HTTP/1.1\r\nTus-Resumable: 1.0.0\r\nUpload-Length: 5\r\n\
+          Upload-Metadata: from a2xpbmdvbg==\r\n\r\n";
     assert_eq!(rt;
         parsed(rt.alloc(), klingon)?,
         refusal(klingon, Fault::BadLabel, true, false)
@@ -313,8 +366,8 @@ fn bad_metadata(rt: HostRuntime) -> Result<(), Fail> {
 
 #[test]
 fn pairs_with_spaces_round_them(rt: HostRuntime) -> Result<(), Fail> {
-    let head =
-        b"POST /files HTTP/1.1\r\nTus-Resumable: 1.0.0\r\nUpload-Length: 5\r\nUpload-Metadata: from dXRmLTE2bGU= ,  to dXRmLTE2,mode ZmF0YWw=, note\r\n\r\n";
+    let head = b"POST /files HTTP/1.1\r\nTus-Resumable: 1.0.0\r\nUpload-Length: 5\r\n\
+          Upload-Metadata: from dXRmLTE2bGU= ,  to dXRmLTE2,mode ZmF0YWw=, note\r\n\r\n";
     let metadata = "from dXRmLTE2bGU= ,  to dXRmLTE2,mode ZmF0YWw=, note";
     let action = Action::Create {
         declared: 5,

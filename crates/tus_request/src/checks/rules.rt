@@ -79,6 +79,7 @@ fn on_upload(asking: &Asking<'_>, number: u64) -> Verdict
         Verb::Head => passed(asking, Action::Head(number)),
         Verb::Patch => check_patch(asking, number),
         Verb::Get => passed(asking, Action::Get(number)),
+        Verb::Delete => passed(asking, Action::Delete(number)),
         Verb::Post | Verb::Other => refused(asking, Fault::BadMethod),
     }
 }

@@ -61,6 +61,7 @@ pub(crate) enum Lines<'m> {
         metadata: &'m str,
     },
     Offset(u64),
+    Deleted,
     Text(&'m str),
     Refused {
         fault: Fault,
@@ -75,7 +76,7 @@ impl fmt::Display for Lines<'_> {
         match self {
             Lines::Options => write!(
                 f,
-                "Tus-Version: 1.0.0\r\nTus-Extension: creation\r\nTus-Max-Size: 1073741824\r\n"
+                "Tus-Version: 1.0.0\r\nTus-Extension: creation,termination\r\nTus-Max-Size: 1073741824\r\n"
             ),
             Lines::Created(number) => write!(f, "Location: /files/{number}\r\n"),
             Lines::Shown {
@@ -90,6 +91,7 @@ impl fmt::Display for Lines<'_> {
                 )
             }
             Lines::Offset(offset) => write!(f, "Upload-Offset: {offset}\r\n"),
+            Lines::Deleted => Ok(()),
             Lines::Text(name) => write!(f, "Content-Type: text/plain; charset={name}\r\n"),
             Lines::Refused { fault, on_files } => {
                 let first = RefusalLead(*fault, *on_files);
@@ -151,7 +153,7 @@ impl fmt::Display for RefusalLead {
         match (self.0, self.1) {
             (Fault::TusVersion, _) => write!(f, "Tus-Version: 1.0.0\r\n"),
             (Fault::BadMethod, true) => write!(f, "Allow: OPTIONS, POST\r\n"),
-            (Fault::BadMethod, false) => write!(f, "Allow: OPTIONS, HEAD, PATCH, GET\r\n"),
+            (Fault::BadMethod, false) => write!(f, "Allow: OPTIONS, HEAD, PATCH, GET, DELETE\r\n"),
             _ => Ok(()),
         }
     }

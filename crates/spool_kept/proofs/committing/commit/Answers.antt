@@ -1,17 +1,22 @@
-use Rattle.std.proofs.Common.{Err, IsErrOf, ℕ, ◌↔◌, ◌≡◌, ◌∙◌, List, Option, ap, refl, subst, sym}
+use Rattle.std.proofs.Common.{Result, Ok, Err, IsErrOf, ℕ, ◌⊎◌, ◌≡◌, ◌∙◌, List, Option, Some, ap, refl, subst, sym}
 use Rattle.std.proofs.lemmas.Option.{same_Some}
 use Rattle.spool_drafts.specs.declared.draft.SpoolDraft.{SpoolDraft}
+use Rattle.spool_pages.specs.View.{SlotRecord}
 use Rattle.spool_texts.specs.Drafts.{GivesBack}
 use Rattle.upload_rules.specs.Answers.{Answers}
 use Rattle.upload_rules.specs.Calls.{commit_refusal, committed, dropped, reached}
+use Rattle.upload_rules.specs.Drafts.{draft_at}
+use Rattle.upload_rules.specs.declared.errors.UploadError.{UploadError}
 use Rattle.upload_rules.specs.declared.errors.UploadError.TheVariants.{Refused}
-use Rattle.upload_rules.specs.declared.errors.UploadRefusal.TheVariants.{Offset}
+use Rattle.upload_rules.specs.declared.errors.UploadRefusal.{UploadRefusal}
+use Rattle.upload_rules.specs.declared.errors.UploadRefusal.TheVariants.{Full, Unencodable}
 use Rattle.spool_kept.specs.Committing.{HasSameCount}
 use Rattle.spool_kept.specs.Drafting.{DraftsFit, StandsFor, list_in, lists_at}
 use Rattle.spool_kept.specs.Holding.{Holding}
 use Rattle.spool_kept.proofs.CommitHead as head
 use Rattle.spool_kept.proofs.Drafted.{drops, reserves_only}
 use Rattle.spool_kept.proofs.OfUploads.{behind_slot, fits_dropped}
+use Rattle.spool_kept.proofs.committing.commit.Given.{Over}
 use Rattle.spool_kept.proofs.committing.commit.Goals as goal
 
 pub put_behind-requires-clause-placed : goal.put_behind-requires-clause-placed
@@ -21,12 +26,50 @@ pub put_behind-requires-clause-behind : goal.put_behind-requires-clause-behind
 put_behind-requires-clause-behind g c =
     behind_slot c.args.kept.now.slots c.in-Some.draft c.in-Ok.slot c.in-Ok.ensures (c.requires.fits.uploads c.args.number c.in-Some.draft (sym c.in-Some.ensures.taken))
 
-pub returns-in-Err-clause-offset : goal.returns-in-Err-clause-offset
-returns-in-Err-clause-offset g c o here =
+-- EXACTLY SO REFUSED
+
+done_exactly : (slots : List (Option SlotRecord)) (o o' : SpoolDraft) (slot : ℕ) (result : Result ℕ UploadError)
+    → o ≡ o' → HasSameCount slots o slot
+    → ((e : UploadRefusal) → IsErrOf result (Refused e) → (e ≡ Unencodable) ⊎ (e ≡ Full))
+    → head.IsExactFor slots o' result
+done_exactly slots o o' slot result is has late =
+    subst (λ (d : SpoolDraft). head.IsExactFor slots d result) is (head.done_exactly slots o slot result has late)
+
+refused_exactly : (g : Over) (c : goal.After-give_back g) (o : SpoolDraft)
+    → draft_at c.args.drafts.now.items c.args.number ≡ Some o
+    → head.IsExactFor {T = ℕ} c.args.kept.now.slots o (Err (Refused c.in-Err.refusal))
+refused_exactly g c o here =
     let slots = c.args.kept.now.slots in
+    let result : Result ℕ UploadError = Err (Refused c.in-Err.refusal) in
+    subst (λ (d : SpoolDraft). head.IsExactFor slots d result)
+    (same_Some c.in-Some.draft o (c.in-Some.ensures.taken ∙ here))
+    (head.refused_exactly slots c.in-Some.draft c.in-Err.refusal c.in-Err.ensures)
+
+pub returns-in-Err-clause-no_such : goal.returns-in-Err-clause-no_such
+returns-in-Err-clause-no_such g c o here = (refused_exactly g c o here).0
+
+pub returns-in-Err-clause-offset : goal.returns-in-Err-clause-offset
+returns-in-Err-clause-offset g c o here = (refused_exactly g c o here).1
+
+pub returns-then-came-eq0-clause-no_such : goal.returns-then-came-eq0-clause-no_such
+returns-then-came-eq0-clause-no_such g c o here =
     let is = same_Some c.in-Some.draft o (c.in-Some.ensures.taken ∙ here) in
-    subst (λ (d : SpoolDraft). IsErrOf {T = ℕ} (Err (Refused c.in-Err.refusal)) (Refused Offset) ↔ ((s : ℕ) → HasSameCount slots d s → ⊥)) is
-    (head.at_offset slots c.in-Some.draft c.in-Err.refusal c.in-Err.ensures (c.requires.fits.uploads c.args.number c.in-Some.draft (sym c.in-Some.ensures.taken)))
+    (done_exactly c.args.kept.now.slots c.in-Some.draft o c.in-Ok.slot (Ok c.offset-offset.result) is c.in-Ok.ensures (λ e refused. absurd cc)).0
+
+pub returns-then-came-eq0-clause-offset : goal.returns-then-came-eq0-clause-offset
+returns-then-came-eq0-clause-offset g c o here =
+    let is = same_Some c.in-Some.draft o (c.in-Some.ensures.taken ∙ here) in
+    (done_exactly c.args.kept.now.slots c.in-Some.draft o c.in-Ok.slot (Ok c.offset-offset.result) is c.in-Ok.ensures (λ e refused. absurd cc)).1
+
+pub returns-clause-no_such : goal.returns-clause-no_such
+returns-clause-no_such g c o here =
+    let is = same_Some c.in-Some.draft o (c.in-Some.ensures.taken ∙ here) in
+    (done_exactly c.args.kept.now.slots c.in-Some.draft o c.in-Ok.slot c.put_behind.result is c.in-Ok.ensures c.put_behind.ensures.refusal).0
+
+pub returns-clause-offset : goal.returns-clause-offset
+returns-clause-offset g c o here =
+    let is = same_Some c.in-Some.draft o (c.in-Some.ensures.taken ∙ here) in
+    (done_exactly c.args.kept.now.slots c.in-Some.draft o c.in-Ok.slot c.put_behind.result is c.in-Ok.ensures c.put_behind.ensures.refusal).1
 
 -- WITHOUT A CALL OF THE DEVICE
 

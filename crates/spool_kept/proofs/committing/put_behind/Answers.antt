@@ -1,25 +1,22 @@
-use Rattle.std.proofs.Common.{◌≡◌, ◌∙◌, ap, refl, subst, sym, ℕ, List, Option, Err, None, set}
+use Rattle.std.proofs.Common.{◌≡◌, ◌∙◌, ap, refl, subst, sym, ℕ, List, Err, None, set}
 use Rattle.spool_drafts.proofs.Effects.{only_then}
 use Rattle.spool_drafts.specs.Drafts.{list_of}
 use Rattle.spool_drafts.specs.Effect.{Effect, OnlyWrites}
 use Rattle.spool_journal.specs.Image.{journal_pages}
 use Rattle.spool_kept.specs.Committing.{OnlyRead}
-use Rattle.spool_pages.specs.View.{SlotRecord}
 use Rattle.spool_texts.specs.Drafts.{GivesBack}
 use Rattle.spool_disk.specs.Views.{Lasts}
 use Rattle.upload_rules.specs.Calls.{commit_outcome, commit_refusal, dropped}
 use Rattle.upload_rules.specs.Store.{appended_store}
-use Rattle.spool_kept.specs.Drafting.{DraftsHold}
 use Rattle.spool_kept.specs.Extending.{HandsOn, IsLonger, IsPending, IsWritten}
 use Rattle.spool_kept.specs.Holding.{Holding}
 use Rattle.spool_kept.specs.Shows.{ImageShows}
 use Rattle.spool_kept.specs.Stored.{ShowsEither}
 use Rattle.spool_kept.specs.declared.extending.ExtendError.{ExtendError}
+use Rattle.spool_kept.proofs.CommitFits.{fits_given, fits_handed}
 use Rattle.spool_kept.proofs.CommitRefusals.{late}
 use Rattle.spool_kept.proofs.CommitSpent as spent
-use Rattle.spool_kept.proofs.DraftSpent.{fit_given, fit_handed, rows_handed}
 use Rattle.spool_kept.proofs.Drafted.{reserves_only}
-use Rattle.spool_kept.proofs.OfUploads.{AreOfUploads, of_dropped, of_put}
 use Rattle.spool_kept.proofs.committing.put_behind.Goals as goal
 
 -- THE DRAFTS THAT ARE LEFT
@@ -27,62 +24,39 @@ use Rattle.spool_kept.proofs.committing.put_behind.Goals as goal
 pub returns-in-Err-clause-fits : goal.returns-in-Err-clause-fits
 returns-in-Err-clause-fits g c drafts number fit here =
     let effect = c.ended.ensures.effect in
-    let layout : c.kept.inside.layout ≡ c.args.kept.now.layout = ap (λ (h : Holding). h.layout) (c.kept.view_is ∙ c.ended.ensures.same.same) in
-    let gives = subst (λ (h : Holding). GivesBack h.blocks c.give_back.new.blocks (list_of c.ended.new.draft)) c.kept.view_is c.give_back.ensures in
-    let slots = ap (λ (h : Holding). h.slots) (c.kept.view_is ∙ c.ended.ensures.same.same) in
-    record {
-      blocks = subst (λ (n : ℕ). DraftsHold n c.give_back.new.blocks (set drafts number None)) (sym layout)
-          (fit_given c.args.kept.now.layout c.args.kept.now.blocks c.ended.new.kept.blocks drafts fit.blocks number c.args.draft c.ended.new.draft here effect.own effect.grasp
-          c.ended.ensures.reserved c.ended.ensures.placed c.give_back.new.blocks gives);
-      uploads = of_dropped c.args.kept.now.slots _ drafts (set drafts number None) number slots refl fit.uploads;
-    }
+    fits_given c.args.kept.now c.ended.new.kept c.ended.ensures.same drafts fit number c.args.draft c.ended.new.draft here
+    effect.own effect.grasp c.ended.ensures.reserved c.ended.ensures.placed _
+    c.give_back.new.blocks c.kept.view_is c.give_back.ensures
 
 pub returns-in-Err-NoMemory-clause-fits : goal.returns-in-Err-NoMemory-clause-fits
 returns-in-Err-NoMemory-clause-fits g c drafts number fit here =
     let effect = c.ended.ensures.effect in
-    let same = c.kept-2.view_is ∙ (c.extend.ensures.unmade (c.in-Err-NoMemory.is ∙ ap (λ (e : ExtendError). Err e) c.in-Err-NoMemory.field-0-is)).0 in
-    let layout : c.kept-2.inside.layout ≡ c.args.kept.now.layout = ap (λ (h : Holding). h.layout) (same ∙ c.ended.ensures.same.same) in
-    let gives = subst (λ (h : Holding). GivesBack h.blocks c.give_back-in-Err-NoMemory.new.blocks (list_of c.ended.new.draft)) same c.give_back-in-Err-NoMemory.ensures in
-    let slots = ap (λ (h : Holding). h.slots) (same ∙ c.ended.ensures.same.same) in
-    record {
-      blocks = subst (λ (n : ℕ). DraftsHold n c.give_back-in-Err-NoMemory.new.blocks (set drafts number None)) (sym layout)
-          (fit_given c.args.kept.now.layout c.args.kept.now.blocks c.ended.new.kept.blocks drafts fit.blocks number c.args.draft c.ended.new.draft here effect.own effect.grasp
-          c.ended.ensures.reserved c.ended.ensures.placed c.give_back-in-Err-NoMemory.new.blocks gives);
-      uploads = of_dropped c.args.kept.now.slots _ drafts (set drafts number None) number slots refl fit.uploads;
-    }
+    let short = c.in-Err-NoMemory.is ∙ ap (λ (e : ExtendError). Err e) c.in-Err-NoMemory.field-0-is in
+    fits_given c.args.kept.now c.ended.new.kept c.ended.ensures.same drafts fit number c.args.draft c.ended.new.draft here
+    effect.own effect.grasp c.ended.ensures.reserved c.ended.ensures.placed _
+    c.give_back-in-Err-NoMemory.new.blocks (c.kept-2.view_is ∙ (c.extend.ensures.unmade short).0)
+    c.give_back-in-Err-NoMemory.ensures
 
 pub returns-in-Ok-extend-clause-fits : goal.returns-in-Ok-extend-clause-fits
 returns-in-Ok-extend-clause-fits g c drafts number fit here =
     let effect = c.ended.ensures.effect in
     let may = c.in-Ok.ensures.may in
-    let layout : c.extend.new.kept.layout ≡ c.args.kept.now.layout = c.extend.ensures.layout ∙ ap (λ (h : Holding). h.layout) c.ended.ensures.same.same in
-    let hands = subst (HandsOn c.ended.new.kept.blocks.reserved c.extend.new.kept.blocks.reserved) c.list.ensures.blocks (c.in-Ok-extend.ensures.blocks (λ e. cc)) in
-    let longer = subst (λ (more : List ℕ). IsLonger c.ended.new.kept may.used c.in-Ok.end.0 more c.extend.new.kept) c.list.ensures.blocks (c.in-Ok-extend.ensures.longer (λ e. cc) may.used may.there) in
-    let slots = ap (λ (h : Holding). h.slots) c.ended.ensures.same.same in
-    record {
-      blocks = subst (λ (n : ℕ). DraftsHold n c.extend.new.kept.blocks (set drafts number None)) (sym layout)
-          (fit_handed c.args.kept.now.layout c.args.kept.now.blocks c.ended.new.kept.blocks drafts fit.blocks number c.args.draft c.ended.new.draft here effect.own effect.grasp
-          c.ended.ensures.reserved c.ended.ensures.placed c.extend.new.kept.blocks hands (rows_handed c.ended.new.kept c.extend.new.kept may.used c.in-Ok.end.0 (list_of c.ended.new.draft) longer));
-      uploads = of_put c.ended.new.kept.slots c.extend.new.kept.slots drafts number c.in-Ok.end.0 may.used may.there (c.in-Ok.ensures.more may.used may.there) longer.slots
-          (subst (λ (s : List (Option SlotRecord)). AreOfUploads s drafts) (sym slots) fit.uploads);
-    }
+    fits_handed c.args.kept.now c.ended.new.kept c.ended.ensures.same drafts fit number c.args.draft c.ended.new.draft here
+    effect.own effect.grasp c.ended.ensures.reserved c.ended.ensures.placed
+    c.extend.new.kept c.in-Ok.end.0 may.used c.list.result.now c.list.ensures.blocks may.there
+    (c.in-Ok.ensures.more may.used may.there) (c.in-Ok-extend.ensures.blocks (λ e. cc))
+    (c.in-Ok-extend.ensures.longer (λ e. cc) may.used may.there)
 
 pub returns-in-Err-DiskFault-clause-fits : goal.returns-in-Err-DiskFault-clause-fits
 returns-in-Err-DiskFault-clause-fits g c drafts number fit here =
     let effect = c.ended.ensures.effect in
     let may = c.in-Ok.ensures.may in
     let fault : c.extend.result ≡ Err ExtendError.DiskFault = c.in-Err-DiskFault.is ∙ ap (λ (e : ExtendError). Err e) c.in-Err-DiskFault.field-0-is in
-    let layout : c.extend.new.kept.layout ≡ c.args.kept.now.layout = c.extend.ensures.layout ∙ ap (λ (h : Holding). h.layout) c.ended.ensures.same.same in
-    let hands = subst (HandsOn c.ended.new.kept.blocks.reserved c.extend.new.kept.blocks.reserved) c.list.ensures.blocks (c.extend.ensures.blocks (λ e. cc)) in
-    let longer = subst (λ (more : List ℕ). IsLonger c.ended.new.kept may.used c.in-Ok.end.0 more c.extend.new.kept) c.list.ensures.blocks (c.extend.ensures.longer (λ e. cc) may.used may.there) in
-    let slots = ap (λ (h : Holding). h.slots) c.ended.ensures.same.same in
-    record {
-      blocks = subst (λ (n : ℕ). DraftsHold n c.extend.new.kept.blocks (set drafts number None)) (sym layout)
-          (fit_handed c.args.kept.now.layout c.args.kept.now.blocks c.ended.new.kept.blocks drafts fit.blocks number c.args.draft c.ended.new.draft here effect.own effect.grasp
-          c.ended.ensures.reserved c.ended.ensures.placed c.extend.new.kept.blocks hands (rows_handed c.ended.new.kept c.extend.new.kept may.used c.in-Ok.end.0 (list_of c.ended.new.draft) longer));
-      uploads = of_put c.ended.new.kept.slots c.extend.new.kept.slots drafts number c.in-Ok.end.0 may.used may.there (c.in-Ok.ensures.more may.used may.there) longer.slots
-          (subst (λ (s : List (Option SlotRecord)). AreOfUploads s drafts) (sym slots) fit.uploads);
-    }
+    fits_handed c.args.kept.now c.ended.new.kept c.ended.ensures.same drafts fit number c.args.draft c.ended.new.draft here
+    effect.own effect.grasp c.ended.ensures.reserved c.ended.ensures.placed
+    c.extend.new.kept c.in-Ok.end.0 may.used c.list.result.now c.list.ensures.blocks may.there
+    (c.in-Ok.ensures.more may.used may.there) (c.extend.ensures.blocks (λ e. cc))
+    (c.extend.ensures.longer (λ e. cc) may.used may.there)
 
 -- WHAT A CRASH MAY LEAVE
 

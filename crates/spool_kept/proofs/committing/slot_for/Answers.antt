@@ -14,13 +14,9 @@ returns-then-record-offset c =
     let q = c.in-Some-record_at.used.now in
     let there : get_or slots slot None ≡ Some q = search rules in
     let accepted : c.record.result.now.accepted ≡ q.accepted = ap (λ (r : SlotRecord). r.accepted) c.record.ensures.said in
-    let same = same_Some c.in-Some.ensures.used.used q (sym c.in-Some.ensures.used.there ∙ there) in
     record {
       slot = slot;
-      used = q;
-      there = there;
-      number = ap (λ (r : SlotRecord). r.number) (sym same) ∙ c.in-Some.ensures.used.is ∙ c.number.ensures;
-      count = λ e. c.if-record-offset.true (accepted ∙ e ∙ sym c.offset.ensures);
+      used = subst (λ (n : ℕ). IsUsedBy slots slot n) c.number.ensures c.in-Some.ensures.used;
       none = λ s has.
           let at = c.in-Some.ensures.only s (record { used = has.used; there = has.there; is = has.number ∙ sym c.number.ensures }) in
           let is = same_Some has.used q (sym has.there ∙ ap (λ (k : ℕ). get_or slots k None) at ∙ there) in

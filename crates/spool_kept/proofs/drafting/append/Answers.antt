@@ -1,4 +1,4 @@
-use Rattle.std.proofs.Common.{◌≡◌, ◌∙◌, ◌+◌, ◌*◌, ◌++◌, ap, get_or, refl, subst, sym, List, None, Some}
+use Rattle.std.proofs.Common.{◌<◌, arith, ◌≡◌, ◌∙◌, ◌+◌, ◌*◌, ◌++◌, ap, get_or, refl, subst, sym, List, None, Some}
 use Rattle.std.proofs.lemmas.Option.{same_Some}
 use Rattle.enc_model.specs.Indexes.{IndexSet}
 use Rattle.spool_journal.specs.Image.{journal_pages}
@@ -11,13 +11,14 @@ use Rattle.upload_rules.proofs.Growing.{grown_longer}
 use Rattle.upload_rules.proofs.Patches.{draft_of}
 use Rattle.spool_blocks.specs.Blocks.{Row}
 use Rattle.spool_disk.proofs.Firm.{lasts_more}
-use Rattle.spool_drafts.specs.Drafts.{IsPlaced, Holds, Carries, IsLonger, with_piece, tail_of}
+use Rattle.spool_drafts.specs.Drafts.{IsPlaced, Holds, Carries, IsLonger, number_of, with_piece, tail_of}
+use Rattle.spool_drafts.specs.declared.draft.SpoolDraft.{SpoolDraft}
 use Rattle.spool_kept.specs.Drafting.{DraftsFit, DraftsHold, IsOfUpload, DraftStands, DraftsStand, IsOwnedBy, StandsFor}
 use Rattle.spool_kept.proofs.Drafted.{reserves_only}
 use Rattle.spool_kept.proofs.SameView.{shows_aside}
 use Rattle.spool_kept.specs.Holding.{Holding}
 use Rattle.spool_kept.proofs.DraftLonger.{answered, changed_back, fit_longer, longer_carries, longer_holds, longer_world, moved, ok_more, some_draft, stand_longer}
-use Rattle.spool_kept.proofs.OfUploads.{of_changed, of_longer}
+use Rattle.spool_kept.proofs.OfUploads.{each_changed, of_longer}
 use Rattle.spool_kept.proofs.drafting.append.Goals as goal
 
 pub append-answer-requires-clause-placed : goal.append-answer-requires-clause-placed
@@ -36,7 +37,10 @@ returns-clause-fits g c =
     record {
       blocks = fit_longer c.kept.inside.layout c.kept.inside.blocks before fit.blocks c.args.number c.in-Some.draft here c.append-answer.new.blocks c.put_back.new.drafts.items new effect.own effect.grasp changed
           c.append-answer.ensures.reserved c.append-answer.ensures.placed;
-      uploads = of_changed c.kept.inside.slots.items before c.put_back.new.drafts.items c.args.number (Some new) changed fit.uploads
+      below = each_changed (λ (o : SpoolDraft). number_of o < c.kept.inside.next) before c.put_back.new.drafts.items
+          c.args.number (Some new) changed fit.below
+          (λ a e. omega (arith, ap number_of (same_Some new a e), same.0, fit.below c.args.number c.in-Some.draft here));
+      uploads = each_changed (IsOfUpload c.kept.inside.slots.items) before c.put_back.new.drafts.items c.args.number (Some new) changed fit.uploads
           (λ a e. subst (IsOfUpload c.kept.inside.slots.items) (same_Some new a e)
           (of_longer c.kept.inside.slots.items c.in-Some.draft new same.0 same.1 c.append-answer.ensures.behind (fit.uploads c.args.number c.in-Some.draft here)));
     }

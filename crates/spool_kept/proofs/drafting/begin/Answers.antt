@@ -1,11 +1,12 @@
-use Rattle.std.proofs.Common.{List, Option, Some, subst, sym, refl}
+use Rattle.std.proofs.Common.{◌<◌, List, Option, Some, subst, sym, refl}
 use Rattle.std.proofs.lemmas.Option.{same_Some}
+use Rattle.spool_drafts.specs.Drafts.{number_of}
 use Rattle.spool_drafts.specs.declared.draft.SpoolDraft.{SpoolDraft}
 use Rattle.spool_pages.proofs.Resting.{rests_says}
 use Rattle.upload_rules.specs.Store.{upload_of}
 use Rattle.spool_kept.specs.Drafting.{IsOfUpload, StandsFor}
 use Rattle.spool_kept.proofs.DraftBegun.{begin_allowed, begin_late, begin_refused, begins, changed_more, fit_begun}
-use Rattle.spool_kept.proofs.OfUploads.{of_changed}
+use Rattle.spool_kept.proofs.OfUploads.{each_changed}
 use Rattle.spool_kept.proofs.drafting.begin.Goals as goal
 
 pub returns-in-Err-clause-answer : goal.returns-in-Err-clause-answer
@@ -18,9 +19,16 @@ returns-in-Ok-placed-clause-fits g c =
     let before = c.args.drafts.now.items in
     let after = c.placed.new.drafts.items in
     let placed = c.in-Ok-placed.ensures.ok in
+    let d = c.in-Ok-placed.number in
+    let next = c.args.kept.now.next in
+    let changed = changed_more before after d c.in-Ok.draft placed in
     record {
-      blocks = fit_begun before after c.in-Ok-placed.number c.in-Ok.draft placed c.args.kept.now.layout c.args.kept.now.blocks c.requires.fits.blocks c.in-Ok.ensures.none c.in-Ok.ensures.placed;
-      uploads = of_changed c.args.kept.now.slots before after c.in-Ok-placed.number (Some c.in-Ok.draft) (changed_more before after c.in-Ok-placed.number c.in-Ok.draft placed) c.requires.fits.uploads
+      blocks = fit_begun before after d c.in-Ok.draft placed c.args.kept.now.layout c.args.kept.now.blocks c.requires.fits.blocks c.in-Ok.ensures.none c.in-Ok.ensures.placed;
+      below = each_changed (λ (o : SpoolDraft). number_of o < next) before after d (Some c.in-Ok.draft) changed
+          c.requires.fits.below
+          (λ a e. subst (λ (o : SpoolDraft). number_of o < next) (same_Some c.in-Ok.draft a e) c.in-Ok.ensures.below);
+      uploads = each_changed (IsOfUpload c.args.kept.now.slots) before after d (Some c.in-Ok.draft) changed
+          c.requires.fits.uploads
           (λ a e. subst (IsOfUpload c.args.kept.now.slots) (same_Some c.in-Ok.draft a e) c.in-Ok.ensures.of_upload);
     }
 

@@ -3,11 +3,16 @@ use Rattle.spool_journal.specs.Image.{journal_pages}
 use Rattle.upload_rules.specs.Store.{Upload}
 use Rattle.spool_kept.specs.Drafting.{OpensFor}
 use Rattle.spool_kept.proofs.Drafted.{opens_for, tail_owned}
-use Rattle.spool_kept.proofs.OfUploads.{begins_kept}
+use Rattle.spool_kept.proofs.OfUploads.{begins_below, begins_kept}
 use Rattle.spool_kept.proofs.drafting.opened.Goals as goal
 
 pub returns-clause-owned : goal.returns-clause-owned
 returns-clause-owned c = tail_owned c.args.kept.now.slots c.args.kept.now.blocks.rows c.args.number _ _ c.begin.result c.in-Some.ensures.owned c.begin.ensures.tail
+
+pub returns-clause-below : goal.returns-clause-below
+returns-clause-below c =
+    let r = c.in-Some.found.upload.now in
+    begins_below c.args.kept.now.next r.number r.accepted c.begin.result c.in-Some.ensures.numbered c.begin.ensures.named
 
 pub returns-clause-of_upload : goal.returns-clause-of_upload
 returns-clause-of_upload c = begins_kept c.args.kept.now.slots c.in-Some.found.upload.now c.begin.result c.in-Some.ensures.kept c.begin.ensures.named c.begin.ensures.behind

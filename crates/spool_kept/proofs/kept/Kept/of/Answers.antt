@@ -23,6 +23,7 @@ returns-clause-said c v sound blocks next indexes slots rows reserved =
       list_count = c.in_ok-lists.ensures.long;
       row_count = c.requires.rows;
       rows_fit = c.requires.fits;
+      below = c.requires.below;
       ordered =
           subst (λ (xs : List (Option SlotRecord)). Orders xs c.in_ok-order.order.items 512) first
           c.in_ok-order.ensures.orders;

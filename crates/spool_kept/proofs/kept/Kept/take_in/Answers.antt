@@ -1,7 +1,7 @@
 use Rattle.std.proofs.Common.{◌∙◌, ◌+◌, Some, slice_set, ap, subst, sym}
 use Rattle.spool_kept.specs.Creating.{HasRoomAt}
 use Rattle.spool_kept.specs.Holding.{Holding, IsAdded}
-use Rattle.spool_kept.proofs.TakenIn.{taken_fits}
+use Rattle.spool_kept.proofs.TakenIn.{next_free, taken_fits}
 use Rattle.spool_kept.proofs.kept.Kept.take_in.Goals as goal
 
 abbrev inside : goal.After-self-2-1 → Holding
@@ -9,8 +9,7 @@ inside c = record { layout = c.self.inside.layout; next = c.self.inside.next; in
 
 added : (c : goal.After-self-2-1) → IsAdded c.self.inside.order.items c.self.inside.next c.args.slot c.put.new.order.items
 added c =
-    let room = subst (λ (h : Holding). HasRoomAt h c.args.slot) (sym c.self.view_is) c.requires.room in
-    c.in_ok-put.ensures.added c.self.invariant.ordered.rises room.unused
+    c.in_ok-put.ensures.added c.self.invariant.ordered.rises (next_free (inside c) c.self.invariant)
 
 pub invariant_of-self-2 : goal.invariant_of-self-2
 invariant_of-self-2 c =

@@ -5,7 +5,7 @@ use Rattle.spool_journal.specs.Image.{journal_pages}
 use Rattle.spool_texts.specs.TextOn.{text_on}
 use Rattle.upload_rules.specs.Store.{text_of}
 use Rattle.spool_pages.specs.View.{SlotRecord}
-use Rattle.spool_kept.specs.Holding.{Holding, IsUsedBy}
+use Rattle.spool_kept.specs.Holding.{Holding, FitsTogether, IsUsedBy}
 use Rattle.spool_kept.specs.Drafting.{IsOwnedBy}
 use Rattle.spool_kept.specs.Records.{said_of}
 use Rattle.spool_kept.proofs.Answered.{found, match_is_none, no_upload, same_used, text_told}
@@ -32,14 +32,27 @@ returns-clause-owned c =
     (subst (λ (h : Holding). IsUsedBy h.slots c.in_ok-slot.slot c.args.number) (sym c.self.view_is) c.in_ok-slot.ensures.used) c.blocks-list.result.now (list_is c) in
     subst (λ (h : Holding). IsOwnedBy h.slots h.blocks.rows c.args.number c.blocks-list.result.now) c.self.view_is owned
 
+record_there : (c : goal.After-record)
+    → get_or c.args.self.now.slots c.in_ok-slot.slot None ≡ Some (said_of c.record.result.now)
+record_there c =
+    let h = c.args.self.now in
+    let s = c.in_ok-slot.slot in
+    let same : c.deref.result.now ≡ h.slots = search rules in
+    ap (λ (xs : List (Option SlotRecord)). get_or xs s None) (sym same)
+    ∙ sym c.in_ok-used.ensures
+    ∙ ap (λ (q : SlotRecord). Some q) (sym c.record.ensures.said)
+
+pub returns-clause-numbered : goal.returns-clause-numbered
+returns-clause-numbered c =
+    let fits = subst FitsTogether c.self.view_is c.self.invariant in
+    fits.below c.in_ok-slot.slot (said_of c.record.result.now) (record_there c)
+
 pub returns-clause-kept : goal.returns-clause-kept
 returns-clause-kept c =
     let h = c.args.self.now in
     let s = c.in_ok-slot.slot in
     let r = c.record.result.now in
-    let same : c.deref.result.now ≡ h.slots = search rules in
-    let there : get_or h.slots s None ≡ Some (said_of r) =
-    ap (λ (xs : List (Option SlotRecord)). get_or xs s None) (sym same) ∙ sym c.in_ok-used.ensures ∙ ap (λ (q : SlotRecord). Some q) (sym c.record.ensures.said) in
+    let there : get_or h.slots s None ≡ Some (said_of r) = record_there c in
     let used = c.in_ok-slot.ensures.used in
     let number : r.number ≡ c.args.number = ap (λ (q : SlotRecord). q.number) (same_Some (said_of r) used.used (sym there ∙ used.there)) ∙ used.is in
     record {

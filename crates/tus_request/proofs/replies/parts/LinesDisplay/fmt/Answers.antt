@@ -5,4 +5,5 @@ use Rattle.tus_request.proofs.replies.parts.LinesDisplay.fmt.Goals as goal
 
 pub returns-in-Shown-clause-writes : goal.returns-in-Shown-clause-writes
 returns-in-Shown-clause-writes g c = λ plain ok. rw c.in-Shown.is
-    (rw (← shown_lines (decimal c.in-Shown.offset) (decimal c.in-Shown.declared) (metadata_line c.in-Shown.metadata.now)) (c.write-in-Shown.ensures.writes plain ok))
+    (rw (← shown_lines (decimal c.in-Shown.offset) (decimal c.in-Shown.declared)
+    (metadata_line c.in-Shown.metadata.now)) (c.write-in-Shown.ensures.writes plain ok))
