@@ -1,14 +1,14 @@
 -- A view with a free slot shows the store without that slot's upload.
-use Rattle.std.proofs.Common.{◌≡◌, ◌≢◌, ℕ, ◌<◌, List, Option, None, Some, length, get_or, refl, sym, ◌∙◌, ap, inl, inr}
+use Rattle.std.proofs.Common.{◌≡◌, ◌≢◌, ℕ, ◌<◌, List, None, Some, length, sym, ◌∙◌, ap, inl, inr}
 use Rattle.std.proofs.lemmas.Bool.{cases_eq}
 use Rattle.std.proofs.lemmas.List.{length-set}
 use Rattle.upload_rules.specs.Room.{blocks_of}
-use Rattle.upload_rules.specs.Store.{Upload, Store, find, others, deleted_store}
+use Rattle.upload_rules.specs.Store.{Store, find, others, deleted_store}
 use Rattle.upload_rules.proofs.Deleted.{find_in_others, none_in_others}
 use Rattle.spool_blocks.specs.Blocks.{Row}
 use Rattle.spool_pages.specs.Rests.{HasTexts}
 use Rattle.spool_pages.specs.View.{SlotRecord, View, slot_at, text_page}
-use Rattle.spool_kept.specs.Shows.{HasSlot, IsSound, IsTold, Shows}
+use Rattle.spool_kept.specs.Shows.{IsSound, Shows}
 use Rattle.spool_kept.specs.Terminating.{FreesRows, deleted_view}
 use Rattle.spool_kept.proofs.Appended.{others_listed}
 use Rattle.spool_kept.proofs.AppendedTexts.{text_still}
@@ -66,7 +66,9 @@ module _ (v : View) (m : Store) (shows : Shows v m) (s : ℕ) (r : SlotRecord) (
           tells = told.tells;
         };
     all = λ n u e. elim (cases_eq r.number n) [
-      | inl same ↦ clash (ap (λ (k : ℕ). find k (others r.number m.uploads)) (sym same) ∙ none_in_others r.number m.uploads) e
+      | inl same ↦
+          let uploads = others r.number m.uploads in
+          clash (ap (λ (k : ℕ). find k uploads) (sym same) ∙ none_in_others r.number m.uploads) e
       | inr other ↦
           let has = shows.all n u (sym (find_in_others r.number n m.uploads other) ∙ e) in
           let away : has.slot ≢ s = λ same. other (sym (ap (λ (x : SlotRecord). x.number)

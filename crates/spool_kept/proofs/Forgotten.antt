@@ -3,17 +3,16 @@ use Rattle.std.proofs.Common.{◌≡◌, ℕ, ◌+◌, ◌*◌, List, Option, No
 use Rattle.std.proofs.Common.{length, get_or}
 use Rattle.std.proofs.lemmas.Bool.{cases_eq}
 use Rattle.enc_model.specs.Indexes.{IndexSet}
-use Rattle.spool_blocks.specs.Blocks.{Row, Held}
+use Rattle.spool_blocks.specs.Blocks.{Held}
 use Rattle.spool_disk.specs.declared.disk.Disk.{Ghosts}
 use Rattle.spool_drafts.specs.Drafts.{number_of}
 use Rattle.spool_drafts.specs.declared.draft.SpoolDraft.{SpoolDraft}
 use Rattle.spool_journal.specs.Image.{journal_pages}
 use Rattle.spool_pages.specs.View.{SlotRecord}
-use Rattle.spool_room.specs.Holdings.{IsInSome}
 use Rattle.spool_texts.specs.Drafts.{IsReserved}
 use Rattle.spool_texts.specs.Written.{NoneOf}
 use Rattle.upload_rules.specs.Drafts.{DraftOf, draft_at}
-use Rattle.upload_rules.specs.Store.{Store, find, upload_of}
+use Rattle.upload_rules.specs.Store.{find, upload_of}
 use Rattle.upload_rules.specs.World.{Patch, World}
 use Rattle.spool_kept.specs.Drafting.{DraftStands, DraftsFit, DraftsHold, DraftsStand, IsOfUpload}
 use Rattle.spool_kept.specs.Drafting.{StandsFor, list_in, lists_at}

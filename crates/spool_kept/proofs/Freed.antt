@@ -1,5 +1,6 @@
 -- Rows after a slot's blocks became free.
-use Rattle.std.proofs.Common.{◌≡◌, ◌≢◌, ℕ, ◌<◌, List, None, Some, length, get_or, refl, sym, ◌∙◌, subst, arith, inl, inr}
+use Rattle.std.proofs.Common.{◌≡◌, ◌≢◌, ℕ, ◌<◌, List, None, Some, length, get_or, refl, sym, ◌∙◌, subst, arith, inl}
+use Rattle.std.proofs.Common.{inr}
 use Rattle.std.proofs.lemmas.Bool.{cases_eq}
 use Rattle.spool_blocks.specs.Blocks.{Row}
 use Rattle.spool_blocks.specs.Chains.{Owns, OwnsOneEach}

@@ -1,8 +1,8 @@
 -- The drafts, where an upload was taken away.
-use Rattle.std.proofs.Common.{◌≡◌, ◌≢◌, ℕ, ◌+◌, ◌*◌, ◌≤◌, List, Option, None, Some, length, get_or, refl, sym, ◌∙◌, ap, subst, arith}
+use Rattle.std.proofs.Common.{◌≡◌, ◌≢◌, ℕ, ◌+◌, ◌*◌, ◌≤◌, List, Option, None, Some, get_or, refl, sym, ◌∙◌, ap, subst}
+use Rattle.std.proofs.Common.{arith}
 use Rattle.std.proofs.Common.{inl, inr, Bool, false}
 use Rattle.std.proofs.lemmas.Bool.{cases_eq}
-use Rattle.enc_model.specs.Indexes.{IndexSet}
 use Rattle.spool_blocks.specs.Blocks.{Held}
 use Rattle.spool_disk.specs.declared.disk.Disk.{Ghosts}
 use Rattle.spool_drafts.specs.Drafts.{tail_of}
@@ -11,20 +11,20 @@ use Rattle.spool_journal.specs.Image.{journal_pages}
 use Rattle.spool_pages.specs.View.{SlotRecord}
 use Rattle.spool_texts.specs.Drafts.{IsReserved}
 use Rattle.upload_rules.specs.Calls.{terminated}
-use Rattle.upload_rules.specs.Drafts.{DraftOf, draft_at}
+use Rattle.upload_rules.specs.Drafts.{draft_at}
 use Rattle.upload_rules.specs.Grown.{GrewFrom, IsGrown}
 use Rattle.upload_rules.specs.Store.{Upload, deleted_store, find, others, upload_of}
 use Rattle.upload_rules.specs.World.{Patch, World}
 use Rattle.upload_rules.proofs.Deleted.{find_in_others, none_in_others}
-use Rattle.spool_kept.specs.Drafting.{DraftStands, DraftsFit, DraftsHold, DraftsStand, IsOwnedBy, StandsFor, lists_at}
-use Rattle.spool_kept.specs.Holding.{Holding, FitsTogether, IsUsedBy}
+use Rattle.spool_kept.specs.Drafting.{DraftStands, DraftsHold, DraftsStand, IsOwnedBy, StandsFor, lists_at}
+use Rattle.spool_kept.specs.Holding.{Holding, IsUsedBy}
 use Rattle.spool_kept.specs.Stored.{Stored}
 use Rattle.spool_kept.specs.Terminating.{FreesRows, IsTakenOut}
-use Rattle.spool_kept.proofs.ChangedSlots.{clash, in_use, one_value}
+use Rattle.spool_kept.proofs.ChangedSlots.{clash, one_value}
 use Rattle.spool_kept.proofs.DraftLonger.{held_both}
 use Rattle.spool_drafts.proofs.Stays.{bytes_same}
 use Rattle.spool_kept.proofs.Freed.{others_stay}
-use Rattle.spool_kept.proofs.TakenOut.{still_there, was_there}
+use Rattle.spool_kept.proofs.TakenOut.{still_there}
 
 -- WHATEVER THE DISK SAID
 
@@ -54,7 +54,8 @@ upload_was : (w : World) (number n : ℕ) (u : Upload) → upload_of (deleted_st
     → (number ≢ n) × (upload_of w.store n ≡ Some u)
 upload_was w number n u e = elim (cases_eq number n) [
   | inl same ↦
-      clash (ap (λ (k : ℕ). find k (others number w.store.uploads)) (sym same) ∙ none_in_others number w.store.uploads) e
+      let uploads = others number w.store.uploads in
+      clash (ap (λ (k : ℕ). find k uploads) (sym same) ∙ none_in_others number w.store.uploads) e
   | inr other ↦ (other, sym (find_in_others number n w.store.uploads other) ∙ e)
 ]
 
@@ -73,8 +74,8 @@ module _ (h h' : Holding) (number slot : ℕ) (used : IsUsedBy h.slots slot numb
   owned_still : (n : ℕ) (list : List ℕ) → number ≢ n → IsOwnedBy h.slots h.blocks.rows n list
       → IsOwnedBy h'.slots h'.blocks.rows n list
   owned_still n list apart owned =
-      let other : owned.slot ≢ slot = λ same. apart (sym used.is ∙ ap (λ (r : SlotRecord). r.number) (one_value used.there
-      (ap (λ (s : ℕ). get_or h.slots s None) (sym same) ∙ owned.used.there)) ∙ owned.used.is) in
+      let other : owned.slot ≢ slot = λ same. apart (sym used.is ∙ ap (λ (r : SlotRecord). r.number)
+      (one_value used.there (ap (λ (s : ℕ). get_or h.slots s None) (sym same) ∙ owned.used.there)) ∙ owned.used.is) in
       record {
         slot = owned.slot;
         used = record {

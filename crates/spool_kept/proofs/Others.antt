@@ -1,5 +1,5 @@
 -- The entries of other numbers keep their order.
-use Rattle.std.proofs.Common.{◌≡◌, ℕ, zero, suc, ◌<◌, List, [], ◌∷◌, length, slice_index, map, arith, inl, inr, eq-eqb}
+use Rattle.std.proofs.Common.{ℕ, zero, suc, ◌<◌, List, [], ◌∷◌, length, slice_index, map, arith, inl, inr, eq-eqb}
 use Rattle.std.proofs.lemmas.Bool.{cases_eq, ne_eqb}
 use Rattle.upload_rules.specs.Slots.{IsRising}
 use Rattle.upload_rules.specs.Store.{others}

@@ -53,12 +53,14 @@ module _ (h : Holding) (slot number : ℕ) (fits : FitsTogether h) (used : IsUse
   listed_below i lt =
       let has = subst (λ (o : Option SlotRecord). IsListOf h.blocks.rows slot o (get_or h.lists slot [])) used.there
       (fits.listed slot slot_below) in
-      omega (arith, fits.row_count, block_within h.blocks.rows (get_or (get_or h.lists slot []) i 0) (slot, i) (has.owned i lt))
+      let b = get_or (get_or h.lists slot []) i 0 in
+      omega (arith, fits.row_count, block_within h.blocks.rows b (slot, i) (has.owned i lt))
 
   -- the number is in that slot alone
   pub only_there : (s : ℕ) (q : SlotRecord) → get_or h.slots s None ≡ Some q → q.number ≡ number → s ≡ slot
   only_there s q there is =
-      orders_distinct h.slots h.order fits.slot_count fits.ordered s slot q used.used there used.there (is ∙ sym used.is)
+      orders_distinct h.slots h.order fits.slot_count fits.ordered s slot q used.used there used.there
+      (is ∙ sym used.is)
 
   orders : (order : List NumberedSlot) → IsWithout h.order number order → Orders (set h.slots slot None) order 512
   orders order is = record {
@@ -86,7 +88,8 @@ module _ (h : Holding) (slot number : ℕ) (fits : FitsTogether h) (used : IsUse
     | inr other ↦
         subst (λ (list : List ℕ). IsListOf rows s (get_or (set h.slots slot None) s None) list)
         (sym (get_or-set_other h.lists slot s [] [] other))
-        (subst (λ (o : Option SlotRecord). IsListOf rows s o (get_or h.lists s [])) (sym (still_there h.slots slot s other))
+        (subst (λ (o : Option SlotRecord). IsListOf rows s o (get_or h.lists s []))
+        (sym (still_there h.slots slot s other))
         (list_stays slot h.blocks.rows rows (others_stay slot h.blocks.rows rows frees) s other (get_or h.slots s None)
         (get_or h.lists s []) (fits.listed s lt)))
   ]

@@ -1,10 +1,10 @@
 -- An upload taken away, in what is kept and on the disk.
-use Rattle.std.proofs.Common.{◌≡◌, ◌⊎◌, inl, inr, ℕ, List, [], Option, None, Some, get_or, slice_set, refl, sym, ◌∙◌, ap, subst}
+use Rattle.std.proofs.Common.{◌≡◌, ◌⊎◌, inl, inr, ℕ, List, [], Option, None, Some, get_or, slice_set, refl, sym, ◌∙◌}
+use Rattle.std.proofs.Common.{ap, subst}
 use Rattle.spool_blocks.specs.Blocks.{Row}
 use Rattle.spool_disk.specs.Views.{Lasts}
 use Rattle.spool_disk.proofs.Firm.{lasts_more}
 use Rattle.spool_disk.specs.declared.disk.Disk.{Ghosts}
-use Rattle.spool_texts.specs.TextOn.{IsListed}
 use Rattle.upload_rules.specs.Calls.{outcome}
 use Rattle.upload_rules.specs.Reading.{no_such}
 use Rattle.upload_rules.specs.Room.{blocks_of}
@@ -85,12 +85,13 @@ module _ (h : Holding) (v : View) (m : Store) (number slot : ℕ) (keeps : Keeps
     shows_either : (image : ℕ → ℕ) → IsViewOf image v ⊎ IsViewOf image (deleted_view v slot h'.blocks.rows)
         → ShowsEither h.layout m (deleted_store m number) image
     shows_either image (inl was) = inl (record { view = v; blocks = sym keeps.blocks; is = was; shows = shows })
-    shows_either image (inr now) = inr (record { view = after; blocks = sym keeps.blocks; is = now; shows = shows_after })
+    shows_either image (inr now) =
+        inr (record { view = after; blocks = sym keeps.blocks; is = now; shows = shows_after })
 
 -- AS THE DISK HOLDS IT
 
-module _ {D : Type 0} (disk : Ghosts D) (d : D) (h h' : Holding) (m : Store) (number slot : ℕ) (stored : Stored disk d h m)
-    (used : IsUsedBy h.slots slot number) (out : IsTakenOut h slot h') (blank filled : List (ℕ × List ℕ))
+module _ {D : Type 0} (disk : Ghosts D) (d : D) (h h' : Holding) (m : Store) (number slot : ℕ)
+    (stored : Stored disk d h m) (used : IsUsedBy h.slots slot number) (out : IsTakenOut h slot h') (blank filled : List (ℕ × List ℕ))
     (but : (v : View) → v.blocks ≡ h.layout → v.slots ≡ h.slots → (rows : List Row)
     → SameRowsBut (get_or h.lists slot []) v.rows rows
     → ChangesButRows blank v (record (with_slot v slot None) { rows = rows }))
@@ -111,22 +112,29 @@ module _ {D : Type 0} (disk : Ghosts D) (d : D) (h h' : Holding) (m : Store) (nu
       fill old new blocks (but old (sym stored.keeps.blocks) (sym stored.keeps.slots) h'.blocks.rows rows) refl
 
   texts : HasTexts (disk.seen d) new
-  texts = texts_after h old m number slot stored.keeps stored.shows used h' out (disk.seen d) (rests_says stored.rests).texts
+  texts =
+      texts_after h old m number slot stored.keeps stored.shows used h' out (disk.seen d)
+      (rests_says stored.rests).texts
+
+  -- what the commit of the pages makes of a view
+  abbrev Makes : (View → View → Type 0) → Type 0
+  Makes Made =
+      (v v' : View) → v.blocks ≡ h'.layout → v.version ≡ 1 → Rests v (disk.seen d) (disk.loose d)
+      → Changes filled v v' → HasTexts (disk.seen d) v' → Made v v'
 
   -- a crash leaves the upload or its deletion
   pub crash_after : (d' : D)
-      → ((v v' : View) → v.blocks ≡ h'.layout → v.version ≡ 1 → Rests v (disk.seen d) (disk.loose d) → Changes filled v v'
-      → HasTexts (disk.seen d) v' → Lasts disk d d' (λ image. IsViewOf image v ⊎ IsViewOf image v'))
+      → Makes (λ v v'. Lasts disk d d' (λ image. IsViewOf image v ⊎ IsViewOf image v'))
       → Lasts disk d d' (ShowsEither h.layout m (outcome (no_such (upload_of m number)) m (deleted_store m number)))
   crash_after d' lasts =
-      subst (λ (f : Option UploadRefusal). Lasts disk d d' (ShowsEither h.layout m (outcome f m (deleted_store m number))))
+      subst (λ (f : Option UploadRefusal).
+      Lasts disk d d' (ShowsEither h.layout m (outcome f m (deleted_store m number))))
       (sym (allowed h old m number slot stored.keeps stored.shows used))
       (lasts_more (lasts old new blocks stored.shows.sound.version stored.rests changes texts)
       (shows_either h old m number slot stored.keeps stored.shows used h' out))
 
   pub stored_after : (d' : D) → FitsTogether h' → disk.honest d'
-      → ((v v' : View) → v.blocks ≡ h'.layout → v.version ≡ 1 → Rests v (disk.seen d) (disk.loose d) → Changes filled v v'
-      → HasTexts (disk.seen d) v' → Rests v' (disk.seen d') (disk.loose d'))
+      → Makes (λ v v'. Rests v' (disk.seen d') (disk.loose d'))
       → Stored disk d' h' (deleted_store m number)
   stored_after d' fits honest done = record {
     honest = honest;

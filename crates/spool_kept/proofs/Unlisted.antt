@@ -1,10 +1,10 @@
 -- A number that leaves the order.
-use Rattle.std.proofs.Common.{◌≡◌, ◌⊎◌, inl, inr, ℕ, ◌+◌, ◌-◌, ◌<◌, ◌≤◌, List, length, get_or, sym, ◌∙◌, ap, arith}
+use Rattle.std.proofs.Common.{◌≡◌, inl, inr, ℕ, ◌+◌, ◌-◌, ◌<◌, ◌≤◌, List, length, get_or, sym, ◌∙◌, ap, arith}
 use Rattle.std.specs.List.{remove}
 use Rattle.std.proofs.lemmas.Bool.{cases_lt, cases_eq}
 use Rattle.std.proofs.lemmas.List.Edits.{length-remove, get_or-remove_below, get_or-remove_above}
 use Rattle.spool_kept.specs.declared.order.NumberedSlot.{NumberedSlot}
-use Rattle.spool_kept.specs.Holding.{numbered, number_at, Rises, Lists}
+use Rattle.spool_kept.specs.Holding.{numbered, number_at, Rises}
 use Rattle.spool_kept.specs.Terminating.{IsWithout}
 
 module _ (order : List NumberedSlot) (place n : ℕ) (rises : Rises order) (within : place < length order)

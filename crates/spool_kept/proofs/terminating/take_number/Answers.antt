@@ -1,4 +1,4 @@
-use Rattle.std.proofs.Common.{rules, ◌≡◌, ◌+◌, ◌-◌, ◌≤◌, ℕ, List, subst, sym, arith}
+use Rattle.std.proofs.Common.{rules, ◌≡◌, ◌-◌, ◌≤◌, ℕ, List, subst, sym, arith}
 use Rattle.std.specs.List.{remove}
 use Rattle.spool_kept.specs.declared.order.NumberedSlot.{NumberedSlot}
 use Rattle.spool_kept.specs.Holding.{IsPlaceFor, Lists, Rises}
@@ -39,4 +39,5 @@ pub returns : goal.returns
 returns c =
     let order = c.args.order.now.items in
     subst (IsWithout order c.args.number) (sym c.remove.ensures.items)
-    (taken order c.args.number c.places_to-place.result c.requires.rises (place_is (goal.at.returns c).After-places_to-place) c.requires.listed)
+    (taken order c.args.number c.places_to-place.result c.requires.rises
+    (place_is (goal.at.returns c).After-places_to-place) c.requires.listed)

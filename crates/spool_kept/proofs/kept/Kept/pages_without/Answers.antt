@@ -1,4 +1,5 @@
-use Rattle.std.proofs.Common.{rules, ◌≡◌, ◌∙◌, ◌<◌, ℕ, List, [], Option, None, length, get_or, option_copied, sym, ap, subst, arith}
+use Rattle.std.proofs.Common.{◌≡◌, ◌∙◌, ◌<◌, ℕ, List, [], Option, None, length, get_or, option_copied, sym, ap, subst}
+use Rattle.std.proofs.Common.{arith}
 use Rattle.std.proofs.lemmas.List.{get_or_default}
 use Rattle.spool_pages.specs.Changes.{SameRowsBut, neighbour}
 use Rattle.spool_pages.specs.View.{SlotRecord, slot_at}
@@ -14,8 +15,9 @@ list_is c =
     let slot = c.args.slot in
     let fits = subst FitsTogether c.self.view_is c.self.invariant in
     let few : slot < 512 = slot_below h slot c.requires.used.0 fits c.requires.used.1 in
+    let inside : slot < length c.self.inside.lists.items = omega (arith, few, c.self.invariant.list_count) in
     c.blocks-list.ensures ∙ c.index.ensures
-    ∙ get_or_default c.self.inside.lists.items slot c.index.result.now [] (omega (arith, few, c.self.invariant.list_count))
+    ∙ get_or_default c.self.inside.lists.items slot c.index.result.now [] inside
     ∙ ap (λ (k : Holding). get_or k.lists slot []) c.self.view_is
 
 pub pages_of_change-requires-clause-blocks : goal.pages_of_change-requires-clause-blocks

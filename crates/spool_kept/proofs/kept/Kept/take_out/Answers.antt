@@ -1,4 +1,4 @@
-use Rattle.std.proofs.Common.{rules, ◌≡◌, ◌∙◌, ◌<◌, ℕ, List, [], None, get_or, slice_set, sym, ap, subst, arith}
+use Rattle.std.proofs.Common.{ℕ, List, None, slice_set, sym, subst}
 use Rattle.spool_kept.specs.Holding.{Holding, FitsTogether, IsUsedBy, Lists}
 use Rattle.spool_kept.specs.contracts.kept.Kept.{the_view}
 use Rattle.spool_kept.proofs.TakenOut.{fits_without, slot_below}
