@@ -112,7 +112,7 @@ fn change_is_committed(rt: HostRuntime) -> Result<(), Fail> {
     let record = seventh(b"n");
     let pages = pages_of_new(rt.alloc(), &layout, 8, 3, &record, Some(&seventh(b"")))?;
     assert_eq!(rt; commit(&mut disk, &layout, &pages), Ok(()));
-    let mut pages = pages_of_change(rt.alloc(), &layout, 0, &record, None, &[1, 1039, 0])?;
+    let mut pages = pages_of_change(rt.alloc(), &layout, 0, Some(&record), None, &[1, 1039, 0])?;
     fill_rows(&mut pages, &layout, &[None, Some((3, 0))]);
     assert_eq!(rt; pages.len(), 3);
     assert_eq!(rt; pages.number(2), 544);

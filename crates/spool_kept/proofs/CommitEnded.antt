@@ -53,7 +53,6 @@ may h slot accepted list end used there ends = record { used = used; there = the
 pub placed_still : (n : ℕ) (o o' : SpoolDraft) → committed_len_of o' ≡ committed_len_of o → tail_of o' ≡ tail_of o → IsPlaced n o → IsPlaced n o'
 placed_still n o o' len tail is = record {
   below = subst (AllBelow n) (sym tail) is.below;
-  long = omega (arith, len, ap length tail, is.long);
   few = omega (arith, len, is.few);
 }
 

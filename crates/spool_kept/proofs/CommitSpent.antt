@@ -9,6 +9,7 @@ use Rattle.spool_journal.specs.Image.{journal_pages}
 use Rattle.spool_drafts.specs.Drafts.{IsPlaced, list_of, tail_of}
 use Rattle.spool_drafts.specs.Effect.{Effect}
 use Rattle.spool_drafts.specs.declared.draft.SpoolDraft.{SpoolDraft}
+use Rattle.spool_drafts.proofs.Stays.{bytes_same}
 use Rattle.spool_pages.specs.View.{SlotRecord, text_page}
 use Rattle.spool_texts.specs.Drafts.{GivesBack, IsReserved}
 use Rattle.upload_rules.specs.Answers.{Answers}
@@ -30,7 +31,7 @@ use Rattle.spool_kept.specs.Stored.{ShowsEither, Stored}
 use Rattle.spool_kept.specs.declared.extending.Longer.{Longer}
 use Rattle.spool_kept.proofs.CommitRefusals as rules
 use Rattle.spool_kept.proofs.DraftLonger.{other_stands}
-use Rattle.spool_kept.proofs.DraftSpent.{all_given, all_handed, bytes_same, inside_of, other_upload, rows_handed, stand_spent, tail_still}
+use Rattle.spool_kept.proofs.DraftSpent.{all_given, all_handed, inside_of, other_upload, rows_handed, stand_spent, tail_still}
 use Rattle.spool_kept.proofs.Drafted.{IsChanged, changed_in, stored_on}
 
 -- THE STORES THAT A CRASH MAY LEAVE

@@ -1,23 +1,21 @@
 -- A draft that went on: its blocks and those of the others, the rule of room, and the disk.
-use Rattle.std.proofs.Common.{Result, Ok, Err, OnOk, IsErrOf, ◌≡◌, ◌≢◌, inl, inr, ℕ, ◌<◌, ◌+◌, ◌*◌, ◌%◌, ◌++◌, ◌==◌, if◌then◌else◌, Bool, true, false, List, [], Option, None, Some, length, get_or, take, set, refl, sym, ◌∙◌, ap, subst, arith, eq-eqb, length-take, get_or-set_same, get_or-set_other}
+use Rattle.std.proofs.Common.{Result, Ok, Err, OnOk, IsErrOf, ◌≡◌, ◌≢◌, inl, inr, ℕ, ◌<◌, ◌+◌, ◌*◌, ◌==◌, if◌then◌else◌, Bool, true, false, List, [], Option, None, Some, length, get_or, set, refl, sym, ◌∙◌, ap, subst, arith, eq-eqb, get_or-set_same, get_or-set_other}
 use Rattle.std.proofs.lemmas.Bool.{cases_eq, cases_lt, cases_Bool, both_ways, ne_eqb}
-use Rattle.std.proofs.lemmas.List.{get_or-take, get_or_past, length-set}
+use Rattle.std.proofs.lemmas.List.{get_or_past, length-set}
 use Rattle.enc_model.specs.Indexes.{IndexSet}
 use Rattle.spool_blocks.specs.Blocks.{Row, Held}
 use Rattle.spool_blocks.specs.Chains.{Owns, OwnsOneEach}
 use Rattle.spool_disk.specs.declared.disk.Disk.{Ghosts}
 use Rattle.spool_journal.specs.Image.{journal_pages}
-use Rattle.spool_texts.specs.Drafts.{Draft, IsReserved, Takes, full_count}
+use Rattle.spool_texts.specs.Drafts.{IsReserved, Takes}
 use Rattle.spool_texts.specs.Written.{NoneOf, SameOutside}
-use Rattle.spool_texts.proofs.Fronts.{blocks_kept}
 use Rattle.spool_room.specs.Holdings.{IsInSome, OwnsTexts, RuleHolds}
 use Rattle.spool_room.proofs.Numbers.{rising_apart}
 use Rattle.spool_room.proofs.Rule.{rule_holds}
 use Rattle.spool_drafts.specs.Drafts.{Holds, Carries, IsLonger, IsPlaced, with_piece, list_of, tail_of}
 use Rattle.spool_drafts.specs.Effect.{Regrasps, RunsShort}
-use Rattle.spool_drafts.specs.Growth.{bytes_on, list_on, tail_list}
 use Rattle.spool_drafts.specs.declared.draft.SpoolDraft.{SpoolDraft}
-use Rattle.spool_drafts.specs.declared.growth.Growth.{Growth}
+use Rattle.spool_drafts.proofs.Stays.{bytes_kept}
 use Rattle.spool_pages.specs.Rests.{Unowned}
 use Rattle.spool_pages.specs.View.{SlotRecord, View}
 use Rattle.upload_rules.specs.Calls.{appended_at, longer}
@@ -142,13 +140,6 @@ module _ (w : World) (x : IndexSet) (seen : ℕ → ℕ) (first : ℕ) (records 
 
 -- OTHER DRAFTS
 
-frame_bytes : (seen seen' : ℕ → ℕ) (first : ℕ) (own : List ℕ) (g : Growth) (on : Option Draft) → SameOutside first own seen seen' → NoneOf (list_on on) own → NoneOf (tail_list g.tail) own
-    → bytes_on seen' first g on ≡ bytes_on seen first g on
-frame_bytes seen seen' first own g None same apart tail = ap (λ (xs : List ℕ). take (g.text_len % 4096) xs) (blocks_kept seen seen' first (tail_list g.tail) own same tail)
-frame_bytes seen seen' first own g (Some t) same apart tail =
-    ap (λ (xs : List ℕ). xs ++ t.unfinished) (blocks_kept seen seen' first (take (full_count t) t.blocks) own same (λ i k lt lt' e.
-    apart i k (omega (arith, lt, length-take (full_count t) t.blocks)) lt' (sym (get_or-take (full_count t) t.blocks i 0 (omega (arith, lt, length-take (full_count t) t.blocks))) ∙ e)))
-
 owned_apart : (slots : List (Option SlotRecord)) (rows : List Row) (number : ℕ) (tail own : List ℕ) → IsOwnedBy slots rows number tail → Unowned rows own → NoneOf tail own
 owned_apart slots rows number tail own is unowned i k lt lt' e = let owned = (is.owned i lt).1 in let none = ap (λ (b : ℕ). get_or rows b None) e ∙ unowned k lt' in cc
 
@@ -157,7 +148,7 @@ pub still_stands : (x : IndexSet) (seen seen' : ℕ → ℕ) (first : ℕ) (reco
 still_stands x seen seen' first records rows m own p a same apart unowned is = record {
   holds = is.holds;
   below = is.below;
-  carries = λ there kept. frame_bytes seen seen' first own a.growth a.growth.on same apart (owned_apart records rows p.number (tail_of a) own (is.tail there) unowned) ∙ is.carries there kept;
+  carries = λ there kept. bytes_kept seen seen' first own a.growth a.growth.on same apart (owned_apart records rows p.number (tail_of a) own (is.tail there) unowned) ∙ is.carries there kept;
   tail = is.tail;
 }
 

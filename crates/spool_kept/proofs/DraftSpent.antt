@@ -1,5 +1,5 @@
 -- A draft that is spent after a call on it: its blocks are given back, or its upload's.
-use Rattle.std.proofs.Common.{◌≡◌, ◌≢◌, inl, inr, ℕ, zero, suc, ◌*◌, ◌/◌, ◌%◌, ◌<◌, ◌≤◌, ◌++◌, true, false, List, [], ◌∷◌, Option, None, Some, length, get_or, set, take, refl, sym, ◌∙◌, ap, subst, arith, length-append}
+use Rattle.std.proofs.Common.{◌≡◌, ◌≢◌, inl, inr, ℕ, zero, suc, ◌/◌, ◌<◌, ◌++◌, true, false, List, [], ◌∷◌, Option, None, Some, length, get_or, set, refl, sym, ◌∙◌, ap, subst, arith, length-append}
 use Rattle.std.proofs.lemmas.Bool.{both_ways, cases_eq, cases_lt}
 use Rattle.std.proofs.lemmas.List.{get_or_past}
 use Rattle.enc_model.specs.Indexes.{IndexSet}
@@ -7,14 +7,11 @@ use Rattle.spool_blocks.specs.Blocks.{Row, Held}
 use Rattle.spool_blocks.specs.Chains.{Owns}
 use Rattle.spool_drafts.specs.Drafts.{IsPlaced, list_of}
 use Rattle.spool_drafts.specs.Effect.{Regrasps}
-use Rattle.spool_drafts.specs.Growth.{bytes_on, tail_list}
 use Rattle.spool_drafts.specs.declared.draft.SpoolDraft.{SpoolDraft}
-use Rattle.spool_drafts.specs.declared.growth.Growth.{Growth}
 use Rattle.spool_pages.specs.View.{SlotRecord}
 use Rattle.spool_room.specs.Holdings.{IsInSome}
-use Rattle.spool_texts.specs.Drafts.{Draft, GivesBack, IsReserved, full_count}
+use Rattle.spool_texts.specs.Drafts.{GivesBack, IsReserved}
 use Rattle.spool_texts.specs.Written.{NoneOf}
-use Rattle.spool_texts.proofs.Fronts.{blocks_same}
 use Rattle.upload_rules.specs.Drafts.{DraftOf, draft_at}
 use Rattle.upload_rules.specs.Grown.{GrewFrom, IsGrown}
 use Rattle.upload_rules.specs.Store.{Store, Upload, find, replaced, upload_of, with_bytes, without}
@@ -138,11 +135,6 @@ stand_spent x seen seen' first records records' h h' w m old d stand weaker grow
 }
 
 -- WHERE AN UPLOAD GOT LONGER
-
--- no byte of a text block is another
-pub bytes_same : (seen seen' : ℕ → ℕ) (first : ℕ) (g : Growth) (on : Option Draft) → ((p : ℕ) → 4096 * first ≤ p → seen' p ≡ seen p) → bytes_on seen' first g on ≡ bytes_on seen first g on
-bytes_same seen seen' first g None same = ap (λ (xs : List ℕ). take (g.text_len % 4096) xs) (blocks_same seen' seen first (tail_list g.tail) (λ i p lt e. same p (omega (arith, e))))
-bytes_same seen seen' first g (Some t) same = ap (λ (xs : List ℕ). xs ++ t.unfinished) (blocks_same seen' seen first (take (full_count t) t.blocks) (λ i p lt e. same p (omega (arith, e))))
 
 -- a draft of the upload that got longer can't be committed; of another upload, that is as it was
 module _ (w : World) (grown : IsGrown w) (p : Patch) (upload : upload_of w.store p.number ≡ Some p.began) (some : 0 < length p.body) where

@@ -32,7 +32,7 @@ on_or_not (x ∷ list) b = elim (cases_eq x b) [
     not_first other not (suc i) lt = not i (omega (arith, lt))
 
 -- who owns a block of it
-same_owner : {row : Row} {s k t i : ℕ} → row ≡ Some (s, k) → row ≡ Some (t, i) → (s ≡ t) × (k ≡ i)
+pub same_owner : {row : Row} {s k t i : ℕ} → row ≡ Some (s, k) → row ≡ Some (t, i) → (s ≡ t) × (k ≡ i)
 same_owner {s = s} {k = k} {t = t} {i = i} own more =
     let same : (s, k) ≡ (t, i) = one_value own more in
     (ap (λ (o : ℕ × ℕ). o.0) same, ap (λ (o : ℕ × ℕ). o.1) same)

@@ -33,3 +33,11 @@ pub mod LastWritten
 pub mod OfUploads
 pub mod CommitFits
 pub mod Facts
+pub mod Freed
+pub mod Unlisted
+pub mod TakenOut
+pub mod Others
+pub mod Deleted
+pub mod Terminated
+pub mod OfDeleted
+pub mod Forgotten

@@ -7,6 +7,7 @@ pub mod Records
 pub mod Changed
 pub mod Extending
 pub mod Stored
+pub mod Terminating
 pub mod Creating
 pub mod Drafting
 pub mod Committing

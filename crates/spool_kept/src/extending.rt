@@ -136,7 +136,14 @@ impl Kept {
             ..kept.slot_record()
         };
         let beside = self.beside(slot);
-        pages_of_change(alloc, &self.layout, slot, &next, beside.as_ref(), &blocks)
+        pages_of_change(
+            alloc,
+            &self.layout,
+            slot,
+            Some(&next),
+            beside.as_ref(),
+            &blocks,
+        )
     }
 
     // What is kept gets longer. It changes nothing where memory runs out.

@@ -11,6 +11,7 @@ mod kept;
 mod lists;
 mod order;
 mod records;
+mod terminating;
 
 pub use committing::commit;
 pub use creating::create;
@@ -19,3 +20,4 @@ pub use error::OpenFault;
 pub use kept::Kept;
 pub use lists::blocks_of;
 pub use records::{KeptRecord, record_at};
+pub use terminating::terminate;

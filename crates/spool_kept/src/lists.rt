@@ -1,5 +1,5 @@
 // Each slot's blocks by ordinal.
-ghost use Rattle.std.specs.Prelude.{◌≡◌, ◌≤◌, ◌<◌, ◌+◌, ◌++◌, ℕ, List, Some, None, true, Err, IfOk, IfErr, OnOk, OnErr};
+ghost use Rattle.std.specs.Prelude.{◌≡◌, ◌≤◌, ◌<◌, ◌+◌, ◌++◌, ℕ, List, [], Some, None, true, Err, IfOk, IfErr, OnOk, OnErr};
 ghost use Rattle.std.specs.Prelude.{length, get_or, take, drop};
 ghost use Rattle.spool_blocks.specs.Blocks.{Row, slot_count, IsWhole};
 ghost use Rattle.spool_blocks.specs.Chains.{OwnsOneEach};
@@ -43,6 +43,13 @@ impl BlockList {
         ensures { result.now ≡ drop first self.now }
     {
         &self.blocks[first..]
+    }
+
+    /// Leaves no block.
+    pub(crate) fn clear(&mut self)
+        ensures { self.new ≡ [] }
+    {
+        self.blocks.clear();
     }
 
     /// Keeps the first so many blocks, and puts these in place of the others. Err only where memory runs out.

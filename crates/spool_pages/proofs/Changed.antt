@@ -5,40 +5,40 @@ use Rattle.std.proofs.lemmas.Bool.Decides.{nat_tests}
 use Rattle.std.proofs.lemmas.List.{get_or-set_same, get_or-set_other}
 use Rattle.spool_blocks.specs.Blocks.{Row}
 use Rattle.spool_journal.specs.Image.{IsPut, byte_of, journal_pages, page_number}
-use Rattle.spool_pages.specs.Changes.{page_in, Said, state_number, record_number, row_number, SaysNext, SaysSlot, SaysRow, ChangesButRows, Changes, with_record, neighbour, SameRowsBut}
+use Rattle.spool_pages.specs.Changes.{page_in, Said, state_number, record_number, row_number, SaysNext, SaysSlot, SaysRow, ChangesButRows, Changes, with_record, with_slot, neighbour, SameRowsBut}
 use Rattle.spool_pages.specs.View.{SlotRecord, View, Stands, slot_at, row_bytes}
 use Rattle.spool_pages.proofs.PageIn.{in_none, in_put, in_put_else, none_same, of_found, same_page, some_length}
 
 pub is_neighbour : (s slot : ℕ) → s / 2 ≡ slot / 2 → (s ≡ slot → ⊥) → s ≡ neighbour slot
 is_neighbour s slot same ne = grind (arith, nat_tests)
 
--- a record's page, given its slot and the one beside it
-module _ (pages : List (ℕ × List ℕ)) (v : View) (slot : ℕ) (r : SlotRecord) (bytes : List ℕ) where
+-- the page of two slots, given this one's and the one's beside it
+module _ (pages : List (ℕ × List ℕ)) (v : View) (slot : ℕ) (kept : Option SlotRecord) (bytes : List ℕ) where
   pub slots_said : length v.slots ≡ 512 → slot < 512 → page_in (record_number v.blocks slot) pages ≡ Some bytes → ((s : ℕ) → s < 512 → (s / 2 ≡ slot / 2 → ⊥) → page_in (record_number v.blocks s) pages ≡ None)
-      → SaysSlot slot bytes (Some r) → SaysSlot (neighbour slot) bytes (slot_at v (neighbour slot))
-      → (s : ℕ) → s < 512 → Said (page_in (record_number v.blocks s) pages) (SaysSlot s) (slot_at v s) (slot_at (with_record v slot r) s)
+      → SaysSlot slot bytes kept → SaysSlot (neighbour slot) bytes (slot_at v (neighbour slot))
+      → (s : ℕ) → s < 512 → Said (page_in (record_number v.blocks s) pages) (SaysSlot s) (slot_at v s) (slot_at (with_slot v slot kept) s)
   slots_said long few here others says beside s lt = ⊎_elim
-      (λ (e : s ≡ slot). subst (λ (t : ℕ). Said (page_in (record_number v.blocks t) pages) (SaysSlot t) (slot_at v t) (slot_at (with_record v slot r) t)) (sym e) at_slot)
+      (λ (e : s ≡ slot). subst (λ (t : ℕ). Said (page_in (record_number v.blocks t) pages) (SaysSlot t) (slot_at v t) (slot_at (with_slot v slot kept) t)) (sym e) at_slot)
       (λ (ne : s ≡ slot → ⊥). ⊎_elim
       (λ (same : s / 2 ≡ slot / 2).
       let is : s ≡ neighbour slot = is_neighbour s slot same ne in
       let there : page_in (record_number v.blocks s) pages ≡ Some bytes = subst (λ (k : ℕ). page_in (26 + journal_pages v.blocks + k) pages ≡ Some bytes) (sym same) here in
-      let kept : SaysSlot s bytes (slot_at v s) = subst (λ (t : ℕ). SaysSlot t bytes (slot_at v t)) (sym is) beside in
-      let now : SaysSlot s bytes (slot_at (with_record v slot r) s) = subst (λ (x : Option SlotRecord). SaysSlot s bytes x) (sym (stays s ne)) kept in
-      subst (λ (o : Option (List ℕ)). Said o (SaysSlot s) (slot_at v s) (slot_at (with_record v slot r) s)) (sym there) now)
+      let was : SaysSlot s bytes (slot_at v s) = subst (λ (t : ℕ). SaysSlot t bytes (slot_at v t)) (sym is) beside in
+      let now : SaysSlot s bytes (slot_at (with_slot v slot kept) s) = subst (λ (x : Option SlotRecord). SaysSlot s bytes x) (sym (stays s ne)) was in
+      subst (λ (o : Option (List ℕ)). Said o (SaysSlot s) (slot_at v s) (slot_at (with_slot v slot kept) s)) (sym there) now)
       (λ (apart : s / 2 ≡ slot / 2 → ⊥).
-      subst (λ (o : Option (List ℕ)). Said o (SaysSlot s) (slot_at v s) (slot_at (with_record v slot r) s)) (sym (others s lt apart)) (stays s ne))
+      subst (λ (o : Option (List ℕ)). Said o (SaysSlot s) (slot_at v s) (slot_at (with_slot v slot kept) s)) (sym (others s lt apart)) (stays s ne))
       (cases_eq (s / 2) (slot / 2)))
       (cases_eq s slot)
     where
-      stays : (s : ℕ) → (s ≡ slot → ⊥) → slot_at (with_record v slot r) s ≡ slot_at v s
-      stays s ne = get_or-set_other v.slots slot s (Some r) None ne
+      stays : (s : ℕ) → (s ≡ slot → ⊥) → slot_at (with_slot v slot kept) s ≡ slot_at v s
+      stays s ne = get_or-set_other v.slots slot s kept None ne
 
-      at_slot : Said (page_in (record_number v.blocks slot) pages) (SaysSlot slot) (slot_at v slot) (slot_at (with_record v slot r) slot)
+      at_slot : Said (page_in (record_number v.blocks slot) pages) (SaysSlot slot) (slot_at v slot) (slot_at (with_slot v slot kept) slot)
       at_slot =
-          let new : slot_at (with_record v slot r) slot ≡ Some r = get_or-set_same v.slots slot (Some r) None (omega (arith, long, few)) in
-          let now : SaysSlot slot bytes (slot_at (with_record v slot r) slot) = subst (λ (x : Option SlotRecord). SaysSlot slot bytes x) (sym new) says in
-          subst (λ (o : Option (List ℕ)). Said o (SaysSlot slot) (slot_at v slot) (slot_at (with_record v slot r) slot)) (sym here) now
+          let new : slot_at (with_slot v slot kept) slot ≡ kept = get_or-set_same v.slots slot kept None (omega (arith, long, few)) in
+          let now : SaysSlot slot bytes (slot_at (with_slot v slot kept) slot) = subst (λ (x : Option SlotRecord). SaysSlot slot bytes x) (sym new) says in
+          subst (λ (o : Option (List ℕ)). Said o (SaysSlot slot) (slot_at v slot) (slot_at (with_slot v slot kept) slot)) (sym here) now
 
 -- A NEW RECORD AND THE NEXT NUMBER
 
@@ -54,7 +54,7 @@ module _ {none first both : List (ℕ × List ℕ)} {state place : ℕ} {state_b
       version = refl;
       indexes = refl;
       next = subst (λ (o : Option (List ℕ)). Said o SaysNext v.next next) (sym state_in) says_next;
-      slots = slots_said both v slot r bytes long few slot_in (λ s lt apart. none_else (record_number v.blocks s) (omega (arith, state_is)) (omega (arith, place_is, apart))) says beside;
+      slots = slots_said both v slot (Some r) bytes long few slot_in (λ s lt apart. none_else (record_number v.blocks s) (omega (arith, state_is)) (omega (arith, place_is, apart))) says beside;
       rows = λ b lt no. refl;
     };
     rows = λ b lt. subst (λ (o : Option (List ℕ)). Said o (SaysRow b) (get_or v.rows b None) (get_or v.rows b None)) (sym (none_else (row_number v.blocks b) (omega (arith, state_is)) (omega (arith, place_is, few)))) refl;
@@ -69,26 +69,26 @@ module _ {none first both : List (ℕ × List ℕ)} {state place : ℕ} {state_b
       slot_in : page_in (record_number v.blocks slot) both ≡ Some bytes
       slot_in = subst (λ (q : ℕ). page_in q both ≡ Some bytes) place_is (in_put put_slot (in_put_else put_state place (λ e. omega (arith, e, state_is, place_is)) ∙ in_none place none empty))
 
--- A RECORD, AND ROOM FOR ROWS
+-- A SLOT, AND ROOM FOR ROWS
 
 module _ (pages : List (ℕ × List ℕ)) {none first : List (ℕ × List ℕ)} {place : ℕ} {bytes : List ℕ} where
   pub room_some : (j : ℕ) → none ≡ [] → IsPut none place bytes first → ((page : ℕ) → page < j → page_in page pages ≡ page_in page first) → place < j → 1 ≤ length pages
   room_some j empty put front below = some_length place pages bytes (front place below ∙ in_put put (in_none place none empty))
 
   pub room_changes : none ≡ [] → IsPut none place bytes first
-      → (v : View) (slot : ℕ) (r : SlotRecord) (blocks : List ℕ) (rows : List Row)
+      → (v : View) (slot : ℕ) (kept : Option SlotRecord) (blocks : List ℕ) (rows : List Row)
       → ((page : ℕ) → page < 282 + journal_pages v.blocks → page_in page pages ≡ page_in page first)
       → ((i : ℕ) → i < length blocks → IsSome (page_in (row_number v.blocks (get_or blocks i 0)) pages))
       → place ≡ record_number v.blocks slot → slot < 512 → length v.slots ≡ 512
-      → SaysSlot slot bytes (Some r) → SaysSlot (neighbour slot) bytes (slot_at v (neighbour slot))
+      → SaysSlot slot bytes kept → SaysSlot (neighbour slot) bytes (slot_at v (neighbour slot))
       → SameRowsBut blocks v.rows rows
-      → ChangesButRows pages v (record (with_record v slot r) { rows = rows })
-  room_changes empty put v slot r blocks rows front there place_is few long says beside same = record {
+      → ChangesButRows pages v (record (with_slot v slot kept) { rows = rows })
+  room_changes empty put v slot kept blocks rows front there place_is few long says beside same = record {
     blocks = refl;
     version = refl;
     indexes = refl;
     next = subst (λ (o : Option (List ℕ)). Said o SaysNext v.next v.next) (sym (none_else (state_number v.blocks) (omega arith) (omega (arith, place_is)))) refl;
-    slots = slots_said pages v slot r bytes long few slot_in (λ s lt apart. none_else (record_number v.blocks s) (omega (arith, lt)) (omega (arith, place_is, apart))) says beside;
+    slots = slots_said pages v slot kept bytes long few slot_in (λ s lt apart. none_else (record_number v.blocks s) (omega (arith, lt)) (omega (arith, place_is, apart))) says beside;
     rows = λ b lt no. same b (λ i below e.
         let some : IsSome (page_in (row_number v.blocks b) pages) = subst (λ (x : ℕ). IsSome (page_in (row_number v.blocks x) pages)) e (there i below) in
         let not = subst IsSome no some in

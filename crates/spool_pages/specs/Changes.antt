@@ -53,9 +53,13 @@ pub record Changes (pages : List (ℕ × List ℕ)) (v v' : View) : Type 0 where
 
 -- WHAT IS TO BE CHANGED
 
+-- the slot has another record, or becomes free
+abbrev pub with_slot : View → ℕ → Option SlotRecord → View
+with_slot v slot kept = record v { slots = slice_set v.slots slot kept }
+
 -- another record in a slot
 abbrev pub with_record : View → ℕ → SlotRecord → View
-with_record v slot r = record v { slots = slice_set v.slots slot (Some r) }
+with_record v slot r = with_slot v slot (Some r)
 
 -- the slot whose record is on the same page
 abbrev pub neighbour : ℕ → ℕ

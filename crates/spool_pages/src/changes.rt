@@ -2,7 +2,7 @@
 ghost use Rattle.std.specs.Prelude.{◌≡◌, ◌≢◌, ◌↔◌, ◌≤◌, ◌<◌, ℕ, IsTrue, IsSome, OnOk, IfOk, List, IfSome, None, length, get_or, option_copied};
 ghost use Rattle.spool_blocks.specs.Blocks.{Row as HeldRow};
 ghost use Rattle.spool_journal.specs.Image.{journal_pages, InMeta, InArea};
-ghost use Rattle.spool_pages.specs.Changes.{page_in, ChangesButRows, Changes, with_record, neighbour, SameRowsBut};
+ghost use Rattle.spool_pages.specs.Changes.{page_in, ChangesButRows, Changes, with_record, with_slot, neighbour, SameRowsBut};
 ghost use Rattle.spool_pages.specs.Fits.{FitsRow};
 ghost use Rattle.spool_pages.specs.View.{View, slot_at};
 
@@ -33,7 +33,10 @@ pub fn pages_of_new(
 {
     let mut pages = Pages::new(alloc);
     pages.put(state_number(layout), &state_page(next))?;
-    pages.put(record_number(layout, slot), &page_with(slot, kept, beside))?;
+    pages.put(
+        record_number(layout, slot),
+        &page_with(slot, Some(kept), beside),
+    )?;
     Ok(pages)
 }
 
@@ -61,26 +64,28 @@ fn make_room(pages: &mut Pages, page: u32) -> Result<(), AllocError>
     Ok(())
 }
 
-/// The pages that a record and other rows of these blocks make: the record's page, and each page that has one of the rows, blank until
-/// `fill_rows` gives it its bytes. `beside` is the record that the other slot on the same page has, none where it is free. It costs a
-/// look at these few pages for each of the blocks. Err only where memory runs out.
+/// The pages that a slot with this record, or free, and other rows of these blocks make: the slot's page, and each page
+/// that has one of the rows, blank until `fill_rows` gives it its bytes. `beside` is the record that the other slot on
+/// the same page has, none where it is free. It costs a look at these few pages for each of the blocks. Err only where
+/// memory runs out.
 pub fn pages_of_change(
     alloc: Global,
     layout: &Layout,
     slot: u32,
-    kept: &SlotRecord<'_>,
+    kept: Option<&SlotRecord<'_>>,
     beside: Option<&SlotRecord<'_>>,
     blocks: &[BlockNo],
 ) -> Result<Pages, AllocError>
     requires slot { slot < 512 }
-    requires kept { length kept.now.metadata ≤ 1536 }
+    requires kept { IfSome kept (λ r. length r.now.metadata ≤ 1536) }
     requires beside { IfSome beside (λ r. length r.now.metadata ≤ 1536) }
     requires blocks { (i : ℕ) → i < length blocks.now → get_or blocks.now i 0 < layout.now }
     ensures area { IfOk result (λ pages. InArea (journal_pages layout.now) pages) }
     ensures some { IfOk result (λ pages. 1 ≤ length pages) }
     ensures changes { (v : View) → v.blocks ≡ layout.now → length v.slots ≡ 512 → slot_at v (neighbour slot) ≡ option_copied beside.entry
         → (rows : List HeldRow) → SameRowsBut blocks.now v.rows rows
-        → IfOk result (λ pages. ChangesButRows pages v (record (with_record v slot kept.now) { rows = rows })) }
+        → IfOk result (λ pages. ChangesButRows pages v
+        (record (with_slot v slot (option_copied kept.entry)) { rows = rows })) }
 {
     let mut pages = Pages::new(alloc);
     pages.put(record_number(layout, slot), &page_with(slot, kept, beside))?;

@@ -1,5 +1,5 @@
 // The page of two slots.
-ghost use Rattle.std.specs.Prelude.{◌≡◌, ◌≤◌, Some, IfSome, length, option_copied};
+ghost use Rattle.std.specs.Prelude.{◌≡◌, ◌≤◌, IfSome, length, option_copied};
 ghost use Rattle.spool_journal.specs.Image.{byte_of};
 ghost use Rattle.spool_pages.specs.Bytes.{IsPadded};
 ghost use Rattle.spool_pages.specs.Changes.{SaysSlot, neighbour};
@@ -36,20 +36,20 @@ pub(crate) fn record_page(
     page
 }
 
-/// The page of a slot with this record, and beside it what the slot on the same page has.
+/// The page of a slot with this record, or free, and beside it what the slot on the same page has.
 pub(crate) fn page_with(
     slot: u32,
-    kept: &SlotRecord<'_>,
+    kept: Option<&SlotRecord<'_>>,
     beside: Option<&SlotRecord<'_>>,
 ) -> [u8; PAGE]
-    requires kept { length kept.now.metadata ≤ 1536 }
+    requires kept { IfSome kept (λ r. length r.now.metadata ≤ 1536) }
     requires beside { IfSome beside (λ r. length r.now.metadata ≤ 1536) }
-    ensures kept { SaysSlot slot result (Some kept.now) }
+    ensures kept { SaysSlot slot result (option_copied kept.entry) }
     ensures beside { SaysSlot (neighbour slot) result (option_copied beside.entry) }
 {
     if slot % 2 == 0 {
-        record_page(Some(kept), beside)
+        record_page(kept, beside)
     } else {
-        record_page(beside, Some(kept))
+        record_page(beside, kept)
     }
 }

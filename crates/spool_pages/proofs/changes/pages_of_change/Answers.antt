@@ -1,4 +1,4 @@
-use Rattle.std.proofs.Common.{◌∙◌, ◌+◌, ◌/◌, ◌<◌, ℕ, Option, IsSome, get_or, below_more, sym, ap, subst, arith}
+use Rattle.std.proofs.Common.{◌∙◌, ◌+◌, ◌/◌, ◌<◌, ℕ, Option, option_copied, IsSome, get_or, below_more, sym, ap, subst, arith}
 use Rattle.spool_journal.specs.Image.{journal_pages}
 use Rattle.spool_pages.specs.Changes.{page_in, row_number, SaysSlot, neighbour}
 use Rattle.spool_pages.specs.View.{SlotRecord}
@@ -22,7 +22,7 @@ returns-clause-some c = room_some c.loop-block.pages (282 + journal_pages c.args
 
 pub returns-clause-changes : goal.returns-clause-changes
 returns-clause-changes c v blocks slots beside rows same =
-    room_changes c.loop-block.pages c.new-pages.ensures c.in_ok-put.ensures.put v c.args.slot c.args.kept.now c.args.blocks.now rows
+    room_changes c.loop-block.pages c.new-pages.ensures c.in_ok-put.ensures.put v c.args.slot (option_copied c.args.kept) c.args.blocks.now rows
     (λ page below. c.loop-block.invariant.front page (subst (λ (n : ℕ). page < 282 + journal_pages n) blocks below))
     (λ i lt. subst (λ (n : ℕ). IsSome (page_in (row_number n (get_or c.args.blocks.now i 0)) c.loop-block.pages)) (sym blocks) (c.loop-block.invariant.there i (omega (arith, lt))))
     (c.record_number.ensures.number ∙ ap (λ (n : ℕ). 26 + journal_pages n + c.args.slot / 2) (sym blocks))

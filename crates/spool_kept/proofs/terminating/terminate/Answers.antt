@@ -1,0 +1,127 @@
+use Rattle.std.proofs.Common.{◌≡◌, ◌∙◌, ◌≤◌, ◌*◌, ℕ, None, ap, subst, sym}
+use Rattle.spool_disk.specs.Views.{Lasts}
+use Rattle.spool_pages.specs.View.{text_page}
+use Rattle.upload_rules.specs.Answers.{IsLate}
+use Rattle.upload_rules.specs.Calls.{terminate_outcome, terminate_refusal, terminated}
+use Rattle.upload_rules.specs.World.{World}
+use Rattle.upload_rules.proofs.Deleted.{none_in_others}
+use Rattle.spool_kept.specs.Drafting.{DraftsFit, StandsFor}
+use Rattle.spool_kept.specs.Holding.{Holding, FitsTogether, IsUsedBy}
+use Rattle.spool_kept.specs.Stored.{ShowsEither}
+use Rattle.spool_kept.specs.Terminating.{IsTakenOut}
+use Rattle.spool_kept.proofs.Forgotten.{fits_after, stands_forgotten}
+use Rattle.spool_kept.proofs.OfDeleted.{stands_after}
+use Rattle.spool_kept.proofs.Terminated.{allowed, crash_after, refused, stored_after}
+use Rattle.spool_kept.proofs.terminating.terminate.Goals as goal
+use Rattle.spool_kept.proofs.terminating.terminate.Goals.{After-change, After-forget_tails, After-take_out, In-Some}
+use Rattle.spool_kept.proofs.terminating.terminate.Given.{Over}
+
+-- NO SLOT HAS THE NUMBER
+
+pub returns-in_default-clause-taken_out : goal.returns-in_default-clause-taken_out
+returns-in_default-clause-taken_out g c _ slot used = absurd (c.in_default.ensures.used slot used)
+
+pub returns-in_default-clause-forgets : goal.returns-in_default-clause-forgets
+returns-in_default-clause-forgets g c _ slot used = absurd (c.in_default.ensures.used slot used)
+
+pub returns-in_default-clause-answer : goal.returns-in_default-clause-answer
+returns-in_default-clause-answer g c w stands =
+    let stored = stands.stored in (
+      refused c.args.kept.now stored.view w.store c.args.number stored.keeps stored.shows c.in_default.ensures.used,
+      stands,
+    )
+
+-- A SLOT HAS IT, SO THE RULES ALLOW IT
+
+may : (g : Over) (c : In-Some g) (w : World)
+    → StandsFor g.D.Disk c.args.disk.now c.args.kept.now c.args.drafts.now.items w
+    → terminate_refusal w c.args.number ≡ None
+may g c w stands =
+    let stored = stands.stored in
+    allowed c.args.kept.now stored.view w.store c.args.number c.in-Some.slot stored.keeps stored.shows
+    c.in-Some.ensures.used
+
+pub returns-in_default-pages_without-clause-answer : goal.returns-in_default-pages_without-clause-answer
+returns-in_default-pages_without-clause-answer g c w stands =
+    let allowed = may g (goal.at.returns-in_default-pages_without-clause-answer g c).In-Some w stands in
+    (subst IsLate (sym allowed) tt, stands)
+
+pub returns-clause-answer : goal.returns-clause-answer
+returns-clause-answer g c w stands =
+    subst IsLate (sym (may g (goal.at.returns-clause-answer g c).In-Some w stands)) tt
+
+-- WHAT IS KEPT OF IT, AND THE DRAFTS
+
+out_of : (g : Over) (c : After-take_out g) (slot : ℕ) → IsUsedBy c.args.kept.now.slots slot c.args.number
+    → IsTakenOut c.args.kept.now slot c.take_out.new.self
+out_of g c slot used =
+    subst (λ (s : ℕ). IsTakenOut c.args.kept.now s c.take_out.new.self) (sym (c.in-Some.ensures.only slot used))
+    c.take_out.ensures
+
+pub returns-in-Ok-change-clause-taken_out : goal.returns-in-Ok-change-clause-taken_out
+returns-in-Ok-change-clause-taken_out g c _ =
+    out_of g (goal.at.returns-in-Ok-change-clause-taken_out g c).After-take_out
+
+pub returns-clause-taken_out : goal.returns-clause-taken_out
+returns-clause-taken_out g c _ = out_of g (goal.at.returns-clause-taken_out g c).After-take_out
+
+fit : (g : Over) (c : After-forget_tails g) → DraftsFit c.take_out.new.self c.forget_tails.new.drafts.items
+fit g c =
+    fits_after c.args.kept.now c.take_out.new.self c.in-Some.slot c.args.number c.in-Some.ensures.used
+    c.take_out.ensures c.args.drafts.now.items c.forget_tails.new.drafts.items c.forget_tails.ensures c.requires.fits
+
+pub returns-in-Ok-change-clause-fits : goal.returns-in-Ok-change-clause-fits
+returns-in-Ok-change-clause-fits g c = fit g (goal.at.returns-in-Ok-change-clause-fits g c).After-forget_tails
+
+pub returns-clause-fits : goal.returns-clause-fits
+returns-clause-fits g c = fit g (goal.at.returns-clause-fits g c).After-forget_tails
+
+-- A CRASH
+
+crash : (g : Over) (c : After-change g) (w : World)
+    → StandsFor g.D.Disk c.args.disk.now c.args.kept.now c.args.drafts.now.items w
+    → Lasts g.D.Disk c.args.disk.now c.change.new.disk
+    (ShowsEither c.args.kept.now.layout w.store (terminate_outcome w c.args.number))
+crash g c w stands =
+    let stored = stands.stored in
+    let layout = ap (λ (k : Holding). k.layout) (sym c.kept.view_is) in
+    let rows = ap (λ (k : Holding). k.blocks.rows) (sym c.kept.view_is) ∙ sym c.rows.ensures.same in
+    crash_after g.D.Disk c.args.disk.now c.args.kept.now c.take_out.new.self w.store c.args.number c.in-Some.slot stored
+    c.in-Some.ensures.used c.take_out.ensures c.in-Ok.pages c.fill_rows.new.pages c.in-Ok.ensures.changes
+    (λ v v' blocks but same. c.fill_rows.ensures.changes v v' (blocks ∙ layout) but (same ∙ rows))
+    c.change.new.disk (λ v v' blocks. c.change.ensures.lasts stored.honest v v' (blocks ∙ layout))
+
+pub returns-in-Ok-change-clause-crash : goal.returns-in-Ok-change-clause-crash
+returns-in-Ok-change-clause-crash g c = crash g (goal.at.returns-in-Ok-change-clause-crash g c).After-change
+
+pub returns-clause-crash : goal.returns-clause-crash
+returns-clause-crash g c = crash g (goal.at.returns-clause-crash g c).After-change
+
+-- DONE
+
+pub returns-in-Ok-change-clause-answer : goal.returns-in-Ok-change-clause-answer
+returns-in-Ok-change-clause-answer g c w stands =
+    let h = c.args.kept.now in
+    let h' = c.take_out.new.self in
+    let number = c.args.number in
+    let slot = c.in-Some.slot in
+    let used = c.in-Some.ensures.used in
+    let out = c.take_out.ensures in
+    let stored = stands.stored in
+    let d = c.args.disk.now in
+    let d' = c.change.new.disk in
+    let layout = ap (λ (k : Holding). k.layout) (sym c.kept.view_is) in
+    let same : c.kept.inside.layout ≡ h.layout = sym layout ∙ out.layout in
+    let rows = ap (λ (k : Holding). k.blocks.rows) (sym c.kept.view_is) ∙ sym c.rows.ensures.same in
+    let now = stored_after g.D.Disk d h h' w.store number slot stored used out c.in-Ok.pages c.fill_rows.new.pages
+    c.in-Ok.ensures.changes
+    (λ v v' blocks but same. c.fill_rows.ensures.changes v v' (blocks ∙ layout) but (same ∙ rows)) d'
+    (subst FitsTogether c.kept.view_is c.kept.invariant) (c.in-Ok-change.ensures.honest.0 stored.honest)
+    (λ v v' blocks. c.in-Ok-change.ensures.done stored.honest v v' (blocks ∙ layout)) in
+    let texts = subst (λ (n : ℕ). (p : ℕ) → 4096 * text_page n ≤ p → g.D.Disk.seen d' p ≡ g.D.Disk.seen d p) same
+    (c.in-Ok-change.ensures.texts stored.honest stored.view (sym stored.keeps.blocks ∙ sym same) stored.rests) in (
+      may g (goal.at.returns-in-Ok-change-clause-answer g c).In-Some w stands,
+      stands_forgotten number c.args.drafts.now.items c.forget_tails.new.drafts.items c.forget_tails.ensures
+          g.D.Disk d' h' (terminated w number) (none_in_others number w.store.uploads)
+          (stands_after h h' number slot used out g.D.Disk d d' c.args.drafts.now.items w stands now texts),
+    )
