@@ -92,7 +92,13 @@ fn restore<D: Disk>(alloc: Global, disk: &mut D, layout: Layout) -> Result<Kept,
     load_kept(alloc, disk, layout)
 }
 
-/// Finds a spool, makes it whole and reads it.
+/// Finds a spool, makes it whole and reads it. It may crash too, and be called again.
+///
+/// # Errors
+///
+/// `NotASpool` where the first 12 bytes say none or the disk is shorter than its layout, then as `recover`, then
+/// `Version` where the state page says another version than 1, then `Damaged` where what is read is not what a spool
+/// may say; `NoMemory` where a growth was refused, and `DiskFault` where the device failed.
 pub fn load<D: Disk>(alloc: Global, disk: &mut D) -> Result<Kept, OpenFault>
     ensures size { D.size disk.new ≡ D.size disk.old }
     ensures honest { D.honest disk.old ↔ D.honest disk.new }

@@ -1,6 +1,7 @@
 use Rattle.std.proofs.Common.{◌≡◌, ℕ, rules, arith}
 use Rattle.enc_model.specs.Indexes.{IndexSet}
 use Rattle.spool_disk.proofs.Firm.{counts_on}
+use Rattle.spool_pages.specs.View.{state_place}
 use Rattle.spool_load.proofs.Looks.{loads_err, ok_no_fault, reads_on}
 use Rattle.spool_load.proofs.Refused.{state_tells, version_stands}
 use Rattle.spool_load.proofs.Sounds.{area_said, next_said}
