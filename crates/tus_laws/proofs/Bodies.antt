@@ -1,5 +1,6 @@
 -- The bytes of a body: a PATCH that is open holds what came of the body that is under way.
-use Rattle.std.proofs.Common.{◌≡◌, ◌+◌, ◌-◌, ◌<◌, ◌≤◌, ℕ, List, [], ◌∷◌, ◌++◌, length, take, drop, Option, Some, None, inl, inr, refl, sym, ◌∙◌, ap, subst, arith}
+use Rattle.std.proofs.Common.{◌≡◌, ◌+◌, ◌-◌, ◌<◌, ◌≤◌, ℕ, List, [], ◌∷◌, ◌++◌, length, take, drop, Option, Some, None}
+use Rattle.std.proofs.Common.{inl, inr, refl, sym, ◌∙◌, ap, subst, arith}
 use Rattle.std.proofs.lemmas.Option.{none-some, same_Some}
 use Rattle.std.proofs.lemmas.Bool.{cases_lt}
 use Rattle.std.proofs.lemmas.Bool.Decides.{nat_tests}
@@ -17,7 +18,9 @@ use Rattle.tus_session.specs.Streams.{Asked, Rest, InHead, InBody, cut, Moments,
 use Rattle.tus_session.specs.Turns.{Conn, reader, at_head}
 use Rattle.tus_session.specs.Heads.{InsideHead}
 use Rattle.tus_session.proofs.Cuts.{left, left_alone, moments_alone, taken_alone}
-use Rattle.tus_session.proofs.Unfinished.{only_body, longer, bytes_came, body_ended, left_body, part_came, rest_came, part_taken, rest_taken, judged_as, head_part, head_whole, both_whole, whole_taken}
+use Rattle.tus_session.proofs.Unfinished.{only_body, longer, bytes_came, body_ended, left_body, part_came, rest_came}
+use Rattle.tus_session.proofs.Unfinished.{part_taken, rest_taken, judged_as, head_part, head_whole, both_whole}
+use Rattle.tus_session.proofs.Unfinished.{whole_taken}
 use Rattle.tus_session.proofs.NewRests.{head_left, head_only, head_part_rest, body_part_rest, drop_behind}
 use Rattle.tus_session.proofs.HeadTurns.{head_within, front_judged, front_body}
 use Rattle.tus_session.proofs.RequestLeaves.{Leaves, Nothing, Text, Patching, leaves}
@@ -35,7 +38,8 @@ DraftHolds w k = (d : ℕ) → k.draft ≡ Some d → Holds w k d
 
 -- A PATCH that is opened
 
-leaves_first : (w : World) (r : Request) (a : Acted) (d : ℕ) → Leaves w r a → a.draft ≡ Some d → (p : Patch) × (find d a.world.patches ≡ Some p) × (p.body ≡ [])
+leaves_first : (w : World) (r : Request) (a : Acted) (d : ℕ) → Leaves w r a → a.draft ≡ Some d
+    → (p : Patch) × (find d a.world.patches ≡ Some p) × (p.body ≡ [])
 leaves_first w r a d (Nothing moves none idle) e = absurd (none-some d (sym none ∙ e))
 leaves_first w r a d (Text h same none some stays) e = absurd (none-some d (sym none ∙ e))
 leaves_first w r a d (Patching y) e =
@@ -44,7 +48,8 @@ leaves_first w r a d (Patching y) e =
     let first : find y.d ((y.d, p) ∷ w.patches) ≡ Some p = grind (arith, nat_tests) in
     (p, ap (λ v. find d v.patches) y.world_is ∙ (ap (λ n. find n ((y.d, p) ∷ w.patches)) (sym same) ∙ first), refl)
 
-opened_first : (w : World) (v : Verdict) (d : ℕ) → (acted w v).draft ≡ Some d → (p : Patch) × (find d (acted w v).world.patches ≡ Some p) × (p.body ≡ [])
+opened_first : (w : World) (v : Verdict) (d : ℕ) → (acted w v).draft ≡ Some d
+    → (p : Patch) × (find d (acted w v).world.patches ≡ Some p) × (p.body ≡ [])
 opened_first w (Asks r) d e = leaves_first w r (acted w (Asks r)) d (leaves w r) e
 opened_first w (Refuses x) d e = absurd (none-some d e)
 
@@ -53,21 +58,29 @@ pub record Brings (w : World) (k : Conn) (piece : List ℕ) (n : ℕ) (m : Momen
   pub patch : Patch
   pub found : find d (at_head w k.draft m.head).world.patches ≡ Some patch
   pub whole : (r : Asked) → m.body ≡ Some r → r.body ≡ patch.body ++ m.came
-  pub part : m.body ≡ None → (r : Asked) × ((cut (reader w) (k.stream ++ take n piece)).rest ≡ InBody r) × (r.body ≡ patch.body ++ m.came)
+  pub part : m.body ≡ None
+      → (r : Asked) × ((cut (reader w) (k.stream ++ take n piece)).rest ≡ InBody r) × (r.body ≡ patch.body ++ m.came)
 
 -- and a head comes only where none was open
 pub record BringsAll (w : World) (k : Conn) (piece : List ℕ) (n : ℕ) (m : Moments) : Type 0 where
   pub each : (d : ℕ) → (at_head w k.draft m.head).draft ≡ Some d → Brings w k piece n m d
   pub first : (r : Asked) → m.head ≡ Some r → k.draft ≡ None
 
+-- what the bytes bring that the call takes
+abbrev pub CallBrings : World → Conn → List ℕ → Type 0
+CallBrings w k piece =
+    let n = taken (reader w) k.stream piece in BringsAll w k piece n (moments (reader w) k.stream (take n piece))
+
 module _ (w : World) (k : Conn) (holds : DraftHolds w k) where
   is_steady : IsSteady (reader w)
   is_steady = steady (offers w.store.indexes)
 
-  along : (piece : List ℕ) (n : ℕ) (m : Moments) → taken (reader w) k.stream piece ≡ n → moments (reader w) k.stream (take n piece) ≡ m → BringsAll w k piece n m
-      → BringsAll w k piece (taken (reader w) k.stream piece) (moments (reader w) k.stream (take (taken (reader w) k.stream piece) piece))
+  along : (piece : List ℕ) (n : ℕ) (m : Moments) → taken (reader w) k.stream piece ≡ n
+      → moments (reader w) k.stream (take n piece) ≡ m → BringsAll w k piece n m
+      → CallBrings w k piece
   along piece n m e f brings =
-      subst (λ x. BringsAll w k piece x (moments (reader w) k.stream (take x piece))) (sym e) (subst (BringsAll w k piece n) (sym f) brings)
+      subst (λ x. BringsAll w k piece x (moments (reader w) k.stream (take x piece))) (sym e)
+      (subst (BringsAll w k piece n) (sym f) brings)
 
   -- a body is under way
   module _ (asked : Asked) (rest : (cut (reader w) k.stream).rest ≡ InBody asked) (piece : List ℕ) where
@@ -84,15 +97,20 @@ module _ (w : World) (k : Conn) (holds : DraftHolds w k) where
     body_is d h = h.body ∙ ap (λ r. r.body) (same_asked h.asked (sym h.rest ∙ rest))
 
     part_brings : length asked.body + length piece < body_length asked.verdict
-        → BringsAll w k piece (taken (reader w) k.stream piece) (moments (reader w) k.stream (take (taken (reader w) k.stream piece) piece))
+        → CallBrings w k piece
     part_brings few =
         let b = left_body (reader w) is_steady k.stream asked rest in
         let t : take (length piece) piece ≡ piece = take_all (length piece) piece (omega arith) in
-        let n : taken (reader w) k.stream piece ≡ length piece = taken_alone (reader w) is_steady k.stream piece ∙ part_taken (reader w) is_steady u piece b.0 asked b.1 only few in
+        let n : taken (reader w) k.stream piece ≡ length piece =
+        taken_alone (reader w) is_steady k.stream piece
+        ∙ part_taken (reader w) is_steady u piece b.0 asked b.1 only few in
         let m : moments (reader w) k.stream (take (length piece) piece) ≡ bytes_came piece =
-        ap (moments (reader w) k.stream) t ∙ (moments_alone (reader w) is_steady k.stream piece ∙ part_came (reader w) is_steady u piece b.0 asked b.1 only few) in
+        ap (moments (reader w) k.stream) t
+        ∙ (moments_alone (reader w) is_steady k.stream piece
+        ∙ part_came (reader w) is_steady u piece b.0 asked b.1 only few) in
         let r : (cut (reader w) (k.stream ++ take (length piece) piece)).rest ≡ InBody (longer asked piece) =
-        ap (λ q. (cut (reader w) (k.stream ++ q)).rest) t ∙ body_part_rest (reader w) is_steady k.stream piece asked rest few in
+        ap (λ q. (cut (reader w) (k.stream ++ q)).rest) t
+        ∙ body_part_rest (reader w) is_steady k.stream piece asked rest few in
         along piece (length piece) (bytes_came piece) n m (record {
           each = λ d e.
               let h = holds d e in
@@ -106,14 +124,16 @@ module _ (w : World) (k : Conn) (holds : DraftHolds w k) where
         })
 
     rest_brings : body_length asked.verdict ≤ length asked.body + length piece
-        → BringsAll w k piece (taken (reader w) k.stream piece) (moments (reader w) k.stream (take (taken (reader w) k.stream piece) piece))
+        → CallBrings w k piece
     rest_brings enough =
         let c = body_length asked.verdict - length asked.body in
         let q = take c piece in
         let b = left_body (reader w) is_steady k.stream asked rest in
         let wants = b.1.wants in
         let l : length q ≡ c = length-take-le c piece (omega arith) in
-        let n : taken (reader w) k.stream piece ≡ c = taken_alone (reader w) is_steady k.stream piece ∙ rest_taken (reader w) is_steady u piece b.0 asked b.1 only enough in
+        let n : taken (reader w) k.stream piece ≡ c =
+        taken_alone (reader w) is_steady k.stream piece
+        ∙ rest_taken (reader w) is_steady u piece b.0 asked b.1 only enough in
         let all : length asked.body + length q ≡ body_length asked.verdict = omega arith in
         let m : moments (reader w) k.stream q ≡ body_ended asked q =
         moments_alone (reader w) is_steady k.stream q ∙ rest_came (reader w) is_steady u q b.0 asked b.1 only all in
@@ -123,17 +143,23 @@ module _ (w : World) (k : Conn) (holds : DraftHolds w k) where
               record {
                 patch = h.patch;
                 found = h.found;
-                whole = λ x is. ap (λ r. r.body) (sym (same_Some (longer asked q) x is)) ∙ ap (λ y. y ++ q) (sym (body_is d h));
+                whole =
+                    λ x is. ap (λ r. r.body) (sym (same_Some (longer asked q) x is))
+                    ∙ ap (λ y. y ++ q) (sym (body_is d h));
                 part = λ none. absurd (none-some (longer asked q) (sym none));
               };
           first = λ x none. absurd (none-some x none);
         })
 
-    pub body_brings : BringsAll w k piece (taken (reader w) k.stream piece) (moments (reader w) k.stream (take (taken (reader w) k.stream piece) piece))
-    body_brings = elim (cases_lt (length asked.body + length piece) (body_length asked.verdict)) [ inl few ↦ part_brings few | inr enough ↦ rest_brings enough ]
+    pub body_brings : CallBrings w k piece
+    body_brings = elim (cases_lt (length asked.body + length piece) (body_length asked.verdict)) [
+      | inl few ↦ part_brings few
+      | inr enough ↦ rest_brings enough
+    ]
 
   -- a head is under way
-  module _ (h : List ℕ) (inside : (cut (reader w) k.stream).rest ≡ InHead h) (idle : k.pending ≡ None) (piece : List ℕ) where
+  module _ (h : List ℕ) (inside : (cut (reader w) k.stream).rest ≡ InHead h) (idle : k.pending ≡ None)
+      (piece : List ℕ) where
     no_draft_at : (o : Option ℕ) → k.draft ≡ o → k.draft ≡ None
     no_draft_at None e = e
     no_draft_at (Some d) e = let x : InHead h ≡ InBody (holds d e).asked = sym inside ∙ (holds d e).rest in absurd (cc)
@@ -147,14 +173,17 @@ module _ (w : World) (k : Conn) (holds : DraftHolds w k) where
     only_h : cut (reader w) h ≡ record { whole = []; rest = InHead h }
     only_h = head_only (reader w) is_steady k.stream h inside
 
-    by_head : (n : ℕ) (m : Moments) → taken (reader w) h piece ≡ n → moments (reader w) h (take n piece) ≡ m → BringsAll w k piece n m
-        → BringsAll w k piece (taken (reader w) k.stream piece) (moments (reader w) k.stream (take (taken (reader w) k.stream piece) piece))
+    by_head : (n : ℕ) (m : Moments) → taken (reader w) h piece ≡ n → moments (reader w) h (take n piece) ≡ m
+        → BringsAll w k piece n m
+        → CallBrings w k piece
     by_head n m e f brings =
         let l : left (reader w) k.stream ≡ h = head_left (reader w) is_steady k.stream h inside in
         along piece n m (taken_alone (reader w) is_steady k.stream piece ∙ (ap (λ u. taken (reader w) u piece) l ∙ e))
-        (moments_alone (reader w) is_steady k.stream (take n piece) ∙ (ap (λ u. moments (reader w) u (take n piece)) l ∙ f)) brings
+        (moments_alone (reader w) is_steady k.stream (take n piece)
+        ∙ (ap (λ u. moments (reader w) u (take n piece)) l ∙ f)) brings
 
-    more_brings : reader w (h ++ piece) ≡ More → BringsAll w k piece (taken (reader w) k.stream piece) (moments (reader w) k.stream (take (taken (reader w) k.stream piece) piece))
+    more_brings : reader w (h ++ piece) ≡ More
+        → CallBrings w k piece
     more_brings e =
         let p = head_part (reader w) is_steady h piece only_h e in
         let t : take (length piece) piece ≡ piece = take_all (length piece) piece (omega arith) in
@@ -163,13 +192,16 @@ module _ (w : World) (k : Conn) (holds : DraftHolds w k) where
 
     module _ (n : ℕ) (v : Verdict) (judged : reader w (h ++ piece) ≡ Judged n v) where
       few_brings : length (drop n (h ++ piece)) < body_length v
-          → BringsAll w k piece (taken (reader w) k.stream piece) (moments (reader w) k.stream (take (taken (reader w) k.stream piece) piece))
+          → CallBrings w k piece
       few_brings few =
           let p = head_whole (reader w) is_steady h piece n v only_h judged few in
           let t : take (length piece) piece ≡ piece = take_all (length piece) piece (omega arith) in
           let r : (cut (reader w) (k.stream ++ take (length piece) piece)).rest ≡ InBody (judged_as (h ++ piece) n v) =
-          ap (λ q. (cut (reader w) (k.stream ++ q)).rest) t ∙ head_part_rest (reader w) is_steady k.stream h inside piece n v judged few in
-          by_head (length piece) (record { head = Some (judged_as (h ++ piece) n v); body = None; came = drop n (h ++ piece) }) p.1 (ap (moments (reader w) h) t ∙ p.0)
+          ap (λ q. (cut (reader w) (k.stream ++ q)).rest) t
+          ∙ head_part_rest (reader w) is_steady k.stream h inside piece n v judged few in
+          by_head (length piece)
+          (record { head = Some (judged_as (h ++ piece) n v); body = None; came = drop n (h ++ piece) }) p.1
+          (ap (moments (reader w) h) t ∙ p.0)
           (record {
             each = λ d is.
                 let f = opened_first w v d is in
@@ -183,46 +215,53 @@ module _ (w : World) (k : Conn) (holds : DraftHolds w k) where
           })
 
       enough_brings : body_length v ≤ length (drop n (h ++ piece))
-          → BringsAll w k piece (taken (reader w) k.stream piece) (moments (reader w) k.stream (take (taken (reader w) k.stream piece) piece))
+          → CallBrings w k piece
       enough_brings enough =
           let m = body_length v in
           let before = n - length h in
           let within = head_within w k h is_inside piece n before v judged refl in
           let q = take (before + m) piece in
           let here = front_judged w k h is_inside piece n before v judged refl m in
-          let c : drop n (h ++ q) ≡ take m (drop before piece) = front_body w k h is_inside piece n before v judged refl m in
+          let c : drop n (h ++ q) ≡ take m (drop before piece) =
+          front_body w k h is_inside piece n before v judged refl m in
           let b : drop n (h ++ piece) ≡ drop before piece = drop_behind h piece before n within.0 in
           let l : length (drop n (h ++ piece)) ≡ length (drop before piece) = ap length b in
           let all : length (drop n (h ++ q)) ≡ m = ap length c ∙ length-take-le m (drop before piece) (omega arith) in
           let count : n + m - length h ≡ before + m = omega (arith, within.0) in
-          let t : taken (reader w) h piece ≡ before + m = whole_taken (reader w) is_steady h piece n v only_h judged enough ∙ count in
+          let t : taken (reader w) h piece ≡ before + m =
+          whole_taken (reader w) is_steady h piece n v only_h judged enough ∙ count in
           let j = judged_as (h ++ q) n v in
-          by_head (before + m) (record { head = Some j; body = Some j; came = drop n (h ++ q) }) t (both_whole (reader w) is_steady h q n v only_h here all)
+          by_head (before + m) (record { head = Some j; body = Some j; came = drop n (h ++ q) }) t
+          (both_whole (reader w) is_steady h q n v only_h here all)
           (record {
             each = λ d is.
                 let f = opened_first w v d is in
                 record {
                   patch = f.0;
                   found = f.1;
-                  whole = λ x same. ap (λ r. r.body) (sym (same_Some j x same)) ∙ ap (λ y. y ++ drop n (h ++ q)) (sym f.2);
+                  whole =
+                      λ x same. ap (λ r. r.body) (sym (same_Some j x same)) ∙ ap (λ y. y ++ drop n (h ++ q)) (sym f.2);
                   part = λ none. absurd (none-some j (sym none));
                 };
             first = λ x is. no_draft;
           })
 
     by_answer : (a : Answer) → reader w (h ++ piece) ≡ a
-        → BringsAll w k piece (taken (reader w) k.stream piece) (moments (reader w) k.stream (take (taken (reader w) k.stream piece) piece))
+        → CallBrings w k piece
     by_answer More e = more_brings e
-    by_answer (Judged n v) e = elim (cases_lt (length (drop n (h ++ piece))) (body_length v)) [ inl few ↦ few_brings n v e few | inr enough ↦ enough_brings n v e enough ]
+    by_answer (Judged n v) e = elim (cases_lt (length (drop n (h ++ piece))) (body_length v)) [
+      | inl few ↦ few_brings n v e few
+      | inr enough ↦ enough_brings n v e enough
+    ]
 
-    pub head_brings : BringsAll w k piece (taken (reader w) k.stream piece) (moments (reader w) k.stream (take (taken (reader w) k.stream piece) piece))
+    pub head_brings : CallBrings w k piece
     head_brings = by_answer (reader w (h ++ piece)) refl
 
   by_rest : (piece : List ℕ) → k.pending ≡ None → (rest : Rest) → (cut (reader w) k.stream).rest ≡ rest
-      → BringsAll w k piece (taken (reader w) k.stream piece) (moments (reader w) k.stream (take (taken (reader w) k.stream piece) piece))
+      → CallBrings w k piece
   by_rest piece idle (InHead h) e = head_brings h e idle piece
   by_rest piece idle (InBody asked) e = body_brings asked e piece
 
   pub brings_all : (piece : List ℕ) → k.pending ≡ None
-      → BringsAll w k piece (taken (reader w) k.stream piece) (moments (reader w) k.stream (take (taken (reader w) k.stream piece) piece))
+      → CallBrings w k piece
   brings_all piece idle = by_rest piece idle (cut (reader w) k.stream).rest refl

@@ -180,10 +180,10 @@ module _ (st : State) (c : ℕ) (piece : List ℕ) (k : Conn) (here : st.conns c
     same : v.store ≡ st.world.store
     same = fed_store a.world d m.came ∙ (head_uploads st.world k.draft m.head d open_is).0
 
-    by_found : (r : Asked) (q : Request) → m.body ≡ Some r → r.verdict ≡ Asks q → (o : Option Patch)
-        → find d v.patches ≡ o → IsChanged (commit_with v d (Asks q) o).world
-    by_found r q ends asks None found = Nothing same
-    by_found r q ends asks (Some p) found =
+    -- the patch that is done by the bytes that came
+    abbrev pub done_came : (r : Asked) (q : Request) (p : Patch) → m.body ≡ Some r → r.verdict ≡ Asks q
+        → find d v.patches ≡ Some p → DonePatch st (Came c piece)
+    done_came r q p ends asks found =
         let came : BodyCame st.world k piece v d p = record {
           nothing_to_give = idle;
           asked = r;
@@ -194,9 +194,13 @@ module _ (st : State) (c : ℕ) (piece : List ℕ) (k : Conn) (here : st.conns c
           world = refl;
           found = found;
         } in
-        let x : DonePatch st (Came c piece) =
-        record { conn = k; world = v; draft = d; patch = p; done = (here, came) } in
-        spent_changed st (Came c piece) x same (commit_refusal v d p) refl
+        record { conn = k; world = v; draft = d; patch = p; done = (here, came) }
+
+    by_found : (r : Asked) (q : Request) → m.body ≡ Some r → r.verdict ≡ Asks q → (o : Option Patch)
+        → find d v.patches ≡ o → IsChanged (commit_with v d (Asks q) o).world
+    by_found r q ends asks None found = Nothing same
+    by_found r q ends asks (Some p) found =
+        spent_changed st (Came c piece) (done_came r q p ends asks found) same (commit_refusal v d p) refl
 
     by_asked : (r : Asked) → m.body ≡ Some r → (t : Verdict) → r.verdict ≡ t
         → IsChanged (commit_with v d t (find d v.patches)).world

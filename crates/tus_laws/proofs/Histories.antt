@@ -23,11 +23,11 @@ use Rattle.tus_session.specs.Stands.{draft_at}
 use Rattle.tus_session.proofs.Tolds.{came_is, ended_step}
 use Rattle.tus_session.proofs.BodyTold.{rest_same}
 use Rattle.tus_session.proofs.Feeding.{fed_body}
-use Rattle.tus_laws.specs.Patches.{moments_in, at_its_head, BodyCame, BodyCut, DonePatch, IsRefused, Changed, Nothing}
+use Rattle.tus_laws.specs.Patches.{moments_in, at_its_head, BodyCut, DonePatch, IsRefused, Changed, Nothing}
 use Rattle.tus_laws.specs.Patches.{Made, Put, Deleted}
 use Rattle.tus_laws.specs.Cuts.{head_moment, body_moment, came_moments, cut_moment, came_on, ended_on, event_moments}
 use Rattle.tus_laws.specs.Cuts.{all_moments, bytes_of, given, text_left, still_to_give, KeepsText, AllSmooth}
-use Rattle.tus_laws.proofs.Changes.{served_changed, with_idle, with_text, ended_spent}
+use Rattle.tus_laws.proofs.Changes.{served_changed, with_idle, with_text, done_came, ended_spent}
 use Rattle.tus_laws.proofs.Bare.{bared, fed_there, ended_calm}
 use Rattle.tus_laws.proofs.Bodies.{Holds, DraftHolds, Brings, BringsAll, brings_all}
 use Rattle.tus_laws.proofs.Turning.{Opens, head_opens, body_opens, commit_idle, spent_else, Rep, replay, replay_both}
@@ -335,20 +335,9 @@ module _ (st : State) (sound : Sound st) (g : ℕ → List ℕ) (r : Rep) (sim :
             turn_body no_text
             ∙ (ap (λ o. turn_of k piece n (body_step a m.came m.body o)) is
             ∙ ap (λ y. turn_of k piece n (body_step a m.came y (Some d))) ends) in
-            let enough : (y : Request) → x.verdict ≡ Asks y → commit_refusal v d q ≡ Some Full → ⊥ = λ y asks full.
-            let came : BodyCame st.world k piece v d q = record {
-              nothing_to_give = idle;
-              asked = x;
-              request = y;
-              body_moment = ends;
-              asks = asks;
-              draft_open = is;
-              world = refl;
-              found = fed_there a.world d b.patch m.came b.found;
-            } in
-            let done : DonePatch st (Came c piece) =
-            record { conn = k; world = v; draft = d; patch = q; done = (here, came) } in
-            roomy done full in
+            let found : find d v.patches ≡ Some q = fed_there a.world d b.patch m.came b.found in
+            let enough : (y : Request) → x.verdict ≡ Asks y → commit_refusal v d q ≡ Some Full → ⊥ =
+            λ y asks full. roomy (done_came st c piece k here idle d is x y q ends asks found) full in
             let none = (commit_idle v d x.verdict (find d v.patches)).0 in
             conclude n z (Some d) (Some x) turn is ends
             (body_opens st.world k.draft a first_opens m.came (Some x) (Some d) is)

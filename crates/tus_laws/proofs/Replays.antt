@@ -1,5 +1,6 @@
 -- The replay of a history's moments gives what the history gives.
-use Rattle.std.proofs.Common.{◌≡◌, ◌≢◌, ◌⊎◌, inl, inr, ◌==◌, ℕ, Bool, true, false, List, [], ◌++◌, if◌then◌else◌, Option, Some, None, refl, sym, ◌∙◌, ap, subst, arith, append-nil, append_assoc}
+use Rattle.std.proofs.Common.{◌≡◌, ◌≢◌, ◌⊎◌, inl, inr, ◌==◌, ℕ, Bool, true, false, List, [], ◌++◌, if◌then◌else◌}
+use Rattle.std.proofs.Common.{Option, Some, None, refl, sym, ◌∙◌, ap, subst, arith, append-nil, append_assoc}
 use Rattle.std.proofs.lemmas.Option.{none-some, same_Some}
 use Rattle.std.proofs.lemmas.Bool.{cases_eq}
 use Rattle.std.proofs.lemmas.Bool.Decides.{nat_tests}
@@ -36,7 +37,8 @@ module _ (st : State) (sound : Sound st) (w' : World) (c : ℕ) (o' : Option Con
   -- what a turn of one connection keeps
   pub record Keeps : Type 0 where
     pub indexes : w'.store.indexes ≡ st.world.store.indexes
-    pub others : (e : ℕ) (p : Patch) → find e st.world.patches ≡ Some p → (draft_at (st.conns c) ≡ Some e → ⊥) → find e w'.patches ≡ Some p
+    pub others : (e : ℕ) (p : Patch) → find e st.world.patches ≡ Some p → (draft_at (st.conns c) ≡ Some e → ⊥)
+        → find e w'.patches ≡ Some p
     pub fresh : (d : ℕ) → draft_at o' ≡ Some d → (draft_at (st.conns c) ≡ Some d) ⊎ (find d st.world.patches ≡ None)
     pub holds : (k : Conn) → o' ≡ Some k → DraftHolds w' k
     pub idle : (k : Conn) → o' ≡ Some k → (d : ℕ) → k.draft ≡ Some d → k.pending ≡ None
@@ -79,20 +81,24 @@ module _ (st : State) (sound : Sound st) (w' : World) (c : ℕ) (o' : Option Con
         | inl is ↦ elim (cases_eq b c) [
           | inl is' ↦ is ∙ sym is'
           | inr ne' ↦
-              let x : draft_at o' ≡ Some d = ap draft_at (sym (conns_here st.conns c o')) ∙ (ap (λ i. draft_at (conns i)) (sym is) ∙ f) in
+              let x : draft_at o' ≡ Some d =
+              ap draft_at (sym (conns_here st.conns c o')) ∙ (ap (λ i. draft_at (conns i)) (sym is) ∙ f) in
               absurd (not_both b d ne' x (ap draft_at (sym (conns_else st.conns c b o' ne')) ∙ h))
         ]
         | inr ne ↦ elim (cases_eq b c) [
           | inl is' ↦
-              let x : draft_at o' ≡ Some d = ap draft_at (sym (conns_here st.conns c o')) ∙ (ap (λ i. draft_at (conns i)) (sym is') ∙ h) in
+              let x : draft_at o' ≡ Some d =
+              ap draft_at (sym (conns_here st.conns c o')) ∙ (ap (λ i. draft_at (conns i)) (sym is') ∙ h) in
               absurd (not_both a d ne x (ap draft_at (sym (conns_else st.conns c a o' ne)) ∙ f))
-          | inr ne' ↦ sound.apart a b d (ap draft_at (sym (conns_else st.conns c a o' ne)) ∙ f) (ap draft_at (sym (conns_else st.conns c b o' ne')) ∙ h)
+          | inr ne' ↦ sound.apart a b d (ap draft_at (sym (conns_else st.conns c a o' ne)) ∙ f)
+              (ap draft_at (sym (conns_else st.conns c b o' ne')) ∙ h)
         ]
       ];
     }
 
 -- what the replay makes of a turn
-pub record Replays (st : State) (g : ℕ → List ℕ) (r r' : Rep) (w' : World) (c : ℕ) (o' : Option Conn) (bytes : List ℕ) : Type 0 where
+pub record Replays (st : State) (g : ℕ → List ℕ) (r r' : Rep) (w' : World) (c : ℕ) (o' : Option Conn)
+    (bytes : List ℕ) : Type 0 where
   pub world : r'.world ≡ bared w'
   pub draft : r'.drafts c ≡ draft_at o'
   pub bytes_are : r'.given c ≡ (g c ++ bytes) ++ still_to_give o'
@@ -111,18 +117,23 @@ else_if c e bytes ne = grind (arith, nat_tests)
 else_given : (g : ℕ → List ℕ) (c e : ℕ) (bytes : List ℕ) → (e ≡ c → ⊥) → more_given g c bytes e ≡ g e
 else_given g c e bytes ne = ap (λ b. g e ++ b) (else_if c e bytes ne) ∙ append-nil (g e)
 
-pub sim_put : (st : State) (g : ℕ → List ℕ) (r r' : Rep) (w' : World) (c : ℕ) (o' : Option Conn) (bytes : List ℕ) → Sim st g r → Replays st g r r' w' c o' bytes
+pub sim_put : (st : State) (g : ℕ → List ℕ) (r r' : Rep) (w' : World) (c : ℕ) (o' : Option Conn) (bytes : List ℕ)
+    → Sim st g r → Replays st g r r' w' c o' bytes
     → Sim (put st w' c o') (more_given g c bytes) r'
 sim_put st g r r' w' c o' bytes sim x = record {
   world = x.world;
   drafts = λ e. elim (cases_eq e c) [
-    | inl is ↦ ap r'.drafts is ∙ (x.draft ∙ (ap draft_at (sym (conns_here st.conns c o')) ∙ ap (λ i. draft_at (with_conn st.conns c o' i)) (sym is)))
+    | inl is ↦ ap r'.drafts is ∙ (x.draft ∙ (ap draft_at (sym (conns_here st.conns c o'))
+        ∙ ap (λ i. draft_at (with_conn st.conns c o' i)) (sym is)))
     | inr ne ↦ x.drafts e ne ∙ (sim.drafts e ∙ ap draft_at (sym (conns_else st.conns c e o' ne)))
   ];
   given = λ e. elim (cases_eq e c) [
     | inl is ↦
         let P : ℕ → Type 0 = λ i. r'.given i ≡ more_given g c bytes i ++ still_to_give (with_conn st.conns c o' i) in
-        let here : P c = x.bytes_are ∙ (ap (λ b. b ++ still_to_give o') (sym (here_given g c bytes)) ∙ ap (λ y. more_given g c bytes c ++ still_to_give y) (sym (conns_here st.conns c o'))) in
+        let here : P c =
+        x.bytes_are
+        ∙ (ap (λ b. b ++ still_to_give o') (sym (here_given g c bytes))
+        ∙ ap (λ y. more_given g c bytes c ++ still_to_give y) (sym (conns_here st.conns c o'))) in
         subst P (sym is) here
     | inr ne ↦
         x.given e ne ∙ (sim.given e ∙ (ap (λ b. b ++ still_to_give (st.conns e)) (sym (else_given g c e bytes ne))
@@ -138,7 +149,10 @@ pub sim_same : (st : State) (g : ℕ → List ℕ) (r : Rep) (c : ℕ) → Sim s
 sim_same st g r c sim = record {
   world = sim.world;
   drafts = sim.drafts;
-  given = λ e. sim.given e ∙ ap (λ b. b ++ still_to_give (st.conns e)) (sym (append-nil (g e)) ∙ ap (λ b. g e ++ b) (sym (nothing_if [] (c == e))));
+  given =
+      λ e. sim.given e
+      ∙ ap (λ b. b ++ still_to_give (st.conns e))
+      (sym (append-nil (g e)) ∙ ap (λ b. g e ++ b) (sym (nothing_if [] (c == e))));
 }
 
 -- a connection behind what was done
@@ -148,11 +162,13 @@ draft_of s w own z opens true e = sym (opens.closed e).0
 draft_of s w own z opens false e = refl
 
 text_of : (s : List ℕ) (w : World) (own : Option ℕ) (z : Acted) → Opens w own z → (b : Bool) → z.closes ≡ b
-    → still_to_give (if b then None else Some (record { stream = s; draft = z.draft; pending = z.pending })) ≡ text_left z.pending
+    → still_to_give (if b then None else Some (record { stream = s; draft = z.draft; pending = z.pending }))
+    ≡ text_left z.pending
 text_of s w own z opens true e = ap text_left (sym (opens.closed e).1)
 text_of s w own z opens false e = refl
 
-conn_left : (s : List ℕ) (z : Acted) (k : Conn) (b : Bool) → (if b then None else Some (record { stream = s; draft = z.draft; pending = z.pending })) ≡ Some k
+conn_left : (s : List ℕ) (z : Acted) (k : Conn) (b : Bool)
+    → (if b then None else Some (record { stream = s; draft = z.draft; pending = z.pending })) ≡ Some k
     → record { stream = s; draft = z.draft; pending = z.pending } ≡ k
 conn_left s z k true e = absurd (none-some k e)
 conn_left s z k false e = same_Some (record { stream = s; draft = z.draft; pending = z.pending }) k e
@@ -161,8 +177,10 @@ abbrev conn_as : List ℕ → Acted → Conn
 conn_as s z = record { stream = s; draft = z.draft; pending = z.pending }
 
 -- A CALL THAT BROUGHT BYTES, on an open connection without a text
-module _ (st : State) (sound : Sound st) (g : ℕ → List ℕ) (r r' : Rep) (sim : Sim st g r) (c : ℕ) (k : Conn) (here : st.conns c ≡ Some k) (no_text : k.pending ≡ None)
-    (s : List ℕ) (z : Acted) (opens : Opens st.world k.draft z) (did : Did r r' c z) (indexes : z.world.store.indexes ≡ st.world.store.indexes)
+module _ (st : State) (sound : Sound st) (g : ℕ → List ℕ) (r r' : Rep) (sim : Sim st g r) (c : ℕ) (k : Conn)
+    (here : st.conns c ≡ Some k) (no_text : k.pending ≡ None)
+    (s : List ℕ) (z : Acted) (opens : Opens st.world k.draft z) (did : Did r r' c z)
+    (indexes : z.world.store.indexes ≡ st.world.store.indexes)
     (holds : (d : ℕ) → z.draft ≡ Some d → Holds z.world (conn_as s z) d) where
   own_is : draft_at (st.conns c) ≡ k.draft
   own_is = ap draft_at here
@@ -181,7 +199,9 @@ module _ (st : State) (sound : Sound st) (g : ℕ → List ℕ) (r r' : Rep) (si
 
   came_replays : Replays st g r r' z.world c (conn_of s z) z.bytes
   came_replays =
-      let before : r.given c ≡ g c = sim.given c ∙ (ap (λ o. g c ++ still_to_give o) here ∙ (ap (λ p. g c ++ text_left p) no_text ∙ append-nil (g c))) in
+      let before : r.given c ≡ g c =
+      sim.given c
+      ∙ (ap (λ o. g c ++ still_to_give o) here ∙ (ap (λ p. g c ++ text_left p) no_text ∙ append-nil (g c))) in
       record {
         world = did.world;
         draft = did.draft ∙ sym (draft_of s st.world k.draft z opens z.closes refl);
@@ -192,5 +212,9 @@ module _ (st : State) (sound : Sound st) (g : ℕ → List ℕ) (r r' : Rep) (si
         given = did.given;
       }
 
-  pub came_after : Sound (put st z.world c (conn_of s z)) × Sim (put st z.world c (conn_of s z)) (more_given g c z.bytes) r'
-  came_after = (sound_put st sound z.world c (conn_of s z) came_keeps, sim_put st g r r' z.world c (conn_of s z) z.bytes sim came_replays)
+  pub came_after : Sound (put st z.world c (conn_of s z))
+      × Sim (put st z.world c (conn_of s z)) (more_given g c z.bytes) r'
+  came_after = (
+    sound_put st sound z.world c (conn_of s z) came_keeps,
+    sim_put st g r r' z.world c (conn_of s z) z.bytes sim came_replays,
+  )

@@ -1,5 +1,6 @@
 -- What a call that brings bytes leaves, and what its moments make of a bare world.
-use Rattle.std.proofs.Common.{◌≡◌, ◌⊎◌, inl, inr, ◌==◌, ℕ, true, false, List, [], ◌∷◌, ◌++◌, if◌then◌else◌, Option, Some, None, option_map, refl, sym, ◌∙◌, ap, subst, arith, append-nil, append_assoc}
+use Rattle.std.proofs.Common.{◌≡◌, ◌⊎◌, inl, inr, ◌==◌, ℕ, true, false, List, [], ◌∷◌, ◌++◌, if◌then◌else◌, Option}
+use Rattle.std.proofs.Common.{Some, None, option_map, refl, sym, ◌∙◌, ap, subst, arith, append-nil, append_assoc}
 use Rattle.std.proofs.lemmas.Option.{none-some, same_Some}
 use Rattle.std.proofs.lemmas.Bool.Decides.{nat_tests}
 use Rattle.upload_rules.specs.declared.errors.UploadRefusal.{UploadRefusal}
@@ -15,7 +16,8 @@ use Rattle.tus_session.specs.Turns.{at_head, body_step, ended_with}
 use Rattle.tus_session.proofs.Feeding.{fed_store}
 use Rattle.tus_session.proofs.RequestLeaves.{Leaves, Nothing, Text, Patching, leaves}
 use Rattle.tus_laws.specs.Cuts.{Moment, HeadWhole, BodyWhole, BodyCut, head_moment, text_left}
-use Rattle.tus_laws.proofs.Bare.{bare, bares, bared, with_world, find_bares, bares_twice, acted_bare, fed_there, fed_bare, fed_calm, done_calm}
+use Rattle.tus_laws.proofs.Bare.{bare, bares, bared, with_world, find_bares, bares_twice, acted_bare, fed_there}
+use Rattle.tus_laws.proofs.Bare.{fed_bare, fed_calm, done_calm}
 
 -- WHAT IS LEFT OPEN
 
@@ -59,7 +61,8 @@ verdict_open w (Refuses x) = record {
   others = λ e p there ne. there;
 }
 
-fed_other : (w : World) (d e : ℕ) (piece : List ℕ) (o : Option Patch) → (d ≡ e → ⊥) → find e (appended_at w d piece o).patches ≡ find e w.patches
+fed_other : (w : World) (d e : ℕ) (piece : List ℕ) (o : Option Patch) → (d ≡ e → ⊥)
+    → find e (appended_at w d piece o).patches ≡ find e w.patches
 fed_other w d e piece None ne = refl
 fed_other w d e piece (Some p) ne = find_replaced_other d e (longer w d p piece) w.patches ne
 
@@ -67,17 +70,20 @@ pub fed_else : (w : World) (d e : ℕ) (piece : List ℕ) → (d ≡ e → ⊥) 
 fed_else w d e [] ne = refl
 fed_else w d e (b ∷ piece) ne = fed_other w d e (b ∷ piece) (find d w.patches) ne
 
-pub spent_else : (w : World) (d e : ℕ) (p : Patch) (o : Option UploadRefusal) → (d ≡ e → ⊥) → find e (spent w d p o).patches ≡ find e w.patches
+pub spent_else : (w : World) (d e : ℕ) (p : Patch) (o : Option UploadRefusal) → (d ≡ e → ⊥)
+    → find e (spent w d p o).patches ≡ find e w.patches
 spent_else w d e p None ne = find_without_other d e w.patches ne
 spent_else w d e p (Some f) ne = find_without_other d e w.patches ne
 
-commit_else : (w : World) (d e : ℕ) (v : Verdict) (o : Option Patch) → (d ≡ e → ⊥) → find e (commit_with w d v o).world.patches ≡ find e w.patches
+commit_else : (w : World) (d e : ℕ) (v : Verdict) (o : Option Patch) → (d ≡ e → ⊥)
+    → find e (commit_with w d v o).world.patches ≡ find e w.patches
 commit_else w d e (Asks r) (Some p) ne = spent_else w d e p (commit_refusal w d p) ne
 commit_else w d e (Asks r) None ne = refl
 commit_else w d e (Refuses x) (Some p) ne = refl
 commit_else w d e (Refuses x) None ne = refl
 
-pub commit_idle : (w : World) (d : ℕ) (v : Verdict) (o : Option Patch) → ((commit_with w d v o).draft ≡ None) × ((commit_with w d v o).pending ≡ None)
+pub commit_idle : (w : World) (d : ℕ) (v : Verdict) (o : Option Patch)
+    → ((commit_with w d v o).draft ≡ None) × ((commit_with w d v o).pending ≡ None)
 commit_idle w d (Asks r) (Some p) = (refl, refl)
 commit_idle w d (Asks r) None = (refl, refl)
 commit_idle w d (Refuses x) (Some p) = (refl, refl)
@@ -91,7 +97,8 @@ module _ (w : World) (own : Option ℕ) (a : Acted) (opens : Opens w own a) wher
     | inr none ↦ none-some p (sym none ∙ (ap (λ n. find n w.patches) same ∙ there))
   ]
 
-  pub body_opens : (piece : List ℕ) (moment : Option Asked) (o : Option ℕ) → a.draft ≡ o → Opens w own (body_step a piece moment o)
+  pub body_opens : (piece : List ℕ) (moment : Option Asked) (o : Option ℕ) → a.draft ≡ o
+      → Opens w own (body_step a piece moment o)
   body_opens piece moment None is = opens
   body_opens piece None (Some d) is = record {
     closed = λ c. absurd (cc);
@@ -111,14 +118,16 @@ module _ (w : World) (own : Option ℕ) (a : Acted) (opens : Opens w own a) wher
             ∙ (fed_else a.world d e piece (not_other d e p is there ne) ∙ opens.others e p there ne);
       }
 
-pub head_opens : (w : World) (own : Option ℕ) (o : Option Asked) → ((r : Asked) → o ≡ Some r → own ≡ None) → Opens w own (at_head w own o)
+pub head_opens : (w : World) (own : Option ℕ) (o : Option Asked) → ((r : Asked) → o ≡ Some r → own ≡ None)
+    → Opens w own (at_head w own o)
 head_opens w own None first = record {
   closed = λ c. absurd (cc);
   idle = λ d e. refl;
   fresh = λ d e. inl e;
   others = λ e p there ne. there;
 }
-head_opens w own (Some r) first = subst (λ x. Opens w x (acted w r.verdict)) (sym (first r refl)) (verdict_open w r.verdict)
+head_opens w own (Some r) first =
+    subst (λ x. Opens w x (acted w r.verdict)) (sym (first r refl)) (verdict_open w r.verdict)
 
 -- THE REPLAY of moments, on a bare world: each body is given as a whole
 pub record Rep : Type 0 where
@@ -130,7 +139,12 @@ abbrev pub set_at : {A : Type 0} → ℕ → A → (ℕ → A) → ℕ → A
 set_at c x f k = if k == c then x else f k
 
 abbrev pub did : Rep → ℕ → Acted → Rep
-did r c a = record { world = bared a.world; drafts = set_at c a.draft r.drafts; given = set_at c (r.given c ++ (a.bytes ++ text_left a.pending)) r.given }
+did r c a =
+    record {
+      world = bared a.world;
+      drafts = set_at c a.draft r.drafts;
+      given = set_at c (r.given c ++ (a.bytes ++ text_left a.pending)) r.given;
+    }
 
 abbrev pub committing : World → ℕ → Asked → Acted
 committing w d x = let u = fed w d x.body in commit_with u d x.verdict (find d u.patches)
@@ -175,7 +189,8 @@ pub record Did (r r' : Rep) (c : ℕ) (z : Acted) : Type 0 where
 pub bared_twice : (w : World) → bared (bared w) ≡ bared w
 bared_twice w = ap (λ es. record { store = w.store; patches = es; blocks = None }) (bares_twice w.patches)
 
-pub did_head : (w : World) (own : Option ℕ) (r : Rep) (c : ℕ) (o : Option Asked) → r.world ≡ bared w → r.drafts c ≡ own → Did r (replay r (head_moment c o)) c (at_head w own o)
+pub did_head : (w : World) (own : Option ℕ) (r : Rep) (c : ℕ) (o : Option Asked) → r.world ≡ bared w → r.drafts c ≡ own
+    → Did r (replay r (head_moment c o)) c (at_head w own o)
 did_head w own r c None world draft = record {
   world = world;
   draft = draft;
@@ -184,14 +199,19 @@ did_head w own r c None world draft = record {
   given = λ e ne. refl;
 }
 did_head w own r c (Some x) world draft =
-    let same : acted r.world x.verdict ≡ with_world (bared (acted w x.verdict).world) (acted w x.verdict) = ap (λ v. acted v x.verdict) world ∙ acted_bare w x.verdict in
+    let same : acted r.world x.verdict ≡ with_world (bared (acted w x.verdict).world) (acted w x.verdict) =
+    ap (λ v. acted v x.verdict) world ∙ acted_bare w x.verdict in
     record {
       world = ap (λ a. bared a.world) same ∙ bared_twice (acted w x.verdict).world;
       draft = here_set c (acted r.world x.verdict).draft r.drafts ∙ ap (λ a. a.draft) same;
-      bytes = here_set c (r.given c ++ ((acted r.world x.verdict).bytes ++ text_left (acted r.world x.verdict).pending)) r.given
+      bytes =
+          here_set c
+          (r.given c ++ ((acted r.world x.verdict).bytes ++ text_left (acted r.world x.verdict).pending)) r.given
           ∙ ap (λ a. r.given c ++ (a.bytes ++ text_left a.pending)) same;
       drafts = λ e ne. else_set c e (acted r.world x.verdict).draft r.drafts ne;
-      given = λ e ne. else_set c e (r.given c ++ ((acted r.world x.verdict).bytes ++ text_left (acted r.world x.verdict).pending)) r.given ne;
+      given =
+          λ e ne. else_set c e
+          (r.given c ++ ((acted r.world x.verdict).bytes ++ text_left (acted r.world x.verdict).pending)) r.given ne;
     }
 
 fed_blocks_at : (w : World) (d : ℕ) (piece : List ℕ) (o : Option Patch) → (appended_at w d piece o).blocks ≡ w.blocks
@@ -202,12 +222,14 @@ fed_blocks : (w : World) (d : ℕ) (piece : List ℕ) → (fed w d piece).blocks
 fed_blocks w d [] = refl
 fed_blocks w d (b ∷ piece) = fed_blocks_at w d (b ∷ piece) (find d w.patches)
 
-calm_fed : (w : World) (d : ℕ) (p : Patch) (piece : List ℕ) → record (fed_patch w d p piece) { short = false } ≡ record p { body = p.body ++ piece; short = false }
+calm_fed : (w : World) (d : ℕ) (p : Patch) (piece : List ℕ)
+    → record (fed_patch w d p piece) { short = false } ≡ record p { body = p.body ++ piece; short = false }
 calm_fed w d p [] = ap (λ b. record p { body = b; short = false }) (sym (append-nil p.body))
 calm_fed w d p (b ∷ piece) = refl
 
 -- A WHOLE BODY, on the world and on the bare one
-module _ (w : World) (d : ℕ) (p : Patch) (piece body : List ℕ) (found : find d w.patches ≡ Some p) (whole : body ≡ p.body ++ piece) where
+module _ (w : World) (d : ℕ) (p : Patch) (piece body : List ℕ) (found : find d w.patches ≡ Some p)
+    (whole : body ≡ p.body ++ piece) where
   abbrev v : World
   v = fed w d piece
 
@@ -226,7 +248,8 @@ module _ (w : World) (d : ℕ) (p : Patch) (piece body : List ℕ) (found : find
   pub found_u : find d u.patches ≡ Some (record q { short = false })
   found_u =
       fed_there (bared w) d (bare p) body found_b
-      ∙ ap Some (fed_calm w d p body ∙ (ap (λ b. record p { body = b; short = false }) whole ∙ sym (calm_fed w d p piece)))
+      ∙ ap Some
+      (fed_calm w d p body ∙ (ap (λ b. record p { body = b; short = false }) whole ∙ sym (calm_fed w d p piece)))
 
   pub store_u : u.store ≡ v.store
   store_u = fed_store (bared w) d body ∙ sym (fed_store w d piece)
@@ -235,13 +258,18 @@ module _ (w : World) (d : ℕ) (p : Patch) (piece body : List ℕ) (found : find
   blocks_u = fed_blocks (bared w) d body
 
   pub patches_u : bares u.patches ≡ bares v.patches
-  patches_u = ap (λ x. x.patches) (fed_bare (bared w) d (bare p) body found_b ∙ (bared_twice w ∙ sym (fed_bare w d p piece found)))
+  patches_u =
+      ap (λ x. x.patches)
+      (fed_bare (bared w) d (bare p) body found_b ∙ (bared_twice w ∙ sym (fed_bare w d p piece found)))
 
 module _ (w : World) (r r1 : Rep) (c : ℕ) (a : Acted) (first : Did r r1 c a) where
   no_text : a.pending ≡ None → r1.given c ≡ r.given c ++ a.bytes
-  no_text idle = first.bytes ∙ (ap (λ g. r.given c ++ (a.bytes ++ text_left g)) idle ∙ ap (λ b. r.given c ++ b) (append-nil a.bytes))
+  no_text idle =
+      first.bytes
+      ∙ (ap (λ g. r.given c ++ (a.bytes ++ text_left g)) idle ∙ ap (λ b. r.given c ++ b) (append-nil a.bytes))
 
-  pub part_did : (d : ℕ) (p : Patch) (piece : List ℕ) → a.draft ≡ Some d → a.pending ≡ None → find d a.world.patches ≡ Some p → Did r r1 c (body_step a piece None (Some d))
+  pub part_did : (d : ℕ) (p : Patch) (piece : List ℕ) → a.draft ≡ Some d → a.pending ≡ None
+      → find d a.world.patches ≡ Some p → Did r r1 c (body_step a piece None (Some d))
   part_did d p piece is idle found = record {
     world = first.world ∙ sym (fed_bare a.world d p piece found);
     draft = first.draft ∙ is;
@@ -250,8 +278,10 @@ module _ (w : World) (r r1 : Rep) (c : ℕ) (a : Acted) (first : Did r r1 c a) w
     given = first.given;
   }
 
-  pub whole_did : (d : ℕ) (p : Patch) (piece : List ℕ) (x : Asked) → a.draft ≡ Some d → a.pending ≡ None → find d a.world.patches ≡ Some p → x.body ≡ p.body ++ piece
-      → ((q : Request) → x.verdict ≡ Asks q → commit_refusal (fed a.world d piece) d (fed_patch a.world d p piece) ≡ Some Full → ⊥)
+  pub whole_did : (d : ℕ) (p : Patch) (piece : List ℕ) (x : Asked) → a.draft ≡ Some d → a.pending ≡ None
+      → find d a.world.patches ≡ Some p → x.body ≡ p.body ++ piece
+      → ((q : Request) → x.verdict ≡ Asks q
+      → commit_refusal (fed a.world d piece) d (fed_patch a.world d p piece) ≡ Some Full → ⊥)
       → Did r (act_body r1 c x (r1.drafts c)) c (body_step a piece (Some x) (Some d))
   whole_did d p piece x is idle found whole roomy =
       let v1 = fed a.world d piece in
@@ -260,10 +290,13 @@ module _ (w : World) (r r1 : Rep) (c : ℕ) (a : Acted) (first : Did r r1 c a) w
       let b = commit_with v1 d x.verdict (find d v1.patches) in
       let b1 = commit_with v1 d x.verdict (Some q1) in
       let bu = commit_with u1 d x.verdict (Some (record q1 { short = false })) in
-      let same = done_calm v1 u1 d q1 x.verdict (store_u a.world d p piece x.body found whole) (blocks_u a.world d p piece x.body found whole) (patches_u a.world d p piece x.body found whole) roomy in
+      let same =
+      done_calm v1 u1 d q1 x.verdict (store_u a.world d p piece x.body found whole)
+      (blocks_u a.world d p piece x.body found whole) (patches_u a.world d p piece x.body found whole) roomy in
       let real : b1 ≡ b = ap (commit_with v1 d x.verdict) (sym (found_v a.world d p piece x.body found whole)) in
       let bare_is : committing r1.world d x ≡ bu =
-      ap (λ y. committing y d x) first.world ∙ ap (commit_with u1 d x.verdict) (found_u a.world d p piece x.body found whole) in
+      ap (λ y. committing y d x) first.world
+      ∙ ap (commit_with u1 d x.verdict) (found_u a.world d p piece x.body found whole) in
       let done = commit_idle v1 d x.verdict (find d v1.patches) in
       let doneu = commit_idle u1 d x.verdict (Some (record q1 { short = false })) in
       let z = committing r1.world d x in
