@@ -5,6 +5,10 @@ use Rattle.std.proofs.Math.ListN.{get_or-eq_default}
 use Rattle.std.proofs.lemmas.Bool.{cases_lt}
 use Rattle.std.proofs.lemmas.Nat.{from_be_bytes-to_be_bytes_4}
 use Rattle.spool_disk.specs.Disk.{IsImage}
+use Rattle.spool_disk.specs.Views.{Lasts}
+use Rattle.spool_disk.specs.declared.disk.Disk.{Ghosts}
+use Rattle.spool_disk.proofs.Firm.{lasts_more}
+use Rattle.spool_drafts.specs.Effect.{OnlyWrites}
 use Rattle.spool_journal.specs.Image.{journal_pages, overlaid}
 use Rattle.spool_texts.specs.Written.{aside_blocks}
 use Rattle.spool_pages.specs.Fits.{FitsRow}
@@ -86,3 +90,11 @@ shows_aside {seen = seen} v own n image m sound size rests unowned is k shown =
           (λ i lt. sym (same_row (overlaid seen) v v' sound shown.shows.sound rests.is.says shown.is.says (get_or own i 0)) ∙ unowned i lt) is;
       shows = shown.shows;
     }
+
+-- and so a call that writes only such blocks leaves what shows
+pub shows_still : {D : Type 0} (disk : Ghosts D) (d d' : D) (v : View) (own : List ℕ) (n : ℕ)
+    → OnlyWrites disk (journal_pages n) own d d' → IsSound v → v.blocks ≡ n → Rests v (disk.seen d) (disk.loose d)
+    → Unowned v.rows own
+    → Lasts disk d d' (λ image. (k : ℕ) (m : Store) → ImageShows k (disk.seen d) m → ImageShows k image m)
+shows_still disk d d' v own n only sound size rests unowned =
+    lasts_more only.lasts (λ image is k m shown. shows_aside v own n image m sound size rests unowned is k shown)
