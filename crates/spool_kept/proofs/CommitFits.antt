@@ -28,7 +28,8 @@ module _ (h mid : Holding) (only : OnlyReserves h mid) (drafts : List (Option Sp
       fits_spent h (record h' { blocks = blocks }) drafts (set drafts number None) number refl
       (ap (λ (k : Holding). k.next) is) (ap (λ (k : Holding). k.slots) is)
       (subst (λ (n : ℕ). DraftsHold n blocks (set drafts number None)) (sym (ap (λ (k : Holding). k.layout) is))
-      (fit_given h.layout h.blocks mid.blocks drafts fit.blocks number o o' here own grasp reserved placed blocks given))
+      (fit_given h.layout h.blocks mid.blocks drafts fit.blocks number o o' here own grasp reserved placed blocks
+      given))
       fit
 
   -- they are the longer upload's
@@ -40,7 +41,8 @@ module _ (h mid : Holding) (only : OnlyReserves h mid) (drafts : List (Option Sp
       let slots = ap (λ (k : Holding). k.slots) only.same in
       let hands = subst (HandsOn mid.blocks.reserved h'.blocks.reserved) list hands_more in
       let is = subst (λ (xs : List ℕ). IsLonger mid used longer xs h') list longer_more in
-      fits_put h h' drafts number longer used (ap (λ (xs : List (Option SlotRecord)). get_or xs longer.slot None) (sym slots) ∙ there) grows
+      fits_put h h' drafts number longer used (ap (λ (xs : List (Option SlotRecord)). get_or xs longer.slot None)
+      (sym slots) ∙ there) grows
       (is.next ∙ ap (λ (k : Holding). k.next) only.same)
       (is.slots ∙ ap (λ (xs : List (Option SlotRecord)). set xs longer.slot (Some (longer_record used longer))) slots)
       (subst (λ (n : ℕ). DraftsHold n h'.blocks (set drafts number None))

@@ -1,5 +1,6 @@
 -- What a commit finds of its draft's upload.
-use Rattle.std.proofs.Common.{Result, Err, IsErrOf, refl, inl, inr, ◌↔◌, ◌⊎◌, ◌≡◌, ℕ, ◌+◌, ◌*◌, List, Option, None, Some, length, get_or, sym, ◌∙◌, ap, subst, arith}
+use Rattle.std.proofs.Common.{Result, Err, IsErrOf, refl, inl, inr, ◌↔◌, ◌⊎◌, ◌≡◌, ℕ, ◌+◌, ◌*◌, List, Option, None}
+use Rattle.std.proofs.Common.{Some, length, get_or, sym, ◌∙◌, ap, subst, arith}
 use Rattle.spool_disk.specs.declared.disk.Disk.{Ghosts}
 use Rattle.spool_journal.specs.Image.{journal_pages}
 use Rattle.spool_drafts.specs.Drafts.{Holds, came_of, number_of, offset_of}
@@ -12,7 +13,8 @@ use Rattle.upload_rules.specs.World.{Patch, World}
 use Rattle.upload_rules.specs.declared.errors.UploadError.{UploadError}
 use Rattle.upload_rules.specs.declared.errors.UploadError.TheVariants.{Refused}
 use Rattle.upload_rules.specs.declared.errors.UploadRefusal.{UploadRefusal}
-use Rattle.upload_rules.specs.declared.errors.UploadRefusal.TheVariants.{NoSuch, Offset, TooLong, Unencodable, Slots, TooLarge, Full}
+use Rattle.upload_rules.specs.declared.errors.UploadRefusal.TheVariants.{NoSuch, Offset, TooLong, Unencodable, Slots}
+use Rattle.upload_rules.specs.declared.errors.UploadRefusal.TheVariants.{TooLarge, Full}
 use Rattle.upload_rules.proofs.Patches.{draft_of}
 use Rattle.upload_rules.proofs.Refusals.{no_such_upload, other_offset}
 use Rattle.upload_rules.proofs.Same.{same_upload}
@@ -24,24 +26,31 @@ use Rattle.spool_kept.proofs.Answered.{no_upload}
 use Rattle.spool_kept.proofs.CommitRefusals.{nothing_committed, nothing_refused}
 use Rattle.spool_kept.proofs.DraftLonger.{some_draft}
 
-module _ {D : Type 0} (disk : Ghosts D) (d : D) (h : Holding) (drafts : List (Option SpoolDraft)) (number : ℕ) (o : SpoolDraft) (w : World) (p : Patch)
-    (s : StandsFor disk d h drafts w) (patch : find number w.patches ≡ Some p) (here : draft_at drafts number ≡ Some o) where
+module _ {D : Type 0} (disk : Ghosts D) (d : D) (h : Holding) (drafts : List (Option SpoolDraft)) (number : ℕ)
+    (o : SpoolDraft) (w : World) (p : Patch)
+    (s : StandsFor disk d h drafts w) (patch : find number w.patches ≡ Some p)
+    (here : draft_at drafts number ≡ Some o) where
   held : Holds w.store.indexes p o
   held =
-      let R = DraftStands w.store.indexes (disk.seen d) (25 + 2 * journal_pages h.layout) h.slots h.blocks.rows w.store in
+      let R = DraftStands w.store.indexes (disk.seen d)
+      (25 + 2 * journal_pages h.layout) h.slots h.blocks.rows w.store in
       let at = draft_of R p (find number w.patches) (draft_at drafts number) patch (s.stands.each number) in
       (subst (R p) (some_draft at.0 o (sym at.1 ∙ here)) at.2).holds
 
   -- what a slot's record tells
-  told : (slot : ℕ) (used : SlotRecord) → get_or h.slots slot None ≡ Some used → IsTold w.store used (s.stored.view.texts slot)
-  told slot used there = s.stored.shows.told slot used (ap (λ (xs : List (Option SlotRecord)). get_or xs slot None) (sym s.stored.keeps.slots) ∙ there)
+  told : (slot : ℕ) (used : SlotRecord) → get_or h.slots slot None ≡ Some used
+      → IsTold w.store used (s.stored.view.texts slot)
+  told slot used there = s.stored.shows.told slot used (ap (λ (xs : List (Option SlotRecord)). get_or xs slot None)
+      (sym s.stored.keeps.slots) ∙ there)
 
-  upload_there : (used : SlotRecord) (u : Upload) → used.number ≡ number_of o → find used.number w.store.uploads ≡ Some u → upload_of w.store p.number ≡ Some u
+  upload_there : (used : SlotRecord) (u : Upload) → used.number ≡ number_of o
+      → find used.number w.store.uploads ≡ Some u → upload_of w.store p.number ≡ Some u
   upload_there used u is found = ap (λ (n : ℕ). find n w.store.uploads) (sym (is ∙ held.number)) ∙ found
 
   pub head_refused : (e : UploadRefusal) → FindsSlot h.slots o (Err e) → commit_refusal w number p ≡ Some e
   head_refused NoSuch free =
-      no_such_upload w number p (no_upload h s.stored.view w.store s.stored.keeps s.stored.shows p.number (λ slot used. free slot (subst (IsUsedBy h.slots slot) (sym held.number) used)))
+      no_such_upload w number p (no_upload h s.stored.view w.store s.stored.keeps s.stored.shows p.number
+      (λ slot used. free slot (subst (IsUsedBy h.slots slot) (sym held.number) used)))
   head_refused Offset other =
       let is = told other.slot other.used.used other.used.there in
       other_offset w number p is.upload (upload_there other.used.used is.upload other.used.is is.there)
@@ -62,7 +71,8 @@ module _ {D : Type 0} (disk : Ghosts D) (d : D) (h : Holding) (drafts : List (Op
     began =
         let is = told slot same.used same.there in
         let there = upload_there same.used is.upload same.number is.there in
-        there ∙ ap (λ (u : Upload). Some u) (same_upload w number p is.upload s.stands.grown patch there (sym is.tells.accepted ∙ same.count ∙ held.offset))
+        there ∙ ap (λ (u : Upload). Some u) (same_upload w number p is.upload s.stands.grown patch there
+        (sym is.tells.accepted ∙ same.count ∙ held.offset))
 
     pub commits : DraftsHold h.layout h.blocks drafts → (came_of o ≡ 0 → ⊥) → IsCommit disk d h drafts number o w p
     commits fits some = record {
@@ -84,8 +94,10 @@ module _ {D : Type 0} (disk : Ghosts D) (d : D) (h : Holding) (drafts : List (Op
       pub empty_reached : (offset : ℕ) → offset ≡ offset_of o → offset ≡ reached p
       empty_reached offset e = omega (arith, e, held.offset, no_body)
 
-      pub empty_stands : (h' : Holding) (drafts' : List (Option SpoolDraft)) → StandsFor disk d h' drafts' (dropped w number) → StandsFor disk d h' drafts' (committed w number p)
-      empty_stands h' drafts' stands = subst (StandsFor disk d h' drafts') (sym (nothing_committed w number p no_body)) stands
+      pub empty_stands : (h' : Holding) (drafts' : List (Option SpoolDraft))
+          → StandsFor disk d h' drafts' (dropped w number) → StandsFor disk d h' drafts' (committed w number p)
+      empty_stands h' drafts' stands = subst (StandsFor disk d h' drafts')
+          (sym (nothing_committed w number p no_body)) stands
 
 -- WHATEVER THE DISK SAID
 
@@ -113,7 +125,8 @@ refused_exactly slots o TooLarge found = absurd found
 refused_exactly slots o Full found = absurd found
 
 -- with the same count it is refused with neither
-pub done_exactly : {T : Type 0} (slots : List (Option SlotRecord)) (o : SpoolDraft) (slot : ℕ) (result : Result T UploadError)
+pub done_exactly : {T : Type 0} (slots : List (Option SlotRecord)) (o : SpoolDraft) (slot : ℕ)
+    (result : Result T UploadError)
     → HasSameCount slots o slot
     → ((e : UploadRefusal) → IsErrOf result (Refused e) → (e ≡ Unencodable) ⊎ (e ≡ Full)) → IsExactFor slots o result
 done_exactly slots o slot result has late = (

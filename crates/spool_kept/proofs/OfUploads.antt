@@ -1,5 +1,6 @@
 -- The drafts' uploads, whatever the disk said: what is in their slots, and what becomes of it.
-use Rattle.std.proofs.Common.{◌≡◌, inl, inr, ℕ, ◌<◌, List, Option, length-set, None, Some, IfOk, IfSome, MatchOption, Result, Ok, Err, get_or, length, set, refl, sym, ◌∙◌, ap, subst, arith}
+use Rattle.std.proofs.Common.{◌≡◌, inl, inr, ℕ, ◌<◌, List, Option, length-set, None, Some, IfOk, IfSome, MatchOption}
+use Rattle.std.proofs.Common.{Result, Ok, Err, get_or, length, set, refl, sym, ◌∙◌, ap, subst, arith}
 use Rattle.std.proofs.lemmas.Bool.{cases_eq, cases_lt}
 use Rattle.std.proofs.lemmas.Option.{same_Some}
 use Rattle.spool_drafts.specs.Drafts.{IsBehind, number_of, offset_of}
@@ -32,14 +33,18 @@ one_slot h fits n s l t used =
     let here = number_there h.order n s l in
     let there = number_there h.order n t k in
     elim (cases_eq l.place k.place) [
-      | inl same ↦ ap (λ (e : NumberedSlot). e.slot) (sym k.here ∙ ap (λ (i : ℕ). get_or h.order i (numbered 0 0)) (sym same) ∙ l.here)
+      | inl same ↦ ap (λ (e : NumberedSlot). e.slot) (sym k.here
+          ∙ ap (λ (i : ℕ). get_or h.order i (numbered 0 0)) (sym same) ∙ l.here)
       | inr other ↦ elim (cases_lt l.place k.place) [
-        | inl before ↦ absurd (let rises = fits.ordered.rises l.place k.place before k.below in omega (arith, rises, here, there))
-        | inr from ↦ absurd (let rises = fits.ordered.rises k.place l.place (omega (arith, from, other)) l.below in omega (arith, rises, here, there))
+        | inl before ↦ absurd (let rises = fits.ordered.rises l.place k.place before k.below in
+            omega (arith, rises, here, there))
+        | inr from ↦ absurd (let rises = fits.ordered.rises k.place l.place (omega (arith, from, other)) l.below in
+            omega (arith, rises, here, there))
       ]
     ]
 
-pub only_of : (h : Holding) → FitsTogether h → (n : ℕ) (found : Option ℕ) → MatchOption found ((s : ℕ) → Lists h.order n s → ⊥) (Lists h.order n)
+pub only_of : (h : Holding) → FitsTogether h → (n : ℕ) (found : Option ℕ)
+    → MatchOption found ((s : ℕ) → Lists h.order n s → ⊥) (Lists h.order n)
     → IfSome found (λ s. (t : ℕ) → IsUsedBy h.slots t n → t ≡ s)
 only_of h fits n None l = tt
 only_of h fits n (Some s) l = one_slot h fits n s l

@@ -39,7 +39,8 @@ FindsSlot slots o (Err Offset) = HasOtherCount slots o
 FindsSlot slots o (Err e) = ⊥
 
 -- The draft of a number stands for a patch with a body, whose upload is as it was when the draft began.
-pub record IsCommit {D : Type 0} (disk : Ghosts D) (d : D) (h : Holding) (drafts : List (Option SpoolDraft)) (number : ℕ) (o : SpoolDraft) (w : World) (p : Patch) : Type 0 where
+pub record IsCommit {D : Type 0} (disk : Ghosts D) (d : D) (h : Holding) (drafts : List (Option SpoolDraft))
+    (number : ℕ) (o : SpoolDraft) (w : World) (p : Patch) : Type 0 where
   pub stands : StandsFor disk d h drafts w
   pub fits : DraftsHold h.layout h.blocks drafts
   pub here : draft_at drafts number ≡ Some o

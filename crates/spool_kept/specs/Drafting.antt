@@ -1,5 +1,6 @@
 -- The open drafts on a disk by their numbers, and the patches that they stand for.
-use Rattle.std.specs.Prelude.{◌≡◌, ◌≢◌, ◌<◌, ◌≤◌, ◌+◌, ◌*◌, ℕ, List, [], Option, None, Some, true, false, Result, Ok, Err, length, get_or}
+use Rattle.std.specs.Prelude.{◌≡◌, ◌≢◌, ◌<◌, ◌≤◌, ◌+◌, ◌*◌, ℕ, List, [], Option, None, Some, true, false, Result, Ok}
+use Rattle.std.specs.Prelude.{Err, length, get_or}
 use Rattle.enc_model.specs.Indexes.{IndexSet}
 use Rattle.spool_blocks.specs.Blocks.{Row, Held}
 use Rattle.spool_blocks.specs.Chains.{Owns}
@@ -8,7 +9,8 @@ use Rattle.spool_journal.specs.Image.{journal_pages}
 use Rattle.spool_texts.specs.Drafts.{IsReserved}
 use Rattle.spool_texts.specs.Written.{NoneOf}
 use Rattle.spool_room.specs.Holdings.{IsInSome}
-use Rattle.spool_drafts.specs.Drafts.{Holds, Carries, IsBegun, IsBehind, IsPlaced, list_of, number_of, offset_of, tail_of}
+use Rattle.spool_drafts.specs.Drafts.{Holds, Carries, IsBegun, IsBehind, IsPlaced, list_of, number_of, offset_of}
+use Rattle.spool_drafts.specs.Drafts.{tail_of}
 use Rattle.spool_drafts.specs.declared.draft.SpoolDraft.{SpoolDraft}
 use Rattle.upload_rules.specs.Apart.{IsApart}
 use Rattle.upload_rules.specs.Calls.{first_patch}
@@ -79,14 +81,16 @@ pub record IsOwnedBy (slots : List (Option SlotRecord)) (rows : List Row) (numbe
   pub owned : (i : ℕ) → i < length list → (k : ℕ) × Owns rows (get_or list i 0) slot k
 
 -- The draft is the patch's. Once another draft made the upload longer, only its need matters: it can't be committed.
-pub record DraftStands (x : IndexSet) (seen : ℕ → ℕ) (first : ℕ) (slots : List (Option SlotRecord)) (rows : List Row) (m : Store) (p : Patch) (o : SpoolDraft) : Type 0 where
+pub record DraftStands (x : IndexSet) (seen : ℕ → ℕ) (first : ℕ) (slots : List (Option SlotRecord)) (rows : List Row)
+    (m : Store) (p : Patch) (o : SpoolDraft) : Type 0 where
   pub holds : Holds x p o
   pub below : p.number < m.next
   pub carries : upload_of m p.number ≡ Some p.began → Carries x seen first p o
   pub tail : upload_of m p.number ≡ Some p.began → IsOwnedBy slots rows p.number (tail_of o)
 
 -- each patch has its draft, and the drafts reserve all blocks that are reserved
-pub record DraftsStand (x : IndexSet) (seen : ℕ → ℕ) (first : ℕ) (slots : List (Option SlotRecord)) (h : Held) (w : World) (drafts : List (Option SpoolDraft)) : Type 0 where
+pub record DraftsStand (x : IndexSet) (seen : ℕ → ℕ) (first : ℕ) (slots : List (Option SlotRecord)) (h : Held)
+    (w : World) (drafts : List (Option SpoolDraft)) : Type 0 where
   pub each : (d : ℕ) → DraftOf (DraftStands x seen first slots h.rows w.store) (find d w.patches) (draft_at drafts d)
   pub apart : IsApart w.patches
   pub grown : IsGrown w
@@ -94,7 +98,8 @@ pub record DraftsStand (x : IndexSet) (seen : ℕ → ℕ) (first : ℕ) (slots 
   pub all : (b : ℕ) → get_or h.reserved b false ≡ true → IsInSome (lists_at drafts) b
 
 -- the disk, what is kept of it and the drafts stand for the world
-pub record StandsFor {D : Type 0} (disk : Ghosts D) (d : D) (h : Holding) (drafts : List (Option SpoolDraft)) (w : World) : Type 0 where
+pub record StandsFor {D : Type 0} (disk : Ghosts D) (d : D) (h : Holding) (drafts : List (Option SpoolDraft))
+    (w : World) : Type 0 where
   pub stored : Stored disk d h w.store
   pub stands : DraftsStand w.store.indexes (disk.seen d) (25 + 2 * journal_pages h.layout) h.slots h.blocks w drafts
 

@@ -1,5 +1,6 @@
 // A new upload is made.
-ghost use Rattle.std.specs.Prelude.{◌≡◌, ◌↔◌, ◌⊎◌, ◌≤◌, ◌<◌, ◌+◌, ◌*◌, ◌^◌, ℕ, List, Option, IsErr, IsErrOf, IsSome, IfOk, OnOk, IfSome, MatchOption, Some, None, length, get_or};
+ghost use Rattle.std.specs.Prelude.{◌≡◌, ◌↔◌, ◌⊎◌, ◌≤◌, ◌<◌, ◌+◌, ◌*◌, ◌^◌, ℕ, List, Option, Some, None, length};
+ghost use Rattle.std.specs.Prelude.{get_or, IsErr, IsErrOf, IsSome, IfOk, OnOk, IfSome, MatchOption};
 ghost use Rattle.spool_disk.specs.Disk.{Counts};
 ghost use Rattle.spool_disk.specs.Views.{Lasts};
 ghost use Rattle.spool_journal.specs.Image.{journal_pages, all_pages, InArea};
@@ -104,7 +105,8 @@ impl Kept {
         ensures area { IfOk result (λ pages. InArea (journal_pages self.old.layout) pages) }
         ensures some { IfOk result (λ pages. 1 ≤ length pages) }
         ensures changes { (v : View) → v.blocks ≡ self.old.layout → v.slots ≡ self.old.slots
-            → IfOk result (λ pages. Changes pages v (record (with_record v slot «record») { next = self.old.next + 1 })) }
+            → IfOk result (λ pages. Changes pages v (record (with_record v slot «record»)
+            { next = self.old.next + 1 })) }
         ensures unmade { IsErr result → self.new ≡ self.old }
     {
         let pages = self.pages_with(alloc, slot, &record)?;
@@ -134,7 +136,8 @@ pub fn create<D: Disk>(
     ensures fits { (drafts : List (Option Draft)) → DraftsFit kept.old drafts → DraftsFit kept.new drafts }
     ensures answer { (m : Store) → Stored D.Disk disk.old kept.old m
         → Answers (create_refusal (at_rest m None) new) result
-        (λ n. (n ≡ m.next) × Stored D.Disk disk.new kept.new (created_store m new)) (Stored D.Disk disk.new kept.new m) }
+        (λ n. (n ≡ m.next) × Stored D.Disk disk.new kept.new (created_store m new))
+        (Stored D.Disk disk.new kept.new m) }
     ensures crash { (m : Store) → Stored D.Disk disk.old kept.old m
         → Lasts D.Disk disk.old disk.new (ShowsEither kept.old.layout m
         (outcome (create_refusal (at_rest m None) new) m (created_store m new))) }

@@ -6,11 +6,13 @@ use Rattle.spool_texts.specs.Drafts.{GivesBack}
 use Rattle.upload_rules.specs.Answers.{Answers}
 use Rattle.upload_rules.specs.Calls.{commit_refusal, committed, dropped, reached}
 use Rattle.upload_rules.specs.Drafts.{draft_at}
+use Rattle.upload_rules.specs.Store.{find}
+use Rattle.upload_rules.specs.World.{Patch, World}
 use Rattle.upload_rules.specs.declared.errors.UploadError.{UploadError}
 use Rattle.upload_rules.specs.declared.errors.UploadError.TheVariants.{Refused}
 use Rattle.upload_rules.specs.declared.errors.UploadRefusal.{UploadRefusal}
 use Rattle.upload_rules.specs.declared.errors.UploadRefusal.TheVariants.{Full, Unencodable}
-use Rattle.spool_kept.specs.Committing.{HasSameCount}
+use Rattle.spool_kept.specs.Committing.{HasSameCount, IsCommit}
 use Rattle.spool_kept.specs.Drafting.{DraftsFit, StandsFor, list_in, lists_at}
 use Rattle.spool_kept.specs.Holding.{Holding}
 use Rattle.spool_kept.proofs.CommitHead as head
@@ -20,11 +22,13 @@ use Rattle.spool_kept.proofs.committing.commit.Given.{Over}
 use Rattle.spool_kept.proofs.committing.commit.Goals as goal
 
 pub put_behind-requires-clause-placed : goal.put_behind-requires-clause-placed
-put_behind-requires-clause-placed g c = c.requires.fits.blocks.placed c.args.number c.in-Some.draft (sym c.in-Some.ensures.taken)
+put_behind-requires-clause-placed g c = c.requires.fits.blocks.placed c.args.number c.in-Some.draft
+    (sym c.in-Some.ensures.taken)
 
 pub put_behind-requires-clause-behind : goal.put_behind-requires-clause-behind
 put_behind-requires-clause-behind g c =
-    behind_slot c.args.kept.now.slots c.in-Some.draft c.in-Ok.slot c.in-Ok.ensures (c.requires.fits.uploads c.args.number c.in-Some.draft (sym c.in-Some.ensures.taken))
+    behind_slot c.args.kept.now.slots c.in-Some.draft c.in-Ok.slot c.in-Ok.ensures
+    (c.requires.fits.uploads c.args.number c.in-Some.draft (sym c.in-Some.ensures.taken))
 
 -- EXACTLY SO REFUSED
 
@@ -54,22 +58,26 @@ returns-in-Err-clause-offset g c o here = (refused_exactly g c o here).1
 pub returns-then-came-eq0-clause-no_such : goal.returns-then-came-eq0-clause-no_such
 returns-then-came-eq0-clause-no_such g c o here =
     let is = same_Some c.in-Some.draft o (c.in-Some.ensures.taken ∙ here) in
-    (done_exactly c.args.kept.now.slots c.in-Some.draft o c.in-Ok.slot (Ok c.offset-offset.result) is c.in-Ok.ensures (λ e refused. absurd cc)).0
+    (done_exactly c.args.kept.now.slots c.in-Some.draft o c.in-Ok.slot (Ok c.offset-offset.result) is c.in-Ok.ensures
+    (λ e refused. absurd cc)).0
 
 pub returns-then-came-eq0-clause-offset : goal.returns-then-came-eq0-clause-offset
 returns-then-came-eq0-clause-offset g c o here =
     let is = same_Some c.in-Some.draft o (c.in-Some.ensures.taken ∙ here) in
-    (done_exactly c.args.kept.now.slots c.in-Some.draft o c.in-Ok.slot (Ok c.offset-offset.result) is c.in-Ok.ensures (λ e refused. absurd cc)).1
+    (done_exactly c.args.kept.now.slots c.in-Some.draft o c.in-Ok.slot (Ok c.offset-offset.result) is c.in-Ok.ensures
+    (λ e refused. absurd cc)).1
 
 pub returns-clause-no_such : goal.returns-clause-no_such
 returns-clause-no_such g c o here =
     let is = same_Some c.in-Some.draft o (c.in-Some.ensures.taken ∙ here) in
-    (done_exactly c.args.kept.now.slots c.in-Some.draft o c.in-Ok.slot c.put_behind.result is c.in-Ok.ensures c.put_behind.ensures.refusal).0
+    (done_exactly c.args.kept.now.slots c.in-Some.draft o c.in-Ok.slot c.put_behind.result is c.in-Ok.ensures
+    c.put_behind.ensures.refusal).0
 
 pub returns-clause-offset : goal.returns-clause-offset
 returns-clause-offset g c o here =
     let is = same_Some c.in-Some.draft o (c.in-Some.ensures.taken ∙ here) in
-    (done_exactly c.args.kept.now.slots c.in-Some.draft o c.in-Ok.slot c.put_behind.result is c.in-Ok.ensures c.put_behind.ensures.refusal).1
+    (done_exactly c.args.kept.now.slots c.in-Some.draft o c.in-Ok.slot c.put_behind.result is c.in-Ok.ensures
+    c.put_behind.ensures.refusal).1
 
 -- WITHOUT A CALL OF THE DEVICE
 
@@ -78,22 +86,30 @@ returns-in-Err-clause-fits g c =
     let before = c.args.drafts.now.items in
     let fit = subst (λ (h : Holding). DraftsFit h before) (sym c.kept.view_is) c.requires.fits in
     fits_dropped _ c.give_back.new.blocks before c.taken.new.drafts.items c.args.number c.taken.ensures.after fit
-    (subst (GivesBack c.kept.inside.blocks c.give_back.new.blocks) (ap list_in c.in-Some.ensures.taken) c.give_back.ensures)
+    (subst (GivesBack c.kept.inside.blocks c.give_back.new.blocks)
+    (ap list_in c.in-Some.ensures.taken) c.give_back.ensures)
 
 pub returns-then-came-eq0-clause-fits : goal.returns-then-came-eq0-clause-fits
 returns-then-came-eq0-clause-fits g c =
     let before = c.args.drafts.now.items in
     let fit = subst (λ (h : Holding). DraftsFit h before) (sym c.kept.view_is) c.requires.fits in
-    fits_dropped _ c.give_back-then-came-eq0.new.blocks before c.taken.new.drafts.items c.args.number c.taken.ensures.after fit
-    (subst (GivesBack c.kept.inside.blocks c.give_back-then-came-eq0.new.blocks) (ap list_in c.in-Some.ensures.taken) c.give_back-then-came-eq0.ensures)
+    fits_dropped _ c.give_back-then-came-eq0.new.blocks before c.taken.new.drafts.items c.args.number
+    c.taken.ensures.after fit
+    (subst (GivesBack c.kept.inside.blocks c.give_back-then-came-eq0.new.blocks)
+    (ap list_in c.in-Some.ensures.taken) c.give_back-then-came-eq0.ensures)
 
 pub returns-in-Err-clause-answer : goal.returns-in-Err-clause-answer
 returns-in-Err-clause-answer g c w p s there =
     let before = c.args.drafts.now.items in
-    let gives = subst (λ (h : Holding). GivesBack h.blocks c.give_back.new.blocks (lists_at before c.args.number)) c.kept.view_is
-    (subst (GivesBack c.kept.inside.blocks c.give_back.new.blocks) (ap list_in c.in-Some.ensures.taken) c.give_back.ensures) in (
-      head.head_refused g.D.Disk c.args.disk.now c.args.kept.now before c.args.number c.in-Some.draft w p s there (sym c.in-Some.ensures.taken) c.in-Err.refusal c.in-Err.ensures,
-      drops g.D.Disk c.args.disk.now c.args.kept.now _ before c.taken.new.drafts.items c.args.number w (reserves_only c.args.kept.now _ _ c.kept.view_is refl c.give_back.ensures.rows) c.taken.ensures.after gives s,
+    let gives = subst (λ (h : Holding). GivesBack h.blocks c.give_back.new.blocks (lists_at before c.args.number))
+    c.kept.view_is
+    (subst (GivesBack c.kept.inside.blocks c.give_back.new.blocks)
+    (ap list_in c.in-Some.ensures.taken) c.give_back.ensures) in (
+      head.head_refused g.D.Disk c.args.disk.now c.args.kept.now before c.args.number c.in-Some.draft w p s there
+          (sym c.in-Some.ensures.taken) c.in-Err.refusal c.in-Err.ensures,
+      drops g.D.Disk c.args.disk.now c.args.kept.now _ before c.taken.new.drafts.items c.args.number w
+          (reserves_only c.args.kept.now _ _ c.kept.view_is refl c.give_back.ensures.rows) c.taken.ensures.after
+          gives s,
     )
 
 pub returns-then-came-eq0-clause-answer : goal.returns-then-came-eq0-clause-answer
@@ -101,39 +117,47 @@ returns-then-came-eq0-clause-answer g c w p s there =
     let before = c.args.drafts.now.items in
     let none = sym c.came.ensures ∙ c.if-came-eq0.true in
     let here = sym c.in-Some.ensures.taken in
-    let gives = subst (λ (h : Holding). GivesBack h.blocks c.give_back-then-came-eq0.new.blocks (lists_at before c.args.number)) c.kept.view_is
-    (subst (GivesBack c.kept.inside.blocks c.give_back-then-came-eq0.new.blocks) (ap list_in c.in-Some.ensures.taken) c.give_back-then-came-eq0.ensures) in (
-      head.empty_allowed g.D.Disk c.args.disk.now c.args.kept.now before c.args.number c.in-Some.draft w p s there here c.in-Ok.slot c.in-Ok.ensures none,
+    let gives = subst (λ (h : Holding). GivesBack h.blocks c.give_back-then-came-eq0.new.blocks
+    (lists_at before c.args.number)) c.kept.view_is
+    (subst (GivesBack c.kept.inside.blocks c.give_back-then-came-eq0.new.blocks)
+    (ap list_in c.in-Some.ensures.taken) c.give_back-then-came-eq0.ensures) in (
+      head.empty_allowed g.D.Disk c.args.disk.now c.args.kept.now before c.args.number c.in-Some.draft w p s there here
+          c.in-Ok.slot c.in-Ok.ensures none,
       (
-        head.empty_reached g.D.Disk c.args.disk.now c.args.kept.now before c.args.number c.in-Some.draft w p s there here c.in-Ok.slot c.in-Ok.ensures none c.offset-offset.result c.offset-offset.ensures,
-        head.empty_stands g.D.Disk c.args.disk.now c.args.kept.now before c.args.number c.in-Some.draft w p s there here c.in-Ok.slot c.in-Ok.ensures none _ _
+        head.empty_reached g.D.Disk c.args.disk.now c.args.kept.now before c.args.number c.in-Some.draft w p s there
+            here c.in-Ok.slot c.in-Ok.ensures none c.offset-offset.result c.offset-offset.ensures,
+        head.empty_stands g.D.Disk c.args.disk.now c.args.kept.now before c.args.number c.in-Some.draft w p s there here
+            c.in-Ok.slot c.in-Ok.ensures none _ _
             (drops g.D.Disk c.args.disk.now c.args.kept.now _ before c.taken.new.drafts.items c.args.number w
-            (reserves_only c.args.kept.now _ _ c.kept.view_is refl c.give_back-then-came-eq0.ensures.rows) c.taken.ensures.after gives s),
+            (reserves_only c.args.kept.now _ _ c.kept.view_is refl c.give_back-then-came-eq0.ensures.rows)
+            c.taken.ensures.after gives s),
       ),
     )
 
 -- BEHIND THE UPLOAD'S TEXT
 
+is_commit : (g : Over) (c : goal.After-put_behind g) (w : World) (p : Patch)
+    → StandsFor g.D.Disk c.args.disk.now c.args.kept.now c.args.drafts.now.items w
+    → find c.args.number w.patches ≡ Some p
+    → IsCommit g.D.Disk c.args.disk.now c.args.kept.now c.args.drafts.now.items c.args.number c.in-Some.draft w p
+is_commit g c w p s there =
+    head.commits g.D.Disk c.args.disk.now c.args.kept.now c.args.drafts.now.items c.args.number c.in-Some.draft w p s
+    there (sym c.in-Some.ensures.taken) c.in-Ok.slot c.in-Ok.ensures c.requires.fits.blocks
+    (λ none. c.if-came-eq0.false (c.came.ensures ∙ none))
+
 pub returns-clause-answer : goal.returns-clause-answer
 returns-clause-answer g c w p s there =
-    let before = c.args.drafts.now.items in
-    let is = head.commits g.D.Disk c.args.disk.now c.args.kept.now before c.args.number c.in-Some.draft w p s there (sym c.in-Some.ensures.taken) c.in-Ok.slot c.in-Ok.ensures c.requires.fits.blocks
-    (λ none. c.if-came-eq0.false (c.came.ensures ∙ none)) in
     subst (λ (left : List (Option SpoolDraft)). Answers (commit_refusal w c.args.number p) c.put_behind.result
-    (λ n. (n ≡ reached p) × StandsFor g.D.Disk c.put_behind.new.disk c.put_behind.new.kept left (committed w c.args.number p))
+    (λ n. (n ≡ reached p) × StandsFor g.D.Disk c.put_behind.new.disk c.put_behind.new.kept left
+    (committed w c.args.number p))
     (StandsFor g.D.Disk c.put_behind.new.disk c.put_behind.new.kept left (dropped w c.args.number)))
-    (sym c.taken.ensures.after) (c.put_behind.ensures.answer before c.args.number w p is)
+    (sym c.taken.ensures.after)
+    (c.put_behind.ensures.answer c.args.drafts.now.items c.args.number w p (is_commit g c w p s there))
 
 pub returns-clause-crash : goal.returns-clause-crash
 returns-clause-crash g c w p s there =
-    let before = c.args.drafts.now.items in
-    let is = head.commits g.D.Disk c.args.disk.now c.args.kept.now before c.args.number c.in-Some.draft w p s there (sym c.in-Some.ensures.taken) c.in-Ok.slot c.in-Ok.ensures c.requires.fits.blocks
-    (λ none. c.if-came-eq0.false (c.came.ensures ∙ none)) in
-    c.put_behind.ensures.crash before c.args.number w p is
+    c.put_behind.ensures.crash c.args.drafts.now.items c.args.number w p (is_commit g c w p s there)
 
 pub returns-clause-unmade : goal.returns-clause-unmade
 returns-clause-unmade g c w p s there short =
-    let before = c.args.drafts.now.items in
-    let is = head.commits g.D.Disk c.args.disk.now c.args.kept.now before c.args.number c.in-Some.draft w p s there (sym c.in-Some.ensures.taken) c.in-Ok.slot c.in-Ok.ensures c.requires.fits.blocks
-    (λ none. c.if-came-eq0.false (c.came.ensures ∙ none)) in
-    c.put_behind.ensures.unmade before c.args.number w p is short
+    c.put_behind.ensures.unmade c.args.drafts.now.items c.args.number w p (is_commit g c w p s there) short

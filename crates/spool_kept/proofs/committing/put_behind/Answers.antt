@@ -6,13 +6,15 @@ use Rattle.spool_journal.specs.Image.{journal_pages}
 use Rattle.spool_kept.specs.Committing.{OnlyRead}
 use Rattle.spool_texts.specs.Drafts.{GivesBack}
 use Rattle.spool_disk.specs.Views.{Lasts}
+use Rattle.spool_disk.specs.declared.disk.Disk.{Ghosts}
 use Rattle.upload_rules.specs.Calls.{commit_outcome, commit_refusal, dropped}
-use Rattle.upload_rules.specs.Store.{appended_store}
+use Rattle.upload_rules.specs.Store.{Store, appended_store}
 use Rattle.spool_kept.specs.Extending.{HandsOn, IsLonger, IsPending, IsWritten}
 use Rattle.spool_kept.specs.Holding.{Holding}
 use Rattle.spool_kept.specs.Shows.{ImageShows}
 use Rattle.spool_kept.specs.Stored.{ShowsEither}
 use Rattle.spool_kept.specs.declared.extending.ExtendError.{ExtendError}
+use Rattle.spool_kept.specs.declared.extending.Longer.{Longer}
 use Rattle.spool_kept.proofs.CommitFits.{fits_given, fits_handed}
 use Rattle.spool_kept.proofs.CommitRefusals.{late}
 use Rattle.spool_kept.proofs.CommitSpent as spent
@@ -24,7 +26,8 @@ use Rattle.spool_kept.proofs.committing.put_behind.Goals as goal
 pub returns-in-Err-clause-fits : goal.returns-in-Err-clause-fits
 returns-in-Err-clause-fits g c drafts number fit here =
     let effect = c.ended.ensures.effect in
-    fits_given c.args.kept.now c.ended.new.kept c.ended.ensures.same drafts fit number c.args.draft c.ended.new.draft here
+    fits_given c.args.kept.now c.ended.new.kept c.ended.ensures.same drafts fit number c.args.draft c.ended.new.draft
+    here
     effect.own effect.grasp c.ended.ensures.reserved c.ended.ensures.placed _
     c.give_back.new.blocks c.kept.view_is c.give_back.ensures
 
@@ -32,7 +35,8 @@ pub returns-in-Err-NoMemory-clause-fits : goal.returns-in-Err-NoMemory-clause-fi
 returns-in-Err-NoMemory-clause-fits g c drafts number fit here =
     let effect = c.ended.ensures.effect in
     let short = c.in-Err-NoMemory.is ∙ ap (λ (e : ExtendError). Err e) c.in-Err-NoMemory.field-0-is in
-    fits_given c.args.kept.now c.ended.new.kept c.ended.ensures.same drafts fit number c.args.draft c.ended.new.draft here
+    fits_given c.args.kept.now c.ended.new.kept c.ended.ensures.same drafts fit number c.args.draft c.ended.new.draft
+    here
     effect.own effect.grasp c.ended.ensures.reserved c.ended.ensures.placed _
     c.give_back-in-Err-NoMemory.new.blocks (c.kept-2.view_is ∙ (c.extend.ensures.unmade short).0)
     c.give_back-in-Err-NoMemory.ensures
@@ -41,7 +45,8 @@ pub returns-in-Ok-extend-clause-fits : goal.returns-in-Ok-extend-clause-fits
 returns-in-Ok-extend-clause-fits g c drafts number fit here =
     let effect = c.ended.ensures.effect in
     let may = c.in-Ok.ensures.may in
-    fits_handed c.args.kept.now c.ended.new.kept c.ended.ensures.same drafts fit number c.args.draft c.ended.new.draft here
+    fits_handed c.args.kept.now c.ended.new.kept c.ended.ensures.same drafts fit number c.args.draft c.ended.new.draft
+    here
     effect.own effect.grasp c.ended.ensures.reserved c.ended.ensures.placed
     c.extend.new.kept c.in-Ok.end.0 may.used c.list.result.now c.list.ensures.blocks may.there
     (c.in-Ok.ensures.more may.used may.there) (c.in-Ok-extend.ensures.blocks (λ e. cc))
@@ -51,14 +56,23 @@ pub returns-in-Err-DiskFault-clause-fits : goal.returns-in-Err-DiskFault-clause-
 returns-in-Err-DiskFault-clause-fits g c drafts number fit here =
     let effect = c.ended.ensures.effect in
     let may = c.in-Ok.ensures.may in
-    let fault : c.extend.result ≡ Err ExtendError.DiskFault = c.in-Err-DiskFault.is ∙ ap (λ (e : ExtendError). Err e) c.in-Err-DiskFault.field-0-is in
-    fits_handed c.args.kept.now c.ended.new.kept c.ended.ensures.same drafts fit number c.args.draft c.ended.new.draft here
+    let fault : c.extend.result ≡ Err ExtendError.DiskFault = c.in-Err-DiskFault.is
+    ∙ ap (λ (e : ExtendError). Err e) c.in-Err-DiskFault.field-0-is in
+    fits_handed c.args.kept.now c.ended.new.kept c.ended.ensures.same drafts fit number c.args.draft c.ended.new.draft
+    here
     effect.own effect.grasp c.ended.ensures.reserved c.ended.ensures.placed
     c.extend.new.kept c.in-Ok.end.0 may.used c.list.result.now c.list.ensures.blocks may.there
     (c.in-Ok.ensures.more may.used may.there) (c.extend.ensures.blocks (λ e. cc))
     (c.extend.ensures.longer (λ e. cc) may.used may.there)
 
 -- WHAT A CRASH MAY LEAVE
+
+pending_on : {D : Type 0} (disk : Ghosts D) (d : D) (h : Holding) (m : Store) (n : ℕ) (bytes : List ℕ) (longer : Longer)
+    {more more' last last' : List ℕ} → more' ≡ more → last' ≡ last → IsPending disk d h m n bytes longer more last
+    → IsPending disk d h m n bytes longer more' last'
+pending_on disk d h m n bytes longer {more' = more'} {last = last} list bytes_last is =
+    subst (IsPending disk d h m n bytes longer more') (sym bytes_last)
+    (subst (λ (xs : List ℕ). IsPending disk d h m n bytes longer xs last) (sym list) is)
 
 pub returns-in-Err-clause-crash : goal.returns-in-Err-clause-crash
 returns-in-Err-clause-crash g c drafts number w p is =
@@ -70,21 +84,26 @@ returns-in-Err-clause-unmade g c drafts number w p is short = c.ended.ensures.qu
 
 pub returns-in-Err-NoMemory-clause-unmade : goal.returns-in-Err-NoMemory-clause-unmade
 returns-in-Err-NoMemory-clause-unmade g c drafts number w p is short =
-    let unmade = c.extend.ensures.unmade (c.in-Err-NoMemory.is ∙ ap (λ (e : ExtendError). Err e) c.in-Err-NoMemory.field-0-is) in
-    subst (λ d. Lasts g.D.Disk c.args.disk.now d (λ image. ImageShows c.args.kept.now.layout image w.store)) (sym unmade.1) (c.ended.ensures.quiet drafts number w p is)
+    let unmade = c.extend.ensures.unmade (c.in-Err-NoMemory.is
+    ∙ ap (λ (e : ExtendError). Err e) c.in-Err-NoMemory.field-0-is) in
+    subst (λ d. Lasts g.D.Disk c.args.disk.now d (λ image. ImageShows c.args.kept.now.layout image w.store))
+    (sym unmade.1) (c.ended.ensures.quiet drafts number w p is)
 
 pub returns-in-Err-NoMemory-clause-crash : goal.returns-in-Err-NoMemory-clause-crash
 returns-in-Err-NoMemory-clause-crash g c drafts number w p is =
-    let unmade = c.extend.ensures.unmade (c.in-Err-NoMemory.is ∙ ap (λ (e : ExtendError). Err e) c.in-Err-NoMemory.field-0-is) in
-    subst (λ d. Lasts g.D.Disk c.args.disk.now d (ShowsEither c.args.kept.now.layout w.store (commit_outcome w number p))) (sym unmade.1)
-    (spent.as_before g.D.Disk c.args.disk.now c.ended.new.disk c.args.kept.now.layout w.store (commit_outcome w number p)
+    let unmade = c.extend.ensures.unmade (c.in-Err-NoMemory.is
+    ∙ ap (λ (e : ExtendError). Err e) c.in-Err-NoMemory.field-0-is) in
+    subst (λ d. Lasts g.D.Disk c.args.disk.now d (ShowsEither c.args.kept.now.layout w.store
+    (commit_outcome w number p))) (sym unmade.1)
+    (spent.as_before g.D.Disk c.args.disk.now c.ended.new.disk c.args.kept.now.layout w.store
+    (commit_outcome w number p)
     (c.ended.ensures.quiet drafts number w p is))
 
 pub returns-in-Ok-extend-clause-crash : goal.returns-in-Ok-extend-clause-crash
 returns-in-Ok-extend-clause-crash g c drafts number w p is =
     let answer = c.in-Ok.ensures.answer drafts number w p is in
-    let pending = subst (IsPending g.D.Disk c.ended.new.disk c.ended.new.kept w.store p.number p.body c.in-Ok.end.0 c.list.result.now) (sym c.deref.ensures.value)
-    (subst (λ (more : List ℕ). IsPending g.D.Disk c.ended.new.disk c.ended.new.kept w.store p.number p.body c.in-Ok.end.0 more c.in-Ok.end.1.items) (sym c.list.ensures.blocks) answer.1.1) in
+    let pending = pending_on g.D.Disk c.ended.new.disk c.ended.new.kept w.store p.number p.body c.in-Ok.end.0
+    c.list.ensures.blocks c.deref.ensures.value answer.1.1 in
     spent.either_then g.D.Disk c.args.disk.now c.ended.new.disk c.args.kept.now.layout w.store c.extend.new.disk
     (appended_store w.store p.number p.body) (commit_outcome w number p) (spent.outcome_is w number p answer.0 is.some)
     (c.ended.ensures.quiet drafts number w p is) c.ended.new.kept.layout
@@ -93,8 +112,8 @@ returns-in-Ok-extend-clause-crash g c drafts number w p is =
 pub returns-in-Err-DiskFault-clause-crash : goal.returns-in-Err-DiskFault-clause-crash
 returns-in-Err-DiskFault-clause-crash g c drafts number w p is =
     let answer = c.in-Ok.ensures.answer drafts number w p is in
-    let pending = subst (IsPending g.D.Disk c.ended.new.disk c.ended.new.kept w.store p.number p.body c.in-Ok.end.0 c.list.result.now) (sym c.deref.ensures.value)
-    (subst (λ (more : List ℕ). IsPending g.D.Disk c.ended.new.disk c.ended.new.kept w.store p.number p.body c.in-Ok.end.0 more c.in-Ok.end.1.items) (sym c.list.ensures.blocks) answer.1.1) in
+    let pending = pending_on g.D.Disk c.ended.new.disk c.ended.new.kept w.store p.number p.body c.in-Ok.end.0
+    c.list.ensures.blocks c.deref.ensures.value answer.1.1 in
     spent.either_then g.D.Disk c.args.disk.now c.ended.new.disk c.args.kept.now.layout w.store c.extend.new.disk
     (appended_store w.store p.number p.body) (commit_outcome w number p) (spent.outcome_is w number p answer.0 is.some)
     (c.ended.ensures.quiet drafts number w p is) c.ended.new.kept.layout
@@ -104,41 +123,63 @@ returns-in-Err-DiskFault-clause-crash g c drafts number w p is =
 
 pub returns-in-Err-clause-answer : goal.returns-in-Err-clause-answer
 returns-in-Err-clause-answer g c drafts number w p is =
-    let gives = subst (λ (h : Holding). GivesBack h.blocks c.give_back.new.blocks (list_of c.ended.new.draft)) c.kept.view_is c.give_back.ensures in
-    let stands = spent.stands_dropped g.D.Disk c.args.disk.now c.ended.new.disk c.args.kept.now c.ended.new.kept c.ended.ensures.same drafts number c.args.draft c.ended.new.draft w p is c.ended.ensures.effect
-    c.ended.ensures.reserved c.ended.ensures.placed _ (reserves_only c.ended.new.kept _ _ c.kept.view_is refl c.give_back.ensures.rows) gives (c.ended.ensures.stored drafts number w p is) in
-    spent.also_refused (commit_refusal w number p) c.in-Err.error _ _ _ _ (c.in-Err.ensures.answer drafts number w p is) stands
+    let gives = subst (λ (h : Holding). GivesBack h.blocks c.give_back.new.blocks (list_of c.ended.new.draft))
+    c.kept.view_is c.give_back.ensures in
+    let stands = spent.stands_dropped g.D.Disk c.args.disk.now c.ended.new.disk c.args.kept.now c.ended.new.kept
+    c.ended.ensures.same drafts number c.args.draft c.ended.new.draft w p is c.ended.ensures.effect
+    c.ended.ensures.reserved c.ended.ensures.placed _ (reserves_only c.ended.new.kept _ _ c.kept.view_is refl
+    c.give_back.ensures.rows) gives (c.ended.ensures.stored drafts number w p is) in
+    spent.also_refused (commit_refusal w number p) c.in-Err.error _ _ _ _
+    (c.in-Err.ensures.answer drafts number w p is) stands
 
 pub returns-in-Err-NoMemory-clause-answer : goal.returns-in-Err-NoMemory-clause-answer
 returns-in-Err-NoMemory-clause-answer g c drafts number w p is =
-    let unmade = c.extend.ensures.unmade (c.in-Err-NoMemory.is ∙ ap (λ (e : ExtendError). Err e) c.in-Err-NoMemory.field-0-is) in
+    let unmade = c.extend.ensures.unmade (c.in-Err-NoMemory.is
+    ∙ ap (λ (e : ExtendError). Err e) c.in-Err-NoMemory.field-0-is) in
     let same = c.kept-2.view_is ∙ unmade.0 in
-    let gives = subst (λ (h : Holding). GivesBack h.blocks c.give_back-in-Err-NoMemory.new.blocks (list_of c.ended.new.draft)) same c.give_back-in-Err-NoMemory.ensures in
-    let stands = spent.stands_dropped g.D.Disk c.args.disk.now c.ended.new.disk c.args.kept.now c.ended.new.kept c.ended.ensures.same drafts number c.args.draft c.ended.new.draft w p is c.ended.ensures.effect
-    c.ended.ensures.reserved c.ended.ensures.placed _ (reserves_only c.ended.new.kept _ _ same refl c.give_back-in-Err-NoMemory.ensures.rows) gives (c.ended.ensures.stored drafts number w p is) in (
+    let gives = subst (λ (h : Holding). GivesBack h.blocks c.give_back-in-Err-NoMemory.new.blocks
+    (list_of c.ended.new.draft)) same c.give_back-in-Err-NoMemory.ensures in
+    let stands = spent.stands_dropped g.D.Disk c.args.disk.now c.ended.new.disk c.args.kept.now c.ended.new.kept
+    c.ended.ensures.same drafts number c.args.draft c.ended.new.draft w p is c.ended.ensures.effect
+    c.ended.ensures.reserved c.ended.ensures.placed _ (reserves_only c.ended.new.kept _ _ same refl
+    c.give_back-in-Err-NoMemory.ensures.rows) gives (c.ended.ensures.stored drafts number w p is) in (
       late w number p is.upload,
-      spent.on_disk g.D.Disk c.ended.new.disk c.extend.new.disk _ (set drafts number None) (dropped w number) unmade.1 stands,
+      spent.on_disk g.D.Disk c.ended.new.disk c.extend.new.disk _ (set drafts number None)
+          (dropped w number) unmade.1 stands,
     )
 
 pub returns-in-Ok-extend-clause-answer : goal.returns-in-Ok-extend-clause-answer
 returns-in-Ok-extend-clause-answer g c drafts number w p is =
     let answer = c.in-Ok.ensures.answer drafts number w p is in
     let may = c.in-Ok.ensures.may in
-    let pending = subst (IsPending g.D.Disk c.ended.new.disk c.ended.new.kept w.store p.number p.body c.in-Ok.end.0 c.list.result.now) (sym c.deref.ensures.value)
-    (subst (λ (more : List ℕ). IsPending g.D.Disk c.ended.new.disk c.ended.new.kept w.store p.number p.body c.in-Ok.end.0 more c.in-Ok.end.1.items) (sym c.list.ensures.blocks) answer.1.1) in
-    let wrote = subst (λ (more : List ℕ). IsWritten g.D.Disk c.ended.new.disk c.extend.new.disk c.ended.new.kept w.store p.number p.body c.in-Ok.end.0 more) c.list.ensures.blocks
+    let pending = pending_on g.D.Disk c.ended.new.disk c.ended.new.kept w.store p.number p.body c.in-Ok.end.0
+    c.list.ensures.blocks c.deref.ensures.value answer.1.1 in
+    let wrote = subst (λ (more : List ℕ). IsWritten g.D.Disk c.ended.new.disk c.extend.new.disk c.ended.new.kept w.store
+    p.number p.body c.in-Ok.end.0 more) c.list.ensures.blocks
     (c.in-Ok-extend.ensures.written w.store p.number p.body pending) in
     let effect = c.ended.ensures.effect in
-    let only = subst (λ (n : ℕ). OnlyWrites g.D.Disk (journal_pages n) (list_of c.ended.new.draft) c.ended.new.disk wrote.mid) (ap (λ (h : Holding). h.layout) c.ended.ensures.same.same) wrote.only in
-    let effect' : Effect g.D.Disk (journal_pages c.args.kept.now.layout) (list_of c.args.draft) (list_of c.ended.new.draft) c.args.disk.now wrote.mid c.args.kept.now.blocks c.ended.new.kept.blocks =
-    record { own = effect.own; grasp = effect.grasp; writes = λ honest. only_then effect.grasp (effect.writes honest) only } in
-    let hands = subst (HandsOn c.ended.new.kept.blocks.reserved c.extend.new.kept.blocks.reserved) c.list.ensures.blocks (c.in-Ok-extend.ensures.blocks (λ e. cc)) in
-    let longer = subst (λ (more : List ℕ). IsLonger c.ended.new.kept may.used c.in-Ok.end.0 more c.extend.new.kept) c.list.ensures.blocks (c.in-Ok-extend.ensures.longer (λ e. cc) may.used may.there) in (
+    let only = subst (λ (n : ℕ). OnlyWrites g.D.Disk (journal_pages n)
+    (list_of c.ended.new.draft) c.ended.new.disk wrote.mid)
+    (ap (λ (h : Holding). h.layout) c.ended.ensures.same.same) wrote.only in
+    let effect' : Effect g.D.Disk (journal_pages c.args.kept.now.layout) (list_of c.args.draft)
+    (list_of c.ended.new.draft) c.args.disk.now wrote.mid c.args.kept.now.blocks c.ended.new.kept.blocks =
+    record {
+      own = effect.own;
+      grasp = effect.grasp;
+      writes =
+          λ honest. only_then effect.grasp (effect.writes honest) only;
+    } in
+    let hands = subst (HandsOn c.ended.new.kept.blocks.reserved c.extend.new.kept.blocks.reserved) c.list.ensures.blocks
+    (c.in-Ok-extend.ensures.blocks (λ e. cc)) in
+    let longer = subst (λ (more : List ℕ). IsLonger c.ended.new.kept may.used c.in-Ok.end.0 more c.extend.new.kept)
+    c.list.ensures.blocks (c.in-Ok-extend.ensures.longer (λ e. cc) may.used may.there) in (
       answer.0,
       (
         answer.1.0,
-        spent.stands_committed g.D.Disk c.args.disk.now wrote.mid c.args.kept.now c.ended.new.kept c.ended.ensures.same drafts number c.args.draft c.ended.new.draft w p is effect'
-            c.ended.ensures.reserved c.ended.ensures.placed c.in-Ok.end.0 wrote.append may.used c.extend.new.disk c.extend.new.kept longer hands
+        spent.stands_committed g.D.Disk c.args.disk.now wrote.mid c.args.kept.now c.ended.new.kept c.ended.ensures.same
+            drafts number c.args.draft c.ended.new.draft w p is effect'
+            c.ended.ensures.reserved c.ended.ensures.placed c.in-Ok.end.0 wrote.append may.used c.extend.new.disk
+            c.extend.new.kept longer hands
             wrote.texts (c.in-Ok-extend.ensures.answer w.store p.number p.body pending),
       ),
     )
@@ -150,5 +191,6 @@ returns-in-Err-clause-unwritten g c honest short = c.ended.ensures.only honest
 
 pub returns-in-Err-NoMemory-clause-unwritten : goal.returns-in-Err-NoMemory-clause-unwritten
 returns-in-Err-NoMemory-clause-unwritten g c honest short =
-    let unmade = c.extend.ensures.unmade (c.in-Err-NoMemory.is ∙ ap (λ (e : ExtendError). Err e) c.in-Err-NoMemory.field-0-is) in
+    let unmade = c.extend.ensures.unmade (c.in-Err-NoMemory.is
+    ∙ ap (λ (e : ExtendError). Err e) c.in-Err-NoMemory.field-0-is) in
     subst (OnlyRead g.D.Disk c.args.disk.now) (sym unmade.1) (c.ended.ensures.only honest)

@@ -10,20 +10,21 @@ use Rattle.upload_rules.proofs.Finds.{replaced_same}
 use Rattle.upload_rules.proofs.Growing.{grown_longer}
 use Rattle.upload_rules.proofs.Patches.{draft_of}
 use Rattle.spool_blocks.specs.Blocks.{Row}
-use Rattle.spool_disk.proofs.Firm.{lasts_more}
 use Rattle.spool_drafts.specs.Drafts.{IsPlaced, Holds, Carries, IsLonger, number_of, with_piece, tail_of}
 use Rattle.spool_drafts.specs.declared.draft.SpoolDraft.{SpoolDraft}
 use Rattle.spool_kept.specs.Drafting.{DraftsFit, DraftsHold, IsOfUpload, DraftStands, DraftsStand, IsOwnedBy, StandsFor}
 use Rattle.spool_kept.proofs.Drafted.{reserves_only}
-use Rattle.spool_kept.proofs.SameView.{shows_aside}
+use Rattle.spool_kept.proofs.SameView.{shows_still}
 use Rattle.spool_kept.specs.Holding.{Holding}
-use Rattle.spool_kept.proofs.DraftLonger.{answered, changed_back, fit_longer, longer_carries, longer_holds, longer_world, moved, ok_more, some_draft, stand_longer}
+use Rattle.spool_kept.proofs.DraftLonger.{answered, changed_back, fit_longer, longer_carries, longer_holds}
+use Rattle.spool_kept.proofs.DraftLonger.{longer_world, moved, ok_more, some_draft, stand_longer}
 use Rattle.spool_kept.proofs.OfUploads.{each_changed, of_longer}
 use Rattle.spool_kept.proofs.drafting.append.Goals as goal
 
 pub append-answer-requires-clause-placed : goal.append-answer-requires-clause-placed
 append-answer-requires-clause-placed g c =
-    subst (λ (h : Holding). IsPlaced h.layout c.in-Some.draft) (sym c.kept.view_is) (c.requires.fits.blocks.placed c.args.number c.in-Some.draft (sym c.in-Some.ensures.taken))
+    subst (λ (h : Holding). IsPlaced h.layout c.in-Some.draft) (sym c.kept.view_is)
+    (c.requires.fits.blocks.placed c.args.number c.in-Some.draft (sym c.in-Some.ensures.taken))
 
 pub returns-clause-fits : goal.returns-clause-fits
 returns-clause-fits g c =
@@ -33,16 +34,25 @@ returns-clause-fits g c =
     let fit = subst (λ (h : Holding). DraftsFit h before) (sym c.kept.view_is) c.requires.fits in
     let effect = c.append-answer.ensures.effect in
     let same = c.append-answer.ensures.same in
-    let changed = changed_back before c.taken.new.drafts.items c.put_back.new.drafts.items c.args.number c.in-Some.draft new here c.taken.ensures.after c.put_back.ensures in
+    let changed = changed_back before c.taken.new.drafts.items c.put_back.new.drafts.items c.args.number c.in-Some.draft
+    new here c.taken.ensures.after c.put_back.ensures in
     record {
-      blocks = fit_longer c.kept.inside.layout c.kept.inside.blocks before fit.blocks c.args.number c.in-Some.draft here c.append-answer.new.blocks c.put_back.new.drafts.items new effect.own effect.grasp changed
+      blocks = fit_longer c.kept.inside.layout c.kept.inside.blocks before fit.blocks c.args.number c.in-Some.draft here
+          c.append-answer.new.blocks c.put_back.new.drafts.items new effect.own effect.grasp changed
           c.append-answer.ensures.reserved c.append-answer.ensures.placed;
       below = each_changed (λ (o : SpoolDraft). number_of o < c.kept.inside.next) before c.put_back.new.drafts.items
           c.args.number (Some new) changed fit.below
-          (λ a e. omega (arith, ap number_of (same_Some new a e), same.0, fit.below c.args.number c.in-Some.draft here));
-      uploads = each_changed (IsOfUpload c.kept.inside.slots.items) before c.put_back.new.drafts.items c.args.number (Some new) changed fit.uploads
+          (λ a e. omega (
+            arith,
+            ap number_of (same_Some new a e),
+            same.0,
+            fit.below c.args.number c.in-Some.draft here,
+          ));
+      uploads = each_changed (IsOfUpload c.kept.inside.slots.items) before c.put_back.new.drafts.items c.args.number
+          (Some new) changed fit.uploads
           (λ a e. subst (IsOfUpload c.kept.inside.slots.items) (same_Some new a e)
-          (of_longer c.kept.inside.slots.items c.in-Some.draft new same.0 same.1 c.append-answer.ensures.behind (fit.uploads c.args.number c.in-Some.draft here)));
+          (of_longer c.kept.inside.slots.items c.in-Some.draft new same.0 same.1 c.append-answer.ensures.behind
+          (fit.uploads c.args.number c.in-Some.draft here)));
     }
 
 pub returns-clause-quiet : goal.returns-clause-quiet
@@ -50,9 +60,11 @@ returns-clause-quiet g c w p s there =
     let effect = c.append-answer.ensures.effect in
     let v = s.stored.view in
     let rows = effect.grasp.takes.rows ∙ ap (λ (h : Holding). h.blocks.rows) c.kept.view_is ∙ s.stored.keeps.rows in
-    lasts_more (effect.writes s.stored.honest).lasts (λ image is n m shown.
-    shows_aside v effect.own _ image m s.stored.shows.sound (sym s.stored.keeps.blocks ∙ sym (ap (λ (h : Holding). h.layout) c.kept.view_is)) s.stored.rests
-    (λ i lt. ap (λ (r : List Row). get_or r (get_or effect.own i 0) None) (sym rows) ∙ effect.grasp.reserved.no_owner i lt) is n shown)
+    shows_still g.D.Disk c.args.disk.now c.append-answer.new.disk v effect.own _ (effect.writes s.stored.honest)
+    s.stored.shows.sound (sym s.stored.keeps.blocks ∙ sym (ap (λ (h : Holding). h.layout) c.kept.view_is))
+    s.stored.rests
+    (λ i lt. ap (λ (r : List Row). get_or r (get_or effect.own i 0) None) (sym rows)
+    ∙ effect.grasp.reserved.no_owner i lt)
 
 pub returns-clause-answer : goal.returns-clause-answer
 returns-clause-answer g c w p s there fits =
@@ -75,43 +87,61 @@ returns-clause-answer g c w p s there fits =
     let seen = g.D.Disk.seen disk in
     let seen' = g.D.Disk.seen disk' in
     let ix : c.kept.inside.indexes ≡ w.store.indexes = s'.stored.keeps.indexes ∙ shows.indexes in
-    let fit = subst (λ (k : Holding). DraftsHold k.layout k.blocks before) (sym c.kept.view_is) c.requires.fits.blocks in
+    let fit = subst (λ (k : Holding). DraftsHold k.layout k.blocks before)
+    (sym c.kept.view_is) c.requires.fits.blocks in
     let fit' = (returns-clause-fits g c).blocks in
-    let changed = changed_back before c.taken.new.drafts.items after number o new here c.taken.ensures.after c.put_back.ensures in
-    let at = draft_of (DraftStands w.store.indexes seen first records h.rows w.store) p (find number w.patches) (draft_at before number) there (s'.stands.each number) in
-    let is = subst (DraftStands w.store.indexes seen first records h.rows w.store p) (some_draft at.0 o (sym at.1 ∙ here)) at.2 in
+    let changed = changed_back before c.taken.new.drafts.items after number o new here c.taken.ensures.after
+    c.put_back.ensures in
+    let at = draft_of (DraftStands w.store.indexes seen first records h.rows w.store) p (find number w.patches)
+    (draft_at before number) there (s'.stands.each number) in
+    let is = subst (DraftStands w.store.indexes seen first records h.rows w.store p)
+    (some_draft at.0 o (sym at.1 ∙ here)) at.2 in
     let held = subst (λ (x : IndexSet). Holds x p o) (sym ix) is.holds in
     let only = effect.writes s.stored.honest in
     let same = reserves_only c.args.kept.now _ _ c.kept.view_is refl c.append-answer.ensures.rows in
-    let stored = moved g.D.Disk disk disk' c.args.kept.now _ w.store c.kept.inside.layout s.stored same (c.append-answer.ensures.honest.0 s.stored.honest) effect.own
-    (λ i lt. ap (λ (r : List Row). get_or r (get_or effect.own i 0) None) (sym (effect.grasp.takes.rows ∙ ap (λ (k : Holding). k.blocks.rows) c.kept.view_is ∙ s.stored.keeps.rows)) ∙ effect.grasp.reserved.no_owner i lt)
+    let stored = moved g.D.Disk disk disk' c.args.kept.now _ w.store c.kept.inside.layout s.stored same
+    (c.append-answer.ensures.honest.0 s.stored.honest) effect.own
+    (λ i lt. ap (λ (r : List Row). get_or r (get_or effect.own i 0) None)
+    (sym (effect.grasp.takes.rows ∙ ap (λ (k : Holding). k.blocks.rows) c.kept.view_is ∙ s.stored.keeps.rows))
+    ∙ effect.grasp.reserved.no_owner i lt)
     (ap (λ (k : Holding). k.layout) c.kept.view_is) only.writes in
     let rows = c.append-answer.ensures.rows in
     let piece = c.args.piece.now in
-    let longer_stands = stand_longer w.store.indexes seen seen' first c.kept.inside.layout records h h' w before after s'.stands fit number o new here effect.own effect.grasp changed rows only.writes.outside in
+    let longer_stands = stand_longer w.store.indexes seen seen' first c.kept.inside.layout records h h' w before after
+    s'.stands fit number o new here effect.own effect.grasp changed rows only.writes.outside in
     let tail : (upload_of w.store p.number ≡ Some p.began) → IsOwnedBy records h'.rows p.number (tail_of new) =
-    λ still. subst (IsOwnedBy records h'.rows p.number) (sym c.append-answer.ensures.same.3) (subst (λ (r : List Row). IsOwnedBy records r p.number (tail_of o)) (sym rows) (is.tail still)) in
+    λ still. subst (IsOwnedBy records h'.rows p.number) (sym c.append-answer.ensures.same.3)
+    (subst (λ (r : List Row). IsOwnedBy records r p.number (tail_of o)) (sym rows) (is.tail still)) in
     let back = replaced_same number p w.patches there in
     answered _ _ c.append-answer.result
-    (ok_more c.append-answer.result (c.append-answer.ensures.answer p held fits) (λ still. c.append-answer.ensures.content p s.stored.honest held fits (subst (λ (x : IndexSet). Carries x seen first p o) (sym ix) (is.carries still)))
+    (ok_more c.append-answer.result (c.append-answer.ensures.answer p held fits)
+    (λ still. c.append-answer.ensures.content p s.stored.honest held fits
+    (subst (λ (x : IndexSet). Carries x seen first p o) (sym ix) (is.carries still)))
     (λ l carries.
     let q = longer w number p piece in
     let is_longer = subst (λ (x : IndexSet). IsLonger x (with_piece p piece) o new h h') ix l in
     longer_world g.D.Disk disk' _ after w number piece p (find number w.patches) there stored
     (longer_stands p q there (grown_longer w s'.stands.grown number p (p.body ++ piece) q.short there) record {
-      holds = longer_holds w seen seen' first c.kept.inside.layout records h h' before after s'.stands fit number o new here effect.own effect.grasp changed rows v shows s'.stored.keeps.rows c.rows-rows.ensures.reserved fit' p piece is_longer;
+      holds = longer_holds w seen seen' first c.kept.inside.layout records h h' before after s'.stands fit number o new
+          here effect.own effect.grasp changed rows v shows s'.stored.keeps.rows c.rows-rows.ensures.reserved fit' p
+          piece is_longer;
       below = is.below;
-      carries = λ still. longer_carries w seen seen' first c.kept.inside.layout records h h' before after s'.stands fit number o new here effect.own effect.grasp changed rows v shows s'.stored.keeps.rows c.rows-rows.ensures.reserved fit' p piece is_longer
+      carries = λ still. longer_carries w seen seen' first c.kept.inside.layout records h h' before after s'.stands fit
+          number o new here effect.own effect.grasp changed rows v shows s'.stored.keeps.rows
+          c.rows-rows.ensures.reserved fit' p piece is_longer
           (subst (λ (x : IndexSet). Carries x seen' first (with_piece p piece) new) ix (carries still));
       tail = tail;
     })))
     (λ e. record {
       stored = stored;
       stands = subst (λ ps. DraftsStand w.store.indexes seen' first records h' (record w { patches = ps }) after) back
-          (longer_stands p p there (subst (λ ps. IsGrown (record w { patches = ps })) (sym back) s'.stands.grown) record {
+          (longer_stands p p there (subst (λ ps. IsGrown (record w { patches = ps })) (sym back) s'.stands.grown)
+          record {
             holds = subst (λ (x : IndexSet). Holds x p new) ix (c.append-answer.ensures.holds_on p held e);
             below = is.below;
-            carries = λ still. subst (λ (x : IndexSet). Carries x seen' first p new) ix (c.append-answer.ensures.content_on p s.stored.honest e (subst (λ (x : IndexSet). Carries x seen first p o) (sym ix) (is.carries still)));
+            carries = λ still. subst (λ (x : IndexSet). Carries x seen' first p new) ix
+                (c.append-answer.ensures.content_on p s.stored.honest e
+                (subst (λ (x : IndexSet). Carries x seen first p o) (sym ix) (is.carries still)));
             tail = tail;
           });
     })

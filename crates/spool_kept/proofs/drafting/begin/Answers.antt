@@ -11,8 +11,12 @@ use Rattle.spool_kept.proofs.drafting.begin.Goals as goal
 
 pub returns-in-Err-clause-answer : goal.returns-in-Err-clause-answer
 returns-in-Err-clause-answer g c disk w s =
-    let opens = c.in-Err.ensures.opened s.stored.view w.store (g.D.Disk.seen disk) s.stored.keeps s.stored.shows (rests_says s.stored.rests) in
-    (begin_refused g.D.Disk disk c.args.kept.now c.args.drafts.now.items w s c.args.number c.args.offset c.args.count (upload_of w.store c.args.number) c.in-Err.refusal refl opens, s)
+    let opens = c.in-Err.ensures.opened s.stored.view w.store (g.D.Disk.seen disk) s.stored.keeps s.stored.shows
+    (rests_says s.stored.rests) in (
+      begin_refused g.D.Disk disk c.args.kept.now c.args.drafts.now.items w s c.args.number c.args.offset c.args.count
+          (upload_of w.store c.args.number) c.in-Err.refusal refl opens,
+      s,
+    )
 
 pub returns-in-Ok-placed-clause-fits : goal.returns-in-Ok-placed-clause-fits
 returns-in-Ok-placed-clause-fits g c =
@@ -23,7 +27,8 @@ returns-in-Ok-placed-clause-fits g c =
     let next = c.args.kept.now.next in
     let changed = changed_more before after d c.in-Ok.draft placed in
     record {
-      blocks = fit_begun before after d c.in-Ok.draft placed c.args.kept.now.layout c.args.kept.now.blocks c.requires.fits.blocks c.in-Ok.ensures.none c.in-Ok.ensures.placed;
+      blocks = fit_begun before after d c.in-Ok.draft placed c.args.kept.now.layout c.args.kept.now.blocks
+          c.requires.fits.blocks c.in-Ok.ensures.none c.in-Ok.ensures.placed;
       below = each_changed (λ (o : SpoolDraft). number_of o < next) before after d (Some c.in-Ok.draft) changed
           c.requires.fits.below
           (λ a e. subst (λ (o : SpoolDraft). number_of o < next) (same_Some c.in-Ok.draft a e) c.in-Ok.ensures.below);
@@ -37,9 +42,12 @@ returns-in-Ok-placed-clause-answer g c disk w s =
     let h = c.args.kept.now in
     let before = c.args.drafts.now.items in
     let n = c.args.number in
-    let opens = c.in-Ok.ensures.opened s.stored.view w.store (g.D.Disk.seen disk) s.stored.keeps s.stored.shows (rests_says s.stored.rests) in (
-      begin_allowed g.D.Disk disk h before w s n c.args.offset c.args.count (upload_of w.store n) c.in-Ok.draft refl opens,
-      begins g.D.Disk disk h before w s n c.args.offset c.args.count c.placed.new.drafts.items c.in-Ok-placed.number c.in-Ok.draft c.in-Ok-placed.ensures.ok
+    let opens = c.in-Ok.ensures.opened s.stored.view w.store (g.D.Disk.seen disk) s.stored.keeps s.stored.shows
+    (rests_says s.stored.rests) in (
+      begin_allowed g.D.Disk disk h before w s n c.args.offset c.args.count
+          (upload_of w.store n) c.in-Ok.draft refl opens,
+      begins g.D.Disk disk h before w s n c.args.offset c.args.count c.placed.new.drafts.items c.in-Ok-placed.number
+          c.in-Ok.draft c.in-Ok-placed.ensures.ok
           c.in-Ok.ensures.none c.in-Ok.ensures.owned (upload_of w.store n) refl opens,
     )
 
@@ -48,7 +56,9 @@ returns-in-Err-placed-clause-answer g c disk w s =
     let h = c.args.kept.now in
     let before = c.args.drafts.now.items in
     let n = c.args.number in
-    let opens = c.in-Ok.ensures.opened s.stored.view w.store (g.D.Disk.seen disk) s.stored.keeps s.stored.shows (rests_says s.stored.rests) in (
+    let opens = c.in-Ok.ensures.opened s.stored.view w.store (g.D.Disk.seen disk) s.stored.keeps s.stored.shows
+    (rests_says s.stored.rests) in (
       begin_late g.D.Disk disk h before w s n c.args.offset c.args.count (upload_of w.store n) c.in-Ok.draft refl opens,
-      subst (λ (drafts : List (Option SpoolDraft)). StandsFor g.D.Disk disk h drafts w) (sym c.in-Err-placed.ensures.err) s,
+      subst (λ (drafts : List (Option SpoolDraft)). StandsFor g.D.Disk disk h drafts w)
+          (sym c.in-Err-placed.ensures.err) s,
     )

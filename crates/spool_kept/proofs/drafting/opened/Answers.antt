@@ -7,15 +7,18 @@ use Rattle.spool_kept.proofs.OfUploads.{begins_below, begins_kept}
 use Rattle.spool_kept.proofs.drafting.opened.Goals as goal
 
 pub returns-clause-owned : goal.returns-clause-owned
-returns-clause-owned c = tail_owned c.args.kept.now.slots c.args.kept.now.blocks.rows c.args.number _ _ c.begin.result c.in-Some.ensures.owned c.begin.ensures.tail
+returns-clause-owned c = tail_owned c.args.kept.now.slots c.args.kept.now.blocks.rows c.args.number _ _ c.begin.result
+    c.in-Some.ensures.owned c.begin.ensures.tail
 
 pub returns-clause-below : goal.returns-clause-below
 returns-clause-below c =
     let r = c.in-Some.found.upload.now in
-    begins_below c.args.kept.now.next r.number r.accepted c.begin.result c.in-Some.ensures.numbered c.begin.ensures.named
+    begins_below c.args.kept.now.next r.number r.accepted c.begin.result c.in-Some.ensures.numbered
+    c.begin.ensures.named
 
 pub returns-clause-of_upload : goal.returns-clause-of_upload
-returns-clause-of_upload c = begins_kept c.args.kept.now.slots c.in-Some.found.upload.now c.begin.result c.in-Some.ensures.kept c.begin.ensures.named c.begin.ensures.behind
+returns-clause-of_upload c = begins_kept c.args.kept.now.slots c.in-Some.found.upload.now c.begin.result
+    c.in-Some.ensures.kept c.begin.ensures.named c.begin.ensures.behind
 
 pub returns-clause-opened : goal.returns-clause-opened
 returns-clause-opened c v m bytes kept shows says =
@@ -23,5 +26,6 @@ returns-clause-opened c v m bytes kept shows says =
     let n = c.args.number in
     let first = 25 + 2 * journal_pages c.args.kept.now.layout in
     subst (λ (o : Option Upload). OpensFor m n c.args.offset c.args.count bytes first o c.begin.result) (sym told.there)
-    (opens_for m n c.args.offset c.args.count bytes first told.upload c.begin.result (c.begin.ensures.begun m.indexes n told.upload told.keeps)
+    (opens_for m n c.args.offset c.args.count bytes first told.upload c.begin.result
+    (c.begin.ensures.begun m.indexes n told.upload told.keeps)
     (c.begin.ensures.content m.indexes n told.upload bytes first told.keeps told.text))

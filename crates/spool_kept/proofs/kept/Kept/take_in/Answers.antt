@@ -1,32 +1,32 @@
 use Rattle.std.proofs.Common.{◌∙◌, ◌+◌, Some, slice_set, ap, subst, sym}
 use Rattle.spool_kept.specs.Creating.{HasRoomAt}
-use Rattle.spool_kept.specs.Holding.{Holding, IsAdded}
+use Rattle.spool_kept.specs.Holding.{Holding, IsAdded, held_of}
 use Rattle.spool_kept.proofs.TakenIn.{next_free, taken_fits}
 use Rattle.spool_kept.proofs.kept.Kept.take_in.Goals as goal
 
-abbrev inside : goal.After-self-2-1 → Holding
-inside c = record { layout = c.self.inside.layout; next = c.self.inside.next; indexes = c.self.inside.indexes; slots = c.self.inside.slots.items; order = c.self.inside.order.items; lists = c.self.inside.lists.items; blocks = c.self.inside.blocks }
+abbrev IsPut : Holding → (c : goal.After-self-2-1) → Type 0
+IsPut h c = IsAdded h.order h.next c.args.slot c.put.new.order.items
 
-added : (c : goal.After-self-2-1) → IsAdded c.self.inside.order.items c.self.inside.next c.args.slot c.put.new.order.items
+added : (c : goal.After-self-2-1) → IsPut (held_of c.self.inside) c
 added c =
-    c.in_ok-put.ensures.added c.self.invariant.ordered.rises (next_free (inside c) c.self.invariant)
+    c.in_ok-put.ensures.added c.self.invariant.ordered.rises (next_free (held_of c.self.inside) c.self.invariant)
 
 pub invariant_of-self-2 : goal.invariant_of-self-2
 invariant_of-self-2 c =
     let room = subst (λ (h : Holding). HasRoomAt h c.args.slot) (sym c.self.view_is) c.requires.room in
     let number = c.requires.number ∙ ap (λ (h : Holding). h.next) (sym c.self.view_is) in
-    taken_fits (inside c) c.args.slot c.args.record c.self.invariant room number c.requires.no_text c.put.new.order.items (added c)
+    taken_fits (held_of c.self.inside) c.args.slot c.args.record c.self.invariant room number c.requires.no_text
+    c.put.new.order.items (added c)
 
 pub returns-clause-taken : goal.returns-clause-taken
 returns-clause-taken c =
-    let h = c.args.self.now in
     let is = c.self.view_is in
     record {
       layout = ap (λ (k : Holding). k.layout) is;
       next = ap (λ (k : Holding). k.next + 1) is;
       indexes = ap (λ (k : Holding). k.indexes) is;
       slots = ap (λ (k : Holding). slice_set k.slots c.args.slot (Some c.args.record)) is;
-      order = subst (λ (k : Holding). IsAdded k.order k.next c.args.slot c.put.new.order.items) is (added c);
+      order = subst (λ (k : Holding). IsPut k c) is (added c);
       lists = ap (λ (k : Holding). k.lists) is;
       blocks = ap (λ (k : Holding). k.blocks) is;
       fits = invariant_of-self-2 c;

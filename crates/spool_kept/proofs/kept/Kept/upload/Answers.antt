@@ -1,4 +1,5 @@
-use Rattle.std.proofs.Common.{rules, ◌≡◌, ◌∙◌, ◌<◌, ◌+◌, ◌*◌, ℕ, List, [], Option, None, Some, length, get_or, ap, subst, sym, arith}
+use Rattle.std.proofs.Common.{rules, ◌≡◌, ◌∙◌, ◌<◌, ◌+◌, ◌*◌, ℕ, List, [], Option, None, Some, length, get_or, ap}
+use Rattle.std.proofs.Common.{subst, sym, arith}
 use Rattle.std.proofs.lemmas.List.{get_or_default}
 use Rattle.std.proofs.lemmas.Option.{same_Some}
 use Rattle.spool_journal.specs.Image.{journal_pages}
@@ -14,22 +15,26 @@ use Rattle.spool_kept.proofs.kept.Kept.upload.Goals as goal
 
 pub returns-in_err-slot-clause-told : goal.returns-in_err-slot-clause-told
 returns-in_err-slot-clause-told c v m bytes kept shows says =
-    match_is_none _ c.from_residual.result c.from_residual.ensures (no_upload c.args.self.now v m kept shows c.args.number c.in_err-slot.ensures.used)
+    match_is_none _ c.from_residual.result c.from_residual.ensures
+    (no_upload c.args.self.now v m kept shows c.args.number c.in_err-slot.ensures.used)
 
 list_is : (c : goal.After-record) → c.blocks-list.result.now ≡ get_or c.self.inside.lists.items c.in_ok-slot.slot []
 list_is c =
     let s = c.in_ok-slot.slot in
-    let inside : s < length c.self.inside.lists.items = omega (arith, c.in_ok-slot.ensures.below, c.self.invariant.list_count) in
+    let inside : s < length c.self.inside.lists.items =
+    omega (arith, c.in_ok-slot.ensures.below, c.self.invariant.list_count) in
     let item : c.index.result.now ≡ get_or c.self.inside.lists.items s c.index.result.now = c.index.ensures in
     c.blocks-list.ensures ∙ item ∙ get_or_default c.self.inside.lists.items s c.index.result.now [] inside
 
 pub returns-clause-few : goal.returns-clause-few
-returns-clause-few c = few_listed _ c.self.invariant c.in_ok-slot.slot c.in_ok-slot.ensures.below (omega (arith, c.blocks-few.ensures.same, c.blocks-few.ensures.few)) c.blocks-list.result.now (list_is c)
+returns-clause-few c = few_listed _ c.self.invariant c.in_ok-slot.slot c.in_ok-slot.ensures.below
+    (omega (arith, c.blocks-few.ensures.same, c.blocks-few.ensures.few)) c.blocks-list.result.now (list_is c)
 
 pub returns-clause-owned : goal.returns-clause-owned
 returns-clause-owned c =
     let owned = list_owned _ c.self.invariant c.in_ok-slot.slot c.in_ok-slot.ensures.below c.args.number
-    (subst (λ (h : Holding). IsUsedBy h.slots c.in_ok-slot.slot c.args.number) (sym c.self.view_is) c.in_ok-slot.ensures.used) c.blocks-list.result.now (list_is c) in
+    (subst (λ (h : Holding). IsUsedBy h.slots c.in_ok-slot.slot c.args.number)
+    (sym c.self.view_is) c.in_ok-slot.ensures.used) c.blocks-list.result.now (list_is c) in
     subst (λ (h : Holding). IsOwnedBy h.slots h.blocks.rows c.args.number c.blocks-list.result.now) c.self.view_is owned
 
 record_there : (c : goal.After-record)
@@ -54,7 +59,8 @@ returns-clause-kept c =
     let r = c.record.result.now in
     let there : get_or h.slots s None ≡ Some (said_of r) = record_there c in
     let used = c.in_ok-slot.ensures.used in
-    let number : r.number ≡ c.args.number = ap (λ (q : SlotRecord). q.number) (same_Some (said_of r) used.used (sym there ∙ used.there)) ∙ used.is in
+    let number : r.number ≡ c.args.number = ap (λ (q : SlotRecord). q.number)
+    (same_Some (said_of r) used.used (sym there ∙ used.there)) ∙ used.is in
     record {
       slot = s;
       there = there;
@@ -70,18 +76,22 @@ returns-clause-told c v m bytes kept shows says =
     let q = c.in_ok-used.used.now in
     let n = c.args.number in
     let same : c.deref.result.now ≡ h.slots = search rules in
-    let here : get_or h.slots s None ≡ Some q = ap (λ (xs : List (Option SlotRecord)). get_or xs s None) (sym same) ∙ sym c.in_ok-used.ensures in
+    let here : get_or h.slots s None ≡ Some q = ap (λ (xs : List (Option SlotRecord)). get_or xs s None) (sym same)
+    ∙ sym c.in_ok-used.ensures in
     let used = c.in_ok-slot.ensures.used in
     let number : q.number ≡ n = ap (λ (r : SlotRecord). r.number) (same_used here used.there) ∙ used.is in
-    let told = found h v m kept shows s q n here number c.record.result.now c.record.ensures.said c.record.ensures.unpacked in
+    let told = found h v m kept shows s q n here number c.record.result.now c.record.ensures.said
+    c.record.ensures.unpacked in
     let text = text_told h v m kept shows bytes says s q n here number told.0 told.1 in
     let len : c.record.result.now.text_len ≡ q.text_len = ap (λ (r : SlotRecord). r.text_len) c.record.ensures.said in
-    let list : c.blocks-list.result.now ≡ get_or h.lists s [] = list_is c ∙ ap (λ (k : Holding). get_or k.lists s []) c.self.view_is in
+    let list : c.blocks-list.result.now ≡ get_or h.lists s [] = list_is c
+    ∙ ap (λ (k : Holding). get_or k.lists s []) c.self.view_is in
     let first = 25 + 2 * journal_pages h.layout in
     record {
       upload = told.0;
       there = told.1;
       keeps = told.2;
-      text = subst (λ (xs : List ℕ). text_on bytes first xs c.record.result.now.text_len ≡ text_of m.indexes told.0) (sym list)
+      text = subst (λ (xs : List ℕ). text_on bytes first xs c.record.result.now.text_len ≡ text_of m.indexes told.0)
+          (sym list)
           (subst (λ (k : ℕ). text_on bytes first (get_or h.lists s []) k ≡ text_of m.indexes told.0) (sym len) text);
     }
