@@ -17,7 +17,7 @@ use Rattle.upload_rules.specs.World.{Patch, World}
 use Rattle.spool_kept.specs.Drafting.{DraftStands, DraftsFit, DraftsHold, DraftsStand, IsOfUpload}
 use Rattle.spool_kept.specs.Drafting.{StandsFor, list_in, lists_at}
 use Rattle.spool_kept.specs.Holding.{Holding, IsUsedBy}
-use Rattle.spool_kept.specs.Terminating.{Forget, ForgetsOf, ForgetsTail, IsTakenOut}
+use Rattle.spool_kept.specs.Terminating.{EachForgets, ForgetsOf, ForgetsTail, IsTakenOut}
 use Rattle.spool_kept.proofs.ChangedSlots.{clash, in_use}
 use Rattle.spool_kept.proofs.OfDeleted.{hold_still}
 use Rattle.spool_kept.proofs.TakenOut.{was_there}
@@ -37,7 +37,7 @@ list_of_forgotten number None (Some o) forgets = absurd forgets
 list_of_forgotten number (Some o) None forgets = absurd forgets
 list_of_forgotten number (Some o) (Some q) forgets = forgets.same_list
 
-module _ (number : ℕ) (old new : List (Option SpoolDraft)) (forgets : Forget number old new) where
+module _ (number : ℕ) (old new : List (Option SpoolDraft)) (forgets : EachForgets number old new) where
   lists_same : (d : ℕ) → lists_at new d ≡ lists_at old d
   lists_same d = list_of_forgotten number (draft_at old d) (draft_at new d) (forgets d)
 
@@ -106,7 +106,7 @@ module _ (number : ℕ) (old new : List (Option SpoolDraft)) (forgets : Forget n
 -- WHATEVER THE DISK SAID
 
 module _ (h h' : Holding) (slot number : ℕ) (used : IsUsedBy h.slots slot number) (out : IsTakenOut h slot h')
-    (old new : List (Option SpoolDraft)) (forgets : Forget number old new) (fit : DraftsFit h old) where
+    (old new : List (Option SpoolDraft)) (forgets : EachForgets number old new) (fit : DraftsFit h old) where
   still_of : (o o' : SpoolDraft) → ForgetsTail number o o' → IsOfUpload h.slots o → IsOfUpload h'.slots o'
   still_of o o' forgot is = record {
     grown = λ s r e at. omega (arith, is.grown s r (was s r e) (at ∙ forgot.same_number), forgot.same_offset);

@@ -1,10 +1,15 @@
 -- Two views of one image have the same blocks and the same rows, and so what one leaves free the other does.
-use Rattle.std.proofs.Common.{◌≡◌, inl, inr, ℕ, ◌+◌, ◌-◌, ◌*◌, ◌^◌, ◌<◌, ◌≤◌, List, Option, None, Some, get_or, refl, sym, ◌∙◌, ap, arith}
+use Rattle.std.proofs.Common.{◌≡◌, inl, inr, ℕ, ◌+◌, ◌-◌, ◌*◌, ◌^◌, ◌<◌, ◌≤◌, List, Option, None, Some, get_or, refl}
+use Rattle.std.proofs.Common.{sym, ◌∙◌, ap, arith}
 use Rattle.std.specs.Int.{to_be_bytes, from_be_bytes, w32}
 use Rattle.std.proofs.Math.ListN.{get_or-eq_default}
 use Rattle.std.proofs.lemmas.Bool.{cases_lt}
 use Rattle.std.proofs.lemmas.Nat.{from_be_bytes-to_be_bytes_4}
 use Rattle.spool_disk.specs.Disk.{IsImage}
+use Rattle.spool_disk.specs.Views.{Lasts}
+use Rattle.spool_disk.specs.declared.disk.Disk.{Ghosts}
+use Rattle.spool_disk.proofs.Firm.{lasts_more}
+use Rattle.spool_drafts.specs.Effect.{OnlyWrites}
 use Rattle.spool_journal.specs.Image.{journal_pages, overlaid}
 use Rattle.spool_texts.specs.Written.{aside_blocks}
 use Rattle.spool_pages.specs.Fits.{FitsRow}
@@ -19,20 +24,33 @@ use Rattle.spool_kept.specs.Shows.{IsSound, ImageShows}
 use Rattle.spool_kept.proofs.Sound.{rows_fit, said_row}
 
 module _ (f : ℕ → ℕ) (at : ℕ) where
-  one_number : (m n : ℕ) → m < 2 ^ 32 → n < 2 ^ 32 → Stands f at 4 (to_be_bytes w32 m) → Stands f at 4 (to_be_bytes w32 n) → m ≡ n
-  one_number m n lt lt' a b = sym (from_be_bytes-to_be_bytes_4 m lt) ∙ ap (from_be_bytes w32) (sym (four_at f at m a) ∙ four_at f at n b) ∙ from_be_bytes-to_be_bytes_4 n lt'
+  one_number : (m n : ℕ) → m < 2 ^ 32 → n < 2 ^ 32 → Stands f at 4 (to_be_bytes w32 m)
+      → Stands f at 4 (to_be_bytes w32 n) → m ≡ n
+  one_number m n lt lt' a b = sym (from_be_bytes-to_be_bytes_4 m lt)
+      ∙ ap (from_be_bytes w32) (sym (four_at f at m a) ∙ four_at f at n b) ∙ from_be_bytes-to_be_bytes_4 n lt'
 
 module _ (f : ℕ → ℕ) (at : ℕ) where
   pairs : (o p : ℕ × ℕ) → o.0 ≡ p.0 → o.1 ≡ p.1 → ◌≡◌ {A = Option (ℕ × ℕ)} (Some o) (Some p)
   pairs o p e e' = rw (e, e') refl
 
-  one_row : (a b : Option (ℕ × ℕ)) → FitsRow a → FitsRow b → Stands f at 8 (row_bytes a) → Stands f at 8 (row_bytes b) → a ≡ b
+  one_row : (a b : Option (ℕ × ℕ)) → FitsRow a → FitsRow b → Stands f at 8 (row_bytes a) → Stands f at 8 (row_bytes b)
+      → a ≡ b
   one_row None None fits fits' s s' = refl
-  one_row None (Some p) fits fits' s s' = absurd (omega (arith, one_number f at 0 (p.0 + 1) (omega arith) fits'.0 (free_at f at s) (slot_at f at p.0 p.1 s')))
-  one_row (Some o) None fits fits' s s' = absurd (omega (arith, one_number f at 0 (o.0 + 1) (omega arith) fits.0 (free_at f at s') (slot_at f at o.0 o.1 s)))
+  one_row None (Some p) fits fits' s s' = absurd (omega (
+    arith,
+    one_number f at 0 (p.0 + 1) (omega arith) fits'.0 (free_at f at s) (slot_at f at p.0 p.1 s'),
+  ))
+  one_row (Some o) None fits fits' s s' = absurd (omega (
+    arith,
+    one_number f at 0 (o.0 + 1) (omega arith) fits.0 (free_at f at s') (slot_at f at o.0 o.1 s),
+  ))
   one_row (Some o) (Some p) fits fits' s s' =
       pairs o p
-      (omega (arith, one_number f at (o.0 + 1) (p.0 + 1) fits.0 fits'.0 (slot_at f at o.0 o.1 s) (slot_at f at p.0 p.1 s')))
+      (omega (
+        arith,
+        one_number f at (o.0 + 1) (p.0 + 1) fits.0 fits'.0 (slot_at f at o.0 o.1 s)
+            (slot_at f at p.0 p.1 s'),
+      ))
       (one_number f (at + 4) o.1 p.1 fits.1 fits'.1 (ordinal_at f at o.0 o.1 s) (ordinal_at f at p.0 p.1 s'))
 
 -- the pages of rows hold a row for each block
@@ -48,41 +66,58 @@ module _ (f : ℕ → ℕ) (v v' : View) (sound : IsSound v) (sound' : IsSound v
       stands_behind magic (to_be_bytes w32 n) 8 4 refl (omega arith) front
 
   same_blocks : v.blocks ≡ v'.blocks
-  same_blocks = one_number f 8 v.blocks v'.blocks (omega (arith, sound.most)) (omega (arith, sound'.most)) (number_at v.blocks says.first) (number_at v'.blocks says'.first)
+  same_blocks = one_number f 8 v.blocks v'.blocks (omega (arith, sound.most)) (omega (arith, sound'.most))
+      (number_at v.blocks says.first) (number_at v'.blocks says'.first)
 
   same_row : (b : ℕ) → get_or v.rows b None ≡ get_or v'.rows b None
   same_row b = elim (cases_lt b v.blocks) [
     | inl lt ↦
         let within : b < 512 * (journal_pages v.blocks - 257) = omega (arith, lt, rows_cover v.blocks) in
-        one_row f _ (get_or v.rows b None) (get_or v'.rows b None) (rows_fit v sound b) (rows_fit v' sound' b) (says.rows b within)
+        one_row f _ (get_or v.rows b None) (get_or v'.rows b None) (rows_fit v sound b) (rows_fit v' sound' b)
+        (says.rows b within)
         (said_row f v' v.blocks (sym same_blocks) says' b within)
-    | inr over ↦ get_or-eq_default v.rows None (omega (arith, over, sound.row_count)) ∙ sym (get_or-eq_default v'.rows None (omega (arith, over, sound'.row_count, same_blocks)))
+    | inr over ↦ get_or-eq_default v.rows None (omega (arith, over, sound.row_count))
+        ∙ sym (get_or-eq_default v'.rows None (omega (arith, over, sound'.row_count, same_blocks)))
   ]
 
 -- a spool at rest rests with whatever view its bytes have
-pub rests_other : {seen : ℕ → ℕ} {loose : ℕ → Type 0} (v v' : View) → IsSound v → IsSound v' → Says (overlaid seen) v → Rests v seen loose → IsViewOf seen v' → Rests v' seen loose
+pub rests_other : {seen : ℕ → ℕ} {loose : ℕ → Type 0} (v v' : View) → IsSound v → IsSound v' → Says (overlaid seen) v
+    → Rests v seen loose → IsViewOf seen v' → Rests v' seen loose
 rests_other {seen = seen} v v' sound sound' says rests is = record {
   closed = rests.closed;
   firm = λ p l.
       let free = rests.firm p l in
       record {
         block = free.block;
-        here = ap (λ (n : ℕ). text_page n + free.block) (sym (same_blocks (overlaid seen) v v' sound sound' says is.says)) ∙ free.here;
+        here = ap (λ (n : ℕ). text_page n + free.block)
+            (sym (same_blocks (overlaid seen) v v' sound sound' says is.says)) ∙ free.here;
         free = sym (same_row (overlaid seen) v v' sound sound' says is.says free.block) ∙ free.free;
       };
   is = is;
 }
 
 -- Whatever the resting bytes show, an image shows that differs from them only in blocks that no row owns.
-pub shows_aside : {seen : ℕ → ℕ} {loose : ℕ → Type 0} (v : View) (own : List ℕ) (n : ℕ) (image : ℕ → ℕ) (m : Store) → IsSound v → v.blocks ≡ n → Rests v seen loose → Unowned v.rows own
-    → IsImage seen loose (aside_blocks (text_page n) own seen image) → (k : ℕ) → ImageShows k seen m → ImageShows k image m
+pub shows_aside : {seen : ℕ → ℕ} {loose : ℕ → Type 0} (v : View) (own : List ℕ) (n : ℕ) (image : ℕ → ℕ) (m : Store)
+    → IsSound v → v.blocks ≡ n → Rests v seen loose → Unowned v.rows own
+    → IsImage seen loose (aside_blocks (text_page n) own seen image) → (k : ℕ) → ImageShows k seen m
+    → ImageShows k image m
 shows_aside {seen = seen} v own n image m sound size rests unowned is k shown =
     let v' = shown.view in
     let blocks = same_blocks (overlaid seen) v v' sound shown.shows.sound rests.is.says shown.is.says in
     record {
       view = v';
       blocks = shown.blocks;
-      is = rests_aside own image (sym blocks ∙ size) (rests_other v v' sound shown.shows.sound rests.is.says rests shown.is)
-          (λ i lt. sym (same_row (overlaid seen) v v' sound shown.shows.sound rests.is.says shown.is.says (get_or own i 0)) ∙ unowned i lt) is;
+      is = rests_aside own image (sym blocks ∙ size) (rests_other v v' sound shown.shows.sound rests.is.says rests
+          shown.is)
+          (λ i lt. sym (same_row (overlaid seen) v v' sound shown.shows.sound rests.is.says shown.is.says
+          (get_or own i 0)) ∙ unowned i lt) is;
       shows = shown.shows;
     }
+
+-- and so a call that writes only such blocks leaves what shows
+pub shows_still : {D : Type 0} (disk : Ghosts D) (d d' : D) (v : View) (own : List ℕ) (n : ℕ)
+    → OnlyWrites disk (journal_pages n) own d d' → IsSound v → v.blocks ≡ n → Rests v (disk.seen d) (disk.loose d)
+    → Unowned v.rows own
+    → Lasts disk d d' (λ image. (k : ℕ) (m : Store) → ImageShows k (disk.seen d) m → ImageShows k image m)
+shows_still disk d d' v own n only sound size rests unowned =
+    lasts_more only.lasts (λ image is k m shown. shows_aside v own n image m sound size rests unowned is k shown)

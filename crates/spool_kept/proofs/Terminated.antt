@@ -8,7 +8,7 @@ use Rattle.spool_disk.specs.declared.disk.Disk.{Ghosts}
 use Rattle.upload_rules.specs.Calls.{outcome}
 use Rattle.upload_rules.specs.Reading.{no_such}
 use Rattle.upload_rules.specs.Room.{blocks_of}
-use Rattle.upload_rules.specs.Store.{Upload, Store, deleted_store, upload_of}
+use Rattle.upload_rules.specs.Store.{Store, deleted_store, upload_of}
 use Rattle.upload_rules.specs.declared.errors.UploadRefusal.{UploadRefusal}
 use Rattle.upload_rules.specs.declared.errors.UploadRefusal.TheVariants.{NoSuch}
 use Rattle.spool_pages.specs.Changes.{Changes, ChangesButRows, SameRowsBut, with_slot}
@@ -20,29 +20,16 @@ use Rattle.spool_kept.specs.Kept.{KeepsView}
 use Rattle.spool_kept.specs.Shows.{Shows}
 use Rattle.spool_kept.specs.Stored.{Stored, ShowsEither}
 use Rattle.spool_kept.specs.Terminating.{FreesRows, IsTakenOut, deleted_view}
+use Rattle.spool_kept.proofs.Answered.{no_upload}
 use Rattle.spool_kept.proofs.Deleted.{deleted_shows, deleted_texts}
 use Rattle.spool_kept.proofs.Freed.{rows_but_own}
 use Rattle.spool_kept.proofs.Keeps.{keeps_said}
 
 -- WHERE NO SLOT HAS THE NUMBER
 
-pub no_upload : (h : Holding) (v : View) (m : Store) (n : ℕ) → KeepsView h v → Shows v m
-    → ((s : ℕ) → IsUsedBy h.slots s n → ⊥) → upload_of m n ≡ None
-no_upload h v m n keeps shows none = by_answer (upload_of m n) refl
-  where
-    by_answer : (o : Option Upload) → upload_of m n ≡ o → upload_of m n ≡ None
-    by_answer None e = e
-    by_answer (Some u) e =
-        let has = shows.all n u e in
-        absurd (none has.slot (record {
-          used = has.used;
-          there = ap (λ (xs : List (Option SlotRecord)). get_or xs has.slot None) keeps.slots ∙ has.there;
-          is = has.number;
-        }))
-
 pub refused : (h : Holding) (v : View) (m : Store) (n : ℕ) → KeepsView h v → Shows v m
     → ((s : ℕ) → IsUsedBy h.slots s n → ⊥) → no_such (upload_of m n) ≡ Some NoSuch
-refused h v m n keeps shows none = ap no_such (no_upload h v m n keeps shows none)
+refused h v m n keeps shows none = ap no_such (no_upload h v m keeps shows n none)
 
 -- WHERE A SLOT HAS IT
 

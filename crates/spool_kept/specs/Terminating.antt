@@ -3,7 +3,8 @@ use Rattle.std.specs.Prelude.{◌≡◌, ◌≢◌, ℕ, List, [], Option, None,
 use Rattle.enc_model.specs.Indexes.{IndexSet}
 use Rattle.spool_blocks.specs.Blocks.{Row}
 use Rattle.spool_blocks.specs.Chains.{Owns}
-use Rattle.spool_drafts.specs.Drafts.{Holds, IsBehind, IsPlaced, list_of, number_of, offset_of, tail_of}
+use Rattle.spool_drafts.specs.Drafts.{Holds, IsBehind, IsPlaced, came_of, committed_len_of, fresh_of, list_of}
+use Rattle.spool_drafts.specs.Drafts.{number_of, offset_of, tail_of}
 use Rattle.spool_drafts.specs.declared.draft.SpoolDraft.{SpoolDraft}
 use Rattle.spool_pages.specs.Changes.{with_slot}
 use Rattle.spool_pages.specs.View.{View}
@@ -39,13 +40,16 @@ pub record IsTakenOut (old : Holding) (slot : ℕ) (new : Holding) : Type 0 wher
 
 -- THE DRAFTS
 
--- the draft is as it was, but that it has no committed block of the upload of this number
+-- the draft is as it was, but that a draft of this upload has none of its blocks any more
 pub record ForgetsTail (number : ℕ) (old new : SpoolDraft) : Type 0 where
   pub gone : number_of old ≡ number → tail_of new ≡ []
   pub others : number_of old ≢ number → new ≡ old
   pub same_number : number_of new ≡ number_of old
   pub same_offset : offset_of new ≡ offset_of old
+  pub same_count : came_of new ≡ came_of old
+  pub same_text : committed_len_of new ≡ committed_len_of old
   pub same_list : list_of new ≡ list_of old
+  pub same_state : fresh_of new ≡ fresh_of old
   pub placed : (n : ℕ) → IsPlaced n old → IsPlaced n new
   pub behind : (len : ℕ) (state : List ℕ) → IsBehind len state old → IsBehind len state new
   pub holds : (x : IndexSet) (p : Patch) → Holds x p old → Holds x p new
@@ -55,5 +59,5 @@ ForgetsOf number None None = Unit {0}
 ForgetsOf number (Some old) (Some new) = ForgetsTail number old new
 ForgetsOf number _ _ = ⊥
 
-abbrev pub Forget : ℕ → List (Option SpoolDraft) → List (Option SpoolDraft) → Type 0
-Forget number old new = (d : ℕ) → ForgetsOf number (draft_at old d) (draft_at new d)
+abbrev pub EachForgets : ℕ → List (Option SpoolDraft) → List (Option SpoolDraft) → Type 0
+EachForgets number old new = (d : ℕ) → ForgetsOf number (draft_at old d) (draft_at new d)

@@ -14,7 +14,7 @@ ghost use Rattle.upload_rules.specs.declared.errors.UploadRefusal.{UploadRefusal
 ghost use Rattle.spool_kept.specs.Drafting.{DraftsFit, StandsFor};
 ghost use Rattle.spool_kept.specs.Holding.{IsUsedBy, Lists, Rises};
 ghost use Rattle.spool_kept.specs.Stored.{ShowsEither};
-ghost use Rattle.spool_kept.specs.Terminating.{Forget, ForgetsOf, IsTakenOut, IsWithout};
+ghost use Rattle.spool_kept.specs.Terminating.{EachForgets, ForgetsOf, IsTakenOut, IsWithout};
 
 use crate::kept::Kept;
 use crate::order::{NumberedSlot, places_to};
@@ -48,7 +48,7 @@ fn forget_tail(draft: &mut Option<SpoolDraft>, number: u64)
 
 // Each draft of this number forgets its upload's last block.
 fn forget_tails(drafts: &mut Vec<Option<SpoolDraft>>, number: u64)
-    ensures { Forget number drafts.old.items drafts.new.items }
+    ensures { EachForgets number drafts.old.items drafts.new.items }
 {
     for place in 0..drafts.len() {
         forget_tail(&mut drafts[place], number);
@@ -106,7 +106,7 @@ pub fn terminate<D: Disk>(
     ensures taken_out { (IsErrOf result UploadError.NoMemory → ⊥) → (slot : ℕ)
         → IsUsedBy kept.old.slots slot number → IsTakenOut kept.old slot kept.new }
     ensures forgets { (IsErrOf result UploadError.NoMemory → ⊥) → (slot : ℕ)
-        → IsUsedBy kept.old.slots slot number → Forget number drafts.old.items drafts.new.items }
+        → IsUsedBy kept.old.slots slot number → EachForgets number drafts.old.items drafts.new.items }
     ensures unmade { IsErrOf result UploadError.NoMemory
         → (disk.new ≡ disk.old) × (kept.new ≡ kept.old) × (drafts.new.items ≡ drafts.old.items) }
     ensures refused { (e : Refusal) → IsErrOf result (UploadError.Refused e)

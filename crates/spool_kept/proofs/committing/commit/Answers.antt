@@ -6,11 +6,13 @@ use Rattle.spool_texts.specs.Drafts.{GivesBack}
 use Rattle.upload_rules.specs.Answers.{Answers}
 use Rattle.upload_rules.specs.Calls.{commit_refusal, committed, dropped, reached}
 use Rattle.upload_rules.specs.Drafts.{draft_at}
+use Rattle.upload_rules.specs.Store.{find}
+use Rattle.upload_rules.specs.World.{Patch, World}
 use Rattle.upload_rules.specs.declared.errors.UploadError.{UploadError}
 use Rattle.upload_rules.specs.declared.errors.UploadError.TheVariants.{Refused}
 use Rattle.upload_rules.specs.declared.errors.UploadRefusal.{UploadRefusal}
 use Rattle.upload_rules.specs.declared.errors.UploadRefusal.TheVariants.{Full, Unencodable}
-use Rattle.spool_kept.specs.Committing.{HasSameCount}
+use Rattle.spool_kept.specs.Committing.{HasSameCount, IsCommit}
 use Rattle.spool_kept.specs.Drafting.{DraftsFit, StandsFor, list_in, lists_at}
 use Rattle.spool_kept.specs.Holding.{Holding}
 use Rattle.spool_kept.proofs.CommitHead as head
@@ -134,30 +136,28 @@ returns-then-came-eq0-clause-answer g c w p s there =
 
 -- BEHIND THE UPLOAD'S TEXT
 
+is_commit : (g : Over) (c : goal.After-put_behind g) (w : World) (p : Patch)
+    → StandsFor g.D.Disk c.args.disk.now c.args.kept.now c.args.drafts.now.items w
+    → find c.args.number w.patches ≡ Some p
+    → IsCommit g.D.Disk c.args.disk.now c.args.kept.now c.args.drafts.now.items c.args.number c.in-Some.draft w p
+is_commit g c w p s there =
+    head.commits g.D.Disk c.args.disk.now c.args.kept.now c.args.drafts.now.items c.args.number c.in-Some.draft w p s
+    there (sym c.in-Some.ensures.taken) c.in-Ok.slot c.in-Ok.ensures c.requires.fits.blocks
+    (λ none. c.if-came-eq0.false (c.came.ensures ∙ none))
+
 pub returns-clause-answer : goal.returns-clause-answer
 returns-clause-answer g c w p s there =
-    let before = c.args.drafts.now.items in
-    let is = head.commits g.D.Disk c.args.disk.now c.args.kept.now before c.args.number c.in-Some.draft w p s there
-    (sym c.in-Some.ensures.taken) c.in-Ok.slot c.in-Ok.ensures c.requires.fits.blocks
-    (λ none. c.if-came-eq0.false (c.came.ensures ∙ none)) in
     subst (λ (left : List (Option SpoolDraft)). Answers (commit_refusal w c.args.number p) c.put_behind.result
     (λ n. (n ≡ reached p) × StandsFor g.D.Disk c.put_behind.new.disk c.put_behind.new.kept left
     (committed w c.args.number p))
     (StandsFor g.D.Disk c.put_behind.new.disk c.put_behind.new.kept left (dropped w c.args.number)))
-    (sym c.taken.ensures.after) (c.put_behind.ensures.answer before c.args.number w p is)
+    (sym c.taken.ensures.after)
+    (c.put_behind.ensures.answer c.args.drafts.now.items c.args.number w p (is_commit g c w p s there))
 
 pub returns-clause-crash : goal.returns-clause-crash
 returns-clause-crash g c w p s there =
-    let before = c.args.drafts.now.items in
-    let is = head.commits g.D.Disk c.args.disk.now c.args.kept.now before c.args.number c.in-Some.draft w p s there
-    (sym c.in-Some.ensures.taken) c.in-Ok.slot c.in-Ok.ensures c.requires.fits.blocks
-    (λ none. c.if-came-eq0.false (c.came.ensures ∙ none)) in
-    c.put_behind.ensures.crash before c.args.number w p is
+    c.put_behind.ensures.crash c.args.drafts.now.items c.args.number w p (is_commit g c w p s there)
 
 pub returns-clause-unmade : goal.returns-clause-unmade
 returns-clause-unmade g c w p s there short =
-    let before = c.args.drafts.now.items in
-    let is = head.commits g.D.Disk c.args.disk.now c.args.kept.now before c.args.number c.in-Some.draft w p s there
-    (sym c.in-Some.ensures.taken) c.in-Ok.slot c.in-Ok.ensures c.requires.fits.blocks
-    (λ none. c.if-came-eq0.false (c.came.ensures ∙ none)) in
-    c.put_behind.ensures.unmade before c.args.number w p is short
+    c.put_behind.ensures.unmade c.args.drafts.now.items c.args.number w p (is_commit g c w p s there) short

@@ -6,13 +6,15 @@ use Rattle.spool_journal.specs.Image.{journal_pages}
 use Rattle.spool_kept.specs.Committing.{OnlyRead}
 use Rattle.spool_texts.specs.Drafts.{GivesBack}
 use Rattle.spool_disk.specs.Views.{Lasts}
+use Rattle.spool_disk.specs.declared.disk.Disk.{Ghosts}
 use Rattle.upload_rules.specs.Calls.{commit_outcome, commit_refusal, dropped}
-use Rattle.upload_rules.specs.Store.{appended_store}
+use Rattle.upload_rules.specs.Store.{Store, appended_store}
 use Rattle.spool_kept.specs.Extending.{HandsOn, IsLonger, IsPending, IsWritten}
 use Rattle.spool_kept.specs.Holding.{Holding}
 use Rattle.spool_kept.specs.Shows.{ImageShows}
 use Rattle.spool_kept.specs.Stored.{ShowsEither}
 use Rattle.spool_kept.specs.declared.extending.ExtendError.{ExtendError}
+use Rattle.spool_kept.specs.declared.extending.Longer.{Longer}
 use Rattle.spool_kept.proofs.CommitFits.{fits_given, fits_handed}
 use Rattle.spool_kept.proofs.CommitRefusals.{late}
 use Rattle.spool_kept.proofs.CommitSpent as spent
@@ -65,6 +67,13 @@ returns-in-Err-DiskFault-clause-fits g c drafts number fit here =
 
 -- WHAT A CRASH MAY LEAVE
 
+pending_on : {D : Type 0} (disk : Ghosts D) (d : D) (h : Holding) (m : Store) (n : ℕ) (bytes : List ℕ) (longer : Longer)
+    {more more' last last' : List ℕ} → more' ≡ more → last' ≡ last → IsPending disk d h m n bytes longer more last
+    → IsPending disk d h m n bytes longer more' last'
+pending_on disk d h m n bytes longer {more' = more'} {last = last} list bytes_last is =
+    subst (IsPending disk d h m n bytes longer more') (sym bytes_last)
+    (subst (λ (xs : List ℕ). IsPending disk d h m n bytes longer xs last) (sym list) is)
+
 pub returns-in-Err-clause-crash : goal.returns-in-Err-clause-crash
 returns-in-Err-clause-crash g c drafts number w p is =
     spent.as_before g.D.Disk c.args.disk.now c.ended.new.disk c.args.kept.now.layout w.store (commit_outcome w number p)
@@ -93,10 +102,8 @@ returns-in-Err-NoMemory-clause-crash g c drafts number w p is =
 pub returns-in-Ok-extend-clause-crash : goal.returns-in-Ok-extend-clause-crash
 returns-in-Ok-extend-clause-crash g c drafts number w p is =
     let answer = c.in-Ok.ensures.answer drafts number w p is in
-    let pending = subst (IsPending g.D.Disk c.ended.new.disk c.ended.new.kept w.store p.number p.body c.in-Ok.end.0
-    c.list.result.now) (sym c.deref.ensures.value)
-    (subst (λ (more : List ℕ). IsPending g.D.Disk c.ended.new.disk c.ended.new.kept w.store p.number p.body
-    c.in-Ok.end.0 more c.in-Ok.end.1.items) (sym c.list.ensures.blocks) answer.1.1) in
+    let pending = pending_on g.D.Disk c.ended.new.disk c.ended.new.kept w.store p.number p.body c.in-Ok.end.0
+    c.list.ensures.blocks c.deref.ensures.value answer.1.1 in
     spent.either_then g.D.Disk c.args.disk.now c.ended.new.disk c.args.kept.now.layout w.store c.extend.new.disk
     (appended_store w.store p.number p.body) (commit_outcome w number p) (spent.outcome_is w number p answer.0 is.some)
     (c.ended.ensures.quiet drafts number w p is) c.ended.new.kept.layout
@@ -105,10 +112,8 @@ returns-in-Ok-extend-clause-crash g c drafts number w p is =
 pub returns-in-Err-DiskFault-clause-crash : goal.returns-in-Err-DiskFault-clause-crash
 returns-in-Err-DiskFault-clause-crash g c drafts number w p is =
     let answer = c.in-Ok.ensures.answer drafts number w p is in
-    let pending = subst (IsPending g.D.Disk c.ended.new.disk c.ended.new.kept w.store p.number p.body c.in-Ok.end.0
-    c.list.result.now) (sym c.deref.ensures.value)
-    (subst (λ (more : List ℕ). IsPending g.D.Disk c.ended.new.disk c.ended.new.kept w.store p.number p.body
-    c.in-Ok.end.0 more c.in-Ok.end.1.items) (sym c.list.ensures.blocks) answer.1.1) in
+    let pending = pending_on g.D.Disk c.ended.new.disk c.ended.new.kept w.store p.number p.body c.in-Ok.end.0
+    c.list.ensures.blocks c.deref.ensures.value answer.1.1 in
     spent.either_then g.D.Disk c.args.disk.now c.ended.new.disk c.args.kept.now.layout w.store c.extend.new.disk
     (appended_store w.store p.number p.body) (commit_outcome w number p) (spent.outcome_is w number p answer.0 is.some)
     (c.ended.ensures.quiet drafts number w p is) c.ended.new.kept.layout
@@ -147,10 +152,8 @@ pub returns-in-Ok-extend-clause-answer : goal.returns-in-Ok-extend-clause-answer
 returns-in-Ok-extend-clause-answer g c drafts number w p is =
     let answer = c.in-Ok.ensures.answer drafts number w p is in
     let may = c.in-Ok.ensures.may in
-    let pending = subst (IsPending g.D.Disk c.ended.new.disk c.ended.new.kept w.store p.number p.body c.in-Ok.end.0
-    c.list.result.now) (sym c.deref.ensures.value)
-    (subst (λ (more : List ℕ). IsPending g.D.Disk c.ended.new.disk c.ended.new.kept w.store p.number p.body
-    c.in-Ok.end.0 more c.in-Ok.end.1.items) (sym c.list.ensures.blocks) answer.1.1) in
+    let pending = pending_on g.D.Disk c.ended.new.disk c.ended.new.kept w.store p.number p.body c.in-Ok.end.0
+    c.list.ensures.blocks c.deref.ensures.value answer.1.1 in
     let wrote = subst (λ (more : List ℕ). IsWritten g.D.Disk c.ended.new.disk c.extend.new.disk c.ended.new.kept w.store
     p.number p.body c.in-Ok.end.0 more) c.list.ensures.blocks
     (c.in-Ok-extend.ensures.written w.store p.number p.body pending) in

@@ -10,12 +10,11 @@ use Rattle.upload_rules.proofs.Finds.{replaced_same}
 use Rattle.upload_rules.proofs.Growing.{grown_longer}
 use Rattle.upload_rules.proofs.Patches.{draft_of}
 use Rattle.spool_blocks.specs.Blocks.{Row}
-use Rattle.spool_disk.proofs.Firm.{lasts_more}
 use Rattle.spool_drafts.specs.Drafts.{IsPlaced, Holds, Carries, IsLonger, number_of, with_piece, tail_of}
 use Rattle.spool_drafts.specs.declared.draft.SpoolDraft.{SpoolDraft}
 use Rattle.spool_kept.specs.Drafting.{DraftsFit, DraftsHold, IsOfUpload, DraftStands, DraftsStand, IsOwnedBy, StandsFor}
 use Rattle.spool_kept.proofs.Drafted.{reserves_only}
-use Rattle.spool_kept.proofs.SameView.{shows_aside}
+use Rattle.spool_kept.proofs.SameView.{shows_still}
 use Rattle.spool_kept.specs.Holding.{Holding}
 use Rattle.spool_kept.proofs.DraftLonger.{answered, changed_back, fit_longer, longer_carries, longer_holds}
 use Rattle.spool_kept.proofs.DraftLonger.{longer_world, moved, ok_more, some_draft, stand_longer}
@@ -61,11 +60,11 @@ returns-clause-quiet g c w p s there =
     let effect = c.append-answer.ensures.effect in
     let v = s.stored.view in
     let rows = effect.grasp.takes.rows ∙ ap (λ (h : Holding). h.blocks.rows) c.kept.view_is ∙ s.stored.keeps.rows in
-    lasts_more (effect.writes s.stored.honest).lasts (λ image is n m shown.
-    shows_aside v effect.own _ image m s.stored.shows.sound
-    (sym s.stored.keeps.blocks ∙ sym (ap (λ (h : Holding). h.layout) c.kept.view_is)) s.stored.rests
+    shows_still g.D.Disk c.args.disk.now c.append-answer.new.disk v effect.own _ (effect.writes s.stored.honest)
+    s.stored.shows.sound (sym s.stored.keeps.blocks ∙ sym (ap (λ (h : Holding). h.layout) c.kept.view_is))
+    s.stored.rests
     (λ i lt. ap (λ (r : List Row). get_or r (get_or effect.own i 0) None) (sym rows)
-    ∙ effect.grasp.reserved.no_owner i lt) is n shown)
+    ∙ effect.grasp.reserved.no_owner i lt)
 
 pub returns-clause-answer : goal.returns-clause-answer
 returns-clause-answer g c w p s there fits =
