@@ -7,3 +7,7 @@ mod faults;
 mod scripts;
 #[cfg(test)]
 mod spools;
+#[cfg(test)]
+mod stories;
+#[cfg(test)]
+mod talks;

@@ -1,13 +1,19 @@
 //! Scripts whose output is known from outside.
 
+use crate::spools::ran;
+use crate::stories::{HELLO, LONG_TEXT, ONE_WINNER};
+use crate::talks::Step::{
+    self, Added, Bytes, Came, Line, Made, Open, Patch, Patched, Post, Refused, Reply, Say, Shown,
+    Text, Told,
+};
+use crate::talks::{Talk, fresh};
 use enc_index::{Index, IndexSet, Kind};
 use enc_model::Encoding;
 use gateway_engine::{RunFault, run};
-use spool_disk::MemoryDisk;
-use spool_image::format;
-use std::alloc::{AllocError, Global};
+use std::alloc::Global;
 use std::io;
 use std::io::{ErrorKind, Read, Write};
+use std::process::Abort;
 use std::test::Fail;
 
 /// How a run ends.
@@ -21,516 +27,335 @@ enum Ended {
     Wrote(Vec<u8>),
 }
 
-/// A script, and what its run is to write.
-#[derive(Drop)]
-pub(crate) struct Talk {
-    alloc: Global,
-    pub(crate) script: Vec<u8>,
-    pub(crate) wanted: Vec<u8>,
+/// Runs a script over a spool of 32 blocks with these index files.
+fn ended_with(alloc: Global, talk: &Talk, indexes: &IndexSet) -> Result<Ended, Fail> {
+    let (_disk, fault, written) = ran(alloc, talk, fresh(alloc, 32, indexes)?);
+    if written != talk.wanted {
+        return Ok(Ended::Wrote(written));
+    }
+    Ok(match fault {
+        None => Ended::Ran,
+        Some(fault) => Ended::Refused(fault),
+    })
 }
 
-impl Talk {
-    pub(crate) fn new(alloc: Global) -> Self {
-        Talk {
-            alloc,
-            script: Vec::new(alloc),
-            wanted: Vec::new(alloc),
-        }
-    }
-
-    /// A line of the script.
-    fn line(&mut self, text: &str) -> Result<(), AllocError> {
-        self.script.extend_from_slice(text.as_bytes())?;
-        self.script.extend_from_slice(b"\n")
-    }
-
-    /// A line that is to be written.
-    fn told(&mut self, text: &str) -> Result<(), AllocError> {
-        self.wanted.extend_from_slice(text.as_bytes())?;
-        self.wanted.extend_from_slice(b"\n")
-    }
-
-    /// Connections are opened: 1 up to this one.
-    pub(crate) fn open(&mut self, last: u32) -> Result<(), AllocError> {
-        for conn in 1..=last {
-            self.line(&format!(in self.alloc; "open {conn}")?)?;
-        }
-        Ok(())
-    }
-
-    /// The lines of a head.
-    pub(crate) fn say(&mut self, conn: u32, head: &str) -> Result<(), AllocError> {
-        for line in head.split('\n') {
-            self.line(&format!(in self.alloc; "say {conn} {line}")?)?;
-        }
-        self.line(&format!(in self.alloc; "say {conn}")?)
-    }
-
-    /// Bytes that come.
-    pub(crate) fn came(&mut self, conn: u32, bytes: &[u8]) -> Result<(), AllocError> {
-        let digits = hex::encode(self.alloc, bytes)?;
-        self.line(&format!(in self.alloc; "came {conn} {digits}")?)
-    }
-
-    /// Bytes that are to be written.
-    pub(crate) fn given(&mut self, conn: u32, bytes: &[u8]) -> Result<(), AllocError> {
-        let count = bytes.len();
-        self.told(&format!(in self.alloc; "< {conn} {count}")?)?;
-        self.wanted.extend_from_slice(bytes)?;
-        self.told("")
-    }
-
-    /// A reply that is to be written: its status, its own lines and its body. How many bytes it has.
-    pub(crate) fn reply(
-        &mut self,
-        conn: u32,
-        status: &str,
-        lines: &str,
-        body: &[u8],
-    ) -> Result<usize, AllocError> {
-        let mut bytes = Vec::new(self.alloc);
-        bytes.extend_from_slice(b"HTTP/1.1 ")?;
-        bytes.extend_from_slice(status.as_bytes())?;
-        bytes.extend_from_slice(b"\r\nTus-Resumable: 1.0.0\r\nCache-Control: no-store\r\n")?;
-        for line in lines.split('\n') {
-            bytes.extend_from_slice(line.as_bytes())?;
-            bytes.extend_from_slice(b"\r\n")?;
-        }
-        bytes.extend_from_slice(b"\r\n")?;
-        bytes.extend_from_slice(body)?;
-        self.given(conn, &bytes)?;
-        Ok(bytes.len())
-    }
-
-    /// A reply that refuses.
-    pub(crate) fn refused(
-        &mut self,
-        conn: u32,
-        status: &str,
-        number: u8,
-    ) -> Result<usize, AllocError> {
-        let lines = format!(in self.alloc; "X-Refusal: {number}\nContent-Length: 0")?;
-        self.reply(conn, status, &lines, b"")
-    }
-
-    /// A POST on connection 1.
-    fn post(&mut self, length: u64, metadata: &str) -> Result<(), AllocError> {
-        let mut head = format!(in self.alloc;
-            "POST /files HTTP/1.1\nTus-Resumable: 1.0.0\nUpload-Length: {length}"
-        )?;
-        if !metadata.is_empty() {
-            head.push_str("\nUpload-Metadata: ")?;
-            head.push_str(metadata)?;
-        }
-        self.say(1, &head)
-    }
-
-    /// A POST on connection 1 that makes this upload.
-    pub(crate) fn made(
-        &mut self,
-        number: u64,
-        length: u64,
-        metadata: &str,
-    ) -> Result<(), AllocError> {
-        self.post(length, metadata)?;
-        let lines = format!(in self.alloc; "Location: /files/{number}\nContent-Length: 0")?;
-        self.reply(1, "201 Created", &lines, b"")?;
-        Ok(())
-    }
-
-    /// The head of a PATCH.
-    pub(crate) fn patch(
-        &mut self,
-        conn: u32,
-        number: u64,
-        offset: u64,
-        length: usize,
-    ) -> Result<(), AllocError> {
-        let head = format!(in self.alloc;
-            "PATCH /files/{number} HTTP/1.1\nTus-Resumable: 1.0.0\nContent-Type: application/offset+octet-stream\nUpload-Offset: {offset}\nContent-Length: {length}"
-        )?;
-        self.say(conn, &head)
-    }
-
-    /// What a PATCH whose bytes were taken is answered.
-    pub(crate) fn patched(&mut self, conn: u32, offset: u64) -> Result<usize, AllocError> {
-        let lines = format!(in self.alloc; "Upload-Offset: {offset}")?;
-        self.reply(conn, "204 No Content", &lines, b"")
-    }
-
-    /// A PATCH on connection 1 whose bytes are taken, up to an offset.
-    pub(crate) fn added(
-        &mut self,
-        number: u64,
-        offset: u64,
-        bytes: &[u8],
-        reached: u64,
-    ) -> Result<(), AllocError> {
-        self.patch(1, number, offset, bytes.len())?;
-        self.came(1, bytes)?;
-        self.patched(1, reached)?;
-        Ok(())
-    }
-
-    /// A HEAD on a connection, and the lines that it is answered.
-    pub(crate) fn shown(
-        &mut self,
-        conn: u32,
-        number: u64,
-        lines: &str,
-    ) -> Result<usize, AllocError> {
-        let head = format!(in self.alloc; "HEAD /files/{number} HTTP/1.1\nTus-Resumable: 1.0.0")?;
-        self.say(conn, &head)?;
-        self.reply(conn, "200 OK", lines, b"")
-    }
-
-    /// A GET on connection 1, and the text that it is answered.
-    pub(crate) fn text(
-        &mut self,
-        number: u64,
-        charset: &str,
-        text: &[u8],
-    ) -> Result<usize, AllocError> {
-        let head = format!(in self.alloc; "GET /files/{number} HTTP/1.1")?;
-        self.say(1, &head)?;
-        let length = text.len();
-        let lines = format!(in self.alloc;
-            "Content-Type: text/plain; charset={charset}\nContent-Length: {length}"
-        )?;
-        self.reply(1, "200 OK", &lines, text)
-    }
-
-    /// Runs the script over a spool with these index files.
-    fn ended_with(&self, indexes: &IndexSet) -> Result<Ended, Fail> {
-        let mut reader = self.script.as_slice();
-        let mut writer = Vec::new(self.alloc);
-        let disk = fresh(self.alloc, 32, indexes)?;
-        let fault = match run(self.alloc, &mut reader, &mut writer, disk) {
-            Ok(_disk) => None,
-            Err((_disk, fault)) => Some(fault),
-        };
-        if writer != self.wanted {
-            return Ok(Ended::Wrote(writer));
-        }
-        Ok(match fault {
-            None => Ended::Ran,
-            Some(fault) => Ended::Refused(fault),
-        })
-    }
-
-    /// Runs the script.
-    fn ended(&self) -> Result<Ended, Fail> {
-        self.ended_with(&IndexSet::new(self.alloc)?)
-    }
+/// Runs a script over a spool of 32 blocks: it ends so.
+fn ends(rt: &impl Abort, alloc: Global, talk: &Talk, wanted: Ended) -> Result<(), Fail> {
+    let ended = ended_with(alloc, talk, &IndexSet::new(alloc)?)?;
+    assert_eq!(rt; ended, wanted);
+    Ok(())
 }
 
-/// A spool of so many blocks on a disk of its size, without uploads.
-pub(crate) fn fresh(alloc: Global, blocks: u32, indexes: &IndexSet) -> Result<MemoryDisk, Fail> {
-    let mut disk = MemoryDisk::new(alloc, (541 + blocks as usize) * 4096)?;
-    format(&mut disk, blocks, indexes)?;
-    Ok(disk)
+/// Runs these steps: what is wanted is written.
+fn runs(rt: &impl Abort, alloc: Global, steps: &[Step]) -> Result<(), Fail> {
+    ends(rt, alloc, &Talk::new(rt, alloc, steps)?, Ended::Ran)
 }
 
-/// An upload of five bytes, filled.
-pub(crate) fn hello(alloc: Global) -> Result<Talk, Fail> {
-    let mut talk = Talk::new(alloc);
-    talk.open(3)?;
-    talk.made(1, 5, "")?;
-    talk.added(1, 0, b"hello", 5)?;
-    talk.shown(1, 1, "Upload-Offset: 5\nUpload-Length: 5")?;
-    talk.text(1, "UTF-8", b"hello")?;
-    Ok(talk)
+/// Runs these steps and then more of them: what is wanted is written.
+fn runs_on(rt: &impl Abort, alloc: Global, steps: &[Step], more: &[Step]) -> Result<(), Fail> {
+    let mut talk = Talk::new(rt, alloc, steps)?;
+    talk.go_on(rt, more)?;
+    ends(rt, alloc, &talk, Ended::Ran)
 }
+
+const MAX: &str = "Tus-Version: 1.0.0\nTus-Extension: creation\nTus-Max-Size: 1073741824";
+
+const MAX_AND_CLOSE: &str =
+    "Tus-Version: 1.0.0\nTus-Extension: creation\nTus-Max-Size: 1073741824\nConnection: close";
 
 #[test]
 fn options_and_closes(rt: HostRuntime) -> Result<(), Fail> {
-    let lines = "Tus-Version: 1.0.0\nTus-Extension: creation\nTus-Max-Size: 1073741824";
-    let closing =
-        "Tus-Version: 1.0.0\nTus-Extension: creation\nTus-Max-Size: 1073741824\nConnection: close";
-    let mut talk = Talk::new(rt.alloc());
-    talk.open(2)?;
-    talk.say(1, "OPTIONS /files HTTP/1.1\nTus-Resumable: 0.2.2")?;
-    assert_eq!(rt; talk.reply(1, "204 No Content", lines, b"")?, 145);
-    talk.say(
-        1,
-        "OPTIONS /files HTTP/1.1\nTus-Resumable: 0.2.2\nConnection: Keep-Alive, Close",
-    )?;
-    assert_eq!(rt; talk.reply(1, "204 No Content", closing, b"")?, 164);
-    talk.told("x 1")?;
-    talk.say(2, "OPTIONS /files HTTP/1.0\nTus-Resumable: 0.2.2")?;
-    assert_eq!(rt; talk.reply(2, "204 No Content", closing, b"")?, 164);
-    talk.told("x 2")?;
-    assert_eq!(rt; talk.ended()?, Ended::Ran);
-    Ok(())
+    let steps = [
+        Open(2),
+        Say(1, "OPTIONS /files HTTP/1.1\nTus-Resumable: 0.2.2"),
+        Reply(1, "204 No Content", MAX, b""),
+        Bytes(145),
+        Say(
+            1,
+            "OPTIONS /files HTTP/1.1\nTus-Resumable: 0.2.2\nConnection: Keep-Alive, Close",
+        ),
+        Reply(1, "204 No Content", MAX_AND_CLOSE, b""),
+        Bytes(164),
+        Told("x 1"),
+        Say(2, "OPTIONS /files HTTP/1.0\nTus-Resumable: 0.2.2"),
+        Reply(2, "204 No Content", MAX_AND_CLOSE, b""),
+        Bytes(164),
+        Told("x 2"),
+    ];
+    runs(&rt, rt.alloc(), &steps)
 }
 
 #[test]
 fn characters_of_utf8(rt: HostRuntime) -> Result<(), Fail> {
-    let mut talk = Talk::new(rt.alloc());
-    talk.open(1)?;
-    talk.made(1, 3, "")?;
-    talk.added(1, 0, b"\xF0\x90", 2)?;
-    talk.text(1, "UTF-8", b"")?;
-    talk.added(1, 2, b"\x80", 3)?;
-    talk.text(1, "UTF-8", b"\xEF\xBF\xBD")?;
-    talk.made(2, 3, "")?;
-    talk.added(2, 0, b"\xE0\x80A", 3)?;
-    talk.text(2, "UTF-8", b"\xEF\xBF\xBD\xEF\xBF\xBDA")?;
-    assert_eq!(rt; talk.ended()?, Ended::Ran);
-    Ok(())
+    let steps = [
+        Open(1),
+        Made(1, 3, ""),
+        Added(1, 0, b"\xF0\x90", 2),
+        Text(1, "UTF-8", b""),
+        Added(1, 2, b"\x80", 3),
+        Text(1, "UTF-8", b"\xEF\xBF\xBD"),
+        Made(2, 3, ""),
+        Added(2, 0, b"\xE0\x80A", 3),
+        Text(2, "UTF-8", b"\xEF\xBF\xBD\xEF\xBF\xBDA"),
+    ];
+    runs(&rt, rt.alloc(), &steps)
 }
+
+/// Into windows-1252, and fatal.
+const FATAL: &str = "to d2luZG93cy0xMjUy,mode ZmF0YWw=";
 
 #[test]
 fn texts_that_cannot_be_encoded(rt: HostRuntime) -> Result<(), Fail> {
-    let fatal = "to d2luZG93cy0xMjUy,mode ZmF0YWw=";
-    let mut talk = Talk::new(rt.alloc());
-    talk.open(1)?;
-    talk.made(1, 3, fatal)?;
-    talk.added(1, 0, b"\xE3\x81", 2)?;
-    talk.patch(1, 1, 2, 1)?;
-    talk.came(1, b"\x82")?;
-    talk.refused(1, "422 Unprocessable Entity", 6)?;
-    talk.shown(
-        1,
-        1,
-        "Upload-Offset: 2\nUpload-Length: 3\nUpload-Metadata: to d2luZG93cy0xMjUy,mode ZmF0YWw=",
-    )?;
-    talk.made(2, 2, fatal)?;
-    talk.added(2, 0, b"\xC3", 1)?;
-    talk.added(2, 1, b"\xA9", 2)?;
-    talk.text(2, "windows-1252", b"\xE9")?;
-    talk.made(3, 2, fatal)?;
-    talk.patch(1, 3, 0, 2)?;
-    talk.came(1, b"A\xE3")?;
-    talk.refused(1, "422 Unprocessable Entity", 6)?;
-    talk.shown(
-        1,
-        3,
-        "Upload-Offset: 0\nUpload-Length: 2\nUpload-Metadata: to d2luZG93cy0xMjUy,mode ZmF0YWw=",
-    )?;
+    let steps = [
+        Open(1),
+        Made(1, 3, FATAL),
+        Added(1, 0, b"\xE3\x81", 2),
+        Patch(1, 1, 2, 1),
+        Came(1, b"\x82"),
+        Refused(1, "422 Unprocessable Entity", 6),
+        Shown(
+            1,
+            1,
+            "Upload-Offset: 2\nUpload-Length: 3\nUpload-Metadata: to d2luZG93cy0xMjUy,mode ZmF0YWw=",
+        ),
+        Made(2, 2, FATAL),
+        Added(2, 0, b"\xC3", 1),
+        Added(2, 1, b"\xA9", 2),
+        Text(2, "windows-1252", b"\xE9"),
+        Made(3, 2, FATAL),
+        Patch(1, 3, 0, 2),
+        Came(1, b"A\xE3"),
+        Refused(1, "422 Unprocessable Entity", 6),
+        Shown(
+            1,
+            3,
+            "Upload-Offset: 0\nUpload-Length: 2\nUpload-Metadata: to d2luZG93cy0xMjUy,mode ZmF0YWw=",
+        ),
+    ];
     let mut indexes = IndexSet::new(rt.alloc())?;
-    indexes.set(Index::read(
-        rt.alloc(),
-        b"0\t20AC\n105\t00E9\n",
-        Kind::Single(Encoding::Windows1252),
-    )?);
-    assert_eq!(rt; talk.ended_with(&indexes)?, Ended::Ran);
+    let file = b"0\t20AC\n105\t00E9\n";
+    indexes.set(Index::read(rt.alloc(), file, Kind::Single(Encoding::Windows1252))?);
+    let talk = Talk::new(&rt, rt.alloc(), &steps)?;
+    assert_eq!(rt; ended_with(rt.alloc(), &talk, &indexes)?, Ended::Ran);
     Ok(())
 }
 
 #[test]
 fn one_winner_at_an_offset(rt: HostRuntime) -> Result<(), Fail> {
-    let mut talk = Talk::new(rt.alloc());
-    talk.open(2)?;
-    talk.made(1, 5, "")?;
-    talk.patch(1, 1, 0, 3)?;
-    talk.came(1, b"ab")?;
-    talk.patch(2, 1, 0, 2)?;
-    talk.came(2, b"xy")?;
-    assert_eq!(rt; talk.patched(2, 2)?, 92);
-    talk.came(1, b"c")?;
-    assert_eq!(rt; talk.refused(1, "409 Conflict", 9)?, 105);
-    talk.shown(1, 1, "Upload-Offset: 2\nUpload-Length: 5")?;
-    talk.text(1, "UTF-8", b"xy")?;
-    assert_eq!(rt; talk.ended()?, Ended::Ran);
-    Ok(())
+    let shown = [
+        Shown(1, 1, "Upload-Offset: 2\nUpload-Length: 5"),
+        Text(1, "UTF-8", b"xy"),
+    ];
+    runs_on(&rt, rt.alloc(), ONE_WINNER, &shown)
 }
 
 #[test]
 fn cut_body_is_kept(rt: HostRuntime) -> Result<(), Fail> {
-    let mut talk = Talk::new(rt.alloc());
-    talk.open(2)?;
-    talk.made(1, 10, "")?;
-    talk.patch(1, 1, 0, 10)?;
-    talk.came(1, b"abcd")?;
-    talk.line("cut 1")?;
-    talk.shown(2, 1, "Upload-Offset: 4\nUpload-Length: 10")?;
-    talk.patch(2, 1, 4, 6)?;
-    talk.came(2, b"efghij")?;
-    talk.patched(2, 10)?;
-    assert_eq!(rt; talk.ended()?, Ended::Ran);
-    Ok(())
+    let steps = [
+        Open(2),
+        Made(1, 10, ""),
+        Patch(1, 1, 0, 10),
+        Came(1, b"abcd"),
+        Line("cut 1"),
+        Shown(2, 1, "Upload-Offset: 4\nUpload-Length: 10"),
+        Patch(2, 1, 4, 6),
+        Came(2, b"efghij"),
+        Patched(2, 10),
+    ];
+    runs(&rt, rt.alloc(), &steps)
 }
 
 #[test]
 fn heads_that_are_cut(rt: HostRuntime) -> Result<(), Fail> {
     let head =
-        b"PATCH /files/1 HTTP/1.1\r\nTus-Resumable: 1.0.0\r\nContent-Type: application/offset+octet-stream\r\nUpload-Offset: 0\r\nContent-Length: 5\r\n\r\n";
-    let mut talk = Talk::new(rt.alloc());
-    talk.open(1)?;
-    talk.made(1, 5, "")?;
+        b"PATCH /files/1 HTTP/1.1\r\nTus-Resumable: 1.0.0\r\nContent-Type: application/offset+octet-stream\r\n\
+        Upload-Offset: 0\r\nContent-Length: 5\r\n\r\n";
+    let mut talk = Talk::new(&rt, rt.alloc(), &[Open(1), Made(1, 5, "")])?;
     for end in 1..head.len() {
-        talk.line("open 2")?;
-        talk.came(2, &head[..end])?;
-        talk.line("cut 2")?;
+        talk.go_on(&rt, &[Line("open 2"), Came(2, &head[..end]), Line("cut 2")])?;
     }
-    talk.shown(1, 1, "Upload-Offset: 0\nUpload-Length: 5")?;
-    assert_eq!(rt; talk.ended()?, Ended::Ran);
-    Ok(())
+    talk.go_on(&rt, &[Shown(1, 1, "Upload-Offset: 0\nUpload-Length: 5")])?;
+    ends(&rt, rt.alloc(), &talk, Ended::Ran)
 }
 
 #[test]
 fn one_upload_too_many(rt: HostRuntime) -> Result<(), Fail> {
-    let mut talk = Talk::new(rt.alloc());
-    talk.open(1)?;
+    let mut talk = Talk::new(&rt, rt.alloc(), &[Open(1)])?;
     for number in 1..=512u64 {
-        talk.made(number, 0, "")?;
+        talk.go_on(&rt, &[Made(number, 0, "")])?;
     }
-    talk.post(0, "")?;
-    talk.refused(1, "507 Insufficient Storage", 11)?;
-    talk.shown(1, 512, "Upload-Offset: 0\nUpload-Length: 0")?;
-    assert_eq!(rt; talk.ended()?, Ended::Ran);
-    Ok(())
+    let refused = [
+        Post(0, ""),
+        Refused(1, "507 Insufficient Storage", 11),
+        Shown(1, 512, "Upload-Offset: 0\nUpload-Length: 0"),
+    ];
+    talk.go_on(&rt, &refused)?;
+    ends(&rt, rt.alloc(), &talk, Ended::Ran)
 }
 
 #[test]
 fn requests_that_are_refused(rt: HostRuntime) -> Result<(), Fail> {
-    let mut talk = Talk::new(rt.alloc());
-    talk.open(1)?;
-    talk.say(1, "POST /files HTTP/1.1\nUpload-Length: 5")?;
-    let lines = "Tus-Version: 1.0.0\nX-Refusal: 22\nContent-Length: 0";
-    assert_eq!(rt; talk.reply(1, "412 Precondition Failed", lines, b"")?, 137);
-    talk.say(1, "HEAD /files/1 HTTP/1.1\nTus-Resumable: 1.0.0")?;
-    assert_eq!(rt; talk.reply(1, "404 Not Found", "X-Refusal: 8", b"")?, 87);
-    talk.say(1, "DELETE /files HTTP/1.1\nTus-Resumable: 1.0.0")?;
-    let lines = "Allow: OPTIONS, POST\nX-Refusal: 24\nContent-Length: 0";
-    assert_eq!(rt; talk.reply(1, "405 Method Not Allowed", lines, b"")?, 138);
-    talk.made(1, 5, "")?;
-    assert_eq!(rt; talk.ended()?, Ended::Ran);
-    Ok(())
+    let steps = [
+        Open(1),
+        Say(1, "POST /files HTTP/1.1\nUpload-Length: 5"),
+        Reply(
+            1,
+            "412 Precondition Failed",
+            "Tus-Version: 1.0.0\nX-Refusal: 22\nContent-Length: 0",
+            b"",
+        ),
+        Bytes(137),
+        Say(1, "HEAD /files/1 HTTP/1.1\nTus-Resumable: 1.0.0"),
+        Reply(1, "404 Not Found", "X-Refusal: 8", b""),
+        Bytes(87),
+        Say(1, "DELETE /files HTTP/1.1\nTus-Resumable: 1.0.0"),
+        Reply(
+            1,
+            "405 Method Not Allowed",
+            "Allow: OPTIONS, POST\nX-Refusal: 24\nContent-Length: 0",
+            b"",
+        ),
+        Bytes(138),
+        Made(1, 5, ""),
+    ];
+    runs(&rt, rt.alloc(), &steps)
 }
 
 #[test]
 fn body_of_a_refused_request_is_passed_over(rt: HostRuntime) -> Result<(), Fail> {
-    let mut talk = Talk::new(rt.alloc());
-    talk.open(1)?;
-    talk.made(1, 5, "")?;
-    talk.came(
-        1,
-        b"PATCH /files/1 HTTP/1.1\r\nTus-Resumable: 1.0.0\r\nContent-Type: text/plain\r\nUpload-Offset: 0\r\nContent-Length: 3\r\n\r\nabcHEAD /files/1 HTTP/1.1\r\nTus-Resumable: 1.0.0\r\n\r\n",
-    )?;
-    talk.refused(1, "415 Unsupported Media Type", 25)?;
-    talk.reply(1, "200 OK", "Upload-Offset: 0\nUpload-Length: 5", b"")?;
-    assert_eq!(rt; talk.ended()?, Ended::Ran);
-    Ok(())
+    let two_requests =
+        b"PATCH /files/1 HTTP/1.1\r\nTus-Resumable: 1.0.0\r\nContent-Type: text/plain\r\nUpload-Offset: 0\r\n\
+        Content-Length: 3\r\n\r\nabcHEAD /files/1 HTTP/1.1\r\nTus-Resumable: 1.0.0\r\n\r\n";
+    let steps = [
+        Open(1),
+        Made(1, 5, ""),
+        Came(1, two_requests),
+        Refused(1, "415 Unsupported Media Type", 25),
+        Reply(1, "200 OK", "Upload-Offset: 0\nUpload-Length: 5", b""),
+    ];
+    runs(&rt, rt.alloc(), &steps)
 }
 
 #[test]
 fn metadata(rt: HostRuntime) -> Result<(), Fail> {
-    let mut talk = Talk::new(rt.alloc());
-    talk.open(1)?;
-    talk.post(5, "from a2xpbmdvbg==")?;
-    talk.refused(1, "400 Bad Request", 28)?;
-    talk.post(5, "from dXRmLTg=,from dXRmLTg=")?;
-    talk.refused(1, "400 Bad Request", 27)?;
-    talk.made(1, 5, "note")?;
-    talk.shown(
-        1,
-        1,
-        "Upload-Offset: 0\nUpload-Length: 5\nUpload-Metadata: note",
-    )?;
-    assert_eq!(rt; talk.ended()?, Ended::Ran);
-    Ok(())
+    let steps = [
+        Open(1),
+        Post(5, "from a2xpbmdvbg=="),
+        Refused(1, "400 Bad Request", 28),
+        Post(5, "from dXRmLTg=,from dXRmLTg="),
+        Refused(1, "400 Bad Request", 27),
+        Made(1, 5, "note"),
+        Shown(
+            1,
+            1,
+            "Upload-Offset: 0\nUpload-Length: 5\nUpload-Metadata: note",
+        ),
+    ];
+    runs(&rt, rt.alloc(), &steps)
 }
 
 #[test]
 fn lengths(rt: HostRuntime) -> Result<(), Fail> {
-    let mut talk = Talk::new(rt.alloc());
-    talk.open(1)?;
-    talk.made(1, 0, "")?;
-    talk.shown(1, 1, "Upload-Offset: 0\nUpload-Length: 0")?;
-    talk.text(1, "UTF-8", b"")?;
-    talk.patch(1, 1, 0, 1)?;
-    talk.came(1, b"a")?;
-    talk.refused(1, "413 Payload Too Large", 10)?;
-    talk.made(2, 1_073_741_824, "")?;
-    talk.post(1_073_741_825, "")?;
-    talk.refused(1, "413 Payload Too Large", 12)?;
-    assert_eq!(rt; talk.ended()?, Ended::Ran);
-    Ok(())
+    let steps = [
+        Open(1),
+        Made(1, 0, ""),
+        Shown(1, 1, "Upload-Offset: 0\nUpload-Length: 0"),
+        Text(1, "UTF-8", b""),
+        Patch(1, 1, 0, 1),
+        Came(1, b"a"),
+        Refused(1, "413 Payload Too Large", 10),
+        Made(2, 1_073_741_824, ""),
+        Post(1_073_741_825, ""),
+        Refused(1, "413 Payload Too Large", 12),
+    ];
+    runs(&rt, rt.alloc(), &steps)
 }
+
+/// A PATCH that waits for 100.
+const WAITING: &str =
+    "PATCH /files/1 HTTP/1.1\nTus-Resumable: 1.0.0\nContent-Type: application/offset+octet-stream\n\
+    Upload-Offset: 0\nContent-Length: 2\nExpect: 100-continue";
 
 #[test]
 fn patches_that_wait_for_100(rt: HostRuntime) -> Result<(), Fail> {
-    let head =
-        "PATCH /files/1 HTTP/1.1\nTus-Resumable: 1.0.0\nContent-Type: application/offset+octet-stream\nUpload-Offset: 0\nContent-Length: 2\nExpect: 100-continue";
-    let mut talk = Talk::new(rt.alloc());
-    talk.open(1)?;
-    talk.made(1, 5, "")?;
-    talk.say(1, head)?;
-    talk.told("< 1 25\nHTTP/1.1 100 Continue\r\n\r\n")?;
-    talk.came(1, b"he")?;
-    talk.patched(1, 2)?;
-    talk.say(1, head)?;
-    let lines = "X-Refusal: 9\nContent-Length: 0\nConnection: close";
-    talk.reply(1, "409 Conflict", lines, b"")?;
-    talk.told("x 1")?;
-    assert_eq!(rt; talk.ended()?, Ended::Ran);
-    Ok(())
+    let steps = [
+        Open(1),
+        Made(1, 5, ""),
+        Say(1, WAITING),
+        Told("< 1 25\nHTTP/1.1 100 Continue\r\n\r\n"),
+        Came(1, b"he"),
+        Patched(1, 2),
+        Say(1, WAITING),
+        Reply(
+            1,
+            "409 Conflict",
+            "X-Refusal: 9\nContent-Length: 0\nConnection: close",
+            b"",
+        ),
+        Told("x 1"),
+    ];
+    runs(&rt, rt.alloc(), &steps)
 }
 
 #[test]
 fn calls_that_are_refused(rt: HostRuntime) -> Result<(), Fail> {
-    let mut talk = Talk::new(rt.alloc());
-    talk.line("open 3")?;
-    talk.line("open 3")?;
-    talk.told("! 3 29")?;
-    assert_eq!(rt; talk.ended()?, Ended::Ran);
-    let mut talk = Talk::new(rt.alloc());
-    talk.line("came 4 00")?;
-    talk.line("opne 1")?;
-    talk.told("! 4 30")?;
-    assert_eq!(rt; talk.ended()?, Ended::Refused(RunFault::Script(2)));
-    Ok(())
+    runs(
+        &rt,
+        rt.alloc(),
+        &[Line("open 3"), Line("open 3"), Told("! 3 29")],
+    )?;
+    let steps = [Line("came 4 00"), Line("opne 1"), Told("! 4 30")];
+    let talk = Talk::new(&rt, rt.alloc(), &steps)?;
+    ends(&rt, rt.alloc(), &talk, Ended::Refused(RunFault::Script(2)))
 }
 
 #[test]
 fn heads_that_are_none(rt: HostRuntime) -> Result<(), Fail> {
-    let mut talk = Talk::new(rt.alloc());
-    talk.open(2)?;
-    talk.came(1, &vec![in rt.alloc(); b'a'; 8192]?)?;
-    let lines = "X-Refusal: 19\nContent-Length: 0\nConnection: close";
-    talk.reply(1, "431 Request Header Fields Too Large", lines, b"")?;
-    talk.told("x 1")?;
-    talk.say(2, "BAD")?;
-    let lines = "X-Refusal: 18\nContent-Length: 0\nConnection: close";
-    assert_eq!(rt; talk.reply(2, "400 Bad Request", lines, b"")?, 128);
-    talk.told("x 2")?;
-    assert_eq!(rt; talk.ended()?, Ended::Ran);
-    Ok(())
+    let endless = vec![in rt.alloc(); b'a'; 8192]?;
+    let steps = [
+        Open(2),
+        Came(1, &endless),
+        Reply(
+            1,
+            "431 Request Header Fields Too Large",
+            "X-Refusal: 19\nContent-Length: 0\nConnection: close",
+            b"",
+        ),
+        Told("x 1"),
+        Say(2, "BAD"),
+        Reply(
+            2,
+            "400 Bad Request",
+            "X-Refusal: 18\nContent-Length: 0\nConnection: close",
+            b"",
+        ),
+        Bytes(128),
+        Told("x 2"),
+    ];
+    runs(&rt, rt.alloc(), &steps)
 }
 
 #[test]
 fn text_in_two_pieces(rt: HostRuntime) -> Result<(), Fail> {
-    let mut talk = Talk::new(rt.alloc());
-    talk.open(1)?;
-    talk.made(1, 70_000, "")?;
-    talk.patch(1, 1, 0, 70_000)?;
-    let letters = vec![in rt.alloc(); b'a'; 10_000]?;
-    for _ in 0..7 {
-        talk.came(1, &letters)?;
-    }
-    talk.patched(1, 70_000)?;
-    talk.say(1, "GET /files/1 HTTP/1.1")?;
-    let lines = "Content-Type: text/plain; charset=UTF-8\nContent-Length: 70000";
-    let piece = vec![in rt.alloc(); b'a'; 65_536]?;
-    assert_eq!(rt; talk.reply(1, "200 OK", lines, &piece)?, 65_666);
-    talk.given(1, &vec![in rt.alloc(); b'a'; 4464]?)?;
-    assert_eq!(rt; talk.ended()?, Ended::Ran);
-    Ok(())
+    runs(&rt, rt.alloc(), LONG_TEXT)
 }
 
 #[test]
 fn head_by_another_method(rt: HostRuntime) -> Result<(), Fail> {
-    let mut talk = hello(rt.alloc())?;
-    talk.say(
-        1,
-        "POST /files/1 HTTP/1.1\nTus-Resumable: 1.0.0\nX-HTTP-Method-Override: HEAD",
-    )?;
-    let lines = "Upload-Offset: 5\nUpload-Length: 5\nContent-Length: 0";
-    assert_eq!(rt; talk.reply(1, "200 OK", lines, b"")?, 121);
-    assert_eq!(rt; talk.ended()?, Ended::Ran);
-    Ok(())
+    let head = [
+        Say(
+            1,
+            "POST /files/1 HTTP/1.1\nTus-Resumable: 1.0.0\nX-HTTP-Method-Override: HEAD",
+        ),
+        Reply(
+            1,
+            "200 OK",
+            "Upload-Offset: 5\nUpload-Length: 5\nContent-Length: 0",
+            b"",
+        ),
+        Bytes(121),
+    ];
+    runs_on(&rt, rt.alloc(), HELLO, &head)
 }
 
 /// Takes so many bytes at a call, and fails after so many calls.
@@ -593,7 +418,7 @@ fn refusal<R: Read, W: Write>(
 
 #[test]
 fn writers_that_take_little(rt: HostRuntime) -> Result<(), Fail> {
-    let talk = hello(rt.alloc())?;
+    let talk = Talk::new(&rt, rt.alloc(), HELLO)?;
     for (step, calls) in [(1, 1000), (7, 1000), (1000, 4)] {
         let mut writer = SlowWriter {
             bytes: Vec::new(rt.alloc()),
@@ -609,7 +434,7 @@ fn writers_that_take_little(rt: HostRuntime) -> Result<(), Fail> {
 
 #[test]
 fn writers_that_fail(rt: HostRuntime) -> Result<(), Fail> {
-    let talk = hello(rt.alloc())?;
+    let talk = Talk::new(&rt, rt.alloc(), HELLO)?;
     for (step, calls) in [
         (1000, 0),
         (1000, 1),
@@ -639,7 +464,7 @@ fn writers_that_fail(rt: HostRuntime) -> Result<(), Fail> {
 
 #[test]
 fn readers_that_fail(rt: HostRuntime) -> Result<(), Fail> {
-    let talk = hello(rt.alloc())?;
+    let talk = Talk::new(&rt, rt.alloc(), HELLO)?;
     for calls in 0..200usize {
         let mut reader = SlowReader {
             rest: &talk.script,

@@ -1,6 +1,8 @@
 //! Scripts over spools in memory, on disks that stop and crash.
 
-use crate::scripts::{self, Talk, hello};
+use crate::stories::{BLOCK, FIFTEEN_BLOCKS, FULL_SPOOL, HELLO};
+use crate::talks::Step::{Open, Shown, Text};
+use crate::talks::{self, Talk};
 use enc_index::IndexSet;
 use gateway_engine::{Connections, Gateway, RunFault, run};
 use spool_disk::{Crash, Disk, HiccupDisk, MemoryDisk};
@@ -16,7 +18,7 @@ const POST: &[u8] = b"POST /files HTTP/1.1\r\nTus-Resumable: 1.0.0\r\nUpload-Len
 
 /// A spool of 16 blocks, without uploads and without index files.
 fn fresh(alloc: Global) -> Result<MemoryDisk, Fail> {
-    scripts::fresh(alloc, 16, &IndexSet::new(alloc)?)
+    talks::fresh(alloc, 16, &IndexSet::new(alloc)?)
 }
 
 /// A run of a script over a disk: the disk, how the run was refused, and what it wrote.
@@ -42,14 +44,16 @@ fn accepted(alloc: Global, disk: MemoryDisk) -> Result<Option<u64>, OpenFault> {
 
 #[test]
 fn uploads_outlast_a_run(rt: HostRuntime) -> Result<(), Fail> {
-    let talk = hello(rt.alloc())?;
+    let talk = Talk::new(&rt, rt.alloc(), HELLO)?;
     let (disk, fault, written) = ran(rt.alloc(), &talk, fresh(rt.alloc())?);
     assert_eq!(rt; fault, None);
     assert_eq!(rt; written, talk.wanted);
-    let mut talk = Talk::new(rt.alloc());
-    talk.open(1)?;
-    talk.shown(1, 1, "Upload-Offset: 5\nUpload-Length: 5")?;
-    talk.text(1, "UTF-8", b"hello")?;
+    let steps = [
+        Open(1),
+        Shown(1, 1, "Upload-Offset: 5\nUpload-Length: 5"),
+        Text(1, "UTF-8", b"hello"),
+    ];
+    let talk = Talk::new(&rt, rt.alloc(), &steps)?;
     let (_disk, fault, written) = ran(rt.alloc(), &talk, disk.crash(Crash::Torn(165)));
     assert_eq!(rt; fault, None);
     assert_eq!(rt; written, talk.wanted);
@@ -58,23 +62,13 @@ fn uploads_outlast_a_run(rt: HostRuntime) -> Result<(), Fail> {
 
 #[test]
 fn all_blocks_are_owned(rt: HostRuntime) -> Result<(), Fail> {
-    let letters = vec![in rt.alloc(); b'a'; 61_440]?;
-    let mut talk = Talk::new(rt.alloc());
-    talk.open(1)?;
-    talk.made(1, 4096, "")?;
-    talk.added(1, 0, &letters[..4096], 4096)?;
-    talk.made(2, 61_441, "")?;
-    talk.patch(1, 2, 0, 61_440)?;
-    for _ in 0..6 {
-        talk.came(1, &letters[..10_240])?;
-    }
-    talk.patched(1, 61_440)?;
-    talk.patch(1, 2, 61_440, 1)?;
-    talk.came(1, b"a")?;
-    talk.refused(1, "507 Insufficient Storage", 17)?;
-    talk.shown(1, 2, "Upload-Offset: 61440\nUpload-Length: 61441")?;
-    talk.text(1, "UTF-8", &letters[..4096])?;
-    talk.text(2, "UTF-8", &letters)?;
+    let mut talk = Talk::new(&rt, rt.alloc(), FULL_SPOOL)?;
+    let shown = [
+        Shown(1, 2, "Upload-Offset: 61440\nUpload-Length: 61441"),
+        Text(1, "UTF-8", BLOCK),
+        Text(2, "UTF-8", FIFTEEN_BLOCKS),
+    ];
+    talk.go_on(&rt, &shown)?;
     let (_disk, fault, written) = ran(rt.alloc(), &talk, fresh(rt.alloc())?);
     assert_eq!(rt; fault, None);
     assert_eq!(rt; written, talk.wanted);
@@ -83,7 +77,7 @@ fn all_blocks_are_owned(rt: HostRuntime) -> Result<(), Fail> {
 
 #[test]
 fn no_spool_is_not_opened(rt: HostRuntime) -> Result<(), Fail> {
-    let talk = hello(rt.alloc())?;
+    let talk = Talk::new(&rt, rt.alloc(), HELLO)?;
     let disk = MemoryDisk::new(rt.alloc(), 557 * 4096)?;
     let (_disk, fault, written) = ran(rt.alloc(), &talk, disk);
     assert_eq!(rt; fault, Some(RunFault::Open(OpenFault::NotASpool)));
@@ -99,7 +93,8 @@ fn open_patch_is_given_up_with_the_session(rt: HostRuntime) -> Result<(), Fail> 
         Err((_, fault)) => panic!(rt; "{fault}"),
     };
     let patch =
-        b"PATCH /files/1 HTTP/1.1\r\nTus-Resumable: 1.0.0\r\nContent-Type: application/offset+octet-stream\r\nUpload-Offset: 0\r\nContent-Length: 5\r\n\r\nhel";
+        b"PATCH /files/1 HTTP/1.1\r\nTus-Resumable: 1.0.0\r\nContent-Type: application/offset+octet-stream\r\n\
+        Upload-Offset: 0\r\nContent-Length: 5\r\n\r\nhel";
     assert!(rt; gateway.opened(1).is_ok());
     assert!(rt; gateway.came(1, POST, &mut out).is_ok());
     assert!(rt; gateway.came(1, patch, &mut out).is_ok());

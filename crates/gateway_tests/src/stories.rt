@@ -1,0 +1,107 @@
+//! Stories: steps that more than one test takes.
+
+use crate::talks::Step::{
+    self, Added, Bytes, Came, Changed, Given, Made, Open, Patch, Patched, Refused, Reply, Say,
+    Shown, Text,
+};
+
+/// As many letters as a block holds.
+pub(crate) const BLOCK: &[u8] = &[b'a'; 4096];
+
+/// As many letters as 15 blocks hold.
+pub(crate) const FIFTEEN_BLOCKS: &[u8] = &[b'a'; 61_440];
+
+/// A sixth of them.
+const PIECE: &[u8] = &[b'a'; 10_240];
+
+const TEN_THOUSAND: &[u8] = &[b'a'; 10_000];
+
+/// An upload of five bytes, filled and told of.
+pub(crate) const HELLO: &[Step] = &[
+    Open(3),
+    Made(1, 5, ""),
+    Changed(&[(0, b"")]),
+    Added(1, 0, b"hello", 5),
+    Changed(&[(5, b"hello")]),
+    Shown(1, 1, "Upload-Offset: 5\nUpload-Length: 5"),
+    Text(1, "UTF-8", b"hello"),
+];
+
+/// A text in Shift_JIS, with a cut within its first character.
+pub(crate) const CUT_CHARACTER: &[Step] = &[
+    Open(1),
+    Made(1, 4, "from c2hpZnRfamlz"),
+    Changed(&[(0, b"")]),
+    Added(1, 0, b"\x82", 1),
+    Changed(&[(1, b"")]),
+    Added(1, 1, b"\xA0", 2),
+    Changed(&[(2, b"\xE3\x81\x82")]),
+    Added(1, 2, b"\x82 ", 4),
+    Changed(&[(4, b"\xE3\x81\x82\xEF\xBF\xBD ")]),
+];
+
+/// Two connections that begin at one offset.
+pub(crate) const ONE_WINNER: &[Step] = &[
+    Open(2),
+    Made(1, 5, ""),
+    Changed(&[(0, b"")]),
+    Patch(1, 1, 0, 3),
+    Came(1, b"ab"),
+    Patch(2, 1, 0, 2),
+    Came(2, b"xy"),
+    Patched(2, 2),
+    Bytes(92),
+    Changed(&[(2, b"xy")]),
+    Came(1, b"c"),
+    Refused(1, "409 Conflict", 9),
+    Bytes(105),
+];
+
+/// A spool of 16 blocks that are all owned.
+pub(crate) const FULL_SPOOL: &[Step] = &[
+    Open(1),
+    Made(1, 4096, ""),
+    Changed(&[(0, b"")]),
+    Added(1, 0, BLOCK, 4096),
+    Changed(&[(4096, BLOCK)]),
+    Made(2, 61_441, ""),
+    Changed(&[(4096, BLOCK), (0, b"")]),
+    Patch(1, 2, 0, 61_440),
+    Came(1, PIECE),
+    Came(1, PIECE),
+    Came(1, PIECE),
+    Came(1, PIECE),
+    Came(1, PIECE),
+    Came(1, PIECE),
+    Patched(1, 61_440),
+    Changed(&[(4096, BLOCK), (61_440, FIFTEEN_BLOCKS)]),
+    Patch(1, 2, 61_440, 1),
+    Came(1, b"a"),
+    Refused(1, "507 Insufficient Storage", 17),
+];
+
+/// A text that is given in two pieces.
+pub(crate) const LONG_TEXT: &[Step] = &[
+    Open(1),
+    Made(1, 70_000, ""),
+    Changed(&[(0, b"")]),
+    Patch(1, 1, 0, 70_000),
+    Came(1, TEN_THOUSAND),
+    Came(1, TEN_THOUSAND),
+    Came(1, TEN_THOUSAND),
+    Came(1, TEN_THOUSAND),
+    Came(1, TEN_THOUSAND),
+    Came(1, TEN_THOUSAND),
+    Came(1, TEN_THOUSAND),
+    Patched(1, 70_000),
+    Changed(&[(70_000, &[b'a'; 70_000])]),
+    Say(1, "GET /files/1 HTTP/1.1"),
+    Reply(
+        1,
+        "200 OK",
+        "Content-Type: text/plain; charset=UTF-8\nContent-Length: 70000",
+        &[b'a'; 65_536],
+    ),
+    Bytes(65_666),
+    Given(1, &[b'a'; 4464]),
+];
