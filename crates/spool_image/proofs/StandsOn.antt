@@ -10,15 +10,12 @@ use Rattle.spool_blocks.specs.Blocks.{Row, Held}
 use Rattle.spool_disk.specs.Disk.{Keeps}
 use Rattle.spool_disk.specs.declared.disk.Disk.{Ghosts}
 use Rattle.spool_drafts.specs.Drafts.{tail_of}
-use Rattle.spool_drafts.specs.Growth.{bytes_on, tail_list}
 use Rattle.spool_drafts.specs.declared.draft.SpoolDraft.{SpoolDraft}
-use Rattle.spool_drafts.specs.declared.growth.Growth.{Growth}
+use Rattle.spool_drafts.proofs.Stays.{bytes_same}
 use Rattle.spool_journal.specs.Image.{journal_pages, overlaid}
 use Rattle.spool_journal.specs.Phases.{Settled}
 use Rattle.spool_pages.proofs.Resting.{rests_keeps, settled_rests}
 use Rattle.spool_pages.specs.View.{SlotRecord, View, IsViewOf, text_page}
-use Rattle.spool_texts.proofs.Fronts.{blocks_same}
-use Rattle.spool_texts.specs.Drafts.{Draft, full_count}
 use Rattle.upload_rules.proofs.Finds.{find_push_other}
 use Rattle.upload_rules.proofs.Growing.{grown_created}
 use Rattle.upload_rules.proofs.Patches.{draft_of, held_on}
@@ -100,16 +97,6 @@ stands_opened disk d' was h drafts m v none honest is keeps shows settled = reco
 
 -- A NEW UPLOAD
 
--- no byte of a text block is another
-bytes_still : (seen seen' : ℕ → ℕ) (first : ℕ) (g : Growth) (on : Option Draft)
-    → ((p : ℕ) → 4096 * first ≤ p → seen' p ≡ seen p) → bytes_on seen' first g on ≡ bytes_on seen first g on
-bytes_still seen seen' first g None same =
-    ap (λ (xs : List ℕ). take (g.text_len % 4096) xs)
-    (blocks_same seen' seen first (tail_list g.tail) (λ i p lt e. same p (omega (arith, e))))
-bytes_still seen seen' first g (Some t) same =
-    ap (λ (xs : List ℕ). xs ++ t.unfinished)
-    (blocks_same seen' seen first (take (full_count t) t.blocks) (λ i p lt e. same p (omega (arith, e))))
-
 module _ (seen seen' : ℕ → ℕ) (first : ℕ) (slots slots' : List (Option SlotRecord)) (w : World) (new : New)
     (same : (p : ℕ) → 4096 * first ≤ p → seen' p ≡ seen p)
     (used : (s n : ℕ) → IsUsedBy slots s n → IsUsedBy slots' s n) where
@@ -122,7 +109,7 @@ module _ (seen seen' : ℕ → ℕ) (first : ℕ) (slots slots' : List (Option S
       record {
         holds = is.holds;
         below = omega (arith, is.below);
-        carries = λ there kept. bytes_still seen seen' first o.growth o.growth.on same
+        carries = λ there kept. bytes_same seen seen' first o.growth o.growth.on same
             ∙ is.carries (sym found ∙ there) kept;
         tail = λ there. owned (is.tail (sym found ∙ there));
       }

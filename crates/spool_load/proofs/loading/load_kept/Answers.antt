@@ -19,14 +19,6 @@ of-requires-clause-below g c s r there =
     (c.are_sound.ensures.0 (search rules)) in
     (are.records s r there).below
 
-pub of-requires-clause-below : goal.of-requires-clause-below
-of-requires-clause-below g c s r there =
-    let looked : c.deref.result.now ≡ c.in_ok-slots.slots.items = search rules in
-    let are =
-    subst (λ (xs : List (Option SlotRecord)). RecordsPass c.in_ok-next.next xs) looked
-    (c.are_sound.ensures.0 (search rules)) in
-    (are.records s r there).below
-
 pub returns-in_err-slots-clause-reads : goal.returns-in_err-slots-clause-reads
 returns-in_err-slots-clause-reads g c = reads_on c.load_fields.ensures.reads c.load_slots.ensures.reads
 
