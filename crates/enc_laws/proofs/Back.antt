@@ -1,5 +1,6 @@
 -- The decoder of UTF-8 reads back what the encoder wrote.
-use Rattle.std.proofs.Common.{ℕ, zero, suc, ◌+◌, ◌-◌, ◌/◌, ◌%◌, ◌≤◌, ◌≡◌, Bool, true, List, [], ◌∷◌, ◌++◌, length, drop, refl, sym, ◌∙◌, ap, arith, nat_lt, length-append}
+use Rattle.std.proofs.Common.{ℕ, zero, suc, ◌+◌, ◌-◌, ◌/◌, ◌%◌, ◌≤◌, ◌≡◌, Bool, true, List, [], ◌∷◌, ◌++◌, length, drop}
+use Rattle.std.proofs.Common.{refl, sym, ◌∙◌, ap, arith, nat_lt, length-append}
 use Rattle.std.specs.List.{concat}
 use Rattle.std.proofs.Math.Seq.{drop-append_seam}
 use Rattle.std.proofs.lemmas.List.Elements.{All-head, All-tail}
@@ -23,7 +24,8 @@ two_back c = omega arith
 three_back : (c : ℕ) → scalar_of ((0xE0 + c / 4096) ∷ (0x80 + c / 64 % 64) ∷ (0x80 + c % 64) ∷ []) ≡ c
 three_back c = omega arith
 
-four_back : (c : ℕ) → scalar_of ((0xF0 + c / 262144) ∷ (0x80 + c / 4096 % 64) ∷ (0x80 + c / 64 % 64) ∷ (0x80 + c % 64) ∷ []) ≡ c
+four_back : (c : ℕ) → scalar_of
+    ((0xF0 + c / 262144) ∷ (0x80 + c / 4096 % 64) ∷ (0x80 + c / 64 % 64) ∷ (0x80 + c % 64) ∷ []) ≡ c
 four_back c = omega arith
 
 scalar_back : (c : ℕ) → scalar_of (utf8_bytes c) ≡ c
@@ -33,13 +35,15 @@ scalar_back c =
     (λ f. branch (λ s. scalar_of s ≡ c) (nat_lt c 0x10000) _ _ (λ g. three_back c) (λ g. four_back c)))
 
 sequence_on : (n : ℕ) (ended : Bool) (s rest : List ℕ) → is_sequence s ≡ true → length (s ++ rest) ≤ n →
-    segments_text ended (segments_within n (s ++ rest)) ≡ scalar_of s ∷ segments_text ended (segments_within (n - 1) rest)
+    segments_text ended (segments_within n (s ++ rest)) ≡ scalar_of s ∷ segments_text ended
+    (segments_within (n - 1) rest)
 sequence_on n ended [] rest e l = absurd cc
 sequence_on zero ended (b ∷ t) rest e l = absurd (omega arith)
 sequence_on (suc n) ended (b ∷ t) rest e l =
     let fewer : length rest ≤ n = omega (arith, length-append t rest) in
     let same : suc n - 1 ≡ n = omega arith in
-    ap (λ here. segments_text ended (here ∷ segments_within n (drop (length here) (b ∷ t ++ rest)))) (sequence_first (b ∷ t) rest e)
+    ap (λ here. segments_text ended (here ∷ segments_within n (drop (length here) (b ∷ t ++ rest))))
+    (sequence_first (b ∷ t) rest e)
     ∙ ap (λ z. segments_text ended ((b ∷ t) ∷ segments_within n z)) (drop-append_seam (b ∷ t) rest)
     ∙ text_on n ended (b ∷ t) rest fewer (λ r. not_open (is_prefix (b ∷ t)) (is_sequence (b ∷ t)) e)
     ∙ ap (λ c. c ∷ segments_text ended (segments_within n rest)) (scalar_whole (b ∷ t) e)

@@ -1,8 +1,10 @@
 -- Every calm handler is read by its answers.
-use Rattle.std.proofs.Common.{ℕ, zero, suc, ◌≤◌, ◌≡◌, true, List, [], ◌∷◌, ◌++◌, Some, None, length, refl, sym, ◌∙◌, ap, append-nil}
+use Rattle.std.proofs.Common.{ℕ, zero, suc, ◌≤◌, ◌≡◌, true, List, [], ◌∷◌, ◌++◌, Some, None, length, refl, sym, ◌∙◌, ap}
+use Rattle.std.proofs.Common.{append-nil}
 use Rattle.enc_model.specs.declared.Answer.{Answer}
 use Rattle.enc_model.specs.declared.Answer.TheVariants.{Finished}
-use Rattle.enc_model.specs.Stream.{Step, Handler, Run, said, after, steps, all_bytes, byte_of, quick, end_to, end_of, IsQuiet, Ends, IsCalm}
+use Rattle.enc_model.specs.Stream.{Step, Handler, Run, said, after, steps, all_bytes, byte_of, quick, end_to, end_of}
+use Rattle.enc_model.specs.Stream.{IsQuiet, Ends, IsCalm}
 use Rattle.enc_model.proofs.Steps.{after_after, steps_are, steps_none, steps_cons, steps_end}
 use Rattle.enc_laws.specs.Equations.{IsByAnswers}
 
@@ -18,13 +20,15 @@ module _ {S : Type 0} (h : Handler S) where
   abbrev EndsFrom : ℕ → Step S → Answer → Type 0
   EndsFrom d t a = elim a as (λ _. Type 0) [
     | Finished ↦ Unit {0}
-    | _ ↦ (length t.restored ≤ 1) × IsQuiet h t.state t.restored × Ends d h (all_bytes (quick h) t.state t.restored).state
+    | _ ↦ (length t.restored ≤ 1) × IsQuiet h t.state t.restored × Ends d h
+        (all_bytes (quick h) t.state t.restored).state
   ]
 
   deeper_case : (d : ℕ) (t : Step S) (a : Answer) → ((s : S) → Ends d h s → end_to d h s ≡ end_to (suc d) h s) →
       EndsFrom d t a → first_of (end_to d h) t a ≡ first_of (end_to (suc d) h) t a
   deeper_case d t Finished ih e = refl
-  deeper_case d t _ ih e = let r = all_bytes (quick h) t.state t.restored in ap (after (said t.answer ++ r.text)) (ih r.state e.2)
+  deeper_case d t _ ih e = let r =
+      all_bytes (quick h) t.state t.restored in ap (after (said t.answer ++ r.text)) (ih r.state e.2)
 
   -- where the end is finished within so many answers, one more changes nothing
   deeper : (d : ℕ) (s : S) → Ends d h s → end_to d h s ≡ end_to (suc d) h s
@@ -33,7 +37,8 @@ module _ {S : Type 0} (h : Handler S) where
 
   quiet_bytes : (r : List ℕ) (s : S) → IsQuiet h s r → all_bytes (byte_of h) s r ≡ all_bytes (quick h) s r
   quiet_bytes [] s q = refl
-  quiet_bytes (b ∷ r) s q = let t = h s (Some b) in rw (q.0, append-nil) (ap (after (said t.answer)) (quiet_bytes r t.state q.1))
+  quiet_bytes (b ∷ r) s q = let t =
+      h s (Some b) in rw (q.0, append-nil) (ap (after (said t.answer)) (quiet_bytes r t.state q.1))
 
   behind_quiet : IsCalm h → (s : S) (r : List ℕ) → IsQuiet h s r →
       steps h true s r ≡ after (all_bytes (quick h) s r).text (end_of h (all_bytes (quick h) s r).state)

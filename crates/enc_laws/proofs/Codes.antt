@@ -2,8 +2,11 @@
 use Rattle.std.proofs.Common.{ℕ, ◌≡◌, List, [], ◌∷◌, ◌++◌, None, refl, sym, ◌∙◌, ap}
 use Rattle.enc_model.specs.declared.Mode.{Mode}
 use Rattle.enc_model.specs.declared.Mode.TheVariants.{Html, Fatal}
-use Rattle.enc_model.specs.Encode.{Shift, Written, Wrote, Again, Lacks, Encoder, Coded, behind, went, reference, coded_within, coded, joined, all_codes, behind_written, settled, code_within, plain_code, code_of, IsWrote, IsNoAgain, IsSteady}
-use Rattle.enc_model.proofs.Coding.{ArePlain, all_codes_append, coded_is, joined_behind, joined_more, code_behind, reference_plain}
+use Rattle.enc_model.specs.Encode.{Shift, Written, Wrote, Again, Lacks, Encoder, Coded, behind, went, reference}
+use Rattle.enc_model.specs.Encode.{coded_within, coded, joined, all_codes, behind_written, settled, code_within}
+use Rattle.enc_model.specs.Encode.{plain_code, code_of, IsWrote, IsNoAgain, IsSteady}
+use Rattle.enc_model.proofs.Coding.{ArePlain, all_codes_append, coded_is, joined_behind, joined_more, code_behind}
+use Rattle.enc_model.proofs.Coding.{reference_plain}
 
 -- WHAT AN ENCODER GIVES
 
@@ -14,7 +17,11 @@ settled_same f c x (Lacks b s d) n = refl
 
 module _ (f : Encoder) (steady : IsSteady f) (mode : Mode) where
   plain_one : (w : Written) → IsWrote w →
-      code_within mode (all_codes (plain_code f)) w ≡ code_within Html (λ next cs. record { bytes = []; state = next; fault = None }) w
+      code_within mode (all_codes (plain_code f)) w ≡ code_within Html (λ next cs. record {
+        bytes = [];
+        state = next;
+        fault = None;
+      }) w
   plain_one (Wrote b s) i = refl
   plain_one (Again b s) i = absurd i
   plain_one (Lacks b s d) i = absurd i
@@ -22,8 +29,10 @@ module _ (f : Encoder) (steady : IsSteady f) (mode : Mode) where
   plain_codes : (r : List ℕ) (s : Shift) → ArePlain r → all_codes (code_of f mode) s r ≡ all_codes (plain_code f) s r
   plain_codes [] s p = refl
   plain_codes (c ∷ r) s p =
-      ap (λ z. joined z (λ next. all_codes (code_of f mode) next r)) (plain_one (settled f c (f s c)) (steady.ascii s c p.0 p.1))
-      ∙ joined_more (plain_code f s c) (λ next. all_codes (code_of f mode) next r) (λ next. all_codes (plain_code f) next r) (λ next. plain_codes r next p.2)
+      ap (λ z. joined z (λ next. all_codes (code_of f mode) next r))
+      (plain_one (settled f c (f s c)) (steady.ascii s c p.0 p.1))
+      ∙ joined_more (plain_code f s c) (λ next. all_codes (code_of f mode) next r)
+      (λ next. all_codes (plain_code f) next r) (λ next. plain_codes r next p.2)
 
   pub none : (s : Shift) → coded f mode s [] ≡ record { bytes = []; state = s; fault = None }
   unfolding coded coded_within

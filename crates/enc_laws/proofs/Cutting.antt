@@ -1,12 +1,15 @@
 -- The decoder of UTF-8 gives what the cut into maximal subparts gives.
-use Rattle.std.proofs.Common.{ℕ, zero, suc, ◌<◌, ◌≤◌, ◌≡◌, ◌⊎◌, inl, inr, Bool, true, false, not, ◌&&◌, List, [], ◌∷◌, ◌++◌, length, drop, refl, sym, ◌∙◌, ap, subst, arith, if◌then◌else◌, length-drop}
+use Rattle.std.proofs.Common.{ℕ, zero, suc, ◌<◌, ◌≤◌, ◌≡◌, ◌⊎◌, inl, inr, Bool, true, false, not, ◌&&◌, List, [], ◌∷◌}
+use Rattle.std.proofs.Common.{◌++◌, length, drop, refl, sym, ◌∙◌, ap, subst, arith, if◌then◌else◌, length-drop}
 use Rattle.std.specs.List.{concat}
 use Rattle.enc_model.specs.Stream.{after, steps}
 use Rattle.enc_model.specs.Utf8.{Utf8, utf8, utf8_start}
-use Rattle.enc_laws.specs.Subparts.{Ranges, fills, is_sequence, is_prefix, is_open, segment, segments_within, segments, scalar_of, segment_scalar, segments_text}
+use Rattle.enc_laws.specs.Subparts.{Ranges, fills, is_sequence, is_prefix, is_open, segment, segments_within, segments}
+use Rattle.enc_laws.specs.Subparts.{scalar_of, segment_scalar, segments_text}
 use Rattle.enc_laws.proofs.Leads.{Leading, LeadsNowhere, ascii, ascii_read, kind_of}
 use Rattle.enc_laws.proofs.Segments.{taken, taken_begins, taken_parts, segment_is}
-use Rattle.enc_laws.proofs.Reading.{read_is, value, behind, tail_whole, tail_stopped, tail_open, open_text, scalar_is, end_start}
+use Rattle.enc_laws.proofs.Reading.{read_is, value, behind, tail_whole, tail_stopped, tail_open, open_text, scalar_is}
+use Rattle.enc_laws.proofs.Reading.{end_start}
 
 -- A SEGMENT, and what the decoder gives for it
 
@@ -39,14 +42,16 @@ module _ (b : ℕ) (ranges : Ranges) (s : Utf8) (l : Leading b ranges s) (ended 
   lead_read : steps utf8 ended utf8_start (b ∷ bytes) ≡ steps utf8 ended s bytes
   lead_read = read_is ended utf8_start b bytes _ l.read
 
-  lead_whole : fills ranges (taken ranges bytes) ≡ true → Given ended (b ∷ bytes) (b ∷ taken ranges bytes) (behind ranges bytes)
+  lead_whole : fills ranges (taken ranges bytes) ≡ true → Given ended (b ∷ bytes) (b ∷ taken ranges bytes)
+      (behind ranges bytes)
   lead_whole e =
       let t = taken ranges bytes in
       let sequence : is_sequence (b ∷ t) ≡ true = l.leads.sequence t ∙ e in
       let scalar : value s.point t ≡ segment_scalar (b ∷ t) =
       ap (λ p. value p t) l.point ∙ sym (scalar_is b ranges t l.leads.few e) ∙ sym (scalar_whole (b ∷ t) sequence) in
       record {
-        run = lead_read ∙ tail_whole ranges s ended bytes l.waits e ∙ ap (λ c. after (c ∷ []) (steps utf8 ended utf8_start (behind ranges bytes))) scalar;
+        run = lead_read ∙ tail_whole ranges s ended bytes l.waits e ∙ ap
+            (λ c. after (c ∷ []) (steps utf8 ended utf8_start (behind ranges bytes))) scalar;
         closed = λ r. not_open (is_prefix (b ∷ t)) (is_sequence (b ∷ t)) sequence;
       }
 
@@ -57,7 +62,8 @@ module _ (b : ℕ) (ranges : Ranges) (s : Utf8) (l : Leading b ranges s) (ended 
       let sequence : is_sequence (b ∷ t) ≡ false = l.leads.sequence t ∙ e in
       record {
         run = lead_read ∙ tail_stopped ranges s ended bytes d rest l.waits e more
-            ∙ ap (λ c. after (c ∷ []) (steps utf8 ended utf8_start (behind ranges bytes))) (sym (scalar_part (b ∷ t) sequence));
+            ∙ ap (λ c. after (c ∷ []) (steps utf8 ended utf8_start (behind ranges bytes)))
+            (sym (scalar_part (b ∷ t) sequence));
         closed = λ r. absurd cc;
       }
 
@@ -72,11 +78,13 @@ module _ (b : ℕ) (ranges : Ranges) (s : Utf8) (l : Leading b ranges s) (ended 
         text = ap (λ run. run.text) lead_read ∙ tail_open ranges s ended bytes l.waits e none;
       }
 
-  lead_case : Given ended (b ∷ bytes) (b ∷ taken ranges bytes) (behind ranges bytes) ⊎ Open ended (b ∷ bytes) (b ∷ taken ranges bytes) (behind ranges bytes)
+  lead_case : Given ended (b ∷ bytes) (b ∷ taken ranges bytes) (behind ranges bytes) ⊎ Open ended (b ∷ bytes)
+      (b ∷ taken ranges bytes) (behind ranges bytes)
   lead_case = go (fills ranges (taken ranges bytes)) refl (behind ranges bytes) refl
     where
       go : (x : Bool) → fills ranges (taken ranges bytes) ≡ x → (rest : List ℕ) → behind ranges bytes ≡ rest →
-          Given ended (b ∷ bytes) (b ∷ taken ranges bytes) (behind ranges bytes) ⊎ Open ended (b ∷ bytes) (b ∷ taken ranges bytes) (behind ranges bytes)
+          Given ended (b ∷ bytes) (b ∷ taken ranges bytes) (behind ranges bytes) ⊎ Open ended (b ∷ bytes)
+          (b ∷ taken ranges bytes) (behind ranges bytes)
       go true e rest r = inl (lead_whole e)
       go false e [] r = inr (lead_open e r)
       go false e (d ∷ rest) r = inl (lead_stopped d rest e r)
@@ -85,26 +93,34 @@ module _ (b : ℕ) (ranges : Ranges) (s : Utf8) (l : Leading b ranges s) (ended 
   lead_outcome =
       let at : Outcome ended (b ∷ bytes) (b ∷ taken ranges bytes) (behind ranges bytes) =
       record { some = omega arith; parts = ap (λ t. b ∷ t) (taken_parts ranges bytes); outcome = lead_case } in
-      subst (λ z. Outcome ended (b ∷ bytes) z (drop (length z) (b ∷ bytes))) (sym (segment_is b ranges bytes l.leads)) at
+      subst (λ z. Outcome ended (b ∷ bytes) z (drop (length z) (b ∷ bytes))) (sym (segment_is b ranges bytes l.leads))
+      at
 
 -- a byte alone
-alone : (b : ℕ) (ended : Bool) (bytes : List ℕ) → segment (b ∷ bytes) ≡ b ∷ [] → Given ended (b ∷ bytes) (b ∷ []) bytes →
+alone : (b : ℕ) (ended : Bool) (bytes : List ℕ) → segment (b ∷ bytes) ≡ b ∷ [] → Given ended (b ∷ bytes) (b ∷ []) bytes
+    →
     Outcome ended (b ∷ bytes) (segment (b ∷ bytes)) (drop (length (segment (b ∷ bytes))) (b ∷ bytes))
 alone b ended bytes e given =
-    let at : Outcome ended (b ∷ bytes) (b ∷ []) bytes = record { some = omega arith; parts = refl; outcome = inl given } in
+    let at : Outcome ended (b ∷ bytes) (b ∷ []) bytes = record {
+      some = omega arith;
+      parts = refl;
+      outcome = inl given;
+    } in
     subst (λ z. Outcome ended (b ∷ bytes) z (drop (length z) (b ∷ bytes))) (sym e) at
 
 ascii_given : (b : ℕ) (ended : Bool) (bytes : List ℕ) → b < 0x80 → Given ended (b ∷ bytes) (b ∷ []) bytes
 ascii_given b ended bytes l =
     let sequence : is_sequence (b ∷ []) ≡ true = (ascii b l).sequence [] in
     record {
-      run = read_is ended utf8_start b bytes _ (ascii_read b l) ∙ ap (λ c. after (c ∷ []) (steps utf8 ended utf8_start bytes)) (sym (scalar_whole (b ∷ []) sequence));
+      run = read_is ended utf8_start b bytes _ (ascii_read b l) ∙ ap
+          (λ c. after (c ∷ []) (steps utf8 ended utf8_start bytes)) (sym (scalar_whole (b ∷ []) sequence));
       closed = λ r. not_open (is_prefix (b ∷ [])) (is_sequence (b ∷ [])) sequence;
     }
 
 nowhere_given : (b : ℕ) (ended : Bool) (bytes : List ℕ) → LeadsNowhere b → Given ended (b ∷ bytes) (b ∷ []) bytes
 nowhere_given b ended bytes n = record {
-  run = read_is ended utf8_start b bytes _ n.read ∙ ap (λ c. after (c ∷ []) (steps utf8 ended utf8_start bytes)) (sym (scalar_part (b ∷ []) (n.sequence [])));
+  run = read_is ended utf8_start b bytes _ n.read ∙ ap (λ c. after (c ∷ []) (steps utf8 ended utf8_start bytes))
+      (sym (scalar_part (b ∷ []) (n.sequence [])));
   closed = λ r. ap (λ x. x && not (is_sequence (b ∷ []))) (n.prefix []);
 }
 
@@ -116,7 +132,8 @@ nowhere_segment b (c ∷ d ∷ e ∷ bytes) n = simp (n.sequence, n.prefix)
 
 -- WHICHEVER BYTE IT IS
 
-pub outcome_of : (b : ℕ) (ended : Bool) (bytes : List ℕ) → Outcome ended (b ∷ bytes) (segment (b ∷ bytes)) (drop (length (segment (b ∷ bytes))) (b ∷ bytes))
+pub outcome_of : (b : ℕ) (ended : Bool) (bytes : List ℕ) → Outcome ended (b ∷ bytes) (segment (b ∷ bytes))
+    (drop (length (segment (b ∷ bytes))) (b ∷ bytes))
 outcome_of b ended bytes = elim (kind_of b) [
   | inl low ↦ alone b ended bytes (segment_is b [] bytes (ascii b low)) (ascii_given b ended bytes low)
   | inr (inl lead) ↦ lead_outcome b lead.0 lead.1 lead.2 ended bytes
@@ -130,7 +147,8 @@ none_within zero = refl
 none_within (suc n) = refl
 
 pub text_on : (n : ℕ) (ended : Bool) (here rest : List ℕ) → length rest ≤ n → (rest ≡ [] → is_open here ≡ false) →
-    segments_text ended (here ∷ segments_within n rest) ≡ segment_scalar here ∷ segments_text ended (segments_within n rest)
+    segments_text ended (here ∷ segments_within n rest) ≡ segment_scalar here ∷ segments_text ended
+    (segments_within n rest)
 text_on n true here [] l closed = rw (none_within n) refl
 text_on n false here [] l closed =
     rw (none_within n) (ap (λ x. if x then [] else segment_scalar here ∷ []) (closed refl))
@@ -140,9 +158,12 @@ text_on (suc n) ended here (c ∷ rest) l closed = refl
 text_open : (n : ℕ) (ended : Bool) (here : List ℕ) → is_prefix here ≡ true → is_sequence here ≡ false →
     segments_text ended (here ∷ segments_within n []) ≡ open_text ended
 text_open n true here p s = rw (none_within n) (ap (λ c. c ∷ []) (scalar_part here s))
-text_open n false here p s = rw (none_within n) (ap (λ x. if x then [] else segment_scalar here ∷ []) (ap (λ x. x && not (is_sequence here)) p ∙ ap not s))
+text_open n false here p s =
+    rw (none_within n) (ap (λ x. if x then [] else segment_scalar here ∷ [])
+    (ap (λ x. x && not (is_sequence here)) p ∙ ap not s))
 
-text_within : (n : ℕ) (ended : Bool) (bytes : List ℕ) → length bytes ≤ n → (steps utf8 ended utf8_start bytes).text ≡ segments_text ended (segments_within n bytes)
+text_within : (n : ℕ) (ended : Bool) (bytes : List ℕ) → length bytes ≤ n
+    → (steps utf8 ended utf8_start bytes).text ≡ segments_text ended (segments_within n bytes)
 text_within zero ended [] l = end_start ended
 text_within zero ended (b ∷ bytes) l = absurd (omega arith)
 text_within (suc n) ended [] l = end_start ended
@@ -154,11 +175,14 @@ text_within (suc n) ended (b ∷ bytes) l =
     let fewer : length rest ≤ n = simp (length-drop) (omega arith) in
     let ih = text_within n ended rest fewer in
     elim at.outcome [
-      | inl given ↦ ap (λ run. run.text) given.run ∙ ap (λ t. segment_scalar here ∷ t) ih ∙ sym (text_on n ended here rest fewer given.closed)
-      | inr cut ↦ cut.text ∙ sym (text_open n ended here cut.prefix cut.sequence) ∙ ap (λ r. segments_text ended (here ∷ segments_within n r)) (sym cut.last)
+      | inl given ↦ ap (λ run. run.text) given.run ∙ ap (λ t. segment_scalar here ∷ t) ih
+          ∙ sym (text_on n ended here rest fewer given.closed)
+      | inr cut ↦ cut.text ∙ sym (text_open n ended here cut.prefix cut.sequence)
+          ∙ ap (λ r. segments_text ended (here ∷ segments_within n r)) (sym cut.last)
     ]
 
-pub text_is : (ended : Bool) (bytes : List ℕ) → (steps utf8 ended utf8_start bytes).text ≡ segments_text ended (segments bytes)
+pub text_is : (ended : Bool) (bytes : List ℕ) → (steps utf8 ended utf8_start bytes).text ≡ segments_text ended
+    (segments bytes)
 unfolding segments
 text_is ended bytes = text_within (length bytes) ended bytes (omega arith)
 

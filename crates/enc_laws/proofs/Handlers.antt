@@ -1,5 +1,6 @@
 -- Each handler is sound.
-use Rattle.std.proofs.Common.{ℕ, ◌+◌, ◌-◌, ◌*◌, ◌<◌, ◌≤◌, ◌≡◌, ◌==◌, Bool, true, false, ◌&&◌, ◌||◌, List, [], ◌∷◌, Option, Some, None, refl, arith, if◌then◌else◌, nat_lt, lit≤, lit<}
+use Rattle.std.proofs.Common.{ℕ, ◌+◌, ◌-◌, ◌*◌, ◌<◌, ◌≤◌, ◌≡◌, ◌==◌, Bool, true, false, ◌&&◌, ◌||◌, List, [], ◌∷◌}
+use Rattle.std.proofs.Common.{Option, Some, None, refl, arith, if◌then◌else◌, nat_lt, lit≤, lit<}
 use Rattle.std.proofs.lemmas.Bool.Decides.{nat_tests}
 use Rattle.enc_model.specs.declared.Answer.{Answer}
 use Rattle.enc_model.specs.declared.Answer.TheVariants.{Point, Error, Nothing, Finished}
@@ -11,9 +12,13 @@ use Rattle.enc_model.specs.declared.Introducer.{Introducer}
 use Rattle.enc_model.specs.declared.Introducer.TheVariants.{Dollar, Paren}
 use Rattle.enc_model.specs.declared.Place.{Place}
 use Rattle.enc_model.specs.declared.Place.TheVariants.{In, Trail, EscapeStart, Escape}
-use Rattle.enc_model.specs.Japanese.{Single, single, answer_of, shift_jis, shift_jis_at, shift_jis_pair, pair_step, EucJp, euc_jp, euc_jp_start, euc_jp_pair, Iso2022, iso2022, plain, introducer_byte, escape_of, iso2022_answer, iso2022_to, iso2022_plain, iso2022_escape, iso2022_byte, iso2022_end}
+use Rattle.enc_model.specs.Japanese.{Single, single, answer_of, shift_jis, shift_jis_at, shift_jis_pair, pair_step}
+use Rattle.enc_model.specs.Japanese.{EucJp, euc_jp, euc_jp_start, euc_jp_pair, Iso2022, iso2022, plain, introducer_byte}
+use Rattle.enc_model.specs.Japanese.{escape_of, iso2022_answer, iso2022_to, iso2022_plain, iso2022_escape, iso2022_byte}
+use Rattle.enc_model.specs.Japanese.{iso2022_end}
 use Rattle.enc_index.specs.Scalars.{is_scalar}
-use Rattle.enc_laws.proofs.Scalars.{low_scalar, high_scalar, IsScalarOption, HasScalars, IsScalarAnswer, FewBytes, IsSound}
+use Rattle.enc_laws.proofs.Scalars.{low_scalar, high_scalar, IsScalarOption, HasScalars, IsScalarAnswer, FewBytes}
+use Rattle.enc_laws.proofs.Scalars.{IsSound}
 use Rattle.enc_laws.proofs.Leads.{both}
 
 abbrev pub Always : {S : Type 0} → S → Type 0
@@ -23,17 +28,20 @@ answer_scalar : (o : Option ℕ) → IsScalarOption o → IsScalarAnswer (answer
 answer_scalar None s = tt
 answer_scalar (Some c) s = s
 
-pub branch : {A : Type 0} (P : A → Type 0) (x : Bool) (a b : A) → (x ≡ true → P a) → (x ≡ false → P b) → P (if x then a else b)
+pub branch : {A : Type 0} (P : A → Type 0) (x : Bool) (a b : A) → (x ≡ true → P a) → (x ≡ false → P b)
+    → P (if x then a else b)
 branch P true a b f g = f refl
 branch P false a b f g = g refl
 
 -- SINGLE BYTES
 
-pub single_reads : (i : Index) → HasScalars i → (s : Single) (b : ℕ) → Always s → b < 0x100 → IsSound Always (single i s (Some b))
+pub single_reads : (i : Index) → HasScalars i → (s : Single) (b : ℕ) → Always s → b < 0x100
+    → IsSound Always (single i s (Some b))
 unfolding single
 single_reads i has s b g l = record {
   state = tt;
-  answer = branch IsScalarAnswer (nat_lt b 0x80) _ _ (λ e. low_scalar b (omega arith)) (λ e. answer_scalar (code i (b - 0x80)) (has (b - 0x80)));
+  answer = branch IsScalarAnswer (nat_lt b 0x80) _ _ (λ e. low_scalar b (omega arith))
+      (λ e. answer_scalar (code i (b - 0x80)) (has (b - 0x80)));
   restored = tt;
 }
 
@@ -55,14 +63,24 @@ pub record IsKept (s : Utf16) : Type 0 where
   pub byte : IsByteOption s.byte
   pub lead : IsLeadOption s.lead
 
-unit_sound : (lead : Option ℕ) (u a b : ℕ) → IsLeadOption lead → u < 0x10000 → a < 0x100 → b < 0x100 → IsSound IsKept (utf16_unit lead u a b)
+unit_sound : (lead : Option ℕ) (u a b : ℕ) → IsLeadOption lead → u < 0x10000 → a < 0x100 → b < 0x100
+    → IsSound IsKept (utf16_unit lead u a b)
 unit_sound (Some lead) u a b k l p q =
     branch (IsSound IsKept) (within 0xDC00 0xDFFF u) _ _
-    (λ e. record { state = record { byte = tt; lead = tt }; answer = high_scalar (0x10000 + (lead - 0xD800) * 0x400 + (u - 0xDC00)) (omega arith) (grind (arith, nat_tests, e)); restored = tt })
+    (λ e. record {
+      state = record { byte = tt; lead = tt };
+      answer =
+          high_scalar (0x10000 + (lead - 0xD800) * 0x400 + (u - 0xDC00)) (omega arith) (grind (arith, nat_tests, e));
+      restored = tt;
+    })
     (λ e. record { state = record { byte = tt; lead = tt }; answer = tt; restored = (p, (q, tt)) })
 unit_sound None u a b k l p q =
     branch (IsSound IsKept) (within 0xD800 0xDBFF u) _ _
-    (λ e. record { state = record { byte = tt; lead = (grind (arith, nat_tests, e), grind (arith, nat_tests, e)) }; answer = tt; restored = tt })
+    (λ e. record {
+      state = record { byte = tt; lead = (grind (arith, nat_tests, e), grind (arith, nat_tests, e)) };
+      answer = tt;
+      restored = tt;
+    })
     (λ e. branch (IsSound IsKept) (within 0xDC00 0xDFFF u) _ _
     (λ f. record { state = record { byte = tt; lead = tt }; answer = tt; restored = tt })
     (λ f. record { state = record { byte = tt; lead = tt }; answer = grind (arith, nat_tests, e, f); restored = tt }))
@@ -71,7 +89,8 @@ unit_below : (big : Bool) (a b : ℕ) → a < 0x100 → b < 0x100 → unit_of bi
 unit_below true a b p q = omega arith
 unit_below false a b p q = omega arith
 
-byte_sound : (big : Bool) (byte lead : Option ℕ) (b : ℕ) → IsByteOption byte → IsLeadOption lead → b < 0x100 → IsSound IsKept (utf16_byte big byte lead b)
+byte_sound : (big : Bool) (byte lead : Option ℕ) (b : ℕ) → IsByteOption byte → IsLeadOption lead → b < 0x100
+    → IsSound IsKept (utf16_byte big byte lead b)
 byte_sound big None lead b k m l = record { state = record { byte = l; lead = m }; answer = tt; restored = tt }
 byte_sound big (Some a) lead b k m l = unit_sound lead (unit_of big a b) a b m (unit_below big a b k l) k l
 
@@ -90,9 +109,14 @@ utf16_ends big s g = end_sound s.byte s.lead
 
 -- PAIRS
 
-pair_sound : {S : Type 0} (s : S) (o : Option ℕ) (b : ℕ) → IsScalarOption o → b < 0x100 → IsSound Always (pair_step s o b)
+pair_sound : {S : Type 0} (s : S) (o : Option ℕ) (b : ℕ) → IsScalarOption o → b < 0x100
+    → IsSound Always (pair_step s o b)
 pair_sound s (Some c) b k l = record { state = tt; answer = k; restored = tt }
-pair_sound s None b k l = record { state = tt; answer = tt; restored = branch FewBytes (nat_lt b 0x80) _ _ (λ e. (l, tt)) (λ e. tt) }
+pair_sound s None b k l = record {
+  state = tt;
+  answer = tt;
+  restored = branch FewBytes (nat_lt b 0x80) _ _ (λ e. (l, tt)) (λ e. tt);
+}
 
 -- a half-width katakana
 half_width : (b low high : ℕ) → within low high b ≡ true → high ≤ 0xFF → is_scalar (0xFF61 + (b - low)) ≡ true
@@ -104,10 +128,12 @@ shift_jis_scalar : (i : Index) → HasScalars i → (lead b : ℕ) → IsScalarO
 shift_jis_scalar i has lead b =
     branch IsScalarOption (within 0x40 0x7E b || within 0x80 0xFC b) _ _
     (λ e. let p = shift_jis_at lead b in
-    branch IsScalarOption (within 8836 10715 p) _ _ (λ f. high_scalar (0xE000 + (p - 8836)) (omega arith) (grind (arith, nat_tests, f))) (λ f. has p))
+    branch IsScalarOption (within 8836 10715 p) _ _
+    (λ f. high_scalar (0xE000 + (p - 8836)) (omega arith) (grind (arith, nat_tests, f))) (λ f. has p))
     (λ e. tt)
 
-pub shift_jis_reads : (i : Index) → HasScalars i → (lead b : ℕ) → Always lead → b < 0x100 → IsSound Always (shift_jis i lead (Some b))
+pub shift_jis_reads : (i : Index) → HasScalars i → (lead b : ℕ) → Always lead → b < 0x100
+    → IsSound Always (shift_jis i lead (Some b))
 unfolding shift_jis
 shift_jis_reads i has lead b g l =
     branch (IsSound Always) (lead == 0) _ _
@@ -134,11 +160,14 @@ either : (x : Bool) (i j : Index) → HasScalars i → HasScalars j → HasScala
 either true i j p q = p
 either false i j p q = q
 
-euc_jp_scalar : (i j : Index) → HasScalars i → HasScalars j → (flag : Bool) (lead b : ℕ) → IsScalarOption (euc_jp_pair i j flag lead b)
+euc_jp_scalar : (i j : Index) → HasScalars i → HasScalars j → (flag : Bool) (lead b : ℕ)
+    → IsScalarOption (euc_jp_pair i j flag lead b)
 euc_jp_scalar i j p q flag lead b =
-    branch IsScalarOption (within 0xA1 0xFE lead && within 0xA1 0xFE b) _ _ (λ e. either flag j i q p ((lead - 0xA1) * 94 + (b - 0xA1))) (λ e. tt)
+    branch IsScalarOption (within 0xA1 0xFE lead && within 0xA1 0xFE b) _ _
+    (λ e. either flag j i q p ((lead - 0xA1) * 94 + (b - 0xA1))) (λ e. tt)
 
-pub euc_jp_reads : (i j : Index) → HasScalars i → HasScalars j → (s : EucJp) (b : ℕ) → Always s → b < 0x100 → IsSound Always (euc_jp i j s (Some b))
+pub euc_jp_reads : (i j : Index) → HasScalars i → HasScalars j → (s : EucJp) (b : ℕ) → Always s → b < 0x100
+    → IsSound Always (euc_jp i j s (Some b))
 unfolding euc_jp
 euc_jp_reads i j p q s b g l =
     branch (IsSound Always) (s.lead == 0) _ _
@@ -148,7 +177,11 @@ euc_jp_reads i j p q s b g l =
     (λ h. record { state = tt; answer = tt; restored = tt })
     (λ h. record { state = tt; answer = tt; restored = tt })))
     (λ e. branch (IsSound Always) ((s.lead == 0x8E) && within 0xA1 0xDF b) _ _
-    (λ f. record { state = tt; answer = half_width b 0xA1 0xDF (both (s.lead == 0x8E) (within 0xA1 0xDF b) f).1 (lit≤ tt); restored = tt })
+    (λ f. record {
+      state = tt;
+      answer = half_width b 0xA1 0xDF (both (s.lead == 0x8E) (within 0xA1 0xDF b) f).1 (lit≤ tt);
+      restored = tt;
+    })
     (λ f. branch (IsSound Always) ((s.lead == 0x8F) && within 0xA1 0xFE b) _ _
     (λ h. record { state = tt; answer = tt; restored = tt })
     (λ h. pair_sound euc_jp_start (euc_jp_pair i j s.flag s.lead b) b (euc_jp_scalar i j p q s.flag s.lead b) l)))
@@ -165,17 +198,21 @@ plain_scalar b l = branch IsScalarAnswer (plain b) _ _ (λ e. low_scalar b (omeg
 answer_sound : (set : Charset) (b : ℕ) → b < 0x100 → IsScalarAnswer (iso2022_answer set b)
 answer_sound Ascii b l = plain_scalar b l
 answer_sound Roman b l =
-    branch IsScalarAnswer (b == 0x5C) _ _ (λ e. refl) (λ e. branch IsScalarAnswer (b == 0x7E) _ _ (λ f. refl) (λ f. plain_scalar b l))
-answer_sound Katakana b l = branch IsScalarAnswer (within 0x21 0x5F b) _ _ (λ e. half_width b 0x21 0x5F e (lit≤ tt)) (λ e. tt)
+    branch IsScalarAnswer (b == 0x5C) _ _ (λ e. refl)
+    (λ e. branch IsScalarAnswer (b == 0x7E) _ _ (λ f. refl) (λ f. plain_scalar b l))
+answer_sound Katakana b l =
+    branch IsScalarAnswer (within 0x21 0x5F b) _ _ (λ e. half_width b 0x21 0x5F e (lit≤ tt)) (λ e. tt)
 answer_sound Lead b l = branch IsScalarAnswer (within 0x21 0x7E b) _ _ (λ e. tt) (λ e. tt)
 
-to_sound : (place : Place) (output : Charset) (flag : Bool) (answer : Answer) (restored : List ℕ) → IsScalarAnswer answer → FewBytes restored →
+to_sound : (place : Place) (output : Charset) (flag : Bool) (answer : Answer) (restored : List ℕ)
+    → IsScalarAnswer answer → FewBytes restored →
     IsSound Always (iso2022_to place output flag answer restored)
 to_sound place output flag answer restored s f = record { state = tt; answer = s; restored = f }
 
 plain_sound : (set output : Charset) (b : ℕ) → b < 0x100 → IsSound Always (iso2022_plain set output b)
 plain_sound Lead output b l =
-    branch (IsSound Always) (within 0x21 0x7E b) _ _ (λ e. to_sound (Trail b) output false Nothing [] tt tt) (λ e. to_sound (In Lead) output false Error [] tt tt)
+    branch (IsSound Always) (within 0x21 0x7E b) _ _ (λ e. to_sound (Trail b) output false Nothing [] tt tt)
+    (λ e. to_sound (In Lead) output false Error [] tt tt)
 plain_sound Ascii output b l = to_sound (In Ascii) output false _ [] (answer_sound Ascii b l) tt
 plain_sound Roman output b l = to_sound (In Roman) output false _ [] (answer_sound Roman b l) tt
 plain_sound Katakana output b l = to_sound (In Katakana) output false _ [] (answer_sound Katakana b l) tt
@@ -184,7 +221,8 @@ escape_answer : (flag : Bool) → IsScalarAnswer (if flag then Error else Nothin
 escape_answer true = tt
 escape_answer false = tt
 
-escape_sound : (output : Charset) (flag : Bool) (set : Option Charset) (again : List ℕ) → FewBytes again → IsSound Always (iso2022_escape output flag set again)
+escape_sound : (output : Charset) (flag : Bool) (set : Option Charset) (again : List ℕ) → FewBytes again
+    → IsSound Always (iso2022_escape output flag set again)
 escape_sound output flag (Some set) again f = to_sound (In set) set true _ [] (escape_answer flag) tt
 escape_sound output flag None again f = to_sound (In output) output false Error again tt f
 
@@ -192,13 +230,16 @@ introducer_below : (i : Introducer) → introducer_byte i < 0x100
 introducer_below Dollar = lit< tt
 introducer_below Paren = lit< tt
 
-place_sound : (i : Index) → HasScalars i → (place : Place) (output : Charset) (flag : Bool) (b : ℕ) → b < 0x100 → IsSound Always (iso2022_byte i place output flag b)
+place_sound : (i : Index) → HasScalars i → (place : Place) (output : Charset) (flag : Bool) (b : ℕ) → b < 0x100
+    → IsSound Always (iso2022_byte i place output flag b)
 place_sound i has (In set) output flag b l =
-    branch (IsSound Always) (b == 0x1B) _ _ (λ e. to_sound EscapeStart output flag Nothing [] tt tt) (λ e. plain_sound set output b l)
+    branch (IsSound Always) (b == 0x1B) _ _ (λ e. to_sound EscapeStart output flag Nothing [] tt tt)
+    (λ e. plain_sound set output b l)
 place_sound i has (Trail lead) output flag b l =
     branch (IsSound Always) (b == 0x1B) _ _ (λ e. to_sound EscapeStart output flag Error [] tt tt)
     (λ e. branch (IsSound Always) (within 0x21 0x7E b) _ _
-    (λ f. let p = (lead - 0x21) * 94 + (b - 0x21) in to_sound (In Lead) output flag (answer_of (code i p)) [] (answer_scalar (code i p) (has p)) tt)
+    (λ f. let p = (lead - 0x21) * 94 + (b - 0x21) in to_sound (In Lead) output flag (answer_of (code i p)) []
+    (answer_scalar (code i p) (has p)) tt)
     (λ f. to_sound (In Lead) output flag Error [] tt tt))
 place_sound i has EscapeStart output flag b l =
     branch (IsSound Always) (b == 0x24) _ _ (λ e. to_sound (Escape Dollar) output flag Nothing [] tt tt)
@@ -211,9 +252,11 @@ place_ends : (place : Place) (output : Charset) (flag : Bool) → IsSound Always
 place_ends (In set) output flag = to_sound (In set) output flag Finished [] tt tt
 place_ends (Trail lead) output flag = to_sound (In Lead) output flag Error [] tt tt
 place_ends EscapeStart output flag = to_sound (In output) output false Error [] tt tt
-place_ends (Escape lead) output flag = to_sound (In output) output false Error (introducer_byte lead ∷ []) tt (introducer_below lead, tt)
+place_ends (Escape lead) output flag =
+    to_sound (In output) output false Error (introducer_byte lead ∷ []) tt (introducer_below lead, tt)
 
-pub iso2022_reads : (i : Index) → HasScalars i → (s : Iso2022) (b : ℕ) → Always s → b < 0x100 → IsSound Always (iso2022 i s (Some b))
+pub iso2022_reads : (i : Index) → HasScalars i → (s : Iso2022) (b : ℕ) → Always s → b < 0x100
+    → IsSound Always (iso2022 i s (Some b))
 unfolding iso2022
 iso2022_reads i has s b g l = place_sound i has s.place s.output s.flag b l
 

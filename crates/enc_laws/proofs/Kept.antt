@@ -1,13 +1,17 @@
 -- The lines of an index file, one by one.
-use Rattle.std.proofs.Common.{ℕ, suc, ◌+◌, ◌<◌, ◌≡◌, ◌↔◌, ◌⊎◌, inl, inr, ⊎_elim, Bool, true, false, ◌&&◌, ◌==◌, nat_lt, if◌then◌else◌, List, [], ◌∷◌, ◌++◌, Option, Some, None, Result, Ok, Err, Contains, length, length-append, append-nil, append_assoc, refl, sym, ◌∙◌, ap, subst, arith, true≢false}
+use Rattle.std.proofs.Common.{ℕ, suc, ◌+◌, ◌<◌, ◌≡◌, ◌↔◌, ◌⊎◌, inl, inr, ⊎_elim, Bool, true, false, ◌&&◌, ◌==◌, nat_lt}
+use Rattle.std.proofs.Common.{if◌then◌else◌, List, [], ◌∷◌, ◌++◌, Option, Some, None, Result, Ok, Err, Contains, length}
+use Rattle.std.proofs.Common.{length-append, append-nil, append_assoc, refl, sym, ◌∙◌, ap, subst, arith, true≢false}
 use Rattle.std.proofs.lemmas.Bool.{and_from}
 use Rattle.std.proofs.lemmas.Bool.Decides.{nat_tests}
-use Rattle.std.proofs.lemmas.List.Elements.{Contains-append_left, Contains-append_right, Contains-push, Contains-push_cases, Contains-append_cases}
+use Rattle.std.proofs.lemmas.List.Elements.{Contains-append_left, Contains-append_right, Contains-push}
+use Rattle.std.proofs.lemmas.List.Elements.{Contains-push_cases, Contains-append_cases}
 use Rattle.enc_model.specs.Index.{Index, code}
 use Rattle.enc_index.specs.declared.kind.ReadError.{ReadError}
 use Rattle.enc_index.specs.declared.kind.ReadError.TheVariants.{Line, Range, Twice, NoMemory}
 use Rattle.enc_index.specs.Scalars.{is_scalar}
-use Rattle.enc_index.specs.Files.{is_dropped, pair_of, inserted, unless_given, with_pair, with_line, with_lines, and_then}
+use Rattle.enc_index.specs.Files.{is_dropped, pair_of, inserted, unless_given, with_pair, with_line, with_lines}
+use Rattle.enc_index.specs.Files.{and_then}
 use Rattle.enc_laws.proofs.Leads.{both}
 use Rattle.enc_laws.specs.IndexFiles.{Give, IsInRange, GivesNew, AreGoodBehind, AreGood, Breaks, IsFirstBad}
 
@@ -30,7 +34,8 @@ contains_cases y xs x h =
 
 -- A PAIR MORE
 
-code_inserted : (p c : ℕ) (index : Index) (q : ℕ) → code index p ≡ None → code (inserted p c index) q ≡ (if p == q then Some c else code index q)
+code_inserted : (p c : ℕ) (index : Index) (q : ℕ) → code index p ≡ None
+    → code (inserted p c index) q ≡ (if p == q then Some c else code index q)
 unfolding code inserted
 code_inserted p c [] q n = refl
 code_inserted p c (pair ∷ index) q n =
@@ -42,16 +47,19 @@ unfolding code
 code_contained [] p c e = absurd cc
 code_contained (pair ∷ index) p c e = go (pair.0 == p) refl (code_contained index p c)
   where
-    go : (b : Bool) → (pair.0 == p) ≡ b → (code index p ≡ Some c → Contains index (p, c)) → Contains (pair ∷ index) (p, c)
+    go : (b : Bool) → (pair.0 == p) ≡ b → (code index p ≡ Some c → Contains index (p, c))
+        → Contains (pair ∷ index) (p, c)
     go true h ih =
         let first : pair.0 ≡ p = grind (arith, nat_tests, h) in
         let second : pair.1 ≡ c = grind (arith, nat_tests, h, e) in
-        subst (λ z. Contains (pair ∷ index) z) (ap (λ z. (z, pair.1)) first ∙ ap (λ z. (p, z)) second) (contains_here pair index)
+        subst (λ z. Contains (pair ∷ index) z) (ap (λ z. (z, pair.1)) first ∙ ap (λ z. (p, z)) second)
+        (contains_here pair index)
     go false h ih =
         let later : code index p ≡ Some c = grind (arith, nat_tests, h, e) in
         contains_more pair index (p, c) (ih later)
 
-inserted_cases : (p c : ℕ) (index : Index) (x : ℕ × ℕ) → Contains (inserted p c index) x → ((p, c) ≡ x) ⊎ Contains index x
+inserted_cases : (p c : ℕ) (index : Index) (x : ℕ × ℕ) → Contains (inserted p c index) x
+    → ((p, c) ≡ x) ⊎ Contains index x
 unfolding inserted
 inserted_cases p c [] x h = contains_cases (p, c) [] x h
 inserted_cases p c (pair ∷ index) x h = go (nat_lt p pair.0) h (inserted_cases p c index x)
@@ -88,7 +96,11 @@ pub record Holds (lines : List (List ℕ)) (index : Index) : Type 0 where
 
 pub holds_none : Holds [] []
 unfolding code
-holds_none = record { found = λ p c e. absurd cc; given = λ p c g. absurd g; contained = λ p c h. absurd (contains_none (p, c) h) }
+holds_none = record {
+  found = λ p c e. absurd cc;
+  given = λ p c g. absurd g;
+  contained = λ p c h. absurd (contains_none (p, c) h);
+}
 
 -- a line that says nothing
 holds_dropped : (front : List (List ℕ)) (line : List ℕ) (index : Index) → is_dropped line ≡ true → Holds front index →
@@ -108,7 +120,8 @@ some_same a b e = ap (λ o. elim o as (λ _. ℕ × ℕ) [ Some z ↦ z | None �
 -- a line that gives a new pair
 module _
     (front : List (List ℕ)) (line : List ℕ) (index : Index) (p c : ℕ)
-    (kept : is_dropped line ≡ false) (gives : pair_of line ≡ Some (p, c)) (none : code index p ≡ None) (h : Holds front index) where
+    (kept : is_dropped line ≡ false) (gives : pair_of line ≡ Some (p, c)) (none : code index p ≡ None)
+    (h : Holds front index) where
   last_gives : (q d : ℕ) → Give (line ∷ []) q d → (p ≡ q) × (c ≡ d)
   last_gives q d (inl is) = let e = some_same (p, c) (q, d) (sym gives ∙ is.1) in (ap (λ z. z.0) e, ap (λ z. z.1) e)
   last_gives q d (inr z) = absurd z
@@ -126,7 +139,8 @@ module _
   code_new : (q d : ℕ) → code (inserted p c index) q ≡ Some d → ((p ≡ q) × (c ≡ d)) ⊎ (code index q ≡ Some d)
   code_new q d e = go (p == q) refl (sym (code_inserted p c index q none) ∙ e)
     where
-      go : (b : Bool) → (p == q) ≡ b → (if b then Some c else code index q) ≡ Some d → ((p ≡ q) × (c ≡ d)) ⊎ (code index q ≡ Some d)
+      go : (b : Bool) → (p == q) ≡ b → (if b then Some c else code index q) ≡ Some d
+          → ((p ≡ q) × (c ≡ d)) ⊎ (code index q ≡ Some d)
       go true x y = let same : p ≡ q = grind (arith, nat_tests, x) in inl (same, cc)
       go false x y = inr y
 
@@ -134,7 +148,8 @@ module _
   give_here = give_right front (line ∷ []) p c (inl (kept, gives))
 
   give_same : (q d : ℕ) → (p ≡ q) × (c ≡ d) → Give (front ++ line ∷ []) q d
-  give_same q d e = subst (λ z. Give (front ++ line ∷ []) z d) e.0 (subst (λ z. Give (front ++ line ∷ []) p z) e.1 give_here)
+  give_same q d e = subst (λ z. Give (front ++ line ∷ []) z d) e.0
+      (subst (λ z. Give (front ++ line ∷ []) p z) e.1 give_here)
 
   code_same : (q d : ℕ) → (p ≡ q) × (c ≡ d) → code (inserted p c index) q ≡ Some d
   code_same q d e = ap (code (inserted p c index)) (sym e.0) ∙ code_here ∙ ap Some e.1
@@ -146,16 +161,19 @@ module _
   holds_inserted = record {
     found = λ q d e. ⊎_elim (give_same q d) (λ old. give_left front (line ∷ []) q d (h.found q d old)) (code_new q d e);
     given = λ q d g.
-        ⊎_elim (λ old. code_old q d (h.given q d old)) (λ last. code_same q d (last_gives q d last)) (give_cases front (line ∷ []) q d g);
+        ⊎_elim (λ old. code_old q d (h.given q d old)) (λ last. code_same q d (last_gives q d last))
+        (give_cases front (line ∷ []) q d g);
     contained = λ q d x.
-        ⊎_elim (λ e. code_same q d (pair_same q d e)) (λ old. code_old q d (h.contained q d old)) (inserted_cases p c index (q, d) x);
+        ⊎_elim (λ e. code_same q d (pair_same q d e)) (λ old. code_old q d (h.contained q d old))
+        (inserted_cases p c index (q, d) x);
   }
 
 -- A LINE
 
 module _ (bound : ℕ) where
   abbrev LineReads : List (List ℕ) → List ℕ → ℕ → Result Index ReadError → Type 0
-  LineReads front line n (Ok next) = (is_dropped line ≡ false → GivesNew bound front line) × Holds (front ++ line ∷ []) next
+  LineReads front line n (Ok next) =
+      (is_dropped line ≡ false → GivesNew bound front line) × Holds (front ++ line ∷ []) next
   LineReads front line n (Err e) = (is_dropped line ≡ false) × Breaks bound front line n e
 
   module _ (front : List (List ℕ)) (line : List ℕ) (index : Index) (n : ℕ) (h : Holds front index) where
@@ -167,7 +185,8 @@ module _ (bound : ℕ) where
     )
     code_reads pair kept gives range (Some d) some = (kept, (refl, pair, gives, range, d, h.found pair.0 d some))
 
-    range_reads : (pair : ℕ × ℕ) → is_dropped line ≡ false → pair_of line ≡ Some pair → (b : Bool) → (nat_lt pair.0 bound && is_scalar pair.1) ≡ b →
+    range_reads : (pair : ℕ × ℕ) → is_dropped line ≡ false → pair_of line ≡ Some pair → (b : Bool)
+        → (nat_lt pair.0 bound && is_scalar pair.1) ≡ b →
         LineReads front line n (if b then unless_given n pair index (code index pair.0) else Err (Range n))
     range_reads pair kept gives true test =
         let below : pair.0 < bound = grind (arith, nat_tests, test) in
@@ -176,16 +195,19 @@ module _ (bound : ℕ) where
     range_reads pair kept gives false test =
         (kept, (refl, pair, gives, λ range. let below = range.0 in let scalar = range.1 in out pair below scalar test))
       where
-        out : (pair : ℕ × ℕ) → pair.0 < bound → is_scalar pair.1 ≡ true → (nat_lt pair.0 bound && is_scalar pair.1) ≡ false → ⊥
+        out : (pair : ℕ × ℕ) → pair.0 < bound → is_scalar pair.1 ≡ true
+            → (nat_lt pair.0 bound && is_scalar pair.1) ≡ false → ⊥
         out pair below scalar test =
             let yes : nat_lt pair.0 bound ≡ true = grind (arith, nat_tests, below) in
             true≢false (sym (and_from (nat_lt pair.0 bound) (is_scalar pair.1) yes scalar) ∙ test)
 
-    pair_reads : is_dropped line ≡ false → (o : Option (ℕ × ℕ)) → pair_of line ≡ o → LineReads front line n (with_pair bound n index o)
+    pair_reads : is_dropped line ≡ false → (o : Option (ℕ × ℕ)) → pair_of line ≡ o
+        → LineReads front line n (with_pair bound n index o)
     pair_reads kept None none = (kept, (refl, none))
     pair_reads kept (Some pair) gives = range_reads pair kept gives (nat_lt pair.0 bound && is_scalar pair.1) refl
 
-    dropped_reads : (b : Bool) → is_dropped line ≡ b → LineReads front line n (if b then Ok index else with_pair bound n index (pair_of line))
+    dropped_reads : (b : Bool) → is_dropped line ≡ b → LineReads front line n
+        (if b then Ok index else with_pair bound n index (pair_of line))
     dropped_reads true d = (λ kept. absurd cc, holds_dropped front line index d h)
     dropped_reads false kept = pair_reads kept (pair_of line) refl
 
@@ -210,8 +232,10 @@ module _ (bound : ℕ) where
   Reads front rest (Err e) = BadBehind front rest e
 
   further : (front : List (List ℕ)) (line : List ℕ) (lines : List (List ℕ)) (r : Result Index ReadError) →
-      (is_dropped line ≡ false → GivesNew bound front line) → Reads (front ++ line ∷ []) lines r → Reads front (line ∷ lines) r
-  further front line lines (Ok index) good r = ((good, r.0), subst (λ z. Holds z index) (append_assoc front (line ∷ []) lines) r.1)
+      (is_dropped line ≡ false → GivesNew bound front line) → Reads (front ++ line ∷ []) lines r
+      → Reads front (line ∷ lines) r
+  further front line lines (Ok index) good r =
+      ((good, r.0), subst (λ z. Holds z index) (append_assoc front (line ∷ []) lines) r.1)
   further front line lines (Err e) good r =
       let same = append_assoc front (line ∷ []) r.mid in
       record {
@@ -229,12 +253,14 @@ module _ (bound : ℕ) where
   unfolding with_lines
   reads [] front index n count h = (tt, subst (λ z. Holds z index) (sym (append-nil front)) h)
   reads (line ∷ lines) front index n count h =
-      let more : n + 1 ≡ suc (length (front ++ line ∷ [])) = let l = length-append front (line ∷ []) in omega (arith, count, l) in
+      let more : n + 1 ≡ suc (length (front ++ line ∷ [])) = let l =
+      length-append front (line ∷ []) in omega (arith, count, l) in
       go (with_line bound n index line) (line_reads front line index n h)
       (λ next holds. reads lines (front ++ line ∷ []) next (n + 1) more holds)
     where
       go : (r : Result Index ReadError) → LineReads front line n r →
-          ((next : Index) → Holds (front ++ line ∷ []) next → Reads (front ++ line ∷ []) lines (with_lines bound (n + 1) next lines)) →
+          ((next : Index) → Holds (front ++ line ∷ []) next → Reads (front ++ line ∷ []) lines
+          (with_lines bound (n + 1) next lines)) →
           Reads front (line ∷ lines) (and_then r (λ next. with_lines bound (n + 1) next lines))
       go (Ok next) is ih = further front line lines (with_lines bound (n + 1) next lines) is.0 (ih next is.1)
       go (Err e) is ih = record {
@@ -244,7 +270,8 @@ module _ (bound : ℕ) where
         parts = refl;
         good = tt;
         kept = is.0;
-        breaks = subst (λ z. Breaks bound z line (suc (length z)) e) (sym (append-nil front)) (subst (λ z. Breaks bound front line z e) count is.1);
+        breaks = subst (λ z. Breaks bound z line (suc (length z)) e) (sym (append-nil front))
+            (subst (λ z. Breaks bound front line z e) count is.1);
       }
 
   -- THE WHOLE FILE
@@ -259,16 +286,27 @@ module _ (bound : ℕ) where
     pub when_bad : (e : ReadError) → with_lines bound 1 [] lines ≡ Err e → IsFirstBad bound lines e
     when_bad e is =
         let bad = subst (Reads [] lines) is all in
-        record { front = bad.mid; line = bad.line; back = bad.back; parts = bad.parts; good = bad.good; kept = bad.kept; breaks = bad.breaks }
+        record {
+          front = bad.mid;
+          line = bad.line;
+          back = bad.back;
+          parts = bad.parts;
+          good = bad.good;
+          kept = bad.kept;
+          breaks = bad.breaks;
+        }
 
   -- a good file has no bad line
-  good_line : (front mid : List (List ℕ)) (line : List ℕ) (back : List (List ℕ)) → AreGoodBehind bound front (mid ++ line ∷ back) →
+  good_line : (front mid : List (List ℕ)) (line : List ℕ) (back : List (List ℕ))
+      → AreGoodBehind bound front (mid ++ line ∷ back) →
       is_dropped line ≡ false → GivesNew bound (front ++ mid) line
   good_line front [] line back g kept = subst (λ z. GivesNew bound z line) (sym (append-nil front)) (g.0 kept)
   good_line front (first ∷ mid) line back g kept =
-      subst (λ z. GivesNew bound z line) (append_assoc front (first ∷ []) mid) (good_line (front ++ first ∷ []) mid line back g.1 kept)
+      subst (λ z. GivesNew bound z line) (append_assoc front (first ∷ []) mid)
+      (good_line (front ++ first ∷ []) mid line back g.1 kept)
 
-  no_break : (front : List (List ℕ)) (line : List ℕ) (n : ℕ) (e : ReadError) → GivesNew bound front line → Breaks bound front line n e → ⊥
+  no_break : (front : List (List ℕ)) (line : List ℕ) (n : ℕ) (e : ReadError) → GivesNew bound front line
+      → Breaks bound front line n e → ⊥
   no_break front line n (Line m) good b = let is = good.gives in let none = b.1 in absurd cc
   no_break front line n (Range m) good (m_is, pair, gives, out) =
       out (subst (IsInRange bound) (some_same good.pair pair (sym good.gives ∙ gives)) good.range)
@@ -280,19 +318,22 @@ module _ (bound : ℕ) where
     pub read_when_good : AreGood bound lines → (index : Index) × (with_lines bound 1 [] lines ≡ Ok index)
     read_when_good good = go (with_lines bound 1 [] lines) refl
       where
-        go : (r : Result Index ReadError) → with_lines bound 1 [] lines ≡ r → (index : Index) × (with_lines bound 1 [] lines ≡ Ok index)
+        go : (r : Result Index ReadError) → with_lines bound 1 [] lines ≡ r
+            → (index : Index) × (with_lines bound 1 [] lines ≡ Ok index)
         go (Ok index) e = (index, e)
         go (Err e) is =
             let bad = when_bad lines e is in
             absurd (no_break bad.front bad.line (suc (length bad.front)) e
             (good_line [] bad.front bad.line bad.back (subst (AreGood bound) bad.parts good) bad.kept) bad.breaks)
 
-    pub pairs_when_ok : (index : Index) → with_lines bound 1 [] lines ≡ Ok index → (p c : ℕ) → Contains index (p, c) ↔ Give lines p c
+    pub pairs_when_ok : (index : Index) → with_lines bound 1 [] lines ≡ Ok index → (p c : ℕ)
+        → Contains index (p, c) ↔ Give lines p c
     pairs_when_ok index e p c =
         let h = (when_ok lines index e).1 in
         (λ x. h.found p c (h.contained p c x), λ g. code_contained index p c (h.given p c g))
 
-    pub code_when_ok : (index : Index) → with_lines bound 1 [] lines ≡ Ok index → (p c : ℕ) → (code index p ≡ Some c) ↔ Give lines p c
+    pub code_when_ok : (index : Index) → with_lines bound 1 [] lines ≡ Ok index → (p c : ℕ)
+        → (code index p ≡ Some c) ↔ Give lines p c
     code_when_ok index e p c = let h = (when_ok lines index e).1 in (h.found p c, h.given p c)
 
     pub good_when_ok : (index : Index) → with_lines bound 1 [] lines ≡ Ok index → AreGood bound lines

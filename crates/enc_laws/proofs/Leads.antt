@@ -1,5 +1,6 @@
 -- What a lead byte leads to, in the table and in the decoder.
-use Rattle.std.proofs.Common.{ℕ, suc, ◌-◌, ◌<◌, ◌≤◌, ◌≡◌, ◌⊎◌, inl, inr, Bool, true, false, ◌&&◌, List, [], ◌∷◌, Some, length, refl, arith, lit≤}
+use Rattle.std.proofs.Common.{ℕ, suc, ◌-◌, ◌<◌, ◌≤◌, ◌≡◌, ◌⊎◌, inl, inr, Bool, true, false, ◌&&◌, List, [], ◌∷◌, Some}
+use Rattle.std.proofs.Common.{length, refl, arith, lit≤}
 use Rattle.std.proofs.lemmas.Bool.{cases_lt, cases_order}
 use Rattle.std.proofs.lemmas.Bool.Decides.{nat_tests}
 use Rattle.enc_model.specs.declared.Answer.TheVariants.{Point, Error, Nothing}
@@ -42,7 +43,11 @@ lead_state b needed lower upper point = (lead_of b needed lower upper point).sta
 pub ascii : (b : ℕ) → b < 0x80 → Leads b []
 ascii b l = record { few = lit≤ tt; sequence = λ t. grind (arith, nat_tests); prefix = λ t. grind (arith, nat_tests) }
 
-pub ascii_read : (b : ℕ) → b < 0x80 → utf8 utf8_start (Some b) ≡ record { state = utf8_start; answer = Point b; restored = [] }
+pub ascii_read : (b : ℕ) → b < 0x80 → utf8 utf8_start (Some b) ≡ record {
+  state = utf8_start;
+  answer = Point b;
+  restored = [];
+}
 unfolding utf8
 ascii_read b l = grind (arith, nat_tests)
 
@@ -75,7 +80,8 @@ read_e1 : (b : ℕ) → 0xE1 ≤ b → b ≤ 0xEF → (b ≡ 0xED → ⊥) → u
 unfolding utf8
 read_e1 b l h n = grind (arith, nat_tests)
 
-pub three_e1 : (b : ℕ) → 0xE1 ≤ b → b ≤ 0xEF → (b ≡ 0xED → ⊥) → Leading b ((0x80, 0xBF) ∷ (0x80, 0xBF) ∷ []) (lead_state b 2 0x80 0xBF (b - 0xE0))
+pub three_e1 : (b : ℕ) → 0xE1 ≤ b → b ≤ 0xEF → (b ≡ 0xED → ⊥) → Leading b ((0x80, 0xBF) ∷ (0x80, 0xBF) ∷ [])
+    (lead_state b 2 0x80 0xBF (b - 0xE0))
 three_e1 b l h n = record {
   leads = record { few = lit≤ tt; sequence = λ t. grind (arith, nat_tests); prefix = λ t. grind (arith, nat_tests) };
   read = read_e1 b l h n;
@@ -99,7 +105,8 @@ read_f0 : (b : ℕ) → b ≡ 0xF0 → utf8 utf8_start (Some b) ≡ lead_of b 3 
 unfolding utf8
 read_f0 b e = grind (arith, nat_tests)
 
-pub four_f0 : (b : ℕ) → b ≡ 0xF0 → Leading b ((0x90, 0xBF) ∷ (0x80, 0xBF) ∷ (0x80, 0xBF) ∷ []) (lead_state b 3 0x90 0xBF (b - 0xF0))
+pub four_f0 : (b : ℕ) → b ≡ 0xF0 → Leading b ((0x90, 0xBF) ∷ (0x80, 0xBF) ∷ (0x80, 0xBF) ∷ [])
+    (lead_state b 3 0x90 0xBF (b - 0xF0))
 four_f0 b e = record {
   leads = record { few = lit≤ tt; sequence = λ t. grind (arith, nat_tests); prefix = λ t. grind (arith, nat_tests) };
   read = read_f0 b e;
@@ -111,7 +118,8 @@ read_f1 : (b : ℕ) → 0xF1 ≤ b → b ≤ 0xF3 → utf8 utf8_start (Some b) �
 unfolding utf8
 read_f1 b l h = grind (arith, nat_tests)
 
-pub four_f1 : (b : ℕ) → 0xF1 ≤ b → b ≤ 0xF3 → Leading b ((0x80, 0xBF) ∷ (0x80, 0xBF) ∷ (0x80, 0xBF) ∷ []) (lead_state b 3 0x80 0xBF (b - 0xF0))
+pub four_f1 : (b : ℕ) → 0xF1 ≤ b → b ≤ 0xF3 → Leading b ((0x80, 0xBF) ∷ (0x80, 0xBF) ∷ (0x80, 0xBF) ∷ [])
+    (lead_state b 3 0x80 0xBF (b - 0xF0))
 four_f1 b l h = record {
   leads = record { few = lit≤ tt; sequence = λ t. grind (arith, nat_tests); prefix = λ t. grind (arith, nat_tests) };
   read = read_f1 b l h;
@@ -123,7 +131,8 @@ read_f4 : (b : ℕ) → b ≡ 0xF4 → utf8 utf8_start (Some b) ≡ lead_of b 3 
 unfolding utf8
 read_f4 b e = grind (arith, nat_tests)
 
-pub four_f4 : (b : ℕ) → b ≡ 0xF4 → Leading b ((0x80, 0x8F) ∷ (0x80, 0xBF) ∷ (0x80, 0xBF) ∷ []) (lead_state b 3 0x80 0x8F (b - 0xF0))
+pub four_f4 : (b : ℕ) → b ≡ 0xF4 → Leading b ((0x80, 0x8F) ∷ (0x80, 0xBF) ∷ (0x80, 0xBF) ∷ [])
+    (lead_state b 3 0x80 0x8F (b - 0xF0))
 four_f4 b e = record {
   leads = record { few = lit≤ tt; sequence = λ t. grind (arith, nat_tests); prefix = λ t. grind (arith, nat_tests) };
   read = read_f4 b e;
@@ -137,12 +146,20 @@ pub record LeadsNowhere (b : ℕ) : Type 0 where
   pub prefix : (t : List ℕ) → is_prefix (b ∷ t) ≡ false
   pub read : utf8 utf8_start (Some b) ≡ record { state = utf8_start; answer = Error; restored = [] }
 
-read_none : (b : ℕ) → 0x80 ≤ b → (0xC2 ≤ b → 0xF5 ≤ b) → utf8 utf8_start (Some b) ≡ record { state = utf8_start; answer = Error; restored = [] }
+read_none : (b : ℕ) → 0x80 ≤ b → (0xC2 ≤ b → 0xF5 ≤ b) → utf8 utf8_start (Some b) ≡ record {
+  state = utf8_start;
+  answer = Error;
+  restored = [];
+}
 unfolding utf8
 read_none b l n = grind (arith, nat_tests)
 
 pub nowhere : (b : ℕ) → 0x80 ≤ b → (0xC2 ≤ b → 0xF5 ≤ b) → LeadsNowhere b
-nowhere b l n = record { sequence = λ t. grind (arith, nat_tests); prefix = λ t. grind (arith, nat_tests); read = read_none b l n }
+nowhere b l n = record {
+  sequence = λ t. grind (arith, nat_tests);
+  prefix = λ t. grind (arith, nat_tests);
+  read = read_none b l n;
+}
 
 -- WHICHEVER BYTE IT IS
 
@@ -161,7 +178,12 @@ kind_from_e1 b l = elim (cases_order b 0xF0) [
   | inl e ↦ inr (inl (_, _, four_f0 b e))
   | inr (inl below) ↦ elim (cases_order b 0xED) [
     | inl e ↦ inr (inl (_, _, three_ed b e))
-    | inr apart ↦ inr (inl (_, _, three_e1 b l (omega arith) (λ e. elim apart [ inl x ↦ omega arith | inr y ↦ omega arith ])))
+    | inr apart ↦ inr (inl (
+      _,
+      _,
+      three_e1 b l (omega arith)
+          (λ e. elim apart [ inl x ↦ omega arith | inr y ↦ omega arith ]),
+    ))
   ]
   | inr (inr above) ↦ kind_from_f1 b above
 ]
@@ -176,7 +198,8 @@ kind_from_c2 b l = elim (cases_order b 0xE0) [
 pub kind_of : (b : ℕ) → Kind b
 kind_of b = elim (cases_lt b 0x80) [
   | inl low ↦ inl low
-  | inr high ↦ elim (cases_lt b 0xC2) [ inl below ↦ inr (inr (nowhere b high (λ h. absurd (omega arith)))) | inr lead ↦ kind_from_c2 b lead ]
+  | inr high ↦ elim (cases_lt b 0xC2)
+      [ inl below ↦ inr (inr (nowhere b high (λ h. absurd (omega arith)))) | inr lead ↦ kind_from_c2 b lead ]
 ]
 
 pub both : (a b : Bool) → (a && b) ≡ true → (a ≡ true) × (b ≡ true)

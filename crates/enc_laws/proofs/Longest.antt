@@ -7,9 +7,11 @@ use Rattle.enc_laws.proofs.Cutting.{nowhere_segment}
 
 module _ (b : ℕ) (t rest : List ℕ) where
   whole_at : (ranges : _) → Leads b ranges → is_sequence (b ∷ t) ≡ true → segment (b ∷ t ++ rest) ≡ b ∷ t
-  whole_at ranges l s = segment_is b ranges (t ++ rest) l ∙ ap (λ z. b ∷ z) (taken_whole ranges t rest (sym (l.sequence t) ∙ s))
+  whole_at ranges l s = segment_is b ranges (t ++ rest) l ∙ ap (λ z. b ∷ z)
+      (taken_whole ranges t rest (sym (l.sequence t) ∙ s))
 
-  longest_at : (ranges : _) → Leads b ranges → is_prefix (b ∷ t) ≡ true → length (b ∷ t) ≤ length (segment (b ∷ t ++ rest))
+  longest_at : (ranges : _) → Leads b ranges → is_prefix (b ∷ t) ≡ true
+      → length (b ∷ t) ≤ length (segment (b ∷ t ++ rest))
   longest_at ranges l p =
       let least = taken_longest ranges t rest (sym (l.prefix t) ∙ p) in
       rw (segment_is b ranges (t ++ rest) l) (omega (arith, least))
@@ -33,7 +35,8 @@ prefix_longest (b ∷ t) rest p = elim (kind_of b) [
 -- WHERE NO SEQUENCE BEGINS
 
 prefix_at : (b : ℕ) (bytes : List ℕ) (ranges : _) → Leads b ranges → is_prefix (segment (b ∷ bytes)) ≡ true
-prefix_at b bytes ranges l = ap is_prefix (segment_is b ranges bytes l) ∙ l.prefix (taken ranges bytes) ∙ taken_begins ranges bytes
+prefix_at b bytes ranges l =
+    ap is_prefix (segment_is b ranges bytes l) ∙ l.prefix (taken ranges bytes) ∙ taken_begins ranges bytes
 
 pub prefix_here : (b : ℕ) (bytes : List ℕ) → is_prefix (b ∷ []) ≡ true → is_prefix (segment (b ∷ bytes)) ≡ true
 prefix_here b bytes p = elim (kind_of b) [

@@ -1,7 +1,13 @@
 -- State bytes lead back to the one state whose they are.
-use Rattle.std.proofs.Common.{ℕ, zero, suc, ◌+◌, ◌*◌, ◌/◌, ◌%◌, ◌≡◌, ◌≤◌, Bool, true, false, List, [], ◌∷◌, ◌++◌, Option, Some, None, length, get_or, drop, take, refl, sym, ◌∙◌, ap, arith, ◌==◌, if◌then◌else◌}
+use Rattle.std.proofs.Common.{ℕ, zero, suc, ◌+◌, ◌*◌, ◌/◌, ◌%◌, ◌≡◌, ◌≤◌, Bool, true, false, List, [], ◌∷◌, ◌++◌}
+use Rattle.std.proofs.Common.{Option, Some, None, length, get_or, drop, take, refl, sym, ◌∙◌, ap, arith, ◌==◌}
+use Rattle.std.proofs.Common.{if◌then◌else◌}
 use Rattle.enc_model.specs.declared.Encoding.{Encoding}
-use Rattle.enc_model.specs.declared.Encoding.TheVariants.{Utf8, Utf16Be, Utf16Le, ShiftJis, EucJp, Iso2022Jp, Ibm866, Iso8859X2, Iso8859X5, Iso8859X15, Koi8R, Macintosh, Windows1250, Windows1251, Windows1252, Windows1253, Windows1254, Windows1255, Windows1256, Windows1257, Windows1258}
+use Rattle.enc_model.specs.declared.Encoding.TheVariants.{Utf8, Utf16Be, Utf16Le, ShiftJis, EucJp, Iso2022Jp, Ibm866}
+use Rattle.enc_model.specs.declared.Encoding.TheVariants.{Iso8859X2, Iso8859X5, Iso8859X15, Koi8R, Macintosh}
+use Rattle.enc_model.specs.declared.Encoding.TheVariants.{Windows1250, Windows1251, Windows1252, Windows1253}
+use Rattle.enc_model.specs.declared.Encoding.TheVariants.{Windows1254, Windows1255, Windows1256, Windows1257}
+use Rattle.enc_model.specs.declared.Encoding.TheVariants.{Windows1258}
 use Rattle.enc_model.specs.declared.Mode.{Mode}
 use Rattle.enc_model.specs.declared.Mode.TheVariants.{Html, Fatal}
 use Rattle.enc_model.specs.declared.Charset.{Charset}
@@ -15,14 +21,19 @@ use Rattle.enc_model.specs.Encode.{Shift, InAscii, InRoman, InJis}
 use Rattle.enc_model.specs.Decode.{Decoding, OfUtf8, OfUtf16, OfShiftJis, OfEucJp, OfIso2022, OfSingle, undecided}
 use Rattle.enc_model.specs.Transcode.{Transcoder, Phase, Before, During, Over}
 use Rattle.enc_unicode.specs.Utf8State.{utf8_behind}
-use Rattle.enc_stream.specs.StateBytes.{IsOwn, IsSingle, IsPhaseOf, IsReached, IsReachedIn, IsSound, encoding_of, encoding_number, mode_number, phase_number, shift_number, charset_number, flag_number, place_number, place_lead, utf16_bytes, counted, decoder_bytes, phase_bytes, padded, state_bytes}
+use Rattle.enc_stream.specs.StateBytes.{IsOwn, IsSingle, IsPhaseOf, IsReached, IsReachedIn, IsSound, encoding_of}
+use Rattle.enc_stream.specs.StateBytes.{encoding_number, mode_number, phase_number, shift_number, charset_number}
+use Rattle.enc_stream.specs.StateBytes.{flag_number, place_number, place_lead, utf16_bytes, counted, decoder_bytes}
+use Rattle.enc_stream.specs.StateBytes.{phase_bytes, padded, state_bytes}
 
 -- WHAT EACH NUMBER STANDS FOR
 
 encodings : List Encoding
 encodings =
-    Utf8 ∷ Utf16Be ∷ Utf16Le ∷ ShiftJis ∷ EucJp ∷ Iso2022Jp ∷ Ibm866 ∷ Iso8859X2 ∷ Iso8859X5 ∷ Iso8859X15 ∷ Koi8R ∷ Macintosh
-    ∷ Windows1250 ∷ Windows1251 ∷ Windows1252 ∷ Windows1253 ∷ Windows1254 ∷ Windows1255 ∷ Windows1256 ∷ Windows1257 ∷ Windows1258 ∷ []
+    Utf8 ∷ Utf16Be ∷ Utf16Le ∷ ShiftJis ∷ EucJp ∷ Iso2022Jp ∷ Ibm866 ∷
+    Iso8859X2 ∷ Iso8859X5 ∷ Iso8859X15 ∷ Koi8R ∷ Macintosh
+    ∷ Windows1250 ∷ Windows1251 ∷ Windows1252 ∷ Windows1253 ∷
+    Windows1254 ∷ Windows1255 ∷ Windows1256 ∷ Windows1257 ∷ Windows1258 ∷ []
 
 abbrev encoding_at : ℕ → Encoding
 encoding_at n = get_or encodings n Utf8
@@ -105,7 +116,10 @@ utf16_at bytes =
 lead_back : (lead : ℕ) → lead / 256 * 256 + lead % 256 ≡ lead
 lead_back lead = omega arith
 
-utf16_back : (byte lead : Option ℕ) (rest : List ℕ) → utf16_at (padded 11 (utf16_bytes byte lead) ++ rest) ≡ record { byte = byte; lead = lead }
+utf16_back : (byte lead : Option ℕ) (rest : List ℕ) → utf16_at (padded 11 (utf16_bytes byte lead) ++ rest) ≡ record {
+  byte = byte;
+  lead = lead;
+}
 utf16_back None None rest = refl
 utf16_back (Some b) None rest = refl
 utf16_back None (Some lead) rest = ap (λ z. record { byte = None; lead = Some z }) (lead_back lead)
@@ -133,7 +147,8 @@ single_back EucJp bytes i = absurd i
 single_back Iso2022Jp bytes i = absurd i
 single_back _ bytes i = refl
 
-decoding_back : (d : Decoding) (rest : List ℕ) → IsOwn d → IsReached d → decoding_at (encoding_of d) (padded 11 (decoder_bytes d) ++ rest) ≡ d
+decoding_back : (d : Decoding) (rest : List ℕ) → IsOwn d → IsReached d → decoding_at (encoding_of d)
+    (padded 11 (decoder_bytes d) ++ rest) ≡ d
 decoding_back (OfUtf8 s) rest o r = ap (λ z. OfUtf8 (utf8_behind z)) (kept_back s.kept rest r.1) ∙ ap OfUtf8 (sym r.0)
 decoding_back (OfUtf16 true s) rest o r = ap (OfUtf16 true) (utf16_back s.byte s.lead rest)
 decoding_back (OfUtf16 false s) rest o r = ap (OfUtf16 false) (utf16_back s.byte s.lead rest)

@@ -1,5 +1,6 @@
 -- How the decoder reads the bytes behind a lead.
-use Rattle.std.proofs.Common.{ℕ, suc, ◌+◌, ◌-◌, ◌*◌, ◌≤◌, ◌≡◌, Bool, true, false, List, [], ◌∷◌, ◌++◌, Some, None, length, drop, refl, sym, ◌∙◌, ap, arith, if◌then◌else◌}
+use Rattle.std.proofs.Common.{ℕ, suc, ◌+◌, ◌-◌, ◌*◌, ◌≤◌, ◌≡◌, Bool, true, false, List, [], ◌∷◌, ◌++◌, Some, None}
+use Rattle.std.proofs.Common.{length, drop, refl, sym, ◌∙◌, ap, arith, if◌then◌else◌}
 use Rattle.std.proofs.lemmas.Bool.Decides.{nat_tests}
 use Rattle.enc_model.specs.Index.{within}
 use Rattle.enc_model.specs.declared.Answer.TheVariants.{Point, Error, Nothing, Finished}
@@ -15,7 +16,8 @@ use Rattle.enc_laws.proofs.Segments.{taken, taken_on, taken_stops, fills_on}
 pub read_is : (ended : Bool) (s : Utf8) (b : ℕ) (bytes : List ℕ) (t : Step Utf8) → utf8 s (Some b) ≡ t →
     steps utf8 ended s (b ∷ bytes) ≡ after (said t.answer) (steps utf8 ended t.state (t.restored ++ bytes))
 read_is ended s b bytes t e =
-    steps_cons utf8 utf8_calm ended s b bytes ∙ ap (λ z. after (said z.answer) (steps utf8 ended z.state (z.restored ++ bytes))) e
+    steps_cons utf8 utf8_calm ended s b bytes ∙ ap
+    (λ z. after (said z.answer) (steps utf8 ended z.state (z.restored ++ bytes))) e
 
 -- on from a number by the bits of more bytes
 abbrev pub value : ℕ → List ℕ → ℕ
@@ -30,7 +32,13 @@ read_last s c n w = grind (arith, nat_tests)
 read_more : (s : Utf8) (c k : ℕ) → s.needed ≡ suc (suc k) → within s.lower s.upper c ≡ true →
     utf8 s (Some c)
     ≡ record {
-      state = record { needed = s.needed - 1; lower = 0x80; upper = 0xBF; point = s.point * 64 + (c - 0x80); kept = s.kept ++ c ∷ [] };
+      state = record {
+        needed = s.needed - 1;
+        lower = 0x80;
+        upper = 0xBF;
+        point = s.point * 64 + (c - 0x80);
+        kept = s.kept ++ c ∷ [];
+      };
       answer = Nothing;
       restored = [];
     }
@@ -43,7 +51,11 @@ unfolding utf8
 read_bad s c k n w = grind (arith, nat_tests)
 
 -- the end, where bytes are still needed
-none_open : (s : Utf8) (k : ℕ) → s.needed ≡ suc k → utf8 s None ≡ record { state = utf8_start; answer = Error; restored = [] }
+none_open : (s : Utf8) (k : ℕ) → s.needed ≡ suc k → utf8 s None ≡ record {
+  state = utf8_start;
+  answer = Error;
+  restored = [];
+}
 unfolding utf8
 none_open s k n = grind (arith, nat_tests)
 
@@ -70,7 +82,8 @@ module _ (r : ℕ × ℕ) (ranges : Ranges) (s : Utf8) (c : ℕ) (bytes : List �
   read_on : within r.0 r.1 c ≡ true → within s.lower s.upper c ≡ true
   read_on e = rw (waits.1, waits.2) e
 
-  read_stops : (ended : Bool) → within r.0 r.1 c ≡ false → steps utf8 ended s (c ∷ bytes) ≡ after (0xFFFD ∷ []) (steps utf8 ended utf8_start (c ∷ bytes))
+  read_stops : (ended : Bool) → within r.0 r.1 c ≡ false → steps utf8 ended s (c ∷ bytes) ≡ after (0xFFFD ∷ [])
+      (steps utf8 ended utf8_start (c ∷ bytes))
   read_stops ended e = read_is ended s c bytes _ (read_bad s c (length ranges) waits.0 (rw (waits.1, waits.2) e))
 
   behind_on : within r.0 r.1 c ≡ true → behind (r ∷ ranges) (c ∷ bytes) ≡ behind ranges bytes
@@ -80,47 +93,64 @@ module _ (r : ℕ × ℕ) (ranges : Ranges) (s : Utf8) (c : ℕ) (bytes : List �
   behind_stops e = ap (λ t. drop (length t) (c ∷ bytes)) (taken_stops r ranges c bytes e)
 
 next_of : Utf8 → ℕ → Utf8
-next_of s c = record { needed = s.needed - 1; lower = 0x80; upper = 0xBF; point = s.point * 64 + (c - 0x80); kept = s.kept ++ c ∷ [] }
+next_of s c = record {
+  needed = s.needed - 1;
+  lower = 0x80;
+  upper = 0xBF;
+  point = s.point * 64 + (c - 0x80);
+  kept = s.kept ++ c ∷ [];
+}
 
 module _ (r q : ℕ × ℕ) (ranges : Ranges) (s : Utf8) (c : ℕ) (waits : Waits (r ∷ q ∷ ranges) s) where
   next_waits : Waits (q ∷ ranges) (next_of s c)
   unfolding next_of
   next_waits = (omega arith, sym waits.3.0, sym waits.3.1, waits.3.2)
 
-  next_read : (ended : Bool) (bytes : List ℕ) → within r.0 r.1 c ≡ true → steps utf8 ended s (c ∷ bytes) ≡ steps utf8 ended (next_of s c) bytes
+  next_read : (ended : Bool) (bytes : List ℕ) → within r.0 r.1 c ≡ true
+      → steps utf8 ended s (c ∷ bytes) ≡ steps utf8 ended (next_of s c) bytes
   unfolding next_of
-  next_read ended bytes e = read_is ended s c bytes _ (read_more s c (length ranges) waits.0 (read_on r (q ∷ ranges) s c bytes waits e))
+  next_read ended bytes e =
+      read_is ended s c bytes _ (read_more s c (length ranges) waits.0 (read_on r (q ∷ ranges) s c bytes waits e))
 
 -- where all ranges are filled
-pub tail_whole : (ranges : Ranges) (s : Utf8) (ended : Bool) (bytes : List ℕ) → Waits ranges s → fills ranges (taken ranges bytes) ≡ true →
-    steps utf8 ended s bytes ≡ after (value s.point (taken ranges bytes) ∷ []) (steps utf8 ended utf8_start (behind ranges bytes))
+pub tail_whole : (ranges : Ranges) (s : Utf8) (ended : Bool) (bytes : List ℕ) → Waits ranges s
+    → fills ranges (taken ranges bytes) ≡ true →
+    steps utf8 ended s bytes ≡ after (value s.point (taken ranges bytes) ∷ [])
+    (steps utf8 ended utf8_start (behind ranges bytes))
 unfolding next_of
 tail_whole [] s ended bytes w f = absurd w
 tail_whole (r ∷ ranges) s ended [] w f = absurd cc
 tail_whole (r ∷ []) s ended (c ∷ bytes) w f = go (within r.0 r.1 c) refl
   where
     go : (x : Bool) → within r.0 r.1 c ≡ x →
-        steps utf8 ended s (c ∷ bytes) ≡ after (value s.point (taken (r ∷ []) (c ∷ bytes)) ∷ []) (steps utf8 ended utf8_start (behind (r ∷ []) (c ∷ bytes)))
+        steps utf8 ended s (c ∷ bytes) ≡ after (value s.point (taken (r ∷ []) (c ∷ bytes)) ∷ [])
+        (steps utf8 ended utf8_start (behind (r ∷ []) (c ∷ bytes)))
     go true e =
         read_is ended s c bytes _ (read_last s c w.0 (read_on r [] s c bytes w e))
-        ∙ ap (λ t. after (value s.point t ∷ []) (steps utf8 ended utf8_start (drop (length t) (c ∷ bytes)))) (sym (taken_on r [] c bytes e))
+        ∙ ap (λ t. after (value s.point t ∷ []) (steps utf8 ended utf8_start (drop (length t) (c ∷ bytes))))
+        (sym (taken_on r [] c bytes e))
     go false e = absurd (let g = ap (fills (r ∷ [])) (taken_stops r [] c bytes e) in cc)
-tail_whole (r ∷ q ∷ ranges) s ended (c ∷ bytes) w f = go (within r.0 r.1 c) refl (tail_whole (q ∷ ranges) (next_of s c) ended bytes (next_waits r q ranges s c w))
+tail_whole (r ∷ q ∷ ranges) s ended (c ∷ bytes) w f =
+    go (within r.0 r.1 c) refl (tail_whole (q ∷ ranges) (next_of s c) ended bytes (next_waits r q ranges s c w))
   where
     go : (x : Bool) → within r.0 r.1 c ≡ x →
         (fills (q ∷ ranges) (taken (q ∷ ranges) bytes) ≡ true →
         steps utf8 ended (next_of s c) bytes
-        ≡ after (value (next_of s c).point (taken (q ∷ ranges) bytes) ∷ []) (steps utf8 ended utf8_start (behind (q ∷ ranges) bytes))) →
+        ≡ after (value (next_of s c).point (taken (q ∷ ranges) bytes) ∷ [])
+        (steps utf8 ended utf8_start (behind (q ∷ ranges) bytes))) →
         steps utf8 ended s (c ∷ bytes)
-        ≡ after (value s.point (taken (r ∷ q ∷ ranges) (c ∷ bytes)) ∷ []) (steps utf8 ended utf8_start (behind (r ∷ q ∷ ranges) (c ∷ bytes)))
+        ≡ after (value s.point (taken (r ∷ q ∷ ranges) (c ∷ bytes)) ∷ [])
+        (steps utf8 ended utf8_start (behind (r ∷ q ∷ ranges) (c ∷ bytes)))
     go true e ih =
         next_read r q ranges s c w ended bytes e
         ∙ ih (sym (fills_on r (q ∷ ranges) c bytes e) ∙ f)
-        ∙ ap (λ t. after (value s.point t ∷ []) (steps utf8 ended utf8_start (drop (length t) (c ∷ bytes)))) (sym (taken_on r (q ∷ ranges) c bytes e))
+        ∙ ap (λ t. after (value s.point t ∷ []) (steps utf8 ended utf8_start (drop (length t) (c ∷ bytes))))
+        (sym (taken_on r (q ∷ ranges) c bytes e))
     go false e ih = absurd (let g = ap (fills (r ∷ q ∷ ranges)) (taken_stops r (q ∷ ranges) c bytes e) in cc)
 
 -- where a byte stops it
-pub tail_stopped : (ranges : Ranges) (s : Utf8) (ended : Bool) (bytes : List ℕ) (d : ℕ) (rest : List ℕ) → Waits ranges s →
+pub tail_stopped : (ranges : Ranges) (s : Utf8) (ended : Bool) (bytes : List ℕ) (d : ℕ) (rest : List ℕ) → Waits ranges s
+    →
     fills ranges (taken ranges bytes) ≡ false → behind ranges bytes ≡ d ∷ rest →
     steps utf8 ended s bytes ≡ after (0xFFFD ∷ []) (steps utf8 ended utf8_start (behind ranges bytes))
 unfolding next_of
@@ -134,19 +164,24 @@ tail_stopped (r ∷ []) s ended (c ∷ bytes) d rest w f b = go (within r.0 r.1 
     go false e =
         read_stops r [] s c bytes w ended e
         ∙ ap (λ t. after (0xFFFD ∷ []) (steps utf8 ended utf8_start t)) (sym (behind_stops r [] s c bytes w e))
-tail_stopped (r ∷ q ∷ ranges) s ended (c ∷ bytes) d rest w f b = go (within r.0 r.1 c) refl (tail_stopped (q ∷ ranges) (next_of s c) ended bytes d rest (next_waits r q ranges s c w))
+tail_stopped (r ∷ q ∷ ranges) s ended (c ∷ bytes) d rest w f b =
+    go (within r.0 r.1 c) refl
+    (tail_stopped (q ∷ ranges) (next_of s c) ended bytes d rest (next_waits r q ranges s c w))
   where
     go : (x : Bool) → within r.0 r.1 c ≡ x →
         (fills (q ∷ ranges) (taken (q ∷ ranges) bytes) ≡ false → behind (q ∷ ranges) bytes ≡ d ∷ rest →
-        steps utf8 ended (next_of s c) bytes ≡ after (0xFFFD ∷ []) (steps utf8 ended utf8_start (behind (q ∷ ranges) bytes))) →
-        steps utf8 ended s (c ∷ bytes) ≡ after (0xFFFD ∷ []) (steps utf8 ended utf8_start (behind (r ∷ q ∷ ranges) (c ∷ bytes)))
+        steps utf8 ended (next_of s c) bytes ≡ after (0xFFFD ∷ [])
+        (steps utf8 ended utf8_start (behind (q ∷ ranges) bytes))) →
+        steps utf8 ended s (c ∷ bytes) ≡ after (0xFFFD ∷ [])
+        (steps utf8 ended utf8_start (behind (r ∷ q ∷ ranges) (c ∷ bytes)))
     go true e ih =
         next_read r q ranges s c w ended bytes e
         ∙ ih (sym (fills_on r (q ∷ ranges) c bytes e) ∙ f) (sym (behind_on r (q ∷ ranges) s c bytes w e) ∙ b)
         ∙ ap (λ t. after (0xFFFD ∷ []) (steps utf8 ended utf8_start t)) (sym (behind_on r (q ∷ ranges) s c bytes w e))
     go false e ih =
         read_stops r (q ∷ ranges) s c bytes w ended e
-        ∙ ap (λ t. after (0xFFFD ∷ []) (steps utf8 ended utf8_start t)) (sym (behind_stops r (q ∷ ranges) s c bytes w e))
+        ∙ ap (λ t. after (0xFFFD ∷ []) (steps utf8 ended utf8_start t))
+        (sym (behind_stops r (q ∷ ranges) s c bytes w e))
 
 -- one U+FFFD at the end, and nothing before
 abbrev pub open_text : Bool → List ℕ
@@ -154,7 +189,8 @@ open_text ended = if ended then 0xFFFD ∷ [] else []
 
 -- where the bytes run out
 pub tail_open : (ranges : Ranges) (s : Utf8) (ended : Bool) (bytes : List ℕ) → Waits ranges s →
-    fills ranges (taken ranges bytes) ≡ false → behind ranges bytes ≡ [] → (steps utf8 ended s bytes).text ≡ open_text ended
+    fills ranges (taken ranges bytes) ≡ false → behind ranges bytes ≡ []
+    → (steps utf8 ended s bytes).text ≡ open_text ended
 unfolding next_of
 tail_open [] s ended bytes w f b = absurd w
 tail_open (r ∷ ranges) s true [] w f b = end_open s (length ranges) w.0
@@ -164,10 +200,12 @@ tail_open (r ∷ []) s ended (c ∷ bytes) w f b = go (within r.0 r.1 c) refl
     go : (x : Bool) → within r.0 r.1 c ≡ x → (steps utf8 ended s (c ∷ bytes)).text ≡ open_text ended
     go true e = absurd (let g = fills_on r [] c bytes e in cc)
     go false e = absurd (let g = behind_stops r [] s c bytes w e in cc)
-tail_open (r ∷ q ∷ ranges) s ended (c ∷ bytes) w f b = go (within r.0 r.1 c) refl (tail_open (q ∷ ranges) (next_of s c) ended bytes (next_waits r q ranges s c w))
+tail_open (r ∷ q ∷ ranges) s ended (c ∷ bytes) w f b =
+    go (within r.0 r.1 c) refl (tail_open (q ∷ ranges) (next_of s c) ended bytes (next_waits r q ranges s c w))
   where
     go : (x : Bool) → within r.0 r.1 c ≡ x →
-        (fills (q ∷ ranges) (taken (q ∷ ranges) bytes) ≡ false → behind (q ∷ ranges) bytes ≡ [] → (steps utf8 ended (next_of s c) bytes).text ≡ open_text ended) →
+        (fills (q ∷ ranges) (taken (q ∷ ranges) bytes) ≡ false → behind (q ∷ ranges) bytes ≡ []
+        → (steps utf8 ended (next_of s c) bytes).text ≡ open_text ended) →
         (steps utf8 ended s (c ∷ bytes)).text ≡ open_text ended
     go true e ih =
         ap (λ run. run.text) (next_read r q ranges s c w ended bytes e)
@@ -175,7 +213,8 @@ tail_open (r ∷ q ∷ ranges) s ended (c ∷ bytes) w f b = go (within r.0 r.1 
     go false e ih = absurd (let g = behind_stops r (q ∷ ranges) s c bytes w e in cc)
 
 -- THE SCALAR VALUE of what fills the ranges
-pub scalar_is : (b : ℕ) (ranges : Ranges) (t : List ℕ) → length ranges ≤ 3 → fills ranges t ≡ true → scalar_of (b ∷ t) ≡ value (b - mark_of ranges) t
+pub scalar_is : (b : ℕ) (ranges : Ranges) (t : List ℕ) → length ranges ≤ 3 → fills ranges t ≡ true
+    → scalar_of (b ∷ t) ≡ value (b - mark_of ranges) t
 scalar_is b [] [] few f = omega arith
 scalar_is b [] (c ∷ t) few f = absurd cc
 scalar_is b (r ∷ ranges) [] few f = absurd cc

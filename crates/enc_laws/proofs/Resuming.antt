@@ -17,7 +17,8 @@ same s later is = same_state s later is.packed is.sound is.bytes
 ended_fault : (r : Coded) (c : ℕ) → r.fault ≡ Some c → ended_coded r ≡ r
 ended_fault r c e = rw e refl
 
-text_refused : (t : Tables) (s : Transcoder) (b : List ℕ) (c : ℕ) → (so_far t s b).fault ≡ Some c → text t s.from s.to s.mode b true ≡ so_far t s b
+text_refused : (t : Tables) (s : Transcoder) (b : List ℕ) (c : ℕ) → (so_far t s b).fault ≡ Some c
+    → text t s.from s.to s.mode b true ≡ so_far t s b
 unfolding text encode
 text_refused t s b c e =
     let f = encoder t s.to in
@@ -37,7 +38,8 @@ module _ (t : Tables) (s later : Transcoder) (a b : List ℕ) (here : IsAt t s a
   text_later = ap (λ z. text t z.from z.to z.mode (a ++ b) true) (sym (same s later is))
 
   bytes_later : (so_far t later (a ++ b)).bytes ≡ (so_far t s a).bytes ++ (added t later b).bytes
-  bytes_later = text_added t later a b at_later ∙ ap (λ z. (so_far t z a).bytes ++ (added t later b).bytes) (same s later is)
+  bytes_later = text_added t later a b at_later ∙ ap (λ z. (so_far t z a).bytes ++ (added t later b).bytes)
+      (same s later is)
 
   pub next : (added t later b).fault ≡ None → IsAt t (stepped t later b) (a ++ b)
   next ok = at_next t later a b at_later ok
@@ -51,7 +53,8 @@ module _ (t : Tables) (s later : Transcoder) (a b : List ℕ) (here : IsAt t s a
       ≡ (so_far t s a).bytes ++ ((added t later b).bytes ++ (added_end t (stepped t later b)).bytes)
   bytes ok =
       let end = (added_end t (stepped t later b)).bytes in
-      ap (λ z. z.bytes) (whole ok) ∙ ap (λ z. z ++ end) bytes_later ∙ append_assoc (so_far t s a).bytes (added t later b).bytes end
+      ap (λ z. z.bytes) (whole ok) ∙ ap (λ z. z ++ end) bytes_later ∙ append_assoc (so_far t s a).bytes
+      (added t later b).bytes end
 
   pub fault : (added t later b).fault ≡ None →
       (text t s.from s.to s.mode (a ++ b) true).fault ≡ (added_end t (stepped t later b)).fault

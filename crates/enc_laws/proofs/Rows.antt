@@ -24,8 +24,10 @@ overlong_text : segments_text true (segments (0xE0 ∷ 0x80 ∷ 0x41 ∷ [])) �
 unfolding segments
 overlong_text = refl
 
--- the standard's example of the practice: U+0061, the subparts F1 80 80, E1 80 and C2, U+0062, 80, U+0063, 80, BF, U+0064
-standard : segments_text true (segments (0x61 ∷ 0xF1 ∷ 0x80 ∷ 0x80 ∷ 0xE1 ∷ 0x80 ∷ 0xC2 ∷ 0x62 ∷ 0x80 ∷ 0x63 ∷ 0x80 ∷ 0xBF ∷ 0x64 ∷ []))
+-- the standard's example of the practice: U+0061, the subparts F1 80 80, E1 80 and C2, U+0062, 80, U+0063, 80, BF,
+-- U+0064
+standard : segments_text true
+    (segments (0x61 ∷ 0xF1 ∷ 0x80 ∷ 0x80 ∷ 0xE1 ∷ 0x80 ∷ 0xC2 ∷ 0x62 ∷ 0x80 ∷ 0x63 ∷ 0x80 ∷ 0xBF ∷ 0x64 ∷ []))
     ≡ (0x61 ∷ 0xFFFD ∷ 0xFFFD ∷ 0xFFFD ∷ 0x62 ∷ 0xFFFD ∷ 0x63 ∷ 0xFFFD ∷ 0xFFFD ∷ 0x64 ∷ [])
 unfolding segments
 standard = refl

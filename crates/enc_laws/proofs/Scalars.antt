@@ -1,5 +1,6 @@
 -- What handlers give where their tables have scalar values.
-use Rattle.std.proofs.Common.{ℕ, zero, suc, ◌<◌, ◌≤◌, ◌≡◌, ◌==◌, Bool, true, false, ◌&&◌, List, [], ◌∷◌, ◌++◌, Option, Some, None, refl, arith, if◌then◌else◌, nat_le, nat_lt, IfSome, append-nil}
+use Rattle.std.proofs.Common.{ℕ, zero, suc, ◌<◌, ◌≤◌, ◌≡◌, ◌==◌, Bool, true, false, ◌&&◌, List, [], ◌∷◌, ◌++◌, Option}
+use Rattle.std.proofs.Common.{Some, None, refl, arith, if◌then◌else◌, nat_le, nat_lt, IfSome, append-nil}
 use Rattle.std.proofs.lemmas.Bool.Decides.{nat_tests}
 use Rattle.std.proofs.lemmas.List.Elements.{All-nil, All-cons, All-head, All-tail, All-append}
 use Rattle.enc_model.specs.declared.Answer.{Answer}
@@ -33,7 +34,8 @@ index_scalars : (low bound : ℕ) (index : Index) → ascends low bound index �
 unfolding ascends code
 index_scalars low bound [] a p = tt
 index_scalars low bound (pair ∷ index) a p =
-    let outer = both (nat_le low pair.0 && nat_lt pair.0 bound && is_scalar pair.1) (ascends (suc pair.0) bound index) a in
+    let outer = both (nat_le low pair.0 && nat_lt pair.0 bound && is_scalar pair.1) (ascends (suc pair.0) bound index)
+    a in
     let scalar = (both (nat_le low pair.0 && nat_lt pair.0 bound) (is_scalar pair.1) outer.0).1 in
     elim (pair.0 == p) as (λ v. IsScalarOption (if v then Some pair.1 else code index p))
     [ true ↦ scalar | false ↦ index_scalars (suc pair.0) bound index outer.1 p ]
@@ -76,9 +78,11 @@ said_scalars Finished s = All-nil (λ z. is_scalar z ≡ true)
 scalars_append : (a b : List ℕ) → AreScalars a → AreScalars b → AreScalars (a ++ b)
 scalars_append a b p q = All-append (λ z. is_scalar z ≡ true) a b p q
 
-module _ {S : Type 0} (h : Handler S) (Good : S → Type 0) (reads : (s : S) (b : ℕ) → Good s → b < 0x100 → IsSound Good (h s (Some b)))
+module _ {S : Type 0} (h : Handler S) (Good : S → Type 0)
+    (reads : (s : S) (b : ℕ) → Good s → b < 0x100 → IsSound Good (h s (Some b)))
     (ends : (s : S) → Good s → IsSound Good (h s None)) where
-  end_case : (n : ℕ) (t : Step S) (a : Answer) → AreScalars (said t.answer) → AreScalars (steps_within n h true t.state t.restored).text →
+  end_case : (n : ℕ) (t : Step S) (a : Answer) → AreScalars (said t.answer)
+      → AreScalars (steps_within n h true t.state t.restored).text →
       AreScalars (elim a as (λ _. Run S) [
         | Finished ↦ record { text = []; state = t.state }
         | _ ↦ after (said t.answer) (steps_within n h true t.state t.restored)
@@ -86,21 +90,27 @@ module _ {S : Type 0} (h : Handler S) (Good : S → Type 0) (reads : (s : S) (b 
   end_case n t Finished p q = All-nil (λ z. is_scalar z ≡ true)
   end_case n t _ p q = scalars_append (said t.answer) (steps_within n h true t.state t.restored).text p q
 
-  sound_within : (n : ℕ) (ended : Bool) (s : S) (bytes : List ℕ) → Good s → AreBytes bytes → AreScalars (steps_within n h ended s bytes).text
+  sound_within : (n : ℕ) (ended : Bool) (s : S) (bytes : List ℕ) → Good s → AreBytes bytes
+      → AreScalars (steps_within n h ended s bytes).text
   unfolding steps_within
   sound_within zero ended s bytes g all = All-nil (λ z. is_scalar z ≡ true)
   sound_within (suc n) ended s (b ∷ bytes) g all =
       let t = h s (Some b) in
       let sound = reads s b g (All-head (λ z. z < 0x100) b bytes all) in
-      scalars_append (said t.answer) (steps_within n h ended t.state (t.restored ++ bytes)).text (said_scalars t.answer sound.answer)
-      (sound_within n ended t.state (t.restored ++ bytes) sound.state (few_bytes t.restored bytes sound.restored (All-tail (λ z. z < 0x100) b bytes all)))
+      scalars_append (said t.answer) (steps_within n h ended t.state (t.restored ++ bytes)).text
+      (said_scalars t.answer sound.answer)
+      (sound_within n ended t.state (t.restored ++ bytes) sound.state
+      (few_bytes t.restored bytes sound.restored (All-tail (λ z. z < 0x100) b bytes all)))
   sound_within (suc n) false s [] g all = All-nil (λ z. is_scalar z ≡ true)
   sound_within (suc n) true s [] g all =
       let t = h s None in
       let sound = ends s g in
-      let bytes : AreBytes t.restored = rw (← append-nil t.restored) (few_bytes t.restored [] sound.restored (All-nil (λ z. z < 0x100))) in
-      end_case n t t.answer (said_scalars t.answer sound.answer) (sound_within n true t.state t.restored sound.state bytes)
+      let bytes : AreBytes t.restored =
+      rw (← append-nil t.restored) (few_bytes t.restored [] sound.restored (All-nil (λ z. z < 0x100))) in
+      end_case n t t.answer (said_scalars t.answer sound.answer)
+      (sound_within n true t.state t.restored sound.state bytes)
 
-  pub sound_steps : (ended : Bool) (s : S) (bytes : List ℕ) → Good s → AreBytes bytes → AreScalars (steps h ended s bytes).text
+  pub sound_steps : (ended : Bool) (s : S) (bytes : List ℕ) → Good s → AreBytes bytes
+      → AreScalars (steps h ended s bytes).text
   unfolding steps
   sound_steps ended s bytes g all = sound_within _ ended s bytes g all

@@ -1,5 +1,6 @@
 -- Which bytes the segment of a lead byte has.
-use Rattle.std.proofs.Common.{ℕ, ◌≤◌, ◌≡◌, Bool, true, false, List, [], ◌∷◌, ◌++◌, refl, ◌∙◌, ap, arith, length, drop, if◌then◌else◌}
+use Rattle.std.proofs.Common.{ℕ, ◌≤◌, ◌≡◌, Bool, true, false, List, [], ◌∷◌, ◌++◌, refl, ◌∙◌, ap, arith, length, drop}
+use Rattle.std.proofs.Common.{if◌then◌else◌}
 use Rattle.enc_model.specs.Index.{within}
 use Rattle.enc_laws.specs.Subparts.{Ranges, fills, begins_to_fill, segment}
 use Rattle.enc_laws.proofs.Leads.{Leads, both}
@@ -28,7 +29,8 @@ seg1 b r (c ∷ bytes) l = go bytes (within r.0 r.1 c) refl
     go (d ∷ f ∷ bytes) true e = simp (l.sequence, l.prefix, e)
     go (d ∷ f ∷ bytes) false e = simp (l.sequence, l.prefix, e)
 
-seg2 : (b : ℕ) (r s : ℕ × ℕ) (bytes : List ℕ) → Leads b (r ∷ s ∷ []) → segment (b ∷ bytes) ≡ b ∷ taken (r ∷ s ∷ []) bytes
+seg2 : (b : ℕ) (r s : ℕ × ℕ) (bytes : List ℕ) → Leads b (r ∷ s ∷ []) → segment (b ∷ bytes) ≡ b ∷ taken (r ∷ s ∷ [])
+    bytes
 seg2 b r s [] l = simp (l.sequence, l.prefix)
 seg2 b r s (c ∷ []) l = go (within r.0 r.1 c) refl
   where
@@ -37,7 +39,8 @@ seg2 b r s (c ∷ []) l = go (within r.0 r.1 c) refl
     go false e = simp (l.sequence, l.prefix, e)
 seg2 b r s (c ∷ d ∷ bytes) l = go bytes (within r.0 r.1 c) (within s.0 s.1 d) refl refl
   where
-    go : (bytes : List ℕ) (x y : Bool) → within r.0 r.1 c ≡ x → within s.0 s.1 d ≡ y → segment (b ∷ c ∷ d ∷ bytes) ≡ b ∷ taken (r ∷ s ∷ []) (c ∷ d ∷ bytes)
+    go : (bytes : List ℕ) (x y : Bool) → within r.0 r.1 c ≡ x → within s.0 s.1 d ≡ y
+        → segment (b ∷ c ∷ d ∷ bytes) ≡ b ∷ taken (r ∷ s ∷ []) (c ∷ d ∷ bytes)
     go [] true true e f = simp (l.sequence, l.prefix, e, f)
     go [] true false e f = simp (l.sequence, l.prefix, e, f)
     go [] false y e f = simp (l.sequence, l.prefix, e)
@@ -45,7 +48,8 @@ seg2 b r s (c ∷ d ∷ bytes) l = go bytes (within r.0 r.1 c) (within s.0 s.1 d
     go (g ∷ bytes) true false e f = simp (l.sequence, l.prefix, e, f)
     go (g ∷ bytes) false y e f = simp (l.sequence, l.prefix, e)
 
-seg3 : (b : ℕ) (r s t : ℕ × ℕ) (bytes : List ℕ) → Leads b (r ∷ s ∷ t ∷ []) → segment (b ∷ bytes) ≡ b ∷ taken (r ∷ s ∷ t ∷ []) bytes
+seg3 : (b : ℕ) (r s t : ℕ × ℕ) (bytes : List ℕ) → Leads b (r ∷ s ∷ t ∷ [])
+    → segment (b ∷ bytes) ≡ b ∷ taken (r ∷ s ∷ t ∷ []) bytes
 seg3 b r s t [] l = simp (l.sequence, l.prefix)
 seg3 b r s t (c ∷ []) l = go (within r.0 r.1 c) refl
   where
@@ -54,7 +58,8 @@ seg3 b r s t (c ∷ []) l = go (within r.0 r.1 c) refl
     go false e = simp (l.sequence, l.prefix, e)
 seg3 b r s t (c ∷ d ∷ []) l = go (within r.0 r.1 c) (within s.0 s.1 d) refl refl
   where
-    go : (x y : Bool) → within r.0 r.1 c ≡ x → within s.0 s.1 d ≡ y → segment (b ∷ c ∷ d ∷ []) ≡ b ∷ taken (r ∷ s ∷ t ∷ []) (c ∷ d ∷ [])
+    go : (x y : Bool) → within r.0 r.1 c ≡ x → within s.0 s.1 d ≡ y → segment (b ∷ c ∷ d ∷ []) ≡ b ∷ taken
+        (r ∷ s ∷ t ∷ []) (c ∷ d ∷ [])
     go true true e f = simp (l.sequence, l.prefix, e, f)
     go true false e f = simp (l.sequence, l.prefix, e, f)
     go false y e f = simp (l.sequence, l.prefix, e)
@@ -81,7 +86,8 @@ taken_begins [] bytes = refl
 taken_begins (r ∷ ranges) [] = refl
 taken_begins (r ∷ ranges) (c ∷ bytes) = go (within r.0 r.1 c) refl (taken_begins ranges bytes)
   where
-    go : (x : Bool) → within r.0 r.1 c ≡ x → begins_to_fill ranges (taken ranges bytes) ≡ true → begins_to_fill (r ∷ ranges) (taken (r ∷ ranges) (c ∷ bytes)) ≡ true
+    go : (x : Bool) → within r.0 r.1 c ≡ x → begins_to_fill ranges (taken ranges bytes) ≡ true
+        → begins_to_fill (r ∷ ranges) (taken (r ∷ ranges) (c ∷ bytes)) ≡ true
     go true e ih = simp (e, ih)
     go false e ih = simp e
 
@@ -93,10 +99,12 @@ module _ (r : ℕ × ℕ) (ranges : Ranges) (c : ℕ) (bytes : List ℕ) where
   pub taken_stops : within r.0 r.1 c ≡ false → taken (r ∷ ranges) (c ∷ bytes) ≡ []
   taken_stops e = simp e
 
-  pub fills_on : within r.0 r.1 c ≡ true → fills (r ∷ ranges) (taken (r ∷ ranges) (c ∷ bytes)) ≡ fills ranges (taken ranges bytes)
+  pub fills_on : within r.0 r.1 c ≡ true → fills (r ∷ ranges) (taken (r ∷ ranges) (c ∷ bytes)) ≡ fills ranges
+      (taken ranges bytes)
   fills_on e = simp e
 
-pub taken_parts : (ranges : Ranges) (bytes : List ℕ) → taken ranges bytes ++ drop (length (taken ranges bytes)) bytes ≡ bytes
+pub taken_parts : (ranges : Ranges) (bytes : List ℕ) → taken ranges bytes ++ drop (length (taken ranges bytes))
+    bytes ≡ bytes
 taken_parts [] bytes = refl
 taken_parts (r ∷ ranges) [] = refl
 taken_parts (r ∷ ranges) (c ∷ bytes) = go (within r.0 r.1 c) refl (taken_parts ranges bytes)
@@ -115,7 +123,8 @@ taken_whole (r ∷ ranges) (c ∷ t) rest f =
     let p = both (within r.0 r.1 c) (fills ranges t) f in
     taken_on r ranges c (t ++ rest) p.0 ∙ ap (λ z. c ∷ z) (taken_whole ranges t rest p.1)
 
-pub taken_longest : (ranges : Ranges) (t rest : List ℕ) → begins_to_fill ranges t ≡ true → length t ≤ length (taken ranges (t ++ rest))
+pub taken_longest : (ranges : Ranges) (t rest : List ℕ) → begins_to_fill ranges t ≡ true
+    → length t ≤ length (taken ranges (t ++ rest))
 taken_longest ranges [] rest f = omega arith
 taken_longest [] (c ∷ t) rest f = absurd cc
 taken_longest (r ∷ ranges) (c ∷ t) rest f =

@@ -1,5 +1,7 @@
--- The cut of bytes into maximal subparts (Unicode Standard, chapter 3: Table 3-7, and 'U+FFFD Substitution of Maximal Subparts').
-use Rattle.std.specs.Prelude.{ℕ, zero, suc, ◌+◌, ◌-◌, ◌*◌, Bool, true, false, not, ◌&&◌, List, [], ◌∷◌, length, take, drop, if◌then◌else◌}
+-- The cut of bytes into maximal subparts (Unicode Standard, chapter 3: Table 3-7, and 'U+FFFD Substitution of Maximal
+-- Subparts').
+use Rattle.std.specs.Prelude.{ℕ, zero, suc, ◌+◌, ◌-◌, ◌*◌, Bool, true, false, not, ◌&&◌, List, [], ◌∷◌, length, take}
+use Rattle.std.specs.Prelude.{drop, if◌then◌else◌}
 use Rattle.std.specs.List.{list_any}
 use Rattle.enc_model.specs.Index.{within}
 
@@ -51,7 +53,8 @@ first_where test (x ∷ xs) other = if test x then x else first_where test xs ot
 abbrev pub fronts : List ℕ → List (List ℕ)
 fronts bytes = take 4 bytes ∷ take 3 bytes ∷ take 2 bytes ∷ take 1 bytes ∷ []
 
--- The segment that begins here: a well-formed sequence; where there is none, the longest prefix of one; where that is empty, a single byte.
+-- The segment that begins here: a well-formed sequence; where there is none, the longest prefix of one; where that is
+-- empty, a single byte.
 abbrev pub segment : List ℕ → List ℕ
 segment bytes = first_where is_sequence (fronts bytes) (first_where is_prefix (fronts bytes) (take 1 bytes))
 

@@ -14,7 +14,8 @@ ghost use Rattle.enc_index.specs.Sets.{IsIndexSet};
 ghost use Rattle.enc_laws.specs.Subparts.{is_sequence, is_prefix, segment, segments, segments_text};
 ghost use Rattle.enc_laws.specs.WellFormed.{AreBytes, AreScalars, IsWellFormed};
 
-/// Where a well-formed sequence begins, it is the segment. No longer prefix of one begins there than the segment, which is
+/// Where a well-formed sequence begins, it is the segment. No longer prefix of one begins there than the segment, which
+/// is
 /// such a prefix itself; where there is none, a single byte.
 pub fn longest_subparts()
     ensures sequence { (front rest : List ℕ) → is_sequence front ≡ true → segment (front ++ rest) ≡ front }
@@ -26,18 +27,22 @@ pub fn longest_subparts()
 /// The decoder of UTF-8 gives what the cut into maximal subparts gives, ended and not ended.
 pub fn cut_by_subparts()
     ensures whole { (bytes : List ℕ) → concat (segments bytes) ≡ bytes }
-    ensures text { (ended : Bool) (bytes : List ℕ) → (steps utf8 ended utf8_start bytes).text ≡ segments_text ended (segments bytes) }
+    ensures text { (ended : Bool) (bytes : List ℕ) → (steps utf8 ended utf8_start bytes).text ≡ segments_text ended
+        (segments bytes) }
 {}
 
 /// A decoder gives scalar values alone, whatever bytes it reads.
 pub fn gives_scalars()
-    ensures { (x : IndexSet) (e : Encoding) (bytes : List ℕ) (ended : Bool) → IsIndexSet x → AreBytes bytes → AreScalars (decode (tables x) e bytes ended) }
+    ensures { (x : IndexSet) (e : Encoding) (bytes : List ℕ) (ended : Bool) → IsIndexSet x → AreBytes bytes
+        → AreScalars (decode (tables x) e bytes ended) }
 {}
 
 /// What the encoder of UTF-8 writes for scalar values is well-formed, and each of them has a code.
 pub fn writes_well_formed()
-    ensures bytes { (t : Tables) (mode : Mode) (scalars : List ℕ) (ended : Bool) → AreScalars scalars → IsWellFormed (encode t Utf8 mode scalars ended).bytes }
-    ensures fault { (t : Tables) (mode : Mode) (scalars : List ℕ) (ended : Bool) → (encode t Utf8 mode scalars ended).fault ≡ None }
+    ensures bytes { (t : Tables) (mode : Mode) (scalars : List ℕ) (ended : Bool) → AreScalars scalars
+        → IsWellFormed (encode t Utf8 mode scalars ended).bytes }
+    ensures fault { (t : Tables) (mode : Mode) (scalars : List ℕ) (ended : Bool)
+        → (encode t Utf8 mode scalars ended).fault ≡ None }
 {}
 
 /// The decoder of UTF-8 reads the scalar values back that the encoder wrote.
@@ -48,6 +53,7 @@ pub fn reads_back()
 
 /// A text that is stored as UTF-8 is well-formed at every moment, whatever bytes came, ended or not.
 pub fn well_formed_at_every_moment()
-    ensures { (x : IndexSet) (from : Encoding) (mode : Mode) (bytes : List ℕ) (ended : Bool) → IsIndexSet x → AreBytes bytes
+    ensures { (x : IndexSet) (from : Encoding) (mode : Mode) (bytes : List ℕ) (ended : Bool) → IsIndexSet x
+        → AreBytes bytes
         → IsWellFormed (text (tables x) from Utf8 mode bytes ended).bytes }
 {}

@@ -1,5 +1,6 @@
 -- From the lines' end to the script's.
-use Rattle.std.proofs.Common.{◌≡◌, ◌⊎◌, inl, inr, ℕ, List, [], ◌++◌, take, Option, Some, None, Ok, Err, refl, sym, subst, ◌∙◌, append-nil, arith}
+use Rattle.std.proofs.Common.{◌≡◌, ◌⊎◌, inl, inr, ℕ, List, [], ◌++◌, take, Option, Some, None, Ok, Err, refl, sym}
+use Rattle.std.proofs.Common.{subst, ◌∙◌, append-nil, arith}
 use Rattle.std.proofs.Common.{⊎_elim}
 use Rattle.std.specs.Prelude.{IsErrOf}
 use Rattle.std.specs.Io.KnownBytes.{Appends}
@@ -10,7 +11,8 @@ use Rattle.gateway_script.proofs.Seen.{first_store, all_themselves}
 use Rattle.tus_session.specs.History.{State, Mark, Marked}
 use Rattle.gateway_script.proofs.Outputs.{appends_nothing}
 use Rattle.gateway_script.specs.Script as script
-use Rattle.gateway_script.specs.Script.{script as the_script, Run, run_lines, script_lines, run_from, ended_as, Exit, Ran, AtLine, Faulted}
+use Rattle.gateway_script.specs.Script.{script as the_script, Run, run_lines, script_lines, run_from, ended_as, Exit}
+use Rattle.gateway_script.specs.Script.{Ran, AtLine, Faulted}
 use Rattle.gateway_script.specs.Images.{IsFirst, stores_of, last_stores, last_blocks, ShowsLast, LimitsTo}
 use Rattle.gateway_script.specs.Runs.{View, with_marks, IsHistory, IsAt, IsDown, Reaches, Stops, script_past, Ends}
 use Rattle.gateway_script.specs.Script.{IsScript}
@@ -22,43 +24,56 @@ use Rattle.gateway_script.specs.declared.faults.ScriptFault.{ScriptFault}
 use Rattle.gateway_script.specs.declared.faults.ScriptFault.TheVariants as runs
 
 -- nothing happened so far
-limits_none : (moment : ℕ) (left_only : Option ℕ → ℕ → List Store → Type 0) (stores : List Store) → LimitsTo moment moment left_only left_only stores
+limits_none : (moment : ℕ) (left_only : Option ℕ → ℕ → List Store → Type 0) (stores : List Store)
+    → LimitsTo moment moment left_only left_only stores
 limits_none moment left_only stores = record { later = omega arith; limits = λ n t ms le left among. left }
 
-pub begins : {C : Type 0} (v : View C) → v.before ≡ v.now → v.u.stands v.now v.st → v.held ≡ v.front → IsAt v (run_from v.st [])
+pub begins : {C : Type 0} (v : View C) → v.before ≡ v.now → v.u.stands v.now v.st → v.held ≡ v.front
+    → IsAt v (run_from v.st [])
 begins v same stands is = record {
   keeps = stands;
   wrote = subst (λ h. Appends h v.held []) is (appends_nothing v.held);
   up = refl;
-  history = record { state = refl; output = refl; images = subst (λ c. LimitsTo (v.u.moment c) (v.u.moment v.now) (v.u.left_only c) (v.u.left_only v.now) (stores_of v.st [])) (sym same) (limits_none (v.u.moment v.now) (v.u.left_only v.now) (stores_of v.st [])) };
+  history = record {
+    state = refl;
+    output = refl;
+    images = subst (λ c. LimitsTo (v.u.moment c) (v.u.moment v.now) (v.u.left_only c) (v.u.left_only v.now) (stores_of v.st [])) (sym same) (limits_none (v.u.moment v.now) (v.u.left_only v.now) (stores_of v.st []));
+  };
 }
 
 -- the script, by its marks
-script_is : (st : State) (marks : List Mark) (bytes : List ℕ) → the_script st marks bytes ≡ run_lines 1 0 (script_lines bytes) (with_marks (run_from st []) marks)
+script_is : (st : State) (marks : List Mark) (bytes : List ℕ) → the_script st marks bytes ≡ run_lines 1 0
+    (script_lines bytes) (with_marks (run_from st []) marks)
 unfolding the_script
 script_is st marks bytes = refl
 
 -- the uploads are on the device
 abbrev pub IsDurable : {U B : Type 0} → Ghosts U B → U → State → Type 0
-IsDurable u store st = (ms : List Store) → Among st.world.store ms → u.left_only store st.world.blocks (u.moment store) ms
+IsDurable u store st = (ms : List Store) → Among st.world.store ms → u.left_only store st.world.blocks (u.moment store)
+    ms
 
 -- what images may show since the run began
-pub shows_since : {U B : Type 0} (u : Ghosts U B) (before now : U) (st : State) (past : List Marked) → IsDurable u before st
-    → LimitsTo (u.moment before) (u.moment now) (u.left_only before) (u.left_only now) (stores_of st past) → Shows u before now st past
+pub shows_since : {U B : Type 0} (u : Ghosts U B) (before now : U) (st : State) (past : List Marked)
+    → IsDurable u before st
+    → LimitsTo (u.moment before) (u.moment now) (u.left_only before) (u.left_only now) (stores_of st past)
+    → Shows u before now st past
 shows_since u before now st past durable limits = record {
-  since = limits.limits st.world.blocks (u.moment before) (stores_of st past) (omega arith) (durable (stores_of st past) (first_store st past)) (all_themselves (stores_of st past));
+  since = limits.limits st.world.blocks (u.moment before) (stores_of st past) (omega arith)
+      (durable (stores_of st past) (first_store st past)) (all_themselves (stores_of st past));
   limits = limits;
 }
 
 -- what images may show of the run of the connections
 abbrev pub ShowsIn : {C : Type 0} → View C → List Marked → Type 0
-ShowsIn v past = LimitsTo (v.u.moment v.before) (v.u.moment v.now) (v.u.left_only v.before) (v.u.left_only v.now) (stores_of v.st past)
+ShowsIn v past = LimitsTo (v.u.moment v.before) (v.u.moment v.now) (v.u.left_only v.before) (v.u.left_only v.now)
+    (stores_of v.st past)
 
 abbrev pub LastIn : {C : Type 0} → View C → List Marked → Type 0
 LastIn v past = ShowsLast (v.u.moment v.now) (v.u.left_only v.now) v.st past
 
 module _ {U B C : Type 0} (u : Ghosts U B) (v : View C) (before store : U) (bytes : List ℕ)
-    (closes : (now : State) → v.u.stands v.now now → Rests u store now) (shows : (past : List Marked) → ShowsIn v past → Shows u before store v.st past)
+    (closes : (now : State) → v.u.stands v.now now → Rests u store now)
+    (shows : (past : List Marked) → ShowsIn v past → Shows u before store v.st past)
     (last : (past : List Marked) → LastIn v past → ShowsLast (u.moment store) (u.left_only store) v.st past) where
   abbrev lines : Run → script.Result
   lines = run_lines 1 0 (script_lines bytes)
@@ -66,10 +81,12 @@ module _ {U B C : Type 0} (u : Ghosts U B) (v : View C) (before store : U) (byte
   abbrev begun : Run
   begun = run_from v.st []
 
-  ends_as : (s : Run) (exit : Exit) → (p : Reaches lines begun (λ x. ended_as x exit) s) → the_script v.st (p.0 ++ []) bytes ≡ ended_as (with_marks s []) exit
+  ends_as : (s : Run) (exit : Exit) → (p : Reaches lines begun (λ x. ended_as x exit) s)
+      → the_script v.st (p.0 ++ []) bytes ≡ ended_as (with_marks s []) exit
   ends_as s exit p = script_is v.st (p.0 ++ []) bytes ∙ p.1 []
 
-  ended_so : (s : Run) (exit : Exit) → (p : Reaches lines begun (λ x. ended_as x exit) s) → Appends v.front v.held s.out → IsHistory v s
+  ended_so : (s : Run) (exit : Exit) → (p : Reaches lines begun (λ x. ended_as x exit) s) → Appends v.front v.held s.out
+      → IsHistory v s
       → EndedSo u before store v.st (the_script v.st (p.0 ++ []) bytes) v.held v.front exit
   ended_so s exit p wrote is =
       let now : EndedSo u before store v.st (ended_as (with_marks s []) exit) v.held v.front exit =
@@ -86,16 +103,19 @@ module _ {U B C : Type 0} (u : Ghosts U B) (v : View C) (before store : U) (byte
     },
   )
 
-  failed_so : (s : Run) → (p : Reaches lines begun (λ x. ended_as x Faulted) s) → IsDown v s → (marks : List Mark) × FailedSo u before store v.st (the_script v.st marks bytes) v.held v.front
+  failed_so : (s : Run) → (p : Reaches lines begun (λ x. ended_as x Faulted) s) → IsDown v s
+      → (marks : List Mark) × FailedSo u before store v.st (the_script v.st marks bytes) v.held v.front
   failed_so s p down = (
     p.0 ++ [],
     record {
       ended = ended_so s Faulted p down.wrote down.history;
-      last = subst (λ r. ShowsLast (u.moment store) (u.left_only store) v.st r.run.past) (sym (ends_as s Faulted p)) (last s.past down.last);
+      last = subst (λ r. ShowsLast (u.moment store) (u.left_only store) v.st r.run.past) (sym (ends_as s Faulted p))
+          (last s.past down.last);
     },
   )
 
-  stopped_so : (fault : CallFault) → Stops v fault script_past lines begun → (marks : List Mark) × StoppedSo u before store v.st (the_script v.st marks bytes) v.held v.front fault
+  stopped_so : (fault : CallFault) → Stops v fault script_past lines begun
+      → (marks : List Mark) × StoppedSo u before store v.st (the_script v.st marks bytes) v.held v.front fault
   stopped_so fault p = (
     p.1.0 ++ [],
     record {
@@ -112,18 +132,21 @@ module _ {U B C : Type 0} (u : Ghosts U B) (v : View C) (before store : U) (byte
   pub ran : Ends v (Ok (tt {0})) lines begun → HasRun u before (Ok store) v.held v.front v.st bytes
   ran p = rests_so p.0 Ran p.1 p.2
 
-  pub stopped : (fault : ScriptFault) → Ends v (Err fault) lines begun → HasRun u before (Err (store, fault)) v.held v.front v.st bytes
+  pub stopped : (fault : ScriptFault) → Ends v (Err fault) lines begun → HasRun u before (Err (store, fault)) v.held
+      v.front v.st bytes
   stopped runs.NoMemory p = stopped_so faults.NoMemory p
   stopped runs.DiskFault p = failed_so p.0 p.1 p.2
   stopped (runs.Script n) p = rests_so p.0 (AtLine n) p.1 p.2
   stopped runs.Io p = stopped_so faults.Io p
 
 -- THE RUN NEVER BEGAN: the script wasn't read, or memory was wanting
-module _ {U B : Type 0} (u : Ghosts U B) (store : U) (held : Option (List ℕ)) (st : State) (bytes : List ℕ) (stands : Rests u store st) (durable : IsDurable u store st) where
+module _ {U B : Type 0} (u : Ghosts U B) (store : U) (held : Option (List ℕ)) (st : State) (bytes : List ℕ)
+    (stands : Rests u store st) (durable : IsDurable u store st) where
   all_follow : (past : List Marked) → IsFirst [] past
   all_follow past = (past, sym (append-nil past))
 
-  pub unbegun : (fault : ScriptFault) → (fault ≡ runs.NoMemory) ⊎ (fault ≡ runs.Io) → HasRun u store (Err (store, fault)) held held st bytes
+  pub unbegun : (fault : ScriptFault) → (fault ≡ runs.NoMemory) ⊎ (fault ≡ runs.Io)
+      → HasRun u store (Err (store, fault)) held held st bytes
   unbegun fault (inl e) = subst (λ f. HasRun u store (Err (store, f)) held held st bytes) (sym e) (
     [],
     record {
@@ -133,7 +156,8 @@ module _ {U B : Type 0} (u : Ghosts U B) (store : U) (held : Option (List ℕ)) 
       wrote = appends_nothing held;
       most = inl refl;
       rests = stands;
-      shows = shows_since u store store st [] durable (limits_none (u.moment store) (u.left_only store) (stores_of st []));
+      shows = shows_since u store store st [] durable
+          (limits_none (u.moment store) (u.left_only store) (stores_of st []));
     },
   )
   unbegun fault (inr e) = subst (λ f. HasRun u store (Err (store, f)) held held st bytes) (sym e) (
@@ -145,20 +169,47 @@ module _ {U B : Type 0} (u : Ghosts U B) (store : U) (held : Option (List ℕ)) 
       wrote = appends_nothing held;
       most = ([], [], refl, refl);
       rests = stands;
-      shows = shows_since u store store st [] durable (limits_none (u.moment store) (u.left_only store) (stores_of st []));
+      shows = shows_since u store store st [] durable
+          (limits_none (u.moment store) (u.left_only store) (stores_of st []));
     },
   )
 
 -- THE COUNT OF FAULTS
-pub counts_as : {U : Type 0} {a b : ℕ} (store : U) (fault : ScriptFault) → Counts (IsErrOf {T = Unit {0}} (Err fault) runs.DiskFault) a b → Counts (HasFailed (Err (store, fault))) a b
-counts_as store runs.NoMemory c = record { later = c.later; counted = λ f. absurd f; nothing_else = λ less. let e : Err runs.NoMemory ≡ Err runs.DiskFault = c.nothing_else less in absurd (cc) }
-counts_as store runs.DiskFault c = record { later = c.later; counted = λ f. c.counted refl; nothing_else = λ less. tt {0} }
-counts_as store (runs.Script n) c = record { later = c.later; counted = λ f. absurd f; nothing_else = λ less. let e : Err (runs.Script n) ≡ Err runs.DiskFault = c.nothing_else less in absurd (cc) }
-counts_as store runs.Io c = record { later = c.later; counted = λ f. absurd f; nothing_else = λ less. let e : Err runs.Io ≡ Err runs.DiskFault = c.nothing_else less in absurd (cc) }
+pub counts_as : {U : Type 0} {a b : ℕ} (store : U) (fault : ScriptFault)
+    → Counts (IsErrOf {T = Unit {0}} (Err fault) runs.DiskFault) a b → Counts (HasFailed (Err (store, fault))) a b
+counts_as store runs.NoMemory c = record {
+  later = c.later;
+  counted = λ f. absurd f;
+  nothing_else = λ less. let e : Err runs.NoMemory ≡ Err runs.DiskFault = c.nothing_else less in absurd (cc);
+}
+counts_as store runs.DiskFault c = record {
+  later = c.later;
+  counted = λ f. c.counted refl;
+  nothing_else = λ less. tt {0};
+}
+counts_as store (runs.Script n) c = record {
+  later = c.later;
+  counted = λ f. absurd f;
+  nothing_else = λ less. let e : Err (runs.Script n) ≡ Err runs.DiskFault = c.nothing_else less in absurd (cc);
+}
+counts_as store runs.Io c = record {
+  later = c.later;
+  counted = λ f. absurd f;
+  nothing_else = λ less. let e : Err runs.Io ≡ Err runs.DiskFault = c.nothing_else less in absurd (cc);
+}
 
-pub counts_nothing : {U : Type 0} (a : ℕ) (store : U) (fault : ScriptFault) → (fault ≡ runs.NoMemory) ⊎ (fault ≡ runs.Io) → Counts (HasFailed (Err (store, fault))) a a
-counts_nothing a store fault (inl e) = subst (λ f. Counts (HasFailed (Err (store, f))) a a) (sym e) (record { later = omega arith; counted = λ f. absurd f; nothing_else = λ less. absurd (omega arith) })
-counts_nothing a store fault (inr e) = subst (λ f. Counts (HasFailed (Err (store, f))) a a) (sym e) (record { later = omega arith; counted = λ f. absurd f; nothing_else = λ less. absurd (omega arith) })
+pub counts_nothing : {U : Type 0} (a : ℕ) (store : U) (fault : ScriptFault)
+    → (fault ≡ runs.NoMemory) ⊎ (fault ≡ runs.Io) → Counts (HasFailed (Err (store, fault))) a a
+counts_nothing a store fault (inl e) = subst (λ f. Counts (HasFailed (Err (store, f))) a a) (sym e) (record {
+  later = omega arith;
+  counted = λ f. absurd f;
+  nothing_else = λ less. absurd (omega arith);
+})
+counts_nothing a store fault (inr e) = subst (λ f. Counts (HasFailed (Err (store, f))) a a) (sym e) (record {
+  later = omega arith;
+  counted = λ f. absurd f;
+  nothing_else = λ less. absurd (omega arith);
+})
 
 -- THE COUNTS OF REFUSALS
 refused_as : {T U : Type 0} {a b : ℕ} (store : U) (fault : ScriptFault)
@@ -215,16 +266,21 @@ writer_counts store fault same c =
 
 -- from the uploads that a gateway was made of to those that it gave back
 pub counts_through : {F : Type 0} {a b c d : ℕ} → b ≡ a → d ≡ c → Counts F b c → Counts F a d
-counts_through {F} {a} {b} {c} {d} first last counts = subst (λ n. Counts F n d) first (subst (λ n. Counts F b n) (sym last) counts)
+counts_through {F} {a} {b} {c} {d} first last counts =
+    subst (λ n. Counts F n d) first (subst (λ n. Counts F b n) (sym last) counts)
 
-pub shows_through : {U B : Type 0} (u : Ghosts U B) (before first last now : U) (stores : List Store) → first ≡ before → Quiet (u.moment last) (u.moment now) (u.left_only last) (u.left_only now)
-    → LimitsTo (u.moment first) (u.moment last) (u.left_only first) (u.left_only last) stores → LimitsTo (u.moment before) (u.moment now) (u.left_only before) (u.left_only now) stores
-shows_through u before first last now stores same quiet shows = subst (λ b. LimitsTo (u.moment b) (u.moment now) (u.left_only b) (u.left_only now) stores) same (record {
-  later = omega (arith, shows.later, quiet.later);
-  limits = λ n t ms le left among. quiet.keeps n t ms (omega (arith, shows.later)) (shows.limits n t ms le left among);
-})
+pub shows_through : {U B : Type 0} (u : Ghosts U B) (before first last now : U) (stores : List Store) → first ≡ before
+    → Quiet (u.moment last) (u.moment now) (u.left_only last) (u.left_only now)
+    → LimitsTo (u.moment first) (u.moment last) (u.left_only first) (u.left_only last) stores
+    → LimitsTo (u.moment before) (u.moment now) (u.left_only before) (u.left_only now) stores
+shows_through u before first last now stores same quiet shows =
+    subst (λ b. LimitsTo (u.moment b) (u.moment now) (u.left_only b) (u.left_only now) stores) same (record {
+      later = omega (arith, shows.later, quiet.later);
+      limits = λ n t ms le left among. quiet.keeps n t ms (omega (arith, shows.later)) (shows.limits n t ms le left among);
+    })
 
-pub last_through : {U B : Type 0} (u : Ghosts U B) (last now : U) (st : State) (past : List Marked) → Quiet (u.moment last) (u.moment now) (u.left_only last) (u.left_only now)
+pub last_through : {U B : Type 0} (u : Ghosts U B) (last now : U) (st : State) (past : List Marked)
+    → Quiet (u.moment last) (u.moment now) (u.left_only last) (u.left_only now)
     → ShowsLast (u.moment last) (u.left_only last) st past → ShowsLast (u.moment now) (u.left_only now) st past
 last_through u last now st past quiet shows = record {
   since = shows.since;

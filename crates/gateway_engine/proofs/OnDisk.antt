@@ -1,5 +1,6 @@
 -- From the uploads on a disk to the disk.
-use Rattle.std.proofs.Common.{◌≡◌, ◌≤◌, ◌*◌, inl, inr, ℕ, List, [], ◌∷◌, Option, Some, Ok, Err, sym, subst, arith, ⊎_elim}
+use Rattle.std.proofs.Common.{◌≡◌, ◌≤◌, ◌*◌, inl, inr, ℕ, List, [], ◌∷◌, Option, Some, Ok, Err, sym, subst, arith}
+use Rattle.std.proofs.Common.{⊎_elim}
 use Rattle.spool_disk.specs.Disk.{IsImage}
 use Rattle.spool_disk.specs.Views.{Lasts}
 use Rattle.spool_disk.specs.declared.disk.Disk.{Ghosts}
@@ -20,7 +21,8 @@ use Rattle.gateway_script.specs.Script as script
 use Rattle.gateway_script.specs.Script.{Exit, Faulted}
 use Rattle.gateway_engine.specs.Ran.{Shows, Rests, EndedSo, RestsSo, FailedSo, StoppedSo, HasRun}
 use Rattle.gateway_engine.specs.Ran.{HasRefused, CountsEither}
-use Rattle.gateway_engine.specs.RanOn.{AllShowOne, LastsOver, EndedOn, RestsOn, FailedOn, StoppedOn, UnopenedOn, HasRunOn}
+use Rattle.gateway_engine.specs.RanOn.{AllShowOne, LastsOver, EndedOn, RestsOn, FailedOn, StoppedOn, UnopenedOn}
+use Rattle.gateway_engine.specs.RanOn.{HasRunOn}
 use Rattle.gateway_engine.specs.RanOn.{HasRefusedOn}
 use Rattle.gateway_script.specs.declared.faults.CallFault.{CallFault}
 use Rattle.gateway_engine.specs.declared.faults.RunFault.{RunFault}
@@ -36,10 +38,12 @@ shows_one n m image one = elim one.among [
 
 -- an image of now is one that might have been left since any moment that isn't to come
 abbrev pub CountsNow : {D : Type 0} → Ghosts D → D → Type 0
-CountsNow disk d = (t : ℕ) (image : ℕ → ℕ) → t ≤ disk.moment d → IsImage (disk.seen d) (disk.loose d) image → disk.left_since d t image
+CountsNow disk d = (t : ℕ) (image : ℕ → ℕ) → t ≤ disk.moment d → IsImage (disk.seen d) (disk.loose d) image
+    → disk.left_since d t image
 
 -- where one of these is left since such a moment, each image of now shows one of them
-all_show_one : {D : Type 0} (disk : Ghosts D) (d : D) (n t : ℕ) (stores : List Store) → CountsNow disk d → t ≤ disk.moment d
+all_show_one : {D : Type 0} (disk : Ghosts D) (d : D) (n t : ℕ) (stores : List Store) → CountsNow disk d
+    → t ≤ disk.moment d
     → LeftOnly disk d n t stores → AllShowOne disk d n stores
 all_show_one disk d n t stores now reached left =
     record { honest = left.honest; room = left.room; each = λ image is. left.each image (now t image reached is) }
@@ -68,12 +72,14 @@ pub left_said : {D : Type 0} (disk : Ghosts D) (d : D) (k n t : ℕ) (ms : List 
 left_said disk d k n t ms left = subst (λ (size : ℕ). LeftOnly disk d size t ms) (same_size n k left.0) left.1
 
 -- the uploads at a history's beginning are among those that it shows
-first_among : (st : State) (past : List Marked) (ms : List Store) → AllAmong (stores_of st past) ms → Among st.world.store ms
+first_among : (st : State) (past : List Marked) (ms : List Store) → AllAmong (stores_of st past) ms
+    → Among st.world.store ms
 first_among st [] ms all = all.0
 first_among st (e ∷ past) ms all = first_among st past ms all.1
 
 -- UPLOADS ON A DISK
-module _ {D U B : Type 0} (disk : Ghosts D) (disk_of : U → D) (size_of : U → ℕ) (stands : U → World → Type 0) (number_of : B → ℕ)
+module _ {D U B : Type 0} (disk : Ghosts D) (disk_of : U → D) (size_of : U → ℕ) (stands : U → World → Type 0)
+    (number_of : B → ℕ)
     (holds : B → Patch → Type 0) where
   abbrev u : uploads.Ghosts U B
   u = record {
@@ -87,7 +93,8 @@ module _ {D U B : Type 0} (disk : Ghosts D) (disk_of : U → D) (size_of : U →
 
   -- from the disk before it was opened to the uploads now
   module _ (before : D) (opened now : U) (n : ℕ) (m : Store) (counts : CountsNow disk before)
-      (opening : Lasts disk before (disk_of opened) (LeftOrShows disk before n m)) (shown : AllShow disk (disk_of opened) n m)
+      (opening : Lasts disk before (disk_of opened) (LeftOrShows disk before n m))
+      (shown : AllShow disk (disk_of opened) n m)
       (size : Some n ≡ Some (size_of opened)) where
     abbrev st : State
     st = beginning m (Some n)
@@ -109,34 +116,50 @@ module _ {D U B : Type 0} (disk : Ghosts D) (disk_of : U → D) (size_of : U →
       }),
     )
 
-    lasts_over : (past : List Marked) → Shows u opened now st past → LastsOver disk before (disk_of now) n m (stores_of st past)
+    lasts_over : (past : List Marked) → Shows u opened now st past → LastsOver disk before (disk_of now) n m
+        (stores_of st past)
     lasts_over past shows = record {
       opened = disk_of opened;
       opening = opening;
       shown = shown;
       later = shows.limits.later;
-      since = left_said disk (disk_of now) (size_of now) n (disk.moment (disk_of opened)) (stores_of st past) shows.since;
+      since = left_said disk (disk_of now) (size_of now) n (disk.moment (disk_of opened)) (stores_of st past)
+          shows.since;
       always = λ t ms le left among.
           left_said disk (disk_of now) (size_of now) n t ms
-          (shows.limits.limits (Some n) t ms (omega (arith, le, opening.later)) (opened_left t ms le (first_among st past ms among) left) among);
+          (shows.limits.limits (Some n) t ms (omega (arith, le, opening.later))
+          (opened_left t ms le (first_among st past ms among) left) among);
     }
 
     module _ (counts_now : CountsNow disk (disk_of now))
-        (rests : (st : State) → Rests u now st → AllShow disk (disk_of now) (size_of now) st.world.store) (held front : Option (List ℕ)) where
+        (rests : (st : State) → Rests u now st → AllShow disk (disk_of now) (size_of now) st.world.store)
+        (held front : Option (List ℕ)) where
       -- with as many blocks as it was opened with
-      rests_all : (past : List Marked) (st' : State) → Shows u opened now st past → Rests u now st' → AllShow disk (disk_of now) n st'.world.store
+      rests_all : (past : List Marked) (st' : State) → Shows u opened now st past → Rests u now st'
+          → AllShow disk (disk_of now) n st'.world.store
       rests_all past st' shows is =
-          subst (λ (k : ℕ). AllShow disk (disk_of now) k st'.world.store) (same_size n (size_of now) shows.since.0) (rests st' is)
+          subst (λ (k : ℕ). AllShow disk (disk_of now) k st'.world.store) (same_size n (size_of now) shows.since.0)
+          (rests st' is)
 
       ended_on : (r : script.Result) (exit : Exit) → EndedSo u opened now st r held front exit
           → EndedOn disk before (disk_of now) n st r held front exit
-      ended_on r exit is = record { exits = is.exits; wrote = is.wrote; output = is.output; state = is.state; lasts = lasts_over r.run.past is.shows }
+      ended_on r exit is = record {
+        exits = is.exits;
+        wrote = is.wrote;
+        output = is.output;
+        state = is.state;
+        lasts = lasts_over r.run.past is.shows;
+      }
 
       rests_on : (r : script.Result) (exit : Exit) → RestsSo u opened now st r held front exit
           → RestsOn disk before (disk_of now) n st r held front exit
-      rests_on r exit is = record { ended = ended_on r exit is.ended; shows = rests_all r.run.past r.run.state is.ended.shows is.rests }
+      rests_on r exit is = record {
+        ended = ended_on r exit is.ended;
+        shows = rests_all r.run.past r.run.state is.ended.shows is.rests;
+      }
 
-      failed_on : (r : script.Result) → FailedSo u opened now st r held front → FailedOn disk before (disk_of now) n st r held front
+      failed_on : (r : script.Result) → FailedSo u opened now st r held front
+          → FailedOn disk before (disk_of now) n st r held front
       failed_on r is =
           let size : size_of now ≡ n = same_size n (size_of now) is.ended.shows.since.0 in
           let stores : List Store = last_stores st r.run.past in
@@ -158,7 +181,8 @@ module _ {D U B : Type 0} (disk : Ghosts D) (disk_of : U → D) (size_of : U →
         lasts = lasts_over is.past is.shows;
       }
 
-      pub ran_on : (bytes : List ℕ) → HasRun u opened (Ok now) held front st bytes → HasRunOn disk before (Ok (disk_of now)) held front n st bytes
+      pub ran_on : (bytes : List ℕ) → HasRun u opened (Ok now) held front st bytes
+          → HasRunOn disk before (Ok (disk_of now)) held front n st bytes
       ran_on bytes has = (has.0, rests_on _ _ has.1)
 
       pub broke_on : (bytes : List ℕ) (fault : ScriptFault) → HasRun u opened (Err (now, fault)) held front st bytes
@@ -184,7 +208,8 @@ refused_on {a = a} {b = b} {v = v} {w = w} store d fault told is c =
     subst (λ f. CountsEither (HasRefusedOn (Err (d, f))) a b v w) (sym is) (same_refusal store d fault c)
 
 -- THE DISK WASN'T OPENED
-pub refused_as : {T U : Type 0} (done : T → Type 0) (done' : U → Type 0) (fault : OpenFault) → LoadsAs {T = T} (Err fault) done
+pub refused_as : {T U : Type 0} (done : T → Type 0) (done' : U → Type 0) (fault : OpenFault)
+    → LoadsAs {T = T} (Err fault) done
     → LoadsAs {T = U} (Err fault) done'
 refused_as done done' opens.NotASpool refused = refused
 refused_as done done' opens.DiskFault refused = tt {0}
@@ -194,7 +219,8 @@ refused_as done done' opens.NoMemory refused = tt {0}
 
 pub unopened_on : {D : Type 0} (S : Type 0) (done : S → Type 0) (disk : Ghosts D) (before now : D) (fault : OpenFault)
     (held front : Option (List ℕ)) (n : ℕ) (m : Store) (bytes : List ℕ) → LoadsAs {T = S} (Err fault) done
-    → UnopenedOn disk before now n m → HasRunOn disk before (Err (now, Open fault)) held front n (beginning m (Some n)) bytes
+    → UnopenedOn disk before now n m → HasRunOn disk before (Err (now, Open fault)) held front n (beginning m (Some n))
+    bytes
 unopened_on S done disk before now opens.NotASpool held front n m bytes refused lasts = refused
 unopened_on S done disk before now opens.DiskFault held front n m bytes refused lasts = lasts
 unopened_on S done disk before now opens.Damaged held front n m bytes refused lasts = refused

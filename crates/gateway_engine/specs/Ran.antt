@@ -12,7 +12,8 @@ use Rattle.gateway_script.specs.declared.faults.CallFault.TheVariants as calls
 use Rattle.gateway_script.specs.declared.faults.ScriptFault.{ScriptFault}
 use Rattle.gateway_script.specs.declared.faults.ScriptFault.TheVariants.{DiskFault, Script, NoMemory, Io}
 
--- From the uploads before to the uploads now. What a crash at any moment since the run began might have left shows the uploads of the history
+-- From the uploads before to the uploads now. What a crash at any moment since the run began might have left shows the
+-- uploads of the history
 -- behind all these events, all but the latest, and so on; and images of earlier moments show them, or what they showed
 pub record Shows {U B : Type 0} (u : Ghosts U B) (before now : U) (st : State) (past : List Marked) : Type 0 where
   pub since : u.left_only now st.world.blocks (u.moment before) (stores_of st past)
@@ -22,8 +23,10 @@ pub record Shows {U B : Type 0} (u : Ghosts U B) (before now : U) (st : State) (
 abbrev pub Rests : {U B : Type 0} → Ghosts U B → U → State → Type 0
 Rests u store st = u.stands store (at_rest st.world.store st.world.blocks)
 
--- The script ended so, by the marks of its calls, and this was written behind what was there: the output of all its events.
-pub record EndedSo {U B : Type 0} (u : Ghosts U B) (before now : U) (st : State) (r : script.Result) (held front : Option (List ℕ)) (exit : Exit) : Type 0 where
+-- The script ended so, by the marks of its calls, and this was written behind what was there: the output of all its
+-- events.
+pub record EndedSo {U B : Type 0} (u : Ghosts U B) (before now : U) (st : State) (r : script.Result)
+    (held front : Option (List ℕ)) (exit : Exit) : Type 0 where
   pub exits : r.exit ≡ exit
   pub wrote : Appends front held r.run.out
   pub output : r.run.out ≡ output_of st r.run.past
@@ -31,17 +34,21 @@ pub record EndedSo {U B : Type 0} (u : Ghosts U B) (before now : U) (st : State)
   pub shows : Shows u before now st r.run.past
 
 -- the script ended so, and the store has the uploads of its history, no draft open
-pub record RestsSo {U B : Type 0} (u : Ghosts U B) (before now : U) (st : State) (r : script.Result) (held front : Option (List ℕ)) (exit : Exit) : Type 0 where
+pub record RestsSo {U B : Type 0} (u : Ghosts U B) (before now : U) (st : State) (r : script.Result)
+    (held front : Option (List ℕ)) (exit : Exit) : Type 0 where
   pub ended : EndedSo u before now st r held front exit
   pub rests : Rests u now r.run.state
 
 -- the script ended at an event at which the device failed: images show the uploads behind it, or before it
-pub record FailedSo {U B : Type 0} (u : Ghosts U B) (before now : U) (st : State) (r : script.Result) (held front : Option (List ℕ)) : Type 0 where
+pub record FailedSo {U B : Type 0} (u : Ghosts U B) (before now : U) (st : State) (r : script.Result)
+    (held front : Option (List ℕ)) : Type 0 where
   pub ended : EndedSo u before now st r held front Faulted
   pub last : ShowsLast (u.moment now) (u.left_only now) st r.run.past
 
--- The run was broken off behind these events, the first of the script's. The store has the uploads of their history, no draft open
-pub record StoppedSo {U B : Type 0} (u : Ghosts U B) (before now : U) (st : State) (r : script.Result) (held front : Option (List ℕ)) (fault : CallFault) : Type 0 where
+-- The run was broken off behind these events, the first of the script's. The store has the uploads of their history, no
+-- draft open
+pub record StoppedSo {U B : Type 0} (u : Ghosts U B) (before now : U) (st : State) (r : script.Result)
+    (held front : Option (List ℕ)) (fault : CallFault) : Type 0 where
   pub past : List Marked
   pub first : IsFirst past r.run.past
   pub out : List ℕ
@@ -51,12 +58,18 @@ pub record StoppedSo {U B : Type 0} (u : Ghosts U B) (before now : U) (st : Stat
   pub shows : Shows u before now st past
 
 -- behind a device's fault nothing is known of the store but its images
-abbrev pub HasRun : {U B : Type 0} → Ghosts U B → U → Result U (U × ScriptFault) → Option (List ℕ) → Option (List ℕ) → State → List ℕ → Type 0
-HasRun u before (Ok store) held front st bytes = (marks : List Mark) × RestsSo u before store st (the_script st marks bytes) held front Ran
-HasRun u before (Err (store, Script n)) held front st bytes = (marks : List Mark) × RestsSo u before store st (the_script st marks bytes) held front (AtLine n)
-HasRun u before (Err (store, DiskFault)) held front st bytes = (marks : List Mark) × FailedSo u before store st (the_script st marks bytes) held front
-HasRun u before (Err (store, NoMemory)) held front st bytes = (marks : List Mark) × StoppedSo u before store st (the_script st marks bytes) held front calls.NoMemory
-HasRun u before (Err (store, Io)) held front st bytes = (marks : List Mark) × StoppedSo u before store st (the_script st marks bytes) held front calls.Io
+abbrev pub HasRun : {U B : Type 0} → Ghosts U B → U → Result U (U × ScriptFault) → Option (List ℕ) → Option (List ℕ)
+    → State → List ℕ → Type 0
+HasRun u before (Ok store) held front st bytes =
+    (marks : List Mark) × RestsSo u before store st (the_script st marks bytes) held front Ran
+HasRun u before (Err (store, Script n)) held front st bytes =
+    (marks : List Mark) × RestsSo u before store st (the_script st marks bytes) held front (AtLine n)
+HasRun u before (Err (store, DiskFault)) held front st bytes =
+    (marks : List Mark) × FailedSo u before store st (the_script st marks bytes) held front
+HasRun u before (Err (store, NoMemory)) held front st bytes =
+    (marks : List Mark) × StoppedSo u before store st (the_script st marks bytes) held front calls.NoMemory
+HasRun u before (Err (store, Io)) held front st bytes =
+    (marks : List Mark) × StoppedSo u before store st (the_script st marks bytes) held front calls.Io
 
 -- the device failed
 abbrev pub HasFailed : {U : Type 0} → Result U (U × ScriptFault) → Type 0

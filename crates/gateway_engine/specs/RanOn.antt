@@ -40,9 +40,11 @@ pub record LastsOver {D : Type 0} (disk : Ghosts D) (before now : D) (n : ℕ) (
 
 -- THE EXITS
 
--- The script ended so, by the marks of its calls, and this was written behind what was there: the output of all its events.
+-- The script ended so, by the marks of its calls, and this was written behind what was there: the output of all its
+-- events.
 -- Images show the uploads behind all of them, all but the latest, and so on
-pub record EndedOn {D : Type 0} (disk : Ghosts D) (before now : D) (n : ℕ) (st : State) (r : script.Result) (held front : Option (List ℕ)) (exit : Exit) : Type 0 where
+pub record EndedOn {D : Type 0} (disk : Ghosts D) (before now : D) (n : ℕ) (st : State) (r : script.Result)
+    (held front : Option (List ℕ)) (exit : Exit) : Type 0 where
   pub exits : r.exit ≡ exit
   pub wrote : Appends front held r.run.out
   pub output : r.run.out ≡ output_of st r.run.past
@@ -50,17 +52,21 @@ pub record EndedOn {D : Type 0} (disk : Ghosts D) (before now : D) (n : ℕ) (st
   pub lasts : LastsOver disk before now n st.world.store (stores_of st r.run.past)
 
 -- the script ended so, and the disk has the uploads of its history
-pub record RestsOn {D : Type 0} (disk : Ghosts D) (before now : D) (n : ℕ) (st : State) (r : script.Result) (held front : Option (List ℕ)) (exit : Exit) : Type 0 where
+pub record RestsOn {D : Type 0} (disk : Ghosts D) (before now : D) (n : ℕ) (st : State) (r : script.Result)
+    (held front : Option (List ℕ)) (exit : Exit) : Type 0 where
   pub ended : EndedOn disk before now n st r held front exit
   pub shows : AllShow disk now n r.run.state.world.store
 
--- the script ended at an event at which the device failed, and the disk has the uploads behind all events, or behind all but this latest one
-pub record FailedOn {D : Type 0} (disk : Ghosts D) (before now : D) (n : ℕ) (st : State) (r : script.Result) (held front : Option (List ℕ)) : Type 0 where
+-- the script ended at an event at which the device failed, and the disk has the uploads behind all events, or behind
+-- all but this latest one
+pub record FailedOn {D : Type 0} (disk : Ghosts D) (before now : D) (n : ℕ) (st : State) (r : script.Result)
+    (held front : Option (List ℕ)) : Type 0 where
   pub ended : EndedOn disk before now n st r held front Faulted
   pub shows : AllShowOne disk now n (last_stores st r.run.past)
 
 -- The run was broken off behind these events, the first of the script's. The disk has the uploads of their history
-pub record StoppedOn {D : Type 0} (disk : Ghosts D) (before now : D) (n : ℕ) (st : State) (r : script.Result) (held front : Option (List ℕ)) (fault : CallFault) : Type 0 where
+pub record StoppedOn {D : Type 0} (disk : Ghosts D) (before now : D) (n : ℕ) (st : State) (r : script.Result)
+    (held front : Option (List ℕ)) (fault : CallFault) : Type 0 where
   pub past : List Marked
   pub first : IsFirst past r.run.past
   pub out : List ℕ
@@ -76,7 +82,8 @@ pub record UnopenedOn {D : Type 0} (disk : Ghosts D) (before now : D) (n : ℕ) 
   pub lasts : Lasts disk before now (LeftOrShows disk before n m)
 
 -- A disk of which a read shows uploads is opened, but for memory and the device
-abbrev pub HasRunOn : {D : Type 0} → Ghosts D → D → Result D (D × RunFault) → Option (List ℕ) → Option (List ℕ) → ℕ → State
+abbrev pub HasRunOn : {D : Type 0} → Ghosts D → D → Result D (D × RunFault) → Option (List ℕ) → Option (List ℕ) → ℕ
+    → State
     → List ℕ → Type 0
 HasRunOn disk before (Ok d) held front n st bytes =
     (marks : List Mark) × RestsOn disk before d n st (the_script st marks bytes) held front Ran

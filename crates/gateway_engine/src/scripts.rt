@@ -12,11 +12,13 @@ use gateway_script::{CountedRead, CountedWrite, ScriptFault, read_script, run_sc
 use std::alloc::Global;
 use upload_rules::Uploads;
 
-/// Runs a script from `reader` over uploads, and writes to `writer` what its calls give. The uploads are handed back, with no draft open.
+/// Runs a script from `reader` over uploads, and writes to `writer` what its calls give. The uploads are handed back,
+/// with no draft open.
 ///
 /// The script is read whole before its first line is run.
 ///
-/// Refused with `NoMemory` where a growth outside the calls was refused, `DiskFault`, `Script` of the first line that is none or too long, and `Io`.
+/// Refused with `NoMemory` where a growth outside the calls was refused, `DiskFault`, `Script` of the first line that
+/// is none or too long, and `Io`.
 /// What was committed and written before stands.
 pub fn run_over<U: Uploads, R: CountedRead, W: CountedWrite>(
     alloc: Global,
@@ -24,7 +26,8 @@ pub fn run_over<U: Uploads, R: CountedRead, W: CountedWrite>(
     writer: &mut W,
     store: U,
 ) -> Result<U, (U, ScriptFault)>
-    // What is written is the script's output, with a mark for each call that was refused for memory. Images show the uploads of its history.
+    // What is written is the script's output, with a mark for each call that was refused for memory. Images show the
+    // uploads of its history.
     ensures output { (m : Store) (blocks : Option ℕ) → U.stands store (at_rest m blocks)
         → (script : List ℕ) × IsScript (R.remaining reader.old) script
         × HasRun U.Uploads store result (W.contents writer.new) (W.contents writer.old) (beginning m blocks) script }

@@ -1,5 +1,6 @@
 -- From a run and a crash to a round.
-use Rattle.std.proofs.Common.{◌≡◌, ◌≤◌, ◌*◌, inl, inr, ℕ, List, [], ◌∷◌, ◌++◌, drop, Option, Some, None, Ok, Err, refl, sym, subst, ap, ◌∙◌, append-nil, append_assoc, arith, ⊎_elim}
+use Rattle.std.proofs.Common.{◌≡◌, ◌≤◌, ◌*◌, inl, inr, ℕ, List, [], ◌∷◌, ◌++◌, drop, Option, Some, None, Ok, Err, refl}
+use Rattle.std.proofs.Common.{sym, subst, ap, ◌∙◌, append-nil, append_assoc, arith, ⊎_elim}
 use Rattle.spool_disk.specs.Disk.{Counts, IsImage}
 use Rattle.spool_disk.specs.declared.disk.Disk.{Ghosts}
 use Rattle.spool_journal.specs.Image.{all_pages}
@@ -41,23 +42,28 @@ part_front : (st : State) (past : List Marked) (out : List ℕ)
 part_front st past out (part, missing, is, wrote) = (
   missing,
   output_front st past ∙ (ap (λ (xs : List ℕ). output_of st (drop 1 past) ++ xs) is
-      ∙ (sym (append_assoc (output_of st (drop 1 past)) part missing) ∙ ap (λ (xs : List ℕ). xs ++ missing) (sym wrote))),
+      ∙ (sym (append_assoc (output_of st (drop 1 past)) part missing) ∙ ap (λ (xs : List ℕ). xs ++ missing)
+      (sym wrote))),
 )
 
 -- BEHIND THE CRASH
 
 -- from the disk before a run to the disk that came back, and to the disk behind the crash
 module _ {D : Type 0} (disk : Ghosts D) (before back after : D) (n : ℕ) (m : Store)
-    (now : (t : ℕ) (image : ℕ → ℕ) → t ≤ disk.moment back → IsImage (disk.seen back) (disk.loose back) image → disk.left_since back t image)
-    (only : (image : ℕ → ℕ) → disk.left_since before (disk.moment before) image → IsImage (disk.seen before) (disk.loose before) image)
-    (shown : AllShow disk before n m) (keeps : disk.honest back → disk.honest after) (size : disk.size after ≡ disk.size back)
+    (now : (t : ℕ) (image : ℕ → ℕ) → t ≤ disk.moment back → IsImage (disk.seen back) (disk.loose back) image
+    → disk.left_since back t image)
+    (only : (image : ℕ → ℕ) → disk.left_since before (disk.moment before) image
+    → IsImage (disk.seen before) (disk.loose before) image)
+    (shown : AllShow disk before n m) (keeps : disk.honest back → disk.honest after)
+    (size : disk.size after ≡ disk.size back)
     (image : disk.honest back → IsImage (disk.seen back) (disk.loose back) (disk.seen after))
     (firm : disk.honest back → (p : ℕ) → disk.loose after p → ⊥) where
   abbrev st : State
   st = beginning m (Some n)
 
   -- the crash left an image of an honest disk that shows these uploads
-  settled : (next : Store) → disk.honest back → 4096 * all_pages n ≤ disk.size back → ImageShows n (disk.seen after) next → AllShow disk after n next
+  settled : (next : Store) → disk.honest back → 4096 * all_pages n ≤ disk.size back
+      → ImageShows n (disk.seen after) next → AllShow disk after n next
   settled next honest room is = synced_shows disk after n next
       record { honest = keeps honest; room = subst (λ (k : ℕ). 4096 * all_pages n ≤ k) (sym size) room; shows = is }
       (firm honest)
@@ -65,7 +71,8 @@ module _ {D : Type 0} (disk : Ghosts D) (before back after : D) (n : ℕ) (m : S
   one_settled : (next : Store) → AllShow disk back n next → AllShow disk after n next
   one_settled next all = settled next all.honest all.room (all.each (disk.seen after) (image all.honest))
 
-  passed : (next : Store) (marks : List Mark) (past : List Marked) (bytes : List ℕ) (fault : Option RunFault) (out : List ℕ)
+  passed : (next : Store) (marks : List Mark) (past : List Marked) (bytes : List ℕ) (fault : Option RunFault)
+      (out : List ℕ)
       → IsFirst past (the_script st marks bytes).run.past → (rest : List ℕ) × (output_of st past ≡ out ++ rest)
       → Leaves fault st past next → EndsAs fault st (the_script st marks bytes) past out
       → AllShow disk after n next → Passes disk after n m next bytes fault out
@@ -78,7 +85,8 @@ module _ {D : Type 0} (disk : Ghosts D) (before back after : D) (n : ℕ) (m : S
     leaves = leaves;
     ends = ends;
     shows = all;
-    texts = λ k u is. text_shown n (disk.seen after) next k u (all.each (disk.seen after) (record { same = λ p firm. refl })) is;
+    texts = λ k u is. text_shown n (disk.seen after) next k u
+        (all.each (disk.seen after) (record { same = λ p firm. refl })) is;
   }
 
   -- the bytes that were there, and those that a run of this script with this fault wrote behind them
@@ -86,7 +94,8 @@ module _ {D : Type 0} (disk : Ghosts D) (before back after : D) (n : ℕ) (m : S
     abbrev Lived : Option RunFault → Type 0
     Lived fault = (next : Store) × (out : List ℕ) × (held ≡ front ++ out) × Passes disk after n m next bytes fault out
 
-    whole : {exit : Exit} (r : script.Result) → EndedOn disk before back n st r (Some held) (Some front) exit → IsWhole st r r.run.past r.run.out
+    whole : {exit : Exit} (r : script.Result) → EndedOn disk before back n st r (Some held) (Some front) exit
+        → IsWhole st r r.run.past r.run.out
     whole r is = record { events = refl; output = is.output }
 
     written_whole : {exit : Exit} (r : script.Result) → EndedOn disk before back n st r (Some held) (Some front) exit
@@ -99,18 +108,23 @@ module _ {D : Type 0} (disk : Ghosts D) (before back after : D) (n : ℕ) (m : S
           r.run.state.world.store,
           r.run.out,
           is.ended.wrote,
-          passed r.run.state.world.store marks r.run.past bytes None r.run.out (all_first r.run.past) (written_whole r is.ended)
-              (ap (λ (s : State). s.world.store) is.ended.state) (is.ended.exits, whole r is.ended) (one_settled _ is.shows),
+          passed r.run.state.world.store marks r.run.past bytes None r.run.out (all_first r.run.past)
+              (written_whole r is.ended)
+              (ap (λ (s : State). s.world.store) is.ended.state) (is.ended.exits, whole r is.ended)
+              (one_settled _ is.shows),
         )
 
-    at_line : (line : ℕ) → HasRunOn disk before (Err (back, Script line)) (Some held) (Some front) n st bytes → Lived (Some (Script line))
+    at_line : (line : ℕ) → HasRunOn disk before (Err (back, Script line)) (Some held) (Some front) n st bytes
+        → Lived (Some (Script line))
     at_line line (marks, is) =
         let r = the_script st marks bytes in (
           r.run.state.world.store,
           r.run.out,
           is.ended.wrote,
-          passed r.run.state.world.store marks r.run.past bytes (Some (Script line)) r.run.out (all_first r.run.past) (written_whole r is.ended)
-              (ap (λ (s : State). s.world.store) is.ended.state) (is.ended.exits, whole r is.ended) (one_settled _ is.shows),
+          passed r.run.state.world.store marks r.run.past bytes (Some (Script line)) r.run.out (all_first r.run.past)
+              (written_whole r is.ended)
+              (ap (λ (s : State). s.world.store) is.ended.state) (is.ended.exits, whole r is.ended)
+              (one_settled _ is.shows),
         )
 
     failed : HasRunOn disk before (Err (back, DiskFault)) (Some held) (Some front) n st bytes → Lived (Some DiskFault)
@@ -120,16 +134,19 @@ module _ {D : Type 0} (disk : Ghosts D) (before back after : D) (n : ℕ) (m : S
           one.store,
           r.run.out,
           is.ended.wrote,
-          passed one.store marks r.run.past bytes (Some DiskFault) r.run.out (all_first r.run.past) (written_whole r is.ended)
+          passed one.store marks r.run.past bytes (Some DiskFault) r.run.out (all_first r.run.past)
+              (written_whole r is.ended)
               one.among (is.ended.exits, whole r is.ended) (settled one.store is.shows.honest is.shows.room one.shows),
         )
 
-    out_of_memory : HasRunOn disk before (Err (back, NoMemory)) (Some held) (Some front) n st bytes → Lived (Some NoMemory)
+    out_of_memory : HasRunOn disk before (Err (back, NoMemory)) (Some held) (Some front) n st bytes
+        → Lived (Some NoMemory)
     out_of_memory (marks, is) = (
       (history st is.past).world.store,
       is.out,
       is.wrote,
-      passed _ marks is.past bytes (Some NoMemory) is.out is.first (most_front st is.past is.out is.most) refl is.most (one_settled _ is.shows),
+      passed _ marks is.past bytes (Some NoMemory) is.out is.first (most_front st is.past is.out is.most) refl is.most
+          (one_settled _ is.shows),
     )
 
     broken_off : HasRunOn disk before (Err (back, Io)) (Some held) (Some front) n st bytes → Lived (Some Io)
@@ -137,7 +154,8 @@ module _ {D : Type 0} (disk : Ghosts D) (before back after : D) (n : ℕ) (m : S
       (history st is.past).world.store,
       is.out,
       is.wrote,
-      passed _ marks is.past bytes (Some Io) is.out is.first (part_front st is.past is.out is.most) refl is.most (one_settled _ is.shows),
+      passed _ marks is.past bytes (Some Io) is.out is.first (part_front st is.past is.out is.most) refl is.most
+          (one_settled _ is.shows),
     )
 
     -- an image behind an opening that was refused is one from before, or shows the same
@@ -151,7 +169,8 @@ module _ {D : Type 0} (disk : Ghosts D) (before back after : D) (n : ℕ) (m : S
     none_first : (past : List Marked) → IsFirst [] past
     none_first past = (past, sym (append-nil past))
 
-    unopened : (fault : RunFault) → held ≡ front → Leaves (Some fault) st [] m → EndsAs (Some fault) st (the_script st [] bytes) [] []
+    unopened : (fault : RunFault) → held ≡ front → Leaves (Some fault) st [] m
+        → EndsAs (Some fault) st (the_script st [] bytes) [] []
         → UnopenedOn disk before back n m → Lived (Some fault)
     unopened fault same leaves ends is = (
       m,
@@ -180,7 +199,8 @@ module _ {D : Type 0} (disk : Ghosts D) (before back after : D) (n : ℕ) (m : S
 pub counts_behind : {F : Type 0} (a b c : ℕ) → c ≡ b → Counts F a b → Counts F a c
 counts_behind {F} a b c same counts = subst (λ (k : ℕ). Counts F a k) (sym same) counts
 
-pub counts_refused : {D : Type 0} (back : D) (fault : RunFault) (a b c : ℕ) → c ≡ b → Counts (HasFailedOn {D = D} (Err (back, fault))) a b
+pub counts_refused : {D : Type 0} (back : D) (fault : RunFault) (a b c : ℕ) → c ≡ b
+    → Counts (HasFailedOn {D = D} (Err (back, fault))) a b
     → Counts (IsFault (Some fault)) a c
 counts_refused back (Open opens.NoMemory) a b c same counts = counts_behind a b c same counts
 counts_refused back (Open opens.DiskFault) a b c same counts = counts_behind a b c same counts
@@ -194,4 +214,8 @@ counts_refused back Io a b c same counts = counts_behind a b c same counts
 
 -- every image of it shows them, so it may be opened
 pub is_spool : {D : Type 0} (disk : Ghosts D) (d : D) (n : ℕ) (m : Store) → AllShow disk d n m → IsSpool disk d n m
-is_spool disk d n m all = record { honest = all.honest; room = all.room; shows = all.each (disk.seen d) (record { same = λ p firm. refl }) }
+is_spool disk d n m all = record {
+  honest = all.honest;
+  room = all.room;
+  shows = all.each (disk.seen d) (record { same = λ p firm. refl });
+}

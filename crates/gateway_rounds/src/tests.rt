@@ -24,7 +24,8 @@ came 1 68656c6c6f
 
 /// What that writes.
 const MADE: &[u8] =
-    b"< 1 110\nHTTP/1.1 201 Created\r\nTus-Resumable: 1.0.0\r\nCache-Control: no-store\r\nLocation: /files/1\r\nContent-Length: 0\r\n\r\n\n";
+    b"< 1 110\nHTTP/1.1 201 Created\r\nTus-Resumable: 1.0.0\r\nCache-Control: no-store\r\nLocation:
+    /files/1\r\nContent-Length: 0\r\n\r\n\n";
 
 const FILLED: &[u8] =
     b"< 1 92\nHTTP/1.1 204 No Content\r\nTus-Resumable: 1.0.0\r\nCache-Control: no-store\r\nUpload-Offset: 5\r\n\r\n\n";
@@ -34,10 +35,12 @@ const LOOKS: &[u8] = b"open 1\nsay 1 HEAD /files/1 HTTP/1.1\nsay 1 Tus-Resumable
 
 /// What that writes of a full upload, and of one without bytes.
 const FULL: &[u8] =
-    b"< 1 102\nHTTP/1.1 200 OK\r\nTus-Resumable: 1.0.0\r\nCache-Control: no-store\r\nUpload-Offset: 5\r\nUpload-Length: 5\r\n\r\n\n";
+    b"< 1 102\nHTTP/1.1 200 OK\r\nTus-Resumable: 1.0.0\r\nCache-Control: no-store\r\nUpload-Offset: 5\r\nUpload-Length:
+    5\r\n\r\n\n";
 
 const EMPTY: &[u8] =
-    b"< 1 102\nHTTP/1.1 200 OK\r\nTus-Resumable: 1.0.0\r\nCache-Control: no-store\r\nUpload-Offset: 0\r\nUpload-Length: 5\r\n\r\n\n";
+    b"< 1 102\nHTTP/1.1 200 OK\r\nTus-Resumable: 1.0.0\r\nCache-Control: no-store\r\nUpload-Offset: 0\r\nUpload-Length:
+    5\r\n\r\n\n";
 
 /// More calls than a round makes.
 const NO_STOP: u64 = 100_000;
@@ -58,7 +61,8 @@ fn check(rt: &impl Abort, first: &[u8], later: &[u8]) {
     }
 }
 
-/// The first round fills an upload, up to the call at which the disk stops or fails, and the second asks for it. Whether
+/// The first round fills an upload, up to the call at which the disk stops or fails, and the second asks for it.
+/// Whether
 /// the first one ran to its end.
 fn lives<D: CrashDisk<How = (Crash, u64)> + Drop>(
     rt: &impl Abort,

@@ -5,7 +5,9 @@ use Rattle.upload_rules.specs.Answers.{Counts}
 
 -- a call that didn't fail isn't counted
 pub uncounted : {failed : Type 0} {a b : ℕ} → (failed → ⊥) → Counts failed a b → b ≡ a
-uncounted {a = a} {b = b} never counts = elim (cases_lt a b) as (λ _. b ≡ a) [ inl less ↦ absurd (never (counts.nothing_else less)) | inr most ↦ omega (arith, counts.later) ]
+uncounted {a = a} {b = b} never counts =
+    elim (cases_lt a b) as (λ _. b ≡ a)
+    [ inl less ↦ absurd (never (counts.nothing_else less)) | inr most ↦ omega (arith, counts.later) ]
 
 -- behind calls that weren't counted
 pub counts_behind : {failed : Type 0} {a b c : ℕ} → b ≡ a → Counts failed b c → Counts failed a c

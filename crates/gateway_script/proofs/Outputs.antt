@@ -1,12 +1,14 @@
 -- What is written of the bytes that a call gave.
 use Rattle.std.specs.Io.KnownBytes.{Appends}
 use Rattle.std.proofs.lemmas.List.{take-append-drop}
-use Rattle.std.proofs.Common.{◌≡◌, ◌==◌, Bool, true, false, ℕ, List, [], ◌∷◌, ◌++◌, length, take, drop, Option, Some, None, refl, sym, ap, ◌∙◌, append_assoc, append-nil, codes, arith}
+use Rattle.std.proofs.Common.{◌≡◌, ◌==◌, Bool, true, false, ℕ, List, [], ◌∷◌, ◌++◌, length, take, drop, Option, Some}
+use Rattle.std.proofs.Common.{None, refl, sym, ap, ◌∙◌, append_assoc, append-nil, codes, arith}
 use Rattle.std.specs.Fmt.{decimal}
 use Rattle.gateway_script.specs.Script.{written_bytes}
 use Rattle.gateway_script.specs.Outputs.{count_line}
 
-line_then : (n count : ℕ) (more : List ℕ) → count_line n count ++ more ≡ codes "< " ++ (decimal n ++ (32 ∷ (decimal count ++ (10 ∷ more))))
+line_then : (n count : ℕ) (more : List ℕ) → count_line n count ++ more ≡ codes "<
+    " ++ (decimal n ++ (32 ∷ (decimal count ++ (10 ∷ more))))
 line_then n count more =
     append_assoc (codes "< ") (decimal n ++ (32 ∷ (decimal count ++ (10 ∷ [])))) more
     ∙ ap (λ x. codes "< " ++ x) (append_assoc (decimal n) (32 ∷ (decimal count ++ (10 ∷ []))) more
@@ -20,7 +22,8 @@ framed n (c ∷ bytes) old mid new b is some first last =
     let line = count_line n (length (c ∷ bytes)) in
     last ∙ (ap (λ x. x ++ (10 ∷ [])) first
     ∙ (append_assoc (old ++ line) (c ∷ bytes) (10 ∷ [])
-    ∙ (append_assoc old line ((c ∷ bytes) ++ (10 ∷ [])) ∙ ap (λ x. old ++ x) (line_then n (length (c ∷ bytes)) ((c ∷ bytes) ++ (10 ∷ []))))))
+    ∙ (append_assoc old line ((c ∷ bytes) ++ (10 ∷ [])) ∙ ap (λ x. old ++ x)
+        (line_then n (length (c ∷ bytes)) ((c ∷ bytes) ++ (10 ∷ []))))))
 
 pub appends_nothing : (known : Option (List ℕ)) → Appends known known []
 appends_nothing None = tt {0}
@@ -33,17 +36,20 @@ appends_both (Some a) (Some b) None x y p q = q
 appends_both (Some a) None c x y p q = absurd p
 
 -- a part of the rest was written
-pub wrote_more : (a b c : Option (List ℕ)) (bytes front rest next : List ℕ) (n : ℕ) → bytes ≡ front ++ rest → Appends a b front → Appends b c (take n rest)
+pub wrote_more : (a b c : Option (List ℕ)) (bytes front rest next : List ℕ) (n : ℕ) → bytes ≡ front ++ rest
+    → Appends a b front → Appends b c (take n rest)
     → next ≡ drop n rest → (more : List ℕ) × (bytes ≡ more ++ next) × Appends a c more
 wrote_more a b c bytes front rest next n parts before now is = (
   front ++ take n rest,
-  parts ∙ (ap (λ z. front ++ z) (sym (take-append-drop n rest)) ∙ (sym (append_assoc front (take n rest) (drop n rest)) ∙ ap (λ z. (front ++ take n rest) ++ z) (sym is))),
+  parts ∙ (ap (λ z. front ++ z) (sym (take-append-drop n rest))
+      ∙ (sym (append_assoc front (take n rest) (drop n rest)) ∙ ap (λ z. (front ++ take n rest) ++ z) (sym is))),
   appends_both a b c front (take n rest) before now,
 )
 
 -- the list isn't empty
 pub some_list : (b : Bool) (list : List ℕ) → b ≡ (length list == 0) → b ≡ false → list ≡ [] → ⊥
-some_list b list is not_empty none = let e : true ≡ false = ap (λ l. length l == 0) (sym none) ∙ (sym is ∙ not_empty) in absurd (cc)
+some_list b list is not_empty none = let e : true ≡ false =
+    ap (λ l. length l == 0) (sym none) ∙ (sym is ∙ not_empty) in absurd (cc)
 
 pub no_list : (b : Bool) (list : List ℕ) → b ≡ (length list == 0) → b ≡ true → list ≡ []
 no_list b [] is empty = refl

@@ -1,5 +1,6 @@
 -- A script: its events, and what is written.
-use Rattle.std.specs.Prelude.{◌≡◌, ℕ, zero, suc, ◌+◌, ◌-◌, Bool, true, false, ◌||◌, List, [], ◌∷◌, ◌++◌, length, take, drop, slice_get, codes, bytes_eq, nat_lt, nat_le, ◌==◌, if◌then◌else◌, Option, Some, None}
+use Rattle.std.specs.Prelude.{◌≡◌, ℕ, zero, suc, ◌+◌, ◌-◌, Bool, true, false, ◌||◌, List, [], ◌∷◌, ◌++◌, length, take}
+use Rattle.std.specs.Prelude.{drop, slice_get, codes, bytes_eq, nat_lt, nat_le, ◌==◌, if◌then◌else◌, Option, Some, None}
 use Rattle.std.specs.Fmt.{decimal}
 use Rattle.hex.specs.Hex.{decode_of}
 use Rattle.tus_request.specs.Number.{number_of}
@@ -8,7 +9,8 @@ use Rattle.tus_request.specs.Value.{answered}
 use Rattle.tus_session.specs.declared.errors.SessionError.{SessionError}
 use Rattle.tus_session.specs.declared.errors.SessionError.TheVariants.{DiskFault}
 use Rattle.tus_session.specs.Faults.{error_number}
-use Rattle.tus_session.specs.History.{State, Event, Opened, Came, More, Ended, Mark, Served, Marked, Step, step, Outcome, Gave, Done, Refused, is_closed}
+use Rattle.tus_session.specs.History.{State, Event, Opened, Came, More, Ended, Mark, Served, Marked, Step, step}
+use Rattle.tus_session.specs.History.{Outcome, Gave, Done, Refused, is_closed}
 
 -- THE LINES, each with the LF that ends it. The last one may lack it
 abbrev pub onto_line : ℕ → List (List ℕ) → List (List ℕ)
@@ -56,8 +58,10 @@ abbrev pub order_of_word : List ℕ → List ℕ → Order
 order_of_word word rest =
     if bytes_eq word (codes "open") then order_with Open (conn_number rest)
     else if bytes_eq word (codes "cut") then order_with Hang (conn_number rest)
-    else if bytes_eq word (codes "say") then order_with (λ n. Give n (behind 32 rest ++ (13 ∷ 10 ∷ []))) (conn_number (before 32 rest))
-    else if bytes_eq word (codes "came") then order_with (give_hex (hex_bytes (behind 32 rest))) (conn_number (before 32 rest))
+    else if bytes_eq word (codes "say") then order_with (λ n. Give n (behind 32 rest ++ (13 ∷ 10 ∷ [])))
+    (conn_number (before 32 rest))
+    else if bytes_eq word (codes "came") then order_with (give_hex (hex_bytes (behind 32 rest)))
+    (conn_number (before 32 rest))
     else Bad
 
 -- empty lines and those that begin with `#` are skipped
@@ -69,7 +73,8 @@ order_of (b ∷ line) = if b == 35 then Skip else order_of_word (before 32 (b �
 abbrev pub order_in : List ℕ → Order
 order_in line = order_of (bared (before 10 line))
 
--- A RUN: the history so far (its latest event first), the marks that are left, and what was written; and whether the device failed
+-- A RUN: the history so far (its latest event first), the marks that are left, and what was written; and whether the
+-- device failed
 pub record Run : Type 0 where
   pub state : State
   pub past : List Marked
@@ -85,7 +90,8 @@ next_mark (m ∷ marks) = m
 -- what is written after a call
 abbrev pub written_bytes : ℕ → List ℕ → List ℕ
 written_bytes n [] = []
-written_bytes n (b ∷ bytes) = codes "< " ++ (decimal n ++ (32 ∷ (decimal (length (b ∷ bytes)) ++ (10 ∷ ((b ∷ bytes) ++ (10 ∷ []))))))
+written_bytes n (b ∷ bytes) =
+    codes "< " ++ (decimal n ++ (32 ∷ (decimal (length (b ∷ bytes)) ++ (10 ∷ ((b ∷ bytes) ++ (10 ∷ []))))))
 
 abbrev pub written_close : ℕ → Bool → List ℕ
 written_close n closes = if closes then codes "x " ++ (decimal n ++ (10 ∷ [])) else []
@@ -110,7 +116,13 @@ pub record Called : Type 0 where
 
 abbrev pub called : Run → ℕ → Event → Mark → Step → Called
 called r n e m t = record {
-  run = record { state = t.state; past = (e, m) ∷ r.past; marks = drop 1 r.marks; out = r.out ++ written n t.outcome; down = is_fault t.outcome };
+  run = record {
+    state = t.state;
+    past = (e, m) ∷ r.past;
+    marks = drop 1 r.marks;
+    out = r.out ++ written n t.outcome;
+    down = is_fault t.outcome;
+  };
   outcome = t.outcome;
 }
 

@@ -30,8 +30,10 @@ fn obey<C: Connections, W: CountedWrite>(
     writer: &mut W,
     order: &Order,
 ) -> Result<(), CallFault>
-    ensures does { (before : C) (st : State) (r : Run) (front : Option (List ℕ)) → IsAt (view C.Connections before core.old st (W.contents writer.old) front) r
-        → Went (view C.Connections before core.new st (W.contents writer.new) front) result (obeyed (order_shown order.now)) r }
+    ensures does { (before : C) (st : State) (r : Run) (front : Option (List ℕ))
+        → IsAt (view C.Connections before core.old st (W.contents writer.old) front) r
+        → Went (view C.Connections before core.new st (W.contents writer.new) front) result
+        (obeyed (order_shown order.now)) r }
     ensures counts { Counts (IsErrOf result CallFault.DiskFault) (C.failures core.old) (C.failures core.new) }
     ensures io { Counts (IsErrOf result CallFault.Io) (W.refusals writer.old) (W.refusals writer.new) }
 {
@@ -50,7 +52,8 @@ fn cut_open<C: Connections, W: CountedWrite>(
     writer: &mut W,
     conn: usize,
 ) -> Result<(), CallFault>
-    ensures does { (before : C) (st : State) (r : Run) (front : Option (List ℕ)) (k : ℕ) → IsAt (view C.Connections before core.old st (W.contents writer.old) front) r
+    ensures does { (before : C) (st : State) (r : Run) (front : Option (List ℕ)) (k : ℕ)
+        → IsAt (view C.Connections before core.old st (W.contents writer.old) front) r
         → CutOne (view C.Connections before core.new st (W.contents writer.new) front) result k conn r }
     ensures counts { Counts (IsErrOf result CallFault.DiskFault) (C.failures core.old) (C.failures core.new) }
     ensures io { Counts (IsErrOf result CallFault.Io) (W.refusals writer.old) (W.refusals writer.new) }
@@ -96,8 +99,10 @@ fn run_line<C: Connections, W: CountedWrite>(
     start: u64,
     line: &[u8],
 ) -> Result<(), ScriptFault>
-    ensures does { (before : C) (st : State) (r : Run) (front : Option (List ℕ)) (lines : List (List ℕ)) → IsAt (view C.Connections before core.old st (W.contents writer.old) front) r
-        → LineRan (view C.Connections before core.new st (W.contents writer.new) front) result number start line.now lines r }
+    ensures does { (before : C) (st : State) (r : Run) (front : Option (List ℕ)) (lines : List (List ℕ))
+        → IsAt (view C.Connections before core.old st (W.contents writer.old) front) r
+        → LineRan (view C.Connections before core.new st (W.contents writer.new) front) result number start line.now
+        lines r }
     ensures counts { Counts (IsErrOf result ScriptFault.DiskFault) (C.failures core.old) (C.failures core.new) }
     ensures io { Counts (IsErrOf result ScriptFault.Io) (W.refusals writer.old) (W.refusals writer.new) }
 {
@@ -118,7 +123,8 @@ fn cut_all<C: Connections, W: CountedWrite>(
     core: &mut C,
     writer: &mut W,
 ) -> Result<(), CallFault>
-    ensures does { (before : C) (st : State) (r : Run) (front : Option (List ℕ)) → IsAt (view C.Connections before core.old st (W.contents writer.old) front) r
+    ensures does { (before : C) (st : State) (r : Run) (front : Option (List ℕ))
+        → IsAt (view C.Connections before core.old st (W.contents writer.old) front) r
         → Went (view C.Connections before core.new st (W.contents writer.new) front) result (cut_from 16 0) r }
     ensures counts { Counts (IsErrOf result CallFault.DiskFault) (C.failures core.old) (C.failures core.new) }
     ensures io { Counts (IsErrOf result CallFault.Io) (W.refusals writer.old) (W.refusals writer.new) }
@@ -138,8 +144,10 @@ pub fn run_script<C: Connections, W: CountedWrite>(
     writer: &mut W,
     script: &[u8],
 ) -> Result<(), ScriptFault>
-    ensures does { (before : C) (st : State) (r : Run) (front : Option (List ℕ)) → IsAt (view C.Connections before core.old st (W.contents writer.old) front) r
-        → Ends (view C.Connections before core.new st (W.contents writer.new) front) result (run_lines 1 0 (script_lines script.now)) r }
+    ensures does { (before : C) (st : State) (r : Run) (front : Option (List ℕ))
+        → IsAt (view C.Connections before core.old st (W.contents writer.old) front) r
+        → Ends (view C.Connections before core.new st (W.contents writer.new) front) result
+        (run_lines 1 0 (script_lines script.now)) r }
     ensures counts { Counts (IsErrOf result ScriptFault.DiskFault) (C.failures core.old) (C.failures core.new) }
     ensures io { Counts (IsErrOf result ScriptFault.Io) (W.refusals writer.old) (W.refusals writer.new) }
 {

@@ -1,8 +1,11 @@
 -- What an event makes of the open connections.
-use Rattle.std.proofs.Common.{◌≡◌, ℕ, Bool, true, false, List, Option, Some, None, refl, ◌∙◌, arith, if◌then◌else◌, ◌==◌, nat_lt}
+use Rattle.std.proofs.Common.{◌≡◌, ℕ, Bool, true, false, List, Option, Some, None, refl, ◌∙◌, arith, if◌then◌else◌}
+use Rattle.std.proofs.Common.{◌==◌, nat_lt}
 use Rattle.std.proofs.lemmas.Bool.Decides.{nat_tests}
 use Rattle.tus_session.specs.Turns.{Conn, fresh, came_turn, more_turn}
-use Rattle.tus_session.specs.History.{State, Event, Opened, Came, More, Ended, Mark, Served, OutOfMemory, Failed, Outcome, Gave, Done, Refused, put, kept, is_closed, opened_at, came_at, more_at, ended_at, lost_at, failed_at, conn_in, step}
+use Rattle.tus_session.specs.History.{State, Event, Opened, Came, More, Ended, Mark, Served, OutOfMemory, Failed}
+use Rattle.tus_session.specs.History.{Outcome, Gave, Done, Refused, put, kept, is_closed, opened_at, came_at, more_at}
+use Rattle.tus_session.specs.History.{ended_at, lost_at, failed_at, conn_in, step}
 use Rattle.tus_session.specs.declared.errors.SessionError.TheVariants.{TooMany}
 use Rattle.tus_session.proofs.InPlace.{conns_here, conns_else}
 
@@ -23,7 +26,10 @@ other_number k n ne = grind (arith, nat_tests)
 -- THE OTHER CONNECTIONS are as they were
 module _ (st : State) (k : ℕ) where
   else_put : (c : ℕ) (b : Bool) → (k ≡ c → ⊥)
-      → (if b then record { state = put st st.world c (Some fresh); outcome = Done } else kept st TooMany).state.conns k ≡ st.conns k
+      → (if b then record {
+        state = put st st.world c (Some fresh);
+        outcome = Done;
+      } else kept st TooMany).state.conns k ≡ st.conns k
   else_put c true ne = conns_else st.conns c k (Some fresh) ne
   else_put c false ne = refl
 
@@ -31,7 +37,8 @@ module _ (st : State) (k : ℕ) where
   else_opened c None ne = else_put c (nat_lt c 16) ne
   else_opened c (Some x) ne = refl
 
-  else_came : (c : ℕ) (piece : List ℕ) (o : Option Conn) → (k ≡ c → ⊥) → (came_at st c piece o).state.conns k ≡ st.conns k
+  else_came : (c : ℕ) (piece : List ℕ) (o : Option Conn) → (k ≡ c → ⊥) → (came_at st c piece o).state.conns k ≡ st.conns
+      k
   else_came c piece None ne = refl
   else_came c piece (Some x) ne = conns_else st.conns c k (came_turn st.world x piece).conn ne
 
@@ -77,11 +84,13 @@ none_from None e = refl
 none_from (Some x) e = absurd (cc)
 
 module _ (st : State) (c : ℕ) where
-  came_shut : (piece : List ℕ) (o : Option Conn) → st.conns c ≡ o → Shuts (came_at st c piece o).outcome → (came_at st c piece o).state.conns c ≡ None
+  came_shut : (piece : List ℕ) (o : Option Conn) → st.conns c ≡ o → Shuts (came_at st c piece o).outcome
+      → (came_at st c piece o).state.conns c ≡ None
   came_shut piece None e s = e
   came_shut piece (Some x) e s = let t = came_turn st.world x piece in conns_here st.conns c t.conn ∙ none_from t.conn s
 
-  more_shut : (o : Option Conn) → st.conns c ≡ o → Shuts (more_at st c o).outcome → (more_at st c o).state.conns c ≡ None
+  more_shut : (o : Option Conn) → st.conns c ≡ o → Shuts (more_at st c o).outcome
+      → (more_at st c o).state.conns c ≡ None
   more_shut None e s = e
   more_shut (Some x) e s = let t = more_turn st.world x in conns_here st.conns c t.conn ∙ none_from t.conn s
 
@@ -93,7 +102,8 @@ module _ (st : State) (c : ℕ) where
   lost_shut None e = e
   lost_shut (Some x) e = conns_here st.conns c None
 
-  pub came_shuts : (piece : List ℕ) → Shuts (step st (Came c piece) Served).outcome → (step st (Came c piece) Served).state.conns c ≡ None
+  pub came_shuts : (piece : List ℕ) → Shuts (step st (Came c piece) Served).outcome
+      → (step st (Came c piece) Served).state.conns c ≡ None
   unfolding step
   came_shuts piece s = came_shut piece (st.conns c) refl s
 
@@ -130,12 +140,17 @@ module _ (st : State) (c : ℕ) where
   opened_from None e done = e
   opened_from (Some x) e done = absurd (cc)
 
-  put_kept : (b : Bool) → ((if b then record { state = put st st.world c (Some fresh); outcome = Done } else kept st TooMany).outcome ≡ Done → ⊥)
-      → (if b then record { state = put st st.world c (Some fresh); outcome = Done } else kept st TooMany).state.conns c ≡ st.conns c
+  put_kept : (b : Bool) → ((if b then record { state = put st st.world c (Some fresh); outcome = Done } else kept st
+      TooMany).outcome ≡ Done → ⊥)
+      → (if b then record {
+        state = put st st.world c (Some fresh);
+        outcome = Done;
+      } else kept st TooMany).state.conns c ≡ st.conns c
   put_kept true undone = absurd (undone refl)
   put_kept false undone = refl
 
-  opened_kept : (o : Option Conn) → ((opened_at st c o).outcome ≡ Done → ⊥) → (opened_at st c o).state.conns c ≡ st.conns c
+  opened_kept : (o : Option Conn) → ((opened_at st c o).outcome ≡ Done → ⊥)
+      → (opened_at st c o).state.conns c ≡ st.conns c
   opened_kept None undone = put_kept (nat_lt c 16) undone
   opened_kept (Some x) undone = refl
 
@@ -145,7 +160,8 @@ module _ (st : State) (c : ℕ) where
   opens_closed OutOfMemory done = opened_from (st.conns c) refl done
   opens_closed Failed done = opened_from (st.conns c) refl done
 
-  pub unopened : (m : Mark) → ((step st (Opened c) m).outcome ≡ Done → ⊥) → (step st (Opened c) m).state.conns c ≡ st.conns c
+  pub unopened : (m : Mark) → ((step st (Opened c) m).outcome ≡ Done → ⊥)
+      → (step st (Opened c) m).state.conns c ≡ st.conns c
   unfolding step
   unopened Served undone = opened_kept (st.conns c) undone
   unopened OutOfMemory undone = opened_kept (st.conns c) undone

@@ -6,7 +6,8 @@ use Rattle.gateway_serve.specs.Joined.{Alone}
 use Rattle.gateway_serve.proofs.Steps.{by_true, by_false, same_number, other_number, step_else}
 
 module _ (st : State) (past : List Marked) (e : Event) (m : Mark) where
-  pub talks_here : conversations st ((e, m) ∷ past) (conn_in e) ≡ goes_on e (step (history st past) e m).outcome (conversations st past (conn_in e))
+  pub talks_here : conversations st ((e, m) ∷ past) (conn_in e) ≡ goes_on e (step (history st past) e m).outcome
+      (conversations st past (conn_in e))
   unfolding conversations
   talks_here = by_true (conn_in e == conn_in e) _ _ (same_number (conn_in e))
 

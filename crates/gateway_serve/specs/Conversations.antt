@@ -1,8 +1,10 @@
 -- What a history makes of each connection: its conversations.
 use Rattle.std.specs.Prelude.{◌==◌, ℕ, Bool, true, false, List, [], ◌∷◌, ◌++◌, take, if◌then◌else◌}
-use Rattle.tus_session.specs.History.{State, Event, Opened, Came, More, Ended, Marked, Outcome, Gave, Done, step, history, conn_in}
+use Rattle.tus_session.specs.History.{State, Event, Opened, Came, More, Ended, Marked, Outcome, Gave, Done, step}
+use Rattle.tus_session.specs.History.{history, conn_in}
 
--- all bytes that the calls for a connection took and gave since it was opened, and whether the session was told that its client is gone
+-- all bytes that the calls for a connection took and gave since it was opened, and whether the session was told that
+-- its client is gone
 pub record Conversation : Type 0 where
   pub took : List ℕ
   pub gave : List ℕ
@@ -33,4 +35,5 @@ goes_on e outcome cs = cs
 unfoldable pub conversations : State → List Marked → ℕ → List Conversation
 conversations st [] n = []
 conversations st (e ∷ past) n =
-    if n == conn_in e.0 then goes_on e.0 (step (history st past) e.0 e.1).outcome (conversations st past n) else conversations st past n
+    if n == conn_in e.0 then goes_on e.0 (step (history st past) e.0 e.1).outcome (conversations st past n)
+    else conversations st past n

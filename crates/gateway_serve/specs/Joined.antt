@@ -1,5 +1,6 @@
 -- How sockets are joined to the conversations of their connections.
-use Rattle.std.specs.Prelude.{◌≡◌, ◌⊎◌, ◌<◌, ◌≤◌, ℕ, length, Bool, true, false, List, [], ◌∷◌, ◌++◌, take, drop, None, get_or, if◌then◌else◌, Result, Ok, Err}
+use Rattle.std.specs.Prelude.{◌≡◌, ◌⊎◌, ◌<◌, ◌≤◌, ℕ, length, Bool, true, false, List, [], ◌∷◌, ◌++◌, take, drop, None}
+use Rattle.std.specs.Prelude.{get_or, if◌then◌else◌, Result, Ok, Err}
 use Rattle.spool_disk.specs.declared.disk.DiskFault.{DiskFault}
 use Rattle.tus_session.specs.History.{State, Marked, history}
 use Rattle.tus_session.specs.declared.answers.Answer.{Answer}
@@ -16,7 +17,8 @@ use Rattle.gateway_serve.specs.declared.places.Place.{Place}
 use Rattle.gateway_serve.specs.declared.places.Place.TheVariants.{Free, Open}
 use Rattle.gateway_serve.specs.declared.serving.Server.{Server}
 
--- a socket and its connection: all bytes that came and went, those that wait for the session and for the socket, and whether the session
+-- a socket and its connection: all bytes that came and went, those that wait for the session and for the socket, and
+-- whether the session
 -- closed it
 pub record Joint : Type 0 where
   pub came : List ℕ
@@ -31,9 +33,16 @@ is_last Giving = false
 is_last Closed = true
 
 abbrev pub joint_of : {S : Type 0} → Link S → Joint
-joint_of l = record { came = came_of l.socket; went = went_of l.socket; input = l.input; output = l.output; closed = is_last l.stage }
+joint_of l = record {
+  came = came_of l.socket;
+  went = went_of l.socket;
+  input = l.input;
+  output = l.output;
+  closed = is_last l.stage;
+}
 
--- THE INVARIANT. Of the connection's latest conversation, what came is what the session took and what waits for it, and what went, with what
+-- THE INVARIANT. Of the connection's latest conversation, what came is what the session took and what waits for it, and
+-- what went, with what
 -- waits for the socket, is what it gave. Of the conversations before, each had a socket of its own
 pub record Joins (j : Joint) (ended : List Seen) (st : State) (past : List Marked) (n : ℕ) : Type 0 where
   pub latest : Conversation
@@ -52,7 +61,13 @@ IsOver j = (j.closed ≡ true) × (j.output ≡ [])
 
 -- WHAT A TURN DOES: so many bytes are written
 abbrev pub wrote : ℕ → Joint → Joint
-wrote n j = record { came = j.came; went = j.went ++ take n j.output; input = j.input; output = drop n j.output; closed = j.closed }
+wrote n j = record {
+  came = j.came;
+  went = j.went ++ take n j.output;
+  input = j.input;
+  output = drop n j.output;
+  closed = j.closed;
+}
 
 abbrev pub Writes : Joint → Joint → Type 0
 Writes old new = (n : ℕ) × (new ≡ wrote n old)
@@ -84,8 +99,10 @@ pub record Alone (st : State) (n : ℕ) (past now : List Marked) : Type 0 where
 -- a joined link stays joined by events of its connection alone
 abbrev pub Goes : {C S T : Type 0} → Ghosts C → C → C → Result T DiskFault → Link S → Link S → ℕ → Type 0
 Goes {C} c old new result l l' n =
-    (before : C) (st : State) (past : List Marked) (ended : List Seen) → WentOn c before old st past → Joins (joint_of l) ended st past n
-    → Serves c before new st result (λ now. Alone st n past now × Joins (joint_of l') ended st now n) (λ now. Alone st n past now × Joins (joint_of l') ended st now n)
+    (before : C) (st : State) (past : List Marked) (ended : List Seen) → WentOn c before old st past
+    → Joins (joint_of l) ended st past n
+    → Serves c before new st result (λ now. Alone st n past now × Joins (joint_of l') ended st now n)
+    (λ now. Alone st n past now × Joins (joint_of l') ended st now n)
 
 -- PLACES. One is free only once its connection is closed again
 abbrev pub PlaceJoins : {S : Type 0} → Place S → List Seen → State → List Marked → ℕ → Type 0
@@ -113,10 +130,13 @@ with_place n Free ended = ended
 with_place n (Open l) ended = with_link n l ended
 
 -- a place stays joined by events of its connection alone, with the sockets of that connection
-abbrev pub GoesAt : {C S T : Type 0} → Ghosts C → C → C → Result T DiskFault → Place S → Place S → List Seen → List Seen → ℕ → Type 0
+abbrev pub GoesAt : {C S T : Type 0} → Ghosts C → C → C → Result T DiskFault → Place S → Place S → List Seen → List Seen
+    → ℕ → Type 0
 GoesAt {C} c old new result p p' ended ended' n =
-    (before : C) (st : State) (past : List Marked) → WentOn c before old st past → PlaceJoins p (seen_of n ended) st past n
-    → Serves c before new st result (λ now. Alone st n past now × PlaceJoins p' (seen_of n ended') st now n) (λ now. Alone st n past now × PlaceFell p' (seen_of n ended') st now n)
+    (before : C) (st : State) (past : List Marked) → WentOn c before old st past
+    → PlaceJoins p (seen_of n ended) st past n
+    → Serves c before new st result (λ now. Alone st n past now × PlaceJoins p' (seen_of n ended') st now n)
+    (λ now. Alone st n past now × PlaceFell p' (seen_of n ended') st now n)
 
 -- the sockets of other connections are those that they were
 abbrev pub OthersStay : ℕ → List Seen → List Seen → Type 0
@@ -143,19 +163,22 @@ abbrev pub SamePlaces : {S : Type 0} → List (Place S) → List (Place S) → T
 SamePlaces old new = (n : ℕ) → get_or new n Free ≡ get_or old n Free
 
 -- joined places stay joined
-abbrev pub GoesOn : {C S T : Type 0} → Ghosts C → C → C → Result T DiskFault → List (Place S) → List (Place S) → List Seen → List Seen → Type 0
+abbrev pub GoesOn : {C S T : Type 0} → Ghosts C → C → C → Result T DiskFault → List (Place S) → List (Place S)
+    → List Seen → List Seen → Type 0
 GoesOn {C} c old new result places places' ended ended' =
     (before : C) (st : State) (past : List Marked) → WentOn c before old st past → AllJoin places ended st past
     → Serves c before new st result (AllJoin places' ended' st) (AllFell places' ended' st)
 
 -- behind it all connections are ended, unless the device failed
-abbrev pub Ends : {C S T : Type 0} → Ghosts C → C → C → Result T DiskFault → List (Place S) → List (Place S) → List Seen → List Seen → Type 0
+abbrev pub Ends : {C S T : Type 0} → Ghosts C → C → C → Result T DiskFault → List (Place S) → List (Place S) → List Seen
+    → List Seen → Type 0
 Ends {C} c old new result places places' ended ended' =
     (before : C) (st : State) (past : List Marked) → WentOn c before old st past → AllJoin places ended st past
     → Serves c before new st result (AllServed ended' st) (AllFell places' ended' st)
 
 -- and then their sockets were let go
-abbrev pub Finishes : {C S T : Type 0} → Ghosts C → C → C → Result T DiskFault → List (Place S) → List Seen → List Seen → Type 0
+abbrev pub Finishes : {C S T : Type 0} → Ghosts C → C → C → Result T DiskFault → List (Place S) → List Seen → List Seen
+    → Type 0
 Finishes {C} c old new result places ended ended' =
     (before : C) (st : State) (past : List Marked) → WentOn c before old st past → AllJoin places ended st past
     → Serves c before new st result (AllServed ended' st) (AllLeft ended' st)

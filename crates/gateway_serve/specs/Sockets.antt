@@ -2,7 +2,8 @@
 use Rattle.std.specs.Prelude.{◌≡◌, ◌≤◌, ◌==◌, ℕ, length, false, List, [], ◌∷◌, ◌++◌, if◌then◌else◌}
 use Rattle.gateway_serve.specs.Conversations.{Conversation}
 
--- a socket that served its connection: the connection's number, all bytes that came from the socket, and all that went to it
+-- a socket that served its connection: the connection's number, all bytes that came from the socket, and all that went
+-- to it
 pub record Seen : Type 0 where
   pub conn : ℕ
   pub came : List ℕ
@@ -19,7 +20,8 @@ IsFront front all = (rest : List ℕ) × (all ≡ front ++ rest)
 abbrev pub IsAllBut : ℕ → List ℕ → List ℕ → Type 0
 IsAllBut most front all = (rest : List ℕ) × (all ≡ front ++ rest) × (length rest ≤ most)
 
--- all bytes that came, but for at most 4,096 at the end, are those that the session took, and those that went are the first that it gave
+-- all bytes that came, but for at most 4,096 at the end, are those that the session took, and those that went are the
+-- first that it gave
 pub record Fits (s : Seen) (c : Conversation) : Type 0 where
   pub taken : IsAllBut 4096 c.took s.came
   pub written : IsFront s.went c.gave

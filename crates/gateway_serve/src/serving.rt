@@ -3,7 +3,8 @@ ghost use Rattle.std.specs.Prelude.{◌≡◌, List, [], IsErr, IfSome};
 ghost use Rattle.upload_rules.specs.Answers.{Counts};
 ghost use Rattle.tus_session.specs.History.{State, Marked};
 ghost use Rattle.gateway_serve.specs.Served.{Serves, AllServed, AllLeft};
-ghost use Rattle.gateway_serve.specs.Joined.{AllFell, GoesOn, Ends, Finishes, IsFreeAt, SamePlaces, places_of, ended_of};
+ghost use Rattle.gateway_serve.specs.Joined.{AllFell, GoesOn, Ends, Finishes, IsFreeAt, SamePlaces, places_of};
+ghost use Rattle.gateway_serve.specs.Joined.{ended_of};
 
 use crate::idle::{Tick, Watch};
 use crate::places::{Place, Turned, unless_failed};

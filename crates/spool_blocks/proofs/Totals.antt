@@ -1,8 +1,10 @@
 -- What the counts come to: a slot's own blocks, the owned and the reserved ones without some, and none at all.
-use Rattle.std.proofs.Common.{◌≡◌, ℕ, zero, suc, ◌+◌, ◌<◌, List, [], ◌∷◌, Bool, true, false, None, Some, length, get_or, slice_set, refl, sym, ◌∙◌, ap, subst, arith, ⊎_elim, ◌==◌, if◌then◌else◌, eq-eqb}
+use Rattle.std.proofs.Common.{◌≡◌, ℕ, zero, suc, ◌+◌, ◌<◌, List, [], ◌∷◌, Bool, true, false, None, Some, length, get_or}
+use Rattle.std.proofs.Common.{slice_set, refl, sym, ◌∙◌, ap, subst, arith, ⊎_elim, ◌==◌, if◌then◌else◌, eq-eqb}
 use Rattle.std.proofs.lemmas.Bool.{cases_eq, ne_eqb}
 use Rattle.std.proofs.lemmas.Option.{none-some}
-use Rattle.spool_blocks.specs.Blocks.{Row, IsFree, free_count, reserved_count, owned_count, one_if, is_slots, slot_count, IsWhole}
+use Rattle.spool_blocks.specs.Blocks.{Row, IsFree, free_count, reserved_count, owned_count, one_if, is_slots}
+use Rattle.spool_blocks.specs.Blocks.{slot_count, IsWhole}
 use Rattle.spool_blocks.specs.Chains.{Owns, OwnsOneEach}
 use Rattle.spool_blocks.proofs.Counts.{within}
 use Rattle.spool_blocks.proofs.Links.{same_ordinal, count_less, owns_else, owned_else, not_taken}
@@ -18,13 +20,25 @@ none_counted slot (Some o ∷ rows) none =
     omega (arith, none_counted slot rows (λ b i own. none (suc b) i own), ap one_if (ne_eqb o.0 slot other))
 
 -- without its highest block
-one_less : (n slot t : ℕ) (rows : List Row) → OwnsOneEach rows slot (suc n) → Owns rows t slot n → OwnsOneEach (slice_set rows t None) slot n
+one_less : (n slot t : ℕ) (rows : List Row) → OwnsOneEach rows slot (suc n) → Owns rows t slot n
+    → OwnsOneEach (slice_set rows t None) slot n
 one_less n slot t rows owns top = record {
-  there = λ i lt. let at = owns.there i (omega (arith, lt)) in (at.0, owns_else rows t at.0 slot i None (λ e. absurd (omega (arith, lt, same_ordinal rows t slot i slot n (subst (λ (b : ℕ). Owns rows b slot i) e at.1) top))) at.1);
+  there = λ i lt. let at = owns.there i
+      (omega (arith, lt)) in (
+        at.0,
+        owns_else rows t at.0 slot i None
+            (λ e. absurd (omega (
+              arith,
+              lt,
+              same_ordinal rows t slot i slot n (subst (λ (b : ℕ). Owns rows b slot i) e at.1)
+                  top,
+            ))) at.1,
+      );
   once = λ a b i own own'. owns.once a b i (back a i own) (back b i own');
   only = λ b i own.
       let low = owns.only b i (back b i own) in
-      let ne : (i ≡ n → ⊥) = λ e. away b i own (owns.once b t n (subst (λ (k : ℕ). Owns rows b slot k) e (back b i own)) top) in
+      let ne : (i ≡ n → ⊥) = λ e. away b i own
+      (owns.once b t n (subst (λ (k : ℕ). Owns rows b slot k) e (back b i own)) top) in
       omega (arith, low, ne);
 }
   where
@@ -39,7 +53,8 @@ pub each_counted : (n slot : ℕ) (rows : List Row) → OwnsOneEach rows slot n 
 each_counted zero slot rows owns = none_counted slot rows (λ b i own. absurd (omega (arith, owns.only b i own)))
 each_counted (suc n) slot rows owns =
     let top = owns.there n (omega arith) in
-    let less : slot_count slot (slice_set rows top.0 None) + 1 ≡ slot_count slot rows = count_less slot n rows top.0 (within rows top.0 (slot, n) top.1) top.1 in
+    let less : slot_count slot (slice_set rows top.0 None) + 1 ≡ slot_count slot rows =
+    count_less slot n rows top.0 (within rows top.0 (slot, n) top.1) top.1 in
     omega (arith, less, each_counted n slot (slice_set rows top.0 None) (one_less n slot top.0 rows owns top.1))
 
 pub whole : (n slot : ℕ) (rows : List Row) → OwnsOneEach rows slot n → IsWhole slot rows
@@ -65,28 +80,34 @@ pub rows_without : ℕ → List Row → List Row
 rows_without slot [] = []
 rows_without slot (row ∷ rows) = row_without slot row ∷ rows_without slot rows
 
-pub owned_without : (slot : ℕ) (rows : List Row) → owned_count rows ≡ slot_count slot rows + owned_count (rows_without slot rows)
+pub owned_without : (slot : ℕ) (rows : List Row) → owned_count rows ≡ slot_count slot rows + owned_count
+    (rows_without slot rows)
 unfolding owned_count slot_count is_slots rows_without row_without
 owned_without slot [] = refl
 owned_without slot (None ∷ rows) = omega (arith, owned_without slot rows)
 owned_without slot (Some o ∷ rows) = by_test (o.0 == slot) (owned_without slot rows)
   where
-    by_test : (b : Bool) → owned_count rows ≡ slot_count slot rows + owned_count (rows_without slot rows) → suc (owned_count rows) ≡ one_if b + slot_count slot rows + owned_count ((if b then None else Some o) ∷ rows_without slot rows)
+    by_test : (b : Bool) → owned_count rows ≡ slot_count slot rows + owned_count (rows_without slot rows)
+        → suc (owned_count rows) ≡ one_if b + slot_count slot rows + owned_count
+        ((if b then None else Some o) ∷ rows_without slot rows)
     by_test true e = omega (arith, e)
     by_test false e = omega (arith, e)
 
-row_at : (slot : ℕ) (rows : List Row) (b : ℕ) → get_or (rows_without slot rows) b None ≡ row_without slot (get_or rows b None)
+row_at : (slot : ℕ) (rows : List Row) (b : ℕ) → get_or (rows_without slot rows) b None ≡ row_without slot
+    (get_or rows b None)
 unfolding rows_without row_without
 row_at slot [] b = refl
 row_at slot (row ∷ rows) zero = refl
 row_at slot (row ∷ rows) (suc b) = row_at slot rows b
 
 -- what the others own
-pub owns_without : (slot : ℕ) (rows : List Row) (b s k : ℕ) → (s ≡ slot → ⊥) → Owns rows b s k → Owns (rows_without slot rows) b s k
+pub owns_without : (slot : ℕ) (rows : List Row) (b s k : ℕ) → (s ≡ slot → ⊥) → Owns rows b s k
+    → Owns (rows_without slot rows) b s k
 unfolding row_without
 owns_without slot rows b s k ne own = row_at slot rows b ∙ ap (row_without slot) own ∙ rw (ne_eqb s slot ne) refl
 
-pub owned_with : (slot : ℕ) (rows : List Row) (b s k : ℕ) → Owns (rows_without slot rows) b s k → (s ≡ slot → ⊥) × Owns rows b s k
+pub owned_with : (slot : ℕ) (rows : List Row) (b s k : ℕ) → Owns (rows_without slot rows) b s k
+    → (s ≡ slot → ⊥) × Owns rows b s k
 unfolding row_without
 owned_with slot rows b s k own = of (get_or rows b None) (sym (row_at slot rows b) ∙ own)
   where
@@ -94,7 +115,8 @@ owned_with slot rows b s k own = of (get_or rows b None) (sym (row_at slot rows 
     of None e = absurd cc
     of (Some o) e = ⊎_elim
         (λ (same : o.0 ≡ slot). absurd (none-some (s, k) (sym (rw (eq-eqb o.0 slot same) refl) ∙ e)))
-        (λ (ne : o.0 ≡ slot → ⊥). let is : Some o ≡ Some (s, k) = sym (rw (ne_eqb o.0 slot ne) refl) ∙ e in ((λ f. ne (first is ∙ f)), is))
+        (λ (ne : o.0 ≡ slot → ⊥). let is : Some o ≡ Some (s, k) = sym (rw (ne_eqb o.0 slot ne) refl)
+        ∙ e in ((λ f. ne (first is ∙ f)), is))
         (cases_eq o.0 slot)
       where
         first : Some o ≡ Some (s, k) → o.0 ≡ s
@@ -102,7 +124,8 @@ owned_with slot rows b s k own = of (get_or rows b None) (sym (row_at slot rows 
 
 -- FLAGS
 
-pub none_reserved : (rows : List Row) (flags : List Bool) → ((b : ℕ) → get_or flags b false ≡ true → ⊥) → reserved_count rows flags ≡ 0
+pub none_reserved : (rows : List Row) (flags : List Bool) → ((b : ℕ) → get_or flags b false ≡ true → ⊥)
+    → reserved_count rows flags ≡ 0
 unfolding reserved_count
 none_reserved [] flags none = refl
 none_reserved (None ∷ rows) [] none = refl
@@ -111,22 +134,32 @@ none_reserved (None ∷ rows) (true ∷ flags) none = absurd (none 0 refl)
 none_reserved (None ∷ rows) (false ∷ flags) none = none_reserved rows flags (λ b flagged. none (suc b) flagged)
 none_reserved (Some o ∷ rows) (f ∷ flags) none = none_reserved rows flags (λ b flagged. none (suc b) flagged)
 
-pub one_reserved : (rows : List Row) (flags : List Bool) (b : ℕ) → b < length rows → get_or rows b None ≡ None → get_or flags b false ≡ true → reserved_count rows (slice_set flags b false) + 1 ≡ reserved_count rows flags
+pub one_reserved : (rows : List Row) (flags : List Bool) (b : ℕ) → b < length rows → get_or rows b None ≡ None
+    → get_or flags b false ≡ true → reserved_count rows (slice_set flags b false) + 1 ≡ reserved_count rows flags
 unfolding reserved_count
 one_reserved [] flags b lt free flagged = absurd (omega (arith, lt))
 one_reserved (row ∷ rows) [] b lt free flagged = absurd cc
 one_reserved (None ∷ rows) (true ∷ flags) zero lt free flagged = omega arith
 one_reserved (None ∷ rows) (false ∷ flags) zero lt free flagged = absurd cc
 one_reserved (Some o ∷ rows) (f ∷ flags) zero lt free flagged = absurd cc
-one_reserved (None ∷ rows) (true ∷ flags) (suc b) lt free flagged = omega (arith, one_reserved rows flags b (omega (arith, lt)) free flagged)
-one_reserved (None ∷ rows) (false ∷ flags) (suc b) lt free flagged = one_reserved rows flags b (omega (arith, lt)) free flagged
-one_reserved (Some o ∷ rows) (f ∷ flags) (suc b) lt free flagged = one_reserved rows flags b (omega (arith, lt)) free flagged
+one_reserved (None ∷ rows) (true ∷ flags) (suc b) lt free flagged =
+    omega (arith, one_reserved rows flags b (omega (arith, lt)) free flagged)
+one_reserved (None ∷ rows) (false ∷ flags) (suc b) lt free flagged =
+    one_reserved rows flags b (omega (arith, lt)) free flagged
+one_reserved (Some o ∷ rows) (f ∷ flags) (suc b) lt free flagged =
+    one_reserved rows flags b (omega (arith, lt)) free flagged
 
-pub none_free : (rows : List Row) (flags : List Bool) → ((b : ℕ) → IsFree (record { rows = rows; reserved = flags }) b → ⊥) → free_count rows flags ≡ 0
+pub none_free : (rows : List Row) (flags : List Bool)
+    → ((b : ℕ) → IsFree (record { rows = rows; reserved = flags }) b → ⊥) → free_count rows flags ≡ 0
 unfolding free_count
 none_free [] flags none = refl
 none_free (None ∷ rows) [] none = refl
 none_free (Some o ∷ rows) [] none = refl
-none_free (None ∷ rows) (false ∷ flags) none = absurd (none 0 (record { below = omega arith; no_owner = refl; not_reserved = refl }))
-none_free (None ∷ rows) (true ∷ flags) none = none_free rows flags (λ b free. none (suc b) (record { below = omega (arith, free.below); no_owner = free.no_owner; not_reserved = free.not_reserved }))
-none_free (Some o ∷ rows) (f ∷ flags) none = none_free rows flags (λ b free. none (suc b) (record { below = omega (arith, free.below); no_owner = free.no_owner; not_reserved = free.not_reserved }))
+none_free (None ∷ rows) (false ∷ flags) none =
+    absurd (none 0 (record { below = omega arith; no_owner = refl; not_reserved = refl }))
+none_free (None ∷ rows) (true ∷ flags) none =
+    none_free rows flags (λ b free. none (suc b)
+    (record { below = omega (arith, free.below); no_owner = free.no_owner; not_reserved = free.not_reserved }))
+none_free (Some o ∷ rows) (f ∷ flags) none =
+    none_free rows flags (λ b free. none (suc b)
+    (record { below = omega (arith, free.below); no_owner = free.no_owner; not_reserved = free.not_reserved }))

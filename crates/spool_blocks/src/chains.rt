@@ -1,5 +1,6 @@
 // Each slot's blocks, linked from the highest down.
-ghost use Rattle.std.specs.Prelude.{◌≡◌, ◌≤◌, ◌<◌, ◌+◌, ℕ, List, Option, None, Some, IsNone, length, get_or, slice_set, replicate, IfOk, IfSome};
+ghost use Rattle.std.specs.Prelude.{◌≡◌, ◌≤◌, ◌<◌, ◌+◌, ℕ, List, Option, None, Some, IsNone, length, get_or, slice_set};
+ghost use Rattle.std.specs.Prelude.{replicate, IfOk, IfSome};
 ghost use Rattle.spool_blocks.specs.Blocks.{Row, slot_count, IsWhole};
 ghost use Rattle.spool_blocks.specs.Chains.{Owns, rank, Linked, Taken};
 
@@ -90,7 +91,8 @@ impl Chains {
     pub(crate) fn list_of(&self, alloc: Global, slot: u32) -> Result<Vec<BlockNo>, AllocError>
         requires { slot < 512 }
         ensures size { IfOk result (λ list. length list.items ≡ slot_count slot self.now) }
-        ensures listed { IfOk result (λ list. (i : ℕ) → i < length list.items → IsWhole slot self.now → Owns self.now (get_or list.items i 0) slot i) }
+        ensures listed { IfOk result
+            (λ list. (i : ℕ) → i < length list.items → IsWhole slot self.now → Owns self.now (get_or list.items i 0) slot i) }
     {
         let at = slot as usize;
         let mut list = vec![in alloc; 0; self.counts[at] as usize]?;

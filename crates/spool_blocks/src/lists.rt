@@ -18,7 +18,8 @@ pub(crate) fn fill(
     requires links { Links rows.now below.now }
     requires top { ListedFrom rows.now slot top list.old }
     ensures size { length list.new ≡ length list.old }
-    ensures listed { (b i : ℕ) → Owns rows.now b slot i → i < length list.new → IsWhole slot rows.now → get_or list.new i 0 ≡ b }
+    ensures listed { (b i : ℕ) → Owns rows.now b slot i → i < length list.new → IsWhole slot rows.now
+        → get_or list.new i 0 ≡ b }
 {
     let mut next = top;
     while let Some(block) = next {

@@ -1,5 +1,6 @@
 -- A draft with a piece more of its body.
-use Rattle.std.proofs.Common.{◌≡◌, inl, inr, ◌≤◌, ◌<◌, ◌+◌, ◌-◌, ◌%◌, ◌^◌, ◌++◌, ℕ, Bool, true, false, List, [], ◌∷◌, length, min, eqb, None, refl, sym, ◌∙◌, ap, subst, arith, length-append, ⊎_elim}
+use Rattle.std.proofs.Common.{◌≡◌, inl, inr, ◌≤◌, ◌<◌, ◌+◌, ◌-◌, ◌%◌, ◌^◌, ◌++◌, ℕ, Bool, true, false, List, [], ◌∷◌}
+use Rattle.std.proofs.Common.{length, min, eqb, None, refl, sym, ◌∙◌, ap, subst, arith, length-append, ⊎_elim}
 use Rattle.std.proofs.lemmas.Bool.{ne_eqb, both_ways}
 use Rattle.enc_model.specs.Indexes.{IndexSet}
 use Rattle.spool_blocks.specs.Blocks.{Held}
@@ -14,7 +15,8 @@ use Rattle.spool_drafts.specs.Fresh.{StandsAt, Adds}
 use Rattle.spool_drafts.specs.Growth.{HoldsLen, GrowsTo, list_on}
 use Rattle.spool_drafts.specs.declared.draft.SpoolDraft.{SpoolDraft}
 use Rattle.spool_drafts.specs.declared.growth.Growth.{Growth}
-use Rattle.spool_drafts.proofs.Patches.{no_fault, value_before, in_front, wants_is, need_roomy, need_short, need_fault, open_grows}
+use Rattle.spool_drafts.proofs.Patches.{no_fault, value_before, in_front, wants_is, need_roomy, need_short, need_fault}
+use Rattle.spool_drafts.proofs.Patches.{open_grows}
 use Rattle.spool_drafts.proofs.Standings.{value_of}
 
 -- a list that isn't empty
@@ -24,9 +26,16 @@ some_of (b ∷ piece) empty is not = omega arith
 
 -- the draft behind a piece
 abbrev pub gone_on : SpoolDraft → Growth → NewText → ℕ → SpoolDraft
-gone_on d growth fresh count = record { number = d.number; offset = d.offset; came = min (d.came + count) (2 ^ 64 - 1); fresh = fresh; growth = growth }
+gone_on d growth fresh count = record {
+  number = d.number;
+  offset = d.offset;
+  came = min (d.came + count) (2 ^ 64 - 1);
+  fresh = fresh;
+  growth = growth;
+}
 
-module _ (x : IndexSet) (p : Patch) (d : SpoolDraft) (held : Holds x p d) (piece : List ℕ) (fits : length p.body + length piece ≤ p.count) where
+module _ (x : IndexSet) (p : Patch) (d : SpoolDraft) (held : Holds x p d) (piece : List ℕ)
+    (fits : length p.body + length piece ≤ p.count) where
   abbrev longer : Patch
   longer = with_piece p piece
 
@@ -42,14 +51,32 @@ module _ (x : IndexSet) (p : Patch) (d : SpoolDraft) (held : Holds x p d) (piece
   incomplete some = ne_eqb (length p.began.accepted) p.began.declared (λ e. omega (arith, e, some, fits, held.within))
 
   -- what stays
-  with_growth : (q : Patch) (growth : Growth) (fresh : NewText) → q ≡ record p { body = p.body ++ piece; short = growth.short } → growth.text_len ≡ d.growth.text_len
+  with_growth : (q : Patch) (growth : Growth) (fresh : NewText) → q ≡ record p
+      { body = p.body ++ piece; short = growth.short } → growth.text_len ≡ d.growth.text_len
       → StandsAt x p.began (p.body ++ piece) fresh → length (list_on growth.on) ≡ need x q false
-      → (IsKept x q (gone_on d growth fresh (length piece)) → HoldsLen growth (length (open_text x q false))) → Holds x q (gone_on d growth fresh (length piece))
+      → (IsKept x q (gone_on d growth fresh (length piece)) → HoldsLen growth (length (open_text x q false)))
+      → Holds x q (gone_on d growth fresh (length piece))
   with_growth q growth fresh is len stands needs kept = record {
     number = held.number ∙ ap (λ (r : Patch). r.number) (sym is);
     offset = held.offset ∙ ap (λ (r : Patch). length r.began.accepted) (sym is);
-    came = omega (arith, held.came, held.within, held.fits, fits, length-append p.body piece, ap (λ (r : Patch). length r.body) is);
-    held = omega (arith, fits, length-append p.body piece, ap (λ (r : Patch). length r.body) is, ap (λ (r : Patch). r.count) is);
+    came = omega (
+      arith,
+      held.came,
+      held.within,
+      held.fits,
+      fits,
+      length-append p.body piece,
+      ap
+          (λ (r : Patch). length r.body) is,
+    );
+    held = omega (
+      arith,
+      fits,
+      length-append p.body piece,
+      ap (λ (r : Patch). length r.body) is,
+      ap
+          (λ (r : Patch). r.count) is,
+    );
     within = subst (λ (r : Patch). length r.began.accepted + r.count ≤ r.began.declared) (sym is) held.within;
     fits = subst (λ (r : Patch). r.began.declared < 2 ^ 64) (sym is) held.fits;
     committed = len ∙ held.committed ∙ ap (λ (r : Patch). length (text_of x r.began)) (sym is);
@@ -60,34 +87,48 @@ module _ (x : IndexSet) (p : Patch) (d : SpoolDraft) (held : Holds x p d) (piece
   }
 
   pub no_value : StandsAt x p.began (p.body ++ piece) Unencodable → (patch_text x longer false).fault ≡ None → ⊥
-  no_value stands none = both_ways (is_there (patch_text x longer false).fault) (no_fault _ none) (ap (λ r. is_there r.fault) (longer_text false) ∙ stands)
+  no_value stands none = both_ways (is_there (patch_text x longer false).fault) (no_fault _ none)
+      (ap (λ r. is_there r.fault) (longer_text false) ∙ stands)
 
   -- a character without a code
-  pub longer_fault : (growth : Growth) → growth.on ≡ None → growth.short ≡ d.growth.short → growth.text_len ≡ d.growth.text_len → StandsAt x p.began (p.body ++ piece) Unencodable
+  pub longer_fault : (growth : Growth) → growth.on ≡ None → growth.short ≡ d.growth.short
+      → growth.text_len ≡ d.growth.text_len → StandsAt x p.began (p.body ++ piece) Unencodable
       → Holds x longer (gone_on d growth Unencodable (length piece))
   longer_fault growth none short len stands =
-      let there : is_there (patch_text x longer false).fault ≡ true = ap (λ r. is_there r.fault) (longer_text false) ∙ stands in
-      with_growth longer growth Unencodable (ap (λ (b : Bool). record p { body = p.body ++ piece; short = b }) (sym (short ∙ held.short))) len stands
+      let there : is_there (patch_text x longer false).fault ≡ true =
+      ap (λ r. is_there r.fault) (longer_text false) ∙ stands in
+      with_growth longer growth Unencodable
+      (ap (λ (b : Bool). record p { body = p.body ++ piece; short = b }) (sym (short ∙ held.short))) len stands
       (ap (λ o. length (list_on o)) none ∙ sym (need_fault x longer false there))
       (λ kept. absurd (both_ways (is_there (patch_text x longer false).fault) (no_fault _ kept.encodable) there))
 
-  module _ (fresh : NewText) (text : List ℕ) (some : 0 < length piece) (other : fresh ≡ Unencodable → ⊥) (stands : StandsAt x p.began (p.body ++ piece) fresh) (adds : Adds x p.began p.body piece fresh text) where
+  module _ (fresh : NewText) (text : List ℕ) (some : 0 < length piece) (other : fresh ≡ Unencodable → ⊥)
+      (stands : StandsAt x p.began (p.body ++ piece) fresh) (adds : Adds x p.began p.body piece fresh text) where
     still : is_complete p.began ≡ false
     still = incomplete some
 
     pub encodable_after : (patch_text x longer false).fault ≡ None
-    encodable_after = ap (λ r. r.fault) (longer_text false) ∙ value_of x p.began (p.body ++ piece) fresh still other stands
+    encodable_after = ap (λ r. r.fault) (longer_text false) ∙ value_of x p.began (p.body ++ piece) fresh still other
+        stands
 
     pub encodable_before : (patch_text x p false).fault ≡ None
-    encodable_before = ap (λ r. r.fault) (patch_is false) ∙ value_before x p.began p.body piece false (sym (ap (λ r. r.fault) (longer_text false)) ∙ encodable_after)
+    encodable_before = ap (λ r. r.fault) (patch_is false) ∙ value_before x p.began p.body piece false
+        (sym (ap (λ r. r.fault) (longer_text false)) ∙ encodable_after)
 
-    added_is : (f : NewText) → (f ≡ Unencodable → ⊥) → StandsAt x p.began (p.body ++ piece) f → Adds x p.began p.body piece f text → (text_with x p.began p.body false).bytes ++ text ≡ (text_with x p.began (p.body ++ piece) false).bytes
+    added_is : (f : NewText) → (f ≡ Unencodable → ⊥) → StandsAt x p.began (p.body ++ piece) f
+        → Adds x p.began p.body piece f text
+        → (text_with x p.began p.body false).bytes ++ text ≡ (text_with x p.began (p.body ++ piece) false).bytes
     added_is (Growing t scratch) away here is = is
     added_is Unencodable away here is = absurd (away refl)
     added_is Complete away here is = absurd (both_ways (is_complete p.began) still here)
 
     front : length (text_of x p.began) ≤ length (patch_text x p false).bytes
-    front = omega (arith, ap (λ r. length r.bytes) (patch_is false), in_front x p.began p.body false still (sym (ap (λ r. r.fault) (patch_is false)) ∙ encodable_before))
+    front = omega (
+      arith,
+      ap (λ r. length r.bytes) (patch_is false),
+      in_front x p.began p.body false still
+          (sym (ap (λ r. r.fault) (patch_is false)) ∙ encodable_before),
+    )
 
     pub open_longer : open_text x longer false ≡ open_text x p false ++ text
     open_longer = open_grows x p piece text false false front (added_is fresh other stands adds)
@@ -95,28 +136,39 @@ module _ (x : IndexSet) (p : Patch) (d : SpoolDraft) (held : Holds x p d) (piece
     pub kept_before : d.growth.short ≡ false → IsKept x p d
     kept_before roomy = record { roomy = roomy; encodable = encodable_before; incomplete = still }
 
-    pub longer_short : (growth : Growth) → growth ≡ d.growth → d.growth.short ≡ true → Holds x longer (gone_on d growth fresh (length piece))
+    pub longer_short : (growth : Growth) → growth ≡ d.growth → d.growth.short ≡ true
+        → Holds x longer (gone_on d growth fresh (length piece))
     longer_short growth same short =
         let is_short : p.short ≡ true = sym held.short ∙ short in
-        with_growth longer growth fresh (ap (λ (b : Bool). record p { body = p.body ++ piece; short = b }) (sym (ap (λ (g : Growth). g.short) same ∙ held.short))) (ap (λ (g : Growth). g.text_len) same) stands
-        (ap (λ (g : Growth). length (list_on g.on)) same ∙ held.needs ∙ need_short x p false is_short ∙ sym (need_short x longer false is_short))
+        with_growth longer growth fresh
+        (ap (λ (b : Bool). record p { body = p.body ++ piece; short = b })
+        (sym (ap (λ (g : Growth). g.short) same ∙ held.short))) (ap (λ (g : Growth). g.text_len) same) stands
+        (ap (λ (g : Growth). length (list_on g.on)) same ∙ held.needs ∙ need_short x p false is_short
+        ∙ sym (need_short x longer false is_short))
         (λ kept. absurd (both_ways growth.short kept.roomy (ap (λ (g : Growth). g.short) same ∙ short)))
 
-    pub longer_put : (growth : Growth) (blocks blocks' : Held) → d.growth.short ≡ false → growth.text_len ≡ d.growth.text_len
-        → GrowsTo (length (open_text x p false) + length text) d.growth growth blocks blocks' → IsLonger x longer d (gone_on d growth fresh (length piece)) blocks blocks'
+    pub longer_put : (growth : Growth) (blocks blocks' : Held) → d.growth.short ≡ false
+        → growth.text_len ≡ d.growth.text_len
+        → GrowsTo (length (open_text x p false) + length text) d.growth growth blocks blocks'
+        → IsLonger x longer d (gone_on d growth fresh (length piece)) blocks blocks'
     longer_put growth blocks blocks' roomy len grows =
-        let size : length (open_text x p false) + length text ≡ length (open_text x longer false) = sym (ap length open_longer ∙ length-append (open_text x p false) text) in
+        let size : length (open_text x p false) + length text ≡ length (open_text x longer false) =
+        sym (ap length open_longer ∙ length-append (open_text x p false) text) in
         let p_roomy : p.short ≡ false = sym held.short ∙ roomy in
-        let wanted : need_of d.growth.text_len ((length (open_text x p false) + length text) - d.growth.text_len % 4096) ≡ wants x longer false =
+        let wanted : need_of d.growth.text_len
+        ((length (open_text x p false) + length text) - d.growth.text_len % 4096) ≡ wants x longer false =
         ap (λ (t : ℕ). need_of t ((length (open_text x p false) + length text) - t % 4096)) held.committed
         ∙ ap (λ (n : ℕ). need_of (length (text_of x p.began)) (n - length (text_of x p.began) % 4096)) size
         ∙ sym (wants_is x longer false encodable_after) in
         ⊎_elim
-        (λ holds. inl (with_growth longer growth fresh (ap (λ (b : Bool). record p { body = p.body ++ piece; short = b }) (p_roomy ∙ sym holds.roomy)) len stands
-        (holds.listed ∙ ap (λ (t : ℕ). need_of t ((length (open_text x p false) + length text) - t % 4096)) len ∙ wanted ∙ sym (need_roomy x longer false p_roomy))
+        (λ holds. inl (with_growth longer growth fresh
+        (ap (λ (b : Bool). record p { body = p.body ++ piece; short = b }) (p_roomy ∙ sym holds.roomy)) len stands
+        (holds.listed ∙ ap (λ (t : ℕ). need_of t ((length (open_text x p false) + length text) - t % 4096)) len ∙ wanted
+        ∙ sym (need_roomy x longer false p_roomy))
         (λ kept. subst (HoldsLen growth) size holds)))
         (λ ran. inr (
-          with_growth (shortened longer) growth fresh (ap (λ (b : Bool). record p { body = p.body ++ piece; short = b }) (sym ran.0.short)) len stands
+          with_growth (shortened longer) growth fresh
+              (ap (λ (b : Bool). record p { body = p.body ++ piece; short = b }) (sym ran.0.short)) len stands
               (ap (λ o. length (list_on o)) ran.0.none ∙ sym (need_short x (shortened longer) false refl))
               (λ kept. absurd (both_ways growth.short kept.roomy ran.0.short)),
           subst (RunsShort blocks blocks' (list_on d.growth.on)) wanted ran.1,

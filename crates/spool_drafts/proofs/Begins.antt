@@ -1,5 +1,7 @@
 -- The draft that `begin` makes.
-use Rattle.std.proofs.Common.{◌≡◌, inl, inr, ◌≤◌, ◌<◌, ◌+◌, ◌-◌, ◌*◌, ◌/◌, ◌%◌, ◌^◌, ◌++◌, ℕ, Bool, true, false, List, [], ◌∷◌, length, drop, None, refl, sym, ◌∙◌, ap, subst, arith, append-nil, length-append, length-drop, length-take}
+use Rattle.std.proofs.Common.{◌≡◌, inl, inr, ◌≤◌, ◌<◌, ◌+◌, ◌-◌, ◌*◌, ◌/◌, ◌%◌, ◌^◌, ◌++◌, ℕ, Bool, true, false, List}
+use Rattle.std.proofs.Common.{[], ◌∷◌, length, drop, None, refl, sym, ◌∙◌, ap, subst, arith, append-nil, length-append}
+use Rattle.std.proofs.Common.{length-drop, length-take}
 use Rattle.std.proofs.lemmas.Bool.{cases_Bool}
 use Rattle.std.proofs.Math.Seq.{drop-append_seam}
 use Rattle.enc_model.specs.Indexes.{IndexSet, tables}
@@ -26,7 +28,11 @@ nil_of [] none = refl
 nil_of (b ∷ l) none = absurd (omega (arith, none))
 
 stands_first : (x : IndexSet) (u : Upload) (f : NewText) → HoldsText x u [] f → StandsAt x u [] f
-stands_first x u (Growing t text) held = (held.0, nil_of text.items (omega (arith, ap length held.1, length-append (text_with x u [] false).bytes text.items)))
+stands_first x u (Growing t text) held = (
+  held.0,
+  nil_of text.items
+      (omega (arith, ap length held.1, length-append (text_with x u [] false).bytes text.items)),
+)
 stands_first x u Unencodable held = held
 stands_first x u Complete held = held
 
@@ -50,9 +56,19 @@ module _ (x : IndexSet) (u : Upload) (n count : ℕ) where
   no_longer : (patch_text x first false).fault ≡ None → length (patch_text x first false).bytes ≤ length (text_of x u)
   no_longer none = elim (cases_Bool (is_complete u)) [
     | inl whole ↦
-        let both = text_behind (tables x) u.from u.to u.mode (u.accepted ++ []) [] true (ap (λ r. r.fault) (sym first_text) ∙ none) in
-        let at = ap (λ (b : List ℕ). length (text_with x (record u { accepted = [] }) b true).bytes) (append-nil (u.accepted ++ [])) in
-        omega (arith, at, ap length both.1, own_text true whole, ap (λ r. length r.bytes) first_text, length-append (text_with x u [] false).bytes both.0)
+        let both = text_behind (tables x) u.from u.to u.mode (u.accepted ++ []) [] true
+        (ap (λ r. r.fault) (sym first_text) ∙ none) in
+        let at = ap (λ (b : List ℕ). length (text_with x (record u { accepted = [] }) b true).bytes)
+        (append-nil (u.accepted ++ [])) in
+        omega (
+          arith,
+          at,
+          ap length both.1,
+          own_text true whole,
+          ap (λ r. length r.bytes) first_text,
+          length-append
+              (text_with x u [] false).bytes both.0,
+        )
     | inr still ↦ omega (arith, ap length (same_text still))
   ]
 
@@ -61,16 +77,29 @@ module _ (x : IndexSet) (u : Upload) (n count : ℕ) where
     | inl none ↦
         let t = length (text_of x u) in
         let bytes = (patch_text x first false).bytes in
-        let e : length (open_text x first false) - t % 4096 ≡ 0 = omega (arith, no_longer none, length-drop (4096 * (t / 4096)) bytes) in
+        let e : length (open_text x first false) - t % 4096 ≡ 0 =
+        omega (arith, no_longer none, length-drop (4096 * (t / 4096)) bytes) in
         need_roomy x first false refl ∙ wants_is x first false none ∙ ap (need_of t) e
     | inr there ↦ need_fault x first false there
   ]
 
   first_len : is_complete u ≡ false → length (open_text x first false) ≡ length (text_of x u) % 4096
-  first_len still = omega (arith, ap length (same_text still), length-drop (4096 * (length (text_of x u) / 4096)) (patch_text x first false).bytes)
+  first_len still = omega (
+    arith,
+    ap length (same_text still),
+    length-drop (4096 * (length (text_of x u) / 4096))
+        (patch_text x first false).bytes,
+  )
 
-  pub begins : (r : Record) (offset : ℕ) (growth : Growth) (fresh : NewText) → Keeps x n r u → (r.accepted ≡ offset) × (offset + count ≤ r.declared) × (r.declared < 2 ^ 64) → HoldsText x u [] fresh
-      → growth.text_len ≡ r.text_len → growth.on ≡ None → growth.short ≡ false → Holds x first (record { number = r.number; offset = offset; came = 0; fresh = fresh; growth = growth })
+  pub begins : (r : Record) (offset : ℕ) (growth : Growth) (fresh : NewText) → Keeps x n r u
+      → (r.accepted ≡ offset) × (offset + count ≤ r.declared) × (r.declared < 2 ^ 64) → HoldsText x u [] fresh
+      → growth.text_len ≡ r.text_len → growth.on ≡ None → growth.short ≡ false → Holds x first (record {
+        number = r.number;
+        offset = offset;
+        came = 0;
+        fresh = fresh;
+        growth = growth;
+      })
   begins r offset growth fresh keeps room held len none roomy =
       let committed : growth.text_len ≡ length (text_of x u) = len ∙ keeps.tells.text_len in
       record {
@@ -86,7 +115,8 @@ module _ (x : IndexSet) (u : Upload) (n count : ℕ) where
         needs = ap (λ o. length (list_on o)) none ∙ sym first_need;
         kept = λ kept.
             let size = first_len kept.incomplete in
-            let rest : length (open_text x first false) - growth.text_len % 4096 ≡ 0 = omega (arith, size, ap (λ (t : ℕ). t % 4096) committed) in
+            let rest : length (open_text x first false) - growth.text_len % 4096 ≡ 0 =
+            omega (arith, size, ap (λ (t : ℕ). t % 4096) committed) in
             record {
               roomy = roomy;
               some = omega (arith, size, ap (λ (t : ℕ). t % 4096) committed);
@@ -96,11 +126,20 @@ module _ (x : IndexSet) (u : Upload) (n count : ℕ) where
       }
 
   -- the committed text's last bytes, where the list has it
-  pub begins_bytes : (seen : ℕ → ℕ) (page len : ℕ) (list tail : List ℕ) → len ≤ 4096 * length list → text_on seen page list (4096 * (len / 4096)) ++ tail ≡ text_on seen page list len → text_on seen page list len ≡ text_of x u → len ≡ length (text_of x u)
+  pub begins_bytes : (seen : ℕ → ℕ) (page len : ℕ) (list tail : List ℕ) → len ≤ 4096 * length list
+      → text_on seen page list (4096 * (len / 4096)) ++ tail ≡ text_on seen page list len
+      → text_on seen page list len ≡ text_of x u → len ≡ length (text_of x u)
       → is_complete u ≡ false → tail ≡ open_text x first false
   begins_bytes seen page len list tail long both is size still =
       let front = text_on seen page list (4096 * (len / 4096)) in
-      let k : length front ≡ 4096 * (len / 4096) = omega (arith, long, length-take (4096 * (len / 4096)) (blocks_on seen page list), length-blocks_on seen page list) in
+      let k : length front ≡ 4096 * (len / 4096) =
+      omega (
+        arith,
+        long,
+        length-take (4096 * (len / 4096)) (blocks_on seen page list),
+        length-blocks_on seen page
+            list,
+      ) in
       sym (drop-append_seam front tail)
       ∙ ap (λ (m : ℕ). drop m (front ++ tail)) (k ∙ ap (λ (t : ℕ). 4096 * (t / 4096)) size)
       ∙ ap (drop (4096 * (length (text_of x u) / 4096))) (both ∙ is ∙ sym (same_text still))

@@ -1,5 +1,7 @@
 -- The bytes of a draft.
-use Rattle.std.proofs.Common.{◌≡◌, ◌<◌, ◌≤◌, ◌+◌, ◌-◌, ◌*◌, ◌/◌, ◌%◌, ◌++◌, ℕ, List, [], ◌∷◌, None, Some, length, take, drop, get_or, replicate, sym, ◌∙◌, ap, arith, add-one, drop-cons, append-nil, length-append, length-take}
+use Rattle.std.proofs.Common.{◌≡◌, ◌<◌, ◌≤◌, ◌+◌, ◌-◌, ◌*◌, ◌/◌, ◌%◌, ◌++◌, ℕ, List, [], ◌∷◌, None, Some, length, take}
+use Rattle.std.proofs.Common.{drop, get_or, replicate, sym, ◌∙◌, ap, arith, add-one, drop-cons, append-nil}
+use Rattle.std.proofs.Common.{length-append, length-take}
 use Rattle.std.proofs.lemmas.List.{take-append-le, take-append-drop}
 use Rattle.spool_disk.specs.Disk.{span}
 use Rattle.spool_disk.proofs.Span.{length-span}
@@ -10,33 +12,41 @@ use Rattle.spool_drafts.specs.Growth.{front_on, bytes_on, count_with}
 use Rattle.spool_drafts.specs.declared.growth.Growth.{Growth}
 
 -- a draft that reserved no block holds what is unfinished
-content_empty : (seen : ℕ → ℕ) (first : ℕ) (d : Draft) (text : List ℕ) → d.blocks ≡ [] → d.unfinished ≡ text → content_on seen first d ≡ text
+content_empty : (seen : ℕ → ℕ) (first : ℕ) (d : Draft) (text : List ℕ) → d.blocks ≡ [] → d.unfinished ≡ text
+    → content_on seen first d ≡ text
 unfolding blocks_on
 content_empty seen first d text none is =
     let count : full_count d ≡ 0 = omega (arith, ap length none) in
     ap (λ (n : ℕ). blocks_on seen first (take n d.blocks) ++ d.unfinished) count ∙ is
 
 -- one that begins holds the committed text's last bytes
-pub begun_bytes : (seen seen' : ℕ → ℕ) (first : ℕ) (g h : Growth) (text : Draft) → g.on ≡ None → h.on ≡ Some text → text.blocks ≡ [] → text.unfinished ≡ front_on seen first g.tail (g.text_len % 4096)
+pub begun_bytes : (seen seen' : ℕ → ℕ) (first : ℕ) (g h : Growth) (text : Draft) → g.on ≡ None → h.on ≡ Some text
+    → text.blocks ≡ [] → text.unfinished ≡ front_on seen first g.tail (g.text_len % 4096)
     → bytes_on seen' first h h.on ≡ bytes_on seen first g g.on
 begun_bytes seen seen' first g h text none some empty is =
     ap (bytes_on seen' first h) some ∙ content_empty seen' first text _ empty is ∙ sym (ap (bytes_on seen first g) none)
 
 -- the first bytes of a block, whatever is behind it
-front_of : (seen : ℕ → ℕ) (first b n : ℕ) (rest : List ℕ) → n ≤ 4096 → text_on seen first (b ∷ rest) n ≡ text_on seen first (b ∷ []) n
+front_of : (seen : ℕ → ℕ) (first b n : ℕ) (rest : List ℕ) → n ≤ 4096 → text_on seen first (b ∷ rest) n ≡ text_on seen
+    first (b ∷ []) n
 unfolding blocks_on
 front_of seen first b n rest le =
-    let fits : n ≤ length (span seen (4096 * (first + b)) 4096) = omega (arith, le, length-span seen (4096 * (first + b)) 4096) in
-    take-append-le n (span seen (4096 * (first + b)) 4096) (blocks_on seen first rest) fits ∙ sym (take-append-le n (span seen (4096 * (first + b)) 4096) (blocks_on seen first []) fits)
+    let fits : n ≤ length (span seen (4096 * (first + b)) 4096) =
+    omega (arith, le, length-span seen (4096 * (first + b)) 4096) in
+    take-append-le n (span seen (4096 * (first + b)) 4096) (blocks_on seen first rest) fits
+    ∙ sym (take-append-le n (span seen (4096 * (first + b)) 4096) (blocks_on seen first []) fits)
 
 -- a text is on its full blocks and on the next one
 pub tail_on : (seen : ℕ → ℕ) (first len : ℕ) (list : List ℕ) → len ≤ 4096 * length list → 0 < len % 4096
-    → text_on seen first list (4096 * (len / 4096)) ++ text_on seen first (get_or list (len / 4096) 0 ∷ []) (len % 4096) ≡ text_on seen first list len
+    → text_on seen first list (4096 * (len / 4096)) ++ text_on seen first (get_or list (len / 4096) 0 ∷ [])
+    (len % 4096) ≡ text_on seen first list len
 tail_on seen first len list fits some =
     let n = len / 4096 in
     let lt : n < length list = omega (arith, fits, some) in
     let cut : drop n list ≡ get_or list n 0 ∷ drop (n + 1) list = rw (add-one, drop-cons list n 0) in
-    ap (λ (xs : List ℕ). text_on seen first list (4096 * n) ++ xs) (sym (ap (λ (xs : List ℕ). text_on seen first xs (len % 4096)) cut ∙ front_of seen first (get_or list n 0) (len % 4096) (drop (n + 1) list) (omega arith)))
+    ap (λ (xs : List ℕ). text_on seen first list (4096 * n) ++ xs)
+    (sym (ap (λ (xs : List ℕ). text_on seen first xs (len % 4096)) cut
+    ∙ front_of seen first (get_or list n 0) (len % 4096) (drop (n + 1) list) (omega arith)))
     ∙ sym (text_joined seen first n (len % 4096) list (drop n list) (omega (arith, lt)))
     ∙ ap (λ (xs : List ℕ). text_on seen first xs (4096 * n + len % 4096)) (take-append-drop n list)
     ∙ ap (λ (k : ℕ). text_on seen first list k) (omega arith)
@@ -51,11 +61,21 @@ no_tail_on seen first len list whole =
 
 -- HOW MANY THEY ARE
 
-length-front : (seen : ℕ → ℕ) (first n : ℕ) (list rest : List ℕ) → n ≤ length list → length (blocks_on seen first (take n list) ++ rest) ≡ 4096 * n + length rest
-length-front seen first n list rest le = omega (arith, length-append (blocks_on seen first (take n list)) rest, length-blocks_on seen first (take n list), length-take n list, le)
+length-front : (seen : ℕ → ℕ) (first n : ℕ) (list rest : List ℕ) → n ≤ length list
+    → length (blocks_on seen first (take n list) ++ rest) ≡ 4096 * n + length rest
+length-front seen first n list rest le =
+    omega (
+      arith,
+      length-append (blocks_on seen first (take n list)) rest,
+      length-blocks_on seen first (take n list),
+      length-take n list,
+      le,
+    )
 
 -- the bytes on the blocks of a text that ended, with the last ones, are those that it held and these
-pub count_ended : (seen : ℕ → ℕ) (first : ℕ) (d : Draft) (list last bytes : List ℕ) → bytes_with seen first list last ≡ content_on seen first d ++ bytes → count_with list last ≡ held_count d + length bytes
+pub count_ended : (seen : ℕ → ℕ) (first : ℕ) (d : Draft) (list last bytes : List ℕ)
+    → bytes_with seen first list last ≡ content_on seen first d ++ bytes
+    → count_with list last ≡ held_count d + length bytes
 count_ended seen first d list last bytes is =
     omega (
       arith,

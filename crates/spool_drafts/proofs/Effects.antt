@@ -1,5 +1,6 @@
 -- What calls leave, one after another.
-use Rattle.std.proofs.Common.{◌≡◌, inl, inr, ℕ, ◌+◌, ◌*◌, ◌++◌, List, [], length, refl, sym, ◌∙◌, ap, subst, arith, append-nil, ⊎_elim}
+use Rattle.std.proofs.Common.{◌≡◌, inl, inr, ℕ, ◌+◌, ◌*◌, ◌++◌, List, [], length, refl, sym, ◌∙◌, ap, subst, arith}
+use Rattle.std.proofs.Common.{append-nil, ⊎_elim}
 use Rattle.spool_blocks.specs.Blocks.{Held}
 use Rattle.spool_disk.specs.Disk.{IsImage, Keeps}
 use Rattle.spool_disk.specs.Views.{Lasts}
@@ -13,14 +14,20 @@ use Rattle.spool_texts.proofs.Reserves.{takes_none}
 use Rattle.spool_drafts.specs.Effect.{Regrasps, OnlyWrites}
 
 -- an image that is one from before with the blocks as they were is one but for them
-but_aside : {seen image : ℕ → ℕ} {loose : ℕ → Type 0} {first : ℕ} {own : List ℕ} → IsImage seen loose (aside_blocks first own seen image) → IsImageBut first own seen loose image
-but_aside {seen = seen} {image = image} {first = first} {own = own} is = record { same = λ p away firm. sym (aside_blocks_else first own seen image p away) ∙ is.same p firm }
+but_aside : {seen image : ℕ → ℕ} {loose : ℕ → Type 0} {first : ℕ} {own : List ℕ}
+    → IsImage seen loose (aside_blocks first own seen image) → IsImageBut first own seen loose image
+but_aside {seen = seen} {image = image} {first = first} {own = own} is = record {
+  same = λ p away firm. sym (aside_blocks_else first own seen image p away) ∙ is.same p firm;
+}
 
-writes_keeps : {seen seen' : ℕ → ℕ} {loose loose' : ℕ → Type 0} (first : ℕ) (own : List ℕ) → Keeps seen seen' loose loose' → WritesIn first own seen seen' loose loose'
+writes_keeps : {seen seen' : ℕ → ℕ} {loose loose' : ℕ → Type 0} (first : ℕ) (own : List ℕ)
+    → Keeps seen seen' loose loose' → WritesIn first own seen seen' loose loose'
 writes_keeps first own keeps = record { outside = λ p away. keeps.same p; loosens = λ p l. inl (keeps.loosens p l) }
 
 module _ {D : Type 0} {disk : Ghosts D} {j : ℕ} where
-  pub only : {own : List ℕ} {old new : D} → WritesIn (25 + 2 * j) own (disk.seen old) (disk.seen new) (disk.loose old) (disk.loose new) → Lasts disk old new (IsImageBut (25 + 2 * j) own (disk.seen old) (disk.loose old)) → OnlyWrites disk j own old new
+  pub only : {own : List ℕ} {old new : D} → WritesIn (25 + 2 * j) own (disk.seen old) (disk.seen new) (disk.loose old)
+      (disk.loose new) → Lasts disk old new (IsImageBut (25 + 2 * j) own (disk.seen old) (disk.loose old))
+      → OnlyWrites disk j own old new
   only writes lasts = record {
     writes = writes;
     idle = λ idle. idle_in idle writes;
@@ -33,21 +40,29 @@ module _ {D : Type 0} {disk : Ghosts D} {j : ℕ} where
   only_none own d = only (writes_none _ _) record { later = omega arith; nothing_else = λ t image le left. inl left }
 
   -- only read
-  pub only_read : (own : List ℕ) {old new : D} → Keeps (disk.seen old) (disk.seen new) (disk.loose old) (disk.loose new) → Lasts disk old new (IsImage (disk.seen old) (disk.loose old)) → OnlyWrites disk j own old new
-  only_read own keeps lasts = only (writes_keeps _ _ keeps) (lasts_more lasts (λ image is. record { same = λ p away firm. is.same p firm }))
+  pub only_read : (own : List ℕ) {old new : D} → Keeps (disk.seen old) (disk.seen new) (disk.loose old) (disk.loose new)
+      → Lasts disk old new (IsImage (disk.seen old) (disk.loose old)) → OnlyWrites disk j own old new
+  only_read own keeps lasts =
+      only (writes_keeps _ _ keeps) (lasts_more lasts (λ image is. record { same = λ p away firm. is.same p firm }))
 
   -- one call and then another
-  pub only_on : {own own' : List ℕ} {old mid new : D} (more : List ℕ) → own' ≡ own ++ more → OnlyWrites disk j own old mid → OnlyWrites disk j own' mid new → OnlyWrites disk j own' old new
+  pub only_on : {own own' : List ℕ} {old mid new : D} (more : List ℕ) → own' ≡ own ++ more
+      → OnlyWrites disk j own old mid → OnlyWrites disk j own' mid new → OnlyWrites disk j own' old new
   only_on more grown a b = only
       (writes_on more grown a.writes b.writes)
-      (lasts_on (lasts_more a.lasts (λ image is. but_more more grown (but_aside is))) (lasts_more b.lasts (λ image is. but_on more grown a.writes (but_aside is))))
+      (lasts_on (lasts_more a.lasts (λ image is. but_more more grown (but_aside is)))
+      (lasts_more b.lasts (λ image is. but_on more grown a.writes (but_aside is))))
 
   -- on more blocks
-  pub only_wide : {own own' : List ℕ} {old new : D} (more : List ℕ) → own' ≡ own ++ more → OnlyWrites disk j own old new → OnlyWrites disk j own' old new
-  only_wide more grown a = only (writes_on more grown a.writes (writes_none _ _)) (lasts_more a.lasts (λ image is. but_more more grown (but_aside is)))
+  pub only_wide : {own own' : List ℕ} {old new : D} (more : List ℕ) → own' ≡ own ++ more → OnlyWrites disk j own old new
+      → OnlyWrites disk j own' old new
+  only_wide more grown a = only (writes_on more grown a.writes (writes_none _ _))
+      (lasts_more a.lasts (λ image is. but_more more grown (but_aside is)))
 
   -- a call, and then a write to what the draft holds
-  pub only_then : {blocks blocks' : Held} {list list' own : List ℕ} {old mid new : D} → Regrasps blocks blocks' list list' own → OnlyWrites disk j own old mid → OnlyWrites disk j list' mid new → OnlyWrites disk j own old new
+  pub only_then : {blocks blocks' : Held} {list list' own : List ℕ} {old mid new : D}
+      → Regrasps blocks blocks' list list' own → OnlyWrites disk j own old mid → OnlyWrites disk j list' mid new
+      → OnlyWrites disk j own old new
   only_then {own = own} {mid = mid} {new = new} grasp a b = only_on [] (sym (append-nil own)) a
       (⊎_elim
       (λ here. subst (λ (list : List ℕ). OnlyWrites disk j list mid new) here.1 b)
@@ -56,17 +71,31 @@ module _ {D : Type 0} {disk : Ghosts D} {j : ℕ} where
 
 -- BLOCKS
 
-pub grasp_takes : {old new : Held} {list list' : List ℕ} → Takes old new list list' → IsReserved new list' → Regrasps old new list list' list'
-grasp_takes {new = new} takes reserved = record { held = new; takes = takes; reserved = reserved; holds = inl (refl, refl) }
+pub grasp_takes : {old new : Held} {list list' : List ℕ} → Takes old new list list' → IsReserved new list'
+    → Regrasps old new list list' list'
+grasp_takes {new = new} takes reserved = record {
+  held = new;
+  takes = takes;
+  reserved = reserved;
+  holds = inl (refl, refl);
+}
 
 pub grasp_none : (h : Held) (list list' : List ℕ) → list' ≡ list → IsReserved h list → Regrasps h h list list' list'
-grasp_none h list list' same reserved = grasp_takes (takes_none h list list' same) (subst (IsReserved h) (sym same) reserved)
+grasp_none h list list' same reserved =
+    grasp_takes (takes_none h list list' same) (subst (IsReserved h) (sym same) reserved)
 
-pub grasp_gives : {old held new : Held} {list own : List ℕ} (list' : List ℕ) → Takes old held list own → IsReserved held own → GivesBack held new own → list' ≡ [] → Regrasps old new list list' own
-grasp_gives {held = held} list' takes reserved gives none = record { held = held; takes = takes; reserved = reserved; holds = inr (gives, none) }
+pub grasp_gives : {old held new : Held} {list own : List ℕ} (list' : List ℕ) → Takes old held list own
+    → IsReserved held own → GivesBack held new own → list' ≡ [] → Regrasps old new list list' own
+grasp_gives {held = held} list' takes reserved gives none = record {
+  held = held;
+  takes = takes;
+  reserved = reserved;
+  holds = inr (gives, none);
+}
 
 pub rows_of : {old new : Held} {list list' own : List ℕ} → Regrasps old new list list' own → new.rows ≡ old.rows
-rows_of grasp = ⊎_elim (λ here. ap (λ (h : Held). h.rows) (sym here.0) ∙ grasp.takes.rows) (λ given. given.0.rows ∙ grasp.takes.rows) grasp.holds
+rows_of grasp = ⊎_elim (λ here. ap (λ (h : Held). h.rows) (sym here.0) ∙ grasp.takes.rows)
+    (λ given. given.0.rows ∙ grasp.takes.rows) grasp.holds
 
 pub reserved_none : (h : Held) (list : List ℕ) → list ≡ [] → IsReserved h list
 reserved_none h list none =
@@ -80,4 +109,6 @@ reserved_none h list none =
 
 pub reserved_of : {old new : Held} {list list' own : List ℕ} → Regrasps old new list list' own → IsReserved new list'
 reserved_of {new = new} {list' = list'} grasp =
-    ⊎_elim (λ here. subst (λ (h : Held). IsReserved h list') here.0 (subst (IsReserved grasp.held) (sym here.1) grasp.reserved)) (λ given. reserved_none new list' given.1) grasp.holds
+    ⊎_elim (λ here. subst (λ (h : Held). IsReserved h list') here.0
+    (subst (IsReserved grasp.held) (sym here.1) grasp.reserved)) (λ given. reserved_none new list'
+    given.1) grasp.holds

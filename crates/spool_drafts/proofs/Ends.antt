@@ -1,5 +1,7 @@
 -- A draft whose text ends.
-use Rattle.std.proofs.Common.{◌≡◌, ◌⊎◌, inl, inr, Vec, ◌≤◌, ◌<◌, ◌+◌, ◌-◌, ◌*◌, ◌/◌, ◌%◌, ◌++◌, ℕ, Bool, true, false, List, [], length, None, Err, refl, sym, ◌∙◌, ap, subst, arith, append-nil, length-append, length-drop, ⊎_elim}
+use Rattle.std.proofs.Common.{◌≡◌, ◌⊎◌, inl, inr, Vec, ◌≤◌, ◌<◌, ◌+◌, ◌-◌, ◌*◌, ◌/◌, ◌%◌, ◌++◌, ℕ, Bool, true, false}
+use Rattle.std.proofs.Common.{List, [], length, None, Err, refl, sym, ◌∙◌, ap, subst, arith, append-nil, length-append}
+use Rattle.std.proofs.Common.{length-drop, ⊎_elim}
 use Rattle.std.proofs.lemmas.Bool.{cases_eq, cases_lt, ne_eqb}
 use Rattle.std.specs.declared.alloc.Global.{Global}
 use Rattle.enc_model.specs.Indexes.{IndexSet}
@@ -22,11 +24,14 @@ use Rattle.spool_drafts.proofs.Patches.{value_before, in_front, wants_is, open_g
 
 -- where no block is needed nothing was added
 need_none : (t n : ℕ) → need_of t (n - t % 4096) ≡ 0 → n ≤ t % 4096
-need_none t n none = ⊎_elim (λ (lt : t % 4096 < n). omega (arith, lt, none, need_some t n lt)) (λ (le : n ≤ t % 4096). le) (cases_lt (t % 4096) n)
+need_none t n none = ⊎_elim (λ (lt : t % 4096 < n). omega (arith, lt, none, need_some t n lt))
+    (λ (le : n ≤ t % 4096). le) (cases_lt (t % 4096) n)
 
 -- the length of the text that ended: as it was where no block is listed, and behind its full blocks where some are
-whole_is : (t n : ℕ) (list last : List ℕ) (whole : ℕ) → t % 4096 ≤ n → length list ≡ need_of t (n - t % 4096) → (length list ≡ 0 → whole ≡ t)
-    → (0 < length list → whole ≡ 4096 * (t / 4096) + count_with list last) → (1 ≤ length list → count_with list last ≡ n) → whole ≡ 4096 * (t / 4096) + n
+whole_is : (t n : ℕ) (list last : List ℕ) (whole : ℕ) → t % 4096 ≤ n → length list ≡ need_of t (n - t % 4096)
+    → (length list ≡ 0 → whole ≡ t)
+    → (0 < length list → whole ≡ 4096 * (t / 4096) + count_with list last)
+    → (1 ≤ length list → count_with list last ≡ n) → whole ≡ 4096 * (t / 4096) + n
 whole_is t n list last whole some listed nothing more count = elim (cases_eq (length list) 0) [
   | inl none ↦ omega (arith, nothing none, some, need_none t n (sym listed ∙ none))
   | inr there ↦ more (omega (arith, there)) ∙ ap (λ (k : ℕ). 4096 * (t / 4096) + k) (count (omega (arith, there)))
@@ -40,7 +45,8 @@ module _ (x : IndexSet) (p : Patch) (d : SpoolDraft) (held : Holds x p d) (some 
   unfolding patch_text
   patch_is b = refl
 
-  pub refused : (blocks blocks' : Held) (new : SpoolDraft) (e : UploadError) → FinishesAs x p.began p.body done (Err e) → EndsAs x p done d new blocks blocks' (Err e)
+  pub refused : (blocks blocks' : Held) (new : SpoolDraft) (e : UploadError) → FinishesAs x p.began p.body done (Err e)
+      → EndsAs x p done d new blocks blocks' (Err e)
   refused blocks blocks' new NoMemory ends = tt
   refused blocks blocks' new DiskFault ends = absurd ends
   refused blocks blocks' new (Refused refusals.Unencodable) ends = ap (λ r. is_there r.fault) (patch_is done) ∙ ends
@@ -59,18 +65,30 @@ module _ (x : IndexSet) (p : Patch) (d : SpoolDraft) (held : Holds x p d) (some 
     at_nil = append-nil p.body
 
     encodable_open : (patch_text x p false).fault ≡ None
-    encodable_open = ap (λ r. r.fault) (patch_is false) ∙ value_before x p.began p.body [] done (ap (λ (b : List ℕ). (text_with x p.began b done).fault) at_nil ∙ finished.encodable)
+    encodable_open = ap (λ r. r.fault) (patch_is false) ∙ value_before x p.began p.body [] done
+        (ap (λ (b : List ℕ). (text_with x p.began b done).fault) at_nil ∙ finished.encodable)
 
     front : length (text_of x p.began) ≤ length (patch_text x p false).bytes
-    front = omega (arith, ap (λ r. length r.bytes) (patch_is false), in_front x p.began p.body false still (sym (ap (λ r. r.fault) (patch_is false)) ∙ encodable_open))
+    front = omega (
+      arith,
+      ap (λ r. length r.bytes) (patch_is false),
+      in_front x p.began p.body false still
+          (sym (ap (λ r. r.fault) (patch_is false)) ∙ encodable_open),
+    )
 
     end_front : length (text_of x p.began) ≤ length (patch_text x p done).bytes
-    end_front = omega (arith, ap (λ r. length r.bytes) (patch_is done), in_front x p.began p.body done still finished.encodable)
+    end_front = omega (
+      arith,
+      ap (λ r. length r.bytes) (patch_is done),
+      in_front x p.began p.body done still
+          finished.encodable,
+    )
 
     pub open_ended : open_text x p done ≡ open_text x p false ++ text
     open_ended =
         ap (λ (b : List ℕ). open_text x (record p { body = b }) done) (sym at_nil)
-        ∙ open_grows x p [] text false done front (finished.adds ∙ ap (λ (b : List ℕ). (text_with x p.began b done).bytes) (sym at_nil))
+        ∙ open_grows x p [] text false done front
+        (finished.adds ∙ ap (λ (b : List ℕ). (text_with x p.began b done).bytes) (sym at_nil))
 
     pub kept_end : d.growth.short ≡ false → IsKept x p d
     kept_end roomy = record { roomy = roomy; encodable = encodable_open; incomplete = still }
@@ -78,16 +96,20 @@ module _ (x : IndexSet) (p : Patch) (d : SpoolDraft) (held : Holds x p d) (some 
     size : length (open_text x p false) + length text ≡ length (open_text x p done)
     size = sym (ap length open_ended ∙ length-append (open_text x p false) text)
 
-    wanted : need_of d.growth.text_len ((length (open_text x p false) + length text) - d.growth.text_len % 4096) ≡ wants x p done
+    wanted : need_of d.growth.text_len ((length (open_text x p false) + length text) - d.growth.text_len % 4096) ≡ wants
+        x p done
     wanted =
         ap (λ (t : ℕ). need_of t ((length (open_text x p false) + length text) - t % 4096)) held.committed
         ∙ ap (λ (n : ℕ). need_of (length (text_of x p.began)) (n - length (text_of x p.began) % 4096)) size
         ∙ sym (wants_is x p done encodable_end)
 
     pub whole : (new : SpoolDraft) (e : DraftEnd) (last : List ℕ) → e.state ≡ state → d.growth.short ≡ false
-        → ((n : ℕ) → HoldsLen d.growth n → length (list_of new) ≡ need_of d.growth.text_len ((n + length text) - d.growth.text_len % 4096))
-        → (length (list_of new) ≡ 0 → e.text_len ≡ d.growth.text_len) → (0 < length (list_of new) → e.text_len ≡ 4096 * (d.growth.text_len / 4096) + count_with (list_of new) last)
-        → ((n : ℕ) → HoldsLen d.growth n → 1 ≤ length (list_of new) → count_with (list_of new) last ≡ n + length text) → IsWhole x p done new e
+        → ((n : ℕ) → HoldsLen d.growth n → length (list_of new) ≡ need_of d.growth.text_len
+        ((n + length text) - d.growth.text_len % 4096))
+        → (length (list_of new) ≡ 0 → e.text_len ≡ d.growth.text_len)
+        → (0 < length (list_of new) → e.text_len ≡ 4096 * (d.growth.text_len / 4096) + count_with (list_of new) last)
+        → ((n : ℕ) → HoldsLen d.growth n → 1 ≤ length (list_of new) → count_with (list_of new) last ≡ n + length text)
+        → IsWhole x p done new e
     whole new e last is roomy listed nothing more count =
         let holds = held.kept (kept_end roomy) in
         let t = length (text_of x p.began) in
@@ -101,14 +123,17 @@ module _ (x : IndexSet) (p : Patch) (d : SpoolDraft) (held : Holds x p d) (some 
           len = omega (
             arith,
             size,
-            whole_is d.growth.text_len (n + length text) (list_of new) last e.text_len (omega (arith, holds.some)) (listed n holds) nothing more (count n holds),
+            whole_is d.growth.text_len (n + length text) (list_of new) last e.text_len (omega (arith, holds.some))
+                (listed n holds) nothing more (count n holds),
             ap (λ (k : ℕ). 4096 * (k / 4096)) held.committed,
             length-drop (4096 * (t / 4096)) (patch_text x p done).bytes,
             end_front,
           );
         }
 
-    pub not_closed : (growth : Growth) (new : SpoolDraft) (blocks blocks' : Held) (e : UploadError) → ClosesAs {T = Vec ℕ Global} d.growth growth (length text) blocks blocks' (Err e) → EndsAs x p done d new blocks blocks' (Err e)
+    pub not_closed : (growth : Growth) (new : SpoolDraft) (blocks blocks' : Held) (e : UploadError)
+        → ClosesAs {T = Vec ℕ Global} d.growth growth (length text) blocks blocks' (Err e)
+        → EndsAs x p done d new blocks blocks' (Err e)
     not_closed growth new blocks blocks' NoMemory closes = tt
     not_closed growth new blocks blocks' DiskFault closes = tt
     not_closed growth new blocks blocks' (Refused refusals.Full) closes = (
@@ -116,11 +141,13 @@ module _ (x : IndexSet) (p : Patch) (d : SpoolDraft) (held : Holds x p d) (some 
       by_room d.growth.short refl,
     )
       where
-        by_room : (b : Bool) → d.growth.short ≡ b → (p.short ≡ true) ⊎ RunsShort blocks blocks' (list_of d) (wants x p done)
+        by_room : (b : Bool) → d.growth.short ≡ b → (p.short ≡ true) ⊎ RunsShort blocks blocks' (list_of d)
+            (wants x p done)
         by_room true short = inl (sym held.short ∙ short)
         by_room false roomy = ⊎_elim
             (λ (short : d.growth.short ≡ true). inl (sym held.short ∙ short))
-            (λ short. inr (subst (RunsShort blocks blocks' (list_of d)) wanted (short (length (open_text x p false)) (held.kept (kept_end roomy)))))
+            (λ short. inr (subst (RunsShort blocks blocks' (list_of d)) wanted
+            (short (length (open_text x p false)) (held.kept (kept_end roomy)))))
             closes
     not_closed growth new blocks blocks' (Refused refusals.Unencodable) closes = absurd closes
     not_closed growth new blocks blocks' (Refused refusals.NoSuch) closes = absurd closes

@@ -1,5 +1,7 @@
 -- Patches, and what their drafts hold.
-use Rattle.std.proofs.Common.{◌≡◌, ◌⊎◌, inl, inr, ◌≤◌, ◌-◌, ◌*◌, ◌/◌, ◌%◌, ◌++◌, ℕ, Bool, true, false, List, [], length, drop, Option, None, Some, refl, sym, ◌∙◌, ap, arith, append-nil, length-append, length-drop, ⊎_elim}
+use Rattle.std.proofs.Common.{◌≡◌, ◌⊎◌, inl, inr, ◌≤◌, ◌-◌, ◌*◌, ◌/◌, ◌%◌, ◌++◌, ℕ, Bool, true, false, List, [], length}
+use Rattle.std.proofs.Common.{drop, Option, None, Some, refl, sym, ◌∙◌, ap, arith, append-nil, length-append}
+use Rattle.std.proofs.Common.{length-drop, ⊎_elim}
 use Rattle.std.proofs.lemmas.Bool.{both_ways}
 use Rattle.std.proofs.lemmas.List.{drop-append-le}
 use Rattle.enc_model.specs.Indexes.{IndexSet, tables}
@@ -23,32 +25,41 @@ unfolding patch_text
 patch_text_is x p done = refl
 
 -- a text with a value had one with less bytes
-pub value_before : (x : IndexSet) (u : Upload) (bytes piece : List ℕ) (done : Bool) → (text_with x u (bytes ++ piece) done).fault ≡ None → (text_with x u bytes false).fault ≡ None
+pub value_before : (x : IndexSet) (u : Upload) (bytes piece : List ℕ) (done : Bool)
+    → (text_with x u (bytes ++ piece) done).fault ≡ None → (text_with x u bytes false).fault ≡ None
 value_before x u bytes piece done none =
-    ⊎_elim (λ here. here) (λ there. absurd (both_ways (is_there (text_with x u (bytes ++ piece) done).fault) (no_fault _ none) (stays_unencodable x u bytes piece done there))) (fault_cases (text_with x u bytes false).fault)
+    ⊎_elim (λ here. here) (λ there. absurd
+    (both_ways (is_there (text_with x u (bytes ++ piece) done).fault) (no_fault _ none)
+    (stays_unencodable x u bytes piece done there))) (fault_cases (text_with x u bytes false).fault)
 
 -- the text of an upload that isn't complete is in front of its text with more bytes
-pub in_front : (x : IndexSet) (u : Upload) (bytes : List ℕ) (done : Bool) → is_complete u ≡ false → (text_with x u bytes done).fault ≡ None → length (text_of x u) ≤ length (text_with x u bytes done).bytes
+pub in_front : (x : IndexSet) (u : Upload) (bytes : List ℕ) (done : Bool) → is_complete u ≡ false
+    → (text_with x u bytes done).fault ≡ None → length (text_of x u) ≤ length (text_with x u bytes done).bytes
 unfolding text_of
 in_front x u bytes done still none =
     let at : u.accepted ++ [] ≡ u.accepted = append-nil u.accepted in
     let first : (text_with x u [] false).fault ≡ None = value_before x u [] bytes done none in
     let both = text_behind (tables x) u.from u.to u.mode (u.accepted ++ []) bytes done first in
     let same : (u.accepted ++ []) ++ bytes ≡ u.accepted ++ bytes = ap (λ (b : List ℕ). b ++ bytes) at in
-    let grown = ap length (ap (λ (b : List ℕ). (text_with x (record u { accepted = [] }) b done).bytes) (sym same) ∙ both.1) in
+    let grown = ap length (ap (λ (b : List ℕ). (text_with x (record u { accepted = [] }) b done).bytes) (sym same)
+    ∙ both.1) in
     let own = ap (λ (b : Bool). length (text_with x u [] b).bytes) still in
     omega (arith, grown, own, length-append (text_with x u [] false).bytes both.0)
 
 -- what a patch wants, by its text behind the full blocks of the committed one
-pub wants_is : (x : IndexSet) (p : Patch) (done : Bool) → (patch_text x p done).fault ≡ None → wants x p done ≡ need_of (length (text_of x p.began)) (length (open_text x p done) - length (text_of x p.began) % 4096)
+pub wants_is : (x : IndexSet) (p : Patch) (done : Bool) → (patch_text x p done).fault ≡ None
+    → wants x p done ≡ need_of (length (text_of x p.began))
+    (length (open_text x p done) - length (text_of x p.began) % 4096)
 unfolding wants
 wants_is x p done none =
     let t = length (text_of x p.began) in
     let bytes = (patch_text x p done).bytes in
-    let e : length bytes - t ≡ length (open_text x p done) - t % 4096 = omega (arith, length-drop (4096 * (t / 4096)) bytes) in
+    let e : length bytes - t ≡ length (open_text x p done) - t % 4096 =
+    omega (arith, length-drop (4096 * (t / 4096)) bytes) in
     rw (no_fault (patch_text x p done).fault none) (ap (need_of t) e)
 
-pub wants_nothing : (x : IndexSet) (p : Patch) (done : Bool) → is_there (patch_text x p done).fault ≡ true → wants x p done ≡ 0
+pub wants_nothing : (x : IndexSet) (p : Patch) (done : Bool) → is_there (patch_text x p done).fault ≡ true
+    → wants x p done ≡ 0
 unfolding wants
 wants_nothing x p done there = rw there refl
 
@@ -58,7 +69,8 @@ need_roomy x p done roomy = rw roomy refl
 pub need_short : (x : IndexSet) (p : Patch) (done : Bool) → p.short ≡ true → need x p done ≡ 0
 need_short x p done short = rw short refl
 
-pub need_fault : (x : IndexSet) (p : Patch) (done : Bool) → is_there (patch_text x p done).fault ≡ true → need x p done ≡ 0
+pub need_fault : (x : IndexSet) (p : Patch) (done : Bool) → is_there (patch_text x p done).fault ≡ true
+    → need x p done ≡ 0
 need_fault x p done there = by_short p.short refl
   where
     by_short : (b : Bool) → p.short ≡ b → need x p done ≡ 0
@@ -66,8 +78,10 @@ need_fault x p done there = by_short p.short refl
     by_short false e = need_roomy x p done e ∙ wants_nothing x p done there
 
 -- the text behind the full blocks grows by what comes
-pub open_grows : (x : IndexSet) (p : Patch) (piece text : List ℕ) (done done' : Bool) → length (text_of x p.began) ≤ length (patch_text x p done).bytes
-    → (text_with x p.began p.body done).bytes ++ text ≡ (text_with x p.began (p.body ++ piece) done').bytes → open_text x (with_piece p piece) done' ≡ open_text x p done ++ text
+pub open_grows : (x : IndexSet) (p : Patch) (piece text : List ℕ) (done done' : Bool)
+    → length (text_of x p.began) ≤ length (patch_text x p done).bytes
+    → (text_with x p.began p.body done).bytes ++ text ≡ (text_with x p.began (p.body ++ piece) done').bytes
+    → open_text x (with_piece p piece) done' ≡ open_text x p done ++ text
 unfolding patch_text
 open_grows x p piece text done done' front adds =
     let n = 4096 * (length (text_of x p.began) / 4096) in

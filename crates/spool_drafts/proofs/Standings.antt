@@ -1,5 +1,6 @@
 -- Where transcoding stands over an upload's bytes, told from behind them.
-use Rattle.std.proofs.Common.{◌≡◌, ℕ, ◌+◌, Bool, false, List, [], ◌++◌, length, None, Ok, Err, Result, refl, sym, ◌∙◌, ap, subst, arith, append_assoc, append-nil, Vec, Global}
+use Rattle.std.proofs.Common.{◌≡◌, ℕ, ◌+◌, Bool, false, List, [], ◌++◌, length, None, Ok, Err, Result, refl, sym, ◌∙◌}
+use Rattle.std.proofs.Common.{ap, subst, arith, append_assoc, append-nil, Vec, Global}
 use Rattle.std.proofs.lemmas.Bool.{ne_eqb}
 use Rattle.enc_model.specs.Indexes.{IndexSet, tables}
 use Rattle.enc_model.specs.Transcode.{IsAt}
@@ -31,16 +32,19 @@ module _ (x : IndexSet) (u : Upload) (bytes : List ℕ) where
   same_text : (done : Bool) → text_with x (behind u bytes) [] done ≡ text_with x u bytes done
   same_text done = ap (λ (b : List ℕ). text_with x (record u { accepted = [] }) b done) at_nil
 
-  pub holds_text : (f g : NewText) → is_complete u ≡ false → IsEmptied f g → StandsAt x u bytes f → HoldsText x (behind u bytes) [] g
+  pub holds_text : (f g : NewText) → is_complete u ≡ false → IsEmptied f g → StandsAt x u bytes f
+      → HoldsText x (behind u bytes) [] g
   holds_text (Growing t text) (Growing t' text') still same here = (
     record {
       unspent = ap (λ (s : Standing). s.spent) same.0 ∙ here.0.unspent;
       from = ap (λ (s : Standing). s.transcoder.from) same.0 ∙ here.0.from;
       to = ap (λ (s : Standing). s.transcoder.to) same.0 ∙ here.0.to;
       mode = ap (λ (s : Standing). s.transcoder.mode) same.0 ∙ here.0.mode;
-      at = subst (λ (s : Standing). IsAt (tables x) s.transcoder ((u.accepted ++ bytes) ++ [])) (sym same.0) (subst (IsAt (tables x) t.transcoder) (sym at_nil) here.0.at);
+      at = subst (λ (s : Standing). IsAt (tables x) s.transcoder ((u.accepted ++ bytes) ++ [])) (sym same.0)
+          (subst (IsAt (tables x) t.transcoder) (sym at_nil) here.0.at);
     },
-    ap (λ (b : List ℕ). (text_with x (behind u bytes) [] false).bytes ++ b) same.1 ∙ append-nil (text_with x (behind u bytes) [] false).bytes,
+    ap (λ (b : List ℕ). (text_with x (behind u bytes) [] false).bytes ++ b) same.1
+        ∙ append-nil (text_with x (behind u bytes) [] false).bytes,
   )
   holds_text (Growing t text) Unencodable still same here = absurd same
   holds_text (Growing t text) Complete still same here = absurd same
@@ -52,17 +56,20 @@ module _ (x : IndexSet) (u : Upload) (bytes : List ℕ) where
   further : (piece : List ℕ) → (u.accepted ++ bytes) ++ piece ≡ u.accepted ++ (bytes ++ piece)
   further piece = append_assoc u.accepted bytes piece
 
-  longer_text : (piece : List ℕ) (done : Bool) → text_with x (behind u bytes) piece done ≡ text_with x u (bytes ++ piece) done
+  longer_text : (piece : List ℕ) (done : Bool) → text_with x (behind u bytes) piece done ≡ text_with x u
+      (bytes ++ piece) done
   longer_text piece done = ap (λ (b : List ℕ). text_with x (record u { accepted = [] }) b done) (further piece)
 
-  pub stands_on : (piece : List ℕ) (f g : NewText) → HoldsText x (behind u bytes) piece f → IsEmptied f g → StandsAt x u (bytes ++ piece) g
+  pub stands_on : (piece : List ℕ) (f g : NewText) → HoldsText x (behind u bytes) piece f → IsEmptied f g
+      → StandsAt x u (bytes ++ piece) g
   stands_on piece (Growing t text) (Growing t' text') held same = (
     record {
       unspent = ap (λ (s : Standing). s.spent) same.0 ∙ held.0.unspent;
       from = ap (λ (s : Standing). s.transcoder.from) same.0 ∙ held.0.from;
       to = ap (λ (s : Standing). s.transcoder.to) same.0 ∙ held.0.to;
       mode = ap (λ (s : Standing). s.transcoder.mode) same.0 ∙ held.0.mode;
-      at = subst (λ (s : Standing). IsAt (tables x) s.transcoder (u.accepted ++ (bytes ++ piece))) (sym same.0) (subst (IsAt (tables x) t.transcoder) (further piece) held.0.at);
+      at = subst (λ (s : Standing). IsAt (tables x) s.transcoder (u.accepted ++ (bytes ++ piece))) (sym same.0)
+          (subst (IsAt (tables x) t.transcoder) (further piece) held.0.at);
     },
     same.1,
   )
@@ -73,18 +80,22 @@ module _ (x : IndexSet) (u : Upload) (bytes : List ℕ) where
   stands_on piece Unencodable Complete held same = absurd same
   stands_on piece Complete g held same = let open_still = behind_open u bytes in absurd cc
 
-  pub adds_on : (piece : List ℕ) (f g : NewText) (text : List ℕ) → HoldsText x (behind u bytes) piece f → IsEmptied f g → text ≡ text_in f → Adds x u bytes piece g text
+  pub adds_on : (piece : List ℕ) (f g : NewText) (text : List ℕ) → HoldsText x (behind u bytes) piece f → IsEmptied f g
+      → text ≡ text_in f → Adds x u bytes piece g text
   adds_on piece (Growing t scratch) (Growing t' scratch') text held same is =
-      ap (λ (b : List ℕ). (text_with x u bytes false).bytes ++ b) is ∙ ap (λ r. r.bytes ++ scratch.items) (sym (same_text false)) ∙ held.1 ∙ ap (λ r. r.bytes) (longer_text piece false)
+      ap (λ (b : List ℕ). (text_with x u bytes false).bytes ++ b) is ∙ ap (λ r. r.bytes ++ scratch.items)
+      (sym (same_text false)) ∙ held.1 ∙ ap (λ r. r.bytes) (longer_text piece false)
   adds_on piece f Unencodable text held same is = tt
   adds_on piece f Complete text held same is = tt
   adds_on piece Unencodable (Growing t scratch) text held same is = absurd same
   adds_on piece Complete (Growing t scratch) text held same is = absurd same
 
-  pub finishes : (done : Bool) (result : Result (List ℕ × Vec ℕ Global) UploadError) → IsEnded x (behind u bytes) [] done result → FinishesAs x u bytes done result
+  pub finishes : (done : Bool) (result : Result (List ℕ × Vec ℕ Global) UploadError)
+      → IsEnded x (behind u bytes) [] done result → FinishesAs x u bytes done result
   unfolding state_with
   finishes done (Ok parts) ended = record {
-    state_is = ended.state_is ∙ ap (λ (b : List ℕ). state_bytes (transcoder_over (tables x) u.from u.to u.mode b done)) at_nil;
+    state_is = ended.state_is ∙ ap (λ (b : List ℕ). state_bytes (transcoder_over (tables x) u.from u.to u.mode b done))
+        at_nil;
     sound = subst (λ (b : List ℕ). IsSound (transcoder_over (tables x) u.from u.to u.mode b done)) at_nil ended.sound;
     encodable = ap (λ r. r.fault) (sym (same_text done)) ∙ ended.encodable;
     adds = ap (λ r. r.bytes ++ parts.1.items) (sym (same_text false)) ∙ ended.rest ∙ ap (λ r. r.bytes) (same_text done);
@@ -100,7 +111,8 @@ module _ (x : IndexSet) (u : Upload) (bytes : List ℕ) where
   finishes done (Err (Refused refusals.Full)) ended = absurd ended
 
 -- a text whose transcoder stands has a value
-pub value_of : (x : IndexSet) (u : Upload) (bytes : List ℕ) (f : NewText) → is_complete u ≡ false → (f ≡ Unencodable → ⊥) → StandsAt x u bytes f → (text_with x u bytes false).fault ≡ None
+pub value_of : (x : IndexSet) (u : Upload) (bytes : List ℕ) (f : NewText) → is_complete u ≡ false
+    → (f ≡ Unencodable → ⊥) → StandsAt x u bytes f → (text_with x u bytes false).fault ≡ None
 value_of x u bytes (Growing t text) still other here = without_fault x u bytes t here.0
 value_of x u bytes Unencodable still other here = absurd (other refl)
 value_of x u bytes Complete still other here = absurd cc
@@ -108,7 +120,8 @@ value_of x u bytes Complete still other here = absurd cc
 -- WHATEVER THE UPLOAD
 
 pub goes_emptied : (state : List ℕ) (f g : NewText) → IsEmptied f g → GoesOn state f → GoesOn state g
-goes_emptied state (Growing t text) (Growing t' text') same goes = subst (λ (s : Standing). IsStateLike state s.transcoder) (sym same.0) goes
+goes_emptied state (Growing t text) (Growing t' text') same goes =
+    subst (λ (s : Standing). IsStateLike state s.transcoder) (sym same.0) goes
 goes_emptied state (Growing t text) Unencodable same goes = tt
 goes_emptied state (Growing t text) Complete same goes = tt
 goes_emptied state Unencodable (Growing t text) same goes = absurd same

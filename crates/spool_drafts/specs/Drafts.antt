@@ -1,5 +1,6 @@
 -- What an open draft on a disk stands for.
-use Rattle.std.specs.Prelude.{◌≡◌, ◌⊎◌, ◌≤◌, ◌<◌, ◌*◌, ◌+◌, ◌/◌, ◌^◌, ◌++◌, ℕ, Bool, true, false, List, None, Some, length, drop, Result, Ok, Err}
+use Rattle.std.specs.Prelude.{◌≡◌, ◌⊎◌, ◌≤◌, ◌<◌, ◌*◌, ◌+◌, ◌/◌, ◌^◌, ◌++◌, ℕ, Bool, true, false, List, None, Some}
+use Rattle.std.specs.Prelude.{length, drop, Result, Ok, Err}
 use Rattle.enc_model.specs.Indexes.{IndexSet}
 use Rattle.enc_stream.specs.StateBytes.{IsSound}
 use Rattle.spool_blocks.specs.Blocks.{Held}
@@ -53,14 +54,16 @@ fresh_of d = d.fresh
 abbrev pub IsPlaced : ℕ → SpoolDraft → Type 0
 IsPlaced blocks d = IsTailed blocks d.growth
 
--- It began behind a text of this length, at these state bytes: where bytes may come, the encodings and the mode are still
+-- It began behind a text of this length, at these state bytes: where bytes may come, the encodings and the mode are
+-- still
 -- those, and there are greater offsets.
 pub record IsBehind (len : ℕ) (state : List ℕ) (d : SpoolDraft) : Type 0 where
   pub committed : committed_len_of d ≡ len
   pub goes_on : GoesOn state (fresh_of d)
   pub room : IsGrowing (fresh_of d) → offset_of d + 1 < 2 ^ 64
 
--- what its text ends in goes behind that text: on these blocks, or without any where nothing was added, and with the same
+-- what its text ends in goes behind that text: on these blocks, or without any where nothing was added, and with the
+-- same
 -- encodings
 pub record EndsBehind (len : ℕ) (state list : List ℕ) (e : DraftEnd) : Type 0 where
   pub same : SameEncodings state e.state
@@ -123,11 +126,13 @@ pub record IsWhole (x : IndexSet) (p : Patch) (done : Bool) (d : SpoolDraft) (e 
   pub len : e.text_len ≡ length (patch_text x p done).bytes
 
 -- how the text ends, where a body came
-abbrev pub EndsAs : IndexSet → Patch → Bool → SpoolDraft → SpoolDraft → Held → Held → Result DraftEnd UploadError → Type 0
+abbrev pub EndsAs : IndexSet → Patch → Bool → SpoolDraft → SpoolDraft → Held → Held → Result DraftEnd UploadError
+    → Type 0
 EndsAs x p done old new blocks blocks' (Ok e) = IsWhole x p done new e
 EndsAs x p done old new blocks blocks' (Err NoMemory) = Unit {0}
 EndsAs x p done old new blocks blocks' (Err DiskFault) = Unit {0}
-EndsAs x p done old new blocks blocks' (Err (Refused refusals.Unencodable)) = is_there (patch_text x p done).fault ≡ true
+EndsAs x p done old new blocks blocks' (Err (Refused refusals.Unencodable)) =
+    is_there (patch_text x p done).fault ≡ true
 EndsAs x p done old new blocks blocks' (Err (Refused refusals.Full)) =
     ((patch_text x p done).fault ≡ None) × ((p.short ≡ true) ⊎ RunsShort blocks blocks' (list_of old) (wants x p done))
 EndsAs x p done old new blocks blocks' (Err (Refused e)) = ⊥

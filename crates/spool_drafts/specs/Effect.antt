@@ -19,11 +19,15 @@ pub record Regrasps (old new : Held) (list list' own : List ℕ) : Type 0 where
 pub record OnlyWrites {D : Type 0} (disk : Ghosts D) (pages : ℕ) (own : List ℕ) (old new : D) : Type 0 where
   pub writes : WritesIn (25 + 2 * pages) own (disk.seen old) (disk.seen new) (disk.loose old) (disk.loose new)
   pub idle : Idle pages (disk.seen old) (disk.loose old) → Idle pages (disk.seen new) (disk.loose new)
-  pub image : (image : ℕ → ℕ) → IsImage (disk.seen new) (disk.loose new) image → IsImage (disk.seen old) (disk.loose old) (aside_blocks (25 + 2 * pages) own (disk.seen old) image)
-  pub lasts : Lasts disk old new (λ image. IsImage (disk.seen old) (disk.loose old) (aside_blocks (25 + 2 * pages) own (disk.seen old) image))
+  pub image : (image : ℕ → ℕ) → IsImage (disk.seen new) (disk.loose new) image
+      → IsImage (disk.seen old) (disk.loose old) (aside_blocks (25 + 2 * pages) own (disk.seen old) image)
+  pub lasts : Lasts disk old new
+      (λ image. IsImage (disk.seen old) (disk.loose old) (aside_blocks (25 + 2 * pages) own (disk.seen old) image))
 
--- what a call does, whatever the disk: it writes only the draft's own blocks, those of its list and free ones that it reserved
-pub record Effect {D : Type 0} (disk : Ghosts D) (pages : ℕ) (list list' : List ℕ) (old new : D) (blocks blocks' : Held) : Type 0 where
+-- what a call does, whatever the disk: it writes only the draft's own blocks, those of its list and free ones that it
+-- reserved
+pub record Effect {D : Type 0} (disk : Ghosts D) (pages : ℕ) (list list' : List ℕ) (old new : D)
+    (blocks blocks' : Held) : Type 0 where
   pub own : List ℕ
   pub grasp : Regrasps blocks blocks' list list' own
   pub writes : disk.honest old → OnlyWrites disk pages own old new

@@ -21,7 +21,8 @@ StandsAt x u bytes Complete = is_complete u ≡ true
 
 -- a piece behind these bytes adds this to the text, where that has a value
 abbrev pub Adds : IndexSet → Upload → List ℕ → List ℕ → NewText → List ℕ → Type 0
-Adds x u bytes piece (Growing t scratch) text = (text_with x u bytes false).bytes ++ text ≡ (text_with x u (bytes ++ piece) false).bytes
+Adds x u bytes piece (Growing t scratch) text =
+    (text_with x u bytes false).bytes ++ text ≡ (text_with x u (bytes ++ piece) false).bytes
 Adds x u bytes piece _ text = Unit {0}
 
 abbrev pub text_in : NewText → List ℕ

@@ -1,5 +1,6 @@
 -- The new text of a draft, with the committed text's bytes behind its last full block in front.
-use Rattle.std.specs.Prelude.{◌≡◌, ◌⊎◌, ◌≤◌, ◌<◌, ◌*◌, ◌+◌, ◌-◌, ◌/◌, ◌%◌, ℕ, List, [], ◌∷◌, Option, None, Some, true, false, length, get_or, replicate, Result, Ok, Err}
+use Rattle.std.specs.Prelude.{◌≡◌, ◌⊎◌, ◌≤◌, ◌<◌, ◌*◌, ◌+◌, ◌-◌, ◌/◌, ◌%◌, ℕ, List, [], ◌∷◌, Option, None, Some, true}
+use Rattle.std.specs.Prelude.{false, length, get_or, replicate, Result, Ok, Err}
 use Rattle.upload_rules.specs.declared.errors.UploadError.{UploadError}
 use Rattle.upload_rules.specs.declared.errors.UploadError.TheVariants.{Refused}
 use Rattle.upload_rules.specs.declared.errors.UploadRefusal.TheVariants as refusals
@@ -59,14 +60,17 @@ pub record IsShort (g : Growth) : Type 0 where
 -- it holds so many bytes, or ran short of blocks for them
 abbrev pub GrowsTo : ℕ → Growth → Growth → Held → Held → Type 0
 GrowsTo n old new blocks blocks' =
-    HoldsLen new n ⊎ (IsShort new × RunsShort blocks blocks' (list_on old.on) (need_of old.text_len (n - old.text_len % 4096)))
+    HoldsLen new n ⊎ (IsShort new × RunsShort blocks blocks' (list_on old.on)
+    (need_of old.text_len (n - old.text_len % 4096)))
 
 -- the last bytes came: its blocks are as many as it needs with them, or it is short of blocks for them
 abbrev pub ClosesAs : {T : Type 0} → Growth → Growth → ℕ → Held → Held → Result T UploadError → Type 0
 ClosesAs old new more blocks blocks' (Ok last) =
-    (old.short ≡ false) × ((n : ℕ) → HoldsLen old n → length (list_on new.on) ≡ need_of old.text_len ((n + more) - old.text_len % 4096))
+    (old.short ≡ false) × ((n : ℕ) → HoldsLen old n → length (list_on new.on) ≡ need_of old.text_len
+    ((n + more) - old.text_len % 4096))
 ClosesAs old new more blocks blocks' (Err (Refused refusals.Full)) =
-    (old.short ≡ true) ⊎ ((n : ℕ) → HoldsLen old n → RunsShort blocks blocks' (list_on old.on) (need_of old.text_len ((n + more) - old.text_len % 4096)))
+    (old.short ≡ true) ⊎ ((n : ℕ) → HoldsLen old n → RunsShort blocks blocks' (list_on old.on)
+    (need_of old.text_len ((n + more) - old.text_len % 4096)))
 ClosesAs old new more blocks blocks' (Err (Refused e)) = ⊥
 ClosesAs old new more blocks blocks' (Err e) = Unit {0}
 

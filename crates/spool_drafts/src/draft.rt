@@ -1,5 +1,6 @@
 // An append under way on a disk.
-ghost use Rattle.std.specs.Prelude.{◌≡◌, ◌⊎◌, get_or, ◌≤◌, ◌*◌, ◌+◌, ◌<◌, ◌/◌, ◌%◌, ◌-◌, ◌↔◌, ◌^◌, ℕ, List, [], true, min, length, IsOk, IsErrOf, OnOk, IfOk};
+ghost use Rattle.std.specs.Prelude.{◌≡◌, ◌⊎◌, get_or, ◌≤◌, ◌*◌, ◌+◌, ◌<◌, ◌/◌, ◌%◌, ◌-◌, ◌↔◌, ◌^◌, ℕ, List, [], true};
+ghost use Rattle.std.specs.Prelude.{min, length, IsOk, IsErrOf, OnOk, IfOk};
 ghost use Rattle.enc_model.specs.Indexes.{IndexSet as Indexes};
 ghost use Rattle.spool_disk.specs.Disk.{Counts, IsImage, Keeps as OnlyRead};
 ghost use Rattle.spool_disk.specs.Views.{Lasts};
@@ -14,7 +15,9 @@ ghost use Rattle.upload_rules.specs.World.{Patch};
 ghost use Rattle.upload_rules.specs.declared.errors.UploadRefusal.{UploadRefusal as Refusal};
 ghost use Rattle.spool_drafts.specs.Effect.{Effect};
 ghost use Rattle.spool_drafts.specs.Growth.{list_on};
-ghost use Rattle.spool_drafts.specs.Drafts.{Holds, Carries, EndsAs, EndsBehind, IsBegun, IsBehind, IsLonger, IsPlaced, with_piece, open_text, number_of, offset_of, came_of, list_of, committed_len_of, fresh_of, tail_of};
+ghost use Rattle.spool_drafts.specs.Drafts.{Holds, Carries, EndsAs, EndsBehind, IsBegun, IsBehind, IsLonger, IsPlaced};
+ghost use Rattle.spool_drafts.specs.Drafts.{with_piece, open_text, number_of, offset_of, came_of, list_of};
+ghost use Rattle.spool_drafts.specs.Drafts.{committed_len_of, fresh_of, tail_of};
 
 use crate::fresh::{finished, read_on};
 use crate::growth::Growth;

@@ -1,11 +1,13 @@
 -- What pages make of a view.
-use Rattle.std.proofs.Common.{◌≡◌, ℕ, ◌+◌, ◌-◌, ◌*◌, ◌/◌, ◌%◌, ◌<◌, ◌≤◌, List, [], Option, Some, None, IsSome, length, get_or, refl, sym, ◌∙◌, ap, subst, arith, ⊎_elim}
+use Rattle.std.proofs.Common.{◌≡◌, ℕ, ◌+◌, ◌-◌, ◌*◌, ◌/◌, ◌%◌, ◌<◌, ◌≤◌, List, [], Option, Some, None, IsSome, length}
+use Rattle.std.proofs.Common.{get_or, refl, sym, ◌∙◌, ap, subst, arith, ⊎_elim}
 use Rattle.std.proofs.lemmas.Bool.{cases_eq}
 use Rattle.std.proofs.lemmas.Bool.Decides.{nat_tests}
 use Rattle.std.proofs.lemmas.List.{get_or-set_same, get_or-set_other}
 use Rattle.spool_blocks.specs.Blocks.{Row}
 use Rattle.spool_journal.specs.Image.{IsPut, byte_of, journal_pages, page_number}
-use Rattle.spool_pages.specs.Changes.{page_in, Said, state_number, record_number, row_number, SaysNext, SaysSlot, SaysRow, ChangesButRows, Changes, with_record, with_slot, neighbour, SameRowsBut}
+use Rattle.spool_pages.specs.Changes.{page_in, Said, state_number, record_number, row_number, SaysNext, SaysSlot}
+use Rattle.spool_pages.specs.Changes.{SaysRow, ChangesButRows, Changes, with_record, with_slot, neighbour, SameRowsBut}
 use Rattle.spool_pages.specs.View.{SlotRecord, View, Stands, slot_at, row_bytes}
 use Rattle.spool_pages.proofs.PageIn.{in_none, in_put, in_put_else, none_same, of_found, same_page, some_length}
 
@@ -14,31 +16,42 @@ is_neighbour s slot same ne = grind (arith, nat_tests)
 
 -- the page of two slots, given this one's and the one's beside it
 module _ (pages : List (ℕ × List ℕ)) (v : View) (slot : ℕ) (kept : Option SlotRecord) (bytes : List ℕ) where
-  pub slots_said : length v.slots ≡ 512 → slot < 512 → page_in (record_number v.blocks slot) pages ≡ Some bytes → ((s : ℕ) → s < 512 → (s / 2 ≡ slot / 2 → ⊥) → page_in (record_number v.blocks s) pages ≡ None)
+  pub slots_said : length v.slots ≡ 512 → slot < 512 → page_in (record_number v.blocks slot) pages ≡ Some bytes
+      → ((s : ℕ) → s < 512 → (s / 2 ≡ slot / 2 → ⊥) → page_in (record_number v.blocks s) pages ≡ None)
       → SaysSlot slot bytes kept → SaysSlot (neighbour slot) bytes (slot_at v (neighbour slot))
-      → (s : ℕ) → s < 512 → Said (page_in (record_number v.blocks s) pages) (SaysSlot s) (slot_at v s) (slot_at (with_slot v slot kept) s)
+      → (s : ℕ) → s < 512 → Said (page_in (record_number v.blocks s) pages) (SaysSlot s) (slot_at v s)
+      (slot_at (with_slot v slot kept) s)
   slots_said long few here others says beside s lt = ⊎_elim
-      (λ (e : s ≡ slot). subst (λ (t : ℕ). Said (page_in (record_number v.blocks t) pages) (SaysSlot t) (slot_at v t) (slot_at (with_slot v slot kept) t)) (sym e) at_slot)
+      (λ (e : s ≡ slot). subst (λ (t : ℕ). Said (page_in (record_number v.blocks t) pages) (SaysSlot t) (slot_at v t)
+      (slot_at (with_slot v slot kept) t)) (sym e) at_slot)
       (λ (ne : s ≡ slot → ⊥). ⊎_elim
       (λ (same : s / 2 ≡ slot / 2).
       let is : s ≡ neighbour slot = is_neighbour s slot same ne in
-      let there : page_in (record_number v.blocks s) pages ≡ Some bytes = subst (λ (k : ℕ). page_in (26 + journal_pages v.blocks + k) pages ≡ Some bytes) (sym same) here in
+      let there : page_in (record_number v.blocks s) pages ≡ Some bytes =
+      subst (λ (k : ℕ). page_in (26 + journal_pages v.blocks + k) pages ≡ Some bytes) (sym same) here in
       let was : SaysSlot s bytes (slot_at v s) = subst (λ (t : ℕ). SaysSlot t bytes (slot_at v t)) (sym is) beside in
-      let now : SaysSlot s bytes (slot_at (with_slot v slot kept) s) = subst (λ (x : Option SlotRecord). SaysSlot s bytes x) (sym (stays s ne)) was in
-      subst (λ (o : Option (List ℕ)). Said o (SaysSlot s) (slot_at v s) (slot_at (with_slot v slot kept) s)) (sym there) now)
+      let now : SaysSlot s bytes (slot_at (with_slot v slot kept) s) =
+      subst (λ (x : Option SlotRecord). SaysSlot s bytes x) (sym (stays s ne)) was in
+      subst (λ (o : Option (List ℕ)). Said o (SaysSlot s) (slot_at v s) (slot_at (with_slot v slot kept) s)) (sym there)
+      now)
       (λ (apart : s / 2 ≡ slot / 2 → ⊥).
-      subst (λ (o : Option (List ℕ)). Said o (SaysSlot s) (slot_at v s) (slot_at (with_slot v slot kept) s)) (sym (others s lt apart)) (stays s ne))
+      subst (λ (o : Option (List ℕ)). Said o (SaysSlot s) (slot_at v s) (slot_at (with_slot v slot kept) s))
+      (sym (others s lt apart)) (stays s ne))
       (cases_eq (s / 2) (slot / 2)))
       (cases_eq s slot)
     where
       stays : (s : ℕ) → (s ≡ slot → ⊥) → slot_at (with_slot v slot kept) s ≡ slot_at v s
       stays s ne = get_or-set_other v.slots slot s kept None ne
 
-      at_slot : Said (page_in (record_number v.blocks slot) pages) (SaysSlot slot) (slot_at v slot) (slot_at (with_slot v slot kept) slot)
+      at_slot : Said (page_in (record_number v.blocks slot) pages) (SaysSlot slot) (slot_at v slot)
+          (slot_at (with_slot v slot kept) slot)
       at_slot =
-          let new : slot_at (with_slot v slot kept) slot ≡ kept = get_or-set_same v.slots slot kept None (omega (arith, long, few)) in
-          let now : SaysSlot slot bytes (slot_at (with_slot v slot kept) slot) = subst (λ (x : Option SlotRecord). SaysSlot slot bytes x) (sym new) says in
-          subst (λ (o : Option (List ℕ)). Said o (SaysSlot slot) (slot_at v slot) (slot_at (with_slot v slot kept) slot)) (sym here) now
+          let new : slot_at (with_slot v slot kept) slot ≡ kept =
+          get_or-set_same v.slots slot kept None (omega (arith, long, few)) in
+          let now : SaysSlot slot bytes (slot_at (with_slot v slot kept) slot) =
+          subst (λ (x : Option SlotRecord). SaysSlot slot bytes x) (sym new) says in
+          subst (λ (o : Option (List ℕ)). Said o (SaysSlot slot) (slot_at v slot)
+          (slot_at (with_slot v slot kept) slot)) (sym here) now
 
 -- A NEW RECORD AND THE NEXT NUMBER
 
@@ -46,7 +59,8 @@ module _ {none first both : List (ℕ × List ℕ)} {state place : ℕ} {state_b
   pub new_changes : none ≡ [] → IsPut none state state_bytes first → IsPut first place bytes both
       → (v : View) (next slot : ℕ) (r : SlotRecord)
       → state ≡ state_number v.blocks → place ≡ record_number v.blocks slot → slot < 512 → length v.slots ≡ 512
-      → SaysNext state_bytes next → SaysSlot slot bytes (Some r) → SaysSlot (neighbour slot) bytes (slot_at v (neighbour slot))
+      → SaysNext state_bytes next → SaysSlot slot bytes (Some r) → SaysSlot (neighbour slot) bytes
+      (slot_at v (neighbour slot))
       → Changes both v (record (with_record v slot r) { next = next })
   new_changes empty put_state put_slot v next slot r state_is place_is few long says_next says beside = record {
     others = record {
@@ -54,26 +68,36 @@ module _ {none first both : List (ℕ × List ℕ)} {state place : ℕ} {state_b
       version = refl;
       indexes = refl;
       next = subst (λ (o : Option (List ℕ)). Said o SaysNext v.next next) (sym state_in) says_next;
-      slots = slots_said both v slot (Some r) bytes long few slot_in (λ s lt apart. none_else (record_number v.blocks s) (omega (arith, state_is)) (omega (arith, place_is, apart))) says beside;
+      slots = slots_said both v slot (Some r) bytes long few slot_in
+          (λ s lt apart. none_else (record_number v.blocks s) (omega (arith, state_is))
+          (omega (arith, place_is, apart))) says beside;
       rows = λ b lt no. refl;
     };
-    rows = λ b lt. subst (λ (o : Option (List ℕ)). Said o (SaysRow b) (get_or v.rows b None) (get_or v.rows b None)) (sym (none_else (row_number v.blocks b) (omega (arith, state_is)) (omega (arith, place_is, few)))) refl;
+    rows = λ b lt. subst (λ (o : Option (List ℕ)). Said o (SaysRow b) (get_or v.rows b None) (get_or v.rows b None))
+        (sym (none_else (row_number v.blocks b) (omega (arith, state_is)) (omega (arith, place_is, few)))) refl;
   }
     where
       none_else : (q : ℕ) → (state ≡ q → ⊥) → (place ≡ q → ⊥) → page_in q both ≡ None
-      none_else q not_state not_slot = in_put_else put_slot q not_slot ∙ in_put_else put_state q not_state ∙ in_none q none empty
+      none_else q not_state not_slot =
+          in_put_else put_slot q not_slot ∙ in_put_else put_state q not_state ∙ in_none q none empty
 
       state_in : page_in (state_number v.blocks) both ≡ Some state_bytes
-      state_in = subst (λ (q : ℕ). page_in q both ≡ Some state_bytes) state_is (in_put_else put_slot state (λ e. omega (arith, e, state_is, place_is)) ∙ in_put put_state (in_none state none empty))
+      state_in = subst (λ (q : ℕ). page_in q both ≡ Some state_bytes) state_is
+          (in_put_else put_slot state (λ e. omega (arith, e, state_is, place_is))
+          ∙ in_put put_state (in_none state none empty))
 
       slot_in : page_in (record_number v.blocks slot) both ≡ Some bytes
-      slot_in = subst (λ (q : ℕ). page_in q both ≡ Some bytes) place_is (in_put put_slot (in_put_else put_state place (λ e. omega (arith, e, state_is, place_is)) ∙ in_none place none empty))
+      slot_in = subst (λ (q : ℕ). page_in q both ≡ Some bytes) place_is
+          (in_put put_slot (in_put_else put_state place (λ e. omega (arith, e, state_is, place_is))
+          ∙ in_none place none empty))
 
 -- A SLOT, AND ROOM FOR ROWS
 
 module _ (pages : List (ℕ × List ℕ)) {none first : List (ℕ × List ℕ)} {place : ℕ} {bytes : List ℕ} where
-  pub room_some : (j : ℕ) → none ≡ [] → IsPut none place bytes first → ((page : ℕ) → page < j → page_in page pages ≡ page_in page first) → place < j → 1 ≤ length pages
-  room_some j empty put front below = some_length place pages bytes (front place below ∙ in_put put (in_none place none empty))
+  pub room_some : (j : ℕ) → none ≡ [] → IsPut none place bytes first
+      → ((page : ℕ) → page < j → page_in page pages ≡ page_in page first) → place < j → 1 ≤ length pages
+  room_some j empty put front below =
+      some_length place pages bytes (front place below ∙ in_put put (in_none place none empty))
 
   pub room_changes : none ≡ [] → IsPut none place bytes first
       → (v : View) (slot : ℕ) (kept : Option SlotRecord) (blocks : List ℕ) (rows : List Row)
@@ -87,10 +111,14 @@ module _ (pages : List (ℕ × List ℕ)) {none first : List (ℕ × List ℕ)} 
     blocks = refl;
     version = refl;
     indexes = refl;
-    next = subst (λ (o : Option (List ℕ)). Said o SaysNext v.next v.next) (sym (none_else (state_number v.blocks) (omega arith) (omega (arith, place_is)))) refl;
-    slots = slots_said pages v slot kept bytes long few slot_in (λ s lt apart. none_else (record_number v.blocks s) (omega (arith, lt)) (omega (arith, place_is, apart))) says beside;
+    next = subst (λ (o : Option (List ℕ)). Said o SaysNext v.next v.next)
+        (sym (none_else (state_number v.blocks) (omega arith) (omega (arith, place_is)))) refl;
+    slots = slots_said pages v slot kept bytes long few slot_in
+        (λ s lt apart. none_else (record_number v.blocks s) (omega (arith, lt)) (omega (arith, place_is, apart))) says
+        beside;
     rows = λ b lt no. same b (λ i below e.
-        let some : IsSome (page_in (row_number v.blocks b) pages) = subst (λ (x : ℕ). IsSome (page_in (row_number v.blocks x) pages)) e (there i below) in
+        let some : IsSome (page_in (row_number v.blocks b) pages) =
+        subst (λ (x : ℕ). IsSome (page_in (row_number v.blocks x) pages)) e (there i below) in
         let not = subst IsSome no some in
         cc);
   }
@@ -99,39 +127,53 @@ module _ (pages : List (ℕ × List ℕ)) {none first : List (ℕ × List ℕ)} 
       none_else q below not_slot = front q below ∙ in_put_else put q not_slot ∙ in_none q none empty
 
       slot_in : page_in (record_number v.blocks slot) pages ≡ Some bytes
-      slot_in = subst (λ (q : ℕ). page_in q pages ≡ Some bytes) place_is (front place (omega (arith, place_is, few)) ∙ in_put put (in_none place none empty))
+      slot_in = subst (λ (q : ℕ). page_in q pages ≡ Some bytes) place_is
+          (front place (omega (arith, place_is, few)) ∙ in_put put (in_none place none empty))
 
 -- THE ROWS
 
 module _ (old new : List (ℕ × List ℕ)) (rows : List Row) (first : ℕ) where
   pub filled_changes : length new ≡ length old → ((k : ℕ) → k < length old → page_number new k ≡ page_number old k)
       → ((k : ℕ) → page_number old k < first → get_or new k (0, []) ≡ get_or old k (0, []))
-      → ((k : ℕ) → k < length old → first ≤ page_number old k → (i : ℕ) → i < 512 → Stands (byte_of (get_or new k (0, [])).1) (8 * i) 8 (row_bytes (get_or rows (512 * (page_number old k - first) + i) None)))
-      → (v v' : View) → first ≡ 282 + journal_pages v.blocks → ChangesButRows old v v' → v'.rows ≡ rows → Changes new v v'
+      → ((k : ℕ) → k < length old → first ≤ page_number old k → (i : ℕ) → i < 512
+      → Stands (byte_of (get_or new k (0, [])).1) (8 * i) 8
+      (row_bytes (get_or rows (512 * (page_number old k - first) + i) None)))
+      → (v v' : View) → first ≡ 282 + journal_pages v.blocks → ChangesButRows old v v' → v'.rows ≡ rows
+      → Changes new v v'
   filled_changes long numbers others filled v v' first_is changes rows_are = record {
     others = record {
       blocks = changes.blocks;
       version = changes.version;
       indexes = changes.indexes;
-      next = subst (λ (o : Option (List ℕ)). Said o SaysNext v.next v'.next) (sym (same (state_number v.blocks) (omega (arith, first_is)))) changes.next;
-      slots = λ s lt. subst (λ (o : Option (List ℕ)). Said o (SaysSlot s) (slot_at v s) (slot_at v' s)) (sym (same (record_number v.blocks s) (omega (arith, first_is, lt)))) (changes.slots s lt);
+      next = subst (λ (o : Option (List ℕ)). Said o SaysNext v.next v'.next)
+          (sym (same (state_number v.blocks) (omega (arith, first_is)))) changes.next;
+      slots = λ s lt. subst (λ (o : Option (List ℕ)). Said o (SaysSlot s) (slot_at v s) (slot_at v' s))
+          (sym (same (record_number v.blocks s) (omega (arith, first_is, lt)))) (changes.slots s lt);
       rows = λ b lt no. changes.rows b lt (none_same (row_number v.blocks b) old new long numbers no);
     };
     rows = λ b lt. by b lt (page_in (row_number v.blocks b) new) refl;
   }
     where
       same : (q : ℕ) → q < first → page_in q new ≡ page_in q old
-      same q below = same_page q old new long numbers (λ k lt e. ap (λ (p : ℕ × List ℕ). p.1) (others k (omega (arith, e, below))))
+      same q below = same_page q old new long numbers
+          (λ k lt e. ap (λ (p : ℕ × List ℕ). p.1) (others k (omega (arith, e, below))))
 
-      row_in : (b k : ℕ) → k < length new → page_number new k ≡ row_number v.blocks b → Stands (byte_of (get_or new k (0, [])).1) (8 * (b % 512)) 8 (row_bytes (get_or v'.rows b None))
+      row_in : (b k : ℕ) → k < length new → page_number new k ≡ row_number v.blocks b
+          → Stands (byte_of (get_or new k (0, [])).1) (8 * (b % 512)) 8 (row_bytes (get_or v'.rows b None))
       row_in b k lt e =
           let old_lt : k < length old = omega (arith, lt, long) in
           let number : page_number old k ≡ row_number v.blocks b = sym (numbers k old_lt) ∙ e in
           let stands = filled k old_lt (omega (arith, number, first_is)) (b % 512) (omega arith) in
           let at : 512 * (page_number old k - first) + b % 512 ≡ b = omega (arith, number, first_is) in
-          let here : Stands (byte_of (get_or new k (0, [])).1) (8 * (b % 512)) 8 (row_bytes (get_or rows b None)) = subst (λ (x : ℕ). Stands (byte_of (get_or new k (0, [])).1) (8 * (b % 512)) 8 (row_bytes (get_or rows x None))) at stands in
-          subst (λ (xs : List Row). Stands (byte_of (get_or new k (0, [])).1) (8 * (b % 512)) 8 (row_bytes (get_or xs b None))) (sym rows_are) here
+          let here : Stands (byte_of (get_or new k (0, [])).1) (8 * (b % 512)) 8 (row_bytes (get_or rows b None)) =
+          subst (λ (x : ℕ). Stands (byte_of (get_or new k (0, [])).1) (8 * (b % 512)) 8
+          (row_bytes (get_or rows x None))) at stands in
+          subst (λ (xs : List Row). Stands (byte_of (get_or new k (0, [])).1) (8 * (b % 512)) 8
+          (row_bytes (get_or xs b None))) (sym rows_are) here
 
-      by : (b : ℕ) → b < 512 * (journal_pages v.blocks - 257) → (o : Option (List ℕ)) → page_in (row_number v.blocks b) new ≡ o → Said o (SaysRow b) (get_or v.rows b None) (get_or v'.rows b None)
+      by : (b : ℕ) → b < 512 * (journal_pages v.blocks - 257) → (o : Option (List ℕ))
+          → page_in (row_number v.blocks b) new ≡ o → Said o (SaysRow b) (get_or v.rows b None) (get_or v'.rows b None)
       by b lt None is = changes.rows b lt (none_same (row_number v.blocks b) old new long numbers is)
-      by b lt (Some bytes) is = of_found (λ (xs : List ℕ). Stands (byte_of xs) (8 * (b % 512)) 8 (row_bytes (get_or v'.rows b None))) (row_number v.blocks b) new (row_in b) bytes is
+      by b lt (Some bytes) is =
+          of_found (λ (xs : List ℕ). Stands (byte_of xs) (8 * (b % 512)) 8 (row_bytes (get_or v'.rows b None)))
+          (row_number v.blocks b) new (row_in b) bytes is

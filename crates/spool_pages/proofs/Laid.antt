@@ -1,13 +1,16 @@
 -- Changed pages laid over what stood there, page by page.
-use Rattle.std.proofs.Common.{◌≡◌, inl, inr, ℕ, zero, suc, ◌+◌, ◌-◌, ◌*◌, ◌/◌, ◌%◌, ◌<◌, ◌≤◌, Bool, cond, List, [], ◌∷◌, Option, None, Some, length, get_or, refl, sym, ◌∙◌, ap, subst, arith}
+use Rattle.std.proofs.Common.{◌≡◌, inl, inr, ℕ, zero, suc, ◌+◌, ◌-◌, ◌*◌, ◌/◌, ◌%◌, ◌<◌, ◌≤◌, Bool, cond, List, [], ◌∷◌}
+use Rattle.std.proofs.Common.{Option, None, Some, length, get_or, refl, sym, ◌∙◌, ap, subst, arith}
 use Rattle.std.proofs.lemmas.Bool.{cases_eq, cases_lt}
 use Rattle.enc_model.specs.Indexes.{IndexSet}
 use Rattle.enc_index.specs.Area.{area_byte}
-use Rattle.spool_journal.specs.Image.{byte_of, journal_pages, InMeta, over, laid, page_number, page_byte, InArea, Ascends}
+use Rattle.spool_journal.specs.Image.{byte_of, journal_pages, InMeta, over, laid, page_number, page_byte, InArea}
+use Rattle.spool_journal.specs.Image.{Ascends}
 use Rattle.spool_journal.proofs.Over.{yes, no, over_hit, over_pass, over_none}
 use Rattle.spool_pages.specs.Changes.{page_in, Said, Changes, state_number, record_number, row_number}
 use Rattle.spool_pages.specs.Rests.{Rests, HasTexts}
-use Rattle.spool_pages.specs.View.{View, Stands, Says, first_page, state_page, slot_bytes, row_bytes, slot_at, index_place, state_place, slot_place, row_place, text_page}
+use Rattle.spool_pages.specs.View.{View, Stands, Says, first_page, state_page, slot_bytes, row_bytes, slot_at}
+use Rattle.spool_pages.specs.View.{index_place, state_place, slot_place, row_place, text_page}
 use Rattle.spool_pages.proofs.Resting.{rests_says}
 use Rattle.spool_pages.proofs.Says.{shown_same}
 
@@ -18,15 +21,18 @@ record PageAt (n : ℕ) (pages : List (ℕ × List ℕ)) (bytes : List ℕ) : Ty
   number : page_number pages at ≡ n
   bytes_are : (get_or pages at (0, [])).1 ≡ bytes
 
-in_front : (n : ℕ) (entry : ℕ × List ℕ) (pages : List (ℕ × List ℕ)) → entry.0 ≡ n → page_in n (entry ∷ pages) ≡ Some entry.1
+in_front : (n : ℕ) (entry : ℕ × List ℕ) (pages : List (ℕ × List ℕ)) → entry.0 ≡ n
+    → page_in n (entry ∷ pages) ≡ Some entry.1
 unfolding page_in
 in_front n entry pages e = ap (λ (b : Bool). cond b (Some entry.1) (page_in n pages)) (yes entry.0 n e)
 
-behind : (n : ℕ) (entry : ℕ × List ℕ) (pages : List (ℕ × List ℕ)) → (entry.0 ≡ n → ⊥) → page_in n (entry ∷ pages) ≡ page_in n pages
+behind : (n : ℕ) (entry : ℕ × List ℕ) (pages : List (ℕ × List ℕ)) → (entry.0 ≡ n → ⊥)
+    → page_in n (entry ∷ pages) ≡ page_in n pages
 unfolding page_in
 behind n entry pages e = ap (λ (b : Bool). cond b (Some entry.1) (page_in n pages)) (no entry.0 n e)
 
-page_none : (n : ℕ) (pages : List (ℕ × List ℕ)) → page_in n pages ≡ None → (k : ℕ) → k < length pages → page_number pages k ≡ n → ⊥
+page_none : (n : ℕ) (pages : List (ℕ × List ℕ)) → page_in n pages ≡ None → (k : ℕ) → k < length pages
+    → page_number pages k ≡ n → ⊥
 page_none n [] e k lt is = omega (arith, lt)
 page_none n (entry ∷ pages) e zero lt is = let front = in_front n entry pages is in cc
 page_none n (entry ∷ pages) e (suc k) lt is = elim (cases_eq entry.0 n) [
@@ -38,7 +44,12 @@ page_some : (n : ℕ) (pages : List (ℕ × List ℕ)) (bytes : List ℕ) → pa
 unfolding page_in
 page_some n [] bytes e = absurd (let f : None ≡ Some bytes = e in cc)
 page_some n (entry ∷ pages) bytes e = elim (cases_eq entry.0 n) [
-  | inl here ↦ record { at = 0; below = omega arith; number = here; bytes_are = some_is (sym (in_front n entry pages here) ∙ e) }
+  | inl here ↦ record {
+    at = 0;
+    below = omega arith;
+    number = here;
+    bytes_are = some_is (sym (in_front n entry pages here) ∙ e);
+  }
   | inr other ↦
       let rest = page_some n pages bytes (sym (behind n entry pages other) ∙ e) in
       record { at = suc rest.at; below = omega (arith, rest.below); number = rest.number; bytes_are = rest.bytes_are }
@@ -48,63 +59,88 @@ page_some n (entry ∷ pages) bytes e = elim (cases_eq entry.0 n) [
     some_is f = cc
 
 -- a page that is the last one of its number
-over_at : (num : ℕ → ℕ) (con : ℕ → ℕ → ℕ) (base : ℕ → ℕ) (n k p : ℕ) → k < n → num k ≡ p / 4096 → ((i : ℕ) → k < i → i < n → num i ≡ p / 4096 → ⊥) → over num con base n p ≡ con k (p % 4096)
+over_at : (num : ℕ → ℕ) (con : ℕ → ℕ → ℕ) (base : ℕ → ℕ) (n k p : ℕ) → k < n → num k ≡ p / 4096
+    → ((i : ℕ) → k < i → i < n → num i ≡ p / 4096 → ⊥) → over num con base n p ≡ con k (p % 4096)
 over_at num con base zero k p lt here last = omega (arith, lt)
 over_at num con base (suc n) k p lt here last = elim (cases_lt k n) [
-  | inl below ↦ over_pass num con base n p (last n below (omega arith)) ∙ over_at num con base n k p below here (λ i from under. last i from (omega (arith, under)))
+  | inl below ↦ over_pass num con base n p (last n below (omega arith))
+      ∙ over_at num con base n k p below here (λ i from under. last i from (omega (arith, under)))
   | inr from ↦
       let e : n ≡ k = omega (arith, lt, from) in
       over_hit num con base n p (ap num e ∙ here) ∙ ap (λ (i : ℕ). con i (p % 4096)) e
 ]
 
-farther : (pages : List (ℕ × List ℕ)) → Ascends pages → (i d : ℕ) → i + d + 1 < length pages → page_number pages i < page_number pages (i + d + 1)
-farther pages ascends i zero lt = let e : i + 1 ≡ i + 0 + 1 = omega arith in subst (λ (k : ℕ). page_number pages i < page_number pages k) e (ascends i (omega (arith, lt)))
+farther : (pages : List (ℕ × List ℕ)) → Ascends pages → (i d : ℕ) → i + d + 1 < length pages
+    → page_number pages i < page_number pages (i + d + 1)
+farther pages ascends i zero lt = let e : i + 1 ≡ i + 0 + 1 =
+    omega arith in subst (λ (k : ℕ). page_number pages i < page_number pages k) e (ascends i (omega (arith, lt)))
 farther pages ascends i (suc d) lt =
     let e : i + d + 1 + 1 ≡ i + suc d + 1 = omega arith in
-    let next : page_number pages (i + d + 1) < page_number pages (i + d + 1 + 1) = ascends (i + d + 1) (omega (arith, lt)) in
-    let last : page_number pages (i + d + 1) < page_number pages (i + suc d + 1) = subst (λ (k : ℕ). page_number pages (i + d + 1) < page_number pages k) e next in
+    let next : page_number pages (i + d + 1) < page_number pages (i + d + 1 + 1) =
+    ascends (i + d + 1) (omega (arith, lt)) in
+    let last : page_number pages (i + d + 1) < page_number pages (i + suc d + 1) =
+    subst (λ (k : ℕ). page_number pages (i + d + 1) < page_number pages k) e next in
     omega (arith, last, farther pages ascends i d (omega (arith, lt)))
 
 module _ (pages : List (ℕ × List ℕ)) (base : ℕ → ℕ) where
   pub laid_none : (n p : ℕ) → page_in n pages ≡ None → n ≡ p / 4096 → laid pages base p ≡ base p
-  laid_none n p none here = over_none (page_number pages) (page_byte pages) base (length pages) p (λ k lt e. page_none n pages none k lt (e ∙ sym here))
+  laid_none n p none here =
+      over_none (page_number pages) (page_byte pages) base (length pages) p
+      (λ k lt e. page_none n pages none k lt (e ∙ sym here))
 
-  pub laid_some : (n p : ℕ) (bytes : List ℕ) → Ascends pages → page_in n pages ≡ Some bytes → n ≡ p / 4096 → laid pages base p ≡ byte_of bytes (p % 4096)
+  pub laid_some : (n p : ℕ) (bytes : List ℕ) → Ascends pages → page_in n pages ≡ Some bytes → n ≡ p / 4096
+      → laid pages base p ≡ byte_of bytes (p % 4096)
   laid_some n p bytes ascends some here =
       let there = page_some n pages bytes some in
-      over_at (page_number pages) (page_byte pages) base (length pages) there.at p there.below (there.number ∙ here) (later there) ∙ ap (λ (xs : List ℕ). get_or xs (p % 4096) 0) there.bytes_are
+      over_at (page_number pages) (page_byte pages) base (length pages) there.at p there.below (there.number ∙ here)
+      (later there) ∙ ap (λ (xs : List ℕ). get_or xs (p % 4096) 0) there.bytes_are
     where
-      later : (there : PageAt n pages bytes) (i : ℕ) → there.at < i → i < length pages → page_number pages i ≡ p / 4096 → ⊥
+      later : (there : PageAt n pages bytes) (i : ℕ) → there.at < i → i < length pages → page_number pages i ≡ p / 4096
+          → ⊥
       later there i from below e = gap there (i - there.at - 1) i (omega (arith, from)) below e
         where
-          gap : (there : PageAt n pages bytes) (d i : ℕ) → there.at + d + 1 ≡ i → i < length pages → page_number pages i ≡ p / 4096 → ⊥
+          gap : (there : PageAt n pages bytes) (d i : ℕ) → there.at + d + 1 ≡ i → i < length pages
+              → page_number pages i ≡ p / 4096 → ⊥
           gap there d i is below e =
-              let far : page_number pages there.at < page_number pages (there.at + d + 1) = farther pages ascends there.at d (omega (arith, is, below)) in
-              let far' : page_number pages there.at < page_number pages i = subst (λ (k : ℕ). page_number pages there.at < page_number pages k) is far in
+              let far : page_number pages there.at < page_number pages (there.at + d + 1) =
+              farther pages ascends there.at d (omega (arith, is, below)) in
+              let far' : page_number pages there.at < page_number pages i =
+              subst (λ (k : ℕ). page_number pages there.at < page_number pages k) is far in
               omega (arith, far', there.number, here, e)
 
   -- outside the metadata
   pub laid_out : (j p : ℕ) → InArea j pages → (InMeta j (p / 4096) → ⊥) → laid pages base p ≡ base p
-  laid_out j p inside away = over_none (page_number pages) (page_byte pages) base (length pages) p (λ k lt e. away (subst (InMeta j) e (inside k lt)))
+  laid_out j p inside away =
+      over_none (page_number pages) (page_byte pages) base (length pages) p
+      (λ k lt e. away (subst (InMeta j) e (inside k lt)))
 
   -- what a page says, or what stood there
-  pub stands_said : {A : Type 0} (bytes_of : A → List ℕ) (old new : A) (page at size place : ℕ) → Ascends pages → at + size ≤ 4096 → place ≡ 4096 * page + at
-      → Said (page_in page pages) (λ bytes x. Stands (byte_of bytes) at size (bytes_of x)) old new → Stands base place size (bytes_of old) → Stands (laid pages base) place size (bytes_of new)
-  stands_said {A = A} bytes_of old new page at size place ascends fits here said stood = by_page (page_in page pages) refl said
+  pub stands_said : {A : Type 0} (bytes_of : A → List ℕ) (old new : A) (page at size place : ℕ) → Ascends pages
+      → at + size ≤ 4096 → place ≡ 4096 * page + at
+      → Said (page_in page pages) (λ bytes x. Stands (byte_of bytes) at size (bytes_of x)) old new
+      → Stands base place size (bytes_of old) → Stands (laid pages base) place size (bytes_of new)
+  stands_said {A = A} bytes_of old new page at size place ascends fits here said stood =
+      by_page (page_in page pages) refl said
     where
-      by_page : (o : Option (List ℕ)) → page_in page pages ≡ o → Said o (λ bytes x. Stands (byte_of bytes) at size (bytes_of x)) old new → Stands (laid pages base) place size (bytes_of new)
+      by_page : (o : Option (List ℕ)) → page_in page pages ≡ o → Said o
+          (λ bytes x. Stands (byte_of bytes) at size (bytes_of x)) old new
+          → Stands (laid pages base) place size (bytes_of new)
       by_page None none same = record {
-        each = λ i lt. laid_none page (place + i) none (omega (arith, here, fits, lt)) ∙ stood.each i lt ∙ ap (λ (x : A). byte_of (bytes_of x) i) (sym same);
+        each = λ i lt. laid_none page (place + i) none (omega (arith, here, fits, lt)) ∙ stood.each i lt
+            ∙ ap (λ (x : A). byte_of (bytes_of x) i) (sym same);
       }
       by_page (Some bytes) some says = record {
         each = λ i lt.
             let within : (place + i) % 4096 ≡ at + i = omega (arith, here, fits, lt) in
-            laid_some page (place + i) bytes ascends some (omega (arith, here, fits, lt)) ∙ ap (byte_of bytes) within ∙ says.each i lt;
+            laid_some page (place + i) bytes ascends some (omega (arith, here, fits, lt)) ∙ ap (byte_of bytes) within
+            ∙ says.each i lt;
       }
 
 -- WHAT THE CHANGED PAGES SAY
 
-module _ (pages : List (ℕ × List ℕ)) (seen : ℕ → ℕ) (v v' : View) (version : v.version ≡ 1) (inside : InArea (journal_pages v.blocks) pages) (ascends : Ascends pages) (changes : Changes pages v v') (texts : HasTexts seen v') (says : Says seen v) where
+module _ (pages : List (ℕ × List ℕ)) (seen : ℕ → ℕ) (v v' : View) (version : v.version ≡ 1)
+    (inside : InArea (journal_pages v.blocks) pages) (ascends : Ascends pages) (changes : Changes pages v v')
+    (texts : HasTexts seen v') (says : Says seen v) where
   out : (p : ℕ) → (InMeta (journal_pages v.blocks) (p / 4096) → ⊥) → laid pages seen p ≡ seen p
   out p away = laid_out pages seen (journal_pages v.blocks) p inside away
 
@@ -115,32 +151,49 @@ module _ (pages : List (ℕ × List ℕ)) (seen : ℕ → ℕ) (v v' : View) (ve
   same_journal = ap journal_pages changes.others.blocks
 
   state_there : Stands (laid pages seen) (state_place v.blocks) 4096 (state_page 1 v'.next)
-  state_there = stands_said pages seen (state_page 1) v.next v'.next (state_number v.blocks) 0 4096 (state_place v.blocks) ascends (omega arith) (omega arith) changes.others.next
+  state_there = stands_said pages seen (state_page 1) v.next v'.next (state_number v.blocks) 0 4096
+      (state_place v.blocks) ascends (omega arith) (omega arith) changes.others.next
       (subst (λ (n : ℕ). Stands seen (state_place v.blocks) 4096 (state_page n v.next)) version says.state)
 
   slot_there : (s : ℕ) → s < 512 → Stands (laid pages seen) (slot_place v.blocks s) 2048 (slot_bytes (slot_at v' s))
-  slot_there s lt = stands_said pages seen slot_bytes (slot_at v s) (slot_at v' s) (record_number v.blocks s) (2048 * (s % 2)) 2048 (slot_place v.blocks s) ascends (omega arith) (omega arith) (changes.others.slots s lt) (says.slots s lt)
+  slot_there s lt = stands_said pages seen slot_bytes (slot_at v s) (slot_at v' s) (record_number v.blocks s)
+      (2048 * (s % 2)) 2048 (slot_place v.blocks s) ascends (omega arith) (omega arith) (changes.others.slots s lt)
+      (says.slots s lt)
 
-  row_there : (b : ℕ) → b < 512 * (journal_pages v.blocks - 257) → Stands (laid pages seen) (row_place v.blocks b) 8 (row_bytes (get_or v'.rows b None))
-  row_there b lt = stands_said pages seen row_bytes (get_or v.rows b None) (get_or v'.rows b None) (row_number v.blocks b) (8 * (b % 512)) 8 (row_place v.blocks b) ascends (omega arith) (omega arith) (changes.rows b lt) (says.rows b lt)
+  row_there : (b : ℕ) → b < 512 * (journal_pages v.blocks - 257) → Stands (laid pages seen) (row_place v.blocks b) 8
+      (row_bytes (get_or v'.rows b None))
+  row_there b lt = stands_said pages seen row_bytes (get_or v.rows b None) (get_or v'.rows b None)
+      (row_number v.blocks b) (8 * (b % 512)) 8 (row_place v.blocks b) ascends (omega arith) (omega arith)
+      (changes.rows b lt) (says.rows b lt)
 
   laid_says : Says (laid pages seen) v'
   laid_says = record {
-    first = subst (λ (n : ℕ). Stands (laid pages seen) 0 4096 (first_page n)) same_size record { each = λ i lt. out (0 + i) (λ within. omega (arith, within.from, lt)) ∙ says.first.each i lt };
+    first = subst (λ (n : ℕ). Stands (laid pages seen) 0 4096 (first_page n)) same_size record {
+      each = λ i lt. out (0 + i) (λ within. omega (arith, within.from, lt)) ∙ says.first.each i lt;
+    };
     area = λ i lt. area_there i lt;
     state = subst (λ (n : ℕ). Stands (laid pages seen) (state_place n) 4096 (state_page v'.version v'.next)) same_size
-        (subst (λ (n : ℕ). Stands (laid pages seen) (state_place v.blocks) 4096 (state_page n v'.next)) (sym (changes.others.version ∙ version)) state_there);
-    slots = λ s lt. subst (λ (n : ℕ). Stands (laid pages seen) (slot_place n s) 2048 (slot_bytes (slot_at v' s))) same_size (slot_there s lt);
-    rows = λ b lt. subst (λ (n : ℕ). Stands (laid pages seen) (row_place n b) 8 (row_bytes (get_or v'.rows b None))) same_size (row_there b (omega (arith, lt, same_journal)));
-    texts = λ s r e. texts s r e ∙ sym (shown_same (laid pages seen) seen (text_page v'.blocks) (λ p from. out p (λ within. omega (arith, within.below, from, same_journal))) v'.rows s r.text_len);
+        (subst (λ (n : ℕ). Stands (laid pages seen) (state_place v.blocks) 4096 (state_page n v'.next))
+        (sym (changes.others.version ∙ version)) state_there);
+    slots = λ s lt. subst (λ (n : ℕ). Stands (laid pages seen) (slot_place n s) 2048 (slot_bytes (slot_at v' s)))
+        same_size (slot_there s lt);
+    rows = λ b lt. subst (λ (n : ℕ). Stands (laid pages seen) (row_place n b) 8 (row_bytes (get_or v'.rows b None)))
+        same_size (row_there b (omega (arith, lt, same_journal)));
+    texts = λ s r e. texts s r e ∙ sym
+        (shown_same (laid pages seen) seen (text_page v'.blocks)
+        (λ p from. out p (λ within. omega (arith, within.below, from, same_journal))) v'.rows s r.text_len);
   }
     where
       area_there : (i : ℕ) → i < 90112 → laid pages seen (index_place v'.blocks + i) ≡ area_byte v'.indexes i
       area_there i lt =
           subst (λ (n : ℕ). laid pages seen (index_place n + i) ≡ area_byte v'.indexes i) same_size
-          (out (index_place v.blocks + i) (λ within. omega (arith, within.from, lt)) ∙ says.area i lt ∙ ap (λ (x : IndexSet). area_byte x i) (sym changes.others.indexes))
+          (out (index_place v.blocks + i) (λ within. omega (arith, within.from, lt)) ∙ says.area i lt
+          ∙ ap (λ (x : IndexSet). area_byte x i) (sym changes.others.indexes))
 
 -- a commit of them makes the new view of the old one
-pub changed_says : {n : ℕ} {pages : List (ℕ × List ℕ)} {seen : ℕ → ℕ} {loose : ℕ → Type 0} {v v' : View} → v.blocks ≡ n → InArea (journal_pages n) pages → v.version ≡ 1 → Rests v seen loose → Ascends pages → Changes pages v v' → HasTexts seen v' → Says (laid pages seen) v'
+pub changed_says : {n : ℕ} {pages : List (ℕ × List ℕ)} {seen : ℕ → ℕ} {loose : ℕ → Type 0} {v v' : View} → v.blocks ≡ n
+    → InArea (journal_pages n) pages → v.version ≡ 1 → Rests v seen loose → Ascends pages → Changes pages v v'
+    → HasTexts seen v' → Says (laid pages seen) v'
 changed_says {pages = pages} {seen = seen} {v = v} {v' = v'} size inside version rests ascends changes texts =
-    laid_says pages seen v v' version (subst (λ (m : ℕ). InArea (journal_pages m) pages) (sym size) inside) ascends changes texts (rests_says rests)
+    laid_says pages seen v v' version (subst (λ (m : ℕ). InArea (journal_pages m) pages) (sym size) inside) ascends
+    changes texts (rests_says rests)

@@ -1,5 +1,6 @@
 -- A spool at rest: images that agree but for blocks that no row owns say the same.
-use Rattle.std.proofs.Common.{◌≡◌, inl, inr, ℕ, zero, suc, ◌+◌, ◌*◌, ◌/◌, ◌≤◌, ◌++◌, Bool, true, false, cond, List, [], ◌∷◌, Option, None, Some, get_or, take, refl, sym, ◌∙◌, ap, subst, arith, ⊎_elim}
+use Rattle.std.proofs.Common.{◌≡◌, inl, inr, ℕ, zero, suc, ◌+◌, ◌*◌, ◌/◌, ◌≤◌, ◌++◌, Bool, true, false, cond, List, []}
+use Rattle.std.proofs.Common.{◌∷◌, Option, None, Some, get_or, take, refl, sym, ◌∙◌, ap, subst, arith, ⊎_elim}
 use Rattle.spool_disk.specs.Disk.{IsImage, Keeps}
 use Rattle.spool_disk.proofs.Span.{span_same}
 use Rattle.spool_journal.specs.Image.{journal_pages, Outside, InForm, count, number, overlaid}
@@ -19,31 +20,41 @@ module _ (a b : ℕ → ℕ) (first : ℕ) where
   abbrev AgreeFrom : ℕ → List (Option (ℕ × ℕ)) → Type 0
   AgreeFrom x rows = (k p : ℕ) → (get_or rows k None ≡ None → ⊥) → first + (x + k) ≡ p / 4096 → a p ≡ b p
 
-  owned_block : (slot ordinal : ℕ) (rows : List (Option (ℕ × ℕ))) (x : ℕ) → AgreeFrom x rows → block_bytes a first (block_at slot ordinal rows x) ≡ block_bytes b first (block_at slot ordinal rows x)
+  owned_block : (slot ordinal : ℕ) (rows : List (Option (ℕ × ℕ))) (x : ℕ) → AgreeFrom x rows
+      → block_bytes a first (block_at slot ordinal rows x) ≡ block_bytes b first (block_at slot ordinal rows x)
   unfolding block_at block_bytes owns
   owned_block slot ordinal [] x agree = refl
   owned_block slot ordinal (row ∷ rows) x agree =
       either (owns slot ordinal row) (Some x) (block_at slot ordinal rows (x + 1))
-      (λ mine. span_same a b (4096 * (first + x)) 4096 (λ p within. agree 0 p (λ none. unowned row none mine) (omega (arith, within.from, within.below))))
+      (λ mine. span_same a b (4096 * (first + x)) 4096
+      (λ p within. agree 0 p (λ none. unowned row none mine) (omega (arith, within.from, within.below))))
       (owned_block slot ordinal rows (x + 1) (λ k p owned e. agree (suc k) p owned (omega (arith, e))))
     where
       unowned : (row : Option (ℕ × ℕ)) → row ≡ None → owns slot ordinal row ≡ true → ⊥
       unowned None e mine = cc
       unowned (Some o) e mine = cc
 
-      either : (t : Bool) (y z : Option ℕ) → (t ≡ true → block_bytes a first y ≡ block_bytes b first y) → block_bytes a first z ≡ block_bytes b first z → block_bytes a first (cond t y z) ≡ block_bytes b first (cond t y z)
+      either : (t : Bool) (y z : Option ℕ) → (t ≡ true → block_bytes a first y ≡ block_bytes b first y)
+          → block_bytes a first z ≡ block_bytes b first z → block_bytes a first (cond t y z) ≡ block_bytes b first
+          (cond t y z)
       either true y z here rest = here refl
       either false y z here rest = rest
 
-  owned_joined : (rows : List (Option (ℕ × ℕ))) → AgreeFrom 0 rows → (slot ordinal n : ℕ) → joined a first rows slot ordinal n ≡ joined b first rows slot ordinal n
+  owned_joined : (rows : List (Option (ℕ × ℕ))) → AgreeFrom 0 rows → (slot ordinal n : ℕ)
+      → joined a first rows slot ordinal n ≡ joined b first rows slot ordinal n
   unfolding joined
   owned_joined rows agree slot ordinal zero = refl
   owned_joined rows agree slot ordinal (suc n) =
       ap (λ (xs : List ℕ). xs ++ joined a first rows slot (ordinal + 1) n) (owned_block slot ordinal rows 0 agree)
-      ∙ ap (λ (xs : List ℕ). block_bytes b first (block_at slot ordinal rows 0) ++ xs) (owned_joined rows agree slot (ordinal + 1) n)
+      ∙ ap (λ (xs : List ℕ). block_bytes b first (block_at slot ordinal rows 0) ++ xs)
+      (owned_joined rows agree slot (ordinal + 1) n)
 
-  pub owned_shown : (rows : List (Option (ℕ × ℕ))) → ((x p : ℕ) → (get_or rows x None ≡ None → ⊥) → first + x ≡ p / 4096 → a p ≡ b p) → (slot len : ℕ) → text_shown a first rows slot len ≡ text_shown b first rows slot len
-  owned_shown rows agree slot len = ap (λ (xs : List ℕ). take len xs) (owned_joined rows (λ k p owned e. agree k p owned (omega (arith, e))) slot 0 ((len + 4095) / 4096))
+  pub owned_shown : (rows : List (Option (ℕ × ℕ)))
+      → ((x p : ℕ) → (get_or rows x None ≡ None → ⊥) → first + x ≡ p / 4096 → a p ≡ b p) → (slot len : ℕ)
+      → text_shown a first rows slot len ≡ text_shown b first rows slot len
+  owned_shown rows agree slot len =
+      ap (λ (xs : List ℕ). take len xs)
+      (owned_joined rows (λ k p owned e. agree k p owned (omega (arith, e))) slot 0 ((len + 4095) / 4096))
 
 -- WHAT AN IMAGE SAYS
 
@@ -52,16 +63,28 @@ pub not_free : (v : View) (p : ℕ) → p / 4096 + 1 ≤ text_page v.blocks → 
 not_free v p below free = omega (arith, free.here, below)
 
 -- neither gate and journal nor the blocks that no row owns matter
-pub says_frees : (a b : ℕ → ℕ) (v : View) → ((p : ℕ) → Outside (journal_pages v.blocks) p → (OnFree v p → ⊥) → a p ≡ b p) → Says b v → Says a v
+pub says_frees : (a b : ℕ → ℕ) (v : View)
+    → ((p : ℕ) → Outside (journal_pages v.blocks) p → (OnFree v p → ⊥) → a p ≡ b p) → Says b v → Says a v
 says_frees a b v same says =
     let j = some_journal v.blocks in
     record {
-      first = stands_same (λ i lt. same (0 + i) (inl (omega (arith, lt))) (not_free v _ (omega (arith, lt)))) says.first;
-      area = λ i lt. same (index_place v.blocks + i) (inr (omega arith)) (not_free v _ (omega (arith, lt, j))) ∙ says.area i lt;
-      state = stands_same (λ i lt. same (state_place v.blocks + i) (inr (omega arith)) (not_free v _ (omega (arith, lt, j)))) says.state;
-      slots = λ s lt. stands_same (λ i below. same (slot_place v.blocks s + i) (inr (omega arith)) (not_free v _ (omega (arith, lt, below, j)))) (says.slots s lt);
-      rows = λ r lt. stands_same (λ i below. same (row_place v.blocks r + i) (inr (omega arith)) (not_free v _ (omega (arith, lt, below, j)))) (says.rows r lt);
-      texts = λ s r e. says.texts s r e ∙ sym (owned_shown a b (text_page v.blocks) v.rows (λ x p owned here. same p (inr (omega (arith, here, j))) (λ free. owned (subst (λ (k : ℕ). get_or v.rows k None ≡ None) (omega (arith, free.here, here)) free.free))) s r.text_len);
+      first = stands_same (λ i lt. same (0 + i) (inl (omega (arith, lt))) (not_free v _ (omega (arith, lt))))
+          says.first;
+      area = λ i lt. same (index_place v.blocks + i) (inr (omega arith)) (not_free v _ (omega (arith, lt, j)))
+          ∙ says.area i lt;
+      state = stands_same (λ i lt. same (state_place v.blocks + i) (inr (omega arith))
+          (not_free v _ (omega (arith, lt, j)))) says.state;
+      slots = λ s lt. stands_same
+          (λ i below. same (slot_place v.blocks s + i) (inr (omega arith)) (not_free v _ (omega (arith, lt, below, j))))
+          (says.slots s lt);
+      rows = λ r lt. stands_same
+          (λ i below. same (row_place v.blocks r + i) (inr (omega arith)) (not_free v _ (omega (arith, lt, below, j))))
+          (says.rows r lt);
+      texts = λ s r e. says.texts s r e ∙ sym
+          (owned_shown a b (text_page v.blocks) v.rows
+          (λ x p owned here. same p (inr (omega (arith, here, j)))
+          (λ free. owned (subst (λ (k : ℕ). get_or v.rows k None ≡ None) (omega (arith, free.here, here))
+          free.free))) s r.text_len);
     }
 
 pub shut_says : (image : ℕ → ℕ) (v : View) → (image 4096 ≡ 165 → ⊥) → IsViewOf image v → Says image v
@@ -74,8 +97,13 @@ shut_is image v shut says = record {
 }
 
 -- a place in a block that no row owns
-pub in_free : {v : View} {n : ℕ} {blocks : List ℕ} (p : ℕ) → v.blocks ≡ n → Unowned v.rows blocks → InBlocks (text_page n) blocks p → OnFree v p
-in_free {blocks = blocks} p size unowned within = record { block = get_or blocks within.at 0; here = omega (arith, ap journal_pages size, within.here); free = unowned within.at within.below }
+pub in_free : {v : View} {n : ℕ} {blocks : List ℕ} (p : ℕ) → v.blocks ≡ n → Unowned v.rows blocks
+    → InBlocks (text_page n) blocks p → OnFree v p
+in_free {blocks = blocks} p size unowned within = record {
+  block = get_or blocks within.at 0;
+  here = omega (arith, ap journal_pages size, within.here);
+  free = unowned within.at within.below;
+}
 
 -- A SPOOL AT REST
 
@@ -84,23 +112,29 @@ module _ {v : View} {seen : ℕ → ℕ} {loose : ℕ → Type 0} where
   rests_says rests = shut_says seen v rests.closed rests.is
 
   -- an image that agrees with it but for gate, journal and the blocks that no row owns
-  pub rests_is : (image : ℕ → ℕ) → Rests v seen loose → (image 4096 ≡ 165 → ⊥) → ((p : ℕ) → Outside (journal_pages v.blocks) p → (OnFree v p → ⊥) → image p ≡ seen p) → IsViewOf image v
+  pub rests_is : (image : ℕ → ℕ) → Rests v seen loose → (image 4096 ≡ 165 → ⊥)
+      → ((p : ℕ) → Outside (journal_pages v.blocks) p → (OnFree v p → ⊥) → image p ≡ seen p) → IsViewOf image v
   rests_is image rests shut same = shut_is image v shut (says_frees image seen v same (rests_says rests))
 
-  pub rests_agrees : (image : ℕ → ℕ) → Rests v seen loose → ((p : ℕ) → (OnFree v p → ⊥) → image p ≡ seen p) → IsViewOf image v
-  rests_agrees image rests same = rests_is image rests (λ ajar. rests.closed (sym (same 4096 (not_free v 4096 (omega arith))) ∙ ajar)) (λ p outside. same p)
+  pub rests_agrees : (image : ℕ → ℕ) → Rests v seen loose → ((p : ℕ) → (OnFree v p → ⊥) → image p ≡ seen p)
+      → IsViewOf image v
+  rests_agrees image rests same =
+      rests_is image rests (λ ajar. rests.closed (sym (same 4096 (not_free v 4096 (omega arith))) ∙ ajar))
+      (λ p outside. same p)
 
   pub rests_image : (image : ℕ → ℕ) → Rests v seen loose → IsImage seen loose image → IsViewOf image v
   rests_image image rests is = rests_agrees image rests (λ p taken. is.same p (λ l. taken (rests.firm p l)))
 
-  pub rests_keeps : {seen' : ℕ → ℕ} {loose' : ℕ → Type 0} → Rests v seen loose → Keeps seen seen' loose loose' → Rests v seen' loose'
+  pub rests_keeps : {seen' : ℕ → ℕ} {loose' : ℕ → Type 0} → Rests v seen loose → Keeps seen seen' loose loose'
+      → Rests v seen' loose'
   rests_keeps {seen' = seen'} rests keeps = record {
     closed = λ ajar. rests.closed (sym (keeps.same 4096) ∙ ajar);
     firm = λ p l. rests.firm p (keeps.loosens p l);
     is = rests_agrees seen' rests (λ p taken. keeps.same p);
   }
 
-  pub rests_writes : {n : ℕ} {seen' : ℕ → ℕ} {loose' : ℕ → Type 0} (blocks : List ℕ) → v.blocks ≡ n → Rests v seen loose → Unowned v.rows blocks → WritesIn (text_page n) blocks seen seen' loose loose' → Rests v seen' loose'
+  pub rests_writes : {n : ℕ} {seen' : ℕ → ℕ} {loose' : ℕ → Type 0} (blocks : List ℕ) → v.blocks ≡ n → Rests v seen loose
+      → Unowned v.rows blocks → WritesIn (text_page n) blocks seen seen' loose loose' → Rests v seen' loose'
   rests_writes {seen' = seen'} blocks size rests unowned writes = record {
     closed = λ ajar. rests.closed (sym (same 4096 (not_free v 4096 (omega arith))) ∙ ajar);
     firm = λ p l. ⊎_elim (rests.firm p) (in_free p size unowned) (writes.loosens p l);
@@ -110,19 +144,26 @@ module _ {v : View} {seen : ℕ → ℕ} {loose : ℕ → Type 0} where
       same : (p : ℕ) → (OnFree v p → ⊥) → seen' p ≡ seen p
       same p taken = writes.outside p (λ within. taken (in_free p size unowned within))
 
-  pub rests_but : {n : ℕ} (blocks : List ℕ) (image : ℕ → ℕ) → v.blocks ≡ n → Rests v seen loose → Unowned v.rows blocks → IsImageBut (text_page n) blocks seen loose image → IsViewOf image v
-  rests_but blocks image size rests unowned is = rests_agrees image rests (λ p taken. is.same p (λ within. taken (in_free p size unowned within)) (λ l. taken (rests.firm p l)))
+  pub rests_but : {n : ℕ} (blocks : List ℕ) (image : ℕ → ℕ) → v.blocks ≡ n → Rests v seen loose → Unowned v.rows blocks
+      → IsImageBut (text_page n) blocks seen loose image → IsViewOf image v
+  rests_but blocks image size rests unowned is =
+      rests_agrees image rests (λ p taken. is.same p (λ within. taken (in_free p size unowned within))
+      (λ l. taken (rests.firm p l)))
 
-  pub rests_aside : {n : ℕ} (blocks : List ℕ) (image : ℕ → ℕ) → v.blocks ≡ n → Rests v seen loose → Unowned v.rows blocks → IsImage seen loose (aside_blocks (text_page n) blocks seen image) → IsViewOf image v
+  pub rests_aside : {n : ℕ} (blocks : List ℕ) (image : ℕ → ℕ) → v.blocks ≡ n → Rests v seen loose
+      → Unowned v.rows blocks → IsImage seen loose (aside_blocks (text_page n) blocks seen image) → IsViewOf image v
   rests_aside {n = n} blocks image size rests unowned is = rests_but blocks image size rests unowned record {
     same = λ p away firm. sym (aside_blocks_else (text_page n) blocks seen image p away) ∙ is.same p firm;
   }
 
-  pub settled_rests : {n : ℕ} {bytes : ℕ → ℕ} → v.blocks ≡ n → Settled (journal_pages n) bytes seen loose → Says bytes v → Rests v seen loose
+  pub settled_rests : {n : ℕ} {bytes : ℕ → ℕ} → v.blocks ≡ n → Settled (journal_pages n) bytes seen loose → Says bytes v
+      → Rests v seen loose
   settled_rests {bytes = bytes} size settled says = record {
     closed = settled.closed;
     firm = λ p l. absurd (settled.firm p l);
-    is = shut_is seen v settled.closed (says_same seen bytes v (λ p outside. settled.same p (subst (λ (m : ℕ). Outside (journal_pages m) p) size outside)) says);
+    is = shut_is seen v settled.closed
+        (says_same seen bytes v (λ p outside. settled.same p
+        (subst (λ (m : ℕ). Outside (journal_pages m) p) size outside)) says);
   }
 
   pub rests_idle : {n : ℕ} → v.blocks ≡ n → Rests v seen loose → Idle (journal_pages n) seen loose
@@ -132,12 +173,18 @@ module _ {v : View} {seen : ℕ → ℕ} {loose : ℕ → Type 0} where
     area = λ p within l. not_free v p (omega (arith, within.below, ap journal_pages size)) (rests.firm p l);
   }
 
-  pub rests_before : {n : ℕ} (image : ℕ → ℕ) → v.blocks ≡ n → Rests v seen loose → IsBefore (journal_pages n) seen loose image → IsViewOf image v
-  rests_before image size rests before = rests_is image rests before.closed (λ p outside taken. before.same p (subst (λ (m : ℕ). Outside (journal_pages m) p) size outside) (λ l. taken (rests.firm p l)))
+  pub rests_before : {n : ℕ} (image : ℕ → ℕ) → v.blocks ≡ n → Rests v seen loose
+      → IsBefore (journal_pages n) seen loose image → IsViewOf image v
+  rests_before image size rests before =
+      rests_is image rests before.closed
+      (λ p outside taken. before.same p (subst (λ (m : ℕ). Outside (journal_pages m) p) size outside)
+      (λ l. taken (rests.firm p l)))
 
 -- read plainly, the image says what the bytes say
-pub reads_is : {n : ℕ} (image bytes : ℕ → ℕ) (v : View) → v.blocks ≡ n → ReadsAs (journal_pages n) image bytes → Says bytes v → IsViewOf image v
+pub reads_is : {n : ℕ} (image bytes : ℕ → ℕ) (v : View) → v.blocks ≡ n → ReadsAs (journal_pages n) image bytes
+    → Says bytes v → IsViewOf image v
 reads_is image bytes v size reads says = record {
   form = λ ajar. subst (λ (m : ℕ). InForm (journal_pages m) (count image) (number image)) (sym size) (reads.form ajar);
-  says = says_same (overlaid image) bytes v (λ p outside. reads.same p (subst (λ (m : ℕ). Outside (journal_pages m) p) size outside)) says;
+  says = says_same (overlaid image) bytes v
+      (λ p outside. reads.same p (subst (λ (m : ℕ). Outside (journal_pages m) p) size outside)) says;
 }

@@ -1,5 +1,6 @@
 -- Two images that say the same.
-use Rattle.std.proofs.Common.{◌≡◌, inl, inr, ℕ, zero, suc, ◌+◌, ◌*◌, ◌/◌, ◌<◌, ◌≤◌, ◌++◌, List, Option, None, Some, take, refl, sym, ◌∙◌, ap, arith}
+use Rattle.std.proofs.Common.{◌≡◌, inl, inr, ℕ, zero, suc, ◌+◌, ◌*◌, ◌/◌, ◌<◌, ◌≤◌, ◌++◌, List, Option, None, Some}
+use Rattle.std.proofs.Common.{take, refl, sym, ◌∙◌, ap, arith}
 use Rattle.spool_disk.proofs.Span.{span_same}
 use Rattle.spool_journal.specs.Image.{journal_pages, all_pages, Outside}
 use Rattle.spool_journal.specs.Texts.{block_at, block_bytes, joined, text_shown}
@@ -21,23 +22,28 @@ module _ (a b : ℕ → ℕ) (first : ℕ) (same : (p : ℕ) → 4096 * first �
   block_same None = refl
   block_same (Some x) = span_same a b (4096 * (first + x)) 4096 (λ p within. same p (omega (arith, within.from)))
 
-  joined_same : (rows : List (Option (ℕ × ℕ))) (slot ordinal n : ℕ) → joined a first rows slot ordinal n ≡ joined b first rows slot ordinal n
+  joined_same : (rows : List (Option (ℕ × ℕ))) (slot ordinal n : ℕ) → joined a first rows slot ordinal n ≡ joined b
+      first rows slot ordinal n
   unfolding joined
   joined_same rows slot ordinal zero = refl
   joined_same rows slot ordinal (suc n) =
       ap (λ (xs : List ℕ). xs ++ joined a first rows slot (ordinal + 1) n) (block_same (block_at slot ordinal rows 0))
-      ∙ ap (λ (xs : List ℕ). block_bytes b first (block_at slot ordinal rows 0) ++ xs) (joined_same rows slot (ordinal + 1) n)
+      ∙ ap (λ (xs : List ℕ). block_bytes b first (block_at slot ordinal rows 0) ++ xs)
+      (joined_same rows slot (ordinal + 1) n)
 
-  pub shown_same : (rows : List (Option (ℕ × ℕ))) (slot len : ℕ) → text_shown a first rows slot len ≡ text_shown b first rows slot len
+  pub shown_same : (rows : List (Option (ℕ × ℕ))) (slot len : ℕ) → text_shown a first rows slot len ≡ text_shown b first
+      rows slot len
   shown_same rows slot len = ap (λ (xs : List ℕ). take len xs) (joined_same rows slot 0 ((len + 4095) / 4096))
 
 -- WHAT AN IMAGE SAYS
 
-pub stands_same : {a b : ℕ → ℕ} {place size : ℕ} {bytes : List ℕ} → ((i : ℕ) → i < size → a (place + i) ≡ b (place + i)) → Stands b place size bytes → Stands a place size bytes
+pub stands_same : {a b : ℕ → ℕ} {place size : ℕ} {bytes : List ℕ} → ((i : ℕ) → i < size → a (place + i) ≡ b (place + i))
+    → Stands b place size bytes → Stands a place size bytes
 stands_same same stands = record { each = λ i lt. same i lt ∙ stands.each i lt }
 
 -- the gate and the journal don't matter
-pub says_same : (a b : ℕ → ℕ) (v : View) → ((p : ℕ) → Outside (journal_pages v.blocks) p → a p ≡ b p) → Says b v → Says a v
+pub says_same : (a b : ℕ → ℕ) (v : View) → ((p : ℕ) → Outside (journal_pages v.blocks) p → a p ≡ b p) → Says b v
+    → Says a v
 says_same a b v same says =
     let j = some_journal v.blocks in
     record {
@@ -46,5 +52,6 @@ says_same a b v same says =
       state = stands_same (λ i lt. same (state_place v.blocks + i) (inr (omega arith))) says.state;
       slots = λ s lt. stands_same (λ i below. same (slot_place v.blocks s + i) (inr (omega arith))) (says.slots s lt);
       rows = λ r lt. stands_same (λ i below. same (row_place v.blocks r + i) (inr (omega arith))) (says.rows r lt);
-      texts = λ s r e. says.texts s r e ∙ sym (shown_same a b (text_page v.blocks) (λ p from. same p (inr (omega (arith, from, j)))) v.rows s r.text_len);
+      texts = λ s r e. says.texts s r e ∙ sym
+          (shown_same a b (text_page v.blocks) (λ p from. same p (inr (omega (arith, from, j)))) v.rows s r.text_len);
     }

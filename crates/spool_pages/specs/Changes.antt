@@ -1,5 +1,6 @@
 -- What changed pages make of a view.
-use Rattle.std.specs.Prelude.{◌≡◌, ℕ, ◌+◌, ◌-◌, ◌*◌, ◌/◌, ◌%◌, ◌<◌, ◌==◌, if◌then◌else◌, List, [], ◌∷◌, Option, Some, None, length, get_or, slice_set}
+use Rattle.std.specs.Prelude.{◌≡◌, ℕ, ◌+◌, ◌-◌, ◌*◌, ◌/◌, ◌%◌, ◌<◌, ◌==◌, if◌then◌else◌, List, [], ◌∷◌, Option, Some}
+use Rattle.std.specs.Prelude.{None, length, get_or, slice_set}
 use Rattle.spool_blocks.specs.Blocks.{Row}
 use Rattle.spool_journal.specs.Image.{byte_of, journal_pages}
 use Rattle.spool_pages.specs.View.{SlotRecord, View, Stands, slot_at, state_page, slot_bytes, row_bytes}
@@ -44,12 +45,15 @@ pub record ChangesButRows (pages : List (ℕ × List ℕ)) (v v' : View) : Type 
   pub version : v'.version ≡ v.version
   pub indexes : v'.indexes ≡ v.indexes
   pub next : Said (page_in (state_number v.blocks) pages) SaysNext v.next v'.next
-  pub slots : (s : ℕ) → s < 512 → Said (page_in (record_number v.blocks s) pages) (SaysSlot s) (slot_at v s) (slot_at v' s)
-  pub rows : (b : ℕ) → b < 512 * (journal_pages v.blocks - 257) → page_in (row_number v.blocks b) pages ≡ None → get_or v'.rows b None ≡ get_or v.rows b None
+  pub slots : (s : ℕ) → s < 512 → Said (page_in (record_number v.blocks s) pages) (SaysSlot s) (slot_at v s)
+      (slot_at v' s)
+  pub rows : (b : ℕ) → b < 512 * (journal_pages v.blocks - 257) → page_in (row_number v.blocks b) pages ≡ None
+      → get_or v'.rows b None ≡ get_or v.rows b None
 
 pub record Changes (pages : List (ℕ × List ℕ)) (v v' : View) : Type 0 where
   pub others : ChangesButRows pages v v'
-  pub rows : (b : ℕ) → b < 512 * (journal_pages v.blocks - 257) → Said (page_in (row_number v.blocks b) pages) (SaysRow b) (get_or v.rows b None) (get_or v'.rows b None)
+  pub rows : (b : ℕ) → b < 512 * (journal_pages v.blocks - 257) → Said (page_in (row_number v.blocks b) pages)
+      (SaysRow b) (get_or v.rows b None) (get_or v'.rows b None)
 
 -- WHAT IS TO BE CHANGED
 
@@ -67,4 +71,5 @@ neighbour slot = if slot % 2 == 0 then slot + 1 else slot - 1
 
 -- the rows differ only where one of these blocks is
 abbrev pub SameRowsBut : List ℕ → List Row → List Row → Type 0
-SameRowsBut blocks old new = (b : ℕ) → ((i : ℕ) → i < length blocks → get_or blocks i 0 ≡ b → ⊥) → get_or new b None ≡ get_or old b None
+SameRowsBut blocks old new =
+    (b : ℕ) → ((i : ℕ) → i < length blocks → get_or blocks i 0 ≡ b → ⊥) → get_or new b None ≡ get_or old b None

@@ -22,4 +22,5 @@ Unowned rows blocks = (i : ℕ) → i < length blocks → get_or rows (get_or bl
 
 -- the view's texts are those that its rows show there
 abbrev pub HasTexts : (ℕ → ℕ) → View → Type 0
-HasTexts seen v = (s : ℕ) (r : SlotRecord) → slot_at v s ≡ Some r → v.texts s ≡ text_shown seen (text_page v.blocks) v.rows s r.text_len
+HasTexts seen v = (s : ℕ) (r : SlotRecord) → slot_at v s ≡ Some r → v.texts s ≡ text_shown seen (text_page v.blocks)
+    v.rows s r.text_len

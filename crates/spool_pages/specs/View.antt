@@ -17,7 +17,8 @@ pub record SlotRecord : Type 0 where
   pub state : List ℕ
   pub metadata : List ℕ
 
--- the number of text blocks, the version, the next number, the index files, the 512 slots, each block's slot and ordinal, and
+-- the number of text blocks, the version, the next number, the index files, the 512 slots, each block's slot and
+-- ordinal, and
 -- each slot's text
 pub record View : Type 0 where
   pub blocks : ℕ
@@ -88,10 +89,13 @@ pub record Says (image : ℕ → ℕ) (v : View) : Type 0 where
   pub area : (i : ℕ) → i < 90112 → image (index_place v.blocks + i) ≡ area_byte v.indexes i
   pub state : Stands image (state_place v.blocks) 4096 (state_page v.version v.next)
   pub slots : (s : ℕ) → s < 512 → Stands image (slot_place v.blocks s) 2048 (slot_bytes (slot_at v s))
-  pub rows : (b : ℕ) → b < 512 * (journal_pages v.blocks - 257) → Stands image (row_place v.blocks b) 8 (row_bytes (get_or v.rows b None))
-  pub texts : (s : ℕ) (r : SlotRecord) → slot_at v s ≡ Some r → v.texts s ≡ text_shown image (text_page v.blocks) v.rows s r.text_len
+  pub rows : (b : ℕ) → b < 512 * (journal_pages v.blocks - 257) → Stands image (row_place v.blocks b) 8
+      (row_bytes (get_or v.rows b None))
+  pub texts : (s : ℕ) (r : SlotRecord) → slot_at v s ≡ Some r → v.texts s ≡ text_shown image (text_page v.blocks) v.rows
+      s r.text_len
 
--- Read plainly the image says this: behind an open gate, whose journal head is in form, the journal's pages lie over their places.
+-- Read plainly the image says this: behind an open gate, whose journal head is in form, the journal's pages lie over
+-- their places.
 pub record IsViewOf (image : ℕ → ℕ) (v : View) : Type 0 where
   pub form : image 4096 ≡ 165 → InForm (journal_pages v.blocks) (count image) (number image)
   pub says : Says (overlaid image) v

@@ -1,8 +1,10 @@
 // The pages that a change of the metadata writes.
-ghost use Rattle.std.specs.Prelude.{◌≡◌, ◌≢◌, ◌↔◌, ◌≤◌, ◌<◌, ℕ, IsTrue, IsSome, OnOk, IfOk, List, IfSome, None, length, get_or, option_copied};
+ghost use Rattle.std.specs.Prelude.{◌≡◌, ◌≢◌, ◌↔◌, ◌≤◌, ◌<◌, ℕ, IsTrue, IsSome, OnOk, IfOk, List, IfSome, None, length};
+ghost use Rattle.std.specs.Prelude.{get_or, option_copied};
 ghost use Rattle.spool_blocks.specs.Blocks.{Row as HeldRow};
 ghost use Rattle.spool_journal.specs.Image.{journal_pages, InMeta, InArea};
-ghost use Rattle.spool_pages.specs.Changes.{page_in, ChangesButRows, Changes, with_record, with_slot, neighbour, SameRowsBut};
+ghost use Rattle.spool_pages.specs.Changes.{page_in, ChangesButRows, Changes, with_record, with_slot, neighbour};
+ghost use Rattle.spool_pages.specs.Changes.{SameRowsBut};
 ghost use Rattle.spool_pages.specs.Fits.{FitsRow};
 ghost use Rattle.spool_pages.specs.View.{View, slot_at};
 
@@ -13,7 +15,8 @@ use spool_blocks::{BlockNo, Row};
 use spool_journal::{Layout, Pages};
 use std::alloc::{AllocError, Global};
 
-/// The pages that a new record and the next number make. `beside` is the record that the other slot on the same page has, none where
+/// The pages that a new record and the next number make. `beside` is the record that the other slot on the same page
+/// has, none where
 /// it is free. Err only where memory runs out.
 pub fn pages_of_new(
     alloc: Global,
@@ -28,7 +31,8 @@ pub fn pages_of_new(
     requires beside { IfSome beside (λ r. length r.now.metadata ≤ 1536) }
     ensures area { IfOk result (λ pages. InArea (journal_pages layout.now) pages) }
     ensures some { IfOk result (λ pages. 1 ≤ length pages) }
-    ensures changes { (v : View) → v.blocks ≡ layout.now → length v.slots ≡ 512 → slot_at v (neighbour slot) ≡ option_copied beside.entry
+    ensures changes { (v : View) → v.blocks ≡ layout.now → length v.slots ≡ 512
+        → slot_at v (neighbour slot) ≡ option_copied beside.entry
         → IfOk result (λ pages. Changes pages v (record (with_record v slot kept.now) { next = next })) }
 {
     let mut pages = Pages::new(alloc);
@@ -82,7 +86,8 @@ pub fn pages_of_change(
     requires blocks { (i : ℕ) → i < length blocks.now → get_or blocks.now i 0 < layout.now }
     ensures area { IfOk result (λ pages. InArea (journal_pages layout.now) pages) }
     ensures some { IfOk result (λ pages. 1 ≤ length pages) }
-    ensures changes { (v : View) → v.blocks ≡ layout.now → length v.slots ≡ 512 → slot_at v (neighbour slot) ≡ option_copied beside.entry
+    ensures changes { (v : View) → v.blocks ≡ layout.now → length v.slots ≡ 512
+        → slot_at v (neighbour slot) ≡ option_copied beside.entry
         → (rows : List HeldRow) → SameRowsBut blocks.now v.rows rows
         → IfOk result (λ pages. ChangesButRows pages v
         (record (with_slot v slot (option_copied kept.entry)) { rows = rows })) }
@@ -101,7 +106,8 @@ pub fn fill_rows(pages: &mut Pages, layout: &Layout, rows: &[Row])
     requires area { InArea (journal_pages layout.now) pages.old }
     ensures area { InArea (journal_pages layout.now) pages.new }
     ensures same_length { length pages.new ≡ length pages.old }
-    ensures changes { (v v' : View) → v.blocks ≡ layout.now → ChangesButRows pages.old v v' → v'.rows ≡ rows.now → Changes pages.new v v' }
+    ensures changes { (v v' : View) → v.blocks ≡ layout.now → ChangesButRows pages.old v v' → v'.rows ≡ rows.now
+        → Changes pages.new v v' }
 {
     let first = first_row_number(layout);
     for at in 0..pages.len() {

@@ -10,7 +10,8 @@ ghost use Rattle.spool_pages.specs.View.{View, IsViewOf, text_page};
 use spool_disk::{Disk, DiskFault};
 use spool_journal::{Layout, Pages, commit};
 
-/// Changes at least one page of a spool at rest, all of them or none, and syncs what was written before: so the new view's rows
+/// Changes at least one page of a spool at rest, all of them or none, and syncs what was written before: so the new
+/// view's rows
 /// may own blocks that were written since the last sync. It takes no memory. An error is that the device failed.
 pub fn change<D: Disk>(disk: &mut D, layout: &Layout, pages: &Pages) -> Result<(), DiskFault>
     requires room { 4096 * all_pages layout.now ≤ D.size disk.old }
@@ -21,15 +22,20 @@ pub fn change<D: Disk>(disk: &mut D, layout: &Layout, pages: &Pages) -> Result<(
     ensures counts { Counts (IsErr result) (D.failures disk.old) (D.failures disk.new) }
 
     // The spool rests with the new view.
-    ensures done { D.honest disk.old → (v v' : View) → v.blocks ≡ layout.now → v.version ≡ 1 → Rests v (D.seen disk.old) (D.loose disk.old) → Changes pages.now v v' → HasTexts (D.seen disk.old) v'
+    ensures done { D.honest disk.old → (v v' : View) → v.blocks ≡ layout.now → v.version ≡ 1
+        → Rests v (D.seen disk.old) (D.loose disk.old) → Changes pages.now v v' → HasTexts (D.seen disk.old) v'
         → OnOk result (Rests v' (D.seen disk.new) (D.loose disk.new)) }
 
     // All is synced, and no text block's byte is another.
-    ensures synced { D.honest disk.old → (v : View) → v.blocks ≡ layout.now → Rests v (D.seen disk.old) (D.loose disk.old) → OnOk result ((p : ℕ) → D.loose disk.new p → ⊥) }
-    ensures texts { D.honest disk.old → (v : View) → v.blocks ≡ layout.now → Rests v (D.seen disk.old) (D.loose disk.old) → OnOk result ((p : ℕ) → 4096 * text_page layout.now ≤ p → D.seen disk.new p ≡ D.seen disk.old p) }
+    ensures synced { D.honest disk.old → (v : View) → v.blocks ≡ layout.now
+        → Rests v (D.seen disk.old) (D.loose disk.old) → OnOk result ((p : ℕ) → D.loose disk.new p → ⊥) }
+    ensures texts { D.honest disk.old → (v : View) → v.blocks ≡ layout.now
+        → Rests v (D.seen disk.old) (D.loose disk.old) → OnOk result
+        ((p : ℕ) → 4096 * text_page layout.now ≤ p → D.seen disk.new p ≡ D.seen disk.old p) }
 
     // A crash during it leaves the old view or the new one.
-    ensures lasts { D.honest disk.old → (v v' : View) → v.blocks ≡ layout.now → v.version ≡ 1 → Rests v (D.seen disk.old) (D.loose disk.old) → Changes pages.now v v' → HasTexts (D.seen disk.old) v'
+    ensures lasts { D.honest disk.old → (v v' : View) → v.blocks ≡ layout.now → v.version ≡ 1
+        → Rests v (D.seen disk.old) (D.loose disk.old) → Changes pages.now v v' → HasTexts (D.seen disk.old) v'
         → Lasts D.Disk disk.old disk.new (λ image. IsViewOf image v ⊎ IsViewOf image v') }
 {
     commit(disk, layout, pages)

@@ -1,5 +1,7 @@
--- A worked example of the definitions: slot 7 owns block 0 for upload 5, the draft 0 has reserved block 1, and block 2 is free.
-use Rattle.std.proofs.Common.{◌≡◌, ◌≢◌, ℕ, zero, suc, ◌+◌, ◌<◌, List, [], ◌∷◌, true, false, length, get_or, None, Some, refl, sym, ◌∙◌, ap, subst, arith, inl, inr, eq-eqb}
+-- A worked example of the definitions: slot 7 owns block 0 for upload 5, the draft 0 has reserved block 1, and block 2
+-- is free.
+use Rattle.std.proofs.Common.{◌≡◌, ◌≢◌, ℕ, zero, suc, ◌+◌, ◌<◌, List, [], ◌∷◌, true, false, length, get_or, None, Some}
+use Rattle.std.proofs.Common.{refl, sym, ◌∙◌, ap, subst, arith, inl, inr, eq-eqb}
 use Rattle.std.proofs.lemmas.Bool.{cases_eq, ne_eqb}
 use Rattle.enc_model.specs.Indexes.{IndexSet}
 use Rattle.spool_blocks.specs.Blocks.{Held}
@@ -84,7 +86,12 @@ no_other (suc e) ne = refl
 
 module _ (x : IndexSet) (u : Upload) (one : blocks_of (length (text_of x u)) ≡ 1) (p : Patch) where
   abbrev world : World
-  world = record { store = record { uploads = (5, u) ∷ []; next = 6; indexes = x }; patches = (0, p) ∷ []; blocks = Some 3 }
+  world = record {
+    store = record { uploads = (5, u) ∷ []; next = 6; indexes = x };
+    patches = (0, p) ∷ [];
+    blocks =
+        Some 3;
+  }
 
   found : (n : ℕ) (v : Upload) → find n ((5, u) ∷ []) ≡ Some v → (5 ≡ n) × (u ≡ v)
   found n v there = elim (cases_eq 5 n) [
@@ -104,9 +111,15 @@ module _ (x : IndexSet) (u : Upload) (one : blocks_of (length (text_of x u)) ≡
     texts = λ n v there.
         let is = found n v there in
         subst (λ (k : ℕ). OwnsOneEach held.rows (slots k) (blocks_of (length (text_of x v)))) is.0
-        (subst (λ (w : Upload). OwnsOneEach held.rows 7 (blocks_of (length (text_of x w)))) is.1 (subst (λ (k : ℕ). OwnsOneEach held.rows 7 k) (sym one) owns_one));
+        (subst (λ (w : Upload). OwnsOneEach held.rows 7 (blocks_of (length (text_of x w)))) is.1
+        (subst (λ (k : ℕ). OwnsOneEach held.rows 7 k) (sym one) owns_one));
     distinct = λ m n v w there there' same. sym (found m v there).0 ∙ (found n w there').0;
-    owners = λ b slot ordinal own. record { number = 5; upload = u; there = refl; is = sym (first_owned b slot ordinal own).owner };
+    owners = λ b slot ordinal own. record {
+      number = 5;
+      upload = u;
+      there = refl;
+      is = sym (first_owned b slot ordinal own).owner;
+    };
   }
 
   only_draft : (e : ℕ) (q : Patch) → e ≢ 0 → find e ((0, p) ∷ []) ≡ Some q → ⊥

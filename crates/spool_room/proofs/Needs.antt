@@ -1,5 +1,6 @@
 -- What a patch wants, in numbers.
-use Rattle.std.proofs.Common.{◌≡◌, ℕ, ◌+◌, ◌-◌, ◌/◌, ◌%◌, ◌≤◌, if◌then◌else◌, Bool, length, Option, None, Some, refl, ◌∙◌, arith}
+use Rattle.std.proofs.Common.{◌≡◌, ℕ, ◌+◌, ◌-◌, ◌/◌, ◌%◌, ◌≤◌, if◌then◌else◌, Bool, length, Option, None, Some, refl}
+use Rattle.std.proofs.Common.{◌∙◌, arith}
 use Rattle.std.proofs.lemmas.Bool.{ne_eqb}
 use Rattle.enc_model.specs.Indexes.{IndexSet}
 use Rattle.upload_rules.specs.Store.{text_of}
@@ -7,7 +8,8 @@ use Rattle.upload_rules.specs.World.{Patch, patch_text, is_there}
 use Rattle.upload_rules.specs.Room.{need_of, text_need, wants}
 use Rattle.spool_room.specs.Holdings.{added}
 
-wants_is : (x : IndexSet) (p : Patch) (done : Bool) → wants x p done ≡ text_need (length (text_of x p.began)) (patch_text x p done)
+wants_is : (x : IndexSet) (p : Patch) (done : Bool) → wants x p done ≡ text_need (length (text_of x p.began))
+    (patch_text x p done)
 unfolding wants
 wants_is x p done = refl
 
@@ -21,7 +23,8 @@ needs_some t a some = rw (ne_eqb a 0 (λ e. absurd (omega (arith, some, e)))) (b
     behind t a = omega arith
 
 module _ (x : IndexSet) (p : Patch) (done : Bool) where
-  pub wants_some : (patch_text x p done).fault ≡ None → 1 ≤ added x p done → wants x p done ≡ (length (text_of x p.began) % 4096 + added x p done + 4095) / 4096
+  pub wants_some : (patch_text x p done).fault ≡ None → 1 ≤ added x p done
+      → wants x p done ≡ (length (text_of x p.began) % 4096 + added x p done + 4095) / 4096
   wants_some fine some = wants_is x p done ∙ rw fine (needs_some (length (text_of x p.began)) (added x p done) some)
 
   pub wants_none : added x p done ≡ 0 → wants x p done ≡ 0

@@ -1,5 +1,6 @@
 -- The rule of room by the counts.
-use Rattle.std.proofs.Common.{◌≡◌, ℕ, ◌+◌, ◌<◌, ◌≤◌, ◌||◌, nat_lt, List, Bool, true, false, length, Some, refl, ◌∙◌, arith}
+use Rattle.std.proofs.Common.{◌≡◌, ℕ, ◌+◌, ◌<◌, ◌≤◌, ◌||◌, nat_lt, List, Bool, true, false, length, Some, refl, ◌∙◌}
+use Rattle.std.proofs.Common.{arith}
 use Rattle.std.proofs.lemmas.Bool.Decides.{nat_tests}
 use Rattle.spool_blocks.specs.Blocks.{Held, free_count}
 use Rattle.spool_blocks.proofs.Counts.{rows_count}
@@ -39,12 +40,15 @@ module _ (w : World) (d : ℕ) (p : Patch) (done : Bool) where
     by_limit = rw limit refl
 
     fits : p.short ≡ false → others w d + wants w.store.indexes p done ≤ n → is_short w d p done ≡ false
-    fits e le = by_limit ∙ or_false p.short (nat_lt n (others w d + wants w.store.indexes p done)) e (at_most n (others w d + wants w.store.indexes p done) le)
+    fits e le = by_limit ∙ or_false p.short (nat_lt n (others w d + wants w.store.indexes p done)) e
+        (at_most n (others w d + wants w.store.indexes p done) le)
 
     exceeds_limit : n < others w d + wants w.store.indexes p done → is_short w d p done ≡ true
-    exceeds_limit lt = by_limit ∙ or_true p.short (nat_lt n (others w d + wants w.store.indexes p done)) (more n (others w d + wants w.store.indexes p done) lt)
+    exceeds_limit lt = by_limit ∙ or_true p.short (nat_lt n (others w d + wants w.store.indexes p done))
+        (more n (others w d + wants w.store.indexes p done) lt)
 
-module _ (w : World) (slots : ℕ → ℕ) (lists : ℕ → List ℕ) (d : ℕ) (h : Held) (size : length h.reserved ≡ length h.rows) (held : IsHeldBy w slots lists d h) where
+module _ (w : World) (slots : ℕ → ℕ) (lists : ℕ → List ℕ) (d : ℕ) (h : Held) (size : length h.reserved ≡ length h.rows)
+    (held : IsHeldBy w slots lists d h) where
   total : free_count h.rows h.reserved + taken w d (lists d) ≡ length h.rows
   total = omega (
     arith,

@@ -20,8 +20,10 @@ pub record IsInUse (uploads : List (ℕ × Upload)) (slots : ℕ → ℕ) (slot 
 -- each upload has a slot of its own, which owns the blocks of its text, one at each ordinal; no other slot owns any
 pub record OwnsTexts (x : IndexSet) (uploads : List (ℕ × Upload)) (slots : ℕ → ℕ) (rows : List Row) : Type 0 where
   pub apart : IsApart uploads
-  pub texts : (n : ℕ) (u : Upload) → find n uploads ≡ Some u → OwnsOneEach rows (slots n) (blocks_of (length (text_of x u)))
-  pub distinct : (m n : ℕ) (u v : Upload) → find m uploads ≡ Some u → find n uploads ≡ Some v → slots m ≡ slots n → m ≡ n
+  pub texts : (n : ℕ) (u : Upload) → find n uploads ≡ Some u → OwnsOneEach rows (slots n)
+      (blocks_of (length (text_of x u)))
+  pub distinct : (m n : ℕ) (u v : Upload) → find m uploads ≡ Some u → find n uploads ≡ Some v → slots m ≡ slots n
+      → m ≡ n
   pub owners : (b slot ordinal : ℕ) → Owns rows b slot ordinal → IsInUse uploads slots slot
 
 -- the block is in one of the lists
@@ -31,7 +33,8 @@ pub record IsInSome (lists : ℕ → List ℕ) (b : ℕ) : Type 0 where
   pub below : at < length (lists list)
   pub here : get_or (lists list) at 0 ≡ b
 
--- each draft number has a list of blocks of its own, and these are the reserved blocks. But for the draft d, which is at work,
+-- each draft number has a list of blocks of its own, and these are the reserved blocks. But for the draft d, which is
+-- at work,
 -- a list is as long as the need of its patch, and empty where there is no patch
 pub record Reserves (x : IndexSet) (patches : List (ℕ × Patch)) (lists : ℕ → List ℕ) (d : ℕ) (h : Held) : Type 0 where
   pub apart : IsApart patches
@@ -59,8 +62,10 @@ taken w d list = used w.store.indexes w.store.uploads + needs_but d w.store.inde
 pub record RuleHolds (w : World) (d : ℕ) (list : List ℕ) (h : Held) : Type 0 where
   pub fits : taken w d list ≤ length h.rows
   pub full : IsFull h → taken w d list ≡ length h.rows
-  pub enough : (p : Patch) (done : Bool) → p.short ≡ false → wants w.store.indexes p done ≤ length list → is_short w d p done ≡ false
-  pub lacking : (p : Patch) (done : Bool) → IsFull h → length list < wants w.store.indexes p done → is_short w d p done ≡ true
+  pub enough : (p : Patch) (done : Bool) → p.short ≡ false → wants w.store.indexes p done ≤ length list
+      → is_short w d p done ≡ false
+  pub lacking : (p : Patch) (done : Bool) → IsFull h → length list < wants w.store.indexes p done
+      → is_short w d p done ≡ true
   pub stays : (p : Patch) (done : Bool) → p.short ≡ true → is_short w d p done ≡ true
 
 -- how many bytes the patch adds to the text

@@ -25,38 +25,46 @@ pub fn rising_numbers()
 
 /// As many blocks are owned as the texts of the uploads use.
 pub fn used_blocks()
-    ensures { (x : IndexSet) (uploads : List (ℕ × Upload)) (slots : ℕ → ℕ) (rows : List Row) → OwnsTexts x uploads slots rows → owned_count rows ≡ used x uploads }
+    ensures { (x : IndexSet) (uploads : List (ℕ × Upload)) (slots : ℕ → ℕ) (rows : List Row)
+        → OwnsTexts x uploads slots rows → owned_count rows ≡ used x uploads }
 {}
 
 /// As many blocks are reserved as the other patches need and the draft at work lists.
 pub fn reserved_blocks()
-    ensures { (x : IndexSet) (patches : List (ℕ × Patch)) (lists : ℕ → List ℕ) (d : ℕ) (h : Held) → Reserves x patches lists d h
+    ensures { (x : IndexSet) (patches : List (ℕ × Patch)) (lists : ℕ → List ℕ) (d : ℕ) (h : Held)
+        → Reserves x patches lists d h
         → reserved_count h.rows h.reserved ≡ needs_but d x patches + length (lists d) }
 {}
 
-/// The law of the counts, of any blocks: the free, the reserved and the owned blocks add up to all, and the owned ones to the
+/// The law of the counts, of any blocks: the free, the reserved and the owned blocks add up to all, and the owned ones
+/// to the
 /// slots' lists.
 pub fn block_counts()
-    ensures { (h : Held) → length h.reserved ≡ length h.rows → ((b slot ordinal : ℕ) → Owns h.rows b slot ordinal → slot < 512) → CountLaw h.rows h.reserved }
+    ensures { (h : Held) → length h.reserved ≡ length h.rows
+        → ((b slot ordinal : ℕ) → Owns h.rows b slot ordinal → slot < 512) → CountLaw h.rows h.reserved }
 {}
 
 /// The rule of room, at any blocks with a flag for each.
 pub fn held_room()
-    ensures { (w : World) (slots : ℕ → ℕ) (lists : ℕ → List ℕ) (d : ℕ) (h : Held) → length h.reserved ≡ length h.rows → IsHeldBy w slots lists d h → RuleHolds w d (lists d) h }
+    ensures { (w : World) (slots : ℕ → ℕ) (lists : ℕ → List ℕ) (d : ℕ) (h : Held) → length h.reserved ≡ length h.rows
+        → IsHeldBy w slots lists d h → RuleHolds w d (lists d) h }
 {}
 
 /// The rule of room, at these blocks.
 pub fn room(blocks: &Blocks)
-    ensures { (w : World) (slots : ℕ → ℕ) (lists : ℕ → List ℕ) (d : ℕ) → IsHeldBy w slots lists d blocks.now → RuleHolds w d (lists d) blocks.now }
+    ensures { (w : World) (slots : ℕ → ℕ) (lists : ℕ → List ℕ) (d : ℕ) → IsHeldBy w slots lists d blocks.now
+        → RuleHolds w d (lists d) blocks.now }
 {
     let _rows = blocks.rows();
 }
 
-/// What a patch wants, in numbers: the blocks of its new text from the committed tail on, and none where nothing is added or the
+/// What a patch wants, in numbers: the blocks of its new text from the committed tail on, and none where nothing is
+/// added or the
 /// text has no value.
 pub fn draft_needs()
     ensures some { (x : IndexSet) (p : Patch) (done : Bool) → (patch_text x p done).fault ≡ None → 1 ≤ added x p done
         → wants x p done ≡ (length (text_of x p.began) % 4096 + added x p done + 4095) / 4096 }
     ensures none { (x : IndexSet) (p : Patch) (done : Bool) → added x p done ≡ 0 → wants x p done ≡ 0 }
-    ensures fault { (x : IndexSet) (p : Patch) (done : Bool) (c : ℕ) → (patch_text x p done).fault ≡ Some c → wants x p done ≡ 0 }
+    ensures fault { (x : IndexSet) (p : Patch) (done : Bool) (c : ℕ) → (patch_text x p done).fault ≡ Some c
+        → wants x p done ≡ 0 }
 {}

@@ -1,5 +1,6 @@
 -- Images but for listed blocks.
-use Rattle.std.proofs.Common.{◌≡◌, ◌⊎◌, inl, inr, ℕ, zero, suc, ◌+◌, ◌*◌, ◌/◌, ◌<◌, ◌≤◌, List, [], ◌∷◌, length, get_or, refl, ◌∙◌, arith, ⊎_elim}
+use Rattle.std.proofs.Common.{◌≡◌, ◌⊎◌, inl, inr, ℕ, zero, suc, ◌+◌, ◌*◌, ◌/◌, ◌<◌, ◌≤◌, List, [], ◌∷◌, length, get_or}
+use Rattle.std.proofs.Common.{refl, ◌∙◌, arith, ⊎_elim}
 use Rattle.std.proofs.lemmas.Bool.{cases_eq}
 use Rattle.spool_disk.specs.Disk.{IsImage}
 use Rattle.spool_journal.proofs.TextFrames.{aside_there, aside_else, frame_aside}
@@ -11,22 +12,27 @@ in_more within = record { at = suc within.at; below = omega (arith, within.below
 pub in_front : {first b p : ℕ} {blocks : List ℕ} → first + b ≡ p / 4096 → InBlocks first (b ∷ blocks) p
 in_front e = record { at = 0; below = omega arith; here = e }
 
-pub aside_blocks_else : (first : ℕ) (blocks : List ℕ) (was image : ℕ → ℕ) (p : ℕ) → (InBlocks first blocks p → ⊥) → aside_blocks first blocks was image p ≡ image p
+pub aside_blocks_else : (first : ℕ) (blocks : List ℕ) (was image : ℕ → ℕ) (p : ℕ) → (InBlocks first blocks p → ⊥)
+    → aside_blocks first blocks was image p ≡ image p
 unfolding aside_blocks
 aside_blocks_else first [] was image p away = refl
 aside_blocks_else first (b ∷ blocks) was image p away =
-    aside_else (first + b) was (aside_blocks first blocks was image) p (λ e. away (in_front e)) ∙ aside_blocks_else first blocks was image p (λ within. away (in_more within))
+    aside_else (first + b) was (aside_blocks first blocks was image) p (λ e. away (in_front e))
+    ∙ aside_blocks_else first blocks was image p (λ within. away (in_more within))
 
 -- a place in one block more
-pub in_cons : {first b p : ℕ} {blocks : List ℕ} → InBlocks first (b ∷ blocks) p → (first + b ≡ p / 4096) ⊎ InBlocks first blocks p
+pub in_cons : {first b p : ℕ} {blocks : List ℕ} → InBlocks first (b ∷ blocks) p
+    → (first + b ≡ p / 4096) ⊎ InBlocks first blocks p
 in_cons {first = first} {b = b} {p = p} {blocks = blocks} within = by_place within.at within.below within.here
   where
-    by_place : (at : ℕ) → at < length (b ∷ blocks) → first + get_or (b ∷ blocks) at 0 ≡ p / 4096 → (first + b ≡ p / 4096) ⊎ InBlocks first blocks p
+    by_place : (at : ℕ) → at < length (b ∷ blocks) → first + get_or (b ∷ blocks) at 0 ≡ p / 4096
+        → (first + b ≡ p / 4096) ⊎ InBlocks first blocks p
     by_place zero below here = inl here
     by_place (suc at) below here = inr record { at = at; below = omega (arith, below); here = here }
 
 -- a place has its old byte, or is outside the blocks
-aside_or_away : (first : ℕ) (blocks : List ℕ) (was image : ℕ → ℕ) (p : ℕ) → (aside_blocks first blocks was image p ≡ was p) ⊎ (InBlocks first blocks p → ⊥)
+aside_or_away : (first : ℕ) (blocks : List ℕ) (was image : ℕ → ℕ) (p : ℕ)
+    → (aside_blocks first blocks was image p ≡ was p) ⊎ (InBlocks first blocks p → ⊥)
 unfolding aside_blocks
 aside_or_away first [] was image p = inr (λ within. omega (arith, within.below))
 aside_or_away first (b ∷ blocks) was image p =
@@ -39,19 +45,29 @@ aside_or_away first (b ∷ blocks) was image p =
     (cases_eq (first + b) (p / 4096))
 
 -- with the blocks as they were, it is an image from before
-pub image_aside : (first : ℕ) (blocks : List ℕ) {seen image : ℕ → ℕ} {loose : ℕ → Type 0} → IsImageBut first blocks seen loose image → IsImage seen loose (aside_blocks first blocks seen image)
+pub image_aside : (first : ℕ) (blocks : List ℕ) {seen image : ℕ → ℕ} {loose : ℕ → Type 0}
+    → IsImageBut first blocks seen loose image → IsImage seen loose (aside_blocks first blocks seen image)
 image_aside first blocks {seen = seen} {image = image} is = record {
-  same = λ p firm. ⊎_elim (λ same. same) (λ away. aside_blocks_else first blocks seen image p away ∙ is.same p away firm) (aside_or_away first blocks seen image p);
+  same = λ p firm. ⊎_elim (λ same. same)
+      (λ away. aside_blocks_else first blocks seen image p away ∙ is.same p away firm)
+      (aside_or_away first blocks seen image p);
 }
 
-pub frame_blocks : (j : ℕ) (blocks : List ℕ) (was image : ℕ → ℕ) → j ≤ 385 → FrameBlocks j (25 + 2 * j) blocks image (aside_blocks (25 + 2 * j) blocks was image)
+pub frame_blocks : (j : ℕ) (blocks : List ℕ) (was image : ℕ → ℕ) → j ≤ 385
+    → FrameBlocks j (25 + 2 * j) blocks image (aside_blocks (25 + 2 * j) blocks was image)
 unfolding aside_blocks
-frame_blocks j [] was image few = record { texts = λ rows slot len none. refl; form = λ formed gate. formed gate; others = λ formed p away. refl }
+frame_blocks j [] was image few = record {
+  texts = λ rows slot len none. refl;
+  form = λ formed gate. formed gate;
+  others = λ formed p away. refl;
+}
 frame_blocks j (b ∷ blocks) was image few =
     let front = frame_aside j b (aside_blocks (25 + 2 * j) blocks was image) was few in
     let rest = frame_blocks j blocks was image few in
     record {
-      texts = λ rows slot len none. rest.texts rows slot len (λ i lt. none (suc i) (omega (arith, lt))) ∙ front.texts rows slot len (none 0 (omega arith));
+      texts = λ rows slot len none. rest.texts rows slot len (λ i lt. none (suc i) (omega (arith, lt)))
+          ∙ front.texts rows slot len (none 0 (omega arith));
       form = λ formed gate. rest.form (front.form formed) gate;
-      others = λ formed p away. rest.others (front.form formed) p (λ within. away (in_more within)) ∙ front.others formed p (λ e. away (in_front e));
+      others = λ formed p away. rest.others (front.form formed) p (λ within. away (in_more within))
+          ∙ front.others formed p (λ e. away (in_front e));
     }

@@ -1,13 +1,15 @@
 -- What a draft holds.
 use Rattle.std.proofs.Common.{◌≡◌, ℕ, ◌+◌, ◌-◌, ◌*◌, ◌≤◌, ◌++◌, List, [], length, take, drop, sym, ◌∙◌, ap, arith}
-use Rattle.std.proofs.lemmas.List.{take_all, append-nil, append_assoc, nil_from_length, take-append-le, take_at, take-take}
+use Rattle.std.proofs.lemmas.List.{take_all, append-nil, append_assoc, nil_from_length, take-append-le, take_at}
+use Rattle.std.proofs.lemmas.List.{take-take}
 use Rattle.std.proofs.Math.Seq.{take-add}
 use Rattle.spool_texts.specs.TextOn.{blocks_on, text_on}
 use Rattle.spool_texts.specs.Drafts.{Draft, full_count, held_count, content_on}
 use Rattle.spool_texts.proofs.Shown.{text_front}
 
 -- nothing is unfinished
-pub all_written : (seen : ℕ → ℕ) (first : ℕ) (d : Draft) → length d.unfinished ≡ 0 → text_on seen first d.blocks (held_count d) ≡ content_on seen first d
+pub all_written : (seen : ℕ → ℕ) (first : ℕ) (d : Draft) → length d.unfinished ≡ 0
+    → text_on seen first d.blocks (held_count d) ≡ content_on seen first d
 all_written seen first d none =
     let held : held_count d ≡ 4096 * length d.blocks = omega (arith, none) in
     let full : length d.blocks ≡ full_count d = omega (arith, none) in
@@ -15,11 +17,15 @@ all_written seen first d none =
     ∙ text_front seen first (length d.blocks) d.blocks (omega arith)
     ∙ ap (λ (n : ℕ). blocks_on seen first (take n d.blocks)) full
     ∙ sym (append-nil (blocks_on seen first (take (full_count d) d.blocks)))
-    ∙ ap (λ (xs : List ℕ). blocks_on seen first (take (full_count d) d.blocks) ++ xs) (sym (nil_from_length d.unfinished none))
+    ∙ ap (λ (xs : List ℕ). blocks_on seen first (take (full_count d) d.blocks) ++ xs)
+    (sym (nil_from_length d.unfinished none))
 
 -- the last block is full, and written
-pub full_written : (seen seen' : ℕ → ℕ) (first : ℕ) (old new : Draft) (more page bytes : List ℕ) → new.unfinished ≡ [] → new.blocks ≡ old.blocks ++ more → length new.blocks ≡ full_count old + 1 → length page ≡ 4096 → page ≡ old.unfinished ++ bytes
-    → text_on seen' first new.blocks (4096 * (length new.blocks - 1) + length page) ≡ text_on seen first new.blocks (4096 * (length new.blocks - 1)) ++ page → content_on seen' first new ≡ content_on seen first old ++ bytes
+pub full_written : (seen seen' : ℕ → ℕ) (first : ℕ) (old new : Draft) (more page bytes : List ℕ) → new.unfinished ≡ []
+    → new.blocks ≡ old.blocks ++ more → length new.blocks ≡ full_count old + 1 → length page ≡ 4096
+    → page ≡ old.unfinished ++ bytes
+    → text_on seen' first new.blocks (4096 * (length new.blocks - 1) + length page) ≡ text_on seen first new.blocks
+    (4096 * (length new.blocks - 1)) ++ page → content_on seen' first new ≡ content_on seen first old ++ bytes
 full_written seen seen' first old new more page bytes none grown ready size is text =
     sym (all_written seen' first new (ap length none))
     ∙ ap (λ (n : ℕ). text_on seen' first new.blocks n) held
@@ -37,10 +43,13 @@ full_written seen seen' first old new more page bytes none grown ready size is t
     full = omega (arith, ready)
 
     front : take (full_count old) new.blocks ≡ take (full_count old) old.blocks
-    front = ap (λ (xs : List ℕ). take (full_count old) xs) grown ∙ take-append-le (full_count old) old.blocks more (omega arith)
+    front = ap (λ (xs : List ℕ). take (full_count old) xs) grown ∙ take-append-le (full_count old) old.blocks more
+        (omega arith)
 
 -- the bytes of a page that is full
-pub page_filled : (cap filled n : ℕ) (page rest old bytes result unfinished : List ℕ) → result ≡ take cap (page ++ rest) → cap ≡ 4096 → length page ≡ 4096 → filled + n ≡ 4096 → take (filled + n) page ≡ take filled old ++ bytes → take filled old ≡ unfinished → result ≡ unfinished ++ bytes
+pub page_filled : (cap filled n : ℕ) (page rest old bytes result unfinished : List ℕ) → result ≡ take cap (page ++ rest)
+    → cap ≡ 4096 → length page ≡ 4096 → filled + n ≡ 4096 → take (filled + n) page ≡ take filled old ++ bytes
+    → take filled old ≡ unfinished → result ≡ unfinished ++ bytes
 page_filled cap filled n page rest old bytes result unfinished is cap_is size full filled_is front =
     is
     ∙ take_at page rest cap (omega (arith, size, cap_is))
@@ -49,7 +58,9 @@ page_filled cap filled n page rest old bytes result unfinished is cap_is size fu
     ∙ ap (λ (xs : List ℕ). xs ++ bytes) front
 
 -- some bytes more
-pub content_more : (new mid old bytes : List ℕ) (done n rest : ℕ) → n ≤ rest → new ≡ mid ++ take n (take rest (drop done bytes)) → mid ≡ old ++ take done bytes → new ≡ old ++ take (done + n) bytes
+pub content_more : (new mid old bytes : List ℕ) (done n rest : ℕ) → n ≤ rest
+    → new ≡ mid ++ take n (take rest (drop done bytes)) → mid ≡ old ++ take done bytes
+    → new ≡ old ++ take (done + n) bytes
 content_more new mid old bytes done n rest le is before =
     is
     ∙ ap (λ (xs : List ℕ). mid ++ xs) (take-take n rest (drop done bytes) le)
@@ -61,5 +72,6 @@ content_more new mid old bytes done n rest le is before =
 pub same_held : (d e : Draft) → e.blocks ≡ d.blocks → e.unfinished ≡ d.unfinished → held_count e ≡ held_count d
 same_held d e blocks unfinished = omega (arith, ap length blocks, ap length unfinished)
 
-pub same_content : (seen : ℕ → ℕ) (first : ℕ) (d e : Draft) → e.blocks ≡ d.blocks → e.unfinished ≡ d.unfinished → content_on seen first e ≡ content_on seen first d
+pub same_content : (seen : ℕ → ℕ) (first : ℕ) (d e : Draft) → e.blocks ≡ d.blocks → e.unfinished ≡ d.unfinished
+    → content_on seen first e ≡ content_on seen first d
 same_content seen first d e blocks unfinished = rw (blocks, unfinished)

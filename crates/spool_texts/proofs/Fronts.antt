@@ -1,5 +1,6 @@
 -- Writes to the last of the listed blocks.
-use Rattle.std.proofs.Common.{◌≡◌, ◌≢◌, inl, inr, ℕ, zero, suc, ◌+◌, ◌-◌, ◌*◌, ◌/◌, ◌<◌, ◌≤◌, ◌++◌, List, [], ◌∷◌, length, get_or, take, refl, sym, ◌∙◌, ap, arith, ⊎_elim, length-append, length-take}
+use Rattle.std.proofs.Common.{◌≡◌, ◌≢◌, inl, inr, ℕ, zero, suc, ◌+◌, ◌-◌, ◌*◌, ◌/◌, ◌<◌, ◌≤◌, ◌++◌, List, [], ◌∷◌}
+use Rattle.std.proofs.Common.{length, get_or, take, refl, sym, ◌∙◌, ap, arith, ⊎_elim, length-append, length-take}
 use Rattle.std.proofs.lemmas.List.{take_more, take_all, append-nil, get_or-take, get_or_append_left}
 use Rattle.spool_disk.specs.Disk.{span, In, IsImage, Writes}
 use Rattle.spool_disk.proofs.Span.{span_same}
@@ -18,25 +19,38 @@ take-span f at zero (suc k) le = absurd (omega (arith, le))
 take-span f at (suc n) (suc k) le = ap (λ (xs : List ℕ). f at ∷ xs) (take-span f (at + 1) n k (omega (arith, le)))
 
 -- the text on one block
-pub text_one : (seen : ℕ → ℕ) (first b len : ℕ) → len ≤ 4096 → text_on seen first (b ∷ []) len ≡ span seen (4096 * (first + b)) len
+pub text_one : (seen : ℕ → ℕ) (first b len : ℕ) → len ≤ 4096 → text_on seen first (b ∷ []) len ≡ span seen
+    (4096 * (first + b)) len
 unfolding blocks_on
-text_one seen first b len le = ap (λ (xs : List ℕ). take len xs) (append-nil (span seen (4096 * (first + b)) 4096)) ∙ take-span seen (4096 * (first + b)) 4096 len le
+text_one seen first b len le =
+    ap (λ (xs : List ℕ). take len xs) (append-nil (span seen (4096 * (first + b)) 4096))
+    ∙ take-span seen (4096 * (first + b)) 4096 len le
 
 -- where two agree on the blocks
-pub blocks_same : (f g : ℕ → ℕ) (first : ℕ) (list : List ℕ) → ((i p : ℕ) → i < length list → first + get_or list i 0 ≡ p / 4096 → f p ≡ g p) → blocks_on f first list ≡ blocks_on g first list
+pub blocks_same : (f g : ℕ → ℕ) (first : ℕ) (list : List ℕ)
+    → ((i p : ℕ) → i < length list → first + get_or list i 0 ≡ p / 4096 → f p ≡ g p)
+    → blocks_on f first list ≡ blocks_on g first list
 unfolding blocks_on
 blocks_same f g first [] same = refl
 blocks_same f g first (b ∷ list) same =
     both
-    (span_same f g (4096 * (first + b)) 4096 (λ p within. same 0 p (omega arith) (omega (arith, within.from, within.below))))
+    (span_same f g (4096 * (first + b)) 4096
+    (λ p within. same 0 p (omega arith) (omega (arith, within.from, within.below))))
     (blocks_same f g first list (λ i p lt e. same (suc i) p (omega (arith, lt)) e))
   where
     both : {a b c d : List ℕ} → a ≡ b → c ≡ d → a ++ c ≡ b ++ d
     both e f = cc
 
-module _ {seen seen' : ℕ → ℕ} {loose loose' : ℕ → Type 0} {done : Type 0} (first : ℕ) (list bytes : List ℕ) (some : 1 ≤ length list) (fits : length bytes ≤ 4096) (writes : Writes (4096 * (first + get_or list (length list - 1) 0) + 0) bytes done seen seen' loose loose') where
-  last_block : (p : ℕ) → In (4096 * (first + get_or list (length list - 1) 0) + 0) (length bytes) p → InBlocks first list p
-  last_block p within = record { at = length list - 1; below = omega (arith, some); here = omega (arith, within.from, within.below, fits) }
+module _ {seen seen' : ℕ → ℕ} {loose loose' : ℕ → Type 0} {done : Type 0} (first : ℕ) (list bytes : List ℕ)
+    (some : 1 ≤ length list) (fits : length bytes ≤ 4096)
+    (writes : Writes (4096 * (first + get_or list (length list - 1) 0) + 0) bytes done seen seen' loose loose') where
+  last_block : (p : ℕ) → In (4096 * (first + get_or list (length list - 1) 0) + 0) (length bytes) p
+      → InBlocks first list p
+  last_block p within = record {
+    at = length list - 1;
+    below = omega (arith, some);
+    here = omega (arith, within.from, within.below, fits);
+  }
 
   pub front_writes : WritesIn first list seen seen' loose loose'
   front_writes = record {
@@ -44,74 +58,103 @@ module _ {seen seen' : ℕ → ℕ} {loose loose' : ℕ → Type 0} {done : Type
     loosens = λ p l. ⊎_elim inl (λ within. inr (last_block p within)) (writes.loosens p l);
   }
 
-  pub front_text : ((i k : ℕ) → i < k → k < length list → get_or list i 0 ≢ get_or list k 0) → done → text_on seen' first list (4096 * (length list - 1) + length bytes) ≡ text_on seen first list (4096 * (length list - 1)) ++ bytes
+  pub front_text : ((i k : ℕ) → i < k → k < length list → get_or list i 0 ≢ get_or list k 0) → done
+      → text_on seen' first list (4096 * (length list - 1) + length bytes) ≡ text_on seen first list
+      (4096 * (length list - 1)) ++ bytes
   front_text distinct ok =
       ap (λ (xs : List ℕ). text_on seen' first xs (4096 * (length list - 1) + length bytes)) whole
-      ∙ text_joined seen' first (length list - 1) (length bytes) list (get_or list (length list - 1) 0 ∷ []) (omega arith)
-      ∙ both (text_front seen' first (length list - 1) list (omega arith) ∙ others ∙ sym (text_front seen first (length list - 1) list (omega arith))) here
+      ∙ text_joined seen' first (length list - 1) (length bytes) list (get_or list (length list - 1) 0 ∷ [])
+      (omega arith)
+      ∙ both (text_front seen' first (length list - 1) list (omega arith) ∙ others
+      ∙ sym (text_front seen first (length list - 1) list (omega arith))) here
     where
       whole : list ≡ take (length list - 1) list ++ get_or list (length list - 1) 0 ∷ []
-      whole = sym (take_all (length list - 1 + 1) list (omega arith)) ∙ take_more list (length list - 1) 0 (omega (arith, some))
+      whole = sym (take_all (length list - 1 + 1) list (omega arith)) ∙ take_more list (length list - 1) 0
+          (omega (arith, some))
 
       others : blocks_on seen' first (take (length list - 1) list) ≡ blocks_on seen first (take (length list - 1) list)
       others = blocks_same seen' seen first (take (length list - 1) list) (λ i p lt e.
           let below : i < length list - 1 = omega (arith, lt, length-take (length list - 1) list) in
-          let e' : first + get_or list i 0 ≡ p / 4096 = ap (λ (b : ℕ). first + b) (sym (get_or-take (length list - 1) list i 0 below)) ∙ e in
-          writes.outside p (λ within. let here = last_block p within in distinct i (length list - 1) below (omega (arith, some)) (omega (arith, e', here.here))))
+          let e' : first + get_or list i 0 ≡ p / 4096 =
+          ap (λ (b : ℕ). first + b) (sym (get_or-take (length list - 1) list i 0 below)) ∙ e in
+          writes.outside p (λ within. let here = last_block p within in distinct i (length list - 1) below
+          (omega (arith, some)) (omega (arith, e', here.here))))
 
       here : text_on seen' first (get_or list (length list - 1) 0 ∷ []) (length bytes) ≡ bytes
       here =
-          let at : 4096 * (first + get_or list (length list - 1) 0) ≡ 4096 * (first + get_or list (length list - 1) 0) + 0 = omega arith in
-          text_one seen' first (get_or list (length list - 1) 0) (length bytes) fits ∙ ap (λ (p : ℕ). span seen' p (length bytes)) at ∙ writes.inside ok
+          let at : 4096 * (first + get_or list (length list - 1) 0) ≡ 4096 * (first + get_or list (length list - 1)
+          0) + 0 = omega arith in
+          text_one seen' first (get_or list (length list - 1) 0) (length bytes) fits
+          ∙ ap (λ (p : ℕ). span seen' p (length bytes)) at ∙ writes.inside ok
 
       both : {a b c d : List ℕ} → a ≡ b → c ≡ d → a ++ c ≡ b ++ d
       both e f = cc
 
 -- no write is one
-pub writes_none : {seen : ℕ → ℕ} {loose : ℕ → Type 0} (first : ℕ) (blocks : List ℕ) → WritesIn first blocks seen seen loose loose
+pub writes_none : {seen : ℕ → ℕ} {loose : ℕ → Type 0} (first : ℕ) (blocks : List ℕ)
+    → WritesIn first blocks seen seen loose loose
 writes_none first blocks = record { outside = λ p away. refl; loosens = λ p l. inl l }
 
-pub idle_in : {j : ℕ} {seen seen' : ℕ → ℕ} {loose loose' : ℕ → Type 0} {blocks : List ℕ} → Idle j seen loose → WritesIn (25 + 2 * j) blocks seen seen' loose loose' → Idle j seen' loose'
+pub idle_in : {j : ℕ} {seen seen' : ℕ → ℕ} {loose loose' : ℕ → Type 0} {blocks : List ℕ} → Idle j seen loose
+    → WritesIn (25 + 2 * j) blocks seen seen' loose loose' → Idle j seen' loose'
 idle_in {j = j} {blocks = blocks} idle writes = record {
   gate = λ l. ⊎_elim idle.gate (λ within. omega (arith, within.here)) (writes.loosens 4096 l);
   closed = λ e. idle.closed (sym (writes.outside 4096 (λ within. omega (arith, within.here))) ∙ e);
-  area = λ p within l. ⊎_elim (idle.area p within) (λ here. omega (arith, here.here, within.below)) (writes.loosens p l);
+  area = λ p within l. ⊎_elim (idle.area p within) (λ here. omega (arith, here.here, within.below))
+      (writes.loosens p l);
 }
 
 -- an image of a write to one of the blocks
-pub image_but : {seen image : ℕ → ℕ} {loose : ℕ → Type 0} (first : ℕ) (list : List ℕ) (i : ℕ) → i < length list → IsImage seen loose (aside (first + get_or list i 0) seen image) → IsImageBut first list seen loose image
+pub image_but : {seen image : ℕ → ℕ} {loose : ℕ → Type 0} (first : ℕ) (list : List ℕ) (i : ℕ) → i < length list
+    → IsImage seen loose (aside (first + get_or list i 0) seen image) → IsImageBut first list seen loose image
 image_but {seen = seen} {image = image} first list i lt is = record {
-  same = λ p away firm. sym (aside_else (first + get_or list i 0) seen image p (λ e. away record { at = i; below = lt; here = e })) ∙ is.same p firm;
+  same = λ p away firm. sym
+      (aside_else (first + get_or list i 0) seen image p (λ e. away record { at = i; below = lt; here = e }))
+      ∙ is.same p firm;
 }
 
 -- an image behind such writes
-pub image_in : {seen seen' image : ℕ → ℕ} {loose loose' : ℕ → Type 0} {first : ℕ} {blocks : List ℕ} → WritesIn first blocks seen seen' loose loose' → IsImage seen' loose' image → IsImageBut first blocks seen loose image
+pub image_in : {seen seen' image : ℕ → ℕ} {loose loose' : ℕ → Type 0} {first : ℕ} {blocks : List ℕ}
+    → WritesIn first blocks seen seen' loose loose' → IsImage seen' loose' image
+    → IsImageBut first blocks seen loose image
 image_in writes is = record {
   same = λ p away firm. is.same p (λ l. ⊎_elim firm away (writes.loosens p l)) ∙ writes.outside p away;
 }
 
 -- a list that grew
-pub in_append : {first p : ℕ} {list list' : List ℕ} (more : List ℕ) → list' ≡ list ++ more → InBlocks first list p → InBlocks first list' p
+pub in_append : {first p : ℕ} {list list' : List ℕ} (more : List ℕ) → list' ≡ list ++ more → InBlocks first list p
+    → InBlocks first list' p
 in_append {first = first} {p = p} {list = list} {list' = list'} more grown within = record {
   at = within.at;
   below = omega (arith, ap length grown, length-append list more, within.below);
-  here = ap (λ (xs : List ℕ). first + get_or xs within.at 0) grown ∙ ap (λ (b : ℕ). first + b) (get_or_append_left list more 0 within.at within.below) ∙ within.here;
+  here = ap (λ (xs : List ℕ). first + get_or xs within.at 0) grown ∙ ap (λ (b : ℕ). first + b)
+      (get_or_append_left list more 0 within.at within.below) ∙ within.here;
 }
 
-pub writes_on : {first : ℕ} {list list' : List ℕ} {seen mid seen' : ℕ → ℕ} {loose between loose' : ℕ → Type 0} (more : List ℕ) → list' ≡ list ++ more → WritesIn first list seen mid loose between → WritesIn first list' mid seen' between loose' → WritesIn first list' seen seen' loose loose'
+pub writes_on : {first : ℕ} {list list' : List ℕ} {seen mid seen' : ℕ → ℕ} {loose between loose' : ℕ → Type 0}
+    (more : List ℕ) → list' ≡ list ++ more → WritesIn first list seen mid loose between
+    → WritesIn first list' mid seen' between loose' → WritesIn first list' seen seen' loose loose'
 writes_on more grown a b = record {
   outside = λ p away. b.outside p away ∙ a.outside p (λ within. away (in_append more grown within));
-  loosens = λ p l. ⊎_elim (λ m. ⊎_elim inl (λ within. inr (in_append more grown within)) (a.loosens p m)) inr (b.loosens p l);
+  loosens = λ p l. ⊎_elim (λ m. ⊎_elim inl (λ within. inr (in_append more grown within)) (a.loosens p m)) inr
+      (b.loosens p l);
 }
 
-pub but_more : {first : ℕ} {list list' : List ℕ} {seen image : ℕ → ℕ} {loose : ℕ → Type 0} (more : List ℕ) → list' ≡ list ++ more → IsImageBut first list seen loose image → IsImageBut first list' seen loose image
+pub but_more : {first : ℕ} {list list' : List ℕ} {seen image : ℕ → ℕ} {loose : ℕ → Type 0} (more : List ℕ)
+    → list' ≡ list ++ more → IsImageBut first list seen loose image → IsImageBut first list' seen loose image
 but_more more grown is = record { same = λ p away firm. is.same p (λ within. away (in_append more grown within)) firm }
 
-pub but_on : {first : ℕ} {list list' : List ℕ} {seen mid image : ℕ → ℕ} {loose between : ℕ → Type 0} (more : List ℕ) → list' ≡ list ++ more → WritesIn first list seen mid loose between → IsImageBut first list' mid between image → IsImageBut first list' seen loose image
+pub but_on : {first : ℕ} {list list' : List ℕ} {seen mid image : ℕ → ℕ} {loose between : ℕ → Type 0} (more : List ℕ)
+    → list' ≡ list ++ more → WritesIn first list seen mid loose between → IsImageBut first list' mid between image
+    → IsImageBut first list' seen loose image
 but_on more grown a is = record {
-  same = λ p away firm. is.same p away (λ m. ⊎_elim firm (λ within. away (in_append more grown within)) (a.loosens p m)) ∙ a.outside p (λ within. away (in_append more grown within));
+  same = λ p away firm. is.same p away (λ m. ⊎_elim firm (λ within. away (in_append more grown within)) (a.loosens p m))
+      ∙ a.outside p (λ within. away (in_append more grown within));
 }
 
 -- where only other blocks were written
-pub blocks_kept : (seen seen' : ℕ → ℕ) (first : ℕ) (list blocks : List ℕ) → SameOutside first blocks seen seen' → NoneOf list blocks → blocks_on seen' first list ≡ blocks_on seen first list
-blocks_kept seen seen' first list blocks same apart = blocks_same seen' seen first list (λ i p lt e. same p (λ within. apart i within.at lt within.below (omega (arith, e, within.here))))
+pub blocks_kept : (seen seen' : ℕ → ℕ) (first : ℕ) (list blocks : List ℕ) → SameOutside first blocks seen seen'
+    → NoneOf list blocks → blocks_on seen' first list ≡ blocks_on seen first list
+blocks_kept seen seen' first list blocks same apart =
+    blocks_same seen' seen first list
+    (λ i p lt e. same p (λ within. apart i within.at lt within.below (omega (arith, e, within.here))))

@@ -1,5 +1,6 @@
 -- The last bytes of a text come onto its last blocks.
-use Rattle.std.proofs.Common.{◌≡◌, ℕ, ◌+◌, ◌-◌, ◌*◌, ◌<◌, ◌≤◌, ◌++◌, List, [], length, take, drop, min, sym, ◌∙◌, ap, arith, ⊎_elim, length-take, length-drop}
+use Rattle.std.proofs.Common.{◌≡◌, ℕ, ◌+◌, ◌-◌, ◌*◌, ◌<◌, ◌≤◌, ◌++◌, List, [], length, take, drop, min, sym, ◌∙◌, ap}
+use Rattle.std.proofs.Common.{arith, ⊎_elim, length-take, length-drop}
 use Rattle.std.proofs.lemmas.Bool.{cases_lt}
 use Rattle.std.proofs.lemmas.List.{take_all, append-nil, append_assoc, take-take, take-append-drop}
 use Rattle.std.proofs.Math.Seq.{take-add}
@@ -9,40 +10,51 @@ use Rattle.spool_texts.proofs.Fronts.{writes_none, writes_on, but_more, but_on}
 use Rattle.spool_texts.proofs.Shown.{text_front}
 
 -- a text is on the first blocks that have room for it
-text_take : (seen : ℕ → ℕ) (first n k : ℕ) (list : List ℕ) → n ≤ length list → k ≤ 4096 * n → text_on seen first (take n list) k ≡ text_on seen first list k
+text_take : (seen : ℕ → ℕ) (first n k : ℕ) (list : List ℕ) → n ≤ length list → k ≤ 4096 * n
+    → text_on seen first (take n list) k ≡ text_on seen first list k
 text_take seen first n k list le fits =
-    ap (λ (xs : List ℕ). take k xs) (sym (text_front seen first n list le)) ∙ take-take k (4096 * n) (blocks_on seen first list) fits
+    ap (λ (xs : List ℕ). take k xs) (sym (text_front seen first n list le))
+    ∙ take-take k (4096 * n) (blocks_on seen first list) fits
 
 take_few : (n : ℕ) (xs : List ℕ) → take (min (length xs) n) xs ≡ take n xs
 take_few n xs = ⊎_elim
-    (λ (lt : length xs < n). take_all (min (length xs) n) xs (omega (arith, lt)) ∙ sym (take_all n xs (omega (arith, lt))))
+    (λ (lt : length xs < n). take_all (min (length xs) n) xs (omega (arith, lt))
+    ∙ sym (take_all n xs (omega (arith, lt))))
     (λ (le : n ≤ length xs). let e : min (length xs) n ≡ n = omega (arith, le) in ap (λ (k : ℕ). take k xs) e)
     (cases_lt (length xs) n)
 
 -- nothing is written yet
 pub none_yet : (seen : ℕ → ℕ) (first full : ℕ) (list last : List ℕ) → full ≤ length list
-    → text_on seen first list (4096 * full + min (length last) (4096 * (full - full))) ≡ blocks_on seen first (take full list) ++ take (4096 * (full - full)) last
+    → text_on seen first list (4096 * full + min (length last) (4096 * (full - full))) ≡ blocks_on seen first
+    (take full list) ++ take (4096 * (full - full)) last
 none_yet seen first full list last le =
     let none : full - full ≡ 0 = omega arith in
     ap (λ (n : ℕ). text_on seen first list (4096 * full + min (length last) (4096 * n))) none
-    ∙ (let at : 4096 * full + min (length last) (4096 * 0) ≡ 4096 * full = omega arith in ap (λ (n : ℕ). text_on seen first list n) at)
+    ∙ (let at : 4096 * full + min (length last) (4096 * 0) ≡ 4096 * full = omega arith in ap
+    (λ (n : ℕ). text_on seen first list n) at)
     ∙ text_front seen first full list le
     ∙ sym (append-nil (blocks_on seen first (take full list)))
     ∙ ap (λ (n : ℕ). blocks_on seen first (take full list) ++ take (4096 * n) last) (sym none)
 
 -- the bytes of one block more are written
-pub one_more : (was seen seen' : ℕ → ℕ) (first full at to : ℕ) (list last bytes : List ℕ) → full ≤ at → at < length list → 4096 * (at - full) < length last
-    → to ≡ min (length last) (4096 * (at - full) + 4096) → bytes ≡ take (to - 4096 * (at - full)) (drop (4096 * (at - full)) last)
-    → text_on seen first list (4096 * full + min (length last) (4096 * (at - full))) ≡ blocks_on was first (take full list) ++ take (4096 * (at - full)) last
-    → text_on seen' first (take (at + 1) list) (4096 * (length (take (at + 1) list) - 1) + length bytes) ≡ text_on seen first (take (at + 1) list) (4096 * (length (take (at + 1) list) - 1)) ++ bytes
-    → text_on seen' first list (4096 * full + min (length last) (4096 * (at + 1 - full))) ≡ blocks_on was first (take full list) ++ take (4096 * (at + 1 - full)) last
+pub one_more : (was seen seen' : ℕ → ℕ) (first full at to : ℕ) (list last bytes : List ℕ) → full ≤ at → at < length list
+    → 4096 * (at - full) < length last
+    → to ≡ min (length last) (4096 * (at - full) + 4096) → bytes ≡ take (to - 4096 * (at - full))
+    (drop (4096 * (at - full)) last)
+    → text_on seen first list (4096 * full + min (length last) (4096 * (at - full))) ≡ blocks_on was first
+    (take full list) ++ take (4096 * (at - full)) last
+    → text_on seen' first (take (at + 1) list) (4096 * (length (take (at + 1) list) - 1) + length bytes) ≡ text_on seen
+    first (take (at + 1) list) (4096 * (length (take (at + 1) list) - 1)) ++ bytes
+    → text_on seen' first list (4096 * full + min (length last) (4096 * (at + 1 - full))) ≡ blocks_on was first
+    (take full list) ++ take (4096 * (at + 1 - full)) last
 one_more was seen seen' first full at to list last bytes le lt some to_is bytes_is before written =
     ap (λ (n : ℕ). text_on seen' first list n) total
     ∙ sym (text_take seen' first (at + 1) (4096 * at + length bytes) list (omega (arith, lt)) (omega (arith, size)))
     ∙ ap (λ (n : ℕ). text_on seen' first (take (at + 1) list) (4096 * n + length bytes)) (sym behind)
     ∙ written
     ∙ ap (λ (n : ℕ). text_on seen first (take (at + 1) list) (4096 * n) ++ bytes) behind
-    ∙ ap (λ (xs : List ℕ). xs ++ bytes) (text_take seen first (at + 1) (4096 * at) list (omega (arith, lt)) (omega arith))
+    ∙ ap (λ (xs : List ℕ). xs ++ bytes)
+    (text_take seen first (at + 1) (4096 * at) list (omega (arith, lt)) (omega arith))
     ∙ ap (λ (n : ℕ). text_on seen first list n ++ bytes) done
     ∙ ap (λ (xs : List ℕ). xs ++ bytes) before
     ∙ append_assoc (blocks_on was first (take full list)) (take (4096 * (at - full)) last) bytes
@@ -60,7 +72,8 @@ one_more was seen seen' first full at to list last bytes le lt some to_is bytes_
     count = omega (arith, to_is, rest_len, some)
 
     all : bytes ≡ take 4096 (drop (4096 * (at - full)) last)
-    all = bytes_is ∙ ap (λ (n : ℕ). take n (drop (4096 * (at - full)) last)) count ∙ take_few 4096 (drop (4096 * (at - full)) last)
+    all = bytes_is ∙ ap (λ (n : ℕ). take n (drop (4096 * (at - full)) last)) count
+        ∙ take_few 4096 (drop (4096 * (at - full)) last)
 
     size : length bytes ≡ min 4096 (length last - 4096 * (at - full))
     size = omega (arith, ap length all, length-take 4096 (drop (4096 * (at - full)) last), rest_len)
@@ -78,9 +91,14 @@ one_more was seen seen' first full at to list last bytes le lt some to_is bytes_
     next = omega (arith, le)
 
 -- a write to the first blocks is one to all
-pub writes_front : {first : ℕ} (n : ℕ) {list : List ℕ} {seen mid seen' : ℕ → ℕ} {loose between loose' : ℕ → Type 0} → WritesIn first list seen mid loose between → WritesIn first (take n list) mid seen' between loose' → WritesIn first list seen seen' loose loose'
+pub writes_front : {first : ℕ} (n : ℕ) {list : List ℕ} {seen mid seen' : ℕ → ℕ} {loose between loose' : ℕ → Type 0}
+    → WritesIn first list seen mid loose between → WritesIn first (take n list) mid seen' between loose'
+    → WritesIn first list seen seen' loose loose'
 writes_front n {list = list} a b =
     writes_on [] (sym (append-nil list)) a (writes_on (drop n list) (sym (take-append-drop n list)) b (writes_none _ _))
 
-pub but_front : {first : ℕ} (n : ℕ) {list : List ℕ} {seen mid image : ℕ → ℕ} {loose between : ℕ → Type 0} → WritesIn first list seen mid loose between → IsImageBut first (take n list) mid between image → IsImageBut first list seen loose image
-but_front n {list = list} a is = but_on [] (sym (append-nil list)) a (but_more (drop n list) (sym (take-append-drop n list)) is)
+pub but_front : {first : ℕ} (n : ℕ) {list : List ℕ} {seen mid image : ℕ → ℕ} {loose between : ℕ → Type 0}
+    → WritesIn first list seen mid loose between → IsImageBut first (take n list) mid between image
+    → IsImageBut first list seen loose image
+but_front n {list = list} a is =
+    but_on [] (sym (append-nil list)) a (but_more (drop n list) (sym (take-append-drop n list)) is)

@@ -1,5 +1,7 @@
 -- Pieces of a text.
-use Rattle.std.proofs.Common.{◌≡◌, ℕ, zero, suc, ◌+◌, ◌-◌, ◌*◌, ◌/◌, ◌%◌, ◌<◌, ◌≤◌, ◌++◌, List, [], ◌∷◌, length, get_or, take, drop, sym, ◌∙◌, ap, subst, arith, ⊎_elim, length-append, length-drop, length-take, min}
+use Rattle.std.proofs.Common.{◌≡◌, ℕ, zero, suc, ◌+◌, ◌-◌, ◌*◌, ◌/◌, ◌%◌, ◌<◌, ◌≤◌, ◌++◌, List, [], ◌∷◌, length, get_or}
+use Rattle.std.proofs.Common.{take, drop, sym, ◌∙◌, ap, subst, arith, ⊎_elim, length-append, length-drop, length-take}
+use Rattle.std.proofs.Common.{min}
 use Rattle.std.proofs.lemmas.Bool.{cases_lt}
 use Rattle.std.proofs.lemmas.List.{get_or_append_left, get_or-append_right, get_or-drop, get_or-take, ext_get_or}
 use borrow.Rule.Slice.PartMut.{put_mid}
@@ -14,32 +16,45 @@ pub get_or-span : (f : ℕ → ℕ) (at n k : ℕ) → k < n → get_or (span f 
 unfolding span
 get_or-span f at zero k lt = omega (arith, lt)
 get_or-span f at (suc n) zero lt = let e : at ≡ at + 0 = omega arith in ap f e
-get_or-span f at (suc n) (suc k) lt = let e : at + 1 + k ≡ at + suc k = omega arith in get_or-span f (at + 1) n k (omega (arith, lt)) ∙ ap f e
+get_or-span f at (suc n) (suc k) lt = let e : at + 1 + k ≡ at + suc k =
+    omega arith in get_or-span f (at + 1) n k (omega (arith, lt)) ∙ ap f e
 
-pub piece_is : (seen : ℕ → ℕ) (first : ℕ) (list : List ℕ) (at n : ℕ) (buf new : List ℕ) → n ≤ length buf → at % 4096 + n ≤ 4096 → new ≡ span seen (4096 * (first + get_or list (at / 4096) 0) + at % 4096) n → IsPiece seen first list at n buf (new ++ drop n buf)
+pub piece_is : (seen : ℕ → ℕ) (first : ℕ) (list : List ℕ) (at n : ℕ) (buf new : List ℕ) → n ≤ length buf
+    → at % 4096 + n ≤ 4096 → new ≡ span seen (4096 * (first + get_or list (at / 4096) 0) + at % 4096) n
+    → IsPiece seen first list at n buf (new ++ drop n buf)
 piece_is seen first list at n buf new fits within is = record {
   size = omega (arith, length-append new (drop n buf), length-drop n buf, size, fits);
-  bytes = λ k lt. get_or_append_left new (drop n buf) 0 k (omega (arith, lt, size)) ∙ ap (λ (xs : List ℕ). get_or xs k 0) is ∙ get_or-span seen (4096 * (first + get_or list (at / 4096) 0) + at % 4096) n k lt ∙ same k lt;
-  rest = λ k le. let e : n + (k - n) ≡ k = omega (arith, le) in get_or-append_right new (drop n buf) n k 0 size le ∙ get_or-drop n buf (k - n) 0 ∙ ap (λ (i : ℕ). get_or buf i 0) e;
+  bytes = λ k lt. get_or_append_left new (drop n buf) 0 k (omega (arith, lt, size))
+      ∙ ap (λ (xs : List ℕ). get_or xs k 0) is ∙ get_or-span seen
+      (4096 * (first + get_or list (at / 4096) 0) + at % 4096) n k lt ∙ same k lt;
+  rest = λ k le. let e : n + (k - n) ≡ k =
+      omega (arith, le) in get_or-append_right new (drop n buf) n k 0 size le ∙ get_or-drop n buf (k - n) 0
+      ∙ ap (λ (i : ℕ). get_or buf i 0) e;
 }
   where
     size : length new ≡ n
     size = ap length is ∙ length-span seen (4096 * (first + get_or list (at / 4096) 0) + at % 4096) n
 
-    same : (k : ℕ) → k < n → seen (4096 * (first + get_or list (at / 4096) 0) + at % 4096 + k) ≡ byte_on seen first list (at + k)
+    same : (k : ℕ) → k < n → seen (4096 * (first + get_or list (at / 4096) 0) + at % 4096 + k) ≡ byte_on seen first list
+        (at + k)
     same k lt =
         let quotient : at / 4096 ≡ (at + k) / 4096 = omega (arith, lt, within) in
         let rest : at % 4096 + k ≡ (at + k) % 4096 = omega (arith, lt, within) in
-        subst (λ (i : ℕ). seen (4096 * (first + get_or list (at / 4096) 0) + at % 4096 + k) ≡ seen (4096 * (first + get_or list i 0) + (at + k) % 4096)) quotient
-        (let e : 4096 * (first + get_or list (at / 4096) 0) + at % 4096 + k ≡ 4096 * (first + get_or list (at / 4096) 0) + (at + k) % 4096 = omega (arith, rest) in ap seen e)
+        subst (λ (i : ℕ). seen (4096 * (first + get_or list (at / 4096) 0) + at % 4096 + k) ≡ seen
+        (4096 * (first + get_or list i 0) + (at + k) % 4096)) quotient
+        (let e : 4096 * (first + get_or list (at / 4096) 0) + at % 4096 + k ≡ 4096 * (first + get_or list (at / 4096)
+        0) + (at + k) % 4096 = omega (arith, rest) in ap seen e)
 
 -- a write into a middle of a buffer
-pub mid_before : (buf sub : List ℕ) (from size k : ℕ) → k < from → from ≤ length buf → get_or (put_mid from size buf sub) k 0 ≡ get_or buf k 0
+pub mid_before : (buf sub : List ℕ) (from size k : ℕ) → k < from → from ≤ length buf
+    → get_or (put_mid from size buf sub) k 0 ≡ get_or buf k 0
 mid_before buf sub from size k lt le =
     let front : length (take from buf) ≡ from = omega (arith, length-take from buf, le) in
-    get_or_append_left (take from buf) (sub ++ drop size (drop from buf)) 0 k (omega (arith, front, lt)) ∙ get_or-take from buf k 0 lt
+    get_or_append_left (take from buf) (sub ++ drop size (drop from buf)) 0 k (omega (arith, front, lt))
+    ∙ get_or-take from buf k 0 lt
 
-pub mid_inside : (buf sub : List ℕ) (from size k : ℕ) → k < length sub → from ≤ length buf → get_or (put_mid from size buf sub) (from + k) 0 ≡ get_or sub k 0
+pub mid_inside : (buf sub : List ℕ) (from size k : ℕ) → k < length sub → from ≤ length buf
+    → get_or (put_mid from size buf sub) (from + k) 0 ≡ get_or sub k 0
 mid_inside buf sub from size k lt le =
     let front : length (take from buf) ≡ from = omega (arith, length-take from buf, le) in
     let e : from + k - from ≡ k = omega arith in
@@ -47,7 +62,8 @@ mid_inside buf sub from size k lt le =
     ∙ ap (λ (i : ℕ). get_or (sub ++ drop size (drop from buf)) i 0) e
     ∙ get_or_append_left sub (drop size (drop from buf)) 0 k lt
 
-pub mid_behind : (buf sub : List ℕ) (from size k : ℕ) → from + size ≤ k → length sub ≡ size → from ≤ length buf → get_or (put_mid from size buf sub) k 0 ≡ get_or buf k 0
+pub mid_behind : (buf sub : List ℕ) (from size k : ℕ) → from + size ≤ k → length sub ≡ size → from ≤ length buf
+    → get_or (put_mid from size buf sub) k 0 ≡ get_or buf k 0
 mid_behind buf sub from size k le same fits =
     let front : length (take from buf) ≡ from = omega (arith, length-take from buf, fits) in
     let e : from + (size + (k - from - size)) ≡ k = omega (arith, le) in
@@ -58,12 +74,15 @@ mid_behind buf sub from size k le same fits =
     ∙ ap (λ (i : ℕ). get_or buf i 0) e
 
 -- one piece more of a text
-module _ {seen mid : ℕ → ℕ} {loose loose' : ℕ → Type 0} (first : ℕ) (list : List ℕ) (at from to n : ℕ) (old buf sub : List ℕ) (keeps : Keeps seen mid loose loose') (upto : from ≤ to) (fits : to ≤ length buf) (few : n ≤ length (take (to - from) (drop from buf)))
+module _ {seen mid : ℕ → ℕ} {loose loose' : ℕ → Type 0} (first : ℕ) (list : List ℕ) (at from to n : ℕ)
+    (old buf sub : List ℕ) (keeps : Keeps seen mid loose loose') (upto : from ≤ to) (fits : to ≤ length buf)
+    (few : n ≤ length (take (to - from) (drop from buf)))
     (piece : IsPiece mid first list (at + from) n (take (to - from) (drop from buf)) sub) where
   sub_size : length sub ≡ to - from
   sub_size = omega (arith, piece.size, length-take (to - from) (drop from buf), length-drop from buf, upto, fits)
 
-  pub bytes_on : ((k : ℕ) → k < from → get_or buf k 0 ≡ byte_on seen first list (at + k)) → (k : ℕ) → k < from + n → get_or (put_mid from (to - from) buf sub) k 0 ≡ byte_on seen first list (at + k)
+  pub bytes_on : ((k : ℕ) → k < from → get_or buf k 0 ≡ byte_on seen first list (at + k)) → (k : ℕ) → k < from + n
+      → get_or (put_mid from (to - from) buf sub) k 0 ≡ byte_on seen first list (at + k)
   bytes_on before k lt =
       ⊎_elim
       (λ (front : k < from). mid_before buf sub from (to - from) k front (omega (arith, upto, fits)) ∙ before k front)
@@ -71,13 +90,15 @@ module _ {seen mid : ℕ → ℕ} {loose loose' : ℕ → Type 0} (first : ℕ) 
       let e : from + (k - from) ≡ k = omega (arith, behind) in
       let e' : at + from + (k - from) ≡ at + k = omega (arith, behind) in
       subst (λ (i : ℕ). get_or (put_mid from (to - from) buf sub) i 0 ≡ byte_on seen first list (at + k)) e
-      (mid_inside buf sub from (to - from) (k - from) (omega (arith, lt, behind, piece.size, few)) (omega (arith, upto, fits))
+      (mid_inside buf sub from (to - from) (k - from) (omega (arith, lt, behind, piece.size, few))
+      (omega (arith, upto, fits))
       ∙ piece.bytes (k - from) (omega (arith, lt, behind))
       ∙ keeps.same (4096 * (first + get_or list ((at + from + (k - from)) / 4096) 0) + (at + from + (k - from)) % 4096)
       ∙ ap (byte_on seen first list) e'))
       (cases_lt k from)
 
-  pub rest_on : ((k : ℕ) → from ≤ k → get_or buf k 0 ≡ get_or old k 0) → (k : ℕ) → from + n ≤ k → get_or (put_mid from (to - from) buf sub) k 0 ≡ get_or old k 0
+  pub rest_on : ((k : ℕ) → from ≤ k → get_or buf k 0 ≡ get_or old k 0) → (k : ℕ) → from + n ≤ k
+      → get_or (put_mid from (to - from) buf sub) k 0 ≡ get_or old k 0
   rest_on before k le =
       ⊎_elim
       (λ (inside : k < to).
@@ -89,11 +110,13 @@ module _ {seen mid : ℕ → ℕ} {loose loose' : ℕ → Type 0} (first : ℕ) 
       ∙ get_or-drop from buf (k - from) 0
       ∙ ap (λ (i : ℕ). get_or buf i 0) e
       ∙ before k (omega (arith, le))))
-      (λ (behind : to ≤ k). mid_behind buf sub from (to - from) k (omega (arith, behind, upto)) sub_size (omega (arith, upto, fits)) ∙ before k (omega (arith, le)))
+      (λ (behind : to ≤ k). mid_behind buf sub from (to - from) k (omega (arith, behind, upto)) sub_size
+      (omega (arith, upto, fits)) ∙ before k (omega (arith, le)))
       (cases_lt k to)
 
 -- a byte of a text
-pub byte_of_text : (seen : ℕ → ℕ) (first : ℕ) (list : List ℕ) (at : ℕ) → at < 4096 * length list → get_or (blocks_on seen first list) at 0 ≡ byte_on seen first list at
+pub byte_of_text : (seen : ℕ → ℕ) (first : ℕ) (list : List ℕ) (at : ℕ) → at < 4096 * length list
+    → get_or (blocks_on seen first list) at 0 ≡ byte_on seen first list at
 unfolding blocks_on
 byte_of_text seen first [] at lt = absurd (omega (arith, lt))
 byte_of_text seen first (b ∷ list) at lt =
@@ -101,22 +124,26 @@ byte_of_text seen first (b ∷ list) at lt =
     (λ (here : at < 4096).
     let quotient : 0 ≡ at / 4096 = omega (arith, here) in
     let rest : at ≡ at % 4096 = omega (arith, here) in
-    get_or_append_left (span seen (4096 * (first + b)) 4096) (blocks_on seen first list) 0 at (omega (arith, here, length-span seen (4096 * (first + b)) 4096))
+    get_or_append_left (span seen (4096 * (first + b)) 4096) (blocks_on seen first list) 0 at
+    (omega (arith, here, length-span seen (4096 * (first + b)) 4096))
     ∙ get_or-span seen (4096 * (first + b)) 4096 at here
     ∙ ap (λ (i : ℕ). seen (4096 * (first + b) + i)) rest
     ∙ ap (λ (i : ℕ). seen (4096 * (first + get_or (b ∷ list) i 0) + at % 4096)) quotient)
     (λ (behind : 4096 ≤ at).
     let quotient : suc ((at - 4096) / 4096) ≡ at / 4096 = omega (arith, behind) in
     let rest : (at - 4096) % 4096 ≡ at % 4096 = omega (arith, behind) in
-    get_or-append_right (span seen (4096 * (first + b)) 4096) (blocks_on seen first list) 4096 at 0 (length-span seen (4096 * (first + b)) 4096) behind
+    get_or-append_right (span seen (4096 * (first + b)) 4096) (blocks_on seen first list) 4096 at 0
+    (length-span seen (4096 * (first + b)) 4096) behind
     ∙ byte_of_text seen first list (at - 4096) (omega (arith, lt, behind))
     ∙ ap (λ (i : ℕ). seen (4096 * (first + get_or list ((at - 4096) / 4096) 0) + i)) rest
     ∙ ap (λ (i : ℕ). seen (4096 * (first + get_or (b ∷ list) i 0) + at % 4096)) quotient)
     (cases_lt at 4096)
 
 -- all that there is and fits was read
-pub all_read : (seen : ℕ → ℕ) (first : ℕ) (list : List ℕ) (len at n : ℕ) (old buf : List ℕ) → len ≤ 4096 * length list → n ≡ min (len - at) (length old) → length buf ≡ length old
-    → ((k : ℕ) → k < n → get_or buf k 0 ≡ byte_on seen first list (at + k)) → ((k : ℕ) → n ≤ k → get_or buf k 0 ≡ get_or old k 0) → IsRead (text_on seen first list len) at n old buf
+pub all_read : (seen : ℕ → ℕ) (first : ℕ) (list : List ℕ) (len at n : ℕ) (old buf : List ℕ) → len ≤ 4096 * length list
+    → n ≡ min (len - at) (length old) → length buf ≡ length old
+    → ((k : ℕ) → k < n → get_or buf k 0 ≡ byte_on seen first list (at + k))
+    → ((k : ℕ) → n ≤ k → get_or buf k 0 ≡ get_or old k 0) → IsRead (text_on seen first list len) at n old buf
 all_read seen first list len at n old buf long is same bytes rest = record {
   count = omega (arith, is, size);
   bytes = ext_get_or 0 buf (take n (drop at (text_on seen first list len)) ++ drop n old) sizes (λ k lt. ⊎_elim
@@ -126,11 +153,13 @@ all_read seen first list len at n old buf long is same bytes rest = record {
       ∙ sym (get_or-take len (blocks_on seen first list) (at + k) 0 (omega (arith, inside, is)))
       ∙ sym (get_or-drop at (text_on seen first list len) k 0)
       ∙ sym (get_or-take n (drop at (text_on seen first list len)) k 0 inside)
-      ∙ sym (get_or_append_left (take n (drop at (text_on seen first list len))) (drop n old) 0 k (omega (arith, inside, front))))
+      ∙ sym (get_or_append_left (take n (drop at (text_on seen first list len))) (drop n old) 0 k
+      (omega (arith, inside, front))))
       (λ (behind : n ≤ k).
       let e : n + (k - n) ≡ k = omega (arith, behind) in
       rest k behind
-      ∙ sym (get_or-append_right (take n (drop at (text_on seen first list len))) (drop n old) n k 0 front behind ∙ get_or-drop n old (k - n) 0 ∙ ap (λ (i : ℕ). get_or old i 0) e))
+      ∙ sym (get_or-append_right (take n (drop at (text_on seen first list len))) (drop n old) n k 0 front behind
+      ∙ get_or-drop n old (k - n) 0 ∙ ap (λ (i : ℕ). get_or old i 0) e))
       (cases_lt k n));
 }
   where
@@ -138,15 +167,31 @@ all_read seen first list len at n old buf long is same bytes rest = record {
     size = omega (arith, length-take len (blocks_on seen first list), length-blocks_on seen first list, long)
 
     front : length (take n (drop at (text_on seen first list len))) ≡ n
-    front = omega (arith, length-take n (drop at (text_on seen first list len)), length-drop at (text_on seen first list len), size, is)
+    front = omega (
+      arith,
+      length-take n (drop at (text_on seen first list len)),
+      length-drop at
+          (text_on seen first list len),
+      size,
+      is,
+    )
 
     sizes : length buf ≡ length (take n (drop at (text_on seen first list len)) ++ drop n old)
-    sizes = omega (arith, length-append (take n (drop at (text_on seen first list len))) (drop n old), front, length-drop n old, same, is)
+    sizes = omega (
+      arith,
+      length-append (take n (drop at (text_on seen first list len))) (drop n old),
+      front,
+      length-drop n old,
+      same,
+      is,
+    )
 
 -- a call that changes nothing, after another
-pub keeps_on : {seen mid seen' : ℕ → ℕ} {loose between loose' : ℕ → Type 0} → Keeps seen mid loose between → Keeps mid seen' between loose' → Keeps seen seen' loose loose'
+pub keeps_on : {seen mid seen' : ℕ → ℕ} {loose between loose' : ℕ → Type 0} → Keeps seen mid loose between
+    → Keeps mid seen' between loose' → Keeps seen seen' loose loose'
 keeps_on a b = record { same = λ p. b.same p ∙ a.same p; loosens = λ p l. a.loosens p (b.loosens p l) }
 
 -- its images are those from before
-pub image_keeps : {seen mid image : ℕ → ℕ} {loose between : ℕ → Type 0} → Keeps seen mid loose between → IsImage mid between image → IsImage seen loose image
+pub image_keeps : {seen mid image : ℕ → ℕ} {loose between : ℕ → Type 0} → Keeps seen mid loose between
+    → IsImage mid between image → IsImage seen loose image
 image_keeps a is = record { same = λ p firm. is.same p (λ l. firm (a.loosens p l)) ∙ a.same p }

@@ -13,7 +13,8 @@ counts_same counts to from = record {
 }
 
 -- the bytes behind the last full block were read
-pub tail_is : (text old given rest : List ℕ) (len n : ℕ) → length text ≡ len → length old ≡ len % 4096 → IsRead text (len - len % 4096) n old given → take (len % 4096) (given ++ rest) ≡ drop (len - len % 4096) text
+pub tail_is : (text old given rest : List ℕ) (len n : ℕ) → length text ≡ len → length old ≡ len % 4096
+    → IsRead text (len - len % 4096) n old given → take (len % 4096) (given ++ rest) ≡ drop (len - len % 4096) text
 tail_is text old given rest len n size old_size read =
     take_at given rest (len % 4096) (ap length is ∙ tail) ∙ is
   where
@@ -23,4 +24,7 @@ tail_is text old given rest len n size old_size read =
     is : given ≡ drop (len - len % 4096) text
     is =
         let count : n ≡ len % 4096 = omega (arith, read.count, size, old_size) in
-        read.bytes ∙ ap (λ (xs : List ℕ). take n (drop (len - len % 4096) text) ++ xs) (drop_all n old (omega (arith, count, old_size))) ∙ append-nil (take n (drop (len - len % 4096) text)) ∙ take_all n (drop (len - len % 4096) text) (omega (arith, count, length-drop (len - len % 4096) text, size))
+        read.bytes ∙ ap (λ (xs : List ℕ). take n (drop (len - len % 4096) text) ++ xs)
+        (drop_all n old (omega (arith, count, old_size))) ∙ append-nil (take n (drop (len - len % 4096) text))
+        ∙ take_all n (drop (len - len % 4096) text)
+        (omega (arith, count, length-drop (len - len % 4096) text, size))

@@ -3,7 +3,8 @@ use Rattle.std.specs.Prelude.{◌≡◌, ◌≢◌, ℕ, ◌+◌, ◌*◌, ◌-�
 use Rattle.spool_blocks.specs.Blocks.{Held, IsFree}
 use Rattle.spool_texts.specs.TextOn.{blocks_on}
 
--- its blocks by ordinal, from that of the committed tail on; the bytes that aren't on a full block; and how many blocks its list
+-- its blocks by ordinal, from that of the committed tail on; the bytes that aren't on a full block; and how many blocks
+-- its list
 -- holds before it takes more memory
 pub record Draft : Type 0 where
   pub blocks : List ℕ
@@ -41,7 +42,8 @@ pub record Takes (old new : Held) (list list' : List ℕ) : Type 0 where
   pub size : length new.reserved ≡ length old.reserved
   pub free : (i : ℕ) → i < length more → IsFree old (get_or more i 0)
   pub taken : (i : ℕ) → i < length more → get_or new.reserved (get_or more i 0) false ≡ true
-  pub others : (b : ℕ) → ((i : ℕ) → i < length more → get_or more i 0 ≢ b) → get_or new.reserved b false ≡ get_or old.reserved b false
+  pub others : (b : ℕ) → ((i : ℕ) → i < length more → get_or more i 0 ≢ b)
+      → get_or new.reserved b false ≡ get_or old.reserved b false
   pub keeps : (b : ℕ) → get_or old.reserved b false ≡ true → get_or new.reserved b false ≡ true
 
 -- the listed blocks are reserved no more; the others are as they were
@@ -49,4 +51,5 @@ pub record GivesBack (old new : Held) (list : List ℕ) : Type 0 where
   pub rows : new.rows ≡ old.rows
   pub size : length new.reserved ≡ length old.reserved
   pub given : (i : ℕ) → i < length list → get_or new.reserved (get_or list i 0) false ≡ false
-  pub others : (b : ℕ) → ((i : ℕ) → i < length list → get_or list i 0 ≢ b) → get_or new.reserved b false ≡ get_or old.reserved b false
+  pub others : (b : ℕ) → ((i : ℕ) → i < length list → get_or list i 0 ≢ b)
+      → get_or new.reserved b false ≡ get_or old.reserved b false

@@ -33,6 +33,9 @@ aside_blocks first (b ∷ blocks) was image = aside (first + b) was (aside_block
 
 -- blocks that no row owns change no text, and no block changes what is read outside it
 pub record FrameBlocks (j first : ℕ) (blocks : List ℕ) (a b : ℕ → ℕ) : Type 0 where
-  pub texts : (rows : List (Option (ℕ × ℕ))) (slot len : ℕ) → ((i : ℕ) → i < length blocks → get_or rows (get_or blocks i 0) None ≡ None) → text_shown a first rows slot len ≡ text_shown b first rows slot len
+  pub texts : (rows : List (Option (ℕ × ℕ))) (slot len : ℕ)
+      → ((i : ℕ) → i < length blocks → get_or rows (get_or blocks i 0) None ≡ None)
+      → text_shown a first rows slot len ≡ text_shown b first rows slot len
   pub form : (b 4096 ≡ 165 → InForm j (count b) (number b)) → a 4096 ≡ 165 → InForm j (count a) (number a)
-  pub others : (b 4096 ≡ 165 → InForm j (count b) (number b)) → (p : ℕ) → (InBlocks first blocks p → ⊥) → overlaid a p ≡ overlaid b p
+  pub others : (b 4096 ≡ 165 → InForm j (count b) (number b)) → (p : ℕ) → (InBlocks first blocks p → ⊥)
+      → overlaid a p ≡ overlaid b p

@@ -1,11 +1,14 @@
 // The new text of a draft.
-ghost use Rattle.std.specs.Prelude.{◌≡◌, ◌≤◌, ◌<◌, ◌≢◌, ◌*◌, ◌+◌, ◌-◌, ◌/◌, ◌%◌, ◌++◌, ◌^◌, ◌↔◌, ℕ, [], ◌∷◌, length, take, drop, replicate, min, true, get_or, IsOk, IsErr, IsErrOf, IfOk, OnOk, OnErr, vec_len, vec_capacity};
+ghost use Rattle.std.specs.Prelude.{◌≡◌, ◌≤◌, ◌<◌, ◌≢◌, ◌*◌, ◌+◌, ◌-◌, ◌/◌, ◌%◌, ◌++◌, ◌^◌, ◌↔◌, ℕ, [], ◌∷◌, length};
+ghost use Rattle.std.specs.Prelude.{take, drop, replicate, min, true, get_or, IsOk, IsErr, IsErrOf, IfOk, OnOk, OnErr};
+ghost use Rattle.std.specs.Prelude.{vec_len, vec_capacity};
 ghost use Rattle.spool_blocks.specs.Blocks.{IsFree, with_reserved};
 ghost use Rattle.spool_disk.specs.Disk.{Counts, IsImage, Keeps};
 ghost use Rattle.spool_disk.specs.Views.{Lasts};
 ghost use Rattle.spool_journal.specs.Image.{journal_pages, all_pages};
 ghost use Rattle.spool_journal.specs.Phases.{Idle};
-ghost use Rattle.spool_texts.specs.Drafts.{Draft, full_count, held_count, content_on, bytes_with, IsReserved, Takes, GivesBack};
+ghost use Rattle.spool_texts.specs.Drafts.{Draft, full_count, held_count, content_on, bytes_with, IsReserved, Takes};
+ghost use Rattle.spool_texts.specs.Drafts.{GivesBack};
 ghost use Rattle.spool_texts.specs.TextOn.{text_on, AllBelow};
 ghost use Rattle.spool_texts.specs.Written.{WritesIn, IsImageBut, aside_blocks};
 
@@ -16,7 +19,8 @@ use spool_journal::{Layout, PAGE, write_block};
 use std::alloc::{AllocError, Global};
 use std::marker::Model;
 
-/// The new text of a draft: the blocks that it reserved, and the bytes of the unfinished block. Dropped without `give_back` or
+/// The new text of a draft: the blocks that it reserved, and the bytes of the unfinished block. Dropped without
+/// `give_back` or
 /// `into_list`, its blocks stay reserved.
 #[derive(Drop)]
 pub struct DraftText {
@@ -29,13 +33,15 @@ pub struct DraftText {
 impl Model for DraftText {
     ghost Value = { Draft };
 
-    ghost view = { λ d. record { blocks = d.blocks.items; unfinished = take d.filled d.page.items; room = vec_capacity d.blocks } };
+    ghost view = { λ d. record
+        { blocks = d.blocks.items; unfinished = take d.filled d.page.items; room = vec_capacity d.blocks } };
 
     ghost invariant = { λ d. (length d.page.items ≡ 4096) × (d.filled < 4096) × (length d.blocks.items ≤ 65536) };
 }
 
 impl DraftText {
-    /// No new text behind the one of this length on the listed blocks. The bytes on its last block, if that isn't full, are read
+    /// No new text behind the one of this length on the listed blocks. The bytes on its last block, if that isn't full,
+    /// are read
     /// and stay in memory: they go on a block of the draft's own with its first new byte.
     pub fn begin<D: Disk>(
         alloc: Global,
@@ -52,10 +58,14 @@ impl DraftText {
         ensures counts { Counts (IsErrOf result DraftError.DiskFault) (D.failures disk.old) (D.failures disk.new) }
         ensures enough { IsErrOf result DraftError.Full → ⊥ }
         ensures none { IfOk result (λ draft. draft.blocks ≡ []) }
-        ensures tail { D.honest disk.old → IfOk result (λ draft. draft.unfinished ≡ drop (len - len % 4096) (text_on (D.seen disk.old) (25 + 2 * journal_pages layout.now) list.now len)) }
+        ensures tail { D.honest disk.old → IfOk result
+            (λ draft. draft.unfinished ≡ drop (len - len % 4096)
+            (text_on (D.seen disk.old) (25 + 2 * journal_pages layout.now) list.now len)) }
         ensures tail_size { IfOk result (λ draft. length draft.unfinished ≡ len % 4096) }
-        ensures keeps { D.honest disk.old → Keeps (D.seen disk.old) (D.seen disk.new) (D.loose disk.old) (D.loose disk.new) }
-        ensures lasts { D.honest disk.old → Lasts D.Disk disk.old disk.new (IsImage (D.seen disk.old) (D.loose disk.old)) }
+        ensures keeps { D.honest disk.old → Keeps (D.seen disk.old) (D.seen disk.new) (D.loose disk.old)
+            (D.loose disk.new) }
+        ensures lasts { D.honest disk.old → Lasts D.Disk disk.old disk.new
+            (IsImage (D.seen disk.old) (D.loose disk.old)) }
     {
         let mut page = vec![in alloc; 0; PAGE]?;
         let filled = read_tail(disk, layout, list, len, &mut page)?;
@@ -110,7 +120,8 @@ impl DraftText {
         PAGE as u64 * full as u64 + self.filled as u64
     }
 
-    /// Puts bytes behind. A block is reserved as its first byte comes, and written, without a sync, as its last one does.
+    /// Puts bytes behind. A block is reserved as its first byte comes, and written, without a sync, as its last one
+    /// does.
     pub fn put<D: Disk>(
         &mut self,
         disk: &mut D,
@@ -124,26 +135,39 @@ impl DraftText {
         ensures size { D.size disk.new ≡ D.size disk.old }
         ensures honest { D.honest disk.old ↔ D.honest disk.new }
         ensures counts { Counts (IsErrOf result DraftError.DiskFault) (D.failures disk.old) (D.failures disk.new) }
-        ensures nothing { length bytes.now ≡ 0 → (self.new ≡ self.old) × (disk.new ≡ disk.old) × (blocks.new ≡ blocks.old) × IsOk result }
+        ensures nothing { length bytes.now ≡ 0
+            → (self.new ≡ self.old) × (disk.new ≡ disk.old) × (blocks.new ≡ blocks.old) × IsOk result }
         ensures held { OnOk result (held_count self.new ≡ held_count self.old + length bytes.now) }
-        ensures content { D.honest disk.old → OnOk result (content_on (D.seen disk.new) (25 + 2 * journal_pages layout.now) self.new ≡ content_on (D.seen disk.old) (25 + 2 * journal_pages layout.now) self.old ++ bytes.now) }
+        ensures content { D.honest disk.old → OnOk result
+            (content_on (D.seen disk.new) (25 + 2 * journal_pages layout.now) self.new ≡ content_on (D.seen disk.old)
+            (25 + 2 * journal_pages layout.now) self.old ++ bytes.now) }
 
         // Where memory is short, nothing is done.
-        ensures memory { IsErrOf result DraftError.NoMemory → (self.new ≡ self.old) × (disk.new ≡ disk.old) × (blocks.new ≡ blocks.old) }
+        ensures memory { IsErrOf result DraftError.NoMemory
+            → (self.new ≡ self.old) × (disk.new ≡ disk.old) × (blocks.new ≡ blocks.old) }
 
-        // It reserves no more blocks than its bytes need, and refuses only where they need more and none is free. What it reserved
+        // It reserves no more blocks than its bytes need, and refuses only where they need more and none is free. What
+        // it reserved
         // it holds after a refusal too.
-        ensures listed { OnOk result (1 ≤ length bytes.now → length self.new.blocks ≡ (held_count self.new + 4095) / 4096) }
+        ensures listed { OnOk result
+            (1 ≤ length bytes.now → length self.new.blocks ≡ (held_count self.new + 4095) / 4096) }
         ensures takes { Takes blocks.old blocks.new self.old.blocks self.new.blocks }
         ensures reserved { IsReserved blocks.new self.new.blocks }
         ensures full { IsErrOf result DraftError.Full → (b : ℕ) → IsFree blocks.new b → ⊥ }
-        ensures scarce { IsErrOf result DraftError.Full → length self.new.blocks < (held_count self.old + length bytes.now + 4095) / 4096 }
+        ensures scarce { IsErrOf result DraftError.Full → length
+            self.new.blocks < (held_count self.old + length bytes.now + 4095) / 4096 }
 
         // But for its own blocks, nothing is written, and every image is one from before.
-        ensures writes { D.honest disk.old → WritesIn (25 + 2 * journal_pages layout.now) self.new.blocks (D.seen disk.old) (D.seen disk.new) (D.loose disk.old) (D.loose disk.new) }
-        ensures idle { D.honest disk.old → Idle (journal_pages layout.now) (D.seen disk.old) (D.loose disk.old) → Idle (journal_pages layout.now) (D.seen disk.new) (D.loose disk.new) }
-        ensures image { D.honest disk.old → (image : ℕ → ℕ) → IsImage (D.seen disk.new) (D.loose disk.new) image → IsImage (D.seen disk.old) (D.loose disk.old) (aside_blocks (25 + 2 * journal_pages layout.now) self.new.blocks (D.seen disk.old) image) }
-        ensures lasts { D.honest disk.old → Lasts D.Disk disk.old disk.new (λ image. IsImage (D.seen disk.old) (D.loose disk.old) (aside_blocks (25 + 2 * journal_pages layout.now) self.new.blocks (D.seen disk.old) image)) }
+        ensures writes { D.honest disk.old → WritesIn (25 + 2 * journal_pages layout.now) self.new.blocks
+            (D.seen disk.old) (D.seen disk.new) (D.loose disk.old) (D.loose disk.new) }
+        ensures idle { D.honest disk.old → Idle (journal_pages layout.now) (D.seen disk.old) (D.loose disk.old)
+            → Idle (journal_pages layout.now) (D.seen disk.new) (D.loose disk.new) }
+        ensures image { D.honest disk.old → (image : ℕ → ℕ) → IsImage (D.seen disk.new) (D.loose disk.new) image
+            → IsImage (D.seen disk.old) (D.loose disk.old)
+            (aside_blocks (25 + 2 * journal_pages layout.now) self.new.blocks (D.seen disk.old) image) }
+        ensures lasts { D.honest disk.old → Lasts D.Disk disk.old disk.new
+            (λ image. IsImage (D.seen disk.old) (D.loose disk.old)
+            (aside_blocks (25 + 2 * journal_pages layout.now) self.new.blocks (D.seen disk.old) image)) }
     {
         if bytes.is_empty() {
             return Ok(());
@@ -191,14 +215,19 @@ impl DraftText {
         ensures listed { OnOk result (1 ≤ length self.new.blocks) }
         ensures few { length self.new.unfinished < 4096 }
         ensures held { IfOk result (λ n. held_count self.new ≡ held_count self.old + n) }
-        ensures content { D.honest disk.old → IfOk result (λ n. content_on (D.seen disk.new) (25 + 2 * journal_pages layout.now) self.new ≡ content_on (D.seen disk.old) (25 + 2 * journal_pages layout.now) self.old ++ take n bytes.now) }
+        ensures content { D.honest disk.old → IfOk result
+            (λ n. content_on (D.seen disk.new) (25 + 2 * journal_pages layout.now) self.new ≡ content_on (D.seen disk.old)
+            (25 + 2 * journal_pages layout.now) self.old ++ take n bytes.now) }
         ensures takes { Takes blocks.old blocks.new self.old.blocks self.new.blocks }
         ensures reserved { IsReserved blocks.new self.new.blocks }
         ensures full { IsErrOf result DraftError.Full → (b : ℕ) → IsFree blocks.new b → ⊥ }
         ensures scarce { IsErrOf result DraftError.Full → 4096 * length self.new.blocks ≤ held_count self.old }
-        ensures writes { D.honest disk.old → WritesIn (25 + 2 * journal_pages layout.now) self.new.blocks (D.seen disk.old) (D.seen disk.new) (D.loose disk.old) (D.loose disk.new) }
-        ensures idle { D.honest disk.old → Idle (journal_pages layout.now) (D.seen disk.old) (D.loose disk.old) → Idle (journal_pages layout.now) (D.seen disk.new) (D.loose disk.new) }
-        ensures lasts { D.honest disk.old → Lasts D.Disk disk.old disk.new (IsImageBut (25 + 2 * journal_pages layout.now) self.new.blocks (D.seen disk.old) (D.loose disk.old)) }
+        ensures writes { D.honest disk.old → WritesIn (25 + 2 * journal_pages layout.now) self.new.blocks
+            (D.seen disk.old) (D.seen disk.new) (D.loose disk.old) (D.loose disk.new) }
+        ensures idle { D.honest disk.old → Idle (journal_pages layout.now) (D.seen disk.old) (D.loose disk.old)
+            → Idle (journal_pages layout.now) (D.seen disk.new) (D.loose disk.new) }
+        ensures lasts { D.honest disk.old → Lasts D.Disk disk.old disk.new
+            (IsImageBut (25 + 2 * journal_pages layout.now) self.new.blocks (D.seen disk.old) (D.loose disk.old)) }
     {
         self.open_block(blocks)?;
         let n = fill(&mut self.page, self.filled, bytes);
@@ -211,7 +240,8 @@ impl DraftText {
         Ok(n)
     }
 
-    /// Takes these bytes as the last ones, in memory: it reserves the blocks for them, and answers what `write_last` is to write, the
+    /// Takes these bytes as the last ones, in memory: it reserves the blocks for them, and answers what `write_last` is
+    /// to write, the
     /// bytes of the unfinished block and these. The draft may only be spent then.
     pub fn end(
         &mut self,
@@ -226,15 +256,19 @@ impl DraftText {
         ensures some { IsErrOf result DraftError.Full → 1 ≤ length bytes.now }
 
         // The bytes on its blocks with those that it answers are all that it held, and the last ones.
-        ensures content { (seen : ℕ → ℕ) (first : ℕ) → IfOk result (λ last. bytes_with seen first self.new.blocks last.items ≡ content_on seen first self.old ++ bytes.now) }
-        ensures fits { IfOk result (λ last. 1 ≤ length self.new.blocks → (length last.items + 4095) / 4096 ≤ length self.new.blocks) }
+        ensures content { (seen : ℕ → ℕ) (first : ℕ) → IfOk result
+            (λ last. bytes_with seen first self.new.blocks last.items ≡ content_on seen first self.old ++ bytes.now) }
+        ensures fits { IfOk result
+            (λ last. 1 ≤ length self.new.blocks → (length last.items + 4095) / 4096 ≤ length self.new.blocks) }
 
         // It reserves no more blocks than its bytes need, as `put` does.
-        ensures listed { OnOk result (1 ≤ length bytes.now → length self.new.blocks ≡ (held_count self.old + length bytes.now + 4095) / 4096) }
+        ensures listed { OnOk result
+            (1 ≤ length bytes.now → length self.new.blocks ≡ (held_count self.old + length bytes.now + 4095) / 4096) }
         ensures takes { Takes blocks.old blocks.new self.old.blocks self.new.blocks }
         ensures reserved { IsReserved blocks.new self.new.blocks }
         ensures full { IsErrOf result DraftError.Full → (b : ℕ) → IsFree blocks.new b → ⊥ }
-        ensures scarce { IsErrOf result DraftError.Full → length self.new.blocks < (held_count self.old + length bytes.now + 4095) / 4096 }
+        ensures scarce { IsErrOf result DraftError.Full → length
+            self.new.blocks < (held_count self.old + length bytes.now + 4095) / 4096 }
     {
         let last = self.unfinished_with(alloc, bytes)?;
         if bytes.is_empty() {
@@ -305,7 +339,9 @@ fn read_tail<D: Disk>(
     ensures honest { D.honest disk.old ↔ D.honest disk.new }
     ensures counts { Counts (IsErr result) (D.failures disk.old) (D.failures disk.new) }
     ensures count { IfOk result (λ n. n ≡ len % 4096) }
-    ensures tail { D.honest disk.old → OnOk result (take (len % 4096) page.new ≡ drop (len - len % 4096) (text_on (D.seen disk.old) (25 + 2 * journal_pages layout.now) list.now len)) }
+    ensures tail { D.honest disk.old → OnOk result
+        (take (len % 4096) page.new ≡ drop (len - len % 4096)
+        (text_on (D.seen disk.old) (25 + 2 * journal_pages layout.now) list.now len)) }
     ensures keeps { D.honest disk.old → Keeps (D.seen disk.old) (D.seen disk.new) (D.loose disk.old) (D.loose disk.new) }
     ensures lasts { D.honest disk.old → Lasts D.Disk disk.old disk.new (IsImage (D.seen disk.old) (D.loose disk.old)) }
 {
@@ -336,10 +372,16 @@ fn write_front<D: Disk>(
     ensures size { D.size disk.new ≡ D.size disk.old }
     ensures honest { D.honest disk.old ↔ D.honest disk.new }
     ensures counts { Counts (IsErr result) (D.failures disk.old) (D.failures disk.new) }
-    ensures text { D.honest disk.old → OnOk result (text_on (D.seen disk.new) (25 + 2 * journal_pages layout.now) list.now (4096 * (length list.now - 1) + length bytes.now) ≡ text_on (D.seen disk.old) (25 + 2 * journal_pages layout.now) list.now (4096 * (length list.now - 1)) ++ bytes.now) }
-    ensures writes { D.honest disk.old → WritesIn (25 + 2 * journal_pages layout.now) list.now (D.seen disk.old) (D.seen disk.new) (D.loose disk.old) (D.loose disk.new) }
-    ensures idle { D.honest disk.old → Idle (journal_pages layout.now) (D.seen disk.old) (D.loose disk.old) → Idle (journal_pages layout.now) (D.seen disk.new) (D.loose disk.new) }
-    ensures lasts { D.honest disk.old → Lasts D.Disk disk.old disk.new (IsImageBut (25 + 2 * journal_pages layout.now) list.now (D.seen disk.old) (D.loose disk.old)) }
+    ensures text { D.honest disk.old → OnOk result
+        (text_on (D.seen disk.new) (25 + 2 * journal_pages layout.now) list.now
+        (4096 * (length list.now - 1) + length bytes.now) ≡ text_on (D.seen disk.old)
+        (25 + 2 * journal_pages layout.now) list.now (4096 * (length list.now - 1)) ++ bytes.now) }
+    ensures writes { D.honest disk.old → WritesIn (25 + 2 * journal_pages layout.now) list.now (D.seen disk.old)
+        (D.seen disk.new) (D.loose disk.old) (D.loose disk.new) }
+    ensures idle { D.honest disk.old → Idle (journal_pages layout.now) (D.seen disk.old) (D.loose disk.old)
+        → Idle (journal_pages layout.now) (D.seen disk.new) (D.loose disk.new) }
+    ensures lasts { D.honest disk.old → Lasts D.Disk disk.old disk.new
+        (IsImageBut (25 + 2 * journal_pages layout.now) list.now (D.seen disk.old) (D.loose disk.old)) }
 {
     let last = list[list.len() - 1];
     write_block(disk, layout, last, 0, bytes)
@@ -359,9 +401,13 @@ pub fn write_last<D: Disk>(
     ensures honest { D.honest disk.old ↔ D.honest disk.new }
     ensures counts { Counts (IsErr result) (D.failures disk.old) (D.failures disk.new) }
     ensures written { D.honest disk.old → OnOk result ((length last.now + 4095) / 4096 ≤ length list.now
-        → text_on (D.seen disk.new) (25 + 2 * journal_pages layout.now) list.now (length (bytes_with (D.seen disk.old) (25 + 2 * journal_pages layout.now) list.now last.now)) ≡ bytes_with (D.seen disk.old) (25 + 2 * journal_pages layout.now) list.now last.now) }
-    ensures writes { D.honest disk.old → WritesIn (25 + 2 * journal_pages layout.now) list.now (D.seen disk.old) (D.seen disk.new) (D.loose disk.old) (D.loose disk.new) }
-    ensures lasts { D.honest disk.old → Lasts D.Disk disk.old disk.new (IsImageBut (25 + 2 * journal_pages layout.now) list.now (D.seen disk.old) (D.loose disk.old)) }
+        → text_on (D.seen disk.new) (25 + 2 * journal_pages layout.now) list.now
+        (length (bytes_with (D.seen disk.old) (25 + 2 * journal_pages layout.now) list.now last.now)) ≡ bytes_with
+        (D.seen disk.old) (25 + 2 * journal_pages layout.now) list.now last.now) }
+    ensures writes { D.honest disk.old → WritesIn (25 + 2 * journal_pages layout.now) list.now (D.seen disk.old)
+        (D.seen disk.new) (D.loose disk.old) (D.loose disk.new) }
+    ensures lasts { D.honest disk.old → Lasts D.Disk disk.old disk.new
+        (IsImageBut (25 + 2 * journal_pages layout.now) list.now (D.seen disk.old) (D.loose disk.old)) }
 {
     let full = list.len().saturating_sub(last.len().div_ceil(PAGE));
     for at in full..list.len() {

@@ -8,23 +8,34 @@ ghost use Rattle.spool_texts.specs.Written.{FrameBlocks, NoneOf, SameOutside, as
 
 use spool_journal::Layout;
 
-/// Where a list has the blocks of a slot by ordinal, as many as the text needs, the text on the list is the one that the rows show.
+/// Where a list has the blocks of a slot by ordinal, as many as the text needs, the text on the list is the one that
+/// the rows show.
 /// And the text on two lists joined is that on the first one, whole, and that on the second.
 pub fn shown_texts()
-    ensures shown { (image : ℕ → ℕ) (first : ℕ) (rows : List (Option (ℕ × ℕ))) (slot len : ℕ) (list : List ℕ) → IsListed rows slot list → length list ≡ (len + 4095) / 4096 → text_on image first list len ≡ text_shown image first rows slot len }
-    ensures joined { (image : ℕ → ℕ) (first n len : ℕ) (list more : List ℕ) → n ≤ length list → text_on image first (take n list ++ more) (4096 * n + len) ≡ text_on image first list (4096 * n) ++ text_on image first more len }
+    ensures shown { (image : ℕ → ℕ) (first : ℕ) (rows : List (Option (ℕ × ℕ))) (slot len : ℕ) (list : List ℕ)
+        → IsListed rows slot list → length list ≡ (len + 4095) / 4096 → text_on image first list len ≡ text_shown image
+        first rows slot len }
+    ensures joined { (image : ℕ → ℕ) (first n len : ℕ) (list more : List ℕ) → n ≤ length list
+        → text_on image first (take n list ++ more) (4096 * n + len) ≡ text_on image first list (4096 * n) ++ text_on
+        image first more len }
 {}
 
 /// Texts on other blocks stay where only some blocks are written: those on a list, and what a draft holds.
 pub fn kept_texts()
-    ensures text { (seen seen' : ℕ → ℕ) (first len : ℕ) (list blocks : List ℕ) → SameOutside first blocks seen seen' → NoneOf list blocks → text_on seen' first list len ≡ text_on seen first list len }
-    ensures content { (seen seen' : ℕ → ℕ) (first : ℕ) (draft : Draft) (blocks : List ℕ) → SameOutside first blocks seen seen' → NoneOf draft.blocks blocks → content_on seen' first draft ≡ content_on seen first draft }
+    ensures text { (seen seen' : ℕ → ℕ) (first len : ℕ) (list blocks : List ℕ) → SameOutside first blocks seen seen'
+        → NoneOf list blocks → text_on seen' first list len ≡ text_on seen first list len }
+    ensures content { (seen seen' : ℕ → ℕ) (first : ℕ) (draft : Draft) (blocks : List ℕ)
+        → SameOutside first blocks seen seen' → NoneOf draft.blocks blocks
+        → content_on seen' first draft ≡ content_on seen first draft }
 {}
 
-/// An image shows the same as with some blocks as they were: the same texts where no row owns the blocks, and outside them it is
+/// An image shows the same as with some blocks as they were: the same texts where no row owns the blocks, and outside
+/// them it is
 /// read the same.
 pub fn same_but_blocks(layout: &Layout)
-    ensures { (blocks : List ℕ) (was image : ℕ → ℕ) → FrameBlocks (journal_pages layout.now) (25 + 2 * journal_pages layout.now) blocks image (aside_blocks (25 + 2 * journal_pages layout.now) blocks was image) }
+    ensures { (blocks : List ℕ) (was image : ℕ → ℕ) → FrameBlocks (journal_pages layout.now)
+        (25 + 2 * journal_pages layout.now) blocks image
+        (aside_blocks (25 + 2 * journal_pages layout.now) blocks was image) }
 {
     let _pages = layout.journal();
 }

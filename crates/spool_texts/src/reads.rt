@@ -10,7 +10,8 @@ use spool_blocks::BlockNo;
 use spool_disk::{Disk, DiskFault};
 use spool_journal::{Layout, PAGE};
 
-/// Reads bytes of the text of this length on the listed blocks from `at` on, as many as there are and fit. It reads each block
+/// Reads bytes of the text of this length on the listed blocks from `at` on, as many as there are and fit. It reads
+/// each block
 /// concerned once, and takes no memory.
 pub fn read_text<D: Disk>(
     disk: &mut D,
@@ -27,7 +28,8 @@ pub fn read_text<D: Disk>(
     ensures honest { D.honest disk.old ↔ D.honest disk.new }
     ensures counts { Counts (IsErr result) (D.failures disk.old) (D.failures disk.new) }
     ensures later { D.moment disk.old ≤ D.moment disk.new }
-    ensures read { D.honest disk.old → IfOk result (λ n. IsRead (text_on (D.seen disk.old) (25 + 2 * journal_pages layout.now) list.now len) at n buf.old buf.new) }
+    ensures read { D.honest disk.old → IfOk result
+        (λ n. IsRead (text_on (D.seen disk.old) (25 + 2 * journal_pages layout.now) list.now len) at n buf.old buf.new) }
     ensures keeps { D.honest disk.old → Keeps (D.seen disk.old) (D.seen disk.new) (D.loose disk.old) (D.loose disk.new) }
     ensures lasts { D.honest disk.old → Lasts D.Disk disk.old disk.new (IsImage (D.seen disk.old) (D.loose disk.old)) }
 {
@@ -57,7 +59,8 @@ fn read_piece<D: Disk>(
     ensures later { D.moment disk.old ≤ D.moment disk.new }
     ensures some { IfOk result (λ n. 1 ≤ n) }
     ensures within { IfOk result (λ n. n ≤ length buf.old) }
-    ensures piece { D.honest disk.old → IfOk result (λ n. IsPiece (D.seen disk.old) (25 + 2 * journal_pages layout.now) list.now at n buf.old buf.new) }
+    ensures piece { D.honest disk.old → IfOk result
+        (λ n. IsPiece (D.seen disk.old) (25 + 2 * journal_pages layout.now) list.now at n buf.old buf.new) }
     ensures keeps { D.honest disk.old → Keeps (D.seen disk.old) (D.seen disk.new) (D.loose disk.old) (D.loose disk.new) }
     ensures lasts { D.honest disk.old → Lasts D.Disk disk.old disk.new (IsImage (D.seen disk.old) (D.loose disk.old)) }
 {

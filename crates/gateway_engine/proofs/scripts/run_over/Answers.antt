@@ -8,15 +8,22 @@ use Rattle.gateway_script.specs.Runs.{view, IsAt, Ends}
 use Rattle.gateway_engine.specs.Ran.{HasRun}
 use Rattle.gateway_script.specs.declared.faults.ScriptFault.TheVariants as runs
 use Rattle.gateway_script.proofs.Counting.{uncounted}
-use Rattle.gateway_engine.proofs.Exits.{begins, ran, stopped, unbegun, some_script, shows_since, shows_through, last_through}
+use Rattle.gateway_engine.proofs.Exits.{begins, ran, stopped, unbegun, some_script, shows_since, shows_through}
+use Rattle.gateway_engine.proofs.Exits.{last_through}
 use Rattle.gateway_engine.proofs.Exits.{counts_nothing, reader_counts, none_counts, writer_counts}
 use Rattle.gateway_engine.proofs.scripts.run_over.Goals as goal
 
 pub returns-in-Err : goal.returns-in-Err
 returns-in-Err g c = record {
   output = λ m blocks stands.
-      let script = some_script (g.R.CountedRead.remaining c.args.reader.now) in
-      (script.0, script.1, unbegun g.U.Uploads c.args.store (g.W.CountedWrite.contents c.args.writer.now) (beginning m blocks) script.0 stands (λ ms among. g.met.U.Uploads.durable c.args.store (at_rest m blocks) ms stands among) c.in-Err.fault c.in-Err.ensures.err);
+      let script = some_script (g.R.CountedRead.remaining c.args.reader.now) in (
+        script.0,
+        script.1,
+        unbegun g.U.Uploads c.args.store (g.W.CountedWrite.contents c.args.writer.now)
+            (beginning m blocks) script.0 stands
+            (λ ms among. g.met.U.Uploads.durable c.args.store (at_rest m blocks) ms stands among) c.in-Err.fault
+            c.in-Err.ensures.err,
+      );
   counts = counts_nothing (g.U.Uploads.failures c.args.store) c.args.store c.in-Err.fault c.in-Err.ensures.err;
   io = reader_counts c.args.store c.in-Err.fault c.in-Err.ensures.io;
 }
@@ -28,8 +35,11 @@ returns-in-Err-new-clause-output g c = λ m blocks stands.
     let script = c.in-Ok.script.items in (
       script,
       c.in-Ok.ensures.ok,
-      subst (λ s. HasRun g.U.Uploads c.args.store (Err (s, runs.NoMemory)) held held st script) (sym c.in-Err-new.ensures.back)
-          (unbegun g.U.Uploads c.args.store held st script stands (λ ms among. g.met.U.Uploads.durable c.args.store (at_rest m blocks) ms stands among) runs.NoMemory (inl refl)),
+      subst (λ s. HasRun g.U.Uploads c.args.store (Err (s, runs.NoMemory)) held held st script)
+          (sym c.in-Err-new.ensures.back)
+          (unbegun g.U.Uploads c.args.store held st script stands
+          (λ ms among. g.met.U.Uploads.durable c.args.store (at_rest m blocks) ms stands among) runs.NoMemory
+          (inl refl)),
     )
 
 pub returns-in-Ok-run_script-clause-output : goal.returns-in-Ok-run_script-clause-output
@@ -46,10 +56,13 @@ returns-in-Ok-run_script-clause-output g c = λ m blocks stands.
       script,
       c.in-Ok.ensures.ok,
       ran u v c.args.store c.close.result script (λ s is. c.close.ensures.kept s is)
-          (λ past shown. shows_since u c.args.store c.close.result st past (λ ms among. g.met.U.Uploads.durable c.args.store (at_rest m blocks) ms stands among)
-          (shows_through u c.args.store (store_of gateway) (store_of now) c.close.result (stores_of st past) c.in-Ok-new.ensures.same c.close.ensures.crash shown))
+          (λ past shown. shows_since u c.args.store c.close.result st past
+          (λ ms among. g.met.U.Uploads.durable c.args.store (at_rest m blocks) ms stands among)
+          (shows_through u c.args.store (store_of gateway) (store_of now) c.close.result (stores_of st past)
+          c.in-Ok-new.ensures.same c.close.ensures.crash shown))
           (λ past last. last_through u (store_of now) c.close.result st past c.close.ensures.crash last)
-          (subst (λ b. Ends v (Ok (tt {0})) (run_lines 1 0 (script_lines b)) (run_from st [])) c.deref.ensures.value (c.in-Ok-run_script.ensures.does gateway st (run_from st []) front at)),
+          (subst (λ b. Ends v (Ok (tt {0})) (run_lines 1 0 (script_lines b)) (run_from st [])) c.deref.ensures.value
+          (c.in-Ok-run_script.ensures.does gateway st (run_from st []) front at)),
     )
 
 pub returns-clause-output : goal.returns-clause-output
@@ -68,10 +81,13 @@ returns-clause-output g c = λ m blocks stands.
       script,
       c.in-Ok.ensures.ok,
       stopped u v c.args.store back script (λ s is. c.close-in-Err-run_script.ensures.kept s is)
-          (λ past shown. shows_since u c.args.store back st past (λ ms among. g.met.U.Uploads.durable c.args.store (at_rest m blocks) ms stands among)
-          (shows_through u c.args.store (store_of gateway) (store_of now) back (stores_of st past) c.in-Ok-new.ensures.same c.close-in-Err-run_script.ensures.crash shown))
+          (λ past shown. shows_since u c.args.store back st past
+          (λ ms among. g.met.U.Uploads.durable c.args.store (at_rest m blocks) ms stands among)
+          (shows_through u c.args.store (store_of gateway) (store_of now) back (stores_of st past)
+          c.in-Ok-new.ensures.same c.close-in-Err-run_script.ensures.crash shown))
           (λ past last. last_through u (store_of now) back st past c.close-in-Err-run_script.ensures.crash last)
-          fault (subst (λ b. Ends v (Err fault) (run_lines 1 0 (script_lines b)) (run_from st [])) c.deref.ensures.value (c.in-Err-run_script.ensures.does gateway st (run_from st []) front at)),
+          fault (subst (λ b. Ends v (Err fault) (run_lines 1 0 (script_lines b)) (run_from st [])) c.deref.ensures.value
+          (c.in-Err-run_script.ensures.does gateway st (run_from st []) front at)),
     )
 
 pub returns-in-Err-new-clause-io : goal.returns-in-Err-new-clause-io

@@ -17,7 +17,8 @@ returns-in-Err-clause-runs g c n m is =
       script.1,
       unopened_on _ _ g.D.Disk c.args.disk c.in-Err.disk c.in-Err.fault (g.W.CountedWrite.contents c.args.writer.now)
           (g.W.CountedWrite.contents c.args.writer.now) n m script.0
-          (c.in-Err.ensures.opened is.honest is.shows.view is.shows.shows.sound is.shows.is (view_room g.D.Disk c.args.disk n m is))
+          (c.in-Err.ensures.opened is.honest is.shows.view is.shows.shows.sound is.shows.is
+          (view_room g.D.Disk c.args.disk n m is))
           (record {
             honest = c.in-Err.ensures.honest.0 is.honest;
             room = subst (λ (size : ℕ). 4096 * all_pages n ≤ size) (sym c.in-Err.ensures.size) is.room;
@@ -36,13 +37,16 @@ returns-in-Ok-run_over-clause-runs g c n m is =
     let has = c.in-Ok-run_over.ensures.output m (Some n) stands in (
       has.0,
       has.1,
-      subst (λ d. HasRunOn g.D.Disk disk (Ok d) held front n (beginning m (Some n)) has.0) (sym c.into_disk.ensures.same)
-          (ran_on g.D.Disk disk_of size_of _ _ _ disk opened now n m (g.met.D.Disk.counts_now disk) (c.in-Ok.ensures.lasts n m is)
+      subst (λ d. HasRunOn g.D.Disk disk (Ok d) held front n (beginning m (Some n)) has.0)
+          (sym c.into_disk.ensures.same)
+          (ran_on g.D.Disk disk_of size_of _ _ _ disk opened now n m (g.met.D.Disk.counts_now disk)
+          (c.in-Ok.ensures.lasts n m is)
           (c.in-Ok.ensures.shows n m is)
           (durable-law g.row.D g.D.Disk g.D.Disk-dict
           (record { counts_now = g.met.D.Disk.counts_now; only_now = g.met.D.Disk.only_now }) opened
           (at_rest m (Some n)) (m ∷ []) stands (inl refl)).0
-          (g.met.D.Disk.counts_now (disk_of now)) (λ st rests. all_show g.D.Disk (disk_of now) (size_of now) st.world.store
+          (g.met.D.Disk.counts_now (disk_of now))
+          (λ st rests. all_show g.D.Disk (disk_of now) (size_of now) st.world.store
           (g.met.D.Disk.counts_now (disk_of now))
           (durable-law g.row.D g.D.Disk g.D.Disk-dict
           (record { counts_now = g.met.D.Disk.counts_now; only_now = g.met.D.Disk.only_now }) now
@@ -62,15 +66,18 @@ returns-in-Err-run_over-clause-runs g c n m is =
     let has = c.in-Err-run_over.ensures.output m (Some n) stands in (
       has.0,
       has.1,
-      subst (λ f. HasRunOn g.D.Disk disk (Err (c.into_disk-in-Err-run_over.result, f)) held front n (beginning m (Some n)) has.0) (sym c.from.ensures)
+      subst (λ f. HasRunOn g.D.Disk disk (Err (c.into_disk-in-Err-run_over.result, f)) held front n
+          (beginning m (Some n)) has.0) (sym c.from.ensures)
           (subst (λ d. HasRunOn g.D.Disk disk (Err (d, run_fault fault)) held front n (beginning m (Some n)) has.0)
           (sym c.into_disk-in-Err-run_over.ensures.same)
-          (broke_on g.D.Disk disk_of size_of _ _ _ disk opened now n m (g.met.D.Disk.counts_now disk) (c.in-Ok.ensures.lasts n m is)
+          (broke_on g.D.Disk disk_of size_of _ _ _ disk opened now n m (g.met.D.Disk.counts_now disk)
+          (c.in-Ok.ensures.lasts n m is)
           (c.in-Ok.ensures.shows n m is)
           (durable-law g.row.D g.D.Disk g.D.Disk-dict
           (record { counts_now = g.met.D.Disk.counts_now; only_now = g.met.D.Disk.only_now }) opened
           (at_rest m (Some n)) (m ∷ []) stands (inl refl)).0
-          (g.met.D.Disk.counts_now (disk_of now)) (λ st rests. all_show g.D.Disk (disk_of now) (size_of now) st.world.store
+          (g.met.D.Disk.counts_now (disk_of now))
+          (λ st rests. all_show g.D.Disk (disk_of now) (size_of now) st.world.store
           (g.met.D.Disk.counts_now (disk_of now))
           (durable-law g.row.D g.D.Disk g.D.Disk-dict
           (record { counts_now = g.met.D.Disk.counts_now; only_now = g.met.D.Disk.only_now }) now

@@ -9,13 +9,15 @@ loop-i-preserved g c =
     let inv = c.loop-i.invariant in
     let i = c.loop-i.i in record {
       as_long = grind (arith, common_steps, inv.as_long);
-      rest = λ k r le. get_or-set_other c.loop-i.rounds i k c.live-disk.new.round r (omega (arith, le)) ∙ inv.rest k r (omega (arith, le));
+      rest = λ k r le. get_or-set_other c.loop-i.rounds i k c.live-disk.new.round r (omega (arith, le))
+          ∙ inv.rest k r (omega (arith, le));
       lived = λ n m all.
           let so_far = inv.lived n m all in
           let one = c.live-disk.ensures n so_far.0 so_far.1 in (
             one.0,
             one.1.passes.shows,
-            lives_next g.D.Disk g.D.CrashDisk.chosen n c.args.disk m c.args.rounds.now c.loop-i.rounds i c.loop-i.disk c.live-disk.result so_far.0 one.0
+            lives_next g.D.Disk g.D.CrashDisk.chosen n c.args.disk m c.args.rounds.now c.loop-i.rounds i c.loop-i.disk
+                c.live-disk.result so_far.0 one.0
                 c.index-rounds-i.result c.live-disk.new.round (omega arith) inv.as_long c.index-rounds-i.is
                 (inv.rest i c.index-rounds-i.result (omega arith)) so_far.2 one.1,
           );
@@ -24,5 +26,8 @@ loop-i-preserved g c =
 pub returns : goal.returns
 returns g c n m all =
     let inv = c.loop-i.invariant in
-    let lived = inv.lived n m all in
-    (lived.0, lives_all g.D.Disk g.D.CrashDisk.chosen n c.args.disk m c.args.rounds.now c.loop-i.rounds c.loop-i.i c.loop-i.disk lived.0 inv.as_long (omega arith) lived.2)
+    let lived = inv.lived n m all in (
+      lived.0,
+      lives_all g.D.Disk g.D.CrashDisk.chosen n c.args.disk m c.args.rounds.now c.loop-i.rounds c.loop-i.i
+          c.loop-i.disk lived.0 inv.as_long (omega arith) lived.2,
+    )

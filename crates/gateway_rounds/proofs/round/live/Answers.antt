@@ -36,7 +36,8 @@ returns-in-Err g c n m all =
     let after = c.restart-in-Err.result in
     let has = c.in-Err.ensures.runs n m (is_spool g.D.Disk before n m all) in
     let lived = refused g.D.Disk before back after n m (g.met.D.Disk.counts_now back) (g.met.D.Disk.only_now before) all
-    c.restart-in-Err.ensures.honest.0 c.restart-in-Err.ensures.size c.restart-in-Err.ensures.image c.restart-in-Err.ensures.firm
+    c.restart-in-Err.ensures.honest.0 c.restart-in-Err.ensures.size c.restart-in-Err.ensures.image
+    c.restart-in-Err.ensures.firm
     c.args.round.now.written.items c.run.new.writer.items has.0 _ fault c.in-Err.ensures.unopened has.2 in (
       lived.0,
       record {

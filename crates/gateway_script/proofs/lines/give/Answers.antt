@@ -18,9 +18,13 @@ returns-in_err-taken-clause-does g c = λ before st r front at.
     (g.W.CountedWrite.contents c.give_once.new.writer) front in
     let p = err_from_is_err_and c.from_residual.result c.from_residual.ensures.1 in
     let fault = c.in_err-taken.field-0.0 in
-    rw (p.1, p.2) (went_behind v (Err fault) (give_within (length c.args.bytes.now) n c.args.bytes.now) (give_within (suc k) n rest) r i.0
-    (subst (λ k. Reaches (give_within (length c.args.bytes.now) n c.args.bytes.now) r (give_within k n rest) i.0) step i.1)
-    (once_fails v fault k n rest i.0 (c.in_err-taken.ensures.does before st i.0 front k (some_list _ rest c.is_empty.ensures c.if-not-is_empty.true) i.2)))
+    rw (p.1, p.2) (went_behind v (Err fault) (give_within (length c.args.bytes.now) n c.args.bytes.now)
+    (give_within (suc k) n rest) r i.0
+    (subst (λ k. Reaches (give_within (length c.args.bytes.now) n c.args.bytes.now) r (give_within k n rest) i.0) step
+    i.1)
+    (once_fails v fault k n rest i.0
+    (c.in_err-taken.ensures.does before st i.0 front k (some_list _ rest c.is_empty.ensures c.if-not-is_empty.true)
+    i.2)))
 
 pub returns-in_default-clause-does : goal.returns-in_default-clause-does
 returns-in_default-clause-does g c = λ before st r front at.
@@ -33,10 +37,13 @@ returns-in_default-clause-does g c = λ before st r front at.
     (g.W.CountedWrite.contents c.give_once.new.writer) front in
     let p : GivenOnce v (Ok None) k n rest i.0 =
     subst (λ o. GivenOnce v (Ok o) k n rest i.0) c.in_default.is
-    (c.in_ok-taken.ensures.does before st i.0 front k (some_list _ rest c.is_empty.ensures c.if-not-is_empty.true) i.2) in (
+    (c.in_ok-taken.ensures.does before st i.0 front k (some_list _ rest c.is_empty.ensures c.if-not-is_empty.true)
+    i.2) in (
       p.0,
-      reach_both (give_within (length c.args.bytes.now) n c.args.bytes.now) (give_within (suc k) n rest) (λ x. x) r i.0 p.0
-          (subst (λ k. Reaches (give_within (length c.args.bytes.now) n c.args.bytes.now) r (give_within k n rest) i.0) step i.1) p.1,
+      reach_both (give_within (length c.args.bytes.now) n c.args.bytes.now) (give_within (suc k) n rest) (λ x. x) r i.0
+          p.0
+          (subst (λ k. Reaches (give_within (length c.args.bytes.now) n c.args.bytes.now) r (give_within k n rest) i.0)
+          step i.1) p.1,
       p.2,
     )
 
@@ -54,11 +61,15 @@ loop-left-preserved g c = (
       (g.W.CountedWrite.contents c.give_once.new.writer) front in
       let p : GivenOnce v (Ok (Some c.in-Some.taken)) k n rest i.0 =
       subst (λ o. GivenOnce v (Ok o) k n rest i.0) c.in-Some.is
-      (c.in_ok-taken.ensures.does before st i.0 front k (some_list _ rest c.is_empty.ensures c.if-not-is_empty.true) i.2) in (
+      (c.in_ok-taken.ensures.does before st i.0 front k (some_list _ rest c.is_empty.ensures c.if-not-is_empty.true)
+      i.2) in (
         p.0,
-        reach_both (give_within (length c.args.bytes.now) n c.args.bytes.now) (give_within (suc k) n rest) (give_within k n c.untaken-rest.result.now) r i.0 p.0
-            (subst (λ k. Reaches (give_within (length c.args.bytes.now) n c.args.bytes.now) r (give_within k n rest) i.0) step i.1)
-            (subst (λ l. Reaches (give_within (suc k) n rest) i.0 (give_within k n l) p.0) (sym c.untaken-rest.ensures) p.1),
+        reach_both (give_within (length c.args.bytes.now) n c.args.bytes.now) (give_within (suc k) n rest)
+            (give_within k n c.untaken-rest.result.now) r i.0 p.0
+            (subst (λ k. Reaches (give_within (length c.args.bytes.now) n c.args.bytes.now) r (give_within k n rest)
+            i.0) step i.1)
+            (subst (λ l. Reaches (give_within (suc k) n rest) i.0 (give_within k n l) p.0) (sym c.untaken-rest.ensures)
+            p.1),
         p.2,
       ),
 )
@@ -68,10 +79,12 @@ returns-else-not-is_empty-clause-does g c = λ before st r front at.
     let i = c.loop-left.invariant.2 before st r front at in
     let n = c.args.conn in
     let k : ℕ = c.loop-left.left in
-    let none : c.loop-left.rest.now ≡ [] = no_list _ c.loop-left.rest.now c.is_empty.ensures c.if-not-is_empty.false in (
+    let none : c.loop-left.rest.now ≡ [] =
+    no_list _ c.loop-left.rest.now c.is_empty.ensures c.if-not-is_empty.false in (
       i.0,
       reach_both (give_within (length c.args.bytes.now) n c.args.bytes.now) (give_within k n []) (λ x. x) r i.0 i.0
-          (subst (λ l. Reaches (give_within (length c.args.bytes.now) n c.args.bytes.now) r (give_within k n l) i.0) none i.1) (give_none k n i.0),
+          (subst (λ l. Reaches (give_within (length c.args.bytes.now) n c.args.bytes.now) r (give_within k n l) i.0)
+          none i.1) (give_none k n i.0),
       i.2,
     )
 
@@ -81,8 +94,10 @@ returns-after-loop-left-clause-does g c = λ before st r front at.
     let n = c.args.conn in
     let none : c.loop-left.left ≡ 0 = omega (arith, c.loop-left-test.false) in (
       i.0,
-      reach_both (give_within (length c.args.bytes.now) n c.args.bytes.now) (give_within 0 n c.loop-left.rest.now) (λ x. x) r i.0 i.0
-          (subst (λ k. Reaches (give_within (length c.args.bytes.now) n c.args.bytes.now) r (give_within k n c.loop-left.rest.now) i.0) none i.1)
+      reach_both (give_within (length c.args.bytes.now) n c.args.bytes.now) (give_within 0 n c.loop-left.rest.now)
+          (λ x. x) r i.0 i.0
+          (subst (λ k. Reaches (give_within (length c.args.bytes.now) n c.args.bytes.now) r
+          (give_within k n c.loop-left.rest.now) i.0) none i.1)
           (give_stop n c.loop-left.rest.now i.0),
       i.2,
     )

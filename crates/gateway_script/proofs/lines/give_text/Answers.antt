@@ -3,15 +3,20 @@ use Rattle.std.proofs.lemmas.Result.{err_from_is_err_and}
 use Rattle.gateway_script.specs.Script.{Run, flow, mores, most_calls}
 use Rattle.gateway_script.specs.Runs.{view, Reaches}
 use Rattle.gateway_script.proofs.Counting.{uncounted}
-use Rattle.gateway_script.proofs.Reaching.{reach_none, reach_both, no_mores, most_is, more_says, more_fails, flow_behind, MoreSays}
+use Rattle.gateway_script.proofs.Reaching.{reach_none, reach_both, no_mores, most_is, more_says, more_fails}
+use Rattle.gateway_script.proofs.Reaching.{flow_behind, MoreSays}
 use Rattle.gateway_script.proofs.lines.give_text.Goals as goal
 
 pub loop-left-init : goal.loop-left-init
 loop-left-init g c = (
   refl,
   refl,
-  λ before st r front at.
-      (r, subst (λ k. Reaches (mores most_calls c.args.conn) r (mores k c.args.conn) r) most_is (reach_none (mores most_calls c.args.conn) r), at),
+  λ before st r front at. (
+    r,
+    subst (λ k. Reaches (mores most_calls c.args.conn) r (mores k c.args.conn) r) most_is
+        (reach_none (mores most_calls c.args.conn) r),
+    at,
+  ),
 )
 
 pub returns-in_err-answer-clause-does : goal.returns-in_err-answer-clause-does
@@ -36,7 +41,8 @@ returns-in-Some-clause-does g c = λ before st r front at.
     let step : c.loop-left.left ≡ suc k = omega (arith, c.loop-left-test.true) in
     let v = view g.C.Connections before c.more.new.core st (g.W.CountedWrite.contents c.more.new.writer) front in
     let says : MoreSays v (Some c.in-Some.on) k n s =
-    subst (λ o. MoreSays v o k n s) (sym c.in-Some.ensures) (more_says v c.in_ok-answer.answer n k s (c.in_ok-answer.ensures.does before st s front i.2)) in (
+    subst (λ o. MoreSays v o k n s) (sym c.in-Some.ensures)
+    (more_says v c.in_ok-answer.answer n k s (c.in_ok-answer.ensures.does before st s front i.2)) in (
       says.0,
       reach_both (mores most_calls n) (mores (suc k) n) (λ x. flow x c.in-Some.on) r s says.0
           (subst (λ k. Reaches (mores most_calls n) r (mores k n) s) step i.1) says.1,
@@ -55,7 +61,8 @@ loop-left-preserved g c = (
       let step : c.loop-left.left ≡ suc k = omega (arith, c.loop-left-test.true) in
       let v = view g.C.Connections before c.more.new.core st (g.W.CountedWrite.contents c.more.new.writer) front in
       let says : MoreSays v None k n s =
-      subst (λ o. MoreSays v o k n s) (sym c.in_default.ensures) (more_says v c.in_ok-answer.answer n k s (c.in_ok-answer.ensures.does before st s front i.2)) in (
+      subst (λ o. MoreSays v o k n s) (sym c.in_default.ensures)
+      (more_says v c.in_ok-answer.answer n k s (c.in_ok-answer.ensures.does before st s front i.2)) in (
         says.0,
         reach_both (mores most_calls n) (mores (suc k) n) (mores k n) r s says.0
             (subst (λ k. Reaches (mores most_calls n) r (mores k n) s) step i.1) says.1,

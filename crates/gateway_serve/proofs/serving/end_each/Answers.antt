@@ -8,18 +8,22 @@ pub returns-in-Err-clause-serves : goal.returns-in-Err-clause-serves
 returns-in-Err-clause-serves g c = λ before st past went joins.
     let s = c.loop-conn.invariant.1 before st past went joins in
     let told : Result (Unit {0}) DiskFault = Err c.in-Err.fault in
-    let inside : c.loop-conn.conn < length c.loop-conn.places = omega (arith, c.loop-conn-test.true, c.loop-conn.auto.places) in
-    among_all g.C.Connections c.loop-conn.gateway c.end.new.gateway told c.loop-conn.places c.loop-conn.conn c.index-places-conn.result c.end.new.self c.loop-conn.ended.sockets c.end.new.ended.sockets
+    let inside : c.loop-conn.conn < length c.loop-conn.places =
+    omega (arith, c.loop-conn-test.true, c.loop-conn.auto.places) in
+    among_all g.C.Connections c.loop-conn.gateway c.end.new.gateway told c.loop-conn.places c.loop-conn.conn
+    c.index-places-conn.result c.end.new.self c.loop-conn.ended.sockets c.end.new.ended.sockets
     c.in-Err.ensures.serves c.end.ensures.others inside before st s.0 s.1 s.2
 
 pub loop-conn-preserved : goal.loop-conn-preserved
 loop-conn-preserved g c =
-    let inside : c.loop-conn.conn < length c.loop-conn.places = omega (arith, c.loop-conn-test.true, c.loop-conn.auto.places) in (
+    let inside : c.loop-conn.conn < length c.loop-conn.places =
+    omega (arith, c.loop-conn-test.true, c.loop-conn.auto.places) in (
       uncounted (λ fails. absurd (cc)) c.in-Ok.ensures.counts ∙ c.loop-conn.invariant.0,
       λ before st past went joins.
           let s = c.loop-conn.invariant.1 before st past went joins in
           let told : Result (Unit {0}) DiskFault = Ok tt in
-          among_all g.C.Connections c.loop-conn.gateway c.end.new.gateway told c.loop-conn.places c.loop-conn.conn c.index-places-conn.result c.end.new.self c.loop-conn.ended.sockets c.end.new.ended.sockets
+          among_all g.C.Connections c.loop-conn.gateway c.end.new.gateway told c.loop-conn.places c.loop-conn.conn
+          c.index-places-conn.result c.end.new.self c.loop-conn.ended.sockets c.end.new.ended.sockets
           c.in-Ok.ensures.serves c.end.ensures.others inside before st s.0 s.1 s.2,
       free_before c.loop-conn.conn c.loop-conn.places c.end.new.self inside c.end.ensures.free c.loop-conn.invariant.2,
     )
@@ -27,5 +31,10 @@ loop-conn-preserved g c =
 pub returns-clause-serves : goal.returns-clause-serves
 returns-clause-serves g c = λ before st past went joins.
     let s = c.loop-conn.invariant.1 before st past went joins in
-    let most : length c.loop-conn.places ≤ c.loop-conn.conn = omega (arith, c.loop-conn-test.false, c.loop-conn.auto.places) in
-    (s.0, s.1, all_served c.loop-conn.places c.loop-conn.ended.sockets st s.0 (λ k lt. c.loop-conn.invariant.2 k (omega (arith, lt, most))) s.2)
+    let most : length c.loop-conn.places ≤ c.loop-conn.conn =
+    omega (arith, c.loop-conn-test.false, c.loop-conn.auto.places) in (
+      s.0,
+      s.1,
+      all_served c.loop-conn.places c.loop-conn.ended.sockets st s.0
+          (λ k lt. c.loop-conn.invariant.2 k (omega (arith, lt, most))) s.2,
+    )

@@ -7,11 +7,15 @@ loop-conn-init g c = λ st past all. none_left c.args.places.now c.args.ended.no
 
 pub loop-conn-preserved : goal.loop-conn-preserved
 loop-conn-preserved g c = λ st past all.
-    let inside : c.loop-conn.conn < length c.loop-conn.places = omega (arith, c.loop-conn-test.true, c.loop-conn.auto.places) in
-    one_more_left c.loop-conn.conn c.loop-conn.places c.index-places-conn.result c.free.new.self c.loop-conn.ended.sockets c.free.new.ended.sockets st past inside
+    let inside : c.loop-conn.conn < length c.loop-conn.places =
+    omega (arith, c.loop-conn-test.true, c.loop-conn.auto.places) in
+    one_more_left c.loop-conn.conn c.loop-conn.places c.index-places-conn.result c.free.new.self
+    c.loop-conn.ended.sockets c.free.new.ended.sockets st past inside
     c.free.ensures.ended (c.loop-conn.invariant st past all)
 
 pub returns : goal.returns
 returns g c = λ st past all.
-    let most : length c.loop-conn.places ≤ c.loop-conn.conn = omega (arith, c.loop-conn-test.false, c.loop-conn.auto.places) in
-    all_left c.loop-conn.conn c.loop-conn.places c.loop-conn.ended.sockets st past most (c.loop-conn.invariant st past all)
+    let most : length c.loop-conn.places ≤ c.loop-conn.conn =
+    omega (arith, c.loop-conn-test.false, c.loop-conn.auto.places) in
+    all_left c.loop-conn.conn c.loop-conn.places c.loop-conn.ended.sockets st past most
+    (c.loop-conn.invariant st past all)

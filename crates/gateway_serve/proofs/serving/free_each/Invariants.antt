@@ -5,4 +5,6 @@ use Rattle.gateway_serve.proofs.All.{HalfLeft}
 use Rattle.gateway_serve.proofs.serving.free_each.Given as goal
 
 abbrev pub invariant-loop-conn : goal.invariant-loop-conn
-invariant-loop-conn g l = (st : State) (past : List Marked) → AllFell l.fn.places l.fn.ended.sockets st past → HalfLeft l.conn l.places l.ended.sockets st past
+invariant-loop-conn g l =
+    (st : State) (past : List Marked) → AllFell l.fn.places l.fn.ended.sockets st past
+    → HalfLeft l.conn l.places l.ended.sockets st past

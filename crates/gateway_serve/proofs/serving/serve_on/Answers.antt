@@ -4,10 +4,15 @@ use Rattle.gateway_serve.proofs.All.{new_joins, none_served}
 use Rattle.gateway_serve.proofs.serving.serve_on.Goals as goal
 
 pub returns-then-is_err-clause-serves : goal.returns-then-is_err-clause-serves
-returns-then-is_err-clause-serves g c = λ st stands.
-    ([], record { stands = stands; images = record { later = omega arith; limits = λ n t ms le left among. left } }, none_served c.new.result.sockets st c.new.ensures)
+returns-then-is_err-clause-serves g c = λ st stands. (
+  [],
+  record { stands = stands; images = record { later = omega arith; limits = λ n t ms le left among. left } },
+  none_served c.new.result.sockets st c.new.ensures,
+)
 
 pub returns-clause-serves : goal.returns-clause-serves
 returns-clause-serves g c = λ st stands.
-    c.serve-served.ensures.serves c.args.gateway st [] (record { stands = stands; images = record { later = omega arith; limits = λ n t ms le left among. left } })
-    (new_joins (places_of c.new-server.result) (ended_of c.new-server.result) st c.new-server.ensures.places c.new-server.ensures.ended)
+    c.serve-served.ensures.serves c.args.gateway st []
+    (record { stands = stands; images = record { later = omega arith; limits = λ n t ms le left among. left } })
+    (new_joins (places_of c.new-server.result) (ended_of c.new-server.result) st c.new-server.ensures.places
+    c.new-server.ensures.ended)

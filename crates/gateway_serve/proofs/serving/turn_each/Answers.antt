@@ -9,8 +9,10 @@ pub returns-in-Err-clause-serves : goal.returns-in-Err-clause-serves
 returns-in-Err-clause-serves g c = λ before st past went joins.
     let s = c.loop-conn.invariant.1 before st past went joins in
     let told : Result Turned DiskFault = Err c.in-Err.fault in
-    let inside : c.loop-conn.conn < length c.loop-conn.places = omega (arith, c.loop-conn-test.true, c.loop-conn.auto.places) in
-    among_all g.C.Connections c.loop-conn.gateway c.turn.new.gateway told c.loop-conn.places c.loop-conn.conn c.index-places-conn.result c.turn.new.self c.loop-conn.ended.sockets c.turn.new.ended.sockets
+    let inside : c.loop-conn.conn < length c.loop-conn.places =
+    omega (arith, c.loop-conn-test.true, c.loop-conn.auto.places) in
+    among_all g.C.Connections c.loop-conn.gateway c.turn.new.gateway told c.loop-conn.places c.loop-conn.conn
+    c.index-places-conn.result c.turn.new.self c.loop-conn.ended.sockets c.turn.new.ended.sockets
     c.in-Err.ensures.serves c.turn.ensures.others inside before st s.0 s.1 s.2
 
 pub loop-conn-preserved : goal.loop-conn-preserved
@@ -19,7 +21,9 @@ loop-conn-preserved g c = (
   λ before st past went joins.
       let s = c.loop-conn.invariant.1 before st past went joins in
       let told : Result Turned DiskFault = Ok c.in-Ok.turned in
-      let inside : c.loop-conn.conn < length c.loop-conn.places = omega (arith, c.loop-conn-test.true, c.loop-conn.auto.places) in
-      among_all g.C.Connections c.loop-conn.gateway c.turn.new.gateway told c.loop-conn.places c.loop-conn.conn c.index-places-conn.result c.turn.new.self c.loop-conn.ended.sockets c.turn.new.ended.sockets
+      let inside : c.loop-conn.conn < length c.loop-conn.places =
+      omega (arith, c.loop-conn-test.true, c.loop-conn.auto.places) in
+      among_all g.C.Connections c.loop-conn.gateway c.turn.new.gateway told c.loop-conn.places c.loop-conn.conn
+      c.index-places-conn.result c.turn.new.self c.loop-conn.ended.sockets c.turn.new.ended.sockets
       c.in-Ok.ensures.serves c.turn.ensures.others inside before st s.0 s.1 s.2,
 )

@@ -6,5 +6,6 @@ use Rattle.spool_pages.proofs.changes.fill_rows.Goals as goal
 pub returns-clause-changes : goal.returns-clause-changes
 returns-clause-changes c v v' blocks changes rows =
     let i = c.loop-at.invariant in
-    filled_changes c.args.pages.now c.loop-at.pages c.args.rows.now c.first_row_number-first.result i.long i.numbers i.others (λ k lt. i.rows k (omega (arith, lt))) v v'
+    filled_changes c.args.pages.now c.loop-at.pages c.args.rows.now c.first_row_number-first.result i.long i.numbers
+    i.others (λ k lt. i.rows k (omega (arith, lt))) v v'
     (c.first_row_number-first.ensures.number ∙ ap (λ (n : ℕ). 282 + journal_pages n) (sym blocks)) changes rows

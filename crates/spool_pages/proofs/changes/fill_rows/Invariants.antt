@@ -8,5 +8,7 @@ invariant-loop-at l = record {
   long : length l.pages ≡ length l.fn.pages;
   numbers : (k : ℕ) → k < length l.fn.pages → page_number l.pages k ≡ page_number l.fn.pages k;
   others : (k : ℕ) → page_number l.fn.pages k < l.first → get_or l.pages k (0, []) ≡ get_or l.fn.pages k (0, []);
-  rows : (k : ℕ) → k < l.at → l.first ≤ page_number l.fn.pages k → (i : ℕ) → i < 512 → Stands (byte_of (get_or l.pages k (0, [])).1) (8 * i) 8 (row_bytes (get_or l.rows (512 * (page_number l.fn.pages k - l.first) + i) None));
+  rows : (k : ℕ) → k < l.at → l.first ≤ page_number l.fn.pages k → (i : ℕ) → i < 512
+      → Stands (byte_of (get_or l.pages k (0, [])).1) (8 * i) 8
+      (row_bytes (get_or l.rows (512 * (page_number l.fn.pages k - l.first) + i) None));
 }

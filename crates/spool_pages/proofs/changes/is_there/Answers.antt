@@ -3,8 +3,11 @@ use Rattle.spool_pages.proofs.PageIn.{none_by_number, some_by_number}
 use Rattle.spool_pages.proofs.changes.is_there.Goals as goal
 
 pub returns-then-number-page : goal.returns-then-number-page
-returns-then-number-page c =
-    (λ yes. some_by_number c.args.page c.args.pages.now c.loop-at.at (omega arith) (sym c.number.ensures ∙ c.if-number-page.true), λ some. refl)
+returns-then-number-page c = (
+  λ yes. some_by_number c.args.page c.args.pages.now c.loop-at.at (omega arith)
+      (sym c.number.ensures ∙ c.if-number-page.true),
+  λ some. refl,
+)
 
 pub returns : goal.returns
 returns c =

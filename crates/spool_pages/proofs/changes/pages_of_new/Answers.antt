@@ -8,8 +8,10 @@ use Rattle.spool_pages.proofs.changes.pages_of_new.Goals as goal
 
 pub returns-clause-changes : goal.returns-clause-changes
 returns-clause-changes c v blocks slots beside =
-    new_changes c.new-pages.ensures c.in_ok-put.ensures.put c.in_ok-put-2.ensures.put v c.args.next c.args.slot c.args.kept.now
+    new_changes c.new-pages.ensures c.in_ok-put.ensures.put c.in_ok-put-2.ensures.put v c.args.next c.args.slot
+    c.args.kept.now
     (c.state_number.ensures.number ∙ ap (λ (n : ℕ). 25 + journal_pages n) (sym blocks))
     (c.record_number.ensures.number ∙ ap (λ (n : ℕ). 26 + journal_pages n + c.args.slot / 2) (sym blocks))
     c.requires.slot slots (padded_stands 4096 c.state_page.ensures) c.page_with.ensures.kept
-    (subst (λ (x : Option SlotRecord). SaysSlot (neighbour c.args.slot) c.page_with.result x) (sym beside) c.page_with.ensures.beside)
+    (subst (λ (x : Option SlotRecord). SaysSlot (neighbour c.args.slot) c.page_with.result x) (sym beside)
+    c.page_with.ensures.beside)

@@ -1,4 +1,5 @@
-use Rattle.std.proofs.Common.{inl, inr, drop, ◌++◌, ◌-◌, ◌≡◌, ◌+◌, ◌<◌, Some, eqb, ℕ, List, length, take, get_or, true, refl, sym, ◌∙◌, ap, subst, arith, rules}
+use Rattle.std.proofs.Common.{inl, inr, drop, ◌++◌, ◌-◌, ◌≡◌, ◌+◌, ◌<◌, Some, eqb, ℕ, List, length, take, get_or, true}
+use Rattle.std.proofs.Common.{refl, sym, ◌∙◌, ap, subst, arith, rules}
 use Rattle.std.specs.Int.{to_be_bytes, w32}
 use Rattle.std.specs.List.{starts_with}
 use Rattle.std.specs.Cmp.Lexicographic.{pointwise}
@@ -12,7 +13,8 @@ use Rattle.spool_pages.specs.View.{Stands, magic, first_page}
 use Rattle.spool_pages.proofs.RecordBytes.{stands_behind}
 use Rattle.spool_pages.proofs.pages.blocks_said.Goals as goal
 
-module _ (front : List ℕ) (blocks : ℕ) (long : length front ≡ 12) (same : (i : ℕ) → i < 12 → get_or front i 0 ≡ get_or (first_page blocks) i 0) where
+module _ (front : List ℕ) (blocks : ℕ) (long : length front ≡ 12)
+    (same : (i : ℕ) → i < 12 → get_or front i 0 ≡ get_or (first_page blocks) i 0) where
   magic_there : (i : ℕ) → i < 8 → get_or (first_page blocks) i 0 ≡ get_or magic i 0
   unfolding first_page
   magic_there i lt = get_or-append magic (to_be_bytes w32 blocks) 0 i lt
@@ -23,7 +25,9 @@ module _ (front : List ℕ) (blocks : ℕ) (long : length front ≡ 12) (same : 
       get_or-take 8 front i 0 below ∙ same i (omega (arith, below)) ∙ magic_there i below)
 
   whole : Stands (byte_of front) 0 12 (first_page blocks)
-  whole = record { each = λ i lt. let at : i ≡ 0 + i = omega arith in subst (λ (p : ℕ). get_or front p 0 ≡ get_or (first_page blocks) i 0) at (same i lt) }
+  whole = record {
+    each = λ i lt. let at : i ≡ 0 + i = omega arith in subst (λ (p : ℕ). get_or front p 0 ≡ get_or (first_page blocks) i 0) at (same i lt);
+  }
 
   number_at : Stands (byte_of front) 8 4 (to_be_bytes w32 blocks)
   unfolding first_page
@@ -32,17 +36,21 @@ module _ (front : List ℕ) (blocks : ℕ) (long : length front ≡ 12) (same : 
   begins : starts_with eqb front magic ≡ true
   begins = subst (λ (xs : List ℕ). pointwise eqb magic xs ≡ true) (sym taken) refl
 
-module _ (front : List ℕ) (blocks : ℕ) (begun : starts_with eqb front magic ≡ true) (number : Stands (byte_of front) 8 4 (to_be_bytes w32 blocks)) where
+module _ (front : List ℕ) (blocks : ℕ) (begun : starts_with eqb front magic ≡ true)
+    (number : Stands (byte_of front) 8 4 (to_be_bytes w32 blocks)) where
   front_is : front ≡ magic ++ drop 8 front
   front_is = (starts_is Decides-eqb front magic (starts_with eqb front magic) refl).0 begun
 
   is_first : (i : ℕ) → i < 12 → get_or front i 0 ≡ get_or (first_page blocks) i 0
   unfolding first_page
   is_first i lt = elim (cases_lt i 8) [
-    | inl below ↦ ap (λ (xs : List ℕ). get_or xs i 0) front_is ∙ get_or-append magic (drop 8 front) 0 i below ∙ sym (get_or-append magic (to_be_bytes w32 blocks) 0 i below)
+    | inl below ↦ ap (λ (xs : List ℕ). get_or xs i 0) front_is ∙ get_or-append magic (drop 8 front) 0 i below
+        ∙ sym (get_or-append magic (to_be_bytes w32 blocks) 0 i below)
     | inr from ↦
         let at : 8 + (i - 8) ≡ i = omega (arith, from) in
-        let here : get_or front (8 + (i - 8)) 0 ≡ get_or (magic ++ to_be_bytes w32 blocks) (8 + (i - 8)) 0 = number.each (i - 8) (omega (arith, lt, from)) ∙ sym (get_or-append-add magic (to_be_bytes w32 blocks) (i - 8) 0) in
+        let here : get_or front (8 + (i - 8)) 0 ≡ get_or (magic ++ to_be_bytes w32 blocks) (8 + (i - 8)) 0 =
+        number.each (i - 8) (omega (arith, lt, from)) ∙ sym
+        (get_or-append-add magic (to_be_bytes w32 blocks) (i - 8) 0) in
         subst (λ (p : ℕ). get_or front p 0 ≡ get_or (magic ++ to_be_bytes w32 blocks) p 0) at here
   ]
 
@@ -54,7 +62,8 @@ returns-then-not-starts_with-clause-said c blocks fits same =
     cc
 
 pub returns-clause-said : goal.returns-clause-said
-returns-clause-said c blocks fits same = ap Some (c.get_u32.ensures.is blocks fits (number_at c.args.front.now blocks (search rules) same))
+returns-clause-said c blocks fits same =
+    ap Some (c.get_u32.ensures.is blocks fits (number_at c.args.front.now blocks (search rules) same))
 
 pub returns-clause-only : goal.returns-clause-only
 returns-clause-only c =

@@ -8,4 +8,5 @@ pub returns : goal.returns
 unfolding first_page
 returns c =
     let front = c.put.ensures.padded [] refl (padded_zeros 4096) in
-    subst (λ (xs : List ℕ). IsPadded c.put-2.new.page (magic ++ xs)) c.to_be_bytes.ensures (c.put-2.ensures.padded magic refl front)
+    subst (λ (xs : List ℕ). IsPadded c.put-2.new.page (magic ++ xs)) c.to_be_bytes.ensures
+    (c.put-2.ensures.padded magic refl front)

@@ -8,7 +8,14 @@ use Rattle.spool_texts.proofs.draft_text.read_tail.Goals as goal
 pub returns-clause-tail : goal.returns-clause-tail
 returns-clause-tail g c honest =
     let on = blocks_on (g.D.Disk.seen c.args.disk.now) (25 + 2 * journal_pages c.args.layout.now) c.args.list.now in
-    tail_is (take c.args.len on) (take (c.args.len % 4096) c.args.page.now) c.read_text.new.buf (drop (c.args.len % 4096) c.args.page.now) c.args.len c.in_ok-read_text.field-0
-    (omega (arith, length-take c.args.len on, length-blocks_on (g.D.Disk.seen c.args.disk.now) (25 + 2 * journal_pages c.args.layout.now) c.args.list.now, c.requires.long))
+    tail_is (take c.args.len on) (take (c.args.len % 4096) c.args.page.now) c.read_text.new.buf
+    (drop (c.args.len % 4096) c.args.page.now) c.args.len c.in_ok-read_text.field-0
+    (omega (
+      arith,
+      length-take c.args.len on,
+      length-blocks_on (g.D.Disk.seen c.args.disk.now)
+          (25 + 2 * journal_pages c.args.layout.now) c.args.list.now,
+      c.requires.long,
+    ))
     (omega (arith, length-take (c.args.len % 4096) c.args.page.now, c.requires.page))
     (c.in_ok-read_text.ensures.read honest)

@@ -12,7 +12,8 @@ loop-at-init g c = record {
   honest = λ honest. honest;
   back = λ honest. honest;
   counts = refl;
-  text = λ honest. none_yet (g.D.Disk.seen c.args.disk.now) (25 + 2 * journal_pages c.args.layout.now) c.saturating_sub-full.result c.args.list.now c.args.last.now (omega (arith, c.saturating_sub-full.ensures));
+  text = λ honest. none_yet (g.D.Disk.seen c.args.disk.now) (25 + 2 * journal_pages c.args.layout.now)
+      c.saturating_sub-full.result c.args.list.now c.args.last.now (omega (arith, c.saturating_sub-full.ensures));
   writes = λ honest. writes_none _ _;
   lasts = λ honest. record { later = omega arith; nothing_else = λ t image le left. inl left };
 }
@@ -25,7 +26,8 @@ returns-in_err-write_front-clause-writes g c honest =
 pub returns-in_err-write_front-clause-lasts : goal.returns-in_err-write_front-clause-lasts
 returns-in_err-write_front-clause-lasts g c honest =
     let inv = c.loop-at.invariant in
-    lasts_on (inv.lasts honest) (lasts_more (c.write_front.ensures.lasts (inv.honest honest)) (λ image is. but_front _ (inv.writes honest) is))
+    lasts_on (inv.lasts honest)
+    (lasts_more (c.write_front.ensures.lasts (inv.honest honest)) (λ image is. but_front _ (inv.writes honest) is))
 
 pub loop-at-preserved : goal.loop-at-preserved
 loop-at-preserved g c =
@@ -36,12 +38,17 @@ loop-at-preserved g c =
       size = c.write_front.ensures.size ∙ inv.size;
       honest = λ honest. c.write_front.ensures.honest.0 (inv.honest honest);
       back = λ honest. inv.back (c.write_front.ensures.honest.1 honest);
-      counts = no_failure c.write_front.ensures.counts (λ e. let wrong = rw c.in_ok-write_front.was at e in cc) ∙ inv.counts;
+      counts = no_failure c.write_front.ensures.counts (λ e. let wrong = rw c.in_ok-write_front.was at e in cc)
+          ∙ inv.counts;
       text = λ honest.
-          one_more (g.D.Disk.seen c.args.disk.now) (g.D.Disk.seen c.loop-at.disk) (g.D.Disk.seen c.write_front.new.disk) (25 + 2 * journal_pages c.args.layout.now) full at c.min-to.result c.args.list.now c.args.last.now
+          one_more (g.D.Disk.seen c.args.disk.now) (g.D.Disk.seen c.loop-at.disk) (g.D.Disk.seen c.write_front.new.disk)
+          (25 + 2 * journal_pages c.args.layout.now) full at c.min-to.result c.args.list.now c.args.last.now
           (take (c.min-to.result - 4096 * (at - full)) (drop (4096 * (at - full)) c.args.last.now))
-          (omega (arith, c.loop-at.auto)) (omega (arith, c.loop-at.auto, c.loop-at-test.true)) (omega (arith, c.loop-at.auto, c.loop-at-test.true, c.saturating_sub-full.ensures, c.div_ceil.ensures))
+          (omega (arith, c.loop-at.auto)) (omega (arith, c.loop-at.auto, c.loop-at-test.true))
+          (omega (arith, c.loop-at.auto, c.loop-at-test.true, c.saturating_sub-full.ensures, c.div_ceil.ensures))
           c.min-to.ensures refl (inv.text honest) (c.in_ok-write_front.ensures.text (inv.honest honest));
       writes = λ honest. writes_front _ (inv.writes honest) (c.write_front.ensures.writes (inv.honest honest));
-      lasts = λ honest. lasts_on (inv.lasts honest) (lasts_more (c.write_front.ensures.lasts (inv.honest honest)) (λ image is. but_front _ (inv.writes honest) is));
+      lasts = λ honest. lasts_on (inv.lasts honest)
+          (lasts_more (c.write_front.ensures.lasts (inv.honest honest))
+          (λ image is. but_front _ (inv.writes honest) is));
     }

@@ -7,12 +7,29 @@ use Rattle.spool_texts.proofs.reads.read_piece.Goals as goal
 
 pub read-requires : goal.read-requires
 read-requires g c =
-    let here : get_or c.args.list.now (c.args.at / 4096) 0 < c.args.layout.now = c.requires.blocks (c.args.at / 4096) (omega (arith, c.requires.long, c.requires.some)) in
-    omega (arith, here, all_is c.args.layout.now, c.requires.room, c.block_page-page.ensures.page, c.min-n.ensures, length-take c.min-n.result c.args.buf.now)
+    let here : get_or c.args.list.now (c.args.at / 4096) 0 < c.args.layout.now =
+    c.requires.blocks (c.args.at / 4096) (omega (arith, c.requires.long, c.requires.some)) in
+    omega (
+      arith,
+      here,
+      all_is c.args.layout.now,
+      c.requires.room,
+      c.block_page-page.ensures.page,
+      c.min-n.ensures,
+      length-take c.min-n.result c.args.buf.now,
+    )
 
 pub returns-clause-piece : goal.returns-clause-piece
 returns-clause-piece g c honest =
-    let size : length (take c.min-n.result c.args.buf.now) ≡ c.min-n.result = omega (arith, length-take c.min-n.result c.args.buf.now, c.min-n.ensures) in
-    let place : 4096 * c.block_page-page.result + c.args.at % 4096 ≡ 4096 * (25 + 2 * journal_pages c.args.layout.now + get_or c.args.list.now (c.args.at / 4096) 0) + c.args.at % 4096 = omega (arith, c.block_page-page.ensures.page) in
-    piece_is (g.D.Disk.seen c.args.disk.now) (25 + 2 * journal_pages c.args.layout.now) c.args.list.now c.args.at c.min-n.result c.args.buf.now c.read.new.buf (omega (arith, c.min-n.ensures)) (omega (arith, c.min-n.ensures))
-    (c.in_ok-read.ensures.bytes honest (search rules) ∙ ap (λ (n : ℕ). span (g.D.Disk.seen c.args.disk.now) (4096 * c.block_page-page.result + c.args.at % 4096) n) size ∙ ap (λ (at : ℕ). span (g.D.Disk.seen c.args.disk.now) at c.min-n.result) place)
+    let size : length (take c.min-n.result c.args.buf.now) ≡ c.min-n.result =
+    omega (arith, length-take c.min-n.result c.args.buf.now, c.min-n.ensures) in
+    let place : 4096 * c.block_page-page.result + c.args.at % 4096 ≡ 4096 * (25 + 2 * journal_pages
+    c.args.layout.now + get_or c.args.list.now (c.args.at / 4096) 0) + c.args.at % 4096 = omega (
+      arith,
+      c.block_page-page.ensures.page,
+    ) in
+    piece_is (g.D.Disk.seen c.args.disk.now) (25 + 2 * journal_pages c.args.layout.now) c.args.list.now c.args.at
+    c.min-n.result c.args.buf.now c.read.new.buf (omega (arith, c.min-n.ensures)) (omega (arith, c.min-n.ensures))
+    (c.in_ok-read.ensures.bytes honest (search rules) ∙ ap
+    (λ (n : ℕ). span (g.D.Disk.seen c.args.disk.now) (4096 * c.block_page-page.result + c.args.at % 4096) n) size
+    ∙ ap (λ (at : ℕ). span (g.D.Disk.seen c.args.disk.now) at c.min-n.result) place)

@@ -26,7 +26,8 @@ returns-clause-crash g c =
     let n = size_in c.args.self in
     let s = c.close.result in
     let quiet = c.close.ensures.crash in
-    subst (λ d. Quiet (g.D.Disk.moment before) (g.D.Disk.moment d) (SpoolLeft g.D.Disk before n) (SpoolLeft g.D.Disk d n)) (sym c.into_disk.ensures.same)
+    subst (λ d. Quiet (g.D.Disk.moment before) (g.D.Disk.moment d) (SpoolLeft g.D.Disk before n)
+    (SpoolLeft g.D.Disk d n)) (sym c.into_disk.ensures.same)
     (record {
       later = quiet.later;
       keeps = λ blocks t ms le left.

@@ -15,19 +15,22 @@ returns-in-Ok-clause-shows g c n m is =
 
 pub returns-in-Ok-clause-lasts : goal.returns-in-Ok-clause-lasts
 returns-in-Ok-clause-lasts g c n m is =
-    subst (λ s. Lasts g.D.Disk c.args.disk (disk_of s) (LeftOrShows g.D.Disk c.args.disk n m)) (sym c.in-Ok.ensures.same)
+    subst (λ s. Lasts g.D.Disk c.args.disk (disk_of s) (LeftOrShows g.D.Disk c.args.disk n m))
+    (sym c.in-Ok.ensures.same)
     (c.in_ok-spool.ensures.lasts n m is)
 
 pub returns-in-Err-clause-lasts : goal.returns-in-Err-clause-lasts
 returns-in-Err-clause-lasts g c n m is =
     subst (λ d. Lasts g.D.Disk c.args.disk d (LeftOrShows g.D.Disk c.args.disk n m)) (sym c.into_disk.ensures.same)
-    (subst (λ s. Lasts g.D.Disk c.args.disk (disk_of s) (LeftOrShows g.D.Disk c.args.disk n m)) (sym c.in-Err.ensures.back)
+    (subst (λ s. Lasts g.D.Disk c.args.disk (disk_of s) (LeftOrShows g.D.Disk c.args.disk n m))
+    (sym c.in-Err.ensures.back)
     (c.in_ok-spool.ensures.lasts n m is))
 
 pub returns-in_err-spool-clause-opened : goal.returns-in_err-spool-clause-opened
 returns-in_err-spool-clause-opened g c n m is =
     let p = err_from_is_err_and c.from_residual.result c.from_residual.ensures.1 in
-    let said = c.in_err-spool.ensures.opened is.honest is.shows.view is.shows.shows.sound is.shows.is (view_room g.D.Disk c.args.disk n m is) in
+    let said = c.in_err-spool.ensures.opened is.honest is.shows.view is.shows.shows.sound is.shows.is
+    (view_room g.D.Disk c.args.disk n m is) in
     rw (p.1, p.2) (refused_as _ _ _ said)
 
 pub returns-in_err-spool-clause-lasts : goal.returns-in_err-spool-clause-lasts

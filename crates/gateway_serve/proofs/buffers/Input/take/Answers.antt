@@ -8,4 +8,6 @@ returns-then-count-self c =
     let n = c.args.count in
     let rest = i.end - (i.taken + n) in
     let all : i.end - i.taken ≡ n + rest = omega (arith, c.if-count-self.true) in
-    sym (ap (drop n) (sym c.self.view_is) ∙ (ap (λ j. drop n (take j (drop i.taken i.bytes))) all ∙ (drop-take n rest (drop i.taken i.bytes) ∙ ap (take rest) (drop-drop n i.taken i.bytes))))
+    sym (ap (drop n) (sym c.self.view_is)
+    ∙ (ap (λ j. drop n (take j (drop i.taken i.bytes))) all
+    ∙ (drop-take n rest (drop i.taken i.bytes) ∙ ap (take rest) (drop-drop n i.taken i.bytes))))

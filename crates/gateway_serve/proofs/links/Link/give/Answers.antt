@@ -12,7 +12,8 @@ returns-in-Err-clause-serves g c = λ before st past ended went joins.
     let s = c.loop-calls.invariant.1 before st past ended went joins in
     let told : Result (Unit {0}) DiskFault = Err c.in-Err.fault in
     let Joined : List Marked → Type 0 = λ now. Joins (joint_of c.came.new.self) ended st now n in
-    alone_behind g.C.Connections before c.came.new.gateway st n past s.0 Joined Joined told s.2.0 (c.in-Err.ensures.serves before st s.0 ended s.1 s.2.1)
+    alone_behind g.C.Connections before c.came.new.gateway st n past s.0 Joined Joined told s.2.0
+    (c.in-Err.ensures.serves before st s.0 ended s.1 s.2.1)
 
 pub loop-calls-preserved : goal.loop-calls-preserved
 loop-calls-preserved g c = (
@@ -22,5 +23,6 @@ loop-calls-preserved g c = (
       let s = c.loop-calls.invariant.1 before st past ended went joins in
       let told : Result (Unit {0}) DiskFault = Ok tt in
       let Joined : List Marked → Type 0 = λ now. Joins (joint_of c.came.new.self) ended st now n in
-      alone_behind g.C.Connections before c.came.new.gateway st n past s.0 Joined Joined told s.2.0 (c.in-Ok.ensures.serves before st s.0 ended s.1 s.2.1),
+      alone_behind g.C.Connections before c.came.new.gateway st n past s.0 Joined Joined told s.2.0
+      (c.in-Ok.ensures.serves before st s.0 ended s.1 s.2.1),
 )

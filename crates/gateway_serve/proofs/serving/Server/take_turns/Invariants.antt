@@ -7,7 +7,8 @@ abbrev pub invariant-loop-left : goal.invariant-loop-left
 invariant-loop-left g l =
     let on : Result (Unit {0}) DiskFault = Ok tt in
     (g.C.Connections.failures l.gateway ≡ g.C.Connections.failures l.fn.gateway)
-    × GoesOn g.C.Connections l.fn.gateway l.gateway on (places_of l.fn.self) (places_of l.self) (ended_of l.fn.self) (ended_of l.self)
+    × GoesOn g.C.Connections l.fn.gateway l.gateway on (places_of l.fn.self) (places_of l.self) (ended_of l.fn.self)
+    (ended_of l.self)
 
 abbrev pub decreases-loop-left : goal.decreases-loop-left
 decreases-loop-left g l = l.left

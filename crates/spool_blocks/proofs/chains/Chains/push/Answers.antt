@@ -4,9 +4,13 @@ use Rattle.spool_blocks.proofs.chains.Chains.push.Goals as goal
 
 pub overflow_add-index_mut : goal.overflow_add-index_mut
 overflow_add-index_mut c =
-    let few : c.index_mut-3.result.now ≤ 65536 = few_counted c.self.invariant c.args.slot _ c.requires.slot (was_read _ c.args.slot 0 _ (omega (arith, c.self.invariant.counts_size, c.requires.slot)) c.index_mut-3.ensures.value) in
+    let few : c.index_mut-3.result.now ≤ 65536 =
+    few_counted c.self.invariant c.args.slot _ c.requires.slot
+    (was_read _ c.args.slot 0 _ (omega (arith, c.self.invariant.counts_size, c.requires.slot))
+    c.index_mut-3.ensures.value) in
     omega arith
 
 pub invariant_of-self : goal.invariant_of-self
 invariant_of-self c =
-    pushed_view c.self.invariant c.self.view_is c.args.slot c.args.block c.args.ordinal _ _ c.requires.below c.requires.free c.requires.slot c.requires.above c.index.ensures c.index_mut-3.ensures.value
+    pushed_view c.self.invariant c.self.view_is c.args.slot c.args.block c.args.ordinal _ _ c.requires.below
+    c.requires.free c.requires.slot c.requires.above c.index.ensures c.index_mut-3.ensures.value

@@ -6,21 +6,33 @@ use Rattle.spool_drafts.specs.Fresh.{StandsAt}
 use Rattle.spool_drafts.specs.Growth.{bytes_on, GrowsTo}
 use Rattle.spool_drafts.specs.declared.draft.SpoolDraft.{SpoolDraft}
 use Rattle.spool_drafts.specs.declared.growth.Growth.{Growth}
-use Rattle.spool_drafts.proofs.Appends.{some_of, gone_on, incomplete, no_value, longer_fault, longer_short, longer_put, open_longer, kept_before}
+use Rattle.spool_drafts.proofs.Appends.{some_of, gone_on, incomplete, no_value, longer_fault, longer_short, longer_put}
+use Rattle.spool_drafts.proofs.Appends.{open_longer, kept_before}
 use Rattle.spool_drafts.proofs.Effects.{only_none, grasp_none, grasp_gives}
 use Rattle.spool_texts.proofs.Reserves.{takes_none}
 use Rattle.spool_drafts.proofs.draft.SpoolDraft.append.Goals as goal
 
 pub returns-then-is_empty-clause-effect : goal.returns-then-is_empty-clause-effect
-returns-then-is_empty-clause-effect g c = record { own = list_of c.args.self.now; grasp = grasp_none _ _ _ refl c.requires.reserved; writes = λ honest. only_none _ _ }
+returns-then-is_empty-clause-effect g c = record {
+  own = list_of c.args.self.now;
+  grasp = grasp_none _ _ _ refl c.requires.reserved;
+  writes = λ honest. only_none _ _;
+}
 
 pub returns-in_default-clause-effect : goal.returns-in_default-clause-effect
-returns-in_default-clause-effect g c = record { own = list_of c.args.self.now; grasp = grasp_none _ _ _ refl c.requires.reserved; writes = λ honest. only_none _ _ }
+returns-in_default-clause-effect g c = record {
+  own = list_of c.args.self.now;
+  grasp = grasp_none _ _ _ refl c.requires.reserved;
+  writes = λ honest. only_none _ _;
+}
 
 pub returns-in-Unencodable-clause-effect : goal.returns-in-Unencodable-clause-effect
 returns-in-Unencodable-clause-effect g c =
     let list = list_of c.args.self.now in
-    let none : list_of c.go_on.new.self ≡ [] = ap list_of c.go_on.ensures ∙ ap (λ (growth : Growth). list_of (gone_on c.args.self.now growth c.args.self.now.fresh 0)) c.give_back.ensures.none in
+    let none : list_of c.go_on.new.self ≡ [] =
+    ap list_of c.go_on.ensures ∙ ap
+    (λ (growth : Growth). list_of (gone_on c.args.self.now growth c.args.self.now.fresh 0))
+    c.give_back.ensures.none in
     record {
       own = list;
       grasp = grasp_gives _ (takes_none _ list list refl) c.requires.reserved c.give_back.ensures.gives none;
@@ -33,10 +45,13 @@ returns-in-Unencodable-clause-answer g c p held fits =
     let d = c.args.self.now in
     let piece = c.args.piece.now in
     let some = some_of piece c.is_empty.result c.is_empty.ensures c.if-is_empty.false in
-    let stands = subst (StandsAt x p.began (p.body ++ piece)) c.in-Unencodable.is (c.in-Ok.ensures.stands p.began p.body (incomplete x p d held piece fits some) held.stands) in
+    let stands = subst (StandsAt x p.began (p.body ++ piece)) c.in-Unencodable.is
+    (c.in-Ok.ensures.stands p.began p.body (incomplete x p d held piece fits some) held.stands) in
     let growth_is = c.give_back.ensures.none in
-    subst (λ (e : SpoolDraft). IsLonger x (with_piece p piece) d e c.args.blocks.now c.give_back.new.blocks) (sym c.go_on.ensures)
-    (inl (longer_fault x p d held piece fits c.give_back.new.self (ap (λ (h : Growth). h.on) growth_is) (ap (λ (h : Growth). h.short) growth_is) (ap (λ (h : Growth). h.text_len) growth_is) stands))
+    subst (λ (e : SpoolDraft). IsLonger x (with_piece p piece) d e c.args.blocks.now c.give_back.new.blocks)
+    (sym c.go_on.ensures)
+    (inl (longer_fault x p d held piece fits c.give_back.new.self (ap (λ (h : Growth). h.on) growth_is)
+    (ap (λ (h : Growth). h.short) growth_is) (ap (λ (h : Growth). h.text_len) growth_is) stands))
 
 pub returns-in-Unencodable-clause-content : goal.returns-in-Unencodable-clause-content
 returns-in-Unencodable-clause-content g c p honest held fits carries kept =
@@ -44,7 +59,8 @@ returns-in-Unencodable-clause-content g c p honest held fits carries kept =
     let d = c.args.self.now in
     let piece = c.args.piece.now in
     let some = some_of piece c.is_empty.result c.is_empty.ensures c.if-is_empty.false in
-    let stands = subst (StandsAt x p.began (p.body ++ piece)) c.in-Unencodable.is (c.in-Ok.ensures.stands p.began p.body (incomplete x p d held piece fits some) held.stands) in
+    let stands = subst (StandsAt x p.began (p.body ++ piece)) c.in-Unencodable.is
+    (c.in-Ok.ensures.stands p.began p.body (incomplete x p d held piece fits some) held.stands) in
     absurd (no_value x p d held piece fits stands kept.encodable)
 
 pub returns-clause-behind : goal.returns-clause-behind
@@ -65,13 +81,19 @@ returns-clause-answer g c p held fits =
     let stands = c.in-Ok.ensures.stands p.began p.body still held.stands in
     let adds = c.in-Ok.ensures.adds p.began p.body still held.stands in
     let other = c.in_default-fresh.not-Unencodable in
-    subst (λ (e : SpoolDraft). IsLonger x (with_piece p piece) d e c.args.blocks.now c.put.new.blocks) (sym c.go_on-2.ensures)
+    subst (λ (e : SpoolDraft). IsLonger x (with_piece p piece) d e c.args.blocks.now c.put.new.blocks)
+    (sym c.go_on-2.ensures)
     (elim (cases_Bool d.growth.short) [
-      | inl short ↦ inl (longer_short x p d held piece fits c.in-Ok.fresh c.in-Ok.text.items some other stands adds c.put.new.self (c.put.ensures.nothing short).0 short)
+      | inl short ↦ inl (longer_short x p d held piece fits c.in-Ok.fresh c.in-Ok.text.items some other stands adds
+          c.put.new.self (c.put.ensures.nothing short).0 short)
       | inr roomy ↦
-          let grows = c.in_ok-put.ensures.holds (length (open_text x p false)) (held.kept (kept_before x p d held piece fits c.in-Ok.fresh c.in-Ok.text.items some other stands adds roomy)) in
-          longer_put x p d held piece fits c.in-Ok.fresh c.in-Ok.text.items some other stands adds c.put.new.self c.args.blocks.now c.put.new.blocks roomy c.put.ensures.same.0
-          (subst (λ (text : List ℕ). GrowsTo (length (open_text x p false) + length text) d.growth c.put.new.self c.args.blocks.now c.put.new.blocks) c.deref.ensures.value grows)
+          let grows = c.in_ok-put.ensures.holds (length (open_text x p false))
+          (held.kept (kept_before x p d held piece fits c.in-Ok.fresh c.in-Ok.text.items some other stands adds
+          roomy)) in
+          longer_put x p d held piece fits c.in-Ok.fresh c.in-Ok.text.items some other stands adds c.put.new.self
+          c.args.blocks.now c.put.new.blocks roomy c.put.ensures.same.0
+          (subst (λ (text : List ℕ). GrowsTo (length (open_text x p false) + length text) d.growth c.put.new.self
+          c.args.blocks.now c.put.new.blocks) c.deref.ensures.value grows)
     ])
 
 pub returns-clause-content : goal.returns-clause-content
@@ -87,12 +109,15 @@ returns-clause-content g c p honest held fits carries kept =
     let stands = c.in-Ok.ensures.stands p.began p.body still held.stands in
     let adds = c.in-Ok.ensures.adds p.began p.body still held.stands in
     let other = c.in_default-fresh.not-Unencodable in
-    let roomy : c.put.new.self.short ≡ false = ap (λ (e : SpoolDraft). e.growth.short) (sym c.go_on-2.ensures) ∙ kept.roomy in
+    let roomy : c.put.new.self.short ≡ false =
+    ap (λ (e : SpoolDraft). e.growth.short) (sym c.go_on-2.ensures) ∙ kept.roomy in
     let was_roomy : d.growth.short ≡ false = elim (cases_Bool d.growth.short) [
-      | inl short ↦ absurd (both_ways c.put.new.self.short roomy (ap (λ (h : Growth). h.short) (c.put.ensures.nothing short).0 ∙ short))
+      | inl short ↦ absurd (both_ways c.put.new.self.short roomy
+          (ap (λ (h : Growth). h.short) (c.put.ensures.nothing short).0 ∙ short))
       | inr apart ↦ apart
     ] in
-    let before = carries (kept_before x p d held piece fits c.in-Ok.fresh c.in-Ok.text.items some other stands adds was_roomy) in
+    let before = carries (kept_before x p d held piece fits c.in-Ok.fresh c.in-Ok.text.items some other stands adds
+    was_roomy) in
     ap (λ (e : SpoolDraft). bytes_on seen' first e.growth e.growth.on) c.go_on-2.ensures
     ∙ c.in_ok-put.ensures.content honest roomy
     ∙ ap (λ (text : List ℕ). bytes_on seen first d.growth d.growth.on ++ text) c.deref.ensures.value

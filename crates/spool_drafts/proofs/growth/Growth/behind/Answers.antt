@@ -11,9 +11,11 @@ returns-clause-bytes c seen first =
     let list = c.args.list.now in
     elim c.if-text_len-eq0.branch [
       | then-text_len-eq0 w ↦
-          subst (λ (tail : Option ℕ). text_on seen first list (4096 * (len / 4096)) ++ front_on seen first tail (len % 4096) ≡ text_on seen first list len) (sym w.tail-is)
+          subst (λ (tail : Option ℕ). text_on seen first list (4096 * (len / 4096)) ++ front_on seen first tail
+          (len % 4096) ≡ text_on seen first list len) (sym w.tail-is)
           (no_tail_on seen first len list w.if-text_len-eq0.true)
       | else-text_len-eq0 w ↦
-          subst (λ (tail : Option ℕ). text_on seen first list (4096 * (len / 4096)) ++ front_on seen first tail (len % 4096) ≡ text_on seen first list len) (sym w.tail-is)
+          subst (λ (tail : Option ℕ). text_on seen first list (4096 * (len / 4096)) ++ front_on seen first tail
+          (len % 4096) ≡ text_on seen first list len) (sym w.tail-is)
           (tail_on seen first len list c.requires.long (omega (arith, w.if-text_len-eq0.false)))
     ]

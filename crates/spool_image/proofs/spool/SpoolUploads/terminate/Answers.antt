@@ -6,4 +6,5 @@ pub returns-clause-crash : goal.returns-clause-crash
 returns-clause-crash g c w stands =
     limits_on g.D.Disk c.args.self.now.disk c.terminate.new.disk c.terminate.ensures.honest c.terminate.ensures.size
     c.args.self.now.kept.layout
-    c.terminate.new.kept.layout c.terminate.ensures.layout w.store (terminate_outcome w c.args.number) (c.terminate.ensures.crash w stands)
+    c.terminate.new.kept.layout c.terminate.ensures.layout w.store (terminate_outcome w c.args.number)
+    (c.terminate.ensures.crash w stands)

@@ -49,7 +49,8 @@ returns-in_err-done-clause-writes g c honest =
     writes_on takes.more takes.grown (inv.writes honest) (c.put_some.ensures.writes (inv.honest honest))
 
 pub returns-in_err-done-clause-image : goal.returns-in_err-done-clause-image
-returns-in_err-done-clause-image g c honest image is = image_aside _ _ (image_in (returns-in_err-done-clause-writes g c honest) is)
+returns-in_err-done-clause-image g c honest image is =
+    image_aside _ _ (image_in (returns-in_err-done-clause-writes g c honest) is)
 
 pub returns-in_err-done-clause-lasts : goal.returns-in_err-done-clause-lasts
 returns-in_err-done-clause-lasts g c honest =
@@ -58,7 +59,8 @@ returns-in_err-done-clause-lasts g c honest =
     lasts_more
     (lasts_on
     (lasts_more (inv.lasts honest) (λ image is. but_more takes.more takes.grown is))
-    (lasts_more (c.put_some.ensures.lasts (inv.honest honest)) (λ image is. but_on takes.more takes.grown (inv.writes honest) is)))
+    (lasts_more (c.put_some.ensures.lasts (inv.honest honest))
+    (λ image is. but_on takes.more takes.grown (inv.writes honest) is)))
     (λ image is. image_aside _ _ is)
 
 pub loop-done-preserved : goal.loop-done-preserved
@@ -72,21 +74,35 @@ loop-done-preserved g c =
       honest = λ honest. c.put_some.ensures.honest.0 (inv.honest honest);
       back = λ honest. inv.back (c.put_some.ensures.honest.1 honest);
       counts = no_failure c.put_some.ensures.counts (λ e. let wrong = sym c.in_ok-done.was ∙ e in cc) ∙ inv.counts;
-      within = omega (arith, within, length-take (length c.args.bytes.now - c.loop-done.done) (drop c.loop-done.done c.args.bytes.now), inv.within);
+      within = omega (
+        arith,
+        within,
+        length-take (length c.args.bytes.now - c.loop-done.done)
+            (drop c.loop-done.done c.args.bytes.now),
+        inv.within,
+      );
       space = omega (arith, inv.space, c.put_some.ensures.space);
       few = λ _. c.put_some.ensures.few;
       some = λ _. c.in_ok-done.ensures.listed;
       held = omega (arith, c.in_ok-done.ensures.held, inv.held);
       content = λ honest.
-          content_more _ _ _ c.args.bytes.now c.loop-done.done c.in_ok-done.field-0 (length c.args.bytes.now - c.loop-done.done)
-          (omega (arith, within, length-take (length c.args.bytes.now - c.loop-done.done) (drop c.loop-done.done c.args.bytes.now)))
+          content_more _ _ _ c.args.bytes.now c.loop-done.done c.in_ok-done.field-0
+          (length c.args.bytes.now - c.loop-done.done)
+          (omega (
+            arith,
+            within,
+            length-take (length c.args.bytes.now - c.loop-done.done)
+                (drop c.loop-done.done c.args.bytes.now),
+          ))
           (c.in_ok-done.ensures.content (inv.honest honest)) (inv.content honest);
       takes = takes_on inv.takes takes;
       reserved = c.put_some.ensures.reserved;
-      writes = λ honest. writes_on takes.more takes.grown (inv.writes honest) (c.put_some.ensures.writes (inv.honest honest));
+      writes = λ honest. writes_on takes.more takes.grown (inv.writes honest)
+          (c.put_some.ensures.writes (inv.honest honest));
       lasts = λ honest. lasts_on
           (lasts_more (inv.lasts honest) (λ image is. but_more takes.more takes.grown is))
-          (lasts_more (c.put_some.ensures.lasts (inv.honest honest)) (λ image is. but_on takes.more takes.grown (inv.writes honest) is));
+          (lasts_more (c.put_some.ensures.lasts (inv.honest honest))
+          (λ image is. but_on takes.more takes.grown (inv.writes honest) is));
     }
 
 pub returns-clause-image : goal.returns-clause-image
