@@ -5,7 +5,8 @@ use Rattle.upload_rules.specs.declared.errors.UploadError.{UploadError}
 use Rattle.upload_rules.specs.declared.errors.UploadError.TheVariants.{NoMemory, DiskFault, Refused}
 use Rattle.upload_rules.specs.declared.errors.UploadRefusal.{UploadRefusal}
 
-pub answers_more : {T : Type 0} (refusal : Option UploadRefusal) (r : Result T UploadError) {done done' : T → Type 0} {same same' : Type 0} → ((t : T) → done t → done' t) → (same → same')
+pub answers_more : {T : Type 0} (refusal : Option UploadRefusal) (r : Result T UploadError) {done done' : T → Type 0}
+    {same same' : Type 0} → ((t : T) → done t → done' t) → (same → same')
     → Answers refusal r done same → Answers refusal r done' same'
 answers_more refusal (Ok t) ok err a = (a.0, ok t a.1)
 answers_more refusal (Err NoMemory) ok err a = (a.0, err a.1)

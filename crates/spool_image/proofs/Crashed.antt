@@ -1,14 +1,11 @@
 -- What a disk that a crash left shows.
 use Rattle.std.proofs.Common.{◌≡◌, ℕ, Some, sym, subst}
 use Rattle.spool_disk.specs.declared.disk.Disk.{Ghosts}
+use Rattle.spool_load.proofs.Opens.{same_function}
 use Rattle.spool_image.specs.LeftOnly.{AllShow, IsSpool}
 use Rattle.spool_image.specs.Texts.{HasText}
 use Rattle.spool_kept.specs.Shows.{ImageShows, IsRecordOf}
 use Rattle.upload_rules.specs.Store.{Store, Upload, upload_of}
-
--- two images with the same bytes are one
-same_image : (f g : ℕ → ℕ) → ((p : ℕ) → f p ≡ g p) → f ≡ g
-same_image f g same = λ i p. same p i
 
 -- where all of a disk is synced, each image shows what a read does
 pub synced_shows : {D : Type 0} (disk : Ghosts D) (d : D) (n : ℕ) (m : Store) → IsSpool disk d n m
@@ -18,7 +15,7 @@ synced_shows disk d n m is firm = record {
   room = is.room;
   each = λ image left.
       let same : (p : ℕ) → image p ≡ disk.seen d p = λ p. left.same p (firm p) in
-      subst (λ (f : ℕ → ℕ). ImageShows n f m) (sym (same_image image (disk.seen d) same)) is.shows;
+      subst (λ (f : ℕ → ℕ). ImageShows n f m) (sym (same_function image (disk.seen d) same)) is.shows;
 }
 
 -- the upload that a slot tells of is that of its number
@@ -28,7 +25,8 @@ told_of m k number u told same there is =
     let there' : upload_of m k ≡ Some told = subst (λ (j : ℕ). upload_of m j ≡ Some told) same there in cc
 
 -- the text of each upload stands in an image that shows it
-pub text_shown : (n : ℕ) (image : ℕ → ℕ) (m : Store) (k : ℕ) (u : Upload) → ImageShows n image m → upload_of m k ≡ Some u
+pub text_shown : (n : ℕ) (image : ℕ → ℕ) (m : Store) (k : ℕ) (u : Upload) → ImageShows n image m
+    → upload_of m k ≡ Some u
     → HasText image m.indexes k u
 text_shown n image m k u shows is =
     let has = shows.shows.all k u is in

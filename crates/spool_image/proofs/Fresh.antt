@@ -1,5 +1,6 @@
 -- The bytes of a spool without uploads.
-use Rattle.std.proofs.Common.{◌≡◌, inl, inr, subst, ℕ, ◌+◌, ◌-◌, ◌*◌, ◌<◌, ◌≤◌, ltb, true, false, List, length, get_or, refl, ◌∙◌, arith}
+use Rattle.std.proofs.Common.{◌≡◌, inl, inr, subst, ℕ, ◌+◌, ◌-◌, ◌*◌, ◌<◌, ◌≤◌, ltb, true, false, List, length, get_or}
+use Rattle.std.proofs.Common.{refl, ◌∙◌, arith}
 use Rattle.std.proofs.Math.ListN.{get_or-eq_default}
 use Rattle.std.proofs.lemmas.Bool.{cases_lt}
 use Rattle.std.proofs.lemmas.Bool.Decides.{nat_tests}
@@ -9,6 +10,7 @@ use Rattle.spool_disk.specs.Disk.{IsImage, Writes, Syncs}
 use Rattle.spool_journal.specs.Image.{byte_of, journal_pages, all_pages}
 use Rattle.spool_journal.proofs.Steps.{span_at}
 use Rattle.spool_pages.specs.View.{index_place, state_place, first_page, state_page}
+use Rattle.spool_load.proofs.Looks.{length-state}
 use Rattle.spool_image.specs.Fresh.{fresh_byte, IsFreshTo, IsFresh}
 
 yes : (a b : ℕ) → a < b → ltb a b ≡ true
@@ -32,43 +34,51 @@ module _ (n : ℕ) (x : IndexSet) (p : ℕ) where
       let far : index_place n ≤ p = omega (arith, from) in
       rw (no p (index_place n) far, no p (state_place n) from)
 
-pub length_state : length (state_page 1 1) ≡ 12
-unfolding state_page
-length_state = refl
-
 -- behind the state page are zeros
 pub fresh_zeros : (n : ℕ) (x : IndexSet) (p : ℕ) → state_place n + 12 ≤ p → fresh_byte n x p ≡ 0
-fresh_zeros n x p from = fresh_state n x p (omega (arith, from)) ∙ get_or-eq_default (state_page 1 1) 0 (omega (arith, length_state, from))
+fresh_zeros n x p from =
+    fresh_state n x p (omega (arith, from))
+    ∙ get_or-eq_default (state_page 1 1) 0 (omega (arith, length-state 1 1, from))
 
 -- a page more
-pub fresh_more : {seen seen' : ℕ → ℕ} {loose loose' : ℕ → Type 0} {done : Type 0} (n : ℕ) (x : IndexSet) (page : ℕ) (bytes : List ℕ) → IsFreshTo n x (4096 * page) seen → Writes (4096 * page) bytes done seen seen' loose loose' → done → length bytes ≡ 4096 → ((i : ℕ) → i < 4096 → get_or bytes i 0 ≡ fresh_byte n x (4096 * page + i)) → IsFreshTo n x (4096 * (page + 1)) seen'
+pub fresh_more : {seen seen' : ℕ → ℕ} {loose loose' : ℕ → Type 0} {done : Type 0} (n : ℕ) (x : IndexSet) (page : ℕ)
+    (bytes : List ℕ) → IsFreshTo n x (4096 * page) seen → Writes (4096 * page) bytes done seen seen' loose loose' → done
+    → length bytes ≡ 4096 → ((i : ℕ) → i < 4096 → get_or bytes i 0 ≡ fresh_byte n x (4096 * page + i))
+    → IsFreshTo n x (4096 * (page + 1)) seen'
 fresh_more {seen = seen} {seen' = seen'} n x page bytes was writes done long here = record {
   each = λ p from below. elim (cases_lt p (4096 * page)) [
     | inl before ↦ writes.outside p (λ within. omega (arith, within.from, before)) ∙ was.each p from before
     | inr behind ↦
         let at : 4096 * page + (p - 4096 * page) ≡ p = omega (arith, behind) in
-        let there : seen' (4096 * page + (p - 4096 * page)) ≡ get_or bytes (p - 4096 * page) 0 = span_at seen' (4096 * page) bytes (p - 4096 * page) (writes.inside done) (omega (arith, long, below, behind)) in
+        let there : seen' (4096 * page + (p - 4096 * page)) ≡ get_or bytes (p - 4096 * page) 0 =
+        span_at seen' (4096 * page) bytes (p - 4096 * page) (writes.inside done)
+        (omega (arith, long, below, behind)) in
         let is = here (p - 4096 * page) (omega (arith, below, behind)) in
         subst (λ (q : ℕ). seen' q ≡ fresh_byte n x q) at (there ∙ is)
   ];
 }
 
 -- the first page before them
-pub fresh_all : {a b c d : ℕ → ℕ} {la lb lc ld : ℕ → Type 0} {synced done synced' : Type 0} (n : ℕ) (x : IndexSet) (bytes : List ℕ) → Syncs synced a b la lb → synced → Writes 0 bytes done b c lb lc → done → Syncs synced' c d lc ld → synced' → length bytes ≡ 4096 → ((i : ℕ) → get_or bytes i 0 ≡ get_or (first_page n) i 0) → IsFreshTo n x (4096 * all_pages n) a → IsFresh n x d
+pub fresh_all : {a b c d : ℕ → ℕ} {la lb lc ld : ℕ → Type 0} {synced done synced' : Type 0} (n : ℕ) (x : IndexSet)
+    (bytes : List ℕ) → Syncs synced a b la lb → synced → Writes 0 bytes done b c lb lc → done → Syncs synced' c d lc ld
+    → synced' → length bytes ≡ 4096 → ((i : ℕ) → get_or bytes i 0 ≡ get_or (first_page n) i 0)
+    → IsFreshTo n x (4096 * all_pages n) a → IsFresh n x d
 fresh_all {a = a} {b = b} {c = c} {d = d} n x bytes first one writes two second three long is was = record {
   front = λ i lt.
       let at : 0 + i ≡ i = omega arith in
-      let there : c i ≡ get_or bytes i 0 = subst (λ (q : ℕ). c q ≡ get_or bytes i 0) at (span_at c 0 bytes i (writes.inside two) (omega (arith, long, lt))) in
+      let there : c i ≡ get_or bytes i 0 =
+      subst (λ (q : ℕ). c q ≡ get_or bytes i 0) at
+      (span_at c 0 bytes i (writes.inside two) (omega (arith, long, lt))) in
       second.same three i ∙ there ∙ is i;
-  behind = record { each = λ p from below. second.same three p ∙ writes.outside p (λ within. omega (arith, within.below, from, long)) ∙ first.same one p ∙ was.each p from below };
+  behind = record {
+    each = λ p from below. second.same three p ∙ writes.outside p (λ within. omega (arith, within.below, from, long))
+        ∙ first.same one p ∙ was.each p from below;
+  };
 }
 
-pub some_pages : (n : ℕ) → 539 ≤ all_pages n
-unfolding all_pages journal_pages
-some_pages n = omega arith
-
 -- an image where nothing is loose
-pub fresh_on : {n : ℕ} {x : IndexSet} {seen image : ℕ → ℕ} {loose : ℕ → Type 0} → IsImage seen loose image → ((p : ℕ) → loose p → ⊥) → IsFresh n x seen → IsFresh n x image
+pub fresh_on : {n : ℕ} {x : IndexSet} {seen image : ℕ → ℕ} {loose : ℕ → Type 0} → IsImage seen loose image
+    → ((p : ℕ) → loose p → ⊥) → IsFresh n x seen → IsFresh n x image
 fresh_on is firm fresh = record {
   front = λ i lt. is.same i (firm i) ∙ fresh.front i lt;
   behind = record { each = λ p from below. is.same p (firm p) ∙ fresh.behind.each p from below };

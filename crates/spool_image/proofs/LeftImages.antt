@@ -11,7 +11,8 @@ use Rattle.spool_kept.specs.Shows.{ImageShows}
 use Rattle.spool_kept.specs.Stored.{ShowsEither}
 
 -- of a spool that has n blocks, and as many behind the call
-module _ {D : Type 0} (disk : Ghosts D) (old new : D) (honest : disk.honest old ↔ disk.honest new) (long : disk.size new ≡ disk.size old)
+module _ {D : Type 0} (disk : Ghosts D) (old new : D) (honest : disk.honest old ↔ disk.honest new)
+    (long : disk.size new ≡ disk.size old)
     (n n' : ℕ) (size : n' ≡ n) where
   left_on : {P : (ℕ → ℕ) → Type 0} (t : ℕ) (ms : List Store) → Lasts disk old new P
       → ((image : ℕ → ℕ) → P image → ShowsOne n ms image) → t ≤ disk.moment old
@@ -38,7 +39,8 @@ module _ {D : Type 0} (disk : Ghosts D) (old new : D) (honest : disk.honest old 
   }
 
   -- a call that leaves what shows the same as what a read gives
-  pub quiet_shown : ((t : ℕ) (image : ℕ → ℕ) → t ≤ disk.moment old → IsImage (disk.seen old) (disk.loose old) image → disk.left_since old t image)
+  pub quiet_shown : ((t : ℕ) (image : ℕ → ℕ) → t ≤ disk.moment old → IsImage (disk.seen old) (disk.loose old) image
+      → disk.left_since old t image)
       → Lasts disk old new (λ image. (k : ℕ) (m : Store) → ImageShows k (disk.seen old) m → ImageShows k image m)
       → Quiet (disk.moment old) (disk.moment new) (SpoolLeft disk old n) (SpoolLeft disk new n')
   quiet_shown now lasts = record {
@@ -46,14 +48,19 @@ module _ {D : Type 0} (disk : Ghosts D) (old new : D) (honest : disk.honest old 
     keeps = λ blocks t ms le left.
         let one = left.1.each (disk.seen old) (now t (disk.seen old) le record { same = λ p firm. refl }) in (
           left.0 ∙ ap Some (sym size),
-          left_on t ms lasts (λ image same. record { store = one.store; among = one.among; shows = same n one.store one.shows }) le left.1,
+          left_on t ms lasts (λ image same. record {
+            store = one.store;
+            among = one.among;
+            shows = same n one.store one.shows;
+          }) le left.1,
         );
   }
 
 -- a call that only reads
 pub quiet_read : {D : Type 0} (disk : Ghosts D) (old new : D) (honest : disk.honest old ↔ disk.honest new)
     (long : disk.size new ≡ disk.size old) (n : ℕ) → disk.moment old ≤ disk.moment new
-    → ((t : ℕ) (image : ℕ → ℕ) → t ≤ disk.moment old → IsImage (disk.seen old) (disk.loose old) image → disk.left_since old t image)
+    → ((t : ℕ) (image : ℕ → ℕ) → t ≤ disk.moment old → IsImage (disk.seen old) (disk.loose old) image
+    → disk.left_since old t image)
     → (disk.honest old → Lasts disk old new (IsImage (disk.seen old) (disk.loose old)))
     → Quiet (disk.moment old) (disk.moment new) (SpoolLeft disk old n) (SpoolLeft disk new n)
 quiet_read disk old new honest long n later now lasts = record {
@@ -64,7 +71,8 @@ quiet_read disk old new honest long n later now lasts = record {
       honest = honest.0 left.1.honest;
       room = subst (λ (k : ℕ). 4096 * all_pages n ≤ k) (sym long) left.1.room;
       each = λ image since.
-          left.1.each image (⊎_elim (λ before. before) (now t image le) ((lasts left.1.honest).nothing_else t image le since));
+          left.1.each image (⊎_elim (λ before. before) (now t image le)
+          ((lasts left.1.honest).nothing_else t image le since));
     },
   );
 }

@@ -1,11 +1,9 @@
 pub mod Fresh
 pub mod Formats
 pub mod NoUploads
-pub mod Looks
 pub mod Opens
 pub mod LeftImages
 pub mod AnswersMore
 pub mod StandsOn
 pub mod Crashed
-pub mod Sounds
 pub mod Refused

@@ -1,5 +1,6 @@
 -- A fresh spool shows no uploads.
-use Rattle.std.proofs.Common.{◌≡◌, inl, inr, ℕ, ◌+◌, ◌-◌, ◌*◌, ◌<◌, ◌≤◌, [], Option, None, Some, get_or, replicate, refl, sym, ◌∙◌, ap, subst, arith}
+use Rattle.std.proofs.Common.{◌≡◌, inl, inr, ℕ, ◌+◌, ◌-◌, ◌*◌, ◌<◌, ◌≤◌, [], Option, None, Some, get_or, replicate}
+use Rattle.std.proofs.Common.{refl, sym, ◌∙◌, ap, subst, arith}
 use Rattle.std.proofs.Math.ListN.{get_or-eq_default, length-replicate}
 use Rattle.std.proofs.lemmas.List.{get_or-replicate}
 use Rattle.std.proofs.lemmas.Bool.{cases_lt}
@@ -9,7 +10,8 @@ use Rattle.enc_index.specs.Sets.{IsIndexSet}
 use Rattle.spool_journal.specs.Image.{journal_pages, all_pages, byte_of, overlaid}
 use Rattle.spool_journal.proofs.Gate.{shut_view}
 use Rattle.upload_rules.specs.Store.{no_uploads}
-use Rattle.spool_pages.specs.View.{SlotRecord, View, Says, Stands, slot_bytes, row_bytes, index_place, state_place, slot_place, row_place, state_page, first_page}
+use Rattle.spool_pages.specs.View.{SlotRecord, View, Says, Stands, slot_bytes, row_bytes, index_place, state_place}
+use Rattle.spool_pages.specs.View.{slot_place, row_place, state_page, first_page}
 use Rattle.spool_kept.specs.Shows.{IsSound, ImageShows}
 use Rattle.spool_image.specs.Fresh.{IsFresh}
 use Rattle.spool_image.proofs.Fresh.{fresh_front, fresh_area, fresh_state, fresh_zeros}
@@ -21,19 +23,29 @@ nothing A = None
 none_at : {A : Type 0} (n i : ℕ) → get_or (replicate n (nothing A)) i (nothing A) ≡ nothing A
 none_at {A = A} n i = elim (cases_lt i n) [
   | inl below ↦ get_or-replicate n i (nothing A) (nothing A) below
-  | inr from ↦ get_or-eq_default (replicate n (nothing A)) (nothing A) (omega (arith, length-replicate {A = Option A} n (nothing A), from))
+  | inr from ↦ get_or-eq_default (replicate n (nothing A)) (nothing A)
+      (omega (arith, length-replicate {A = Option A} n (nothing A), from))
 ]
 
 never : {A X : Type 0} {o : Option A} {a : A} → o ≡ None → o ≡ Some a → X
 never none some = cc
 
 fresh_view : ℕ → IndexSet → View
-fresh_view n x = record { blocks = n; version = 1; next = 1; indexes = x; slots = replicate 512 None; rows = replicate n None; texts = λ s. [] }
+fresh_view n x = record {
+  blocks = n;
+  version = 1;
+  next = 1;
+  indexes = x;
+  slots = replicate 512 None;
+  rows = replicate n None;
+  texts = λ s. [];
+}
 
 module _ (n : ℕ) (x : IndexSet) (image : ℕ → ℕ) (fresh : IsFresh n x image) where
   zeros : (place size : ℕ) → state_place n + 12 ≤ place → place + size ≤ 4096 * all_pages n → Stands image place size []
   zeros place size from below = record {
-    each = λ i lt. fresh.behind.each (place + i) (omega (arith, from)) (omega (arith, below, lt)) ∙ fresh_zeros n x (place + i) (omega (arith, from));
+    each = λ i lt. fresh.behind.each (place + i) (omega (arith, from)) (omega (arith, below, lt))
+        ∙ fresh_zeros n x (place + i) (omega (arith, from));
   }
 
   slot : (s : ℕ) → s < 512 → Stands image (slot_place n s) 2048 []
@@ -52,17 +64,26 @@ module _ (n : ℕ) (x : IndexSet) (image : ℕ → ℕ) (fresh : IsFresh n x ima
       let j = some_journal n in
       let all = all_is n in
       record {
-        first = record { each = λ i lt. let at : i ≡ 0 + i = omega arith in subst (λ (p : ℕ). image p ≡ byte_of (first_page n) i) at (fresh.front i lt) };
+        first = record {
+          each = λ i lt.
+              let at : i ≡ 0 + i = omega arith in
+              subst (λ (p : ℕ). image p ≡ byte_of (first_page n) i) at (fresh.front i lt);
+        };
         area = λ i lt.
             let at : index_place n + i - index_place n ≡ i = omega arith in
-            fresh.behind.each (index_place n + i) (omega arith) (omega (arith, lt, all)) ∙ fresh_area n x (index_place n + i) (omega arith) (omega (arith, lt)) ∙ ap (λ (p : ℕ). area_byte x p) at;
+            fresh.behind.each (index_place n + i) (omega arith) (omega (arith, lt, all))
+            ∙ fresh_area n x (index_place n + i) (omega arith) (omega (arith, lt))
+            ∙ ap (λ (p : ℕ). area_byte x p) at;
         state = record {
           each = λ i lt.
               let at : state_place n + i - state_place n ≡ i = omega arith in
-              fresh.behind.each (state_place n + i) (omega arith) (omega (arith, lt, all, j)) ∙ fresh_state n x (state_place n + i) (omega arith) ∙ ap (λ (p : ℕ). byte_of (state_page 1 1) p) at;
+              fresh.behind.each (state_place n + i) (omega arith) (omega (arith, lt, all, j))
+              ∙ fresh_state n x (state_place n + i) (omega arith) ∙ ap (λ (p : ℕ). byte_of (state_page 1 1) p) at;
         };
-        slots = λ s lt. subst (λ (o : Option SlotRecord). Stands image (slot_place n s) 2048 (slot_bytes o)) (sym (none_at 512 s)) (slot s lt);
-        rows = λ b lt. subst (λ (o : Option (ℕ × ℕ)). Stands image (row_place n b) 8 (row_bytes o)) (sym (none_at n b)) (row_none b lt);
+        slots = λ s lt. subst (λ (o : Option SlotRecord). Stands image (slot_place n s) 2048 (slot_bytes o))
+            (sym (none_at 512 s)) (slot s lt);
+        rows = λ b lt. subst (λ (o : Option (ℕ × ℕ)). Stands image (row_place n b) 8 (row_bytes o)) (sym (none_at n b))
+            (row_none b lt);
         texts = λ s r e. never (none_at 512 s) e;
       }
 
@@ -85,7 +106,8 @@ module _ (n : ℕ) (x : IndexSet) (image : ℕ → ℕ) (fresh : IsFresh n x ima
 
   gate_shut : image 4096 ≡ 165 → ⊥
   gate_shut ajar =
-      let zero_there : image 4096 ≡ 0 = fresh.behind.each 4096 (omega arith) (omega (arith, all_is n)) ∙ fresh_front n x 4096 (omega arith) in
+      let zero_there : image 4096 ≡ 0 =
+      fresh.behind.each 4096 (omega arith) (omega (arith, all_is n)) ∙ fresh_front n x 4096 (omega arith) in
       omega (arith, zero_there, ajar)
 
   pub fresh_shows : 16 ≤ n → n ≤ 65536 → IsIndexSet x → ImageShows n image (no_uploads x)

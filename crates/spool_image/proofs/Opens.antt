@@ -1,90 +1,16 @@
--- Steps of opening a spool.
-use Rattle.std.proofs.Common.{◌≡◌, inl, inr, ℕ, ◌+◌, ◌*◌, ◌<◌, ◌≤◌, get_or, Result, Ok, Err, IfOk, refl, sym, ◌∙◌}
-use Rattle.std.proofs.Common.{subst, arith}
-use Rattle.std.proofs.lemmas.Bool.{cases_eq}
-use Rattle.spool_disk.specs.Disk.{IsImage, Keeps}
+-- What an opened spool shows.
+use Rattle.std.proofs.Common.{◌≡◌, ◌⊎◌, inl, inr, ℕ, ◌*◌, ◌≤◌, sym, subst, ⊎_elim}
+use Rattle.spool_disk.specs.Disk.{IsImage}
+use Rattle.spool_disk.specs.Views.{Lasts}
 use Rattle.spool_disk.specs.declared.disk.Disk.{Ghosts}
-use Rattle.spool_journal.specs.Image.{journal_pages, all_pages, overlaid, InForm, count, number, content}
-use Rattle.spool_journal.specs.Phases.{Settled, ReadsAs, Still}
-use Rattle.spool_journal.proofs.Over.{over_none}
-use Rattle.spool_journal.proofs.Gate.{open_view, shut_view}
+use Rattle.spool_disk.proofs.Firm.{lasts_more}
+use Rattle.spool_journal.specs.Image.{journal_pages, all_pages, overlaid}
+use Rattle.spool_journal.specs.Phases.{ReadsAs}
 use Rattle.upload_rules.specs.Store.{Store}
-use Rattle.spool_pages.specs.View.{View, Says, IsViewOf, first_page}
-use Rattle.spool_kept.specs.Shows.{ImageShows, IsSound}
-use Rattle.spool_image.specs.LeftOnly.{IsSpool}
-use Rattle.spool_image.specs.Reads.{SaysBlocks}
+use Rattle.spool_pages.specs.View.{View, IsViewOf}
 use Rattle.spool_pages.proofs.Says.{says_same}
-
-pub same_function : (f g : ℕ → ℕ) → ((p : ℕ) → f p ≡ g p) → f ≡ g
-same_function f g same = λ i p. same p i
-
--- page 0 is never one of the journal's places
-pub front_plain : (j : ℕ) (image : ℕ → ℕ) → (image 4096 ≡ 165 → InForm j (count image) (number image)) → (p : ℕ)
-    → p < 4096 → image p ≡ overlaid image p
-front_plain j image form p lt = elim (cases_eq (image 4096) 165) [
-  | inl ajar ↦
-      sym (open_view image p ajar ∙ over_none (number image) (content image) image (count image) p
-      (λ k below e. omega (arith, ((form ajar).inside k below).from, e, lt)))
-  | inr shut ↦ sym (shut_view image p shut)
-]
-
-pub first_plain : (image : ℕ → ℕ) (v : View) → IsViewOf image v → (i : ℕ) → i < 4096
-    → image i ≡ get_or (first_page v.blocks) i 0
-first_plain image v is i lt =
-    let at : 0 + i ≡ i = omega arith in
-    let there : overlaid image i ≡ get_or (first_page v.blocks) i 0 =
-    subst (λ (p : ℕ). overlaid image p ≡ get_or (first_page v.blocks) i 0) at (is.says.first.each i lt) in
-    front_plain (journal_pages v.blocks) image is.form i lt ∙ there
-
-pub view_says_blocks : (size : ℕ) (image : ℕ → ℕ) (v : View) → IsSound v → IsViewOf image v
-    → 4096 * all_pages v.blocks ≤ size → SaysBlocks size image v.blocks
-view_says_blocks size image v sound is room = record {
-  least = sound.least;
-  most = sound.most;
-  room = room;
-  front = λ i lt. first_plain image v is i (omega (arith, lt));
-}
-
--- where the bytes are the same and none is loose, nothing was written
-pub still_as : {seen seen' : ℕ → ℕ} {loose loose' : ℕ → Type 0} → Still seen seen' loose'
-    → Keeps seen seen' loose loose'
-still_as still = record { same = still.reads; loosens = λ p l. absurd (still.firm p l) }
-
-pub still_as_image : {seen : ℕ → ℕ} {loose : ℕ → Type 0} (image : ℕ → ℕ) → ((p : ℕ) → image p ≡ seen p)
-    → IsImage seen loose image
-still_as_image image same = record { same = λ p firm. same p }
-
-pub keeps_on : {a b c : ℕ → ℕ} {la lb lc : ℕ → Type 0} → Keeps a b la lb → Keeps b c lb lc → Keeps a c la lc
-keeps_on first then = record {
-  same = λ p. then.same p ∙ first.same p;
-  loosens = λ p l. first.loosens p (then.loosens p l);
-}
-
--- behind a recovery
-pub settled_still : {j : ℕ} {bytes seen : ℕ → ℕ} {loose : ℕ → Type 0} → Settled j bytes seen loose
-    → Still seen seen loose
-settled_still settled = record { reads = λ p. refl; firm = settled.firm }
-
-pub settled_says : {bytes seen : ℕ → ℕ} {loose : ℕ → Type 0} (v : View)
-    → Settled (journal_pages v.blocks) bytes seen loose → Says bytes v → Says seen v
-settled_says {bytes = bytes} {seen = seen} v settled says = says_same seen bytes v settled.same says
-
-pub settled_reads : {j : ℕ} {bytes seen : ℕ → ℕ} {loose : ℕ → Type 0} (image : ℕ → ℕ) → Settled j bytes seen loose
-    → ((p : ℕ) → image p ≡ seen p) → ReadsAs j image bytes
-settled_reads image settled same =
-    let shut : image 4096 ≡ 165 → ⊥ = λ ajar. settled.closed (sym (same 4096) ∙ ajar) in
-    record {
-      form = λ ajar. absurd (shut ajar);
-      same = λ p outside. shut_view image p shut ∙ same p ∙ settled.same p outside;
-    }
-
-pub settled_on : {j : ℕ} {bytes seen seen' : ℕ → ℕ} {loose loose' : ℕ → Type 0} → Settled j bytes seen loose
-    → Still seen seen' loose' → Settled j bytes seen' loose'
-settled_on settled still = record {
-  firm = still.firm;
-  closed = λ ajar. settled.closed (sym (still.reads 4096) ∙ ajar);
-  same = λ p outside. still.reads p ∙ settled.same p outside;
-}
+use Rattle.spool_kept.specs.Shows.{ImageShows, IsSound}
+use Rattle.spool_image.specs.LeftOnly.{IsSpool, LeftOrShows}
 
 -- what reads the same shows the same
 pub reads_shows : (image was : ℕ → ℕ) (v : View) → IsViewOf was v
@@ -108,11 +34,12 @@ pub view_room : {D : Type 0} (disk : Ghosts D) (d : D) (n : ℕ) (m : Store) (is
     → 4096 * all_pages is.shows.view.blocks ≤ disk.size d
 view_room disk d n m is = subst (λ (k : ℕ). 4096 * all_pages k ≤ disk.size d) (sym is.shows.blocks) is.room
 
-pub if_ok : {T E X : Type 0} (r : Result T E) → X → IfOk r (λ t. X)
-if_ok (Ok t) x = x
-if_ok (Err e) x = tt
-
--- a read before it changes nothing of this
-pub keeps_image : {seen seen' image : ℕ → ℕ} {loose loose' : ℕ → Type 0} → Keeps seen seen' loose loose'
-    → IsImage seen' loose' image → IsImage seen loose image
-keeps_image keeps is = record { same = λ p firm. is.same p (λ l. firm (keeps.loosens p l)) ∙ keeps.same p }
+-- what reads the same while a disk is opened shows the same
+pub lasts_shown : {D : Type 0} (disk : Ghosts D) (d d' : D) (n : ℕ) (m : Store) (is : IsSpool disk d n m)
+    → ((v : View) → IsSound v → IsViewOf (disk.seen d) v → 4096 * all_pages v.blocks ≤ disk.size d
+    → Lasts disk d d' (λ image. IsImage (disk.seen d) (disk.loose d) image
+    ⊎ ReadsAs (journal_pages v.blocks) image (overlaid (disk.seen d))))
+    → Lasts disk d d' (LeftOrShows disk d n m)
+lasts_shown disk d d' n m is lasts =
+    lasts_more (lasts is.shows.view is.shows.shows.sound is.shows.is (view_room disk d n m is))
+    (λ image one. ⊎_elim (λ here. inl here) (λ reads. inr (image_shows n m image (disk.seen d) is.shows reads)) one)

@@ -1,5 +1,7 @@
 -- A spool that stands for a world, at its opening and from call to call.
-use Rattle.std.proofs.Common.{◌≡◌, ◌↔◌, inl, inr, Result, Ok, Err, OnOk, IsErrOf, ℕ, ◌+◌, ◌*◌, ◌%◌, ◌≤◌, ◌++◌, false, List, [], Option, None, Some, length, get_or, replicate, take, refl, sym, ◌∙◌, ap, subst, arith}
+use Rattle.std.proofs.Common.{◌≡◌, ◌↔◌, inl, inr, Result, Ok, Err, OnOk, IsErrOf, ℕ, ◌+◌, ◌*◌, ◌%◌, ◌≤◌, ◌++◌, false}
+use Rattle.std.proofs.Common.{List, [], Option, None, Some, length, get_or, replicate, take, refl, sym, ◌∙◌, ap, subst}
+use Rattle.std.proofs.Common.{arith}
 use Rattle.std.proofs.Math.ListN.{get_or-eq_default, length-replicate}
 use Rattle.std.proofs.lemmas.Bool.{cases_lt}
 use Rattle.std.proofs.lemmas.List.{get_or-replicate}
@@ -28,7 +30,7 @@ use Rattle.upload_rules.specs.World.{Patch, World, at_rest}
 use Rattle.upload_rules.specs.declared.errors.UploadError.{UploadError}
 use Rattle.upload_rules.specs.declared.errors.UploadError.TheVariants.{NoMemory, DiskFault, Refused}
 use Rattle.upload_rules.specs.declared.errors.UploadRefusal.{UploadRefusal}
-use Rattle.spool_image.proofs.Opens.{same_function}
+use Rattle.spool_load.proofs.Opens.{same_function}
 use Rattle.spool_kept.specs.Drafting.{DraftsStand, DraftStands, IsOwnedBy, StandsFor}
 use Rattle.spool_kept.specs.Holding.{Holding, IsUsedBy}
 use Rattle.spool_kept.specs.Kept.{KeepsAlone}
@@ -43,10 +45,18 @@ begun_any number count (Some u) = tt
 -- A READ
 
 module _ {D : Type 0} (disk : Ghosts D) (d d' : D) (h : Holding) (drafts : List (Option SpoolDraft)) (w : World) where
-  pub stands_read : (disk.honest d ↔ disk.honest d') → Keeps (disk.seen d) (disk.seen d') (disk.loose d) (disk.loose d') → StandsFor disk d h drafts w → StandsFor disk d' h drafts w
+  pub stands_read : (disk.honest d ↔ disk.honest d') → Keeps (disk.seen d) (disk.seen d') (disk.loose d) (disk.loose d')
+      → StandsFor disk d h drafts w → StandsFor disk d' h drafts w
   stands_read honest keeps s = record {
-    stored = record { honest = honest.0 s.stored.honest; view = s.stored.view; rests = rests_keeps s.stored.rests keeps; keeps = s.stored.keeps; shows = s.stored.shows };
-    stands = subst (λ (seen : ℕ → ℕ). DraftsStand w.store.indexes seen (25 + 2 * journal_pages h.layout) h.slots h.blocks w drafts) (sym (same_function _ _ keeps.same)) s.stands;
+    stored = record {
+      honest = honest.0 s.stored.honest;
+      view = s.stored.view;
+      rests = rests_keeps s.stored.rests keeps;
+      keeps = s.stored.keeps;
+      shows = s.stored.shows;
+    };
+    stands = subst (λ (seen : ℕ → ℕ). DraftsStand w.store.indexes seen (25 + 2 * journal_pages h.layout) h.slots
+        h.blocks w drafts) (sym (same_function _ _ keeps.same)) s.stands;
   }
 
 -- AN OPENED SPOOL
@@ -57,72 +67,112 @@ none_reserved n b = elim (cases_lt b n) [
   | inr from ↦ get_or-eq_default (replicate n false) false (omega (arith, length-replicate n false, from))
 ]
 
-none_stands : (x : IndexSet) (seen : ℕ → ℕ) (first : ℕ) (h : Holding) (m : Store) (v : View) → KeepsAlone h v → Shows v m → DraftsStand x seen first h.slots h.blocks (at_rest m (Some v.blocks)) []
+none_stands : (x : IndexSet) (seen : ℕ → ℕ) (first : ℕ) (h : Holding) (m : Store) (v : View) → KeepsAlone h v
+    → Shows v m → DraftsStand x seen first h.slots h.blocks (at_rest m (Some v.blocks)) []
 none_stands x seen first h m v keeps shows = record {
   each = λ d. tt;
   apart = tt;
   grown = record { each = λ d p found. absurd cc };
   limit = ap Some (sym (ap length keeps.0.rows ∙ shows.sound.row_count));
-  all = λ b reserved. absurd (let free = none_reserved v.blocks b in let is = sym (ap (λ bs. get_or bs b false) keeps.1) ∙ reserved in cc);
+  all = λ b reserved.
+      let free = none_reserved v.blocks b in
+      let is = sym (ap (λ bs. get_or bs b false) keeps.1) ∙ reserved in
+      absurd (cc);
 }
 
-pub stands_opened : {D : Type 0} (disk : Ghosts D) (d' : D) (was : ℕ → ℕ) (h : Holding) (drafts : List (Option SpoolDraft)) (m : Store) (v : View) → drafts ≡ [] → disk.honest d' → IsViewOf was v → KeepsAlone h v → Shows v m
-    → Settled (journal_pages h.layout) (overlaid was) (disk.seen d') (disk.loose d') → StandsFor disk d' h drafts (at_rest m (Some v.blocks))
+pub stands_opened : {D : Type 0} (disk : Ghosts D) (d' : D) (was : ℕ → ℕ) (h : Holding)
+    (drafts : List (Option SpoolDraft)) (m : Store) (v : View) → drafts ≡ [] → disk.honest d' → IsViewOf was v
+    → KeepsAlone h v → Shows v m
+    → Settled (journal_pages h.layout) (overlaid was) (disk.seen d') (disk.loose d')
+    → StandsFor disk d' h drafts (at_rest m (Some v.blocks))
 stands_opened disk d' was h drafts m v none honest is keeps shows settled = record {
-  stored = record { honest = honest; view = v; rests = settled_rests (sym keeps.0.blocks) settled is.says; keeps = keeps.0; shows = shows };
-  stands = subst (DraftsStand m.indexes (disk.seen d') (25 + 2 * journal_pages h.layout) h.slots h.blocks (at_rest m (Some v.blocks))) (sym none)
+  stored = record {
+    honest = honest;
+    view = v;
+    rests = settled_rests (sym keeps.0.blocks) settled is.says;
+    keeps = keeps.0;
+    shows = shows;
+  };
+  stands = subst (DraftsStand m.indexes (disk.seen d') (25 + 2 * journal_pages h.layout) h.slots h.blocks
+      (at_rest m (Some v.blocks))) (sym none)
       (none_stands m.indexes (disk.seen d') (25 + 2 * journal_pages h.layout) h m v keeps shows);
 }
 
 -- A NEW UPLOAD
 
 -- no byte of a text block is another
-bytes_still : (seen seen' : ℕ → ℕ) (first : ℕ) (g : Growth) (on : Option Draft) → ((p : ℕ) → 4096 * first ≤ p → seen' p ≡ seen p) → bytes_on seen' first g on ≡ bytes_on seen first g on
-bytes_still seen seen' first g None same = ap (λ (xs : List ℕ). take (g.text_len % 4096) xs) (blocks_same seen' seen first (tail_list g.tail) (λ i p lt e. same p (omega (arith, e))))
-bytes_still seen seen' first g (Some t) same = ap (λ (xs : List ℕ). xs ++ t.unfinished) (blocks_same seen' seen first (take (full_count t) t.blocks) (λ i p lt e. same p (omega (arith, e))))
+bytes_still : (seen seen' : ℕ → ℕ) (first : ℕ) (g : Growth) (on : Option Draft)
+    → ((p : ℕ) → 4096 * first ≤ p → seen' p ≡ seen p) → bytes_on seen' first g on ≡ bytes_on seen first g on
+bytes_still seen seen' first g None same =
+    ap (λ (xs : List ℕ). take (g.text_len % 4096) xs)
+    (blocks_same seen' seen first (tail_list g.tail) (λ i p lt e. same p (omega (arith, e))))
+bytes_still seen seen' first g (Some t) same =
+    ap (λ (xs : List ℕ). xs ++ t.unfinished)
+    (blocks_same seen' seen first (take (full_count t) t.blocks) (λ i p lt e. same p (omega (arith, e))))
 
-module _ (seen seen' : ℕ → ℕ) (first : ℕ) (slots slots' : List (Option SlotRecord)) (w : World) (new : New) (same : (p : ℕ) → 4096 * first ≤ p → seen' p ≡ seen p)
+module _ (seen seen' : ℕ → ℕ) (first : ℕ) (slots slots' : List (Option SlotRecord)) (w : World) (new : New)
+    (same : (p : ℕ) → 4096 * first ≤ p → seen' p ≡ seen p)
     (used : (s n : ℕ) → IsUsedBy slots s n → IsUsedBy slots' s n) where
-  draft_still : (rows : List Row) (p : Patch) (o : SpoolDraft) → DraftStands w.store.indexes seen first slots rows w.store p o → DraftStands w.store.indexes seen' first slots' rows (created_store w.store new) p o
+  draft_still : (rows : List Row) (p : Patch) (o : SpoolDraft)
+      → DraftStands w.store.indexes seen first slots rows w.store p o
+      → DraftStands w.store.indexes seen' first slots' rows (created_store w.store new) p o
   draft_still rows p o is =
       let found : upload_of (created_store w.store new) p.number ≡ upload_of w.store p.number =
       find_push_other p.number w.store.next (new_upload new) w.store.uploads (λ e. omega (arith, e, is.below)) in
       record {
         holds = is.holds;
         below = omega (arith, is.below);
-        carries = λ there kept. bytes_still seen seen' first o.growth o.growth.on same ∙ is.carries (sym found ∙ there) kept;
+        carries = λ there kept. bytes_still seen seen' first o.growth o.growth.on same
+            ∙ is.carries (sym found ∙ there) kept;
         tail = λ there. owned (is.tail (sym found ∙ there));
       }
     where
       owned : IsOwnedBy slots rows p.number (tail_of o) → IsOwnedBy slots' rows p.number (tail_of o)
       owned by = record { slot = by.slot; used = used by.slot p.number by.used; owned = by.owned }
 
-  drafts_still : (h : Held) (drafts : List (Option SpoolDraft)) → DraftsStand w.store.indexes seen first slots h w drafts → DraftsStand w.store.indexes seen' first slots' h (created w new) drafts
+  drafts_still : (h : Held) (drafts : List (Option SpoolDraft))
+      → DraftsStand w.store.indexes seen first slots h w drafts
+      → DraftsStand w.store.indexes seen' first slots' h (created w new) drafts
   drafts_still h drafts stand = record {
-    each = λ d. held_on (DraftStands w.store.indexes seen first slots h.rows w.store) (DraftStands w.store.indexes seen' first slots' h.rows (created_store w.store new)) (find d w.patches) (draft_at drafts d)
+    each = λ d. held_on (DraftStands w.store.indexes seen first slots h.rows w.store)
+        (DraftStands w.store.indexes seen' first slots' h.rows (created_store w.store new)) (find d w.patches)
+        (draft_at drafts d)
         (λ p o there. draft_still h.rows p o) (stand.each d);
     apart = stand.apart;
-    grown = grown_created w stand.grown new (λ d p there. (draft_of (DraftStands w.store.indexes seen first slots h.rows w.store) p (find d w.patches) (draft_at drafts d) there (stand.each d)).2.below);
+    grown = grown_created w stand.grown new
+        (λ d p there. (draft_of (DraftStands w.store.indexes seen first slots h.rows w.store) p (find d w.patches)
+        (draft_at drafts d) there (stand.each d)).2.below);
     limit = stand.limit;
     all = stand.all;
   }
 
-pub stands_created : {D : Type 0} (disk : Ghosts D) (d d' : D) (h h' : Holding) (drafts : List (Option SpoolDraft)) (w : World) (new : New)
-    → StandsFor disk d h drafts w → h'.layout ≡ h.layout → h'.blocks ≡ h.blocks → ((s n : ℕ) → IsUsedBy h.slots s n → IsUsedBy h'.slots s n)
-    → ((p : ℕ) → 4096 * text_page h.layout ≤ p → disk.seen d' p ≡ disk.seen d p) → Stored disk d' h' (created_store w.store new) → StandsFor disk d' h' drafts (created w new)
+pub stands_created : {D : Type 0} (disk : Ghosts D) (d d' : D) (h h' : Holding) (drafts : List (Option SpoolDraft))
+    (w : World) (new : New)
+    → StandsFor disk d h drafts w → h'.layout ≡ h.layout → h'.blocks ≡ h.blocks
+    → ((s n : ℕ) → IsUsedBy h.slots s n → IsUsedBy h'.slots s n)
+    → ((p : ℕ) → 4096 * text_page h.layout ≤ p → disk.seen d' p ≡ disk.seen d p)
+    → Stored disk d' h' (created_store w.store new) → StandsFor disk d' h' drafts (created w new)
 stands_created disk d d' h h' drafts w new s layout blocks used texts stored = record {
   stored = stored;
-  stands = subst (λ (n : ℕ). DraftsStand w.store.indexes (disk.seen d') (text_page n) h'.slots h'.blocks (created w new) drafts) (sym layout)
-      (subst (λ (held : Held). DraftsStand w.store.indexes (disk.seen d') (text_page h.layout) h'.slots held (created w new) drafts) (sym blocks)
-      (drafts_still (disk.seen d) (disk.seen d') (text_page h.layout) h.slots h'.slots w new texts used h.blocks drafts s.stands));
+  stands =
+      let S : ℕ → Held → Type 0 =
+      λ n held. DraftsStand w.store.indexes (disk.seen d') (text_page n) h'.slots held (created w new) drafts in
+      subst (λ (n : ℕ). S n h'.blocks) (sym layout) (subst (S h.layout) (sym blocks)
+      (drafts_still (disk.seen d) (disk.seen d') (text_page h.layout) h.slots h'.slots w new texts used h.blocks drafts
+      s.stands));
 }
 
 -- nothing has changed
-pub stands_same : {D : Type 0} (disk : Ghosts D) (d d' : D) (h h' : Holding) (drafts : List (Option SpoolDraft)) (w : World) → StandsFor disk d h drafts w → (d' ≡ d) × (h' ≡ h) → StandsFor disk d' h' drafts w
-stands_same {D = D} disk d d' h h' drafts w s same = subst (λ (x : D). StandsFor disk x h' drafts w) (sym same.0) (subst (λ (k : Holding). StandsFor disk d k drafts w) (sym same.1) s)
+pub stands_same : {D : Type 0} (disk : Ghosts D) (d d' : D) (h h' : Holding) (drafts : List (Option SpoolDraft))
+    (w : World) → StandsFor disk d h drafts w → (d' ≡ d) × (h' ≡ h) → StandsFor disk d' h' drafts w
+stands_same {D = D} disk d d' h h' drafts w s same =
+    subst (λ (x : D). StandsFor disk x h' drafts w) (sym same.0)
+    (subst (λ (k : Holding). StandsFor disk d k drafts w) (sym same.1) s)
 
 -- what was created, or nothing has changed
-pub created_answers : (refusal : Option UploadRefusal) (r : Result ℕ UploadError) (next : ℕ) (Same : Type 0) {X Done Done' Same' : Type 0} → OnOk r X → (X → Done → Done') → (IsErrOf r NoMemory → Same') → ((e : UploadRefusal) → IsErrOf r (Refused e) → Same')
+pub created_answers : (refusal : Option UploadRefusal) (r : Result ℕ UploadError) (next : ℕ) (Same : Type 0)
+    {X Done Done' Same' : Type 0} → OnOk r X → (X → Done → Done') → (IsErrOf r NoMemory → Same')
+    → ((e : UploadRefusal) → IsErrOf r (Refused e) → Same')
     → Answers refusal r (λ n. (n ≡ next) × Done) Same → Answers refusal r (λ n. (n ≡ next) × Done') Same'
 created_answers refusal (Ok n) next Same x done memory refused a = (a.0, (a.1.0, done x a.1.1))
 created_answers refusal (Err NoMemory) next Same x done memory refused a = (a.0, memory refl)

@@ -26,16 +26,22 @@ stored_shows disk d h m image stored is = record {
 }
 
 pub durable_left : {D : Type 0} {disk : Ghosts D} (d : D) (h : Holding) (drafts : List (Option SpoolDraft)) (w : World)
-    (ms : List Store) → 4096 * all_pages h.layout ≤ disk.size d → ((image : ℕ → ℕ) → disk.left_since d (disk.moment d) image → IsImage (disk.seen d) (disk.loose d) image)
+    (ms : List Store) → 4096 * all_pages h.layout ≤ disk.size d
+    → ((image : ℕ → ℕ) → disk.left_since d (disk.moment d) image → IsImage (disk.seen d) (disk.loose d) image)
     → StandsFor disk d h drafts w → Among w.store ms → SpoolLeft disk d h.layout w.blocks (disk.moment d) ms
 durable_left {disk = disk} d h drafts w ms room only stands among =
     let stored = stands.stored in
-    let rows : length h.blocks.rows ≡ h.layout = ap length stored.keeps.rows ∙ stored.shows.sound.row_count ∙ sym stored.keeps.blocks in (
+    let rows : length h.blocks.rows ≡ h.layout =
+    ap length stored.keeps.rows ∙ stored.shows.sound.row_count ∙ sym stored.keeps.blocks in (
       stands.stands.limit ∙ ap Some rows,
       record {
         honest = stored.honest;
         room = room;
         each = λ image left.
-            record { store = w.store; among = among; shows = stored_shows disk d h w.store image stored (only image left) };
+            record {
+              store = w.store;
+              among = among;
+              shows = stored_shows disk d h w.store image stored (only image left);
+            };
       },
     )

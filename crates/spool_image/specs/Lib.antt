@@ -1,10 +1,6 @@
 pub mod Fresh
 pub mod Format
-pub mod Reads
 pub mod Spool
 pub mod LeftOnly
 pub mod Texts
 pub mod Durable
-pub mod Checks
-pub mod Refusals
-pub mod Loaded

@@ -1,10 +1,10 @@
 -- What an opened spool stands for.
-use Rattle.std.specs.Prelude.{◌≡◌, ℕ, Result, Ok, Err}
+use Rattle.std.specs.Prelude.{◌≡◌, ◌⊎◌, ℕ, Result, Ok, Err}
 use Rattle.spool_disk.specs.declared.disk.Disk.{Ghosts}
 use Rattle.spool_kept.specs.declared.error.OpenFault.{OpenFault}
-use Rattle.spool_kept.specs.declared.error.OpenFault.TheVariants.{DiskFault}
+use Rattle.spool_kept.specs.declared.error.OpenFault.TheVariants.{DiskFault, NoMemory}
 use Rattle.spool_image.specs.declared.spool.Spool.{Spool}
-use Rattle.spool_image.specs.Loaded.{OpenedFrom}
+use Rattle.spool_load.specs.Loaded.{OpenedFrom}
 use Rattle.spool_pages.specs.View.{View}
 use Rattle.spool_kept.specs.Kept.{KeepsAlone}
 use Rattle.spool_kept.specs.Loads.{LoadsAs}
@@ -44,3 +44,8 @@ IsFault (Err e) = e.1 ≡ DiskFault
 abbrev pub OpensAs : {D S : Type 0} → Result S (D × OpenFault) → (S → Type 0) → Type 0
 OpensAs (Ok s) done = done s
 OpensAs {S = S} (Err e) done = LoadsAs {T = S} (Err e.1) done
+
+-- refused with this fault, or for memory or by the device
+abbrev pub RefusesAs : {D S : Type 0} → Result S (D × OpenFault) → OpenFault → Type 0
+RefusesAs (Ok s) fault = ⊥
+RefusesAs (Err e) fault = (e.1 ≡ fault) ⊎ (e.1 ≡ NoMemory) ⊎ (e.1 ≡ DiskFault)

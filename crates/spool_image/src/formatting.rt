@@ -20,7 +20,8 @@ use spool_pages::{MAGIC, blank_page, first_page, state_page};
 // A page behind page 0 of a spool without uploads.
 fn fresh_page(layout: &Layout, indexes: &IndexSet, page: u32) -> [u8; PAGE]
     ensures bytes { (i : ℕ) → i < 4096 → get_or result i 0 ≡ fresh_byte layout.now indexes.now (4096 * page + i) }
-    ensures valid { index_place layout.now ≤ 4096 * page → 4096 * page < state_place layout.now → IsIndexSet indexes.now }
+    ensures valid { index_place layout.now ≤ 4096 * page → 4096 * page < state_place layout.now
+        → IsIndexSet indexes.now }
 {
     let index_page = layout.index_page();
     let metadata_page = layout.metadata_page();
@@ -42,10 +43,13 @@ fn write_pages<D: Disk>(disk: &mut D, layout: &Layout, indexes: &IndexSet) -> Re
     ensures size { D.size disk.new ≡ D.size disk.old }
     ensures honest { D.honest disk.old ↔ D.honest disk.new }
     ensures counts { Counts (IsErr result) (D.failures disk.old) (D.failures disk.new) }
-    ensures fresh { D.honest disk.old → OnOk result (IsFreshTo layout.now indexes.now (4096 * all_pages layout.now) (D.seen disk.new)) }
+    ensures fresh { D.honest disk.old → OnOk result
+        (IsFreshTo layout.now indexes.now (4096 * all_pages layout.now) (D.seen disk.new)) }
     ensures valid { OnOk result (IsIndexSet indexes.now) }
-    ensures front { D.honest disk.old → KeepsFront (D.seen disk.old) (D.seen disk.new) (D.loose disk.old) (D.loose disk.new) }
-    ensures crash { D.honest disk.old → Lasts D.Disk disk.old disk.new (FrontStays (D.seen disk.old) (D.loose disk.old)) }
+    ensures front { D.honest disk.old
+        → KeepsFront (D.seen disk.old) (D.seen disk.new) (D.loose disk.old) (D.loose disk.new) }
+    ensures crash { D.honest disk.old
+        → Lasts D.Disk disk.old disk.new (FrontStays (D.seen disk.old) (D.loose disk.old)) }
 {
     for page in 1..layout.pages() {
         disk.write_at(4096 * page as u64, &fresh_page(layout, indexes, page))?;
@@ -60,10 +64,13 @@ fn write_first<D: Disk>(disk: &mut D, layout: &Layout) -> Result<(), DiskFault>
     ensures honest { D.honest disk.old ↔ D.honest disk.new }
     ensures counts { Counts (IsErr result) (D.failures disk.old) (D.failures disk.new) }
     ensures firm { D.honest disk.old → OnOk result ((p : ℕ) → D.loose disk.new p → ⊥) }
-    ensures fresh { D.honest disk.old → OnOk result ((x : Indexes) → IsFreshTo layout.now x (4096 * all_pages layout.now) (D.seen disk.old) → IsFresh layout.now x (D.seen disk.new)) }
+    ensures fresh { D.honest disk.old → OnOk result
+        ((x : Indexes) → IsFreshTo layout.now x (4096 * all_pages layout.now) (D.seen disk.old)
+        → IsFresh layout.now x (D.seen disk.new)) }
     ensures least { 16 ≤ layout.now }
     ensures most { layout.now ≤ 65536 }
-    ensures crash { D.honest disk.old → (x : Indexes) → IsIndexSet x → IsFreshTo layout.now x (4096 * all_pages layout.now) (D.seen disk.old)
+    ensures crash { D.honest disk.old → (x : Indexes) → IsIndexSet x
+        → IsFreshTo layout.now x (4096 * all_pages layout.now) (D.seen disk.old)
         → Lasts D.Disk disk.old disk.new (LeftByFormat layout.now x (D.seen disk.old) (D.loose disk.old)) }
 {
     let front = first_page(layout.blocks());
@@ -77,7 +84,8 @@ fn is_spool<D: Disk>(disk: &mut D) -> Result<bool, DiskFault>
     ensures size { D.size disk.new ≡ D.size disk.old }
     ensures honest { D.honest disk.old ↔ D.honest disk.new }
     ensures counts { Counts (IsErr result) (D.failures disk.old) (D.failures disk.new) }
-    ensures keeps { D.honest disk.old → Keeps (D.seen disk.old) (D.seen disk.new) (D.loose disk.old) (D.loose disk.new) }
+    ensures keeps { D.honest disk.old
+        → Keeps (D.seen disk.old) (D.seen disk.new) (D.loose disk.old) (D.loose disk.new) }
     ensures lasts { D.honest disk.old → Lasts D.Disk disk.old disk.new (IsImage (D.seen disk.old) (D.loose disk.old)) }
     ensures yes { D.honest disk.old → IfOk result (λ is. is ≡ true → HasMagic (D.size disk.old) (D.seen disk.old)) }
     ensures no { D.honest disk.old → IfOk result (λ is. is ≡ false → HasMagic (D.size disk.old) (D.seen disk.old) → ⊥) }
@@ -90,27 +98,32 @@ fn is_spool<D: Disk>(disk: &mut D) -> Result<bool, DiskFault>
     Ok(front == MAGIC)
 }
 
-/// Makes a spool without uploads of so many text blocks. It writes all pages but page 0 and syncs, and then page 0 and syncs.
-/// `AlreadySpool` where the disk begins with the first bytes of a spool; `Size` where the text blocks are not 16 to 65,536 or
-/// the disk is shorter than all pages; these in this order, and then nothing was written. `DiskFault` where the disk failed. It
-/// takes no memory.
+/// Makes a spool without uploads of so many text blocks. It writes all pages but page 0 and syncs, and then page 0 and
+/// syncs. `AlreadySpool` where the disk begins with the first bytes of a spool; `Size` where the text blocks are not 16
+/// to 65,536 or the disk is shorter than all pages; these in this order, and then nothing was written. `DiskFault`
+/// where the disk failed. It takes no memory.
 pub fn format<D: Disk>(disk: &mut D, blocks: u32, indexes: &IndexSet) -> Result<(), FormatError>
     ensures size { D.size disk.new ≡ D.size disk.old }
     ensures honest { D.honest disk.old ↔ D.honest disk.new }
     ensures counts { Counts (result ≡ Err FormatError.DiskFault) (D.failures disk.old) (D.failures disk.new) }
 
     // It refuses exactly a spool, and then a size that doesn't fit.
-    ensures already { D.honest disk.old → result ≡ Err FormatError.AlreadySpool → HasMagic (D.size disk.old) (D.seen disk.old) }
-    ensures no_spool { D.honest disk.old → (result ≡ Err FormatError.AlreadySpool → ⊥) → (result ≡ Err FormatError.DiskFault → ⊥) → HasMagic (D.size disk.old) (D.seen disk.old) → ⊥ }
+    ensures already { D.honest disk.old → result ≡ Err FormatError.AlreadySpool
+        → HasMagic (D.size disk.old) (D.seen disk.old) }
+    ensures no_spool { D.honest disk.old → (result ≡ Err FormatError.AlreadySpool → ⊥)
+        → (result ≡ Err FormatError.DiskFault → ⊥) → HasMagic (D.size disk.old) (D.seen disk.old) → ⊥ }
     ensures fits { IsOk result → FitsSpool blocks (D.size disk.old) }
     ensures too_long { result ≡ Err FormatError.Size → FitsSpool blocks (D.size disk.old) → ⊥ }
 
     // Then every image is one from before.
-    ensures same { D.honest disk.old → IsRefusal result → Keeps (D.seen disk.old) (D.seen disk.new) (D.loose disk.old) (D.loose disk.new) }
-    ensures lasts { D.honest disk.old → IsRefusal result → Lasts D.Disk disk.old disk.new (IsImage (D.seen disk.old) (D.loose disk.old)) }
+    ensures same { D.honest disk.old → IsRefusal result
+        → Keeps (D.seen disk.old) (D.seen disk.new) (D.loose disk.old) (D.loose disk.new) }
+    ensures lasts { D.honest disk.old → IsRefusal result
+        → Lasts D.Disk disk.old disk.new (IsImage (D.seen disk.old) (D.loose disk.old)) }
 
     // A crash at any moment of it leaves page 0 as it might have been before, or torn, or a whole spool.
-    ensures crash { D.honest disk.old → Lasts D.Disk disk.old disk.new (LeftByFormat blocks indexes.now (D.seen disk.old) (D.loose disk.old)) }
+    ensures crash { D.honest disk.old → Lasts D.Disk disk.old disk.new
+        (LeftByFormat blocks indexes.now (D.seen disk.old) (D.loose disk.old)) }
 
     // Else every image shows no uploads, these indexes and so many blocks.
     ensures shows { D.honest disk.old → OnOk result (AllShow D.Disk disk.new blocks (no_uploads indexes.now)) }
@@ -137,7 +150,8 @@ fn make<D: Disk>(disk: &mut D, layout: &Layout, indexes: &IndexSet) -> Result<()
     ensures counts { Counts (IsErr result) (D.failures disk.old) (D.failures disk.new) }
     ensures firm { D.honest disk.old → OnOk result ((p : ℕ) → D.loose disk.new p → ⊥) }
     ensures shows { D.honest disk.old → OnOk result (AllShow D.Disk disk.new layout.now (no_uploads indexes.now)) }
-    ensures crash { D.honest disk.old → Lasts D.Disk disk.old disk.new (LeftByFormat layout.now indexes.now (D.seen disk.old) (D.loose disk.old)) }
+    ensures crash { D.honest disk.old → Lasts D.Disk disk.old disk.new
+        (LeftByFormat layout.now indexes.now (D.seen disk.old) (D.loose disk.old)) }
 {
     write_pages(disk, layout, indexes)?;
     write_first(disk, layout)

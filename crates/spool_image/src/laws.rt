@@ -9,25 +9,27 @@ ghost use Rattle.spool_image.specs.Texts.{HasText};
 
 use spool_disk::Disk;
 
-/// Where each image of a disk shows the same uploads, the disk may be opened, and so may any disk of its size that a crash
-/// left with one of these images. This holds behind `format`, behind an opening, and behind `into_disk`. Where all of such a
-/// disk is synced, as behind a crash, each of its images shows what a read does.
+/// Where each image of a disk shows the same uploads, the disk may be opened, and so may any disk of its size that a
+/// crash left with one of these images. This holds behind `format`, behind an opening, and behind `into_disk`. Where
+/// all of such a disk is synced, as behind a crash, each of its images shows what a read does.
 pub fn images_open<D: Disk>()
     ensures now { (d : D) (n : ℕ) (m : Store) → AllShow D.Disk d n m → IsSpool D.Disk d n m }
     ensures crashed { (d left : D) (n : ℕ) (m : Store) → AllShow D.Disk d n m → D.honest left → D.size left ≡ D.size d
         → IsImage (D.seen d) (D.loose d) (D.seen left) → IsSpool D.Disk left n m }
-    ensures synced { (d : D) (n : ℕ) (m : Store) → IsSpool D.Disk d n m → ((p : ℕ) → D.loose d p → ⊥) → AllShow D.Disk d n m }
+    ensures synced { (d : D) (n : ℕ) (m : Store) → IsSpool D.Disk d n m → ((p : ℕ) → D.loose d p → ⊥)
+        → AllShow D.Disk d n m }
 {}
 
 /// A disk that a crash left since a moment may be opened, and has one of the stores to which the images since then are
 /// limited, with as many blocks. This holds of a call that was cut off too.
 pub fn limits_open<D: Disk>()
-    ensures { (d left : D) (n t : ℕ) (ms : List Store) → LeftOnly D.Disk d n t ms → D.honest left → D.size left ≡ D.size d
+    ensures { (d left : D) (n t : ℕ) (ms : List Store) → LeftOnly D.Disk d n t ms → D.honest left
+        → D.size left ≡ D.size d
         → D.left_since d t (D.seen left) → OpensOne D.Disk left n ms }
 {}
 
-/// A disk that a crash left while it was being opened may be opened again, and has the same uploads. So it may in any number
-/// of rounds.
+/// A disk that a crash left while it was being opened may be opened again, and has the same uploads. So it may in any
+/// number of rounds.
 pub fn cut_openings<D: Disk>()
     ensures { (before d left : D) (n : ℕ) (m : Store) → AllShow D.Disk before n m
         → Lasts D.Disk before d (LeftOrShows D.Disk before n m) → D.honest left → D.size left ≡ D.size before

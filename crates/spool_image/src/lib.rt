@@ -1,16 +1,10 @@
 //! The uploads on a spool: how a spool without uploads is made, and how one is opened.
 #![tactic(auto)]
 
-mod checks;
 mod error;
 mod formatting;
 mod laws;
 mod layout;
-mod loading;
-mod opening;
-mod owners;
-mod reading;
-mod slots;
 mod spool;
 
 pub use error::FormatError;

@@ -10,20 +10,20 @@ ghost use Rattle.spool_kept.proofs.Facts.{fits_prop};
 ghost use Rattle.spool_kept.specs.Drafting.{DraftsFit};
 ghost use Rattle.spool_kept.specs.Shows.{IsSound};
 ghost use Rattle.spool_pages.specs.View.{View, IsViewOf};
-ghost use Rattle.spool_image.specs.Reads.{NeedsReplay};
-ghost use Rattle.spool_image.specs.Refusals.{IsNoSpool, HasOtherVersion, IsDamaged, RefusedFor, RefusesAs};
+ghost use Rattle.spool_load.specs.Reads.{NeedsReplay};
+ghost use Rattle.spool_load.specs.Refusals.{IsNoSpool, HasOtherVersion, IsDamaged, RefusedFor};
 ghost use Rattle.spool_image.specs.LeftOnly.{AllShow, IsSpool, LeftOrShows};
 
-use crate::opening::prepare;
 use enc_index::IndexSet;
 use spool_disk::Disk;
 use spool_drafts::SpoolDraft;
 use spool_kept::{Kept, OpenFault, append, begin, commit, create, drop_open};
+use spool_load::load;
 use std::alloc::Global;
 use upload_rules::{New, Record, UploadError, Uploads};
 
-/// The uploads on a disk, and the appends to them that are under way. After a `DiskFault` it stands for no uploads any more: drafts may
-/// be dropped, and the disk taken back and opened again.
+/// The uploads on a disk, and the appends to them that are under way. After a `DiskFault` it stands for no uploads any
+/// more: drafts may be dropped, and the disk taken back and opened again.
 pub struct Spool<D: Disk> {
     alloc: Global,
     disk: D,
@@ -41,7 +41,7 @@ pub struct SpoolAppend {
 
 impl<D: Disk> Spool<D> {
     ghost use Rattle.spool_image.specs.Spool.{disk_of, size_of, disk_after, Keeps, SpoolStands};
-    ghost use Rattle.spool_image.specs.Spool.{IsFault, OpensAs, OpensFrom};
+    ghost use Rattle.spool_image.specs.Spool.{IsFault, OpensAs, OpensFrom, RefusesAs};
 
     /// Opens what a crash may have left. It may crash too, and be called again.
     ///
@@ -101,7 +101,7 @@ impl<D: Disk> Spool<D> {
             → IfOk result (λ s. SpoolStands s (at_rest m (Some n))) }
     {
         let mut disk = disk;
-        match prepare(alloc, &mut disk) {
+        match load(alloc, &mut disk) {
             Ok(kept) => Ok(Spool {
                 alloc,
                 disk,
@@ -146,7 +146,8 @@ impl<D: Disk> Uploads for Spool<D> {
 
     ghost failures = { λ s. D.failures s.disk };
 
-    ghost durable = { λ s w ms stands among. durable_left s.disk s.kept s.drafts.items w ms s.room (D.only_now s.disk) stands among };
+    ghost durable = { λ s w ms stands among.
+        durable_left s.disk s.kept s.drafts.items w ms s.room (D.only_now s.disk) stands among };
 
     fn record(&self, number: u64) -> Option<&Record> {
         self.kept.record(number)

@@ -12,12 +12,14 @@ returns-clause-shows g c honest =
       honest = c.write_first.ensures.honest.0 mid;
       room = search rules;
       each = λ image is.
-          fresh_shows c.args.layout.now c.args.indexes.now image (fresh_on is (search rules) (search rules)) (search rules)
+          fresh_shows c.args.layout.now c.args.indexes.now image (fresh_on is (search rules) (search rules))
+          (search rules)
           (search rules) c.in_ok-write_pages.ensures.valid;
     })
 
 pub returns-in_err-write_pages-clause-crash : goal.returns-in_err-write_pages-clause-crash
-returns-in_err-write_pages-clause-crash g c honest = lasts_more (c.write_pages.ensures.crash honest) (λ image stays. inl stays)
+returns-in_err-write_pages-clause-crash g c honest =
+    lasts_more (c.write_pages.ensures.crash honest) (λ image stays. inl stays)
 
 pub returns-clause-crash : goal.returns-clause-crash
 returns-clause-crash g c honest =
@@ -25,5 +27,6 @@ returns-clause-crash g c honest =
     let keeps = c.write_pages.ensures.front honest in
     lasts_on (lasts_more (c.write_pages.ensures.crash honest) (λ image stays. inl stays))
     (lasts_more
-    (c.write_first.ensures.crash mid c.args.indexes.now c.in_ok-write_pages.ensures.valid (c.in_ok-write_pages.ensures.fresh honest))
+    (c.write_first.ensures.crash mid c.args.indexes.now c.in_ok-write_pages.ensures.valid
+    (c.in_ok-write_pages.ensures.fresh honest))
     (λ image one. ⊎_elim (λ stays. inl (front_stays keeps image stays)) (λ made. inr made) one))

@@ -2,7 +2,8 @@ use Rattle.std.proofs.Common.{rules, arith, inl, inr, ◌∙◌, ap, get_or, ℕ
 use Rattle.spool_disk.proofs.Firm.{lasts_call, lasts_more, lasts_on, on_ok}
 use Rattle.spool_pages.specs.View.{first_page}
 use Rattle.spool_image.proofs.Formats.{formats_to, fresh_image, fresh_image_synced, front_image, front_synced}
-use Rattle.spool_image.proofs.Fresh.{fresh_all, some_pages}
+use Rattle.spool_image.proofs.Fresh.{fresh_all}
+use Rattle.spool_load.proofs.Opens.{some_pages}
 use Rattle.spool_image.proofs.formatting.write_first.Goals as goal
 
 pub write_at-requires : goal.write_at-requires
@@ -12,18 +13,23 @@ pub returns-clause-fresh : goal.returns-clause-fresh
 returns-clause-fresh g c honest =
     let mid = c.sync.ensures.honest.0 honest in
     let late = c.write_at.ensures.honest.0 mid in
-    on_ok c.sync-2.result (λ done x was. fresh_all c.args.layout.now x _ (c.in_ok-sync.ensures.syncs honest) (search rules) (c.in_ok-write_at.ensures.writes mid) (search rules) (c.sync-2.ensures.syncs late) done (search rules) (λ i. c.first_page-front.ensures.each i ∙ ap (λ (n : ℕ). get_or (first_page n) i 0) c.blocks-2.ensures.same) was)
+    on_ok c.sync-2.result (λ done x was. fresh_all c.args.layout.now x _ (c.in_ok-sync.ensures.syncs honest)
+    (search rules) (c.in_ok-write_at.ensures.writes mid) (search rules) (c.sync-2.ensures.syncs late) done
+    (search rules)
+    (λ i. c.first_page-front.ensures.each i ∙ ap (λ (n : ℕ). get_or (first_page n) i 0) c.blocks-2.ensures.same) was)
 
 pub returns-in_err-sync-clause-crash : goal.returns-in_err-sync-clause-crash
 returns-in_err-sync-clause-crash g c honest x valid fresh =
-    lasts_more (lasts_call (c.sync.ensures.time honest) (front_image (front_synced (c.sync.ensures.syncs honest)))) (λ image stays. inl stays)
+    lasts_more (lasts_call (c.sync.ensures.time honest) (front_image (front_synced (c.sync.ensures.syncs honest))))
+    (λ image stays. inl stays)
 
 pub returns-in_err-write_at-clause-crash : goal.returns-in_err-write_at-clause-crash
 returns-in_err-write_at-clause-crash g c honest x valid fresh =
     let n = c.args.layout.now in
     let mid = c.sync.ensures.honest.0 honest in
     let syncs = c.in_ok-sync.ensures.syncs honest in
-    lasts_on (lasts_more (lasts_call (c.sync.ensures.time honest) (front_image (front_synced syncs))) (λ image stays. inl stays))
+    lasts_on (lasts_more (lasts_call (c.sync.ensures.time honest) (front_image (front_synced syncs)))
+    (λ image stays. inl stays))
     (lasts_call (c.write_at.ensures.time mid) (λ image is.
     inr (formats_to n x image (search rules) (search rules) valid
     (fresh_image fresh syncs (search rules) (c.write_at.ensures.writes mid) (search rules) image is))))
@@ -35,10 +41,12 @@ returns-clause-crash g c honest x valid fresh =
     let late = c.write_at.ensures.honest.0 mid in
     let syncs = c.in_ok-sync.ensures.syncs honest in
     let writes = c.write_at.ensures.writes mid in
-    lasts_on (lasts_more (lasts_call (c.sync.ensures.time honest) (front_image (front_synced syncs))) (λ image stays. inl stays))
+    lasts_on (lasts_more (lasts_call (c.sync.ensures.time honest) (front_image (front_synced syncs)))
+    (λ image stays. inl stays))
     (lasts_on
     (lasts_call (c.write_at.ensures.time mid) (λ image is.
-    inr (formats_to n x image (search rules) (search rules) valid (fresh_image fresh syncs (search rules) writes (search rules) image is))))
+    inr (formats_to n x image (search rules) (search rules) valid
+    (fresh_image fresh syncs (search rules) writes (search rules) image is))))
     (lasts_call (c.sync-2.ensures.time late) (λ image is.
     inr (formats_to n x image (search rules) (search rules) valid
     (fresh_image_synced fresh syncs (search rules) writes (c.sync-2.ensures.syncs late) (search rules) image is)))))

@@ -31,7 +31,8 @@ loop-page-preserved g c =
       honest = λ honest. c.write_at.ensures.honest.0 (inv.honest honest);
       back = λ honest. inv.back (c.write_at.ensures.honest.1 honest);
       counts = no_failure c.write_at.ensures.counts (not_err _ _ c.in_ok-write_at.was) ∙ inv.counts;
-      fresh = λ honest. fresh_more _ _ _ _ (inv.fresh honest) (c.in_ok-write_at.ensures.writes (inv.honest honest)) (search rules) (search rules) c.fresh_page.ensures.bytes;
+      fresh = λ honest. fresh_more _ _ _ _ (inv.fresh honest) (c.in_ok-write_at.ensures.writes (inv.honest honest))
+          (search rules) (search rules) c.fresh_page.ensures.bytes;
       front = λ honest.
           front_on (inv.front honest) (front_written (omega arith) (c.write_at.ensures.writes (inv.honest honest)));
       crash = λ honest.

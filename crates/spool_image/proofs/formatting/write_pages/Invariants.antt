@@ -13,7 +13,9 @@ invariant-loop-page g l = record {
   back : g.D.Disk.honest l.disk → g.D.Disk.honest l.fn.disk;
   counts : g.D.Disk.failures l.disk ≡ g.D.Disk.failures l.fn.disk;
   fresh : g.D.Disk.honest l.fn.disk → IsFreshTo l.layout l.indexes (4096 * l.page) (g.D.Disk.seen l.disk);
-  front : g.D.Disk.honest l.fn.disk → KeepsFront (g.D.Disk.seen l.fn.disk) (g.D.Disk.seen l.disk) (g.D.Disk.loose l.fn.disk) (g.D.Disk.loose l.disk);
-  crash : g.D.Disk.honest l.fn.disk → Lasts g.D.Disk l.fn.disk l.disk (FrontStays (g.D.Disk.seen l.fn.disk) (g.D.Disk.loose l.fn.disk));
+  front : g.D.Disk.honest l.fn.disk → KeepsFront (g.D.Disk.seen l.fn.disk) (g.D.Disk.seen l.disk)
+      (g.D.Disk.loose l.fn.disk) (g.D.Disk.loose l.disk);
+  crash : g.D.Disk.honest l.fn.disk → Lasts g.D.Disk l.fn.disk l.disk
+      (FrontStays (g.D.Disk.seen l.fn.disk) (g.D.Disk.loose l.fn.disk));
   valid : state_place l.layout ≤ 4096 * l.page → IsIndexSet l.indexes;
 }

@@ -5,7 +5,11 @@ use Rattle.spool_image.proofs.laws.images_open.Goals as goal
 
 pub returns-clause-now : goal.returns-clause-now
 returns-clause-now g c d n m all =
-    record { honest = all.honest; room = all.room; shows = all.each (g.D.Disk.seen d) (record { same = λ p firm. refl }) }
+    record {
+      honest = all.honest;
+      room = all.room;
+      shows = all.each (g.D.Disk.seen d) (record { same = λ p firm. refl });
+    }
 
 pub returns-clause-crashed : goal.returns-clause-crashed
 returns-clause-crashed g c d left n m all honest size is = record {

@@ -1,11 +1,11 @@
-use Rattle.std.proofs.Common.{◌≤◌, ◌*◌, inl, inr, ℕ, Some, sym, subst, ⊎_elim}
-use Rattle.spool_disk.proofs.Firm.{lasts_more}
+use Rattle.std.proofs.Common.{◌≤◌, ◌*◌, ℕ, Some, sym, subst}
 use Rattle.spool_journal.specs.Image.{journal_pages, all_pages, overlaid}
 use Rattle.spool_journal.specs.Phases.{ReadsAs}
 use Rattle.spool_journal.proofs.Gate.{settled_idle}
 use Rattle.upload_rules.specs.World.{at_rest}
 use Rattle.spool_kept.specs.Drafting.{StandsFor}
-use Rattle.spool_image.proofs.Opens.{image_shows, settled_reads, view_room}
+use Rattle.spool_load.proofs.Opens.{settled_reads}
+use Rattle.spool_image.proofs.Opens.{image_shows, lasts_shown, view_room}
 use Rattle.spool_image.proofs.Refused.{opened_is_spool, opened_is_first, opened_is_whole, told_no_spool, told_version}
 use Rattle.spool_image.proofs.Refused.{told_damaged}
 use Rattle.spool_image.proofs.StandsOn.{stands_opened}
@@ -13,21 +13,11 @@ use Rattle.spool_image.proofs.spool.Spool.open.Goals as goal
 
 pub returns-in-Ok-clause-lasts : goal.returns-in-Ok-clause-lasts
 returns-in-Ok-clause-lasts g c n m is =
-    let room = view_room g.D.Disk c.args.disk n m is in
-    lasts_more (c.in-Ok.ensures.lasts is.honest is.shows.view is.shows.shows.sound is.shows.is room)
-    (λ image one. ⊎_elim
-    (λ here. inl here)
-    (λ reads. inr (image_shows n m image (g.D.Disk.seen c.args.disk) is.shows reads))
-    one)
+    lasts_shown g.D.Disk c.args.disk c.load.new.disk n m is (c.in-Ok.ensures.lasts is.honest)
 
 pub returns-in-Err-clause-lasts : goal.returns-in-Err-clause-lasts
 returns-in-Err-clause-lasts g c n m is =
-    let room = view_room g.D.Disk c.args.disk n m is in
-    lasts_more (c.in-Err.ensures.lasts is.honest is.shows.view is.shows.shows.sound is.shows.is room)
-    (λ image one. ⊎_elim
-    (λ here. inl here)
-    (λ reads. inr (image_shows n m image (g.D.Disk.seen c.args.disk) is.shows reads))
-    one)
+    lasts_shown g.D.Disk c.args.disk c.load.new.disk n m is (c.in-Err.ensures.lasts is.honest)
 
 pub returns-in-Ok-clause-shows : goal.returns-in-Ok-clause-shows
 returns-in-Ok-clause-shows g c n m is = record {
@@ -51,9 +41,9 @@ returns-in-Ok-clause-stands g c n m is =
     let v = is.shows.view in
     let said =
     c.in-Ok.ensures.said is.honest v is.shows.shows.sound is.shows.is (view_room g.D.Disk c.args.disk n m is) in
-    subst (λ (k : ℕ). StandsFor g.D.Disk c.prepare.new.disk c.in-Ok.kept c.new.result.items (at_rest m (Some k)))
+    subst (λ (k : ℕ). StandsFor g.D.Disk c.load.new.disk c.in-Ok.kept c.new.result.items (at_rest m (Some k)))
     is.shows.blocks
-    (stands_opened g.D.Disk c.prepare.new.disk (g.D.Disk.seen c.args.disk) c.in-Ok.kept c.new.result.items m v
+    (stands_opened g.D.Disk c.load.new.disk (g.D.Disk.seen c.args.disk) c.in-Ok.kept c.new.result.items m v
     c.new.ensures.items
     (c.in-Ok.ensures.honest.0 is.honest) is.shows.is said is.shows.shows (c.in-Ok.ensures.settled is.honest))
 

@@ -5,7 +5,9 @@ use Rattle.spool_image.proofs.LeftImages.{quiet_shown}
 use Rattle.spool_image.proofs.spool.SpoolUploads.append.Goals as goal
 
 pub returns-clause-answer : goal.returns-clause-answer
-returns-clause-answer g c w p stands there holds fits = answers_more None c.append.result (λ done after. (tt, after)) (λ after. after) (c.append.ensures.answer w p stands there fits)
+returns-clause-answer g c w p stands there holds fits =
+    answers_more None c.append.result (λ done after. (tt, after)) (λ after. after)
+    (c.append.ensures.answer w p stands there fits)
 
 pub returns-clause-crash : goal.returns-clause-crash
 returns-clause-crash g c w p stands there holds =

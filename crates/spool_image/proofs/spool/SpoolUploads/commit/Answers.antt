@@ -6,4 +6,5 @@ pub returns-clause-crash : goal.returns-clause-crash
 returns-clause-crash g c w p stands there holds =
     limits_on g.D.Disk c.args.self.now.disk c.commit.new.disk c.commit.ensures.honest c.commit.ensures.size
     c.args.self.now.kept.layout
-    c.commit.new.kept.layout c.commit.ensures.layout w.store (commit_outcome w c.args.draft.number p) (c.commit.ensures.crash w p stands there)
+    c.commit.new.kept.layout c.commit.ensures.layout w.store (commit_outcome w c.args.draft.number p)
+    (c.commit.ensures.crash w p stands there)

@@ -12,9 +12,14 @@ returns-clause-answer g c w s =
     let kept' = c.create.new.kept in
     let drafts = c.args.self.now.drafts.items in
     let now = c.create.ensures in
-    created_answers (create_refusal w c.args.new) c.create.result w.store.next (Stored g.D.Disk disk' kept' w.store) (now.texts w.store s.stored)
+    created_answers (create_refusal w c.args.new) c.create.result w.store.next (Stored g.D.Disk disk' kept' w.store)
+    (now.texts w.store s.stored)
     (λ texts stored. stands_created g.D.Disk disk disk' kept kept' drafts w c.args.new s now.layout now.blocks
-    (λ slot number used. record { used = used.used; there = now.slots slot used.used used.there; is = used.is }) texts stored)
+    (λ slot number used. record {
+      used = used.used;
+      there = now.slots slot used.used used.there;
+      is = used.is;
+    }) texts stored)
     (λ e. stands_same g.D.Disk disk disk' kept kept' drafts w s (now.unmade e))
     (λ f e. stands_same g.D.Disk disk disk' kept kept' drafts w s (now.refused f e))
     (now.answer w.store s.stored)
@@ -23,4 +28,5 @@ pub returns-clause-crash : goal.returns-clause-crash
 returns-clause-crash g c w s =
     limits_on g.D.Disk c.args.self.now.disk c.create.new.disk c.create.ensures.honest c.create.ensures.size
     c.args.self.now.kept.layout
-    c.create.new.kept.layout c.create.ensures.layout w.store (create_outcome w c.args.new) (c.create.ensures.crash w.store s.stored)
+    c.create.new.kept.layout c.create.ensures.layout w.store (create_outcome w c.args.new)
+    (c.create.ensures.crash w.store s.stored)

@@ -9,7 +9,8 @@ use Rattle.spool_image.proofs.spool.SpoolUploads.read_text.Goals as goal
 pub returns-clause-answer : goal.returns-clause-answer
 returns-clause-answer g c w stands =
     let stored = stands.stored in
-    let after = stands_read g.D.Disk c.args.self.now.disk c.read.new.disk c.args.self.now.kept c.args.self.now.drafts.items w c.read.ensures.honest (c.read.ensures.keeps stored.honest) stands in
+    let after = stands_read g.D.Disk c.args.self.now.disk c.read.new.disk c.args.self.now.kept
+    c.args.self.now.drafts.items w c.read.ensures.honest (c.read.ensures.keeps stored.honest) stands in
     answers_more (no_such (upload_of w.store c.args.number)) c.read.result (λ n read. (read, after)) (λ _. after)
     (c.read.ensures.answer stored.honest w.store stored.view stored.keeps stored.shows (rests_says stored.rests))
 

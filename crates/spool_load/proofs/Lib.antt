@@ -1,0 +1,4 @@
+pub mod Looks
+pub mod Opens
+pub mod Refused
+pub mod Sounds

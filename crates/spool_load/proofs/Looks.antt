@@ -1,0 +1,221 @@
+-- Calls that only read.
+use Rattle.std.proofs.Common.{◌≡◌, inl, inr, ℕ, ◌≢◌, take, ◌++◌, below_more, Option, None, Result, Ok, Err, IfOk, IfErr}
+use Rattle.std.proofs.Common.{◌+◌, ◌-◌, ◌*◌, ◌<◌, ◌≤◌, List, [], ◌∷◌, length, length-append, get_or, refl, sym, ◌∙◌, ap}
+use Rattle.std.proofs.Common.{subst, arith}
+use Rattle.std.proofs.Math.ListN.{get_or-append, get_or-eq_default}
+use Rattle.std.proofs.lemmas.Bool.{cases_lt}
+use Rattle.std.proofs.Math.Seq.{take-append_seam}
+use Rattle.spool_disk.specs.Disk.{span}
+use Rattle.spool_disk.specs.declared.disk.Disk.{Ghosts}
+use Rattle.spool_disk.proofs.Firm.{lasts_on}
+use Rattle.spool_journal.specs.Image.{all_pages, byte_of, journal_pages}
+use Rattle.spool_journal.specs.Phases.{Still}
+use Rattle.spool_journal.proofs.Recovers.{get_span}
+use Rattle.spool_pages.specs.Bytes.{IsPadded}
+use Rattle.spool_pages.specs.View.{SlotRecord, Stands, state_page, slot_bytes, slot_place, row_bytes, row_place}
+use Rattle.spool_pages.specs.Fits.{FitsSlotOf}
+use Rattle.spool_pages.proofs.Says.{all_is}
+use Rattle.spool_load.specs.Reads.{OnlyReads, IsReadAt, IsFrontOf, IsSameTo, StandSlots, StandRows}
+use Rattle.spool_kept.specs.Loads.{LoadsAs}
+use Rattle.spool_kept.specs.declared.error.OpenFault.{OpenFault}
+use Rattle.spool_kept.specs.declared.error.OpenFault.TheVariants.{NotASpool, DiskFault, Damaged, Version, NoMemory}
+use Rattle.std.proofs.lemmas.List.{ext_get_or, get_or-append-add}
+
+pub reads_on : {D : Type 0} {disk : Ghosts D} {a b c : D} → OnlyReads disk a b → OnlyReads disk b c → OnlyReads disk a c
+reads_on first second = record {
+  size = second.size ∙ first.size;
+  honest = λ honest. second.honest (first.honest honest);
+  back = λ honest. first.back (second.back honest);
+  still = λ honest bytes still. second.still (first.honest honest) bytes (first.still honest bytes still);
+  lasts =
+      λ honest bytes still. lasts_on (first.lasts honest bytes still)
+      (second.lasts (first.honest honest) bytes (first.still honest bytes still));
+}
+
+-- what ends before the text blocks is on the disk
+pub before_texts : (n size end : ℕ) → 4096 * all_pages n ≤ size → end ≤ 4096 * (25 + 2 * journal_pages n) → end ≤ size
+before_texts n size end room few = omega (arith, all_is n, room, few)
+
+pub read_bytes : (seen bytes : ℕ → ℕ) {loose : ℕ → Type 0} (place n : ℕ) (buf : List ℕ) → Still bytes seen loose
+    → buf ≡ span seen place n → length buf ≡ n → IsReadAt bytes place buf
+read_bytes seen bytes place n buf still is long = record {
+  each =
+      λ i lt. ap (λ (xs : List ℕ). get_or xs i 0) is ∙ get_span seen place n i (omega (arith, lt, long)) ∙ still.reads
+      (place + i);
+}
+
+-- what stands on the disk stands in the buffer
+pub read_padded : (bytes : ℕ → ℕ) (place at : ℕ) (buf xs : List ℕ) (size : ℕ) → IsReadAt bytes place buf
+    → length buf ≡ size → place ≡ at → length xs ≤ size → Stands bytes at size xs → IsPadded buf xs
+read_padded bytes place at buf xs size read long same few stands = record {
+  each = λ i. elim (cases_lt i size) [
+    | inl below ↦ read.each i (omega (arith, below, long)) ∙ ap (λ (p : ℕ). bytes (p + i)) same ∙ stands.each i below
+    | inr over ↦ get_or-eq_default buf 0 (omega (arith, over, long)) ∙ sym
+        (get_or-eq_default xs 0 (omega (arith, over, few)))
+  ];
+}
+
+pub length-state : (version next : ℕ) → length (state_page version next) ≡ 12
+unfolding state_page
+length-state version next = refl
+
+-- a refusal for memory or by the device, handed on
+pub loads_err : {T U : Type 0} (P : T → Type 0) (Q : U → Type 0) (e : OpenFault) → LoadsAs {T = T} (Err e) P
+    → LoadsAs {T = U} (Err e) Q
+loads_err P Q NoMemory h = tt
+loads_err P Q DiskFault h = tt
+loads_err P Q NotASpool h = absurd h
+loads_err P Q Damaged h = absurd h
+loads_err P Q Version h = absurd h
+
+pub front_all : {A : Type 0} (whole front : List (Option A)) → IsFrontOf whole front → length front ≡ length whole
+    → front ≡ whole
+front_all whole front is long = ext_get_or None front whole long (λ i lt. is.each i lt)
+
+pub ok_no_fault : {T : Type 0} (r : Result T OpenFault) (t : T) → r ≡ Ok t → r ≡ Err DiskFault → ⊥
+ok_no_fault r t e f = cc
+
+-- what stands on the disk within the range stands in the buffer
+pub read_stands : (bytes : ℕ → ℕ) (place at off size : ℕ) (buf xs : List ℕ) → IsReadAt bytes place buf
+    → off + size ≤ length buf → at ≡ place + off → Stands bytes at size xs → Stands (byte_of buf) off size xs
+read_stands bytes place at off size buf xs read room is stands = record {
+  each = λ i lt.
+      let same : place + (off + i) ≡ at + i = omega (arith, is) in
+      read.each (off + i) (omega (arith, lt, room)) ∙ ap bytes same ∙ stands.each i lt;
+}
+
+-- and what stands in the buffer stands on the disk
+pub read_back : (bytes : ℕ → ℕ) (place at off size : ℕ) (buf xs : List ℕ) → IsReadAt bytes place buf
+    → off + size ≤ length buf → at ≡ place + off → Stands (byte_of buf) off size xs → Stands bytes at size xs
+read_back bytes place at off size buf xs read room is stands = record {
+  each = λ i lt.
+      let same : at + i ≡ place + (off + i) = omega (arith, is) in
+      ap bytes same ∙ sym (read.each (off + i) (omega (arith, lt, room))) ∙ stands.each i lt;
+}
+
+pub padded_back : (bytes : ℕ → ℕ) (place at : ℕ) (buf xs : List ℕ) (size : ℕ) → IsReadAt bytes place buf
+    → length buf ≡ size → at ≡ place → IsPadded buf xs → Stands bytes at size xs
+padded_back bytes place at buf xs size read long is padded = record {
+  each = λ i lt.
+      let same : at + i ≡ place + i = omega (arith, is) in
+      ap bytes same ∙ sym (read.each i (omega (arith, lt, long))) ∙ padded.each i;
+}
+
+pub stands_part : (f : ℕ → ℕ) (at size part : ℕ) (xs : List ℕ) → part ≤ size → Stands f at size xs → Stands f at part xs
+stands_part f at size part xs few stands = record { each = λ i lt. stands.each i (omega (arith, lt, few)) }
+
+-- ANSWERS
+
+pub loads_is : {T : Type 0} (P : T → Type 0) (r : Result T OpenFault) (t : T) → r ≡ Ok t → P t → LoadsAs r P
+loads_is P r t e p = subst (λ q. LoadsAs q P) (sym e) p
+
+pub if_ok_more : {T E : Type 0} (r : Result T E) {P Q : T → Type 0} → ((t : T) → P t → Q t) → IfOk r P → IfOk r Q
+if_ok_more (Ok t) more p = more t p
+if_ok_more (Err e) more p = tt
+
+pub if_ok_both : {T E : Type 0} (r : Result T E) {P Q R : T → Type 0} → ((t : T) → P t → Q t → R t) → IfOk r P
+    → IfOk r Q → IfOk r R
+if_ok_both (Ok t) more p q = more t p q
+if_ok_both (Err e) more p q = tt
+
+pub if_err_more : {T E : Type 0} (r : Result T E) {P Q : E → Type 0} → ((e : E) → P e → Q e) → IfErr r P → IfErr r Q
+if_err_more (Ok t) more p = tt
+if_err_more (Err e) more p = more e p
+
+-- SLOTS AND ROWS
+
+pub stand_push : (bytes : ℕ → ℕ) (n : ℕ) (slots : List (Option SlotRecord)) (kept : Option SlotRecord)
+    (new : List (Option SlotRecord)) → StandSlots bytes n slots → new ≡ slots ++ kept ∷ []
+    → Stands bytes (slot_place n (length slots)) 2048 (slot_bytes kept) → FitsSlotOf kept → StandSlots bytes n new
+stand_push bytes n slots kept new was is stands fits = record {
+  each = λ s lt. elim (cases_lt s (length slots)) [
+    | inl below ↦ subst (λ (o : Option SlotRecord). Stands bytes (slot_place n s) 2048 (slot_bytes o))
+        (sym (before s below)) (was.each s below)
+    | inr over ↦
+        let here : length slots ≡ s = omega (arith, over, lt, one_more) in
+        let P : ℕ → Type 0 = λ k. Stands bytes (slot_place n k) 2048 (slot_bytes (get_or new k None)) in
+        subst P here (subst (λ (o : Option SlotRecord). Stands bytes (slot_place n (length slots)) 2048 (slot_bytes o))
+        (sym at_end) stands)
+  ];
+  fit = λ s. elim (cases_lt s (length slots)) [
+    | inl below ↦ subst FitsSlotOf (sym (before s below)) (was.fit s)
+    | inr over ↦ elim (cases_lt s (length slots + 1)) [
+      | inl at ↦
+          let here : length slots ≡ s = omega (arith, over, at) in
+          subst (λ (k : ℕ). FitsSlotOf (get_or new k None)) here (subst FitsSlotOf (sym at_end) fits)
+      | inr past ↦ subst FitsSlotOf (sym (get_or-eq_default new None (omega (arith, past, one_more)))) tt
+    ]
+  ];
+}
+  where
+    one_more : length new ≡ length slots + 1
+    one_more = ap length is ∙ length-append slots (kept ∷ [])
+
+    before : (s : ℕ) → s < length slots → get_or new s None ≡ get_or slots s None
+    before s below =
+        ap (λ (xs : List (Option SlotRecord)). get_or xs s None) is ∙ get_or-append slots (kept ∷ []) None s below
+
+    at_end : get_or new (length slots) None ≡ kept
+    at_end =
+        let zero : length slots + 0 ≡ length slots = omega arith in
+        let there : get_or (slots ++ kept ∷ []) (length slots + 0) None ≡ kept =
+        get_or-append-add slots (kept ∷ []) 0 None in
+        ap (λ (xs : List (Option SlotRecord)). get_or xs (length slots) None) is ∙ subst
+        (λ (k : ℕ). get_or (slots ++ kept ∷ []) k None ≡ kept) zero there
+
+module _ (old new : List (Option (ℕ × ℕ))) (at : ℕ) (row : Option (ℕ × ℕ)) (put : get_or new at None ≡ row)
+    (others : (b : ℕ) → b ≢ at → get_or new b None ≡ get_or old b None) where
+  pub put_same : (all : List (Option (ℕ × ℕ))) → IsSameTo at all old → row ≡ get_or all at None
+      → IsSameTo (at + 1) all new
+  put_same all same is = record {
+    each = below_more _ _ (λ b below. let ne : b ≢ at = omega arith in others b ne ∙ same.each b below) (put ∙ is);
+  }
+
+  pub put_stands : (page : ℕ → ℕ) (first k : ℕ) → first + k ≡ at
+      → ((m : ℕ) → m < k → Stands page (8 * m) 8 (row_bytes (get_or old (first + m) None)))
+      → Stands page (8 * k) 8 (row_bytes row) → (m : ℕ) → m < k + 1
+      → Stands page (8 * m) 8 (row_bytes (get_or new (first + m) None))
+  put_stands page first k here was stands = below_more _ _
+      (λ m below. let ne : first + m ≢ at = omega (arith, below, here) in subst
+      (λ (o : Option (ℕ × ℕ)). Stands page (8 * m) 8 (row_bytes o)) (sym (others (first + m) ne)) (was m below))
+      (subst (λ (o : Option (ℕ × ℕ)). Stands page (8 * k) 8 (row_bytes o))
+      (sym (ap (λ (b : ℕ). get_or new b None) here ∙ put)) stands)
+
+-- the rows of a page, in the buffer
+pub rows_stand : (bytes : ℕ → ℕ) (n place page : ℕ) (buf : List ℕ) (all : List (Option (ℕ × ℕ)))
+    → IsReadAt bytes place buf → length buf ≡ 4096 → place ≡ row_place n (512 * page) → 257 + page < journal_pages n
+    → ((b : ℕ) → b < 512 * (journal_pages n - 257) → Stands bytes (row_place n b) 8 (row_bytes (get_or all b None)))
+    → (k : ℕ) → k < 512 → Stands (byte_of buf) (8 * k) 8 (row_bytes (get_or all (512 * page + k) None))
+rows_stand bytes n place page buf all read long here few stands k lt =
+    read_stands bytes place (row_place n (512 * page + k)) (8 * k) 8 buf _ read (omega (arith, lt, long))
+    (omega (arith, here)) (stands (512 * page + k) (omega (arith, lt, few)))
+
+-- a page of rows more
+pub rows_read : (bytes : ℕ → ℕ) (n place page : ℕ) (buf : List ℕ) (old new : List (Option (ℕ × ℕ)))
+    → IsReadAt bytes place buf → length buf ≡ 4096 → place ≡ row_place n (512 * page)
+    → StandRows bytes n (512 * page) old → ((b : ℕ) → b < 512 * page → get_or new b None ≡ get_or old b None)
+    → ((k : ℕ) → k < 512 → Stands (byte_of buf) (8 * k) 8 (row_bytes (get_or new (512 * page + k) None)))
+    → StandRows bytes n (512 * (page + 1)) new
+rows_read bytes n place page buf old new read long here was before filled = record {
+  each = λ b lt. elim (cases_lt b (512 * page)) [
+    | inl below ↦ subst (λ (o : Option (ℕ × ℕ)). Stands bytes (row_place n b) 8 (row_bytes o)) (sym (before b below))
+        (was.each b below)
+    | inr over ↦
+        let k : ℕ = b - 512 * page in
+        let few : k < 512 = omega (arith, lt, over) in
+        let at : 512 * page + k ≡ b = omega (arith, over) in
+        let stands = filled k few in
+        let there =
+        read_back bytes place (row_place n b) (8 * k) 8 buf _ read (omega (arith, few, long))
+        (omega (arith, here, at)) stands in
+        subst (λ (j : ℕ). Stands bytes (row_place n b) 8 (row_bytes (get_or new j None))) at there
+  ];
+}
+
+pub same_all : {A : Type 0} (end : ℕ) (whole list : List (Option A)) → IsSameTo end whole list
+    → length list ≡ length whole → length list ≤ end → list ≡ whole
+same_all end whole list same long covers =
+    ext_get_or None list whole long (λ i lt. same.each i (omega (arith, lt, covers)))
+
+pub take_new : {A : Type 0} (n : ℕ) (new rest : List A) → length new ≡ n → take n (new ++ rest) ≡ new
+take_new n new rest long = subst (λ (k : ℕ). take k (new ++ rest) ≡ new) long (take-append_seam new rest)

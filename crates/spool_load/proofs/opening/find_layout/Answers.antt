@@ -1,0 +1,68 @@
+use Rattle.std.proofs.Common.{◌≡◌, ◌∙◌, ◌⊎◌, ◌<◌, ◌≤◌, ℕ, inl, inr, Option, Some, None, IsNone, get_or, refl, sym, ap}
+use Rattle.std.proofs.Common.{arith, ⊎_elim}
+use Rattle.std.proofs.lemmas.Bool.{cases_lt}
+use Rattle.std.proofs.lemmas.Option.{same_Some}
+use Rattle.spool_journal.specs.Image.{all_pages}
+use Rattle.spool_pages.specs.View.{first_page}
+use Rattle.spool_load.proofs.Opens.{some_pages}
+use Rattle.spool_load.proofs.opening.find_layout.Goals as goal
+
+none_from : {A : Type 0} (o : Option A) → ((x : A) → o ≡ Some x → ⊥) → IsNone o
+none_from None never = refl
+none_from (Some x) never = absurd (never x refl)
+
+pub returns-then-len-lt12-clause-said : goal.returns-then-len-lt12-clause-said
+returns-then-len-lt12-clause-said g c honest blocks says =
+    omega (arith, some_pages blocks, c.len.ensures, c.if-len-lt12.true, says.room)
+
+pub returns-in_default-clause-said : goal.returns-in_default-clause-said
+returns-in_default-clause-said g c honest blocks says =
+    c.in_default.not-Some blocks
+    (c.blocks_said.ensures.said blocks (omega (arith, says.most))
+    (λ i lt. c.in_ok-front.ensures.bytes honest i lt ∙ says.front i lt))
+
+pub returns-in_default-of-clause-said : goal.returns-in_default-of-clause-said
+returns-in_default-of-clause-said g c honest blocks says =
+    let e : c.in-Some.blocks ≡ blocks =
+    same_Some _ _ (c.in-Some.ensures.said blocks (omega (arith, says.most))
+    (λ i lt. c.in_ok-front.ensures.bytes honest i lt ∙ says.front i lt)) in
+    ⊎_elim (λ below. omega (arith, below, e, says.least)) (λ above. omega (arith, above, e, says.most))
+    (c.of.ensures.none.0 (none_from c.of.result c.in_default-of.not-Some))
+
+pub returns-then-len-pages-clause-said : goal.returns-then-len-pages-clause-said
+returns-then-len-pages-clause-said g c honest blocks says =
+    let e : c.in-Some.blocks ≡ blocks =
+    same_Some _ _ (c.in-Some.ensures.said blocks (omega (arith, says.most))
+    (λ i lt. c.in_ok-front.ensures.bytes honest i lt ∙ says.front i lt)) in
+    let pages : all_pages c.in-Some-of.layout ≡ all_pages blocks = ap all_pages (c.in-Some-of.ensures.some ∙ e) in
+    omega (arith, pages, says.room, c.len-2.ensures, c.pages.ensures, c.if-len-pages.true, c.read_front.ensures.size)
+
+some_not_none : {A : Type 0} (o : Option A) (x : A) → o ≡ Some x → IsNone o → ⊥
+some_not_none o x is none = cc
+
+within : (n : ℕ) → ((n < 16) ⊎ (65536 < n) → ⊥) → (16 ≤ n) × (n ≤ 65536)
+within n not = (
+  elim (cases_lt n 16) [ inl lt ↦ absurd (not (inl lt)) | inr over ↦ over ],
+  elim (cases_lt 65536 n) [ inl lt ↦ absurd (not (inr lt)) | inr over ↦ over ],
+)
+
+pub returns-clause-found : goal.returns-clause-found
+returns-clause-found g c honest =
+    let layout = c.in-Some-of.layout in
+    let same : layout ≡ c.in-Some.blocks = c.in-Some-of.ensures.some in
+    let range =
+    within c.in-Some.blocks (λ out. some_not_none c.of.result layout c.in-Some-of.is (c.of.ensures.none.1 out)) in
+    record {
+      least = omega (arith, same, range.0);
+      most = omega (arith, same, range.1);
+      room = omega (arith, c.if-len-pages.false, c.pages.ensures, c.len-2.ensures, c.read_front.ensures.size);
+      front =
+          λ i lt. sym (c.in_ok-front.ensures.bytes honest i lt) ∙ c.in-Some.ensures.only i lt ∙ ap
+          (λ (n : ℕ). get_or (first_page n) i 0) (sym same);
+    }
+
+pub returns-clause-said : goal.returns-clause-said
+returns-clause-said g c honest blocks says =
+    c.in-Some-of.ensures.some ∙ same_Some _ _
+    (c.in-Some.ensures.said blocks (omega (arith, says.most))
+    (λ i lt. c.in_ok-front.ensures.bytes honest i lt ∙ says.front i lt))

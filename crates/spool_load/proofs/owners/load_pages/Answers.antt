@@ -1,0 +1,29 @@
+use Rattle.std.proofs.Common.{◌≡◌, ◌-◌, ◌*◌, ℕ, rules, subst, arith}
+use Rattle.spool_journal.specs.Image.{journal_pages}
+use Rattle.spool_load.specs.Reads.{IsSameTo, StandRows}
+use Rattle.spool_load.proofs.Looks.{loads_err}
+use Rattle.spool_load.proofs.owners.load_pages.Goals as goal
+
+pub returns-in_err-load_page-clause-said : goal.returns-in_err-load_page-clause-said
+returns-in_err-load_page-clause-said g c honest bytes still all long fits stands =
+    let inv = c.loop-page.invariant in
+    let read =
+    c.in_err-load_page.ensures.said (inv.reads.honest honest) bytes (inv.reads.still honest bytes still) all
+    (search rules) fits stands (inv.said honest bytes still all long fits stands) in
+    let handed =
+    loads_err _ (λ (done : Unit {0}). IsSameTo (512 * (journal_pages c.args.layout.now - 257)) all
+    c.load_page.new.rows) _ read in
+    search rules
+
+pub returns-clause-said : goal.returns-clause-said
+returns-clause-said g c honest bytes still all long fits stands =
+    let n = c.args.layout.now in
+    let e : 512 * c.loop-page.page ≡ 512 * (journal_pages n - 257) = omega (arith, c.journal-page-end.ensures.pages) in
+    subst (λ (m : ℕ). IsSameTo m all c.loop-page.rows) e
+    (c.loop-page.invariant.said honest bytes still all long fits stands)
+
+pub returns-clause-sound : goal.returns-clause-sound
+returns-clause-sound g c honest bytes still =
+    let n = c.args.layout.now in
+    let e : 512 * c.loop-page.page ≡ 512 * (journal_pages n - 257) = omega (arith, c.journal-page-end.ensures.pages) in
+    subst (λ (m : ℕ). StandRows bytes n m c.loop-page.rows) e (c.loop-page.invariant.sound honest bytes still)

@@ -1,0 +1,29 @@
+use Rattle.std.proofs.Common.{◌≡◌, ◌∙◌, ◌-◌, ◌*◌, ℕ, List, Option, length, rules, sym, subst, arith}
+use Rattle.spool_journal.specs.Image.{journal_pages}
+use Rattle.spool_load.specs.Reads.{StandRows}
+use Rattle.spool_load.proofs.Looks.{loads_err, same_all, take_new}
+use Rattle.spool_kept.proofs.SameView.{rows_cover}
+use Rattle.spool_load.proofs.owners.load_rows.Goals as goal
+
+pub returns-in_err-load_pages-clause-said : goal.returns-in_err-load_pages-clause-said
+returns-in_err-load_pages-clause-said g c honest bytes still all long fits stands =
+    let size : length c.in_ok-rows.rows.items ≡ c.args.layout.now = search rules in
+    let read = c.in_err-load_pages.ensures.said honest bytes still all (omega (arith, size, long)) fits stands in
+    let handed = loads_err _ (λ (rows : List (Option (ℕ × ℕ))). rows ≡ all) _ read in
+    search rules
+
+pub returns-clause-sound : goal.returns-clause-sound
+returns-clause-sound g c honest bytes still =
+    let n = c.args.layout.now in
+    let same : length c.load_pages.new.rows ≡ length c.in_ok-rows.rows.items = search rules in
+    let P : List (Option (ℕ × ℕ)) → Type 0 = StandRows bytes n (512 * (journal_pages n - 257)) in
+    subst P (sym (take_new _ _ _ (search rules))) (c.in_ok-load_pages.ensures.sound honest bytes still)
+
+pub returns-clause-said : goal.returns-clause-said
+returns-clause-said g c honest bytes still all long fits stands =
+    let n = c.args.layout.now in
+    let size : length c.in_ok-rows.rows.items ≡ n = search rules in
+    let same : length c.load_pages.new.rows ≡ length c.in_ok-rows.rows.items = search rules in
+    let said = c.in_ok-load_pages.ensures.said honest bytes still all (omega (arith, size, long)) fits stands in
+    take_new _ _ _ (search rules) ∙ same_all _ all c.load_pages.new.rows said (omega (arith, same, size, long))
+    (omega (arith, same, size, rows_cover n))

@@ -1,0 +1,14 @@
+use Rattle.std.proofs.Common.{◌≡◌, ◌*◌, ℕ, length}
+use Rattle.spool_journal.specs.Phases.{Still}
+use Rattle.spool_load.specs.Reads.{OnlyReads, IsReadAt}
+use Rattle.spool_pages.specs.View.{index_place}
+use Rattle.spool_load.proofs.reading.load_area.Given as goal
+
+abbrev pub invariant-loop-page : goal.invariant-loop-page
+invariant-loop-page g l = record {
+  reads : OnlyReads g.D.Disk l.fn.disk l.disk;
+  counts : g.D.Disk.failures l.disk ≡ g.D.Disk.failures l.fn.disk;
+  long : length l.area.items ≡ 4096 * l.page;
+  read : g.D.Disk.honest l.fn.disk → (bytes : ℕ → ℕ) → Still bytes (g.D.Disk.seen l.fn.disk) (g.D.Disk.loose l.fn.disk)
+      → IsReadAt bytes (index_place l.layout) l.area.items;
+}

@@ -1,0 +1,35 @@
+use Rattle.std.proofs.Common.{rules, ◌≡◌, Option, None, Some, IfSome, sym, subst}
+use Rattle.spool_pages.specs.Bytes.{IsPadded}
+use Rattle.spool_pages.specs.Fits.{FitsSlot, FitsSlotOf}
+use Rattle.spool_kept.specs.Records.{FitsKept}
+use Rattle.spool_pages.specs.View.{SlotRecord, record_bytes, slot_bytes}
+use Rattle.spool_load.proofs.slots.kept_of.Goals as goal
+
+pub returns-in_err-kept-in-Some-clause-said : goal.returns-in_err-kept-in-Some-clause-said
+returns-in_err-kept-in-Some-clause-said c None fits padded = search rules
+returns-in_err-kept-in-Some-clause-said c (Some r) fits padded =
+    let used = c.from_bytes.ensures.used r fits.0.0 padded in
+    let same : c.in-Some.record ≡ r = search rules in
+    let told = c.of.ensures.said (subst (λ (q : SlotRecord). FitsKept (Some q)) (sym same) fits) in
+    search rules
+
+pub returns-in_ok-kept-in-Some-clause-said : goal.returns-in_ok-kept-in-Some-clause-said
+returns-in_ok-kept-in-Some-clause-said c None fits padded = search rules
+returns-in_ok-kept-in-Some-clause-said c (Some r) fits padded =
+    let used = c.from_bytes.ensures.used r fits.0.0 padded in
+    let same : c.in-Some.record ≡ r = search rules in
+    let told = c.of.ensures.said (subst (λ (q : SlotRecord). FitsKept (Some q)) (sym same) fits) in
+    search rules
+
+pub returns-in_ok-kept-in-Some-clause-stands : goal.returns-in_ok-kept-in-Some-clause-stands
+returns-in_ok-kept-in-Some-clause-stands c =
+    let bytes = c.args.bytes.now in
+    let padded =
+    subst (λ (o : Option SlotRecord). IsPadded bytes (slot_bytes o)) c.in-Some.is c.in_ok-record.ensures.sound in
+    subst (λ (r : SlotRecord). IsPadded bytes (record_bytes r)) (sym c.in_ok-kept-in-Some.ensures.same) padded
+
+pub returns-in_ok-kept-in-Some-clause-fits : goal.returns-in_ok-kept-in-Some-clause-fits
+returns-in_ok-kept-in-Some-clause-fits c =
+    let fits = subst (λ (o : Option SlotRecord). IfSome o FitsSlot) c.in-Some.is c.in_ok-record.ensures.fits in
+    subst (λ (r : SlotRecord). FitsSlotOf (Some r)) (sym c.in_ok-kept-in-Some.ensures.same)
+    (fits, c.in_ok-kept-in-Some.ensures.sound.printable)

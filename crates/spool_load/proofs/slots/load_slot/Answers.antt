@@ -1,0 +1,28 @@
+use Rattle.std.proofs.Common.{◌≡◌, ◌+◌, ◌*◌, rules, arith}
+use Rattle.spool_pages.specs.View.{slot_place, slot_bytes}
+use Rattle.spool_pages.proofs.Says.{some_journal}
+use Rattle.spool_load.proofs.Looks.{before_texts, read_padded, padded_back, if_ok_more}
+use Rattle.spool_kept.proofs.Sound.{fits_slot}
+use Rattle.spool_pages.proofs.RecordBytes.{slot_few}
+use Rattle.spool_load.proofs.slots.load_slot.Goals as goal
+
+pub read_at-requires : goal.read_at-requires
+read_at-requires g c =
+    before_texts c.args.layout.now _ _ c.requires.room
+    (omega (arith, some_journal c.args.layout.now, c.requires.slot, c.metadata_page.ensures))
+
+pub returns-clause-said : goal.returns-clause-said
+returns-clause-said g c honest bytes still said fits stands =
+    let here : 4096 * (c.metadata_page.result + 1) + 2048 * c.args.slot ≡ slot_place c.args.layout.now c.args.slot =
+    omega arith in
+    c.kept_of.ensures.said said fits
+    (read_padded bytes _ _ c.read_at.new.buf (slot_bytes said) 2048 (c.in_ok-read_at.ensures.bytes honest bytes still)
+    (search rules) here (slot_few said (fits_slot said fits)) stands)
+
+pub returns-clause-stands : goal.returns-clause-stands
+returns-clause-stands g c honest bytes still =
+    let here : slot_place c.args.layout.now c.args.slot ≡ 4096 * (c.metadata_page.result + 1) + 2048 * c.args.slot =
+    omega arith in
+    if_ok_more c.kept_of.result
+    (λ kept padded. padded_back bytes _ (slot_place c.args.layout.now c.args.slot) c.read_at.new.buf (slot_bytes kept)
+    2048 (c.in_ok-read_at.ensures.bytes honest bytes still) (search rules) here padded) c.kept_of.ensures.stands

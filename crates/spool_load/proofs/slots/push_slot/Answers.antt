@@ -1,0 +1,22 @@
+use Rattle.std.proofs.Common.{◌≡◌, ◌∷◌, [], ◌++◌, ℕ, OnOk, Result, rules, sym, subst}
+use Rattle.spool_kept.specs.declared.error.OpenFault.{OpenFault}
+use Rattle.spool_pages.specs.View.{Stands, slot_bytes, slot_place}
+use Rattle.spool_load.specs.Reads.{StandSlots}
+use Rattle.spool_load.proofs.Looks.{stand_push}
+use Rattle.spool_load.proofs.slots.push_slot.Goals as goal
+use Rattle.spool_load.proofs.slots.push_slot.Goals.{in-Ok, in-Err}
+
+pub returns-clause-sound : goal.returns-clause-sound
+returns-clause-sound g c honest bytes still long was =
+    let n = c.args.layout.now in
+    let kept = c.in_ok-kept.kept in
+    let P : Result (Unit {0}) OpenFault → Type 0 = λ r. OnOk r (StandSlots bytes n c.push.new.self.items) in
+    let S : ℕ → Type 0 = λ s. Stands bytes (slot_place n s) 2048 (slot_bytes kept) in
+    elim c.match-push.branch [
+      | in-Ok w ↦
+          let items : c.push.new.self.items ≡ c.args.slots.now.items ++ kept ∷ [] = search rules in
+          subst P (sym w.result-is)
+          (stand_push bytes n c.args.slots.now.items kept _ was items
+          (subst S (sym long) (c.in_ok-kept.ensures.stands honest bytes still)) c.in_ok-kept.ensures.fits)
+      | in-Err w ↦ subst P (sym w.result-is) tt
+    ]

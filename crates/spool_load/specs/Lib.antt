@@ -1,0 +1,4 @@
+pub mod Reads
+pub mod Checks
+pub mod Refusals
+pub mod Loaded

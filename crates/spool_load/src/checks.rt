@@ -1,0 +1,109 @@
+// What is read is checked: only what a spool may say passes.
+ghost use Rattle.std.specs.Prelude.{◌≡◌, ◌<◌, ◌↔◌};
+ghost use Rattle.std.specs.Prelude.{ℕ, IsTrue, true, false, Some, None, length, get_or};
+ghost use Rattle.enc_model.specs.Transcode.{Phase};
+ghost use Rattle.enc_stream.specs.Progress.{progress_of};
+ghost use Rattle.spool_blocks.specs.Chains.{Owns};
+ghost use Rattle.spool_load.specs.Checks.{RecordPasses, RecordsPass, RowPasses, RowsPass};
+ghost use Rattle.spool_kept.specs.Shows.{FitsPhase, HasState};
+ghost use Rattle.spool_kept.specs.Records.{said_of};
+ghost use Rattle.spool_pages.specs.Fits.{FitsRow};
+ghost use Rattle.spool_pages.specs.View.{SlotRecord};
+
+use enc_stream::{Progress, Transcoder};
+use spool_blocks::Row;
+use spool_kept::{KeptRecord, blocks_of, record_at};
+use upload_rules::{LENGTH_LIMIT, NUMBERS_END, Record};
+
+// Whether a transcoder may have come so far behind so many bytes: it has ended exactly where all declared bytes were
+// accepted, and before a byte order mark is decided all accepted bytes are held.
+fn fits_progress(progress: Progress, accepted: u64, declared: u64) -> bool
+    ensures { (p : Phase) → progress_of p ≡ progress → IsTrue result ↔ FitsPhase p accepted declared }
+{
+    match progress {
+        Progress::Holding(count) => accepted == count as u64 && accepted != declared,
+        Progress::Decoding => accepted >= 1 && accepted != declared,
+        Progress::Ended => accepted == declared,
+    }
+}
+
+// Whether the state is that of a transcoder that may stand behind so many bytes.
+fn is_state_sound(record: &Record) -> bool
+    ensures { IsTrue result ↔ HasState (said_of «record».now) }
+{
+    match Transcoder::unpack(&record.state) {
+        Some(transcoder) => {
+            fits_progress(transcoder.progress(), record.accepted, record.declared)
+        }
+        None => false,
+    }
+}
+
+// Whether a record's numbers and its state may be there.
+fn is_record_sound(record: &Record, next: u64) -> bool
+    ensures { IsTrue result ↔ RecordPasses next (said_of «record».now) }
+{
+    record.number < next
+        && record.accepted <= record.declared
+        && record.declared <= LENGTH_LIMIT
+        && is_state_sound(record)
+}
+
+// Whether a slot is free, or its record is one that may be there.
+fn is_sound_at(slots: &[Option<KeptRecord>], slot: usize, next: u64) -> bool
+    requires { slot < length slots.now }
+    ensures { IsTrue result ↔ ((r : SlotRecord) → get_or slots.now slot None ≡ Some r → RecordPasses next r) }
+{
+    match record_at(slots, slot) {
+        Some(kept) => is_record_sound(kept.record(), next),
+        None => true,
+    }
+}
+
+/// Whether the next number and all records may be there: numbers are below the next number, which is 1 to 10^18, the
+/// accepted bytes are no more than the declared ones, which are at most 1,073,741,824, and the state is that of a
+/// transcoder that has come so far.
+pub(crate) fn are_sound(slots: &[Option<KeptRecord>], next: u64) -> bool
+    ensures { IsTrue result ↔ RecordsPass next slots.now }
+{
+    if next < 1 || next > NUMBERS_END {
+        return false;
+    }
+    for slot in 0..slots.len() {
+        if !is_sound_at(slots, slot, next) {
+            return false;
+        }
+    }
+    true
+}
+
+// Whether a row's slot is in use, and its ordinal below the number of blocks of the text.
+fn is_row_sound(slots: &[Option<KeptRecord>], row: Row) -> bool
+    ensures sound { IsTrue result
+        ↔ ((slot ordinal : ℕ) → row ≡ Some (slot, ordinal) → RowPasses slots.now slot ordinal) }
+    ensures slot { result ≡ true → (slot ordinal : ℕ) → row ≡ Some (slot, ordinal) → slot < length slots.now }
+    ensures fits { result ≡ true → length slots.now ≡ 512 → FitsRow row }
+{
+    let Some((slot, ordinal)) = row else {
+        return true;
+    };
+    match record_at(slots, slot as usize) {
+        Some(kept) => (ordinal as u64) < blocks_of(kept.record().text_len),
+        None => false,
+    }
+}
+
+/// Whether each row's slot is in use, and its ordinal below the number of blocks of the text.
+pub(crate) fn are_rows_sound(slots: &[Option<KeptRecord>], rows: &[Row]) -> bool
+    requires { length slots.now ≡ 512 }
+    ensures sound { IsTrue result ↔ RowsPass slots.now rows.now }
+    ensures slots { result ≡ true → (b slot ordinal : ℕ) → Owns rows.now b slot ordinal → slot < 512 }
+    ensures fits { result ≡ true → (b : ℕ) → FitsRow (get_or rows.now b None) }
+{
+    for i in 0..rows.len() {
+        if !is_row_sound(slots, rows[i]) {
+            return false;
+        }
+    }
+    true
+}

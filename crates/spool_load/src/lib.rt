@@ -1,0 +1,11 @@
+//! How a spool is found on a disk, made whole and read: only what a spool may say passes.
+#![tactic(auto)]
+
+mod checks;
+mod loading;
+mod opening;
+mod owners;
+mod reading;
+mod slots;
+
+pub use opening::load;

@@ -1,0 +1,109 @@
+// What is kept of a spool is read.
+ghost use Rattle.std.specs.Prelude.{◌≡◌, ◌≤◌, ◌<◌, ◌*◌, ◌-◌};
+ghost use Rattle.std.specs.Prelude.{ℕ, Err, None, false, replicate, length, get_or, IfOk, IfErr, OnOk};
+ghost use Rattle.spool_disk.specs.Disk.{Counts};
+ghost use Rattle.spool_journal.specs.Image.{all_pages, journal_pages};
+ghost use Rattle.spool_journal.specs.Phases.{Still};
+ghost use Rattle.spool_load.specs.Checks.{RowsPass};
+ghost use Rattle.spool_load.specs.Loaded.{LoadedFrom};
+ghost use Rattle.spool_load.specs.Reads.{OnlyReads, SaysBlocks, StandFields, StandRows};
+ghost use Rattle.spool_load.specs.Refusals.{IsFirstVersion, TellsOfVersion};
+ghost use Rattle.spool_kept.specs.Kept.{KeepsAlone};
+ghost use Rattle.spool_kept.specs.Loads.{LoadsAs, IsLate};
+ghost use Rattle.spool_kept.specs.Shows.{IsSound};
+ghost use Rattle.spool_pages.specs.Fits.{FitsRow};
+ghost use Rattle.spool_pages.specs.View.{View, Says, first_page};
+
+use crate::checks::{are_rows_sound, are_sound};
+use crate::owners::load_rows;
+use crate::reading::{check_front, load_indexes, load_next};
+use crate::slots::load_slots;
+use enc_index::IndexSet;
+use spool_blocks::Blocks;
+use spool_disk::Disk;
+use spool_journal::Layout;
+use spool_kept::{Kept, KeptRecord, OpenFault};
+use std::alloc::Global;
+
+// The next number and the index files.
+fn load_fields<D: Disk>(
+    alloc: Global,
+    disk: &mut D,
+    layout: &Layout,
+) -> Result<(u64, IndexSet), OpenFault>
+    requires { 4096 * all_pages layout.now ≤ D.size disk.old }
+    ensures reads { OnlyReads D.Disk disk.old disk.new }
+    ensures counts { Counts (result ≡ Err OpenFault.DiskFault) (D.failures disk.old) (D.failures disk.new) }
+    ensures said { D.honest disk.old → (bytes : ℕ → ℕ) → Still bytes (D.seen disk.old) (D.loose disk.old)
+        → (v : View) → IsSound v → v.blocks ≡ layout.now → Says bytes v
+        → LoadsAs result (λ said. (said.0 ≡ v.next) × (said.1 ≡ v.indexes)) }
+    ensures sound { D.honest disk.old → (bytes : ℕ → ℕ) → Still bytes (D.seen disk.old) (D.loose disk.old)
+        → ((i : ℕ) → i < 12 → bytes i ≡ get_or (first_page layout.now) i 0)
+        → IfOk result (λ said. StandFields bytes layout.now said.0 said.1) }
+    ensures refused { D.honest disk.old → (bytes : ℕ → ℕ) → Still bytes (D.seen disk.old) (D.loose disk.old)
+        → IfErr result (TellsOfVersion (IsFirstVersion layout.now bytes)) }
+    ensures version { D.honest disk.old → (bytes : ℕ → ℕ) → Still bytes (D.seen disk.old) (D.loose disk.old)
+        → OnOk result (IsFirstVersion layout.now bytes) }
+{
+    let next = load_next(disk, layout)?;
+    check_front(disk, layout)?;
+    let indexes = load_indexes(alloc, disk, layout)?;
+    Ok((next, indexes))
+}
+
+// The blocks.
+fn load_blocks<D: Disk>(
+    alloc: Global,
+    disk: &mut D,
+    layout: &Layout,
+    slots: &[Option<KeptRecord>],
+) -> Result<Blocks, OpenFault>
+    requires room { 4096 * all_pages layout.now ≤ D.size disk.old }
+    requires slots { length slots.now ≡ 512 }
+    ensures long { IfOk result (λ blocks. length blocks.rows ≡ layout.now) }
+    ensures fits { IfOk result (λ blocks. (b : ℕ) → FitsRow (get_or blocks.rows b None)) }
+    ensures reads { OnlyReads D.Disk disk.old disk.new }
+    ensures counts { Counts (result ≡ Err OpenFault.DiskFault) (D.failures disk.old) (D.failures disk.new) }
+    ensures said { D.honest disk.old → (bytes : ℕ → ℕ) → Still bytes (D.seen disk.old) (D.loose disk.old)
+        → (v : View) → IsSound v → v.blocks ≡ layout.now → Says bytes v → slots.now ≡ v.slots
+        → LoadsAs result (λ blocks. (blocks.rows ≡ v.rows) × (blocks.reserved ≡ replicate v.blocks false)) }
+    ensures sound { D.honest disk.old → (bytes : ℕ → ℕ) → Still bytes (D.seen disk.old) (D.loose disk.old)
+        → IfOk result (λ blocks. StandRows bytes layout.now (512 * (journal_pages layout.now - 257)) blocks.rows) }
+    ensures owners { IfOk result (λ blocks. RowsPass slots.now blocks.rows) }
+    ensures reserved { IfOk result (λ blocks. blocks.reserved ≡ replicate layout.now false) }
+    ensures late { IfErr result IsLate }
+{
+    let rows = load_rows(alloc, disk, layout)?;
+    if !are_rows_sound(slots, &rows) {
+        return Err(OpenFault::Damaged);
+    }
+    let _few = layout.blocks();
+    let blocks = Blocks::of(alloc, rows)?;
+    Ok(blocks)
+}
+
+/// Reads a spool whose bytes are all synced.
+pub(crate) fn load_kept<D: Disk>(
+    alloc: Global,
+    disk: &mut D,
+    layout: Layout,
+) -> Result<Kept, OpenFault>
+    requires { 4096 * all_pages layout ≤ D.size disk.old }
+    ensures reads { OnlyReads D.Disk disk.old disk.new }
+    ensures counts { Counts (result ≡ Err OpenFault.DiskFault) (D.failures disk.old) (D.failures disk.new) }
+    ensures layout { IfOk result (λ kept. kept.layout ≡ layout) }
+    ensures said { D.honest disk.old → (bytes : ℕ → ℕ) → Still bytes (D.seen disk.old) (D.loose disk.old)
+        → (v : View) → IsSound v → v.blocks ≡ layout → Says bytes v → LoadsAs result (λ kept. KeepsAlone kept v) }
+    ensures sound { D.honest disk.old → (bytes : ℕ → ℕ) → Still bytes (D.seen disk.old) (D.loose disk.old)
+        → SaysBlocks (D.size disk.old) bytes layout → IfOk result (LoadedFrom bytes layout) }
+    ensures refused { D.honest disk.old → (bytes : ℕ → ℕ) → Still bytes (D.seen disk.old) (D.loose disk.old)
+        → IfErr result (TellsOfVersion (IsFirstVersion layout bytes)) }
+{
+    let (next, indexes) = load_fields(alloc, disk, &layout)?;
+    let slots = load_slots(alloc, disk, &layout)?;
+    if !are_sound(&slots, next) {
+        return Err(OpenFault::Damaged);
+    }
+    let blocks = load_blocks(alloc, disk, &layout, &slots)?;
+    Kept::of(alloc, layout, next, indexes, slots, blocks)
+}

@@ -1,0 +1,127 @@
+// The rows of the text blocks are read.
+ghost use Rattle.std.specs.Prelude.{◌≡◌, ◌≢◌, ◌≤◌, ◌<◌, ◌*◌, ◌+◌, ◌-◌};
+ghost use Rattle.std.specs.Prelude.{ℕ, List, Option, None, length, get_or, IsOkAnd, IfOk, IfErr, OnOk, OnErr, Ok, Err};
+ghost use Rattle.spool_disk.specs.Disk.{Counts};
+ghost use Rattle.spool_journal.specs.Image.{journal_pages, all_pages, byte_of};
+ghost use Rattle.spool_journal.specs.Phases.{Still};
+ghost use Rattle.spool_pages.specs.Fits.{FitsRow};
+ghost use Rattle.spool_load.specs.Reads.{OnlyReads, IsSameTo, StandRows};
+ghost use Rattle.spool_kept.specs.Loads.{LoadsAs, IsLate};
+ghost use Rattle.spool_pages.specs.View.{Stands, row_bytes, row_place};
+
+use crate::reading::read_at;
+use spool_blocks::Row;
+use spool_disk::Disk;
+use spool_journal::{Layout, PAGE};
+use spool_kept::OpenFault;
+use spool_pages::{Damaged, ROWS, row_at};
+use std::alloc::Global;
+
+/// The first page of rows, counted from the first of the metadata.
+const FIRST_ROW_PAGE: u32 = 257;
+
+// Puts a row into its place. `Damaged` where there is no such place, and the row isn't free.
+fn put_row(rows: &mut [Row], block: usize, row: Row) -> Result<(), Damaged>
+    ensures put { OnOk result (get_or rows.new block None ≡ row) }
+    ensures others { (b : ℕ) → b ≢ block → get_or rows.new b None ≡ get_or rows.old b None }
+    ensures behind { OnErr result (length rows.old ≤ block) }
+    ensures used { OnErr result (row ≢ None) }
+{
+    if block < rows.len() {
+        rows[block] = row;
+    } else if row.is_some() {
+        return Err(Damaged);
+    }
+    Ok(())
+}
+
+// Puts the rows of a page into their places, from one on. `Damaged` where an ordinal stands with no slot, or a row
+// isn't free behind the last place.
+fn fill(rows: &mut [Row], page: &[u8; PAGE], first: usize) -> Result<(), Damaged>
+    requires { first ≤ 65536 }
+    ensures said { (all : List (Option (ℕ × ℕ))) → length all ≡ length rows.old
+        → ((b : ℕ) → FitsRow (get_or all b None))
+        → ((k : ℕ) → k < 512 → Stands (byte_of page.now) (8 * k) 8 (row_bytes (get_or all (first + k) None)))
+        → IsSameTo first all rows.old → IsOkAnd result (λ done. IsSameTo (first + 512) all rows.new) }
+    ensures sound { OnOk result
+        ((k : ℕ) → k < 512 → Stands (byte_of page.now) (8 * k) 8 (row_bytes (get_or rows.new (first + k) None))) }
+    ensures before { (b : ℕ) → b < first → get_or rows.new b None ≡ get_or rows.old b None }
+{
+    for k in 0..ROWS {
+        put_row(rows, first + k, row_at(page, 8 * k)?)?;
+    }
+    Ok(())
+}
+
+// Reads a page of rows.
+fn load_page<D: Disk>(
+    disk: &mut D,
+    layout: &Layout,
+    rows: &mut [Row],
+    page: u32,
+) -> Result<(), OpenFault>
+    requires room { 4096 * all_pages layout.now ≤ D.size disk.old }
+    requires page { 257 + page < journal_pages layout.now }
+    requires few { page < 128 }
+    ensures reads { OnlyReads D.Disk disk.old disk.new }
+    ensures counts { Counts (result ≡ Err OpenFault.DiskFault) (D.failures disk.old) (D.failures disk.new) }
+    ensures late { IfErr result IsLate }
+    ensures said { D.honest disk.old → (bytes : ℕ → ℕ) → Still bytes (D.seen disk.old) (D.loose disk.old)
+        → (all : List (Option (ℕ × ℕ))) → length all ≡ length rows.old → ((b : ℕ) → FitsRow (get_or all b None))
+        → ((b : ℕ) → b < 512 * (journal_pages layout.now - 257)
+        → Stands bytes (row_place layout.now b) 8 (row_bytes (get_or all b None)))
+        → IsSameTo (512 * page) all rows.old → LoadsAs result (λ done. IsSameTo (512 * (page + 1)) all rows.new) }
+    ensures sound { D.honest disk.old → (bytes : ℕ → ℕ) → Still bytes (D.seen disk.old) (D.loose disk.old)
+        → StandRows bytes layout.now (512 * page) rows.old
+        → OnOk result (StandRows bytes layout.now (512 * (page + 1)) rows.new) }
+{
+    let mut bytes = [0; PAGE];
+    let place = 4096 * (layout.metadata_page() as u64 + FIRST_ROW_PAGE as u64 + page as u64);
+    read_at(disk, place, &mut bytes)?;
+    fill(rows, &bytes, ROWS * page as usize)?;
+    Ok(())
+}
+
+// Reads all pages of rows.
+fn load_pages<D: Disk>(disk: &mut D, layout: &Layout, rows: &mut [Row]) -> Result<(), OpenFault>
+    requires room { 4096 * all_pages layout.now ≤ D.size disk.old }
+    ensures reads { OnlyReads D.Disk disk.old disk.new }
+    ensures counts { Counts (result ≡ Err OpenFault.DiskFault) (D.failures disk.old) (D.failures disk.new) }
+    ensures late { IfErr result IsLate }
+    ensures said { D.honest disk.old → (bytes : ℕ → ℕ) → Still bytes (D.seen disk.old) (D.loose disk.old)
+        → (all : List (Option (ℕ × ℕ))) → length all ≡ length rows.old → ((b : ℕ) → FitsRow (get_or all b None))
+        → ((b : ℕ) → b < 512 * (journal_pages layout.now - 257)
+        → Stands bytes (row_place layout.now b) 8 (row_bytes (get_or all b None)))
+        → LoadsAs result (λ done. IsSameTo (512 * (journal_pages layout.now - 257)) all rows.new) }
+    ensures sound { D.honest disk.old → (bytes : ℕ → ℕ) → Still bytes (D.seen disk.old) (D.loose disk.old)
+        → OnOk result (StandRows bytes layout.now (512 * (journal_pages layout.now - 257)) rows.new) }
+{
+    for page in 0..layout.journal() - FIRST_ROW_PAGE {
+        load_page(disk, layout, rows, page)?;
+    }
+    Ok(())
+}
+
+/// All rows.
+pub(crate) fn load_rows<D: Disk>(
+    alloc: Global,
+    disk: &mut D,
+    layout: &Layout,
+) -> Result<Vec<Row>, OpenFault>
+    requires { 4096 * all_pages layout.now ≤ D.size disk.old }
+    ensures reads { OnlyReads D.Disk disk.old disk.new }
+    ensures counts { Counts (result ≡ Err OpenFault.DiskFault) (D.failures disk.old) (D.failures disk.new) }
+    ensures long { IfOk result (λ rows. length rows.items ≡ layout.now) }
+    ensures said { D.honest disk.old → (bytes : ℕ → ℕ) → Still bytes (D.seen disk.old) (D.loose disk.old)
+        → (all : List (Option (ℕ × ℕ))) → length all ≡ layout.now → ((b : ℕ) → FitsRow (get_or all b None))
+        → ((b : ℕ) → b < 512 * (journal_pages layout.now - 257)
+        → Stands bytes (row_place layout.now b) 8 (row_bytes (get_or all b None)))
+        → LoadsAs result (λ rows. rows.items ≡ all) }
+    ensures sound { D.honest disk.old → (bytes : ℕ → ℕ) → Still bytes (D.seen disk.old) (D.loose disk.old)
+        → IfOk result (λ rows. StandRows bytes layout.now (512 * (journal_pages layout.now - 257)) rows.items) }
+    ensures late { IfErr result IsLate }
+{
+    let mut rows = vec![in alloc; None; layout.blocks() as usize]?;
+    load_pages(disk, layout, &mut rows)?;
+    Ok(rows)
+}

@@ -1,0 +1,158 @@
+// A spool whose bytes are all synced is read.
+ghost use Rattle.std.specs.Prelude.{◌≡◌, ◌≤◌, ◌<◌, ◌*◌, ◌+◌, ◌^◌};
+ghost use Rattle.std.specs.Prelude.{ℕ, length, get_or, IsErr, OnOk, IfOk, IfErr, Ok, Err};
+ghost use Rattle.std.specs.Int.{to_be_bytes, w32};
+ghost use Rattle.enc_model.specs.Indexes.{IndexSet as Indexes};
+ghost use Rattle.enc_index.specs.Area.{area_byte};
+ghost use Rattle.enc_index.specs.Sets.{IsIndexSet};
+ghost use Rattle.spool_disk.specs.Disk.{Counts};
+ghost use Rattle.spool_journal.specs.Image.{all_pages, byte_of};
+ghost use Rattle.spool_journal.specs.Phases.{Still};
+ghost use Rattle.spool_load.specs.Reads.{OnlyReads, IsReadAt, StandsArea};
+ghost use Rattle.spool_load.specs.Refusals.{IsFirstVersion, TellsOfVersion};
+ghost use Rattle.spool_kept.specs.Loads.{LoadsAs, IsLate};
+ghost use Rattle.spool_pages.specs.Bytes.{IsPadded};
+ghost use Rattle.spool_pages.specs.View.{Stands, first_page, state_page, state_place, index_place};
+
+use enc_index::{AreaError, IndexSet};
+use spool_disk::{Disk, DiskFault};
+use spool_journal::{Layout, PAGE};
+use spool_kept::OpenFault;
+use spool_pages::{VERSION, is_blank_behind_fields, version_and_next};
+use std::alloc::Global;
+
+/// Fills the buffer from a place on.
+pub(crate) fn read_at<D: Disk>(disk: &mut D, place: u64, buf: &mut [u8]) -> Result<(), DiskFault>
+    requires { place + length buf.old ≤ D.size disk.old }
+    ensures reads { OnlyReads D.Disk disk.old disk.new }
+    ensures counts { Counts (IsErr result) (D.failures disk.old) (D.failures disk.new) }
+    ensures bytes { D.honest disk.old → (bytes : ℕ → ℕ) → Still bytes (D.seen disk.old) (D.loose disk.old)
+        → OnOk result (IsReadAt bytes place buf.new) }
+{
+    disk.read(place, buf)
+}
+
+// The next number that a state page says.
+fn next_in(page: &[u8; PAGE]) -> Result<u64, OpenFault>
+    ensures said { (next : ℕ) → next < 2 ^ 64 → IsPadded page.now (state_page 1 next) → result ≡ Ok next }
+    ensures sound { IfOk result (λ next. Stands (byte_of page.now) 0 4096 (state_page 1 next)) }
+    ensures refused { IfErr result (TellsOfVersion (Stands (byte_of page.now) 0 4 (to_be_bytes w32 1))) }
+    ensures no_device { result ≡ Err OpenFault.DiskFault → ⊥ }
+{
+    let (version, next) = version_and_next(page);
+    if version != VERSION {
+        return Err(OpenFault::Version);
+    }
+    if !is_blank_behind_fields(page) {
+        return Err(OpenFault::Damaged);
+    }
+    Ok(next)
+}
+
+/// The next number.
+pub(crate) fn load_next<D: Disk>(disk: &mut D, layout: &Layout) -> Result<u64, OpenFault>
+    requires { 4096 * all_pages layout.now ≤ D.size disk.old }
+    ensures reads { OnlyReads D.Disk disk.old disk.new }
+    ensures counts { Counts (result ≡ Err OpenFault.DiskFault) (D.failures disk.old) (D.failures disk.new) }
+    ensures said { D.honest disk.old → (bytes : ℕ → ℕ) → Still bytes (D.seen disk.old) (D.loose disk.old)
+        → (next : ℕ) → next < 2 ^ 64 → Stands bytes (state_place layout.now) 4096 (state_page 1 next)
+        → LoadsAs result (λ said. said ≡ next) }
+    ensures sound { D.honest disk.old → (bytes : ℕ → ℕ) → Still bytes (D.seen disk.old) (D.loose disk.old)
+        → IfOk result (λ next. Stands bytes (state_place layout.now) 4096 (state_page 1 next)) }
+    ensures refused { D.honest disk.old → (bytes : ℕ → ℕ) → Still bytes (D.seen disk.old) (D.loose disk.old)
+        → IfErr result (TellsOfVersion (IsFirstVersion layout.now bytes)) }
+{
+    let mut page = [0; PAGE];
+    read_at(disk, 4096 * layout.metadata_page() as u64, &mut page)?;
+    next_in(&page)
+}
+
+/// Looks at what stands behind the fields of page 0.
+pub(crate) fn check_front<D: Disk>(disk: &mut D, layout: &Layout) -> Result<(), OpenFault>
+    requires { 4096 * all_pages layout.now ≤ D.size disk.old }
+    ensures reads { OnlyReads D.Disk disk.old disk.new }
+    ensures counts { Counts (result ≡ Err OpenFault.DiskFault) (D.failures disk.old) (D.failures disk.new) }
+    ensures late { IfErr result IsLate }
+    ensures said { D.honest disk.old → (bytes : ℕ → ℕ) → Still bytes (D.seen disk.old) (D.loose disk.old)
+        → (n : ℕ) → Stands bytes 0 4096 (first_page n) → LoadsAs result (λ done. Unit {0}) }
+    ensures sound { D.honest disk.old → (bytes : ℕ → ℕ) → Still bytes (D.seen disk.old) (D.loose disk.old)
+        → (n : ℕ) → ((i : ℕ) → i < 12 → bytes i ≡ get_or (first_page n) i 0)
+        → OnOk result (Stands bytes 0 4096 (first_page n)) }
+{
+    let mut page = [0; PAGE];
+    read_at(disk, 0, &mut page)?;
+    if is_blank_behind_fields(&page) {
+        Ok(())
+    } else {
+        Err(OpenFault::Damaged)
+    }
+}
+
+// A page of the index area behind the ones before it.
+fn push_area_page<D: Disk>(
+    disk: &mut D,
+    layout: &Layout,
+    area: &mut Vec<u8>,
+    page: u32,
+) -> Result<(), OpenFault>
+    requires room { 4096 * all_pages layout.now ≤ D.size disk.old }
+    requires page { page < 22 }
+    ensures reads { OnlyReads D.Disk disk.old disk.new }
+    ensures counts { Counts (result ≡ Err OpenFault.DiskFault) (D.failures disk.old) (D.failures disk.new) }
+    ensures late { IfErr result IsLate }
+    ensures others { LoadsAs result (λ done. length area.new.items ≡ length area.old.items + 4096) }
+    ensures pushed { D.honest disk.old → (bytes : ℕ → ℕ) → Still bytes (D.seen disk.old) (D.loose disk.old)
+        → IsReadAt bytes (index_place layout.now) area.old.items → length area.old.items ≡ 4096 * page
+        → OnOk result (IsReadAt bytes (index_place layout.now) area.new.items) }
+{
+    let mut bytes = [0; PAGE];
+    read_at(
+        disk,
+        4096 * (layout.index_page() as u64 + page as u64),
+        &mut bytes,
+    )?;
+    area.extend_from_slice(&bytes)?;
+    Ok(())
+}
+
+// The index area.
+fn load_area<D: Disk>(alloc: Global, disk: &mut D, layout: &Layout) -> Result<Vec<u8>, OpenFault>
+    requires { 4096 * all_pages layout.now ≤ D.size disk.old }
+    ensures reads { OnlyReads D.Disk disk.old disk.new }
+    ensures counts { Counts (result ≡ Err OpenFault.DiskFault) (D.failures disk.old) (D.failures disk.new) }
+    ensures late { IfErr result IsLate }
+    ensures long { LoadsAs result (λ area. length area.items ≡ 90112) }
+    ensures read { D.honest disk.old → (bytes : ℕ → ℕ) → Still bytes (D.seen disk.old) (D.loose disk.old)
+        → IfOk result (λ area. IsReadAt bytes (index_place layout.now) area.items) }
+{
+    let mut area = Vec::new(alloc);
+    for page in 0..22u32 {
+        push_area_page(disk, layout, &mut area, page)?;
+    }
+    Ok(area)
+}
+
+/// The index files.
+pub(crate) fn load_indexes<D: Disk>(
+    alloc: Global,
+    disk: &mut D,
+    layout: &Layout,
+) -> Result<IndexSet, OpenFault>
+    requires { 4096 * all_pages layout.now ≤ D.size disk.old }
+    ensures reads { OnlyReads D.Disk disk.old disk.new }
+    ensures counts { Counts (result ≡ Err OpenFault.DiskFault) (D.failures disk.old) (D.failures disk.new) }
+    ensures said { D.honest disk.old → (bytes : ℕ → ℕ) → Still bytes (D.seen disk.old) (D.loose disk.old)
+        → (x : Indexes) → IsIndexSet x
+        → ((i : ℕ) → i < 90112 → bytes (index_place layout.now + i) ≡ area_byte x i)
+        → LoadsAs result (λ set. set ≡ x) }
+    ensures sound { D.honest disk.old → (bytes : ℕ → ℕ) → Still bytes (D.seen disk.old) (D.loose disk.old)
+        → IfOk result (StandsArea bytes layout.now) }
+    ensures late { IfErr result IsLate }
+{
+    let area = load_area(alloc, disk, layout)?;
+    match IndexSet::from_area(alloc, &area) {
+        Ok(set) => Ok(set),
+        Err(AreaError::NoMemory) => Err(OpenFault::NoMemory),
+        Err(AreaError::Damaged) => Err(OpenFault::Damaged),
+    }
+}

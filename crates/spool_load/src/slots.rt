@@ -1,0 +1,118 @@
+// The slots are read.
+ghost use Rattle.std.specs.Prelude.{◌≡◌, ◌≤◌, ◌<◌, ◌*◌, ◌+◌, ◌-◌};
+ghost use Rattle.std.specs.Prelude.{ℕ, List, Option, None, length, get_or, IfOk, IfErr, OnOk, Ok, Err};
+ghost use Rattle.spool_disk.specs.Disk.{Counts};
+ghost use Rattle.spool_journal.specs.Image.{all_pages};
+ghost use Rattle.spool_journal.specs.Phases.{Still};
+ghost use Rattle.spool_pages.specs.Bytes.{IsPadded};
+ghost use Rattle.spool_pages.specs.Fits.{FitsSlotOf};
+ghost use Rattle.spool_kept.specs.Records.{FitsKept};
+ghost use Rattle.spool_load.specs.Reads.{OnlyReads, IsFrontOf, StandSlots};
+ghost use Rattle.spool_kept.specs.Loads.{LoadsAs, IsLate};
+ghost use Rattle.spool_pages.specs.View.{SlotRecord as Said, Stands, slot_bytes, slot_place};
+
+use crate::reading::read_at;
+use spool_blocks::SLOTS;
+use spool_disk::Disk;
+use spool_journal::Layout;
+use spool_kept::{KeptRecord, OpenFault};
+use spool_pages::{RECORD, SlotRecord};
+use std::alloc::Global;
+
+// The record in a slot's bytes, kept.
+fn kept_of(alloc: Global, bytes: &[u8; RECORD]) -> Result<Option<KeptRecord>, OpenFault>
+    ensures said { (slot : Option Said) → FitsKept slot → IsPadded bytes.now (slot_bytes slot)
+        → LoadsAs result (λ kept. kept ≡ slot) }
+    ensures stands { IfOk result (λ kept. IsPadded bytes.now (slot_bytes kept)) }
+    ensures fits { IfOk result FitsSlotOf }
+    ensures late { IfErr result IsLate }
+    ensures no_device { result ≡ Err OpenFault.DiskFault → ⊥ }
+{
+    match SlotRecord::from_bytes(bytes)? {
+        Some(record) => {
+            let kept = KeptRecord::of(alloc, &record)?;
+            Ok(Some(kept))
+        }
+        None => Ok(None),
+    }
+}
+
+// The record of a slot.
+fn load_slot<D: Disk>(
+    alloc: Global,
+    disk: &mut D,
+    layout: &Layout,
+    slot: u32,
+) -> Result<Option<KeptRecord>, OpenFault>
+    requires room { 4096 * all_pages layout.now ≤ D.size disk.old }
+    requires slot { slot < 512 }
+    ensures reads { OnlyReads D.Disk disk.old disk.new }
+    ensures counts { Counts (result ≡ Err OpenFault.DiskFault) (D.failures disk.old) (D.failures disk.new) }
+    ensures said { D.honest disk.old → (bytes : ℕ → ℕ) → Still bytes (D.seen disk.old) (D.loose disk.old)
+        → (said : Option Said) → FitsKept said → Stands bytes (slot_place layout.now slot) 2048 (slot_bytes said)
+        → LoadsAs result (λ kept. kept ≡ said) }
+    ensures stands { D.honest disk.old → (bytes : ℕ → ℕ) → Still bytes (D.seen disk.old) (D.loose disk.old)
+        → IfOk result (λ kept. Stands bytes (slot_place layout.now slot) 2048 (slot_bytes kept)) }
+    ensures fits { IfOk result FitsSlotOf }
+    ensures late { IfErr result IsLate }
+{
+    let mut bytes = [0; RECORD];
+    let place = 4096 * (layout.metadata_page() as u64 + 1) + 2048 * slot as u64;
+    read_at(disk, place, &mut bytes)?;
+    kept_of(alloc, &bytes)
+}
+
+// The record of the next slot, behind those before it.
+fn push_slot<D: Disk>(
+    alloc: Global,
+    disk: &mut D,
+    layout: &Layout,
+    slots: &mut Vec<Option<KeptRecord>>,
+    slot: u32,
+) -> Result<(), OpenFault>
+    requires room { 4096 * all_pages layout.now ≤ D.size disk.old }
+    requires slot { slot < 512 }
+    ensures reads { OnlyReads D.Disk disk.old disk.new }
+    ensures counts { Counts (result ≡ Err OpenFault.DiskFault) (D.failures disk.old) (D.failures disk.new) }
+    ensures long { OnOk result (length slots.new.items ≡ length slots.old.items + 1) }
+    ensures said { D.honest disk.old → (bytes : ℕ → ℕ) → Still bytes (D.seen disk.old) (D.loose disk.old)
+        → (said : List (Option Said)) → length said ≡ 512 → FitsKept (get_or said slot None)
+        → Stands bytes (slot_place layout.now slot) 2048 (slot_bytes (get_or said slot None))
+        → length slots.old.items ≡ slot → IsFrontOf said slots.old.items
+        → LoadsAs result (λ done. IsFrontOf said slots.new.items) }
+    ensures sound { D.honest disk.old → (bytes : ℕ → ℕ) → Still bytes (D.seen disk.old) (D.loose disk.old)
+        → length slots.old.items ≡ slot → StandSlots bytes layout.now slots.old.items
+        → OnOk result (StandSlots bytes layout.now slots.new.items) }
+    ensures late { IfErr result IsLate }
+{
+    let kept = load_slot(alloc, disk, layout, slot)?;
+    match slots.push(kept) {
+        Ok(()) => Ok(()),
+        Err(_) => Err(OpenFault::NoMemory),
+    }
+}
+
+/// All slots.
+pub(crate) fn load_slots<D: Disk>(
+    alloc: Global,
+    disk: &mut D,
+    layout: &Layout,
+) -> Result<Vec<Option<KeptRecord>>, OpenFault>
+    requires { 4096 * all_pages layout.now ≤ D.size disk.old }
+    ensures reads { OnlyReads D.Disk disk.old disk.new }
+    ensures counts { Counts (result ≡ Err OpenFault.DiskFault) (D.failures disk.old) (D.failures disk.new) }
+    ensures long { IfOk result (λ slots. length slots.items ≡ 512) }
+    ensures said { D.honest disk.old → (bytes : ℕ → ℕ) → Still bytes (D.seen disk.old) (D.loose disk.old)
+        → (said : List (Option Said)) → length said ≡ 512 → ((s : ℕ) → FitsKept (get_or said s None))
+        → ((s : ℕ) → s < 512 → Stands bytes (slot_place layout.now s) 2048 (slot_bytes (get_or said s None)))
+        → LoadsAs result (λ slots. slots.items ≡ said) }
+    ensures sound { D.honest disk.old → (bytes : ℕ → ℕ) → Still bytes (D.seen disk.old) (D.loose disk.old)
+        → IfOk result (λ slots. StandSlots bytes layout.now slots.items) }
+    ensures late { IfErr result IsLate }
+{
+    let mut slots = Vec::new(alloc);
+    for slot in 0..SLOTS {
+        push_slot(alloc, disk, layout, &mut slots, slot)?;
+    }
+    Ok(slots)
+}
