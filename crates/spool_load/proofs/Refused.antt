@@ -58,18 +58,20 @@ tells_on Damaged on back told = on told
 tells_on NoMemory on back told = tt
 tells_on DiskFault on back told = tt
 
-pub tells_late : {P : Type 0} (e : OpenFault) → P → IsLate e → TellsOfVersion P e
-tells_late NotASpool first late = absurd late
-tells_late Version first late = absurd late
-tells_late Damaged first late = first
-tells_late NoMemory first late = tt
-tells_late DiskFault first late = tt
+-- behind a look at the version
+pub tells_late : (n : ℕ) (bytes : ℕ → ℕ) (e : OpenFault) → IsFirstVersion n bytes → IsLate e
+    → TellsOfVersion (IsFirstVersion n bytes) e
+tells_late n bytes NotASpool first late = absurd late
+tells_late n bytes Version first late = absurd late
+tells_late n bytes Damaged first late = first
+tells_late n bytes NoMemory first late = tt
+tells_late n bytes DiskFault first late = tt
 
--- behind a state page of version 1 a refusal comes late
+-- and so behind a state page of version 1
 pub state_tells : (bytes : ℕ → ℕ) (n next : ℕ) (e : OpenFault) → Stands bytes (state_place n) 4096 (state_page 1 next)
     → IsLate e → TellsOfVersion (IsFirstVersion n bytes) e
 state_tells bytes n next e state late =
-    tells_late e (version_stands bytes (state_place n) 4096 1 next (omega arith) state) late
+    tells_late n bytes e (version_stands bytes (state_place n) 4096 1 next (omega arith) state) late
 
 -- BEHIND A RECOVERY
 

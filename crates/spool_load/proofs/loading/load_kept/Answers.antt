@@ -96,7 +96,7 @@ returns-in_err-blocks-clause-counts g c =
 pub returns-in_err-slots-clause-refused : goal.returns-in_err-slots-clause-refused
 returns-in_err-slots-clause-refused g c honest bytes still =
     let first = c.in_ok-next.ensures.version honest bytes still in
-    let told = tells_late _ first c.in_err-slots.ensures.late in
+    let told = tells_late c.args.layout bytes _ first c.in_err-slots.ensures.late in
     search rules
 
 pub returns-then-not-are_sound-clause-refused : goal.returns-then-not-are_sound-clause-refused
@@ -105,13 +105,13 @@ returns-then-not-are_sound-clause-refused g c honest bytes still = c.in_ok-next.
 pub returns-in_err-blocks-clause-refused : goal.returns-in_err-blocks-clause-refused
 returns-in_err-blocks-clause-refused g c honest bytes still =
     let first = c.in_ok-next.ensures.version honest bytes still in
-    let told = tells_late _ first c.in_err-blocks.ensures.late in
+    let told = tells_late c.args.layout bytes _ first c.in_err-blocks.ensures.late in
     search rules
 
 pub returns-clause-refused : goal.returns-clause-refused
 returns-clause-refused g c honest bytes still =
     let first = c.in_ok-next.ensures.version honest bytes still in
-    if_err_more c.of.result (λ e late. tells_late e first late) c.of.ensures.late
+    if_err_more c.of.result (λ e late. tells_late c.args.layout bytes e first late) c.of.ensures.late
 
 pub returns-clause-sound : goal.returns-clause-sound
 returns-clause-sound g c honest bytes still says =

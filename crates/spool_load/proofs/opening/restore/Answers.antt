@@ -1,7 +1,8 @@
-use Rattle.std.proofs.Common.{◌≡◌, ◌∙◌, inr, ℕ, Result, Err, refl, sym, subst, rules}
+use Rattle.std.proofs.Common.{◌≡◌, ◌⊎◌, ◌∙◌, inr, ℕ, Result, Err, refl, sym, subst, rules}
+use Rattle.spool_disk.specs.Disk.{IsImage}
 use Rattle.spool_disk.proofs.Firm.{lasts_on, lasts_more}
 use Rattle.spool_journal.specs.Image.{journal_pages, overlaid, InForm, count, number}
-use Rattle.spool_journal.specs.Phases.{Settled}
+use Rattle.spool_journal.specs.Phases.{ReadsAs, Settled}
 use Rattle.spool_journal.specs.declared.error.RecoverError.{RecoverError}
 use Rattle.spool_journal.specs.declared.error.RecoverError.TheVariants as recover
 use Rattle.spool_kept.specs.Faults.{fault_of}
@@ -60,7 +61,11 @@ pub returns-clause-lasts : goal.returns-clause-lasts
 returns-clause-lasts g c honest =
     let settled = c.in_ok-recover.ensures.settled honest in
     let mid = c.recover.ensures.honest.0 honest in
-    lasts_on (c.recover.ensures.lasts honest)
+    let was = g.D.Disk.seen c.args.disk.now in
+    let loose = g.D.Disk.loose c.args.disk.now in
+    let P : (ℕ → ℕ) → Type 0 =
+    λ image. IsImage was loose image ⊎ ReadsAs (journal_pages c.args.layout) image (overlaid was) in
+    lasts_on {P = P} (c.recover.ensures.lasts honest)
     (lasts_more (c.load_kept.ensures.reads.lasts mid _ (settled_still settled))
     (λ image same. inr (settled_reads image settled same)))
 
