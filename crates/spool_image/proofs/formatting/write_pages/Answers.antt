@@ -17,7 +17,7 @@ loop-page-init g c =
       honest = λ honest. honest;
       back = λ honest. honest;
       counts = refl;
-      fresh = λ honest. record { each = λ p from below. absurd (omega (arith, from, below)) };
+      fresh = λ honest. record { each = λ p from below. omega (arith, from, below) };
       front = λ honest. front_kept (g.D.Disk.seen disk) (g.D.Disk.loose disk);
       crash = λ honest. lasts_none g.D.Disk disk (FrontStays (g.D.Disk.seen disk) (g.D.Disk.loose disk));
       valid = λ past. absurd (omega (arith, past));
