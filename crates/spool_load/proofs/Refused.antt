@@ -16,9 +16,9 @@ use Rattle.spool_kept.specs.Loads.{LoadsAs, IsLate}
 use Rattle.spool_kept.specs.Shows.{IsSound}
 use Rattle.spool_load.specs.Loaded.{LoadedFrom, OpenedFrom}
 use Rattle.spool_load.specs.Reads.{SaysBlocks}
-use Rattle.spool_load.specs.Refusals.{HasJournal, IsFirstVersion, IsNoSpool, HasOtherVersion, IsDamaged, RefusedAt}
+use Rattle.spool_load.specs.Refusals.{HasJournal, IsFirstVersion, RefusedAt}
 use Rattle.spool_load.specs.Refusals.{TellsOfVersion, RefusedFor}
-use Rattle.spool_load.proofs.Opens.{front_plain, view_says_blocks}
+use Rattle.spool_load.proofs.Opens.{front_plain}
 
 -- NUMBERS IN FOUR BYTES
 

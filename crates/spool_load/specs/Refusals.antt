@@ -1,6 +1,6 @@
 -- Why a disk is not opened: it is no spool, a spool of another version, or a damaged one. No two of these hold, and
 -- none of a disk of which a plain reading gives a sound view.
-use Rattle.std.specs.Prelude.{◌≡◌, ◌⊎◌, ℕ}
+use Rattle.std.specs.Prelude.{◌≡◌, ℕ}
 use Rattle.std.specs.Int.{to_be_bytes, w32}
 use Rattle.spool_journal.specs.Image.{journal_pages, InForm, count, number, overlaid}
 use Rattle.spool_kept.specs.declared.error.OpenFault.{OpenFault}

@@ -21,8 +21,8 @@ loop-slot-preserved c s r lt there = elim (cases_lt s c.loop-slot.slot) [
 pub returns : goal.returns
 returns c = (
   λ yes. record {
-    least = c.if-next-lt1.false;
-    most = c.if-next-gt-NUMBERS_END.false;
+    least = omega arith;
+    most = omega arith;
     records =
         λ s r there. let used = in_use c.args.slots.now s r there in c.loop-slot.invariant s r
         (omega (arith, used, c.loop-slot-test.false)) there;
