@@ -1,13 +1,13 @@
 -- The bytes of a spool without uploads.
 use Rattle.std.proofs.Common.{◌≡◌, inl, inr, subst, ℕ, ◌+◌, ◌-◌, ◌*◌, ◌<◌, ◌≤◌, ltb, true, false, List, length, get_or}
-use Rattle.std.proofs.Common.{refl, ◌∙◌, arith}
+use Rattle.std.proofs.Common.{◌∙◌, arith}
 use Rattle.std.proofs.Math.ListN.{get_or-eq_default}
 use Rattle.std.proofs.lemmas.Bool.{cases_lt}
 use Rattle.std.proofs.lemmas.Bool.Decides.{nat_tests}
 use Rattle.enc_model.specs.Indexes.{IndexSet}
 use Rattle.enc_index.specs.Area.{area_byte}
 use Rattle.spool_disk.specs.Disk.{IsImage, Writes, Syncs}
-use Rattle.spool_journal.specs.Image.{byte_of, journal_pages, all_pages}
+use Rattle.spool_journal.specs.Image.{byte_of, all_pages}
 use Rattle.spool_journal.proofs.Steps.{span_at}
 use Rattle.spool_pages.specs.View.{index_place, state_place, first_page, state_page}
 use Rattle.spool_load.proofs.Looks.{length-state}

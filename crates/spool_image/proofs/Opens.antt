@@ -1,5 +1,5 @@
 -- What an opened spool shows.
-use Rattle.std.proofs.Common.{◌≡◌, ◌⊎◌, inl, inr, ℕ, ◌*◌, ◌≤◌, sym, subst, ⊎_elim}
+use Rattle.std.proofs.Common.{◌⊎◌, inl, inr, ℕ, ◌*◌, ◌≤◌, sym, subst, ⊎_elim}
 use Rattle.spool_disk.specs.Disk.{IsImage}
 use Rattle.spool_disk.specs.Views.{Lasts}
 use Rattle.spool_disk.specs.declared.disk.Disk.{Ghosts}
