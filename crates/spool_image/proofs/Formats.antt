@@ -7,6 +7,7 @@ use Rattle.spool_disk.specs.Views.{Lasts}
 use Rattle.spool_disk.specs.declared.disk.Disk.{Ghosts}
 use Rattle.spool_disk.proofs.Firm.{lasts_more, lasts_on}
 use Rattle.spool_journal.specs.Image.{all_pages}
+use Rattle.spool_journal.specs.Phases.{Still}
 use Rattle.spool_image.specs.Format.{FormatsTo, FrontStays, LeftByFormat}
 use Rattle.spool_image.specs.Fresh.{IsFreshTo, KeepsFront}
 use Rattle.spool_image.proofs.NoUploads.{fresh_shows}
@@ -74,23 +75,21 @@ lasts_none disk d P = record { later = omega arith; nothing_else = λ t image le
 
 -- THE PAGES BEHIND IT, which are synced before page 0 is written
 
-pub fresh_image : {n end : ℕ} {x : IndexSet} {a b c : ℕ → ℕ} {la lb lc : ℕ → Type 0} {synced done : Type 0}
-    {bytes : List ℕ} → IsFreshTo n x end a
-    → Syncs synced a b la lb → synced → Writes 0 bytes done b c lb lc → length bytes ≡ 4096 → (image : ℕ → ℕ)
+pub fresh_image : {n end : ℕ} {x : IndexSet} {a b c : ℕ → ℕ} {lb lc : ℕ → Type 0} {done : Type 0} {bytes : List ℕ}
+    → IsFreshTo n x end a → Still a b lb → Writes 0 bytes done b c lb lc → length bytes ≡ 4096 → (image : ℕ → ℕ)
     → IsImage c lc image → IsFreshTo n x end image
-fresh_image {bytes = bytes} fresh syncs one writes long image is = record {
+fresh_image {bytes = bytes} fresh still writes long image is = record {
   each = λ p from below.
       let apart : In 0 (length bytes) p → ⊥ = λ within. omega (arith, within.below, from, long) in
-      is.same p (λ l. ⊎_elim (syncs.firm one p) apart (writes.loosens p l)) ∙ writes.outside p apart ∙ syncs.same one p
+      is.same p (λ l. ⊎_elim (still.firm p) apart (writes.loosens p l)) ∙ writes.outside p apart ∙ still.reads p
       ∙ fresh.each p from below;
 }
 
-pub fresh_image_synced : {n end : ℕ} {x : IndexSet} {a b c d : ℕ → ℕ} {la lb lc ld : ℕ → Type 0}
-    {synced done synced' : Type 0} {bytes : List ℕ} → IsFreshTo n x end a
-    → Syncs synced a b la lb → synced → Writes 0 bytes done b c lb lc → Syncs synced' c d lc ld → length bytes ≡ 4096
-    → (image : ℕ → ℕ) → IsImage d ld image → IsFreshTo n x end image
-fresh_image_synced fresh syncs one writes again long image is =
-    fresh_image fresh syncs one writes long image (record {
+pub fresh_image_synced : {n end : ℕ} {x : IndexSet} {a b c d : ℕ → ℕ} {lb lc ld : ℕ → Type 0} {done synced : Type 0}
+    {bytes : List ℕ} → IsFreshTo n x end a → Still a b lb → Writes 0 bytes done b c lb lc → Syncs synced c d lc ld
+    → length bytes ≡ 4096 → (image : ℕ → ℕ) → IsImage d ld image → IsFreshTo n x end image
+fresh_image_synced fresh still writes again long image is =
+    fresh_image fresh still writes long image (record {
       same = λ p firm. is.same p (λ l. firm (again.loosens p l)) ∙ again.outside p firm;
     })
 

@@ -8,6 +8,7 @@ use Rattle.enc_model.specs.Indexes.{IndexSet}
 use Rattle.enc_index.specs.Area.{area_byte}
 use Rattle.spool_disk.specs.Disk.{IsImage, Writes, Syncs}
 use Rattle.spool_journal.specs.Image.{byte_of, all_pages}
+use Rattle.spool_journal.specs.Phases.{Still}
 use Rattle.spool_journal.proofs.Steps.{span_at}
 use Rattle.spool_pages.specs.View.{index_place, state_place, first_page, state_page}
 use Rattle.spool_load.proofs.Looks.{length-state}
@@ -58,21 +59,25 @@ fresh_more {seen = seen} {seen' = seen'} n x page bytes was writes done long her
   ];
 }
 
+-- behind a sync that succeeded the bytes are the same, and none is loose
+pub synced_still : {a b : ℕ → ℕ} {la lb : ℕ → Type 0} {synced : Type 0} → Syncs synced a b la lb → synced
+    → Still a b lb
+synced_still syncs done = record { reads = syncs.same done; firm = syncs.firm done }
+
 -- the first page before them
-pub fresh_all : {a b c d : ℕ → ℕ} {la lb lc ld : ℕ → Type 0} {synced done synced' : Type 0} (n : ℕ) (x : IndexSet)
-    (bytes : List ℕ) → Syncs synced a b la lb → synced → Writes 0 bytes done b c lb lc → done → Syncs synced' c d lc ld
-    → synced' → length bytes ≡ 4096 → ((i : ℕ) → get_or bytes i 0 ≡ get_or (first_page n) i 0)
-    → IsFreshTo n x (4096 * all_pages n) a → IsFresh n x d
-fresh_all {a = a} {b = b} {c = c} {d = d} n x bytes first one writes two second three long is was = record {
+pub fresh_all : {a b c d : ℕ → ℕ} {lb lc ld : ℕ → Type 0} {done : Type 0} (n : ℕ) (x : IndexSet) (bytes : List ℕ)
+    → Still a b lb → Writes 0 bytes done b c lb lc → done → Still c d ld → length bytes ≡ 4096
+    → ((i : ℕ) → get_or bytes i 0 ≡ get_or (first_page n) i 0) → IsFreshTo n x (4096 * all_pages n) a → IsFresh n x d
+fresh_all {c = c} n x bytes first writes two second long is was = record {
   front = λ i lt.
       let at : 0 + i ≡ i = omega arith in
       let there : c i ≡ get_or bytes i 0 =
       subst (λ (q : ℕ). c q ≡ get_or bytes i 0) at
       (span_at c 0 bytes i (writes.inside two) (omega (arith, long, lt))) in
-      second.same three i ∙ there ∙ is i;
+      second.reads i ∙ there ∙ is i;
   behind = record {
-    each = λ p from below. second.same three p ∙ writes.outside p (λ within. omega (arith, within.below, from, long))
-        ∙ first.same one p ∙ was.each p from below;
+    each = λ p from below. second.reads p ∙ writes.outside p (λ within. omega (arith, within.below, from, long))
+        ∙ first.reads p ∙ was.each p from below;
   };
 }
 
