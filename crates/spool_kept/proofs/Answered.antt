@@ -1,5 +1,6 @@
 -- What is kept tells of the uploads that a view shows.
-use Rattle.std.proofs.Common.{◌≡◌, inl, inr, ℕ, ◌+◌, ◌*◌, ◌<◌, ◌≤◌, List, [], Option, None, Some, MatchOption, length, get_or, refl, sym, ◌∙◌, ap, subst, arith}
+use Rattle.std.proofs.Common.{◌≡◌, inl, inr, ℕ, ◌+◌, ◌*◌, ◌<◌, ◌≤◌, List, [], Option, None, Some, MatchOption, length}
+use Rattle.std.proofs.Common.{get_or, refl, sym, ◌∙◌, ap, subst, arith}
 use Rattle.std.proofs.lemmas.Bool.{cases_lt, cases_eq}
 use Rattle.std.proofs.lemmas.Option.{same_Some}
 use Rattle.enc_model.specs.Indexes.{IndexSet}
@@ -24,10 +25,12 @@ use Rattle.spool_kept.proofs.Told.{keeps}
 pub kept_none : (x : IndexSet) (n : ℕ) (o : Option Upload) → o ≡ None → KeepsOf x n o None
 kept_none x n o e = subst (λ (p : Option Upload). KeepsOf x n p None) (sym e) tt
 
-pub kept_some : (x : IndexSet) (n : ℕ) (o : Option Upload) (u : Upload) (r : Record) → o ≡ Some u → Keeps x n r u → KeepsOf x n o (Some r)
+pub kept_some : (x : IndexSet) (n : ℕ) (o : Option Upload) (u : Upload) (r : Record) → o ≡ Some u → Keeps x n r u
+    → KeepsOf x n o (Some r)
 kept_some x n o u r e k = subst (λ (p : Option Upload). KeepsOf x n p (Some r)) (sym e) k
 
-pub kept_tells : (x : IndexSet) (n : ℕ) (o : Option Upload) (r : Option Record) → KeepsOf x n o r → TellsOf x (with_number n o) r
+pub kept_tells : (x : IndexSet) (n : ℕ) (o : Option Upload) (r : Option Record) → KeepsOf x n o r
+    → TellsOf x (with_number n o) r
 kept_tells x n None None k = tt
 kept_tells x n (Some u) (Some r) k = k.tells
 kept_tells x n None (Some r) k = absurd k
@@ -40,7 +43,8 @@ match_is_none P (Some a) e x = absurd (some_none e)
     some_none : {A : Type 0} {a : A} → Some a ≡ None → ⊥
     some_none e = cc
 
-pub text_there : (m : Store) (o : Option Upload) (u : Upload) (text : List ℕ) → o ≡ Some u → text ≡ text_of m.indexes u → (no_such o ≡ None) × (text_at m o ≡ text)
+pub text_there : (m : Store) (o : Option Upload) (u : Upload) (text : List ℕ) → o ≡ Some u → text ≡ text_of m.indexes u
+    → (no_such o ≡ None) × (text_at m o ≡ text)
 text_there m None u text there is = absurd cc
 text_there m (Some w) u text there is = (refl, ap (text_of m.indexes) (same_Some w u there) ∙ sym is)
 
@@ -51,7 +55,8 @@ pub same_used : {q r : SlotRecord} {o : Option SlotRecord} → o ≡ Some q → 
 same_used e f = cc
 
 -- the slot of a number, by the order
-pub used_of : (h : Holding) → FitsTogether h → (number : ℕ) (o : Option ℕ) → MatchOption o ((s : ℕ) → Lists h.order number s → ⊥) (Lists h.order number)
+pub used_of : (h : Holding) → FitsTogether h → (number : ℕ) (o : Option ℕ)
+    → MatchOption o ((s : ℕ) → Lists h.order number s → ⊥) (Lists h.order number)
     → MatchOption o ((s : ℕ) → IsUsedBy h.slots s number → ⊥) (λ s. IsUsedBy h.slots s number)
 used_of h fits number None free = λ s used.
     let lt : s < 512 = let inside = in_use h.slots s used.used used.there in omega (arith, inside, fits.slot_count) in
@@ -76,28 +81,42 @@ module _ (h : Holding) (v : View) (m : Store) (kept : KeepsView h v) (shows : Sh
             is = has.number;
           }))
 
-  pub found : (s : ℕ) (q : SlotRecord) (n : ℕ) → get_or h.slots s None ≡ Some q → q.number ≡ n → (r : Record) → said_of r ≡ q → IsUnpacked r → (u : Upload) × (upload_of m n ≡ Some u) × Keeps m.indexes n r u
+  pub found : (s : ℕ) (q : SlotRecord) (n : ℕ) → get_or h.slots s None ≡ Some q → q.number ≡ n → (r : Record)
+      → said_of r ≡ q → IsUnpacked r → (u : Upload) × (upload_of m n ≡ Some u) × Keeps m.indexes n r u
   found s q n e number r said unpacked =
-      let told = shows.told s q (slot_there s q e) in
-      (told.upload, subst (λ (k : ℕ). find k m.uploads ≡ Some told.upload) number told.there, keeps m.indexes q (v.texts s) told.upload told.tells r said unpacked n number)
+      let told = shows.told s q (slot_there s q e) in (
+        told.upload,
+        subst (λ (k : ℕ). find k m.uploads ≡ Some told.upload) number told.there,
+        keeps m.indexes q
+            (v.texts s) told.upload told.tells r said unpacked n number,
+      )
 
   -- the text on a slot's blocks is its upload's
-  pub text_told : (bytes : ℕ → ℕ) → Says bytes v → (s : ℕ) (q : SlotRecord) (n : ℕ) → get_or h.slots s None ≡ Some q → q.number ≡ n
-      → (u : Upload) → upload_of m n ≡ Some u → text_on bytes (25 + 2 * journal_pages h.layout) (get_or h.lists s []) q.text_len ≡ text_of m.indexes u
+  pub text_told : (bytes : ℕ → ℕ) → Says bytes v → (s : ℕ) (q : SlotRecord) (n : ℕ) → get_or h.slots s None ≡ Some q
+      → q.number ≡ n
+      → (u : Upload) → upload_of m n ≡ Some u → text_on bytes (25 + 2 * journal_pages h.layout) (get_or h.lists s [])
+      q.text_len ≡ text_of m.indexes u
   text_told bytes says s q n e number u found_there =
       let there = slot_there s q e in
       let told = shows.told s q there in
       let list = get_or h.lists s [] in
-      let upload : upload_of m n ≡ Some told.upload = subst (λ (k : ℕ). find k m.uploads ≡ Some told.upload) number told.there in
-      let same : text_on bytes (text_page v.blocks) list q.text_len ≡ text_of m.indexes told.upload = shown bytes (text_page v.blocks) v.rows s q.text_len list (kept.listed s q there) (kept.sizes s q there) ∙ sym (says.texts s q there) ∙ told.tells.text in
-      let here : text_on bytes (25 + 2 * journal_pages h.layout) list q.text_len ≡ text_of m.indexes told.upload = subst (λ (b : ℕ). text_on bytes (25 + 2 * journal_pages b) list q.text_len ≡ text_of m.indexes told.upload) (sym kept.blocks) same in
+      let upload : upload_of m n ≡ Some told.upload =
+      subst (λ (k : ℕ). find k m.uploads ≡ Some told.upload) number told.there in
+      let same : text_on bytes (text_page v.blocks) list q.text_len ≡ text_of m.indexes told.upload =
+      shown bytes (text_page v.blocks) v.rows s q.text_len list (kept.listed s q there) (kept.sizes s q there)
+      ∙ sym (says.texts s q there) ∙ told.tells.text in
+      let here : text_on bytes (25 + 2 * journal_pages h.layout) list q.text_len ≡ text_of m.indexes told.upload =
+      subst (λ (b : ℕ). text_on bytes (25 + 2 * journal_pages b) list q.text_len ≡ text_of m.indexes told.upload)
+      (sym kept.blocks) same in
       here ∙ ap (text_of m.indexes) (same_Some told.upload u (sym upload ∙ found_there))
 
   -- each upload stands in the order
-  pub listed : (j : ℕ) (w : Upload) → find j m.uploads ≡ Some w → (i : ℕ) × (i < length h.order) × (number_at h.order i ≡ j)
+  pub listed : (j : ℕ) (w : Upload) → find j m.uploads ≡ Some w
+      → (i : ℕ) × (i < length h.order) × (number_at h.order i ≡ j)
   listed j w e =
       let has = shows.all j w e in
-      let lt : has.slot < 512 = let inside = in_use v.slots has.slot has.used has.there in omega (arith, inside, shows.sound.slot_count) in
+      let lt : has.slot < 512 = let inside =
+      in_use v.slots has.slot has.used has.there in omega (arith, inside, shows.sound.slot_count) in
       let l = kept.ordered.all has.slot has.used lt has.there in
       (l.place, l.below, ap (λ (p : NumberedSlot). p.number) l.here ∙ has.number)
 
@@ -111,7 +130,8 @@ module _ (h : Holding) (v : View) (m : Store) (kept : KeepsView h v) (shows : Sh
         omega (arith, up, at.2, over))
         shows.rising
 
-    pub some_after : (k s : ℕ) → place < length h.order → get_or h.order place (numbered 0 0) ≡ numbered k s → (u : Upload) → upload_of m k ≡ Some u → above n m.uploads ≡ Some (k, u)
+    pub some_after : (k s : ℕ) → place < length h.order → get_or h.order place (numbered 0 0) ≡ numbered k s
+        → (u : Upload) → upload_of m k ≡ Some u → above n m.uploads ≡ Some (k, u)
     some_after k s lt e u there =
         let here : number_at h.order place ≡ k = ap (λ (p : NumberedSlot). p.number) e in
         let more = is.behind place (omega arith) lt in
@@ -121,13 +141,20 @@ module _ (h : Holding) (v : View) (m : Store) (kept : KeepsView h v) (shows : Sh
         elim (cases_lt at.0 place) [
           | inl low ↦ let up = is.before at.0 low in absurd (omega (arith, up, at.2, over))
           | inr high ↦ elim (cases_eq at.0 place) [
-            | inl same ↦ let e' : number_at h.order at.0 ≡ number_at h.order place = ap (number_at h.order) same in omega (arith, e', here, at.2)
-            | inr other ↦ let less = kept.ordered.rises place at.0 (omega (arith, high, other)) inside in omega (arith, less, here, at.2)
+            | inl same ↦ let e' : number_at h.order at.0 ≡ number_at h.order place =
+                ap (number_at h.order) same in omega (arith, e', here, at.2)
+            | inr other ↦ let less = kept.ordered.rises place at.0 (omega (arith, high, other)) inside in omega
+                (arith, less, here, at.2)
           ]
         ])
 
     -- the entry names a slot in use
-    pub named : (k s : ℕ) → place < length h.order → get_or h.order place (numbered 0 0) ≡ numbered k s → IsUsedBy h.slots s k
+    pub named : (k s : ℕ) → place < length h.order → get_or h.order place (numbered 0 0) ≡ numbered k s
+        → IsUsedBy h.slots s k
     named k s lt e =
         let used = kept.ordered.names k s (record { place = place; below = lt; here = e }) in
-        record { used = used.used; there = ap (λ (xs : List (Option SlotRecord)). get_or xs s None) kept.slots ∙ used.there; is = used.is }
+        record {
+          used = used.used;
+          there = ap (λ (xs : List (Option SlotRecord)). get_or xs s None) kept.slots ∙ used.there;
+          is = used.is;
+        }

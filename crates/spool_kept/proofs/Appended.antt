@@ -1,5 +1,6 @@
 -- A view with a longer upload's record shows the store with the longer upload.
-use Rattle.std.proofs.Common.{◌≡◌, ◌≢◌, inl, inr, ℕ, ◌^◌, ◌<◌, List, Option, None, Some, length, get_or, refl, sym, ◌∙◌, ap, subst}
+use Rattle.std.proofs.Common.{◌≡◌, ◌≢◌, inl, inr, ℕ, ◌^◌, ◌<◌, List, Option, None, Some, length, get_or, refl, sym, ◌∙◌}
+use Rattle.std.proofs.Common.{ap, subst}
 use Rattle.std.proofs.lemmas.Bool.{cases_eq}
 use Rattle.std.proofs.lemmas.List.{length-set}
 use Rattle.upload_rules.specs.Store.{Upload, Store, find, replaced, with_bytes, appended_to, appended_store}
@@ -15,20 +16,23 @@ use Rattle.spool_kept.proofs.ChangedSlots.{one_value, slot_here, slot_else, slot
 use Rattle.spool_kept.proofs.Entries.{numbers_replaced}
 
 -- a record tells of the upload that has its number
-pub told_upload : (v : View) (m : Store) → Shows v m → (s : ℕ) (r : SlotRecord) → slot_at v s ≡ Some r → (u : Upload) → find r.number m.uploads ≡ Some u → IsRecordOf m.indexes r (v.texts s) u
+pub told_upload : (v : View) (m : Store) → Shows v m → (s : ℕ) (r : SlotRecord) → slot_at v s ≡ Some r → (u : Upload)
+    → find r.number m.uploads ≡ Some u → IsRecordOf m.indexes r (v.texts s) u
 told_upload v m shows s r there u found =
     let told = shows.told s r there in
     subst (IsRecordOf m.indexes r (v.texts s)) (one_value told.there found) told.tells
 
 -- other rows of the other slots' blocks give those the same blocks
-pub others_listed : (old new : List Row) (slot t n : ℕ) → SameOthers slot old new → t ≢ slot → OwnsOneEach old t n → OwnsOneEach new t n
+pub others_listed : (old new : List Row) (slot t n : ℕ) → SameOthers slot old new → t ≢ slot → OwnsOneEach old t n
+    → OwnsOneEach new t n
 others_listed old new slot t n others other one = record {
   there = λ i lt. let own = one.there i lt in (own.0, others.still own.0 t i other own.1);
   once = λ a b i owns more. one.once a b i (others.before a t i other owns) (others.before b t i other more);
   only = λ b i owns. one.only b i (others.before b t i other owns);
 }
 
-module _ (v : View) (m : Store) (shows : Shows v m) (s : ℕ) (r r' : SlotRecord) (there : slot_at v s ≡ Some r) (number : r'.number ≡ r.number)
+module _ (v : View) (m : Store) (shows : Shows v m) (s : ℕ) (r r' : SlotRecord) (there : slot_at v s ≡ Some r)
+    (number : r'.number ≡ r.number)
     (rows : List Row) (text : List ℕ) where
   inside : s < length v.slots
   inside = in_use v.slots s r there
@@ -40,13 +44,20 @@ module _ (v : View) (m : Store) (shows : Shows v m) (s : ℕ) (r r' : SlotRecord
   other_number : (t : ℕ) (q : SlotRecord) → t ≢ s → slot_at v t ≡ Some q → q.number ≢ r.number
   other_number t q other e same = other (shows.sound.distinct t s q r e there same)
 
-  used_still : (t : ℕ) (q : SlotRecord) → slot_at v t ≡ Some q → (p : SlotRecord) × (slot_at (appended_view v s r' rows text) t ≡ Some p) × (p.number ≡ q.number)
+  used_still : (t : ℕ) (q : SlotRecord) → slot_at v t ≡ Some q
+      → (p : SlotRecord) × (slot_at (appended_view v s r' rows text) t ≡ Some p) × (p.number ≡ q.number)
   used_still t q e = elim (cases_eq t s) [
-    | inl same ↦ (r', ap (slot_at (appended_view v s r' rows text)) same ∙ slot_here v.slots s r' inside, number ∙ number_is (one_value there (ap (slot_at v) (sym same) ∙ e)))
+    | inl same ↦ (
+      r',
+      ap (slot_at (appended_view v s r' rows text)) same ∙ slot_here v.slots s r' inside,
+      number
+          ∙ number_is (one_value there (ap (slot_at v) (sym same) ∙ e)),
+    )
     | inr other ↦ (q, slot_else v.slots s r' t other ∙ e, refl)
   ]
 
-  appended_sound : IsSoundRecord m.next r' → length rows ≡ length v.rows → SameOthers s v.rows rows → OwnsOneEach rows s (blocks_of r'.text_len) → ((b i : ℕ) → Owns rows b s i → i < 2 ^ 32)
+  appended_sound : IsSoundRecord m.next r' → length rows ≡ length v.rows → SameOthers s v.rows rows
+      → OwnsOneEach rows s (blocks_of r'.text_len) → ((b i : ℕ) → Owns rows b s i → i < 2 ^ 32)
       → IsSound (appended_view v s r' rows text)
   appended_sound sound size others one fits = record {
     least = shows.sound.least;
@@ -58,7 +69,8 @@ module _ (v : View) (m : Store) (shows : Shows v m) (s : ℕ) (r r' : SlotRecord
     slot_count = length-set v.slots s (Some r') ∙ shows.sound.slot_count;
     row_count = size ∙ shows.sound.row_count;
     records = λ t q e. elim (slot_is v.slots s r' t q inside e) [
-      | inl here ↦ subst (IsSoundRecord v.next) (sym here.1) (subst (λ (n : ℕ). IsSoundRecord n r') (sym shows.next) sound)
+      | inl here ↦ subst (IsSoundRecord v.next) (sym here.1)
+          (subst (λ (n : ℕ). IsSoundRecord n r') (sym shows.next) sound)
       | inr old ↦ shows.sound.records t q old.1
     ];
     distinct = λ t k q p e f same. elim (slot_is v.slots s r' t q inside e) [
@@ -84,12 +96,14 @@ module _ (v : View) (m : Store) (shows : Shows v m) (s : ℕ) (r r' : SlotRecord
           record { used = owned.used; there = slot_else v.slots s r' slot other ∙ owned.there; fits = owned.fits }
     ];
     lists = λ t q e. elim (slot_is v.slots s r' t q inside e) [
-      | inl here ↦ subst (λ (k : ℕ). OwnsOneEach rows k (blocks_of q.text_len)) (sym here.0) (subst (λ (x : SlotRecord). OwnsOneEach rows s (blocks_of x.text_len)) (sym here.1) one)
+      | inl here ↦ subst (λ (k : ℕ). OwnsOneEach rows k (blocks_of q.text_len)) (sym here.0)
+          (subst (λ (x : SlotRecord). OwnsOneEach rows s (blocks_of x.text_len)) (sym here.1) one)
       | inr old ↦ others_listed v.rows rows s t (blocks_of q.text_len) others old.0 (shows.sound.lists t q old.1)
     ];
   }
 
-  module _ (u : Upload) (bytes : List ℕ) (found : find r.number m.uploads ≡ Some u) (is : IsRecordOf m.indexes r' text (with_bytes u bytes)) where
+  module _ (u : Upload) (bytes : List ℕ) (found : find r.number m.uploads ≡ Some u)
+      (is : IsRecordOf m.indexes r' text (with_bytes u bytes)) where
     changed : Store
     changed = record m { uploads = replaced r.number (with_bytes u bytes) m.uploads }
 
@@ -97,9 +111,11 @@ module _ (v : View) (m : Store) (shows : Shows v m) (s : ℕ) (r r' : SlotRecord
     unfolding changed
     told_new t q at same = record {
       upload = with_bytes u bytes;
-      there = ap (λ (n : ℕ). find n (replaced r.number (with_bytes u bytes) m.uploads)) (number_is same ∙ number) ∙ find_replaced_same r.number u (with_bytes u bytes) m.uploads found;
+      there = ap (λ (n : ℕ). find n (replaced r.number (with_bytes u bytes) m.uploads)) (number_is same ∙ number)
+          ∙ find_replaced_same r.number u (with_bytes u bytes) m.uploads found;
       tells = subst (λ (x : SlotRecord). IsRecordOf m.indexes x (texts_with v s text t) (with_bytes u bytes)) (sym same)
-          (subst (λ (shown : List ℕ). IsRecordOf m.indexes r' shown (with_bytes u bytes)) (sym (text_here v s text t at)) is);
+          (subst (λ (shown : List ℕ). IsRecordOf m.indexes r' shown (with_bytes u bytes))
+          (sym (text_here v s text t at)) is);
     }
 
     told_still : (t : ℕ) (q : SlotRecord) → t ≢ s → slot_at v t ≡ Some q → IsTold changed q (texts_with v s text t)
@@ -108,11 +124,14 @@ module _ (v : View) (m : Store) (shows : Shows v m) (s : ℕ) (r r' : SlotRecord
         let told = shows.told t q e in
         record {
           upload = told.upload;
-          there = find_replaced_other r.number q.number (with_bytes u bytes) m.uploads (λ same. other_number t q other e (sym same)) ∙ told.there;
-          tells = subst (λ (shown : List ℕ). IsRecordOf m.indexes q shown told.upload) (sym (text_else v s text t other)) told.tells;
+          there = find_replaced_other r.number q.number (with_bytes u bytes) m.uploads
+              (λ same. other_number t q other e (sym same)) ∙ told.there;
+          tells = subst (λ (shown : List ℕ). IsRecordOf m.indexes q shown told.upload)
+              (sym (text_else v s text t other)) told.tells;
         }
 
-    all_still : (n : ℕ) (w : Upload) → find n (replaced r.number (with_bytes u bytes) m.uploads) ≡ Some w → HasSlot (appended_view v s r' rows text) n
+    all_still : (n : ℕ) (w : Upload) → find n (replaced r.number (with_bytes u bytes) m.uploads) ≡ Some w
+        → HasSlot (appended_view v s r' rows text) n
     all_still n w e = elim (cases_eq r.number n) [
       | inl same ↦ record { slot = s; used = r'; there = slot_here v.slots s r' inside; number = number ∙ same }
       | inr other ↦
@@ -121,23 +140,32 @@ module _ (v : View) (m : Store) (shows : Shows v m) (s : ℕ) (r r' : SlotRecord
           record { slot = has.slot; used = used.0; there = used.1; number = used.2 ∙ has.number }
     ]
 
-    pub appended_shows : IsSoundRecord m.next r' → length rows ≡ length v.rows → SameOthers s v.rows rows → OwnsOneEach rows s (blocks_of r'.text_len) → ((b i : ℕ) → Owns rows b s i → i < 2 ^ 32)
+    pub appended_shows : IsSoundRecord m.next r' → length rows ≡ length v.rows → SameOthers s v.rows rows
+        → OwnsOneEach rows s (blocks_of r'.text_len) → ((b i : ℕ) → Owns rows b s i → i < 2 ^ 32)
         → Shows (appended_view v s r' rows text) (appended_store m r.number bytes)
     unfolding changed
-    appended_shows sound size others one fits = subst (λ (o : Option Upload). Shows (appended_view v s r' rows text) (appended_to m r.number bytes o)) (sym found) (record {
-      sound = appended_sound sound size others one fits;
-      next = shows.next;
-      indexes = shows.indexes;
-      rising = subst IsRising (sym (numbers_replaced r.number (with_bytes u bytes) m.uploads)) shows.rising;
-      told = λ t q e. elim (slot_is v.slots s r' t q inside e) [ inl here ↦ told_new t q here.0 here.1 | inr old ↦ told_still t q old.0 old.1 ];
-      all = all_still;
-    })
+    appended_shows sound size others one fits =
+        subst (λ (o : Option Upload). Shows (appended_view v s r' rows text) (appended_to m r.number bytes o))
+        (sym found) (record {
+          sound = appended_sound sound size others one fits;
+          next = shows.next;
+          indexes = shows.indexes;
+          rising = subst IsRising (sym (numbers_replaced r.number (with_bytes u bytes) m.uploads)) shows.rising;
+          told = λ t q e. elim (slot_is v.slots s r' t q inside e)
+              [ inl here ↦ told_new t q here.0 here.1 | inr old ↦ told_still t q old.0 old.1 ];
+          all = all_still;
+        })
 
     -- where no text is added its rows stay
-    pub append_without_text : IsSoundRecord m.next r' → rows ≡ v.rows → r'.text_len ≡ r.text_len → Shows (appended_view v s r' rows text) (appended_store m r.number bytes)
+    pub append_without_text : IsSoundRecord m.next r' → rows ≡ v.rows → r'.text_len ≡ r.text_len
+        → Shows (appended_view v s r' rows text) (appended_store m r.number bytes)
     append_without_text sound same len =
-        appended_shows sound (ap length same) record { still = λ b t i other owns. ap (λ (x : List Row). get_or x b None) same ∙ owns; before = λ b t i other owns. along b same owns }
-        (subst (λ (n : ℕ). OwnsOneEach rows s (blocks_of n)) (sym len) (subst (λ (x : List Row). OwnsOneEach x s (blocks_of r.text_len)) (sym same) (shows.sound.lists s r there)))
+        appended_shows sound (ap length same) record {
+          still = λ b t i other owns. ap (λ (x : List Row). get_or x b None) same ∙ owns;
+          before = λ b t i other owns. along b same owns;
+        }
+        (subst (λ (n : ℕ). OwnsOneEach rows s (blocks_of n)) (sym len)
+        (subst (λ (x : List Row). OwnsOneEach x s (blocks_of r.text_len)) (sym same) (shows.sound.lists s r there)))
         (λ b i owns. (shows.sound.owners b s i (along b same owns)).fits)
       where
         along : {a c : List Row} {t i : ℕ} (b : ℕ) → a ≡ c → Owns a b t i → Owns c b t i

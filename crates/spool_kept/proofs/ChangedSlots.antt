@@ -1,5 +1,6 @@
 -- A changed slot of a view.
-use Rattle.std.proofs.Common.{◌≡◌, ◌≢◌, inl, inr, ◌⊎◌, ℕ, ◌<◌, ◌≤◌, List, Option, None, Some, length, get_or, set, refl, sym, ◌∙◌, ap, arith, eq-eqb}
+use Rattle.std.proofs.Common.{◌≡◌, ◌≢◌, inl, inr, ◌⊎◌, ℕ, ◌<◌, ◌≤◌, List, Option, None, Some, length, get_or, set, refl}
+use Rattle.std.proofs.Common.{sym, ◌∙◌, ap, arith, eq-eqb}
 use Rattle.std.proofs.lemmas.Bool.{cases_eq, cases_lt, ne_eqb}
 use Rattle.std.proofs.lemmas.List.{get_or-set_other, get_or-set_same}
 use Rattle.std.proofs.lemmas.Option.{same_Some}
@@ -24,13 +25,15 @@ module _ (slots : List (Option SlotRecord)) (slot : ℕ) (r : SlotRecord) where
   slot_else s other = get_or-set_other slots slot s (Some r) None other
 
   -- a record of the changed slots is the new one, or was there in another slot
-  pub slot_is : (s : ℕ) (q : SlotRecord) → slot < length slots → get_or (set slots slot (Some r)) s None ≡ Some q → ((s ≡ slot) × (q ≡ r)) ⊎ ((s ≢ slot) × (get_or slots s None ≡ Some q))
+  pub slot_is : (s : ℕ) (q : SlotRecord) → slot < length slots → get_or (set slots slot (Some r)) s None ≡ Some q
+      → ((s ≡ slot) × (q ≡ r)) ⊎ ((s ≢ slot) × (get_or slots s None ≡ Some q))
   slot_is s q lt e = elim (cases_eq s slot) [
     | inl same ↦ inl (same, one_value e (ap (λ k. get_or (set slots slot (Some r)) k None) same ∙ slot_here lt))
     | inr other ↦ inr (other, sym (slot_else s other) ∙ e)
   ]
 
-pub in_use : (slots : List (Option SlotRecord)) (s : ℕ) (r : SlotRecord) → get_or slots s None ≡ Some r → s < length slots
+pub in_use : (slots : List (Option SlotRecord)) (s : ℕ) (r : SlotRecord) → get_or slots s None ≡ Some r
+    → s < length slots
 in_use slots s r e = elim (cases_lt s (length slots)) [
   | inl lt ↦ lt
   | inr over ↦ clash (get_or-eq_default slots None over) e
@@ -44,4 +47,5 @@ text_else v slot text s other = rw (ne_eqb s slot other) refl
 
 -- a record that was sound is so with a greater next number
 pub sound_more : {next next' : ℕ} {r : SlotRecord} → next ≤ next' → IsSoundRecord next r → IsSoundRecord next' r
-sound_more {next' = next'} {r = r} more is = let below : r.number < next' = omega (arith, is.below, more) in assumption (below, is)
+sound_more {next' = next'} {r = r} more is = let below : r.number < next' =
+    omega (arith, is.below, more) in assumption (below, is)

@@ -1,5 +1,7 @@
 -- A draft whose text has ended: why it isn't put behind its upload's, and that it may be.
-use Rattle.std.proofs.Common.{Result, Err, IfOk, ◌≡◌, inl, inr, ℕ, ◌<◌, ◌≤◌, ◌+◌, ◌-◌, ◌*◌, ◌/◌, ◌^◌, ◌==◌, Bool, true, false, List, Option, None, Some, length, get_or, set, min, refl, sym, ◌∙◌, ap, subst, arith}
+use Rattle.std.proofs.Common.{Result, Err, IfOk, ◌≡◌, inl, inr, ℕ, ◌<◌, ◌≤◌, ◌+◌, ◌-◌, ◌*◌, ◌/◌, ◌^◌, ◌==◌, Bool, true}
+use Rattle.std.proofs.Common.{false, List, Option, None, Some, length, get_or, set, min, refl, sym, ◌∙◌, ap, subst}
+use Rattle.std.proofs.Common.{arith}
 use Rattle.std.proofs.lemmas.Bool.{cases_lt}
 use Rattle.std.proofs.lemmas.List.{get_or_past}
 use Rattle.enc_model.specs.Indexes.{IndexSet}
@@ -8,7 +10,8 @@ use Rattle.spool_disk.specs.declared.disk.Disk.{Ghosts}
 use Rattle.spool_disk.specs.Views.{Lasts}
 use Rattle.spool_disk.proofs.Firm.{lasts_more}
 use Rattle.spool_journal.specs.Image.{journal_pages}
-use Rattle.spool_drafts.specs.Drafts.{EndsAs, EndsBehind, Holds, Carries, IsPlaced, IsWhole, committed_len_of, list_of, tail_of, offset_of, came_of, open_text}
+use Rattle.spool_drafts.specs.Drafts.{EndsAs, EndsBehind, Holds, Carries, IsPlaced, IsWhole, committed_len_of, list_of}
+use Rattle.spool_drafts.specs.Drafts.{tail_of, offset_of, came_of, open_text}
 use Rattle.spool_drafts.specs.Effect.{Effect, RunsShort}
 use Rattle.spool_drafts.specs.declared.draft.DraftEnd.{DraftEnd}
 use Rattle.spool_drafts.specs.declared.draft.SpoolDraft.{SpoolDraft}
@@ -41,23 +44,34 @@ use Rattle.spool_kept.proofs.DraftLonger.{fit_longer, holds_all, lacks, moved, s
 use Rattle.spool_kept.proofs.Drafted.{IsChanged, changed_in}
 
 -- other reserved blocks
-pub only_blocks : (h : Holding) (blocks : Held) → blocks.rows ≡ h.blocks.rows → OnlyReserves h (record h { blocks = blocks })
+pub only_blocks : (h : Holding) (blocks : Held) → blocks.rows ≡ h.blocks.rows
+    → OnlyReserves h (record h { blocks = blocks })
 only_blocks h blocks rows = record { same = refl; rows = rows }
 
 -- the slot's upload may become what the text of a draft that is behind it ends in
-pub may : (h : Holding) (slot accepted : ℕ) (list : List ℕ) (end : DraftEnd) (used : SlotRecord) → get_or h.slots slot None ≡ Some used → EndsBehind used.text_len used.state list end
+pub may : (h : Holding) (slot accepted : ℕ) (list : List ℕ) (end : DraftEnd) (used : SlotRecord)
+    → get_or h.slots slot None ≡ Some used → EndsBehind used.text_len used.state list end
     → MayExtend h (record { slot = slot; accepted = accepted; text_len = end.text_len; state = end.state }) list
-may h slot accepted list end used there ends = record { used = used; there = there; state = ends.same; same = ends.nothing; blocks = ends.blocks }
+may h slot accepted list end used there ends = record {
+  used = used;
+  there = there;
+  state = ends.same;
+  same = ends.nothing;
+  blocks = ends.blocks;
+}
 
 -- what the draft began behind is placed as it was
-pub placed_still : (n : ℕ) (o o' : SpoolDraft) → committed_len_of o' ≡ committed_len_of o → tail_of o' ≡ tail_of o → IsPlaced n o → IsPlaced n o'
+pub placed_still : (n : ℕ) (o o' : SpoolDraft) → committed_len_of o' ≡ committed_len_of o → tail_of o' ≡ tail_of o
+    → IsPlaced n o → IsPlaced n o'
 placed_still n o o' len tail is = record {
   below = subst (AllBelow n) (sym tail) is.below;
   few = omega (arith, len, is.few);
 }
 
-module _ {D : Type 0} (disk : Ghosts D) (d d' : D) (h h' : Holding) (only : OnlyReserves h h') (drafts : List (Option SpoolDraft)) (number : ℕ) (o o' : SpoolDraft) (w : World) (p : Patch)
-    (is : IsCommit disk d h drafts number o w p) (effect : Effect disk (journal_pages h.layout) (list_of o) (list_of o') d d' h.blocks h'.blocks) where
+module _ {D : Type 0} (disk : Ghosts D) (d d' : D) (h h' : Holding) (only : OnlyReserves h h')
+    (drafts : List (Option SpoolDraft)) (number : ℕ) (o o' : SpoolDraft) (w : World) (p : Patch)
+    (is : IsCommit disk d h drafts number o w p)
+    (effect : Effect disk (journal_pages h.layout) (list_of o) (list_of o') d d' h.blocks h'.blocks) where
   abbrev first : ℕ
   first = 25 + 2 * journal_pages h.layout
 
@@ -68,12 +82,14 @@ module _ {D : Type 0} (disk : Ghosts D) (d d' : D) (h h' : Holding) (only : Only
   x = w.store.indexes
 
   unowned : Unowned s.view.rows effect.own
-  unowned i lt = ap (λ (r : List Row). get_or r (get_or effect.own i 0) None) (sym (effect.grasp.takes.rows ∙ s.keeps.rows)) ∙ effect.grasp.reserved.no_owner i lt
+  unowned i lt = ap (λ (r : List Row). get_or r (get_or effect.own i 0) None)
+      (sym (effect.grasp.takes.rows ∙ s.keeps.rows)) ∙ effect.grasp.reserved.no_owner i lt
 
   -- THE DISK
 
   pub stored_after : (disk.honest d → disk.honest d') → Stored disk d' h' w.store
-  stored_after honest = moved disk d d' h h' w.store h.layout s only (honest s.honest) effect.own unowned refl (effect.writes s.honest).writes
+  stored_after honest = moved disk d d' h h' w.store h.layout s only (honest s.honest) effect.own unowned refl
+      (effect.writes s.honest).writes
 
   pub quiet_after : Lasts disk d d' (λ image. ImageShows h.layout image w.store)
   quiet_after = lasts_more (effect.writes s.honest).lasts (λ image is'. record {
@@ -85,9 +101,11 @@ module _ {D : Type 0} (disk : Ghosts D) (d d' : D) (h h' : Holding) (only : Only
 
   -- THE DRAFT
 
-  pub own_draft : DraftStands w.store.indexes (disk.seen d) (25 + 2 * journal_pages h.layout) h.slots h.blocks.rows w.store p o
+  pub own_draft : DraftStands w.store.indexes (disk.seen d) (25 + 2 * journal_pages h.layout) h.slots h.blocks.rows
+      w.store p o
   own_draft =
-      let R = DraftStands w.store.indexes (disk.seen d) (25 + 2 * journal_pages h.layout) h.slots h.blocks.rows w.store in
+      let R = DraftStands w.store.indexes (disk.seen d) (25 + 2 * journal_pages h.layout) h.slots h.blocks.rows
+      w.store in
       let at = draft_of R p (find number w.patches) (draft_at drafts number) is.patch (is.stands.stands.each number) in
       subst (R p) (some_draft at.0 o (sym at.1 ∙ is.here)) at.2
 
@@ -100,21 +118,25 @@ module _ {D : Type 0} (disk : Ghosts D) (d d' : D) (h h' : Holding) (only : Only
     there = ap (λ (xs : List (Option SlotRecord)). get_or xs slot None) (sym s.keeps.slots) ∙ has.there
 
     pub told : IsRecordOf w.store.indexes has.used (s.view.texts slot) p.began
-    told = told_upload s.view w.store s.shows slot has.used there p.began (ap (λ (k : ℕ). find k w.store.uploads) (has.number ∙ held.number) ∙ is.upload)
+    told = told_upload s.view w.store s.shows slot has.used there p.began
+        (ap (λ (k : ℕ). find k w.store.uploads) (has.number ∙ held.number) ∙ is.upload)
 
-    module _ (accepted : ℕ) (sum : accepted ≡ min (offset_of o + came_of o) (2 ^ 64 - 1)) (q : SlotRecord) (q_is : q ≡ has.used) where
+    module _ (accepted : ℕ) (sum : accepted ≡ min (offset_of o + came_of o) (2 ^ 64 - 1)) (q : SlotRecord)
+        (q_is : q ≡ has.used) where
       pub all_came : accepted ≡ reached p
       all_came = omega (arith, sum, held.offset, held.came, held.held, held.within, held.fits)
 
       completes_is : (accepted == q.declared) ≡ completes p
-      completes_is = ap (λ (n : ℕ). n == q.declared) all_came ∙ ap (λ (n : ℕ). reached p == n) (ap (λ (r : SlotRecord). r.declared) q_is ∙ told.declared)
+      completes_is = ap (λ (n : ℕ). n == q.declared) all_came ∙ ap (λ (n : ℕ). reached p == n)
+          (ap (λ (r : SlotRecord). r.declared) q_is ∙ told.declared)
 
       indexes_are : h.indexes ≡ w.store.indexes
       indexes_are = s.keeps.indexes ∙ s.shows.indexes
 
       module _ (result : Result DraftEnd UploadError) where
         -- how the text ended
-        pub ends_as : ((q' : Patch) → Holds h.indexes q' o → 0 < length q'.body → EndsAs h.indexes q' (accepted == q.declared) o o' h.blocks h'.blocks result)
+        pub ends_as : ((q' : Patch) → Holds h.indexes q' o → 0 < length q'.body
+            → EndsAs h.indexes q' (accepted == q.declared) o o' h.blocks h'.blocks result)
             → EndsAs w.store.indexes p (completes p) o o' h.blocks h'.blocks result
         ends_as answer =
             subst (λ (b : Bool). EndsAs w.store.indexes p b o o' h.blocks h'.blocks result) completes_is
@@ -122,19 +144,28 @@ module _ {D : Type 0} (disk : Ghosts D) (d d' : D) (h h' : Holding) (only : Only
             (answer p (subst (λ (y : IndexSet). Holds y p o) (sym indexes_are) held) is.some))
 
         -- and the bytes on its blocks
-        pub ends_on : ((q' : Patch) → disk.honest d → Holds h.indexes q' o → 0 < length q'.body → Carries h.indexes (disk.seen d) (25 + 2 * journal_pages h.layout) q' o
-            → IfOk result (λ e. 1 ≤ length (list_of o') → bytes_with (disk.seen d') (25 + 2 * journal_pages h.layout) (list_of o') e.last.items ≡ open_text h.indexes q' (accepted == q.declared)))
-            → IfOk result (λ e. 1 ≤ length (list_of o') → bytes_with (disk.seen d') (25 + 2 * journal_pages h.layout) (list_of o') e.last.items ≡ open_text w.store.indexes p (completes p))
+        pub ends_on : ((q' : Patch) → disk.honest d → Holds h.indexes q' o → 0 < length q'.body
+            → Carries h.indexes (disk.seen d) (25 + 2 * journal_pages h.layout) q' o
+            → IfOk result (λ e. 1 ≤ length (list_of o') → bytes_with (disk.seen d') (25 + 2 * journal_pages h.layout)
+            (list_of o') e.last.items ≡ open_text h.indexes q' (accepted == q.declared)))
+            → IfOk result (λ e. 1 ≤ length (list_of o') → bytes_with (disk.seen d') (25 + 2 * journal_pages h.layout)
+            (list_of o') e.last.items ≡ open_text w.store.indexes p (completes p))
         ends_on content =
-            let P : IndexSet → Bool → Type 0 = λ y b. IfOk result (λ e. 1 ≤ length (list_of o') → bytes_with (disk.seen d') (25 + 2 * journal_pages h.layout) (list_of o') e.last.items ≡ open_text y p b) in
+            let P : IndexSet → Bool → Type 0 =
+            λ y b. IfOk result (λ e. 1 ≤ length (list_of o') → bytes_with (disk.seen d')
+            (25 + 2 * journal_pages h.layout) (list_of o') e.last.items ≡ open_text y p b) in
             subst (P w.store.indexes) completes_is (subst (λ (y : IndexSet). P y (accepted == q.declared)) indexes_are
-            (content p s.honest (subst (λ (y : IndexSet). Holds y p o) (sym indexes_are) held) is.some (subst (λ (y : IndexSet). Carries y (disk.seen d) (25 + 2 * journal_pages h.layout) p o) (sym indexes_are) (own_draft.carries is.upload))))
+            (content p s.honest (subst (λ (y : IndexSet). Holds y p o) (sym indexes_are) held) is.some
+            (subst (λ (y : IndexSet). Carries y (disk.seen d) (25 + 2 * journal_pages h.layout) p o) (sym indexes_are)
+            (own_draft.carries is.upload))))
 
   -- THE RULES
 
-  module _ (placed : IsPlaced h.layout o') (reserved : IsReserved h'.blocks (list_of o')) (size : length h.blocks.reserved ≡ length h.blocks.rows) where
+  module _ (placed : IsPlaced h.layout o') (reserved : IsReserved h'.blocks (list_of o'))
+      (size : length h.blocks.reserved ≡ length h.blocks.rows) where
     inside : number < length drafts
-    inside = elim (cases_lt number (length drafts)) [ inl lt ↦ lt | inr ge ↦ absurd (let n = get_or_past drafts number None ge in let e = is.here in cc) ]
+    inside = elim (cases_lt number (length drafts))
+        [ inl lt ↦ lt | inr ge ↦ absurd (let n = get_or_past drafts number None ge in let e = is.here in cc) ]
 
     abbrev pub mid : List (Option SpoolDraft)
     mid = set drafts number (Some o')
@@ -143,63 +174,87 @@ module _ {D : Type 0} (disk : Ghosts D) (d d' : D) (h h' : Holding) (only : Only
     changed_mid = changed_in drafts (set drafts number (Some o')) number o' inside refl
 
     pub fit_mid : DraftsHold h.layout h'.blocks (set drafts number (Some o'))
-    fit_mid = fit_longer h.layout h.blocks drafts is.fits number o is.here h'.blocks (set drafts number (Some o')) o' effect.own effect.grasp changed_mid reserved placed
+    fit_mid = fit_longer h.layout h.blocks drafts is.fits number o is.here h'.blocks (set drafts number (Some o')) o'
+        effect.own effect.grasp changed_mid reserved placed
 
-    roomy : (done : Bool) → p.short ≡ false → length (list_of o') ≡ wants w.store.indexes p done → is_short w number p done ≡ false
+    roomy : (done : Bool) → p.short ≡ false → length (list_of o') ≡ wants w.store.indexes p done
+        → is_short w number p done ≡ false
     roomy done =
-        holds_all w (disk.seen d) (disk.seen d') first h.layout h.slots h.blocks h'.blocks drafts (set drafts number (Some o')) is.stands.stands is.fits number o o' is.here effect.own effect.grasp changed_mid
+        holds_all w (disk.seen d) (disk.seen d') first h.layout h.slots h.blocks h'.blocks drafts
+        (set drafts number (Some o')) is.stands.stands is.fits number o o' is.here effect.own effect.grasp
+        changed_mid
         only.rows s.view s.shows s.keeps.rows size fit_mid p done
 
-    short : (done : Bool) → RunsShort h.blocks h'.blocks (list_of o) (wants w.store.indexes p done) → is_short w number p done ≡ true
+    short : (done : Bool) → RunsShort h.blocks h'.blocks (list_of o) (wants w.store.indexes p done)
+        → is_short w number p done ≡ true
     short done =
-        lacks w (disk.seen d) (disk.seen d') first h.layout h.slots h.blocks h'.blocks drafts (set drafts number (Some o')) is.stands.stands is.fits number o o' is.here effect.own effect.grasp changed_mid
+        lacks w (disk.seen d) (disk.seen d') first h.layout h.slots h.blocks h'.blocks drafts
+        (set drafts number (Some o')) is.stands.stands is.fits number o o' is.here effect.own effect.grasp
+        changed_mid
         only.rows s.view s.shows s.keeps.rows size fit_mid p done
 
     stays_short : (done : Bool) → p.short ≡ true → is_short w number p done ≡ true
     unfolding is_short
     stays_short done e = rw e refl
 
-    pub refused : {T : Type 0} (done : T → Type 0) (e : UploadError) → EndsAs w.store.indexes p (completes p) o o' h.blocks h'.blocks (Err e) → Answers {T = T} (commit_refusal w number p) (Err e) done (Unit {0})
+    pub refused : {T : Type 0} (done : T → Type 0) (e : UploadError) → EndsAs w.store.indexes p (completes p) o o'
+        h.blocks h'.blocks (Err e) → Answers {T = T} (commit_refusal w number p) (Err e) done (Unit {0})
     refused done NoMemory ends = (rules.late w number p is.upload, tt)
     refused done DiskFault ends = rules.late w number p is.upload
     refused done (Refused refusals.Unencodable) ends = (rules.no_code w number p is.upload is.some ends, tt)
-    refused done (Refused refusals.Full) ends =
-        (rules.no_room w number p is.upload is.some ends.0 (elim ends.1 [ inl before ↦ stays_short (completes p) before | inr ran ↦ short (completes p) ran ]), tt)
+    refused done (Refused refusals.Full) ends = (
+      rules.no_room w number p is.upload is.some ends.0
+          (elim ends.1 [ inl before ↦ stays_short (completes p) before | inr ran ↦ short (completes p) ran ]),
+      tt,
+    )
     refused done (Refused refusals.NoSuch) ends = absurd ends
     refused done (Refused refusals.Offset) ends = absurd ends
     refused done (Refused refusals.TooLong) ends = absurd ends
     refused done (Refused refusals.Slots) ends = absurd ends
     refused done (Refused refusals.TooLarge) ends = absurd ends
 
-    pub not_ended : {T : Type 0} (done : T → Type 0) (r : Result T UploadError) (e : UploadError) → r ≡ Err e → (ended : Result DraftEnd UploadError) → ended ≡ Err e
-        → EndsAs w.store.indexes p (completes p) o o' h.blocks h'.blocks ended → Answers (commit_refusal w number p) r done (Unit {0})
+    pub not_ended : {T : Type 0} (done : T → Type 0) (r : Result T UploadError) (e : UploadError) → r ≡ Err e
+        → (ended : Result DraftEnd UploadError) → ended ≡ Err e
+        → EndsAs w.store.indexes p (completes p) o o' h.blocks h'.blocks ended
+        → Answers (commit_refusal w number p) r done (Unit {0})
     not_ended {T = T} done r e is_err ended was ends =
         subst (λ (q : Result T UploadError). Answers (commit_refusal w number p) q done (Unit {0})) (sym is_err)
-        (refused done e (subst (λ (q : Result DraftEnd UploadError). EndsAs w.store.indexes p (completes p) o o' h.blocks h'.blocks q) was ends))
+        (refused done e (subst (λ (q : Result DraftEnd UploadError). EndsAs w.store.indexes p (completes p) o o'
+        h.blocks h'.blocks q) was ends))
 
-    module _ (end : DraftEnd) (whole : IsWhole w.store.indexes p (completes p) o' end) (slot : ℕ) (has : HasSameCount h.slots o slot) where
+    module _ (end : DraftEnd) (whole : IsWhole w.store.indexes p (completes p) o' end) (slot : ℕ)
+        (has : HasSameCount h.slots o slot) where
       pub allowed : commit_refusal w number p ≡ None
-      allowed = rules.allowed w number p is.upload is.some whole.encodable (roomy (completes p) whole.roomy whole.listed)
+      allowed = rules.allowed w number p is.upload is.some whole.encodable
+          (roomy (completes p) whole.roomy whole.listed)
 
       there_after : get_or h'.slots slot None ≡ Some has.used
       there_after = ap (λ (k : Holding). get_or k.slots slot None) only.same ∙ has.there
 
-      pub pending : (longer : Longer) → longer.slot ≡ slot → longer.accepted ≡ reached p → longer.text_len ≡ end.text_len → longer.state ≡ end.state → Stored disk d' h' w.store
+      pub pending : (longer : Longer) → longer.slot ≡ slot → longer.accepted ≡ reached p
+          → longer.text_len ≡ end.text_len → longer.state ≡ end.state → Stored disk d' h' w.store
           → (1 ≤ length (list_of o') → (length end.last.items + 4095) / 4096 ≤ length (list_of o'))
-          → (1 ≤ length (list_of o') → bytes_with (disk.seen d') (25 + 2 * journal_pages h.layout) (list_of o') end.last.items ≡ open_text w.store.indexes p (completes p))
+          → (1 ≤ length (list_of o') → bytes_with (disk.seen d') (25 + 2 * journal_pages h.layout) (list_of o')
+          end.last.items ≡ open_text w.store.indexes p (completes p))
           → IsPending disk d' h' w.store p.number p.body longer (list_of o') end.last.items
       pending longer at accepted len is_state stored fits content = record {
         stored = stored;
         text = open_text w.store.indexes p (completes p);
         fits = fits;
-        held = subst (λ (n : ℕ). 1 ≤ length (list_of o') → bytes_with (disk.seen d') (25 + 2 * journal_pages n) (list_of o') end.last.items ≡ open_text w.store.indexes p (completes p))
+        held = subst (λ (n : ℕ). 1 ≤ length (list_of o') → bytes_with (disk.seen d') (25 + 2 * journal_pages n)
+            (list_of o') end.last.items ≡ open_text w.store.indexes p (completes p))
             (sym (ap (λ (k : Holding). k.layout) only.same)) content;
         append = λ e stored' written. record {
           stored = stored';
-          used = record { used = has.used; there = ap (λ (k : ℕ). get_or h'.slots k None) at ∙ there_after; is = has.number ∙ held.number };
+          used = record {
+            used = has.used;
+            there = ap (λ (k : ℕ). get_or h'.slots k None) at ∙ there_after;
+            is = has.number ∙ held.number;
+          };
           upload = p.began;
           there = is.upload;
           added = texts.more w.store.indexes p o' end held.held held.within is.some whole;
-          extension = texts.extension w.store.indexes p o' end held.held held.within is.some whole longer (disk.seen e) (25 + 2 * journal_pages h'.layout) accepted len is_state written;
+          extension = texts.extension w.store.indexes p o' end held.held held.within is.some whole longer (disk.seen e)
+              (25 + 2 * journal_pages h'.layout) accepted len is_state written;
         };
       }

@@ -1,13 +1,16 @@
 -- Why a commit is refused.
-use Rattle.std.proofs.Common.{◌≡◌, ℕ, ◌<◌, Bool, true, false, List, [], ◌∷◌, length, Some, None, if◌then◌else◌, refl, sym, ◌∙◌, ap, subst, arith, eq-eqb}
+use Rattle.std.proofs.Common.{◌≡◌, ℕ, ◌<◌, Bool, true, false, List, [], ◌∷◌, length, Some, None, if◌then◌else◌, refl}
+use Rattle.std.proofs.Common.{sym, ◌∙◌, ap, subst, arith, eq-eqb}
 use Rattle.upload_rules.specs.declared.errors.UploadRefusal.TheVariants.{Unencodable, Full}
 use Rattle.upload_rules.specs.Answers.{IsLate}
-use Rattle.upload_rules.specs.Calls.{commit_refusal, committed, committed_store, dropped, is_empty, offset_refusal, or_else, refuse_if, text_refusal}
+use Rattle.upload_rules.specs.Calls.{commit_refusal, committed, committed_store, dropped, is_empty, offset_refusal}
+use Rattle.upload_rules.specs.Calls.{or_else, refuse_if, text_refusal}
 use Rattle.upload_rules.specs.Room.{is_short}
 use Rattle.upload_rules.specs.Store.{Upload, Store, appended_store, upload_of}
 use Rattle.upload_rules.specs.World.{Patch, World, completes, is_there, patch_text}
 
-refusal_is : (w : World) (d : ℕ) (p : Patch) → commit_refusal w d p ≡ or_else (offset_refusal p (upload_of w.store p.number)) (text_refusal w d p)
+refusal_is : (w : World) (d : ℕ) (p : Patch) → commit_refusal w d p ≡ or_else
+    (offset_refusal p (upload_of w.store p.number)) (text_refusal w d p)
 unfolding commit_refusal
 refusal_is w d p = refl
 
@@ -31,22 +34,28 @@ late_if false false false = tt
 module _ (w : World) (d : ℕ) (p : Patch) (there : upload_of w.store p.number ≡ Some p.began) where
   -- the offset is the upload's count
   by_text : commit_refusal w d p ≡ text_refusal w d p
-  by_text = refusal_is w d p ∙ ap (λ o. or_else o (text_refusal w d p)) (ap (offset_refusal p) there ∙ agrees p p.began refl)
+  by_text = refusal_is w d p ∙ ap (λ o. or_else o (text_refusal w d p))
+      (ap (offset_refusal p) there ∙ agrees p p.began refl)
 
   pub late : IsLate (commit_refusal w d p)
-  late = subst IsLate (sym by_text) (late_if (is_empty p.body) (is_there (patch_text w.store.indexes p (completes p)).fault) (is_short w d p (completes p)))
+  late = subst IsLate (sym by_text)
+      (late_if (is_empty p.body) (is_there (patch_text w.store.indexes p (completes p)).fault)
+      (is_short w d p (completes p)))
 
   pub nothing_refused : length p.body ≡ 0 → commit_refusal w d p ≡ None
   nothing_refused none = by_text ∙ rw (nothing_in p.body none) refl
 
   module _ (some : 0 < length p.body) where
-    pub no_code : is_there (patch_text w.store.indexes p (completes p)).fault ≡ true → commit_refusal w d p ≡ Some Unencodable
+    pub no_code : is_there (patch_text w.store.indexes p (completes p)).fault ≡ true
+        → commit_refusal w d p ≡ Some Unencodable
     no_code fault = by_text ∙ rw (full_of p.body some, fault) refl
 
-    pub no_room : (patch_text w.store.indexes p (completes p)).fault ≡ None → is_short w d p (completes p) ≡ true → commit_refusal w d p ≡ Some Full
+    pub no_room : (patch_text w.store.indexes p (completes p)).fault ≡ None → is_short w d p (completes p) ≡ true
+        → commit_refusal w d p ≡ Some Full
     no_room fine short = by_text ∙ rw (full_of p.body some, fine, short) refl
 
-    pub allowed : (patch_text w.store.indexes p (completes p)).fault ≡ None → is_short w d p (completes p) ≡ false → commit_refusal w d p ≡ None
+    pub allowed : (patch_text w.store.indexes p (completes p)).fault ≡ None → is_short w d p (completes p) ≡ false
+        → commit_refusal w d p ≡ None
     allowed fine roomy = by_text ∙ rw (full_of p.body some, fine, roomy) refl
 
 -- WHAT IT MAKES OF THE STORE

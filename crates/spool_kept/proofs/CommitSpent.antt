@@ -1,5 +1,6 @@
 -- A commit's draft is spent: what the disk and what is kept stand for then.
-use Rattle.std.proofs.Common.{Err, ◌≡◌, ◌≢◌, inl, ℕ, ◌+◌, ◌*◌, ◌<◌, ◌≤◌, List, Option, None, Some, length, set, refl, sym, ◌∙◌, ap, subst, arith}
+use Rattle.std.proofs.Common.{Err, ◌≡◌, ◌≢◌, inl, ℕ, ◌+◌, ◌*◌, ◌<◌, ◌≤◌, List, Option, None, Some, length, set, refl}
+use Rattle.std.proofs.Common.{sym, ◌∙◌, ap, subst, arith}
 use Rattle.enc_model.specs.Indexes.{IndexSet}
 use Rattle.spool_blocks.specs.Blocks.{Row}
 use Rattle.spool_disk.specs.declared.disk.Disk.{Ghosts}
@@ -31,16 +32,21 @@ use Rattle.spool_kept.specs.Stored.{ShowsEither, Stored}
 use Rattle.spool_kept.specs.declared.extending.Longer.{Longer}
 use Rattle.spool_kept.proofs.CommitRefusals as rules
 use Rattle.spool_kept.proofs.DraftLonger.{other_stands}
-use Rattle.spool_kept.proofs.DraftSpent.{all_given, all_handed, inside_of, other_upload, rows_handed, stand_spent, tail_still}
+use Rattle.spool_kept.proofs.DraftSpent.{all_given, all_handed, inside_of, other_upload, rows_handed, stand_spent}
+use Rattle.spool_kept.proofs.DraftSpent.{tail_still}
 use Rattle.spool_kept.proofs.Drafted.{IsChanged, changed_in, stored_on}
 
 -- THE STORES THAT A CRASH MAY LEAVE
 
-pub outcome_is : (w : World) (d : ℕ) (p : Patch) → commit_refusal w d p ≡ None → 0 < length p.body → commit_outcome w d p ≡ appended_store w.store p.number p.body
-outcome_is w d p allowed some = ap (λ (e : Option UploadRefusal). outcome e w.store (committed_store w.store p)) allowed ∙ rules.store_longer w.store p some
+pub outcome_is : (w : World) (d : ℕ) (p : Patch) → commit_refusal w d p ≡ None → 0 < length p.body
+    → commit_outcome w d p ≡ appended_store w.store p.number p.body
+outcome_is w d p allowed some =
+    ap (λ (e : Option UploadRefusal). outcome e w.store (committed_store w.store p)) allowed
+    ∙ rules.store_longer w.store p some
 
 module _ {D : Type 0} (disk : Ghosts D) (d d' : D) (n : ℕ) (m : Store) where
-  pub as_before : (after : Store) → Lasts disk d d' (λ image. ImageShows n image m) → Lasts disk d d' (ShowsEither n m after)
+  pub as_before : (after : Store) → Lasts disk d d' (λ image. ImageShows n image m)
+      → Lasts disk d d' (ShowsEither n m after)
   as_before after lasts = lasts_more lasts (λ image is. inl is)
 
   pub either_then : (d'' : D) (after after' : Store) → after' ≡ after → Lasts disk d d' (λ image. ImageShows n image m)
@@ -52,18 +58,23 @@ module _ {D : Type 0} (disk : Ghosts D) (d d' : D) (n : ℕ) (m : Store) where
 -- THE ANSWER
 
 -- the same refusal of another call, which leaves something else
-pub also_refused : {T U : Type 0} (refusal : Option UploadRefusal) (e : UploadError) (done : T → Type 0) (done' : U → Type 0) (X Y : Type 0) → Answers {T = T} refusal (Err e) done X → Y → Answers {T = U} refusal (Err e) done' Y
+pub also_refused : {T U : Type 0} (refusal : Option UploadRefusal) (e : UploadError) (done : T → Type 0)
+    (done' : U → Type 0) (X Y : Type 0) → Answers {T = T} refusal (Err e) done X → Y
+    → Answers {T = U} refusal (Err e) done' Y
 also_refused refusal NoMemory done done' X Y is y = (is.0, y)
 also_refused refusal DiskFault done done' X Y is y = is
 also_refused refusal (Refused f) done done' X Y is y = (is.0, y)
 
 -- WHAT IT STANDS FOR
 
-pub on_disk : {D : Type 0} (disk : Ghosts D) (d d' : D) (h : Holding) (drafts : List (Option SpoolDraft)) (w : World) → d' ≡ d → StandsFor disk d h drafts w → StandsFor disk d' h drafts w
+pub on_disk : {D : Type 0} (disk : Ghosts D) (d d' : D) (h : Holding) (drafts : List (Option SpoolDraft)) (w : World)
+    → d' ≡ d → StandsFor disk d h drafts w → StandsFor disk d' h drafts w
 on_disk disk d d' h drafts w same stands = subst (λ e. StandsFor disk e h drafts w) (sym same) stands
 
-module _ {D : Type 0} (disk : Ghosts D) (d d' : D) (h h' : Holding) (only : OnlyReserves h h') (drafts : List (Option SpoolDraft)) (number : ℕ) (o o' : SpoolDraft) (w : World) (p : Patch)
-    (is : IsCommit disk d h drafts number o w p) (effect : Effect disk (journal_pages h.layout) (list_of o) (list_of o') d d' h.blocks h'.blocks)
+module _ {D : Type 0} (disk : Ghosts D) (d d' : D) (h h' : Holding) (only : OnlyReserves h h')
+    (drafts : List (Option SpoolDraft)) (number : ℕ) (o o' : SpoolDraft) (w : World) (p : Patch)
+    (is : IsCommit disk d h drafts number o w p)
+    (effect : Effect disk (journal_pages h.layout) (list_of o) (list_of o') d d' h.blocks h'.blocks)
     (reserved : IsReserved h'.blocks (list_of o')) (placed : IsPlaced h.layout o') where
   abbrev first : ℕ
   first = 25 + 2 * journal_pages h.layout
@@ -75,35 +86,48 @@ module _ {D : Type 0} (disk : Ghosts D) (d d' : D) (h h' : Holding) (only : Only
   changed_mid = changed_in drafts (set drafts number (Some o')) number o' (inside_of drafts number o is.here) refl
 
   -- the other drafts after the call
-  others : (e : ℕ) → number ≢ e → (r : Patch) (a : SpoolDraft) → draft_at drafts e ≡ Some a → DraftStands w.store.indexes (disk.seen d) (25 + 2 * journal_pages h.layout) h.slots h.blocks.rows w.store r a
+  others : (e : ℕ) → number ≢ e → (r : Patch) (a : SpoolDraft) → draft_at drafts e ≡ Some a
+      → DraftStands w.store.indexes (disk.seen d) (25 + 2 * journal_pages h.layout) h.slots h.blocks.rows w.store r a
       → DraftStands w.store.indexes (disk.seen d') (25 + 2 * journal_pages h.layout) h.slots h'.blocks.rows w.store r a
   others =
-      other_stands w.store.indexes (disk.seen d) (disk.seen d') (25 + 2 * journal_pages h.layout) h.layout h.slots h.blocks h'.blocks w drafts (set drafts number (Some o')) is.stands.stands is.fits number o o' is.here
+      other_stands w.store.indexes (disk.seen d) (disk.seen d') (25 + 2 * journal_pages h.layout) h.layout h.slots
+      h.blocks h'.blocks w drafts (set drafts number (Some o')) is.stands.stands is.fits number o o' is.here
       effect.own effect.grasp changed_mid only.rows ((effect.writes is.stands.stored.honest).writes.outside)
 
   -- its blocks are given back
-  pub stands_dropped : (h'' : Holding) → OnlyReserves h' h'' → GivesBack h'.blocks h''.blocks (list_of o') → Stored disk d' h' w.store → StandsFor disk d' h'' (set drafts number None) (dropped w number)
+  pub stands_dropped : (h'' : Holding) → OnlyReserves h' h'' → GivesBack h'.blocks h''.blocks (list_of o')
+      → Stored disk d' h' w.store → StandsFor disk d' h'' (set drafts number None) (dropped w number)
   stands_dropped h'' only' gives stored = record {
     stored = stored_on disk d' h' h'' w.store only' stored;
-    stands = subst (λ (k : ℕ × List (Option SlotRecord)). DraftsStand w.store.indexes (disk.seen d') (25 + 2 * journal_pages k.0) k.1 h''.blocks (dropped w number) (set drafts number None)) (sym fields) here;
+    stands = subst (λ (k : ℕ × List (Option SlotRecord)). DraftsStand w.store.indexes (disk.seen d')
+        (25 + 2 * journal_pages k.0) k.1 h''.blocks (dropped w number) (set drafts number None)) (sym fields) here;
   }
     where
       fields : ◌≡◌ {A = ℕ × List (Option SlotRecord)} (h''.layout, h''.slots) (h.layout, h.slots)
-      fields = ap (λ (k : Holding). (k.layout, k.slots)) only'.same ∙ ap (λ (k : Holding). (k.layout, k.slots)) only.same
+      fields = ap (λ (k : Holding). (k.layout, k.slots)) only'.same ∙ ap (λ (k : Holding). (k.layout, k.slots))
+          only.same
 
       rows : h''.blocks.rows ≡ h'.blocks.rows
       rows = gives.rows
 
-      here : DraftsStand w.store.indexes (disk.seen d') (25 + 2 * journal_pages h.layout) h.slots h''.blocks (dropped w number) (set drafts number None)
+      here : DraftsStand w.store.indexes (disk.seen d') (25 + 2 * journal_pages h.layout) h.slots h''.blocks
+          (dropped w number) (set drafts number None)
       here =
-          stand_spent w.store.indexes (disk.seen d) (disk.seen d') (25 + 2 * journal_pages h.layout) h.slots h.slots h.blocks h''.blocks w w.store drafts number is.stands.stands
-          (λ e other r a found there s. subst (λ (z : List Row). DraftStands w.store.indexes (disk.seen d') (25 + 2 * journal_pages h.layout) h.slots z w.store r a) (sym rows) (others e other r a there s))
-          (grown_dropped w is.stands.stands.grown number is.stands.stands.apart) (omega (arith, ap length rows, ap length only.rows))
-          (all_given h.layout h.blocks h'.blocks drafts is.fits number o o' is.here effect.own effect.grasp reserved placed is.stands.stands.all h''.blocks gives)
+          stand_spent w.store.indexes (disk.seen d) (disk.seen d') (25 + 2 * journal_pages h.layout) h.slots h.slots
+          h.blocks h''.blocks w w.store drafts number is.stands.stands
+          (λ e other r a found there s. subst
+          (λ (z : List Row). DraftStands w.store.indexes (disk.seen d') (25 + 2 * journal_pages h.layout) h.slots z
+          w.store r a) (sym rows) (others e other r a there s))
+          (grown_dropped w is.stands.stands.grown number is.stands.stands.apart)
+          (omega (arith, ap length rows, ap length only.rows))
+          (all_given h.layout h.blocks h'.blocks drafts is.fits number o o' is.here effect.own effect.grasp reserved
+          placed is.stands.stands.all h''.blocks gives)
 
   -- its blocks are its upload's
-  module _ (longer : Longer) (append : IsAppend disk d' h' w.store p.number p.body longer (list_of o')) (used : SlotRecord) (d'' : D) (h'' : Holding) (is_longer : IsLonger h' used longer (list_of o') h'')
-      (hands : HandsOn h'.blocks.reserved h''.blocks.reserved (list_of o')) (texts : (q : ℕ) → 4096 * text_page h'.layout ≤ q → disk.seen d'' q ≡ disk.seen d' q)
+  module _ (longer : Longer) (append : IsAppend disk d' h' w.store p.number p.body longer (list_of o'))
+      (used : SlotRecord) (d'' : D) (h'' : Holding) (is_longer : IsLonger h' used longer (list_of o') h'')
+      (hands : HandsOn h'.blocks.reserved h''.blocks.reserved (list_of o'))
+      (texts : (q : ℕ) → 4096 * text_page h'.layout ≤ q → disk.seen d'' q ≡ disk.seen d' q)
       (stored : Stored disk d'' h'' (appended_store w.store p.number p.body)) where
     abbrev after : Store
     after = record w.store { uploads = replaced p.number (with_bytes p.began p.body) w.store.uploads }
@@ -118,36 +142,49 @@ module _ {D : Type 0} (disk : Ghosts D) (d d' : D) (h h' : Holding) (only : Only
     slots_same = ap (λ (k : Holding). k.slots) only.same
 
     grown : IsGrown (record w { store = after; patches = without number w.patches })
-    grown = grown_put (dropped w number) (grown_dropped w is.stands.stands.grown number is.stands.stands.apart) p.number p.began p.body is.upload
+    grown = grown_put (dropped w number) (grown_dropped w is.stands.stands.grown number is.stands.stands.apart) p.number
+        p.began p.body is.upload
 
-    put_stands : (e : ℕ) → number ≢ e → (r : Patch) (a : SpoolDraft) → find e w.patches ≡ Some r → draft_at drafts e ≡ Some a
+    put_stands : (e : ℕ) → number ≢ e → (r : Patch) (a : SpoolDraft) → find e w.patches ≡ Some r
+        → draft_at drafts e ≡ Some a
         → DraftStands w.store.indexes (disk.seen d) (25 + 2 * journal_pages h.layout) h.slots h.blocks.rows w.store r a
-        → DraftStands w.store.indexes (disk.seen d'') (25 + 2 * journal_pages h.layout) h''.slots h''.blocks.rows after r a
+        → DraftStands w.store.indexes (disk.seen d'') (25 + 2 * journal_pages h.layout) h''.slots h''.blocks.rows after
+        r a
     put_stands e other r a found there s =
         let mid = others e other r a there s in
         let same : (q : ℕ) → 4096 * (25 + 2 * journal_pages h.layout) ≤ q → disk.seen d'' q ≡ disk.seen d' q =
-        λ q from. texts q (subst (λ (n : ℕ). 4096 * (25 + 2 * journal_pages n) ≤ q) (sym (ap (λ (k : Holding). k.layout) only.same)) from) in
+        λ q from. texts q (subst (λ (n : ℕ). 4096 * (25 + 2 * journal_pages n) ≤ q)
+        (sym (ap (λ (k : Holding). k.layout) only.same)) from) in
         record {
           holds = mid.holds;
           below = mid.below;
-          carries = λ still kept. bytes_same (disk.seen d') (disk.seen d'') (25 + 2 * journal_pages h.layout) a.growth a.growth.on same
+          carries = λ still kept. bytes_same (disk.seen d') (disk.seen d'') (25 + 2 * journal_pages h.layout) a.growth
+              a.growth.on same
               ∙ mid.carries (other_upload w is.stands.stands.grown p is.upload is.some e r found still).1 kept;
           tail = λ still.
               let away = other_upload w is.stands.stands.grown p is.upload is.some e r found still in
-              tail_still h' h'' used longer (list_of o') is_longer reserved.no_owner p.number r.number (tail_of a) append.used away.0
-              (subst (λ (k : List (Option SlotRecord)). IsOwnedBy k h'.blocks.rows r.number (tail_of a)) (sym slots_same) (mid.tail away.1));
+              tail_still h' h'' used longer (list_of o') is_longer reserved.no_owner p.number r.number (tail_of a)
+              append.used away.0
+              (subst (λ (k : List (Option SlotRecord)). IsOwnedBy k h'.blocks.rows r.number (tail_of a))
+              (sym slots_same) (mid.tail away.1));
         }
 
-    here : DraftsStand w.store.indexes (disk.seen d'') (25 + 2 * journal_pages h.layout) h''.slots h''.blocks (record w { store = after; patches = without number w.patches }) (set drafts number None)
+    here : DraftsStand w.store.indexes (disk.seen d'') (25 + 2 * journal_pages h.layout) h''.slots h''.blocks
+        (record w { store = after; patches = without number w.patches }) (set drafts number None)
     here =
-        stand_spent w.store.indexes (disk.seen d) (disk.seen d'') (25 + 2 * journal_pages h.layout) h.slots h''.slots h.blocks h''.blocks w after drafts number is.stands.stands put_stands grown
+        stand_spent w.store.indexes (disk.seen d) (disk.seen d'') (25 + 2 * journal_pages h.layout) h.slots h''.slots
+        h.blocks h''.blocks w after drafts number is.stands.stands put_stands grown
         (omega (arith, (rows_handed h' h'' used longer (list_of o') is_longer).size, ap length only.rows))
-        (all_handed h.layout h.blocks h'.blocks drafts is.fits number o o' is.here effect.own effect.grasp reserved placed is.stands.stands.all h''.blocks hands)
+        (all_handed h.layout h.blocks h'.blocks drafts is.fits number o o' is.here effect.own effect.grasp reserved
+        placed is.stands.stands.all h''.blocks hands)
 
     pub stands_committed : StandsFor disk d'' h'' (set drafts number None) (committed w number p)
     stands_committed =
-        subst (λ (m : Store). StandsFor disk d'' h'' (set drafts number None) (record w { store = m; patches = without number w.patches })) (sym (rules.store_longer w.store p is.some ∙ after_is)) record {
+        subst (λ (m : Store). StandsFor disk d'' h'' (set drafts number None)
+        (record w { store = m; patches = without number w.patches })) (sym
+        (rules.store_longer w.store p is.some ∙ after_is)) record {
           stored = subst (Stored disk d'' h'') after_is stored;
-          stands = subst (λ (n : ℕ). DraftsStand w.store.indexes (disk.seen d'') (25 + 2 * journal_pages n) h''.slots h''.blocks (record w { store = after; patches = without number w.patches }) (set drafts number None))
+          stands = subst (λ (n : ℕ). DraftsStand w.store.indexes (disk.seen d'') (25 + 2 * journal_pages n) h''.slots
+              h''.blocks (record w { store = after; patches = without number w.patches }) (set drafts number None))
               (sym layout) here;
         }

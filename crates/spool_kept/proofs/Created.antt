@@ -1,5 +1,6 @@
 -- A view with a new record shows the store with the new upload.
-use Rattle.std.proofs.Common.{◌≡◌, ◌≢◌, inl, inr, ℕ, ◌+◌, ◌^◌, ◌<◌, ◌≤◌, List, [], Option, None, Some, length, refl, sym, ◌∙◌, ap, subst, arith}
+use Rattle.std.proofs.Common.{◌≡◌, ◌≢◌, inl, inr, ℕ, ◌+◌, ◌^◌, ◌<◌, ◌≤◌, List, [], Option, None, Some, length, refl}
+use Rattle.std.proofs.Common.{sym, ◌∙◌, ap, subst, arith}
 use Rattle.std.proofs.lemmas.Bool.{cases_eq}
 use Rattle.std.proofs.lemmas.List.{length-set}
 use Rattle.upload_rules.specs.Store.{New, Upload, Store, find, new_upload, created_store}
@@ -30,10 +31,12 @@ next_unused v m shows = by_answer (find m.next m.uploads) refl
     by_answer (Some u) e = absurd (omega (arith, number_below v m shows m.next u e))
 
 -- the record of a new upload tells of no text
-pub no_text : (m : Store) (new : New) (r : SlotRecord) (shown : List ℕ) → IsRecordOf m.indexes r shown (new_upload new) → r.text_len ≡ 0
+pub no_text : (m : Store) (new : New) (r : SlotRecord) (shown : List ℕ) → IsRecordOf m.indexes r shown (new_upload new)
+    → r.text_len ≡ 0
 no_text m new r shown is = is.text_len ∙ ap length (new_text m.indexes new)
 
-module _ (v : View) (m : Store) (new : New) (s : ℕ) (r : SlotRecord) (shows : Shows v m) (within : s < 512) (free : slot_at v s ≡ None) (number : r.number ≡ m.next)
+module _ (v : View) (m : Store) (new : New) (s : ℕ) (r : SlotRecord) (shows : Shows v m) (within : s < 512)
+    (free : slot_at v s ≡ None) (number : r.number ≡ m.next)
     (is : IsRecordOf m.indexes r [] (new_upload new)) where
   inside : s < length v.slots
   inside = omega (arith, shows.sound.slot_count, within)
@@ -87,7 +90,8 @@ module _ (v : View) (m : Store) (new : New) (s : ℕ) (r : SlotRecord) (shows : 
         let owned = shows.sound.owners b slot ordinal owns in
         record { used = owned.used; there = kept slot owned.used owned.there; fits = owned.fits };
     lists = λ t q e. elim (slot_is v.slots s r t q inside e) [
-      | inl here ↦ subst (λ (k : ℕ). OwnsOneEach v.rows k (blocks_of q.text_len)) (sym here.0) (subst (λ (x : SlotRecord). OwnsOneEach v.rows s (blocks_of x.text_len)) (sym here.1) no_blocks)
+      | inl here ↦ subst (λ (k : ℕ). OwnsOneEach v.rows k (blocks_of q.text_len)) (sym here.0)
+          (subst (λ (x : SlotRecord). OwnsOneEach v.rows s (blocks_of x.text_len)) (sym here.1) no_blocks)
       | inr old ↦ shows.sound.lists t q old.1
     ];
   }
@@ -95,7 +99,8 @@ module _ (v : View) (m : Store) (new : New) (s : ℕ) (r : SlotRecord) (shows : 
   told_new : (t : ℕ) (q : SlotRecord) → t ≡ s → q ≡ r → IsTold (created_store m new) q (texts_with v s [] t)
   told_new t q at same = record {
     upload = new_upload new;
-    there = ap (λ (n : ℕ). find n (created_store m new).uploads) (ap (λ (x : SlotRecord). x.number) same ∙ number) ∙ find_push_same m.next (new_upload new) m.uploads (next_unused v m shows);
+    there = ap (λ (n : ℕ). find n (created_store m new).uploads) (ap (λ (x : SlotRecord). x.number) same ∙ number)
+        ∙ find_push_same m.next (new_upload new) m.uploads (next_unused v m shows);
     tells = subst (λ (x : SlotRecord). IsRecordOf m.indexes x (texts_with v s [] t) (new_upload new)) (sym same)
         (subst (λ (text : List ℕ). IsRecordOf m.indexes r text (new_upload new)) (sym (text_here v s [] t at)) is);
   }
@@ -107,16 +112,19 @@ module _ (v : View) (m : Store) (new : New) (s : ℕ) (r : SlotRecord) (shows : 
       record {
         upload = told.upload;
         there = find_push_other q.number m.next (new_upload new) m.uploads other ∙ told.there;
-        tells = subst (λ (text : List ℕ). IsRecordOf m.indexes q text told.upload) (sym (text_else v s [] t (apart t q e))) told.tells;
+        tells = subst (λ (text : List ℕ). IsRecordOf m.indexes q text told.upload)
+            (sym (text_else v s [] t (apart t q e))) told.tells;
       }
 
-  pub created_shows : IsSoundRecord (m.next + 1) r → m.next + 1 ≤ 10 ^ 18 → Shows (created_view v s r) (created_store m new)
+  pub created_shows : IsSoundRecord (m.next + 1) r → m.next + 1 ≤ 10 ^ 18
+      → Shows (created_view v s r) (created_store m new)
   created_shows sound most = record {
     sound = created_sound sound most;
     next = ap (λ (n : ℕ). n + 1) shows.next;
     indexes = shows.indexes;
     rising = rising_more m.uploads m.next (new_upload new) shows.rising (number_below v m shows);
-    told = λ t q e. elim (slot_is v.slots s r t q inside e) [ inl here ↦ told_new t q here.0 here.1 | inr old ↦ told_still t q old.1 ];
+    told = λ t q e. elim (slot_is v.slots s r t q inside e)
+        [ inl here ↦ told_new t q here.0 here.1 | inr old ↦ told_still t q old.1 ];
     all = λ n u there. elim (cases_eq m.next n) [
       | inl same ↦ record { slot = s; used = r; there = slot_here v.slots s r inside; number = number ∙ same }
       | inr other ↦

@@ -1,5 +1,6 @@
 -- A draft more, at the least number that is free.
-use Rattle.std.proofs.Common.{◌≡◌, Result, Ok, Err, ℕ, ◌<◌, ◌+◌, ◌*◌, List, [], ◌∷◌, Option, None, Some, false, length, refl, sym, ◌∙◌, ap, subst, arith, eq-eqb}
+use Rattle.std.proofs.Common.{◌≡◌, Result, Ok, Err, ℕ, ◌<◌, ◌+◌, ◌*◌, List, [], ◌∷◌, Option, None, Some, false, length}
+use Rattle.std.proofs.Common.{refl, sym, ◌∙◌, ap, subst, arith, eq-eqb}
 use Rattle.std.proofs.lemmas.Bool.{ne_eqb}
 use Rattle.spool_blocks.specs.Blocks.{Held}
 use Rattle.spool_disk.specs.declared.disk.Disk.{Ghosts}
@@ -18,7 +19,8 @@ use Rattle.upload_rules.proofs.Growing.{grown_begun}
 use Rattle.upload_rules.proofs.Patches.{patch_there, begun_stand}
 use Rattle.spool_kept.specs.Holding.{Holding}
 use Rattle.spool_kept.specs.Shows.{Shows}
-use Rattle.spool_kept.specs.Drafting.{list_in, lists_at, DraftsHold, DraftStands, DraftsStand, IsOwnedBy, StandsFor, OpensFor}
+use Rattle.spool_kept.specs.Drafting.{list_in, lists_at, DraftsHold, DraftStands, DraftsStand, IsOwnedBy, StandsFor}
+use Rattle.spool_kept.specs.Drafting.{OpensFor}
 use Rattle.spool_kept.proofs.DraftLists.{in_other, none_in_nothing, nothing_reserved}
 use Rattle.spool_kept.proofs.Drafted.{IsChanged, changed_lists, fit_changed}
 
@@ -30,8 +32,10 @@ module _ (old new : List (Option SpoolDraft)) (place : ℕ) (o : SpoolDraft) (pl
   }
 
   pub fit_begun : (n : ℕ) (h : Held) → DraftsHold n h old → list_of o ≡ [] → IsTailPlaced n o → DraftsHold n h new
-  fit_begun n h fit none tailed = fit_changed n h h old new place (Some o) fit changed_more (nothing_reserved h (list_of o) none)
-      (λ e other. fit.reserved e) (λ a e. subst (IsTailPlaced n) (some_same o a e) tailed) (λ e other. none_in_nothing (list_of o) (lists_at old e) none)
+  fit_begun n h fit none tailed =
+      fit_changed n h h old new place (Some o) fit changed_more (nothing_reserved h (list_of o) none)
+      (λ e other. fit.reserved e) (λ a e. subst (IsTailPlaced n) (some_same o a e) tailed)
+      (λ e other. none_in_nothing (list_of o) (lists_at old e) none)
     where
       some_same : (a b : SpoolDraft) → Some a ≡ Some b → a ≡ b
       some_same a b e = ap (λ o. elim o as (λ _. SpoolDraft) [ None ↦ a | Some r ↦ r ]) e
@@ -46,30 +50,37 @@ below_next v m n u shows there =
     let has = shows.all n u there in
     omega (arith, has.number, (shows.sound.records has.slot has.used has.there).below, shows.next)
 
-module _ {D : Type 0} (disk : Ghosts D) (d : D) (h : Holding) (old : List (Option SpoolDraft)) (w : World) (s : StandsFor disk d h old w) (n offset count : ℕ) where
+module _ {D : Type 0} (disk : Ghosts D) (d : D) (h : Holding) (old : List (Option SpoolDraft)) (w : World)
+    (s : StandsFor disk d h old w) (n offset count : ℕ) where
   first : ℕ
   first = 25 + 2 * journal_pages h.layout
 
   abbrev Opens : Option Upload → Result SpoolDraft UploadRefusal → Type 0
   Opens u r = OpensFor w.store n offset count (disk.seen d) (25 + 2 * journal_pages h.layout) u r
 
-  pub begin_refused : (u : Option Upload) (e : UploadRefusal) → upload_of w.store n ≡ u → Opens u (Err e) → begin_refusal w n offset count ≡ Some e
+  pub begin_refused : (u : Option Upload) (e : UploadRefusal) → upload_of w.store n ≡ u → Opens u (Err e)
+      → begin_refusal w n offset count ≡ Some e
   begin_refused None e there opens = ap (begin_refusal_at offset count) there ∙ ap Some (sym opens)
   begin_refused (Some u) e there opens = ap (begin_refusal_at offset count) there ∙ opens
 
-  pub begin_allowed : (u : Option Upload) (o : SpoolDraft) → upload_of w.store n ≡ u → Opens u (Ok o) → begin_refusal w n offset count ≡ None
+  pub begin_allowed : (u : Option Upload) (o : SpoolDraft) → upload_of w.store n ≡ u → Opens u (Ok o)
+      → begin_refusal w n offset count ≡ None
   begin_allowed None o there opens = absurd opens
   begin_allowed (Some u) o there opens = ap (begin_refusal_at offset count) there ∙ opens.0.0
 
-  pub begin_late : (u : Option Upload) (o : SpoolDraft) → upload_of w.store n ≡ u → Opens u (Ok o) → IsLate (begin_refusal w n offset count)
+  pub begin_late : (u : Option Upload) (o : SpoolDraft) → upload_of w.store n ≡ u → Opens u (Ok o)
+      → IsLate (begin_refusal w n offset count)
   begin_late u o there opens = subst IsLate (sym (begin_allowed u o there opens)) tt
 
-  module _ (new : List (Option SpoolDraft)) (place : ℕ) (o : SpoolDraft) (placed : IsPlaced old o place new) (none : list_of o ≡ []) (owned : IsOwnedBy h.slots h.blocks.rows n (tail_of o)) where
+  module _ (new : List (Option SpoolDraft)) (place : ℕ) (o : SpoolDraft) (placed : IsPlaced old o place new)
+      (none : list_of o ≡ []) (owned : IsOwnedBy h.slots h.blocks.rows n (tail_of o)) where
     abbrev Stands : Patch → SpoolDraft → Type 0
     Stands = DraftStands w.store.indexes (disk.seen d) (25 + 2 * journal_pages h.layout) h.slots h.blocks.rows w.store
 
     number_free : place ≡ free_number w
-    number_free = sym (is_free w place (λ k lt. (patch_there Stands (find k w.patches) (draft_at old k) (s.stands.each k)).1 (placed.least k lt)) (not_there (find place w.patches) (draft_at old place) (s.stands.each place) placed.free))
+    number_free = sym (is_free w place
+        (λ k lt. (patch_there Stands (find k w.patches) (draft_at old k) (s.stands.each k)).1 (placed.least k lt))
+        (not_there (find place w.patches) (draft_at old place) (s.stands.each place) placed.free))
       where
         not_there : (q : Option Patch) (a : Option SpoolDraft) → DraftOf Stands q a → a ≡ None → is_there q ≡ false
         not_there None a h e = refl
@@ -85,7 +96,8 @@ module _ {D : Type 0} (disk : Ghosts D) (d : D) (h : Holding) (old : List (Optio
         go (Some p) (Some o) h e = absurd cc
 
     stand_begun : (u : Upload) → upload_of w.store n ≡ Some u → Opens (Some u) (Ok o)
-        → DraftsStand w.store.indexes (disk.seen d) (25 + 2 * journal_pages h.layout) h.slots h.blocks (record w { patches = (place, first_patch n count u) ∷ w.patches }) new
+        → DraftsStand w.store.indexes (disk.seen d) (25 + 2 * journal_pages h.layout) h.slots h.blocks
+        (record w { patches = (place, first_patch n count u) ∷ w.patches }) new
     stand_begun u there opens = record {
       each = begun_stand Stands w.patches old new s.stands.each place (first_patch n count u) o placed record {
         holds = opens.0.1;
@@ -97,15 +109,18 @@ module _ {D : Type 0} (disk : Ghosts D) (d : D) (h : Holding) (old : List (Optio
       grown = grown_begun w s.stands.grown n count u place there;
       limit = s.stands.limit;
       all = λ b reserved.
-          in_other (lists_at old) (lists_at new) place (list_of o) (changed_lists old new place (Some o) (changed_more old new place o placed)) b (s.stands.all b reserved)
+          in_other (lists_at old) (lists_at new) place (list_of o)
+          (changed_lists old new place (Some o) (changed_more old new place o placed)) b (s.stands.all b reserved)
           (λ i lt e. omega (arith, lt, ap length (free_list old new place o placed)));
     }
 
-    pub begins : (u : Option Upload) → upload_of w.store n ≡ u → Opens u (Ok o) → (place ≡ free_number w) × StandsFor disk d h new (begun w n count)
+    pub begins : (u : Option Upload) → upload_of w.store n ≡ u → Opens u (Ok o)
+        → (place ≡ free_number w) × StandsFor disk d h new (begun w n count)
     begins None there opens = absurd opens
     begins (Some u) there opens = (
       number_free,
       subst (λ q. StandsFor disk d h new (begun_at w n count q)) (sym there)
-          (subst (λ k. StandsFor disk d h new (record w { patches = (k, first_patch n count u) ∷ w.patches })) number_free
+          (subst (λ k. StandsFor disk d h new (record w { patches = (k, first_patch n count u) ∷ w.patches }))
+          number_free
           (record { stored = s.stored; stands = stand_begun u there opens })),
     )

@@ -1,5 +1,6 @@
 -- A draft that is spent after a call on it: its blocks are given back, or its upload's.
-use Rattle.std.proofs.Common.{◌≡◌, ◌≢◌, inl, inr, ℕ, zero, suc, ◌/◌, ◌<◌, ◌++◌, true, false, List, [], ◌∷◌, Option, None, Some, length, get_or, set, refl, sym, ◌∙◌, ap, subst, arith, length-append}
+use Rattle.std.proofs.Common.{◌≡◌, ◌≢◌, inl, inr, ℕ, zero, suc, ◌/◌, ◌<◌, ◌++◌, true, false, List, [], ◌∷◌, Option}
+use Rattle.std.proofs.Common.{None, Some, length, get_or, set, refl, sym, ◌∙◌, ap, subst, arith, length-append}
 use Rattle.std.proofs.lemmas.Bool.{both_ways, cases_eq, cases_lt}
 use Rattle.std.proofs.lemmas.List.{get_or_past}
 use Rattle.enc_model.specs.Indexes.{IndexSet}
@@ -34,7 +35,8 @@ set_set (x ∷ xs) zero a b = refl
 set_set (x ∷ xs) (suc i) a b = ap (λ l. x ∷ l) (set_set xs i a b)
 
 pub inside_of : (old : List (Option SpoolDraft)) (d : ℕ) (o : SpoolDraft) → draft_at old d ≡ Some o → d < length old
-inside_of old d o here = elim (cases_lt d (length old)) [ inl lt ↦ lt | inr ge ↦ absurd (let n = get_or_past old d None ge in cc) ]
+inside_of old d o here = elim (cases_lt d (length old))
+    [ inl lt ↦ lt | inr ge ↦ absurd (let n = get_or_past old d None ge in cc) ]
 
 -- BLOCKS
 
@@ -43,7 +45,8 @@ pub record StaysFree (old new : List Row) (list : List ℕ) : Type 0 where
   pub size : length new ≡ length old
   pub free : (b : ℕ) → IsOut list b → get_or old b None ≡ None → get_or new b None ≡ None
 
-pub rows_handed : (h new : Holding) (used : SlotRecord) (longer : Longer) (more : List ℕ) → IsLonger h used longer more new → StaysFree h.blocks.rows new.blocks.rows more
+pub rows_handed : (h new : Holding) (used : SlotRecord) (longer : Longer) (more : List ℕ)
+    → IsLonger h used longer more new → StaysFree h.blocks.rows new.blocks.rows more
 rows_handed h new used longer more is = elim (cases_lt 0 (length more)) [
   | inl some ↦
       let hands = is.rows some in
@@ -53,7 +56,8 @@ rows_handed h new used longer more is = elim (cases_lt 0 (length more)) [
       record { size = ap length same; free = λ b out free. ap (λ (rows : List Row). get_or rows b None) same ∙ free }
 ]
 
-handed_keeps : (h h' : Held) (list other : List ℕ) → HandsOn h.reserved h'.reserved list → StaysFree h.rows h'.rows list → IsReserved h other → NoneOf list other → IsReserved h' other
+handed_keeps : (h h' : Held) (list other : List ℕ) → HandsOn h.reserved h'.reserved list → StaysFree h.rows h'.rows list
+    → IsReserved h other → NoneOf list other → IsReserved h' other
 handed_keeps h h' list other hands rows is apart = record {
   below = λ i lt. omega (arith, is.below i lt, rows.size);
   reserved = λ i lt. hands.others (get_or other i 0) (λ k lt' e. apart k i lt' lt e) ∙ is.reserved i lt;
@@ -61,8 +65,10 @@ handed_keeps h h' list other hands rows is apart = record {
   distinct = is.distinct;
 }
 
-module _ (n : ℕ) (h h' : Held) (old : List (Option SpoolDraft)) (fit : DraftsHold n h old) (d : ℕ) (o o' : SpoolDraft) (here : draft_at old d ≡ Some o) (own : List ℕ)
-    (grasp : Regrasps h h' (list_of o) (list_of o') own) (reserved : IsReserved h' (list_of o')) (placed : IsPlaced n o') where
+module _ (n : ℕ) (h h' : Held) (old : List (Option SpoolDraft)) (fit : DraftsHold n h old) (d : ℕ) (o o' : SpoolDraft)
+    (here : draft_at old d ≡ Some o) (own : List ℕ)
+    (grasp : Regrasps h h' (list_of o) (list_of o') own) (reserved : IsReserved h' (list_of o'))
+    (placed : IsPlaced n o') where
   abbrev mid : List (Option SpoolDraft)
   mid = set old d (Some o')
 
@@ -82,11 +88,15 @@ module _ (n : ℕ) (h h' : Held) (old : List (Option SpoolDraft)) (fit : DraftsH
   mid_out = changed_out (set old d (Some o')) (set old d None) d gone
 
   pub fit_given : (h'' : Held) → GivesBack h' h'' (list_of o') → DraftsHold n h'' (set old d None)
-  fit_given h'' gives = fit_dropped n h' h'' (set old d (Some o')) (set old d None) d gone fit_mid (subst (GivesBack h' h'') (sym list_mid) gives)
+  fit_given h'' gives = fit_dropped n h' h'' (set old d (Some o')) (set old d None) d gone fit_mid
+      (subst (GivesBack h' h'') (sym list_mid) gives)
 
-  pub fit_handed : (h'' : Held) → HandsOn h'.reserved h''.reserved (list_of o') → StaysFree h'.rows h''.rows (list_of o') → DraftsHold n h'' (set old d None)
-  fit_handed h'' hands rows = fit_changed n h' h'' (set old d (Some o')) (set old d None) d None fit_mid mid_out (nothing_reserved h'' [] refl)
-      (λ e other. handed_keeps h' h'' (list_of o') (lists_at (set old d (Some o')) e) hands rows (fit_mid.reserved e) (subst (λ (xs : List ℕ). NoneOf xs (lists_at (set old d (Some o')) e)) list_mid (fit_mid.distinct d e other)))
+  pub fit_handed : (h'' : Held) → HandsOn h'.reserved h''.reserved (list_of o')
+      → StaysFree h'.rows h''.rows (list_of o') → DraftsHold n h'' (set old d None)
+  fit_handed h'' hands rows =
+      fit_changed n h' h'' (set old d (Some o')) (set old d None) d None fit_mid mid_out (nothing_reserved h'' [] refl)
+      (λ e other. handed_keeps h' h'' (list_of o') (lists_at (set old d (Some o')) e) hands rows (fit_mid.reserved e)
+      (subst (λ (xs : List ℕ). NoneOf xs (lists_at (set old d (Some o')) e)) list_mid (fit_mid.distinct d e other)))
       (λ a e. absurd cc) (λ e other. none_in_nothing [] (lists_at (set old d (Some o')) e) refl)
 
   module _ (all : (b : ℕ) → get_or h.reserved b false ≡ true → IsInSome (lists_at old) b) where
@@ -94,40 +104,54 @@ module _ (n : ℕ) (h h' : Held) (old : List (Option SpoolDraft)) (fit : DraftsH
     all_mid = all_longer n h old fit d o here h' (set old d (Some o')) o' own grasp changed_mid all
 
     -- a block that is reserved after is another draft's
-    still_in : (b : ℕ) → IsOut (list_of o') b → get_or h'.reserved b false ≡ true → IsInSome (lists_at (set old d None)) b
+    still_in : (b : ℕ) → IsOut (list_of o') b → get_or h'.reserved b false ≡ true
+        → IsInSome (lists_at (set old d None)) b
     still_in b out was =
-        in_other (lists_at (set old d (Some o'))) (lists_at (set old d None)) d [] (changed_lists (set old d (Some o')) (set old d None) d None mid_out) b (all_mid b was)
+        in_other (lists_at (set old d (Some o'))) (lists_at (set old d None)) d []
+        (changed_lists (set old d (Some o')) (set old d None) d None mid_out) b (all_mid b was)
         (subst (λ (xs : List ℕ). IsOut xs b) (sym list_mid) out)
 
-    pub all_given : (h'' : Held) → GivesBack h' h'' (list_of o') → (b : ℕ) → get_or h''.reserved b false ≡ true → IsInSome (lists_at (set old d None)) b
+    pub all_given : (h'' : Held) → GivesBack h' h'' (list_of o') → (b : ℕ) → get_or h''.reserved b false ≡ true
+        → IsInSome (lists_at (set old d None)) b
     all_given h'' gives b is = let out = kept_out b gives is in still_in b out (sym (gives.others b out) ∙ is)
 
-    pub all_handed : (h'' : Held) → HandsOn h'.reserved h''.reserved (list_of o') → (b : ℕ) → get_or h''.reserved b false ≡ true → IsInSome (lists_at (set old d None)) b
+    pub all_handed : (h'' : Held) → HandsOn h'.reserved h''.reserved (list_of o') → (b : ℕ)
+        → get_or h''.reserved b false ≡ true → IsInSome (lists_at (set old d None)) b
     all_handed h'' hands b is =
-        let out : IsOut (list_of o') b = λ i lt e. both_ways (get_or h''.reserved b false) (subst (λ (k : ℕ). get_or h''.reserved k false ≡ false) e (hands.handed i lt)) is in
+        let out : IsOut (list_of o') b =
+        λ i lt e. both_ways (get_or h''.reserved b false)
+        (subst (λ (k : ℕ). get_or h''.reserved k false ≡ false) e (hands.handed i lt)) is in
         still_in b out (sym (hands.others b out) ∙ is)
 
 -- THE OTHER DRAFTS
 
-each_spent : (R S : Patch → SpoolDraft → Type 0) (ps : List (ℕ × Patch)) (old : List (Option SpoolDraft)) (d : ℕ) → find d (without d ps) ≡ None
-    → ((e : ℕ) → DraftOf R (find e ps) (draft_at old e)) → ((e : ℕ) → d ≢ e → (r : Patch) (a : SpoolDraft) → find e ps ≡ Some r → draft_at old e ≡ Some a → R r a → S r a)
+each_spent : (R S : Patch → SpoolDraft → Type 0) (ps : List (ℕ × Patch)) (old : List (Option SpoolDraft)) (d : ℕ)
+    → find d (without d ps) ≡ None
+    → ((e : ℕ) → DraftOf R (find e ps) (draft_at old e))
+    → ((e : ℕ) → d ≢ e → (r : Patch) (a : SpoolDraft) → find e ps ≡ Some r → draft_at old e ≡ Some a → R r a → S r a)
     → (e : ℕ) → DraftOf S (find e (without d ps)) (draft_at (set old d None) e)
 each_spent R S ps old d none all weaker e =
     let out = changed_out old (set old d None) d refl in
     elim (cases_eq d e) [
-      | inl same ↦ carried S (find e (without d ps)) None (draft_at (set old d None) e) None (subst (λ k. find k (without d ps) ≡ None) same none)
+      | inl same ↦ carried S (find e (without d ps)) None (draft_at (set old d None) e) None
+          (subst (λ k. find k (without d ps) ≡ None) same none)
           (subst (λ k. draft_at (set old d None) k ≡ None) same out.here) tt
-      | inr other ↦ carried S (find e (without d ps)) (find e ps) (draft_at (set old d None) e) (draft_at old e) (find_without_other d e ps other) (out.others e other)
+      | inr other ↦ carried S (find e (without d ps)) (find e ps) (draft_at (set old d None) e) (draft_at old e)
+          (find_without_other d e ps other) (out.others e other)
           (held_both R S (find e ps) (draft_at old e) (weaker e other) (all e))
     ]
 
-pub stand_spent : (x : IndexSet) (seen seen' : ℕ → ℕ) (first : ℕ) (records records' : List (Option SlotRecord)) (h h' : Held) (w : World) (m : Store) (old : List (Option SpoolDraft)) (d : ℕ)
+pub stand_spent : (x : IndexSet) (seen seen' : ℕ → ℕ) (first : ℕ) (records records' : List (Option SlotRecord))
+    (h h' : Held) (w : World) (m : Store) (old : List (Option SpoolDraft)) (d : ℕ)
     → DraftsStand x seen first records h w old
-    → ((e : ℕ) → d ≢ e → (r : Patch) (a : SpoolDraft) → find e w.patches ≡ Some r → draft_at old e ≡ Some a → DraftStands x seen first records h.rows w.store r a → DraftStands x seen' first records' h'.rows m r a)
-    → IsGrown (record w { store = m; patches = without d w.patches }) → length h'.rows ≡ length h.rows → ((b : ℕ) → get_or h'.reserved b false ≡ true → IsInSome (lists_at (set old d None)) b)
+    → ((e : ℕ) → d ≢ e → (r : Patch) (a : SpoolDraft) → find e w.patches ≡ Some r → draft_at old e ≡ Some a
+    → DraftStands x seen first records h.rows w.store r a → DraftStands x seen' first records' h'.rows m r a)
+    → IsGrown (record w { store = m; patches = without d w.patches }) → length h'.rows ≡ length h.rows
+    → ((b : ℕ) → get_or h'.reserved b false ≡ true → IsInSome (lists_at (set old d None)) b)
     → DraftsStand x seen' first records' h' (record w { store = m; patches = without d w.patches }) (set old d None)
 stand_spent x seen seen' first records records' h h' w m old d stand weaker grown size all = record {
-  each = each_spent (DraftStands x seen first records h.rows w.store) (DraftStands x seen' first records' h'.rows m) w.patches old d (find_without_same d w.patches stand.apart) stand.each weaker;
+  each = each_spent (DraftStands x seen first records h.rows w.store) (DraftStands x seen' first records' h'.rows m)
+      w.patches old d (find_without_same d w.patches stand.apart) stand.each weaker;
   apart = apart_without d w.patches stand.apart;
   grown = grown;
   limit = stand.limit ∙ ap (λ (n : ℕ). Some n) (sym size);
@@ -137,44 +161,63 @@ stand_spent x seen seen' first records records' h h' w m old d stand weaker grow
 -- WHERE AN UPLOAD GOT LONGER
 
 -- a draft of the upload that got longer can't be committed; of another upload, that is as it was
-module _ (w : World) (grown : IsGrown w) (p : Patch) (upload : upload_of w.store p.number ≡ Some p.began) (some : 0 < length p.body) where
+module _ (w : World) (grown : IsGrown w) (p : Patch) (upload : upload_of w.store p.number ≡ Some p.began)
+    (some : 0 < length p.body) where
   abbrev put : List (ℕ × Upload)
   put = replaced p.number (with_bytes p.began p.body) w.store.uploads
 
   behind : (r : Patch) → GrewFrom r (Some p.began) → Some (with_bytes p.began p.body) ≡ Some r.began → ⊥
   behind r grew same =
-      let began : with_bytes p.began p.body ≡ r.began = ap (λ o. elim o as (λ _. Upload) [ None ↦ r.began | Some u ↦ u ]) same in
-      let long : length (p.began.accepted ++ p.body) ≡ length r.began.accepted = ap (λ (u : Upload). length u.accepted) began in
-      let short : length p.began.accepted ≡ length (r.began.accepted ++ grew.0) = ap (λ (u : Upload). length u.accepted) grew.1 in
+      let began : with_bytes p.began p.body ≡ r.began =
+      ap (λ o. elim o as (λ _. Upload) [ None ↦ r.began | Some u ↦ u ]) same in
+      let long : length (p.began.accepted ++ p.body) ≡ length r.began.accepted =
+      ap (λ (u : Upload). length u.accepted) began in
+      let short : length p.began.accepted ≡ length (r.began.accepted ++ grew.0) =
+      ap (λ (u : Upload). length u.accepted) grew.1 in
       omega (arith, long, short, length-append p.began.accepted p.body, length-append r.began.accepted grew.0, some)
 
-  pub other_upload : (e : ℕ) (r : Patch) → find e w.patches ≡ Some r → find r.number (replaced p.number (with_bytes p.began p.body) w.store.uploads) ≡ Some r.began
+  pub other_upload : (e : ℕ) (r : Patch) → find e w.patches ≡ Some r → find r.number
+      (replaced p.number (with_bytes p.began p.body) w.store.uploads) ≡ Some r.began
       → (p.number ≢ r.number) × (upload_of w.store r.number ≡ Some r.began)
   other_upload e r found still = elim (cases_eq p.number r.number) [
     | inl same ↦
-        absurd (behind r (subst (GrewFrom r) (subst (λ (k : ℕ). find k w.store.uploads ≡ Some p.began) same upload) (grown.each e r found))
-        (sym (subst (λ (k : ℕ). find k (replaced p.number (with_bytes p.began p.body) w.store.uploads) ≡ Some (with_bytes p.began p.body)) same (find_replaced_same p.number p.began (with_bytes p.began p.body) w.store.uploads upload)) ∙ still))
-    | inr other ↦ (other, sym (find_replaced_other p.number r.number (with_bytes p.began p.body) w.store.uploads other) ∙ still)
+        absurd (behind r (subst (GrewFrom r) (subst (λ (k : ℕ). find k w.store.uploads ≡ Some p.began) same upload)
+        (grown.each e r found))
+        (sym (subst (λ (k : ℕ). find k (replaced p.number (with_bytes p.began p.body) w.store.uploads) ≡ Some
+        (with_bytes p.began p.body)) same (find_replaced_same p.number p.began (with_bytes p.began p.body)
+        w.store.uploads upload)) ∙ still))
+    | inr other ↦ (
+      other,
+      sym (find_replaced_other p.number r.number (with_bytes p.began p.body) w.store.uploads other)
+          ∙ still,
+    )
   ]
 
-module _ (h new : Holding) (used : SlotRecord) (longer : Longer) (more : List ℕ) (is : IsLonger h used longer more new) (no_owner : (i : ℕ) → i < length more → get_or h.blocks.rows (get_or more i 0) None ≡ None) where
+module _ (h new : Holding) (used : SlotRecord) (longer : Longer) (more : List ℕ) (is : IsLonger h used longer more new)
+    (no_owner : (i : ℕ) → i < length more → get_or h.blocks.rows (get_or more i 0) None ≡ None) where
   owned_still : (b s k : ℕ) → s ≢ longer.slot → Owns h.blocks.rows b s k → Owns new.blocks.rows b s k
   owned_still b s k other owns = elim (cases_lt 0 (length more)) [
-    | inl some ↦ (others_same h.blocks.rows longer.slot (used.text_len / 4096) more new.blocks.rows (is.rows some) no_owner).still b s k other owns
+    | inl some ↦ (others_same h.blocks.rows longer.slot (used.text_len / 4096) more new.blocks.rows (is.rows some)
+        no_owner).still b s k other owns
     | inr none ↦ ap (λ (c : Held). get_or c.rows b None) (is.same (omega (arith, none))) ∙ owns
   ]
 
   -- another upload's blocks stay its own
-  pub tail_still : (n k : ℕ) (list : List ℕ) → IsUsedBy h.slots longer.slot n → n ≢ k → IsOwnedBy h.slots h.blocks.rows k list → IsOwnedBy new.slots new.blocks.rows k list
+  pub tail_still : (n k : ℕ) (list : List ℕ) → IsUsedBy h.slots longer.slot n → n ≢ k
+      → IsOwnedBy h.slots h.blocks.rows k list → IsOwnedBy new.slots new.blocks.rows k list
   tail_still n k list slot apart owned =
       let other : owned.slot ≢ longer.slot = λ same.
-      apart (sym slot.is ∙ ap (λ (r : SlotRecord). r.number) (one_value slot.there (ap (λ (s : ℕ). get_or h.slots s None) (sym same) ∙ owned.used.there)) ∙ owned.used.is) in
+      apart (sym slot.is ∙ ap (λ (r : SlotRecord). r.number)
+      (one_value slot.there (ap (λ (s : ℕ). get_or h.slots s None) (sym same) ∙ owned.used.there))
+      ∙ owned.used.is) in
       record {
         slot = owned.slot;
         used = record {
           used = owned.used.used;
-          there = ap (λ (xs : List (Option SlotRecord)). get_or xs owned.slot None) is.slots ∙ slot_else h.slots longer.slot (longer_record used longer) owned.slot other ∙ owned.used.there;
+          there = ap (λ (xs : List (Option SlotRecord)). get_or xs owned.slot None) is.slots
+              ∙ slot_else h.slots longer.slot (longer_record used longer) owned.slot other ∙ owned.used.there;
           is = owned.used.is;
         };
-        owned = λ i lt. let own = owned.owned i lt in (own.0, owned_still (get_or list i 0) owned.slot own.0 other own.1);
+        owned = λ i lt. let own =
+            owned.owned i lt in (own.0, owned_still (get_or list i 0) owned.slot own.0 other own.1);
       }

@@ -1,5 +1,7 @@
 -- Open drafts, where one of them changes.
-use Rattle.std.proofs.Common.{◌≡◌, ◌≢◌, Result, Ok, Err, IfOk, ◌≤◌, inl, inr, ℕ, ◌<◌, ◌+◌, ◌*◌, List, [], Option, None, Some, length, get_or, set, refl, sym, ◌∙◌, ap, subst, arith, get_or-set_same, get_or-set_other}
+use Rattle.std.proofs.Common.{◌≡◌, ◌≢◌, Result, Ok, Err, IfOk, ◌≤◌, inl, inr, ℕ, ◌<◌, ◌+◌, ◌*◌, List, [], Option, None}
+use Rattle.std.proofs.Common.{Some, length, get_or, set, refl, sym, ◌∙◌, ap, subst, arith, get_or-set_same}
+use Rattle.std.proofs.Common.{get_or-set_other}
 use Rattle.std.proofs.lemmas.Bool.{cases_eq, cases_lt}
 use Rattle.std.proofs.lemmas.List.{get_or_past, length-set}
 use Rattle.spool_blocks.specs.Blocks.{Row, Held}
@@ -26,22 +28,27 @@ use Rattle.spool_kept.specs.declared.order.NumberedSlot.{NumberedSlot}
 use Rattle.spool_kept.specs.Holding.{Holding, Orders, FitsTogether, IsListOf, IsUsedBy}
 use Rattle.spool_kept.specs.Kept.{KeepsView}
 use Rattle.spool_kept.specs.Stored.{Stored}
-use Rattle.spool_kept.specs.Drafting.{list_in, lists_at, DraftsHold, OnlyReserves, DraftStands, DraftsStand, IsOwnedBy, StandsFor, OpensFor}
-use Rattle.spool_kept.proofs.DraftLists.{IsSwapped, all_reserved, all_apart, in_other, none_in_nothing, given_keeps, kept_out, nothing_reserved}
+use Rattle.spool_kept.specs.Drafting.{list_in, lists_at, DraftsHold, OnlyReserves, DraftStands, DraftsStand, IsOwnedBy}
+use Rattle.spool_kept.specs.Drafting.{StandsFor, OpensFor}
+use Rattle.spool_kept.proofs.DraftLists.{IsSwapped, all_reserved, all_apart, in_other, none_in_nothing, given_keeps}
+use Rattle.spool_kept.proofs.DraftLists.{kept_out, nothing_reserved}
 
 -- ANOTHER DRAFT AT ONE NUMBER
 
-pub record IsChanged (old : List (Option SpoolDraft)) (d : ℕ) (o : Option SpoolDraft) (new : List (Option SpoolDraft)) : Type 0 where
+pub record IsChanged (old : List (Option SpoolDraft)) (d : ℕ) (o : Option SpoolDraft)
+    (new : List (Option SpoolDraft)) : Type 0 where
   pub here : draft_at new d ≡ o
   pub others : (e : ℕ) → d ≢ e → draft_at new e ≡ draft_at old e
 
-pub changed_lists : (old new : List (Option SpoolDraft)) (d : ℕ) (o : Option SpoolDraft) → IsChanged old d o new → IsSwapped (lists_at old) d (list_in o) (lists_at new)
+pub changed_lists : (old new : List (Option SpoolDraft)) (d : ℕ) (o : Option SpoolDraft) → IsChanged old d o new
+    → IsSwapped (lists_at old) d (list_in o) (lists_at new)
 changed_lists old new d o is = record { here = ap list_in is.here; others = λ e other. ap list_in (is.others e other) }
 
 pub changed_out : (old new : List (Option SpoolDraft)) (d : ℕ) → new ≡ set old d None → IsChanged old d None new
 changed_out old new d is = record {
   here = ap (λ (xs : List (Option SpoolDraft)). draft_at xs d) is ∙ gone;
-  others = λ e other. ap (λ (xs : List (Option SpoolDraft)). draft_at xs e) is ∙ get_or-set_other old d e None None (λ s. other (sym s));
+  others = λ e other. ap (λ (xs : List (Option SpoolDraft)). draft_at xs e) is
+      ∙ get_or-set_other old d e None None (λ s. other (sym s));
 }
   where
     gone : draft_at (set old d None) d ≡ None
@@ -50,18 +57,23 @@ changed_out old new d is = record {
       | inr ge ↦ get_or_past (set old d None) d None (let l = length-set old d None in omega (arith, l, ge))
     ]
 
-pub changed_in : (old new : List (Option SpoolDraft)) (d : ℕ) (o : SpoolDraft) → d < length old → new ≡ set old d (Some o) → IsChanged old d (Some o) new
+pub changed_in : (old new : List (Option SpoolDraft)) (d : ℕ) (o : SpoolDraft) → d < length old
+    → new ≡ set old d (Some o) → IsChanged old d (Some o) new
 changed_in old new d o lt is = record {
   here = ap (λ (xs : List (Option SpoolDraft)). draft_at xs d) is ∙ get_or-set_same old d (Some o) None lt;
-  others = λ e other. ap (λ (xs : List (Option SpoolDraft)). draft_at xs e) is ∙ get_or-set_other old d e (Some o) None (λ s. other (sym s));
+  others = λ e other. ap (λ (xs : List (Option SpoolDraft)). draft_at xs e) is
+      ∙ get_or-set_other old d e (Some o) None (λ s. other (sym s));
 }
 
-pub list_here : (drafts : List (Option SpoolDraft)) (d : ℕ) (o : SpoolDraft) → draft_at drafts d ≡ Some o → lists_at drafts d ≡ list_of o
+pub list_here : (drafts : List (Option SpoolDraft)) (d : ℕ) (o : SpoolDraft) → draft_at drafts d ≡ Some o
+    → lists_at drafts d ≡ list_of o
 list_here drafts d o is = ap list_in is
 
 -- the drafts fit where the changed one does
-pub fit_changed : (n : ℕ) (h h' : Held) (old new : List (Option SpoolDraft)) (d : ℕ) (o : Option SpoolDraft) → DraftsHold n h old → IsChanged old d o new
-    → IsReserved h' (list_in o) → ((e : ℕ) → d ≢ e → IsReserved h' (lists_at old e)) → ((a : SpoolDraft) → o ≡ Some a → IsPlaced n a)
+pub fit_changed : (n : ℕ) (h h' : Held) (old new : List (Option SpoolDraft)) (d : ℕ) (o : Option SpoolDraft)
+    → DraftsHold n h old → IsChanged old d o new
+    → IsReserved h' (list_in o) → ((e : ℕ) → d ≢ e → IsReserved h' (lists_at old e))
+    → ((a : SpoolDraft) → o ≡ Some a → IsPlaced n a)
     → ((e : ℕ) → d ≢ e → NoneOf (list_in o) (lists_at old e)) → DraftsHold n h' new
 fit_changed n h h' old new d o fit is own others placed apart = record {
   reserved = all_reserved (lists_at old) (lists_at new) d (list_in o) (changed_lists old new d o is) h' own others;
@@ -81,12 +93,16 @@ keeps_on old new v same keeps = record {
   indexes = ap (λ (h : Holding). h.indexes) same.same ∙ keeps.indexes;
   slots = ap (λ (h : Holding). h.slots) same.same ∙ keeps.slots;
   rows = same.rows ∙ keeps.rows;
-  ordered = subst (λ (xs : List NumberedSlot). Orders v.slots xs 512) (sym (ap (λ (h : Holding). h.order) same.same)) keeps.ordered;
-  listed = λ s r e. subst (λ (xs : List (List ℕ)). IsListed v.rows s (get_or xs s [])) (sym (ap (λ (h : Holding). h.lists) same.same)) (keeps.listed s r e);
-  sizes = λ s r e. subst (λ (xs : List (List ℕ)). length (get_or xs s []) ≡ blocks_of r.text_len) (sym (ap (λ (h : Holding). h.lists) same.same)) (keeps.sizes s r e);
+  ordered = subst (λ (xs : List NumberedSlot). Orders v.slots xs 512) (sym (ap (λ (h : Holding). h.order) same.same))
+      keeps.ordered;
+  listed = λ s r e. subst (λ (xs : List (List ℕ)). IsListed v.rows s (get_or xs s []))
+      (sym (ap (λ (h : Holding). h.lists) same.same)) (keeps.listed s r e);
+  sizes = λ s r e. subst (λ (xs : List (List ℕ)). length (get_or xs s []) ≡ blocks_of r.text_len)
+      (sym (ap (λ (h : Holding). h.lists) same.same)) (keeps.sizes s r e);
 }
 
-pub stored_on : {D : Type 0} (disk : Ghosts D) (d : D) (old new : Holding) (m : Store) → OnlyReserves old new → Stored disk d old m → Stored disk d new m
+pub stored_on : {D : Type 0} (disk : Ghosts D) (d : D) (old new : Holding) (m : Store) → OnlyReserves old new
+    → Stored disk d old m → Stored disk d new m
 stored_on disk d old new m same stored = record {
   honest = stored.honest;
   view = stored.view;
@@ -103,62 +119,84 @@ module _ (n : ℕ) (h h' : Held) (old new : List (Option SpoolDraft)) (d : ℕ) 
 
   pub fit_dropped : DraftsHold n h old → GivesBack h h' (lists_at old d) → DraftsHold n h' new
   fit_dropped fit gives = fit_changed n h h' old new d None fit gone (nothing_reserved h' [] refl)
-      (λ e other. given_keeps (lists_at old e) gives (fit.reserved e) (fit.distinct d e other)) (λ a e. absurd cc) (λ e other. none_in_nothing [] (lists_at old e) refl)
+      (λ e other. given_keeps (lists_at old e) gives (fit.reserved e) (fit.distinct d e other)) (λ a e. absurd cc)
+      (λ e other. none_in_nothing [] (lists_at old e) refl)
 
-  pub stand_dropped : (x : IndexSet) (seen : ℕ → ℕ) (first : ℕ) (records : List (Option SlotRecord)) (w : World) → GivesBack h h' (lists_at old d) → DraftsStand x seen first records h w old → DraftsStand x seen first records h' (dropped w d) new
+  pub stand_dropped : (x : IndexSet) (seen : ℕ → ℕ) (first : ℕ) (records : List (Option SlotRecord)) (w : World)
+      → GivesBack h h' (lists_at old d) → DraftsStand x seen first records h w old
+      → DraftsStand x seen first records h' (dropped w d) new
   stand_dropped x seen first records w gives stand = record {
     each = dropped_stand (DraftStands x seen first records h'.rows w.store) w.patches old new
-        (subst (λ (rows : List Row). (e : ℕ) → DraftOf (DraftStands x seen first records rows w.store) (find e w.patches) (draft_at old e)) (sym gives.rows) stand.each) d stand.apart is;
+        (subst (λ (rows : List Row). (e : ℕ) → DraftOf (DraftStands x seen first records rows w.store)
+        (find e w.patches) (draft_at old e)) (sym gives.rows) stand.each) d stand.apart is;
     apart = apart_without d w.patches stand.apart;
     grown = grown_dropped w stand.grown d stand.apart;
     limit = stand.limit ∙ ap (λ (rows : List Row). Some (length rows)) (sym gives.rows);
     all = λ b reserved.
         let out = kept_out b gives reserved in
-        in_other (lists_at old) (lists_at new) d [] (changed_lists old new d None gone) b (stand.all b (sym (gives.others b out) ∙ reserved)) out;
+        in_other (lists_at old) (lists_at new) d [] (changed_lists old new d None gone) b
+        (stand.all b (sym (gives.others b out) ∙ reserved)) out;
   }
 
 -- nothing is given back
 pub gives_nothing : (h : Held) (list : List ℕ) → list ≡ [] → GivesBack h h list
-gives_nothing h list none = record { rows = refl; size = refl; given = λ i lt. absurd (omega (arith, lt, ap length none)); others = λ b out. refl }
+gives_nothing h list none = record {
+  rows = refl;
+  size = refl;
+  given = λ i lt. absurd (omega (arith, lt, ap length none));
+  others = λ b out. refl;
+}
 
-pub reserves_only : (old inside new : Holding) → inside ≡ old → new ≡ record inside { blocks = new.blocks } → new.blocks.rows ≡ inside.blocks.rows → OnlyReserves old new
+pub reserves_only : (old inside new : Holding) → inside ≡ old → new ≡ record inside { blocks = new.blocks }
+    → new.blocks.rows ≡ inside.blocks.rows → OnlyReserves old new
 reserves_only old inside new is same rows = record {
   same = same ∙ ap (λ (h : Holding). record h { blocks = new.blocks }) is;
   rows = rows ∙ ap (λ (h : Holding). h.blocks.rows) is;
 }
 
-pub drops : {D : Type 0} (disk : Ghosts D) (d : D) (old new : Holding) (drafts drafts' : List (Option SpoolDraft)) (number : ℕ) (w : World) → OnlyReserves old new
-    → drafts' ≡ set drafts number None → GivesBack old.blocks new.blocks (lists_at drafts number) → StandsFor disk d old drafts w → StandsFor disk d new drafts' (dropped w number)
+pub drops : {D : Type 0} (disk : Ghosts D) (d : D) (old new : Holding) (drafts drafts' : List (Option SpoolDraft))
+    (number : ℕ) (w : World) → OnlyReserves old new
+    → drafts' ≡ set drafts number None → GivesBack old.blocks new.blocks (lists_at drafts number)
+    → StandsFor disk d old drafts w → StandsFor disk d new drafts' (dropped w number)
 drops disk d old new drafts drafts' number w same is gives s = record {
   stored = stored_on disk d old new w.store same s.stored;
-  stands = subst (λ (h : Holding). DraftsStand w.store.indexes (disk.seen d) (25 + 2 * journal_pages h.layout) h.slots new.blocks (dropped w number) drafts') (sym same.same)
-      (stand_dropped old.layout old.blocks new.blocks drafts drafts' number is w.store.indexes (disk.seen d) (25 + 2 * journal_pages old.layout) old.slots w gives s.stands);
+  stands = subst (λ (h : Holding). DraftsStand w.store.indexes (disk.seen d) (25 + 2 * journal_pages h.layout) h.slots
+      new.blocks (dropped w number) drafts') (sym same.same)
+      (stand_dropped old.layout old.blocks new.blocks drafts drafts' number is w.store.indexes (disk.seen d)
+      (25 + 2 * journal_pages old.layout) old.slots w gives s.stands);
 }
 
 -- A DRAFT MORE
 
 row_there : (rows : List Row) (b : ℕ) (o : ℕ × ℕ) → get_or rows b None ≡ Some o → b < length rows
-row_there rows b o e = elim (cases_lt b (length rows)) [ inl lt ↦ lt | inr ge ↦ absurd (let n = get_or_past rows b None ge in cc) ]
+row_there rows b o e = elim (cases_lt b (length rows))
+    [ inl lt ↦ lt | inr ge ↦ absurd (let n = get_or_past rows b None ge in cc) ]
 
-few_owned : (rows : List Row) (s : ℕ) (list : List ℕ) → ((i : ℕ) → i < length list → get_or rows (get_or list i 0) None ≡ Some (s, i)) → length list ≤ length rows
-few_owned rows s list owned = few_distinct (length rows) list (λ i lt. row_there rows (get_or list i 0) (s, i) (owned i lt))
-    (λ i k lt lt' e. let same : ◌≡◌ {A = Row} (Some (s, i)) (Some (s, k)) = sym (owned i (omega (arith, lt, lt'))) ∙ ap (λ (b : ℕ). get_or rows b None) e ∙ owned k lt' in omega (arith, lt, ordinal s i k same))
+few_owned : (rows : List Row) (s : ℕ) (list : List ℕ)
+    → ((i : ℕ) → i < length list → get_or rows (get_or list i 0) None ≡ Some (s, i)) → length list ≤ length rows
+few_owned rows s list owned =
+    few_distinct (length rows) list (λ i lt. row_there rows (get_or list i 0) (s, i) (owned i lt))
+    (λ i k lt lt' e. let same : ◌≡◌ {A = Row} (Some (s, i)) (Some (s, k)) = sym (owned i (omega (arith, lt, lt')))
+    ∙ ap (λ (b : ℕ). get_or rows b None) e ∙ owned k lt' in omega (arith, lt, ordinal s i k same))
   where
     ordinal : (s i k : ℕ) → ◌≡◌ {A = Row} (Some (s, i)) (Some (s, k)) → i ≡ k
     ordinal s i k e = ap (λ (o : Row). elim o as (λ _. ℕ) [ None ↦ i | Some p ↦ p.1 ]) e
 
-pub few_listed : (h : Holding) → FitsTogether h → (s : ℕ) → s < 512 → h.layout ≤ 65536 → (list : List ℕ) → list ≡ get_or h.lists s [] → length list ≤ 65536
+pub few_listed : (h : Holding) → FitsTogether h → (s : ℕ) → s < 512 → h.layout ≤ 65536 → (list : List ℕ)
+    → list ≡ get_or h.lists s [] → length list ≤ 65536
 few_listed h fits s lt few list is = of_slot (get_or h.slots s None) (fits.listed s lt)
   where
     of_slot : (o : Option SlotRecord) → IsListOf h.blocks.rows s o (get_or h.lists s []) → length list ≤ 65536
     of_slot None none = omega (arith, ap length (is ∙ none))
-    of_slot (Some r) has = omega (arith, ap length is, few_owned h.blocks.rows s (get_or h.lists s []) has.owned, fits.row_count, few)
+    of_slot (Some r) has = omega
+        (arith, ap length is, few_owned h.blocks.rows s (get_or h.lists s []) has.owned, fits.row_count, few)
 
 -- the block at one place of the list is the upload's too
 abbrev pub AllAt : List ℕ → ℕ → List ℕ → Type 0
 AllAt list k some = (i : ℕ) → i < length some → (k < length list) × (get_or some i 0 ≡ get_or list k 0)
 
-pub owned_in : (slots : List (Option SlotRecord)) (rows : List Row) (number k : ℕ) (list some : List ℕ) → IsOwnedBy slots rows number list → AllAt list k some → IsOwnedBy slots rows number some
+pub owned_in : (slots : List (Option SlotRecord)) (rows : List Row) (number k : ℕ) (list some : List ℕ)
+    → IsOwnedBy slots rows number list → AllAt list k some → IsOwnedBy slots rows number some
 owned_in slots rows number k list some is all = record {
   slot = is.slot;
   used = is.used;
@@ -168,22 +206,31 @@ owned_in slots rows number k list some is all = record {
       (own.0, subst (λ (b : ℕ). Owns rows b is.slot own.0) (sym at.1) own.1);
 }
 
-pub tail_owned : (slots : List (Option SlotRecord)) (rows : List Row) (number k : ℕ) (list : List ℕ) (r : Result SpoolDraft UploadRefusal) → IsOwnedBy slots rows number list
+pub tail_owned : (slots : List (Option SlotRecord)) (rows : List Row) (number k : ℕ) (list : List ℕ)
+    (r : Result SpoolDraft UploadRefusal) → IsOwnedBy slots rows number list
     → IfOk r (λ o. AllAt list k (tail_of o)) → IfOk r (λ o. IsOwnedBy slots rows number (tail_of o))
 tail_owned slots rows number k list (Ok o) is all = owned_in slots rows number k list (tail_of o) is all
 tail_owned slots rows number k list (Err e) is all = tt
 
 -- a slot's list holds its upload's blocks
-pub list_owned : (h : Holding) → FitsTogether h → (s : ℕ) → s < 512 → (number : ℕ) → IsUsedBy h.slots s number → (list : List ℕ) → list ≡ get_or h.lists s [] → IsOwnedBy h.slots h.blocks.rows number list
+pub list_owned : (h : Holding) → FitsTogether h → (s : ℕ) → s < 512 → (number : ℕ) → IsUsedBy h.slots s number
+    → (list : List ℕ) → list ≡ get_or h.lists s [] → IsOwnedBy h.slots h.blocks.rows number list
 list_owned h fits s lt number used list is =
-    let has = subst (λ (o : Option SlotRecord). IsListOf h.blocks.rows s o (get_or h.lists s [])) used.there (fits.listed s lt) in
+    let has = subst (λ (o : Option SlotRecord). IsListOf h.blocks.rows s o (get_or h.lists s [])) used.there
+    (fits.listed s lt) in
     record {
       slot = s;
       used = used;
-      owned = λ i lt. (i, ap (λ (xs : List ℕ). get_or h.blocks.rows (get_or xs i 0) None) is ∙ has.owned i (omega (arith, lt, ap length is)));
+      owned = λ i lt. (
+        i,
+        ap (λ (xs : List ℕ). get_or h.blocks.rows (get_or xs i 0) None) is
+            ∙ has.owned i (omega (arith, lt, ap length is)),
+      );
     }
 
-pub opens_for : (m : Store) (number offset count : ℕ) (seen : ℕ → ℕ) (first : ℕ) (u : Upload) (r : Result SpoolDraft UploadRefusal) → IsBegun m.indexes number offset count u r
-    → IfOk r (λ d. Carries m.indexes seen first (first_patch number count u) d) → OpensFor m number offset count seen first (Some u) r
+pub opens_for : (m : Store) (number offset count : ℕ) (seen : ℕ → ℕ) (first : ℕ) (u : Upload)
+    (r : Result SpoolDraft UploadRefusal) → IsBegun m.indexes number offset count u r
+    → IfOk r (λ d. Carries m.indexes seen first (first_patch number count u) d)
+    → OpensFor m number offset count seen first (Some u) r
 opens_for m number offset count seen first u (Ok o) begun carries = (begun, carries)
 opens_for m number offset count seen first u (Err e) begun carries = begun

@@ -1,5 +1,6 @@
 -- Entries of a store by their numbers.
-use Rattle.std.proofs.Common.{◌≡◌, inl, inr, ℕ, zero, suc, ◌<◌, List, [], ◌∷◌, ◌++◌, None, Some, length, slice_index, map, refl, sym, ap, subst, arith, eq-eqb}
+use Rattle.std.proofs.Common.{◌≡◌, inl, inr, ℕ, zero, suc, ◌<◌, List, [], ◌∷◌, ◌++◌, None, Some, length, slice_index}
+use Rattle.std.proofs.Common.{map, refl, sym, ap, subst, arith, eq-eqb}
 use Rattle.std.proofs.lemmas.Bool.{cases_eq, cases_lt, ne_eqb}
 use Rattle.std.proofs.lemmas.Bool.Decides.{nat_tests}
 use Rattle.std.proofs.lemmas.List.{length-append, map-append, get_or_append_left, get_or_push}
@@ -12,7 +13,8 @@ module _ {A : Type 0} where
   find_push_same n a (x ∷ xs) none = let ih = find_push_same n a xs in grind (arith, nat_tests)
 
   -- each place's number is found, there or before it
-  pub found_at : (xs : List (ℕ × A)) (k : ℕ) → k < length xs → (a : A) × (find (slice_index (map (λ e. e.0) xs) k) xs ≡ Some a)
+  pub found_at : (xs : List (ℕ × A)) (k : ℕ) → k < length xs
+      → (a : A) × (find (slice_index (map (λ e. e.0) xs) k) xs ≡ Some a)
   found_at [] k lt = absurd (omega (arith, lt))
   found_at (x ∷ xs) zero lt = (x.1, rw (eq-eqb x.0 x.0 refl) refl)
   found_at (x ∷ xs) (suc k) lt =
@@ -35,20 +37,25 @@ module _ {A : Type 0} where
   ]
 
   -- a new entry is one of the greatest number
-  pub rising_more : (xs : List (ℕ × A)) (n : ℕ) (a : A) → IsRising (map (λ e. e.0) xs) → ((k : ℕ) (b : A) → find k xs ≡ Some b → k < n) → IsRising (map (λ e. e.0) (xs ++ (n, a) ∷ []))
+  pub rising_more : (xs : List (ℕ × A)) (n : ℕ) (a : A) → IsRising (map (λ e. e.0) xs)
+      → ((k : ℕ) (b : A) → find k xs ≡ Some b → k < n) → IsRising (map (λ e. e.0) (xs ++ (n, a) ∷ []))
   rising_more xs n a rising below =
       subst IsRising (sym (map-append (λ e. e.0) xs ((n, a) ∷ []))) (pushed (map (λ e. e.0) xs) rising (λ k lt.
-      let there = found_at xs k (omega (arith, lt, length-numbers xs)) in below (slice_index (map (λ e. e.0) xs) k) there.0 there.1))
+      let there = found_at xs k (omega (arith, lt, length-numbers xs)) in below (slice_index (map (λ e. e.0) xs) k)
+      there.0 there.1))
     where
       pushed : (ns : List ℕ) → IsRising ns → IsBelow ns n → IsRising (ns ++ n ∷ [])
       pushed ns up under i j lt inside =
           let long = length-append ns (n ∷ []) in
-          let first : slice_index (ns ++ n ∷ []) i ≡ slice_index ns i = get_or_append_left ns (n ∷ []) 0 i (omega (arith, long, lt, inside)) in
+          let first : slice_index (ns ++ n ∷ []) i ≡ slice_index ns i =
+          get_or_append_left ns (n ∷ []) 0 i (omega (arith, long, lt, inside)) in
           elim (cases_lt j (length ns)) [
             | inl before ↦
-                let second : slice_index (ns ++ n ∷ []) j ≡ slice_index ns j = get_or_append_left ns (n ∷ []) 0 j before in
+                let second : slice_index (ns ++ n ∷ []) j ≡ slice_index ns j =
+                get_or_append_left ns (n ∷ []) 0 j before in
                 omega (arith, first, second, up i j lt before)
             | inr from ↦
-                let second : slice_index (ns ++ n ∷ []) j ≡ n = get_or_push ns n 0 j (omega (arith, from, inside, long)) in
+                let second : slice_index (ns ++ n ∷ []) j ≡ n =
+                get_or_push ns n 0 j (omega (arith, from, inside, long)) in
                 omega (arith, first, second, under i (omega (arith, long, lt, inside)))
           ]

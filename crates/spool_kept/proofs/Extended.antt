@@ -1,5 +1,7 @@
 -- A longer upload, as the disk is to say it.
-use Rattle.std.proofs.Common.{◌≡◌, inl, inr, ◌⊎◌, ℕ, zero, suc, ◌∷◌, ◌+◌, ◌-◌, ◌/◌, ◌%◌, ◌^◌, ◌<◌, ◌≤◌, List, [], ◌++◌, Option, None, Some, length, length-append, get_or, set, drop, refl, sym, ◌∙◌, ap, subst, arith}
+use Rattle.std.proofs.Common.{◌≡◌, inl, inr, ◌⊎◌, ℕ, zero, suc, ◌∷◌, ◌+◌, ◌-◌, ◌/◌, ◌%◌, ◌^◌, ◌<◌, ◌≤◌, List, [], ◌++◌}
+use Rattle.std.proofs.Common.{Option, None, Some, length, length-append, get_or, set, drop, refl, sym, ◌∙◌, ap, subst}
+use Rattle.std.proofs.Common.{arith}
 use Rattle.std.proofs.lemmas.Bool.{cases_lt}
 use Rattle.std.proofs.lemmas.List.{append-nil}
 use Rattle.enc_model.specs.Transcode.{Transcoder}
@@ -38,10 +40,18 @@ padded_length (suc n) (b ∷ bytes) = ap (λ (k : ℕ). suc k) (padded_length n 
 
 pub state_length : (t : Transcoder) → length (state_bytes t) ≡ 32
 state_length t =
-    omega (arith, length-append (padded 12 (phase_bytes t.phase)) (padded 16 (shift_number t.shift ∷ [])), padded_length 12 (phase_bytes t.phase), padded_length 16 (shift_number t.shift ∷ []))
+    omega (
+      arith,
+      length-append (padded 12 (phase_bytes t.phase)) (padded 16 (shift_number t.shift ∷ [])),
+      padded_length
+          12 (phase_bytes t.phase),
+      padded_length 16 (shift_number t.shift ∷ []),
+    )
 
-module _ (h new : Holding) (v : View) (m : Store) (keeps : KeepsView h v) (shows : Shows v m) (longer : Longer) (more : List ℕ) (may : MayExtend h longer more) (reserved : IsReserved h.blocks more)
-    (is : (r : SlotRecord) → get_or h.slots longer.slot None ≡ Some r → IsLonger h r longer more new) (state_size : length longer.state ≡ 32) where
+module _ (h new : Holding) (v : View) (m : Store) (keeps : KeepsView h v) (shows : Shows v m) (longer : Longer)
+    (more : List ℕ) (may : MayExtend h longer more) (reserved : IsReserved h.blocks more)
+    (is : (r : SlotRecord) → get_or h.slots longer.slot None ≡ Some r → IsLonger h r longer more new)
+    (state_size : length longer.state ≡ 32) where
   slot : ℕ
   slot = longer.slot
 
@@ -55,15 +65,18 @@ module _ (h new : Holding) (v : View) (m : Store) (keeps : KeepsView h v) (shows
   no_owner = subst (λ (rows : List Row). Unowned rows more) keeps.rows reserved.no_owner
 
   hands : 0 < length more → HandsOver v.rows longer.slot (may.used.text_len / 4096) more new.blocks.rows
-  hands some = subst (λ (rows : List Row). HandsOver rows longer.slot (may.used.text_len / 4096) more new.blocks.rows) keeps.rows (longer_is.rows some)
+  hands some = subst (λ (rows : List Row). HandsOver rows longer.slot (may.used.text_len / 4096) more new.blocks.rows)
+      keeps.rows (longer_is.rows some)
 
   same_rows : length more ≡ 0 → new.blocks.rows ≡ v.rows
   same_rows none = ap (λ (b : Held). b.rows) (longer_is.same none) ∙ keeps.rows
 
   room : may.used.text_len / 4096 + length more ≤ 65536
   room =
-      let below = subst (λ (rows : List Row). (i : ℕ) → i < length more → get_or more i 0 < length rows) keeps.rows reserved.below in
-      let all = room_for v.rows longer.slot (may.used.text_len / 4096) (get_or h.lists longer.slot []) more (keeps.listed longer.slot may.used there).owned (omega (arith, keeps.sizes longer.slot may.used there))
+      let below = subst (λ (rows : List Row). (i : ℕ) → i < length more → get_or more i 0 < length rows) keeps.rows
+      reserved.below in
+      let all = room_for v.rows longer.slot (may.used.text_len / 4096) (get_or h.lists longer.slot []) more
+      (keeps.listed longer.slot may.used there).owned (omega (arith, keeps.sizes longer.slot may.used there))
       no_owner below reserved.distinct in
       omega (arith, all, shows.sound.row_count, shows.sound.most)
 
@@ -71,12 +84,16 @@ module _ (h new : Holding) (v : View) (m : Store) (keeps : KeepsView h v) (shows
   pub rows_none : length more ≡ 0 → SameRowsBut [] v.rows new.blocks.rows
   rows_none none b not = ap (λ (rows : List Row). get_or rows b None) (same_rows none)
 
-  pub rows_some : 0 < length more → SameRowsBut (more ++ drop (may.used.text_len / 4096) (get_or h.lists longer.slot [])) v.rows new.blocks.rows
+  pub rows_some : 0 < length more → SameRowsBut
+      (more ++ drop (may.used.text_len / 4096) (get_or h.lists longer.slot [])) v.rows new.blocks.rows
   rows_some some =
-      rows_but_last v.rows longer.slot (may.used.text_len / 4096) more new.blocks.rows (hands some) no_owner (blocks_of may.used.text_len) (get_or h.lists longer.slot [])
-      (shows.sound.lists longer.slot may.used there) (keeps.listed longer.slot may.used there) (keeps.sizes longer.slot may.used there)
+      rows_but_last v.rows longer.slot (may.used.text_len / 4096) more new.blocks.rows (hands some) no_owner
+      (blocks_of may.used.text_len) (get_or h.lists longer.slot [])
+      (shows.sound.lists longer.slot may.used there) (keeps.listed longer.slot may.used there)
+      (keeps.sizes longer.slot may.used there)
 
-  module _ (n : ℕ) (number : may.used.number ≡ n) (u : Upload) (found : upload_of m n ≡ Some u) (bytes added : List ℕ) (seen : ℕ → ℕ) (ext : IsExtension m.indexes u bytes added longer more seen (text_page h.layout)) where
+  module _ (n : ℕ) (number : may.used.number ≡ n) (u : Upload) (found : upload_of m n ≡ Some u) (bytes added : List ℕ)
+      (seen : ℕ → ℕ) (ext : IsExtension m.indexes u bytes added longer more seen (text_page h.layout)) where
     found' : find may.used.number m.uploads ≡ Some u
     found' = ap (λ (k : ℕ). find k m.uploads) number ∙ found
 
@@ -106,7 +123,8 @@ module _ (h new : Holding) (v : View) (m : Store) (keeps : KeepsView h v) (shows
 
     record_sound : IsSoundRecord m.next (longer_record may.used longer)
     record_sound =
-        let old = subst (λ (k : ℕ). IsSoundRecord k may.used) shows.next (shows.sound.records longer.slot may.used there) in
+        let old = subst (λ (k : ℕ). IsSoundRecord k may.used) shows.next
+        (shows.sound.records longer.slot may.used there) in
         record {
           some = old.some;
           below = old.below;
@@ -114,13 +132,21 @@ module _ (h new : Holding) (v : View) (m : Store) (keeps : KeepsView h v) (shows
           declared = old.declared;
           text_fits = text_fits old;
           state_size = state_size;
-          state = told_state m.indexes (longer_record may.used longer) (v.texts longer.slot ++ added) (with_bytes u bytes) tells;
+          state = told_state m.indexes (longer_record may.used longer) (v.texts longer.slot ++ added)
+              (with_bytes u bytes) tells;
           metadata_size = old.metadata_size;
           printable = old.printable;
         }
 
     grown : may.used.text_len ≤ longer.text_len
-    grown = omega (arith, told.text_len, ext.text_len, ap (λ (xs : List ℕ). length xs) ext.text, length-append (text_of m.indexes u) added)
+    grown = omega (
+      arith,
+      told.text_len,
+      ext.text_len,
+      ap (λ (xs : List ℕ). length xs) ext.text,
+      length-append
+          (text_of m.indexes u) added,
+    )
 
     more_len : ℕ
     more_len = longer.text_len - (may.used.text_len - may.used.text_len % 4096)
@@ -132,111 +158,163 @@ module _ (h new : Holding) (v : View) (m : Store) (keeps : KeepsView h v) (shows
       more_size : length more ≡ blocks_of (longer.text_len - (may.used.text_len - may.used.text_len % 4096))
       more_size = omega (arith, grown, may.blocks some)
 
-      total : longer.text_len ≡ may.used.text_len - may.used.text_len % 4096 + (longer.text_len - (may.used.text_len - may.used.text_len % 4096))
+      total : longer.text_len ≡ may.used.text_len - may.used.text_len
+          % 4096 + (longer.text_len - (may.used.text_len - may.used.text_len % 4096))
       total = omega (arith, grown)
 
-      content : text_on seen (text_page v.blocks) more (longer.text_len - full_bytes may.used.text_len) ≡ drop (full_bytes may.used.text_len) (v.texts longer.slot) ++ added
+      content : text_on seen (text_page v.blocks) more (longer.text_len - full_bytes may.used.text_len) ≡ drop
+          (full_bytes may.used.text_len) (v.texts longer.slot) ++ added
       content =
-          let P : ℕ → Type 0 = λ k. text_on seen (text_page v.blocks) more (longer.text_len - full_bytes k) ≡ drop (full_bytes k) (v.texts longer.slot) ++ added in
-          let Q : List ℕ → Type 0 = λ xs. text_on seen (text_page v.blocks) more (longer.text_len - full_bytes (length (text_of m.indexes u))) ≡ drop (full_bytes (length (text_of m.indexes u))) xs ++ added in
+          let P : ℕ → Type 0 = λ k. text_on seen (text_page v.blocks) more (longer.text_len - full_bytes k) ≡ drop
+          (full_bytes k) (v.texts longer.slot) ++ added in
+          let Q : List ℕ → Type 0 =
+          λ xs. text_on seen (text_page v.blocks) more
+          (longer.text_len - full_bytes (length (text_of m.indexes u))) ≡ drop
+          (full_bytes (length (text_of m.indexes u))) xs ++ added in
           subst P (sym told.text_len) (subst Q (sym told.text)
-          (subst (λ (k : ℕ). text_on seen (text_page k) more (longer.text_len - full_bytes (length (text_of m.indexes u))) ≡ drop (full_bytes (length (text_of m.indexes u))) (text_of m.indexes u) ++ added) keeps.blocks (ext.content some)))
+          (subst (λ (k : ℕ). text_on seen (text_page k) more
+          (longer.text_len - full_bytes (length (text_of m.indexes u))) ≡ drop
+          (full_bytes (length (text_of m.indexes u))) (text_of m.indexes u) ++ added) keeps.blocks (ext.content some)))
 
-      shows_some : Shows (appended_view v longer.slot (longer_record may.used longer) new.blocks.rows (v.texts longer.slot ++ added)) (appended_store m may.used.number bytes)
+      shows_some : Shows (appended_view v longer.slot (longer_record may.used longer) new.blocks.rows
+          (v.texts longer.slot ++ added)) (appended_store m may.used.number bytes)
       shows_some =
-          handed_shows v m shows longer.slot may.used (longer_record may.used longer) there new.blocks.rows (v.texts longer.slot ++ added) (get_or h.lists longer.slot []) more
+          handed_shows v m shows longer.slot may.used (longer_record may.used longer) there new.blocks.rows
+          (v.texts longer.slot ++ added) (get_or h.lists longer.slot []) more
           (longer.text_len - (may.used.text_len - may.used.text_len % 4096))
-          (keeps.listed longer.slot may.used there) (keeps.sizes longer.slot may.used there) (hands some) no_owner more_size total u bytes refl found' tells record_sound room
+          (keeps.listed longer.slot may.used there) (keeps.sizes longer.slot may.used there) (hands some) no_owner
+          more_size total u bytes refl found' tells record_sound room
 
-      texts_some : HasTexts seen v → HasTexts seen (appended_view v longer.slot (longer_record may.used longer) new.blocks.rows (v.texts longer.slot ++ added))
+      texts_some : HasTexts seen v → HasTexts seen
+          (appended_view v longer.slot (longer_record may.used longer) new.blocks.rows (v.texts longer.slot ++ added))
       texts_some texts =
-          handed_texts v m shows longer.slot may.used (longer_record may.used longer) there new.blocks.rows (v.texts longer.slot ++ added) (get_or h.lists longer.slot []) more
+          handed_texts v m shows longer.slot may.used (longer_record may.used longer) there new.blocks.rows
+          (v.texts longer.slot ++ added) (get_or h.lists longer.slot []) more
           (longer.text_len - (may.used.text_len - may.used.text_len % 4096))
-          (keeps.listed longer.slot may.used there) (keeps.sizes longer.slot may.used there) (hands some) no_owner more_size total seen added texts content refl
+          (keeps.listed longer.slot may.used there) (keeps.sizes longer.slot may.used there) (hands some) no_owner
+          more_size total seen added texts content refl
 
     module _ (none : length more ≡ 0) where
       text_same : v.texts longer.slot ++ added ≡ v.texts longer.slot
       text_same = ap (λ (xs : List ℕ). v.texts longer.slot ++ xs) (ext.nothing none) ∙ append-nil (v.texts longer.slot)
 
-      shows_none : Shows (appended_view v longer.slot (longer_record may.used longer) new.blocks.rows (v.texts longer.slot ++ added)) (appended_store m may.used.number bytes)
+      shows_none : Shows (appended_view v longer.slot (longer_record may.used longer) new.blocks.rows
+          (v.texts longer.slot ++ added)) (appended_store m may.used.number bytes)
       shows_none =
-          append_without_text v m shows longer.slot may.used (longer_record may.used longer) there refl new.blocks.rows (v.texts longer.slot ++ added) u bytes found' tells record_sound (same_rows none) (may.same none)
+          append_without_text v m shows longer.slot may.used (longer_record may.used longer) there refl new.blocks.rows
+          (v.texts longer.slot ++ added) u bytes found' tells record_sound (same_rows none) (may.same none)
 
-      texts_none : HasTexts seen v → HasTexts seen (appended_view v longer.slot (longer_record may.used longer) new.blocks.rows (v.texts longer.slot ++ added))
+      texts_none : HasTexts seen v → HasTexts seen
+          (appended_view v longer.slot (longer_record may.used longer) new.blocks.rows (v.texts longer.slot ++ added))
       texts_none texts =
-          texts_without_text v m shows longer.slot may.used (longer_record may.used longer) there new.blocks.rows (v.texts longer.slot ++ added) seen texts (same_rows none) (may.same none) text_same
+          texts_without_text v m shows longer.slot may.used (longer_record may.used longer) there new.blocks.rows
+          (v.texts longer.slot ++ added) seen texts (same_rows none) (may.same none) text_same
 
-    pub extended_shows : Shows (appended_view v longer.slot (longer_record may.used longer) new.blocks.rows (v.texts longer.slot ++ added)) (appended_store m n bytes)
-    extended_shows = subst (λ (k : ℕ). Shows (appended_view v longer.slot (longer_record may.used longer) new.blocks.rows (v.texts longer.slot ++ added)) (appended_store m k bytes)) number (elim (cases_lt 0 (length more)) [
-      | inl some ↦ shows_some some
-      | inr none ↦ shows_none (omega (arith, none))
-    ])
+    pub extended_shows : Shows
+        (appended_view v longer.slot (longer_record may.used longer) new.blocks.rows (v.texts longer.slot ++ added))
+        (appended_store m n bytes)
+    extended_shows = subst (λ (k : ℕ). Shows
+        (appended_view v longer.slot (longer_record may.used longer) new.blocks.rows (v.texts longer.slot ++ added))
+        (appended_store m k bytes)) number (elim (cases_lt 0 (length more)) [
+          | inl some ↦ shows_some some
+          | inr none ↦ shows_none (omega (arith, none))
+        ])
 
-    pub extended_texts : HasTexts seen v → HasTexts seen (appended_view v longer.slot (longer_record may.used longer) new.blocks.rows (v.texts longer.slot ++ added))
+    pub extended_texts : HasTexts seen v → HasTexts seen
+        (appended_view v longer.slot (longer_record may.used longer) new.blocks.rows (v.texts longer.slot ++ added))
     extended_texts texts = elim (cases_lt 0 (length more)) [
       | inl some ↦ texts_some some texts
       | inr none ↦ texts_none (omega (arith, none)) texts
     ]
 
-    pub extended_keeps : FitsTogether new → KeepsView new (appended_view v longer.slot (longer_record may.used longer) new.blocks.rows (v.texts longer.slot ++ added))
+    pub extended_keeps : FitsTogether new → KeepsView new
+        (appended_view v longer.slot (longer_record may.used longer) new.blocks.rows (v.texts longer.slot ++ added))
     extended_keeps fits' =
-        keeps_said new (appended_view v longer.slot (longer_record may.used longer) new.blocks.rows (v.texts longer.slot ++ added)) fits' extended_shows.sound
+        keeps_said new (appended_view v longer.slot (longer_record may.used longer) new.blocks.rows
+        (v.texts longer.slot ++ added)) fits' extended_shows.sound
         (sym keeps.blocks ∙ sym longer_is.layout) (longer_is.next ∙ keeps.next) (longer_is.indexes ∙ keeps.indexes)
-        (longer_is.slots ∙ ap (λ (xs : List (Option SlotRecord)). set xs longer.slot (Some (longer_record may.used longer))) keeps.slots) refl
+        (longer_is.slots ∙ ap (λ (xs : List (Option SlotRecord)). set xs longer.slot
+        (Some (longer_record may.used longer))) keeps.slots) refl
 
   -- with another text for the slot the pages make the same of a view
-  pub changes_text : (pages : List (ℕ × List ℕ)) (rows : List Row) (shown : List ℕ) → ChangesButRows pages v (record (with_record v longer.slot (longer_record may.used longer)) { rows = rows })
+  pub changes_text : (pages : List (ℕ × List ℕ)) (rows : List Row) (shown : List ℕ)
+      → ChangesButRows pages v (record (with_record v longer.slot (longer_record may.used longer)) { rows = rows })
       → ChangesButRows pages v (appended_view v longer.slot (longer_record may.used longer) rows shown)
-  changes_text pages rows shown is' = record { blocks = is'.blocks; version = is'.version; indexes = is'.indexes; next = is'.next; slots = is'.slots; rows = is'.rows }
+  changes_text pages rows shown is' = record {
+    blocks = is'.blocks;
+    version = is'.version;
+    indexes = is'.indexes;
+    next = is'.next;
+    slots = is'.slots;
+    rows = is'.rows;
+  }
 
 -- AS THE DISK HOLDS IT
 
-module _ {D : Type 0} (disk : Ghosts D) (old : D) (h new : Holding) (fits' : FitsTogether new) (longer : Longer) (more : List ℕ) (may : MayExtend h longer more) (reserved : IsReserved h.blocks more)
-    (is : (r : SlotRecord) → get_or h.slots longer.slot None ≡ Some r → IsLonger h r longer more new) (state_size : length longer.state ≡ 32)
+module _ {D : Type 0} (disk : Ghosts D) (old : D) (h new : Holding) (fits' : FitsTogether new) (longer : Longer)
+    (more : List ℕ) (may : MayExtend h longer more) (reserved : IsReserved h.blocks more)
+    (is : (r : SlotRecord) → get_or h.slots longer.slot None ≡ Some r → IsLonger h r longer more new)
+    (state_size : length longer.state ≡ 32)
     (m : Store) (n : ℕ) (bytes : List ℕ) (append : IsAppend disk old h m n bytes longer more) where
   abbrev pub before : View
   before = append.stored.view
 
   abbrev pub after : View
-  after = appended_view append.stored.view longer.slot (longer_record may.used longer) new.blocks.rows (append.stored.view.texts longer.slot ++ append.added)
+  after = appended_view append.stored.view longer.slot (longer_record may.used longer) new.blocks.rows
+      (append.stored.view.texts longer.slot ++ append.added)
 
   number : may.used.number ≡ n
   number = ap (λ (r : SlotRecord). r.number) (one_value may.there append.used.there) ∙ append.used.is
 
   pub after_shows : Shows after (appended_store m n bytes)
-  after_shows = extended_shows h new append.stored.view m append.stored.keeps append.stored.shows longer more may reserved is state_size n number append.upload append.there bytes append.added (disk.seen old) append.extension
+  after_shows = extended_shows h new append.stored.view m append.stored.keeps append.stored.shows longer more may
+      reserved is state_size n number append.upload append.there bytes append.added (disk.seen old) append.extension
 
   pub after_texts : HasTexts (disk.seen old) after
   after_texts =
-      extended_texts h new append.stored.view m append.stored.keeps append.stored.shows longer more may reserved is state_size n number append.upload append.there bytes append.added (disk.seen old) append.extension
+      extended_texts h new append.stored.view m append.stored.keeps append.stored.shows longer more may reserved is
+      state_size n number append.upload append.there bytes append.added (disk.seen old) append.extension
       (rests_says append.stored.rests).texts
 
-  pub after_stored : (d : D) → disk.honest d → Rests after (disk.seen d) (disk.loose d) → Stored disk d new (appended_store m n bytes)
+  pub after_stored : (d : D) → disk.honest d → Rests after (disk.seen d) (disk.loose d)
+      → Stored disk d new (appended_store m n bytes)
   after_stored d honest rests = record {
     honest = honest;
     view = after;
     rests = rests;
-    keeps = extended_keeps h new append.stored.view m append.stored.keeps append.stored.shows longer more may reserved is state_size n number append.upload append.there bytes append.added (disk.seen old) append.extension fits';
+    keeps = extended_keeps h new append.stored.view m append.stored.keeps append.stored.shows longer more may reserved
+        is state_size n number append.upload append.there bytes append.added (disk.seen old) append.extension fits';
     shows = after_shows;
   }
 
-  pub after_lasts : (d : D) → Lasts disk old d (λ image. IsViewOf image before ⊎ IsViewOf image after) → Lasts disk old d (ShowsEither h.layout m (appended_store m n bytes))
+  pub after_lasts : (d : D) → Lasts disk old d (λ image. IsViewOf image before ⊎ IsViewOf image after)
+      → Lasts disk old d (ShowsEither h.layout m (appended_store m n bytes))
   after_lasts d lasts = lasts_more lasts (λ image shown. elim shown [
-    | inl was ↦ inl (record { view = append.stored.view; blocks = sym append.stored.keeps.blocks; is = was; shows = append.stored.shows })
+    | inl was ↦ inl (record {
+      view = append.stored.view;
+      blocks = sym append.stored.keeps.blocks;
+      is = was;
+      shows = append.stored.shows;
+    })
     | inr now ↦ inr (record { view = after; blocks = sym append.stored.keeps.blocks; is = now; shows = after_shows })
   ])
 
   module _ (blank filled : List (ℕ × List ℕ))
-      (but : (v : View) → v.blocks ≡ h.layout → v.slots ≡ h.slots → (r : SlotRecord) → get_or h.slots longer.slot None ≡ Some r → (rows : List Row)
-      → (length more ≡ 0 → SameRowsBut [] v.rows rows) → (0 < length more → SameRowsBut (more ++ drop (r.text_len / 4096) (get_or h.lists longer.slot [])) v.rows rows)
+      (but : (v : View) → v.blocks ≡ h.layout → v.slots ≡ h.slots → (r : SlotRecord)
+      → get_or h.slots longer.slot None ≡ Some r → (rows : List Row)
+      → (length more ≡ 0 → SameRowsBut [] v.rows rows)
+      → (0 < length more → SameRowsBut (more ++ drop (r.text_len / 4096) (get_or h.lists longer.slot [])) v.rows rows)
       → ChangesButRows blank v (record (with_record v longer.slot (longer_record r longer)) { rows = rows }))
-      (fill : (v v' : View) → v.blocks ≡ new.layout → ChangesButRows blank v v' → v'.rows ≡ new.blocks.rows → Changes filled v v') where
+      (fill : (v v' : View) → v.blocks ≡ new.layout → ChangesButRows blank v v' → v'.rows ≡ new.blocks.rows
+      → Changes filled v v') where
     pub after_changes : Changes filled before after
     after_changes =
         let v = append.stored.view in
         let keeps = append.stored.keeps in
         let shows = append.stored.shows in
         let pages = but v (sym keeps.blocks) (sym keeps.slots) may.used may.there new.blocks.rows
-        (rows_none h new v m keeps shows longer more may reserved is state_size) (rows_some h new v m keeps shows longer more may reserved is state_size) in
+        (rows_none h new v m keeps shows longer more may reserved is state_size)
+        (rows_some h new v m keeps shows longer more may reserved is state_size) in
         fill v after (sym keeps.blocks ∙ sym (is may.used may.there).layout)
-        (changes_text h new v m keeps shows longer more may reserved is state_size blank new.blocks.rows (v.texts longer.slot ++ append.added) pages) refl
+        (changes_text h new v m keeps shows longer more may reserved is state_size blank new.blocks.rows
+        (v.texts longer.slot ++ append.added) pages) refl

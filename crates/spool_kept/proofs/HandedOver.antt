@@ -1,5 +1,7 @@
 -- Rows after a slot's last blocks became free and others became the slot's.
-use Rattle.std.proofs.Common.{◌≡◌, ◌≢◌, inl, inr, ◌⊎◌, ℕ, zero, suc, ◌+◌, ◌-◌, ◌<◌, ◌≤◌, List, [], ◌∷◌, ◌++◌, None, Some, length, get_or, take, drop, refl, sym, ◌∙◌, ap, subst, arith, length-append, length-take, length-drop}
+use Rattle.std.proofs.Common.{◌≡◌, ◌≢◌, inl, inr, ◌⊎◌, ℕ, zero, suc, ◌+◌, ◌-◌, ◌<◌, ◌≤◌, List, [], ◌∷◌, ◌++◌, None}
+use Rattle.std.proofs.Common.{Some, length, get_or, take, drop, refl, sym, ◌∙◌, ap, subst, arith, length-append}
+use Rattle.std.proofs.Common.{length-take, length-drop}
 use Rattle.std.proofs.lemmas.Bool.{cases_eq, cases_lt}
 use Rattle.std.proofs.lemmas.List.{get_or_append_left, get_or-append_right, get_or-append-add, get_or-take, get_or-drop}
 use Rattle.spool_blocks.specs.Blocks.{Row}
@@ -37,7 +39,8 @@ same_owner {s = s} {k = k} {t = t} {i = i} own more =
     let same : (s, k) ≡ (t, i) = one_value own more in
     (ap (λ (o : ℕ × ℕ). o.0) same, ap (λ (o : ℕ × ℕ). o.1) same)
 
-module _ (old : List Row) (slot first : ℕ) (more : List ℕ) (new : List Row) (hands : HandsOver old slot first more new) (no_owner : Unowned old more) where
+module _ (old : List Row) (slot first : ℕ) (more : List ℕ) (new : List Row) (hands : HandsOver old slot first more new)
+    (no_owner : Unowned old more) where
   -- a block that was owned isn't handed over
   not_more : (b s i : ℕ) → Owns old b s i → NotOn more b
   not_more b s i owns k lt same = clash (no_owner k lt) (ap (λ (n : ℕ). get_or old n None) same ∙ owns)
@@ -48,7 +51,9 @@ module _ (old : List Row) (slot first : ℕ) (more : List ℕ) (new : List Row) 
       let same = same_owner own owns in omega (arith, low (sym same.0), same.1, from)) ∙ owns
 
   -- each row was handed over, or was there
-  pub row_was : (b s i : ℕ) → Owns new b s i → ((j : ℕ) × (j < length more) × (get_or more j 0 ≡ b) × (s ≡ slot) × (i ≡ first + j)) ⊎ (Owns old b s i × (s ≡ slot → i < first))
+  pub row_was : (b s i : ℕ) → Owns new b s i
+      → ((j : ℕ) × (j < length more) × (get_or more j 0 ≡ b) × (s ≡ slot) × (i ≡ first + j)) ⊎ (Owns old b s
+      i × (s ≡ slot → i < first))
   row_was b s i owns = elim (on_or_not more b) [
     | inl there ↦
         let same = same_owner owns (ap (λ (n : ℕ). get_or new n None) (sym there.2) ∙ hands.listed there.0 there.1) in
@@ -82,10 +87,12 @@ module _ (old : List Row) (slot first : ℕ) (more : List ℕ) (new : List Row) 
     before = λ b s i other owns. elim (row_was b s i owns) [ inl handed ↦ absurd (other handed.3) | inr was ↦ was.0 ];
   }
 
-  once_still : ((a b i : ℕ) → Owns old a slot i → Owns old b slot i → a ≡ b) → (a b i : ℕ) → Owns new a slot i → Owns new b slot i → a ≡ b
+  once_still : ((a b i : ℕ) → Owns old a slot i → Owns old b slot i → a ≡ b) → (a b i : ℕ) → Owns new a slot i
+      → Owns new b slot i → a ≡ b
   once_still once a b i owns owns' = elim (row_was a slot i owns) [
     | inl handed ↦ elim (row_was b slot i owns') [
-      | inl handed' ↦ let at : handed.0 ≡ handed'.0 = omega (arith, handed.4, handed'.4) in sym handed.2 ∙ ap (λ (k : ℕ). get_or more k 0) at ∙ handed'.2
+      | inl handed' ↦ let at : handed.0 ≡ handed'.0 =
+          omega (arith, handed.4, handed'.4) in sym handed.2 ∙ ap (λ (k : ℕ). get_or more k 0) at ∙ handed'.2
       | inr was' ↦ absurd (omega (arith, was'.1 refl, handed.4))
     ]
     | inr was ↦ elim (row_was b slot i owns') [
@@ -98,10 +105,14 @@ module _ (old : List Row) (slot first : ℕ) (more : List ℕ) (new : List Row) 
   pub owns_one_each : (n : ℕ) → first ≤ n → OwnsOneEach old slot n → OwnsOneEach new slot (first + length more)
   owns_one_each n low one = record {
     there = λ i lt. elim (cases_lt i first) [
-      | inl before ↦ let own = one.there i (omega (arith, before, low)) in (own.0, keeps own.0 slot i own.1 (λ same. before))
+      | inl before ↦ let own = one.there i
+          (omega (arith, before, low)) in (own.0, keeps own.0 slot i own.1 (λ same. before))
       | inr from ↦
-          let at : first + (i - first) ≡ i = omega (arith, from) in
-          (get_or more (i - first) 0, subst (λ (k : ℕ). Owns new (get_or more (i - first) 0) slot k) at (hands.listed (i - first) (omega (arith, lt, from))))
+          let at : first + (i - first) ≡ i = omega (arith, from) in (
+            get_or more (i - first) 0,
+            subst (λ (k : ℕ). Owns new (get_or more (i - first) 0) slot k) at
+                (hands.listed (i - first) (omega (arith, lt, from))),
+          )
     ];
     once = λ a b i owns owns'. once_still one.once a b i owns owns';
     only = λ b i owns. elim (row_was b slot i owns) [
@@ -111,14 +122,17 @@ module _ (old : List Row) (slot first : ℕ) (more : List ℕ) (new : List Row) 
   }
 
   -- its blocks by ordinal
-  pub owned_now : (list : List ℕ) → first ≤ length list → ((i : ℕ) → i < length list → Owns old (get_or list i 0) slot i)
+  pub owned_now : (list : List ℕ) → first ≤ length list
+      → ((i : ℕ) → i < length list → Owns old (get_or list i 0) slot i)
       → (i : ℕ) → i < length (take first list ++ more) → Owns new (get_or (take first list ++ more) i 0) slot i
   owned_now list low owned i lt = elim (cases_lt i first) [
-    | inl before ↦ subst (λ (b : ℕ). Owns new b slot i) (sym (front i before)) (keeps (get_or list i 0) slot i (owned i (omega (arith, before, low))) (λ same. before))
+    | inl before ↦ subst (λ (b : ℕ). Owns new b slot i) (sym (front i before))
+        (keeps (get_or list i 0) slot i (owned i (omega (arith, before, low))) (λ same. before))
     | inr from ↦
         let at : first + (i - first) ≡ i = omega (arith, from) in
         subst (λ (b : ℕ). Owns new b slot i) (sym (behind i from))
-        (subst (λ (k : ℕ). Owns new (get_or more (i - first) 0) slot k) at (hands.listed (i - first) (omega (arith, lt, from, all))))
+        (subst (λ (k : ℕ). Owns new (get_or more (i - first) 0) slot k) at
+        (hands.listed (i - first) (omega (arith, lt, from, all))))
   ]
     where
       short : length (take first list) ≡ first
@@ -128,16 +142,22 @@ module _ (old : List Row) (slot first : ℕ) (more : List ℕ) (new : List Row) 
       all = omega (arith, length-append (take first list) more, short)
 
       front : (i : ℕ) → i < first → get_or (take first list ++ more) i 0 ≡ get_or list i 0
-      front i lt = get_or_append_left (take first list) more 0 i (omega (arith, short, lt)) ∙ get_or-take first list i 0 lt
+      front i lt = get_or_append_left (take first list) more 0 i (omega (arith, short, lt))
+          ∙ get_or-take first list i 0 lt
 
       behind : (i : ℕ) → first ≤ i → get_or (take first list ++ more) i 0 ≡ get_or more (i - first) 0
       behind i from = get_or-append_right (take first list) more first i 0 short from
 
-  pub listed_now : (list : List ℕ) → first ≤ length list → IsListed old slot list → IsListed new slot (take first list ++ more)
-  listed_now list low listed = record { owned = owned_now list low listed.owned; once = λ a b i owns owns'. once_still listed.once a b i owns owns' }
+  pub listed_now : (list : List ℕ) → first ≤ length list → IsListed old slot list
+      → IsListed new slot (take first list ++ more)
+  listed_now list low listed = record {
+    owned = owned_now list low listed.owned;
+    once = λ a b i owns owns'. once_still listed.once a b i owns owns';
+  }
 
   -- rows that fit their bytes still do
-  pub fit_now : slot < 512 → first + length more ≤ 65536 → ((b : ℕ) → FitsRow (get_or old b None)) → (b : ℕ) → FitsRow (get_or new b None)
+  pub fit_now : slot < 512 → first + length more ≤ 65536 → ((b : ℕ) → FitsRow (get_or old b None)) → (b : ℕ)
+      → FitsRow (get_or new b None)
   fit_now few room fit b = by_row (get_or new b None) refl
     where
       by_row : (o : Row) → get_or new b None ≡ o → FitsRow o
@@ -149,34 +169,50 @@ module _ (old : List Row) (slot first : ℕ) (more : List ℕ) (new : List Row) 
 
   -- the rows differ only where a list has the blocks that were handed over and the slot's last ones
   pub rows_but : (n : ℕ) (list changed : List ℕ) → OwnsOneEach old slot n → IsListed old slot list → length list ≡ n
-      → ((b : ℕ) → NotOn changed b → NotOn more b) → ((i : ℕ) → first ≤ i → i < n → (k : ℕ) × (k < length changed) × (get_or changed k 0 ≡ get_or list i 0))
+      → ((b : ℕ) → NotOn changed b → NotOn more b)
+      → ((i : ℕ) → first ≤ i → i < n → (k : ℕ) × (k < length changed) × (get_or changed k 0 ≡ get_or list i 0))
       → SameRowsBut changed old new
   rows_but n list changed one listed size covers tail b not = hands.kept b (covers b not) (λ k from owns.
       let lt = one.only b k owns in
       let at = tail k from lt in
       not at.0 at.1 (at.2 ∙ listed.once (get_or list k 0) b k (listed.owned k (omega (arith, lt, size))) owns))
 
-  pub rows_but_last : (n : ℕ) (list : List ℕ) → OwnsOneEach old slot n → IsListed old slot list → length list ≡ n → SameRowsBut (more ++ drop first list) old new
+  pub rows_but_last : (n : ℕ) (list : List ℕ) → OwnsOneEach old slot n → IsListed old slot list → length list ≡ n
+      → SameRowsBut (more ++ drop first list) old new
   rows_but_last n list one listed size = rows_but n list (more ++ drop first list) one listed size
       (λ b not k lt same. not k (omega (arith, lt, long)) (get_or_append_left more (drop first list) 0 k lt ∙ same))
       (λ i from lt.
-      let at : first + (i - first) ≡ i = omega (arith, from) in
-      (length more + (i - first), omega (arith, long, lt, from, size, length-drop first list), get_or-append-add more (drop first list) (i - first) 0 ∙ get_or-drop first list (i - first) 0 ∙ ap (λ (k : ℕ). get_or list k 0) at))
+      let at : first + (i - first) ≡ i = omega (arith, from) in (
+        length more + (i - first),
+        omega (arith, long, lt, from, size, length-drop first list),
+        get_or-append-add more
+            (drop first list) (i - first) 0 ∙ get_or-drop first list (i - first) 0 ∙ ap (λ (k : ℕ). get_or list k 0) at,
+      ))
     where
       long : length (more ++ drop first list) ≡ length more + length (drop first list)
       long = length-append more (drop first list)
 
 -- there are ordinals for the blocks: with the slot's first ones they are no more than all
-pub room_for : (rows : List Row) (slot first : ℕ) (list more : List ℕ) → ((i : ℕ) → i < length list → Owns rows (get_or list i 0) slot i) → first ≤ length list → Unowned rows more → ((i : ℕ) → i < length more → get_or more i 0 < length rows)
+pub room_for : (rows : List Row) (slot first : ℕ) (list more : List ℕ)
+    → ((i : ℕ) → i < length list → Owns rows (get_or list i 0) slot i) → first ≤ length list → Unowned rows more
+    → ((i : ℕ) → i < length more → get_or more i 0 < length rows)
     → ((i k : ℕ) → i < k → k < length more → get_or more i 0 ≢ get_or more k 0) → first + length more ≤ length rows
 room_for rows slot first list more owned low no_owner below distinct =
-    omega (arith, few_distinct (length rows) (take first list ++ more) (in_either (λ (b : ℕ). b < length rows) (take first list) more first_below below) apart, length-append (take first list) more, short)
+    omega (
+      arith,
+      few_distinct (length rows) (take first list ++ more)
+          (in_either (λ (b : ℕ). b < length rows) (take first list) more first_below below) apart,
+      length-append
+          (take first list) more,
+      short,
+    )
   where
     short : length (take first list) ≡ first
     short = omega (arith, length-take first list, low)
 
     own : (i : ℕ) → i < length (take first list) → Owns rows (get_or (take first list) i 0) slot i
-    own i lt = subst (λ (b : ℕ). Owns rows b slot i) (sym (get_or-take first list i 0 (omega (arith, lt, short)))) (owned i (omega (arith, lt, short, low)))
+    own i lt = subst (λ (b : ℕ). Owns rows b slot i) (sym (get_or-take first list i 0 (omega (arith, lt, short))))
+        (owned i (omega (arith, lt, short, low)))
 
     first_below : (i : ℕ) → i < length (take first list) → get_or (take first list) i 0 < length rows
     first_below i lt = within rows (get_or (take first list) i 0) (slot, i) (own i lt)
@@ -184,20 +220,25 @@ room_for rows slot first list more owned low no_owner below distinct =
     front : (i : ℕ) → i < length (take first list) → get_or (take first list ++ more) i 0 ≡ get_or (take first list) i 0
     front i lt = get_or_append_left (take first list) more 0 i lt
 
-    behind : (i : ℕ) → length (take first list) ≤ i → get_or (take first list ++ more) i 0 ≡ get_or more (i - length (take first list)) 0
+    behind : (i : ℕ) → length (take first list) ≤ i → get_or (take first list ++ more) i 0 ≡ get_or more
+        (i - length (take first list)) 0
     behind i from = get_or-append_right (take first list) more (length (take first list)) i 0 refl from
 
-    apart : (i k : ℕ) → i < k → k < length (take first list ++ more) → get_or (take first list ++ more) i 0 ≢ get_or (take first list ++ more) k 0
+    apart : (i k : ℕ) → i < k → k < length (take first list ++ more) → get_or (take first list ++ more) i 0 ≢ get_or
+        (take first list ++ more) k 0
     apart i k lt inside same = elim (cases_lt i (length (take first list))) [
       | inl before ↦ elim (cases_lt k (length (take first list))) [
         | inl before' ↦
-            let is = same_owner (own i before) (ap (λ (b : ℕ). get_or rows b None) (sym (front i before) ∙ same ∙ front k before') ∙ own k before') in
+            let is = same_owner (own i before)
+            (ap (λ (b : ℕ). get_or rows b None) (sym (front i before) ∙ same ∙ front k before') ∙ own k before') in
             omega (arith, is.1, lt)
         | inr from ↦
-            clash (no_owner (k - length (take first list)) (omega (arith, inside, from, length-append (take first list) more)))
+            clash (no_owner (k - length (take first list))
+            (omega (arith, inside, from, length-append (take first list) more)))
             (ap (λ (b : ℕ). get_or rows b None) (sym (behind k from) ∙ sym same ∙ front i before) ∙ own i before)
       ]
       | inr from ↦
-          distinct (i - length (take first list)) (k - length (take first list)) (omega (arith, lt, from)) (omega (arith, inside, lt, from, length-append (take first list) more))
+          distinct (i - length (take first list)) (k - length (take first list)) (omega (arith, lt, from))
+          (omega (arith, inside, lt, from, length-append (take first list) more))
           (sym (behind i from) ∙ same ∙ behind k (omega (arith, lt, from)))
     ]

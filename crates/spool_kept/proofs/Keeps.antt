@@ -1,5 +1,6 @@
 -- What is kept says what a sound view says.
-use Rattle.std.proofs.Common.{◌≡◌, ◌∙◌, ℕ, ◌<◌, List, [], Option, None, Some, false, get_or, replicate, sym, ap, subst, arith}
+use Rattle.std.proofs.Common.{◌≡◌, ◌∙◌, ℕ, ◌<◌, List, [], Option, None, Some, false, get_or, replicate, sym, ap, subst}
+use Rattle.std.proofs.Common.{arith}
 use Rattle.spool_blocks.specs.Blocks.{Row}
 use Rattle.spool_pages.specs.View.{SlotRecord, View, slot_at}
 use Rattle.spool_kept.specs.Holding.{Holding, FitsTogether, HasBlocks, IsListOf, Orders}
@@ -7,7 +8,8 @@ use Rattle.spool_kept.specs.Kept.{KeepsView, KeepsAlone}
 use Rattle.spool_kept.specs.Shows.{IsSound}
 use Rattle.spool_kept.proofs.Sound.{in_use}
 
-module _ (h : Holding) (v : View) (fits : FitsTogether h) (sound : IsSound v) (blocks : v.blocks ≡ h.layout) (next : h.next ≡ v.next) (indexes : h.indexes ≡ v.indexes) (slots : h.slots ≡ v.slots)
+module _ (h : Holding) (v : View) (fits : FitsTogether h) (sound : IsSound v) (blocks : v.blocks ≡ h.layout)
+    (next : h.next ≡ v.next) (indexes : h.indexes ≡ v.indexes) (slots : h.slots ≡ v.slots)
     (rows : h.blocks.rows ≡ v.rows) where
   has : (s : ℕ) (r : SlotRecord) → slot_at v s ≡ Some r → HasBlocks h.blocks.rows s r.text_len (get_or h.lists s [])
   has s r e =
@@ -24,7 +26,8 @@ module _ (h : Holding) (v : View) (fits : FitsTogether h) (sound : IsSound v) (b
     rows = rows;
     ordered = subst (λ (xs : List (Option SlotRecord)). Orders xs h.order 512) slots fits.ordered;
     listed = λ s r e. record {
-      owned = λ i lt. subst (λ (xs : List Row). get_or xs (get_or (get_or h.lists s []) i 0) None ≡ Some (s, i)) rows ((has s r e).owned i lt);
+      owned = λ i lt. subst (λ (xs : List Row). get_or xs (get_or (get_or h.lists s []) i 0) None ≡ Some (s, i)) rows
+          ((has s r e).owned i lt);
       once = (sound.lists s r e).once;
     };
     sizes = λ s r e. (has s r e).size;

@@ -18,8 +18,10 @@ use Rattle.spool_kept.specs.Stored.{Stored}
 use Rattle.spool_kept.specs.declared.extending.Longer.{Longer}
 use Rattle.spool_kept.proofs.DraftLonger.{moved}
 
-module _ {D : Type 0} (disk : Ghosts D) (d mid : D) (h : Holding) (m : Store) (n : ℕ) (bytes : List ℕ) (longer : Longer) (more last : List ℕ)
-    (pending : IsPending disk d h m n bytes longer more last) (reserved : IsReserved h.blocks more) (only : OnlyWrites disk (journal_pages h.layout) more d mid) where
+module _ {D : Type 0} (disk : Ghosts D) (d mid : D) (h : Holding) (m : Store) (n : ℕ) (bytes : List ℕ) (longer : Longer)
+    (more last : List ℕ)
+    (pending : IsPending disk d h m n bytes longer more last) (reserved : IsReserved h.blocks more)
+    (only : OnlyWrites disk (journal_pages h.layout) more d mid) where
   abbrev s : Stored disk d h m
   s = pending.stored
 
@@ -36,9 +38,15 @@ module _ {D : Type 0} (disk : Ghosts D) (d mid : D) (h : Holding) (m : Store) (n
 
   pub appended : (disk.honest d → disk.honest mid)
       → ((length last + 4095) / 4096 ≤ length more
-      → text_on (disk.seen mid) (25 + 2 * journal_pages h.layout) more (length (bytes_with (disk.seen d) (25 + 2 * journal_pages h.layout) more last)) ≡ bytes_with (disk.seen d) (25 + 2 * journal_pages h.layout) more last)
+      → text_on (disk.seen mid) (25 + 2 * journal_pages h.layout) more
+      (length (bytes_with (disk.seen d) (25 + 2 * journal_pages h.layout) more last)) ≡ bytes_with (disk.seen d)
+      (25 + 2 * journal_pages h.layout) more last)
       → IsAppend disk mid h m n bytes longer more
   appended honest written =
       pending.append mid
-      (moved disk d mid h h m h.layout s record { same = refl; rows = refl } (honest s.honest) more unowned refl only.writes)
-      (λ some. subst (λ (text : List ℕ). text_on (disk.seen mid) (25 + 2 * journal_pages h.layout) more (length text) ≡ text) (pending.held some) (written (pending.fits some)))
+      (moved disk d mid h h m h.layout s record {
+        same = refl;
+        rows = refl;
+      } (honest s.honest) more unowned refl only.writes)
+      (λ some. subst (λ (text : List ℕ). text_on (disk.seen mid) (25 + 2 * journal_pages h.layout) more
+      (length text) ≡ text) (pending.held some) (written (pending.fits some)))

@@ -1,5 +1,6 @@
 -- A new upload, in what is kept and on the disk.
-use Rattle.std.proofs.Common.{◌≡◌, inl, inr, ◌⊎◌, ℕ, ◌+◌, ◌^◌, ◌<◌, ◌≤◌, List, Option, None, Some, length, get_or, slice_set, refl, sym, ◌∙◌, ap, subst, arith}
+use Rattle.std.proofs.Common.{◌≡◌, inl, inr, ◌⊎◌, ℕ, ◌+◌, ◌^◌, ◌<◌, ◌≤◌, List, Option, None, Some, length, get_or}
+use Rattle.std.proofs.Common.{slice_set, refl, sym, ◌∙◌, ap, subst, arith}
 use Rattle.std.proofs.lemmas.Bool.{le-ltb, lt-leb}
 use Rattle.spool_disk.specs.Views.{Lasts}
 use Rattle.spool_disk.proofs.Firm.{lasts_more}
@@ -23,28 +24,39 @@ use Rattle.spool_kept.proofs.Keeps.{keeps_said}
 
 -- WHAT IT MAKES
 
-module _ (h : Holding) (v : View) (m : Store) (new : New) (slot : ℕ) (r : SlotRecord) (keeps : KeepsView h v) (shows : Shows v m) (room : HasRoomAt h slot)
+module _ (h : Holding) (v : View) (m : Store) (new : New) (slot : ℕ) (r : SlotRecord) (keeps : KeepsView h v)
+    (shows : Shows v m) (room : HasRoomAt h slot)
     (small : new.declared ≤ 1073741824) (few : length m.uploads < 512) (is : IsNewRecord h.next new r) where
   pub next_is : h.next ≡ m.next
   next_is = keeps.next ∙ shows.next
 
   -- the rules allow it
   pub allowed : create_refusal (at_rest m None) new ≡ None
-  allowed = rw (le-ltb 1073741824 new.declared small, lt-leb 512 (length m.uploads) few, lt-leb (10 ^ 18) m.next (omega (arith, room.next, next_is))) refl
+  allowed = rw (
+    le-ltb 1073741824 new.declared small,
+    lt-leb 512 (length m.uploads) few,
+    lt-leb (10 ^ 18) m.next
+        (omega (arith, room.next, next_is)),
+  ) refl
 
   free : slot_at v slot ≡ None
   free = ap (λ (xs : List (Option SlotRecord)). get_or xs slot None) (sym keeps.slots) ∙ room.free
 
   sound : IsSoundRecord (m.next + 1) r
-  sound = subst (λ (n : ℕ). IsSoundRecord (n + 1) r) next_is (is.sound (omega (arith, keeps.next, shows.sound.next_least)) small)
+  sound = subst (λ (n : ℕ). IsSoundRecord (n + 1) r) next_is
+      (is.sound (omega (arith, keeps.next, shows.sound.next_least)) small)
 
   shows_new : Shows (created_view v slot r) (created_store m new)
-  shows_new = created_shows v m new slot r shows room.within free (is.number_is ∙ next_is) (is.tells m.indexes) sound (omega (arith, room.next, next_is))
+  shows_new = created_shows v m new slot r shows room.within free (is.number_is ∙ next_is) (is.tells m.indexes) sound
+      (omega (arith, room.next, next_is))
 
   texts_new : {seen : ℕ → ℕ} {loose : ℕ → Type 0} → Rests v seen loose → HasTexts seen (created_view v slot r)
-  texts_new {seen = seen} rests = created_texts v m new slot r shows room.within free (is.number_is ∙ next_is) (is.tells m.indexes) seen ((rests_says rests).texts)
+  texts_new {seen = seen} rests =
+      created_texts v m new slot r shows room.within free (is.number_is ∙ next_is) (is.tells m.indexes) seen
+      ((rests_says rests).texts)
 
-  changes_new : {pages : List (ℕ × List ℕ)} → Changes pages v (record (with_record v slot r) { next = h.next + 1 }) → Changes pages v (created_view v slot r)
+  changes_new : {pages : List (ℕ × List ℕ)} → Changes pages v (record (with_record v slot r) { next = h.next + 1 })
+      → Changes pages v (created_view v slot r)
   changes_new {pages = pages} changes = go (v.next + 1) (ap (λ (n : ℕ). n + 1) keeps.next)
     where
       go : (next : ℕ) → h.next + 1 ≡ next → Changes pages v (record (created_view v slot r) { next = next })
@@ -63,23 +75,39 @@ module _ (h : Holding) (v : View) (m : Store) (new : New) (slot : ℕ) (r : Slot
           }
 
   keeps_new : (h' : Holding) → IsTakenIn h slot r h' → KeepsView h' (created_view v slot r)
-  keeps_new h' taken = keeps_said h' (created_view v slot r) taken.fits shows_new.sound (sym (taken.layout ∙ keeps.blocks)) (taken.next ∙ ap (λ (n : ℕ). n + 1) keeps.next) (taken.indexes ∙ keeps.indexes)
-      (taken.slots ∙ ap (λ (xs : List (Option SlotRecord)). slice_set xs slot (Some r)) keeps.slots) (ap (λ b. b.rows) taken.blocks ∙ keeps.rows)
+  keeps_new h' taken = keeps_said h' (created_view v slot r) taken.fits shows_new.sound
+      (sym (taken.layout ∙ keeps.blocks)) (taken.next ∙ ap (λ (n : ℕ). n + 1) keeps.next)
+      (taken.indexes ∙ keeps.indexes)
+      (taken.slots ∙ ap (λ (xs : List (Option SlotRecord)). slice_set xs slot (Some r)) keeps.slots)
+      (ap (λ b. b.rows) taken.blocks ∙ keeps.rows)
 
-  shows_either : (image : ℕ → ℕ) → IsViewOf image v ⊎ IsViewOf image (created_view v slot r) → ShowsEither h.layout m (created_store m new) image
+  shows_either : (image : ℕ → ℕ) → IsViewOf image v ⊎ IsViewOf image (created_view v slot r)
+      → ShowsEither h.layout m (created_store m new) image
   shows_either image (inl old) = inl (record { view = v; blocks = sym keeps.blocks; is = old; shows = shows })
-  shows_either image (inr made) = inr (record { view = created_view v slot r; blocks = sym keeps.blocks; is = made; shows = shows_new })
+  shows_either image (inr made) = inr (record {
+    view = created_view v slot r;
+    blocks = sym keeps.blocks;
+    is = made;
+    shows = shows_new;
+  })
 
-  module _ {D : Type 0} (disk : Ghosts D) (before after : D) {pages : List (ℕ × List ℕ)} (rests : Rests v (disk.seen before) (disk.loose before)) (changes : Changes pages v (record (with_record v slot r) { next = h.next + 1 })) where
+  module _ {D : Type 0} (disk : Ghosts D) (before after : D) {pages : List (ℕ × List ℕ)}
+      (rests : Rests v (disk.seen before) (disk.loose before))
+      (changes : Changes pages v (record (with_record v slot r) { next = h.next + 1 })) where
     -- a crash leaves the old store or the new one
-    pub crash_new : ((v' : View) → Changes pages v v' → HasTexts (disk.seen before) v' → Lasts disk before after (λ image. IsViewOf image v ⊎ IsViewOf image v'))
-        → Lasts disk before after (ShowsEither h.layout m (outcome (create_refusal (at_rest m None) new) m (created_store m new)))
+    pub crash_new : ((v' : View) → Changes pages v v' → HasTexts (disk.seen before) v'
+        → Lasts disk before after (λ image. IsViewOf image v ⊎ IsViewOf image v'))
+        → Lasts disk before after
+        (ShowsEither h.layout m (outcome (create_refusal (at_rest m None) new) m (created_store m new)))
     crash_new lasts =
-        subst (λ (f : Option UploadRefusal). Lasts disk before after (ShowsEither h.layout m (outcome f m (created_store m new)))) (sym allowed)
+        subst (λ (f : Option UploadRefusal). Lasts disk before after
+        (ShowsEither h.layout m (outcome f m (created_store m new)))) (sym allowed)
         (lasts_more (lasts (created_view v slot r) (changes_new changes) (texts_new rests)) shows_either)
 
     -- and the new one stands behind the change
-    pub stored_new : (h' : Holding) → IsTakenIn h slot r h' → disk.honest after → ((v' : View) → Changes pages v v' → HasTexts (disk.seen before) v' → Rests v' (disk.seen after) (disk.loose after))
+    pub stored_new : (h' : Holding) → IsTakenIn h slot r h' → disk.honest after
+        → ((v' : View) → Changes pages v v' → HasTexts (disk.seen before) v'
+        → Rests v' (disk.seen after) (disk.loose after))
         → Stored disk after h' (created_store m new)
     stored_new h' taken honest done = record {
       honest = honest;

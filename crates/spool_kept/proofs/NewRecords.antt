@@ -70,10 +70,12 @@ module _ (x : IndexSet) (n : ℕ) (r : Record) (new : New) (keeps : Keeps x n r 
     state_size = ap length state_is ∙ state_size (transcoder_with x (new_upload new) [] (is_complete (new_upload new)));
     state = told_state x (said_of r) [] (new_upload new) tells_new;
     metadata_size = subst (λ (bytes : List ℕ). length bytes ≤ 1536) (sym keeps.tells.metadata) well.short;
-    printable = subst (λ (bytes : List ℕ). All (λ b. (0x20 ≤ b) × (b ≤ 0x7E)) bytes) (sym keeps.tells.metadata) well.printable;
+    printable = subst (λ (bytes : List ℕ). All (λ b. (0x20 ≤ b) × (b ≤ 0x7E)) bytes) (sym keeps.tells.metadata)
+        well.printable;
   }
 
-pub new_record : (x : IndexSet) (n : ℕ) (r : Record) (new : New) → ((y : IndexSet) → Keeps y n r (new_upload new)) → IsWellFormed new → IsNewRecord n new (said_of r)
+pub new_record : (x : IndexSet) (n : ℕ) (r : Record) (new : New) → ((y : IndexSet) → Keeps y n r (new_upload new))
+    → IsWellFormed new → IsNewRecord n new (said_of r)
 new_record x n r new keeps well = record {
   number_is = (keeps x).tells.number_is;
   tells = λ y. tells_new y n r new (keeps y);

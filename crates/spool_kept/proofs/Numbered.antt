@@ -1,5 +1,6 @@
 -- The upload of the least number above another.
-use Rattle.std.proofs.Common.{◌≡◌, inl, inr, ℕ, suc, ◌<◌, ◌≤◌, List, [], ◌∷◌, length, map, slice_index, Option, None, Some, refl, sym, ◌∙◌, subst, arith}
+use Rattle.std.proofs.Common.{◌≡◌, inl, inr, ℕ, suc, ◌<◌, ◌≤◌, List, [], ◌∷◌, length, map, slice_index, Option, None}
+use Rattle.std.proofs.Common.{Some, refl, sym, ◌∙◌, subst, arith}
 use Rattle.std.proofs.lemmas.Bool.{cases_eq, cases_lt}
 use Rattle.std.proofs.lemmas.Bool.Decides.{nat_tests}
 use Rattle.upload_rules.specs.Store.{Upload, find}
@@ -28,7 +29,8 @@ rising_tail : (x : ℕ × Upload) (xs : List (ℕ × Upload)) → IsRising (numb
 rising_tail x xs rising i k lt below = rising (suc i) (suc k) (omega (arith, lt)) (omega (arith, below))
 
 -- what is found has a place
-pub found_at : (xs : List (ℕ × Upload)) (k : ℕ) (u : Upload) → find k xs ≡ Some u → (i : ℕ) × (i < length (numbers xs)) × (slice_index (numbers xs) i ≡ k)
+pub found_at : (xs : List (ℕ × Upload)) (k : ℕ) (u : Upload) → find k xs ≡ Some u
+    → (i : ℕ) × (i < length (numbers xs)) × (slice_index (numbers xs) i ≡ k)
 found_at [] k u found = none_is refl found
 found_at (x ∷ xs) k u found = elim (cases_eq x.0 k) [
   | inl same ↦ (0, omega arith, same)
@@ -37,14 +39,16 @@ found_at (x ∷ xs) k u found = elim (cases_eq x.0 k) [
       (suc rest.0, (let lt = rest.1 in omega (arith, lt)), rest.2)
 ]
 
-found_above : (x : ℕ × Upload) (xs : List (ℕ × Upload)) → IsRising (numbers (x ∷ xs)) → (k : ℕ) (u : Upload) → find k xs ≡ Some u → x.0 < k
+found_above : (x : ℕ × Upload) (xs : List (ℕ × Upload)) → IsRising (numbers (x ∷ xs)) → (k : ℕ) (u : Upload)
+    → find k xs ≡ Some u → x.0 < k
 found_above x xs rising k u found =
     let at = found_at xs k u found in
     let lt = at.1 in
     let less = rising 0 (suc at.0) (omega arith) (omega (arith, lt)) in
     subst (λ (m : ℕ). x.0 < m) at.2 less
 
-pub above_is : (xs : List (ℕ × Upload)) → IsRising (numbers xs) → (n k : ℕ) (u : Upload) → n < k → find k xs ≡ Some u → ((j : ℕ) (w : Upload) → n < j → find j xs ≡ Some w → k ≤ j) → above n xs ≡ Some (k, u)
+pub above_is : (xs : List (ℕ × Upload)) → IsRising (numbers xs) → (n k : ℕ) (u : Upload) → n < k → find k xs ≡ Some u
+    → ((j : ℕ) (w : Upload) → n < j → find j xs ≡ Some w → k ≤ j) → above n xs ≡ Some (k, u)
 above_is [] rising n k u lt found least = none_is refl found
 above_is (x ∷ xs) rising n k u lt found least = elim (cases_lt n x.0) [
   | inl over ↦ elim (cases_eq x.0 k) [
@@ -68,9 +72,11 @@ above_is (x ∷ xs) rising n k u lt found least = elim (cases_lt n x.0) [
     one e = cc
 
     pair : (e : ℕ × Upload) (m : ℕ) (w : Upload) → e.0 ≡ m → e.1 ≡ w → Some e ≡ Some (m, w)
-    pair e m w first second = subst (λ (n' : ℕ). Some e ≡ Some (n', w)) first (subst (λ (u' : Upload). Some e ≡ Some (e.0, u')) second refl)
+    pair e m w first second =
+        subst (λ (n' : ℕ). Some e ≡ Some (n', w)) first (subst (λ (u' : Upload). Some e ≡ Some (e.0, u')) second refl)
 
-pub above_none : (xs : List (ℕ × Upload)) (n : ℕ) → ((j : ℕ) (w : Upload) → n < j → find j xs ≡ Some w → ⊥) → IsRising (numbers xs) → above n xs ≡ None
+pub above_none : (xs : List (ℕ × Upload)) (n : ℕ) → ((j : ℕ) (w : Upload) → n < j → find j xs ≡ Some w → ⊥)
+    → IsRising (numbers xs) → above n xs ≡ None
 above_none [] n free rising = refl
 above_none (x ∷ xs) n free rising = elim (cases_lt n x.0) [
   | inl over ↦ absurd (free x.0 x.1 over (find_here x xs x.0 refl))

@@ -1,8 +1,10 @@
 -- What a sound view says of a slot and of a row.
-use Rattle.std.proofs.Common.{◌≡◌, inl, inr, ℕ, ◌+◌, ◌-◌, ◌*◌, ◌^◌, ◌<◌, ◌≤◌, refl, subst, List, Option, None, Some, length, get_or, ltb, true, sym, ◌∙◌, ap, arith}
+use Rattle.std.proofs.Common.{◌≡◌, inl, inr, ℕ, ◌+◌, ◌-◌, ◌*◌, ◌^◌, ◌<◌, ◌≤◌, refl, subst, List, Option, None, Some}
+use Rattle.std.proofs.Common.{length, get_or, ltb, true, sym, ◌∙◌, ap, arith}
 use Rattle.std.proofs.lemmas.Bool.Decides.{nat_tests}
 use Rattle.upload_rules.specs.Room.{blocks_of}
-use Rattle.spool_pages.specs.View.{View, SlotRecord, Says, Stands, slot_at, slot_bytes, row_bytes, state_page, index_place, state_place, slot_place, row_place}
+use Rattle.spool_pages.specs.View.{View, SlotRecord, Says, Stands, slot_at, slot_bytes, row_bytes, state_page}
+use Rattle.spool_pages.specs.View.{index_place, state_place, slot_place, row_place}
 use Rattle.spool_pages.specs.Fits.{FitsSlotOf, FitsRow}
 use Rattle.enc_index.specs.Area.{area_byte}
 use Rattle.spool_journal.specs.Image.{journal_pages}
@@ -26,7 +28,8 @@ module _ (v : View) (sound : IsSound v) (slots : List (Option SlotRecord)) (same
   pub slot_owns : (s : ℕ) (r : SlotRecord) → get_or slots s None ≡ Some r → OwnsOneEach v.rows s (blocks_of r.text_len)
   slot_owns s r e = sound.lists s r (there s (Some r) e)
 
-  pub row_below : (b s k : ℕ) (r : SlotRecord) → get_or v.rows b None ≡ Some (s, k) → get_or slots s None ≡ Some r → k < blocks_of r.text_len
+  pub row_below : (b s k : ℕ) (r : SlotRecord) → get_or v.rows b None ≡ Some (s, k) → get_or slots s None ≡ Some r
+      → k < blocks_of r.text_len
   row_below b s k r owns e = (sound.lists s r (there s (Some r) e)).only b k owns
 
   pub row_used : (b s k : ℕ) → get_or v.rows b None ≡ Some (s, k) → get_or slots s None ≡ None → ⊥
@@ -51,11 +54,14 @@ module _ (bytes : ℕ → ℕ) (v : View) (n : ℕ) (blocks : v.blocks ≡ n) (s
   said_area i lt = subst (λ (m : ℕ). bytes (index_place m + i) ≡ area_byte v.indexes i) blocks (says.area i lt)
 
   pub said_slot : (s : ℕ) → s < 512 → Stands bytes (slot_place n s) 2048 (slot_bytes (slot_at v s))
-  said_slot s lt = subst (λ (m : ℕ). Stands bytes (slot_place m s) 2048 (slot_bytes (slot_at v s))) blocks (says.slots s lt)
+  said_slot s lt = subst (λ (m : ℕ). Stands bytes (slot_place m s) 2048 (slot_bytes (slot_at v s))) blocks
+      (says.slots s lt)
 
-  pub said_row : (b : ℕ) → b < 512 * (journal_pages n - 257) → Stands bytes (row_place n b) 8 (row_bytes (get_or v.rows b None))
+  pub said_row : (b : ℕ) → b < 512 * (journal_pages n - 257) → Stands bytes (row_place n b) 8
+      (row_bytes (get_or v.rows b None))
   said_row b lt =
-      let P : ℕ → Type 0 = λ m. b < 512 * (journal_pages m - 257) → Stands bytes (row_place m b) 8 (row_bytes (get_or v.rows b None)) in
+      let P : ℕ → Type 0 = λ m. b < 512 * (journal_pages m - 257) → Stands bytes (row_place m b) 8
+      (row_bytes (get_or v.rows b None)) in
       subst P blocks (says.rows b) lt
 
 -- WHAT FITS
@@ -92,7 +98,8 @@ record_fits next most r is = (
 pub slots_fit : (v : View) → IsSound v → (s : ℕ) → FitsKept (slot_at v s)
 slots_fit v sound s = slot_from (slot_at v s) (λ r e. record_fits v.next sound.next_most r (sound.records s r e))
 
-pub in_use : (slots : List (Option SlotRecord)) (s : ℕ) (r : SlotRecord) → get_or slots s None ≡ Some r → s < length slots
+pub in_use : (slots : List (Option SlotRecord)) (s : ℕ) (r : SlotRecord) → get_or slots s None ≡ Some r
+    → s < length slots
 in_use slots s r e = elim (cases_lt s (length slots)) [
   | inl lt ↦ lt
   | inr over ↦ absurd (clash (sym e ∙ get_or-eq_default slots None over))

@@ -78,7 +78,8 @@ module _ (h : Holding) (v : View) (m : Store) (number slot : ℕ) (keeps : Keeps
 -- AS THE DISK HOLDS IT
 
 module _ {D : Type 0} (disk : Ghosts D) (d : D) (h h' : Holding) (m : Store) (number slot : ℕ)
-    (stored : Stored disk d h m) (used : IsUsedBy h.slots slot number) (out : IsTakenOut h slot h') (blank filled : List (ℕ × List ℕ))
+    (stored : Stored disk d h m) (used : IsUsedBy h.slots slot number) (out : IsTakenOut h slot h')
+    (blank filled : List (ℕ × List ℕ))
     (but : (v : View) → v.blocks ≡ h.layout → v.slots ≡ h.slots → (rows : List Row)
     → SameRowsBut (get_or h.lists slot []) v.rows rows
     → ChangesButRows blank v (record (with_slot v slot None) { rows = rows }))

@@ -1,9 +1,14 @@
 -- What a record tells of an upload, and its state.
-use Rattle.std.proofs.Common.{◌≡◌, ℕ, ◌==◌, Bool, true, false, if◌then◌else◌, List, [], ◌∷◌, length, refl, sym, ◌∙◌, ap, subst, arith}
+use Rattle.std.proofs.Common.{◌≡◌, ℕ, ◌==◌, Bool, true, false, if◌then◌else◌, List, [], ◌∷◌, length, refl, sym, ◌∙◌, ap}
+use Rattle.std.proofs.Common.{subst, arith}
 use Rattle.std.proofs.lemmas.Bool.{eqb-true, eqb-false}
 use Rattle.std.proofs.lemmas.List.{append-nil}
 use Rattle.enc_model.specs.declared.Encoding.{Encoding}
-use Rattle.enc_model.specs.declared.Encoding.TheVariants.{Utf8, Utf16Be, Utf16Le, ShiftJis, EucJp, Iso2022Jp, Ibm866, Iso8859X2, Iso8859X5, Iso8859X15, Koi8R, Macintosh, Windows1250, Windows1251, Windows1252, Windows1253, Windows1254, Windows1255, Windows1256, Windows1257, Windows1258}
+use Rattle.enc_model.specs.declared.Encoding.TheVariants.{Utf8, Utf16Be, Utf16Le, ShiftJis, EucJp, Iso2022Jp, Ibm866}
+use Rattle.enc_model.specs.declared.Encoding.TheVariants.{Iso8859X2, Iso8859X5, Iso8859X15, Koi8R, Macintosh}
+use Rattle.enc_model.specs.declared.Encoding.TheVariants.{Windows1250, Windows1251, Windows1252, Windows1253}
+use Rattle.enc_model.specs.declared.Encoding.TheVariants.{Windows1254, Windows1255, Windows1256, Windows1257}
+use Rattle.enc_model.specs.declared.Encoding.TheVariants.{Windows1258}
 use Rattle.enc_model.specs.declared.Mode.{Mode}
 use Rattle.enc_model.specs.declared.Mode.TheVariants.{Html, Fatal}
 use Rattle.enc_model.specs.Encode.{Tables}
@@ -23,20 +28,25 @@ use Rattle.spool_kept.specs.Shows.{FitsPhase, HasState, IsRecordOf}
 -- THE PHASE FITS THE COUNTS
 
 -- before the end the phase fits any bytes
-phase_fits : (t : Tables) (e : Encoding) (bytes : List ℕ) (declared : ℕ) → (length bytes ≡ declared → ⊥) → FitsPhase (phase_of (decoded t e bytes false)) (length bytes) declared
+phase_fits : (t : Tables) (e : Encoding) (bytes : List ℕ) (declared : ℕ) → (length bytes ≡ declared → ⊥)
+    → FitsPhase (phase_of (decoded t e bytes false)) (length bytes) declared
 unfolding decoded
 phase_fits t e [] declared more = (refl, more)
 phase_fits t e (b ∷ bytes) declared more = go (undecided (b ∷ bytes))
   where
-    go : (u : Bool) → FitsPhase (phase_of (if u then Held (b ∷ bytes) else let s = sniffed e (b ∷ bytes) in Reading (decoding t false (decoding_start s.0) s.1))) (length (b ∷ bytes)) declared
+    go : (u : Bool) → FitsPhase
+        (phase_of (if u then Held (b ∷ bytes) else let s = sniffed e (b ∷ bytes) in Reading
+        (decoding t false (decoding_start s.0) s.1))) (length (b ∷ bytes)) declared
     go true = (refl, more)
     go false = (omega arith, more)
 
 module _ (x : IndexSet) (r : SlotRecord) (shown : List ℕ) (u : Upload) (is : IsRecordOf x r shown u) where
-  at_phase : (done : Bool) → is_complete u ≡ done → FitsPhase (transcoder_with x u [] done).phase (length u.accepted) u.declared
+  at_phase : (done : Bool) → is_complete u ≡ done → FitsPhase (transcoder_with x u [] done).phase (length u.accepted)
+      u.declared
   at_phase true e = eqb-true (length u.accepted) u.declared e
   at_phase false e =
-      subst (λ (bytes : List ℕ). FitsPhase (phase_of (decoded (tables x) u.from bytes false)) (length u.accepted) u.declared) (sym (append-nil u.accepted))
+      subst (λ (bytes : List ℕ). FitsPhase (phase_of (decoded (tables x) u.from bytes false)) (length u.accepted)
+      u.declared) (sym (append-nil u.accepted))
       (phase_fits (tables x) u.from u.accepted u.declared (eqb-false (length u.accepted) u.declared e))
 
   -- a record that tells of an upload has a state
@@ -47,7 +57,8 @@ module _ (x : IndexSet) (r : SlotRecord) (shown : List ℕ) (u : Upload) (is : I
     sound = is.sound;
     is = is.state;
     phase = subst (λ (n : ℕ). FitsPhase (transcoder_with x u [] (is_complete u)).phase n r.declared) (sym is.accepted)
-        (subst (λ (n : ℕ). FitsPhase (transcoder_with x u [] (is_complete u)).phase (length u.accepted) n) (sym is.declared) (at_phase (is_complete u) refl));
+        (subst (λ (n : ℕ). FitsPhase (transcoder_with x u [] (is_complete u)).phase (length u.accepted) n)
+        (sym is.declared) (at_phase (is_complete u) refl));
   }
 
 -- STATES SAY THEIR ENCODINGS
@@ -55,10 +66,13 @@ module _ (x : IndexSet) (r : SlotRecord) (shown : List ℕ) (u : Upload) (is : I
 -- the encoding of a number
 pub encoding_at : ℕ → Encoding
 encoding_at n =
-    if n == 0 then Utf8 else if n == 1 then Utf16Be else if n == 2 then Utf16Le else if n == 3 then ShiftJis else if n == 4 then EucJp
+    if n == 0 then Utf8 else if n == 1 then Utf16Be else if n == 2 then Utf16Le else if n == 3 then ShiftJis else if n
+    == 4 then EucJp
     else if n == 5 then Iso2022Jp else if n == 6 then Ibm866 else if n == 7 then Iso8859X2 else if n == 8 then Iso8859X5
-    else if n == 9 then Iso8859X15 else if n == 10 then Koi8R else if n == 11 then Macintosh else if n == 12 then Windows1250
-    else if n == 13 then Windows1251 else if n == 14 then Windows1252 else if n == 15 then Windows1253 else if n == 16 then Windows1254
+    else if n == 9 then Iso8859X15 else if n == 10 then Koi8R else if n == 11 then Macintosh else if n == 12
+    then Windows1250
+    else if n == 13 then Windows1251 else if n == 14 then Windows1252 else if n == 15 then Windows1253 else if n == 16
+    then Windows1254
     else if n == 17 then Windows1255 else if n == 18 then Windows1256 else if n == 19 then Windows1257 else Windows1258
 
 pub back : (e : Encoding) → encoding_at (encoding_number e) ≡ e
@@ -109,7 +123,8 @@ with_mode x u true = refl
 with_mode x u false = refl
 
 -- what its slot says tells of the upload, and so does the record
-module _ (x : IndexSet) (q : SlotRecord) (shown : List ℕ) (u : Upload) (is : IsRecordOf x q shown u) (r : Record) (said : said_of r ≡ q) (unpacked : IsUnpacked r) where
+module _ (x : IndexSet) (q : SlotRecord) (shown : List ℕ) (u : Upload) (is : IsRecordOf x q shown u) (r : Record)
+    (said : said_of r ≡ q) (unpacked : IsUnpacked r) where
   ends : Transcoder
   ends = transcoder_with x u [] (is_complete u)
 
@@ -127,9 +142,11 @@ module _ (x : IndexSet) (q : SlotRecord) (shown : List ℕ) (u : Upload) (is : I
           declared = ap (λ (p : SlotRecord). p.declared) said ∙ is.declared;
           accepted = ap (λ (p : SlotRecord). p.accepted) said ∙ is.accepted;
           text_len = ap (λ (p : SlotRecord). p.text_len) said ∙ is.text_len;
-          from = unpacked.from ∙ same_encoding s.from t.from (from_there s (state_bytes t) states) ∙ with_from x u (is_complete u);
+          from = unpacked.from ∙ same_encoding s.from t.from (from_there s (state_bytes t) states)
+              ∙ with_from x u (is_complete u);
           to = unpacked.to ∙ same_encoding s.to t.to (to_there s (state_bytes t) states) ∙ with_to x u (is_complete u);
-          mode = unpacked.mode ∙ same_mode s.mode t.mode (mode_there s (state_bytes t) states) ∙ with_mode x u (is_complete u);
+          mode = unpacked.mode ∙ same_mode s.mode t.mode (mode_there s (state_bytes t) states)
+              ∙ with_mode x u (is_complete u);
           state = ap (λ (p : SlotRecord). p.state) said ∙ is.state;
           metadata = ap (λ (p : SlotRecord). p.metadata) said ∙ is.metadata;
         };

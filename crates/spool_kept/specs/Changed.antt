@@ -1,5 +1,6 @@
 -- What a new upload and an append make of a view, and which slot an upload has.
-use Rattle.std.specs.Prelude.{◌≡◌, ◌≢◌, ℕ, suc, ◌+◌, ◌<◌, ◌≤◌, ◌==◌, if◌then◌else◌, List, [], ◌∷◌, Option, None, Some, length, get_or}
+use Rattle.std.specs.Prelude.{◌≡◌, ◌≢◌, ℕ, suc, ◌+◌, ◌<◌, ◌≤◌, ◌==◌, if◌then◌else◌, List, [], ◌∷◌, Option, None, Some}
+use Rattle.std.specs.Prelude.{length, get_or}
 use Rattle.enc_model.specs.Indexes.{IndexSet}
 use Rattle.upload_rules.specs.Store.{Upload, text_of}
 use Rattle.upload_rules.specs.Room.{blocks_of}
@@ -26,13 +27,16 @@ pub record SameOthers (slot : ℕ) (old new : List Row) : Type 0 where
   pub still : (b s i : ℕ) → s ≢ slot → Owns old b s i → Owns new b s i
   pub before : (b s i : ℕ) → s ≢ slot → Owns new b s i → Owns old b s i
 
--- the slot's blocks at ordinals from `first` on are nobody's, and the listed blocks are the slot's at the ordinals `first`,
+-- the slot's blocks at ordinals from `first` on are nobody's, and the listed blocks are the slot's at the ordinals
+-- `first`,
 -- `first + 1` and so on
 pub record HandsOver (old : List Row) (slot first : ℕ) (list : List ℕ) (new : List Row) : Type 0 where
   pub size : length new ≡ length old
   pub listed : (i : ℕ) → i < length list → Owns new (get_or list i 0) slot (first + i)
-  pub freed : (b k : ℕ) → ((i : ℕ) → i < length list → get_or list i 0 ≢ b) → first ≤ k → Owns old b slot k → get_or new b None ≡ None
-  pub kept : (b : ℕ) → ((i : ℕ) → i < length list → get_or list i 0 ≢ b) → ((k : ℕ) → first ≤ k → Owns old b slot k → ⊥) → get_or new b None ≡ get_or old b None
+  pub freed : (b k : ℕ) → ((i : ℕ) → i < length list → get_or list i 0 ≢ b) → first ≤ k → Owns old b slot k
+      → get_or new b None ≡ None
+  pub kept : (b : ℕ) → ((i : ℕ) → i < length list → get_or list i 0 ≢ b) → ((k : ℕ) → first ≤ k → Owns old b slot k → ⊥)
+      → get_or new b None ≡ get_or old b None
 
 -- the first slot with a record of this number
 unfoldable pub slot_of : ℕ → List (Option SlotRecord) → ℕ

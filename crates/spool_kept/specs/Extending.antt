@@ -1,5 +1,6 @@
 -- What an append makes of what is kept in memory.
-use Rattle.std.specs.Prelude.{◌≡◌, ◌≢◌, ℕ, ◌*◌, ◌+◌, ◌-◌, ◌/◌, ◌%◌, ◌<◌, ◌≤◌, ◌++◌, List, [], Some, None, Bool, false, length, get_or, drop, slice_set}
+use Rattle.std.specs.Prelude.{◌≡◌, ◌≢◌, ℕ, ◌*◌, ◌+◌, ◌-◌, ◌/◌, ◌%◌, ◌<◌, ◌≤◌, ◌++◌, List, [], Some, None, Bool, false}
+use Rattle.std.specs.Prelude.{length, get_or, drop, slice_set}
 use Rattle.enc_model.specs.Indexes.{IndexSet}
 use Rattle.enc_stream.specs.StateBytes.{IsSound}
 use Rattle.spool_disk.specs.declared.disk.Disk.{Ghosts}
@@ -47,7 +48,8 @@ pub record IsLonger (h : Holding) (used : SlotRecord) (longer : Longer) (more : 
   pub rows : 0 < length more → HandsOver h.blocks.rows longer.slot (used.text_len / 4096) more new.blocks.rows
 
 -- with these bytes the upload's text has these behind it, and the blocks hold what is not on the old full ones
-pub record IsExtension (x : IndexSet) (u : Upload) (bytes added : List ℕ) (longer : Longer) (more : List ℕ) (seen : ℕ → ℕ) (first : ℕ) : Type 0 where
+pub record IsExtension (x : IndexSet) (u : Upload) (bytes added : List ℕ) (longer : Longer) (more : List ℕ)
+    (seen : ℕ → ℕ) (first : ℕ) : Type 0 where
   pub accepted : longer.accepted ≡ length (u.accepted ++ bytes)
   pub few : length (u.accepted ++ bytes) ≤ u.declared
   pub state : longer.state ≡ state_of x (with_bytes u bytes)
@@ -57,10 +59,12 @@ pub record IsExtension (x : IndexSet) (u : Upload) (bytes added : List ℕ) (lon
   pub text_len : longer.text_len ≡ length (text_of x (with_bytes u bytes))
   pub nothing : length more ≡ 0 → added ≡ []
   pub content : 0 < length more
-      → text_on seen first more (longer.text_len - full_bytes (length (text_of x u))) ≡ drop (full_bytes (length (text_of x u))) (text_of x u) ++ added
+      → text_on seen first more (longer.text_len - full_bytes (length (text_of x u))) ≡ drop
+      (full_bytes (length (text_of x u))) (text_of x u) ++ added
 
 -- the disk and what is kept stand for the store, and this is an append to the slot's upload
-pub record IsAppend {D : Type 0} (disk : Ghosts D) (d : D) (h : Holding) (m : Store) (n : ℕ) (bytes : List ℕ) (longer : Longer) (more : List ℕ) : Type 0 where
+pub record IsAppend {D : Type 0} (disk : Ghosts D) (d : D) (h : Holding) (m : Store) (n : ℕ) (bytes : List ℕ)
+    (longer : Longer) (more : List ℕ) : Type 0 where
   pub stored : Stored disk d h m
   pub used : IsUsedBy h.slots longer.slot n
   pub upload : Upload
@@ -69,17 +73,20 @@ pub record IsAppend {D : Type 0} (disk : Ghosts D) (d : D) (h : Holding) (m : St
   pub extension : IsExtension m.indexes upload bytes added longer more (disk.seen d) (text_page h.layout)
 
 -- an append whose last bytes are still to be written: with its text on its blocks it is one
-pub record IsPending {D : Type 0} (disk : Ghosts D) (d : D) (h : Holding) (m : Store) (n : ℕ) (bytes : List ℕ) (longer : Longer)
+pub record IsPending {D : Type 0} (disk : Ghosts D) (d : D) (h : Holding) (m : Store) (n : ℕ) (bytes : List ℕ)
+    (longer : Longer)
     (more last : List ℕ) : Type 0 where
   pub stored : Stored disk d h m
   pub text : List ℕ
   pub fits : 1 ≤ length more → (length last + 4095) / 4096 ≤ length more
   pub held : 1 ≤ length more → bytes_with (disk.seen d) (text_page h.layout) more last ≡ text
-  pub append : (e : D) → Stored disk e h m → (1 ≤ length more → text_on (disk.seen e) (text_page h.layout) more (length text) ≡ text)
+  pub append : (e : D) → Stored disk e h m
+      → (1 ≤ length more → text_on (disk.seen e) (text_page h.layout) more (length text) ≡ text)
       → IsAppend disk e h m n bytes longer more
 
 -- the text's last bytes were written to its blocks alone, and then no byte of a text block
-pub record IsWritten {D : Type 0} (disk : Ghosts D) (old new : D) (h : Holding) (m : Store) (n : ℕ) (bytes : List ℕ) (longer : Longer)
+pub record IsWritten {D : Type 0} (disk : Ghosts D) (old new : D) (h : Holding) (m : Store) (n : ℕ) (bytes : List ℕ)
+    (longer : Longer)
     (more : List ℕ) : Type 0 where
   pub mid : D
   pub only : OnlyWrites disk (journal_pages h.layout) more old mid

@@ -13,7 +13,8 @@ use Rattle.spool_pages.specs.View.{SlotRecord, View, slot_at, IsViewOf}
 
 -- THE CHECKS
 
--- Behind the end exactly where all declared bytes were accepted. Before a byte order mark is decided all accepted bytes are held,
+-- Behind the end exactly where all declared bytes were accepted. Before a byte order mark is decided all accepted bytes
+-- are held,
 -- and from the first byte on it may be decided.
 abbrev pub FitsPhase : Phase → ℕ → ℕ → Type 0
 FitsPhase (Before held) accepted declared = (accepted ≡ length held) × (accepted ≡ declared → ⊥)
@@ -54,7 +55,8 @@ pub record IsSound (v : View) : Type 0 where
   pub slot_count : length v.slots ≡ 512
   pub row_count : length v.rows ≡ v.blocks
   pub records : (s : ℕ) (r : SlotRecord) → slot_at v s ≡ Some r → IsSoundRecord v.next r
-  pub distinct : (s t : ℕ) (r q : SlotRecord) → slot_at v s ≡ Some r → slot_at v t ≡ Some q → r.number ≡ q.number → s ≡ t
+  pub distinct : (s t : ℕ) (r q : SlotRecord) → slot_at v s ≡ Some r → slot_at v t ≡ Some q → r.number ≡ q.number
+      → s ≡ t
   pub owners : (b slot ordinal : ℕ) → Owns v.rows b slot ordinal → IsOwned v slot ordinal
   pub lists : (s : ℕ) (r : SlotRecord) → slot_at v s ≡ Some r → OwnsOneEach v.rows s (blocks_of r.text_len)
 

@@ -11,7 +11,8 @@ use std::fmt;
 /// Why a disk is not opened as a spool.
 #[derive(Clone, Copy, Debug, PartialEq, Eq)]
 pub enum OpenFault {
-    /// The disk doesn't begin with the first bytes of a spool and a number of text blocks from 16 to 65,536, or it is shorter
+    /// The disk doesn't begin with the first bytes of a spool and a number of text blocks from 16 to 65,536, or it is
+    /// shorter
     /// than its layout.
     NotASpool,
     /// The disk failed in this call.

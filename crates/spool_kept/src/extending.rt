@@ -1,5 +1,6 @@
 // An upload gets longer: its record and its blocks, in memory and on the disk.
-ghost use Rattle.std.specs.Prelude.{◌≡◌, ◌↔◌, ◌≤◌, ◌<◌, ◌*◌, ◌/◌, ◌++◌, ℕ, List, [], Some, None, Ok, Err, length, get_or, drop, slice_set, IfOk, OnOk, OnErr, IsSome};
+ghost use Rattle.std.specs.Prelude.{◌≡◌, ◌↔◌, ◌≤◌, ◌<◌, ◌*◌, ◌/◌, ◌++◌, ℕ, List, [], Some, None, Ok, Err, length};
+ghost use Rattle.std.specs.Prelude.{get_or, drop, slice_set, IfOk, OnOk, OnErr, IsSome};
 ghost use Rattle.spool_disk.specs.Disk.{Counts};
 ghost use Rattle.spool_disk.specs.Views.{Lasts};
 ghost use Rattle.spool_journal.specs.Image.{all_pages, journal_pages, InArea};

@@ -1,4 +1,5 @@
-use Rattle.std.proofs.Common.{◌≡◌, ◌∙◌, ◌≤◌, ◌+◌, ◌-◌, ◌*◌, ◌^◌, Result, None, Err, IfOk, arith, get_or, length, ap, refl, min, rules, subst, sym, ℕ}
+use Rattle.std.proofs.Common.{◌≡◌, ◌∙◌, ◌≤◌, ◌+◌, ◌-◌, ◌*◌, ◌^◌, Result, None, Err, IfOk, arith, get_or, length, ap}
+use Rattle.std.proofs.Common.{refl, min, rules, subst, sym, ℕ}
 use Rattle.std.proofs.lemmas.Option.{same_Some}
 use Rattle.std.proofs.lemmas.Result.{err_from_is_err_and}
 use Rattle.spool_drafts.specs.declared.draft.DraftEnd.{DraftEnd}
@@ -18,46 +19,64 @@ use Rattle.spool_kept.proofs.committing.ended.Goals as goal
 
 pub returns-in_err-state-clause-stored : goal.returns-in_err-state-clause-stored
 returns-in_err-state-clause-stored g c drafts number w p is =
-    let is' = subst (λ (h : Holding). IsCommit g.D.Disk c.args.disk.now h drafts number c.args.draft.now w p) (sym c.kept.view_is) is in
-    lemmas.stored_after g.D.Disk c.args.disk.now c.end.new.disk _ _ (lemmas.only_blocks _ c.end.new.blocks c.end.ensures.rows) drafts number c.args.draft.now c.end.new.self w p is' c.end.ensures.effect
+    let is' = subst (λ (h : Holding). IsCommit g.D.Disk c.args.disk.now h drafts number c.args.draft.now w p)
+    (sym c.kept.view_is) is in
+    lemmas.stored_after g.D.Disk c.args.disk.now c.end.new.disk _ _
+    (lemmas.only_blocks _ c.end.new.blocks c.end.ensures.rows) drafts number c.args.draft.now c.end.new.self w p is'
+    c.end.ensures.effect
     c.end.ensures.honest.0
 
 pub returns-in_err-state-clause-quiet : goal.returns-in_err-state-clause-quiet
 returns-in_err-state-clause-quiet g c drafts number w p is =
-    let is' = subst (λ (h : Holding). IsCommit g.D.Disk c.args.disk.now h drafts number c.args.draft.now w p) (sym c.kept.view_is) is in
-    subst (λ (h : Holding). Lasts g.D.Disk c.args.disk.now c.end.new.disk (λ image. ImageShows h.layout image w.store)) c.kept.view_is
-    (lemmas.quiet_after g.D.Disk c.args.disk.now c.end.new.disk _ _ (lemmas.only_blocks _ c.end.new.blocks c.end.ensures.rows)
+    let is' = subst (λ (h : Holding). IsCommit g.D.Disk c.args.disk.now h drafts number c.args.draft.now w p)
+    (sym c.kept.view_is) is in
+    subst (λ (h : Holding). Lasts g.D.Disk c.args.disk.now c.end.new.disk (λ image. ImageShows h.layout image w.store))
+    c.kept.view_is
+    (lemmas.quiet_after g.D.Disk c.args.disk.now c.end.new.disk _ _
+    (lemmas.only_blocks _ c.end.new.blocks c.end.ensures.rows)
     drafts number c.args.draft.now c.end.new.self w p is' c.end.ensures.effect)
 
 pub returns-in_err-state-clause-answer : goal.returns-in_err-state-clause-answer
 returns-in_err-state-clause-answer g c drafts number w p is =
     let o = c.args.draft.now in
     let o' = c.end.new.self in
-    let is' = subst (λ (h : Holding). IsCommit g.D.Disk c.args.disk.now h drafts number o w p) (sym c.kept.view_is) is in
+    let is' = subst (λ (h : Holding). IsCommit g.D.Disk c.args.disk.now h drafts number o w p) (sym c.kept.view_is)
+    is in
     let has = subst (λ (h : Holding). HasSameCount h.slots o c.args.slot) (sym c.kept.view_is) c.requires.used in
     let used : c.unwrap.result.now ≡ has.used = search rules in
     let only = lemmas.only_blocks _ c.end.new.blocks c.end.ensures.rows in
     let effect = c.end.ensures.effect in
     let sum : c.saturating_add-accepted.result ≡ min (offset_of o + came_of o) (2 ^ 64 - 1) =
-    c.saturating_add-accepted.ensures ∙ ap (λ (n : ℕ). min (n + c.came.result) (2 ^ 64 - 1)) c.offset.ensures ∙ ap (λ (n : ℕ). min (offset_of o + n) (2 ^ 64 - 1)) c.came.ensures in
-    let ends = lemmas.ends_as g.D.Disk c.args.disk.now c.end.new.disk _ _ only drafts number o o' w p is' effect c.args.slot has
+    c.saturating_add-accepted.ensures ∙ ap (λ (n : ℕ). min (n + c.came.result) (2 ^ 64 - 1)) c.offset.ensures
+    ∙ ap (λ (n : ℕ). min (offset_of o + n) (2 ^ 64 - 1)) c.came.ensures in
+    let ends = lemmas.ends_as g.D.Disk c.args.disk.now c.end.new.disk _ _ only drafts number o o' w p is' effect
+    c.args.slot has
     c.saturating_add-accepted.result sum _ (c.record-used.ensures.said ∙ used) c.end.result c.end.ensures.answer in
-    let placed = lemmas.placed_still c.kept.inside.layout o o' c.end.ensures.same.3 c.end.ensures.same.4 (subst (λ (h : Holding). IsPlaced h.layout o) (sym c.kept.view_is) c.requires.placed) in
+    let placed = lemmas.placed_still c.kept.inside.layout o o' c.end.ensures.same.3 c.end.ensures.same.4
+    (subst (λ (h : Holding). IsPlaced h.layout o) (sym c.kept.view_is) c.requires.placed) in
     let err = err_from_is_err_and c.from_residual.result c.from_residual.ensures.1 in
-    lemmas.not_ended g.D.Disk c.args.disk.now c.end.new.disk _ _ only drafts number o o' w p is' effect placed c.end.ensures.reserved c.rows-rows.ensures.reserved _
-    c.from_residual.result c.in_err-state.field-0.0 (err.1 ∙ ap (λ (e : UploadError). Err e) err.2) c.end.result c.in_err-state.was ends
+    lemmas.not_ended g.D.Disk c.args.disk.now c.end.new.disk _ _ only drafts number o o' w p is' effect placed
+    c.end.ensures.reserved c.rows-rows.ensures.reserved _
+    c.from_residual.result c.in_err-state.field-0.0 (err.1 ∙ ap (λ (e : UploadError). Err e) err.2) c.end.result
+    c.in_err-state.was ends
 
 pub returns-clause-stored : goal.returns-clause-stored
 returns-clause-stored g c drafts number w p is =
-    let is' = subst (λ (h : Holding). IsCommit g.D.Disk c.args.disk.now h drafts number c.args.draft.now w p) (sym c.kept.view_is) is in
-    lemmas.stored_after g.D.Disk c.args.disk.now c.end.new.disk _ _ (lemmas.only_blocks _ c.end.new.blocks c.end.ensures.rows) drafts number c.args.draft.now c.end.new.self w p is' c.end.ensures.effect
+    let is' = subst (λ (h : Holding). IsCommit g.D.Disk c.args.disk.now h drafts number c.args.draft.now w p)
+    (sym c.kept.view_is) is in
+    lemmas.stored_after g.D.Disk c.args.disk.now c.end.new.disk _ _
+    (lemmas.only_blocks _ c.end.new.blocks c.end.ensures.rows) drafts number c.args.draft.now c.end.new.self w p is'
+    c.end.ensures.effect
     c.end.ensures.honest.0
 
 pub returns-clause-quiet : goal.returns-clause-quiet
 returns-clause-quiet g c drafts number w p is =
-    let is' = subst (λ (h : Holding). IsCommit g.D.Disk c.args.disk.now h drafts number c.args.draft.now w p) (sym c.kept.view_is) is in
-    subst (λ (h : Holding). Lasts g.D.Disk c.args.disk.now c.end.new.disk (λ image. ImageShows h.layout image w.store)) c.kept.view_is
-    (lemmas.quiet_after g.D.Disk c.args.disk.now c.end.new.disk _ _ (lemmas.only_blocks _ c.end.new.blocks c.end.ensures.rows)
+    let is' = subst (λ (h : Holding). IsCommit g.D.Disk c.args.disk.now h drafts number c.args.draft.now w p)
+    (sym c.kept.view_is) is in
+    subst (λ (h : Holding). Lasts g.D.Disk c.args.disk.now c.end.new.disk (λ image. ImageShows h.layout image w.store))
+    c.kept.view_is
+    (lemmas.quiet_after g.D.Disk c.args.disk.now c.end.new.disk _ _
+    (lemmas.only_blocks _ c.end.new.blocks c.end.ensures.rows)
     drafts number c.args.draft.now c.end.new.self w p is' c.end.ensures.effect)
 
 pub returns-clause-answer : goal.returns-clause-answer
@@ -65,32 +84,44 @@ returns-clause-answer g c drafts number w p is =
     let end = c.in_ok-state.field-0 in
     let o = c.args.draft.now in
     let o' = c.end.new.self in
-    let is' = subst (λ (h : Holding). IsCommit g.D.Disk c.args.disk.now h drafts number o w p) (sym c.kept.view_is) is in
+    let is' = subst (λ (h : Holding). IsCommit g.D.Disk c.args.disk.now h drafts number o w p) (sym c.kept.view_is)
+    is in
     let has = subst (λ (h : Holding). HasSameCount h.slots o c.args.slot) (sym c.kept.view_is) c.requires.used in
     let used : c.unwrap.result.now ≡ has.used = search rules in
     let only = lemmas.only_blocks _ c.end.new.blocks c.end.ensures.rows in
     let effect = c.end.ensures.effect in
     let sum : c.saturating_add-accepted.result ≡ min (offset_of o + came_of o) (2 ^ 64 - 1) =
-    c.saturating_add-accepted.ensures ∙ ap (λ (n : ℕ). min (n + c.came.result) (2 ^ 64 - 1)) c.offset.ensures ∙ ap (λ (n : ℕ). min (offset_of o + n) (2 ^ 64 - 1)) c.came.ensures in
-    let ends = lemmas.ends_as g.D.Disk c.args.disk.now c.end.new.disk _ _ only drafts number o o' w p is' effect c.args.slot has
+    c.saturating_add-accepted.ensures ∙ ap (λ (n : ℕ). min (n + c.came.result) (2 ^ 64 - 1)) c.offset.ensures
+    ∙ ap (λ (n : ℕ). min (offset_of o + n) (2 ^ 64 - 1)) c.came.ensures in
+    let ends = lemmas.ends_as g.D.Disk c.args.disk.now c.end.new.disk _ _ only drafts number o o' w p is' effect
+    c.args.slot has
     c.saturating_add-accepted.result sum _ (c.record-used.ensures.said ∙ used) c.end.result c.end.ensures.answer in
-    let placed = lemmas.placed_still c.kept.inside.layout o o' c.end.ensures.same.3 c.end.ensures.same.4 (subst (λ (h : Holding). IsPlaced h.layout o) (sym c.kept.view_is) c.requires.placed) in
+    let placed = lemmas.placed_still c.kept.inside.layout o o' c.end.ensures.same.3 c.end.ensures.same.4
+    (subst (λ (h : Holding). IsPlaced h.layout o) (sym c.kept.view_is) c.requires.placed) in
     let whole : IsWhole w.store.indexes p (completes p) o' end =
-    subst (λ (r : Result DraftEnd UploadError). EndsAs w.store.indexes p (completes p) o o' c.kept.inside.blocks c.end.new.blocks r) c.in_ok-state.was ends in
-    let ends_on = lemmas.ends_on g.D.Disk c.args.disk.now c.end.new.disk _ _ only drafts number o o' w p is' effect c.args.slot has
+    subst (λ (r : Result DraftEnd UploadError). EndsAs w.store.indexes p (completes p) o o' c.kept.inside.blocks
+    c.end.new.blocks r) c.in_ok-state.was ends in
+    let ends_on = lemmas.ends_on g.D.Disk c.args.disk.now c.end.new.disk _ _ only drafts number o o' w p is' effect
+    c.args.slot has
     c.saturating_add-accepted.result sum _ (c.record-used.ensures.said ∙ used) c.end.result c.end.ensures.content in
     let page = 25 + 2 * journal_pages c.kept.inside.layout in
     let text = open_text w.store.indexes p (completes p) in
-    let content = subst (λ (r : Result DraftEnd UploadError). IfOk r (λ e. 1 ≤ length (list_of o') → bytes_with (g.D.Disk.seen c.end.new.disk) page (list_of o') e.last.items ≡ text)) c.in_ok-state.was ends_on in
+    let content = subst (λ (r : Result DraftEnd UploadError). IfOk r
+    (λ e. 1 ≤ length (list_of o') → bytes_with (g.D.Disk.seen c.end.new.disk) page (list_of o')
+    e.last.items ≡ text)) c.in_ok-state.was ends_on in
     let fits = c.in_ok-state.ensures.fits in
-    let came = lemmas.all_came g.D.Disk c.args.disk.now c.end.new.disk _ _ only drafts number o o' w p is' effect c.args.slot has
+    let came = lemmas.all_came g.D.Disk c.args.disk.now c.end.new.disk _ _ only drafts number o o' w p is' effect
+    c.args.slot has
     c.saturating_add-accepted.result sum _ (c.record-used.ensures.said ∙ used) in
-    let allowed = lemmas.allowed g.D.Disk c.args.disk.now c.end.new.disk _ _ only drafts number o o' w p is' effect placed c.end.ensures.reserved c.rows-rows.ensures.reserved end whole c.args.slot has in
-    let stored = lemmas.stored_after g.D.Disk c.args.disk.now c.end.new.disk _ _ only drafts number o o' w p is' effect c.end.ensures.honest.0 in (
+    let allowed = lemmas.allowed g.D.Disk c.args.disk.now c.end.new.disk _ _ only drafts number o o' w p is' effect
+    placed c.end.ensures.reserved c.rows-rows.ensures.reserved end whole c.args.slot has in
+    let stored = lemmas.stored_after g.D.Disk c.args.disk.now c.end.new.disk _ _ only drafts number o o' w p is' effect
+    c.end.ensures.honest.0 in (
       allowed,
       (
         came,
-        lemmas.pending g.D.Disk c.args.disk.now c.end.new.disk _ _ only drafts number o o' w p is' effect placed c.end.ensures.reserved c.rows-rows.ensures.reserved end whole c.args.slot has
+        lemmas.pending g.D.Disk c.args.disk.now c.end.new.disk _ _ only drafts number o o' w p is' effect placed
+            c.end.ensures.reserved c.rows-rows.ensures.reserved end whole c.args.slot has
             _ refl came refl refl stored fits content,
       ),
     )
@@ -114,6 +145,17 @@ returns-clause-may g c =
 pub returns-clause-more : goal.returns-clause-more
 returns-clause-more g c r there =
     let has = c.requires.used in
-    let same = same_Some has.used r (sym has.there ∙ ap (λ (h : Holding). get_or h.slots c.args.slot None) (sym c.kept.view_is) ∙ there) in
-    let room = c.in_ok-state.ensures.room has.used.text_len has.used.state (c.requires.behind has.used has.there) refl in
-    omega (arith, c.saturating_add-accepted.ensures, c.offset.ensures, c.came.ensures, c.requires.some, room, has.count, ap (λ (q : SlotRecord). q.accepted) same)
+    let same = same_Some has.used r
+    (sym has.there ∙ ap (λ (h : Holding). get_or h.slots c.args.slot None) (sym c.kept.view_is) ∙ there) in
+    let room = c.in_ok-state.ensures.room has.used.text_len has.used.state (c.requires.behind has.used has.there)
+    refl in
+    omega (
+      arith,
+      c.saturating_add-accepted.ensures,
+      c.offset.ensures,
+      c.came.ensures,
+      c.requires.some,
+      room,
+      has.count,
+      ap (λ (q : SlotRecord). q.accepted) same,
+    )

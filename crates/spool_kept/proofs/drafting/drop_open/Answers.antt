@@ -18,7 +18,8 @@ pub returns-in-Some-clause-stands : goal.returns-in-Some-clause-stands
 returns-in-Some-clause-stands g c disk w stands =
     let before = c.args.drafts.now.items in
     let list = ap list_in c.in-Some.ensures.taken in
-    let gives = subst (λ (h : Holding). GivesBack h.blocks c.give_back.new.blocks (lists_at before c.args.number)) c.kept.view_is (subst (GivesBack c.kept.inside.blocks c.give_back.new.blocks) list c.give_back.ensures) in
+    let gives = subst (λ (h : Holding). GivesBack h.blocks c.give_back.new.blocks (lists_at before c.args.number))
+    c.kept.view_is (subst (GivesBack c.kept.inside.blocks c.give_back.new.blocks) list c.give_back.ensures) in
     drops g.D.Disk disk c.args.kept.now _ before c.taken.new.drafts.items c.args.number w
     (reserves_only c.args.kept.now _ _ c.kept.view_is refl c.give_back.ensures.rows) c.taken.ensures.after gives stands
 

@@ -7,62 +7,83 @@ use Rattle.spool_pages.specs.View.{text_page}
 use Rattle.spool_texts.specs.Drafts.{bytes_with}
 use Rattle.spool_texts.specs.TextOn.{text_on}
 use Rattle.spool_kept.specs.Holding.{Holding, FitsTogether}
-use Rattle.spool_kept.proofs.Extended.{before, after, after_stored, after_lasts, after_changes, after_texts, state_length}
+use Rattle.spool_kept.proofs.Extended.{before, after, after_stored, after_lasts, after_changes, after_texts}
+use Rattle.spool_kept.proofs.Extended.{state_length}
 use Rattle.spool_kept.proofs.LastWritten.{shown, appended}
 use Rattle.spool_kept.proofs.extending.extend.Goals as goal
 
 pub fill_rows-requires-clause-area : goal.fill_rows-requires-clause-area
 fill_rows-requires-clause-area g c =
     let may = c.requires.may in
-    let layout : c.kept.inside.layout ≡ c.args.kept.now.layout = ap (λ (k : Holding). k.layout) c.kept.view_is ∙ (c.in_ok-take_over.ensures.longer may.used may.there).layout in
+    let layout : c.kept.inside.layout ≡ c.args.kept.now.layout =
+    ap (λ (k : Holding). k.layout) c.kept.view_is ∙ (c.in_ok-take_over.ensures.longer may.used may.there).layout in
     subst (λ (n : ℕ). InArea (journal_pages n) c.in_ok-pages.pages) (sym layout) c.in_ok-pages.ensures.area
 
 pub change-requires-clause-room : goal.change-requires-clause-room
 change-requires-clause-room g c =
     let may = c.requires.may in
-    let layout : c.kept.inside.layout ≡ c.args.kept.now.layout = ap (λ (k : Holding). k.layout) c.kept.view_is ∙ (c.in_ok-take_over.ensures.longer may.used may.there).layout in
+    let layout : c.kept.inside.layout ≡ c.args.kept.now.layout =
+    ap (λ (k : Holding). k.layout) c.kept.view_is ∙ (c.in_ok-take_over.ensures.longer may.used may.there).layout in
     subst (λ (size : ℕ). 4096 * all_pages c.kept.inside.layout ≤ size) (sym c.write_last.ensures.size)
     (subst (λ (n : ℕ). 4096 * all_pages n ≤ g.D.Disk.size c.args.disk.now) (sym layout) c.requires.room)
 
 pub returns-in_err-change-clause-layout : goal.returns-in_err-change-clause-layout
-returns-in_err-change-clause-layout g c = (c.in_ok-take_over.ensures.longer c.requires.may.used c.requires.may.there).layout
+returns-in_err-change-clause-layout g c =
+    (c.in_ok-take_over.ensures.longer c.requires.may.used c.requires.may.there).layout
 
 pub returns-clause-layout : goal.returns-clause-layout
 returns-clause-layout g c = (c.in_ok-take_over.ensures.longer c.requires.may.used c.requires.may.there).layout
 
 pub returns-in_err-write_last-clause-layout : goal.returns-in_err-write_last-clause-layout
-returns-in_err-write_last-clause-layout g c = (c.in_ok-take_over.ensures.longer c.requires.may.used c.requires.may.there).layout
+returns-in_err-write_last-clause-layout g c =
+    (c.in_ok-take_over.ensures.longer c.requires.may.used c.requires.may.there).layout
 
 pub write_last-requires-clause-room : goal.write_last-requires-clause-room
 write_last-requires-clause-room g c =
     let may = c.requires.may in
-    let layout : c.kept.inside.layout ≡ c.args.kept.now.layout = ap (λ (k : Holding). k.layout) c.kept.view_is ∙ (c.in_ok-take_over.ensures.longer may.used may.there).layout in
+    let layout : c.kept.inside.layout ≡ c.args.kept.now.layout =
+    ap (λ (k : Holding). k.layout) c.kept.view_is ∙ (c.in_ok-take_over.ensures.longer may.used may.there).layout in
     subst (λ (n : ℕ). 4096 * all_pages n ≤ g.D.Disk.size c.args.disk.now) (sym layout) c.requires.room
 
 pub write_last-requires-clause-blocks : goal.write_last-requires-clause-blocks
 write_last-requires-clause-blocks g c i lt =
     let longer = c.in_ok-take_over.ensures.longer c.requires.may.used c.requires.may.there in
     let fits = subst FitsTogether c.kept.view_is c.kept.invariant in
-    omega (arith, c.requires.reserved.below i lt, (longer.rows (omega (arith, lt))).size, fits.row_count, ap (λ (k : Holding). k.layout) c.kept.view_is)
+    omega (
+      arith,
+      c.requires.reserved.below i lt,
+      (longer.rows (omega (arith, lt))).size,
+      fits.row_count,
+      ap
+          (λ (k : Holding). k.layout) c.kept.view_is,
+    )
 
 pub returns-clause-written : goal.returns-clause-written
 returns-clause-written g c m n bytes pending =
     let may = c.requires.may in
     let stored = pending.stored in
-    let layout : c.kept.inside.layout ≡ c.args.kept.now.layout = ap (λ (k : Holding). k.layout) c.kept.view_is ∙ (c.in_ok-take_over.ensures.longer may.used may.there).layout in
-    let wrote : OnlyWrites g.D.Disk (journal_pages c.args.kept.now.layout) c.args.more.now c.args.disk.now c.write_last.new.disk =
-    subst (λ (n : ℕ). OnlyWrites g.D.Disk (journal_pages n) c.args.more.now c.args.disk.now c.write_last.new.disk) layout (only (c.write_last.ensures.writes stored.honest) (c.write_last.ensures.lasts stored.honest)) in
+    let layout : c.kept.inside.layout ≡ c.args.kept.now.layout =
+    ap (λ (k : Holding). k.layout) c.kept.view_is ∙ (c.in_ok-take_over.ensures.longer may.used may.there).layout in
+    let wrote : OnlyWrites g.D.Disk (journal_pages c.args.kept.now.layout) c.args.more.now c.args.disk.now
+    c.write_last.new.disk =
+    subst (λ (n : ℕ). OnlyWrites g.D.Disk (journal_pages n) c.args.more.now c.args.disk.now c.write_last.new.disk)
+    layout (only (c.write_last.ensures.writes stored.honest) (c.write_last.ensures.lasts stored.honest)) in
     let written = subst (λ (n : ℕ). (length c.args.last.now + 4095) / 4096 ≤ length c.args.more.now
-    → text_on (g.D.Disk.seen c.write_last.new.disk) (25 + 2 * journal_pages n) c.args.more.now (length (bytes_with (g.D.Disk.seen c.args.disk.now) (25 + 2 * journal_pages n) c.args.more.now c.args.last.now)) ≡ bytes_with (g.D.Disk.seen c.args.disk.now) (25 + 2 * journal_pages n) c.args.more.now c.args.last.now) layout
+    → text_on (g.D.Disk.seen c.write_last.new.disk) (25 + 2 * journal_pages n) c.args.more.now
+    (length (bytes_with (g.D.Disk.seen c.args.disk.now) (25 + 2 * journal_pages n) c.args.more.now c.args.last.now)) ≡
+    bytes_with (g.D.Disk.seen c.args.disk.now) (25 + 2 * journal_pages n) c.args.more.now c.args.last.now) layout
     (c.in_ok-write_last.ensures.written stored.honest) in
-    let append = appended g.D.Disk c.args.disk.now c.write_last.new.disk c.args.kept.now m n bytes c.args.longer.now c.args.more.now c.args.last.now pending c.requires.reserved wrote c.write_last.ensures.honest.0 written in
+    let append = appended g.D.Disk c.args.disk.now c.write_last.new.disk c.args.kept.now m n bytes c.args.longer.now
+    c.args.more.now c.args.last.now pending c.requires.reserved wrote c.write_last.ensures.honest.0 written in
     let honest = c.write_last.ensures.honest.0 stored.honest in
     record {
       mid = c.write_last.new.disk;
       only = wrote;
       append = append;
-      texts = subst (λ (n : ℕ). (p : ℕ) → 4096 * text_page n ≤ p → g.D.Disk.seen c.change.new.disk p ≡ g.D.Disk.seen c.write_last.new.disk p) layout
-          (c.in_ok-change.ensures.texts honest append.stored.view (sym append.stored.keeps.blocks ∙ sym layout) append.stored.rests);
+      texts = subst (λ (n : ℕ). (p : ℕ) → 4096 * text_page n ≤ p → g.D.Disk.seen c.change.new.disk p ≡ g.D.Disk.seen
+          c.write_last.new.disk p) layout
+          (c.in_ok-change.ensures.texts honest append.stored.view (sym append.stored.keeps.blocks ∙ sym layout)
+          append.stored.rests);
     }
 
 pub returns-clause-answer : goal.returns-clause-answer
@@ -71,26 +92,41 @@ returns-clause-answer g c m n bytes pending =
     let stored = pending.stored in
     let is = c.in_ok-take_over.ensures.longer in
     let fits = subst FitsTogether c.kept.view_is c.kept.invariant in
-    let layout : c.kept.inside.layout ≡ c.args.kept.now.layout = ap (λ (k : Holding). k.layout) c.kept.view_is ∙ (is may.used may.there).layout in
-    let size : length c.args.longer.now.state ≡ 32 = ap (λ (xs : List ℕ). length xs) may.state.is ∙ state_length may.state.after in
-    let rows : c.take_over.new.self.blocks.rows ≡ c.rows.result.now = ap (λ (k : Holding). k.blocks.rows) (sym c.kept.view_is) ∙ sym c.rows.ensures.same in
-    let wrote : OnlyWrites g.D.Disk (journal_pages c.args.kept.now.layout) c.args.more.now c.args.disk.now c.write_last.new.disk =
-    subst (λ (n : ℕ). OnlyWrites g.D.Disk (journal_pages n) c.args.more.now c.args.disk.now c.write_last.new.disk) layout (only (c.write_last.ensures.writes stored.honest) (c.write_last.ensures.lasts stored.honest)) in
+    let layout : c.kept.inside.layout ≡ c.args.kept.now.layout =
+    ap (λ (k : Holding). k.layout) c.kept.view_is ∙ (is may.used may.there).layout in
+    let size : length c.args.longer.now.state ≡ 32 =
+    ap (λ (xs : List ℕ). length xs) may.state.is ∙ state_length may.state.after in
+    let rows : c.take_over.new.self.blocks.rows ≡ c.rows.result.now =
+    ap (λ (k : Holding). k.blocks.rows) (sym c.kept.view_is) ∙ sym c.rows.ensures.same in
+    let wrote : OnlyWrites g.D.Disk (journal_pages c.args.kept.now.layout) c.args.more.now c.args.disk.now
+    c.write_last.new.disk =
+    subst (λ (n : ℕ). OnlyWrites g.D.Disk (journal_pages n) c.args.more.now c.args.disk.now c.write_last.new.disk)
+    layout (only (c.write_last.ensures.writes stored.honest) (c.write_last.ensures.lasts stored.honest)) in
     let written = subst (λ (n : ℕ). (length c.args.last.now + 4095) / 4096 ≤ length c.args.more.now
-    → text_on (g.D.Disk.seen c.write_last.new.disk) (25 + 2 * journal_pages n) c.args.more.now (length (bytes_with (g.D.Disk.seen c.args.disk.now) (25 + 2 * journal_pages n) c.args.more.now c.args.last.now)) ≡ bytes_with (g.D.Disk.seen c.args.disk.now) (25 + 2 * journal_pages n) c.args.more.now c.args.last.now) layout
+    → text_on (g.D.Disk.seen c.write_last.new.disk) (25 + 2 * journal_pages n) c.args.more.now
+    (length (bytes_with (g.D.Disk.seen c.args.disk.now) (25 + 2 * journal_pages n) c.args.more.now c.args.last.now)) ≡
+    bytes_with (g.D.Disk.seen c.args.disk.now) (25 + 2 * journal_pages n) c.args.more.now c.args.last.now) layout
     (c.in_ok-write_last.ensures.written stored.honest) in
-    let append = appended g.D.Disk c.args.disk.now c.write_last.new.disk c.args.kept.now m n bytes c.args.longer.now c.args.more.now c.args.last.now pending c.requires.reserved wrote c.write_last.ensures.honest.0 written in
+    let append = appended g.D.Disk c.args.disk.now c.write_last.new.disk c.args.kept.now m n bytes c.args.longer.now
+    c.args.more.now c.args.last.now pending c.requires.reserved wrote c.write_last.ensures.honest.0 written in
     let honest = c.write_last.ensures.honest.0 stored.honest in
-    let before' = before g.D.Disk c.write_last.new.disk c.args.kept.now c.take_over.new.self fits c.args.longer.now c.args.more.now may c.requires.reserved is size m n bytes append in
-    let after' = after g.D.Disk c.write_last.new.disk c.args.kept.now c.take_over.new.self fits c.args.longer.now c.args.more.now may c.requires.reserved is size m n bytes append in
-    let changes = after_changes g.D.Disk c.write_last.new.disk c.args.kept.now c.take_over.new.self fits c.args.longer.now c.args.more.now may c.requires.reserved is size m n bytes append
+    let before' = before g.D.Disk c.write_last.new.disk c.args.kept.now c.take_over.new.self fits c.args.longer.now
+    c.args.more.now may c.requires.reserved is size m n bytes append in
+    let after' = after g.D.Disk c.write_last.new.disk c.args.kept.now c.take_over.new.self fits c.args.longer.now
+    c.args.more.now may c.requires.reserved is size m n bytes append in
+    let changes = after_changes g.D.Disk c.write_last.new.disk c.args.kept.now c.take_over.new.self fits
+    c.args.longer.now c.args.more.now may c.requires.reserved is size m n bytes append
     c.in_ok-pages.pages c.fill_rows.new.pages c.in_ok-pages.ensures.changes
-    (λ v v' blocks but same. c.fill_rows.ensures.changes v v' (blocks ∙ ap (λ (k : Holding). k.layout) (sym c.kept.view_is)) but (same ∙ rows)) in
-    let texts = after_texts g.D.Disk c.write_last.new.disk c.args.kept.now c.take_over.new.self fits c.args.longer.now c.args.more.now may c.requires.reserved is size m n bytes append in
+    (λ v v' blocks but same. c.fill_rows.ensures.changes v v'
+    (blocks ∙ ap (λ (k : Holding). k.layout) (sym c.kept.view_is)) but (same ∙ rows)) in
+    let texts = after_texts g.D.Disk c.write_last.new.disk c.args.kept.now c.take_over.new.self fits c.args.longer.now
+    c.args.more.now may c.requires.reserved is size m n bytes append in
     let rest = append.stored in
-    after_stored g.D.Disk c.write_last.new.disk c.args.kept.now c.take_over.new.self fits c.args.longer.now c.args.more.now may c.requires.reserved is size m n bytes append c.change.new.disk
+    after_stored g.D.Disk c.write_last.new.disk c.args.kept.now c.take_over.new.self fits c.args.longer.now
+    c.args.more.now may c.requires.reserved is size m n bytes append c.change.new.disk
     (c.in_ok-change.ensures.honest.0 honest)
-    (c.in_ok-change.ensures.done honest before' after' (sym rest.keeps.blocks ∙ sym layout) rest.shows.sound.version rest.rests changes texts)
+    (c.in_ok-change.ensures.done honest before' after' (sym rest.keeps.blocks ∙ sym layout) rest.shows.sound.version
+    rest.rests changes texts)
 
 pub returns-clause-crash : goal.returns-clause-crash
 returns-clause-crash g c m n bytes pending =
@@ -98,27 +134,43 @@ returns-clause-crash g c m n bytes pending =
     let stored = pending.stored in
     let is = c.in_ok-take_over.ensures.longer in
     let fits = subst FitsTogether c.kept.view_is c.kept.invariant in
-    let layout : c.kept.inside.layout ≡ c.args.kept.now.layout = ap (λ (k : Holding). k.layout) c.kept.view_is ∙ (is may.used may.there).layout in
-    let size : length c.args.longer.now.state ≡ 32 = ap (λ (xs : List ℕ). length xs) may.state.is ∙ state_length may.state.after in
-    let rows : c.take_over.new.self.blocks.rows ≡ c.rows.result.now = ap (λ (k : Holding). k.blocks.rows) (sym c.kept.view_is) ∙ sym c.rows.ensures.same in
-    let wrote : OnlyWrites g.D.Disk (journal_pages c.args.kept.now.layout) c.args.more.now c.args.disk.now c.write_last.new.disk =
-    subst (λ (n : ℕ). OnlyWrites g.D.Disk (journal_pages n) c.args.more.now c.args.disk.now c.write_last.new.disk) layout (only (c.write_last.ensures.writes stored.honest) (c.write_last.ensures.lasts stored.honest)) in
+    let layout : c.kept.inside.layout ≡ c.args.kept.now.layout =
+    ap (λ (k : Holding). k.layout) c.kept.view_is ∙ (is may.used may.there).layout in
+    let size : length c.args.longer.now.state ≡ 32 =
+    ap (λ (xs : List ℕ). length xs) may.state.is ∙ state_length may.state.after in
+    let rows : c.take_over.new.self.blocks.rows ≡ c.rows.result.now =
+    ap (λ (k : Holding). k.blocks.rows) (sym c.kept.view_is) ∙ sym c.rows.ensures.same in
+    let wrote : OnlyWrites g.D.Disk (journal_pages c.args.kept.now.layout) c.args.more.now c.args.disk.now
+    c.write_last.new.disk =
+    subst (λ (n : ℕ). OnlyWrites g.D.Disk (journal_pages n) c.args.more.now c.args.disk.now c.write_last.new.disk)
+    layout (only (c.write_last.ensures.writes stored.honest) (c.write_last.ensures.lasts stored.honest)) in
     let written = subst (λ (n : ℕ). (length c.args.last.now + 4095) / 4096 ≤ length c.args.more.now
-    → text_on (g.D.Disk.seen c.write_last.new.disk) (25 + 2 * journal_pages n) c.args.more.now (length (bytes_with (g.D.Disk.seen c.args.disk.now) (25 + 2 * journal_pages n) c.args.more.now c.args.last.now)) ≡ bytes_with (g.D.Disk.seen c.args.disk.now) (25 + 2 * journal_pages n) c.args.more.now c.args.last.now) layout
+    → text_on (g.D.Disk.seen c.write_last.new.disk) (25 + 2 * journal_pages n) c.args.more.now
+    (length (bytes_with (g.D.Disk.seen c.args.disk.now) (25 + 2 * journal_pages n) c.args.more.now c.args.last.now)) ≡
+    bytes_with (g.D.Disk.seen c.args.disk.now) (25 + 2 * journal_pages n) c.args.more.now c.args.last.now) layout
     (c.in_ok-write_last.ensures.written stored.honest) in
-    let append = appended g.D.Disk c.args.disk.now c.write_last.new.disk c.args.kept.now m n bytes c.args.longer.now c.args.more.now c.args.last.now pending c.requires.reserved wrote c.write_last.ensures.honest.0 written in
+    let append = appended g.D.Disk c.args.disk.now c.write_last.new.disk c.args.kept.now m n bytes c.args.longer.now
+    c.args.more.now c.args.last.now pending c.requires.reserved wrote c.write_last.ensures.honest.0 written in
     let honest = c.write_last.ensures.honest.0 stored.honest in
-    let before' = before g.D.Disk c.write_last.new.disk c.args.kept.now c.take_over.new.self fits c.args.longer.now c.args.more.now may c.requires.reserved is size m n bytes append in
-    let after' = after g.D.Disk c.write_last.new.disk c.args.kept.now c.take_over.new.self fits c.args.longer.now c.args.more.now may c.requires.reserved is size m n bytes append in
-    let changes = after_changes g.D.Disk c.write_last.new.disk c.args.kept.now c.take_over.new.self fits c.args.longer.now c.args.more.now may c.requires.reserved is size m n bytes append
+    let before' = before g.D.Disk c.write_last.new.disk c.args.kept.now c.take_over.new.self fits c.args.longer.now
+    c.args.more.now may c.requires.reserved is size m n bytes append in
+    let after' = after g.D.Disk c.write_last.new.disk c.args.kept.now c.take_over.new.self fits c.args.longer.now
+    c.args.more.now may c.requires.reserved is size m n bytes append in
+    let changes = after_changes g.D.Disk c.write_last.new.disk c.args.kept.now c.take_over.new.self fits
+    c.args.longer.now c.args.more.now may c.requires.reserved is size m n bytes append
     c.in_ok-pages.pages c.fill_rows.new.pages c.in_ok-pages.ensures.changes
-    (λ v v' blocks but same. c.fill_rows.ensures.changes v v' (blocks ∙ ap (λ (k : Holding). k.layout) (sym c.kept.view_is)) but (same ∙ rows)) in
-    let texts = after_texts g.D.Disk c.write_last.new.disk c.args.kept.now c.take_over.new.self fits c.args.longer.now c.args.more.now may c.requires.reserved is size m n bytes append in
+    (λ v v' blocks but same. c.fill_rows.ensures.changes v v'
+    (blocks ∙ ap (λ (k : Holding). k.layout) (sym c.kept.view_is)) but (same ∙ rows)) in
+    let texts = after_texts g.D.Disk c.write_last.new.disk c.args.kept.now c.take_over.new.self fits c.args.longer.now
+    c.args.more.now may c.requires.reserved is size m n bytes append in
     let rest = append.stored in
-    let before_it = shown g.D.Disk c.args.disk.now c.write_last.new.disk c.args.kept.now m n bytes c.args.longer.now c.args.more.now c.args.last.now pending c.requires.reserved wrote in
+    let before_it = shown g.D.Disk c.args.disk.now c.write_last.new.disk c.args.kept.now m n bytes c.args.longer.now
+    c.args.more.now c.args.last.now pending c.requires.reserved wrote in
     lasts_on (lasts_more before_it (λ image is'. inl is'))
-    (after_lasts g.D.Disk c.write_last.new.disk c.args.kept.now c.take_over.new.self fits c.args.longer.now c.args.more.now may c.requires.reserved is size m n bytes append c.change.new.disk
-    (c.in_ok-change.ensures.lasts honest before' after' (sym rest.keeps.blocks ∙ sym layout) rest.shows.sound.version rest.rests changes texts))
+    (after_lasts g.D.Disk c.write_last.new.disk c.args.kept.now c.take_over.new.self fits c.args.longer.now
+    c.args.more.now may c.requires.reserved is size m n bytes append c.change.new.disk
+    (c.in_ok-change.ensures.lasts honest before' after' (sym rest.keeps.blocks ∙ sym layout) rest.shows.sound.version
+    rest.rests changes texts))
 
 pub returns-in_err-change-clause-crash : goal.returns-in_err-change-clause-crash
 returns-in_err-change-clause-crash g c m n bytes pending =
@@ -126,34 +178,54 @@ returns-in_err-change-clause-crash g c m n bytes pending =
     let stored = pending.stored in
     let is = c.in_ok-take_over.ensures.longer in
     let fits = subst FitsTogether c.kept.view_is c.kept.invariant in
-    let layout : c.kept.inside.layout ≡ c.args.kept.now.layout = ap (λ (k : Holding). k.layout) c.kept.view_is ∙ (is may.used may.there).layout in
-    let size : length c.args.longer.now.state ≡ 32 = ap (λ (xs : List ℕ). length xs) may.state.is ∙ state_length may.state.after in
-    let rows : c.take_over.new.self.blocks.rows ≡ c.rows.result.now = ap (λ (k : Holding). k.blocks.rows) (sym c.kept.view_is) ∙ sym c.rows.ensures.same in
-    let wrote : OnlyWrites g.D.Disk (journal_pages c.args.kept.now.layout) c.args.more.now c.args.disk.now c.write_last.new.disk =
-    subst (λ (n : ℕ). OnlyWrites g.D.Disk (journal_pages n) c.args.more.now c.args.disk.now c.write_last.new.disk) layout (only (c.write_last.ensures.writes stored.honest) (c.write_last.ensures.lasts stored.honest)) in
+    let layout : c.kept.inside.layout ≡ c.args.kept.now.layout =
+    ap (λ (k : Holding). k.layout) c.kept.view_is ∙ (is may.used may.there).layout in
+    let size : length c.args.longer.now.state ≡ 32 =
+    ap (λ (xs : List ℕ). length xs) may.state.is ∙ state_length may.state.after in
+    let rows : c.take_over.new.self.blocks.rows ≡ c.rows.result.now =
+    ap (λ (k : Holding). k.blocks.rows) (sym c.kept.view_is) ∙ sym c.rows.ensures.same in
+    let wrote : OnlyWrites g.D.Disk (journal_pages c.args.kept.now.layout) c.args.more.now c.args.disk.now
+    c.write_last.new.disk =
+    subst (λ (n : ℕ). OnlyWrites g.D.Disk (journal_pages n) c.args.more.now c.args.disk.now c.write_last.new.disk)
+    layout (only (c.write_last.ensures.writes stored.honest) (c.write_last.ensures.lasts stored.honest)) in
     let written = subst (λ (n : ℕ). (length c.args.last.now + 4095) / 4096 ≤ length c.args.more.now
-    → text_on (g.D.Disk.seen c.write_last.new.disk) (25 + 2 * journal_pages n) c.args.more.now (length (bytes_with (g.D.Disk.seen c.args.disk.now) (25 + 2 * journal_pages n) c.args.more.now c.args.last.now)) ≡ bytes_with (g.D.Disk.seen c.args.disk.now) (25 + 2 * journal_pages n) c.args.more.now c.args.last.now) layout
+    → text_on (g.D.Disk.seen c.write_last.new.disk) (25 + 2 * journal_pages n) c.args.more.now
+    (length (bytes_with (g.D.Disk.seen c.args.disk.now) (25 + 2 * journal_pages n) c.args.more.now c.args.last.now)) ≡
+    bytes_with (g.D.Disk.seen c.args.disk.now) (25 + 2 * journal_pages n) c.args.more.now c.args.last.now) layout
     (c.in_ok-write_last.ensures.written stored.honest) in
-    let append = appended g.D.Disk c.args.disk.now c.write_last.new.disk c.args.kept.now m n bytes c.args.longer.now c.args.more.now c.args.last.now pending c.requires.reserved wrote c.write_last.ensures.honest.0 written in
+    let append = appended g.D.Disk c.args.disk.now c.write_last.new.disk c.args.kept.now m n bytes c.args.longer.now
+    c.args.more.now c.args.last.now pending c.requires.reserved wrote c.write_last.ensures.honest.0 written in
     let honest = c.write_last.ensures.honest.0 stored.honest in
-    let before' = before g.D.Disk c.write_last.new.disk c.args.kept.now c.take_over.new.self fits c.args.longer.now c.args.more.now may c.requires.reserved is size m n bytes append in
-    let after' = after g.D.Disk c.write_last.new.disk c.args.kept.now c.take_over.new.self fits c.args.longer.now c.args.more.now may c.requires.reserved is size m n bytes append in
-    let changes = after_changes g.D.Disk c.write_last.new.disk c.args.kept.now c.take_over.new.self fits c.args.longer.now c.args.more.now may c.requires.reserved is size m n bytes append
+    let before' = before g.D.Disk c.write_last.new.disk c.args.kept.now c.take_over.new.self fits c.args.longer.now
+    c.args.more.now may c.requires.reserved is size m n bytes append in
+    let after' = after g.D.Disk c.write_last.new.disk c.args.kept.now c.take_over.new.self fits c.args.longer.now
+    c.args.more.now may c.requires.reserved is size m n bytes append in
+    let changes = after_changes g.D.Disk c.write_last.new.disk c.args.kept.now c.take_over.new.self fits
+    c.args.longer.now c.args.more.now may c.requires.reserved is size m n bytes append
     c.in_ok-pages.pages c.fill_rows.new.pages c.in_ok-pages.ensures.changes
-    (λ v v' blocks but same. c.fill_rows.ensures.changes v v' (blocks ∙ ap (λ (k : Holding). k.layout) (sym c.kept.view_is)) but (same ∙ rows)) in
-    let texts = after_texts g.D.Disk c.write_last.new.disk c.args.kept.now c.take_over.new.self fits c.args.longer.now c.args.more.now may c.requires.reserved is size m n bytes append in
+    (λ v v' blocks but same. c.fill_rows.ensures.changes v v'
+    (blocks ∙ ap (λ (k : Holding). k.layout) (sym c.kept.view_is)) but (same ∙ rows)) in
+    let texts = after_texts g.D.Disk c.write_last.new.disk c.args.kept.now c.take_over.new.self fits c.args.longer.now
+    c.args.more.now may c.requires.reserved is size m n bytes append in
     let rest = append.stored in
-    let before_it = shown g.D.Disk c.args.disk.now c.write_last.new.disk c.args.kept.now m n bytes c.args.longer.now c.args.more.now c.args.last.now pending c.requires.reserved wrote in
+    let before_it = shown g.D.Disk c.args.disk.now c.write_last.new.disk c.args.kept.now m n bytes c.args.longer.now
+    c.args.more.now c.args.last.now pending c.requires.reserved wrote in
     lasts_on (lasts_more before_it (λ image is'. inl is'))
-    (after_lasts g.D.Disk c.write_last.new.disk c.args.kept.now c.take_over.new.self fits c.args.longer.now c.args.more.now may c.requires.reserved is size m n bytes append c.change.new.disk
-    (c.in_err-change.ensures.lasts honest before' after' (sym rest.keeps.blocks ∙ sym layout) rest.shows.sound.version rest.rests changes texts))
+    (after_lasts g.D.Disk c.write_last.new.disk c.args.kept.now c.take_over.new.self fits c.args.longer.now
+    c.args.more.now may c.requires.reserved is size m n bytes append c.change.new.disk
+    (c.in_err-change.ensures.lasts honest before' after' (sym rest.keeps.blocks ∙ sym layout) rest.shows.sound.version
+    rest.rests changes texts))
 
 pub returns-in_err-write_last-clause-crash : goal.returns-in_err-write_last-clause-crash
 returns-in_err-write_last-clause-crash g c m n bytes pending =
     let may = c.requires.may in
     let stored = pending.stored in
-    let layout : c.kept.inside.layout ≡ c.args.kept.now.layout = ap (λ (k : Holding). k.layout) c.kept.view_is ∙ (c.in_ok-take_over.ensures.longer may.used may.there).layout in
-    let wrote : OnlyWrites g.D.Disk (journal_pages c.args.kept.now.layout) c.args.more.now c.args.disk.now c.write_last.new.disk =
-    subst (λ (n : ℕ). OnlyWrites g.D.Disk (journal_pages n) c.args.more.now c.args.disk.now c.write_last.new.disk) layout (only (c.write_last.ensures.writes stored.honest) (c.write_last.ensures.lasts stored.honest)) in
-    let before_it = shown g.D.Disk c.args.disk.now c.write_last.new.disk c.args.kept.now m n bytes c.args.longer.now c.args.more.now c.args.last.now pending c.requires.reserved wrote in
+    let layout : c.kept.inside.layout ≡ c.args.kept.now.layout =
+    ap (λ (k : Holding). k.layout) c.kept.view_is ∙ (c.in_ok-take_over.ensures.longer may.used may.there).layout in
+    let wrote : OnlyWrites g.D.Disk (journal_pages c.args.kept.now.layout) c.args.more.now c.args.disk.now
+    c.write_last.new.disk =
+    subst (λ (n : ℕ). OnlyWrites g.D.Disk (journal_pages n) c.args.more.now c.args.disk.now c.write_last.new.disk)
+    layout (only (c.write_last.ensures.writes stored.honest) (c.write_last.ensures.lasts stored.honest)) in
+    let before_it = shown g.D.Disk c.args.disk.now c.write_last.new.disk c.args.kept.now m n bytes c.args.longer.now
+    c.args.more.now c.args.last.now pending c.requires.reserved wrote in
     lasts_more before_it (λ image is'. inl is')

@@ -5,9 +5,12 @@ use Rattle.spool_kept.proofs.NewRecords.{new_fits, new_record}
 use Rattle.spool_kept.proofs.kept.Kept.new_record.Goals as goal
 
 pub new-requires : goal.new-requires
-new-requires c = new_fits c.args.self.now.indexes c.self.inside.next c.first.result c.args.new (c.first.ensures c.args.self.now.indexes) c.requires
+new-requires c = new_fits c.args.self.now.indexes c.self.inside.next c.first.result c.args.new
+    (c.first.ensures c.args.self.now.indexes) c.requires
 
 pub returns : goal.returns
 returns c =
-    let made = new_record c.args.self.now.indexes c.self.inside.next c.first.result c.args.new c.first.ensures c.requires in
-    subst (λ (n : ℕ). IsNewRecord n c.args.new c.new.result) (ap (λ (k : Holding). k.next) c.self.view_is) (subst (IsNewRecord c.self.inside.next c.args.new) (sym c.new.ensures) made)
+    let made = new_record c.args.self.now.indexes c.self.inside.next c.first.result c.args.new c.first.ensures
+    c.requires in
+    subst (λ (n : ℕ). IsNewRecord n c.args.new c.new.result) (ap (λ (k : Holding). k.next) c.self.view_is)
+    (subst (IsNewRecord c.self.inside.next c.args.new) (sym c.new.ensures) made)

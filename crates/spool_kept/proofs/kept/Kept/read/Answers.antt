@@ -18,7 +18,9 @@ returns-in-Ok-clause-answer g c honest m v kept shows says =
     let read = same_read _ c.args.at c.in-Ok.count c.args.buf.now c.read_text.new.buf (c.in-Ok.ensures.read honest) in (
       there.0,
       subst (λ (text : List ℕ). IsRead text c.args.at c.in-Ok.count c.args.buf.now c.read_text.new.buf) (sym there.1)
-          (subst (λ (n : ℕ). IsRead (text_on seen (25 + 2 * journal_pages n) c.in-Some.found.list.now c.in-Some.found.upload.now.text_len) c.args.at c.in-Ok.count c.args.buf.now c.read_text.new.buf) layout read),
+          (subst (λ (n : ℕ). IsRead
+          (text_on seen (25 + 2 * journal_pages n) c.in-Some.found.list.now c.in-Some.found.upload.now.text_len)
+          c.args.at c.in-Ok.count c.args.buf.now c.read_text.new.buf) layout read),
     )
 
 pub returns-in-Err-clause-answer : goal.returns-in-Err-clause-answer

@@ -10,10 +10,13 @@ pub returns-in_err-slot-clause-kept : goal.returns-in_err-slot-clause-kept
 returns-in_err-slot-clause-kept c v m kept shows =
     let none : option_copied c.from_residual.result ≡ None = search rules in
     let empty = no_upload c.args.self.now v m kept shows c.args.number c.in_err-slot.ensures.used in
-    subst (λ (o : Option Record). KeepsOf m.indexes c.args.number (upload_of m c.args.number) o) (sym none) (kept_none m.indexes c.args.number (upload_of m c.args.number) empty)
+    subst (λ (o : Option Record). KeepsOf m.indexes c.args.number (upload_of m c.args.number) o) (sym none)
+    (kept_none m.indexes c.args.number (upload_of m c.args.number) empty)
 
 pub returns-in_err-slot-clause-told : goal.returns-in_err-slot-clause-told
-returns-in_err-slot-clause-told c v m kept shows = kept_tells m.indexes c.args.number (upload_of m c.args.number) (option_copied c.from_residual.result) (returns-in_err-slot-clause-kept c v m kept shows)
+returns-in_err-slot-clause-told c v m kept shows =
+    kept_tells m.indexes c.args.number (upload_of m c.args.number) (option_copied c.from_residual.result)
+    (returns-in_err-slot-clause-kept c v m kept shows)
 
 pub returns-clause-kept : goal.returns-clause-kept
 returns-clause-kept c v m kept shows =
@@ -21,11 +24,16 @@ returns-clause-kept c v m kept shows =
     let q = c.in_ok-kept.kept.now in
     let n = c.args.number in
     let same : c.deref.result.now ≡ h.slots = search rules in
-    let here : get_or h.slots c.in_ok-slot.slot None ≡ Some q = ap (λ (xs : List (Option SlotRecord)). get_or xs c.in_ok-slot.slot None) (sym same) ∙ sym c.in_ok-kept.ensures in
+    let here : get_or h.slots c.in_ok-slot.slot None ≡ Some q =
+    ap (λ (xs : List (Option SlotRecord)). get_or xs c.in_ok-slot.slot None) (sym same)
+    ∙ sym c.in_ok-kept.ensures in
     let used = c.in_ok-slot.ensures.used in
     let number : q.number ≡ n = ap (λ (r : SlotRecord). r.number) (same_used here used.there) ∙ used.is in
-    let told = found h v m kept shows c.in_ok-slot.slot q n here number c.record.result.now c.record.ensures.said c.record.ensures.unpacked in
+    let told = found h v m kept shows c.in_ok-slot.slot q n here number c.record.result.now c.record.ensures.said
+    c.record.ensures.unpacked in
     kept_some m.indexes n (upload_of m n) told.0 c.record.result.now told.1 told.2
 
 pub returns-clause-told : goal.returns-clause-told
-returns-clause-told c v m kept shows = kept_tells m.indexes c.args.number (upload_of m c.args.number) (Some c.record.result.now) (returns-clause-kept c v m kept shows)
+returns-clause-told c v m kept shows =
+    kept_tells m.indexes c.args.number (upload_of m c.args.number) (Some c.record.result.now)
+    (returns-clause-kept c v m kept shows)

@@ -1,4 +1,5 @@
-use Rattle.std.proofs.Common.{rules, ◌≡◌, ◌∙◌, ◌<◌, ◌≤◌, ℕ, List, Option, None, Some, length, get_or, option_copied, ap, subst, sym}
+use Rattle.std.proofs.Common.{rules, ◌≡◌, ◌∙◌, ◌<◌, ◌≤◌, ℕ, List, Option, None, Some, length, get_or, option_copied, ap}
+use Rattle.std.proofs.Common.{subst, sym}
 use Rattle.std.proofs.lemmas.List.{get_or_default}
 use Rattle.upload_rules.specs.Records.{TellsOf}
 use Rattle.upload_rules.specs.Store.{Upload}
@@ -15,11 +16,13 @@ returns-in_err-slot c v m kept shows =
     let place = c.places_to-place.result in
     let first : c.deref.result.now ≡ h.order = search rules in
     let second : c.deref-2.result.now ≡ h.order = search rules in
-    let is = subst (λ (order : List NumberedSlot). IsPlaceFor order n place) first (c.places_to-place.ensures.place (subst Rises (sym first) kept.ordered.rises)) in
+    let is = subst (λ (order : List NumberedSlot). IsPlaceFor order n place) first
+    (c.places_to-place.ensures.place (subst Rises (sym first) kept.ordered.rises)) in
     let end = subst (λ (order : List NumberedSlot). length order ≤ place) second c.in_err-slot.ensures.lookup.3 in
     let none : option_copied c.from_residual.result ≡ None = ap option_copied c.from_residual.ensures in
     let empty = none_after h v m kept shows n place is end in
-    subst (λ (o : Option (ℕ × Upload)). TellsOf m.indexes o (option_copied c.from_residual.result)) (sym empty) (subst (TellsOf m.indexes None) (sym none) tt)
+    subst (λ (o : Option (ℕ × Upload)). TellsOf m.indexes o (option_copied c.from_residual.result)) (sym empty)
+    (subst (TellsOf m.indexes None) (sym none) tt)
 
 pub returns-in_err-kept : goal.returns-in_err-kept
 returns-in_err-kept c v m kept shows =
@@ -30,11 +33,15 @@ returns-in_err-kept c v m kept shows =
     let first : c.deref.result.now ≡ h.order = search rules in
     let second : c.deref-2.result.now ≡ h.order = search rules in
     let third : c.deref-3.result.now ≡ h.slots = search rules in
-    let is = subst (λ (order : List NumberedSlot). IsPlaceFor order n place) first (c.places_to-place.ensures.place (subst Rises (sym first) kept.ordered.rises)) in
+    let is = subst (λ (order : List NumberedSlot). IsPlaceFor order n place) first
+    (c.places_to-place.ensures.place (subst Rises (sym first) kept.ordered.rises)) in
     let inside = subst (λ (order : List NumberedSlot). place < length order) second c.in_ok-slot.ensures.lookup.3.0 in
-    let here = subst (λ (order : List NumberedSlot). entry ≡ get_or order place entry) second c.in_ok-slot.ensures.lookup.1 in
-    let used = named h v m kept shows n place is entry.number entry.slot inside (sym (here ∙ get_or_default h.order place entry (numbered 0 0) inside)) in
-    let free : get_or h.slots entry.slot None ≡ None = ap (λ (xs : List (Option SlotRecord)). get_or xs entry.slot None) (sym third) ∙ sym c.in_err-kept.ensures in
+    let here = subst (λ (order : List NumberedSlot). entry ≡ get_or order place entry) second
+    c.in_ok-slot.ensures.lookup.1 in
+    let used = named h v m kept shows n place is entry.number entry.slot inside
+    (sym (here ∙ get_or_default h.order place entry (numbered 0 0) inside)) in
+    let free : get_or h.slots entry.slot None ≡ None =
+    ap (λ (xs : List (Option SlotRecord)). get_or xs entry.slot None) (sym third) ∙ sym c.in_err-kept.ensures in
     absurd (clash (sym free ∙ used.there))
   where
     clash : {r : SlotRecord} → None ≡ Some r → ⊥
@@ -51,13 +58,17 @@ returns c v m kept shows =
     let first : c.deref.result.now ≡ h.order = search rules in
     let second : c.deref-2.result.now ≡ h.order = search rules in
     let third : c.deref-3.result.now ≡ h.slots = search rules in
-    let is = subst (λ (order : List NumberedSlot). IsPlaceFor order n place) first (c.places_to-place.ensures.place (subst Rises (sym first) kept.ordered.rises)) in
+    let is = subst (λ (order : List NumberedSlot). IsPlaceFor order n place) first
+    (c.places_to-place.ensures.place (subst Rises (sym first) kept.ordered.rises)) in
     let inside = subst (λ (order : List NumberedSlot). place < length order) second c.in_ok-slot.ensures.lookup.3.0 in
-    let here = subst (λ (order : List NumberedSlot). entry ≡ get_or order place entry) second c.in_ok-slot.ensures.lookup.1 in
+    let here = subst (λ (order : List NumberedSlot). entry ≡ get_or order place entry) second
+    c.in_ok-slot.ensures.lookup.1 in
     let at = sym (here ∙ get_or_default h.order place entry (numbered 0 0) inside) in
     let used = named h v m kept shows n place is entry.number entry.slot inside at in
-    let said : get_or h.slots entry.slot None ≡ Some q = ap (λ (xs : List (Option SlotRecord)). get_or xs entry.slot None) (sym third) ∙ sym c.in_ok-kept.ensures in
+    let said : get_or h.slots entry.slot None ≡ Some q =
+    ap (λ (xs : List (Option SlotRecord)). get_or xs entry.slot None) (sym third) ∙ sym c.in_ok-kept.ensures in
     let number : q.number ≡ entry.number = ap (λ (p : SlotRecord). p.number) (same_used said used.there) ∙ used.is in
-    let told = found h v m kept shows entry.slot q entry.number said number r c.record.ensures.said c.record.ensures.unpacked in
+    let told = found h v m kept shows entry.slot q entry.number said number r c.record.ensures.said
+    c.record.ensures.unpacked in
     let next = some_after h v m kept shows n place is entry.number entry.slot inside at told.0 told.1 in
     subst (λ (o : Option (ℕ × Upload)). TellsOf m.indexes o (Some r)) (sym next) told.2.tells

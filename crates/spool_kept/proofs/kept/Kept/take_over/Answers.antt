@@ -1,4 +1,5 @@
-use Rattle.std.proofs.Common.{rules, ◌≡◌, ◌∙◌, ◌≤◌, ◌<◌, ◌/◌, ◌++◌, ℕ, List, [], Option, Some, None, length, get_or, slice_set, sym, ap, subst, arith, take, refl}
+use Rattle.std.proofs.Common.{rules, ◌≡◌, ◌∙◌, ◌≤◌, ◌<◌, ◌/◌, ◌++◌, ℕ, List, [], Option, Some, None, length, get_or}
+use Rattle.std.proofs.Common.{slice_set, sym, ap, subst, arith, take, refl}
 use Rattle.std.proofs.lemmas.List.{get_or_default}
 use Rattle.spool_pages.specs.View.{SlotRecord}
 use Rattle.spool_texts.specs.Drafts.{IsReserved}
@@ -20,7 +21,8 @@ own-requires-clause-room c =
     let slot = c.args.longer.now.slot in
     let first = may.used.text_len / 4096 in
     let is : c.full_blocks-full.result ≡ first = c.full_blocks-full.ensures.full may.used may.there in
-    let all = room_for h.blocks.rows slot first (get_or h.lists slot []) c.args.more.now (has h fits slot may.used may.there).owned (low h fits slot may.used may.there)
+    let all = room_for h.blocks.rows slot first (get_or h.lists slot []) c.args.more.now
+    (has h fits slot may.used may.there).owned (low h fits slot may.used may.there)
     c.requires.reserved.no_owner c.requires.reserved.below c.requires.reserved.distinct in
     omega (arith, is, all, c.full_blocks-full.ensures.few)
 
@@ -30,31 +32,68 @@ invariant_of-self-2 c =
     let may = c.requires.may in
     let slot = c.args.longer.now.slot in
     let r' = longer_record may.used c.args.longer.now in
-    let there : get_or h.slots slot None ≡ Some may.used = subst (λ (k : Holding). get_or k.slots slot None ≡ Some may.used) (sym c.self.view_is) may.there in
+    let there : get_or h.slots slot None ≡ Some may.used =
+    subst (λ (k : Holding). get_or k.slots slot None ≡ Some may.used) (sym c.self.view_is) may.there in
     elim c.if-not-is_empty.branch [
       | then-not-is_empty+in_ok-replace_from w ↦
-          let same : c.if-not-is_empty.self-inside.slots.items ≡ c.self.inside.slots.items = ap (λ (s : Inside). s.slots.items) w.self-inside-is in
-          let stays : get_or c.if-not-is_empty.self-inside.slots.items slot None ≡ Some may.used = ap (λ (xs : List (Option SlotRecord)). get_or xs slot None) same ∙ there in
-          let slots : c.set_record.new.slots.items ≡ slice_set h.slots slot (Some r') = c.set_record.ensures may.used stays ∙ ap (λ (xs : List (Option SlotRecord)). slice_set xs slot (Some r')) same in
-          let first : w.full_blocks-full.result ≡ may.used.text_len / 4096 = w.full_blocks-full.ensures.full may.used may.there in
-          let hands : HandsOver h.blocks.rows slot (may.used.text_len / 4096) c.args.more.now w.own.new.self.rows = subst (λ (k : ℕ). HandsOver h.blocks.rows slot k c.args.more.now w.own.new.self.rows) first
-          (record { size = w.own.ensures.size; listed = w.own.ensures.listed; freed = w.own.ensures.freed; kept = w.own.ensures.kept }) in
+          let same : c.if-not-is_empty.self-inside.slots.items ≡ c.self.inside.slots.items =
+          ap (λ (s : Inside). s.slots.items) w.self-inside-is in
+          let stays : get_or c.if-not-is_empty.self-inside.slots.items slot None ≡ Some may.used =
+          ap (λ (xs : List (Option SlotRecord)). get_or xs slot None) same ∙ there in
+          let slots : c.set_record.new.slots.items ≡ slice_set h.slots slot (Some r') =
+          c.set_record.ensures may.used stays ∙ ap (λ (xs : List (Option SlotRecord)). slice_set xs slot (Some r'))
+          same in
+          let first : w.full_blocks-full.result ≡ may.used.text_len / 4096 =
+          w.full_blocks-full.ensures.full may.used may.there in
+          let hands : HandsOver h.blocks.rows slot (may.used.text_len / 4096) c.args.more.now w.own.new.self.rows =
+          subst (λ (k : ℕ). HandsOver h.blocks.rows slot k c.args.more.now w.own.new.self.rows) first
+          (record {
+            size = w.own.ensures.size;
+            listed = w.own.ensures.listed;
+            freed = w.own.ensures.freed;
+            kept = w.own.ensures.kept;
+          }) in
           let here : w.index_mut.result.now ≡ get_or h.lists slot [] =
-          w.index_mut.ensures.value ∙ get_or_default h.lists slot w.index_mut.result.now [] (omega (arith, slot_few h c.self.invariant slot may.used there, c.self.invariant.list_count)) in
-          let list : w.replace_from.new.self ≡ take (may.used.text_len / 4096) (get_or h.lists slot []) ++ c.args.more.now =
-          w.in_ok-replace_from.ensures.done ∙ ap (λ (xs : List ℕ). take w.full_blocks-full.result xs ++ c.args.more.now) here ∙ ap (λ (k : ℕ). take k (get_or h.lists slot []) ++ c.args.more.now) first in
+          w.index_mut.ensures.value ∙ get_or_default h.lists slot w.index_mut.result.now []
+          (omega (arith, slot_few h c.self.invariant slot may.used there, c.self.invariant.list_count)) in
+          let list : w.replace_from.new.self ≡ take (may.used.text_len / 4096)
+          (get_or h.lists slot []) ++ c.args.more.now =
+          w.in_ok-replace_from.ensures.done ∙ ap (λ (xs : List ℕ). take w.full_blocks-full.result xs ++ c.args.more.now)
+          here ∙ ap (λ (k : ℕ). take k (get_or h.lists slot []) ++ c.args.more.now) first in
           let some : 0 < length c.args.more.now = search rules in
-          let held = subst (λ (k : Holding). IsReserved k.blocks c.args.more.now) (sym c.self.view_is) c.requires.reserved in
-          let all = room_for h.blocks.rows slot (may.used.text_len / 4096) (get_or h.lists slot []) c.args.more.now (has h c.self.invariant slot may.used there).owned (low h c.self.invariant slot may.used there) held.no_owner held.below held.distinct in
-          let few : length h.blocks.rows ≤ 65536 = subst (λ (k : Holding). length k.blocks.rows ≤ 65536) (sym c.self.view_is) w.full_blocks-full.ensures.few in
-          let now = fits_longer h c.self.invariant slot may.used there r' refl c.args.more.now w.own.new.self hands held.no_owner (may.blocks some) (omega (arith, all, few)) in
-          rw w.self-inside-is (subst (λ (xs : List (Option SlotRecord)). FitsTogether (record h { slots = xs; lists = slice_set h.lists slot w.replace_from.new.self; blocks = w.own.new.self })) (sym slots)
-          (subst (λ (ys : List ℕ). FitsTogether (record h { slots = slice_set h.slots slot (Some r'); lists = slice_set h.lists slot ys; blocks = w.own.new.self })) (sym list) now))
+          let held = subst (λ (k : Holding). IsReserved k.blocks c.args.more.now) (sym c.self.view_is)
+          c.requires.reserved in
+          let all = room_for h.blocks.rows slot (may.used.text_len / 4096) (get_or h.lists slot []) c.args.more.now
+          (has h c.self.invariant slot may.used there).owned (low h c.self.invariant slot may.used there)
+          held.no_owner held.below held.distinct in
+          let few : length h.blocks.rows ≤ 65536 =
+          subst (λ (k : Holding). length k.blocks.rows ≤ 65536) (sym c.self.view_is)
+          w.full_blocks-full.ensures.few in
+          let now = fits_longer h c.self.invariant slot may.used there r' refl c.args.more.now w.own.new.self hands
+          held.no_owner (may.blocks some) (omega (arith, all, few)) in
+          rw w.self-inside-is (subst
+          (λ (xs : List (Option SlotRecord)). FitsTogether
+          (record h {
+            slots = xs;
+            lists = slice_set h.lists slot w.replace_from.new.self;
+            blocks = w.own.new.self;
+          })) (sym slots)
+          (subst (λ (ys : List ℕ). FitsTogether
+          (record h {
+            slots = slice_set h.slots slot (Some r');
+            lists = slice_set h.lists slot ys;
+            blocks = w.own.new.self;
+          })) (sym list) now))
       | else-not-is_empty w ↦
-          let same : c.if-not-is_empty.self-inside.slots.items ≡ c.self.inside.slots.items = ap (λ (s : Inside). s.slots.items) w.self-inside-is in
-          let stays : get_or c.if-not-is_empty.self-inside.slots.items slot None ≡ Some may.used = ap (λ (xs : List (Option SlotRecord)). get_or xs slot None) same ∙ there in
-          let slots : c.set_record.new.slots.items ≡ slice_set h.slots slot (Some r') = c.set_record.ensures may.used stays ∙ ap (λ (xs : List (Option SlotRecord)). slice_set xs slot (Some r')) same in
-          rw w.self-inside-is (subst (λ (xs : List (Option SlotRecord)). FitsTogether (record h { slots = xs })) (sym slots) (fits_same h c.self.invariant slot may.used there r' refl (may.same (search rules))))
+          let same : c.if-not-is_empty.self-inside.slots.items ≡ c.self.inside.slots.items =
+          ap (λ (s : Inside). s.slots.items) w.self-inside-is in
+          let stays : get_or c.if-not-is_empty.self-inside.slots.items slot None ≡ Some may.used =
+          ap (λ (xs : List (Option SlotRecord)). get_or xs slot None) same ∙ there in
+          let slots : c.set_record.new.slots.items ≡ slice_set h.slots slot (Some r') =
+          c.set_record.ensures may.used stays ∙ ap (λ (xs : List (Option SlotRecord)). slice_set xs slot (Some r'))
+          same in
+          rw w.self-inside-is (subst (λ (xs : List (Option SlotRecord)). FitsTogether (record h { slots = xs }))
+          (sym slots) (fits_same h c.self.invariant slot may.used there r' refl (may.same (search rules))))
     ]
 
 pub returns-clause-longer : goal.returns-clause-longer
@@ -62,17 +101,33 @@ returns-clause-longer c r there =
     let h = the_view c.self.inside in
     let slot = c.args.longer.now.slot in
     let r' = longer_record r c.args.longer.now in
-    let there' : get_or h.slots slot None ≡ Some r = subst (λ (k : Holding). get_or k.slots slot None ≡ Some r) (sym c.self.view_is) there in
+    let there' : get_or h.slots slot None ≡ Some r =
+    subst (λ (k : Holding). get_or k.slots slot None ≡ Some r) (sym c.self.view_is) there in
     elim c.if-not-is_empty.branch [
       | then-not-is_empty+in_ok-replace_from w ↦
-          let same : c.if-not-is_empty.self-inside.slots.items ≡ c.self.inside.slots.items = ap (λ (s : Inside). s.slots.items) w.self-inside-is in
-          let stays : get_or c.if-not-is_empty.self-inside.slots.items slot None ≡ Some r = ap (λ (xs : List (Option SlotRecord)). get_or xs slot None) same ∙ there' in
-          let slots : c.set_record.new.slots.items ≡ slice_set h.slots slot (Some r') = c.set_record.ensures r stays ∙ ap (λ (xs : List (Option SlotRecord)). slice_set xs slot (Some r')) same in
+          let same : c.if-not-is_empty.self-inside.slots.items ≡ c.self.inside.slots.items =
+          ap (λ (s : Inside). s.slots.items) w.self-inside-is in
+          let stays : get_or c.if-not-is_empty.self-inside.slots.items slot None ≡ Some r =
+          ap (λ (xs : List (Option SlotRecord)). get_or xs slot None) same ∙ there' in
+          let slots : c.set_record.new.slots.items ≡ slice_set h.slots slot (Some r') =
+          c.set_record.ensures r stays ∙ ap (λ (xs : List (Option SlotRecord)). slice_set xs slot (Some r')) same in
           let first : w.full_blocks-full.result ≡ r.text_len / 4096 = w.full_blocks-full.ensures.full r there in
-          let hands : HandsOver h.blocks.rows slot (r.text_len / 4096) c.args.more.now w.own.new.self.rows = subst (λ (k : ℕ). HandsOver h.blocks.rows slot k c.args.more.now w.own.new.self.rows) first
-          (record { size = w.own.ensures.size; listed = w.own.ensures.listed; freed = w.own.ensures.freed; kept = w.own.ensures.kept }) in
+          let hands : HandsOver h.blocks.rows slot (r.text_len / 4096) c.args.more.now w.own.new.self.rows =
+          subst (λ (k : ℕ). HandsOver h.blocks.rows slot k c.args.more.now w.own.new.self.rows) first
+          (record {
+            size = w.own.ensures.size;
+            listed = w.own.ensures.listed;
+            freed = w.own.ensures.freed;
+            kept = w.own.ensures.kept;
+          }) in
           let some : 0 < length c.args.more.now = search rules in
-          rw w.self-inside-is (subst (λ (k : Holding). IsLonger k r c.args.longer.now c.args.more.now (record h { slots = c.set_record.new.slots.items; lists = slice_set h.lists slot w.replace_from.new.self; blocks = w.own.new.self })) c.self.view_is (record {
+          rw w.self-inside-is (subst
+          (λ (k : Holding). IsLonger k r c.args.longer.now c.args.more.now
+          (record h {
+            slots = c.set_record.new.slots.items;
+            lists = slice_set h.lists slot w.replace_from.new.self;
+            blocks = w.own.new.self;
+          })) c.self.view_is (record {
             layout = refl;
             next = refl;
             indexes = refl;
@@ -81,11 +136,16 @@ returns-clause-longer c r there =
             rows = λ lt. hands;
           }))
       | else-not-is_empty w ↦
-          let same : c.if-not-is_empty.self-inside.slots.items ≡ c.self.inside.slots.items = ap (λ (s : Inside). s.slots.items) w.self-inside-is in
-          let stays : get_or c.if-not-is_empty.self-inside.slots.items slot None ≡ Some r = ap (λ (xs : List (Option SlotRecord)). get_or xs slot None) same ∙ there' in
-          let slots : c.set_record.new.slots.items ≡ slice_set h.slots slot (Some r') = c.set_record.ensures r stays ∙ ap (λ (xs : List (Option SlotRecord)). slice_set xs slot (Some r')) same in
+          let same : c.if-not-is_empty.self-inside.slots.items ≡ c.self.inside.slots.items =
+          ap (λ (s : Inside). s.slots.items) w.self-inside-is in
+          let stays : get_or c.if-not-is_empty.self-inside.slots.items slot None ≡ Some r =
+          ap (λ (xs : List (Option SlotRecord)). get_or xs slot None) same ∙ there' in
+          let slots : c.set_record.new.slots.items ≡ slice_set h.slots slot (Some r') =
+          c.set_record.ensures r stays ∙ ap (λ (xs : List (Option SlotRecord)). slice_set xs slot (Some r')) same in
           let none : length c.args.more.now ≡ 0 = search rules in
-          rw w.self-inside-is (subst (λ (k : Holding). IsLonger k r c.args.longer.now c.args.more.now (record h { slots = c.set_record.new.slots.items })) c.self.view_is (record {
+          rw w.self-inside-is (subst
+          (λ (k : Holding). IsLonger k r c.args.longer.now c.args.more.now
+          (record h { slots = c.set_record.new.slots.items })) c.self.view_is (record {
             layout = refl;
             next = refl;
             indexes = refl;
