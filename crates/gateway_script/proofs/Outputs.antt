@@ -7,8 +7,8 @@ use Rattle.std.specs.Fmt.{decimal}
 use Rattle.gateway_script.specs.Script.{written_bytes}
 use Rattle.gateway_script.specs.Outputs.{count_line}
 
-line_then : (n count : ℕ) (more : List ℕ) → count_line n count ++ more ≡ codes "<
-    " ++ (decimal n ++ (32 ∷ (decimal count ++ (10 ∷ more))))
+line_then : (n count : ℕ) (more : List ℕ) → count_line n count ++ more
+    ≡ codes "< " ++ (decimal n ++ (32 ∷ (decimal count ++ (10 ∷ more))))
 line_then n count more =
     append_assoc (codes "< ") (decimal n ++ (32 ∷ (decimal count ++ (10 ∷ [])))) more
     ∙ ap (λ x. codes "< " ++ x) (append_assoc (decimal n) (32 ∷ (decimal count ++ (10 ∷ []))) more
