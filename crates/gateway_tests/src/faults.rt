@@ -1,7 +1,9 @@
 //! Scripts over disks of which a call fails, or all calls from one on.
 
 use crate::spools::ran;
-use crate::stories::{CUT_CHARACTER, FULL_SPOOL, HELLO, LONG_TEXT, ONE_WINNER};
+use crate::stories::{
+    CUT_CHARACTER, DELETED, FULL_SPOOL, HELLO, LONG_TEXT, ONE_WINNER, PATCH_OF_A_DELETED,
+};
 use crate::talks::{Step, Talk, fresh};
 use enc_index::{Index, IndexSet, Kind};
 use gateway_engine::RunFault;
@@ -120,13 +122,13 @@ fn is_device(fault: RunFault) -> bool {
     fault == RunFault::DiskFault || fault == RunFault::Open(OpenFault::DiskFault)
 }
 
-/// The uploads of a spool by their numbers, of which there are at most two.
+/// The uploads of a spool by their numbers, of which the greatest is 2.
 fn uploads_of(alloc: Global, spool: &mut Spool<MemoryDisk>) -> Result<Vec<(u64, Vec<u8>)>, Fail> {
     let mut uploads = Vec::new(alloc);
     for number in 1..=2u64 {
         let (accepted, len) = match spool.record(number) {
             Some(record) => (record.accepted, record.text_len),
-            None => break,
+            None => continue,
         };
         let mut text = vec![in alloc; 0; len as usize]?;
         spool.read_text(number, 0, &mut text)?;
@@ -148,11 +150,13 @@ fn told(rt: &impl Abort, alloc: Global, disk: MemoryDisk) -> Result<Vec<(u64, Ve
 }
 
 /// Index files and steps, for spools of 16 blocks.
-const STORIES: [(&[u8], &[Step]); 4] = [
+const STORIES: [(&[u8], &[Step]); 6] = [
     (b"", HELLO),
     (b"283\t3042\n", CUT_CHARACTER),
     (b"", ONE_WINNER),
     (b"", FULL_SPOOL),
+    (b"", DELETED),
+    (b"", PATCH_OF_A_DELETED),
 ];
 
 #[test]

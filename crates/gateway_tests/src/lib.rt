@@ -2,6 +2,8 @@
 #![tactic(auto)]
 
 #[cfg(test)]
+mod deletions;
+#[cfg(test)]
 mod faults;
 #[cfg(test)]
 mod scripts;

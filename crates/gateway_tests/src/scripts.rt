@@ -3,8 +3,8 @@
 use crate::spools::ran;
 use crate::stories::{HELLO, LONG_TEXT, ONE_WINNER};
 use crate::talks::Step::{
-    self, Added, Bytes, Came, Line, Made, Open, Patch, Patched, Post, Refused, Reply, Say, Shown,
-    Text, Told,
+    self, Added, Bytes, Came, Deleted, Line, Made, Open, Patch, Patched, Post, Refused, Reply, Say,
+    Shown, Text, Told,
 };
 use crate::talks::{Talk, fresh};
 use enc_index::{Index, IndexSet, Kind};
@@ -58,10 +58,11 @@ fn runs_on(rt: &impl Abort, alloc: Global, steps: &[Step], more: &[Step]) -> Res
     ends(rt, alloc, &talk, Ended::Ran)
 }
 
-const MAX: &str = "Tus-Version: 1.0.0\nTus-Extension: creation\nTus-Max-Size: 1073741824";
+const MAX: &str =
+    "Tus-Version: 1.0.0\nTus-Extension: creation,termination\nTus-Max-Size: 1073741824";
 
 const MAX_AND_CLOSE: &str =
-    "Tus-Version: 1.0.0\nTus-Extension: creation\nTus-Max-Size: 1073741824\nConnection: close";
+    "Tus-Version: 1.0.0\nTus-Extension: creation,termination\nTus-Max-Size: 1073741824\nConnection: close";
 
 #[test]
 fn options_and_closes(rt: HostRuntime) -> Result<(), Fail> {
@@ -69,17 +70,17 @@ fn options_and_closes(rt: HostRuntime) -> Result<(), Fail> {
         Open(2),
         Say(1, "OPTIONS /files HTTP/1.1\nTus-Resumable: 0.2.2"),
         Reply(1, "204 No Content", MAX, b""),
-        Bytes(145),
+        Bytes(157),
         Say(
             1,
             "OPTIONS /files HTTP/1.1\nTus-Resumable: 0.2.2\nConnection: Keep-Alive, Close",
         ),
         Reply(1, "204 No Content", MAX_AND_CLOSE, b""),
-        Bytes(164),
+        Bytes(176),
         Told("x 1"),
         Say(2, "OPTIONS /files HTTP/1.0\nTus-Resumable: 0.2.2"),
         Reply(2, "204 No Content", MAX_AND_CLOSE, b""),
-        Bytes(164),
+        Bytes(176),
         Told("x 2"),
     ];
     runs(&rt, rt.alloc(), &steps)
@@ -188,6 +189,8 @@ fn one_upload_too_many(rt: HostRuntime) -> Result<(), Fail> {
         Post(0, ""),
         Refused(1, "507 Insufficient Storage", 11),
         Shown(1, 512, "Upload-Offset: 0\nUpload-Length: 0"),
+        Deleted(1, 100),
+        Made(513, 0, ""),
     ];
     talk.go_on(&rt, &refused)?;
     ends(&rt, rt.alloc(), &talk, Ended::Ran)

@@ -1,8 +1,8 @@
 //! Stories: steps that more than one test takes.
 
 use crate::talks::Step::{
-    self, Added, Bytes, Came, Changed, Given, Made, Open, Patch, Patched, Refused, Reply, Say,
-    Shown, Text,
+    self, Added, Bytes, Came, Changed, Deleted, Given, Gone, Made, Open, Patch, Patched, Refused,
+    Reply, Say, Shown, Text,
 };
 
 /// As many letters as a block holds.
@@ -78,6 +78,67 @@ pub(crate) const FULL_SPOOL: &[Step] = &[
     Patch(1, 2, 61_440, 1),
     Came(1, b"a"),
     Refused(1, "507 Insufficient Storage", 17),
+];
+
+/// An upload that is filled and deleted, and another.
+pub(crate) const DELETED: &[Step] = &[
+    Open(1),
+    Made(1, 5, ""),
+    Changed(&[(0, b"")]),
+    Added(1, 0, b"hello", 5),
+    Changed(&[(5, b"hello")]),
+    Deleted(1, 1),
+    Bytes(74),
+    Changed(&[]),
+    Gone(1, 1),
+    Bytes(87),
+    Made(2, 5, ""),
+    Changed(&[(0, b"")]),
+];
+
+const SIXTEENTH: &[u8] = &[b'b'; 16_384];
+
+/// A PATCH of an upload that ends within a block and is deleted, while another fills all blocks of a spool of 16.
+pub(crate) const PATCH_OF_A_DELETED: &[Step] = &[
+    Open(2),
+    Made(1, 5001, ""),
+    Changed(&[(0, b"")]),
+    Added(1, 0, &[b'a'; 5000], 5000),
+    Changed(&[(5000, &[b'a'; 5000])]),
+    Patch(2, 1, 5000, 1),
+    Deleted(1, 1),
+    Changed(&[]),
+    Made(2, 65_536, ""),
+    Changed(&[(0, b"")]),
+    Patch(1, 2, 0, 65_536),
+    Came(1, SIXTEENTH),
+    Came(1, SIXTEENTH),
+    Came(1, SIXTEENTH),
+    Came(1, SIXTEENTH),
+    Patched(1, 65_536),
+    Changed(&[(65_536, &[b'b'; 65_536])]),
+    Came(2, b"c"),
+    Refused(2, "404 Not Found", 8),
+    Bytes(106),
+];
+
+/// All blocks of a spool of 16 are owned, and are free again.
+pub(crate) const FREED: &[Step] = &[
+    Open(1),
+    Made(1, 65_536, ""),
+    Patch(1, 1, 0, 65_536),
+    Came(1, SIXTEENTH),
+    Came(1, SIXTEENTH),
+    Came(1, SIXTEENTH),
+    Came(1, SIXTEENTH),
+    Patched(1, 65_536),
+    Made(2, 1, ""),
+    Patch(1, 2, 0, 1),
+    Came(1, b"a"),
+    Refused(1, "507 Insufficient Storage", 17),
+    Deleted(1, 1),
+    Added(2, 0, b"a", 1),
+    Text(2, "UTF-8", b"a"),
 ];
 
 /// A text that is given in two pieces.

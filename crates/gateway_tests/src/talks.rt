@@ -38,6 +38,10 @@ pub(crate) enum Step<'a> {
     Patched(u32, u64),
     /// A PATCH of an upload on connection 1, from an offset, whose bytes are taken up to an offset.
     Added(u64, u64, &'a [u8], u64),
+    /// A DELETE of an upload on a connection, by which it is gone.
+    Deleted(u32, u64),
+    /// A HEAD of an upload that is gone, on a connection.
+    Gone(u32, u64),
     /// A HEAD of an upload on a connection, and the lines that it is answered.
     Shown(u32, u64, &'a str),
     /// A GET of an upload on connection 1, and the character set and text that it is answered.
@@ -109,6 +113,8 @@ impl Talk {
             Step::Added(number, offset, bytes, reached) => self.added(
                 number, offset, bytes, reached,
             ),
+            Step::Deleted(conn, number) => self.deleted(conn, number),
+            Step::Gone(conn, number) => self.gone(conn, number),
             Step::Shown(conn, number, lines) => self.shown(conn, number, lines),
             Step::Text(number, charset, text) => self.text(number, charset, text),
             Step::Changed(uploads) => self.changed(uploads),
@@ -162,7 +168,7 @@ impl Talk {
         bytes.extend_from_slice(b"HTTP/1.1 ")?;
         bytes.extend_from_slice(status.as_bytes())?;
         bytes.extend_from_slice(b"\r\nTus-Resumable: 1.0.0\r\nCache-Control: no-store\r\n")?;
-        for line in lines.split('\n') {
+        for line in lines.lines() {
             bytes.extend_from_slice(line.as_bytes())?;
             bytes.extend_from_slice(b"\r\n")?;
         }
@@ -223,6 +229,18 @@ impl Talk {
         self.patch(1, number, offset, bytes.len())?;
         self.came(1, bytes)?;
         self.patched(1, reached)
+    }
+
+    fn deleted(&mut self, conn: u32, number: u64) -> Result<(), AllocError> {
+        let head = format!(in self.alloc; "DELETE /files/{number} HTTP/1.1\nTus-Resumable: 1.0.0")?;
+        self.say(conn, &head)?;
+        self.reply(conn, "204 No Content", "", b"")
+    }
+
+    fn gone(&mut self, conn: u32, number: u64) -> Result<(), AllocError> {
+        let head = format!(in self.alloc; "HEAD /files/{number} HTTP/1.1\nTus-Resumable: 1.0.0")?;
+        self.say(conn, &head)?;
+        self.reply(conn, "404 Not Found", "X-Refusal: 8", b"")
     }
 
     fn shown(&mut self, conn: u32, number: u64, lines: &str) -> Result<(), AllocError> {
