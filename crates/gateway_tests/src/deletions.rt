@@ -57,7 +57,7 @@ fn gives(
             assert_eq!(rt; answer.taken, bytes.len());
             answer.closes
         }
-        Err(error) => panic!(rt; "{error}"),
+        Err(error) => panic!(rt; "{error:?}"),
     }
 }
 
@@ -96,7 +96,7 @@ fn text_of_a_deleted_upload_ends(rt: HostRuntime) -> Result<(), Fail> {
     out.clear();
     match gateway.more(1, &mut out) {
         Ok(answer) => assert!(rt; answer.closes && !answer.more),
-        Err(error) => panic!(rt; "{error}"),
+        Err(error) => panic!(rt; "{error:?}"),
     }
     assert!(rt; out.is_empty());
     let _disk = gateway.into_disk();
