@@ -2,6 +2,8 @@
 #![tactic(auto)]
 
 #[cfg(test)]
+mod deletions;
+#[cfg(test)]
 mod drafts;
 #[cfg(test)]
 mod images;

@@ -28,7 +28,7 @@ pub(crate) fn plain(alloc: Global, declared: u64) -> New
 }
 
 /// A disk with a spool of 16 blocks without uploads.
-fn fresh(alloc: Global) -> Result<MemoryDisk, Fail> {
+pub(crate) fn fresh(alloc: Global) -> Result<MemoryDisk, Fail> {
     let indexes = IndexSet::new(alloc)?;
     let mut disk = MemoryDisk::new(alloc, 557 * 4096)?;
     format(&mut disk, 16, &indexes)?;
@@ -36,7 +36,7 @@ fn fresh(alloc: Global) -> Result<MemoryDisk, Fail> {
 }
 
 /// The spool on a disk.
-fn opened(alloc: Global, disk: MemoryDisk) -> Result<Spool<MemoryDisk>, OpenFault> {
+pub(crate) fn opened(alloc: Global, disk: MemoryDisk) -> Result<Spool<MemoryDisk>, OpenFault> {
     match Spool::open(alloc, disk) {
         Ok(spool) => Ok(spool),
         Err((_, fault)) => Err(fault),
