@@ -1,23 +1,24 @@
 #!/usr/bin/env python3
 """Real clients against a gateway: curl, tuspy, headless chromium, and 16 clients at once with cuts and resumes, over
-all encodings. Each text is compared with what Python's codecs decode and encode the same bytes to.
+all encodings. Each text is compared with what Python's codecs decode and encode the same bytes to. Then deletions, by
+curl and by requests, also of uploads that others send or read.
 
     python3 tests/clients/clients.py [--gateway PROGRAM] [--indexes DIR] [--clients N] [--rounds N] [--seed N]
 
-It formats a spool in a temporary folder and serves it at a port of 127.0.0.1. tuspy and chromium are left out where
-they aren't there. The status is 0 where every text was right.
+It formats two spools in a temporary folder and serves them at ports of 127.0.0.1. tuspy and chromium are left out where
+they aren't there. The status is 0 where every text and every reply to a deletion was right.
 """
 
 import argparse
 import io
-import subprocess
 import tempfile
 from concurrent.futures import ThreadPoolExecutor
 from pathlib import Path
 
 import browser
+import deletions
 from harness import ENCODINGS, OCTETS, TUS, Client, Sample, Server
-from harness import format_spool, random_sample, rng_of, write_indexes
+from harness import curl, fields, format_spool, has_tuspy, header, random_sample, rng_of, write_indexes
 
 BLOCKS = 8192
 MOST_CUTS = 40
@@ -27,16 +28,6 @@ MOST_UPLOADS = 440
 def cut_in_two(rng, data):
     place = rng.randrange(len(data))
     return data[:place], data[place:]
-
-
-def curl(*words, body=b""):
-    """What curl prints."""
-    done = subprocess.run(["curl", "-sS", "--max-time", "60", *words], input=body, capture_output=True, check=True)
-    return done.stdout
-
-
-def fields(headers):
-    return [word for name, value in headers.items() for word in ("-H", f"{name}: {value}")]
 
 
 def by_curl(server, sample, rng):
@@ -51,14 +42,6 @@ def by_curl(server, sample, rng):
     offset = int(header(curl("-I", *fields(TUS), url).decode(), "Upload-Offset"))
     curl("-H", f"Upload-Offset: {offset}", *patch, body=sample.data[offset:])
     return curl(url)
-
-
-def header(reply, name):
-    """The value of a header line."""
-    for line in reply.splitlines():
-        if line.startswith(f"{name}: "):
-            return line.partition(": ")[2]
-    raise ValueError(f"no {name} in {reply!r}")
 
 
 def by_tuspy(server, sample):
@@ -149,14 +132,6 @@ def all_at_once(server, clients, rounds, seed):
     return wrong
 
 
-def has_tuspy():
-    try:
-        import tusclient  # noqa: F401
-    except ImportError:
-        return False
-    return True
-
-
 def run(server, folder, given):
     """All clients: which uploads were wrong."""
     wrong = one_by_one("curl", lambda sample, rng: by_curl(server, sample, rng), given.seed)
@@ -190,6 +165,7 @@ def main():
             wrong = run(server, folder, given)
         finally:
             server.kill()
+        wrong += deletions.run(given.gateway, folder, indexes)
     print("\n".join(wrong) or "every text was right")
     return 1 if wrong else 0
 

@@ -254,6 +254,17 @@ class Client:
     def text(self, path):
         return self.ask(200, "GET", path, {})[1]
 
+    def delete(self, path):
+        self.ask(204, "DELETE", path, TUS)
+
+    def is_gone(self, path):
+        """Whether there is no such upload."""
+        return self.status("HEAD", path, TUS) == 404
+
+    def status(self, method, path, headers, body=None):
+        """The reply's status, whichever it is."""
+        return self.reply(method, path, headers, body)[0].status
+
     def cut(self, path, offset, piece, declared, reset):
         """Declares a longer body than it sends, and ends the connection, by a reset or in order. The next request
         opens another one."""
@@ -264,6 +275,32 @@ class Client:
             raw.sendall("\r\n".join(lines + ["", ""]).encode() + piece)
             if reset:
                 raw.setsockopt(socket.SOL_SOCKET, socket.SO_LINGER, struct.pack("ii", 1, 0))
+
+
+def curl(*words, body=b""):
+    """What curl prints."""
+    done = subprocess.run(["curl", "-sS", "--max-time", "60", *words], input=body, capture_output=True, check=True)
+    return done.stdout
+
+
+def fields(headers):
+    return [word for name, value in headers.items() for word in ("-H", f"{name}: {value}")]
+
+
+def header(reply, name):
+    """The value of a header line."""
+    for line in reply.splitlines():
+        if line.startswith(f"{name}: "):
+            return line.partition(": ")[2]
+    raise ValueError(f"no {name} in {reply!r}")
+
+
+def has_tuspy():
+    try:
+        import tusclient  # noqa: F401
+    except ImportError:
+        return False
+    return True
 
 
 def rng_of(seed, *names):

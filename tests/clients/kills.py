@@ -1,12 +1,14 @@
 #!/usr/bin/env python3
-"""A gateway that is ended hard, again and again, while clients upload: no acknowledged byte may be lost.
+"""A gateway that is ended hard, again and again, while clients upload and delete: nothing acknowledged may be lost.
 
     python3 tests/clients/kills.py [--gateway PROGRAM] [--indexes DIR] [--kills N] [--clients N] [--seed N]
 
 It formats a spool in a temporary folder and serves it at a port of 127.0.0.1. Each time the server is ended by SIGKILL,
 by its own process id, at a random moment; started again, each client asks for the offset, which must be no less than
-what was acknowledged and no more than what was sent, goes on there, and compares the whole text at the end. The status
-is 0 where nothing was lost. (SIGKILL ends a process and leaves the kernel's cache: it tries recovery, not the disk.)
+what was acknowledged and no more than what was sent, goes on there, and compares the whole text at the end. Whole
+uploads are deleted meanwhile: behind each start those whose deletion was acknowledged are still gone, no number comes
+twice, and the texts of the others are compared again before they are deleted, or at the end. The status is 0 where all
+was so. (SIGKILL ends a process and leaves the kernel's cache: it tries recovery, not the disk.)
 """
 
 import argparse
@@ -18,8 +20,8 @@ from pathlib import Path
 
 from harness import ENCODINGS, Client, Refused, Sample, Server, format_spool, random_sample, rng_of, write_indexes
 
-BLOCKS = 16384
-MOST_UPLOADS = 500
+BLOCKS = 8192
+MOST_KEPT = 20
 LOST = (OSError, http.client.HTTPException)
 
 
@@ -30,21 +32,30 @@ class Load:
         self.server = server
         self.lock = threading.Lock()
         self.over = threading.Event()
-        self.uploads = self.pieces = self.resumes = 0
-        self.wrong = []
+        self.uploads = self.pieces = self.resumes = self.unanswered = 0
+        self.made, self.gone, self.wrong = set(), [], []
 
     def count(self, **more):
         with self.lock:
             for name, number in more.items():
                 setattr(self, name, getattr(self, name) + number)
 
-    def may_create(self):
-        """Whether there is a place for one more upload."""
+    def is_made(self, path):
+        """A new upload's number is that of none before."""
         with self.lock:
-            if self.uploads >= MOST_UPLOADS:
-                return False
-            self.uploads += 1
-            return True
+            again = path in self.made
+            self.made.add(path)
+        if again:
+            self.is_wrong(f"{path}: its number came before")
+
+    def is_deleted(self, path):
+        with self.lock:
+            self.gone.append(path)
+
+    def deleted(self):
+        """The uploads whose deletion was acknowledged so far."""
+        with self.lock:
+            return list(self.gone)
 
     def is_wrong(self, line):
         with self.lock:
@@ -65,9 +76,12 @@ def create(load, sample):
     while not load.over.is_set():
         try:
             client = Client(load.server.port)
-            return client, client.create(sample)
+            path = client.create(sample)
         except LOST:
             load.over.wait(0.05)
+            continue
+        load.is_made(path)
+        return client, path
     return None, None
 
 
@@ -88,10 +102,10 @@ def resume(load, path, acknowledged, sent):
 
 
 def upload(load, rng, sample):
-    """One upload to its end, through any number of ends of the server."""
+    """The path of one upload, taken to its end through any number of ends of the server."""
     client, path = create(load, sample)
     if path is None:
-        return
+        return None
     offset = sent = 0
     while offset < len(sample.data):
         piece = sample.data[offset : offset + rng.randrange(1, 6000)]
@@ -101,28 +115,67 @@ def upload(load, rng, sample):
             load.count(pieces=1)
         except LOST:
             client, offset = resume(load, path, offset, sent)
-    compare(load, client, path, sample)
+    client.close()
+    load.count(uploads=1)
+    return path
 
 
-def compare(load, client, path, sample):
+def compare(load, path, sample):
     """The whole text, asked for until a server gives it."""
     for _ in range(1200):
         try:
-            if client.text(path) != sample.text:
-                load.is_wrong(f"{path}: {sample.label} to {sample.to}, another text")
+            compare_once(load, Client(load.server.port), path, sample)
             return
         except LOST:
             time.sleep(0.05)
+    raise TimeoutError(f"{path}: no server")
+
+
+def compare_once(load, client, path, sample):
+    if client.text(path) != sample.text:
+        load.is_wrong(f"{path}: {sample.label} to {sample.to}, another text")
+
+
+def delete(load, path, sample):
+    """Deletes an upload. Where the server was ended before it answered, the upload is there whole or gone."""
+    asked = False
+    for _ in range(1200):
+        try:
             client = Client(load.server.port)
+            if asked:
+                compare_once(load, client, path, sample)
+            client.delete(path)
+        except ConnectionRefusedError:
+            time.sleep(0.05)
+            continue
+        except LOST:
+            load.count(unanswered=0 if asked else 1)
+            asked = True
+            continue
+        except Refused as refused:
+            if not asked or refused.status != 404:
+                raise
+        load.is_deleted(path)
+        return
     raise TimeoutError(f"{path}: no server")
 
 
 def work(load, place, seed):
-    """One client: upload after upload until the last end of the server."""
-    rng = rng_of(seed, "kills", place)
+    """One client: uploads, some of which it deletes again, until the last end of the server."""
+    rng, kept = rng_of(seed, "kills", place), []
     try:
-        while not load.over.is_set() and load.may_create():
-            upload(load, rng, long_sample(rng))
+        while not load.over.is_set():
+            sample = long_sample(rng)
+            path = upload(load, rng, sample)
+            if path:
+                compare(load, path, sample)
+                kept.append((path, sample))
+            if kept and (len(kept) > MOST_KEPT or rng.randrange(2) == 0):
+                path, sample = kept.pop(rng.randrange(len(kept)))
+                compare(load, path, sample)
+                delete(load, path, sample)
+        for path, sample in kept:
+            compare(load, path, sample)
     except (Refused, TimeoutError, ValueError) as error:
         load.is_wrong(f"client {place}: {error}")
 
@@ -134,7 +187,17 @@ def end_again_and_again(load, kills, seed):
         time.sleep(rng.uniform(0.02, 1.0))
         load.server.kill()
         load.server.start()
+        ask_for_deleted(load)
     load.over.set()
+
+
+def ask_for_deleted(load):
+    """What was deleted before this server is still gone."""
+    client = Client(load.server.port)
+    for path in load.deleted():
+        if not client.is_gone(path):
+            load.is_wrong(f"{path}: there again")
+    client.close()
 
 
 def run(server, given):
@@ -148,8 +211,10 @@ def run(server, given):
         load.over.set()
         for client in clients:
             client.join(300)
+    ask_for_deleted(load)
     print(f"{given.kills} ends, {load.uploads} uploads, {load.pieces} pieces acknowledged, {load.resumes} resumes")
-    print("\n".join(load.wrong) or "no acknowledged byte was lost, and every text was right")
+    print(f"{len(load.gone)} deletions, {load.unanswered} of them unanswered at first")
+    print("\n".join(load.wrong) or "nothing acknowledged was lost, and every text was right")
     return 1 if load.wrong else 0
 
 
