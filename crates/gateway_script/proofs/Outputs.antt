@@ -23,7 +23,7 @@ framed n (c ∷ bytes) old mid new b is some first last =
     last ∙ (ap (λ x. x ++ (10 ∷ [])) first
     ∙ (append_assoc (old ++ line) (c ∷ bytes) (10 ∷ [])
     ∙ (append_assoc old line ((c ∷ bytes) ++ (10 ∷ [])) ∙ ap (λ x. old ++ x)
-        (line_then n (length (c ∷ bytes)) ((c ∷ bytes) ++ (10 ∷ []))))))
+    (line_then n (length (c ∷ bytes)) ((c ∷ bytes) ++ (10 ∷ []))))))
 
 pub appends_nothing : (known : Option (List ℕ)) → Appends known known []
 appends_nothing None = tt {0}
