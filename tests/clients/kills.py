@@ -26,10 +26,10 @@ LOST = (OSError, http.client.HTTPException)
 
 
 class Load:
-    """What the clients share: the server, and the counts."""
+    """What the clients share: the server, the port where they look for it, and the counts."""
 
     def __init__(self, server):
-        self.server = server
+        self.server, self.port = server, server.port
         self.lock = threading.Lock()
         self.over = threading.Event()
         self.uploads = self.pieces = self.resumes = self.unanswered = 0
@@ -75,7 +75,7 @@ def create(load, sample):
     """The path of a new upload; asked for again where the server was ended before it answered."""
     while not load.over.is_set():
         try:
-            client = Client(load.server.port)
+            client = Client(load.port)
             path = client.create(sample)
         except LOST:
             load.over.wait(0.05)
@@ -89,7 +89,7 @@ def resume(load, path, acknowledged, sent):
     """Where to go on, once the server is there again: between what was acknowledged and what was sent."""
     for _ in range(1200):
         try:
-            client = Client(load.server.port)
+            client = Client(load.port)
             offset = client.offset(path)
         except LOST:
             time.sleep(0.05)
@@ -124,7 +124,7 @@ def compare(load, path, sample):
     """The whole text, asked for until a server gives it."""
     for _ in range(1200):
         try:
-            compare_once(load, Client(load.server.port), path, sample)
+            compare_once(load, Client(load.port), path, sample)
             return
         except LOST:
             time.sleep(0.05)
@@ -141,7 +141,7 @@ def delete(load, path, sample):
     asked = False
     for _ in range(1200):
         try:
-            client = Client(load.server.port)
+            client = Client(load.port)
             if asked:
                 compare_once(load, client, path, sample)
             client.delete(path)
@@ -188,11 +188,12 @@ def end_again_and_again(load, kills, seed):
         load.server.kill()
         load.server.start()
         ask_for_deleted(load)
+        load.port = load.server.port
     load.over.set()
 
 
 def ask_for_deleted(load):
-    """What was deleted before this server is still gone."""
+    """What was deleted is still gone. (Clients hear of a server's port behind this.)"""
     client = Client(load.server.port)
     for path in load.deleted():
         if not client.is_gone(path):
