@@ -115,10 +115,8 @@ impl Buffer {
     }
 
     /// Puts the bytes of characters outside ASCII at a text's front behind the others: as many as a single-byte
-    /// encoding has one
-    /// after the other, and as there is room for. Gives the rest of the text. The length is a local of the loop, which
-    /// a register
-    /// can hold.
+    /// encoding has one after the other, and as there is room for. Gives the rest of the text. The length is a local of
+    /// the loop, which a register can hold.
     #[inline(always)]
     pub fn push_singles<'a>(&mut self, pointers: Option<&Pointers>, text: &'a str) -> &'a str
         requires { FewPointers (unwrap_or (option_copied pointers) []) }

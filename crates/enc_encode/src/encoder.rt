@@ -124,10 +124,8 @@ impl Encoder {
     ///
     /// `Unencodable(d)` in fatal mode, where the encoding lacks the character; `d` is the character itself, or what the
     /// encoder put in its place (U+FF0D for U+2212, a full-width katakana for a half-width one, U+FFFD for 0E, 0F and
-    /// 1B
-    /// in ISO-2022-JP). `NoMemory` if `out` could not grow. The encoder is then as it was, and `out` has grown by a
-    /// prefix
-    /// of what was to come.
+    /// 1B in ISO-2022-JP). `NoMemory` if `out` could not grow. The encoder is then as it was, and `out` has grown by a
+    /// prefix of what was to come.
     pub fn put(&mut self, set: &IndexSet, c: char, out: &mut Vec<u8>) -> Result<(), EncodeError>
         ensures given { let f = encoder (tables set.now) self.old.to in
             Given (Took f self.old.mode) (λ a x e b. Refused f self.old.mode a x (reason_of e) b)
@@ -233,8 +231,7 @@ impl Encoder {
     }
 
     /// Puts the code of a text's front behind bytes that are held, or appends both: of ASCII in lanes, or else of one
-    /// character.
-    /// Gives the state that it leads to, and the rest of the text.
+    /// character. Gives the state that it leads to, and the rest of the text.
     #[inline(always)]
     fn hold_front<'a>(
         &self,
@@ -270,8 +267,7 @@ impl Encoder {
     }
 
     /// Appends the codes of a text's characters, and gives the state that they lead to. For a single-byte encoding the
-    /// table of its
-    /// pointers is given, so that it is found once a text.
+    /// table of its pointers is given, so that it is found once a text.
     #[inline(always)]
     fn encode_chars(
         &self,

@@ -165,10 +165,8 @@ fn is_area_of(set: &IndexSet, area: &[u8]) -> bool
 
 impl IndexSet {
     /// A page of the index area: 4,096 of its 90,112 bytes. They are a byte for each of the eighteen files, jis0208,
-    /// jis0212,
-    /// katakana and the single-byte encodings, 1 where it was set; zeros to byte 31; the files' tables, of 4 bytes for
-    /// each
-    /// pointer, the code point or FFFFFFFF, big-endian; and zeros.
+    /// jis0212, katakana and the single-byte encodings, 1 where it was set; zeros to byte 31; the files' tables, of 4
+    /// bytes for each pointer, the code point or FFFFFFFF, big-endian; and zeros.
     pub fn to_area(&self, page: usize) -> [u8; 4096]
         requires { page < 22 }
         ensures bytes { (i : ℕ) → i < 4096 → slice_index result i ≡ area_byte self.now (4096 * page + i) }

@@ -13,8 +13,7 @@ use std::marker::Model;
 const NO_POINTER: u16 = u16::MAX;
 
 /// The pointers of an index by code point. A look-up takes one step; the table is as long as the greatest code point,
-/// at 2 bytes
-/// each.
+/// at 2 bytes each.
 #[derive(Drop)]
 pub struct Pointers {
     at: Vec<u16>,

@@ -151,8 +151,7 @@ impl IndexSet {
     }
 
     /// Puts an index in its kind's place, in place of the one that was there. An index of `Single` of no single-byte
-    /// encoding
-    /// is put nowhere. Takes no memory.
+    /// encoding is put nowhere. Takes no memory.
     pub fn set(&mut self, index: Index)
         ensures { self.new ≡ with_index self.old index }
     {

@@ -15,8 +15,7 @@ ghost use Rattle.enc_laws.specs.Subparts.{is_sequence, is_prefix, segment, segme
 ghost use Rattle.enc_laws.specs.WellFormed.{AreBytes, AreScalars, IsWellFormed};
 
 /// Where a well-formed sequence begins, it is the segment. No longer prefix of one begins there than the segment, which
-/// is
-/// such a prefix itself; where there is none, a single byte.
+/// is such a prefix itself; where there is none, a single byte.
 pub fn longest_subparts()
     ensures sequence { (front rest : List ℕ) → is_sequence front ≡ true → segment (front ++ rest) ≡ front }
     ensures longest { (front rest : List ℕ) → is_prefix front ≡ true → length front ≤ length (segment (front ++ rest)) }

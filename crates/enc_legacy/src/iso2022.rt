@@ -21,8 +21,7 @@ use lane_kernels::plain_front_2022;
 use std::marker::Model;
 
 /// A decoder of ISO-2022-JP (Encoding Standard, section 12.2.1): where it stands, the output state, to which an escape
-/// that
-/// means nothing goes back, and a flag, set between an escape and the next byte.
+/// that means nothing goes back, and a flag, set between an escape and the next byte.
 #[derive(Drop)]
 pub struct Iso2022State {
     place: Place,

@@ -62,8 +62,7 @@ tables x = record {
 }
 
 -- UTF-8 and UTF-16 always; a single-byte encoding where its file was set; Shift_JIS needs jis0208, EUC-JP jis0208 and
--- jis0212,
--- ISO-2022-JP jis0208 and katakana
+-- jis0212, ISO-2022-JP jis0208 and katakana
 abbrev pub offers : IndexSet → Encoding → Bool
 offers x encodings.Utf8 = true
 offers x encodings.Utf16Be = true

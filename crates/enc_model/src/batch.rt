@@ -15,8 +15,7 @@ use std::str::from_utf8_unchecked;
 pub const ROOM: usize = 3072;
 
 /// How many bytes of any encoding surely give no more: a byte gives at most three characters, itself one and each of
-/// the two
-/// that it may restore.
+/// the two that it may restore.
 pub const BLOCK: usize = 256;
 
 /// Bytes, as many as there is room for.

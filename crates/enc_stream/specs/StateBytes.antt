@@ -1,8 +1,7 @@
 -- THE 32 STATE BYTES OF A TRANSCODER, which the gateway keeps of an upload: the format is its own.
 --
--- Bytes 0, 1, 2: the numbers of the source encoding, of the output encoding and of the mode. Byte 3: the phase.
--- From byte 4 on what the phase keeps: the count of held bytes and these, or the encoding in effect and its decoder's
--- state.
+-- Bytes 0, 1, 2: the numbers of the source encoding, of the output encoding and of the mode. Byte 3: the phase. From
+-- byte 4 on what the phase keeps: the count of held bytes and these, or the encoding in effect and its decoder's state.
 -- Byte 16: the encoder's state. All others are 0.
 use Rattle.std.specs.Prelude.{ℕ, zero, suc, ◌/◌, ◌%◌, ◌≤◌, ◌<◌, ◌≡◌, ◌⊎◌, Bool, true, false, List, [], ◌∷◌, ◌++◌}
 use Rattle.std.specs.Prelude.{Option, Some, None, length, if◌then◌else◌}

@@ -93,8 +93,7 @@ fn is_encoder_in(stage: &Stage, encoder: Encoder) -> bool
 
 impl Transcoder {
     /// A transcoder that has read nothing. `to` is an output encoding, as 'get an output encoding' of the Encoding
-    /// Standard
-    /// gives it (section 4.3): UTF-16 is none.
+    /// Standard gives it (section 4.3): UTF-16 is none.
     pub fn new(from: Encoding, to: Encoding, mode: Mode) -> Self
         requires { IsOutput to }
         ensures value { result ≡ start from to mode }
@@ -175,19 +174,14 @@ impl Transcoder {
 
     /// Its 32 state bytes, of which `unpack` makes it again. Their form is the gateway's own:
     ///
-    /// - 0, 1, 2: the numbers of the source encoding and the output encoding, 0 to 20 in the order of `Encoding`; the
-    /// mode, 0
+    /// - 0, 1, 2: the numbers of the source encoding and the output encoding, 0 to 20 in the order of `Encoding`; the mode, 0
     ///   for html and 1 for fatal.
     /// - 3: 0 before a BOM is decided, 1 from then on, 2 behind the end.
     /// - 4 on, before the BOM is decided: how many bytes are held, and these.
-    /// - 4, from then on: the number of the encoding in effect. 5 on, its decoder's state. UTF-8: how many bytes are
-    /// kept, and
-    ///   these. UTF-16: 1 for a byte that is kept plus 2 for a lead surrogate; the byte; the lead, the higher byte
-    /// first.
-    ///   Shift_JIS: the lead or 0. EUC-JP: the lead or 0; 1 where it is one of jis0212. ISO-2022-JP: 0 to 3 for the
-    /// sets ASCII,
-    ///   Roman, katakana and jis0208, 4 behind a lead, 5 behind 1B and 6 behind one byte more; the output state, 0 to
-    /// 3; the
+    /// - 4, from then on: the number of the encoding in effect. 5 on, its decoder's state. UTF-8: how many bytes are kept, and
+    ///   these. UTF-16: 1 for a byte that is kept plus 2 for a lead surrogate; the byte; the lead, the higher byte first.
+    ///   Shift_JIS: the lead or 0. EUC-JP: the lead or 0; 1 where it is one of jis0212. ISO-2022-JP: 0 to 3 for the sets ASCII,
+    ///   Roman, katakana and jis0208, 4 behind a lead, 5 behind 1B and 6 behind one byte more; the output state, 0 to 3; the
     ///   byte that is kept or 0; the flag.
     /// - 16: the encoder's state, 0 for ASCII, 1 for Roman, 2 for jis0208.
     ///
@@ -243,8 +237,7 @@ impl Transcoder {
     }
 
     /// The transcoder of these state bytes, or None where they are those of none: each state has one spelling. It takes
-    /// no
-    /// memory.
+    /// no memory.
     pub fn unpack(bytes: &[u8; 32]) -> Option<Self>
         ensures unpacked { MatchOption result ((s : State) → IsSound s → state_bytes s ≢ bytes.now)
             (λ t. (t.spent ≡ false) × IsSound t.transcoder × (state_bytes t.transcoder ≡ bytes.now)) }
@@ -259,16 +252,13 @@ impl Transcoder {
     }
 
     /// Takes a piece: decodes it (Encoding Standard, sections 4 and 6, with the sniffing of a BOM) and appends its code
-    /// to
-    /// `out`. What is incomplete waits for the next piece or the end. `set` is the index set of all calls.
+    /// to `out`. What is incomplete waits for the next piece or the end. `set` is the index set of all calls.
     ///
     /// # Errors
     ///
     /// `Spent` where a call was refused before or the end was taken; nothing changes then. `NoMemory` where `out` had
-    /// no room
-    /// and could not grow, `Unencodable(c)` for the first code point without a code in fatal mode; `out` has then grown
-    /// by a
-    /// prefix of what was to come, and the transcoder is spent.
+    /// no room and could not grow, `Unencodable(c)` for the first code point without a code in fatal mode; `out` has
+    /// then grown by a prefix of what was to come, and the transcoder is spent.
     pub fn feed(
         &mut self,
         set: &IndexSet,

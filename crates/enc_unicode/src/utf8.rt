@@ -18,8 +18,7 @@ use std::convert::Infallible;
 use std::marker::Model;
 
 /// A decoder of UTF-8 (Encoding Standard, section 8.1.1): how many bytes are still needed, the bounds of the next one,
-/// the code
-/// point as far as it is known, and the bytes that it came from.
+/// the code point as far as it is known, and the bytes that it came from.
 #[derive(Drop)]
 pub struct Utf8State {
     needed: u8,
@@ -63,8 +62,7 @@ impl Utf8State {
     }
 
     /// The bytes that are kept: the front of a character that isn't whole yet, empty between characters. The state is
-    /// the
-    /// one that they lead to from the start.
+    /// the one that they lead to from the start.
     pub fn kept(&self) -> &[u8]
         ensures bytes { result.now ≡ self.now.kept }
         ensures behind { IsBehind self.now }
@@ -251,8 +249,7 @@ impl Utf8State {
     }
 
     /// The steps over a piece, at whose front a text was looked for already where nothing is kept. Where no text
-    /// begins, a
-    /// block is gathered first.
+    /// begins, a block is gathered first.
     fn feed_parts<S: Sink>(&mut self, piece: &[u8], sink: &mut S) -> Result<(), S::Refusal>
         ensures given { Given S.takes S.refuses sink.old (steps utf8 false self.old piece.now).text sink.new result }
         ensures state { OnOk result (self.new ≡ (steps utf8 false self.old piece.now).state) }

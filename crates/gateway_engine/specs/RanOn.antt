@@ -41,8 +41,7 @@ pub record LastsOver {D : Type 0} (disk : Ghosts D) (before now : D) (n : ℕ) (
 -- THE EXITS
 
 -- The script ended so, by the marks of its calls, and this was written behind what was there: the output of all its
--- events.
--- Images show the uploads behind all of them, all but the latest, and so on
+-- events. Images show the uploads behind all of them, all but the latest, and so on
 pub record EndedOn {D : Type 0} (disk : Ghosts D) (before now : D) (n : ℕ) (st : State) (r : script.Result)
     (held front : Option (List ℕ)) (exit : Exit) : Type 0 where
   pub exits : r.exit ≡ exit

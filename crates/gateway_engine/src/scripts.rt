@@ -18,8 +18,7 @@ use upload_rules::Uploads;
 /// The script is read whole before its first line is run.
 ///
 /// Refused with `NoMemory` where a growth outside the calls was refused, `DiskFault`, `Script` of the first line that
-/// is none or too long, and `Io`.
-/// What was committed and written before stands.
+/// is none or too long, and `Io`. What was committed and written before stands.
 pub fn run_over<U: Uploads, R: CountedRead, W: CountedWrite>(
     alloc: Global,
     reader: &mut R,

@@ -29,8 +29,7 @@ pub fn endure<D: CrashDisk>(
     rounds: &mut [Round<D::How>],
 ) -> Result<D, (D, FormatError)>
     // Behind each round the disk has the uploads behind the first events of its script, in order, each of them whole
-    // and
-    // with its text; and each event of which a reply was written is one of these.
+    // and with its text; and each event of which a reply was written is one of these.
     ensures lives { D.honest disk
         → IfOk result (λ last. HasLived D.Disk D.chosen blocks (no_uploads indexes.now) rounds.old rounds.new last) }
 

@@ -62,8 +62,7 @@ fn check(rt: &impl Abort, first: &[u8], later: &[u8]) {
 }
 
 /// The first round fills an upload, up to the call at which the disk stops or fails, and the second asks for it.
-/// Whether
-/// the first one ran to its end.
+/// Whether the first one ran to its end.
 fn lives<D: CrashDisk<How = (Crash, u64)> + Drop>(
     rt: &impl Abort,
     alloc: Global,

@@ -61,8 +61,7 @@ abbrev pub IsFirst : List Marked → List Marked → Type 0
 IsFirst first all = (later : List Marked) × (all ≡ later ++ first)
 
 -- What was written of these events by a run that was broken off: all, but nothing of the latest where memory was
--- wanting,
--- or of the latest a front part, where the writer failed
+-- wanting, or of the latest a front part, where the writer failed
 abbrev pub WroteMost : CallFault → State → List Marked → List ℕ → Type 0
 WroteMost NoMemory st past out = (out ≡ output_of st past) ⊎ (out ≡ output_of st (drop 1 past))
 WroteMost Io st past out =

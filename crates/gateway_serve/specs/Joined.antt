@@ -18,8 +18,7 @@ use Rattle.gateway_serve.specs.declared.places.Place.TheVariants.{Free, Open}
 use Rattle.gateway_serve.specs.declared.serving.Server.{Server}
 
 -- a socket and its connection: all bytes that came and went, those that wait for the session and for the socket, and
--- whether the session
--- closed it
+-- whether the session closed it
 pub record Joint : Type 0 where
   pub came : List ℕ
   pub went : List ℕ
@@ -42,8 +41,7 @@ joint_of l = record {
 }
 
 -- THE INVARIANT. Of the connection's latest conversation, what came is what the session took and what waits for it, and
--- what went, with what
--- waits for the socket, is what it gave. Of the conversations before, each had a socket of its own
+-- what went, with what waits for the socket, is what it gave. Of the conversations before, each had a socket of its own
 pub record Joins (j : Joint) (ended : List Seen) (st : State) (past : List Marked) (n : ℕ) : Type 0 where
   pub latest : Conversation
   pub others : List Conversation

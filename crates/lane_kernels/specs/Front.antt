@@ -1,6 +1,5 @@
 -- The classes of bytes whose runs are looked for. The front of a list is std's prefix_len, the length of its longest
--- prefix whose
--- members all pass a test.
+-- prefix whose members all pass a test.
 use Rattle.std.specs.Prelude.{ℕ, Bool, ◌==◌, ◌&&◌, not, if◌then◌else◌}
 use Rattle.std.specs.Char.{is_ascii}
 use Rattle.std.specs.Int.{w64, trailing_zeros}

@@ -74,10 +74,8 @@ impl Pairing {
     }
 
     /// Makes 32 units of the carried byte, where there is one, and the 64 bytes, and says whether they are paired
-    /// behind the carried
-    /// lead. Where they are, a byte left over and a last lead are carried on; where they aren't, what is carried stays.
-    /// The units are
-    /// written in either case.
+    /// behind the carried lead. Where they are, a byte left over and a last lead are carried on; where they aren't,
+    /// what is carried stays. The units are written in either case.
     pub fn block(&mut self, order: Order, bytes: &[u8; 64], units: &mut [u16; 32]) -> bool
         ensures units { units.new ≡ units_of (is_big order) (with_carried self.old.byte bytes.now) }
         ensures paired { IsTrue result ↔ ArePaired self.old.lead

@@ -11,14 +11,12 @@ use std::path::Path;
 /// A file as a disk. Its length is that of the moment at which it was opened, and does not change.
 ///
 /// It holds the file's exclusive lock (`flock`) until it is dropped, so that no other `FileDisk` of this or another
-/// process
-/// is over the same file meanwhile. The lock is advisory: whoever doesn't ask for it can still write to the file.
+/// process is over the same file meanwhile. The lock is advisory: whoever doesn't ask for it can still write to the
+/// file.
 ///
 /// No contract says what a file gives or keeps, so no file is proved to be honest: that a file behaves as a disk is a
-/// premise of
-/// whoever relies on it, and of its bytes and images the clauses claim nothing. That the length stays and that each
-/// failed
-/// call is counted is proved of every file.
+/// premise of whoever relies on it, and of its bytes and images the clauses claim nothing. That the length stays and
+/// that each failed call is counted is proved of every file.
 #[derive(Drop)]
 pub struct FileDisk {
     file: File,
@@ -32,9 +30,8 @@ impl FileDisk {
     ghost use Rattle.spool_disk.specs.File.{length_of, failed_in, latest_error};
 
     /// Opens the file at the path, and makes it where there is none. What it holds stays, and one that is shorter than
-    /// `len`
-    /// is made `len` long with zeros. `DiskFault` for every fault of the file system, and where another disk is over
-    /// the file.
+    /// `len` is made `len` long with zeros. `DiskFault` for every fault of the file system, and where another disk is
+    /// over the file.
     pub fn create<R: Files<File = File>>(rt: &R, path: &str, len: u64) -> Result<Self, DiskFault>
         ensures len { IfOk result (λ disk. length_of disk ≡ len) }
         ensures none { IfOk result (λ disk. failed_in disk ≡ 0) }
@@ -43,8 +40,7 @@ impl FileDisk {
     }
 
     /// Opens the file at the path, which is as long as it is then. `DiskFault` for every fault of the file system, and
-    /// where
-    /// another disk is over the file.
+    /// where another disk is over the file.
     pub fn open<R: Files<File = File>>(rt: &R, path: &str) -> Result<Self, DiskFault>
         ensures { IfOk result (λ disk. failed_in disk ≡ 0) }
     {

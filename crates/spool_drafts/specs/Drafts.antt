@@ -55,16 +55,14 @@ abbrev pub IsPlaced : ℕ → SpoolDraft → Type 0
 IsPlaced blocks d = IsTailed blocks d.growth
 
 -- It began behind a text of this length, at these state bytes: where bytes may come, the encodings and the mode are
--- still
--- those, and there are greater offsets.
+-- still those, and there are greater offsets.
 pub record IsBehind (len : ℕ) (state : List ℕ) (d : SpoolDraft) : Type 0 where
   pub committed : committed_len_of d ≡ len
   pub goes_on : GoesOn state (fresh_of d)
   pub room : IsGrowing (fresh_of d) → offset_of d + 1 < 2 ^ 64
 
 -- what its text ends in goes behind that text: on these blocks, or without any where nothing was added, and with the
--- same
--- encodings
+-- same encodings
 pub record EndsBehind (len : ℕ) (state list : List ℕ) (e : DraftEnd) : Type 0 where
   pub same : SameEncodings state e.state
   pub nothing : length list ≡ 0 → e.text_len ≡ len

@@ -7,8 +7,7 @@ ghost use Rattle.spool_drafts.specs.Drafts.{Carries, list_of, tail_of};
 ghost use Rattle.spool_drafts.specs.declared.draft.SpoolDraft.{SpoolDraft};
 
 /// A draft carries what it carried where only other blocks are written: none that it reserved, and not the one that its
-/// upload's
-/// last bytes are on.
+/// upload's last bytes are on.
 pub fn kept_drafts()
     ensures { (x : IndexSet) (seen seen' : ℕ → ℕ) (first : ℕ) (blocks : List ℕ) (p : Patch) (d : SpoolDraft)
         → SameOutside first blocks seen seen' → NoneOf (list_of d) blocks → NoneOf (tail_of d) blocks

@@ -58,9 +58,8 @@ fn commit_items<D: Disk>(
 }
 
 /// Changes the given pages, all or none, and syncs what was written before. The gate is closed, and the metadata is
-/// synced, as Ok of
-/// `recover` and of `commit` leave it. Of no pages it makes no call of the disk, and so makes nothing durable. It takes
-/// no memory.
+/// synced, as Ok of `recover` and of `commit` leave it. Of no pages it makes no call of the disk, and so makes nothing
+/// durable. It takes no memory.
 pub fn commit<D: Disk>(disk: &mut D, layout: &Layout, pages: &Pages) -> Result<(), DiskFault>
     requires room { 4096 * all_pages layout.now ≤ D.size disk.old }
     requires area { InArea (journal_pages layout.now) pages.now }

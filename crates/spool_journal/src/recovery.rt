@@ -187,11 +187,9 @@ fn mend<D: Disk>(disk: &mut D, journal: u32) -> Result<(), RecoverError>
 }
 
 /// Makes whole what a crash left: where the gate is open, it puts the journal's pages into their places, syncs, and
-/// closes
-/// the gate. `Damaged` where the gate is open and the journal head has a count that is not 1 to J, or page numbers that
-/// do not
-/// ascend or lie outside the metadata; then no byte was written. It takes no memory, and may be tried again after a
-/// fault.
+/// closes the gate. `Damaged` where the gate is open and the journal head has a count that is not 1 to J, or page
+/// numbers that do not ascend or lie outside the metadata; then no byte was written. It takes no memory, and may be
+/// tried again after a fault.
 pub fn recover<D: Disk>(disk: &mut D, layout: &Layout) -> Result<(), RecoverError>
     requires { 4096 * all_pages layout.now ≤ D.size disk.old }
     ensures size { D.size disk.new ≡ D.size disk.old }

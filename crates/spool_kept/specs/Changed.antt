@@ -28,8 +28,7 @@ pub record SameOthers (slot : ℕ) (old new : List Row) : Type 0 where
   pub before : (b s i : ℕ) → s ≢ slot → Owns new b s i → Owns old b s i
 
 -- the slot's blocks at ordinals from `first` on are nobody's, and the listed blocks are the slot's at the ordinals
--- `first`,
--- `first + 1` and so on
+-- `first`, `first + 1` and so on
 pub record HandsOver (old : List Row) (slot first : ℕ) (list : List ℕ) (new : List Row) : Type 0 where
   pub size : length new ≡ length old
   pub listed : (i : ℕ) → i < length list → Owns new (get_or list i 0) slot (first + i)

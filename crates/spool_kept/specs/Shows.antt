@@ -14,8 +14,7 @@ use Rattle.spool_pages.specs.View.{SlotRecord, View, slot_at, IsViewOf}
 -- THE CHECKS
 
 -- Behind the end exactly where all declared bytes were accepted. Before a byte order mark is decided all accepted bytes
--- are held,
--- and from the first byte on it may be decided.
+-- are held, and from the first byte on it may be decided.
 abbrev pub FitsPhase : Phase → ℕ → ℕ → Type 0
 FitsPhase (Before held) accepted declared = (accepted ≡ length held) × (accepted ≡ declared → ⊥)
 FitsPhase (During s) accepted declared = (1 ≤ accepted) × (accepted ≡ declared → ⊥)

@@ -12,8 +12,7 @@ use std::fmt;
 #[derive(Clone, Copy, Debug, PartialEq, Eq)]
 pub enum OpenFault {
     /// The disk doesn't begin with the first bytes of a spool and a number of text blocks from 16 to 65,536, or it is
-    /// shorter
-    /// than its layout.
+    /// shorter than its layout.
     NotASpool,
     /// The disk failed in this call.
     DiskFault,

@@ -18,8 +18,7 @@ pub record SlotRecord : Type 0 where
   pub metadata : List ℕ
 
 -- the number of text blocks, the version, the next number, the index files, the 512 slots, each block's slot and
--- ordinal, and
--- each slot's text
+-- ordinal, and each slot's text
 pub record View : Type 0 where
   pub blocks : ℕ
   pub version : ℕ

@@ -16,8 +16,7 @@ use spool_journal::{Layout, Pages};
 use std::alloc::{AllocError, Global};
 
 /// The pages that a new record and the next number make. `beside` is the record that the other slot on the same page
-/// has, none where
-/// it is free. Err only where memory runs out.
+/// has, none where it is free. Err only where memory runs out.
 pub fn pages_of_new(
     alloc: Global,
     layout: &Layout,

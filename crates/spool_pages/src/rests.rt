@@ -17,8 +17,7 @@ pub fn resting_images<D: Disk>()
 {}
 
 /// Reads, and writes into blocks that no row owns, leave a spool at rest. And an image that is one of its own but for
-/// such blocks
-/// says the same.
+/// such blocks says the same.
 pub fn resting_writes<D: Disk>()
     ensures reads { (v : View) (old new : D) → Rests v (D.seen old) (D.loose old)
         → Keeps (D.seen old) (D.seen new) (D.loose old) (D.loose new) → Rests v (D.seen new) (D.loose new) }

@@ -34,8 +34,7 @@ pub record IsInSome (lists : ℕ → List ℕ) (b : ℕ) : Type 0 where
   pub here : get_or (lists list) at 0 ≡ b
 
 -- each draft number has a list of blocks of its own, and these are the reserved blocks. But for the draft d, which is
--- at work,
--- a list is as long as the need of its patch, and empty where there is no patch
+-- at work, a list is as long as the need of its patch, and empty where there is no patch
 pub record Reserves (x : IndexSet) (patches : List (ℕ × Patch)) (lists : ℕ → List ℕ) (d : ℕ) (h : Held) : Type 0 where
   pub apart : IsApart patches
   pub reserved : (e : ℕ) → IsReserved h (lists e)

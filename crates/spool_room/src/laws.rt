@@ -37,8 +37,7 @@ pub fn reserved_blocks()
 {}
 
 /// The law of the counts, of any blocks: the free, the reserved and the owned blocks add up to all, and the owned ones
-/// to the
-/// slots' lists.
+/// to the slots' lists.
 pub fn block_counts()
     ensures { (h : Held) → length h.reserved ≡ length h.rows
         → ((b slot ordinal : ℕ) → Owns h.rows b slot ordinal → slot < 512) → CountLaw h.rows h.reserved }
@@ -59,8 +58,7 @@ pub fn room(blocks: &Blocks)
 }
 
 /// What a patch wants, in numbers: the blocks of its new text from the committed tail on, and none where nothing is
-/// added or the
-/// text has no value.
+/// added or the text has no value.
 pub fn draft_needs()
     ensures some { (x : IndexSet) (p : Patch) (done : Bool) → (patch_text x p done).fault ≡ None → 1 ≤ added x p done
         → wants x p done ≡ (length (text_of x p.began) % 4096 + added x p done + 4095) / 4096 }

@@ -4,8 +4,7 @@ use Rattle.spool_blocks.specs.Blocks.{Held, IsFree}
 use Rattle.spool_texts.specs.TextOn.{blocks_on}
 
 -- its blocks by ordinal, from that of the committed tail on; the bytes that aren't on a full block; and how many blocks
--- its list
--- holds before it takes more memory
+-- its list holds before it takes more memory
 pub record Draft : Type 0 where
   pub blocks : List ℕ
   pub unfinished : List ℕ

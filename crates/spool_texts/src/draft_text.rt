@@ -20,8 +20,7 @@ use std::alloc::{AllocError, Global};
 use std::marker::Model;
 
 /// The new text of a draft: the blocks that it reserved, and the bytes of the unfinished block. Dropped without
-/// `give_back` or
-/// `into_list`, its blocks stay reserved.
+/// `give_back` or `into_list`, its blocks stay reserved.
 #[derive(Drop)]
 pub struct DraftText {
     blocks: Vec<BlockNo>,
@@ -41,8 +40,7 @@ impl Model for DraftText {
 
 impl DraftText {
     /// No new text behind the one of this length on the listed blocks. The bytes on its last block, if that isn't full,
-    /// are read
-    /// and stay in memory: they go on a block of the draft's own with its first new byte.
+    /// are read and stay in memory: they go on a block of the draft's own with its first new byte.
     pub fn begin<D: Disk>(
         alloc: Global,
         disk: &mut D,
@@ -147,8 +145,7 @@ impl DraftText {
             → (self.new ≡ self.old) × (disk.new ≡ disk.old) × (blocks.new ≡ blocks.old) }
 
         // It reserves no more blocks than its bytes need, and refuses only where they need more and none is free. What
-        // it reserved
-        // it holds after a refusal too.
+        // it reserved it holds after a refusal too.
         ensures listed { OnOk result
             (1 ≤ length bytes.now → length self.new.blocks ≡ (held_count self.new + 4095) / 4096) }
         ensures takes { Takes blocks.old blocks.new self.old.blocks self.new.blocks }
@@ -241,8 +238,7 @@ impl DraftText {
     }
 
     /// Takes these bytes as the last ones, in memory: it reserves the blocks for them, and answers what `write_last` is
-    /// to write, the
-    /// bytes of the unfinished block and these. The draft may only be spent then.
+    /// to write, the bytes of the unfinished block and these. The draft may only be spent then.
     pub fn end(
         &mut self,
         alloc: Global,

@@ -9,8 +9,7 @@ ghost use Rattle.spool_texts.specs.Written.{FrameBlocks, NoneOf, SameOutside, as
 use spool_journal::Layout;
 
 /// Where a list has the blocks of a slot by ordinal, as many as the text needs, the text on the list is the one that
-/// the rows show.
-/// And the text on two lists joined is that on the first one, whole, and that on the second.
+/// the rows show. And the text on two lists joined is that on the first one, whole, and that on the second.
 pub fn shown_texts()
     ensures shown { (image : ℕ → ℕ) (first : ℕ) (rows : List (Option (ℕ × ℕ))) (slot len : ℕ) (list : List ℕ)
         → IsListed rows slot list → length list ≡ (len + 4095) / 4096 → text_on image first list len ≡ text_shown image
@@ -30,8 +29,7 @@ pub fn kept_texts()
 {}
 
 /// An image shows the same as with some blocks as they were: the same texts where no row owns the blocks, and outside
-/// them it is
-/// read the same.
+/// them it is read the same.
 pub fn same_but_blocks(layout: &Layout)
     ensures { (blocks : List ℕ) (was image : ℕ → ℕ) → FrameBlocks (journal_pages layout.now)
         (25 + 2 * journal_pages layout.now) blocks image

@@ -2,8 +2,7 @@
 //!
 //! A text lies on its slot's blocks by ordinal, 4,096 bytes on each. A draft starts with the bytes that the committed
 //! text has on its last, unfinished block, or with zeros once these are nobody's. It writes only blocks that it
-//! reserved
-//! itself: each as soon as it is full, the last one by `write_last`. So a committed block is never written to.
+//! reserved itself: each as soon as it is full, the last one by `write_last`. So a committed block is never written to.
 #![tactic(auto)]
 
 mod draft_text;

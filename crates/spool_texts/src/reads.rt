@@ -11,8 +11,7 @@ use spool_disk::{Disk, DiskFault};
 use spool_journal::{Layout, PAGE};
 
 /// Reads bytes of the text of this length on the listed blocks from `at` on, as many as there are and fit. It reads
-/// each block
-/// concerned once, and takes no memory.
+/// each block concerned once, and takes no memory.
 pub fn read_text<D: Disk>(
     disk: &mut D,
     layout: &Layout,

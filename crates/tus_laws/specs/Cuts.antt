@@ -1,8 +1,8 @@
 -- Histories that cut the streams of their connections in other ways: their moments, and the bytes that each connection
 -- is given.
 --
--- An example. Connection 0 sends a PATCH with the body `hello`, and connection 1 asks by HEAD how far the upload is.
--- In one history the calls bring 0's head with `he`, 1's whole request, `llo`; in another 0's head, byte by byte, 1's
+-- An example. Connection 0 sends a PATCH with the body `hello`, and connection 1 asks by HEAD how far the upload is. In
+-- one history the calls bring 0's head with `he`, 1's whole request, `llo`; in another 0's head, byte by byte, 1's
 -- whole request, `hello`. The moments are the same and in the same order: 0's head, 1's head, 0's body. So 0 is given
 -- the same reply in both, and 1 too: that the upload has no bytes yet.
 use Rattle.std.specs.Prelude.{◌≡◌, ◌==◌, ℕ, List, [], ◌∷◌, ◌++◌, if◌then◌else◌, Option, Some, None}

@@ -19,8 +19,7 @@ pub record Grows (m m' : Store) : Type 0 where
       → (up : Upload) × (upload_of m n ≡ Some up) × Longer m m' up up'
 
 -- From one world to the next by the connection that had one draft and now has another: all other patches are as they
--- were,
--- and no draft number is taken that was another's
+-- were, and no draft number is taken that was another's
 pub record Moves (w w' : World) (own own' : Option ℕ) : Type 0 where
   pub grows : Grows w.store w'.store
   pub others : (e : ℕ) (p : Patch) → (own ≡ Some e → ⊥) → find e w.patches ≡ Some p → find e w'.patches ≡ Some p

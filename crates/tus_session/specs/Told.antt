@@ -15,8 +15,7 @@ pub record Follows {U B : Type 0} (u : Ghosts U B) (places : List (Place B)) (st
   pub outcome : answered ≡ given
 
 -- What became of an event that gives bytes: served; refused for memory, and its connection closed; or refused, and
--- nothing changed.
--- After a device's fault only the bytes are as they were. The refusals of a connection go before both
+-- nothing changed. After a device's fault only the bytes are as they were. The refusals of a connection go before both
 abbrev pub Told : {U B : Type 0} → Ghosts U B → List (Place B) → U → Result Answer SessionError → List ℕ → List ℕ
     → State → Event → Type 0
 Told u places store (Ok a) old new st e =

@@ -90,8 +90,7 @@ offset_refusal p None = Some NoSuch
 offset_refusal p (Some u) = refuse_if (if length u.accepted == length p.began.accepted then false else true) Offset
 
 -- (with deferred lengths: LengthSet and TooLong stand between Offset and Unencodable, and an empty body that declares
--- is no empty body)
--- the first that holds of NoSuch, Offset, Unencodable and Full
+-- is no empty body) the first that holds of NoSuch, Offset, Unencodable and Full
 unfoldable pub commit_refusal : World → ℕ → Patch → Option UploadRefusal
 commit_refusal w d p = or_else (offset_refusal p (upload_of w.store p.number)) (text_refusal w d p)
 

@@ -7,8 +7,7 @@ ghost use Rattle.upload_rules.specs.World.{World, Patch};
 ghost use Rattle.upload_rules.specs.Grown.{IsGrown};
 
 /// The same upload and the same count of accepted bytes mean the same accepted bytes: an open patch whose offset is
-/// still
-/// the count began at the upload as it is.
+/// still the count began at the upload as it is.
 pub fn same_offset()
     ensures { (w : World) (d : ℕ) (p : Patch) (u : Upload) → IsGrown w → find d w.patches ≡ Some p
         → upload_of w.store p.number ≡ Some u
@@ -16,8 +15,7 @@ pub fn same_offset()
 {}
 
 /// While an upload isn't complete, its text is a prefix of its text with more bytes. A character without a code stays
-/// one,
-/// whatever comes behind it.
+/// one, whatever comes behind it.
 pub fn text_grows()
     ensures front { (x : IndexSet) (u : Upload) (bytes : List ℕ) → is_complete u ≡ false
         → (text_with x u [] false).fault ≡ None

@@ -96,8 +96,7 @@ pub trait Uploads {
         ensures counts { failures self.new ≡ failures self.old };
 
     /// Adds bytes to a draft, at most its count in all: refused with `NoMemory`, `DiskFault`, after which the draft may
-    /// only be dropped.
-    /// Text that can't be encoded or stored is kept as the draft's fault.
+    /// only be dropped. Text that can't be encoded or stored is kept as the draft's fault.
     fn append(&mut self, draft: &mut Self::Draft, piece: &[u8]) -> Result<(), UploadError>
         ensures same { Self.number_of draft.new ≡ Self.number_of draft.old }
         ensures answer { (w : World) (p : Patch) → stands self.old w → find (Self.number_of draft.old) w.patches ≡ Some
@@ -113,8 +112,7 @@ pub trait Uploads {
         ensures counts { Counts (IsErrOf result UploadError.DiskFault) (failures self.old) (failures self.new) };
 
     /// Puts a draft's text behind its upload's, and answers the new offset: refused with `NoSuch`, `Offset`,
-    /// `Unencodable`, `Full`, `NoMemory`, `DiskFault`.
-    /// The draft is spent in every case.
+    /// `Unencodable`, `Full`, `NoMemory`, `DiskFault`. The draft is spent in every case.
     fn commit(&mut self, draft: Self::Draft) -> Result<u64, UploadError>
         ensures answer { (w : World) (p : Patch) → stands self.old w → find (Self.number_of draft) w.patches ≡ Some p
             → holds draft p
