@@ -24,7 +24,7 @@ came 1 68656c6c6f
 
 /// What that writes.
 const MADE: &[u8] =
-    b"< 1 110\nHTTP/1.1 201 Created\r\nTus-Resumable: 1.0.0\r\nCache-Control: no-store\r\nLocation:
+    b"< 1 110\nHTTP/1.1 201 Created\r\nTus-Resumable: 1.0.0\r\nCache-Control: no-store\r\nLocation: \
     /files/1\r\nContent-Length: 0\r\n\r\n\n";
 
 const FILLED: &[u8] =
@@ -35,11 +35,11 @@ const LOOKS: &[u8] = b"open 1\nsay 1 HEAD /files/1 HTTP/1.1\nsay 1 Tus-Resumable
 
 /// What that writes of a full upload, and of one without bytes.
 const FULL: &[u8] =
-    b"< 1 102\nHTTP/1.1 200 OK\r\nTus-Resumable: 1.0.0\r\nCache-Control: no-store\r\nUpload-Offset: 5\r\nUpload-Length:
+    b"< 1 102\nHTTP/1.1 200 OK\r\nTus-Resumable: 1.0.0\r\nCache-Control: no-store\r\nUpload-Offset: 5\r\nUpload-Length: \
     5\r\n\r\n\n";
 
 const EMPTY: &[u8] =
-    b"< 1 102\nHTTP/1.1 200 OK\r\nTus-Resumable: 1.0.0\r\nCache-Control: no-store\r\nUpload-Offset: 0\r\nUpload-Length:
+    b"< 1 102\nHTTP/1.1 200 OK\r\nTus-Resumable: 1.0.0\r\nCache-Control: no-store\r\nUpload-Offset: 0\r\nUpload-Length: \
     5\r\n\r\n\n";
 
 /// More calls than a round makes.
