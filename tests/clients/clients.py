@@ -1,7 +1,7 @@
 #!/usr/bin/env python3
 """Real clients against a gateway: curl, tuspy, headless chromium, and 16 clients at once with cuts and resumes, over
-all encodings. Each text is compared with what Python's codecs decode and encode the same bytes to. Then deletions, by
-curl and by requests, also of uploads that others send or read.
+all encodings; also streams, whose length comes last. Each text is compared with what Python's codecs decode and encode
+the same bytes to. Then deletions, by curl and by requests, also of uploads that others send or read.
 
     python3 tests/clients/clients.py [--gateway PROGRAM] [--indexes DIR] [--clients N] [--rounds N] [--seed N]
 
@@ -18,11 +18,11 @@ from pathlib import Path
 import browser
 import deletions
 from harness import ENCODINGS, OCTETS, TUS, Client, Sample, Server
-from harness import curl, fields, format_spool, has_tuspy, header, random_sample, rng_of, write_indexes
+from harness import curl, declaring, fields, format_spool, has_tuspy, header, random_sample, rng_of, write_indexes
 
 BLOCKS = 8192
 MOST_CUTS = 40
-MOST_UPLOADS = 440
+MOST_UPLOADS = 400
 
 
 def cut_in_two(rng, data):
@@ -30,18 +30,49 @@ def cut_in_two(rng, data):
     return data[:place], data[place:]
 
 
+def made_by_curl(server, sample, length):
+    """The URL of an upload that is made with this header of its length."""
+    base = f"http://127.0.0.1:{server.port}"
+    wanted = {**TUS, **length, "Upload-Metadata": sample.metadata()}
+    made = curl("-i", "-X", "POST", *fields(wanted), f"{base}/files").decode()
+    return base + header(made, "Location")
+
+
+def patch_by_curl(url, offset, piece, length=None):
+    """The offset after a piece, with which the upload's length may be declared."""
+    wanted = {**OCTETS, "Upload-Offset": offset, **declaring(length)}
+    reply = curl("-i", "-X", "PATCH", *fields(wanted), "--data-binary", "@-", url, body=piece).decode()
+    return int(header(reply, "Upload-Offset"))
+
+
 def by_curl(server, sample, rng):
     """An upload in two pieces, whose second begins where HEAD says."""
-    base = f"http://127.0.0.1:{server.port}"
-    wanted = {**TUS, "Upload-Length": len(sample.data), "Upload-Metadata": sample.metadata()}
-    made = curl("-i", "-X", "POST", *fields(wanted), f"{base}/files").decode()
-    url = base + header(made, "Location")
+    url = made_by_curl(server, sample, {"Upload-Length": len(sample.data)})
     first, _rest = cut_in_two(rng, sample.data)
-    patch = ["-X", "PATCH", *fields(OCTETS), "--data-binary", "@-", url]
-    curl("-H", "Upload-Offset: 0", *patch, body=first)
+    patch_by_curl(url, 0, first)
     offset = int(header(curl("-I", *fields(TUS), url).decode(), "Upload-Offset"))
-    curl("-H", f"Upload-Offset: {offset}", *patch, body=sample.data[offset:])
+    patch_by_curl(url, offset, sample.data[offset:])
     return curl(url)
+
+
+def stream_by_curl(server, sample, rng):
+    """A stream in pieces, whose length comes with the last one or behind it."""
+    url, stream, offset = made_by_curl(server, sample, {"Upload-Defer-Length": 1}), io.BytesIO(sample.data), 0
+    size, with_last = rng.randrange(1, 4000), rng.randrange(2) == 0
+    while piece := stream.read(size):
+        end = offset + len(piece)
+        offset = patch_by_curl(url, offset, piece, end if with_last and end == len(sample.data) else None)
+    if not with_last:
+        end_stream(url, sample)
+    return curl(url)
+
+
+def end_stream(url, sample):
+    """Declares the length of a stream whose bytes are all there."""
+    head = curl("-I", *fields(TUS), url).decode()
+    if header(head, "Upload-Defer-Length") != "1":
+        raise ValueError(f"{url}: its length is known")
+    patch_by_curl(url, int(header(head, "Upload-Offset")), b"", len(sample.data))
 
 
 def by_tuspy(server, sample):
@@ -56,6 +87,18 @@ def by_tuspy(server, sample):
     again = tus.uploader(file_stream=io.BytesIO(sample.data), chunk_size=size, url=first.url)
     again.upload()
     return curl(again.url)
+
+
+def stream_by_tuspy(server, sample):
+    """A stream that tuspy sends to a URL made by curl, which declares the length at last."""
+    from tusclient.client import TusClient
+
+    url = made_by_curl(server, sample, {"Upload-Defer-Length": 1})
+    tus = TusClient(f"http://127.0.0.1:{server.port}/files")
+    size = max(1, len(sample.data) // 3)
+    tus.uploader(file_stream=io.BytesIO(sample.data), chunk_size=size, url=url).upload()
+    end_stream(url, sample)
+    return curl(url)
 
 
 def by_chromium(server, folder, seed):
@@ -77,21 +120,25 @@ def by_chromium(server, folder, seed):
 
 def in_pieces(client, sample, rng):
     """An upload in pieces of any length; some bodies are cut, and then HEAD says where to go on. What is there at any
-    moment is the front of the text."""
-    path, offset, pieces, cuts = client.create(sample), 0, 0, 0
-    while offset < len(sample.data):
-        size = rng.choice([rng.randrange(1, 8), rng.randrange(1, 1500), len(sample.data)])
+    moment is the front of the text. The length of some comes with any of the pieces, or behind them."""
+    deferred, whole = rng.randrange(3) == 0, len(sample.data)
+    path, offset, pieces, cuts = client.create(sample, deferred), 0, 0, 0
+    while offset < whole:
+        size = rng.choice([rng.randrange(1, 8), rng.randrange(1, 1500), whole])
         piece = sample.data[offset : offset + size]
+        length = whole if deferred and rng.randrange(8) == 0 else None
         if cuts < MOST_CUTS and rng.randrange(3) == 0:
             sent = piece[: rng.randrange(len(piece))]
-            client.cut(path, offset, sent, declared=len(piece), reset=rng.randrange(2) == 0)
+            client.cut(path, offset, sent, count=len(piece), reset=rng.randrange(2) == 0, length=length)
             cuts += 1
             offset = client.offset(path)
         else:
-            offset = client.patch(path, offset, piece)
+            offset = client.patch(path, offset, piece, length)
         pieces += 1
         if rng.randrange(4) == 0 and not sample.text.startswith(client.text(path)):
             raise ValueError(f"{path}: not the front of its text")
+    if deferred:
+        client.patch(path, whole, b"", whole)
     return client.text(path), pieces, cuts
 
 
@@ -135,8 +182,10 @@ def all_at_once(server, clients, rounds, seed):
 def run(server, folder, given):
     """All clients: which uploads were wrong."""
     wrong = one_by_one("curl", lambda sample, rng: by_curl(server, sample, rng), given.seed)
+    wrong += one_by_one("streams by curl", lambda sample, rng: stream_by_curl(server, sample, rng), given.seed)
     if has_tuspy():
         wrong += one_by_one("tuspy", lambda sample, rng: by_tuspy(server, sample), given.seed)
+        wrong += one_by_one("streams by tuspy", lambda sample, rng: stream_by_tuspy(server, sample), given.seed)
     else:
         print("tuspy: not there (Debian: python3-tuspy, and /usr/bin/python3)")
     if browser.program():

@@ -48,7 +48,7 @@ def same(what, got, wanted):
 def by_curl(server, client):
     """A deletion without the version is refused; by DELETE, and by POST that stands for it, the upload is gone."""
     asked = curl("-i", "-X", "OPTIONS", f"http://127.0.0.1:{server.port}/files").decode()
-    same("the extensions", header(asked, "Tus-Extension"), "creation,termination")
+    same("the extensions", header(asked, "Tus-Extension"), "creation,creation-defer-length,termination")
     for asks_for_it in ["-X", "DELETE"], ["-X", "POST", "-H", "X-HTTP-Method-Override: DELETE"]:
         path = uploaded(client, b"a letter")
         url = f"http://127.0.0.1:{server.port}{path}"

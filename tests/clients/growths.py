@@ -7,7 +7,8 @@ A small C library, made in a temporary folder and loaded before the C library, r
 Each case is a script over a spool that holds its uploads already. For each number the run ends in one of two ways: with
 status 2 and `refused: 0 NoMemory` behind the front of the output; or with status 0, where one connection got `! N 0` in
 place of an answer and then only `! N 30`, and the others got what they get without it. Afterwards each upload has at
-least the bytes that were told to be accepted, and exactly their text. The status is 0 where all was so.
+least the bytes that were told to be accepted, and exactly their text; one whose deletion was told is gone; and a length
+that came with an upload's last bytes is known where they are there. The status is 0 where all was so.
 """
 
 import argparse
@@ -18,6 +19,7 @@ import re
 import shutil
 import subprocess
 import tempfile
+from collections import namedtuple
 from pathlib import Path
 
 from harness import format_spool, write_indexes
@@ -78,14 +80,18 @@ def came(conn, data):
 
 
 def post(conn, length, label, note=""):
+    """Makes an upload, of a length or (None) a deferred one."""
+    line = "Upload-Defer-Length: 1" if length is None else f"Upload-Length: {length}"
     metadata = f"from {base64.b64encode(label.encode()).decode()}"
     if note:
         metadata += f",filename {base64.b64encode(note.encode()).decode()}"
-    return say(conn, "POST /files HTTP/1.1", TUS, f"Upload-Length: {length}", f"Upload-Metadata: {metadata}")
+    return say(conn, "POST /files HTTP/1.1", TUS, line, f"Upload-Metadata: {metadata}")
 
 
-def patch(conn, number, offset, data):
+def patch(conn, number, offset, data, length=None):
+    """Puts bytes behind an upload, and may declare its length."""
     head = [f"PATCH /files/{number} HTTP/1.1", TUS, "Content-Type: application/offset+octet-stream"]
+    head += [] if length is None else [f"Upload-Length: {length}"]
     return say(conn, *head, f"Upload-Offset: {offset}", f"Content-Length: {len(data)}") + came(conn, data)
 
 
@@ -93,12 +99,15 @@ def ask(conn, method, number):
     return say(conn, f"{method} /files/{number} HTTP/1.1", TUS)
 
 
-# Of each case: the script that makes its uploads, the script that is tried, and each upload's bytes and encoding.
+# An upload's bytes and encoding, and whether its length comes with the last of them.
+Upload = namedtuple("Upload", "data codec deferred", defaults=[False])
+
+# Of each case: the script that makes its uploads, the script that is tried, and the uploads by number.
 CASES = {
     "stored run": (
         ["open 0"],
         ["open 1", *post(1, 5, "utf-8"), *patch(1, 1, 0, b"hello"), *ask(1, "HEAD", 1), *ask(1, "GET", 1), "cut 1"],
-        {1: (b"hello", "utf-8")},
+        {1: Upload(b"hello", "utf-8")},
     ),
     "two connections": (
         ["open 0", *post(0, 9, "utf-8"), *post(0, 18, "shift_jis")],
@@ -106,17 +115,33 @@ CASES = {
             *["open 1", "open 2", *patch(1, 1, 0, "aéb".encode()), *patch(2, 2, 0, SHIFT_JIS[:7])],
             *[*patch(1, 1, 4, b"cdefg"), *patch(2, 2, 7, SHIFT_JIS[7:]), *ask(1, "GET", 1), *ask(2, "GET", 2), "cut 1"],
         ],
-        {1: ("aéb".encode() + b"cdefg", "utf-8"), 2: (SHIFT_JIS, "cp932")},
+        {1: Upload("aéb".encode() + b"cdefg", "utf-8"), 2: Upload(SHIFT_JIS, "cp932")},
     ),
     "metadata": (
         ["open 0"],
         ["open 1", *post(1, 3, "windows-1252", "a" * 900), *patch(1, 1, 0, b"abc"), *ask(1, "HEAD", 1), "cut 1"],
-        {1: (b"abc", "cp1252")},
+        {1: Upload(b"abc", "cp1252")},
     ),
     "long GET": (
         ["open 0", *post(0, len(LONG), "utf-8"), *patch(0, 1, 0, LONG)],
         ["open 1", "open 2", *ask(1, "GET", 1), *ask(2, "HEAD", 1), *ask(2, "GET", 1), "cut 2"],
-        {1: (LONG, "utf-8")},
+        {1: Upload(LONG, "utf-8")},
+    ),
+    "deletion": (
+        ["open 0", *post(0, 5, "utf-8"), *patch(0, 1, 0, b"hello"), *post(0, 18, "shift_jis")],
+        [
+            *["open 1", "open 2", *patch(2, 2, 0, SHIFT_JIS[:7]), *ask(1, "DELETE", 1), *ask(1, "HEAD", 1)],
+            *[*patch(2, 2, 7, SHIFT_JIS[7:]), *ask(2, "GET", 2), "cut 1"],
+        ],
+        {1: Upload(b"hello", "utf-8"), 2: Upload(SHIFT_JIS, "cp932")},
+    ),
+    "deferred length": (
+        ["open 0"],
+        [
+            *["open 1", *post(1, None, "shift_jis"), *patch(1, 1, 0, SHIFT_JIS[:7]), *ask(1, "HEAD", 1)],
+            *[*patch(1, 1, 7, SHIFT_JIS[7:], 18), *ask(1, "HEAD", 1), *ask(1, "GET", 1), "cut 1"],
+        ],
+        {1: Upload(SHIFT_JIS, "cp932", deferred=True)},
     ),
 }
 
@@ -153,12 +178,14 @@ class Run:
         return found
 
     def told(self):
-        """The offset that each connection was told last behind a PATCH. (In the cases its upload has its number.)"""
+        """The offset that each connection was told last behind a PATCH, and None behind a deletion. (In the cases its
+        upload has its number.)"""
         found = {}
         for conn, answers in self.answers().items():
             replies = [it for it in answers if isinstance(it, bytes) and b" 204 " in it]
             for reply in replies:
-                found[conn] = int(re.search(rb"Upload-Offset: (\d+)", reply)[1])
+                offset = re.search(rb"Upload-Offset: (\d+)", reply)
+                found[conn] = int(offset[1]) if offset else None
         return found
 
 
@@ -175,9 +202,10 @@ def is_refused_once(answers, wanted):
 
 
 def list_of(gateway, spool):
-    """How many bytes of each upload are accepted."""
+    """How many bytes of each upload are accepted, and how many are declared, by the word for it."""
     listed = subprocess.run([gateway, "list", str(spool)], check=True, capture_output=True, text=True).stdout
-    return {int(number): int(accepted) for number, accepted in re.findall(r"^(\d+) (\d+)/", listed, re.M)}
+    lines = re.findall(r"^(\d+) (\d+)/(\d+|\?) ", listed, re.M)
+    return {int(number): (int(accepted), declared) for number, accepted, declared in lines}
 
 
 def text_of(data, codec):
@@ -186,17 +214,26 @@ def text_of(data, codec):
 
 
 def holds_what_was_told(gateway, spool, run, uploads):
-    """Whether each upload has at least what was told, and exactly the text of what it has."""
-    accepted, told = list_of(gateway, spool), run.told()
-    for number, (data, codec) in uploads.items():
-        if accepted.get(number, 0) < told.get(str(number), 0):
-            return False
-        if number not in accepted:
+    """Whether each upload has at least what was told, and exactly the text of what it has; or is gone as was told."""
+    listed, told = list_of(gateway, spool), run.told()
+    for number, upload in uploads.items():
+        least = told.get(str(number), 0)
+        if number not in listed:
+            if least:
+                return False
             continue
+        accepted, declared = listed[number]
+        if least is None or accepted < least or declared != declared_of(upload, accepted):
+            return False
         got = Run(gateway, spool, ["open 0", *ask(0, "GET", number)]).answers()["0"]
-        if b"".join(got).partition(b"\r\n\r\n")[2] != text_of(data[: accepted[number]], codec):
+        if b"".join(got).partition(b"\r\n\r\n")[2] != text_of(upload.data[:accepted], upload.codec):
             return False
     return True
+
+
+def declared_of(upload, accepted):
+    """How many bytes an upload is declared to have where so many are accepted, as a list says it."""
+    return "?" if upload.deferred and accepted < len(upload.data) else str(len(upload.data))
 
 
 def try_case(gateway, folder, library, empty, name):

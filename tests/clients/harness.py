@@ -231,19 +231,25 @@ class Client:
         reply = self.connection.getresponse()
         return reply, reply.read()
 
-    def create(self, sample):
-        """The path of a new upload."""
-        headers = {**TUS, "Upload-Length": str(len(sample.data)), "Upload-Metadata": sample.metadata()}
+    def create(self, sample, deferred=False):
+        """The path of a new upload, whose length may be deferred."""
+        length = {"Upload-Defer-Length": "1"} if deferred else {"Upload-Length": str(len(sample.data))}
+        headers = {**TUS, **length, "Upload-Metadata": sample.metadata()}
         return self.ask(201, "POST", "/files", headers)[0]["Location"]
 
     def offset(self, path):
         """How many bytes were accepted."""
         return int(self.ask(200, "HEAD", path, TUS)[0]["Upload-Offset"])
 
-    def patch(self, path, offset, piece):
-        """The offset after a piece. Where a body that was cut before reached the upload since the offset was asked for,
+    def length(self, path):
+        """How many bytes were declared, None where that is deferred."""
+        headers = self.ask(200, "HEAD", path, TUS)[0]
+        return None if headers["Upload-Defer-Length"] == "1" else int(headers["Upload-Length"])
+
+    def patch(self, path, offset, piece, length=None):
+        """The offset after a piece, with which the upload's length may be declared. Where a body that was cut before reached the upload since the offset was asked for,
         the piece is refused, and the offset is asked for again."""
-        headers = {**OCTETS, "Upload-Offset": str(offset)}
+        headers = {**OCTETS, "Upload-Offset": str(offset), **declaring(length)}
         try:
             return int(self.ask(204, "PATCH", path, headers, piece)[0]["Upload-Offset"])
         except Refused as refused:
@@ -265,16 +271,21 @@ class Client:
         """The reply's status, whichever it is."""
         return self.reply(method, path, headers, body)[0].status
 
-    def cut(self, path, offset, piece, declared, reset):
-        """Declares a longer body than it sends, and ends the connection, by a reset or in order. The next request
+    def cut(self, path, offset, piece, count, reset, length=None):
+        """Says that more bytes come than it sends, and ends the connection, by a reset or in order. The next request
         opens another one."""
         self.connection.close()
-        lines = [f"PATCH {path} HTTP/1.1", f"Upload-Offset: {offset}", f"Content-Length: {declared}"]
-        lines += [f"{name}: {value}" for name, value in OCTETS.items()]
+        lines = [f"PATCH {path} HTTP/1.1", f"Upload-Offset: {offset}", f"Content-Length: {count}"]
+        lines += [f"{name}: {value}" for name, value in {**OCTETS, **declaring(length)}.items()]
         with socket.create_connection(("127.0.0.1", self.port), timeout=60) as raw:
             raw.sendall("\r\n".join(lines + ["", ""]).encode() + piece)
             if reset:
                 raw.setsockopt(socket.SOL_SOCKET, socket.SO_LINGER, struct.pack("ii", 1, 0))
+
+
+def declaring(length):
+    """The header of a PATCH that declares the length of its upload, if it does."""
+    return {} if length is None else {"Upload-Length": str(length)}
 
 
 def curl(*words, body=b""):

@@ -156,10 +156,11 @@ def try_head(program, rng, folder, sound):
 
 
 def sound_spool(program, folder):
-    """A spool with three uploads, one of them without its last bytes."""
+    """A spool with four uploads, one of them without its last bytes, and one of unknown length."""
     spool = folder / "sound"
     program.run("format", spool, "--blocks", BLOCKS, "--indexes", folder / "idx")
     texts = [(LONG[:9000], "utf-8", 9000), (SHIFT_JIS, "shift_jis", len(SHIFT_JIS)), (SHIFT_JIS[:5], "shift_jis", 9)]
+    texts.append((SHIFT_JIS[:7], "shift_jis", None))
     lines = ["open 0"]
     for number, (data, label, declared) in enumerate(texts, 1):
         lines += [*post(0, declared, label, f"text {number}"), *patch(0, number, 0, data)]

@@ -5,8 +5,8 @@
 
 It formats a spool in a temporary folder and serves it at a port of 127.0.0.1. Each time the server is ended by SIGKILL,
 by its own process id, at a random moment; started again, each client asks for the offset, which must be no less than
-what was acknowledged and no more than what was sent, goes on there, and compares the whole text at the end. Whole
-uploads are deleted meanwhile: behind each start those whose deletion was acknowledged are still gone, no number comes
+what was acknowledged and no more than what was sent, goes on there, and compares the whole text at the end. The length
+of some uploads comes with their last bytes or behind them. Whole uploads are deleted meanwhile: behind each start those whose deletion was acknowledged are still gone, no number comes
 twice, and the texts of the others are compared again before they are deleted, or at the end. The status is 0 where all
 was so. (SIGKILL ends a process and leaves the kernel's cache: it tries recovery, not the disk.)
 """
@@ -71,12 +71,12 @@ def long_sample(rng):
     return Sample(parts[0].label, data, text, parts[0].to)
 
 
-def create(load, sample):
+def create(load, sample, deferred):
     """The path of a new upload; asked for again where the server was ended before it answered."""
     while not load.over.is_set():
         try:
             client = Client(load.port)
-            path = client.create(sample)
+            path = client.create(sample, deferred)
         except LOST:
             load.over.wait(0.05)
             continue
@@ -103,15 +103,19 @@ def resume(load, path, acknowledged, sent):
 
 def upload(load, rng, sample):
     """The path of one upload, taken to its end through any number of ends of the server."""
-    client, path = create(load, sample)
+    deferred, whole = rng.randrange(3) == 0, len(sample.data)
+    client, path = create(load, sample, deferred)
     if path is None:
         return None
-    offset = sent = 0
-    while offset < len(sample.data):
+    offset, sent, declared = 0, 0, not deferred
+    while offset < whole or not declared:
         piece = sample.data[offset : offset + rng.randrange(1, 6000)]
         sent = max(sent, offset + len(piece))
+        # (with the last bytes, or behind them)
+        declares = deferred and (offset == whole or sent == whole and rng.randrange(2) == 0)
         try:
-            offset = client.patch(path, offset, piece)
+            offset = client.patch(path, offset, piece, whole if declares else None)
+            declared |= declares
             load.count(pieces=1)
         except LOST:
             client, offset = resume(load, path, offset, sent)
@@ -132,8 +136,8 @@ def compare(load, path, sample):
 
 
 def compare_once(load, client, path, sample):
-    if client.text(path) != sample.text:
-        load.is_wrong(f"{path}: {sample.label} to {sample.to}, another text")
+    if client.text(path) != sample.text or client.length(path) != len(sample.data):
+        load.is_wrong(f"{path}: {sample.label} to {sample.to}, another text or length")
 
 
 def delete(load, path, sample):

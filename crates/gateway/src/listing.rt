@@ -8,6 +8,7 @@ use enc_model::Mode;
 use spool_disk::Disk;
 use spool_image::Spool;
 use std::alloc::Global;
+use std::fmt;
 use std::io::{self, Write};
 use upload_rules::Uploads;
 
@@ -52,14 +53,28 @@ fn write_uploads<W: Write, U: Uploads>(writer: &mut W, uploads: &U) -> io::Resul
         let from = name_of(record.from);
         let to = name_of(record.to);
         let mode = mode_name(record.mode);
+        let declared = Declared(record.declared);
         writeln!(
             writer,
-            "{} {}/{} {} {from} {to} {mode}",
-            record.number, record.accepted, record.declared, record.text_len
+            "{} {}/{declared} {} {from} {to} {mode}",
+            record.number, record.accepted, record.text_len
         )?;
         number = record.number;
     }
     Ok(())
+}
+
+/// A declared length, and `?` for one that isn't known yet.
+#[derive(Drop)]
+struct Declared(Option<u64>);
+
+impl fmt::Display for Declared {
+    fn fmt<W: fmt::Write>(&self, f: &mut fmt::Formatter<W>) -> fmt::Result {
+        match self.0 {
+            Some(length) => write!(f, "{length}"),
+            None => f.write_str("?"),
+        }
+    }
 }
 
 // A mode, as the metadata of an upload says it.

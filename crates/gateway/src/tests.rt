@@ -20,7 +20,8 @@ say 1 POST /files HTTP/1.1\nsay 1 Tus-Resumable: 1.0.0\nsay 1 Upload-Length: 6\n
 say 1 PATCH /files/1 HTTP/1.1\nsay 1 Tus-Resumable: 1.0.0\nsay 1 Content-Type: application/offset+octet-stream\n\
 say 1 Upload-Offset: 0\nsay 1 Content-Length: 5\nsay 1\ncame 1 68656C6C6F\n\
 say 1 POST /files HTTP/1.1\nsay 1 Tus-Resumable: 1.0.0\nsay 1 Upload-Length: 0\n\
-say 1 Upload-Metadata: from dXRmLTE2bGU=,mode ZmF0YWw=\nsay 1\n";
+say 1 Upload-Metadata: from dXRmLTE2bGU=,mode ZmF0YWw=\nsay 1\n\
+say 1 POST /files HTTP/1.1\nsay 1 Tus-Resumable: 1.0.0\nsay 1 Upload-Defer-Length: 1\nsay 1\n";
 
 const WRITTEN: &[u8] = b"< 1 110\n\
 HTTP/1.1 201 Created\r\nTus-Resumable: 1.0.0\r\nCache-Control: no-store\r\n\
@@ -29,9 +30,13 @@ Location: /files/1\r\nContent-Length: 0\r\n\r\n\n\
 HTTP/1.1 204 No Content\r\nTus-Resumable: 1.0.0\r\nCache-Control: no-store\r\nUpload-Offset: 5\r\n\r\n\n\
 < 1 110\n\
 HTTP/1.1 201 Created\r\nTus-Resumable: 1.0.0\r\nCache-Control: no-store\r\n\
-Location: /files/2\r\nContent-Length: 0\r\n\r\n\n";
+Location: /files/2\r\nContent-Length: 0\r\n\r\n\n\
+< 1 110\n\
+HTTP/1.1 201 Created\r\nTus-Resumable: 1.0.0\r\nCache-Control: no-store\r\n\
+Location: /files/3\r\nContent-Length: 0\r\n\r\n\n";
 
-const LISTED: &[u8] = b"1 5/6 5 UTF-8 UTF-8 html\n2 0/0 0 UTF-16LE UTF-8 fatal\n";
+const LISTED: &[u8] =
+    b"1 5/6 5 UTF-8 UTF-8 html\n2 0/0 0 UTF-16LE UTF-8 fatal\n3 0/? 0 UTF-8 UTF-8 html\n";
 
 #[test]
 fn spool_is_made_used_and_listed(rt: HostRuntime) -> Result<(), Fail> {

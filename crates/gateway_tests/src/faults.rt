@@ -2,7 +2,8 @@
 
 use crate::spools::ran;
 use crate::stories::{
-    CUT_CHARACTER, DELETED, FULL_SPOOL, HELLO, LONG_TEXT, ONE_WINNER, PATCH_OF_A_DELETED,
+    CUT_CHARACTER, DECLARED_AND_CUT, DECLARED_LAST, DELETED, FULL_SPOOL, HELLO, LONG_TEXT,
+    ONE_WINNER, PATCH_OF_A_DELETED,
 };
 use crate::talks::{Step, Talk, fresh};
 use enc_index::{Index, IndexSet, Kind};
@@ -123,22 +124,29 @@ fn is_device(fault: RunFault) -> bool {
 }
 
 /// The uploads of a spool by their numbers, of which the greatest is 2.
-fn uploads_of(alloc: Global, spool: &mut Spool<MemoryDisk>) -> Result<Vec<(u64, Vec<u8>)>, Fail> {
+fn uploads_of(
+    alloc: Global,
+    spool: &mut Spool<MemoryDisk>,
+) -> Result<Vec<(u64, Option<u64>, Vec<u8>)>, Fail> {
     let mut uploads = Vec::new(alloc);
     for number in 1..=2u64 {
-        let (accepted, len) = match spool.record(number) {
-            Some(record) => (record.accepted, record.text_len),
+        let (accepted, declared, len) = match spool.record(number) {
+            Some(record) => (record.accepted, record.declared, record.text_len),
             None => continue,
         };
         let mut text = vec![in alloc; 0; len as usize]?;
         spool.read_text(number, 0, &mut text)?;
-        uploads.push((accepted, text))?;
+        uploads.push((accepted, declared, text))?;
     }
     Ok(uploads)
 }
 
 /// The uploads on a disk.
-fn told(rt: &impl Abort, alloc: Global, disk: MemoryDisk) -> Result<Vec<(u64, Vec<u8>)>, Fail> {
+fn told(
+    rt: &impl Abort,
+    alloc: Global,
+    disk: MemoryDisk,
+) -> Result<Vec<(u64, Option<u64>, Vec<u8>)>, Fail> {
     match Spool::open(alloc, disk) {
         Ok(mut spool) => {
             let uploads = uploads_of(alloc, &mut spool);
@@ -150,9 +158,11 @@ fn told(rt: &impl Abort, alloc: Global, disk: MemoryDisk) -> Result<Vec<(u64, Ve
 }
 
 /// Index files and steps, for spools of 16 blocks.
-const STORIES: [(&[u8], &[Step]); 6] = [
+const STORIES: [(&[u8], &[Step]); 8] = [
     (b"", HELLO),
     (b"283\t3042\n", CUT_CHARACTER),
+    (b"283\t3042\n", DECLARED_LAST),
+    (b"", DECLARED_AND_CUT),
     (b"", ONE_WINNER),
     (b"", FULL_SPOOL),
     (b"", DELETED),

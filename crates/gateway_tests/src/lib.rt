@@ -2,6 +2,8 @@
 #![tactic(auto)]
 
 #[cfg(test)]
+mod deferred;
+#[cfg(test)]
 mod deletions;
 #[cfg(test)]
 mod faults;

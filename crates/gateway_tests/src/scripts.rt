@@ -47,8 +47,22 @@ fn ends(rt: &impl Abort, alloc: Global, talk: &Talk, wanted: Ended) -> Result<()
 }
 
 /// Runs these steps: what is wanted is written.
-fn runs(rt: &impl Abort, alloc: Global, steps: &[Step]) -> Result<(), Fail> {
+pub(crate) fn runs(rt: &impl Abort, alloc: Global, steps: &[Step]) -> Result<(), Fail> {
     ends(rt, alloc, &Talk::new(rt, alloc, steps)?, Ended::Ran)
+}
+
+/// Runs these steps with an index of two characters for windows-1252: what is wanted is written.
+pub(crate) fn runs_with_windows_1252(
+    rt: &impl Abort,
+    alloc: Global,
+    steps: &[Step],
+) -> Result<(), Fail> {
+    let mut indexes = IndexSet::new(alloc)?;
+    let file = b"0\t20AC\n105\t00E9\n";
+    indexes.set(Index::read(alloc, file, Kind::Single(Encoding::Windows1252))?);
+    let talk = Talk::new(rt, alloc, steps)?;
+    assert_eq!(rt; ended_with(alloc, &talk, &indexes)?, Ended::Ran);
+    Ok(())
 }
 
 /// Runs these steps and then more of them: what is wanted is written.
@@ -59,10 +73,11 @@ fn runs_on(rt: &impl Abort, alloc: Global, steps: &[Step], more: &[Step]) -> Res
 }
 
 const MAX: &str =
-    "Tus-Version: 1.0.0\nTus-Extension: creation,termination\nTus-Max-Size: 1073741824";
+    "Tus-Version: 1.0.0\nTus-Extension: creation,creation-defer-length,termination\nTus-Max-Size: 1073741824";
 
 const MAX_AND_CLOSE: &str =
-    "Tus-Version: 1.0.0\nTus-Extension: creation,termination\nTus-Max-Size: 1073741824\nConnection: close";
+    "Tus-Version: 1.0.0\nTus-Extension: creation,creation-defer-length,termination\nTus-Max-Size: 1073741824\n\
+    Connection: close";
 
 #[test]
 fn options_and_closes(rt: HostRuntime) -> Result<(), Fail> {
@@ -70,17 +85,17 @@ fn options_and_closes(rt: HostRuntime) -> Result<(), Fail> {
         Open(2),
         Say(1, "OPTIONS /files HTTP/1.1\nTus-Resumable: 0.2.2"),
         Reply(1, "204 No Content", MAX, b""),
-        Bytes(157),
+        Bytes(179),
         Say(
             1,
             "OPTIONS /files HTTP/1.1\nTus-Resumable: 0.2.2\nConnection: Keep-Alive, Close",
         ),
         Reply(1, "204 No Content", MAX_AND_CLOSE, b""),
-        Bytes(176),
+        Bytes(198),
         Told("x 1"),
         Say(2, "OPTIONS /files HTTP/1.0\nTus-Resumable: 0.2.2"),
         Reply(2, "204 No Content", MAX_AND_CLOSE, b""),
-        Bytes(176),
+        Bytes(198),
         Told("x 2"),
     ];
     runs(&rt, rt.alloc(), &steps)
@@ -103,7 +118,7 @@ fn characters_of_utf8(rt: HostRuntime) -> Result<(), Fail> {
 }
 
 /// Into windows-1252, and fatal.
-const FATAL: &str = "to d2luZG93cy0xMjUy,mode ZmF0YWw=";
+pub(crate) const FATAL: &str = "to d2luZG93cy0xMjUy,mode ZmF0YWw=";
 
 #[test]
 fn texts_that_cannot_be_encoded(rt: HostRuntime) -> Result<(), Fail> {
@@ -133,12 +148,7 @@ fn texts_that_cannot_be_encoded(rt: HostRuntime) -> Result<(), Fail> {
             "Upload-Offset: 0\nUpload-Length: 2\nUpload-Metadata: to d2luZG93cy0xMjUy,mode ZmF0YWw=",
         ),
     ];
-    let mut indexes = IndexSet::new(rt.alloc())?;
-    let file = b"0\t20AC\n105\t00E9\n";
-    indexes.set(Index::read(rt.alloc(), file, Kind::Single(Encoding::Windows1252))?);
-    let talk = Talk::new(&rt, rt.alloc(), &steps)?;
-    assert_eq!(rt; ended_with(rt.alloc(), &talk, &indexes)?, Ended::Ran);
-    Ok(())
+    runs_with_windows_1252(&rt, rt.alloc(), &steps)
 }
 
 #[test]

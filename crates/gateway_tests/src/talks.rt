@@ -32,8 +32,13 @@ pub(crate) enum Step<'a> {
     Post(u64, &'a str),
     /// A POST on connection 1 that makes this upload, of this length and metadata.
     Made(u64, u64, &'a str),
+    /// A POST on connection 1 that makes this upload, of this metadata, and defers its length.
+    Deferred(u64, &'a str),
     /// The head of a PATCH on a connection: the upload, the offset and how many bytes are to come.
     Patch(u32, u64, u64, usize),
+    /// The head of a PATCH on a connection that declares a length: the upload, the offset, the length and how many bytes
+    /// are to come.
+    Declare(u32, u64, u64, u64, usize),
     /// What a PATCH whose bytes were taken is answered, up to an offset.
     Patched(u32, u64),
     /// A PATCH of an upload on connection 1, from an offset, whose bytes are taken up to an offset.
@@ -46,16 +51,17 @@ pub(crate) enum Step<'a> {
     Shown(u32, u64, &'a str),
     /// A GET of an upload on connection 1, and the character set and text that it is answered.
     Text(u64, &'a str, &'a [u8]),
-    /// The latest reply acknowledged a change. The uploads by it: how many bytes were accepted, and the text.
-    Changed(&'a [(u64, &'a [u8])]),
+    /// The latest reply acknowledged a change. The uploads by it: how many bytes were accepted, how many were declared,
+    /// and the text.
+    Changed(&'a [(u64, Option<u64>, &'a [u8])]),
 }
 
 /// The uploads behind a change, and how much was written when it was acknowledged.
 #[derive(Drop)]
 pub(crate) struct Stage {
     pub(crate) written: usize,
-    /// By their numbers: how many bytes were accepted, and the text.
-    pub(crate) uploads: Vec<(u64, Vec<u8>)>,
+    /// By their numbers: how many bytes were accepted, how many were declared, and the text.
+    pub(crate) uploads: Vec<(u64, Option<u64>, Vec<u8>)>,
 }
 
 /// A script, what its run is to write, and what becomes of the uploads by it.
@@ -106,9 +112,17 @@ impl Talk {
                 assert_eq!(rt; self.latest, count);
                 Ok(())
             }
-            Step::Post(length, metadata) => self.post(length, metadata),
-            Step::Made(number, length, metadata) => self.made(number, length, metadata),
-            Step::Patch(conn, number, offset, length) => self.patch(conn, number, offset, length),
+            Step::Post(length, metadata) => self.post(Some(length), metadata),
+            Step::Made(number, length, metadata) => self.made(number, Some(length), metadata),
+            Step::Deferred(number, metadata) => self.made(number, None, metadata),
+            Step::Patch(conn, number, offset, count) => self.patch(conn, number, offset, None, count),
+            Step::Declare(conn, number, offset, length, count) => self.patch(
+                conn,
+                number,
+                offset,
+                Some(length),
+                count,
+            ),
             Step::Patched(conn, offset) => self.patched(conn, offset),
             Step::Added(number, offset, bytes, reached) => self.added(
                 number, offset, bytes, reached,
@@ -183,10 +197,12 @@ impl Talk {
         self.reply(conn, status, &lines, b"")
     }
 
-    fn post(&mut self, length: u64, metadata: &str) -> Result<(), AllocError> {
-        let mut head = format!(in self.alloc;
-            "POST /files HTTP/1.1\nTus-Resumable: 1.0.0\nUpload-Length: {length}"
-        )?;
+    fn post(&mut self, length: Option<u64>, metadata: &str) -> Result<(), AllocError> {
+        let length = match length {
+            Some(length) => format!(in self.alloc; "Upload-Length: {length}")?,
+            None => String::from_str(self.alloc, "Upload-Defer-Length: 1")?,
+        };
+        let mut head = format!(in self.alloc; "POST /files HTTP/1.1\nTus-Resumable: 1.0.0\n{length}")?;
         if !metadata.is_empty() {
             head.push_str("\nUpload-Metadata: ")?;
             head.push_str(metadata)?;
@@ -194,7 +210,12 @@ impl Talk {
         self.say(1, &head)
     }
 
-    fn made(&mut self, number: u64, length: u64, metadata: &str) -> Result<(), AllocError> {
+    fn made(
+        &mut self,
+        number: u64,
+        length: Option<u64>,
+        metadata: &str,
+    ) -> Result<(), AllocError> {
         self.post(length, metadata)?;
         let lines = format!(in self.alloc; "Location: /files/{number}\nContent-Length: 0")?;
         self.reply(1, "201 Created", &lines, b"")
@@ -205,12 +226,16 @@ impl Talk {
         conn: u32,
         number: u64,
         offset: u64,
-        length: usize,
+        declare: Option<u64>,
+        count: usize,
     ) -> Result<(), AllocError> {
-        let head = format!(in self.alloc;
+        let mut head = format!(in self.alloc;
             "PATCH /files/{number} HTTP/1.1\nTus-Resumable: 1.0.0\nContent-Type: application/offset+octet-stream\n\
-            Upload-Offset: {offset}\nContent-Length: {length}"
+            Upload-Offset: {offset}\nContent-Length: {count}"
         )?;
+        if let Some(length) = declare {
+            head.push_str(&format!(in self.alloc; "\nUpload-Length: {length}")?)?;
+        }
         self.say(conn, &head)
     }
 
@@ -226,7 +251,7 @@ impl Talk {
         bytes: &[u8],
         reached: u64,
     ) -> Result<(), AllocError> {
-        self.patch(1, number, offset, bytes.len())?;
+        self.patch(1, number, offset, None, bytes.len())?;
         self.came(1, bytes)?;
         self.patched(1, reached)
     }
@@ -259,14 +284,14 @@ impl Talk {
         self.reply(1, "200 OK", &lines, text)
     }
 
-    fn changed(&mut self, uploads: &[(u64, &[u8])]) -> Result<(), AllocError> {
+    fn changed(&mut self, uploads: &[(u64, Option<u64>, &[u8])]) -> Result<(), AllocError> {
         let mut stage = Stage {
             written: self.wanted.len(),
             uploads: Vec::new(self.alloc),
         };
-        for (accepted, text) in uploads {
+        for (accepted, declared, text) in uploads {
             let text = text.to_vec(self.alloc)?;
-            stage.uploads.push((*accepted, text))?;
+            stage.uploads.push((*accepted, *declared, text))?;
         }
         self.stages.push(stage)?;
         Ok(())

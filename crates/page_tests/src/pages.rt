@@ -20,7 +20,7 @@ fn record_is_read_as_it_was_written(rt: HostRuntime) -> Result<(), Fail> {
     state[4] = 2;
     let record = SlotRecord {
         number: 258,
-        declared: 4,
+        declared: Some(4),
         accepted: 3,
         text_len: 1 << 40,
         state,
@@ -48,6 +48,19 @@ fn record_is_read_as_it_was_written(rt: HostRuntime) -> Result<(), Fail> {
         _ => panic!(rt; "no record"),
     }
     assert!(rt; matches!(SlotRecord::from_bytes(&[0; RECORD]), Ok(None)));
+    Ok(())
+}
+
+#[test]
+fn unknown_length_is_eight_bytes_ff(rt: HostRuntime) -> Result<(), Fail> {
+    let mut record = seventh(b"n");
+    record.declared = None;
+    let bytes = record.to_bytes();
+    assert_eq!(rt; &bytes[8..16], [0xFF; 8].as_slice());
+    match SlotRecord::from_bytes(&bytes) {
+        Ok(Some(read)) => assert_eq!(rt; read.declared, None),
+        _ => panic!(rt; "no record"),
+    }
     Ok(())
 }
 
@@ -97,7 +110,7 @@ fn seventh(metadata: &[u8]) -> SlotRecord<'_>
 {
     SlotRecord {
         number: 7,
-        declared: 4,
+        declared: Some(4),
         accepted: 0,
         text_len: 0,
         state: [0; 32],

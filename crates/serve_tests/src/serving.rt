@@ -222,7 +222,7 @@ fn seventeen_clients_that_stay_are_served(rt: HostRuntime) -> Result<(), Fail> {
     let disk = spool_in_memory(rt.alloc())?;
     drop(serve_for(&rt, rt.alloc(), &clock, &listener, disk, 17, 30));
     for client in clients.iter_mut() {
-        assert_eq!(rt; told(rt.alloc(), client)?.len(), 157);
+        assert_eq!(rt; told(rt.alloc(), client)?.len(), 179);
     }
     Ok(())
 }

@@ -1,11 +1,12 @@
 -- A draft with a piece more of its body.
 use Rattle.std.proofs.Common.{◌≡◌, inl, inr, ◌≤◌, ◌<◌, ◌+◌, ◌-◌, ◌%◌, ◌^◌, ◌++◌, ℕ, Bool, true, false, List, [], ◌∷◌}
 use Rattle.std.proofs.Common.{length, min, eqb, None, refl, sym, ◌∙◌, ap, subst, arith, length-append, ⊎_elim}
-use Rattle.std.proofs.lemmas.Bool.{ne_eqb, both_ways}
+use Rattle.std.proofs.lemmas.Bool.{both_ways}
 use Rattle.enc_model.specs.Indexes.{IndexSet}
 use Rattle.spool_blocks.specs.Blocks.{Held}
 use Rattle.upload_rules.specs.declared.new_text.NewText.{NewText}
 use Rattle.upload_rules.specs.declared.new_text.NewText.TheVariants.{Growing, Unencodable, Complete}
+use Rattle.upload_rules.specs.Lengths.{is_too_large, known_or, longest}
 use Rattle.upload_rules.specs.Room.{need_of, wants, need}
 use Rattle.upload_rules.specs.Store.{text_of, text_with, is_complete}
 use Rattle.upload_rules.specs.World.{Patch, is_there, patch_text}
@@ -15,6 +16,7 @@ use Rattle.spool_drafts.specs.Fresh.{StandsAt, Adds}
 use Rattle.spool_drafts.specs.Growth.{HoldsLen, GrowsTo, list_on}
 use Rattle.spool_drafts.specs.declared.draft.SpoolDraft.{SpoolDraft}
 use Rattle.spool_drafts.specs.declared.growth.Growth.{Growth}
+use Rattle.spool_drafts.proofs.Lengths.{is_open}
 use Rattle.spool_drafts.proofs.Patches.{no_fault, value_before, in_front, wants_is, need_roomy, need_short, need_fault}
 use Rattle.spool_drafts.proofs.Patches.{open_grows}
 use Rattle.spool_drafts.proofs.Standings.{value_of}
@@ -30,6 +32,7 @@ gone_on d growth fresh count = record {
   number = d.number;
   offset = d.offset;
   came = min (d.came + count) (2 ^ 64 - 1);
+  declare = d.declare;
   fresh = fresh;
   growth = growth;
 }
@@ -48,7 +51,7 @@ module _ (x : IndexSet) (p : Patch) (d : SpoolDraft) (held : Holds x p d) (piece
   patch_is done = refl
 
   pub incomplete : 0 < length piece → is_complete p.began ≡ false
-  incomplete some = ne_eqb (length p.began.accepted) p.began.declared (λ e. omega (arith, e, some, fits, held.within))
+  incomplete some = is_open p.began p.declare p.count (omega (arith, some, fits)) held.within
 
   -- what stays
   with_growth : (q : Patch) (growth : Growth) (fresh : NewText) → q ≡ record p
@@ -77,8 +80,12 @@ module _ (x : IndexSet) (p : Patch) (d : SpoolDraft) (held : Holds x p d) (piece
       ap
           (λ (r : Patch). r.count) is,
     );
-    within = subst (λ (r : Patch). length r.began.accepted + r.count ≤ r.began.declared) (sym is) held.within;
-    fits = subst (λ (r : Patch). r.began.declared < 2 ^ 64) (sym is) held.fits;
+    declare = held.declare ∙ ap (λ (r : Patch). r.declare) (sym is);
+    small = subst (λ (r : Patch). is_too_large r.declare ≡ false) (sym is) held.small;
+    within = subst
+        (λ (r : Patch). length r.began.accepted + r.count ≤ longest (known_or r.began.declared r.declare)) (sym is)
+        held.within;
+    fits = subst (λ (r : Patch). longest (known_or r.began.declared r.declare) < 2 ^ 64) (sym is) held.fits;
     committed = len ∙ held.committed ∙ ap (λ (r : Patch). length (text_of x r.began)) (sym is);
     short = ap (λ (r : Patch). r.short) (sym is);
     stands = subst (λ (r : Patch). StandsAt x r.began r.body fresh) (sym is) stands;

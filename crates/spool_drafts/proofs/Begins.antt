@@ -1,13 +1,14 @@
 -- The draft that `begin` makes.
 use Rattle.std.proofs.Common.{◌≡◌, inl, inr, ◌≤◌, ◌<◌, ◌+◌, ◌-◌, ◌*◌, ◌/◌, ◌%◌, ◌^◌, ◌++◌, ℕ, Bool, true, false, List}
-use Rattle.std.proofs.Common.{[], ◌∷◌, length, drop, None, refl, sym, ◌∙◌, ap, subst, arith, append-nil, length-append}
-use Rattle.std.proofs.Common.{length-drop, length-take}
+use Rattle.std.proofs.Common.{[], ◌∷◌, length, drop, Option, None, refl, sym, ◌∙◌, ap, subst, arith, append-nil}
+use Rattle.std.proofs.Common.{length-append, length-drop, length-take}
 use Rattle.std.proofs.lemmas.Bool.{cases_Bool}
 use Rattle.std.proofs.Math.Seq.{drop-append_seam}
 use Rattle.enc_model.specs.Indexes.{IndexSet, tables}
 use Rattle.upload_rules.specs.declared.new_text.NewText.{NewText}
 use Rattle.upload_rules.specs.declared.new_text.NewText.TheVariants.{Growing, Unencodable, Complete}
 use Rattle.upload_rules.specs.Calls.{first_patch}
+use Rattle.upload_rules.specs.Lengths.{is_too_large, known_or, longest}
 use Rattle.upload_rules.specs.Records.{Keeps}
 use Rattle.upload_rules.specs.Room.{need_of, need}
 use Rattle.upload_rules.specs.Store.{Upload, text_of, text_with, is_complete}
@@ -36,9 +37,9 @@ stands_first x u (Growing t text) held = (
 stands_first x u Unencodable held = held
 stands_first x u Complete held = held
 
-module _ (x : IndexSet) (u : Upload) (n count : ℕ) where
+module _ (x : IndexSet) (u : Upload) (n count : ℕ) (declare : Option ℕ) where
   abbrev first : Patch
-  first = first_patch n count u
+  first = first_patch n count declare u
 
   first_text : patch_text x first false ≡ text_with x u [] false
   unfolding patch_text
@@ -92,23 +93,28 @@ module _ (x : IndexSet) (u : Upload) (n count : ℕ) where
   )
 
   pub begins : (r : Record) (offset : ℕ) (growth : Growth) (fresh : NewText) → Keeps x n r u
-      → (r.accepted ≡ offset) × (offset + count ≤ r.declared) × (r.declared < 2 ^ 64) → HoldsText x u [] fresh
+      → (r.accepted ≡ offset) × (offset + count ≤ longest (known_or r.declared declare))
+      × (longest (known_or r.declared declare) < 2 ^ 64) → is_too_large declare ≡ false → HoldsText x u [] fresh
       → growth.text_len ≡ r.text_len → growth.on ≡ None → growth.short ≡ false → Holds x first (record {
         number = r.number;
         offset = offset;
         came = 0;
+        declare = declare;
         fresh = fresh;
         growth = growth;
       })
-  begins r offset growth fresh keeps room held len none roomy =
+  begins r offset growth fresh keeps room small held len none roomy =
       let committed : growth.text_len ≡ length (text_of x u) = len ∙ keeps.tells.text_len in
+      let same_longest = ap (λ (known : Option ℕ). longest (known_or known declare)) keeps.tells.declared in
       record {
         number = keeps.tells.number_is;
         offset = sym room.0 ∙ keeps.tells.accepted;
         came = refl;
         held = omega arith;
-        within = omega (arith, room.0, room.1, keeps.tells.accepted, keeps.tells.declared);
-        fits = omega (arith, room.2, keeps.tells.declared);
+        declare = refl;
+        small = small;
+        within = omega (arith, room.0, room.1, keeps.tells.accepted, same_longest);
+        fits = omega (arith, room.2, same_longest);
         committed = committed;
         short = roomy;
         stands = stands_first x u fresh held;

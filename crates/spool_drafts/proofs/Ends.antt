@@ -2,7 +2,7 @@
 use Rattle.std.proofs.Common.{◌≡◌, ◌⊎◌, inl, inr, Vec, ◌≤◌, ◌<◌, ◌+◌, ◌-◌, ◌*◌, ◌/◌, ◌%◌, ◌++◌, ℕ, Bool, true, false}
 use Rattle.std.proofs.Common.{List, [], length, None, Err, refl, sym, ◌∙◌, ap, subst, arith, append-nil, length-append}
 use Rattle.std.proofs.Common.{length-drop, ⊎_elim}
-use Rattle.std.proofs.lemmas.Bool.{cases_eq, cases_lt, ne_eqb}
+use Rattle.std.proofs.lemmas.Bool.{cases_eq, cases_lt}
 use Rattle.std.specs.declared.alloc.Global.{Global}
 use Rattle.enc_model.specs.Indexes.{IndexSet}
 use Rattle.spool_blocks.specs.Blocks.{Held}
@@ -37,10 +37,8 @@ whole_is t n list last whole some listed nothing more count = elim (cases_eq (le
   | inr there ↦ more (omega (arith, there)) ∙ ap (λ (k : ℕ). 4096 * (t / 4096) + k) (count (omega (arith, there)))
 ]
 
-module _ (x : IndexSet) (p : Patch) (d : SpoolDraft) (held : Holds x p d) (some : 0 < length p.body) (done : Bool) where
-  pub still : is_complete p.began ≡ false
-  still = ne_eqb (length p.began.accepted) p.began.declared (λ e. omega (arith, e, some, held.held, held.within))
-
+module _ (x : IndexSet) (p : Patch) (d : SpoolDraft) (held : Holds x p d) (still : is_complete p.began ≡ false)
+    (done : Bool) where
   patch_is : (b : Bool) → patch_text x p b ≡ text_with x p.began p.body b
   unfolding patch_text
   patch_is b = refl
@@ -56,6 +54,7 @@ module _ (x : IndexSet) (p : Patch) (d : SpoolDraft) (held : Holds x p d) (some 
   refused blocks blocks' new (Refused refusals.Slots) ends = absurd ends
   refused blocks blocks' new (Refused refusals.TooLarge) ends = absurd ends
   refused blocks blocks' new (Refused refusals.Full) ends = absurd ends
+  refused blocks blocks' new (Refused refusals.LengthSet) ends = absurd ends
 
   module _ (state text : List ℕ) (finished : IsFinished x p.began p.body done state text) where
     encodable_end : (patch_text x p done).fault ≡ None
@@ -155,3 +154,4 @@ module _ (x : IndexSet) (p : Patch) (d : SpoolDraft) (held : Holds x p d) (some 
     not_closed growth new blocks blocks' (Refused refusals.TooLong) closes = absurd closes
     not_closed growth new blocks blocks' (Refused refusals.Slots) closes = absurd closes
     not_closed growth new blocks blocks' (Refused refusals.TooLarge) closes = absurd closes
+    not_closed growth new blocks blocks' (Refused refusals.LengthSet) closes = absurd closes

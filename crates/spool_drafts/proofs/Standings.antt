@@ -1,7 +1,6 @@
 -- Where transcoding stands over an upload's bytes, told from behind them.
-use Rattle.std.proofs.Common.{◌≡◌, ℕ, ◌+◌, Bool, false, List, [], ◌++◌, length, None, Ok, Err, Result, refl, sym, ◌∙◌}
-use Rattle.std.proofs.Common.{ap, subst, arith, append_assoc, append-nil, Vec, Global}
-use Rattle.std.proofs.lemmas.Bool.{ne_eqb}
+use Rattle.std.proofs.Common.{◌≡◌, ℕ, Bool, false, List, [], ◌++◌, None, Ok, Err, Result, refl, sym, ◌∙◌}
+use Rattle.std.proofs.Common.{ap, subst, append_assoc, append-nil, Vec, Global}
 use Rattle.enc_model.specs.Indexes.{IndexSet, tables}
 use Rattle.enc_model.specs.Transcode.{IsAt}
 use Rattle.enc_stream.specs.Standing.{Standing}
@@ -18,12 +17,12 @@ use Rattle.upload_rules.specs.World.{is_there}
 use Rattle.upload_rules.proofs.Transcoders.{without_fault}
 use Rattle.spool_drafts.specs.Fresh.{StandsAt, Adds, IsEmptied, text_in, FinishesAs}
 
--- an upload with these bytes accepted, and one more to come
+-- an upload with these bytes accepted, of a length that isn't known
 abbrev pub behind : Upload → List ℕ → Upload
-behind u bytes = record u { accepted = u.accepted ++ bytes; declared = length (u.accepted ++ bytes) + 1 }
+behind u bytes = record u { accepted = u.accepted ++ bytes; declared = None }
 
 pub behind_open : (u : Upload) (bytes : List ℕ) → is_complete (behind u bytes) ≡ false
-behind_open u bytes = ne_eqb (length (u.accepted ++ bytes)) (length (u.accepted ++ bytes) + 1) (λ e. omega (arith, e))
+behind_open u bytes = refl
 
 module _ (x : IndexSet) (u : Upload) (bytes : List ℕ) where
   at_nil : (u.accepted ++ bytes) ++ [] ≡ u.accepted ++ bytes
@@ -109,6 +108,7 @@ module _ (x : IndexSet) (u : Upload) (bytes : List ℕ) where
   finishes done (Err (Refused refusals.Slots)) ended = absurd ended
   finishes done (Err (Refused refusals.TooLarge)) ended = absurd ended
   finishes done (Err (Refused refusals.Full)) ended = absurd ended
+  finishes done (Err (Refused refusals.LengthSet)) ended = absurd ended
 
 -- a text whose transcoder stands has a value
 pub value_of : (x : IndexSet) (u : Upload) (bytes : List ℕ) (f : NewText) → is_complete u ≡ false

@@ -1,6 +1,6 @@
 -- What an open draft on a disk stands for.
-use Rattle.std.specs.Prelude.{◌≡◌, ◌⊎◌, ◌≤◌, ◌<◌, ◌*◌, ◌+◌, ◌/◌, ◌^◌, ◌++◌, ℕ, Bool, true, false, List, None, Some}
-use Rattle.std.specs.Prelude.{length, drop, Result, Ok, Err}
+use Rattle.std.specs.Prelude.{◌≡◌, ◌⊎◌, ◌≤◌, ◌<◌, ◌*◌, ◌+◌, ◌/◌, ◌^◌, ◌++◌, ℕ, Bool, true, false, List, Option, None}
+use Rattle.std.specs.Prelude.{Some, length, drop, Result, Ok, Err}
 use Rattle.enc_model.specs.Indexes.{IndexSet}
 use Rattle.enc_stream.specs.StateBytes.{IsSound}
 use Rattle.spool_blocks.specs.Blocks.{Held}
@@ -9,6 +9,7 @@ use Rattle.upload_rules.specs.declared.errors.UploadError.{UploadError}
 use Rattle.upload_rules.specs.declared.errors.UploadError.TheVariants.{NoMemory, DiskFault, Refused}
 use Rattle.upload_rules.specs.declared.errors.UploadRefusal.{UploadRefusal}
 use Rattle.upload_rules.specs.declared.errors.UploadRefusal.TheVariants as refusals
+use Rattle.upload_rules.specs.Lengths.{is_too_large, known_or, longest}
 use Rattle.upload_rules.specs.Room.{blocks_of, wants, need}
 use Rattle.upload_rules.specs.States.{SameEncodings, state_with, transcoder_with}
 use Rattle.upload_rules.specs.Store.{Upload, text_of, is_complete}
@@ -31,6 +32,10 @@ offset_of d = d.offset
 
 abbrev pub came_of : SpoolDraft → ℕ
 came_of d = d.came
+
+-- the length that it declares
+abbrev pub declare_of : SpoolDraft → Option ℕ
+declare_of d = d.declare
 
 -- its reserved blocks, by ordinal from that of the committed text's last unfinished block on
 abbrev pub list_of : SpoolDraft → List ℕ
@@ -86,8 +91,10 @@ pub record Holds (x : IndexSet) (p : Patch) (d : SpoolDraft) : Type 0 where
   pub offset : offset_of d ≡ length p.began.accepted
   pub came : came_of d ≡ length p.body
   pub held : length p.body ≤ p.count
-  pub within : length p.began.accepted + p.count ≤ p.began.declared
-  pub fits : p.began.declared < 2 ^ 64
+  pub declare : declare_of d ≡ p.declare
+  pub small : is_too_large p.declare ≡ false
+  pub within : length p.began.accepted + p.count ≤ longest (known_or p.began.declared p.declare)
+  pub fits : longest (known_or p.began.declared p.declare) < 2 ^ 64
   pub committed : committed_len_of d ≡ length (text_of x p.began)
   pub short : d.growth.short ≡ p.short
   pub stands : StandsAt x p.began p.body d.fresh
@@ -99,9 +106,10 @@ abbrev pub Carries : IndexSet → (ℕ → ℕ) → ℕ → Patch → SpoolDraft
 Carries x seen first p d = IsKept x p d → bytes_on seen first d.growth d.growth.on ≡ open_text x p false
 
 -- a draft of the upload as it is, or the rules' refusal
-abbrev pub IsBegun : IndexSet → ℕ → ℕ → ℕ → Upload → Result SpoolDraft UploadRefusal → Type 0
-IsBegun x n offset count u (Ok d) = (begin_refusal_at offset count (Some u) ≡ None) × Holds x (first_patch n count u) d
-IsBegun x n offset count u (Err e) = begin_refusal_at offset count (Some u) ≡ Some e
+abbrev pub IsBegun : IndexSet → ℕ → ℕ → ℕ → Option ℕ → Upload → Result SpoolDraft UploadRefusal → Type 0
+IsBegun x n offset count declare u (Ok d) =
+    (begin_refusal_at offset count declare (Some u) ≡ None) × Holds x (first_patch n count declare u) d
+IsBegun x n offset count declare u (Err e) = begin_refusal_at offset count declare (Some u) ≡ Some e
 
 abbrev pub with_piece : Patch → List ℕ → Patch
 with_piece p piece = record p { body = p.body ++ piece }
@@ -123,7 +131,7 @@ pub record IsWhole (x : IndexSet) (p : Patch) (done : Bool) (d : SpoolDraft) (e 
   pub listed : length (list_of d) ≡ wants x p done
   pub len : e.text_len ≡ length (patch_text x p done).bytes
 
--- how the text ends, where a body came
+-- how the text ends, behind an upload that wasn't complete
 abbrev pub EndsAs : IndexSet → Patch → Bool → SpoolDraft → SpoolDraft → Held → Held → Result DraftEnd UploadError
     → Type 0
 EndsAs x p done old new blocks blocks' (Ok e) = IsWhole x p done new e

@@ -1,6 +1,6 @@
 // An append under way on a disk.
 ghost use Rattle.std.specs.Prelude.{◌≡◌, ◌⊎◌, get_or, ◌≤◌, ◌*◌, ◌+◌, ◌<◌, ◌/◌, ◌%◌, ◌-◌, ◌↔◌, ◌^◌, ℕ, List, [], true};
-ghost use Rattle.std.specs.Prelude.{min, length, IsOk, IsErrOf, OnOk, IfOk};
+ghost use Rattle.std.specs.Prelude.{false, min, length, IsOk, IsErrOf, OnOk, IfOk};
 ghost use Rattle.enc_model.specs.Indexes.{IndexSet as Indexes};
 ghost use Rattle.spool_disk.specs.Disk.{Counts, IsImage, Keeps as OnlyRead};
 ghost use Rattle.spool_disk.specs.Views.{Lasts};
@@ -10,14 +10,14 @@ ghost use Rattle.spool_texts.specs.TextOn.{AllBelow, text_on};
 ghost use Rattle.upload_rules.specs.Calls.{first_patch};
 ghost use Rattle.upload_rules.specs.Records.{Keeps};
 ghost use Rattle.upload_rules.specs.States.{IsState};
-ghost use Rattle.upload_rules.specs.Store.{Upload, text_of};
+ghost use Rattle.upload_rules.specs.Store.{Upload, text_of, is_complete};
 ghost use Rattle.upload_rules.specs.World.{Patch};
 ghost use Rattle.upload_rules.specs.declared.errors.UploadRefusal.{UploadRefusal as Refusal};
 ghost use Rattle.spool_drafts.specs.Effect.{Effect};
 ghost use Rattle.spool_drafts.specs.Growth.{list_on};
 ghost use Rattle.spool_drafts.specs.Drafts.{Holds, Carries, EndsAs, EndsBehind, IsBegun, IsBehind, IsLonger, IsPlaced};
 ghost use Rattle.spool_drafts.specs.Drafts.{with_piece, open_text, number_of, offset_of, came_of, list_of};
-ghost use Rattle.spool_drafts.specs.Drafts.{committed_len_of, fresh_of, tail_of};
+ghost use Rattle.spool_drafts.specs.Drafts.{declare_of, committed_len_of, fresh_of, tail_of};
 
 use crate::fresh::{finished, read_on};
 use crate::growth::Growth;
@@ -36,6 +36,7 @@ pub struct SpoolDraft {
     number: u64,
     offset: u64,
     came: u64,
+    declare: Option<u64>,
     // where transcoding stands, without text
     fresh: NewText,
     growth: Growth,
@@ -53,32 +54,35 @@ pub struct DraftEnd {
 }
 
 impl SpoolDraft {
-    /// A draft of `count` bytes at an offset, behind the text that lies on the listed blocks, by ordinal: refused with
-    /// `Offset`, `TooLong`. It takes no memory and no block.
+    /// A draft of `count` bytes at an offset, which may declare the upload's length, behind the text that lies on the
+    /// listed blocks, by ordinal: refused with `Offset`, `TooLarge`, `LengthSet`, `TooLong`. It takes no memory and no
+    /// block.
     pub fn begin(
         alloc: Global,
         upload: &Record,
         list: &[BlockNo],
         offset: u64,
         count: u64,
+        declare: Option<u64>,
     ) -> Result<Self, UploadRefusal>
         requires long { upload.now.text_len ≤ 4096 * length list.now }
         requires few { length list.now ≤ 65536 }
         ensures begun { (x : Indexes) (n : ℕ) (u : Upload) → Keeps x n upload.now u
-            → IsBegun x n offset count u result }
+            → IsBegun x n offset count declare u result }
         ensures content { (x : Indexes) (n : ℕ) (u : Upload) (seen : ℕ → ℕ) (first : ℕ) → Keeps x n upload.now u
             → text_on seen first list.now upload.now.text_len ≡ text_of x u
-            → IfOk result (λ d. Carries x seen first (first_patch n count u) d) }
+            → IfOk result (λ d. Carries x seen first (first_patch n count declare u) d) }
         ensures none { IfOk result (λ d. list_of d ≡ []) }
         ensures tail { IfOk result
             (λ d. (i : ℕ) → i < length (tail_of d)
             → (upload.now.text_len / 4096 < length list.now)
             × (get_or (tail_of d) i 0 ≡ get_or list.now (upload.now.text_len / 4096) 0)) }
         ensures placed { (blocks : ℕ) → AllBelow blocks list.now → IfOk result (λ d. IsPlaced blocks d) }
-        ensures named { IfOk result (λ d. (number_of d ≡ upload.now.number) × (offset_of d ≡ upload.now.accepted)) }
+        ensures named { IfOk result
+            (λ d. (number_of d ≡ upload.now.number) × (offset_of d ≡ upload.now.accepted) × (declare_of d ≡ declare)) }
         ensures behind { IfOk result (IsBehind upload.now.text_len upload.now.state) }
     {
-        upload.admits(offset, count)?;
+        upload.admits(offset, count, declare)?;
         let Some(fresh) = NewText::behind(alloc, upload) else {
             return Err(UploadRefusal::NoSuch);
         };
@@ -86,6 +90,7 @@ impl SpoolDraft {
             number: upload.number,
             offset,
             came: 0,
+            declare,
             fresh,
             growth: Growth::behind(upload.text_len, list),
         })
@@ -110,6 +115,13 @@ impl SpoolDraft {
         ensures { result ≡ came_of self.now }
     {
         self.came
+    }
+
+    /// The length that it declares.
+    pub fn declare(&self) -> Option<u64>
+        ensures { result ≡ declare_of self.now }
+    {
+        self.declare
     }
 
     /// The length in bytes of the committed text when it began. The ordinal of the draft's first block is its 4,096th
@@ -153,7 +165,8 @@ impl SpoolDraft {
 
         // What it holds, and what it leaves of the blocks and the disk, whatever the answer.
         ensures same { (number_of self.new ≡ number_of self.old) × (offset_of self.new ≡ offset_of self.old)
-            × (committed_len_of self.new ≡ committed_len_of self.old) × (tail_of self.new ≡ tail_of self.old) }
+            × (declare_of self.new ≡ declare_of self.old) × (committed_len_of self.new ≡ committed_len_of self.old)
+            × (tail_of self.new ≡ tail_of self.old) }
         ensures behind { (len : ℕ) (state : List ℕ) → IsBehind len state self.old → IsBehind len state self.new }
         ensures placed { IsPlaced layout.now self.new }
         ensures rows { blocks.new.rows ≡ blocks.old.rows }
@@ -193,7 +206,7 @@ impl SpoolDraft {
         Ok(())
     }
 
-    /// Ends the text in memory, with the bytes of the end where the body completes the upload: refused with
+    /// Ends the text in memory, with the bytes of the end where the patch completes the upload: refused with
     /// `Unencodable`, `Full`, `NoMemory`, `DiskFault`, after which it may only be spent. Nothing is written:
     /// `write_last` writes what is still to be written. Where no byte was added to the text it has no blocks, and the
     /// committed ones stay.
@@ -215,8 +228,8 @@ impl SpoolDraft {
 
         // What it holds, and what it leaves of the blocks and the disk, whatever the answer.
         ensures same { (number_of self.new ≡ number_of self.old) × (offset_of self.new ≡ offset_of self.old)
-            × (came_of self.new ≡ came_of self.old) × (committed_len_of self.new ≡ committed_len_of self.old)
-            × (tail_of self.new ≡ tail_of self.old) }
+            × (came_of self.new ≡ came_of self.old) × (declare_of self.new ≡ declare_of self.old)
+            × (committed_len_of self.new ≡ committed_len_of self.old) × (tail_of self.new ≡ tail_of self.old) }
         ensures rows { blocks.new.rows ≡ blocks.old.rows }
         ensures reserved { IsReserved blocks.new (list_of self.new) }
         ensures effect { Effect D.Disk (journal_pages layout.now) (list_of self.old) (list_of self.new) disk.old
@@ -237,12 +250,13 @@ impl SpoolDraft {
         ensures lasts { D.honest disk.old
             → Lasts D.Disk disk.old disk.new (IsImage (D.seen disk.old) (D.loose disk.old)) }
 
-        // Where a body came: the text's end, and the bytes on the blocks, with those that are still to be written.
-        ensures answer { (p : Patch) → Holds indexes.now p self.old → 0 < length p.body
+        // Behind an upload that wasn't complete: the text's end, and the bytes on the blocks, with those that are still
+        // to be written.
+        ensures answer { (p : Patch) → Holds indexes.now p self.old → is_complete p.began ≡ false
             → EndsAs indexes.now p completes self.old self.new blocks.old blocks.new result }
         ensures fits { IfOk result
             (λ end. 1 ≤ length (list_of self.new) → (length end.last.items + 4095) / 4096 ≤ length (list_of self.new)) }
-        ensures content { (p : Patch) → D.honest disk.old → Holds indexes.now p self.old → 0 < length p.body
+        ensures content { (p : Patch) → D.honest disk.old → Holds indexes.now p self.old → is_complete p.began ≡ false
             → Carries indexes.now (D.seen disk.old) (25 + 2 * journal_pages layout.now) p self.old
             → IfOk result (λ end. 1 ≤ length (list_of self.new)
             → bytes_with (D.seen disk.new) (25 + 2 * journal_pages layout.now) (list_of self.new) end.last.items
@@ -271,8 +285,9 @@ impl SpoolDraft {
     pub fn forget_tail(&mut self)
         ensures tail { tail_of self.new ≡ [] }
         ensures same { (number_of self.new ≡ number_of self.old) × (offset_of self.new ≡ offset_of self.old)
-            × (came_of self.new ≡ came_of self.old) × (committed_len_of self.new ≡ committed_len_of self.old)
-            × (list_of self.new ≡ list_of self.old) × (fresh_of self.new ≡ fresh_of self.old) }
+            × (came_of self.new ≡ came_of self.old) × (declare_of self.new ≡ declare_of self.old)
+            × (committed_len_of self.new ≡ committed_len_of self.old) × (list_of self.new ≡ list_of self.old)
+            × (fresh_of self.new ≡ fresh_of self.old) }
         ensures placed { (blocks : ℕ) → IsPlaced blocks self.old → IsPlaced blocks self.new }
         ensures behind { (len : ℕ) (state : List ℕ) → IsBehind len state self.old → IsBehind len state self.new }
         ensures holds { (x : Indexes) (p : Patch) → Holds x p self.old → Holds x p self.new }
@@ -313,6 +328,7 @@ impl SpoolDraft {
             number: _,
             offset: _,
             came: _,
+            declare: _,
             fresh: _,
             growth: Growth {
                 text_len: _,

@@ -29,7 +29,7 @@ pub(crate) fn read_on(
     Ok(split(alloc, next))
 }
 
-/// The state bytes behind the body, and what the end adds to the text where the body completes the upload.
+/// The state bytes behind the body, and what the end adds to the text where the patch completes the upload.
 pub(crate) fn finished(
     alloc: Global,
     fresh: &NewText,

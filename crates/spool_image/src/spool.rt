@@ -182,7 +182,13 @@ impl<D: Disk> Uploads for Spool<D> {
         )
     }
 
-    fn begin(&mut self, number: u64, offset: u64, count: u64) -> Result<SpoolAppend, UploadError> {
+    fn begin(
+        &mut self,
+        number: u64,
+        offset: u64,
+        count: u64,
+        declare: Option<u64>,
+    ) -> Result<SpoolAppend, UploadError> {
         let number = begin::<D>(
             self.alloc,
             &self.kept,
@@ -190,6 +196,7 @@ impl<D: Disk> Uploads for Spool<D> {
             number,
             offset,
             count,
+            declare,
         )?;
         Ok(SpoolAppend { number })
     }

@@ -3,7 +3,7 @@ use Rattle.std.proofs.Common.{◌≡◌, ◌≢◌, inl, inr, ℕ, ◌^◌, ◌<
 use Rattle.std.proofs.Common.{ap, subst}
 use Rattle.std.proofs.lemmas.Bool.{cases_eq}
 use Rattle.std.proofs.lemmas.List.{length-set}
-use Rattle.upload_rules.specs.Store.{Upload, Store, find, replaced, with_bytes, appended_to, appended_store}
+use Rattle.upload_rules.specs.Store.{Upload, Store, find, replaced, patched, patched_at, patched_store}
 use Rattle.upload_rules.specs.Room.{blocks_of}
 use Rattle.upload_rules.specs.Slots.{IsRising}
 use Rattle.upload_rules.proofs.Finds.{find_replaced_same, find_replaced_other}
@@ -102,19 +102,19 @@ module _ (v : View) (m : Store) (shows : Shows v m) (s : ℕ) (r r' : SlotRecord
     ];
   }
 
-  module _ (u : Upload) (bytes : List ℕ) (found : find r.number m.uploads ≡ Some u)
-      (is : IsRecordOf m.indexes r' text (with_bytes u bytes)) where
+  module _ (u : Upload) (declare : Option ℕ) (bytes : List ℕ) (found : find r.number m.uploads ≡ Some u)
+      (is : IsRecordOf m.indexes r' text (patched u declare bytes)) where
     changed : Store
-    changed = record m { uploads = replaced r.number (with_bytes u bytes) m.uploads }
+    changed = record m { uploads = replaced r.number (patched u declare bytes) m.uploads }
 
     told_new : (t : ℕ) (q : SlotRecord) → t ≡ s → q ≡ r' → IsTold changed q (texts_with v s text t)
     unfolding changed
     told_new t q at same = record {
-      upload = with_bytes u bytes;
-      there = ap (λ (n : ℕ). find n (replaced r.number (with_bytes u bytes) m.uploads)) (number_is same ∙ number)
-          ∙ find_replaced_same r.number u (with_bytes u bytes) m.uploads found;
-      tells = subst (λ (x : SlotRecord). IsRecordOf m.indexes x (texts_with v s text t) (with_bytes u bytes)) (sym same)
-          (subst (λ (shown : List ℕ). IsRecordOf m.indexes r' shown (with_bytes u bytes))
+      upload = patched u declare bytes;
+      there = ap (λ (n : ℕ). find n (replaced r.number (patched u declare bytes) m.uploads)) (number_is same ∙ number)
+          ∙ find_replaced_same r.number u (patched u declare bytes) m.uploads found;
+      tells = subst (λ (x : SlotRecord). IsRecordOf m.indexes x (texts_with v s text t) (patched u declare bytes)) (sym same)
+          (subst (λ (shown : List ℕ). IsRecordOf m.indexes r' shown (patched u declare bytes))
           (sym (text_here v s text t at)) is);
     }
 
@@ -124,33 +124,33 @@ module _ (v : View) (m : Store) (shows : Shows v m) (s : ℕ) (r r' : SlotRecord
         let told = shows.told t q e in
         record {
           upload = told.upload;
-          there = find_replaced_other r.number q.number (with_bytes u bytes) m.uploads
+          there = find_replaced_other r.number q.number (patched u declare bytes) m.uploads
               (λ same. other_number t q other e (sym same)) ∙ told.there;
           tells = subst (λ (shown : List ℕ). IsRecordOf m.indexes q shown told.upload)
               (sym (text_else v s text t other)) told.tells;
         }
 
-    all_still : (n : ℕ) (w : Upload) → find n (replaced r.number (with_bytes u bytes) m.uploads) ≡ Some w
+    all_still : (n : ℕ) (w : Upload) → find n (replaced r.number (patched u declare bytes) m.uploads) ≡ Some w
         → HasSlot (appended_view v s r' rows text) n
     all_still n w e = elim (cases_eq r.number n) [
       | inl same ↦ record { slot = s; used = r'; there = slot_here v.slots s r' inside; number = number ∙ same }
       | inr other ↦
-          let has = shows.all n w (sym (find_replaced_other r.number n (with_bytes u bytes) m.uploads other) ∙ e) in
+          let has = shows.all n w (sym (find_replaced_other r.number n (patched u declare bytes) m.uploads other) ∙ e) in
           let used = used_still has.slot has.used has.there in
           record { slot = has.slot; used = used.0; there = used.1; number = used.2 ∙ has.number }
     ]
 
     pub appended_shows : IsSoundRecord m.next r' → length rows ≡ length v.rows → SameOthers s v.rows rows
         → OwnsOneEach rows s (blocks_of r'.text_len) → ((b i : ℕ) → Owns rows b s i → i < 2 ^ 32)
-        → Shows (appended_view v s r' rows text) (appended_store m r.number bytes)
+        → Shows (appended_view v s r' rows text) (patched_store m r.number declare bytes)
     unfolding changed
     appended_shows sound size others one fits =
-        subst (λ (o : Option Upload). Shows (appended_view v s r' rows text) (appended_to m r.number bytes o))
+        subst (λ (o : Option Upload). Shows (appended_view v s r' rows text) (patched_at m r.number declare bytes o))
         (sym found) (record {
           sound = appended_sound sound size others one fits;
           next = shows.next;
           indexes = shows.indexes;
-          rising = subst IsRising (sym (numbers_replaced r.number (with_bytes u bytes) m.uploads)) shows.rising;
+          rising = subst IsRising (sym (numbers_replaced r.number (patched u declare bytes) m.uploads)) shows.rising;
           told = λ t q e. elim (slot_is v.slots s r' t q inside e)
               [ inl here ↦ told_new t q here.0 here.1 | inr old ↦ told_still t q old.0 old.1 ];
           all = all_still;
@@ -158,7 +158,7 @@ module _ (v : View) (m : Store) (shows : Shows v m) (s : ℕ) (r r' : SlotRecord
 
     -- where no text is added its rows stay
     pub append_without_text : IsSoundRecord m.next r' → rows ≡ v.rows → r'.text_len ≡ r.text_len
-        → Shows (appended_view v s r' rows text) (appended_store m r.number bytes)
+        → Shows (appended_view v s r' rows text) (patched_store m r.number declare bytes)
     append_without_text sound same len =
         appended_shows sound (ap length same) record {
           still = λ b t i other owns. ap (λ (x : List Row). get_or x b None) same ∙ owns;

@@ -1,8 +1,8 @@
 -- The texts behind an append.
-use Rattle.std.proofs.Common.{◌≡◌, inl, inr, ℕ, zero, suc, ◌+◌, ◌-◌, ◌*◌, ◌/◌, ◌%◌, ◌<◌, ◌≤◌, List, ◌++◌, None, Some}
+use Rattle.std.proofs.Common.{◌≡◌, inl, inr, ℕ, zero, suc, ◌+◌, ◌-◌, ◌*◌, ◌/◌, ◌%◌, ◌<◌, ◌≤◌, List, ◌++◌, Option, None, Some}
 use Rattle.std.proofs.Common.{length, get_or, take, drop, refl, sym, ◌∙◌, ap, subst, arith, length-append, length-take}
 use Rattle.std.proofs.lemmas.List.{append_assoc, take-append-drop, take-take}
-use Rattle.upload_rules.specs.Store.{Upload, Store, find, with_bytes, appended_store}
+use Rattle.upload_rules.specs.Store.{Upload, Store, find, patched, patched_store}
 use Rattle.upload_rules.specs.Room.{blocks_of}
 use Rattle.spool_blocks.specs.Blocks.{Row}
 use Rattle.spool_blocks.specs.Chains.{Owns, OwnsOneEach}
@@ -131,12 +131,12 @@ module _ (v : View) (m : Store) (shows : Shows v m) (s : ℕ) (r r' : SlotRecord
     one_each = owns_one_each v.rows s (r.text_len / 4096) more rows hands no_owner (blocks_of r.text_len) (omega arith)
         (shows.sound.lists s r there)
 
-    pub handed_shows : (u : Upload) (bytes : List ℕ) → r'.number ≡ r.number → find r.number m.uploads ≡ Some u
-        → IsRecordOf m.indexes r' text (with_bytes u bytes) → IsSoundRecord m.next r'
+    pub handed_shows : (u : Upload) (declare : Option ℕ) (bytes : List ℕ) → r'.number ≡ r.number → find r.number m.uploads ≡ Some u
+        → IsRecordOf m.indexes r' text (patched u declare bytes) → IsSoundRecord m.next r'
         → r.text_len / 4096 + length more ≤ 65536 → Shows (appended_view v s r' rows text)
-        (appended_store m r.number bytes)
-    handed_shows u bytes number found is sound room =
-        appended_shows v m shows s r r' there number rows text u bytes found is sound hands.size
+        (patched_store m r.number declare bytes)
+    handed_shows u declare bytes number found is sound room =
+        appended_shows v m shows s r r' there number rows text u declare bytes found is sound hands.size
         (others_same v.rows s (r.text_len / 4096) more rows hands no_owner)
         (subst (OwnsOneEach rows s) all_blocks one_each) (λ b i owns. omega (arith, one_each.only b i owns, room))
 

@@ -1,5 +1,5 @@
 -- A draft whose text has ended: why it isn't put behind its upload's, and that it may be.
-use Rattle.std.proofs.Common.{Result, Err, IfOk, ◌≡◌, inl, inr, ℕ, ◌<◌, ◌≤◌, ◌+◌, ◌-◌, ◌*◌, ◌/◌, ◌^◌, ◌==◌, Bool, true}
+use Rattle.std.proofs.Common.{Result, Err, IfOk, ◌≡◌, inl, inr, ℕ, ◌<◌, ◌≤◌, ◌+◌, ◌-◌, ◌*◌, ◌/◌, ◌^◌, Bool, true}
 use Rattle.std.proofs.Common.{false, List, Option, None, Some, length, get_or, set, min, refl, sym, ◌∙◌, ap, subst}
 use Rattle.std.proofs.Common.{arith}
 use Rattle.std.proofs.lemmas.Bool.{cases_lt}
@@ -11,7 +11,7 @@ use Rattle.spool_disk.specs.Views.{Lasts}
 use Rattle.spool_disk.proofs.Firm.{lasts_more}
 use Rattle.spool_journal.specs.Image.{journal_pages}
 use Rattle.spool_drafts.specs.Drafts.{EndsAs, EndsBehind, Holds, Carries, IsPlaced, IsWhole, committed_len_of, list_of}
-use Rattle.spool_drafts.specs.Drafts.{tail_of, offset_of, came_of, open_text}
+use Rattle.spool_drafts.specs.Drafts.{tail_of, offset_of, came_of, declare_of, open_text}
 use Rattle.spool_drafts.specs.Effect.{Effect, RunsShort}
 use Rattle.spool_drafts.specs.declared.draft.DraftEnd.{DraftEnd}
 use Rattle.spool_drafts.specs.declared.draft.SpoolDraft.{SpoolDraft}
@@ -21,21 +21,24 @@ use Rattle.spool_pages.specs.View.{SlotRecord}
 use Rattle.spool_texts.specs.Drafts.{IsReserved, bytes_with}
 use Rattle.spool_texts.specs.TextOn.{AllBelow}
 use Rattle.upload_rules.specs.Answers.{Answers}
-use Rattle.upload_rules.specs.Calls.{commit_refusal, reached}
+use Rattle.upload_rules.specs.Calls.{commit_refusal}
 use Rattle.upload_rules.specs.Drafts.{draft_at}
+use Rattle.upload_rules.specs.Lengths.{is_length, known_or, longest}
 use Rattle.upload_rules.specs.Room.{is_short, wants}
-use Rattle.upload_rules.specs.Store.{find}
-use Rattle.upload_rules.specs.World.{Patch, World, completes}
+use Rattle.upload_rules.specs.Store.{Upload, find, is_complete, patched, with_length}
+use Rattle.upload_rules.specs.World.{Patch, World, completes, length_then, reached}
+use Rattle.upload_rules.proofs.Commits.{complete_patched}
 use Rattle.upload_rules.specs.declared.errors.UploadError.{UploadError}
 use Rattle.upload_rules.specs.declared.errors.UploadError.TheVariants.{NoMemory, DiskFault, Refused}
 use Rattle.upload_rules.specs.declared.errors.UploadRefusal.TheVariants as refusals
 use Rattle.upload_rules.proofs.Patches.{draft_of}
-use Rattle.spool_kept.specs.Committing.{HasSameCount, IsCommit}
+use Rattle.spool_kept.specs.Committing.{HasSameCount, IsCommit, IsFound}
 use Rattle.spool_kept.specs.Drafting.{DraftsHold, DraftStands, OnlyReserves}
 use Rattle.spool_kept.specs.Extending.{IsPending, MayExtend}
 use Rattle.spool_kept.specs.Holding.{Holding}
 use Rattle.spool_kept.specs.Shows.{ImageShows, IsRecordOf}
 use Rattle.spool_kept.specs.Stored.{Stored}
+use Rattle.spool_kept.specs.declared.committing.Found.{Found}
 use Rattle.spool_kept.specs.declared.extending.Longer.{Longer}
 use Rattle.spool_kept.proofs.Appended.{told_upload}
 use Rattle.spool_kept.proofs.CommitRefusals as rules
@@ -49,10 +52,16 @@ pub only_blocks : (h : Holding) (blocks : Held) → blocks.rows ≡ h.blocks.row
 only_blocks h blocks rows = record { same = refl; rows = rows }
 
 -- the slot's upload may become what the text of a draft that is behind it ends in
-pub may : (h : Holding) (slot accepted : ℕ) (list : List ℕ) (end : DraftEnd) (used : SlotRecord)
-    → get_or h.slots slot None ≡ Some used → EndsBehind used.text_len used.state list end
-    → MayExtend h (record { slot = slot; accepted = accepted; text_len = end.text_len; state = end.state }) list
-may h slot accepted list end used there ends = record {
+pub may : (h : Holding) (slot : ℕ) (declared : Option ℕ) (accepted : ℕ) (list : List ℕ) (end : DraftEnd)
+    (used : SlotRecord) → get_or h.slots slot None ≡ Some used → EndsBehind used.text_len used.state list end
+    → MayExtend h (record {
+      slot = slot;
+      declared = declared;
+      accepted = accepted;
+      text_len = end.text_len;
+      state = end.state;
+    }) list
+may h slot declared accepted list end used there ends = record {
   used = used;
   there = there;
   state = ends.same;
@@ -113,51 +122,79 @@ module _ {D : Type 0} (disk : Ghosts D) (d d' : D) (h h' : Holding) (only : Only
   held = own_draft.holds
 
   -- what its slot's record tells of its upload
-  module _ (slot : ℕ) (has : HasSameCount h.slots o slot) where
-    there : get_or s.view.slots slot None ≡ Some has.used
-    there = ap (λ (xs : List (Option SlotRecord)). get_or xs slot None) (sym s.keeps.slots) ∙ has.there
+  module _ (found : Found) (finds : IsFound h.slots o found) where
+    abbrev has : HasSameCount h.slots o found.slot
+    has = finds.same
 
-    pub told : IsRecordOf w.store.indexes has.used (s.view.texts slot) p.began
-    told = told_upload s.view w.store s.shows slot has.used there p.began
-        (ap (λ (k : ℕ). find k w.store.uploads) (has.number ∙ held.number) ∙ is.upload)
+    there : get_or s.view.slots found.slot None ≡ Some finds.same.used
+    there = ap (λ (xs : List (Option SlotRecord)). get_or xs found.slot None) (sym s.keeps.slots) ∙ has.there
 
-    module _ (accepted : ℕ) (sum : accepted ≡ min (offset_of o + came_of o) (2 ^ 64 - 1)) (q : SlotRecord)
-        (q_is : q ≡ has.used) where
+    pub told : IsRecordOf w.store.indexes finds.same.used (s.view.texts found.slot) (with_length p.began is.still.0)
+    told = told_upload s.view w.store s.shows found.slot has.used there (with_length p.began is.still.0)
+        (ap (λ (k : ℕ). find k w.store.uploads) (has.number ∙ held.number) ∙ is.still.1)
+
+    -- its length then
+    pub declared_is : found.declared ≡ known_or (known_or p.began.declared is.still.0) p.declare
+    declared_is = finds.declared ∙ ap (λ (k : Option ℕ). known_or k (declare_of o)) told.declared
+        ∙ ap (known_or (known_or p.began.declared is.still.0)) held.declare
+
+    reached_is : offset_of o + came_of o ≡ reached p
+    reached_is = omega (arith, held.offset, held.came)
+
+    pub within : reached p ≤ longest (known_or (known_or p.began.declared is.still.0) p.declare)
+    within = subst (λ (k : Option ℕ). reached p ≤ longest k) declared_is (omega (arith, reached_is, finds.within))
+
+    done_is : completes w.store p ≡ is_length found.declared (reached p)
+    done_is = ap (λ (v : Option Upload). is_length (length_then p v) (reached p)) is.still.1
+        ∙ ap (λ (k : Option ℕ). is_length k (reached p)) (sym declared_is)
+
+    -- the text is complete where the upload is
+    pub whole_is : is_complete (patched (with_length p.began is.still.0) p.declare p.body) ≡ completes w.store p
+    whole_is = complete_patched (with_length p.began is.still.0) p.declare p.body
+        ∙ ap (λ (k : Option ℕ). is_length k (reached p)) (sym declared_is) ∙ sym done_is
+
+    module _ (accepted : ℕ) (sum : accepted ≡ min (offset_of o + came_of o) (2 ^ 64 - 1)) where
       pub all_came : accepted ≡ reached p
-      all_came = omega (arith, sum, held.offset, held.came, held.held, held.within, held.fits)
+      all_came = omega (arith, sum, reached_is, finds.within, finds.fits)
 
-      completes_is : (accepted == q.declared) ≡ completes p
-      completes_is = ap (λ (n : ℕ). n == q.declared) all_came ∙ ap (λ (n : ℕ). reached p == n)
-          (ap (λ (r : SlotRecord). r.declared) q_is ∙ told.declared)
+      completes_is : is_length found.declared accepted ≡ completes w.store p
+      completes_is = ap (is_length found.declared) all_came ∙ sym done_is
 
       indexes_are : h.indexes ≡ w.store.indexes
       indexes_are = s.keeps.indexes ∙ s.shows.indexes
 
-      module _ (result : Result DraftEnd UploadError) where
+      open_began : is_complete p.began ≡ false
+      open_began = texts.open_before p.began is.still.0 is.still.2
+
+      module _ (done : Bool) (done_says : done ≡ is_length found.declared accepted)
+          (result : Result DraftEnd UploadError) where
+        done_then : done ≡ completes w.store p
+        done_then = done_says ∙ completes_is
+
         -- how the text ended
-        pub ends_as : ((q' : Patch) → Holds h.indexes q' o → 0 < length q'.body
-            → EndsAs h.indexes q' (accepted == q.declared) o o' h.blocks h'.blocks result)
-            → EndsAs w.store.indexes p (completes p) o o' h.blocks h'.blocks result
+        pub ends_as : ((q' : Patch) → Holds h.indexes q' o → is_complete q'.began ≡ false
+            → EndsAs h.indexes q' done o o' h.blocks h'.blocks result)
+            → EndsAs w.store.indexes p (completes w.store p) o o' h.blocks h'.blocks result
         ends_as answer =
-            subst (λ (b : Bool). EndsAs w.store.indexes p b o o' h.blocks h'.blocks result) completes_is
-            (subst (λ (y : IndexSet). EndsAs y p (accepted == q.declared) o o' h.blocks h'.blocks result) indexes_are
-            (answer p (subst (λ (y : IndexSet). Holds y p o) (sym indexes_are) held) is.some))
+            subst (λ (b : Bool). EndsAs w.store.indexes p b o o' h.blocks h'.blocks result) done_then
+            (subst (λ (y : IndexSet). EndsAs y p done o o' h.blocks h'.blocks result) indexes_are
+            (answer p (subst (λ (y : IndexSet). Holds y p o) (sym indexes_are) held) open_began))
 
         -- and the bytes on its blocks
-        pub ends_on : ((q' : Patch) → disk.honest d → Holds h.indexes q' o → 0 < length q'.body
+        pub ends_on : ((q' : Patch) → disk.honest d → Holds h.indexes q' o → is_complete q'.began ≡ false
             → Carries h.indexes (disk.seen d) (25 + 2 * journal_pages h.layout) q' o
             → IfOk result (λ e. 1 ≤ length (list_of o') → bytes_with (disk.seen d') (25 + 2 * journal_pages h.layout)
-            (list_of o') e.last.items ≡ open_text h.indexes q' (accepted == q.declared)))
+            (list_of o') e.last.items ≡ open_text h.indexes q' done))
             → IfOk result (λ e. 1 ≤ length (list_of o') → bytes_with (disk.seen d') (25 + 2 * journal_pages h.layout)
-            (list_of o') e.last.items ≡ open_text w.store.indexes p (completes p))
+            (list_of o') e.last.items ≡ open_text w.store.indexes p (completes w.store p))
         ends_on content =
             let P : IndexSet → Bool → Type 0 =
             λ y b. IfOk result (λ e. 1 ≤ length (list_of o') → bytes_with (disk.seen d')
             (25 + 2 * journal_pages h.layout) (list_of o') e.last.items ≡ open_text y p b) in
-            subst (P w.store.indexes) completes_is (subst (λ (y : IndexSet). P y (accepted == q.declared)) indexes_are
-            (content p s.honest (subst (λ (y : IndexSet). Holds y p o) (sym indexes_are) held) is.some
+            subst (P w.store.indexes) done_then (subst (λ (y : IndexSet). P y done) indexes_are
+            (content p s.honest (subst (λ (y : IndexSet). Holds y p o) (sym indexes_are) held) open_began
             (subst (λ (y : IndexSet). Carries y (disk.seen d) (25 + 2 * journal_pages h.layout) p o) (sym indexes_are)
-            (own_draft.carries is.upload))))
+            (own_draft.carries is.still))))
 
   -- THE RULES
 
@@ -197,14 +234,14 @@ module _ {D : Type 0} (disk : Ghosts D) (d d' : D) (h h' : Holding) (only : Only
     unfolding is_short
     stays_short done e = rw e refl
 
-    pub refused : {T : Type 0} (done : T → Type 0) (e : UploadError) → EndsAs w.store.indexes p (completes p) o o'
+    pub refused : {T : Type 0} (done : T → Type 0) (e : UploadError) → EndsAs w.store.indexes p (completes w.store p) o o'
         h.blocks h'.blocks (Err e) → Answers {T = T} (commit_refusal w number p) (Err e) done (Unit {0})
-    refused done NoMemory ends = (rules.late w number p is.upload, tt)
-    refused done DiskFault ends = rules.late w number p is.upload
-    refused done (Refused refusals.Unencodable) ends = (rules.no_code w number p is.upload is.some ends, tt)
+    refused done NoMemory ends = (rules.late w number p is.allowed, tt)
+    refused done DiskFault ends = rules.late w number p is.allowed
+    refused done (Refused refusals.Unencodable) ends = (rules.no_code w number p is.allowed is.changes ends, tt)
     refused done (Refused refusals.Full) ends = (
-      rules.no_room w number p is.upload is.some ends.0
-          (elim ends.1 [ inl before ↦ stays_short (completes p) before | inr ran ↦ short (completes p) ran ]),
+      rules.no_room w number p is.allowed is.changes ends.0
+          (elim ends.1 [ inl before ↦ stays_short (completes w.store p) before | inr ran ↦ short (completes w.store p) ran ]),
       tt,
     )
     refused done (Refused refusals.NoSuch) ends = absurd ends
@@ -212,49 +249,53 @@ module _ {D : Type 0} (disk : Ghosts D) (d d' : D) (h h' : Holding) (only : Only
     refused done (Refused refusals.TooLong) ends = absurd ends
     refused done (Refused refusals.Slots) ends = absurd ends
     refused done (Refused refusals.TooLarge) ends = absurd ends
+    refused done (Refused refusals.LengthSet) ends = absurd ends
 
     pub not_ended : {T : Type 0} (done : T → Type 0) (r : Result T UploadError) (e : UploadError) → r ≡ Err e
         → (ended : Result DraftEnd UploadError) → ended ≡ Err e
-        → EndsAs w.store.indexes p (completes p) o o' h.blocks h'.blocks ended
+        → EndsAs w.store.indexes p (completes w.store p) o o' h.blocks h'.blocks ended
         → Answers (commit_refusal w number p) r done (Unit {0})
     not_ended {T = T} done r e is_err ended was ends =
         subst (λ (q : Result T UploadError). Answers (commit_refusal w number p) q done (Unit {0})) (sym is_err)
-        (refused done e (subst (λ (q : Result DraftEnd UploadError). EndsAs w.store.indexes p (completes p) o o'
+        (refused done e (subst (λ (q : Result DraftEnd UploadError). EndsAs w.store.indexes p (completes w.store p) o o'
         h.blocks h'.blocks q) was ends))
 
-    module _ (end : DraftEnd) (whole : IsWhole w.store.indexes p (completes p) o' end) (slot : ℕ)
-        (has : HasSameCount h.slots o slot) where
+    module _ (end : DraftEnd) (whole : IsWhole w.store.indexes p (completes w.store p) o' end) (found : Found)
+        (finds : IsFound h.slots o found) where
       pub allowed : commit_refusal w number p ≡ None
-      allowed = rules.allowed w number p is.upload is.some whole.encodable
-          (roomy (completes p) whole.roomy whole.listed)
+      allowed = rules.allowed w number p is.allowed is.changes whole.encodable
+          (roomy (completes w.store p) whole.roomy whole.listed)
 
-      there_after : get_or h'.slots slot None ≡ Some has.used
-      there_after = ap (λ (k : Holding). get_or k.slots slot None) only.same ∙ has.there
+      there_after : get_or h'.slots found.slot None ≡ Some finds.same.used
+      there_after = ap (λ (k : Holding). get_or k.slots found.slot None) only.same ∙ finds.same.there
 
-      pub pending : (longer : Longer) → longer.slot ≡ slot → longer.accepted ≡ reached p
+      pub pending : (longer : Longer) → longer.slot ≡ found.slot → longer.declared ≡ found.declared
+          → longer.accepted ≡ reached p
           → longer.text_len ≡ end.text_len → longer.state ≡ end.state → Stored disk d' h' w.store
           → (1 ≤ length (list_of o') → (length end.last.items + 4095) / 4096 ≤ length (list_of o'))
           → (1 ≤ length (list_of o') → bytes_with (disk.seen d') (25 + 2 * journal_pages h.layout) (list_of o')
-          end.last.items ≡ open_text w.store.indexes p (completes p))
-          → IsPending disk d' h' w.store p.number p.body longer (list_of o') end.last.items
-      pending longer at accepted len is_state stored fits content = record {
+          end.last.items ≡ open_text w.store.indexes p (completes w.store p))
+          → IsPending disk d' h' w.store p.number p.declare p.body longer (list_of o') end.last.items
+      pending longer at declared accepted len is_state stored fits content = record {
         stored = stored;
-        text = open_text w.store.indexes p (completes p);
+        text = open_text w.store.indexes p (completes w.store p);
         fits = fits;
         held = subst (λ (n : ℕ). 1 ≤ length (list_of o') → bytes_with (disk.seen d') (25 + 2 * journal_pages n)
-            (list_of o') end.last.items ≡ open_text w.store.indexes p (completes p))
+            (list_of o') end.last.items ≡ open_text w.store.indexes p (completes w.store p))
             (sym (ap (λ (k : Holding). k.layout) only.same)) content;
         append = λ e stored' written. record {
           stored = stored';
           used = record {
-            used = has.used;
+            used = finds.same.used;
             there = ap (λ (k : ℕ). get_or h'.slots k None) at ∙ there_after;
-            is = has.number ∙ held.number;
+            is = finds.same.number ∙ held.number;
           };
-          upload = p.began;
-          there = is.upload;
-          added = texts.more w.store.indexes p o' end held.held held.within is.some whole;
-          extension = texts.extension w.store.indexes p o' end held.held held.within is.some whole longer (disk.seen e)
-              (25 + 2 * journal_pages h'.layout) accepted len is_state written;
+          upload = with_length p.began is.still.0;
+          there = is.still.1;
+          added = texts.more w.store.indexes p is.still.0 o' end is.still.2 (within found finds) held.small
+              (completes w.store p) (whole_is found finds) whole;
+          extension = texts.extension w.store.indexes p is.still.0 o' end is.still.2 (within found finds) held.small
+              (completes w.store p) (whole_is found finds) whole longer (disk.seen e)
+              (25 + 2 * journal_pages h'.layout) (declared ∙ declared_is found finds) accepted len is_state written;
         };
       }

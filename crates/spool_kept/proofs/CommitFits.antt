@@ -1,5 +1,5 @@
 -- The drafts that a commit leaves fit what is kept.
-use Rattle.std.proofs.Common.{◌≡◌, ◌<◌, ℕ, List, Option, None, Some, get_or, set, refl, sym, ◌∙◌, ap, subst}
+use Rattle.std.proofs.Common.{◌≡◌, ℕ, List, Option, None, Some, get_or, set, refl, sym, ◌∙◌, ap, subst}
 use Rattle.spool_blocks.specs.Blocks.{Held}
 use Rattle.spool_drafts.specs.Drafts.{IsPlaced, list_of}
 use Rattle.spool_drafts.specs.Effect.{Regrasps}
@@ -8,7 +8,7 @@ use Rattle.spool_pages.specs.View.{SlotRecord}
 use Rattle.spool_texts.specs.Drafts.{GivesBack, IsReserved}
 use Rattle.upload_rules.specs.Drafts.{draft_at}
 use Rattle.spool_kept.specs.Drafting.{DraftsFit, DraftsHold, OnlyReserves}
-use Rattle.spool_kept.specs.Extending.{HandsOn, IsLonger, longer_record}
+use Rattle.spool_kept.specs.Extending.{Advances, HandsOn, IsLonger, longer_record}
 use Rattle.spool_kept.specs.Holding.{Holding}
 use Rattle.spool_kept.specs.declared.extending.Longer.{Longer}
 use Rattle.spool_kept.proofs.DraftSpent.{fit_given, fit_handed, rows_handed}
@@ -34,7 +34,7 @@ module _ (h mid : Holding) (only : OnlyReserves h mid) (drafts : List (Option Sp
 
   -- they are the longer upload's
   pub fits_handed : (h' : Holding) (longer : Longer) (used : SlotRecord) (more : List ℕ) → more ≡ list_of o'
-      → get_or mid.slots longer.slot None ≡ Some used → used.accepted < longer.accepted
+      → get_or mid.slots longer.slot None ≡ Some used → Advances used longer
       → HandsOn mid.blocks.reserved h'.blocks.reserved more → IsLonger mid used longer more h'
       → DraftsFit h' (set drafts number None)
   fits_handed h' longer used more list there grows hands_more longer_more =

@@ -1,29 +1,43 @@
 -- Why a commit is refused.
-use Rattle.std.proofs.Common.{◌≡◌, ℕ, ◌<◌, Bool, true, false, List, [], ◌∷◌, length, Some, None, if◌then◌else◌, refl}
-use Rattle.std.proofs.Common.{sym, ◌∙◌, ap, subst, arith, eq-eqb}
-use Rattle.upload_rules.specs.declared.errors.UploadRefusal.TheVariants.{Unencodable, Full}
+use Rattle.std.proofs.Common.{◌≡◌, ◌⊎◌, inl, inr, ℕ, ◌&&◌, Bool, true, false, length, nat_lt, Option, Some, None}
+use Rattle.std.proofs.Common.{if◌then◌else◌, refl, sym, ◌∙◌, ap, subst, eq-eqb}
+use Rattle.std.proofs.lemmas.Option.{same_Some}
+use Rattle.upload_rules.specs.declared.errors.UploadRefusal.{UploadRefusal}
+use Rattle.upload_rules.specs.declared.errors.UploadRefusal.TheVariants.{Unencodable, Full, LengthSet, TooLong}
 use Rattle.upload_rules.specs.Answers.{IsLate}
-use Rattle.upload_rules.specs.Calls.{commit_refusal, committed, committed_store, dropped, is_empty, offset_refusal}
-use Rattle.upload_rules.specs.Calls.{or_else, refuse_if, text_refusal}
+use Rattle.upload_rules.specs.Calls.{commit_refusal, committed, committed_store, declares, dropped, is_empty, is_idle}
+use Rattle.upload_rules.specs.Calls.{length_refusal, or_else, refuse_if, text_refusal, text_stays, upload_refusal}
+use Rattle.upload_rules.specs.Lengths.{differ, known_or, longest}
 use Rattle.upload_rules.specs.Room.{is_short}
-use Rattle.upload_rules.specs.Store.{Upload, Store, appended_store, upload_of}
-use Rattle.upload_rules.specs.World.{Patch, World, completes, is_there, patch_text}
+use Rattle.upload_rules.specs.Store.{Upload, Store, patched_store, upload_of}
+use Rattle.upload_rules.specs.World.{Patch, World, completes, is_there, patch_text, reached}
 
 refusal_is : (w : World) (d : ℕ) (p : Patch) → commit_refusal w d p ≡ or_else
-    (offset_refusal p (upload_of w.store p.number)) (text_refusal w d p)
+    (upload_refusal p (upload_of w.store p.number)) (text_refusal w d p)
 unfolding commit_refusal
 refusal_is w d p = refl
 
-agrees : (p : Patch) (u : Upload) → length u.accepted ≡ length p.began.accepted → offset_refusal p (Some u) ≡ None
-agrees p u same = rw (eq-eqb (length u.accepted) (length p.began.accepted) same) refl
+-- where the upload has as many bytes as at the head moment, its length decides
+pub by_length : (p : Patch) (u : Upload) → length u.accepted ≡ length p.began.accepted
+    → upload_refusal p (Some u) ≡ length_refusal u.declared p.declare (reached p)
+by_length p u same = rw (eq-eqb (length u.accepted) (length p.began.accepted) same) refl
 
-nothing_in : (body : List ℕ) → length body ≡ 0 → body ≡ []
-nothing_in [] e = refl
-nothing_in (b ∷ body) e = absurd (omega (arith, e))
+-- a length is refused so
+pub length_refused : (known declare : Option ℕ) (end : ℕ) (e : UploadRefusal)
+    → length_refusal known declare end ≡ Some e → (e ≡ LengthSet) ⊎ (e ≡ TooLong)
+length_refused known declare end e is = go (differ known declare) (nat_lt (longest (known_or known declare)) end) is
+  where
+    go : (a b : Bool) → (if a then Some LengthSet else refuse_if b TooLong) ≡ Some e → (e ≡ LengthSet) ⊎ (e ≡ TooLong)
+    go true b is = inl (same_Some e LengthSet (sym is))
+    go false true is = inr (same_Some e TooLong (sym is))
+    go false false is = absurd cc
 
-full_of : (body : List ℕ) → 0 < length body → is_empty body ≡ false
-full_of [] lt = absurd (omega (arith, lt))
-full_of (b ∷ body) lt = refl
+pub refused_by_length : (w : World) (d : ℕ) (p : Patch) (u : Upload) (e : UploadRefusal)
+    → upload_of w.store p.number ≡ Some u → length u.accepted ≡ length p.began.accepted
+    → length_refusal u.declared p.declare (reached p) ≡ Some e → commit_refusal w d p ≡ Some e
+refused_by_length w d p u e there same refused =
+    refusal_is w d p
+    ∙ ap (λ o. or_else o (text_refusal w d p)) (ap (upload_refusal p) there ∙ by_length p u same ∙ refused)
 
 late_if : (a b c : Bool) → IsLate (if a then None else if b then Some Unencodable else refuse_if c Full)
 late_if true b c = tt
@@ -31,40 +45,56 @@ late_if false true c = tt
 late_if false false true = tt
 late_if false false false = tt
 
-module _ (w : World) (d : ℕ) (p : Patch) (there : upload_of w.store p.number ≡ Some p.began) where
-  -- the offset is the upload's count
+-- the patch goes with its upload
+module _ (w : World) (d : ℕ) (p : Patch) (allows : upload_refusal p (upload_of w.store p.number) ≡ None) where
   by_text : commit_refusal w d p ≡ text_refusal w d p
-  by_text = refusal_is w d p ∙ ap (λ o. or_else o (text_refusal w d p))
-      (ap (offset_refusal p) there ∙ agrees p p.began refl)
+  by_text = refusal_is w d p ∙ ap (λ o. or_else o (text_refusal w d p)) allows
 
   pub late : IsLate (commit_refusal w d p)
   late = subst IsLate (sym by_text)
-      (late_if (is_empty p.body) (is_there (patch_text w.store.indexes p (completes p)).fault)
-      (is_short w d p (completes p)))
+      (late_if (text_stays w.store p) (is_there (patch_text w.store.indexes p (completes w.store p)).fault)
+      (is_short w d p (completes w.store p)))
 
-  pub nothing_refused : length p.body ≡ 0 → commit_refusal w d p ≡ None
-  nothing_refused none = by_text ∙ rw (nothing_in p.body none) refl
+  pub nothing_refused : text_stays w.store p ≡ true → commit_refusal w d p ≡ None
+  nothing_refused stays = by_text ∙ rw (stays) refl
 
-  module _ (some : 0 < length p.body) where
-    pub no_code : is_there (patch_text w.store.indexes p (completes p)).fault ≡ true
+  module _ (changes : text_stays w.store p ≡ false) where
+    pub no_code : is_there (patch_text w.store.indexes p (completes w.store p)).fault ≡ true
         → commit_refusal w d p ≡ Some Unencodable
-    no_code fault = by_text ∙ rw (full_of p.body some, fault) refl
+    no_code fault = by_text ∙ rw (changes, fault) refl
 
-    pub no_room : (patch_text w.store.indexes p (completes p)).fault ≡ None → is_short w d p (completes p) ≡ true
-        → commit_refusal w d p ≡ Some Full
-    no_room fine short = by_text ∙ rw (full_of p.body some, fine, short) refl
+    pub no_room : (patch_text w.store.indexes p (completes w.store p)).fault ≡ None
+        → is_short w d p (completes w.store p) ≡ true → commit_refusal w d p ≡ Some Full
+    no_room fine short = by_text ∙ rw (changes, fine, short) refl
 
-    pub allowed : (patch_text w.store.indexes p (completes p)).fault ≡ None → is_short w d p (completes p) ≡ false
-        → commit_refusal w d p ≡ None
-    allowed fine roomy = by_text ∙ rw (full_of p.body some, fine, roomy) refl
+    pub allowed : (patch_text w.store.indexes p (completes w.store p)).fault ≡ None
+        → is_short w d p (completes w.store p) ≡ false → commit_refusal w d p ≡ None
+    allowed fine roomy = by_text ∙ rw (changes, fine, roomy) refl
 
 -- WHAT IT MAKES OF THE STORE
 
-pub store_same : (m : Store) (p : Patch) → length p.body ≡ 0 → committed_store m p ≡ m
-store_same m p none = rw (nothing_in p.body none) refl
+-- a patch that declares a length, or whose text changes, brings something
+declares_something : (m : Store) (p : Patch) → declares m p ≡ true → is_idle m p ≡ false
+declares_something m p new = rw (new) refl
 
-pub store_longer : (m : Store) (p : Patch) → 0 < length p.body → committed_store m p ≡ appended_store m p.number p.body
-store_longer m p some = rw (full_of p.body some) refl
+changes_something : (m : Store) (p : Patch) → text_stays m p ≡ false → is_idle m p ≡ false
+changes_something m p changes = go (declares m p) (completes m p) (is_empty p.body) changes
+  where
+    go : (a b c : Bool) → (if a && b then false else c) ≡ false → (if a then false else c) ≡ false
+    go true b c is = refl
+    go false b c is = is
 
-pub nothing_committed : (w : World) (d : ℕ) (p : Patch) → length p.body ≡ 0 → committed w d p ≡ dropped w d
-nothing_committed w d p none = ap (λ (m : Store). record (dropped w d) { store = m }) (store_same w.store p none)
+store_put : (m : Store) (p : Patch) → is_idle m p ≡ false
+    → committed_store m p ≡ patched_store m p.number p.declare p.body
+store_put m p busy = rw (busy) refl
+
+pub store_declared : (m : Store) (p : Patch) → declares m p ≡ true
+    → committed_store m p ≡ patched_store m p.number p.declare p.body
+store_declared m p new = store_put m p (declares_something m p new)
+
+pub store_changed : (m : Store) (p : Patch) → text_stays m p ≡ false
+    → committed_store m p ≡ patched_store m p.number p.declare p.body
+store_changed m p changes = store_put m p (changes_something m p changes)
+
+pub nothing_committed : (w : World) (d : ℕ) (p : Patch) → is_idle w.store p ≡ true → committed w d p ≡ dropped w d
+nothing_committed w d p idle = ap (λ (m : Store). record (dropped w d) { store = m }) (rw (idle) refl)

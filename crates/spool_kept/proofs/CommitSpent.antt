@@ -1,48 +1,50 @@
 -- A commit's draft is spent: what the disk and what is kept stand for then.
-use Rattle.std.proofs.Common.{Err, ◌≡◌, ◌≢◌, inl, ℕ, ◌+◌, ◌*◌, ◌<◌, ◌≤◌, List, Option, None, Some, length, set, refl}
+use Rattle.std.proofs.Common.{Err, ◌≡◌, ◌≢◌, ◌⊎◌, inl, true, false, ℕ, ◌+◌, ◌*◌, ◌<◌, ◌≤◌, List, [], Option, None, Some, length}
+use Rattle.std.proofs.Common.{get_or, set, refl}
 use Rattle.std.proofs.Common.{sym, ◌∙◌, ap, subst, arith}
 use Rattle.enc_model.specs.Indexes.{IndexSet}
-use Rattle.spool_blocks.specs.Blocks.{Row}
+use Rattle.spool_blocks.specs.Blocks.{Row, Held}
 use Rattle.spool_disk.specs.declared.disk.Disk.{Ghosts}
 use Rattle.spool_disk.specs.Views.{Lasts}
 use Rattle.spool_disk.proofs.Firm.{lasts_more, lasts_on}
 use Rattle.spool_journal.specs.Image.{journal_pages}
 use Rattle.spool_drafts.specs.Drafts.{IsPlaced, list_of, tail_of}
-use Rattle.spool_drafts.specs.Effect.{Effect}
+use Rattle.spool_drafts.specs.Effect.{Effect, OnlyWrites}
 use Rattle.spool_drafts.specs.declared.draft.SpoolDraft.{SpoolDraft}
 use Rattle.spool_drafts.proofs.Stays.{bytes_same}
 use Rattle.spool_pages.specs.View.{SlotRecord, text_page}
+use Rattle.spool_room.specs.Holdings.{IsInSome}
 use Rattle.spool_texts.specs.Drafts.{GivesBack, IsReserved}
 use Rattle.upload_rules.specs.Answers.{Answers}
 use Rattle.upload_rules.specs.Calls.{commit_outcome, commit_refusal, committed, committed_store, dropped, outcome}
-use Rattle.upload_rules.specs.Drafts.{draft_at}
+use Rattle.upload_rules.specs.Drafts.{DraftOf, draft_at}
 use Rattle.upload_rules.specs.Grown.{IsGrown}
-use Rattle.upload_rules.specs.Store.{Store, appended_store, appended_to, find, replaced, with_bytes, without}
+use Rattle.upload_rules.specs.Store.{Store, find, is_complete, patched, patched_at, patched_store, replaced}
+use Rattle.upload_rules.specs.Store.{with_length, without}
 use Rattle.upload_rules.specs.World.{Patch, World}
 use Rattle.upload_rules.specs.declared.errors.UploadError.{UploadError}
 use Rattle.upload_rules.specs.declared.errors.UploadError.TheVariants.{NoMemory, DiskFault, Refused}
 use Rattle.upload_rules.specs.declared.errors.UploadRefusal.{UploadRefusal}
 use Rattle.upload_rules.proofs.Growing.{grown_dropped, grown_put}
-use Rattle.spool_kept.specs.Committing.{IsCommit}
-use Rattle.spool_kept.specs.Drafting.{DraftStands, DraftsStand, IsOwnedBy, OnlyReserves, StandsFor}
+use Rattle.spool_kept.specs.Committing.{IsCommit, with_length_at}
+use Rattle.spool_kept.specs.Drafting.{DraftStands, DraftsStand, IsOwnedBy, OnlyReserves, StandsFor, lists_at}
 use Rattle.spool_kept.specs.Extending.{HandsOn, IsAppend, IsLonger}
 use Rattle.spool_kept.specs.Holding.{Holding}
 use Rattle.spool_kept.specs.Shows.{ImageShows}
 use Rattle.spool_kept.specs.Stored.{ShowsEither, Stored}
 use Rattle.spool_kept.specs.declared.extending.Longer.{Longer}
 use Rattle.spool_kept.proofs.CommitRefusals as rules
-use Rattle.spool_kept.proofs.DraftLonger.{other_stands}
-use Rattle.spool_kept.proofs.DraftSpent.{all_given, all_handed, inside_of, other_upload, rows_handed, stand_spent}
-use Rattle.spool_kept.proofs.DraftSpent.{tail_still}
+use Rattle.spool_kept.proofs.DraftLonger.{held_both, other_stands}
+use Rattle.spool_kept.proofs.DraftSpent.{all_given, all_handed, inside_of, open_before, other_upload, owned_declared}
+use Rattle.spool_kept.proofs.DraftSpent.{rows_handed, stand_spent, tail_still}
 use Rattle.spool_kept.proofs.Drafted.{IsChanged, changed_in, stored_on}
 
 -- THE STORES THAT A CRASH MAY LEAVE
 
-pub outcome_is : (w : World) (d : ℕ) (p : Patch) → commit_refusal w d p ≡ None → 0 < length p.body
-    → commit_outcome w d p ≡ appended_store w.store p.number p.body
-outcome_is w d p allowed some =
-    ap (λ (e : Option UploadRefusal). outcome e w.store (committed_store w.store p)) allowed
-    ∙ rules.store_longer w.store p some
+pub outcome_is : (w : World) (d : ℕ) (p : Patch) → commit_refusal w d p ≡ None → (m : Store)
+    → committed_store w.store p ≡ m → commit_outcome w d p ≡ m
+outcome_is w d p allowed m is =
+    ap (λ (e : Option UploadRefusal). outcome e w.store (committed_store w.store p)) allowed ∙ is
 
 module _ {D : Type 0} (disk : Ghosts D) (d d' : D) (n : ℕ) (m : Store) where
   pub as_before : (after : Store) → Lasts disk d d' (λ image. ImageShows n image m)
@@ -124,16 +126,19 @@ module _ {D : Type 0} (disk : Ghosts D) (d d' : D) (h h' : Holding) (only : Only
           placed is.stands.stands.all h''.blocks gives)
 
   -- its blocks are its upload's
-  module _ (longer : Longer) (append : IsAppend disk d' h' w.store p.number p.body longer (list_of o'))
+  module _ (longer : Longer) (append : IsAppend disk d' h' w.store p.number p.declare p.body longer (list_of o'))
+      (more : (0 < length p.body)
+      ⊎ (is_complete (patched (with_length p.began is.still.0) p.declare p.body) ≡ true))
       (used : SlotRecord) (d'' : D) (h'' : Holding) (is_longer : IsLonger h' used longer (list_of o') h'')
       (hands : HandsOn h'.blocks.reserved h''.blocks.reserved (list_of o'))
       (texts : (q : ℕ) → 4096 * text_page h'.layout ≤ q → disk.seen d'' q ≡ disk.seen d' q)
-      (stored : Stored disk d'' h'' (appended_store w.store p.number p.body)) where
+      (stored : Stored disk d'' h'' (patched_store w.store p.number p.declare p.body)) where
     abbrev after : Store
-    after = record w.store { uploads = replaced p.number (with_bytes p.began p.body) w.store.uploads }
+    after = record w.store
+        { uploads = replaced p.number (patched (with_length p.began is.still.0) p.declare p.body) w.store.uploads }
 
-    after_is : appended_store w.store p.number p.body ≡ after
-    after_is = ap (appended_to w.store p.number p.body) is.upload
+    after_is : patched_store w.store p.number p.declare p.body ≡ after
+    after_is = ap (patched_at w.store p.number p.declare p.body) is.still.1
 
     layout : h''.layout ≡ h.layout
     layout = is_longer.layout ∙ ap (λ (k : Holding). k.layout) only.same
@@ -143,7 +148,7 @@ module _ {D : Type 0} (disk : Ghosts D) (d d' : D) (h h' : Holding) (only : Only
 
     grown : IsGrown (record w { store = after; patches = without number w.patches })
     grown = grown_put (dropped w number) (grown_dropped w is.stands.stands.grown number is.stands.stands.apart) p.number
-        p.began p.body is.upload
+        (with_length p.began is.still.0) p.declare p.body is.still.1
 
     put_stands : (e : ℕ) → number ≢ e → (r : Patch) (a : SpoolDraft) → find e w.patches ≡ Some r
         → draft_at drafts e ≡ Some a
@@ -152,6 +157,8 @@ module _ {D : Type 0} (disk : Ghosts D) (d d' : D) (h h' : Holding) (only : Only
         r a
     put_stands e other r a found there s =
         let mid = others e other r a there s in
+        let other_number = other_upload w is.stands.stands.grown p.number (with_length p.began is.still.0) is.still.1
+        p.declare p.body more e r found in
         let same : (q : ℕ) → 4096 * (25 + 2 * journal_pages h.layout) ≤ q → disk.seen d'' q ≡ disk.seen d' q =
         λ q from. texts q (subst (λ (n : ℕ). 4096 * (25 + 2 * journal_pages n) ≤ q)
         (sym (ap (λ (k : Holding). k.layout) only.same)) from) in
@@ -160,9 +167,9 @@ module _ {D : Type 0} (disk : Ghosts D) (d d' : D) (h h' : Holding) (only : Only
           below = mid.below;
           carries = λ still kept. bytes_same (disk.seen d') (disk.seen d'') (25 + 2 * journal_pages h.layout) a.growth
               a.growth.on same
-              ∙ mid.carries (other_upload w is.stands.stands.grown p is.upload is.some e r found still).1 kept;
+              ∙ mid.carries (other_number still).1 kept;
           tail = λ still.
-              let away = other_upload w is.stands.stands.grown p is.upload is.some e r found still in
+              let away = other_number still in
               tail_still h' h'' used longer (list_of o') is_longer reserved.no_owner p.number r.number (tail_of a)
               append.used away.0
               (subst (λ (k : List (Option SlotRecord)). IsOwnedBy k h'.blocks.rows r.number (tail_of a))
@@ -182,9 +189,59 @@ module _ {D : Type 0} (disk : Ghosts D) (d d' : D) (h h' : Holding) (only : Only
     stands_committed =
         subst (λ (m : Store). StandsFor disk d'' h'' (set drafts number None)
         (record w { store = m; patches = without number w.patches })) (sym
-        (rules.store_longer w.store p is.some ∙ after_is)) record {
+        (rules.store_changed w.store p is.changes ∙ after_is)) record {
           stored = subst (Stored disk d'' h'') after_is stored;
           stands = subst (λ (n : ℕ). DraftsStand w.store.indexes (disk.seen d'') (25 + 2 * journal_pages n) h''.slots
               h''.blocks (record w { store = after; patches = without number w.patches }) (set drafts number None))
               (sym layout) here;
         }
+
+-- ITS LENGTH ALONE
+
+-- an upload gets its length, while all drafts stay
+module _ {D : Type 0} (disk : Ghosts D) (d d' d'' : D) (h h' : Holding) (drafts : List (Option SpoolDraft)) (w : World)
+    (stands : StandsFor disk d h drafts w) (longer : Longer) (used : SlotRecord) (n : ℕ)
+    (there : get_or h.slots longer.slot None ≡ Some used) (declare : Option ℕ)
+    (append : IsAppend disk d' h w.store n declare [] longer []) (unknown : append.upload.declared ≡ None)
+    (is_longer : IsLonger h used longer [] h')
+    (only : OnlyWrites disk (journal_pages h.layout) [] d d')
+    (texts : (q : ℕ) → 4096 * text_page h.layout ≤ q → disk.seen d'' q ≡ disk.seen d' q)
+    (stored : Stored disk d'' h' (patched_store w.store n declare [])) where
+  abbrev named : Store
+  named = record w.store { uploads = replaced n (patched append.upload declare []) w.store.uploads }
+
+  named_is : patched_store w.store n declare [] ≡ named
+  named_is = ap (patched_at w.store n declare []) append.there
+
+  seen_same : (q : ℕ) → 4096 * (25 + 2 * journal_pages h.layout) ≤ q → disk.seen d'' q ≡ disk.seen d q
+  seen_same q from = texts q from ∙ only.writes.outside q (λ i. absurd (omega arith))
+
+  each_named : (e : ℕ) → DraftOf (DraftStands w.store.indexes (disk.seen d'') (25 + 2 * journal_pages h.layout) h'.slots
+      h'.blocks.rows named) (find e w.patches) (draft_at drafts e)
+  each_named e = held_both
+      (DraftStands w.store.indexes (disk.seen d) (25 + 2 * journal_pages h.layout) h.slots h.blocks.rows w.store)
+      (DraftStands w.store.indexes (disk.seen d'') (25 + 2 * journal_pages h.layout) h'.slots h'.blocks.rows named)
+      (find e w.patches) (draft_at drafts e) (λ r a found at s.
+      let before = open_before w stands.stands.grown n append.upload append.there declare [] unknown refl e r found in
+      record {
+        holds = s.holds;
+        below = s.below;
+        carries = λ still kept. bytes_same (disk.seen d) (disk.seen d'') (25 + 2 * journal_pages h.layout) a.growth
+            a.growth.on seen_same
+            ∙ s.carries (before still) kept;
+        tail = λ still. owned_declared h h' used longer r.number (tail_of a) there is_longer (s.tail (before still));
+      }) (stands.stands.each e)
+
+  pub stands_declared : StandsFor disk d'' h' drafts (with_length_at w n declare)
+  stands_declared = subst (λ (m : Store). StandsFor disk d'' h' drafts (record w { store = m })) (sym named_is) record {
+    stored = subst (Stored disk d'' h') named_is stored;
+    stands = subst (λ (k : ℕ). DraftsStand w.store.indexes (disk.seen d'') (25 + 2 * journal_pages k) h'.slots h'.blocks
+        (record w { store = named }) drafts) (sym is_longer.layout) record {
+      each = each_named;
+      apart = stands.stands.apart;
+      grown = grown_put w stands.stands.grown n append.upload declare [] append.there;
+      limit = stands.stands.limit ∙ ap (λ (b : Held). Some (length b.rows)) (sym (is_longer.same refl));
+      all = subst (λ (b : Held). (k : ℕ) → get_or b.reserved k false ≡ true → IsInSome (lists_at drafts) k)
+          (sym (is_longer.same refl)) stands.stands.all;
+    };
+  }

@@ -51,25 +51,25 @@ below_next v m n u shows there =
     omega (arith, has.number, (shows.sound.records has.slot has.used has.there).below, shows.next)
 
 module _ {D : Type 0} (disk : Ghosts D) (d : D) (h : Holding) (old : List (Option SpoolDraft)) (w : World)
-    (s : StandsFor disk d h old w) (n offset count : ℕ) where
+    (s : StandsFor disk d h old w) (n offset count : ℕ) (declare : Option ℕ) where
   first : ℕ
   first = 25 + 2 * journal_pages h.layout
 
   abbrev Opens : Option Upload → Result SpoolDraft UploadRefusal → Type 0
-  Opens u r = OpensFor w.store n offset count (disk.seen d) (25 + 2 * journal_pages h.layout) u r
+  Opens u r = OpensFor w.store n offset count declare (disk.seen d) (25 + 2 * journal_pages h.layout) u r
 
   pub begin_refused : (u : Option Upload) (e : UploadRefusal) → upload_of w.store n ≡ u → Opens u (Err e)
-      → begin_refusal w n offset count ≡ Some e
-  begin_refused None e there opens = ap (begin_refusal_at offset count) there ∙ ap Some (sym opens)
-  begin_refused (Some u) e there opens = ap (begin_refusal_at offset count) there ∙ opens
+      → begin_refusal w n offset count declare ≡ Some e
+  begin_refused None e there opens = ap (begin_refusal_at offset count declare) there ∙ ap Some (sym opens)
+  begin_refused (Some u) e there opens = ap (begin_refusal_at offset count declare) there ∙ opens
 
   pub begin_allowed : (u : Option Upload) (o : SpoolDraft) → upload_of w.store n ≡ u → Opens u (Ok o)
-      → begin_refusal w n offset count ≡ None
+      → begin_refusal w n offset count declare ≡ None
   begin_allowed None o there opens = absurd opens
-  begin_allowed (Some u) o there opens = ap (begin_refusal_at offset count) there ∙ opens.0.0
+  begin_allowed (Some u) o there opens = ap (begin_refusal_at offset count declare) there ∙ opens.0.0
 
   pub begin_late : (u : Option Upload) (o : SpoolDraft) → upload_of w.store n ≡ u → Opens u (Ok o)
-      → IsLate (begin_refusal w n offset count)
+      → IsLate (begin_refusal w n offset count declare)
   begin_late u o there opens = subst IsLate (sym (begin_allowed u o there opens)) tt
 
   module _ (new : List (Option SpoolDraft)) (place : ℕ) (o : SpoolDraft) (placed : IsPlaced old o place new)
@@ -97,16 +97,16 @@ module _ {D : Type 0} (disk : Ghosts D) (d : D) (h : Holding) (old : List (Optio
 
     stand_begun : (u : Upload) → upload_of w.store n ≡ Some u → Opens (Some u) (Ok o)
         → DraftsStand w.store.indexes (disk.seen d) (25 + 2 * journal_pages h.layout) h.slots h.blocks
-        (record w { patches = (place, first_patch n count u) ∷ w.patches }) new
+        (record w { patches = (place, first_patch n count declare u) ∷ w.patches }) new
     stand_begun u there opens = record {
-      each = begun_stand Stands w.patches old new s.stands.each place (first_patch n count u) o placed record {
+      each = begun_stand Stands w.patches old new s.stands.each place (first_patch n count declare u) o placed record {
         holds = opens.0.1;
         below = below_next s.stored.view w.store n u s.stored.shows there;
         carries = λ still. opens.1;
         tail = λ still. owned;
       };
       apart = (nothing_there, s.stands.apart);
-      grown = grown_begun w s.stands.grown n count u place there;
+      grown = grown_begun w s.stands.grown n count declare u place there;
       limit = s.stands.limit;
       all = λ b reserved.
           in_other (lists_at old) (lists_at new) place (list_of o)
@@ -115,12 +115,12 @@ module _ {D : Type 0} (disk : Ghosts D) (d : D) (h : Holding) (old : List (Optio
     }
 
     pub begins : (u : Option Upload) → upload_of w.store n ≡ u → Opens u (Ok o)
-        → (place ≡ free_number w) × StandsFor disk d h new (begun w n count)
+        → (place ≡ free_number w) × StandsFor disk d h new (begun w n count declare)
     begins None there opens = absurd opens
     begins (Some u) there opens = (
       number_free,
-      subst (λ q. StandsFor disk d h new (begun_at w n count q)) (sym there)
-          (subst (λ k. StandsFor disk d h new (record w { patches = (k, first_patch n count u) ∷ w.patches }))
+      subst (λ q. StandsFor disk d h new (begun_at w n count declare q)) (sym there)
+          (subst (λ k. StandsFor disk d h new (record w { patches = (k, first_patch n count declare u) ∷ w.patches }))
           number_free
           (record { stored = s.stored; stands = stand_begun u there opens })),
     )

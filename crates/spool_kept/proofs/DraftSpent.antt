@@ -1,8 +1,9 @@
 -- A draft that is spent after a call on it: its blocks are given back, or its upload's.
-use Rattle.std.proofs.Common.{◌≡◌, ◌≢◌, inl, inr, ℕ, zero, suc, ◌/◌, ◌<◌, ◌++◌, true, false, List, [], ◌∷◌, Option}
+use Rattle.std.proofs.Common.{◌≡◌, ◌≢◌, ◌⊎◌, inl, inr, ℕ, zero, suc, ◌/◌, ◌≤◌, ◌<◌, ◌++◌, true, false, List, [], ◌∷◌, Option}
 use Rattle.std.proofs.Common.{None, Some, length, get_or, set, refl, sym, ◌∙◌, ap, subst, arith, length-append}
 use Rattle.std.proofs.lemmas.Bool.{both_ways, cases_eq, cases_lt}
 use Rattle.std.proofs.lemmas.List.{get_or_past}
+use Rattle.std.proofs.lemmas.Option.{same_Some}
 use Rattle.enc_model.specs.Indexes.{IndexSet}
 use Rattle.spool_blocks.specs.Blocks.{Row, Held}
 use Rattle.spool_blocks.specs.Chains.{Owns}
@@ -15,15 +16,18 @@ use Rattle.spool_texts.specs.Drafts.{GivesBack, IsReserved}
 use Rattle.spool_texts.specs.Written.{NoneOf}
 use Rattle.upload_rules.specs.Drafts.{DraftOf, draft_at}
 use Rattle.upload_rules.specs.Grown.{GrewFrom, IsGrown}
-use Rattle.upload_rules.specs.Store.{Store, Upload, find, replaced, upload_of, with_bytes, without}
+use Rattle.upload_rules.specs.Lengths.{is_length}
+use Rattle.upload_rules.specs.Store.{Store, Upload, find, is_complete, patched, replaced, upload_of, with_length}
+use Rattle.upload_rules.specs.Store.{without}
 use Rattle.upload_rules.specs.World.{Patch, World}
 use Rattle.upload_rules.proofs.Finds.{find_replaced_other, find_replaced_same, find_without_other, find_without_same}
 use Rattle.upload_rules.proofs.Patches.{apart_without, carried}
-use Rattle.spool_kept.specs.Drafting.{DraftStands, DraftsHold, DraftsStand, IsOwnedBy, list_in, lists_at}
+use Rattle.upload_rules.proofs.Same.{same_upload}
+use Rattle.spool_kept.specs.Drafting.{DraftStands, DraftsHold, DraftsStand, IsOwnedBy, IsStillOpen, list_in, lists_at}
 use Rattle.spool_kept.specs.Extending.{HandsOn, IsLonger, longer_record}
 use Rattle.spool_kept.specs.Holding.{Holding, IsUsedBy}
 use Rattle.spool_kept.specs.declared.extending.Longer.{Longer}
-use Rattle.spool_kept.proofs.ChangedSlots.{clash, one_value, slot_else}
+use Rattle.spool_kept.proofs.ChangedSlots.{clash, in_use, one_value, slot_else, slot_here}
 use Rattle.spool_kept.proofs.DraftLists.{IsOut, in_other, kept_out, none_in_nothing, nothing_reserved}
 use Rattle.spool_kept.proofs.DraftLonger.{all_longer, fit_longer, held_both}
 use Rattle.spool_kept.proofs.Drafted.{IsChanged, changed_in, changed_lists, changed_out, fit_changed, fit_dropped}
@@ -158,39 +162,79 @@ stand_spent x seen seen' first records records' h h' w m old d stand weaker grow
   all = all;
 }
 
--- WHERE AN UPLOAD GOT LONGER
+-- WHERE AN UPLOAD HAS MORE
 
--- a draft of the upload that got longer can't be committed; of another upload, that is as it was
-module _ (w : World) (grown : IsGrown w) (p : Patch) (upload : upload_of w.store p.number ≡ Some p.began)
-    (some : 0 < length p.body) where
-  abbrev put : List (ℕ × Upload)
-  put = replaced p.number (with_bytes p.began p.body) w.store.uploads
+module _ (w : World) (grown : IsGrown w) (n : ℕ) (u : Upload) (upload : upload_of w.store n ≡ Some u)
+    (declare : Option ℕ) (body : List ℕ) where
+  abbrev put : Store
+  put = record w.store { uploads = replaced n (patched u declare body) w.store.uploads }
 
-  behind : (r : Patch) → GrewFrom r (Some p.began) → Some (with_bytes p.began p.body) ≡ Some r.began → ⊥
-  behind r grew same =
-      let began : with_bytes p.began p.body ≡ r.began =
-      ap (λ o. elim o as (λ _. Upload) [ None ↦ r.began | Some u ↦ u ]) same in
-      let long : length (p.began.accepted ++ p.body) ≡ length r.began.accepted =
-      ap (λ (u : Upload). length u.accepted) began in
-      let short : length p.began.accepted ≡ length (r.began.accepted ++ grew.0) =
-      ap (λ (u : Upload). length u.accepted) grew.1 in
-      omega (arith, long, short, length-append p.began.accepted p.body, length-append r.began.accepted grew.0, some)
+  -- a draft of this upload that is still open
+  same_number : (r : Patch) → n ≡ r.number
+      → (still : IsStillOpen (record w.store { uploads = replaced n (patched u declare body) w.store.uploads }) r)
+      → patched u declare body ≡ with_length r.began still.0
+  same_number r same still = same_Some (patched u declare body) (with_length r.began still.0)
+      (sym (subst (λ (k : ℕ). find k (replaced n (patched u declare body) w.store.uploads) ≡ Some (patched u declare body))
+      same (find_replaced_same n u (patched u declare body) w.store.uploads upload)) ∙ still.1)
 
-  pub other_upload : (e : ℕ) (r : Patch) → find e w.patches ≡ Some r → find r.number
-      (replaced p.number (with_bytes p.began p.body) w.store.uploads) ≡ Some r.began
-      → (p.number ≢ r.number) × (upload_of w.store r.number ≡ Some r.began)
-  other_upload e r found still = elim (cases_eq p.number r.number) [
+  -- and of another one, which is as it was
+  other_number : (r : Patch) → n ≢ r.number
+      → IsStillOpen (record w.store { uploads = replaced n (patched u declare body) w.store.uploads }) r
+      → IsStillOpen w.store r
+  other_number r other still = (
+    still.0,
+    sym (find_replaced_other n r.number (patched u declare body) w.store.uploads other) ∙ still.1,
+    still.2,
+  )
+
+  shorter : (r : Patch) → GrewFrom r (Some u) → length r.began.accepted ≤ length u.accepted
+  shorter r grew = omega
+      (arith, ap (λ (v : Upload). length v.accepted) grew.2, length-append r.began.accepted grew.1)
+
+  -- nothing can be put behind an upload that got longer or complete any more
+  pub other_upload : (0 < length body) ⊎ (is_complete (patched u declare body) ≡ true) → (e : ℕ) (r : Patch)
+      → find e w.patches ≡ Some r
+      → IsStillOpen (record w.store { uploads = replaced n (patched u declare body) w.store.uploads }) r
+      → (n ≢ r.number) × IsStillOpen w.store r
+  other_upload more e r found still = elim (cases_eq n r.number) [
     | inl same ↦
-        absurd (behind r (subst (GrewFrom r) (subst (λ (k : ℕ). find k w.store.uploads ≡ Some p.began) same upload)
-        (grown.each e r found))
-        (sym (subst (λ (k : ℕ). find k (replaced p.number (with_bytes p.began p.body) w.store.uploads) ≡ Some
-        (with_bytes p.began p.body)) same (find_replaced_same p.number p.began (with_bytes p.began p.body)
-        w.store.uploads upload)) ∙ still))
-    | inr other ↦ (
-      other,
-      sym (find_replaced_other p.number r.number (with_bytes p.began p.body) w.store.uploads other)
-          ∙ still,
-    )
+        let is = same_number r same still in
+        let grew = subst (GrewFrom r) (subst (λ (k : ℕ). find k w.store.uploads ≡ Some u) same upload)
+        (grown.each e r found) in
+        absurd (elim more [
+          | inl some ↦ omega (
+            arith,
+            ap (λ (v : Upload). length v.accepted) is,
+            length-append u.accepted body,
+            shorter r grew,
+            some,
+          )
+          | inr whole ↦ both_ways (is_complete (with_length r.began still.0)) still.2
+              (ap is_complete (sym is) ∙ whole)
+        ])
+    | inr other ↦ (other, other_number r other still)
+  ]
+
+  -- where an upload got its length alone, what is still open was so
+  pub open_before : u.declared ≡ None → body ≡ [] → (e : ℕ) (r : Patch) → find e w.patches ≡ Some r
+      → IsStillOpen (record w.store { uploads = replaced n (patched u declare body) w.store.uploads }) r
+      → IsStillOpen w.store r
+  open_before unknown none e r found still = elim (cases_eq n r.number) [
+    | inl same ↦
+        let is = same_number r same still in
+        let there = subst (λ (k : ℕ). find k w.store.uploads ≡ Some u) same upload in
+        let was = same_upload w e r u grown found there (omega (
+          arith,
+          ap (λ (v : Upload). length v.accepted) is,
+          length-append u.accepted body,
+          ap length none,
+        )) in (
+          was.0,
+          there ∙ ap (λ (v : Upload). Some v) was.1,
+          subst (λ (v : Upload). is_complete v ≡ false) was.1
+              (ap (λ (k : Option ℕ). is_length k (length u.accepted)) unknown),
+        )
+    | inr other ↦ other_number r other still
   ]
 
 module _ (h new : Holding) (used : SlotRecord) (longer : Longer) (more : List ℕ) (is : IsLonger h used longer more new)
@@ -221,3 +265,32 @@ module _ (h new : Holding) (used : SlotRecord) (longer : Longer) (more : List �
         owned = λ i lt. let own =
             owned.owned i lt in (own.0, owned_still (get_or list i 0) owned.slot own.0 other own.1);
       }
+
+-- where only its record is another, an upload's blocks stay its own
+pub owned_declared : (h new : Holding) (used : SlotRecord) (longer : Longer) (k : ℕ) (list : List ℕ)
+    → get_or h.slots longer.slot None ≡ Some used → IsLonger h used longer [] new
+    → IsOwnedBy h.slots h.blocks.rows k list → IsOwnedBy new.slots new.blocks.rows k list
+owned_declared h new used longer k list there is owned = record {
+  slot = owned.slot;
+  used = subst (λ (xs : List (Option SlotRecord)). IsUsedBy xs owned.slot k) (sym is.slots) used_still;
+  owned = λ i lt.
+      let own = owned.owned i lt in
+      (own.0, ap (λ (c : Held). get_or c.rows (get_or list i 0) None) (is.same refl) ∙ own.1);
+}
+  where
+    used_still : IsUsedBy (set h.slots longer.slot (Some (longer_record used longer))) owned.slot k
+    used_still = elim (cases_eq owned.slot longer.slot) [
+      | inl same ↦ record {
+        used = longer_record used longer;
+        there = ap (λ (s : ℕ). get_or (set h.slots longer.slot (Some (longer_record used longer))) s None) same
+            ∙ slot_here h.slots longer.slot (longer_record used longer) (in_use h.slots longer.slot used there);
+        is = ap (λ (r : SlotRecord). r.number)
+            (one_value there (ap (λ (s : ℕ). get_or h.slots s None) (sym same) ∙ owned.used.there))
+            ∙ owned.used.is;
+      }
+      | inr other ↦ record {
+        used = owned.used.used;
+        there = slot_else h.slots longer.slot (longer_record used longer) owned.slot other ∙ owned.used.there;
+        is = owned.used.is;
+      }
+    ]

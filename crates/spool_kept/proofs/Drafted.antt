@@ -228,9 +228,9 @@ list_owned h fits s lt number used list is =
       );
     }
 
-pub opens_for : (m : Store) (number offset count : ℕ) (seen : ℕ → ℕ) (first : ℕ) (u : Upload)
-    (r : Result SpoolDraft UploadRefusal) → IsBegun m.indexes number offset count u r
-    → IfOk r (λ d. Carries m.indexes seen first (first_patch number count u) d)
-    → OpensFor m number offset count seen first (Some u) r
-opens_for m number offset count seen first u (Ok o) begun carries = (begun, carries)
-opens_for m number offset count seen first u (Err e) begun carries = begun
+pub opens_for : (m : Store) (number offset count : ℕ) (declare : Option ℕ) (seen : ℕ → ℕ) (first : ℕ) (u : Upload)
+    (r : Result SpoolDraft UploadRefusal) → IsBegun m.indexes number offset count declare u r
+    → IfOk r (λ d. Carries m.indexes seen first (first_patch number count declare u) d)
+    → OpensFor m number offset count declare seen first (Some u) r
+opens_for m number offset count declare seen first u (Ok o) begun carries = (begun, carries)
+opens_for m number offset count declare seen first u (Err e) begun carries = begun

@@ -1,13 +1,14 @@
 -- A longer upload, as the disk is to say it.
 use Rattle.std.proofs.Common.{◌≡◌, inl, inr, ◌⊎◌, ℕ, zero, suc, ◌∷◌, ◌+◌, ◌-◌, ◌/◌, ◌%◌, ◌^◌, ◌<◌, ◌≤◌, List, [], ◌++◌}
-use Rattle.std.proofs.Common.{Option, None, Some, length, length-append, get_or, set, drop, refl, sym, ◌∙◌, ap, subst}
+use Rattle.std.proofs.Common.{Option, None, Some, false, length, length-append, get_or, set, drop, refl, sym, ◌∙◌, ap, subst}
 use Rattle.std.proofs.Common.{arith}
-use Rattle.std.proofs.lemmas.Bool.{cases_lt}
+use Rattle.std.proofs.lemmas.Bool.{cases_lt, both_ways, lt-ltb}
 use Rattle.std.proofs.lemmas.List.{append-nil}
 use Rattle.enc_model.specs.Transcode.{Transcoder}
 use Rattle.enc_stream.specs.StateBytes.{state_bytes, padded, phase_bytes, shift_number}
+use Rattle.upload_rules.specs.Lengths.{is_too_large, known_or, longest}
 use Rattle.upload_rules.specs.Room.{blocks_of}
-use Rattle.upload_rules.specs.Store.{Upload, Store, find, upload_of, text_of, with_bytes, appended_store}
+use Rattle.upload_rules.specs.Store.{Upload, Store, find, upload_of, text_of, patched, patched_store}
 use Rattle.spool_blocks.specs.Blocks.{Row, Held}
 use Rattle.spool_disk.specs.declared.disk.Disk.{Ghosts}
 use Rattle.spool_disk.specs.Views.{Lasts}
@@ -31,6 +32,20 @@ use Rattle.spool_kept.proofs.AppendedTexts.{handed_shows, handed_texts, texts_wi
 use Rattle.spool_kept.proofs.HandedOver.{room_for, rows_but_last}
 use Rattle.spool_kept.proofs.Keeps.{keeps_said}
 use Rattle.spool_kept.proofs.Told.{told_state}
+
+-- a length that isn't too large
+pub small_is : (declare : Option ℕ) → is_too_large declare ≡ false → longest declare ≤ 1073741824
+small_is None small = omega arith
+small_is (Some n) small = elim (cases_lt 1073741824 n) [
+  | inl lt ↦ absurd (both_ways (is_too_large (Some n)) small (lt-ltb 1073741824 n lt))
+  | inr le ↦ le
+]
+
+-- the length that is known, else a declared one that isn't too large
+known_small : (known declare : Option ℕ) → longest known ≤ 1073741824 → is_too_large declare ≡ false
+    → longest (known_or known declare) ≤ 1073741824
+known_small None declare old small = small_is declare small
+known_small (Some n) declare old small = old
 
 -- states are 32 bytes long
 padded_length : (n : ℕ) (bytes : List ℕ) → length (padded n bytes) ≡ n
@@ -92,8 +107,9 @@ module _ (h new : Holding) (v : View) (m : Store) (keeps : KeepsView h v) (shows
       (shows.sound.lists longer.slot may.used there) (keeps.listed longer.slot may.used there)
       (keeps.sizes longer.slot may.used there)
 
-  module _ (n : ℕ) (number : may.used.number ≡ n) (u : Upload) (found : upload_of m n ≡ Some u) (bytes added : List ℕ)
-      (seen : ℕ → ℕ) (ext : IsExtension m.indexes u bytes added longer more seen (text_page h.layout)) where
+  module _ (n : ℕ) (number : may.used.number ≡ n) (u : Upload) (found : upload_of m n ≡ Some u)
+      (declare : Option ℕ) (bytes added : List ℕ) (seen : ℕ → ℕ)
+      (ext : IsExtension m.indexes u declare bytes added longer more seen (text_page h.layout)) where
     found' : find may.used.number m.uploads ≡ Some u
     found' = ap (λ (k : ℕ). find k m.uploads) number ∙ found
 
@@ -103,9 +119,9 @@ module _ (h new : Holding) (v : View) (m : Store) (keeps : KeepsView h v) (shows
     text : List ℕ
     text = v.texts longer.slot ++ added
 
-    tells : IsRecordOf m.indexes (longer_record may.used longer) (v.texts longer.slot ++ added) (with_bytes u bytes)
+    tells : IsRecordOf m.indexes (longer_record may.used longer) (v.texts longer.slot ++ added) (patched u declare bytes)
     tells = record {
-      declared = told.declared;
+      declared = ext.declared;
       accepted = ext.accepted;
       metadata = told.metadata;
       text_len = ext.text_len;
@@ -128,12 +144,14 @@ module _ (h new : Holding) (v : View) (m : Store) (keeps : KeepsView h v) (shows
         record {
           some = old.some;
           below = old.below;
-          accepted = omega (arith, ext.accepted, ext.few, told.declared);
-          declared = old.declared;
+          accepted = omega (arith, ext.accepted, ext.few, ap longest ext.declared);
+          declared = subst (λ (k : Option ℕ). longest k ≤ 1073741824) (sym ext.declared)
+              (known_small u.declared declare
+              (subst (λ (k : Option ℕ). longest k ≤ 1073741824) told.declared old.declared) ext.small);
           text_fits = text_fits old;
           state_size = state_size;
           state = told_state m.indexes (longer_record may.used longer) (v.texts longer.slot ++ added)
-              (with_bytes u bytes) tells;
+              (patched u declare bytes) tells;
           metadata_size = old.metadata_size;
           printable = old.printable;
         }
@@ -177,13 +195,13 @@ module _ (h new : Holding) (v : View) (m : Store) (keeps : KeepsView h v) (shows
           (full_bytes (length (text_of m.indexes u))) (text_of m.indexes u) ++ added) keeps.blocks (ext.content some)))
 
       shows_some : Shows (appended_view v longer.slot (longer_record may.used longer) new.blocks.rows
-          (v.texts longer.slot ++ added)) (appended_store m may.used.number bytes)
+          (v.texts longer.slot ++ added)) (patched_store m may.used.number declare bytes)
       shows_some =
           handed_shows v m shows longer.slot may.used (longer_record may.used longer) there new.blocks.rows
           (v.texts longer.slot ++ added) (get_or h.lists longer.slot []) more
           (longer.text_len - (may.used.text_len - may.used.text_len % 4096))
           (keeps.listed longer.slot may.used there) (keeps.sizes longer.slot may.used there) (hands some) no_owner
-          more_size total u bytes refl found' tells record_sound room
+          more_size total u declare bytes refl found' tells record_sound room
 
       texts_some : HasTexts seen v → HasTexts seen
           (appended_view v longer.slot (longer_record may.used longer) new.blocks.rows (v.texts longer.slot ++ added))
@@ -199,10 +217,10 @@ module _ (h new : Holding) (v : View) (m : Store) (keeps : KeepsView h v) (shows
       text_same = ap (λ (xs : List ℕ). v.texts longer.slot ++ xs) (ext.nothing none) ∙ append-nil (v.texts longer.slot)
 
       shows_none : Shows (appended_view v longer.slot (longer_record may.used longer) new.blocks.rows
-          (v.texts longer.slot ++ added)) (appended_store m may.used.number bytes)
+          (v.texts longer.slot ++ added)) (patched_store m may.used.number declare bytes)
       shows_none =
           append_without_text v m shows longer.slot may.used (longer_record may.used longer) there refl new.blocks.rows
-          (v.texts longer.slot ++ added) u bytes found' tells record_sound (same_rows none) (may.same none)
+          (v.texts longer.slot ++ added) u declare bytes found' tells record_sound (same_rows none) (may.same none)
 
       texts_none : HasTexts seen v → HasTexts seen
           (appended_view v longer.slot (longer_record may.used longer) new.blocks.rows (v.texts longer.slot ++ added))
@@ -212,10 +230,10 @@ module _ (h new : Holding) (v : View) (m : Store) (keeps : KeepsView h v) (shows
 
     pub extended_shows : Shows
         (appended_view v longer.slot (longer_record may.used longer) new.blocks.rows (v.texts longer.slot ++ added))
-        (appended_store m n bytes)
+        (patched_store m n declare bytes)
     extended_shows = subst (λ (k : ℕ). Shows
         (appended_view v longer.slot (longer_record may.used longer) new.blocks.rows (v.texts longer.slot ++ added))
-        (appended_store m k bytes)) number (elim (cases_lt 0 (length more)) [
+        (patched_store m k declare bytes)) number (elim (cases_lt 0 (length more)) [
           | inl some ↦ shows_some some
           | inr none ↦ shows_none (omega (arith, none))
         ])
@@ -255,7 +273,8 @@ module _ {D : Type 0} (disk : Ghosts D) (old : D) (h new : Holding) (fits' : Fit
     (more : List ℕ) (may : MayExtend h longer more) (reserved : IsReserved h.blocks more)
     (is : (r : SlotRecord) → get_or h.slots longer.slot None ≡ Some r → IsLonger h r longer more new)
     (state_size : length longer.state ≡ 32)
-    (m : Store) (n : ℕ) (bytes : List ℕ) (append : IsAppend disk old h m n bytes longer more) where
+    (m : Store) (n : ℕ) (declare : Option ℕ) (bytes : List ℕ)
+    (append : IsAppend disk old h m n declare bytes longer more) where
   abbrev pub before : View
   before = append.stored.view
 
@@ -266,29 +285,29 @@ module _ {D : Type 0} (disk : Ghosts D) (old : D) (h new : Holding) (fits' : Fit
   number : may.used.number ≡ n
   number = ap (λ (r : SlotRecord). r.number) (one_value may.there append.used.there) ∙ append.used.is
 
-  pub after_shows : Shows after (appended_store m n bytes)
+  pub after_shows : Shows after (patched_store m n declare bytes)
   after_shows = extended_shows h new append.stored.view m append.stored.keeps append.stored.shows longer more may
-      reserved is state_size n number append.upload append.there bytes append.added (disk.seen old) append.extension
+      reserved is state_size n number append.upload append.there declare bytes append.added (disk.seen old) append.extension
 
   pub after_texts : HasTexts (disk.seen old) after
   after_texts =
       extended_texts h new append.stored.view m append.stored.keeps append.stored.shows longer more may reserved is
-      state_size n number append.upload append.there bytes append.added (disk.seen old) append.extension
+      state_size n number append.upload append.there declare bytes append.added (disk.seen old) append.extension
       (rests_says append.stored.rests).texts
 
   pub after_stored : (d : D) → disk.honest d → Rests after (disk.seen d) (disk.loose d)
-      → Stored disk d new (appended_store m n bytes)
+      → Stored disk d new (patched_store m n declare bytes)
   after_stored d honest rests = record {
     honest = honest;
     view = after;
     rests = rests;
     keeps = extended_keeps h new append.stored.view m append.stored.keeps append.stored.shows longer more may reserved
-        is state_size n number append.upload append.there bytes append.added (disk.seen old) append.extension fits';
+        is state_size n number append.upload append.there declare bytes append.added (disk.seen old) append.extension fits';
     shows = after_shows;
   }
 
   pub after_lasts : (d : D) → Lasts disk old d (λ image. IsViewOf image before ⊎ IsViewOf image after)
-      → Lasts disk old d (ShowsEither h.layout m (appended_store m n bytes))
+      → Lasts disk old d (ShowsEither h.layout m (patched_store m n declare bytes))
   after_lasts d lasts = lasts_more lasts (λ image shown. elim shown [
     | inl was ↦ inl (record {
       view = append.stored.view;

@@ -62,8 +62,8 @@ module _ (number : ℕ) (old new : List (Option SpoolDraft)) (forgets : EachForg
           record {
             holds = forgot.holds x p s.holds;
             below = s.below;
-            carries = λ there. clash none there;
-            tail = λ there. clash none there;
+            carries = λ still. clash none still.1;
+            tail = λ still. clash none still.1;
           }
       | inr other ↦
           subst (DraftStands x seen first slots h.rows w.store p) (sym (forgot.others other)) s
@@ -110,8 +110,8 @@ module _ (h h' : Holding) (slot number : ℕ) (used : IsUsedBy h.slots slot numb
   still_of : (o o' : SpoolDraft) → ForgetsTail number o o' → IsOfUpload h.slots o → IsOfUpload h'.slots o'
   still_of o o' forgot is = record {
     grown = λ s r e at. omega (arith, is.grown s r (was s r e) (at ∙ forgot.same_number), forgot.same_offset);
-    behind = λ s r e at count. forgot.behind r.text_len r.state
-        (is.behind s r (was s r e) (at ∙ forgot.same_number) (count ∙ forgot.same_offset));
+    behind = λ s r e at count open_still. forgot.behind r.text_len r.state
+        (is.behind s r (was s r e) (at ∙ forgot.same_number) (count ∙ forgot.same_offset) open_still);
   }
     where
       was : (s : ℕ) (r : SlotRecord) → get_or h'.slots s None ≡ Some r → get_or h.slots s None ≡ Some r

@@ -1,5 +1,5 @@
 -- The last bytes of a longer upload's text come onto its blocks.
-use Rattle.std.proofs.Common.{◌≡◌, ℕ, ◌+◌, ◌*◌, ◌/◌, ◌≤◌, List, length, refl, sym, subst}
+use Rattle.std.proofs.Common.{◌≡◌, ℕ, ◌+◌, ◌*◌, ◌/◌, ◌≤◌, List, Option, length, refl, sym, subst}
 use Rattle.spool_blocks.specs.Blocks.{Row}
 use Rattle.spool_disk.specs.declared.disk.Disk.{Ghosts}
 use Rattle.spool_disk.specs.Views.{Lasts}
@@ -18,9 +18,9 @@ use Rattle.spool_kept.specs.Stored.{Stored}
 use Rattle.spool_kept.specs.declared.extending.Longer.{Longer}
 use Rattle.spool_kept.proofs.DraftLonger.{moved}
 
-module _ {D : Type 0} (disk : Ghosts D) (d mid : D) (h : Holding) (m : Store) (n : ℕ) (bytes : List ℕ) (longer : Longer)
-    (more last : List ℕ)
-    (pending : IsPending disk d h m n bytes longer more last) (reserved : IsReserved h.blocks more)
+module _ {D : Type 0} (disk : Ghosts D) (d mid : D) (h : Holding) (m : Store) (n : ℕ) (declare : Option ℕ)
+    (bytes : List ℕ) (longer : Longer) (more last : List ℕ)
+    (pending : IsPending disk d h m n declare bytes longer more last) (reserved : IsReserved h.blocks more)
     (only : OnlyWrites disk (journal_pages h.layout) more d mid) where
   abbrev s : Stored disk d h m
   s = pending.stored
@@ -41,7 +41,7 @@ module _ {D : Type 0} (disk : Ghosts D) (d mid : D) (h : Holding) (m : Store) (n
       → text_on (disk.seen mid) (25 + 2 * journal_pages h.layout) more
       (length (bytes_with (disk.seen d) (25 + 2 * journal_pages h.layout) more last)) ≡ bytes_with (disk.seen d)
       (25 + 2 * journal_pages h.layout) more last)
-      → IsAppend disk mid h m n bytes longer more
+      → IsAppend disk mid h m n declare bytes longer more
   appended honest written =
       pending.append mid
       (moved disk d mid h h m h.layout s record {

@@ -1,12 +1,13 @@
 -- A new upload, in what is kept and on the disk.
-use Rattle.std.proofs.Common.{◌≡◌, inl, inr, ◌⊎◌, ℕ, ◌+◌, ◌^◌, ◌<◌, ◌≤◌, List, Option, None, Some, length, get_or}
+use Rattle.std.proofs.Common.{◌≡◌, inl, inr, ◌⊎◌, ℕ, ◌+◌, ◌^◌, ◌<◌, ◌≤◌, List, Option, None, Some, false, length, get_or}
 use Rattle.std.proofs.Common.{slice_set, refl, sym, ◌∙◌, ap, subst, arith}
-use Rattle.std.proofs.lemmas.Bool.{le-ltb, lt-leb}
+use Rattle.std.proofs.lemmas.Bool.{lt-leb}
 use Rattle.spool_disk.specs.Views.{Lasts}
 use Rattle.spool_disk.proofs.Firm.{lasts_more}
 use Rattle.spool_disk.specs.declared.disk.Disk.{Ghosts}
 use Rattle.upload_rules.specs.declared.errors.UploadRefusal.{UploadRefusal}
 use Rattle.upload_rules.specs.Calls.{create_refusal, outcome}
+use Rattle.upload_rules.specs.Lengths.{is_too_large}
 use Rattle.upload_rules.specs.Store.{New, Store, created_store}
 use Rattle.upload_rules.specs.World.{at_rest}
 use Rattle.spool_pages.specs.Changes.{Changes, with_record}
@@ -26,14 +27,14 @@ use Rattle.spool_kept.proofs.Keeps.{keeps_said}
 
 module _ (h : Holding) (v : View) (m : Store) (new : New) (slot : ℕ) (r : SlotRecord) (keeps : KeepsView h v)
     (shows : Shows v m) (room : HasRoomAt h slot)
-    (small : new.declared ≤ 1073741824) (few : length m.uploads < 512) (is : IsNewRecord h.next new r) where
+    (small : is_too_large new.declared ≡ false) (few : length m.uploads < 512) (is : IsNewRecord h.next new r) where
   pub next_is : h.next ≡ m.next
   next_is = keeps.next ∙ shows.next
 
   -- the rules allow it
   pub allowed : create_refusal (at_rest m None) new ≡ None
   allowed = rw (
-    le-ltb 1073741824 new.declared small,
+    small,
     lt-leb 512 (length m.uploads) few,
     lt-leb (10 ^ 18) m.next
         (omega (arith, room.next, next_is)),

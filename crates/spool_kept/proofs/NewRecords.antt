@@ -1,9 +1,10 @@
 -- The record of a new upload.
-use Rattle.std.proofs.Common.{◌≡◌, ℕ, zero, suc, ◌+◌, ◌≤◌, List, [], ◌∷◌, All, length, refl, sym, ◌∙◌, ap, subst, arith}
+use Rattle.std.proofs.Common.{◌≡◌, ℕ, zero, suc, ◌+◌, ◌≤◌, List, [], ◌∷◌, Option, false, All, length, refl, sym, ◌∙◌, ap, subst, arith}
 use Rattle.std.proofs.lemmas.List.{length-append}
 use Rattle.enc_model.specs.Indexes.{IndexSet}
 use Rattle.enc_model.specs.Transcode.{Transcoder}
 use Rattle.enc_stream.specs.StateBytes.{state_bytes, padded, phase_bytes, shift_number}
+use Rattle.upload_rules.specs.Lengths.{is_too_large, longest}
 use Rattle.upload_rules.specs.Records.{Keeps, IsWellFormed}
 use Rattle.upload_rules.specs.States.{state_with, transcoder_with}
 use Rattle.upload_rules.specs.Store.{New, new_upload, is_complete}
@@ -60,12 +61,17 @@ module _ (x : IndexSet) (n : ℕ) (r : Record) (new : New) (keeps : Keeps x n r 
   no_text : r.text_len ≡ 0
   no_text = keeps.tells.text_len ∙ ap length (new_text x new)
 
-  sound_new : IsWellFormed new → 1 ≤ n → new.declared ≤ 1073741824 → IsSoundRecord (n + 1) (said_of r)
+  small_is : (known : Option ℕ) → is_too_large known ≡ false → longest known ≤ 1073741824
+  small_is None small = omega arith
+  small_is (Some k) small = omega (arith, small)
+
+  sound_new : IsWellFormed new → 1 ≤ n → is_too_large new.declared ≡ false → IsSoundRecord (n + 1) (said_of r)
   sound_new well some small = record {
     some = omega (arith, keeps.tells.number_is, some);
     below = omega (arith, keeps.tells.number_is);
     accepted = omega (arith, keeps.tells.accepted);
-    declared = omega (arith, keeps.tells.declared, small);
+    declared = subst (λ (k : Option ℕ). longest k ≤ 1073741824) (sym keeps.tells.declared)
+        (small_is new.declared small);
     text_fits = omega (arith, no_text);
     state_size = ap length state_is ∙ state_size (transcoder_with x (new_upload new) [] (is_complete (new_upload new)));
     state = told_state x (said_of r) [] (new_upload new) tells_new;

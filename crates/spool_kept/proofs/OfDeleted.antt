@@ -13,10 +13,11 @@ use Rattle.spool_texts.specs.Drafts.{IsReserved}
 use Rattle.upload_rules.specs.Calls.{terminated}
 use Rattle.upload_rules.specs.Drafts.{draft_at}
 use Rattle.upload_rules.specs.Grown.{GrewFrom, IsGrown}
-use Rattle.upload_rules.specs.Store.{Upload, deleted_store, find, others, upload_of}
+use Rattle.upload_rules.specs.Store.{Upload, deleted_store, find, others, upload_of, with_length}
 use Rattle.upload_rules.specs.World.{Patch, World}
 use Rattle.upload_rules.proofs.Deleted.{find_in_others, none_in_others}
-use Rattle.spool_kept.specs.Drafting.{DraftStands, DraftsHold, DraftsStand, IsOwnedBy, StandsFor, lists_at}
+use Rattle.spool_kept.specs.Drafting.{DraftStands, DraftsHold, DraftsStand, IsOwnedBy, IsStillOpen, StandsFor}
+use Rattle.spool_kept.specs.Drafting.{lists_at}
 use Rattle.spool_kept.specs.Holding.{Holding, IsUsedBy}
 use Rattle.spool_kept.specs.Stored.{Stored}
 use Rattle.spool_kept.specs.Terminating.{FreesRows, IsTakenOut}
@@ -59,6 +60,13 @@ upload_was w number n u e = elim (cases_eq number n) [
   | inr other ↦ (other, sym (find_in_others number n w.store.uploads other) ∙ e)
 ]
 
+-- and so was one that is as a patch began, but for a length
+still_was : (w : World) (number : ℕ) (p : Patch) → IsStillOpen (deleted_store w.store number) p
+    → (number ≢ p.number) × IsStillOpen w.store p
+still_was w number p still =
+    let was = upload_was w number p.number (with_length p.began still.0) still.1 in
+    (was.0, (still.0, was.1, still.2))
+
 still_grown : (w : World) (number : ℕ) → IsGrown w → IsGrown (terminated w number)
 still_grown w number grown = record {
   each = λ d p found. by_answer p (upload_of (deleted_store w.store number) p.number) refl (grown.each d p found);
@@ -99,9 +107,9 @@ module _ (h h' : Holding) (number slot : ℕ) (used : IsUsedBy h.slots slot numb
       below = s.below;
       carries = λ there kept.
           bytes_same seen seen' first o.growth o.growth.on same
-          ∙ s.carries (upload_was w number p.number p.began there).1 kept;
+          ∙ s.carries (still_was w number p there).1 kept;
       tail = λ there.
-          let was = upload_was w number p.number p.began there in
+          let was = still_was w number p there in
           owned_still p.number (tail_of o) was.0 (s.tail was.1);
     }
 

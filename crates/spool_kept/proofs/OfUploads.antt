@@ -1,20 +1,21 @@
 -- The drafts' uploads, whatever the disk said: what is in their slots, and what becomes of it.
-use Rattle.std.proofs.Common.{◌≡◌, inl, inr, ℕ, ◌<◌, List, Option, length-set, None, Some, IfOk, IfSome, MatchOption}
+use Rattle.std.proofs.Common.{◌≡◌, inl, inr, ℕ, ◌<◌, ◌≤◌, false, List, [], Option, length-set, None, Some, IfOk, IfSome, MatchOption}
 use Rattle.std.proofs.Common.{Result, Ok, Err, get_or, length, set, refl, sym, ◌∙◌, ap, subst, arith}
-use Rattle.std.proofs.lemmas.Bool.{cases_eq, cases_lt}
+use Rattle.std.proofs.lemmas.Bool.{both_ways, cases_eq, cases_lt}
 use Rattle.std.proofs.lemmas.Option.{same_Some}
-use Rattle.spool_drafts.specs.Drafts.{IsBehind, number_of, offset_of}
+use Rattle.spool_drafts.specs.Drafts.{IsBehind, declare_of, number_of, offset_of}
 use Rattle.spool_drafts.specs.declared.draft.SpoolDraft.{SpoolDraft}
 use Rattle.spool_blocks.specs.Blocks.{Held}
 use Rattle.spool_pages.specs.View.{SlotRecord}
 use Rattle.spool_texts.specs.Drafts.{GivesBack}
 use Rattle.upload_rules.specs.Drafts.{draft_at}
+use Rattle.upload_rules.specs.Lengths.{is_length}
 use Rattle.upload_rules.specs.declared.errors.UploadRefusal.{UploadRefusal}
 use Rattle.upload_rules.specs.declared.records.Record.{Record}
 use Rattle.spool_kept.specs.Committing.{HasSameCount, IsBehindSlot}
 use Rattle.spool_kept.specs.Creating.{HasRoomAt, IsTakenIn}
 use Rattle.spool_kept.specs.Drafting.{DraftsFit, DraftsHold, EachDraft, IsKept, IsOfUpload, lists_at}
-use Rattle.spool_kept.specs.Extending.{longer_record}
+use Rattle.spool_kept.specs.Extending.{Advances, IsLonger, OnlyDeclares, longer_record}
 use Rattle.spool_kept.specs.Holding.{FitsTogether, Holding, IsUsedBy, Lists, number_at, numbered}
 use Rattle.spool_kept.specs.declared.extending.Longer.{Longer}
 use Rattle.spool_kept.specs.declared.order.NumberedSlot.{NumberedSlot}
@@ -57,20 +58,21 @@ of_begun : (slots : List (Option SlotRecord)) (r : Record) (o : SpoolDraft) → 
 of_begun slots r o kept number offset behind = record {
   grown = λ s q there is.
       omega (arith, offset, ap (λ (p : SlotRecord). p.accepted) (kept.only s q there (is ∙ number)));
-  behind = λ s q there is same.
+  behind = λ s q there is same open_still.
       subst (λ (p : SlotRecord). IsBehind p.text_len p.state o) (sym (kept.only s q there (is ∙ number))) behind;
 }
 
-pub begins_kept : (slots : List (Option SlotRecord)) (r : Record) (result : Result SpoolDraft UploadRefusal)
-    → IsKept slots r → IfOk result (λ o. (number_of o ≡ r.number) × (offset_of o ≡ r.accepted))
+pub begins_kept : (slots : List (Option SlotRecord)) (r : Record) (declare : Option ℕ) (result : Result SpoolDraft UploadRefusal)
+    → IsKept slots r
+    → IfOk result (λ o. (number_of o ≡ r.number) × (offset_of o ≡ r.accepted) × (declare_of o ≡ declare))
     → IfOk result (IsBehind r.text_len r.state) → IfOk result (IsOfUpload slots)
-begins_kept slots r (Ok o) kept named behind = of_begun slots r o kept named.0 named.1 behind
-begins_kept slots r (Err e) kept named behind = tt
+begins_kept slots r declare (Ok o) kept named behind = of_begun slots r o kept named.0 named.1 behind
+begins_kept slots r declare (Err e) kept named behind = tt
 
-pub begins_below : (next number offset : ℕ) (result : Result SpoolDraft UploadRefusal) → number < next
-    → IfOk result (λ o. (number_of o ≡ number) × (offset_of o ≡ offset)) → IfOk result (λ o. number_of o < next)
-begins_below next number offset (Ok o) lt named = omega (arith, lt, named.0)
-begins_below next number offset (Err e) lt named = tt
+pub begins_below : (next number offset : ℕ) (declare : Option ℕ) (result : Result SpoolDraft UploadRefusal) → number < next
+    → IfOk result (λ o. (number_of o ≡ number) × (offset_of o ≡ offset) × (declare_of o ≡ declare)) → IfOk result (λ o. number_of o < next)
+begins_below next number offset declare (Ok o) lt named = omega (arith, lt, named.0)
+begins_below next number offset declare (Err e) lt named = tt
 
 -- the draft went on
 pub of_longer : (slots : List (Option SlotRecord)) (o o' : SpoolDraft) → number_of o' ≡ number_of o
@@ -78,41 +80,59 @@ pub of_longer : (slots : List (Option SlotRecord)) (o o' : SpoolDraft) → numbe
     → IsOfUpload slots o → IsOfUpload slots o'
 of_longer slots o o' number offset on is = record {
   grown = λ s r there at. omega (arith, is.grown s r there (at ∙ number), offset);
-  behind = λ s r there at same. on r.text_len r.state (is.behind s r there (at ∙ number) (same ∙ offset));
+  behind = λ s r there at same open_still. on r.text_len r.state
+      (is.behind s r there (at ∙ number) (same ∙ offset) open_still);
 }
 
 -- its slot's record, with the count that the draft began at
-pub behind_slot : (slots : List (Option SlotRecord)) (o : SpoolDraft) (slot : ℕ) → HasSameCount slots o slot
-    → IsOfUpload slots o → IsBehindSlot slots slot o
-behind_slot slots o slot has is r there =
+pub behind_slot : (slots : List (Option SlotRecord)) (o : SpoolDraft) (slot : ℕ) (has : HasSameCount slots o slot)
+    → is_length has.used.declared has.used.accepted ≡ false → IsOfUpload slots o → IsBehindSlot slots slot o
+behind_slot slots o slot has open_still is r there =
     let same : has.used ≡ r = same_Some has.used r (sym has.there ∙ there) in
     is.behind slot r there (ap (λ (q : SlotRecord). q.number) (sym same) ∙ has.number)
     (ap (λ (q : SlotRecord). q.accepted) (sym same) ∙ has.count)
+    (subst (λ (q : SlotRecord). is_length q.declared q.accepted ≡ false) same open_still)
 
--- an upload got longer
+-- an upload has another record
 module _ (slots : List (Option SlotRecord)) (longer : Longer) (used : SlotRecord) (o : SpoolDraft)
-    (there : get_or slots longer.slot None ≡ Some used) (more : used.accepted < longer.accepted)
-    (is : IsOfUpload slots o) where
+    (there : get_or slots longer.slot None ≡ Some used) (is : IsOfUpload slots o) where
   inside : longer.slot < length slots
   inside = in_use slots longer.slot used there
 
-  -- the longer one has more bytes than the draft began at
-  count_after : (r : SlotRecord) → r ≡ longer_record used longer → r.number ≡ number_of o → offset_of o < r.accepted
-  count_after r same at =
-      let before = is.grown longer.slot used there (ap (λ (q : SlotRecord). q.number) (sym same) ∙ at) in
-      omega (arith, before, more, ap (λ (q : SlotRecord). q.accepted) same)
-
-  pub of_extended : IsOfUpload (set slots longer.slot (Some (longer_record used longer))) o
-  of_extended = record {
+  -- with no fewer bytes, and behind which the draft is where it may still be put there
+  of_changed : used.accepted ≤ longer.accepted
+      → (used.number ≡ number_of o → longer.accepted ≡ offset_of o → is_length longer.declared longer.accepted ≡ false
+      → IsBehind longer.text_len longer.state o)
+      → IsOfUpload (set slots longer.slot (Some (longer_record used longer))) o
+  of_changed grows behind = record {
     grown = λ s r e at. elim (slot_is slots longer.slot (longer_record used longer) s r inside e) [
-      | inl now ↦ (let lt = count_after r now.1 at in omega (arith, lt))
+      | inl now ↦
+          let before = is.grown longer.slot used there (ap (λ (q : SlotRecord). q.number) (sym now.1) ∙ at) in
+          omega (arith, before, grows, ap (λ (q : SlotRecord). q.accepted) now.1)
       | inr old ↦ is.grown s r old.1 at
     ];
-    behind = λ s r e at count. elim (slot_is slots longer.slot (longer_record used longer) s r inside e) [
-      | inl now ↦ absurd (let lt = count_after r now.1 at in omega (arith, lt, count))
-      | inr old ↦ is.behind s r old.1 at count
-    ];
+    behind = λ s r e at count open_still.
+        elim (slot_is slots longer.slot (longer_record used longer) s r inside e) [
+          | inl now ↦ subst (λ (q : SlotRecord). IsBehind q.text_len q.state o) (sym now.1)
+              (behind (ap (λ (q : SlotRecord). q.number) (sym now.1) ∙ at)
+              (ap (λ (q : SlotRecord). q.accepted) (sym now.1) ∙ count)
+              (subst (λ (q : SlotRecord). is_length q.declared q.accepted ≡ false) now.1 open_still))
+          | inr old ↦ is.behind s r old.1 at count open_still
+        ];
   }
+
+  pub of_extended : Advances used longer → IsOfUpload (set slots longer.slot (Some (longer_record used longer))) o
+  of_extended (inl more) = of_changed (omega (arith, more)) (λ at count open_still.
+      absurd (let before = is.grown longer.slot used there at in omega (arith, before, more, count)))
+  of_extended (inr all) = of_changed (omega (arith, all.0)) (λ at count open_still.
+      absurd (both_ways (is_length longer.declared longer.accepted) open_still all.1))
+
+  pub of_declared : OnlyDeclares used longer → IsOfUpload (set slots longer.slot (Some (longer_record used longer))) o
+  of_declared only = of_changed (omega (arith, only.accepted)) (λ at count open_still.
+      subst (λ (n : ℕ). IsBehind n longer.state o) (sym only.text_len)
+      (subst (λ (state : List ℕ). IsBehind used.text_len state o) (sym only.state)
+      (is.behind longer.slot used there at (sym only.accepted ∙ count)
+      (ap (λ (k : Option ℕ). is_length k used.accepted) only.unknown))))
 
 -- ALL DRAFTS
 
@@ -148,7 +168,7 @@ fits_dropped h blocks old new d is fit gives =
 
 -- one is spent, and its upload is longer
 pub fits_put : (h h' : Holding) (drafts : List (Option SpoolDraft)) (d : ℕ) (longer : Longer) (used : SlotRecord)
-    → get_or h.slots longer.slot None ≡ Some used → used.accepted < longer.accepted → h'.next ≡ h.next
+    → get_or h.slots longer.slot None ≡ Some used → Advances used longer → h'.next ≡ h.next
     → h'.slots ≡ set h.slots longer.slot (Some (longer_record used longer))
     → DraftsHold h'.layout h'.blocks (set drafts d None) → DraftsFit h drafts → DraftsFit h' (set drafts d None)
 fits_put h h' drafts d longer used there more next slots blocks fit = record {
@@ -157,7 +177,19 @@ fits_put h h' drafts d longer used there more next slots blocks fit = record {
       (λ e o at. omega (arith, fit.below e o at, next));
   uploads = each_dropped (IsOfUpload h'.slots) drafts (set drafts d None) d refl
       (λ e o at. subst (λ (s : List (Option SlotRecord)). IsOfUpload s o) (sym slots)
-      (of_extended h.slots longer used o there more (fit.uploads e o at)));
+      (of_extended h.slots longer used o there (fit.uploads e o at) more));
+}
+
+-- an upload got its length
+pub fits_declared : (h h' : Holding) (drafts : List (Option SpoolDraft)) (longer : Longer) (used : SlotRecord)
+    → get_or h.slots longer.slot None ≡ Some used → OnlyDeclares used longer → IsLonger h used longer [] h'
+    → DraftsFit h drafts → DraftsFit h' drafts
+fits_declared h h' drafts longer used there only is fit = record {
+  blocks = subst (λ (n : ℕ). DraftsHold n h'.blocks drafts) (sym is.layout)
+      (subst (λ (blocks : Held). DraftsHold h.layout blocks drafts) (sym (is.same refl)) fit.blocks);
+  below = λ d o at. omega (arith, fit.below d o at, is.next);
+  uploads = λ d o at. subst (λ (s : List (Option SlotRecord)). IsOfUpload s o) (sym is.slots)
+      (of_declared h.slots longer used o there (fit.uploads d o at) only);
 }
 
 -- a new upload is kept

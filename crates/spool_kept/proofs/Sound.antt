@@ -2,10 +2,11 @@
 use Rattle.std.proofs.Common.{◌≡◌, inl, inr, ℕ, ◌+◌, ◌-◌, ◌*◌, ◌^◌, ◌<◌, ◌≤◌, refl, subst, List, Option, None, Some}
 use Rattle.std.proofs.Common.{length, get_or, ltb, true, sym, ◌∙◌, ap, arith}
 use Rattle.std.proofs.lemmas.Bool.Decides.{nat_tests}
+use Rattle.upload_rules.specs.Lengths.{longest}
 use Rattle.upload_rules.specs.Room.{blocks_of}
 use Rattle.spool_pages.specs.View.{View, SlotRecord, Says, Stands, slot_at, slot_bytes, row_bytes, state_page}
 use Rattle.spool_pages.specs.View.{index_place, state_place, slot_place, row_place}
-use Rattle.spool_pages.specs.Fits.{FitsSlotOf, FitsRow}
+use Rattle.spool_pages.specs.Fits.{FitsLength, FitsSlotOf, FitsRow}
 use Rattle.enc_index.specs.Area.{area_byte}
 use Rattle.spool_journal.specs.Image.{journal_pages}
 use Rattle.std.proofs.Math.ListN.{get_or-eq_default}
@@ -78,13 +79,17 @@ pub fits_slot : (o : Option SlotRecord) → FitsKept o → FitsSlotOf o
 fits_slot None fits = tt
 fits_slot (Some r) fits = fits.0
 
+length_fits : (declared : Option ℕ) → longest declared ≤ 1073741824 → FitsLength declared
+length_fits None small = tt
+length_fits (Some n) small = omega (arith, small)
+
 record_fits : (next : ℕ) → next ≤ 10 ^ 18 → (r : SlotRecord) → IsSoundRecord next r → FitsKept (Some r)
 record_fits next most r is = (
   (
     record {
       some = is.some;
       number = omega (arith, is.below, most);
-      declared = omega (arith, is.declared);
+      declared = length_fits r.declared is.declared;
       accepted = omega (arith, is.accepted, is.declared);
       text_len = is.text_fits;
       state = is.state_size;

@@ -1,7 +1,6 @@
 -- What a record tells of an upload, and its state.
-use Rattle.std.proofs.Common.{◌≡◌, ℕ, ◌==◌, Bool, true, false, if◌then◌else◌, List, [], ◌∷◌, length, refl, sym, ◌∙◌, ap}
+use Rattle.std.proofs.Common.{◌≡◌, ℕ, ◌==◌, Bool, true, false, if◌then◌else◌, List, [], ◌∷◌, Option, length, refl, sym, ◌∙◌, ap}
 use Rattle.std.proofs.Common.{subst, arith}
-use Rattle.std.proofs.lemmas.Bool.{eqb-true, eqb-false}
 use Rattle.std.proofs.lemmas.List.{append-nil}
 use Rattle.enc_model.specs.declared.Encoding.{Encoding}
 use Rattle.enc_model.specs.declared.Encoding.TheVariants.{Utf8, Utf16Be, Utf16Le, ShiftJis, EucJp, Iso2022Jp, Ibm866}
@@ -17,6 +16,7 @@ use Rattle.enc_model.specs.Decode.{Held, Reading, decoded, decoding, decoding_st
 use Rattle.enc_model.specs.Transcode.{Transcoder, phase_of}
 use Rattle.enc_stream.specs.StateBytes.{state_bytes, encoding_number, mode_number}
 use Rattle.enc_stream.proofs.Bytes.{from_there, to_there, mode_there}
+use Rattle.upload_rules.specs.Lengths.{is_length}
 use Rattle.upload_rules.specs.Store.{Upload, is_complete}
 use Rattle.upload_rules.specs.States.{transcoder_with, state_with}
 use Rattle.upload_rules.specs.Records.{Keeps}
@@ -28,7 +28,8 @@ use Rattle.spool_kept.specs.Shows.{FitsPhase, HasState, IsRecordOf}
 -- THE PHASE FITS THE COUNTS
 
 -- before the end the phase fits any bytes
-phase_fits : (t : Tables) (e : Encoding) (bytes : List ℕ) (declared : ℕ) → (length bytes ≡ declared → ⊥)
+phase_fits : (t : Tables) (e : Encoding) (bytes : List ℕ) (declared : Option ℕ)
+    → is_length declared (length bytes) ≡ false
     → FitsPhase (phase_of (decoded t e bytes false)) (length bytes) declared
 unfolding decoded
 phase_fits t e [] declared more = (refl, more)
@@ -43,11 +44,11 @@ phase_fits t e (b ∷ bytes) declared more = go (undecided (b ∷ bytes))
 module _ (x : IndexSet) (r : SlotRecord) (shown : List ℕ) (u : Upload) (is : IsRecordOf x r shown u) where
   at_phase : (done : Bool) → is_complete u ≡ done → FitsPhase (transcoder_with x u [] done).phase (length u.accepted)
       u.declared
-  at_phase true e = eqb-true (length u.accepted) u.declared e
+  at_phase true e = e
   at_phase false e =
       subst (λ (bytes : List ℕ). FitsPhase (phase_of (decoded (tables x) u.from bytes false)) (length u.accepted)
       u.declared) (sym (append-nil u.accepted))
-      (phase_fits (tables x) u.from u.accepted u.declared (eqb-false (length u.accepted) u.declared e))
+      (phase_fits (tables x) u.from u.accepted u.declared e)
 
   -- a record that tells of an upload has a state
   pub told_state : HasState r
@@ -57,7 +58,7 @@ module _ (x : IndexSet) (r : SlotRecord) (shown : List ℕ) (u : Upload) (is : I
     sound = is.sound;
     is = is.state;
     phase = subst (λ (n : ℕ). FitsPhase (transcoder_with x u [] (is_complete u)).phase n r.declared) (sym is.accepted)
-        (subst (λ (n : ℕ). FitsPhase (transcoder_with x u [] (is_complete u)).phase (length u.accepted) n)
+        (subst (λ (k : Option ℕ). FitsPhase (transcoder_with x u [] (is_complete u)).phase (length u.accepted) k)
         (sym is.declared) (at_phase (is_complete u) refl));
   }
 

@@ -1,6 +1,7 @@
 -- A new upload comes into what is kept.
-use Rattle.std.specs.Prelude.{◌≡◌, ℕ, ◌^◌, ◌+◌, ◌<◌, ◌≤◌, [], None, Some, get_or, slice_set}
+use Rattle.std.specs.Prelude.{◌≡◌, ℕ, ◌^◌, ◌+◌, ◌<◌, ◌≤◌, false, [], None, Some, get_or, slice_set}
 use Rattle.enc_model.specs.Indexes.{IndexSet}
+use Rattle.upload_rules.specs.Lengths.{is_too_large}
 use Rattle.upload_rules.specs.Store.{New, new_upload}
 use Rattle.spool_pages.specs.View.{SlotRecord}
 use Rattle.spool_kept.specs.Holding.{Holding, FitsTogether, IsAdded}
@@ -28,4 +29,4 @@ pub record IsNewRecord (number : ℕ) (new : New) (r : SlotRecord) : Type 0 wher
   pub number_is : r.number ≡ number
   pub tells : (x : IndexSet) → IsRecordOf x r [] (new_upload new)
   pub no_text : r.text_len ≡ 0
-  pub sound : 1 ≤ number → new.declared ≤ 1073741824 → IsSoundRecord (number + 1) r
+  pub sound : 1 ≤ number → is_too_large new.declared ≡ false → IsSoundRecord (number + 1) r

@@ -16,7 +16,8 @@ use Rattle.upload_rules.specs.Apart.{IsApart}
 use Rattle.upload_rules.specs.Calls.{first_patch}
 use Rattle.upload_rules.specs.Drafts.{DraftOf, draft_at}
 use Rattle.upload_rules.specs.Grown.{IsGrown}
-use Rattle.upload_rules.specs.Store.{Upload, Store, find, upload_of}
+use Rattle.upload_rules.specs.Lengths.{is_length}
+use Rattle.upload_rules.specs.Store.{Upload, Store, find, is_complete, upload_of, with_length}
 use Rattle.upload_rules.specs.World.{Patch, World}
 use Rattle.upload_rules.specs.declared.records.Record.{Record}
 use Rattle.upload_rules.specs.declared.errors.UploadRefusal.{UploadRefusal}
@@ -48,13 +49,13 @@ pub record IsKept (slots : List (Option SlotRecord)) (r : Record) : Type 0 where
   pub there : get_or slots slot None ≡ Some (said_of r)
   pub only : (s : ℕ) (q : SlotRecord) → get_or slots s None ≡ Some q → q.number ≡ r.number → q ≡ said_of r
 
--- Where the draft's upload is in a slot, it has as many bytes as when the draft began, or more. With as many, the draft
--- is behind its text.
+-- Where the draft's upload is in a slot, it has as many bytes as when the draft began, or more. With as many, and while
+-- it isn't complete, the draft is behind its text.
 pub record IsOfUpload (slots : List (Option SlotRecord)) (o : SpoolDraft) : Type 0 where
   pub grown : (s : ℕ) (r : SlotRecord) → get_or slots s None ≡ Some r → r.number ≡ number_of o
       → offset_of o ≤ r.accepted
   pub behind : (s : ℕ) (r : SlotRecord) → get_or slots s None ≡ Some r → r.number ≡ number_of o
-      → r.accepted ≡ offset_of o → IsBehind r.text_len r.state o
+      → r.accepted ≡ offset_of o → is_length r.declared r.accepted ≡ false → IsBehind r.text_len r.state o
 
 -- it is so with each open draft
 abbrev pub EachDraft : (SpoolDraft → Type 0) → List (Option SpoolDraft) → Type 0
@@ -80,13 +81,21 @@ pub record IsOwnedBy (slots : List (Option SlotRecord)) (rows : List Row) (numbe
   pub used : IsUsedBy slots slot number
   pub owned : (i : ℕ) → i < length list → (k : ℕ) × Owns rows (get_or list i 0) slot k
 
--- The draft is the patch's. Once another draft made the upload longer, only its need matters: it can't be committed.
+-- The patch's upload is what it was when the patch began, but for a length that another one may have declared since, and
+-- isn't complete.
+abbrev pub IsStillOpen : Store → Patch → Type 0
+IsStillOpen m p =
+    (since : Option ℕ) × (upload_of m p.number ≡ Some (with_length p.began since))
+    × (is_complete (with_length p.began since) ≡ false)
+
+-- The draft is the patch's. Once another draft made the upload longer or complete, only its need matters: it can't put
+-- anything behind the upload's text.
 pub record DraftStands (x : IndexSet) (seen : ℕ → ℕ) (first : ℕ) (slots : List (Option SlotRecord)) (rows : List Row)
     (m : Store) (p : Patch) (o : SpoolDraft) : Type 0 where
   pub holds : Holds x p o
   pub below : p.number < m.next
-  pub carries : upload_of m p.number ≡ Some p.began → Carries x seen first p o
-  pub tail : upload_of m p.number ≡ Some p.began → IsOwnedBy slots rows p.number (tail_of o)
+  pub carries : IsStillOpen m p → Carries x seen first p o
+  pub tail : IsStillOpen m p → IsOwnedBy slots rows p.number (tail_of o)
 
 -- each patch has its draft, and the drafts reserve all blocks that are reserved
 pub record DraftsStand (x : IndexSet) (seen : ℕ → ℕ) (first : ℕ) (slots : List (Option SlotRecord)) (h : Held)
@@ -106,12 +115,16 @@ pub record StandsFor {D : Type 0} (disk : Ghosts D) (d : D) (h : Holding) (draft
 -- WHAT A DRAFT BEGINS BEHIND
 
 -- a draft of the upload as it is, or the rules' refusal
-abbrev pub OpensFor : Store → ℕ → ℕ → ℕ → (ℕ → ℕ) → ℕ → Option Upload → Result SpoolDraft UploadRefusal → Type 0
-OpensFor m number offset count seen first None (Ok o) = ⊥
-OpensFor m number offset count seen first None (Err e) = e ≡ NoSuch
-OpensFor m number offset count seen first (Some u) (Ok o) =
-    IsBegun m.indexes number offset count u (Ok o) × Carries m.indexes seen first (first_patch number count u) o
-OpensFor m number offset count seen first (Some u) (Err e) = IsBegun m.indexes number offset count u (Err e)
+abbrev pub OpensFor : Store → ℕ → ℕ → ℕ → Option ℕ → (ℕ → ℕ) → ℕ → Option Upload → Result SpoolDraft UploadRefusal
+    → Type 0
+OpensFor m number offset count declare seen first None (Ok o) = ⊥
+OpensFor m number offset count declare seen first None (Err e) = e ≡ NoSuch
+OpensFor m number offset count declare seen first (Some u) (Ok o) =
+    IsBegun m.indexes number offset count declare u (Ok o)
+    × Carries m.indexes seen first (first_patch number count declare u) o
+OpensFor m number offset count declare seen first (Some u) (Err e) =
+    IsBegun m.indexes number offset count declare u (Err e)
 
-abbrev pub OpensAs : Store → ℕ → ℕ → ℕ → (ℕ → ℕ) → ℕ → Result SpoolDraft UploadRefusal → Type 0
-OpensAs m number offset count seen first result = OpensFor m number offset count seen first (upload_of m number) result
+abbrev pub OpensAs : Store → ℕ → ℕ → ℕ → Option ℕ → (ℕ → ℕ) → ℕ → Result SpoolDraft UploadRefusal → Type 0
+OpensAs m number offset count declare seen first result =
+    OpensFor m number offset count declare seen first (upload_of m number) result

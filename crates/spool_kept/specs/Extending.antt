@@ -1,6 +1,6 @@
--- What an append makes of what is kept in memory.
-use Rattle.std.specs.Prelude.{◌≡◌, ◌≢◌, ℕ, ◌*◌, ◌+◌, ◌-◌, ◌/◌, ◌%◌, ◌<◌, ◌≤◌, ◌++◌, List, [], Some, None, Bool, false}
-use Rattle.std.specs.Prelude.{length, get_or, drop, slice_set}
+-- What a patch makes of what is kept in memory.
+use Rattle.std.specs.Prelude.{◌≡◌, ◌≢◌, ◌⊎◌, ℕ, ◌*◌, ◌+◌, ◌-◌, ◌/◌, ◌%◌, ◌<◌, ◌≤◌, ◌++◌, List, [], Some, None, Bool}
+use Rattle.std.specs.Prelude.{true, false, Option, length, get_or, drop, slice_set}
 use Rattle.enc_model.specs.Indexes.{IndexSet}
 use Rattle.enc_stream.specs.StateBytes.{IsSound}
 use Rattle.spool_disk.specs.declared.disk.Disk.{Ghosts}
@@ -8,8 +8,9 @@ use Rattle.spool_drafts.specs.Effect.{OnlyWrites}
 use Rattle.spool_journal.specs.Image.{journal_pages}
 use Rattle.spool_texts.specs.Drafts.{bytes_with}
 use Rattle.spool_texts.specs.TextOn.{text_on}
+use Rattle.upload_rules.specs.Lengths.{is_length, is_too_large, known_or, longest}
 use Rattle.upload_rules.specs.Room.{blocks_of}
-use Rattle.upload_rules.specs.Store.{Upload, Store, upload_of, is_complete, text_of, text_with, with_bytes}
+use Rattle.upload_rules.specs.Store.{Upload, Store, upload_of, is_complete, text_of, text_with, patched}
 use Rattle.upload_rules.specs.States.{SameEncodings, state_of, transcoder_with}
 use Rattle.spool_pages.specs.View.{SlotRecord, text_page}
 use Rattle.spool_kept.specs.Changed.{HandsOver}
@@ -17,9 +18,27 @@ use Rattle.spool_kept.specs.Holding.{Holding, IsUsedBy}
 use Rattle.spool_kept.specs.Stored.{Stored}
 use Rattle.spool_kept.specs.declared.extending.Longer.{Longer}
 
--- the record with the new counts and the new state
+-- the record with the new length, counts and state
 abbrev pub longer_record : SlotRecord → Longer → SlotRecord
-longer_record r longer = record r { accepted = longer.accepted; text_len = longer.text_len; state = longer.state }
+longer_record r longer = record r {
+  declared = longer.declared;
+  accepted = longer.accepted;
+  text_len = longer.text_len;
+  state = longer.state;
+}
+
+-- more bytes are accepted, or as many and these are all
+abbrev pub Advances : SlotRecord → Longer → Type 0
+Advances r longer =
+    (r.accepted < longer.accepted)
+    ⊎ ((longer.accepted ≡ r.accepted) × (is_length longer.declared longer.accepted ≡ true))
+
+-- the record had no length; all else stays
+pub record OnlyDeclares (r : SlotRecord) (longer : Longer) : Type 0 where
+  pub unknown : r.declared ≡ None
+  pub accepted : longer.accepted ≡ r.accepted
+  pub text_len : longer.text_len ≡ r.text_len
+  pub state : longer.state ≡ r.state
 
 -- how many bytes of a text are on full blocks
 abbrev pub full_bytes : ℕ → ℕ
@@ -47,48 +66,49 @@ pub record IsLonger (h : Holding) (used : SlotRecord) (longer : Longer) (more : 
   pub same : length more ≡ 0 → new.blocks ≡ h.blocks
   pub rows : 0 < length more → HandsOver h.blocks.rows longer.slot (used.text_len / 4096) more new.blocks.rows
 
--- with these bytes the upload's text has these behind it, and the blocks hold what is not on the old full ones
-pub record IsExtension (x : IndexSet) (u : Upload) (bytes added : List ℕ) (longer : Longer) (more : List ℕ)
-    (seen : ℕ → ℕ) (first : ℕ) : Type 0 where
+-- with this length, where none was known, and these bytes the upload's text has these behind it, and the blocks hold
+-- what is not on the old full ones
+pub record IsExtension (x : IndexSet) (u : Upload) (declare : Option ℕ) (bytes added : List ℕ) (longer : Longer)
+    (more : List ℕ) (seen : ℕ → ℕ) (first : ℕ) : Type 0 where
+  pub declared : longer.declared ≡ known_or u.declared declare
   pub accepted : longer.accepted ≡ length (u.accepted ++ bytes)
-  pub few : length (u.accepted ++ bytes) ≤ u.declared
-  pub state : longer.state ≡ state_of x (with_bytes u bytes)
-  pub sound : IsSound (transcoder_with x (with_bytes u bytes) [] (is_complete (with_bytes u bytes)))
-  pub encodable : (text_with x (with_bytes u bytes) [] (is_complete (with_bytes u bytes))).fault ≡ None
-  pub text : text_of x (with_bytes u bytes) ≡ text_of x u ++ added
-  pub text_len : longer.text_len ≡ length (text_of x (with_bytes u bytes))
+  pub few : length (u.accepted ++ bytes) ≤ longest (known_or u.declared declare)
+  pub small : is_too_large declare ≡ false
+  pub state : longer.state ≡ state_of x (patched u declare bytes)
+  pub sound : IsSound (transcoder_with x (patched u declare bytes) [] (is_complete (patched u declare bytes)))
+  pub encodable : (text_with x (patched u declare bytes) [] (is_complete (patched u declare bytes))).fault ≡ None
+  pub text : text_of x (patched u declare bytes) ≡ text_of x u ++ added
+  pub text_len : longer.text_len ≡ length (text_of x (patched u declare bytes))
   pub nothing : length more ≡ 0 → added ≡ []
   pub content : 0 < length more
       → text_on seen first more (longer.text_len - full_bytes (length (text_of x u))) ≡ drop
       (full_bytes (length (text_of x u))) (text_of x u) ++ added
 
--- the disk and what is kept stand for the store, and this is an append to the slot's upload
-pub record IsAppend {D : Type 0} (disk : Ghosts D) (d : D) (h : Holding) (m : Store) (n : ℕ) (bytes : List ℕ)
-    (longer : Longer) (more : List ℕ) : Type 0 where
+-- the disk and what is kept stand for the store, and this is what a patch makes of the slot's upload
+pub record IsAppend {D : Type 0} (disk : Ghosts D) (d : D) (h : Holding) (m : Store) (n : ℕ) (declare : Option ℕ)
+    (bytes : List ℕ) (longer : Longer) (more : List ℕ) : Type 0 where
   pub stored : Stored disk d h m
   pub used : IsUsedBy h.slots longer.slot n
   pub upload : Upload
   pub there : upload_of m n ≡ Some upload
   pub added : List ℕ
-  pub extension : IsExtension m.indexes upload bytes added longer more (disk.seen d) (text_page h.layout)
+  pub extension : IsExtension m.indexes upload declare bytes added longer more (disk.seen d) (text_page h.layout)
 
--- an append whose last bytes are still to be written: with its text on its blocks it is one
-pub record IsPending {D : Type 0} (disk : Ghosts D) (d : D) (h : Holding) (m : Store) (n : ℕ) (bytes : List ℕ)
-    (longer : Longer)
-    (more last : List ℕ) : Type 0 where
+-- one whose last bytes are still to be written: with its text on its blocks it is one
+pub record IsPending {D : Type 0} (disk : Ghosts D) (d : D) (h : Holding) (m : Store) (n : ℕ) (declare : Option ℕ)
+    (bytes : List ℕ) (longer : Longer) (more last : List ℕ) : Type 0 where
   pub stored : Stored disk d h m
   pub text : List ℕ
   pub fits : 1 ≤ length more → (length last + 4095) / 4096 ≤ length more
   pub held : 1 ≤ length more → bytes_with (disk.seen d) (text_page h.layout) more last ≡ text
   pub append : (e : D) → Stored disk e h m
       → (1 ≤ length more → text_on (disk.seen e) (text_page h.layout) more (length text) ≡ text)
-      → IsAppend disk e h m n bytes longer more
+      → IsAppend disk e h m n declare bytes longer more
 
 -- the text's last bytes were written to its blocks alone, and then no byte of a text block
-pub record IsWritten {D : Type 0} (disk : Ghosts D) (old new : D) (h : Holding) (m : Store) (n : ℕ) (bytes : List ℕ)
-    (longer : Longer)
-    (more : List ℕ) : Type 0 where
+pub record IsWritten {D : Type 0} (disk : Ghosts D) (old new : D) (h : Holding) (m : Store) (n : ℕ)
+    (declare : Option ℕ) (bytes : List ℕ) (longer : Longer) (more : List ℕ) : Type 0 where
   pub mid : D
   pub only : OnlyWrites disk (journal_pages h.layout) more old mid
-  pub append : IsAppend disk mid h m n bytes longer more
+  pub append : IsAppend disk mid h m n declare bytes longer more
   pub texts : (p : ℕ) → 4096 * text_page h.layout ≤ p → disk.seen new p ≡ disk.seen mid p

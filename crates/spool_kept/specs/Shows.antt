@@ -1,10 +1,11 @@
 -- A view shows uploads: all that is kept of them stands there, and all checks hold.
-use Rattle.std.specs.Prelude.{◌≡◌, ℕ, ◌^◌, ◌<◌, ◌≤◌, All, List, [], Some, None, length, map}
+use Rattle.std.specs.Prelude.{◌≡◌, ℕ, ◌^◌, ◌<◌, ◌≤◌, true, false, All, List, [], Option, Some, None, length, map}
 use Rattle.enc_model.specs.Indexes.{IndexSet}
 use Rattle.enc_model.specs.Transcode.{Transcoder, Phase, Before, During, Over}
 use Rattle.enc_index.specs.Sets.{IsIndexSet}
 use Rattle.enc_stream.specs.StateBytes.{IsSound as IsSoundState, state_bytes}
 use Rattle.spool_blocks.specs.Chains.{Owns, OwnsOneEach}
+use Rattle.upload_rules.specs.Lengths.{is_length, longest}
 use Rattle.upload_rules.specs.Store.{Upload, Store, find, is_complete, text_with, text_of}
 use Rattle.upload_rules.specs.Room.{blocks_of}
 use Rattle.upload_rules.specs.States.{state_of, transcoder_with}
@@ -13,12 +14,12 @@ use Rattle.spool_pages.specs.View.{SlotRecord, View, slot_at, IsViewOf}
 
 -- THE CHECKS
 
--- Behind the end exactly where all declared bytes were accepted. Before a byte order mark is decided all accepted bytes
--- are held, and from the first byte on it may be decided.
-abbrev pub FitsPhase : Phase → ℕ → ℕ → Type 0
-FitsPhase (Before held) accepted declared = (accepted ≡ length held) × (accepted ≡ declared → ⊥)
-FitsPhase (During s) accepted declared = (1 ≤ accepted) × (accepted ≡ declared → ⊥)
-FitsPhase Over accepted declared = accepted ≡ declared
+-- Behind the end exactly where the length is known and all its bytes were accepted. Before a byte order mark is decided
+-- all accepted bytes are held, and from the first byte on it may be decided.
+abbrev pub FitsPhase : Phase → ℕ → Option ℕ → Type 0
+FitsPhase (Before held) accepted declared = (accepted ≡ length held) × (is_length declared accepted ≡ false)
+FitsPhase (During s) accepted declared = (1 ≤ accepted) × (is_length declared accepted ≡ false)
+FitsPhase Over accepted declared = is_length declared accepted ≡ true
 
 -- the state bytes are those of a transcoder that may stand behind so many bytes
 pub record HasState (r : SlotRecord) : Type 0 where
@@ -30,8 +31,8 @@ pub record HasState (r : SlotRecord) : Type 0 where
 pub record IsSoundRecord (next : ℕ) (r : SlotRecord) : Type 0 where
   pub some : 1 ≤ r.number
   pub below : r.number < next
-  pub accepted : r.accepted ≤ r.declared
-  pub declared : r.declared ≤ 1073741824
+  pub accepted : r.accepted ≤ longest r.declared
+  pub declared : longest r.declared ≤ 1073741824
   pub text_fits : r.text_len < 2 ^ 64
   pub state_size : length r.state ≡ 32
   pub state : HasState r

@@ -3,8 +3,8 @@ use Rattle.std.specs.Prelude.{◌≡◌, ◌≢◌, ℕ, List, [], Option, None,
 use Rattle.enc_model.specs.Indexes.{IndexSet}
 use Rattle.spool_blocks.specs.Blocks.{Row}
 use Rattle.spool_blocks.specs.Chains.{Owns}
-use Rattle.spool_drafts.specs.Drafts.{Holds, IsBehind, IsPlaced, came_of, committed_len_of, fresh_of, list_of}
-use Rattle.spool_drafts.specs.Drafts.{number_of, offset_of, tail_of}
+use Rattle.spool_drafts.specs.Drafts.{Holds, IsBehind, IsPlaced, came_of, committed_len_of, declare_of}
+use Rattle.spool_drafts.specs.Drafts.{fresh_of, list_of, number_of, offset_of, tail_of}
 use Rattle.spool_drafts.specs.declared.draft.SpoolDraft.{SpoolDraft}
 use Rattle.spool_pages.specs.Changes.{with_slot}
 use Rattle.spool_pages.specs.View.{View}
@@ -47,6 +47,7 @@ pub record ForgetsTail (number : ℕ) (old new : SpoolDraft) : Type 0 where
   pub same_number : number_of new ≡ number_of old
   pub same_offset : offset_of new ≡ offset_of old
   pub same_count : came_of new ≡ came_of old
+  pub same_declare : declare_of new ≡ declare_of old
   pub same_text : committed_len_of new ≡ committed_len_of old
   pub same_list : list_of new ≡ list_of old
   pub same_state : fresh_of new ≡ fresh_of old

@@ -1,23 +1,25 @@
 // The text of a draft is put behind its upload's.
-ghost use Rattle.std.specs.Prelude.{◌≡◌, ◌≤◌, ◌<◌, ◌*◌, ◌↔◌, ◌⊎◌, ℕ, List, Option, Some, None, Err};
+ghost use Rattle.std.specs.Prelude.{◌≡◌, ◌≤◌, ◌<◌, ◌*◌, ◌↔◌, ◌⊎◌, ℕ, true, false, List, [], Option, Some, None};
 ghost use Rattle.std.specs.Prelude.{get_or, slice_set, IsErrOf, IfOk};
 ghost use Rattle.spool_disk.specs.Disk.{Counts};
 ghost use Rattle.spool_disk.specs.Views.{Lasts};
 ghost use Rattle.spool_journal.specs.Image.{journal_pages, all_pages};
-ghost use Rattle.spool_drafts.specs.Drafts.{IsPlaced, came_of, list_of, number_of};
+ghost use Rattle.spool_drafts.specs.Drafts.{IsPlaced, list_of, number_of};
 ghost use Rattle.spool_drafts.specs.Effect.{Effect};
 ghost use Rattle.spool_drafts.specs.declared.draft.SpoolDraft.{SpoolDraft as Draft};
 ghost use Rattle.spool_pages.specs.View.{SlotRecord as Said};
 ghost use Rattle.spool_texts.specs.Drafts.{IsReserved};
 ghost use Rattle.upload_rules.specs.Answers.{Answers};
-ghost use Rattle.upload_rules.specs.Calls.{commit_outcome, commit_refusal, committed, dropped, reached};
+ghost use Rattle.upload_rules.specs.Calls.{commit_outcome, commit_refusal, committed, dropped};
 ghost use Rattle.upload_rules.specs.Drafts.{draft_at};
-ghost use Rattle.upload_rules.specs.Store.{find};
-ghost use Rattle.upload_rules.specs.World.{Patch, World};
+ghost use Rattle.upload_rules.specs.Lengths.{is_too_large};
+ghost use Rattle.upload_rules.specs.Store.{Store, find, patched_store};
+ghost use Rattle.upload_rules.specs.World.{Patch, World, reached};
 ghost use Rattle.upload_rules.specs.declared.errors.UploadRefusal.{UploadRefusal as Refusal};
-ghost use Rattle.spool_kept.specs.Committing.{FindsSlot, HasOtherCount, HasSameCount, IsBehindSlot, IsCommit, OnlyRead};
+ghost use Rattle.spool_kept.specs.Committing.{Finds, HasOtherCount, IsBehindSlot, IsCommit, IsFound, MayDeclare};
+ghost use Rattle.spool_kept.specs.Committing.{OnlyRead, with_length_at};
 ghost use Rattle.spool_kept.specs.Drafting.{DraftsFit, OnlyReserves, StandsFor};
-ghost use Rattle.spool_kept.specs.Extending.{IsPending, MayExtend};
+ghost use Rattle.spool_kept.specs.Extending.{Advances, IsPending, MayExtend};
 ghost use Rattle.spool_kept.specs.Holding.{IsUsedBy};
 ghost use Rattle.spool_kept.specs.Shows.{ImageShows};
 ghost use Rattle.spool_kept.specs.Stored.{ShowsEither, Stored};
@@ -28,11 +30,25 @@ use crate::records::record_at;
 use spool_disk::Disk;
 use spool_drafts::{DraftEnd, SpoolDraft};
 use std::alloc::Global;
-use upload_rules::{UploadError, UploadRefusal, taken};
+use upload_rules::{Record, UploadError, UploadRefusal, is_length, is_new, length_then, taken};
 
-// The slot of a draft's upload, which has as many bytes as when the draft began: refused with `NoSuch`, `Offset`.
-fn slot_for(kept: &Kept, draft: &SpoolDraft) -> Result<u32, UploadRefusal>
-    ensures { FindsSlot kept.now.slots draft.now result }
+/// What a commit finds of its draft's upload.
+#[derive(Clone, Copy)]
+struct Found {
+    // Its slot.
+    slot: u32,
+    // Whether the draft gives it its length.
+    declares: bool,
+    // Its length with the draft's, where one is known.
+    declared: Option<u64>,
+    // Whether its text stays: no bytes came, and no length says now that the accepted ones are all.
+    stays: bool,
+}
+
+// What a commit finds of a draft's upload, which has as many bytes as when the draft began: refused with `NoSuch`,
+// `Offset`, `LengthSet`, `TooLong`.
+fn found_for(kept: &Kept, draft: &SpoolDraft) -> Result<Found, UploadRefusal>
+    ensures { Finds kept.now.slots draft.now result }
 {
     let Some(slot) = kept.slot_of(draft.number()) else {
         return Err(UploadRefusal::NoSuch);
@@ -40,10 +56,23 @@ fn slot_for(kept: &Kept, draft: &SpoolDraft) -> Result<u32, UploadRefusal>
     let Some(used) = record_at(&kept.slots, slot as usize) else {
         return Err(UploadRefusal::NoSuch);
     };
-    if used.record().accepted != draft.offset() {
+    let Record {
+        declared: known,
+        accepted,
+        ..
+    } = *used.record();
+    if accepted != draft.offset() {
         return Err(UploadRefusal::Offset);
     }
-    Ok(slot)
+    let declared = length_then(known, draft.declare(), accepted, draft.came())?;
+    let declares = is_new(known, draft.declare());
+    let completes = declares && is_length(declared, accepted);
+    Ok(Found {
+        slot,
+        declares,
+        declared,
+        stays: draft.came() == 0 && !completes,
+    })
 }
 
 // Ends a draft's text behind its upload's, and answers what the upload becomes, and the bytes that are still to be
@@ -54,12 +83,12 @@ fn ended<D: Disk>(
     disk: &mut D,
     kept: &mut Kept,
     draft: &mut SpoolDraft,
-    slot: u32,
+    found: Found,
 ) -> Result<(Longer, Vec<u8>), UploadError>
     requires room { 4096 * all_pages kept.old.layout ≤ D.size disk.old }
-    requires used { HasSameCount kept.old.slots draft.old slot }
-    requires behind { IsBehindSlot kept.old.slots slot draft.old }
-    requires some { 0 < came_of draft.old }
+    requires found { IsFound kept.old.slots draft.old found }
+    requires behind { IsBehindSlot kept.old.slots found.slot draft.old }
+    requires goes { found.stays ≡ false }
     requires reserved { IsReserved kept.old.blocks (list_of draft.old) }
     requires placed { IsPlaced kept.old.layout draft.old }
     ensures size { D.size disk.new ≡ D.size disk.old }
@@ -72,15 +101,14 @@ fn ended<D: Disk>(
         disk.new kept.old.blocks kept.new.blocks }
     ensures only { D.honest disk.old → OnlyRead D.Disk disk.old disk.new }
     ensures may { IfOk result (λ e. MayExtend kept.new e.0 (list_of draft.new)) }
-    ensures more { IfOk result (λ e. (r : Said) → get_or kept.new.slots e.0.slot None ≡ Some r
-        → r.accepted < e.0.accepted) }
+    ensures more { IfOk result (λ e. (r : Said) → get_or kept.new.slots e.0.slot None ≡ Some r → Advances r e.0) }
     ensures refusal { (e : Refusal) → IsErrOf result (UploadError.Refused e)
         → (e ≡ UploadRefusal.Unencodable) ⊎ (e ≡ UploadRefusal.Full) }
     ensures answer { (drafts : List (Option Draft)) (number : ℕ) (w : World) (p : Patch)
         → IsCommit D.Disk disk.old kept.old drafts number draft.old w p
         → Answers (commit_refusal w number p) result
         (λ e. (e.0.accepted ≡ reached p)
-        × IsPending D.Disk disk.new kept.new w.store p.number p.body e.0 (list_of draft.new) e.1.items)
+        × IsPending D.Disk disk.new kept.new w.store p.number p.declare p.body e.0 (list_of draft.new) e.1.items)
         (Unit {0}) }
     ensures stored { (drafts : List (Option Draft)) (number : ℕ) (w : World) (p : Patch)
         → IsCommit D.Disk disk.old kept.old drafts number draft.old w p
@@ -89,9 +117,9 @@ fn ended<D: Disk>(
         → IsCommit D.Disk disk.old kept.old drafts number draft.old w p
         → Lasts D.Disk disk.old disk.new (λ image. ImageShows kept.old.layout image w.store) }
 {
-    let used = record_at(&kept.slots, slot as usize).unwrap().record();
+    let Found { slot, declared, .. } = found;
     let accepted = draft.offset().saturating_add(draft.came());
-    let completes = accepted == used.declared;
+    let completes = is_length(declared, accepted);
     let _rows = kept.blocks.rows();
     let DraftEnd {
         state,
@@ -107,6 +135,7 @@ fn ended<D: Disk>(
     )?;
     let longer = Longer {
         slot,
+        declared,
         accepted,
         text_len,
         state,
@@ -114,18 +143,19 @@ fn ended<D: Disk>(
     Ok((longer, last))
 }
 
-// Puts a draft's text behind its upload's, in its slot, and answers the new offset. The draft is spent.
+// Puts a draft's text behind its upload's, which gets the length that was found, and answers the new offset. The draft
+// is spent.
 fn put_behind<D: Disk>(
     alloc: Global,
     disk: &mut D,
     kept: &mut Kept,
     draft: SpoolDraft,
-    slot: u32,
+    found: Found,
 ) -> Result<u64, UploadError>
     requires room { 4096 * all_pages kept.old.layout ≤ D.size disk.old }
-    requires used { HasSameCount kept.old.slots draft slot }
-    requires behind { IsBehindSlot kept.old.slots slot draft }
-    requires some { 0 < came_of draft }
+    requires found { IsFound kept.old.slots draft found }
+    requires behind { IsBehindSlot kept.old.slots found.slot draft }
+    requires goes { found.stays ≡ false }
     requires reserved { IsReserved kept.old.blocks (list_of draft) }
     requires placed { IsPlaced kept.old.layout draft }
     ensures size { D.size disk.new ≡ D.size disk.old }
@@ -154,7 +184,7 @@ fn put_behind<D: Disk>(
     ensures unwritten { D.honest disk.old → IsErrOf result UploadError.NoMemory → OnlyRead D.Disk disk.old disk.new }
 {
     let mut draft = draft;
-    let (longer, last) = match ended(alloc, disk, kept, &mut draft, slot) {
+    let (longer, last) = match ended(alloc, disk, kept, &mut draft, found) {
         Ok(end) => end,
         Err(error) => {
             draft.give_back(&mut kept.blocks);
@@ -171,9 +201,51 @@ fn put_behind<D: Disk>(
     }
 }
 
-/// Puts the text of the draft of a number behind its upload's, and answers the new offset: refused with `NoSuch`,
-/// `Offset`, `Unencodable`, `Full`, `NoMemory`, `DiskFault`. The draft is spent in every case. After a fault of the
-/// device what is kept may be ahead of the disk: the spool must be opened again.
+// Gives the upload of a slot its length, on the disk and in memory: refused with `NoMemory`, `DiskFault`. Its text stays.
+fn set_length<D: Disk>(
+    alloc: Global,
+    disk: &mut D,
+    kept: &mut Kept,
+    slot: u32,
+    declared: Option<u64>,
+) -> Result<(), UploadError>
+    requires room { 4096 * all_pages kept.old.layout ≤ D.size disk.old }
+    requires may { MayDeclare kept.old.slots slot declared }
+    ensures size { D.size disk.new ≡ D.size disk.old }
+    ensures honest { D.honest disk.old ↔ D.honest disk.new }
+    ensures counts { Counts (IsErrOf result UploadError.DiskFault) (D.failures disk.old) (D.failures disk.new) }
+    ensures layout { kept.new.layout ≡ kept.old.layout }
+    ensures no_refusal { (e : Refusal) → IsErrOf result (UploadError.Refused e) → ⊥ }
+    ensures fits { (drafts : List (Option Draft)) → DraftsFit kept.old drafts → DraftsFit kept.new drafts }
+    ensures answer { (drafts : List (Option Draft)) (w : World) (n : ℕ)
+        → StandsFor D.Disk disk.old kept.old drafts w → IsUsedBy kept.old.slots slot n → is_too_large declared ≡ false
+        → Answers None result
+        (λ done. StandsFor D.Disk disk.new kept.new drafts (with_length_at w n declared))
+        (StandsFor D.Disk disk.new kept.new drafts w) }
+    ensures crash { (m : Store) (n : ℕ)
+        → Stored D.Disk disk.old kept.old m → IsUsedBy kept.old.slots slot n → is_too_large declared ≡ false
+        → Lasts D.Disk disk.old disk.new (ShowsEither kept.old.layout m (patched_store m n declared [])) }
+    ensures unmade { IsErrOf result UploadError.NoMemory → (disk.new ≡ disk.old) × (kept.new ≡ kept.old) }
+{
+    let used = record_at(&kept.slots, slot as usize).unwrap().record();
+    let longer = Longer {
+        slot,
+        declared,
+        accepted: used.accepted,
+        text_len: used.text_len,
+        state: used.state,
+    };
+    match extend(alloc, disk, kept, &longer, &[], &[]) {
+        Ok(()) => Ok(()),
+        Err(ExtendError::NoMemory) => Err(UploadError::NoMemory),
+        Err(ExtendError::DiskFault) => Err(UploadError::DiskFault),
+    }
+}
+
+/// Puts the text of the draft of a number behind its upload's, gives that the length that the draft declares where it had
+/// none, and answers the new offset: refused with `NoSuch`, `Offset`, `LengthSet`, `TooLong`, `Unencodable`, `Full`,
+/// `NoMemory`, `DiskFault`. The draft is spent in every case. After a fault of the device what is kept may be ahead of
+/// the disk: the spool must be opened again.
 pub fn commit<D: Disk>(
     alloc: Global,
     disk: &mut D,
@@ -215,17 +287,20 @@ pub fn commit<D: Disk>(
     let Some(draft) = taken(drafts, number) else {
         return Err(UploadError::Refused(UploadRefusal::NoSuch));
     };
-    let slot = match slot_for(kept, &draft) {
-        Ok(slot) => slot,
+    let found = match found_for(kept, &draft) {
+        Ok(found) => found,
         Err(refusal) => {
             draft.give_back(&mut kept.blocks);
             return Err(UploadError::Refused(refusal));
         }
     };
-    if draft.came() == 0 {
-        let offset = draft.offset();
-        draft.give_back(&mut kept.blocks);
-        return Ok(offset);
+    if !found.stays {
+        return put_behind(alloc, disk, kept, draft, found);
     }
-    put_behind(alloc, disk, kept, draft, slot)
+    let offset = draft.offset();
+    draft.give_back(&mut kept.blocks);
+    if found.declares {
+        set_length(alloc, disk, kept, found.slot, found.declared)?;
+    }
+    Ok(offset)
 }

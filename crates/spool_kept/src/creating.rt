@@ -26,7 +26,7 @@ use spool_disk::Disk;
 use spool_journal::Pages;
 use spool_pages::{change, pages_of_new};
 use std::alloc::{AllocError, Global};
-use upload_rules::{LENGTH_LIMIT, NUMBERS_END, New, Record, UploadError, UploadRefusal};
+use upload_rules::{NUMBERS_END, New, Record, UploadError, UploadRefusal, is_too_large};
 
 // The first free slot.
 fn free_slot(slots: &[Option<KeptRecord>]) -> Option<u32>
@@ -147,7 +147,7 @@ pub fn create<D: Disk>(
     ensures texts { (m : Store) → Stored D.Disk disk.old kept.old m
         → OnOk result ((p : ℕ) → 4096 * text_page kept.old.layout ≤ p → D.seen disk.new p ≡ D.seen disk.old p) }
 {
-    if new.declared > LENGTH_LIMIT {
+    if is_too_large(new.declared) {
         return Err(UploadError::Refused(UploadRefusal::TooLarge));
     }
     let Some(slot) = kept.slot_for_new() else {

@@ -19,13 +19,14 @@ use spool_drafts::SpoolDraft;
 use std::alloc::Global;
 use upload_rules::{UploadError, UploadRefusal, placed, put_back, taken};
 
-// The draft that `begin` opens: refused with `NoSuch`, `Offset`, `TooLong`.
+// The draft that `begin` opens: refused with `NoSuch`, `Offset`, `TooLarge`, `LengthSet`, `TooLong`.
 fn opened(
     alloc: Global,
     kept: &Kept,
     number: u64,
     offset: u64,
     count: u64,
+    declare: Option<u64>,
 ) -> Result<SpoolDraft, UploadRefusal>
     ensures none { IfOk result (λ o. list_of o ≡ []) }
     ensures placed { IfOk result (λ o. IsPlaced kept.now.layout o) }
@@ -33,16 +34,16 @@ fn opened(
     ensures below { IfOk result (λ o. number_of o < kept.now.next) }
     ensures of_upload { IfOk result (IsOfUpload kept.now.slots) }
     ensures opened { (v : View) (m : Store) (bytes : ℕ → ℕ) → KeepsView kept.now v → Shows v m → Says bytes v
-        → OpensAs m number offset count bytes (25 + 2 * journal_pages kept.now.layout) result }
+        → OpensAs m number offset count declare bytes (25 + 2 * journal_pages kept.now.layout) result }
 {
     let Some(found) = kept.upload(number) else {
         return Err(UploadRefusal::NoSuch);
     };
-    SpoolDraft::begin(alloc, found.upload, found.list, offset, count)
+    SpoolDraft::begin(alloc, found.upload, found.list, offset, count, declare)
 }
 
-/// Opens a draft of `count` bytes at an offset, under the least number that is free: refused with `NoSuch`, `Offset`,
-/// `TooLong`, `NoMemory`.
+/// Opens a draft of `count` bytes at an offset, which may declare the upload's length, under the least number that is
+/// free: refused with `NoSuch`, `Offset`, `TooLarge`, `LengthSet`, `TooLong`, `NoMemory`.
 pub fn begin<D: Disk>(
     alloc: Global,
     kept: &Kept,
@@ -50,16 +51,17 @@ pub fn begin<D: Disk>(
     number: u64,
     offset: u64,
     count: u64,
+    declare: Option<u64>,
 ) -> Result<usize, UploadError>
     requires fits { DraftsFit kept.now drafts.old.items }
     ensures fits { DraftsFit kept.now drafts.new.items }
     ensures no_device { IsErrOf result UploadError.DiskFault → ⊥ }
     ensures answer { (disk : D) (w : World) → StandsFor D.Disk disk kept.now drafts.old.items w
-        → Answers (begin_refusal w number offset count) result
-        (λ d. (d ≡ free_number w) × StandsFor D.Disk disk kept.now drafts.new.items (begun w number count))
+        → Answers (begin_refusal w number offset count declare) result
+        (λ d. (d ≡ free_number w) × StandsFor D.Disk disk kept.now drafts.new.items (begun w number count declare))
         (StandsFor D.Disk disk kept.now drafts.new.items w) }
 {
-    let draft = match opened(alloc, kept, number, offset, count) {
+    let draft = match opened(alloc, kept, number, offset, count, declare) {
         Ok(draft) => draft,
         Err(refusal) => return Err(UploadError::Refused(refusal)),
     };

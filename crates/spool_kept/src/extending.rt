@@ -1,6 +1,6 @@
-// An upload gets longer: its record and its blocks, in memory and on the disk.
+// An upload gets longer, or its length: its record and its blocks, in memory and on the disk.
 ghost use Rattle.std.specs.Prelude.{◌≡◌, ◌↔◌, ◌≤◌, ◌<◌, ◌*◌, ◌/◌, ◌++◌, ℕ, List, [], Some, None, Ok, Err, length};
-ghost use Rattle.std.specs.Prelude.{get_or, drop, slice_set, IfOk, OnOk, OnErr, IsSome};
+ghost use Rattle.std.specs.Prelude.{Option, get_or, drop, slice_set, IfOk, OnOk, OnErr, IsSome};
 ghost use Rattle.spool_disk.specs.Disk.{Counts};
 ghost use Rattle.spool_disk.specs.Views.{Lasts};
 ghost use Rattle.spool_journal.specs.Image.{all_pages, journal_pages, InArea};
@@ -9,7 +9,7 @@ ghost use Rattle.spool_pages.specs.Changes.{ChangesButRows, with_record, SameRow
 ghost use Rattle.spool_pages.specs.View.{View};
 ghost use Rattle.spool_texts.specs.Drafts.{IsReserved};
 ghost use Rattle.upload_rules.specs.States.{SameEncodings};
-ghost use Rattle.upload_rules.specs.Store.{Store, appended_store};
+ghost use Rattle.upload_rules.specs.Store.{Store, patched_store};
 ghost use Rattle.spool_kept.specs.Extending.{MayExtend, HandsOn, IsLonger, IsPending, IsWritten, longer_record};
 ghost use Rattle.spool_kept.specs.Stored.{Stored, ShowsEither};
 ghost use Rattle.spool_pages.specs.View.{SlotRecord as Said};
@@ -28,6 +28,8 @@ use std::alloc::{AllocError, Global};
 pub(crate) struct Longer {
     /// Its slot.
     pub slot: u32,
+    /// The declared length in bytes, where it is known.
+    pub declared: Option<u64>,
     /// How many bytes are accepted.
     pub accepted: u64,
     /// The length of the text in bytes.
@@ -131,6 +133,7 @@ impl Kept {
         let blocks = changed_blocks(alloc, self.lists[slot as usize].blocks_from(full), more)?;
         let kept = record_at(&self.slots, slot as usize).unwrap();
         let next = SlotRecord {
+            declared: longer.declared,
             accepted: longer.accepted,
             text_len: longer.text_len,
             state: longer.state,
@@ -166,8 +169,8 @@ impl Kept {
     }
 }
 
-/// An upload gets longer, on the disk and in memory: its text by these reserved blocks, which replace its last,
-/// unfinished one. Where there are none its text stays. It writes the last bytes to them, once no growth is left, and
+/// An upload gets longer, or its length, on the disk and in memory: its text by these reserved blocks, which replace its
+/// last, unfinished one. Where there are none its text stays. It writes the last bytes to them, once no growth is left, and
 /// syncs them.
 ///
 /// # Errors
@@ -196,19 +199,19 @@ pub(crate) fn extend<D: Disk>(
         → get_or kept.old.slots longer.now.slot None ≡ Some r → IsLonger kept.old r longer.now more.now kept.new }
 
     // The disk and what is kept stand for the store with the longer upload.
-    ensures answer { (m : Store) (n : ℕ) (bytes : List ℕ)
-        → IsPending D.Disk disk.old kept.old m n bytes longer.now more.now last.now
-        → OnOk result (Stored D.Disk disk.new kept.new (appended_store m n bytes)) }
+    ensures answer { (m : Store) (n : ℕ) (declare : Option ℕ) (bytes : List ℕ)
+        → IsPending D.Disk disk.old kept.old m n declare bytes longer.now more.now last.now
+        → OnOk result (Stored D.Disk disk.new kept.new (patched_store m n declare bytes)) }
 
     // A crash during it leaves the store before or behind it.
-    ensures crash { (m : Store) (n : ℕ) (bytes : List ℕ)
-        → IsPending D.Disk disk.old kept.old m n bytes longer.now more.now last.now
-        → Lasts D.Disk disk.old disk.new (ShowsEither kept.old.layout m (appended_store m n bytes)) }
+    ensures crash { (m : Store) (n : ℕ) (declare : Option ℕ) (bytes : List ℕ)
+        → IsPending D.Disk disk.old kept.old m n declare bytes longer.now more.now last.now
+        → Lasts D.Disk disk.old disk.new (ShowsEither kept.old.layout m (patched_store m n declare bytes)) }
 
     // Of the text blocks only those of its text are written.
-    ensures written { (m : Store) (n : ℕ) (bytes : List ℕ)
-        → IsPending D.Disk disk.old kept.old m n bytes longer.now more.now last.now
-        → OnOk result (IsWritten D.Disk disk.old disk.new kept.old m n bytes longer.now more.now) }
+    ensures written { (m : Store) (n : ℕ) (declare : Option ℕ) (bytes : List ℕ)
+        → IsPending D.Disk disk.old kept.old m n declare bytes longer.now more.now last.now
+        → OnOk result (IsWritten D.Disk disk.old disk.new kept.old m n declare bytes longer.now more.now) }
 {
     let mut pages = kept.change_pages(alloc, longer, more)?;
     kept.take_over(longer, more)?;

@@ -82,11 +82,12 @@ impl KeptRecord {
         KeptRecord { record: upload }
     }
 
-    /// The upload gets longer.
+    /// The upload gets longer, or its length.
     pub(crate) fn extend(&mut self, longer: &Longer)
         requires { SameEncodings self.old.state longer.now.state }
         ensures { self.new ≡ longer_record self.old longer.now }
     {
+        self.record.declared = longer.declared;
         self.record.accepted = longer.accepted;
         self.record.text_len = longer.text_len;
         self.record.state = longer.state;

@@ -1,6 +1,7 @@
 -- What is checked of the values that were read.
 use Rattle.std.specs.Prelude.{◌≡◌, ℕ, ◌^◌, ◌<◌, ◌≤◌, List, Option, Some, None, get_or}
 use Rattle.spool_blocks.specs.Chains.{Owns}
+use Rattle.upload_rules.specs.Lengths.{longest}
 use Rattle.upload_rules.specs.Room.{blocks_of}
 use Rattle.spool_kept.specs.Shows.{HasState}
 use Rattle.spool_pages.specs.View.{SlotRecord}
@@ -8,8 +9,8 @@ use Rattle.spool_pages.specs.View.{SlotRecord}
 -- the record's numbers and its state may be there
 pub record RecordPasses (next : ℕ) (r : SlotRecord) : Type 0 where
   pub below : r.number < next
-  pub accepted : r.accepted ≤ r.declared
-  pub declared : r.declared ≤ 1073741824
+  pub accepted : r.accepted ≤ longest r.declared
+  pub declared : longest r.declared ≤ 1073741824
   pub state : HasState r
 
 -- the next number may be there, and so may each record

@@ -13,17 +13,17 @@ ghost use Rattle.spool_pages.specs.View.{SlotRecord};
 use enc_stream::{Progress, Transcoder};
 use spool_blocks::Row;
 use spool_kept::{KeptRecord, blocks_of, record_at};
-use upload_rules::{LENGTH_LIMIT, NUMBERS_END, Record};
+use upload_rules::{LENGTH_LIMIT, NUMBERS_END, Record, is_length};
 
-// Whether a transcoder may have come so far behind so many bytes: it has ended exactly where all declared bytes were
-// accepted, and before a byte order mark is decided all accepted bytes are held.
-fn fits_progress(progress: Progress, accepted: u64, declared: u64) -> bool
+// Whether a transcoder may have come so far behind so many bytes: it has ended exactly where the length is known and all
+// its bytes were accepted, and before a byte order mark is decided all accepted bytes are held.
+fn fits_progress(progress: Progress, accepted: u64, declared: Option<u64>) -> bool
     ensures { (p : Phase) → progress_of p ≡ progress → IsTrue result ↔ FitsPhase p accepted declared }
 {
     match progress {
-        Progress::Holding(count) => accepted == count as u64 && accepted != declared,
-        Progress::Decoding => accepted >= 1 && accepted != declared,
-        Progress::Ended => accepted == declared,
+        Progress::Holding(count) => accepted == count as u64 && !is_length(declared, accepted),
+        Progress::Decoding => accepted >= 1 && !is_length(declared, accepted),
+        Progress::Ended => is_length(declared, accepted),
     }
 }
 
@@ -43,9 +43,10 @@ fn is_state_sound(record: &Record) -> bool
 fn is_record_sound(record: &Record, next: u64) -> bool
     ensures { IsTrue result ↔ RecordPasses next (said_of «record».now) }
 {
+    let longest = record.declared.unwrap_or(LENGTH_LIMIT);
     record.number < next
-        && record.accepted <= record.declared
-        && record.declared <= LENGTH_LIMIT
+        && record.accepted <= longest
+        && longest <= LENGTH_LIMIT
         && is_state_sound(record)
 }
 
@@ -61,8 +62,8 @@ fn is_sound_at(slots: &[Option<KeptRecord>], slot: usize, next: u64) -> bool
 }
 
 /// Whether the next number and all records may be there: numbers are below the next number, which is 1 to 10^18, the
-/// accepted bytes are no more than the declared ones, which are at most 1,073,741,824, and the state is that of a
-/// transcoder that has come so far.
+/// accepted bytes are no more than the declared length, which is at most 1,073,741,824, as they are where it is unknown,
+/// and the state is that of a transcoder that has come so far.
 pub(crate) fn are_sound(slots: &[Option<KeptRecord>], next: u64) -> bool
     ensures { IsTrue result ↔ RecordsPass next slots.now }
 {

@@ -2,6 +2,7 @@ pub mod Bytes
 pub mod Blank
 pub mod Numbers
 pub mod Says
+pub mod Declared
 pub mod RecordBytes
 pub mod RowBytes
 pub mod PageIn

@@ -11,7 +11,7 @@ use Rattle.std.proofs.lemmas.List.{get_or-append-add, get_or-take, get_or-drop, 
 use Rattle.spool_journal.specs.Image.{byte_of}
 use Rattle.spool_pages.specs.Bytes.{IsPadded}
 use Rattle.spool_pages.proofs.Bytes.{padded_zeros}
-use Rattle.spool_pages.specs.View.{SlotRecord, Stands, record_bytes, slot_bytes}
+use Rattle.spool_pages.specs.View.{SlotRecord, Stands, declared_bytes, record_bytes, slot_bytes}
 use Rattle.spool_pages.specs.Fits.{FitsSlotOf}
 
 pub pad : {page : List ℕ} (xs : List ℕ) {ys : List ℕ} (zs : List ℕ) → ys ≡ zs → IsPadded page (xs ++ ys)
@@ -20,7 +20,7 @@ pad {page = page} xs zs e padded = subst (λ (bytes : List ℕ). IsPadded page (
 
 -- the four numbers, with the state, and with the metadata's length
 abbrev pub two_of : SlotRecord → List ℕ
-two_of r = to_be_bytes w64 r.number ++ to_be_bytes w64 r.declared
+two_of r = to_be_bytes w64 r.number ++ declared_bytes r.declared
 
 abbrev pub three_of : SlotRecord → List ℕ
 three_of r = two_of r ++ to_be_bytes w64 r.accepted
@@ -34,8 +34,26 @@ state_end r = four_of r ++ r.state
 abbrev pub head_of : SlotRecord → List ℕ
 head_of r = state_end r ++ to_be_bytes w16 (length r.metadata)
 
+pub length-declared : (declared : Option ℕ) → length (declared_bytes declared) ≡ 8
+unfolding declared_bytes
+length-declared None = refl
+length-declared (Some n) = refl
+
+pub length-two : (r : SlotRecord) → length (two_of r) ≡ 16
+length-two r = omega (
+  arith,
+  length-append (to_be_bytes w64 r.number) (declared_bytes r.declared),
+  length-declared r.declared,
+)
+
+pub length-three : (r : SlotRecord) → length (three_of r) ≡ 24
+length-three r = omega (arith, length-append (two_of r) (to_be_bytes w64 r.accepted), length-two r)
+
+pub length-four : (r : SlotRecord) → length (four_of r) ≡ 32
+length-four r = omega (arith, length-append (three_of r) (to_be_bytes w64 r.text_len), length-three r)
+
 pub length-state_end : (r : SlotRecord) → length r.state ≡ 32 → length (state_end r) ≡ 64
-length-state_end r size = omega (arith, size, length-append (four_of r) r.state)
+length-state_end r size = omega (arith, size, length-append (four_of r) r.state, length-four r)
 
 pub length-head : (r : SlotRecord) → length r.state ≡ 32 → length (head_of r) ≡ 66
 length-head r size =
@@ -100,7 +118,7 @@ padded_stands {page = page} {xs = xs} size padded = record {
 -- where a record's parts stand
 pub record PartsAt (f : ℕ → ℕ) (r : SlotRecord) : Type 0 where
   pub number : Stands f 0 8 (to_be_bytes w64 r.number)
-  pub declared : Stands f 8 8 (to_be_bytes w64 r.declared)
+  pub declared : Stands f 8 8 (declared_bytes r.declared)
   pub accepted : Stands f 16 8 (to_be_bytes w64 r.accepted)
   pub text_len : Stands f 24 8 (to_be_bytes w64 r.text_len)
   pub state : Stands f 32 32 r.state
@@ -113,30 +131,30 @@ parts_of f r size whole =
     subst (λ (xs : List ℕ). Stands f 0 2048 xs) (sym (record_is r)) whole in
     let head = stands_front (head_of r) _ 66 (length-head r size) (omega arith) all in
     let state = stands_front (state_end r) _ 64 (length-state_end r size) (omega arith) head in
-    let four = stands_front (four_of r) _ 32 refl (omega arith) state in
-    let three = stands_front (three_of r) _ 24 refl (omega arith) four in
-    let two = stands_front (two_of r) _ 16 refl (omega arith) three in
+    let four = stands_front (four_of r) _ 32 (length-four r) (omega arith) state in
+    let three = stands_front (three_of r) _ 24 (length-three r) (omega arith) four in
+    let two = stands_front (two_of r) _ 16 (length-two r) (omega arith) three in
     record {
       number = stands_front (to_be_bytes w64 r.number) _ 8 refl (omega arith) two;
       declared = stands_behind (to_be_bytes w64 r.number) _ 8 8 refl (omega arith) two;
-      accepted = stands_behind (two_of r) _ 16 8 refl (omega arith) three;
-      text_len = stands_behind (three_of r) _ 24 8 refl (omega arith) four;
-      state = stands_behind (four_of r) _ 32 32 refl (omega arith) state;
+      accepted = stands_behind (two_of r) _ 16 8 (length-two r) (omega arith) three;
+      text_len = stands_behind (three_of r) _ 24 8 (length-three r) (omega arith) four;
+      state = stands_behind (four_of r) _ 32 32 (length-four r) (omega arith) state;
       metadata_len = stands_behind (state_end r) _ 64 2 (length-state_end r size) (omega arith) head;
       metadata = stands_behind (head_of r) _ 66 1982 (length-head r size) (omega arith) all;
     }
 
 pub of_parts : (f : ℕ → ℕ) (r : SlotRecord) → length r.state ≡ 32
-    → Stands f 0 8 (to_be_bytes w64 r.number) → Stands f 8 8 (to_be_bytes w64 r.declared)
+    → Stands f 0 8 (to_be_bytes w64 r.number) → Stands f 8 8 (declared_bytes r.declared)
     → Stands f 16 8 (to_be_bytes w64 r.accepted) → Stands f 24 8 (to_be_bytes w64 r.text_len)
     → Stands f 32 32 r.state → Stands f 64 2 (to_be_bytes w16 (length r.metadata))
     → Stands f 66 (length r.metadata) r.metadata
     → Stands f 0 (66 + length r.metadata) (record_bytes r)
 of_parts f r size number declared accepted text_len state metadata_len metadata =
     let two = stands_both (to_be_bytes w64 r.number) _ 8 8 refl number declared in
-    let three = stands_both (two_of r) _ 16 8 refl two accepted in
-    let four = stands_both (three_of r) _ 24 8 refl three text_len in
-    let more = stands_both (four_of r) _ 32 32 refl four state in
+    let three = stands_both (two_of r) _ 16 8 (length-two r) two accepted in
+    let four = stands_both (three_of r) _ 24 8 (length-three r) three text_len in
+    let more = stands_both (four_of r) _ 32 32 (length-four r) four state in
     let head = stands_both (state_end r) _ 64 2 (length-state_end r size) more metadata_len in
     subst (λ (xs : List ℕ). Stands f 0 (66 + length r.metadata) xs) (record_is r)
     (stands_both (head_of r) r.metadata 66 (length r.metadata) (length-head r size) head metadata)
@@ -161,7 +179,7 @@ no_number bytes padded = record {
       (padded.each i ∙ sym ((padded_zeros 8).each i));
 }
 
-pub record_eq : (r : SlotRecord) (n d a t : ℕ) (s m : List ℕ) → n ≡ r.number → d ≡ r.declared → a ≡ r.accepted
+pub record_eq : (r : SlotRecord) (n : ℕ) (d : Option ℕ) (a t : ℕ) (s m : List ℕ) → n ≡ r.number → d ≡ r.declared → a ≡ r.accepted
     → t ≡ r.text_len → s ≡ r.state → m ≡ r.metadata
     → record { number = n; declared = d; accepted = a; text_len = t; state = s; metadata = m } ≡ r
 record_eq r n d a t s m e1 e2 e3 e4 e5 e6 = rw (e1, e2, e3, e4, e5, e6)

@@ -2,10 +2,15 @@
 use Rattle.std.specs.Prelude.{◌≡◌, ℕ, ◌+◌, ◌^◌, ◌<◌, ◌≤◌, Option, Some, None, All, length}
 use Rattle.spool_pages.specs.View.{SlotRecord}
 
+-- a known length is below 2 ^ 64 - 1, whose bytes are those of an unknown one
+abbrev pub FitsLength : Option ℕ → Type 0
+FitsLength None = Unit {0}
+FitsLength (Some n) = n + 1 < 2 ^ 64
+
 pub record FitsSlot (r : SlotRecord) : Type 0 where
   pub some : 1 ≤ r.number
   pub number : r.number < 2 ^ 64
-  pub declared : r.declared < 2 ^ 64
+  pub declared : FitsLength r.declared
   pub accepted : r.accepted < 2 ^ 64
   pub text_len : r.text_len < 2 ^ 64
   pub state : length r.state ≡ 32

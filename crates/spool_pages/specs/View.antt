@@ -1,5 +1,6 @@
 -- A spool's bytes and what they say. Numbers are big-endian. An image gives the byte at each place.
 use Rattle.std.specs.Prelude.{◌≡◌, ℕ, ◌+◌, ◌-◌, ◌*◌, ◌<◌, List, [], ◌∷◌, ◌++◌, Option, Some, None, length, get_or}
+use Rattle.std.specs.Prelude.{replicate}
 use Rattle.std.specs.Int.{to_be_bytes, w16, w32, w64}
 use Rattle.enc_model.specs.Indexes.{IndexSet}
 use Rattle.enc_index.specs.Area.{area_byte}
@@ -11,7 +12,7 @@ use Rattle.spool_journal.specs.Texts.{text_shown}
 -- the record of an upload in its slot
 pub record SlotRecord : Type 0 where
   pub number : ℕ
-  pub declared : ℕ
+  pub declared : Option ℕ
   pub accepted : ℕ
   pub text_len : ℕ
   pub state : List ℕ
@@ -43,9 +44,14 @@ first_page blocks = magic ++ to_be_bytes w32 blocks
 unfoldable pub state_page : ℕ → ℕ → List ℕ
 state_page version next = to_be_bytes w32 version ++ to_be_bytes w64 next
 
+-- an unknown length is eight bytes FF
+unfoldable pub declared_bytes : Option ℕ → List ℕ
+declared_bytes None = replicate 8 0xFF
+declared_bytes (Some n) = to_be_bytes w64 n
+
 unfoldable pub record_bytes : SlotRecord → List ℕ
 record_bytes r =
-    to_be_bytes w64 r.number ++ to_be_bytes w64 r.declared ++ to_be_bytes w64 r.accepted ++ to_be_bytes w64 r.text_len
+    to_be_bytes w64 r.number ++ declared_bytes r.declared ++ to_be_bytes w64 r.accepted ++ to_be_bytes w64 r.text_len
     ++ r.state ++ to_be_bytes w16 (length r.metadata) ++ r.metadata
 
 -- a free slot is all zeros

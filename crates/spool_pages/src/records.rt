@@ -1,8 +1,9 @@
 // The record of an upload as its slot keeps it.
-ghost use Rattle.std.specs.Prelude.{◌≡◌, ◌≤◌, [], length, Ok, Some, None, IfOk, IfSome};
+ghost use Rattle.std.specs.Prelude.{◌≡◌, ◌≤◌, ℕ, Option, [], length, Ok, Some, None, IfOk, IfSome};
+ghost use Rattle.spool_journal.specs.Image.{byte_of};
 ghost use Rattle.spool_pages.specs.Bytes.{IsPadded};
-ghost use Rattle.spool_pages.specs.Fits.{FitsSlot};
-ghost use Rattle.spool_pages.specs.View.{SlotRecord as Said, record_bytes, slot_bytes};
+ghost use Rattle.spool_pages.specs.Fits.{FitsLength, FitsSlot};
+ghost use Rattle.spool_pages.specs.View.{SlotRecord as Said, Stands, declared_bytes, record_bytes, slot_bytes};
 
 use crate::fields::{get_u16, get_u64, put};
 use crate::{Damaged, is_blank};
@@ -14,13 +15,34 @@ pub const RECORD: usize = 2048;
 /// How many bytes of metadata a slot has room for.
 pub const METADATA: usize = 1536;
 
+// Stands for a length that is not known.
+const UNKNOWN: u64 = u64::MAX;
+
+// The bytes of a length that may be unknown.
+fn declared_bytes(declared: Option<u64>) -> [u8; 8]
+    ensures { result ≡ declared_bytes declared }
+{
+    declared.unwrap_or(UNKNOWN).to_be_bytes()
+}
+
+// The declared length in a slot's bytes, where it is known.
+fn declared_in(bytes: &[u8; RECORD]) -> Option<u64>
+    ensures is { (declared : Option ℕ) → FitsLength declared
+        → Stands (byte_of bytes.now) 8 8 (declared_bytes declared) → result ≡ declared }
+    ensures there { Stands (byte_of bytes.now) 8 8 (declared_bytes result) }
+    ensures fits { FitsLength result }
+{
+    let length = get_u64(bytes, 8);
+    (length != UNKNOWN).then_some(length)
+}
+
 /// The record of an upload as its slot's bytes say it.
 #[derive(Drop)]
 pub struct SlotRecord<'a> {
     /// The upload's number, from 1 on.
     pub number: u64,
-    /// The declared length.
-    pub declared: u64,
+    /// The declared length, where it is known.
+    pub declared: Option<u64>,
     /// How many bytes were accepted.
     pub accepted: u64,
     /// The length of the text.
@@ -52,7 +74,7 @@ impl<'a> SlotRecord<'a> {
     {
         let mut bytes = [0; RECORD];
         put(&mut bytes, 0, &self.number.to_be_bytes());
-        put(&mut bytes, 8, &self.declared.to_be_bytes());
+        put(&mut bytes, 8, &declared_bytes(self.declared));
         put(&mut bytes, 16, &self.accepted.to_be_bytes());
         put(&mut bytes, 24, &self.text_len.to_be_bytes());
         put(&mut bytes, 32, &self.state);
@@ -84,7 +106,7 @@ impl<'a> SlotRecord<'a> {
         state.copy_from_slice(&bytes[32..64]);
         Ok(Some(SlotRecord {
             number,
-            declared: get_u64(bytes, 8),
+            declared: declared_in(bytes),
             accepted: get_u64(bytes, 16),
             text_len: get_u64(bytes, 24),
             state,

@@ -1,6 +1,6 @@
 //! Deletions of uploads on a spool.
 
-use crate::uploads::{fresh, opened, patched, plain};
+use crate::uploads::{declared, deferred, fresh, opened, patched, plain};
 use spool_disk::{Crash, Disk, DiskFault, FuseDisk, MemoryDisk};
 use spool_image::Spool;
 use std::alloc::Global;
@@ -64,14 +64,16 @@ fn blocks_of_a_deleted_upload_come_back(rt: HostRuntime) -> Result<(), Fail> {
     let text = vec![in rt.alloc(); b'a'; 65536]?;
     let mut spool = opened(rt.alloc(), fresh(rt.alloc())?)?;
     assert_eq!(rt; spool.create(plain(rt.alloc(), 65536)), Ok(1));
-    assert_eq!(rt; spool.create(plain(rt.alloc(), 1)), Ok(2));
+    assert_eq!(rt; spool.create(deferred(rt.alloc())), Ok(2));
     assert_eq!(rt; patched(&mut spool, 1, 0, &text), Ok(65536));
     assert_eq!(rt;
-        patched(&mut spool, 2, 0, b"b"),
+        declared(&mut spool, 2, 0, Some(1), b"b"),
         Err(UploadError::Refused(UploadRefusal::Full))
     );
+    assert_eq!(rt; spool.record(2).map(|r| r.declared), Some(None));
     assert_eq!(rt; spool.terminate(1), Ok(()));
-    assert_eq!(rt; patched(&mut spool, 2, 0, b"b"), Ok(1));
+    assert_eq!(rt; declared(&mut spool, 2, 0, Some(1), b"b"), Ok(1));
+    assert_eq!(rt; spool.record(2).map(|r| r.declared), Some(Some(1)));
     assert!(rt; has_text(&mut spool, 2, b"b"));
     drop(spool.into_disk());
     Ok(())
@@ -91,7 +93,7 @@ fn outlived<U: Uploads>(
     ),
     UploadError,
 > {
-    let mut draft = uploads.begin(1, 5000, 1)?;
+    let mut draft = uploads.begin(1, 5000, 1, None)?;
     let deleted = uploads.terminate(1);
     let filled = patched(uploads, 2, 0, text);
     let put = uploads.append(&mut draft, b"a");

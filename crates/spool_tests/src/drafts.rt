@@ -37,7 +37,7 @@ fn text_of(alloc: Global, len: usize) -> Result<Vec<u8>, AllocError> {
 /// Upload 7, new, from UTF-8 to windows-1252: without an index file only ASCII has a code there.
 fn upload_of(alloc: Global, declared: u64) -> Record {
     let fields = New {
-        declared,
+        declared: Some(declared),
         from: Encoding::Utf8,
         to: Encoding::Windows1252,
         mode: Mode::Fatal,
@@ -61,7 +61,7 @@ fn begun(
     ensures none { list_of result ≡ [] }
     ensures placed { IsPlaced layout.now result }
 {
-    SpoolDraft::begin(alloc, upload, list, upload.accepted, count).expect(rt, "it may begin")
+    SpoolDraft::begin(alloc, upload, list, upload.accepted, count, None).expect(rt, "it may begin")
 }
 
 /// Appends 5,000 bytes in pieces: a few, one that ends behind the first block, and the rest.

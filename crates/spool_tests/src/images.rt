@@ -35,13 +35,13 @@ fn put<D: Disk>(disk: &mut D, at: u64, bytes: &[u8]) -> Result<(), DiskFault> {
     disk.write_at(at, bytes)
 }
 
-/// A spool with the uploads 7 in slot 0 and 3, of which a byte was accepted, in slot 4. The text of upload 7 has 4,097
-/// bytes, on the blocks 3 and 9.
+/// A spool with the uploads 7 in slot 0, 3, of which a byte was accepted, in slot 4, and 2, of unknown length and with as
+/// many accepted bytes as there may be, in slot 6. The text of upload 7 has 4,097 bytes, on the blocks 3 and 9.
 fn write_uploads<D: Disk>(disk: &mut D) -> Result<(), DiskFault> {
     let transcoder = Transcoder::new(Encoding::Utf8, Encoding::ShiftJis, Mode::Fatal);
     let mut record = SlotRecord {
         number: 7,
-        declared: 5000,
+        declared: Some(5000),
         accepted: 0,
         text_len: 4097,
         state: transcoder.pack(),
@@ -54,6 +54,10 @@ fn write_uploads<D: Disk>(disk: &mut D) -> Result<(), DiskFault> {
     // decoding
     record.state[3] = 1;
     put(disk, 286 * 4096, &record.to_bytes())?;
+    record.number = 2;
+    record.declared = None;
+    record.accepted = 1_073_741_824;
+    put(disk, 287 * 4096, &record.to_bytes())?;
     put(disk, 283 * 4096 + 11, &[8])?;
     put(disk, 540 * 4096 + 8 * 3 + 3, &[1])?;
     put(disk, 540 * 4096 + 8 * 9 + 3, &[1, 0, 0, 0, 1])?;
@@ -198,6 +202,7 @@ fn uploads_are_told_of_and_read(rt: HostRuntime) -> Result<(), Fail> {
         spool.record(7).map(|record| record.to),
         Some(Encoding::ShiftJis)
     );
+    assert_eq!(rt; spool.record(2).map(|record| record.declared), Some(None));
     assert_eq!(rt; spool.record_after(2).map(|record| record.number), Some(3));
     assert_eq!(rt; spool.record_after(3).map(|record| record.number), Some(7));
     assert_eq!(rt; spool.record_after(7).is_none(), true);
@@ -233,6 +238,9 @@ fn damaged_uploads_are_refused(rt: HostRuntime) -> Result<(), Fail> {
         // more accepted than declared, and too much declared
         (286 * 4096 + 21, 1),
         (286 * 4096 + 11, 1),
+        // more accepted of an unknown length than there may be, and the end behind it
+        (287 * 4096 + 23, 1),
+        (287 * 4096 + 35, 2),
         // a state without a transcoder, one decoding before the first byte, one behind the end, and one of no phase
         (284 * 4096 + 32, 21),
         (284 * 4096 + 35, 1),

@@ -12,14 +12,26 @@ use std::fs;
 use std::test::Fail;
 use upload_rules::{New, UploadError, UploadRefusal, Uploads};
 
-/// The fields of an upload from UTF-8 to UTF-8.
+/// The fields of an upload from UTF-8 to UTF-8 of this length.
 pub(crate) fn plain(alloc: Global, declared: u64) -> New
     ensures form { IsWellFormed result }
     ensures from { result.from ≡ Encoding.Utf8 }
     ensures to { result.to ≡ Encoding.Utf8 }
 {
     New {
-        declared,
+        declared: Some(declared),
+        ..deferred(alloc)
+    }
+}
+
+/// The fields of an upload from UTF-8 to UTF-8 whose length is deferred.
+pub(crate) fn deferred(alloc: Global) -> New
+    ensures form { IsWellFormed result }
+    ensures from { result.from ≡ Encoding.Utf8 }
+    ensures to { result.to ≡ Encoding.Utf8 }
+{
+    New {
+        declared: None,
         from: Encoding::Utf8,
         to: Encoding::Utf8,
         mode: Mode::Html,
@@ -50,7 +62,18 @@ pub(crate) fn patched<U: Uploads>(
     offset: u64,
     bytes: &[u8],
 ) -> Result<u64, UploadError> {
-    let mut draft = uploads.begin(number, offset, bytes.len() as u64)?;
+    declared(uploads, number, offset, None, bytes)
+}
+
+/// An append of these bytes that may declare the length.
+pub(crate) fn declared<U: Uploads>(
+    uploads: &mut U,
+    number: u64,
+    offset: u64,
+    declare: Option<u64>,
+    bytes: &[u8],
+) -> Result<u64, UploadError> {
+    let mut draft = uploads.begin(number, offset, bytes.len() as u64, declare)?;
     match uploads.append(&mut draft, bytes) {
         Ok(()) => uploads.commit(draft),
         Err(e) => {
@@ -62,7 +85,7 @@ pub(crate) fn patched<U: Uploads>(
 
 /// An append that is given up.
 fn given_up<U: Uploads>(uploads: &mut U, number: u64, bytes: &[u8]) -> Result<(), UploadError> {
-    let mut draft = uploads.begin(number, 0, bytes.len() as u64)?;
+    let mut draft = uploads.begin(number, 0, bytes.len() as u64, None)?;
     let answer = uploads.append(&mut draft, bytes);
     uploads.drop_open(draft);
     answer

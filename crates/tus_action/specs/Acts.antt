@@ -9,9 +9,9 @@ use Rattle.tus_request.specs.Replies.{reply_options, reply_created, reply_head, 
 use Rattle.tus_request.specs.Replies.{reply_text, reply_continue, reply_refused}
 use Rattle.upload_rules.specs.declared.errors.UploadRefusal.{UploadRefusal}
 use Rattle.upload_rules.specs.Store.{New, Upload, upload_of, text_of}
-use Rattle.upload_rules.specs.World.{Patch, World, free_number}
+use Rattle.upload_rules.specs.World.{Patch, World, free_number, reached}
 use Rattle.upload_rules.specs.Calls.{create_refusal, created, terminate_refusal, terminated, begin_refusal, begun}
-use Rattle.upload_rules.specs.Calls.{longer, appended, commit_refusal, spent, reached}
+use Rattle.upload_rules.specs.Calls.{longer, appended, commit_refusal, spent}
 use Rattle.tus_action.specs.Faults.{fault_of}
 
 -- A text that is still to be given: of which upload, the bytes that are left, and whether the connection closes then.
@@ -80,10 +80,10 @@ get w r number (Some u) =
     let text = text_of w.store.indexes u in giving w r number u text (if r.bare then [] else drop piece_size text)
 
 -- a PATCH that passed its checks: refused with a close where it asked for 100 Continue, or begun
-abbrev pub patch : World → Request → ℕ → Option UploadRefusal → Acted
-patch w r number (Some f) = refused_at w (fault_of f) r (r.closes || r.expects)
-patch w r number None = record {
-  world = begun w number r.length;
+abbrev pub patch : World → Request → ℕ → Option ℕ → Option UploadRefusal → Acted
+patch w r number declare (Some f) = refused_at w (fault_of f) r (r.closes || r.expects)
+patch w r number declare None = record {
+  world = begun w number r.length declare;
   draft = Some (free_number w);
   bytes = if r.expects then reply_continue else [];
   pending = None;
@@ -95,7 +95,7 @@ acted_on w r Options = replied w (reply_options r.closes) r.closes
 acted_on w r (Create c) = post w r (new_of c) (create_refusal w (new_of c))
 acted_on w r (Head n) = head w r (upload_of w.store n)
 acted_on w r (Get n) = get w r n (upload_of w.store n)
-acted_on w r (Patches n offset) = patch w r n (begin_refusal w n offset r.length)
+acted_on w r (Patches n offset declare) = patch w r n declare (begin_refusal w n offset r.length declare)
 acted_on w r (Delete n) = delete w r n (terminate_refusal w n)
 
 abbrev pub acted : World → Verdict → Acted

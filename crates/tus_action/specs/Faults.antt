@@ -16,6 +16,7 @@ fault_of uploads.TooLong = faults.TooLong
 fault_of uploads.Slots = faults.Slots
 fault_of uploads.TooLarge = faults.TooLarge
 fault_of uploads.Full = faults.Full
+fault_of uploads.LengthSet = faults.LengthSet
 
 -- why a call that the rules can't refuse gave no answer
 abbrev pub stop_of : UploadError → Stop

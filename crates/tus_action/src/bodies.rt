@@ -1,8 +1,8 @@
 //! A PATCH body: its bytes, its end, and its cut.
 ghost use Rattle.std.specs.Prelude.{◌≡◌, ◌+◌, ◌≤◌, length, Some, IsErrOf};
 ghost use Rattle.upload_rules.specs.Store.{find};
-ghost use Rattle.upload_rules.specs.World.{World, Patch};
-ghost use Rattle.upload_rules.specs.Calls.{commit_refusal, commit_outcome, spent, dropped, reached as offset_behind};
+ghost use Rattle.upload_rules.specs.World.{World, Patch, reached as offset_behind};
+ghost use Rattle.upload_rules.specs.Calls.{commit_refusal, commit_outcome, spent, dropped};
 ghost use Rattle.upload_rules.specs.Answers.{Limits, Quiet, Counts};
 ghost use Rattle.tus_request.specs.Requests.{Request};
 ghost use Rattle.tus_action.specs.Acts.{fed, fed_patch, committed_as};

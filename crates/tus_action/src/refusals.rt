@@ -21,6 +21,7 @@ pub fn fault_of(refusal: UploadRefusal) -> Fault
         UploadRefusal::Slots => Fault::Slots,
         UploadRefusal::TooLarge => Fault::TooLarge,
         UploadRefusal::Full => Fault::Full,
+        UploadRefusal::LengthSet => Fault::LengthSet,
     }
 }
 

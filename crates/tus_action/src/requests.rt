@@ -64,11 +64,13 @@ pub fn act<U: Uploads>(
         }
         Action::Head(number) => show(alloc, store, number, bare, closes, out),
         Action::Get(number) => give_text(alloc, store, number, bare, closes, out),
-        Action::Patch { number, offset } => {
-            begin(
-                alloc, store, number, offset, length, bare, expects, closes, out,
-            )
-        }
+        Action::Patch {
+            number,
+            offset,
+            declare,
+        } => begin(
+            alloc, store, number, offset, length, declare, bare, expects, closes, out,
+        ),
         Action::Delete(number) => delete(alloc, store, number, bare, closes, out),
     }
 }

@@ -102,6 +102,7 @@ pub(crate) fn begin<U: Uploads>(
     number: u64,
     offset: u64,
     length: u64,
+    declare: Option<u64>,
     bare: bool,
     expects: bool,
     closes: bool,
@@ -110,7 +111,7 @@ pub(crate) fn begin<U: Uploads>(
     ensures answer { (w : World) (r : Request) → U.stands store.old w → length ≡ r.length → bare ≡ r.bare
         → expects ≡ r.expects → closes ≡ r.closes
         → Serves U.Uploads store.new result out.old.items out.new.items w
-        (patch w r number (begin_refusal w number offset length)) }
+        (patch w r number declare (begin_refusal w number offset length declare)) }
     ensures crash { Quiet (U.moment store.old) (U.moment store.new) (U.left_only store.old) (U.left_only store.new) }
     ensures counts { Counts (IsErrOf result Stop.DiskFault) (U.failures store.old) (U.failures store.new) }
 {
@@ -118,7 +119,7 @@ pub(crate) fn begin<U: Uploads>(
     let Ok(()) = append_continue(expects, out) else {
         return Err(Stop::NoMemory);
     };
-    match store.begin(number, offset, length) {
+    match store.begin(number, offset, length, declare) {
         Ok(draft) => Ok(Acted {
             draft: Some(draft),
             giving: None,

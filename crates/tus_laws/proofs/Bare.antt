@@ -9,7 +9,7 @@ use Rattle.upload_rules.specs.Store.{New, Upload, Store, find, replaced, without
 use Rattle.upload_rules.specs.World.{Patch, World, is_there, least_from, free_number, completes, patch_text}
 use Rattle.upload_rules.specs.Room.{is_short, exceeds, used, needs_but, wants}
 use Rattle.upload_rules.specs.Calls.{or_else, refuse_if, create_refusal, terminate_refusal, begin_refusal, begun_at}
-use Rattle.upload_rules.specs.Calls.{first_patch, longer, appended_at, is_empty, offset_refusal, commit_refusal}
+use Rattle.upload_rules.specs.Calls.{first_patch, longer, appended_at, text_stays, upload_refusal, commit_refusal}
 use Rattle.upload_rules.specs.Calls.{committed_store, spent}
 use Rattle.upload_rules.proofs.Finds.{find_replaced_same}
 use Rattle.tus_request.specs.Requests.{Request, Action, Options, Create, Head, Get, Patch as Patches, Delete}
@@ -113,28 +113,29 @@ module _ (w : World) (r : Request) where
   get_bare number None = refl
   get_bare number (Some u) = refl
 
-  begun_bare : (number count : ℕ) (o : Option Upload)
-      → begun_at (bared w) number count o ≡ bared (begun_at w number count o)
-  begun_bare number count None = refl
-  begun_bare number count (Some u) =
-      ap (λ d. record { store = w.store; patches = (d, first_patch number count u) ∷ bares w.patches; blocks = None })
-      (free_bares w)
+  begun_bare : (number count : ℕ) (declare : Option ℕ) (o : Option Upload)
+      → begun_at (bared w) number count declare o ≡ bared (begun_at w number count declare o)
+  begun_bare number count declare None = refl
+  begun_bare number count declare (Some u) =
+      let p = first_patch number count declare u in
+      ap (λ d. record { store = w.store; patches = (d, p) ∷ bares w.patches; blocks = None }) (free_bares w)
 
-  patch_bare : (number : ℕ) (o : Option UploadRefusal) → SameHead w (λ v. patch v r number o)
-  patch_bare number None =
-      let a = patch w r number None in
+  patch_bare : (number : ℕ) (declare : Option ℕ) (o : Option UploadRefusal)
+      → SameHead w (λ v. patch v r number declare o)
+  patch_bare number declare None =
+      let a = patch w r number declare None in
       let opened : World → ℕ → Acted =
       λ v d. record { world = v; draft = Some d; bytes = a.bytes; pending = None; closes = false } in
-      ap (λ v. opened v (free_number (bared w))) (begun_bare number r.length (upload_of w.store number))
+      ap (λ v. opened v (free_number (bared w))) (begun_bare number r.length declare (upload_of w.store number))
       ∙ ap (opened (bared a.world)) (free_bares w)
-  patch_bare number (Some f) = refl
+  patch_bare number declare (Some f) = refl
 
   action_bare : (action : Action) → SameHead w (λ v. acted_on v r action)
   action_bare Options = refl
   action_bare (Create c) = post_bare (new_of c) (create_refusal w (new_of c))
   action_bare (Head n) = head_bare (upload_of w.store n)
   action_bare (Get n) = get_bare n (upload_of w.store n)
-  action_bare (Patches n offset) = patch_bare n (begin_refusal w n offset r.length)
+  action_bare (Patches n offset declare) = patch_bare n declare (begin_refusal w n offset r.length declare)
   action_bare (Delete n) = delete_bare n (terminate_refusal w n)
 
 pub acted_bare : (w : World) (v : Verdict) → acted (bared w) v ≡ with_world (bared (acted w v).world) (acted w v)
@@ -171,11 +172,11 @@ fed_calm w d p (b ∷ body) = refl
 abbrev calm : Patch → Patch
 calm p = record p { short = false }
 
-same_refusal : (o : Option UploadRefusal) (empty fault short : Bool)
-    → (or_else o (if empty then None else if fault then Some Unencodable else refuse_if short Full) ≡ Some Full → ⊥)
-    → or_else o (if empty then None else if fault then Some Unencodable else refuse_if short Full)
-    ≡ or_else o (if empty then None else if fault then Some Unencodable else refuse_if false Full)
-same_refusal (Some f) empty fault short roomy = refl
+same_refusal : (o : Option UploadRefusal) (stays fault short : Bool)
+    → (or_else o (if stays then None else if fault then Some Unencodable else refuse_if short Full) ≡ Some Full → ⊥)
+    → or_else o (if stays then None else if fault then Some Unencodable else refuse_if short Full)
+    ≡ or_else o (if stays then None else if fault then Some Unencodable else refuse_if false Full)
+same_refusal (Some f) stays fault short roomy = refl
 same_refusal None true fault short roomy = refl
 same_refusal None false true short roomy = refl
 same_refusal None false false true roomy = absurd (roomy refl)
@@ -186,18 +187,18 @@ pub commit_calm : (v u : World) (d : ℕ) (p : Patch) → u.store ≡ v.store �
     → commit_refusal u d (calm p) ≡ commit_refusal v d p
 unfolding commit_refusal is_short patch_text
 commit_calm v u d p store unlimited roomy =
-    let done = completes p in
-    let o = offset_refusal p (upload_of v.store p.number) in
-    let none : is_short u d (calm p) done ≡ false =
+    let done = completes v.store p in
+    let o = upload_refusal p (upload_of v.store p.number) in
+    let none : is_short u d (calm p) (completes u.store p) ≡ false =
     let taken = used u.store.indexes u.store.uploads + needs_but d u.store.indexes u.patches in
-    ap (λ n. exceeds n taken (wants u.store.indexes (calm p) done)) unlimited in
+    ap (λ n. exceeds n taken (wants u.store.indexes (calm p) (completes u.store p))) unlimited in
     let refusal : Store → Bool → Option UploadRefusal =
-    λ m short. or_else (offset_refusal p (upload_of m p.number)) (if is_empty p.body then None
-    else if is_there (patch_text m.indexes p done).fault then Some Unencodable
+    λ m short. or_else (upload_refusal p (upload_of m p.number)) (if text_stays m p then None
+    else if is_there (patch_text m.indexes p (completes m p)).fault then Some Unencodable
     else refuse_if short Full) in
     let fault = is_there (patch_text v.store.indexes p done).fault in
     ap (refusal u.store) none ∙ ap (λ m. refusal m false) store
-    ∙ sym (same_refusal o (is_empty p.body) fault (is_short v d p done) roomy)
+    ∙ sym (same_refusal o (text_stays v.store p) fault (is_short v d p done) roomy)
 
 -- what the commit makes, and its reply
 spent_calm : (v u : World) (d : ℕ) (p : Patch) (o : Option UploadRefusal) → u.store ≡ v.store

@@ -43,7 +43,7 @@ leaves_first : (w : World) (r : Request) (a : Acted) (d : ℕ) → Leaves w r a 
 leaves_first w r a d (Nothing moves none idle) e = absurd (none-some d (sym none ∙ e))
 leaves_first w r a d (Text h same none some stays) e = absurd (none-some d (sym none ∙ e))
 leaves_first w r a d (Patching y) e =
-    let p = first_patch y.number r.length y.up in
+    let p = first_patch y.number r.length y.declare y.up in
     let same : y.d ≡ d = same_Some y.d d (sym y.draft_is ∙ e) in
     let first : find y.d ((y.d, p) ∷ w.patches) ≡ Some p = grind (arith, nat_tests) in
     (p, ap (λ v. find d v.patches) y.world_is ∙ (ap (λ n. find n ((y.d, p) ∷ w.patches)) (sym same) ∙ first), refl)

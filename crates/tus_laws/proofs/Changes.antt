@@ -3,9 +3,9 @@ use Rattle.std.proofs.Common.{◌≡◌, ◌-◌, ℕ, Bool, true, false, List, 
 use Rattle.std.proofs.Common.{subst, if◌then◌else◌}
 use Rattle.std.proofs.lemmas.Option.{none-some}
 use Rattle.upload_rules.specs.declared.errors.UploadRefusal.{UploadRefusal}
-use Rattle.upload_rules.specs.Store.{New, Upload, find, upload_of, appended_store}
+use Rattle.upload_rules.specs.Store.{New, Upload, find, upload_of}
 use Rattle.upload_rules.specs.World.{Patch, World}
-use Rattle.upload_rules.specs.Calls.{create_refusal, begin_refusal, begun_at, is_empty, commit_refusal, spent}
+use Rattle.upload_rules.specs.Calls.{create_refusal, begin_refusal, begun_at, commit_refusal, committed_store, spent}
 use Rattle.tus_request.specs.Requests.{Request, Action, Options, Create, Head, Get, Patch as Patches, Delete}
 use Rattle.tus_request.specs.Requests.{Asks, Refuses, Verdict}
 use Rattle.tus_action.specs.Acts.{Acted, Giving, acted, acted_on, post, delete, new_of, head, get, patch}
@@ -20,7 +20,8 @@ use Rattle.tus_session.proofs.Feeding.{fed_store}
 use Rattle.tus_session.proofs.Unmade.{opened_uploads}
 use Rattle.tus_session.proofs.RequestLeaves.{Leaves, Nothing as Idle, Text, Patching, leaves}
 use Rattle.tus_laws.specs.Patches.{moments_in, at_its_head, BodyCame, BodyCut, IsDoneOn, DonePatch, IsAccepted}
-use Rattle.tus_laws.specs.Patches.{IsRefused, Changed, Nothing, Made, Put, Deleted}
+use Rattle.tus_laws.specs.Patches.{IsRefused, Changed, Nothing, Made, Deleted}
+use Rattle.tus_laws.proofs.Commits.{committed_changed}
 
 -- A HEAD
 
@@ -41,9 +42,10 @@ pub head_uploads : (w : World) (draft : Option ℕ) (o : Option Asked) (d : ℕ)
 head_uploads w draft None d e = (refl, refl)
 head_uploads w draft (Some r) d e = verdict_uploads w r.verdict d e
 
-begun_uploads : (w : World) (number count : ℕ) (o : Option Upload) → (begun_at w number count o).store ≡ w.store
-begun_uploads w number count None = refl
-begun_uploads w number count (Some u) = refl
+begun_uploads : (w : World) (number count : ℕ) (declare : Option ℕ) (o : Option Upload)
+    → (begun_at w number count declare o).store ≡ w.store
+begun_uploads w number count declare None = refl
+begun_uploads w number count declare (Some u) = refl
 
 module _ (st : State) (e : Event) where
   -- what a request makes of the uploads at its head
@@ -64,16 +66,18 @@ module _ (st : State) (e : Event) where
   got r number None = Nothing refl
   got r number (Some u) = Nothing refl
 
-  patched : (r : Request) (number : ℕ) (o : Option UploadRefusal) → Changed st e (patch st.world r number o).world.store
-  patched r number None = Nothing (begun_uploads st.world number r.length (upload_of st.world.store number))
-  patched r number (Some f) = Nothing refl
+  patched : (r : Request) (number : ℕ) (declare : Option ℕ) (o : Option UploadRefusal)
+      → Changed st e (patch st.world r number declare o).world.store
+  patched r number declare None =
+      Nothing (begun_uploads st.world number r.length declare (upload_of st.world.store number))
+  patched r number declare (Some f) = Nothing refl
 
   by_action : (r : Request) (action : Action) → Changed st e (acted_on st.world r action).world.store
   by_action r Options = Nothing refl
   by_action r (Create c) = posted r (new_of c) (create_refusal st.world (new_of c))
   by_action r (Head n) = shown r (upload_of st.world.store n)
   by_action r (Get n) = got r n (upload_of st.world.store n)
-  by_action r (Patches n offset) = patched r n (begin_refusal st.world n offset r.length)
+  by_action r (Patches n offset declare) = patched r n declare (begin_refusal st.world n offset r.length declare)
   by_action r (Delete n) = deleted r n (upload_of st.world.store n) refl
 
   by_verdict : (v : Verdict) → Changed st e (acted st.world v).world.store
@@ -92,16 +96,11 @@ module _ (st : State) (e : Event) where
       ap (λ y. y.store) x.world ∙ fed_store (at_its_head st.world k piece).world d (moments_in st.world k piece).came
       ∙ (head_uploads st.world k.draft (moments_in st.world k piece).head d x.draft_open).0
 
-  put_case : (x : DonePatch st e) → x.world.store ≡ st.world.store → IsAccepted x → (b : Bool)
-      → is_empty x.patch.body ≡ b
-      → Changed st e (if b then x.world.store else appended_store x.world.store x.patch.number x.patch.body)
-  put_case x same accepted true is = Nothing same
-  put_case x same accepted false is = Put x is accepted (ap (λ m. appended_store m x.patch.number x.patch.body) same)
-
   spent_changed : (x : DonePatch st e) → x.world.store ≡ st.world.store → (o : Option UploadRefusal)
       → commit_refusal x.world x.draft x.patch ≡ o
       → Changed st e (spent x.world x.draft x.patch o).store
-  spent_changed x same None is = put_case x same is (is_empty x.patch.body) refl
+  spent_changed x same None is =
+      subst (Changed st e) (ap (λ m. committed_store m x.patch) (sym same)) (committed_changed st e x same is)
   spent_changed x same (Some f) is = Nothing same
 
 pub done_uploads_at : (st : State) (e : Event) (k : Conn) (v : World) (d : ℕ) (p : Patch) → IsDoneOn st e k v d p

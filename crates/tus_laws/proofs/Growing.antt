@@ -1,30 +1,35 @@
 -- Along a history the next number grows, and an upload's accepted bytes, until the upload is deleted.
 use Rattle.std.proofs.Common.{◌≡◌, ◌⊎◌, inl, inr, ℕ, ◌+◌, ◌<◌, ◌≤◌, List, [], ◌∷◌, ◌++◌, length, Option, Some, None}
-use Rattle.std.proofs.Common.{refl, sym, ◌∙◌, ap, subst, arith, append-nil, append_assoc}
+use Rattle.std.proofs.Common.{refl, sym, ◌∙◌, ap, subst, arith, append-nil}
 use Rattle.std.proofs.lemmas.Option.{none-some, same_Some}
 use Rattle.std.proofs.lemmas.List.{length-append}
 use Rattle.std.proofs.lemmas.Bool.{cases_eq}
 use Rattle.std.proofs.lemmas.Bool.Decides.{nat_tests}
-use Rattle.upload_rules.specs.Store.{New, Upload, Store, find, upload_of, with_bytes, new_upload}
-use Rattle.upload_rules.specs.Store.{created_store, deleted_store, appended_to, appended_store}
+use Rattle.upload_rules.specs.Lengths.{known_or}
+use Rattle.upload_rules.specs.Store.{New, Upload, Store, find, upload_of, with_length, patched, new_upload}
+use Rattle.upload_rules.specs.Store.{created_store, deleted_store, patched_at, patched_store}
 use Rattle.upload_rules.proofs.Finds.{find_replaced_same, find_replaced_other}
 use Rattle.upload_rules.proofs.Deleted.{none_in_others, find_in_others}
 use Rattle.tus_session.specs.History.{State, Event, Mark, Marked, Served, OutOfMemory, Failed, step, history}
-use Rattle.tus_laws.specs.Patches.{Changed, Nothing, Made, Put, Deleted, IsAbove}
+use Rattle.tus_laws.specs.Patches.{Changed, Nothing, Made, Declared, Put, DeclaredAndPut, Deleted, IsAbove}
+use Rattle.tus_laws.specs.Patches.{declared_store, appended_store}
+use Rattle.tus_session.proofs.Growth.{patched_nothing, patched_twice}
 use Rattle.tus_session.proofs.Unmade.{memory_same, fault_same}
-use Rattle.tus_laws.proofs.Changes.{served_changed}
+use Rattle.tus_laws.proofs.Commits.{put_is, declared_is, both_is, fitting_at}
+use Rattle.tus_laws.proofs.Changes.{done_uploads, served_changed}
 
 abbrev pub store_at : State → List Marked → Store
 store_at start past = (history start past).world.store
 
 -- ONE CHANGE
 
--- the upload was there, with bytes behind it now or none
+-- the upload was there, with what PATCHes brought since
 record WasThere (m : Store) (n : ℕ) (v : Upload) : Type 0 where
   upload : Upload
   there : upload_of m n ≡ Some upload
+  declare : Option ℕ
   more : List ℕ
-  is : v ≡ with_bytes upload more
+  is : v ≡ patched upload declare more
 
 -- From one store to a later one the next number doesn't fall, and stays above those of the uploads. An upload whose
 -- number was given by then was there then
@@ -37,8 +42,9 @@ same_there : (m : Store) (n : ℕ) (v : Upload) → upload_of m n ≡ Some v →
 same_there m n v there = record {
   upload = v;
   there = there;
+  declare = None;
   more = [];
-  is = ap (λ x. record v { accepted = x }) (sym (append-nil v.accepted));
+  is = patched_nothing v;
 }
 
 itself_keeps : (m : Store) → Keeps m m
@@ -60,9 +66,10 @@ keeps_both a b c first second =
           record {
             upload = x.upload;
             there = x.there;
+            declare = known_or x.declare y.declare;
             more = x.more ++ y.more;
-            is = y.is ∙ (ap (λ u. with_bytes u y.more) x.is
-                ∙ ap (λ z. record x.upload { accepted = z }) (append_assoc x.upload.accepted x.more y.more));
+            is = y.is ∙ (ap (λ u. patched u y.declare y.more) x.is
+                ∙ patched_twice x.upload x.declare y.declare x.more y.more);
           };
     }
 
@@ -89,33 +96,35 @@ made_keeps m new = record {
   ];
 }
 
--- the upload with a body behind it
-pub put_there : (m : Store) (number : ℕ) (body : List ℕ) (v : Upload) → upload_of m number ≡ Some v
-    → upload_of (appended_store m number body) number ≡ Some (with_bytes v body)
-put_there m number body v there =
-    ap (λ o. upload_of (appended_to m number body o) number) there
-    ∙ find_replaced_same number v (with_bytes v body) m.uploads there
+-- the upload with what a PATCH brings
+pub put_there : (m : Store) (number : ℕ) (declare : Option ℕ) (body : List ℕ) (v : Upload)
+    → upload_of m number ≡ Some v
+    → upload_of (patched_store m number declare body) number ≡ Some (patched v declare body)
+put_there m number declare body v there =
+    ap (λ o. upload_of (patched_at m number declare body o) number) there
+    ∙ find_replaced_same number v (patched v declare body) m.uploads there
 
-put_keeps_at : (m : Store) (number : ℕ) (body : List ℕ) (o : Option Upload) → upload_of m number ≡ o
-    → Keeps m (appended_to m number body o)
-put_keeps_at m number body None none = itself_keeps m
-put_keeps_at m number body (Some u) there = record {
+put_keeps_at : (m : Store) (number : ℕ) (declare : Option ℕ) (body : List ℕ) (o : Option Upload)
+    → upload_of m number ≡ o → Keeps m (patched_at m number declare body o)
+put_keeps_at m number declare body None none = itself_keeps m
+put_keeps_at m number declare body (Some u) there = record {
   next = omega arith;
   above = λ above n v found. elim (cases_eq number n) [
     | inl is ↦ above n u (ap (upload_of m) (sym is) ∙ there)
-    | inr ne ↦ above n v (sym (find_replaced_other number n (with_bytes u body) m.uploads ne) ∙ found)
+    | inr ne ↦ above n v (sym (find_replaced_other number n (patched u declare body) m.uploads ne) ∙ found)
   ];
   uploads = λ n v lt found. elim (cases_eq number n) [
     | inl is ↦
-        let put = find_replaced_same number u (with_bytes u body) m.uploads there in
-        let here = ap (upload_of (appended_to m number body (Some u))) is ∙ found in
+        let put = find_replaced_same number u (patched u declare body) m.uploads there in
+        let here = ap (upload_of (patched_at m number declare body (Some u))) is ∙ found in
         record {
           upload = u;
           there = ap (upload_of m) (sym is) ∙ there;
+          declare = declare;
           more = body;
-          is = same_Some v (with_bytes u body) (sym here ∙ put);
+          is = same_Some v (patched u declare body) (sym here ∙ put);
         }
-    | inr ne ↦ same_there m n v (sym (find_replaced_other number n (with_bytes u body) m.uploads ne) ∙ found)
+    | inr ne ↦ same_there m n v (sym (find_replaced_other number n (patched u declare body) m.uploads ne) ∙ found)
   ];
 }
 
@@ -138,15 +147,36 @@ deleted_keeps m gone = record {
 keeps_along : (m after after' : Store) → after ≡ after' → Keeps m after' → Keeps m after
 keeps_along m after after' e keeps = subst (Keeps m) (sym e) keeps
 
+put_keeps : (m after : Store) (number : ℕ) (declare : Option ℕ) (body : List ℕ)
+    → patched_store m number declare body ≡ after → Keeps m after
+put_keeps m after number declare body is =
+    subst (Keeps m) is (put_keeps_at m number declare body (upload_of m number) refl)
+
 changed_keeps : (st : State) (e : Event) (after : Store) → Changed st e after → Keeps st.world.store after
 changed_keeps st e after (Nothing is) = same_keeps st.world.store after is
 changed_keeps st e after (Made new is) =
     let m = st.world.store in keeps_along m after (created_store m new) is (made_keeps m new)
+changed_keeps st e after (Declared x total d accepted is) =
+    let m = st.world.store in
+    let n = x.patch.number in
+    keeps_along m after (declared_store m n total) is
+    (put_keeps m (declared_store m n total) n (Some total) []
+    (declared_is m n d.upload d.there total d.unknown))
 changed_keeps st e after (Put x body accepted is) =
     let m = st.world.store in
     let p = x.patch in
+    let fit = fitting_at st e x (done_uploads st e x) accepted in
+    let stays : known_or fit.up.declared None ≡ fit.up.declared =
+    ap (λ u. u.declared) (sym (patched_nothing fit.up)) in
     keeps_along m after (appended_store m p.number p.body) is
-    (put_keeps_at m p.number p.body (upload_of m p.number) refl)
+    (put_keeps m (appended_store m p.number p.body) p.number None p.body
+    (put_is m p.number fit.up fit.there None p.body stays))
+changed_keeps st e after (DeclaredAndPut x total d body accepted is) =
+    let m = st.world.store in
+    let p = x.patch in
+    let both = appended_store (declared_store m p.number total) p.number p.body in
+    keeps_along m after both is
+    (put_keeps m both p.number (Some total) p.body (both_is m p.number d.upload d.there total d.unknown p.body))
 changed_keeps st e after (Deleted n u there is) =
     let m = st.world.store in keeps_along m after (deleted_store m n) is (deleted_keeps m n)
 
@@ -173,14 +203,14 @@ pub next_grows : (start : State) (past later : List Marked)
     → (store_at start past).next ≤ (store_at start (later ++ past)).next
 next_grows start past later = (later_keeps start past later).next
 
--- an upload that is still there has bytes behind it or none
+-- an upload that is still there has what PATCHes brought since
 pub later_grows : (start : State) (past later : List Marked) → IsAbove start.world.store → (n : ℕ) (u v : Upload)
     → upload_of (store_at start past) n ≡ Some u → upload_of (store_at start (later ++ past)) n ≡ Some v
-    → (more : List ℕ) × (v ≡ with_bytes u more)
+    → (declare : Option ℕ) × (more : List ℕ) × (v ≡ patched u declare more)
 later_grows start past later above n u v there there' =
     let was = (later_keeps start past later).uploads n v (always_above start past above n u there) there' in
     let same : was.upload ≡ u = same_Some was.upload u (sym was.there ∙ there) in
-    (was.more, was.is ∙ ap (λ x. with_bytes x was.more) same)
+    (was.declare, was.more, was.is ∙ ap (λ x. patched x was.declare was.more) same)
 
 none_more : (xs ys : List ℕ) → length xs ≡ length (xs ++ ys) → ys ≡ []
 none_more xs [] e = refl
@@ -191,11 +221,15 @@ none_more xs (y ∷ ys) e =
 -- the same upload and the same count mean the same accepted bytes
 pub later_same : (start : State) (past later : List Marked) → IsAbove start.world.store → (n : ℕ) (u v : Upload)
     → upload_of (store_at start past) n ≡ Some u → upload_of (store_at start (later ++ past)) n ≡ Some v
-    → length u.accepted ≡ length v.accepted → v ≡ u
+    → length u.accepted ≡ length v.accepted → (declare : Option ℕ) × (v ≡ with_length u declare)
 later_same start past later above n u v there there' count =
     let grown = later_grows start past later above n u v there there' in
-    let none : grown.0 ≡ [] = none_more u.accepted grown.0 (count ∙ ap (λ x. length x.accepted) grown.1) in
-    grown.1 ∙ (ap (with_bytes u) none ∙ ap (λ x. record u { accepted = x }) (append-nil u.accepted))
+    let none : grown.1 ≡ [] = none_more u.accepted grown.1 (count ∙ ap (λ x. length x.accepted) grown.2) in (
+      grown.0,
+      grown.2
+          ∙ (ap (patched u grown.0) none
+          ∙ ap (λ x. record (with_length u grown.0) { accepted = x }) (append-nil u.accepted)),
+    )
 
 -- an upload that is gone stays away
 gone_case : (start : State) (past later : List Marked) (n : ℕ) → n < (store_at start past).next

@@ -4,7 +4,7 @@ use Rattle.std.proofs.Common.{if◌then◌else◌, nat_lt, Option, Some, None, r
 use Rattle.std.proofs.Common.{append_assoc}
 use Rattle.std.proofs.lemmas.Option.{none-some, same_Some}
 use Rattle.std.proofs.lemmas.List.{take-append-drop}
-use Rattle.upload_rules.specs.Store.{Upload, Store, find, upload_of, appended_to}
+use Rattle.upload_rules.specs.Store.{Upload, Store, find, upload_of}
 use Rattle.upload_rules.specs.World.{Patch, World, at_rest}
 use Rattle.upload_rules.specs.Calls.{commit_refusal, spent}
 use Rattle.upload_rules.specs.declared.errors.UploadRefusal.TheVariants.{Full}
@@ -24,7 +24,8 @@ use Rattle.tus_session.proofs.Tolds.{came_is, ended_step}
 use Rattle.tus_session.proofs.BodyTold.{rest_same}
 use Rattle.tus_session.proofs.Feeding.{fed_body}
 use Rattle.tus_laws.specs.Patches.{moments_in, at_its_head, BodyCut, DonePatch, IsRefused, Changed, Nothing}
-use Rattle.tus_laws.specs.Patches.{Made, Put, Deleted}
+use Rattle.tus_laws.specs.Patches.{Made, Declared, Put, DeclaredAndPut, Deleted}
+use Rattle.tus_laws.specs.Patches.{declared_at, declared_store, appended_at}
 use Rattle.tus_laws.specs.Cuts.{head_moment, body_moment, came_moments, cut_moment, came_on, ended_on, event_moments}
 use Rattle.tus_laws.specs.Cuts.{all_moments, bytes_of, given, text_left, still_to_give, KeepsText, AllSmooth}
 use Rattle.tus_laws.proofs.Changes.{served_changed, with_idle, with_text, done_came, ended_spent}
@@ -37,9 +38,13 @@ use Rattle.tus_laws.proofs.Replays.{Sound, Sim, Keeps, Replays, sound_put, sim_p
 
 -- THE INDEXES stay
 appended_indexes : (m : Store) (n : ℕ) (bytes : List ℕ) (o : Option Upload)
-    → (appended_to m n bytes o).indexes ≡ m.indexes
+    → (appended_at m n bytes o).indexes ≡ m.indexes
 appended_indexes m n bytes None = refl
 appended_indexes m n bytes (Some u) = refl
+
+declared_indexes : (m : Store) (n total : ℕ) (o : Option Upload) → (declared_at m n total o).indexes ≡ m.indexes
+declared_indexes m n total None = refl
+declared_indexes m n total (Some u) = refl
 
 changed_indexes : (st : State) (e : Event) (after : Store) → Changed st e after → after.indexes ≡ st.world.store.indexes
 changed_indexes st e after (Nothing is) = ap (λ m. m.indexes) is
@@ -47,6 +52,15 @@ changed_indexes st e after (Made new is) = ap (λ m. m.indexes) is
 changed_indexes st e after (Put x body accepted is) =
     ap (λ m. m.indexes) is
     ∙ appended_indexes st.world.store x.patch.number x.patch.body (upload_of st.world.store x.patch.number)
+changed_indexes st e after (Declared x total declares accepted is) =
+    ap (λ m. m.indexes) is
+    ∙ declared_indexes st.world.store x.patch.number total (upload_of st.world.store x.patch.number)
+changed_indexes st e after (DeclaredAndPut x total declares body accepted is) =
+    let m = st.world.store in
+    let n = x.patch.number in
+    let v = declared_store m n total in
+    ap (λ m. m.indexes) is
+    ∙ (appended_indexes v n x.patch.body (upload_of v n) ∙ declared_indexes m n total (upload_of m n))
 changed_indexes st e after (Deleted n u there is) = ap (λ m. m.indexes) is
 
 same_indexes : (st : State) (e : Event) → (step st e Served).state.world.store.indexes ≡ st.world.store.indexes

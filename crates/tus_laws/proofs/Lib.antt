@@ -1,3 +1,4 @@
+pub mod Commits
 pub mod Changes
 pub mod Growing
 pub mod Winners

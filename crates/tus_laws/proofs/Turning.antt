@@ -46,7 +46,7 @@ leaves_open w r a (Patching y) = record {
   idle = λ d e. y.idle;
   fresh = λ d e. inr (ap (λ n. find n w.patches) (sym (same_Some y.d d (sym y.draft_is ∙ e))) ∙ y.free);
   others = λ e p there ne.
-      let q = first_patch y.number r.length y.up in
+      let q = first_patch y.number r.length y.declare y.up in
       let other : y.d ≡ e → ⊥ = λ is. none-some p (sym y.free ∙ (ap (λ n. find n w.patches) is ∙ there)) in
       let behind : find e ((y.d, q) ∷ w.patches) ≡ find e w.patches = grind (arith, nat_tests) in
       ap (λ v. find e v.patches) y.world_is ∙ (behind ∙ there);

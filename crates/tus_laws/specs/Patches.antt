@@ -6,9 +6,9 @@
 --   the first sends `LLO`: its PATCH is done with the body `heLLO`. It began at offset 0, and the upload has five bytes
 --   by now: it is refused with `Offset`, which is answered 409, and the upload has the same five bytes as before.
 -- Had a third connection sent a DELETE of upload 1 before that, the PATCH would be refused with `NoSuch`, answered 404.
-use Rattle.std.specs.Prelude.{◌≡◌, ◌<◌, ℕ, false, List, length, take, Some, None}
+use Rattle.std.specs.Prelude.{◌≡◌, ◌<◌, ◌≤◌, ◌+◌, ◌++◌, ℕ, false, List, length, take, Option, Some, None}
 use Rattle.upload_rules.specs.declared.errors.UploadRefusal.{UploadRefusal}
-use Rattle.upload_rules.specs.Store.{New, Upload, Store, find, upload_of, created_store, deleted_store, appended_store}
+use Rattle.upload_rules.specs.Store.{New, Upload, Store, find, replaced, upload_of, created_store, deleted_store}
 use Rattle.upload_rules.specs.World.{Patch, World}
 use Rattle.upload_rules.specs.Calls.{is_empty, commit_refusal}
 use Rattle.tus_request.specs.Requests.{Request, Asks}
@@ -73,13 +73,44 @@ pub record SamePlace {st st' : State} {e e' : Event} (x : DonePatch st e) (y : D
   pub number : x.patch.number ≡ y.patch.number
   pub offset : length x.patch.began.accepted ≡ length y.patch.began.accepted
 
--- WHAT A SERVED EVENT MAKES of the uploads: nothing; a new upload; the body of a PATCH that is accepted, behind its
--- upload's bytes; or one upload that was there is deleted
+-- `declare`: an upload gets its length
+abbrev pub declared_at : Store → ℕ → ℕ → Option Upload → Store
+declared_at m n total None = m
+declared_at m n total (Some u) = record m { uploads = replaced n (record u { declared = Some total }) m.uploads }
+
+abbrev pub declared_store : Store → ℕ → ℕ → Store
+declared_store m n total = declared_at m n total (upload_of m n)
+
+-- `append`: an upload gets bytes at its end
+abbrev pub appended_at : Store → ℕ → List ℕ → Option Upload → Store
+appended_at m n bytes None = m
+appended_at m n bytes (Some u) = record m { uploads = replaced n (record u { accepted = u.accepted ++ bytes }) m.uploads }
+
+abbrev pub appended_store : Store → ℕ → List ℕ → Store
+appended_store m n bytes = appended_at m n bytes (upload_of m n)
+
+-- A PATCH declares this length. Its upload's length is unknown, and it is long enough for the bytes that the upload has
+-- and those of the body.
+pub record Declares {st : State} {e : Event} (x : DonePatch st e) (total : ℕ) : Type 0 where
+  pub upload : Upload
+  pub there : upload_of st.world.store x.patch.number ≡ Some upload
+  pub unknown : upload.declared ≡ None
+  pub declared : x.patch.declare ≡ Some total
+  pub enough : length upload.accepted + length x.patch.body ≤ total
+
+-- WHAT A SERVED EVENT MAKES of the uploads: nothing; a new upload; by a PATCH that is accepted its upload gets the
+-- length that it declares, or its body at the end, or both at once; or one upload that was there is deleted
 pub data Changed (st : State) (e : Event) (after : Store) : Type 0 where
   Nothing : after ≡ st.world.store → Changed st e after
   Made : (new : New) → after ≡ created_store st.world.store new → Changed st e after
+  Declared : (x : DonePatch st e) (total : ℕ) → Declares x total → IsAccepted x
+      → after ≡ declared_store st.world.store x.patch.number total → Changed st e after
   Put : (x : DonePatch st e) → HasBody x → IsAccepted x
       → after ≡ appended_store st.world.store x.patch.number x.patch.body → Changed st e after
+  DeclaredAndPut : (x : DonePatch st e) (total : ℕ) → Declares x total → HasBody x → IsAccepted x
+      → after
+      ≡ appended_store (declared_store st.world.store x.patch.number total) x.patch.number x.patch.body
+      → Changed st e after
   Deleted : (n : ℕ) (u : Upload) → upload_of st.world.store n ≡ Some u → after ≡ deleted_store st.world.store n
       → Changed st e after
 

@@ -3,7 +3,7 @@
 ghost use Rattle.std.specs.Prelude.{◌≡◌, ◌<◌, ◌≤◌, ◌++◌, ◌∷◌, ℕ, List, Option, Some, None, length, slice_get};
 ghost use Rattle.upload_rules.specs.declared.errors.UploadRefusal.{UploadRefusal};
 ghost use Rattle.upload_rules.specs.declared.errors.UploadRefusal.TheVariants.{NoSuch, Offset};
-ghost use Rattle.upload_rules.specs.Store.{Upload, Store, find, upload_of, with_bytes};
+ghost use Rattle.upload_rules.specs.Store.{Upload, Store, find, upload_of, with_length, patched};
 ghost use Rattle.upload_rules.specs.World.{World};
 ghost use Rattle.upload_rules.specs.Calls.{first_patch};
 ghost use Rattle.tus_request.specs.Requests.{Request, Patch, Asks};
@@ -20,10 +20,11 @@ ghost use Rattle.tus_laws.specs.Cuts.{all_moments, given, still_to_give, AllSmoo
 /// there, and with `NoSuch` once it is gone. A PATCH began at the offset that it named. The history starts with a next
 /// number above those of its uploads, so that no upload gets the number of a deleted one.
 pub fn one_winner()
-    ensures begins { (w : World) (r : Request) (number offset d : ℕ) → r.action ≡ Patch number offset
+    ensures begins { (w : World) (r : Request) (number offset d : ℕ) (declare : Option ℕ)
+        → r.action ≡ Patch number offset declare
         → (acted w (Asks r)).draft ≡ Some d
         → (u : Upload) × (upload_of w.store number ≡ Some u) × (length u.accepted ≡ offset)
-        × (find d (acted w (Asks r)).world.patches ≡ Some (first_patch number r.length u)) }
+        × (find d (acted w (Asks r)).world.patches ≡ Some (first_patch number r.length declare u)) }
     ensures one { (start : State) (past between : List Marked) (e f : Event) (x : DonePatch (history start past) e)
         (y : DonePatch (history start (between ++ (e, Served) ∷ past)) f) → IsAbove start.world.store → SamePlace x y
         → HasBody x → HasBody y → IsAccepted x → IsAccepted y → ⊥ }
@@ -37,26 +38,27 @@ pub fn one_winner()
         → (step st e Served).state.world.store ≡ st.world.store }
 {}
 
-/// An event makes at most one change: an upload is made; or the body of a PATCH that is accepted is put behind its
-/// upload's bytes; or an upload that was there is deleted. An event that isn't served makes none.
-pub fn one_change()
+/// An event commits at most once: an upload is made; or by a PATCH that is accepted its upload gets the length that it
+/// declares, or its body at the end, or both, all or none of it; or an upload that was there is deleted. An event that
+/// isn't served commits nothing.
+pub fn one_commit()
     ensures served { (st : State) (e : Event) → Changed st e (step st e Served).state.world.store }
     ensures memory { (st : State) (e : Event) → (step st e OutOfMemory).state.world.store ≡ st.world.store }
     ensures fault { (st : State) (e : Event) → (step st e Failed).state.world.store ≡ st.world.store }
 {}
 
-/// An upload's accepted bytes only grow for as long as it is there, so at two moments of a history the same upload with
-/// the same count of accepted bytes has the same accepted bytes. An upload that is gone stays away. The history starts
-/// with a next number above those of its uploads.
+/// An upload's accepted bytes only grow for as long as it is there, and its length stays once it is known, so at two
+/// moments of a history the same upload with the same count of accepted bytes has the same accepted bytes. An upload
+/// that is gone stays away. The history starts with a next number above those of its uploads.
 pub fn same_offset()
     ensures grows { (start : State) (past later : List Marked) → IsAbove start.world.store → (n : ℕ) (u v : Upload)
         → upload_of (history start past).world.store n ≡ Some u
         → upload_of (history start (later ++ past)).world.store n ≡ Some v
-        → (more : List ℕ) × (v ≡ with_bytes u more) }
+        → (declare : Option ℕ) × (more : List ℕ) × (v ≡ patched u declare more) }
     ensures same { (start : State) (past later : List Marked) → IsAbove start.world.store → (n : ℕ) (u v : Upload)
         → upload_of (history start past).world.store n ≡ Some u
         → upload_of (history start (later ++ past)).world.store n ≡ Some v → length u.accepted ≡ length v.accepted
-        → v ≡ u }
+        → (declare : Option ℕ) × (v ≡ with_length u declare) }
     ensures gone { (start : State) (past between later : List Marked) → IsAbove start.world.store → (n : ℕ) (u : Upload)
         → upload_of (history start past).world.store n ≡ Some u
         → upload_of (history start (between ++ past)).world.store n ≡ None

@@ -1,6 +1,7 @@
 -- The checks, one after another.
-use Rattle.std.specs.Prelude.{◌≡◌, ℕ, Bool, true, false, ◌&&◌, List, [], ◌∷◌, length, nat_le, if◌then◌else◌, Some, None}
-use Rattle.std.proofs.Common.{arith, ap, refl}
+use Rattle.std.specs.Prelude.{◌≡◌, ℕ, Bool, true, false, ◌&&◌, List, [], ◌∷◌, length, nat_le, if◌then◌else◌}
+use Rattle.std.specs.Prelude.{Option, Some, None, codes}
+use Rattle.std.proofs.Common.{arith, ap, sym, ◌∙◌, refl}
 use Rattle.std.specs.List.{list_all}
 use Rattle.std.proofs.lemmas.Bool.Decides.{nat_tests}
 use Rattle.http_header.specs.Token.{is_visible_or_blank}
@@ -8,8 +9,10 @@ use Rattle.http_header.specs.FieldValue.{IsVisibleAscii}
 use Rattle.http_header.proofs.TokenLemmas.{AllPass-from_test}
 use Rattle.enc_model.specs.declared.Encoding.{Encoding}
 use Rattle.tus_request.specs.Metadata.{is_plain, is_metadata, metadata_of}
-use Rattle.tus_request.specs.Checks.{Line, Asking, asking, is_given, length_in, cut_off, decided, measured}
-use Rattle.tus_request.specs.declared.faults.Fault.TheVariants.{Coding}
+use Rattle.tus_request.specs.Checks.{Line, Asking, asking, is_given, length_in, cut_off, decided, measured, only}
+use Rattle.tus_request.specs.Checks.{number_in, optional_number_in, is_patch_media, refused, passed_patch, declaring}
+use Rattle.tus_request.specs.Checks.{at_offset, patch_checked}
+use Rattle.tus_request.specs.declared.faults.Fault.TheVariants.{Coding, MediaType}
 
 pub same_values : (f g : List ℕ → List (List ℕ)) → ((name : List ℕ) → f name ≡ g name) → f ≡ g
 same_values f g same = λ i. λ name. same name i
@@ -20,6 +23,18 @@ pub checked_is : (offers : Encoding → Bool) (line : Line) (given : List ℕ �
     → decided offers a ≡ (if is_given codings then cut_off line Coding else measured offers line given
     (length_in lengths))
 checked_is offers line given codings lengths a len e f g = rw (e, f) (ap (decided offers) g)
+
+-- an append passes its checks where they find its media type, its offset and what it declares
+pub patch_passes : (x : Asking) (n offset : ℕ) (declare : Option ℕ)
+    → is_patch_media (only (x.given (codes "content-type"))) ≡ true
+    → number_in (x.given (codes "upload-offset")) ≡ Some offset
+    → optional_number_in (x.given (codes "upload-length")) ≡ Some declare
+    → passed_patch x n offset declare ≡ patch_checked x n
+patch_passes x n offset declare media at length =
+    sym (
+    ap (λ b. if b then at_offset x n (number_in (x.given (codes "upload-offset"))) else refused x MediaType) media
+    ∙ ap (at_offset x n) at ∙ ap (declaring x n offset) length
+    )
 
 plain_is_visible : (b : ℕ) → is_plain b ≡ true → is_visible_or_blank b ≡ true
 plain_is_visible b e = grind (arith, nat_tests)

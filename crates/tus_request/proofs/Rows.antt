@@ -26,10 +26,10 @@ line text more = text ++ (13 ∷ 10 ∷ more)
 
 -- REPLIES
 
-options_reply : length (reply_options false) ≡ 157
+options_reply : length (reply_options false) ≡ 179
 options_reply = refl
 
-closing_options_reply : length (reply_options true) ≡ 176
+closing_options_reply : length (reply_options true) ≡ 198
 closing_options_reply = refl
 
 created_reply : length (reply_created 1 false false) ≡ 110
@@ -43,9 +43,13 @@ patched_reply = refl
 deleted_reply : length (reply_deleted false) ≡ 74
 deleted_reply = refl
 
-head_reply : length (reply_head 5 5 [] true false) ≡ 102
+head_reply : length (reply_head 5 (Some 5) [] true false) ≡ 102
 unfolding digits
 head_reply = refl
+
+deferred_head_reply : length (reply_head 0 None [] true false) ≡ 108
+unfolding digits
+deferred_head_reply = refl
 
 text_reply : length (reply_text Utf8 5 false false) ≡ 126
 unfolding digits
@@ -97,7 +101,7 @@ abbrev asked : Action → ℕ → Verdict
 asked action length =
     Asks (record { action = action; length = length; bare = false; expects = false; closes = false })
 
-reads_patch : answer_of all (patch_head ++ codes "hel") ≡ Judged 133 (asked (Patch 1 0) 5)
+reads_patch : answer_of all (patch_head ++ codes "hel") ≡ Judged 133 (asked (Patch 1 0 None) 5)
 unfolding patch_head answer_of print_request trim_ows is_token_byte is_utf8 chars lib.Utf8.encode
 reads_patch = refl
 

@@ -151,7 +151,7 @@ module _ (offers : Encoding → Bool) where
       → IsSound offers (checks.passed x a)
   passed_sound x a small sound = record { length_is = small; action_is = sound }
 
-  choice_if : (x : checks.Asking) (declared : ℕ) (metadata : List ℕ) (c : Choice) (b : Bool)
+  choice_if : (x : checks.Asking) (declared : Option ℕ) (metadata : List ℕ) (c : Choice) (b : Bool)
       → x.length < 10 ^ 18 → (offers c.from && offers c.to) ≡ b → NoUtf16 c.to → IsPlainText metadata
       → IsSound offers (if b
       then checks.passed x (Create (record {
@@ -170,28 +170,28 @@ module _ (offers : Encoding → Bool) where
       }
   choice_if x declared metadata c false small q to plain = tt {0}
 
-  choice_sound : (x : checks.Asking) (declared : ℕ) (metadata : List ℕ) (o : Option Choice)
+  choice_sound : (x : checks.Asking) (declared : Option ℕ) (metadata : List ℕ) (o : Option Choice)
       → x.length < 10 ^ 18 → ((c : Choice) → o ≡ Some c → NoUtf16 c.to) → IsPlainText metadata
       → IsSound offers (checks.with_choice offers x declared metadata o)
   choice_sound x declared metadata None small to plain = tt {0}
   choice_sound x declared metadata (Some c) small to plain =
       choice_if x declared metadata c (offers c.from && offers c.to) small refl (to c refl) plain
 
-  pairs_sound : (x : checks.Asking) (declared : ℕ) (metadata : List ℕ) (o : Option (List KeyValue))
+  pairs_sound : (x : checks.Asking) (declared : Option ℕ) (metadata : List ℕ) (o : Option (List KeyValue))
       → x.length < 10 ^ 18 → ((pairs : List KeyValue) → o ≡ Some pairs → IsPlainText metadata)
       → IsSound offers (checks.with_pairs offers x declared metadata o)
   pairs_sound x declared metadata None small plain = tt {0}
   pairs_sound x declared metadata (Some pairs) small plain =
       choice_sound x declared metadata (choice_of pairs) small (λ c q. choice_output _ _ _ c q) (plain pairs refl)
 
-  metadata_sound : (x : checks.Asking) (declared : ℕ) (values : List (List ℕ)) → x.length < 10 ^ 18
+  metadata_sound : (x : checks.Asking) (declared : Option ℕ) (values : List (List ℕ)) → x.length < 10 ^ 18
       → IsSound offers (checks.with_metadata offers x declared values)
   metadata_sound x declared [] small = pairs_sound x declared [] (metadata_of []) small (metadata_plain [])
   metadata_sound x declared (value ∷ []) small =
       pairs_sound x declared value (metadata_of value) small (metadata_plain value)
   metadata_sound x declared (value ∷ other ∷ values) small = tt {0}
 
-  declared_sound : (x : checks.Asking) (o : Option ℕ) → x.length < 10 ^ 18
+  declared_sound : (x : checks.Asking) (o : Option (Option ℕ)) → x.length < 10 ^ 18
       → IsSound offers (checks.with_declared offers x o)
   declared_sound x None small = tt {0}
   declared_sound x (Some declared) small = metadata_sound x declared (x.given (codes "upload-metadata")) small
@@ -199,14 +199,23 @@ module _ (offers : Encoding → Bool) where
   post_if : (x : checks.Asking) (b : Bool) → x.length < 10 ^ 18
       → IsSound offers (if b
       then checks.refused x BadHeader
-      else checks.with_declared offers x (checks.number_in (x.given (codes "upload-length"))))
+      else checks.with_declared offers x
+      (checks.declared_in (x.given (codes "upload-length")) (x.given (codes "upload-defer-length"))))
   post_if x true small = tt {0}
-  post_if x false small = declared_sound x (checks.number_in (x.given (codes "upload-length"))) small
+  post_if x false small =
+      declared_sound x (checks.declared_in (x.given (codes "upload-length")) (x.given (codes "upload-defer-length")))
+      small
+
+  declaring_sound : (x : checks.Asking) (n offset : ℕ) (o : Option (Option ℕ)) → x.length < 10 ^ 18
+      → offset < 10 ^ 18 → IsSound offers (checks.declaring x n offset o)
+  declaring_sound x n offset None small less = tt {0}
+  declaring_sound x n offset (Some declare) small less = record { length_is = small; action_is = less }
 
   offset_sound : (x : checks.Asking) (n : ℕ) (o : Option ℕ) → x.length < 10 ^ 18
       → ((m : ℕ) → o ≡ Some m → m < 10 ^ 18) → IsSound offers (checks.at_offset x n o)
   offset_sound x n None small less = tt {0}
-  offset_sound x n (Some offset) small less = record { length_is = small; action_is = less offset refl }
+  offset_sound x n (Some offset) small less =
+      declaring_sound x n offset (checks.optional_number_in (x.given (codes "upload-length"))) small (less offset refl)
 
   patch_if : (x : checks.Asking) (n : ℕ) (b : Bool) → x.length < 10 ^ 18
       → IsSound offers (if b

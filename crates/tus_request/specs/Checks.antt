@@ -1,6 +1,6 @@
 -- The checks of a head, in their order.
 use Rattle.std.specs.Prelude.{ℕ, Bool, true, false, not, ◌&&◌, ◌||◌, nat_lt, ◌==◌, if◌then◌else◌, Option, Some, None}
-use Rattle.std.specs.Prelude.{List, [], ◌∷◌, map, codes, bytes_eq}
+use Rattle.std.specs.Prelude.{List, [], ◌∷◌, map, codes, bytes_eq, option_map}
 use Rattle.std.specs.List.{list_any}
 use Rattle.httparse.specs.Grammar.{RequestHead}
 use Rattle.httparse.specs.Spans.{name_and_value}
@@ -50,10 +50,23 @@ abbrev pub length_in : List (List ℕ) → Option ℕ
 length_in [] = Some 0
 length_in (value ∷ values) = number_in (value ∷ values)
 
+-- the number that the one value writes, where there are values
+abbrev pub optional_number_in : List (List ℕ) → Option (Option ℕ)
+optional_number_in [] = Some None
+optional_number_in (value ∷ values) = option_map Some (number_in (value ∷ values))
+
 -- the one value is a word
 abbrev pub is_word_when : List ℕ → Option (List ℕ) → Bool
 is_word_when word None = false
 is_word_when word (Some value) = bytes_eq value word
+
+-- the length of an upload to be made, from the values of Upload-Length and of Upload-Defer-Length: there is either a
+-- number or the deferral `1`, and not both
+abbrev pub declared_in : List (List ℕ) → List (List ℕ) → Option (Option ℕ)
+declared_in lengths [] = option_map Some (number_in lengths)
+declared_in [] (deferral ∷ deferrals) =
+    if is_word_when (codes "1") (only (deferral ∷ deferrals)) then Some None else None
+declared_in (length ∷ lengths) (deferral ∷ deferrals) = None
 
 -- a request line
 pub record Line : Type 0 where
@@ -118,9 +131,9 @@ passed x action = Asks (record {
   closes = x.closes || x.expects;
 })
 
-abbrev pub passed_patch : Asking → ℕ → ℕ → Verdict
-passed_patch x number offset = Asks (record {
-  action = Patch number offset;
+abbrev pub passed_patch : Asking → ℕ → ℕ → Option ℕ → Verdict
+passed_patch x number offset declare = Asks (record {
+  action = Patch number offset declare;
   length = x.length;
   bare = x.bare;
   expects = x.expects;
@@ -132,10 +145,16 @@ abbrev pub is_patch_media : Option (List ℕ) → Bool
 is_patch_media None = false
 is_patch_media (Some value) = any_case (codes "application/offset+octet-stream") (before 59 value)
 
--- an append names one offset
+-- an append declares one length, or none
+abbrev pub declaring : Asking → ℕ → ℕ → Option (Option ℕ) → Verdict
+declaring x number offset None = refused x BadHeader
+declaring x number offset (Some declare) = passed_patch x number offset declare
+
+-- and before that, it names one offset
 abbrev pub at_offset : Asking → ℕ → Option ℕ → Verdict
 at_offset x number None = refused x BadHeader
-at_offset x number (Some offset) = passed_patch x number offset
+at_offset x number (Some offset) =
+    declaring x number offset (optional_number_in (x.given (codes "upload-length")))
 
 -- and before that, its media type
 abbrev pub patch_checked : Asking → ℕ → Verdict
@@ -145,7 +164,7 @@ patch_checked x number =
     else refused x MediaType
 
 -- the encodings and the mode are known, and the index set offers the encodings
-abbrev pub with_choice : (Encoding → Bool) → Asking → ℕ → List ℕ → Option Choice → Verdict
+abbrev pub with_choice : (Encoding → Bool) → Asking → Option ℕ → List ℕ → Option Choice → Verdict
 with_choice offers x declared metadata None = refused x BadLabel
 with_choice offers x declared metadata (Some c) =
     if offers c.from && offers c.to
@@ -159,18 +178,18 @@ with_choice offers x declared metadata (Some c) =
     else refused x BadLabel
 
 -- and before that, the metadata is of its form
-abbrev pub with_pairs : (Encoding → Bool) → Asking → ℕ → List ℕ → Option (List KeyValue) → Verdict
+abbrev pub with_pairs : (Encoding → Bool) → Asking → Option ℕ → List ℕ → Option (List KeyValue) → Verdict
 with_pairs offers x declared metadata None = refused x BadMetadata
 with_pairs offers x declared metadata (Some pairs) = with_choice offers x declared metadata (choice_of pairs)
 
 -- and comes at most once
-abbrev pub with_metadata : (Encoding → Bool) → Asking → ℕ → List (List ℕ) → Verdict
+abbrev pub with_metadata : (Encoding → Bool) → Asking → Option ℕ → List (List ℕ) → Verdict
 with_metadata offers x declared [] = with_pairs offers x declared [] (metadata_of [])
 with_metadata offers x declared (value ∷ []) = with_pairs offers x declared value (metadata_of value)
 with_metadata offers x declared (value ∷ other ∷ values) = refused x BadHeader
 
--- an upload names one length
-abbrev pub with_declared : (Encoding → Bool) → Asking → Option ℕ → Verdict
+-- an upload names one length, or defers it
+abbrev pub with_declared : (Encoding → Bool) → Asking → Option (Option ℕ) → Verdict
 with_declared offers x None = refused x BadHeader
 with_declared offers x (Some declared) = with_metadata offers x declared (x.given (codes "upload-metadata"))
 
@@ -178,7 +197,8 @@ with_declared offers x (Some declared) = with_metadata offers x declared (x.give
 abbrev pub post_checked : (Encoding → Bool) → Asking → Verdict
 post_checked offers x =
     if nat_lt 0 x.length then refused x BadHeader
-    else with_declared offers x (number_in (x.given (codes "upload-length")))
+    else with_declared offers x
+    (declared_in (x.given (codes "upload-length")) (x.given (codes "upload-defer-length")))
 
 -- what is asked of all the uploads
 abbrev pub on_all : (Encoding → Bool) → Asking → Verb → Verdict

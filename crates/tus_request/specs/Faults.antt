@@ -4,7 +4,7 @@ use Rattle.tus_request.specs.declared.faults.Fault.{Fault}
 use Rattle.tus_request.specs.declared.faults.Fault.TheVariants.{Unencodable, NoSuch, Offset, TooLong, Slots, TooLarge}
 use Rattle.tus_request.specs.declared.faults.Fault.TheVariants.{Full, Malformed, HeadTooLong, Coding, BadLength}
 use Rattle.tus_request.specs.declared.faults.Fault.TheVariants.{TusVersion, NoRoute, BadMethod, MediaType, BadHeader}
-use Rattle.tus_request.specs.declared.faults.Fault.TheVariants.{BadMetadata, BadLabel}
+use Rattle.tus_request.specs.declared.faults.Fault.TheVariants.{BadMetadata, BadLabel, LengthSet}
 
 abbrev pub fault_number : Fault → ℕ
 fault_number Unencodable = 6
@@ -25,3 +25,4 @@ fault_number MediaType = 25
 fault_number BadHeader = 26
 fault_number BadMetadata = 27
 fault_number BadLabel = 28
+fault_number LengthSet = 34

@@ -26,6 +26,11 @@ abbrev pub metadata_line : List ℕ → List ℕ
 metadata_line [] = []
 metadata_line (b ∷ bytes) = header (codes "Upload-Metadata") (b ∷ bytes)
 
+-- how many bytes an upload will have, or that it isn't known yet
+abbrev pub declared_line : Option ℕ → List ℕ
+declared_line None = header (codes "Upload-Defer-Length") (codes "1")
+declared_line (Some n) = header (codes "Upload-Length") (decimal n)
+
 -- the status line, the two headers of each reply, its own lines, the length, the close, and an empty line
 abbrev pub reply : List ℕ → List ℕ → Option ℕ → Bool → List ℕ
 reply status lines body_length closes =
@@ -40,7 +45,7 @@ unless_bare bare n = if bare then None else Some n
 abbrev pub options_lines : List ℕ
 options_lines =
     header (codes "Tus-Version") (codes "1.0.0")
-    ++ (header (codes "Tus-Extension") (codes "creation,termination")
+    ++ (header (codes "Tus-Extension") (codes "creation,creation-defer-length,termination")
     ++ header (codes "Tus-Max-Size") (codes "1073741824"))
 
 abbrev pub reply_options : Bool → List ℕ
@@ -52,11 +57,11 @@ reply_created number bare closes =
     (header (codes "Location") (codes "/files/" ++ decimal number))
     (unless_bare bare 0) closes
 
-abbrev pub reply_head : ℕ → ℕ → List ℕ → Bool → Bool → List ℕ
+abbrev pub reply_head : ℕ → Option ℕ → List ℕ → Bool → Bool → List ℕ
 reply_head offset declared metadata bare closes =
     reply (codes "200 OK")
     (header (codes "Upload-Offset") (decimal offset)
-    ++ (header (codes "Upload-Length") (decimal declared) ++ metadata_line metadata))
+    ++ (declared_line declared ++ metadata_line metadata))
     (unless_bare bare 0) closes
 
 abbrev pub reply_patched : ℕ → Bool → List ℕ

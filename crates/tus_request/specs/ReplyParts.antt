@@ -1,7 +1,8 @@
 -- What the parts of a reply print.
 use Rattle.std.specs.Prelude.{ℕ, List, [], ◌++◌, codes}
 use Rattle.std.specs.Fmt.{decimal}
-use Rattle.tus_request.specs.Replies.{header, reply, metadata_line, refusal_lines, status_of, options_lines}
+use Rattle.tus_request.specs.Replies.{header, reply, declared_line, metadata_line, refusal_lines, status_of}
+use Rattle.tus_request.specs.Replies.{options_lines}
 use Rattle.tus_request.specs.declared.replies.parts.Status.{Status}
 use Rattle.tus_request.specs.declared.replies.parts.Status.TheVariants as status
 use Rattle.tus_request.specs.declared.replies.parts.Lines.{Lines}
@@ -19,7 +20,7 @@ lines_shown lines.Options = options_lines
 lines_shown (lines.Created number) = header (codes "Location") (codes "/files/" ++ decimal number)
 lines_shown (lines.Shown offset declared metadata) =
     header (codes "Upload-Offset") (decimal offset)
-    ++ (header (codes "Upload-Length") (decimal declared) ++ metadata_line metadata.now)
+    ++ (declared_line declared ++ metadata_line metadata.now)
 lines_shown (lines.Offset offset) = header (codes "Upload-Offset") (decimal offset)
 lines_shown lines.Deleted = []
 lines_shown (lines.Text name) = header (codes "Content-Type") (codes "text/plain; charset=" ++ name.now)

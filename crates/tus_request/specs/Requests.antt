@@ -1,25 +1,26 @@
 -- What a head asks for, or why it is refused.
-use Rattle.std.specs.Prelude.{ℕ, Bool, List}
+use Rattle.std.specs.Prelude.{ℕ, Bool, List, Option}
 use Rattle.enc_model.specs.declared.Encoding.{Encoding}
 use Rattle.enc_model.specs.declared.Mode.{Mode}
 use Rattle.tus_request.specs.declared.faults.Fault.{Fault}
 
--- an upload to be made: how many bytes it will have, the encoding of these and of the text, what becomes of characters
--- that the latter hasn't, and the metadata as given
+-- an upload to be made: how many bytes it will have, where that is known, the encoding of these and of the text, what
+-- becomes of characters that the latter hasn't, and the metadata as given
 pub record Creation : Type 0 where
-  pub declared : ℕ
+  pub declared : Option ℕ
   pub from : Encoding
   pub to : Encoding
   pub mode : Mode
   pub metadata : List ℕ
 
--- what a request asks for; of an upload by its number, and a PATCH with the offset that it names
+-- what a request asks for; of an upload by its number, and a PATCH with the offset that it names and the length that it
+-- declares
 pub data Action : Type 0 where
   Options : Action
   Create : Creation → Action
   Head : ℕ → Action
   Get : ℕ → Action
-  Patch : ℕ → ℕ → Action
+  Patch : ℕ → ℕ → Option ℕ → Action
   Delete : ℕ → Action
 
 -- a request that passed its checks: the bytes of its body, whether the request line says HEAD, whether it is a PATCH

@@ -15,7 +15,7 @@ action_shown (action.Create declared from to mode metadata) =
     Create (record { declared = declared; from = from; to = to; mode = mode; metadata = string_bytes metadata })
 action_shown (action.Head number) = Head number
 action_shown (action.Get number) = Get number
-action_shown (action.Patch number offset) = Patch number offset
+action_shown (action.Patch number offset declare) = Patch number offset declare
 action_shown (action.Delete number) = Delete number
 
 -- a request

@@ -19,7 +19,7 @@ IsSoundAction offers Options = Unit {0}
 IsSoundAction offers (Create c) = IsSoundCreation offers c
 IsSoundAction offers (Head number) = Unit {0}
 IsSoundAction offers (Get number) = Unit {0}
-IsSoundAction offers (Patch number offset) = offset < 10 ^ 18
+IsSoundAction offers (Patch number offset declare) = offset < 10 ^ 18
 IsSoundAction offers (Delete number) = Unit {0}
 
 -- a number has at most 18 digits

@@ -5,7 +5,7 @@ ghost use Rattle.http_header.specs.Token.{lowercase};
 ghost use Rattle.tus_request.specs.Fields.{values};
 ghost use Rattle.tus_request.specs.Texts.{any_case, lists_word};
 ghost use Rattle.tus_request.specs.Checks.{is_given, first_or, only, number_in, length_in, is_word_when};
-ghost use Rattle.tus_request.specs.Checks.{is_patch_media};
+ghost use Rattle.tus_request.specs.Checks.{optional_number_in, declared_in, is_patch_media};
 
 use crate::number::number;
 use crate::texts::{front, is_word, lists_word};
@@ -55,6 +55,30 @@ pub(crate) fn body_length(fields: &HeaderMap) -> Option<u64>
         return Some(0);
     }
     number_in(fields, "content-length")
+}
+
+/// The number that the one value of a name writes, where there are values.
+pub(crate) fn optional_number_in(fields: &HeaderMap, name: &str) -> Option<Option<u64>>
+    ensures { result ≡ optional_number_in (values fields.now (lowercase name.now)) }
+{
+    if !is_given(fields, name) {
+        return Some(None);
+    }
+    number_in(fields, name).map(Some)
+}
+
+/// The length of an upload to be made, which is a number or deferred, and not both.
+pub(crate) fn declared_in(fields: &HeaderMap) -> Option<Option<u64>>
+    ensures { result ≡ declared_in (values fields.now (codes "upload-length"))
+        (values fields.now (codes "upload-defer-length")) }
+{
+    if !is_given(fields, "upload-defer-length") {
+        return number_in(fields, "upload-length").map(Some);
+    }
+    if is_given(fields, "upload-length") || !is_only(fields, "upload-defer-length", "1") {
+        return None;
+    }
+    Some(None)
 }
 
 /// Whether the one value of a name is a word.

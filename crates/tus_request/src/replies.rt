@@ -63,7 +63,8 @@ pub fn reply_created(
     append(alloc, &reply, out)
 }
 
-/// Appends the reply to a HEAD of an upload: how many bytes it has, how many it will have, and its metadata.
+/// Appends the reply to a HEAD of an upload: how many bytes it has, how many it will have, where that is known, and its
+/// metadata.
 ///
 /// # Errors
 ///
@@ -71,7 +72,7 @@ pub fn reply_created(
 pub fn reply_head(
     alloc: Global,
     offset: u64,
-    declared: u64,
+    declared: Option<u64>,
     metadata: &str,
     bare: bool,
     closes: bool,

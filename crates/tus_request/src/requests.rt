@@ -10,8 +10,8 @@ pub enum Action {
     Options,
     /// A new upload.
     Create {
-        /// How many bytes it will have.
-        declared: u64,
+        /// How many bytes it will have, where that is known.
+        declared: Option<u64>,
         /// The encoding of its bytes.
         from: Encoding,
         /// The encoding of its text.
@@ -31,6 +31,8 @@ pub enum Action {
         number: u64,
         /// How many bytes it should have before.
         offset: u64,
+        /// The upload's length, where the request declares it.
+        declare: Option<u64>,
     },
     /// The deletion of the upload of this number.
     Delete(u64),

@@ -9,7 +9,8 @@ use Rattle.enc_model.specs.Indexes.{offers}
 use Rattle.tus_request.proofs.Fronts.{steady}
 use Rattle.tus_request.specs.Answers.{answer_of}
 use Rattle.tus_request.specs.Requests.{Request, Asks, body_length}
-use Rattle.upload_rules.specs.Store.{Upload, upload_of, with_bytes, find}
+use Rattle.upload_rules.specs.Lengths.{known_or, longest}
+use Rattle.upload_rules.specs.Store.{Upload, upload_of, patched, find}
 use Rattle.upload_rules.specs.World.{Patch, World}
 use Rattle.upload_rules.specs.Grown.{GrewFrom}
 use Rattle.upload_rules.specs.Calls.{dropped, spent, commit_refusal, appended_at}
@@ -34,7 +35,7 @@ use Rattle.tus_session.specs.declared.conns.Task.TheVariants as tasks
 use Rattle.tus_session.specs.declared.conns.Place.{Place}
 use Rattle.tus_session.specs.declared.conns.Place.TheVariants.{Closed, Open}
 use Rattle.tus_session.proofs.BodyTurns.{part_turn, rest_turn}
-use Rattle.tus_session.proofs.Feeding.{fed_body, fed_began, fed_number, fed_count}
+use Rattle.tus_session.proofs.Feeding.{fed_body, fed_began, fed_number, fed_count, fed_declare}
 use Rattle.tus_session.proofs.Frames.{grown_more}
 use Rattle.tus_session.proofs.Opening.{still}
 use Rattle.tus_session.proofs.Moved.{feed_moves, spend_moves, both_moves}
@@ -69,7 +70,8 @@ module _ {U B : Type 0} (u : Ghosts U B) where
   -- of another patch that began at the same upload
   grew_as : (p q : Patch) (o : Option Upload) → q.began ≡ p.began → GrewFrom p o → GrewFrom q o
   grew_as p q None same grown = tt
-  grew_as p q (Some up) same (more, is) = (more, is ∙ ap (λ x. with_bytes x more) (sym same))
+  grew_as p q (Some up) same (declare, more, is) =
+      (declare, more, is ∙ ap (λ x. patched x declare more) (sym same))
 
   module _ (w : World) (b : Patching B) (asked : Asked) (r : Request) (p : Patch)
       (is : PatchesAs u w b (u.number_of b.draft) asked r p) where
@@ -99,9 +101,11 @@ module _ {U B : Type 0} (u : Ghosts U B) where
         → b'.reached ≡ b.reached → b'.bare ≡ b.bare → b'.closes ≡ b.closes
         → PatchesAs u (fed w d q) b' d (longer asked q) r (fed_patch w d p q)
     patches_fed b' q number holds found reached bare closes =
-        let l : length (fed_patch w d p q).began.accepted ≡ length p.began.accepted = ap (λ x. length x.accepted)
-        (fed_began w d p q) in
-        let m : (fed_patch w d p q).began.declared ≡ p.began.declared = ap (λ x. x.declared) (fed_began w d p q) in
+        let p' = fed_patch w d p q in
+        let l : length p'.began.accepted ≡ length p.began.accepted = ap (λ x. length x.accepted) (fed_began w d p q) in
+        let m : longest (known_or p'.began.declared p'.declare) ≡ longest (known_or p.began.declared p.declare) =
+        ap (λ x. longest (known_or x.declared p'.declare)) (fed_began w d p q)
+        ∙ ap (λ x. longest (known_or p.began.declared x)) (fed_declare w d p q) in
         let c = fed_count w d p q in
         let reached_is = is.reached in
         let fits = is.fits in
@@ -140,18 +144,12 @@ module _ {U B : Type 0} (u : Ghosts U B) where
         subst (λ x. PlaceIs u w' x (Some (plain s' (Some d)))) (sym goes.place_is) link
 
     -- the body's end: what moved
-    pub rest_moves : (q : List ℕ) → length p.body + length q ≤ p.count
-        → Moves w (ended_by w d p q r).world (Some d) None
-    rest_moves q few =
+    pub rest_moves : (q : List ℕ) → Moves w (ended_by w d p q r).world (Some d) None
+    rest_moves q =
         let w1 = fed w d q in
         let p1 = fed_patch w d p q in
-        let l : length p1.began.accepted ≡ length p.began.accepted = ap (λ x. length x.accepted) (fed_began w d p q) in
-        let m : p1.began.declared ≡ p.began.declared = ap (λ x. x.declared) (fed_began w d p q) in
-        let c = fed_count w d p q in
-        let body : length p1.body ≡ length p.body + length q = ap length (fed_body w d p q) ∙ length-append p.body q in
-        let fits = is.fits in
         both_moves w w1 (spent w1 d p1 (commit_refusal w1 d p1)) (Some d) (Some d) None (feed_moves w d p q is.found)
-        (spend_moves w1 d p1 (grown_fed q) (omega arith) (omega arith))
+        (spend_moves w1 d p1 (grown_fed q))
 
 pub fed_found : (w : World) (d : ℕ) (p : Patch) (q : List ℕ) → find d w.patches ≡ Some p
     → find d (fed w d q).patches ≡ Some (fed_patch w d p q)
@@ -249,7 +247,7 @@ module _ {U B : Type 0} (u : Ghosts U B) (store' : U) (place : Place B) (old new
       → TurnedAs u store' place a old new w (Some own) (rest_turned w s own asked inside p q r left)
   rest_answered q a few ends answered =
       let m = ended_by w own p q r in
-      let moves = rest_moves u w b asked r p is q few in
+      let moves = rest_moves u w b asked r p is q in
       let here : (cut (reader m.world) (s ++ q)).rest ≡ InHead [] = rest_same w m.world (s ++ q) moves.grows.indexes
       ∙ ends in
       let t : 0 + left ≡ left = omega arith in

@@ -4,8 +4,8 @@ use Rattle.std.proofs.Common.{refl, sym, ◌∙◌, ap, subst, arith, append-nil
 use Rattle.std.proofs.lemmas.Bool.Decides.{nat_tests}
 use Rattle.std.proofs.lemmas.List.{length-append}
 use Rattle.upload_rules.specs.Store.{find, without, replaced}
-use Rattle.upload_rules.specs.World.{Patch, World}
-use Rattle.upload_rules.specs.Calls.{longer, appended_at, dropped, commit_refusal, commit_outcome, reached}
+use Rattle.upload_rules.specs.World.{Patch, World, reached}
+use Rattle.upload_rules.specs.Calls.{longer, appended_at, dropped, commit_refusal, commit_outcome}
 use Rattle.upload_rules.specs.declared.uploads.Uploads.{Ghosts}
 use Rattle.tus_request.specs.Requests.{Request}
 use Rattle.tus_action.specs.Acts.{Acted, fed, fed_patch}
@@ -33,6 +33,10 @@ fed_number w d p (b ∷ piece) = refl
 pub fed_count : (w : World) (d : ℕ) (p : Patch) (piece : List ℕ) → (fed_patch w d p piece).count ≡ p.count
 fed_count w d p [] = refl
 fed_count w d p (b ∷ piece) = refl
+
+pub fed_declare : (w : World) (d : ℕ) (p : Patch) (piece : List ℕ) → (fed_patch w d p piece).declare ≡ p.declare
+fed_declare w d p [] = refl
+fed_declare w d p (b ∷ piece) = refl
 
 appended_store_is : (w : World) (d : ℕ) (piece : List ℕ) (o : Option Patch) → (appended_at w d piece o).store ≡ w.store
 appended_store_is w d piece None = refl

@@ -1,11 +1,12 @@
 -- A turn on one connection leaves the others as they were.
 use Rattle.std.proofs.Common.{◌≡◌, ◌<◌, ℕ, ◌+◌, List, ◌++◌, length, take, drop, Option, Some, None, refl, sym, ◌∙◌, ap}
-use Rattle.std.proofs.Common.{subst, arith, append_assoc}
+use Rattle.std.proofs.Common.{subst, arith}
 use Rattle.std.proofs.lemmas.List.{length-append, take-append-le}
 use Rattle.tus_request.specs.Buffers.{bytes_of}
 use Rattle.enc_model.specs.Indexes.{offers}
 use Rattle.tus_request.specs.Answers.{answer_of}
-use Rattle.upload_rules.specs.Store.{Upload, upload_of, text_of, with_bytes, find}
+use Rattle.upload_rules.specs.Lengths.{known_or}
+use Rattle.upload_rules.specs.Store.{Upload, upload_of, text_of, patched, find}
 use Rattle.upload_rules.specs.Grown.{GrewFrom}
 use Rattle.upload_rules.specs.World.{Patch, World}
 use Rattle.upload_rules.specs.declared.uploads.Uploads.{Ghosts}
@@ -21,8 +22,9 @@ use Rattle.tus_session.specs.declared.conns.Task.{Task}
 use Rattle.tus_session.specs.declared.conns.Task.TheVariants as tasks
 use Rattle.tus_session.specs.declared.conns.Place.{Place}
 use Rattle.tus_session.specs.declared.conns.Place.TheVariants.{Closed, Open}
+use Rattle.tus_session.proofs.Growth.{patched_twice}
 
--- the upload that a patch began at has more bytes, or is gone
+-- the upload that a patch began at has what other patches brought, or is gone
 pub grown_more : (w w' : World) (p : Patch) → Grows w.store w'.store → p.number < w.store.next
     → GrewFrom p (upload_of w.store p.number)
     → GrewFrom p (upload_of w'.store p.number)
@@ -34,9 +36,10 @@ grown_more w w' p grows below grown = grown_at (upload_of w'.store p.number) ref
         let g = grows.uploads p.number up below e in
         let old : GrewFrom p (Some g.0) = subst (GrewFrom p) g.1 grown in
         let l = g.2 in (
-          old.0 ++ l.bytes,
-          l.is ∙ (ap (λ x. with_bytes x l.bytes) old.1
-              ∙ ap (λ x. record p.began { accepted = x }) (append_assoc p.began.accepted old.0 l.bytes)),
+          known_or old.0 l.declare,
+          old.1 ++ l.bytes,
+          l.is ∙ (ap (λ x. patched x l.declare l.bytes) old.2
+              ∙ patched_twice p.began old.0 l.declare old.1 l.bytes),
         )
 
 gives_as : (w w' : World) (g : given.Giving) (h : Giving) (up up' : Upload) → upload_of w'.store h.number ≡ Some up'

@@ -1,29 +1,33 @@
 -- What the calls on uploads leave to the other connections.
 use Rattle.std.proofs.Common.{◌≡◌, ◌⊎◌, inl, inr, ℕ, zero, suc, ◌+◌, ◌<◌, ◌≤◌, ◌==◌, Bool, true, false, List, [], ◌∷◌}
 use Rattle.std.proofs.Common.{◌++◌, length, if◌then◌else◌, Option, Some, None, refl, sym, ◌∙◌, ap, subst, arith}
-use Rattle.std.proofs.Common.{append-nil, append_assoc}
+use Rattle.std.proofs.Common.{append-nil, append_assoc, nat_lt, ◌&&◌}
 use Rattle.std.proofs.lemmas.Bool.Decides.{nat_tests}
-use Rattle.std.proofs.lemmas.Bool.{cases_eq, eqb-true, ne_eqb, cases_Bool}
+use Rattle.std.proofs.lemmas.Bool.{cases_eq, eqb-true, ne_eqb, cases_Bool, ltb-false}
 use Rattle.std.proofs.lemmas.List.{length-append}
 use Rattle.std.proofs.lemmas.Option.{same_Some}
-use Rattle.upload_rules.specs.Store.{New, Upload, Store, upload_of, text_of, text_with, with_bytes, find, replaced}
+use Rattle.upload_rules.specs.Lengths.{is_length, known_or, is_new, differ, longest}
+use Rattle.upload_rules.specs.Store.{New, Upload, Store, upload_of, text_of, text_with, patched, find, replaced}
 use Rattle.upload_rules.specs.Store.{without, others, is_complete, new_upload, created_store, deleted_store}
-use Rattle.upload_rules.specs.Store.{appended_store, appended_to}
-use Rattle.upload_rules.specs.World.{Patch, World, is_there, least_from, free_number, completes, patch_text}
+use Rattle.upload_rules.specs.Store.{patched_at, patched_store}
+use Rattle.upload_rules.specs.World.{Patch, World, is_there, least_from, free_number, reached, length_then, completes}
+use Rattle.upload_rules.specs.World.{patch_text}
 use Rattle.upload_rules.specs.Room.{is_short}
 use Rattle.upload_rules.specs.Apart.{IsApart}
 use Rattle.upload_rules.specs.Grown.{GrewFrom}
 use Rattle.upload_rules.specs.declared.errors.UploadRefusal.{UploadRefusal}
-use Rattle.upload_rules.specs.declared.errors.UploadRefusal.TheVariants.{Offset, Unencodable, Full}
+use Rattle.upload_rules.specs.declared.errors.UploadRefusal.TheVariants.{Offset, LengthSet, TooLong, Unencodable, Full}
 use Rattle.upload_rules.specs.Calls.{dropped, committed, committed_store, spent, created, terminated, longer, is_empty}
-use Rattle.upload_rules.specs.Calls.{commit_refusal, offset_refusal, text_refusal, or_else, refuse_if}
+use Rattle.upload_rules.specs.Calls.{commit_refusal, upload_refusal, length_refusal, text_refusal, or_else, refuse_if}
+use Rattle.upload_rules.specs.Calls.{declares, declares_at, is_idle, text_stays}
+use Rattle.upload_rules.proofs.Commits.{complete_patched}
 use Rattle.upload_rules.proofs.Deleted.{none_in_others, find_in_others}
 use Rattle.upload_rules.proofs.Finds.{find_push_other, find_without_other, find_without_same, none_without}
 use Rattle.upload_rules.proofs.Finds.{find_replaced_same, find_replaced_other, none_replaced, length_without}
 use Rattle.tus_action.specs.Acts.{fed}
 use Rattle.tus_session.specs.Turns.{left_world}
 use Rattle.tus_session.specs.Moves.{Longer, Grows, Moves}
-use Rattle.tus_session.proofs.Growth.{text_longer}
+use Rattle.tus_session.proofs.Growth.{IsLonger, patched_twice, text_longer, text_same}
 use Rattle.tus_session.proofs.Opening.{same_longer, same_grows, still}
 
 abbrev Patches : Type 0
@@ -174,10 +178,10 @@ open_moves w d p free = record {
 
 longer_both : (m m1 m2 : Store) (u v x : Upload) → Longer m m1 u v → Longer m1 m2 v x → Longer m m2 u x
 longer_both m m1 m2 u v x a b = record {
+  declare = known_or a.declare b.declare;
   bytes = a.bytes ++ b.bytes;
   more = a.more ++ b.more;
-  is = b.is ∙ ap (λ z. with_bytes z b.bytes) a.is ∙ ap (λ z. record u { accepted = z })
-      (append_assoc u.accepted a.bytes b.bytes);
+  is = b.is ∙ ap (λ z. patched z b.declare b.bytes) a.is ∙ patched_twice u a.declare b.declare a.bytes b.bytes;
   text = b.text ∙ (ap (λ t. t ++ b.more) a.text ∙ append_assoc (text_of m.indexes u) a.more b.more);
 }
 
@@ -270,83 +274,56 @@ delete_moves w number own = stored_moves w (deleted_store w.store number) own (r
   ];
 })
 
--- bytes are put behind an upload that isn't complete
-append_grows_at : (m : Store) (number : ℕ) (bytes : List ℕ) (u : Upload) (done : Bool) → upload_of m number ≡ Some u
-    → is_complete u ≡ false
-    → (text_with m.indexes u bytes done).fault ≡ None → Grows m
-    (record m { uploads = replaced number (with_bytes u bytes) m.uploads })
-append_grows_at m number bytes u done there unfinished value =
-    let m' : Store = record m { uploads = replaced number (with_bytes u bytes) m.uploads } in
+-- an upload has what a patch brings
+put_grows : (m : Store) (number : ℕ) (declare : Option ℕ) (bytes : List ℕ) (u : Upload) → upload_of m number ≡ Some u
+    → IsLonger m.indexes u (patched u declare bytes) → Grows m (patched_at m number declare bytes (Some u))
+put_grows m number declare bytes u there longer =
+    let v = patched u declare bytes in
+    let m' : Store = patched_at m number declare bytes (Some u) in
     record {
       indexes = refl;
       next = omega arith;
       uploads = λ n up lt found. elim (cases_eq number n) [
         | inl is ↦
-            let f : find number (replaced number (with_bytes u bytes) m.uploads) ≡ Some (with_bytes u bytes) =
-            find_replaced_same number u (with_bytes u bytes) m.uploads there in
-            let same : Some (with_bytes u bytes) ≡ Some up =
-            sym f ∙ (ap (λ i. find i (replaced number (with_bytes u bytes) m.uploads)) is ∙ found) in
-            let more = text_longer m.indexes u bytes done unfinished value in
-            let l : Longer m m' u (with_bytes u bytes) = record {
+            let put : find number m'.uploads ≡ Some v = find_replaced_same number u v m.uploads there in
+            let same : v ≡ up = same_Some v up (sym put ∙ (ap (upload_of m') is ∙ found)) in
+            let l : Longer m m' u v = record {
+              declare = declare;
               bytes = bytes;
-              more = more.0;
+              more = longer.0;
               is = refl;
-              text = more.1;
-            } in (
-              u,
-              ap (λ i. find i m.uploads) (sym is) ∙ there,
-              subst (Longer m m' u)
-                  (same_Some (with_bytes u bytes) up same) l,
-            )
-        | inr ne ↦ (
-          up,
-          sym (find_replaced_other number n (with_bytes u bytes) m.uploads ne)
-              ∙ found,
-          same_longer m m' up refl,
-        )
+              text = longer.1;
+            } in
+            (u, ap (upload_of m) (sym is) ∙ there, subst (Longer m m' u) same l)
+        | inr ne ↦ (up, sym (find_replaced_other number n v m.uploads ne) ∙ found, same_longer m m' up refl)
       ];
     }
+
+-- WHAT IS COMMITTED
 
 or_else_none : (a b : Option UploadRefusal) → or_else a b ≡ None → a ≡ None
 or_else_none None b e = refl
 or_else_none (Some f) b e = absurd (cc)
 
-same_length : (a b : ℕ) (f : UploadRefusal) → refuse_if (if a == b then false else true) f ≡ None → a ≡ b
-same_length a b f e = elim (cases_eq a b) [
-  | inl is ↦ is
-  | inr ne ↦ let x : (a == b) ≡ false = ne_eqb a b ne in let y : Some f ≡ None =
-      ap (λ t. refuse_if (if t then false else true) f) (sym x) ∙ e in absurd (cc)
-]
+pub or_else_second : (a b : Option UploadRefusal) → or_else a b ≡ None → b ≡ None
+or_else_second None b e = e
+or_else_second (Some f) b e = absurd (cc)
 
-offset_same : (p : Patch) (o : Option Upload) (u : Upload) → o ≡ Some u → offset_refusal p o ≡ None
-    → length u.accepted ≡ length p.began.accepted
-offset_same p None u is e = absurd (cc)
-offset_same p (Some v) u is e =
-    let x : v ≡ u = cc in
-    ap (λ y. length y.accepted) (sym x) ∙ same_length (length v.accepted) (length p.began.accepted) Offset e
+room_case : (b c : Bool) → (if b then Some LengthSet else refuse_if c TooLong) ≡ None → c ≡ false
+room_case true c e = absurd (cc)
+room_case false true e = absurd (cc)
+room_case false false e = refl
+
+-- the length that isn't refused leaves room
+pub has_room : (known declare : Option ℕ) (end : ℕ) → length_refusal known declare end ≡ None
+    → end ≤ longest (known_or known declare)
+has_room known declare end e =
+    let long = longest (known_or known declare) in
+    ltb-false long end (room_case (differ known declare) (nat_lt long end) e)
 
 not_empty : (body : List ℕ) → is_empty body ≡ false → 0 < length body
 not_empty [] e = absurd (cc)
 not_empty (b ∷ body) e = omega arith
-
-or_else_second : (a b : Option UploadRefusal) → or_else a b ≡ None → b ≡ None
-or_else_second None b e = e
-or_else_second (Some f) b e = absurd (cc)
-
-no_fault : (o : Option ℕ) (rest : Option UploadRefusal) → (if is_there o then Some Unencodable else rest) ≡ None
-    → o ≡ None
-no_fault None rest e = refl
-no_fault (Some c) rest e = absurd (cc)
-
--- a text that is committed has a value
-has_value : (w : World) (d : ℕ) (p : Patch) → is_empty p.body ≡ false → text_refusal w d p ≡ None
-    → (text_with w.store.indexes p.began p.body (completes p)).fault ≡ None
-unfolding patch_text
-has_value w d p e none =
-    let fault = (patch_text w.store.indexes p (completes p)).fault in
-    let rest = refuse_if (is_short w d p (completes p)) Full in
-    no_fault fault rest (sym (ap (λ b. if b then None else (if is_there fault then Some Unencodable else rest)) e)
-    ∙ none)
 
 none_behind : (xs ys : List ℕ) → length (xs ++ ys) ≡ length xs → ys ≡ []
 none_behind xs [] e = refl
@@ -354,50 +331,142 @@ none_behind xs (y ∷ ys) e =
     let n : length (xs ++ y ∷ ys) ≡ length xs + length (y ∷ ys) = length-append xs (y ∷ ys) in
     absurd (omega arith)
 
--- the upload of a patch whose offset isn't refused is there
-there_still : (p : Patch) (o : Option Upload) → GrewFrom p o → offset_refusal p o ≡ None
-    → (more : List ℕ) × (o ≡ Some (with_bytes p.began more))
-there_still p None grown none = absurd (cc)
-there_still p (Some u) (more, is) none = (more, ap Some is)
+no_fault : (o : Option ℕ) (rest : Option UploadRefusal) → (if is_there o then Some Unencodable else rest) ≡ None
+    → o ≡ None
+no_fault None rest e = refl
+no_fault (Some c) rest e = absurd (cc)
 
--- what is committed is put behind an upload that isn't complete
-store_grows : (w : World) (d : ℕ) (p : Patch) → GrewFrom p (upload_of w.store p.number)
-    → length p.began.accepted + p.count ≤ p.began.declared → length p.body ≤ p.count
-    → offset_refusal p (upload_of w.store p.number) ≡ None → text_refusal w d p ≡ None → (b : Bool)
-    → is_empty p.body ≡ b
-    → Grows w.store (if b then w.store else appended_store w.store p.number p.body)
-store_grows w d p grown fits short none valued true e = same_grows w.store
-store_grows w d p grown fits short none valued false e =
-    let there = there_still p (upload_of w.store p.number) grown none in
-    let u = with_bytes p.began there.0 in
-    let n : length u.accepted ≡ length p.began.accepted = offset_same p (upload_of w.store p.number) u there.1 none in
-    let nil = none_behind p.began.accepted there.0 n in
-    let same : p.began ≡ u = sym (ap (λ x. record p.began { accepted = x }) (append-nil p.began.accepted))
-    ∙ ap (with_bytes p.began) (sym nil) in
-    let value = subst (λ x. (text_with w.store.indexes x p.body (completes p)).fault ≡ None) same
-    (has_value w d p e valued) in
-    let some = not_empty p.body e in
-    let unfinished : is_complete u ≡ false = ne_eqb (length u.accepted) u.declared (omega arith) in
-    let now = append_grows_at w.store p.number p.body u (completes p) there.1 unfinished value in
-    subst (λ o. Grows w.store (appended_to w.store p.number p.body o)) (sym there.1) now
+-- a text that doesn't stay has a value
+has_value : (w : World) (d : ℕ) (p : Patch) → text_stays w.store p ≡ false → text_refusal w d p ≡ None
+    → (text_with w.store.indexes p.began p.body (completes w.store p)).fault ≡ None
+unfolding patch_text
+has_value w d p moves none =
+    let done = completes w.store p in
+    let fault = (patch_text w.store.indexes p done).fault in
+    let rest = refuse_if (is_short w d p done) Full in
+    no_fault fault rest
+    (sym (ap (λ b. if b then None else (if is_there fault then Some Unencodable else rest)) moves) ∙ none)
+
+-- The upload of a patch that goes with it: it has as many bytes as at the patch's head moment, and its length leaves
+-- room for the body.
+pub record Fitting (p : Patch) (o : Option Upload) : Type 0 where
+  pub up : Upload
+  pub there : o ≡ Some up
+  pub count : length up.accepted ≡ length p.began.accepted
+  pub room : reached p ≤ longest (known_or up.declared p.declare)
+
+fitting_case : (p : Patch) (u : Upload) (b : Bool) → (length u.accepted == length p.began.accepted) ≡ b
+    → (if b then length_refusal u.declared p.declare (reached p) else Some Offset) ≡ None
+    → Fitting p (Some u)
+fitting_case p u true same e = record {
+  up = u;
+  there = refl;
+  count = eqb-true (length u.accepted) (length p.began.accepted) same;
+  room = has_room u.declared p.declare (reached p) e;
+}
+fitting_case p u false same e = absurd (cc)
+
+fitting : (p : Patch) (o : Option Upload) → upload_refusal p o ≡ None → Fitting p o
+fitting p None e = absurd (cc)
+fitting p (Some u) e = fitting_case p u (length u.accepted == length p.began.accepted) refl e
+
+-- the upload of a patch that isn't refused
+pub accepted_at : (w : World) (d : ℕ) (p : Patch) → commit_refusal w d p ≡ None
+    → Fitting p (upload_of w.store p.number)
+unfolding commit_refusal
+accepted_at w d p e =
+    let here = upload_of w.store p.number in
+    fitting p here (or_else_none (upload_refusal p here) (text_refusal w d p) e)
+
+module _ (w : World) (d : ℕ) (p : Patch) (grown : GrewFrom p (upload_of w.store p.number))
+    (fit : Fitting p (upload_of w.store p.number)) where
+  abbrev m : Store
+  m = w.store
+
+  abbrev u : Upload
+  u = fit.up
+
+  new_is : declares m p ≡ is_new u.declared p.declare
+  new_is = ap (declares_at p) fit.there
+
+  -- where the patch brings something, the upload isn't complete
+  unfinished_case : (known : Option ℕ) → u.declared ≡ known → (b : Bool) → is_new known p.declare ≡ b
+      → (if b then false else is_empty p.body) ≡ false
+      → is_length known (length u.accepted) ≡ false
+  unfinished_case None e b new busy = refl
+  unfinished_case (Some n) e true new busy = absurd (known_before p.declare new)
+    where
+      known_before : (declare : Option ℕ) → is_new (Some n) declare ≡ true → ⊥
+      known_before None new = cc
+      known_before (Some k) new = cc
+  unfinished_case (Some n) e false new busy =
+      let room : reached p ≤ n = subst (λ k. reached p ≤ longest (known_or k p.declare)) e fit.room in
+      ne_eqb (length u.accepted) n (omega (arith, room, fit.count, not_empty p.body busy))
+
+  unfinished : is_idle m p ≡ false → is_complete u ≡ false
+  unfinished busy =
+      unfinished_case u.declared refl (is_new u.declared p.declare) refl
+      (sym (ap (λ b. if b then false else is_empty p.body) new_is) ∙ busy)
+
+  -- the accepted bytes are those of the head moment
+  value_here : (done : Bool) → (text_with m.indexes p.began p.body done).fault ≡ None
+      → (text_with m.indexes u p.body done).fault ≡ None
+  value_here done value =
+      let grew : GrewFrom p (Some u) = subst (GrewFrom p) fit.there grown in
+      let l : length (p.began.accepted ++ grew.1) ≡ length p.began.accepted =
+      sym (ap (λ x. length x.accepted) grew.2) ∙ fit.count in
+      let same : p.began.accepted ++ grew.1 ≡ p.began.accepted =
+      ap (λ z. p.began.accepted ++ z) (none_behind p.began.accepted grew.1 l) ∙ append-nil p.began.accepted in
+      ap (λ x. (text_with m.indexes x p.body done).fault) grew.2
+      ∙ (ap (λ z. (text_with m.indexes (record p.began { accepted = z }) p.body done).fault) same ∙ value)
+
+  completes_is : is_complete (patched u p.declare p.body) ≡ completes m p
+  completes_is =
+      complete_patched u p.declare p.body
+      ∙ (ap (λ n. is_length (known_or u.declared p.declare) (n + length p.body)) fit.count
+      ∙ ap (λ o. is_length (length_then p o) (reached p)) (sym fit.there))
+
+  -- a text that stays, though a length is declared
+  stays_case : (a b : Bool) (body : List ℕ) → (if a && b then false else is_empty body) ≡ true
+      → (if a then false else is_empty body) ≡ false
+      → (body ≡ []) × (b ≡ false)
+  stays_case true true body stays busy = absurd (cc)
+  stays_case true false [] stays busy = (refl, refl)
+  stays_case true false (x ∷ body) stays busy = absurd (cc)
+  stays_case false b body stays busy = let x : true ≡ false = sym stays ∙ busy in absurd (cc)
+
+  text_grows : text_refusal w d p ≡ None → is_idle m p ≡ false → (b : Bool) → text_stays m p ≡ b
+      → IsLonger m.indexes u (patched u p.declare p.body)
+  text_grows fine busy false moves =
+      text_longer m.indexes u p.declare p.body (completes m p) (unfinished busy)
+      (value_here (completes m p) (has_value w d p moves fine))
+  text_grows fine busy true stays =
+      let still = stays_case (declares m p) (completes m p) p.body stays busy in
+      let open_still : is_complete (patched u p.declare []) ≡ false =
+      subst (λ z. is_complete (patched u p.declare z) ≡ false) still.0 (completes_is ∙ still.1) in
+      subst (λ z. IsLonger m.indexes u (patched u p.declare z)) (sym still.0)
+      (text_same m.indexes u p.declare (unfinished busy) open_still)
+
+  store_grows : text_refusal w d p ≡ None → (b : Bool) → is_idle m p ≡ b
+      → Grows m (if b then m else patched_store m p.number p.declare p.body)
+  store_grows fine true e = same_grows m
+  store_grows fine false busy =
+      subst (λ o. Grows m (patched_at m p.number p.declare p.body o)) (sym fit.there)
+      (put_grows m p.number p.declare p.body u fit.there (text_grows fine busy (text_stays m p) refl))
 
 -- the patch is spent
-spend_on : (w : World) (d : ℕ) (p : Patch) → GrewFrom p (upload_of w.store p.number)
-    → length p.began.accepted + p.count ≤ p.began.declared → length p.body ≤ p.count
-    → (o : Option UploadRefusal) → commit_refusal w d p ≡ o → Moves w (spent w d p o) (Some d) None
+spend_on : (w : World) (d : ℕ) (p : Patch) → GrewFrom p (upload_of w.store p.number) → (o : Option UploadRefusal)
+    → commit_refusal w d p ≡ o → Moves w (spent w d p o) (Some d) None
 unfolding commit_refusal
-spend_on w d p there fits short (Some f) e = drop_moves w d
-spend_on w d p there fits short None e =
-    let none = or_else_none (offset_refusal p (upload_of w.store p.number)) (text_refusal w d p) e in
+spend_on w d p grown (Some f) e = drop_moves w d
+spend_on w d p grown None e =
     let m = committed_store w.store p in
+    let fine = or_else_second (upload_refusal p (upload_of w.store p.number)) (text_refusal w d p) e in
     let grows : Grows w.store m =
-    store_grows w d p there fits short none
-    (or_else_second (offset_refusal p (upload_of w.store p.number)) (text_refusal w d p) e) (is_empty p.body)
-    refl in
+    store_grows w d p grown (accepted_at w d p e) fine (is_idle w.store p) refl in
     both_moves w (record w { store = m }) (committed w d p) (Some d) (Some d) None (stored_moves w m (Some d) grows)
     (drop_moves (record w { store = m }) d)
 
 pub spend_moves : (w : World) (d : ℕ) (p : Patch) → GrewFrom p (upload_of w.store p.number)
-    → length p.began.accepted + p.count ≤ p.began.declared → length p.body ≤ p.count
     → Moves w (spent w d p (commit_refusal w d p)) (Some d) None
-spend_moves w d p there fits short = spend_on w d p there fits short (commit_refusal w d p) refl
+spend_moves w d p grown = spend_on w d p grown (commit_refusal w d p) refl

@@ -21,14 +21,16 @@ use Rattle.tus_session.specs.declared.conns.Place.{Place}
 use Rattle.tus_session.specs.declared.conns.Place.TheVariants.{Closed, Open}
 use Rattle.tus_session.specs.declared.errors.SessionError.TheVariants.{TooMany}
 use Rattle.tus_session.proofs.Unfinished.{empty_cut}
+use Rattle.tus_session.proofs.Growth.{patched_nothing}
 use Rattle.tus_session.proofs.InPlace.{in_place, is_set, beyond, open_at}
 
 -- the same upload
 pub same_longer : (m m' : Store) (up : Upload) → m'.indexes ≡ m.indexes → Longer m m' up up
 same_longer m m' up same = record {
+  declare = None;
   bytes = [];
   more = [];
-  is = ap (λ x. record up { accepted = x }) (sym (append-nil up.accepted));
+  is = patched_nothing up;
   text = ap (λ x. text_of x up) same ∙ sym (append-nil (text_of m.indexes up));
 }
 

@@ -32,6 +32,7 @@ use Rattle.tus_session.specs.declared.conns.Link.{Link}
 use Rattle.tus_session.specs.declared.conns.Task.TheVariants as tasks
 use Rattle.tus_session.specs.declared.conns.Place.{Place}
 use Rattle.tus_session.proofs.BodyTold.{plain, idle_here, rest_same, part_here, rest_moves, fed_found}
+use Rattle.tus_session.proofs.Growth.{patched_nothing}
 use Rattle.tus_session.proofs.HeadTurns.{part_turn_is, whole_turn_is, head_within, front_judged, front_body}
 use Rattle.tus_session.proofs.Moved.{open_moves, feed_moves, both_moves}
 use Rattle.tus_session.proofs.NewRests.{head_part_rest, head_whole_rest, drop_behind}
@@ -51,7 +52,7 @@ OutIs (Err e) old mid new = new ≡ old
 module _ (w : World) (conn : Conn) (h bytes : List ℕ) (n before : ℕ) (r : Request) (is : IsWhole w conn h bytes n before
     (Asks r)) (x : Opened w r (acted w (Asks r))) where
   abbrev first : Patch
-  first = first_patch x.number r.length x.up
+  first = first_patch x.number r.length x.declare x.up
 
   abbrev w1 : World
   w1 = record w { patches = (x.d, first) ∷ w.patches }
@@ -152,11 +153,13 @@ own_opened w r a x own e = record {
   d = own;
   number = x.number;
   offset = x.offset;
+  declare = x.declare;
   up = x.up;
   draft_is = x.draft_is ∙ ap Some (sym e);
   action_is = x.action_is;
   there = x.there;
-  world_is = x.world_is ∙ ap (λ d. record w { patches = (d, first_patch x.number r.length x.up) ∷ w.patches }) (sym e);
+  world_is = x.world_is
+      ∙ ap (λ d. record w { patches = (d, first_patch x.number r.length x.declare x.up) ∷ w.patches }) (sym e);
   free = ap (λ d. find d w.patches) e ∙ x.free;
   length_is = x.length_is;
   fits = x.fits;
@@ -167,7 +170,7 @@ own_opened w r a x own e = record {
 module _ {U B : Type 0} (u : Ghosts U B) (w : World) (conn : Conn) (h bytes : List ℕ) (n before : ℕ) (r : Request)
     (is : IsWhole w conn h bytes n before (Asks r))
     (x : Opened w r (acted w (Asks r))) (b : Patching B) (number : u.number_of b.draft ≡ x.d)
-    (holds : u.holds b.draft (first_patch x.number r.length x.up))
+    (holds : u.holds b.draft (first_patch x.number r.length x.declare x.up))
     (reached : ReachedIs r.action r.length b.reached) (bare : b.bare ≡ r.bare) (closes : b.closes ≡ r.closes)
     (below : x.number < w.store.next) where
   abbrev pub own : ℕ
@@ -177,7 +180,7 @@ module _ {U B : Type 0} (u : Ghosts U B) (w : World) (conn : Conn) (h bytes : Li
   y = own_opened w r (acted w (Asks r)) x own number
 
   abbrev pub p0 : Patch
-  p0 = first_patch x.number r.length x.up
+  p0 = first_patch x.number r.length x.declare x.up
 
   abbrev pub v : World
   v = record w { patches = (own, p0) ∷ w.patches }
@@ -209,8 +212,7 @@ module _ {U B : Type 0} (u : Ghosts U B) (w : World) (conn : Conn) (h bytes : Li
         reached = omega arith;
         fits = omega arith;
         below = below;
-        grown = subst (GrewFrom p0) (sym x.there)
-            ([], ap (λ z. record x.up { accepted = z }) (sym (append-nil x.up.accepted)));
+        grown = subst (GrewFrom p0) (sym x.there) (None, [], patched_nothing x.up);
         bare = bare;
         closes = closes;
       }
@@ -272,7 +274,7 @@ module _ {U B : Type 0} (u : Ghosts U B) (w : World) (conn : Conn) (h bytes : Li
         let ends = head_whole_rest (reader w) (steady (offers w.store.indexes)) conn.stream h is.inside.rest
         (take (before + r.length) bytes) n (Asks r)
         (front_judged w conn h is.inside bytes n before (Asks r) is.judged is.before_is r.length) all in
-        let last = rest_moves u v b asked r p0 patches (take r.length q) (omega arith) in
+        let last = rest_moves u v b asked r p0 patches (take r.length q) in
         let moves = both_moves w v m.world None (Some own) None (open_moves w own p0 y.free) last in
         let here : (cut (reader m.world) s').rest ≡ InHead [] = rest_same w m.world s' moves.grows.indexes ∙ ends in
         let now : TurnedAs u store' place a old new w None (rest_opened w conn h bytes n before r is y) = record {

@@ -1,19 +1,20 @@
 -- What a request leaves open behind its head: nothing, a text, or a patch.
 use Rattle.std.proofs.Common.{ℕ, ◌+◌, ◌≤◌, ◌≡◌, ◌==◌, Bool, true, false, List, [], ◌∷◌, Option, Some, None, length}
-use Rattle.std.proofs.Common.{drop, refl, ap, if◌then◌else◌, nat_lt}
-use Rattle.std.proofs.lemmas.Bool.{ltb-false, eqb-true}
+use Rattle.std.proofs.Common.{drop, refl, ap, if◌then◌else◌}
+use Rattle.std.proofs.lemmas.Bool.{eqb-true}
 use Rattle.tus_request.specs.Requests.{Request, Action, Options, Create, Head, Get, Delete, Asks}
 use Rattle.tus_request.specs.Requests.{Patch as Patches}
 use Rattle.upload_rules.specs.Store.{New, Upload, upload_of, find, text_of}
 use Rattle.upload_rules.specs.World.{World, free_number}
 use Rattle.upload_rules.specs.Calls.{create_refusal, terminate_refusal, begin_refusal, begin_refusal_at, begun_at}
-use Rattle.upload_rules.specs.Calls.{first_patch, refuse_if}
+use Rattle.upload_rules.specs.Calls.{first_patch, or_else, refuse_if, length_refusal}
+use Rattle.upload_rules.specs.Lengths.{known_or, is_too_large, longest}
 use Rattle.upload_rules.specs.declared.errors.UploadRefusal.{UploadRefusal}
-use Rattle.upload_rules.specs.declared.errors.UploadRefusal.TheVariants.{Offset, TooLong}
+use Rattle.upload_rules.specs.declared.errors.UploadRefusal.TheVariants.{Offset, TooLarge}
 use Rattle.tus_action.specs.Acts.{Acted, Giving, acted, acted_on, post, new_of, delete, head, get, giving, patch}
 use Rattle.tus_action.specs.Acts.{piece_size}
 use Rattle.tus_session.specs.Moves.{Moves}
-use Rattle.tus_session.proofs.Moved.{create_moves, delete_moves, free_none}
+use Rattle.tus_session.proofs.Moved.{create_moves, delete_moves, free_none, has_room, or_else_second}
 use Rattle.tus_session.proofs.Opening.{still}
 
 -- a patch is open
@@ -21,14 +22,15 @@ pub record Opened (w : World) (r : Request) (a : Acted) : Type 0 where
   pub d : ℕ
   pub number : ℕ
   pub offset : ℕ
+  pub declare : Option ℕ
   pub up : Upload
   pub draft_is : a.draft ≡ Some d
-  pub action_is : r.action ≡ Patches number offset
+  pub action_is : r.action ≡ Patches number offset declare
   pub there : upload_of w.store number ≡ Some up
-  pub world_is : a.world ≡ record w { patches = (d, first_patch number r.length up) ∷ w.patches }
+  pub world_is : a.world ≡ record w { patches = (d, first_patch number r.length declare up) ∷ w.patches }
   pub free : find d w.patches ≡ None
   pub length_is : length up.accepted ≡ offset
-  pub fits : offset + r.length ≤ up.declared
+  pub fits : offset + r.length ≤ longest (known_or up.declared declare)
   pub idle : a.pending ≡ None
   pub stays : a.closes ≡ false
 
@@ -64,45 +66,49 @@ got w r number (Some u) =
     given w r number u (text_of w.store.indexes u) (if r.bare then [] else drop piece_size (text_of w.store.indexes u))
 
 -- a patch that isn't refused
-pub record Begins (offset count : ℕ) (o : Option Upload) : Type 0 where
+pub record Begins (offset count : ℕ) (declare : Option ℕ) (o : Option Upload) : Type 0 where
   pub up : Upload
   pub there : o ≡ Some up
   pub length_is : length up.accepted ≡ offset
-  pub fits : offset + count ≤ up.declared
+  pub fits : offset + count ≤ longest (known_or up.declared declare)
 
-fits_case : (b : Bool) → refuse_if b TooLong ≡ None → b ≡ false
-fits_case true e = absurd (cc)
-fits_case false e = refl
+begins_case : (offset count : ℕ) (declare : Option ℕ) (u : Upload) (b : Bool) → (length u.accepted == offset) ≡ b
+    → (if b
+    then or_else (refuse_if (is_too_large declare) TooLarge) (length_refusal u.declared declare (offset + count))
+    else Some Offset) ≡ None
+    → Begins offset count declare (Some u)
+begins_case offset count declare u true same e =
+    let large = refuse_if (is_too_large declare) TooLarge in
+    let long = length_refusal u.declared declare (offset + count) in
+    record {
+      up = u;
+      there = refl;
+      length_is = eqb-true (length u.accepted) offset same;
+      fits = has_room u.declared declare (offset + count) (or_else_second large long e);
+    }
+begins_case offset count declare u false same e = absurd (cc)
 
-begins_case : (offset count : ℕ) (u : Upload) (b : Bool) → (length u.accepted == offset) ≡ b
-    → (if b then refuse_if (nat_lt u.declared (offset + count)) TooLong else Some Offset) ≡ None
-    → Begins offset count (Some u)
-begins_case offset count u true same e = record {
-  up = u;
-  there = refl;
-  length_is = eqb-true (length u.accepted) offset same;
-  fits = ltb-false u.declared (offset + count) (fits_case (nat_lt u.declared (offset + count)) e);
-}
-begins_case offset count u false same e = absurd (cc)
+begins : (offset count : ℕ) (declare : Option ℕ) (o : Option Upload) → begin_refusal_at offset count declare o ≡ None
+    → Begins offset count declare o
+begins offset count declare None e = absurd (cc)
+begins offset count declare (Some u) e = begins_case offset count declare u (length u.accepted == offset) refl e
 
-begins : (offset count : ℕ) (o : Option Upload) → begin_refusal_at offset count o ≡ None → Begins offset count o
-begins offset count None e = absurd (cc)
-begins offset count (Some u) e = begins_case offset count u (length u.accepted == offset) refl e
-
-patched : (w : World) (r : Request) (number offset : ℕ) → r.action ≡ Patches number offset → (o : Option UploadRefusal)
-    → begin_refusal w number offset r.length ≡ o → Leaves w r (patch w r number o)
-patched w r number offset action (Some f) e = Nothing (still w None) refl refl
-patched w r number offset action None e =
-    let b = begins offset r.length (upload_of w.store number) e in
+patched : (w : World) (r : Request) (number offset : ℕ) (declare : Option ℕ)
+    → r.action ≡ Patches number offset declare → (o : Option UploadRefusal)
+    → begin_refusal w number offset r.length declare ≡ o → Leaves w r (patch w r number declare o)
+patched w r number offset declare action (Some f) e = Nothing (still w None) refl refl
+patched w r number offset declare action None e =
+    let b = begins offset r.length declare (upload_of w.store number) e in
     Patching (record {
       d = free_number w;
       number = number;
       offset = offset;
+      declare = declare;
       up = b.up;
       draft_is = refl;
       action_is = action;
       there = b.there;
-      world_is = ap (begun_at w number r.length) b.there;
+      world_is = ap (begun_at w number r.length declare) b.there;
       free = free_none w;
       length_is = b.length_is;
       fits = b.fits;
@@ -115,7 +121,8 @@ leaves_on w r Options e = Nothing (still w None) refl refl
 leaves_on w r (Create c) e = posted w r (new_of c) (create_refusal w (new_of c))
 leaves_on w r (Head n) e = shown w r (upload_of w.store n)
 leaves_on w r (Get n) e = got w r n (upload_of w.store n)
-leaves_on w r (Patches n offset) e = patched w r n offset e (begin_refusal w n offset r.length) refl
+leaves_on w r (Patches n offset declare) e =
+    patched w r n offset declare e (begin_refusal w n offset r.length declare) refl
 leaves_on w r (Delete n) e = deleted w r n (terminate_refusal w n)
 
 pub leaves : (w : World) (r : Request) → Leaves w r (acted w (Asks r))

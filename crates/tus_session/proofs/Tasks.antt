@@ -79,15 +79,6 @@ pub body_wants : (w : World) (s : List ℕ) (asked : Asked) → (cut (reader w) 
     → length asked.body < body_length asked.verdict
 body_wants w s asked e = (left_body (reader w) (steady (offers w.store.indexes)) s asked e).1.wants
 
-pub body_short : {U B : Type 0} (u : Ghosts U B) (w : World) (s : List ℕ) (b : Patching B) (d : ℕ) (asked : Asked)
-    (r : Request) (p : Patch)
-    → (cut (reader w) s).rest ≡ InBody asked → PatchesAs u w b d asked r p → length p.body < p.count
-body_short u w s b d asked r p e is =
-    let wants = body_wants w s asked e in
-    let l : body_length asked.verdict ≡ r.length = ap body_length is.asks in
-    let n : length p.body ≡ length asked.body = ap length is.body in
-    omega (arith, is.count)
-
 -- LIMITS
 
 pub limits_same : (moment : ℕ) (left_only : Option ℕ → ℕ → List Store → Type 0) (m m' : Store)
@@ -140,10 +131,9 @@ module _ {U B : Type 0} (u : Ghosts U B) where
         let done = spent w d p (commit_refusal w d p) in
         let shown : u.stands store done =
         subst (λ n. u.stands store (spent w n p (commit_refusal w n p))) is.patches.number stands in
-        let short = body_short u w conn.stream b d is.asked is.r p is.rest_is is.patches in
         let now : EndedAs u store w (Some d) done = record {
           shown = shown;
-          moves = spend_moves w d p is.patches.grown is.patches.fits (omega arith);
+          moves = spend_moves w d p is.patches.grown;
         } in
         let then : EndedAs u store w (Some d) (ended_world w conn) =
         subst (EndedAs u store w (Some d)) (sym (ended_is w conn d p is.draft_is is.patches.found)) now in

@@ -14,7 +14,7 @@ offset_fits x Options s = tt {0}
 offset_fits x (Create c) s = tt {0}
 offset_fits x (Head n) s = tt {0}
 offset_fits x (Get n) s = tt {0}
-offset_fits x (Patch n offset) s = s
+offset_fits x (Patch n offset declare) s = s
 offset_fits x (Delete n) s = tt {0}
 
 -- its numbers are small
@@ -28,7 +28,7 @@ action_made x Options s = tt {0}
 action_made x (Create c) s = record { no_utf16 = s.no_utf16; short = s.short; printable = s.plain }
 action_made x (Head n) s = tt {0}
 action_made x (Get n) s = tt {0}
-action_made x (Patch n offset) s = tt {0}
+action_made x (Patch n offset declare) s = tt {0}
 action_made x (Delete n) s = tt {0}
 
 -- what a POST asks for can be made
@@ -41,7 +41,7 @@ action_read w Options s = tt {0}
 action_read w (Create c) s = record { from = s.from; to = s.to }
 action_read w (Head n) s = tt {0}
 action_read w (Get n) s = tt {0}
-action_read w (Patch n offset) s = tt {0}
+action_read w (Patch n offset declare) s = tt {0}
 action_read w (Delete n) s = tt {0}
 
 -- a POST asks for what the index set offers

@@ -24,7 +24,7 @@ OffsetFits Options = Unit {0}
 OffsetFits (Create c) = Unit {0}
 OffsetFits (Head number) = Unit {0}
 OffsetFits (Get number) = Unit {0}
-OffsetFits (Patch number offset) = offset < 10 ^ 18
+OffsetFits (Patch number offset declare) = offset < 10 ^ 18
 OffsetFits (Delete number) = Unit {0}
 
 pub record IsSmall (r : Request) : Type 0 where
@@ -37,5 +37,5 @@ ReachedIs Options count reached = Unit {0}
 ReachedIs (Create c) count reached = Unit {0}
 ReachedIs (Head number) count reached = Unit {0}
 ReachedIs (Get number) count reached = Unit {0}
-ReachedIs (Patch number offset) count reached = reached ≡ offset + count
+ReachedIs (Patch number offset declare) count reached = reached ≡ offset + count
 ReachedIs (Delete number) count reached = Unit {0}

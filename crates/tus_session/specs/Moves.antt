@@ -1,14 +1,15 @@
 -- What a turn of one connection leaves to the others.
 use Rattle.std.specs.Prelude.{◌≡◌, ◌≤◌, ◌<◌, ◌⊎◌, ℕ, List, ◌++◌, Option, Some, None}
-use Rattle.upload_rules.specs.Store.{Upload, Store, upload_of, text_of, with_bytes, find}
+use Rattle.upload_rules.specs.Store.{Upload, Store, upload_of, text_of, patched, find}
 use Rattle.upload_rules.specs.World.{Patch, World}
 use Rattle.upload_rules.specs.Apart.{IsApart}
 
--- the upload that was there has bytes behind it or none, and so has its text
+-- the upload that was there has bytes behind it or none, and so has its text; its length may have become known
 pub record Longer (m m' : Store) (up up' : Upload) : Type 0 where
+  pub declare : Option ℕ
   pub bytes : List ℕ
   pub more : List ℕ
-  pub is : up' ≡ with_bytes up bytes
+  pub is : up' ≡ patched up declare bytes
   pub text : text_of m'.indexes up' ≡ text_of m.indexes up ++ more
 
 -- an upload of a number that was given was there before, and lost neither bytes nor text; others may be gone

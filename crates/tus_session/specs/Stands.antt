@@ -2,6 +2,7 @@
 use Rattle.std.specs.Prelude.{◌≡◌, ◌+◌, ◌≤◌, ◌<◌, ◌-◌, ℕ, List, [], length, get_or, Option, Some, None}
 use Rattle.tus_request.specs.Requests.{Request, Asks, body_length}
 use Rattle.tus_request.specs.Buffers.{bytes_of}
+use Rattle.upload_rules.specs.Lengths.{known_or, longest}
 use Rattle.upload_rules.specs.Store.{upload_of, find}
 use Rattle.upload_rules.specs.Grown.{GrewFrom}
 use Rattle.upload_rules.specs.World.{Patch, World}
@@ -34,7 +35,7 @@ pub record PatchesAs {U B : Type 0} (u : Ghosts U B) (w : World) (b : Patching B
   pub count : p.count ≡ r.length
   pub body : p.body ≡ asked.body
   pub reached : b.reached ≡ length p.began.accepted + p.count
-  pub fits : length p.began.accepted + p.count ≤ p.began.declared
+  pub fits : length p.began.accepted + p.count ≤ longest (known_or p.began.declared p.declare)
   pub below : p.number < w.store.next
   pub grown : GrewFrom p (upload_of w.store p.number)
   pub bare : b.bare ≡ r.bare

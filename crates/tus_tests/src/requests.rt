@@ -38,14 +38,14 @@ fn plain(head: &[u8], action: Action) -> Parsed {
     }
 }
 
-/// The POST of an upload of five bytes.
-fn created(alloc: Global, metadata: &str) -> Result<Action, Fail> {
+/// The POST of an upload.
+fn created(alloc: Global, declared: Option<u64>) -> Result<Action, Fail> {
     Ok(Action::Create {
-        declared: 5,
+        declared,
         from: Encoding::Utf8,
         to: Encoding::Utf8,
         mode: Mode::Html,
-        metadata: String::from_str(alloc, metadata)?,
+        metadata: String::from_str(alloc, "")?,
     })
 }
 
@@ -53,7 +53,46 @@ fn created(alloc: Global, metadata: &str) -> Result<Action, Fail> {
 fn an_upload_is_made(rt: HostRuntime) -> Result<(), Fail> {
     let head = b"\r\n\nPOST /files?x HTTP/1.1\nTus-Resumable: 1.0.0\r\nupload-LENGTH:  5 \r\n\r\n";
     let answer = parsed(rt.alloc(), head)?;
-    assert_eq!(rt; answer, plain(head, created(rt.alloc(), "")?));
+    assert_eq!(rt; answer, plain(head, created(rt.alloc(), Some(5))?));
+    Ok(())
+}
+
+#[test]
+fn an_upload_is_made_without_a_length(rt: HostRuntime) -> Result<(), Fail> {
+    let head = b"POST /files HTTP/1.1\r\nTus-Resumable: 1.0.0\r\nUpload-Defer-Length: 1\r\n\r\n";
+    let answer = parsed(rt.alloc(), head)?;
+    assert_eq!(rt; answer, plain(head, created(rt.alloc(), None)?));
+    Ok(())
+}
+
+#[test]
+fn an_upload_has_a_length_or_defers_it(rt: HostRuntime) -> Result<(), Fail> {
+    let head = b"POST /files HTTP/1.1\nTus-Resumable: 1.0.0\nUpload-Length: 5\nUpload-Defer-Length: 1\n\n";
+    let answer = parsed(rt.alloc(), head)?;
+    assert_eq!(rt; answer, refusal(head, Fault::BadHeader, true, false));
+    Ok(())
+}
+
+#[test]
+fn an_append_declares_a_length(rt: HostRuntime) -> Result<(), Fail> {
+    let head = b"PATCH /files/1 HTTP/1.1\nTus-Resumable: 1.0.0\nUpload-Offset: 0\nUpload-Length: 5\n\
+        Content-Type: application/offset+octet-stream\n\n";
+    let answer = parsed(rt.alloc(), head)?;
+    let action = Action::Patch {
+        number: 1,
+        offset: 0,
+        declare: Some(5),
+    };
+    assert_eq!(rt; answer, plain(head, action));
+    Ok(())
+}
+
+#[test]
+fn an_append_declares_one_length(rt: HostRuntime) -> Result<(), Fail> {
+    let head = b"PATCH /files/1 HTTP/1.1\nTus-Resumable: 1.0.0\nUpload-Offset: 0\nUpload-Length: 5\n\
+        Upload-Length: 5\nContent-Type: application/offset+octet-stream\n\n";
+    let answer = parsed(rt.alloc(), head)?;
+    assert_eq!(rt; answer, refusal(head, Fault::BadHeader, false, false));
     Ok(())
 }
 
@@ -70,7 +109,8 @@ fn bytes_are_appended(rt: HostRuntime) -> Result<(), Fail> {
             request: Request {
                 action: Action::Patch {
                     number: 17,
-                    offset: 2
+                    offset: 2,
+                    declare: None,
                 },
                 length: 3,
                 bare: false,
@@ -127,7 +167,8 @@ fn a_method_inside_another(rt: HostRuntime) -> Result<(), Fail> {
             request: Request {
                 action: Action::Patch {
                     number: 2,
-                    offset: 7
+                    offset: 7,
+                    declare: None,
                 },
                 length: 3,
                 bare: false,
@@ -370,7 +411,7 @@ fn pairs_with_spaces_round_them(rt: HostRuntime) -> Result<(), Fail> {
           Upload-Metadata: from dXRmLTE2bGU= ,  to dXRmLTE2,mode ZmF0YWw=, note\r\n\r\n";
     let metadata = "from dXRmLTE2bGU= ,  to dXRmLTE2,mode ZmF0YWw=, note";
     let action = Action::Create {
-        declared: 5,
+        declared: Some(5),
         from: Encoding::Utf16Le,
         to: Encoding::Utf8,
         mode: Mode::Fatal,

@@ -1,7 +1,7 @@
 -- A body behind its upload's bytes.
-use Rattle.std.proofs.Common.{◌≡◌, ℕ, ◌+◌, ◌<◌, ◌≤◌, ◌^◌, Bool, false, List, [], ◌++◌, length, Result, Ok, Err, OnErr}
-use Rattle.std.proofs.Common.{refl, sym, ◌∙◌, ap, subst, arith, append-nil, length-append, ◌==◌}
-use Rattle.std.proofs.lemmas.Bool.{ne_eqb}
+use Rattle.std.proofs.Common.{◌≡◌, ℕ, ◌+◌, ◌<◌, ◌≤◌, ◌^◌, Bool, true, false, List, [], ◌++◌, length, Option, Some}
+use Rattle.std.proofs.Common.{None, Result, Ok, Err, OnErr, refl, sym, ◌∙◌, ap, subst, arith, append-nil}
+use Rattle.std.proofs.Common.{length-append}
 use Rattle.enc_model.specs.Indexes.{IndexSet, tables}
 use Rattle.enc_model.specs.Decode.{text}
 use Rattle.enc_stream.specs.StateBytes.{IsSound, state_bytes}
@@ -12,8 +12,10 @@ use Rattle.upload_rules.specs.declared.errors.UploadRefusal.TheVariants as refus
 use Rattle.upload_rules.specs.declared.slots.Slot.{Slot}
 use Rattle.upload_rules.specs.declared.appends.OpenAppend.{OpenAppend}
 use Rattle.upload_rules.specs.declared.new_text.NewText.{NewText}
-use Rattle.upload_rules.specs.Store.{Upload, text_of, text_with, with_bytes, is_complete}
-use Rattle.upload_rules.specs.World.{Patch, is_there, completes, patch_text}
+use Rattle.upload_rules.specs.declared.new_text.NewText.TheVariants.{Growing, Unencodable, Complete}
+use Rattle.upload_rules.specs.Lengths.{is_length, known_or}
+use Rattle.upload_rules.specs.Store.{Upload, text_of, text_with, with_length, patched, is_complete}
+use Rattle.upload_rules.specs.World.{Patch, is_there, reached, patch_text}
 use Rattle.upload_rules.specs.States.{transcoder_over, transcoder_with, state_with, state_of}
 use Rattle.upload_rules.specs.Texts.{HoldsText, IsWhole, IsEnded}
 use Rattle.upload_rules.specs.Slots.{SlotStands}
@@ -27,38 +29,57 @@ pub text_of_is : (x : IndexSet) (u : Upload) → text_of x u ≡ (text_with x u 
 unfolding text_of
 text_of_is x u = refl
 
--- the upload with the body is complete where the body completes it
-complete_with : (u : Upload) (bytes : List ℕ) (done : Bool) → (length u.accepted + length bytes == u.declared) ≡ done
-    → is_complete (with_bytes u bytes) ≡ done
-complete_with u bytes done is = ap (λ n. n == u.declared) (length-append u.accepted bytes) ∙ is
+-- the upload with what a patch brings is complete where that completes it
+pub complete_patched : (u : Upload) (declare : Option ℕ) (bytes : List ℕ) →
+    is_complete (patched u declare bytes) ≡ is_length (known_or u.declared declare)
+    (length u.accepted + length bytes)
+complete_patched u declare bytes = ap (is_length (known_or u.declared declare)) (length-append u.accepted bytes)
 
--- its text, and the text of the upload with the body
-whole_with_bytes : (x : IndexSet) (u : Upload) (bytes : List ℕ) (done : Bool)
-    → (length u.accepted + length bytes == u.declared) ≡ done
-    → text_with x (with_bytes u bytes) [] (is_complete (with_bytes u bytes)) ≡ text_with x u bytes done
-whole_with_bytes x u bytes done is =
-    ap (text_with x (with_bytes u bytes) []) (complete_with u bytes done is)
-    ∙ ap (λ b. text (tables x) u.from u.to u.mode b done) (append-nil (u.accepted ++ bytes))
+-- its text, where transcoding stands behind it, and the state
+pub whole_patched : (x : IndexSet) (u : Upload) (declare : Option ℕ) (bytes : List ℕ)
+    → text_with x (patched u declare bytes) [] (is_complete (patched u declare bytes)) ≡ text_with x u bytes
+    (is_complete (patched u declare bytes))
+whole_patched x u declare bytes =
+    ap (λ b. text (tables x) u.from u.to u.mode b (is_complete (patched u declare bytes)))
+    (append-nil (u.accepted ++ bytes))
 
-pub text_with_bytes : (x : IndexSet) (u : Upload) (bytes : List ℕ) (done : Bool)
-    → (length u.accepted + length bytes == u.declared) ≡ done
-    → text_of x (with_bytes u bytes) ≡ (text_with x u bytes done).bytes
-text_with_bytes x u bytes done is =
-    text_of_is x (with_bytes u bytes) ∙ ap (λ r. r.bytes) (whole_with_bytes x u bytes done is)
+pub text_patched : (x : IndexSet) (u : Upload) (declare : Option ℕ) (bytes : List ℕ)
+    → text_of x (patched u declare bytes) ≡ (text_with x u bytes (is_complete (patched u declare bytes))).bytes
+text_patched x u declare bytes =
+    text_of_is x (patched u declare bytes) ∙ ap (λ r. r.bytes) (whole_patched x u declare bytes)
 
--- and where transcoding stands
-transcoder_with_bytes : (x : IndexSet) (u : Upload) (bytes : List ℕ) (done : Bool)
-    → (length u.accepted + length bytes == u.declared) ≡ done
-    → transcoder_with x (with_bytes u bytes) [] (is_complete (with_bytes u bytes)) ≡ transcoder_with x u bytes done
-transcoder_with_bytes x u bytes done is =
-    ap (transcoder_with x (with_bytes u bytes) []) (complete_with u bytes done is)
-    ∙ ap (λ b. transcoder_over (tables x) u.from u.to u.mode b done) (append-nil (u.accepted ++ bytes))
+pub transcoder_patched : (x : IndexSet) (u : Upload) (declare : Option ℕ) (bytes : List ℕ)
+    → transcoder_with x (patched u declare bytes) [] (is_complete (patched u declare bytes)) ≡ transcoder_with x u bytes
+    (is_complete (patched u declare bytes))
+transcoder_patched x u declare bytes =
+    ap (λ b. transcoder_over (tables x) u.from u.to u.mode b (is_complete (patched u declare bytes)))
+    (append-nil (u.accepted ++ bytes))
 
-state_with_bytes : (x : IndexSet) (u : Upload) (bytes : List ℕ) (done : Bool)
-    → (length u.accepted + length bytes == u.declared) ≡ done
-    → state_of x (with_bytes u bytes) ≡ state_with x u bytes done
+pub state_patched : (x : IndexSet) (u : Upload) (declare : Option ℕ) (bytes : List ℕ)
+    → state_of x (patched u declare bytes) ≡ state_with x u bytes (is_complete (patched u declare bytes))
 unfolding state_with
-state_with_bytes x u bytes done is = ap state_bytes (transcoder_with_bytes x u bytes done is)
+state_patched x u declare bytes = ap state_bytes (transcoder_patched x u declare bytes)
+
+-- what an append adds is the same whether or not a length was declared since it began
+pub holds_with_length : (x : IndexSet) (u : Upload) (declare : Option ℕ) (bytes : List ℕ) (t : NewText)
+    → HoldsText x u bytes t → HoldsText x (with_length u declare) bytes t
+holds_with_length x u declare bytes (Growing t text) holds = (
+  record {
+    unspent = holds.0.unspent;
+    from = holds.0.from;
+    to = holds.0.to;
+    mode = holds.0.mode;
+    at = holds.0.at;
+  },
+  holds.1,
+)
+holds_with_length x u declare bytes Unencodable holds = holds
+holds_with_length x u declare bytes Complete holds = still u.declared holds
+  where
+    still : (known : Option ℕ) → is_length known (length u.accepted) ≡ true
+        → is_length (known_or known declare) (length u.accepted) ≡ true
+    still None is = absurd cc
+    still (Some n) is = is
 
 module _ (x : IndexSet) (next : ℕ) (p : Patch) (o : OpenAppend) (stands : AppendStands x next p o) where
   -- with another text
@@ -67,6 +88,7 @@ module _ (x : IndexSet) (next : ℕ) (p : Patch) (o : OpenAppend) (stands : Appe
     number = stands.number;
     offset = stands.offset;
     came = stands.came;
+    declare = stands.declare;
     held = stands.held;
     within = stands.within;
     fits = stands.fits;
@@ -83,6 +105,7 @@ module _ (x : IndexSet) (next : ℕ) (p : Patch) (o : OpenAppend) (stands : Appe
     number = stands.number;
     offset = stands.offset;
     came = is ∙ sym (length-append p.body piece);
+    declare = stands.declare;
     held = (let l = length-append p.body piece in omega (arith, l, held));
     within = stands.within;
     fits = stands.fits;
@@ -91,67 +114,70 @@ module _ (x : IndexSet) (next : ℕ) (p : Patch) (o : OpenAppend) (stands : Appe
     text = holds;
   }
 
-  module _ (some : 0 < length p.body) (s : Slot) (kept : SlotStands x p.number p.began s) where
-    pub open_still : is_complete p.began ≡ false
-    open_still = ne_eqb (length p.began.accepted) p.began.declared
-        (λ e. (let h = stands.held in let w = stands.within in omega (arith, e, h, w, some)))
+  pub reaches : reached p < 2 ^ 64
+  reaches = let h = stands.held in let w = stands.within in let f = stands.fits in omega (arith, h, w, f)
 
-    pub reaches : length p.began.accepted + length p.body < 2 ^ 64
-    reaches = let h = stands.held in let w = stands.within in let f = stands.fits in omega (arith, h, w, f)
+  -- the upload as it was at the head moment, but for a length
+  module _ (length_since : Option ℕ) (s : Slot) (kept : SlotStands x p.number (with_length p.began length_since) s)
+    where
+      abbrev u : Upload
+      u = with_length p.began length_since
 
-    -- why the body isn't put behind
-    pub not_put : (e : UploadError) (done : Bool) → done ≡ completes p → IsEnded x p.began p.body done (Err e)
-        → IsPut x p s (Err e)
-    not_put NoMemory done is ended = kept
-    not_put DiskFault done is ended = absurd ended
-    not_put (Refused refusals.Unencodable) done is ended = (
-      ap is_there (ap (λ r. r.fault) (patch_text_is x p (completes p) ∙ ap (text_with x p.began p.body) (sym is)))
-          ∙ ended,
-      kept,
-    )
-    not_put (Refused refusals.NoSuch) done is ended = absurd ended
-    not_put (Refused refusals.Offset) done is ended = absurd ended
-    not_put (Refused refusals.TooLong) done is ended = absurd ended
-    not_put (Refused refusals.Slots) done is ended = absurd ended
-    not_put (Refused refusals.TooLarge) done is ended = absurd ended
-    not_put (Refused refusals.Full) done is ended = absurd ended
+      -- why the patch isn't put behind
+      pub not_put : (e : UploadError) (done : Bool) → IsEnded x u p.body done (Err e) → IsPut x p u done s (Err e)
+      not_put NoMemory done ended = kept
+      not_put DiskFault done ended = absurd ended
+      not_put (Refused refusals.Unencodable) done ended =
+          (ap is_there (ap (λ r. r.fault) (patch_text_is x p done)) ∙ ended, kept)
+      not_put (Refused refusals.NoSuch) done ended = absurd ended
+      not_put (Refused refusals.Offset) done ended = absurd ended
+      not_put (Refused refusals.TooLong) done ended = absurd ended
+      not_put (Refused refusals.Slots) done ended = absurd ended
+      not_put (Refused refusals.TooLarge) done ended = absurd ended
+      not_put (Refused refusals.Full) done ended = absurd ended
+      not_put (Refused refusals.LengthSet) done ended = absurd ended
 
-    -- the slot with the body
-    pub put_there : (n : ℕ) (done : Bool) (state more : List ℕ) (new : Slot)
-        → n ≡ length p.began.accepted + length p.body → done ≡ completes p
-        → IsWhole x p.began p.body done state more
-        → new.text.items ≡ s.text.items ++ more → new.record ≡ record s.record {
-          accepted = n;
-          text_len = length new.text.items;
-          state = state;
-        }
-        → IsPut x p new (Ok n)
-    put_there n done state more new count is whole text told =
-        let u = p.began in
-        let all : new.text.items ≡ text_of x (with_bytes u p.body) =
-        text ∙ ap (λ z. z ++ more) (kept.text ∙ text_of_is x u ∙ ap (λ b. (text_with x u [] b).bytes) open_still)
-        ∙ whole.rest
-        ∙ sym (text_with_bytes x u p.body done (sym is)) in (
-          count,
-          ap (λ r. r.fault) (patch_text_is x p (completes p) ∙ ap (text_with x u p.body) (sym is)) ∙ whole.encodable,
-          record {
-            tells = record {
-              number_is = ap (λ (r : Record). r.number) told ∙ kept.tells.number_is;
-              declared = ap (λ (r : Record). r.declared) told ∙ kept.tells.declared;
-              accepted = ap (λ (r : Record). r.accepted) told ∙ count ∙ sym (length-append u.accepted p.body);
-              text_len = ap (λ (r : Record). r.text_len) told ∙ ap length all;
-              from = ap (λ (r : Record). r.from) told ∙ kept.tells.from;
-              to = ap (λ (r : Record). r.to) told ∙ kept.tells.to;
-              mode = ap (λ (r : Record). r.mode) told ∙ kept.tells.mode;
-              state = ap (λ (r : Record). r.state) told ∙ whole.state_is
-                  ∙ sym (state_with_bytes x u p.body done (sym is));
-              metadata = ap (λ (r : Record). r.metadata.bytes.items) told ∙ kept.tells.metadata;
-            };
-            text = all;
-            encodable = ap (λ r. r.fault) (whole_with_bytes x u p.body done (sym is)) ∙ whole.encodable;
-            sound = subst IsSound (sym (transcoder_with_bytes x u p.body done (sym is))) whole.sound;
-          },
-        )
+      -- the slot with what the patch brings
+      pub put_there : (n : ℕ) (declared : Option ℕ) (done : Bool) (state more : List ℕ) (new : Slot)
+          → is_complete u ≡ false → n ≡ reached p → declared ≡ known_or u.declared p.declare
+          → done ≡ is_complete (patched u p.declare p.body)
+          → IsWhole x u p.body done state more
+          → new.text.items ≡ s.text.items ++ more → new.record ≡ record s.record {
+            declared = declared;
+            accepted = n;
+            text_len = length new.text.items;
+            state = state;
+          }
+          → IsPut x p u done new (Ok n)
+      put_there n declared done state more new open_still count length_is is whole text told =
+          let v = patched u p.declare p.body in
+          let all : new.text.items ≡ text_of x v =
+          text ∙ ap (λ z. z ++ more) (kept.text ∙ text_of_is x u ∙ ap (λ b. (text_with x u [] b).bytes) open_still)
+          ∙ whole.rest
+          ∙ ap (λ b. (text_with x u p.body b).bytes) is
+          ∙ sym (text_patched x u p.declare p.body) in (
+            count,
+            ap (λ r. r.fault) (patch_text_is x p done) ∙ whole.encodable,
+            record {
+              tells = record {
+                number_is = ap (λ (r : Record). r.number) told ∙ kept.tells.number_is;
+                declared = ap (λ (r : Record). r.declared) told ∙ length_is;
+                accepted = ap (λ (r : Record). r.accepted) told ∙ count ∙ sym (length-append u.accepted p.body);
+                text_len = ap (λ (r : Record). r.text_len) told ∙ ap length all;
+                from = ap (λ (r : Record). r.from) told ∙ kept.tells.from;
+                to = ap (λ (r : Record). r.to) told ∙ kept.tells.to;
+                mode = ap (λ (r : Record). r.mode) told ∙ kept.tells.mode;
+                state = ap (λ (r : Record). r.state) told ∙ whole.state_is ∙ ap (state_with x u p.body) is
+                    ∙ sym (state_patched x u p.declare p.body);
+                metadata = ap (λ (r : Record). r.metadata.bytes.items) told ∙ kept.tells.metadata;
+              };
+              text = all;
+              encodable = ap (λ r. r.fault) (whole_patched x u p.declare p.body)
+                  ∙ ap (λ b. (text_with x u p.body b).fault) (sym is) ∙ whole.encodable;
+              sound = subst IsSound (ap (transcoder_with x u p.body) is
+                  ∙ sym (transcoder_patched x u p.declare p.body)) whole.sound;
+            },
+          )
 
 pub in_any_case : {T E : Type 0} {P : Type 0} (r : Result T E) → P → OnErr r P
 in_any_case (Ok t) h = tt

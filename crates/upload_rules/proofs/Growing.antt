@@ -3,7 +3,9 @@ use Rattle.std.proofs.Common.{◌≡◌, ℕ, ◌<◌, List, [], ◌∷◌, ◌+
 use Rattle.std.proofs.Common.{Bool, inl, inr, ◌⊎◌, eq-eqb, append_assoc, append-nil}
 use Rattle.std.proofs.lemmas.Bool.{cases_eq, ne_eqb}
 use Rattle.std.proofs.lemmas.Option.{same_Some}
-use Rattle.upload_rules.specs.Store.{New, Upload, find, upload_of, replaced, without, with_bytes, created_store}
+use Rattle.upload_rules.specs.Store.{New, Upload, find, upload_of, replaced, without, with_length, patched}
+use Rattle.upload_rules.specs.Store.{created_store}
+use Rattle.upload_rules.specs.Lengths.{known_or}
 use Rattle.upload_rules.specs.World.{Patch, World}
 use Rattle.upload_rules.specs.Calls.{created, first_patch, dropped}
 use Rattle.upload_rules.specs.Grown.{GrewFrom, IsGrown}
@@ -14,16 +16,35 @@ use Rattle.upload_rules.proofs.Finds.{find_replaced_other}
 grew_along : (p : Patch) (a b : Option Upload) → a ≡ b → GrewFrom p a → GrewFrom p b
 grew_along p a b e h = subst (GrewFrom p) e h
 
--- a patch's upload with more bytes
-grew_more : (p : Patch) (u : Upload) (body : List ℕ) → GrewFrom p (Some u) → GrewFrom p (Some (with_bytes u body))
-grew_more p u body h = (
-  h.0 ++ body,
-  ap (λ v. with_bytes v body) h.1 ∙ ap (λ z. record p.began { accepted = z })
-      (append_assoc p.began.accepted h.0 body),
+known_still : (known first second : Option ℕ) → known_or (known_or known first) second ≡ known_or known
+    (known_or first second)
+known_still None first second = refl
+known_still (Some n) first second = refl
+
+-- a patch's upload with what another patch brings
+grew_more : (p : Patch) (u : Upload) (declare : Option ℕ) (body : List ℕ) → GrewFrom p (Some u)
+    → GrewFrom p (Some (patched u declare body))
+grew_more p u declare body h = (
+  known_or h.0 declare,
+  h.1 ++ body,
+  ap (λ v. patched v declare body) h.2
+      ∙ ap (λ d. record p.began { declared = d; accepted = (p.began.accepted ++ h.1) ++ body })
+      (known_still p.began.declared h.0 declare)
+      ∙ ap (λ z. record (with_length p.began (known_or h.0 declare)) { accepted = z })
+      (append_assoc p.began.accepted h.1 body),
 )
 
+known_already : (known : Option ℕ) → known_or known None ≡ known
+known_already None = refl
+known_already (Some n) = refl
+
 grew_at_once : (p : Patch) (u : Upload) → p.began ≡ u → GrewFrom p (Some u)
-grew_at_once p u e = ([], sym e ∙ ap (λ z. record p.began { accepted = z }) (sym (append-nil p.began.accepted)))
+grew_at_once p u e = (
+  None,
+  [],
+  sym e ∙ ap (λ d. record p.began { declared = d }) (sym (known_already p.began.declared))
+      ∙ ap (λ z. record (with_length p.began None) { accepted = z }) (sym (append-nil p.began.accepted)),
+)
 
 -- what is found after the changes of patches was there before
 kept_without : (d e : ℕ) (p : Patch) (ps : List (ℕ × Patch)) → IsApart ps → find e (without d ps) ≡ Some p
@@ -71,13 +92,13 @@ module _ (w : World) (grown : IsGrown w) where
     ];
   }
 
-  pub grown_begun : (n count : ℕ) (u : Upload) (d : ℕ) → upload_of w.store n ≡ Some u
-      → IsGrown (record w { patches = (d, first_patch n count u) ∷ w.patches })
-  grown_begun n count u d there = record {
-    each = λ e r found. elim (kept_more d e (first_patch n count u) r w.patches found) [
+  pub grown_begun : (n count : ℕ) (declare : Option ℕ) (u : Upload) (d : ℕ) → upload_of w.store n ≡ Some u
+      → IsGrown (record w { patches = (d, first_patch n count declare u) ∷ w.patches })
+  grown_begun n count declare u d there = record {
+    each = λ e r found. elim (kept_more d e (first_patch n count declare u) r w.patches found) [
       | inl same ↦ subst (λ q. GrewFrom q (upload_of w.store q.number)) same
-          (grew_along (first_patch n count u) (Some u) (upload_of w.store n) (sym there)
-          (grew_at_once (first_patch n count u) u refl))
+          (grew_along (first_patch n count declare u) (Some u) (upload_of w.store n) (sym there)
+          (grew_at_once (first_patch n count declare u) u refl))
       | inr old ↦ grown.each e r old
     ];
   }
@@ -92,19 +113,19 @@ module _ (w : World) (grown : IsGrown w) where
         (sym (find_push_other p.number w.store.next _ w.store.uploads other)) (grown.each d p there);
   }
 
-  -- with a body behind an upload
-  pub grown_put : (n : ℕ) (u : Upload) (body : List ℕ) → upload_of w.store n ≡ Some u
-      → IsGrown (record w { store = record w.store { uploads = replaced n (with_bytes u body) w.store.uploads } })
-  grown_put n u body there = record {
-    each = λ d p found. elim (cases_eq n p.number) [
-      | inl same ↦ grew_along p (Some (with_bytes u body))
-          (find p.number (replaced n (with_bytes u body) w.store.uploads))
-          (sym (subst (λ k. find k (replaced n (with_bytes u body) w.store.uploads) ≡ Some (with_bytes u body)) same
-          (find_replaced_same n u (with_bytes u body) w.store.uploads there)))
-          (grew_more p u body (grew_along p (upload_of w.store p.number) (Some u)
-          (subst (λ k. find k w.store.uploads ≡ Some u) same there) (grown.each d p found)))
-      | inr other ↦ grew_along p (upload_of w.store p.number)
-          (find p.number (replaced n (with_bytes u body) w.store.uploads))
-          (sym (find_replaced_other n p.number (with_bytes u body) w.store.uploads other)) (grown.each d p found)
-    ];
-  }
+  -- with what a patch brings to an upload
+  pub grown_put : (n : ℕ) (u : Upload) (declare : Option ℕ) (body : List ℕ) → upload_of w.store n ≡ Some u
+      → IsGrown (record w { store = record w.store { uploads = replaced n (patched u declare body) w.store.uploads } })
+  grown_put n u declare body there =
+      let v = patched u declare body in
+      record {
+        each = λ d p found. elim (cases_eq n p.number) [
+          | inl same ↦ grew_along p (Some v) (find p.number (replaced n v w.store.uploads))
+              (sym (subst (λ k. find k (replaced n v w.store.uploads) ≡ Some v) same
+              (find_replaced_same n u v w.store.uploads there)))
+              (grew_more p u declare body (grew_along p (upload_of w.store p.number) (Some u)
+              (subst (λ k. find k w.store.uploads ≡ Some u) same there) (grown.each d p found)))
+          | inr other ↦ grew_along p (upload_of w.store p.number) (find p.number (replaced n v w.store.uploads))
+              (sym (find_replaced_other n p.number v w.store.uploads other)) (grown.each d p found)
+        ];
+      }

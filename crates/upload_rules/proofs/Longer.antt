@@ -1,22 +1,22 @@
--- An upload's text with more bytes.
-use Rattle.std.proofs.Common.{◌≡◌, ℕ, ◌+◌, Bool, false, List, [], ◌++◌, length, Some, None, refl, sym, ◌∙◌, ap}
-use Rattle.std.proofs.Common.{append_assoc, append-nil, ◌==◌}
+-- An upload's text with what a patch brings.
+use Rattle.std.proofs.Common.{◌≡◌, ℕ, Bool, false, List, [], ◌++◌, length, Option, Some, None, refl, sym, ◌∙◌, ap}
+use Rattle.std.proofs.Common.{append_assoc, append-nil}
 use Rattle.enc_model.specs.Indexes.{IndexSet, tables}
 use Rattle.enc_model.specs.Decode.{text}
-use Rattle.upload_rules.specs.Store.{Upload, text_of, text_with, with_bytes, is_complete}
+use Rattle.upload_rules.specs.Store.{Upload, text_of, text_with, patched, is_complete}
 use Rattle.upload_rules.proofs.TextGrows.{text_behind, fault_stays}
-use Rattle.upload_rules.proofs.Commits.{text_with_bytes, text_of_is}
+use Rattle.upload_rules.proofs.Commits.{text_patched, text_of_is}
 
-pub text_in_front : (x : IndexSet) (u : Upload) (bytes : List ℕ) → is_complete u ≡ false
+pub text_in_front : (x : IndexSet) (u : Upload) (declare : Option ℕ) (bytes : List ℕ) → is_complete u ≡ false
     → (text_with x u [] false).fault ≡ None
-    → (more : List ℕ) × (text_of x (with_bytes u bytes) ≡ text_of x u ++ more)
-text_in_front x u bytes incomplete value =
+    → (more : List ℕ) × (text_of x (patched u declare bytes) ≡ text_of x u ++ more)
+text_in_front x u declare bytes incomplete value =
     let nil = append-nil u.accepted in
-    let grown = text_behind (tables x) u.from u.to u.mode u.accepted bytes
-    (length u.accepted + length bytes == u.declared)
+    let done = is_complete (patched u declare bytes) in
+    let grown = text_behind (tables x) u.from u.to u.mode u.accepted bytes done
     (ap (λ b. (text (tables x) u.from u.to u.mode b false).fault) (sym nil) ∙ value) in (
       grown.0,
-      text_with_bytes x u bytes (length u.accepted + length bytes == u.declared) refl ∙ grown.1
+      text_patched x u declare bytes ∙ grown.1
           ∙ ap (λ z. z ++ grown.0) (ap (λ b. (text (tables x) u.from u.to u.mode b false).bytes) (sym nil)
           ∙ ap (λ d. (text_with x u [] d).bytes) (sym incomplete) ∙ sym (text_of_is x u)),
     )

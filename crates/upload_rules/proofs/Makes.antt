@@ -1,11 +1,12 @@
 -- A table's `create` and `begin`.
-use Rattle.std.proofs.Common.{◌≡◌, ℕ, ◌<◌, ◌≤◌, ◌^◌, List, length, Option, Some, None, Ok, refl, sym, ◌∙◌, ap, subst}
+use Rattle.std.proofs.Common.{◌≡◌, ℕ, ◌<◌, ◌≤◌, ◌^◌, false, List, length, Option, Some, None, Ok, refl, sym, ◌∙◌, ap, subst}
 use Rattle.std.proofs.Common.{arith, Vec, Global}
-use Rattle.std.proofs.lemmas.Bool.{le-ltb, le-leb, lt-leb}
+use Rattle.std.proofs.lemmas.Bool.{le-leb, lt-leb}
 use Rattle.upload_rules.specs.declared.errors.UploadRefusal.TheVariants as refusals
 use Rattle.upload_rules.specs.declared.appends.OpenAppend.{OpenAppend}
 use Rattle.upload_rules.specs.declared.slots.Slot.{Slot}
 use Rattle.upload_rules.specs.declared.table.Table.{Table}
+use Rattle.upload_rules.specs.Lengths.{is_too_large}
 use Rattle.upload_rules.specs.Store.{New, Upload, upload_of}
 use Rattle.upload_rules.specs.World.{Patch, World, free_number}
 use Rattle.upload_rules.specs.Calls.{create_refusal, begin_refusal, begin_refusal_at, begun, first_patch}
@@ -20,42 +21,42 @@ module _ (t : Table) (w : World) (stands : TableStands t w) where
   as_many : length w.store.uploads ≡ length t.slots.items
   as_many = counts w.store.indexes w.store.uploads t.slots.items stands.slots
 
-  pub many : (new : New) → new.declared ≤ 1073741824 → 512 ≤ length t.slots.items
+  pub many : (new : New) → is_too_large new.declared ≡ false → 512 ≤ length t.slots.items
       → create_refusal w new ≡ Some refusals.Slots
   many new small full = rw (
-    le-ltb 1073741824 new.declared small,
+    small,
     le-leb 512 (length w.store.uploads)
         (omega (arith, as_many, full)),
   ) refl
 
-  pub spent_numbers : (new : New) → new.declared ≤ 1073741824 → length t.slots.items < 512 → 10 ^ 18 ≤ t.next
+  pub spent_numbers : (new : New) → is_too_large new.declared ≡ false → length t.slots.items < 512 → 10 ^ 18 ≤ t.next
       → create_refusal w new ≡ Some refusals.Slots
   spent_numbers new small room last =
       rw (
-        le-ltb 1073741824 new.declared small,
+        small,
         lt-leb 512 (length w.store.uploads) (omega (arith, as_many, room)),
         le-leb (10 ^ 18) w.store.next (let n = stands.next in omega (arith, n, last)),
       ) refl
 
-  pub creatable : (new : New) → new.declared ≤ 1073741824 → length t.slots.items < 512 → t.next < 10 ^ 18
+  pub creatable : (new : New) → is_too_large new.declared ≡ false → length t.slots.items < 512 → t.next < 10 ^ 18
       → create_refusal w new ≡ None
   creatable new small room next =
       rw (
-        le-ltb 1073741824 new.declared small,
+        small,
         lt-leb 512 (length w.store.uploads) (omega (arith, as_many, room)),
         lt-leb (10 ^ 18) w.store.next (let n = stands.next in omega (arith, n, next)),
       ) refl
 
-  pub begun_done : (holds : Patch → Type 0) (any : (p : Patch) → holds p) (n offset count : ℕ) (u : Option Upload)
-      (o : OpenAppend) (d : ℕ) (v : Appends) → upload_of w.store n ≡ u
-      → IsOpened w n offset count u (Ok o) → IsPlaced t.appends.items o d v.items
-      → (begin_refusal w n offset count ≡ None) × ((d ≡ free_number w) × IsBegun holds n count
-      (upload_of w.store n) × TableStands (record t { appends = v }) (begun w n count))
-  begun_done holds any n offset count None o d v there opened placed = absurd opened
-  begun_done holds any n offset count (Some u) o d v there opened placed =
-      let b = begins t w stands n count u d o v there placed opened.1 in (
-        ap (begin_refusal_at offset count) there ∙ opened.0,
-        (b.0, subst (IsBegun holds n count) (sym there) (any (first_patch n count u)), b.1),
+  pub begun_done : (holds : Patch → Type 0) (any : (p : Patch) → holds p) (n offset count : ℕ) (declare : Option ℕ)
+      (u : Option Upload) (o : OpenAppend) (d : ℕ) (v : Appends) → upload_of w.store n ≡ u
+      → IsOpened w n offset count declare u (Ok o) → IsPlaced t.appends.items o d v.items
+      → (begin_refusal w n offset count declare ≡ None) × ((d ≡ free_number w) × IsBegun holds n count declare
+      (upload_of w.store n) × TableStands (record t { appends = v }) (begun w n count declare))
+  begun_done holds any n offset count declare None o d v there opened placed = absurd opened
+  begun_done holds any n offset count declare (Some u) o d v there opened placed =
+      let b = begins t w stands n count declare u d o v there placed opened.1 in (
+        ap (begin_refusal_at offset count declare) there ∙ opened.0,
+        (b.0, subst (IsBegun holds n count declare) (sym there) (any (first_patch n count declare u)), b.1),
       )
 
   -- as it was, where a growth was refused

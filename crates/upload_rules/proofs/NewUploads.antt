@@ -1,6 +1,5 @@
 -- An upload without bytes: its text is empty, complete or not.
-use Rattle.std.proofs.Common.{◌≡◌, Bool, true, false, [], None, refl, sym, ◌∙◌, ap, eq-eqb}
-use Rattle.std.proofs.lemmas.Bool.{ne_eqb}
+use Rattle.std.proofs.Common.{◌≡◌, Bool, true, false, [], None, refl, sym, ◌∙◌, ap}
 use Rattle.enc_model.specs.declared.Encoding.{Encoding}
 use Rattle.enc_model.specs.declared.Encoding.TheVariants as encodings
 use Rattle.enc_model.specs.declared.Mode.{Mode}
@@ -15,6 +14,7 @@ use Rattle.enc_model.specs.Decode.{decoding, decoding_start, decoded, decode, te
 use Rattle.enc_model.specs.Transcode.{phase_of}
 use Rattle.enc_model.proofs.Pieces.{decoded_none}
 use Rattle.enc_stream.specs.Standing.{Standing, start, finished}
+use Rattle.upload_rules.specs.Lengths.{is_length}
 use Rattle.upload_rules.specs.States.{transcoder_with}
 use Rattle.upload_rules.specs.Store.{New, new_upload, text_of, text_with, is_complete}
 use Rattle.upload_rules.proofs.TextGrows.{text_open, text_done}
@@ -68,18 +68,18 @@ pub new_encodable : (x : IndexSet) (new : New) (done : Bool) → (text_with x (n
 new_encodable x new done = ap (λ r. r.fault) (text_of_nothing (tables x) new.from new.to new.mode done)
 
 -- where a transcoder stands that saw no byte, and the end where none is to come
-pub new_open : (x : IndexSet) (new : New) (t : Standing) → t ≡ start new.from new.to new.mode → (new.declared ≡ 0 → ⊥)
+pub new_open : (x : IndexSet) (new : New) (t : Standing) → t ≡ start new.from new.to new.mode → is_length new.declared 0 ≡ false
     → t.transcoder ≡ transcoder_with x (new_upload new) [] (is_complete (new_upload new))
 new_open x new t is some =
     ap (λ s. s.transcoder) is
     ∙ rw (
-      ne_eqb 0 new.declared (λ e. some (sym e)),
+      some,
       ap phase_of (decoded_none (tables x) new.from),
       ap (λ r. r.state)
           (text_of_nothing (tables x) new.from new.to new.mode false),
     ) refl
 
 pub new_complete : (x : IndexSet) (new : New) (t : Standing) → t ≡ finished (start new.from new.to new.mode)
-    → new.declared ≡ 0
+    → is_length new.declared 0 ≡ true
     → t.transcoder ≡ transcoder_with x (new_upload new) [] (is_complete (new_upload new))
-new_complete x new t is none = ap (λ s. s.transcoder) is ∙ rw (eq-eqb 0 new.declared (sym none)) refl
+new_complete x new t is none = ap (λ s. s.transcoder) is ∙ rw (none) refl

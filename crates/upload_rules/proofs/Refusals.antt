@@ -1,6 +1,7 @@
 -- Why calls are refused, and a table's commit.
-use Rattle.std.proofs.Common.{◌≡◌, ℕ, zero, suc, ◌<◌, Bool, true, false, List, [], ◌∷◌, ◌++◌, length, get_or, set}
-use Rattle.std.proofs.Common.{Option, Some, None, Result, Ok, Err, refl, sym, ◌∙◌, ap, subst, arith, eq-eqb, append-nil}
+use Rattle.std.proofs.Common.{◌≡◌, ◌==◌, ℕ, zero, suc, ◌+◌, ◌<◌, ◌≤◌, ◌&&◌, Bool, true, false, List, [], ◌∷◌, ◌++◌}
+use Rattle.std.proofs.Common.{length, get_or, set}
+use Rattle.std.proofs.Common.{Option, Some, None, Result, Ok, Err, refl, sym, ◌∙◌, ap, subst, arith, eq-eqb, eqb-true, append-nil}
 use Rattle.std.proofs.Common.{inl, inr, if◌then◌else◌, Vec, Global}
 use Rattle.std.proofs.lemmas.Bool.{ne_eqb, cases_lt}
 use Rattle.std.proofs.lemmas.List.{get_or_past}
@@ -11,11 +12,16 @@ use Rattle.upload_rules.specs.declared.errors.UploadRefusal.TheVariants as refus
 use Rattle.upload_rules.specs.declared.appends.OpenAppend.{OpenAppend}
 use Rattle.upload_rules.specs.declared.slots.Slot.{Slot}
 use Rattle.upload_rules.specs.declared.table.Table.{Table}
-use Rattle.upload_rules.specs.Store.{Upload, Store, find, upload_of, with_bytes, replaced, without, appended_to}
-use Rattle.upload_rules.specs.World.{Patch, World, is_there, completes, patch_text}
+use Rattle.upload_rules.specs.Lengths.{is_length, known_or, is_new, longest}
+use Rattle.upload_rules.specs.Store.{Upload, Store, find, upload_of, with_length, patched, replaced, without}
+use Rattle.upload_rules.specs.Store.{patched_at, text_with, is_complete}
+use Rattle.upload_rules.specs.World.{Patch, World, is_there, reached, length_then, completes, patch_text}
 use Rattle.upload_rules.specs.Room.{is_short}
-use Rattle.upload_rules.specs.Calls.{or_else, refuse_if, offset_refusal, text_refusal, commit_refusal, is_empty}
-use Rattle.upload_rules.specs.Calls.{committed, committed_store, dropped, reached, longer, appended, appended_at}
+use Rattle.upload_rules.specs.Calls.{or_else, refuse_if, length_refusal, upload_refusal, text_refusal, commit_refusal}
+use Rattle.upload_rules.specs.Calls.{is_empty, declares, declares_at, is_idle, text_stays}
+use Rattle.upload_rules.specs.Calls.{committed, committed_store, dropped, longer, appended, appended_at}
+use Rattle.enc_model.specs.Indexes.{IndexSet}
+use Rattle.upload_rules.specs.declared.errors.UploadRefusal.{UploadRefusal}
 use Rattle.upload_rules.specs.Answers.{Answers, IsLate}
 use Rattle.upload_rules.specs.Slots.{numbers, IsNowhere, IsFirstAt, SlotStands}
 use Rattle.upload_rules.specs.Drafts.{draft_at}
@@ -41,10 +47,22 @@ full_of : (body : List ℕ) → 0 < length body → is_empty body ≡ false
 full_of [] lt = absurd (omega arith)
 full_of (b ∷ body) lt = refl
 
+brings_nothing : (b : Bool) (n : ℕ) → (if b then false else n == 0) ≡ true → (n ≡ 0) × (b ≡ false)
+brings_nothing true n e = absurd cc
+brings_nothing false n e = (eqb-true n 0 e, refl)
+
+brings : (b : Bool) (n : ℕ) → (if b then false else n == 0) ≡ false → n ≡ 0 → b ≡ true
+brings true n e none = refl
+brings false n e none = absurd (let k = sym e ∙ eq-eqb n 0 none in cc)
+
 refusal_is : (w : World) (d : ℕ) (p : Patch) → commit_refusal w d p ≡ or_else
-    (offset_refusal p (upload_of w.store p.number)) (text_refusal w d p)
+    (upload_refusal p (upload_of w.store p.number)) (text_refusal w d p)
 unfolding commit_refusal
 refusal_is w d p = refl
+
+patch_text_is : (x : IndexSet) (p : Patch) (done : Bool) → patch_text x p done ≡ text_with x p.began p.body done
+unfolding patch_text
+patch_text_is x p done = refl
 
 never_short : (w : World) (d : ℕ) (p : Patch) (done : Bool) → p.short ≡ false → w.blocks ≡ None
     → is_short w d p done ≡ false
@@ -53,59 +71,121 @@ never_short w d p done e f = rw (e, f) refl
 
 pub no_such_upload : (w : World) (d : ℕ) (p : Patch) → upload_of w.store p.number ≡ None
     → commit_refusal w d p ≡ Some refusals.NoSuch
-no_such_upload w d p none = refusal_is w d p ∙ ap (λ u. or_else (offset_refusal p u) (text_refusal w d p)) none
+no_such_upload w d p none = refusal_is w d p ∙ ap (λ u. or_else (upload_refusal p u) (text_refusal w d p)) none
 
 differs : (p : Patch) (u : Upload) → (length u.accepted ≡ length p.began.accepted → ⊥)
-    → offset_refusal p (Some u) ≡ Some refusals.Offset
+    → upload_refusal p (Some u) ≡ Some refusals.Offset
 differs p u other = rw (ne_eqb (length u.accepted) (length p.began.accepted) other) refl
 
-agrees : (p : Patch) (u : Upload) → length u.accepted ≡ length p.began.accepted → offset_refusal p (Some u) ≡ None
+agrees : (p : Patch) (u : Upload) → length u.accepted ≡ length p.began.accepted
+    → upload_refusal p (Some u) ≡ length_refusal u.declared p.declare (reached p)
 agrees p u same = rw (eq-eqb (length u.accepted) (length p.began.accepted) same) refl
 
 pub other_offset : (w : World) (d : ℕ) (p : Patch) (u : Upload) → upload_of w.store p.number ≡ Some u
     → (length u.accepted ≡ length p.began.accepted → ⊥)
     → commit_refusal w d p ≡ Some refusals.Offset
 other_offset w d p u there other =
-    refusal_is w d p ∙ ap (λ o. or_else o (text_refusal w d p)) (ap (offset_refusal p) there ∙ differs p u other)
+    refusal_is w d p ∙ ap (λ o. or_else o (text_refusal w d p)) (ap (upload_refusal p) there ∙ differs p u other)
 
+-- where the offset is the upload's, its length decides, and then the text
 same_offset : (w : World) (d : ℕ) (p : Patch) (u : Upload) → upload_of w.store p.number ≡ Some u
     → length u.accepted ≡ length p.began.accepted
-    → commit_refusal w d p ≡ text_refusal w d p
+    → commit_refusal w d p ≡ or_else (length_refusal u.declared p.declare (reached p)) (text_refusal w d p)
 same_offset w d p u there same =
-    refusal_is w d p ∙ ap (λ o. or_else o (text_refusal w d p)) (ap (offset_refusal p) there ∙ agrees p u same)
+    refusal_is w d p ∙ ap (λ o. or_else o (text_refusal w d p)) (ap (upload_refusal p) there ∙ agrees p u same)
 
-nothing_refused : (w : World) (d : ℕ) (p : Patch) → p.body ≡ [] → text_refusal w d p ≡ None
-nothing_refused w d p none = rw none refl
+-- WHAT A PATCH BRINGS
 
-no_code : (w : World) (d : ℕ) (p : Patch) → 0 < length p.body → is_there
-    (patch_text w.store.indexes p (completes p)).fault ≡ true → text_refusal w d p ≡ Some refusals.Unencodable
-no_code w d p some fault = rw (full_of p.body some, fault) refl
+module _ (m : Store) (p : Patch) (u : Upload) (there : upload_of m p.number ≡ Some u) where
+  declares_is : declares m p ≡ is_new u.declared p.declare
+  declares_is = ap (declares_at p) there
 
-text_fine : (w : World) (d : ℕ) (p : Patch) → 0 < length p.body
-    → (patch_text w.store.indexes p (completes p)).fault ≡ None → p.short ≡ false → w.blocks ≡ None
+  pub completes_is : completes m p ≡ is_length (known_or u.declared p.declare) (reached p)
+  completes_is = ap (λ o. is_length (length_then p o) (reached p)) there
+
+  -- neither a length nor bytes
+  module _ (old : is_new u.declared p.declare ≡ false) (none : p.body ≡ []) where
+    declares_not : declares m p ≡ false
+    declares_not = declares_is ∙ old
+
+    idle_stays : text_stays m p ≡ true
+    idle_stays = rw (declares_not, none) refl
+
+    store_same : committed_store m p ≡ m
+    store_same = rw (declares_not, none) refl
+
+  -- a length or bytes
+  module _ (brings : length p.body ≡ 0 → is_new u.declared p.declare ≡ true) where
+    not_idle : (b : Bool) → is_new u.declared p.declare ≡ b → is_idle m p ≡ false
+    not_idle true e = rw (declares_is ∙ e) refl
+    not_idle false e = rw (declares_is ∙ e) (full_of p.body (some (length p.body) refl))
+      where
+        some : (n : ℕ) → length p.body ≡ n → 0 < n
+        some zero none = absurd (let f = sym e ∙ brings none in cc)
+        some (suc n) is = omega arith
+
+    store_longer : committed_store m p ≡ record m { uploads = replaced p.number (patched u p.declare p.body) m.uploads }
+    store_longer = rw (not_idle (is_new u.declared p.declare) refl) (ap (patched_at m p.number p.declare p.body) there)
+
+    -- a text that stays is that of the accepted bytes, which aren't all
+    stays : text_stays m p ≡ true → (p.body ≡ []) × (completes m p ≡ false)
+    stays is = go (declares m p) (completes m p) p.body refl refl refl is
+      where
+        go : (a b : Bool) (body : List ℕ) → declares m p ≡ a → completes m p ≡ b → p.body ≡ body
+            → (if a && b then false else is_empty body) ≡ true → (p.body ≡ []) × (completes m p ≡ false)
+        go true true body e f g h = absurd cc
+        go true false [] e f g h = (g, f)
+        go true false (c ∷ body) e f g h = absurd cc
+        go false b [] e f g h =
+            absurd (let k = sym e ∙ declares_is ∙ brings (ap length g) in cc)
+        go false b (c ∷ body) e f g h = absurd cc
+
+    -- the accepted bytes aren't all: the length allows more
+    pub open_still : reached p ≤ longest (known_or u.declared p.declare)
+        → length u.accepted ≡ length p.began.accepted → is_complete u ≡ false
+    open_still within same = by_length u.declared refl
+      where
+        by_length : (known : Option ℕ) → u.declared ≡ known → is_length u.declared (length u.accepted) ≡ false
+        by_length None e = ap (λ k. is_length k (length u.accepted)) e
+        by_length (Some n) e =
+            let long : reached p ≤ n = subst (λ k. reached p ≤ longest (known_or k p.declare)) e within in
+            let none : (length p.body ≡ 0 → ⊥) =
+            λ empty. (let k = sym (brings empty) ∙ ap (λ k. is_new k p.declare) e in cc) in
+            ap (λ k. is_length k (length u.accepted)) e
+            ∙ ne_eqb (length u.accepted) n (λ f. none (omega (arith, long, same, f)))
+
+no_code : (w : World) (d : ℕ) (p : Patch) → text_stays w.store p ≡ false → is_there
+    (patch_text w.store.indexes p (completes w.store p)).fault ≡ true → text_refusal w d p ≡ Some refusals.Unencodable
+no_code w d p moves fault = rw (moves, fault) refl
+
+text_fine : (w : World) (d : ℕ) (p : Patch) (b : Bool) → text_stays w.store p ≡ b
+    → (patch_text w.store.indexes p (completes w.store p)).fault ≡ None → p.short ≡ false → w.blocks ≡ None
     → text_refusal w d p ≡ None
-text_fine w d p some fault e f = rw (full_of p.body some, fault, never_short w d p (completes p) e f) refl
+text_fine w d p true stays fault e f = rw (stays) refl
+text_fine w d p false moves fault e f = rw (moves, fault, never_short w d p (completes w.store p) e f) refl
 
-store_same : (m : Store) (p : Patch) → p.body ≡ [] → committed_store m p ≡ m
-store_same m p e = rw e refl
-
-store_longer : (m : Store) (p : Patch) (u : Upload) → 0 < length p.body → upload_of m p.number ≡ Some u
-    → committed_store m p ≡ record m { uploads = replaced p.number (with_bytes u p.body) m.uploads }
-store_longer m p u some there = rw (full_of p.body some) (ap (appended_to m p.number p.body) there)
+nothing_refused : (w : World) (d : ℕ) (p : Patch) → text_stays w.store p ≡ true → text_refusal w d p ≡ None
+nothing_refused w d p stays = rw (stays) refl
 
 abbrev Slots : Type 0
 Slots = Vec Slot Global
 
-with_nothing : (u : Upload) → with_bytes u [] ≡ u
-with_nothing u = ap (λ z. record u { accepted = z }) (append-nil u.accepted)
+known_already : (known : Option ℕ) → known_or known None ≡ known
+known_already None = refl
+known_already (Some n) = refl
+
+with_nothing : (u : Upload) → patched u None [] ≡ u
+with_nothing u =
+    ap (λ z. record (with_length u None) { accepted = z }) (append-nil u.accepted)
+    ∙ ap (λ k. record u { declared = k }) (known_already u.declared)
 
 late_if : (b : Bool) → IsLate (refuse_if b refusals.Full)
 late_if true = tt
 late_if false = tt
 
 late_text : (w : World) (d : ℕ) (p : Patch) → IsLate (text_refusal w d p)
-late_text w d p = late_of (is_empty p.body) (is_there (patch_text w.store.indexes p (completes p)).fault)
-    (is_short w d p (completes p))
+late_text w d p = late_of (text_stays w.store p)
+    (is_there (patch_text w.store.indexes p (completes w.store p)).fault) (is_short w d p (completes w.store p))
   where
     late_of : (a b c : Bool) → IsLate
         (if a then None else if b then Some refusals.Unencodable else refuse_if c refusals.Full)
@@ -173,7 +253,7 @@ module _ (t : Table) (w : World) (stands : TableStands t w) (d : ℕ) (p : Patch
           (first : IsFirstAt (numbers t.slots.items) o.number place)
           (here : s ≡ get_or t.slots.items place s) where
         -- the upload of the slot
-        upload : (u : Upload) × (upload_of w.store p.number ≡ Some u) × SlotStands w.store.indexes p.number u s
+        abbrev pub upload : (u : Upload) × (upload_of w.store p.number ≡ Some u) × SlotStands w.store.indexes p.number u s
         upload = upload_at t w stands p.number place s
             (subst (λ n. IsFirstAt (numbers t.slots.items) n place) (append_is o is).number first) here
 
@@ -187,94 +267,164 @@ module _ (t : Table) (w : World) (stands : TableStands t w) (d : ℕ) (p : Patch
             )
 
         module _ (same : s.record.accepted ≡ o.offset) where
-          as_long : length upload.0.accepted ≡ length p.began.accepted
+          abbrev u : Upload
+          u = upload.0
+
+          there_is : upload_of w.store p.number ≡ Some u
+          there_is = upload.1
+
+          as_long : length u.accepted ≡ length p.began.accepted
           as_long = sym upload.2.tells.accepted ∙ same ∙ (append_is o is).offset
 
-          -- so it is the upload of the head moment
-          as_before : upload.0 ≡ p.began
-          as_before = same_upload w d p upload.0 stands.grown there upload.1 as_long
+          -- so it is the upload of the head moment, but for a length
+          pub as_before : (since : Option ℕ) × (u ≡ with_length p.began since)
+          as_before = same_upload w d p u stands.grown there there_is as_long
 
-          pub kept_as_before : SlotStands w.store.indexes p.number p.began s
-          kept_as_before = subst (λ u. SlotStands w.store.indexes p.number u s) as_before upload.2
+          pub slot_as_before : SlotStands w.store.indexes p.number u s
+          slot_as_before = upload.2
 
-          found : upload_of w.store p.number ≡ Some p.began
-          found = upload.1 ∙ ap Some as_before
+          end_is : o.offset + o.came ≡ reached p
+          end_is = let a = append_is o is in omega (arith, a.offset, a.came)
 
-          pub commits_nothing : o.came ≡ 0
-              → (commit_refusal w d p ≡ None) × ((o.offset ≡ reached p) × TableStands (record t { appends = v })
-              (committed w d p))
-          commits_nothing none =
-              let a = append_is o is in
-              let empty : length p.body ≡ 0 = sym a.came ∙ none in
-              let e = nothing_in p.body empty in
-              let back : w.store ≡ committed_store w.store p = sym (store_same w.store p e) in (
-                same_offset w d p upload.0 upload.1 as_long ∙ nothing_refused w d p e,
+          length_is : length_refusal s.record.declared o.declare (o.offset + o.came) ≡ length_refusal u.declared
+              p.declare (reached p)
+          length_is =
+              ap (λ k. length_refusal k o.declare (o.offset + o.came)) upload.2.tells.declared
+              ∙ ap (λ k. length_refusal u.declared k (o.offset + o.came)) (append_is o is).declare
+              ∙ ap (length_refusal u.declared p.declare) end_is
+
+          new_is : is_new s.record.declared o.declare ≡ is_new u.declared p.declare
+          new_is =
+              ap (λ k. is_new k o.declare) upload.2.tells.declared ∙ ap (is_new u.declared) (append_is o is).declare
+
+          pub refused_length : (e : UploadRefusal)
+              → length_refusal s.record.declared o.declare (o.offset + o.came) ≡ Some e
+              → (commit_refusal w d p ≡ Some e) × TableStands (record t { appends = v }) (dropped w d)
+          refused_length e refusal = (
+            same_offset w d p u there_is as_long
+                ∙ ap (λ r. or_else r (text_refusal w d p)) (sym length_is ∙ refusal),
+            drops t w stands d v gone,
+          )
+
+          -- the length lets the bytes come
+          module _ (fits : length_refusal s.record.declared o.declare (o.offset + o.came) ≡ None) where
+            refused : text_refusal w d p ≡ commit_refusal w d p
+            refused = sym (same_offset w d p u there_is as_long
+                ∙ ap (λ r. or_else r (text_refusal w d p)) (sym length_is ∙ fits))
+
+            pub commits_nothing : (if is_new s.record.declared o.declare then false else o.came == 0) ≡ true
+                → (commit_refusal w d p ≡ None) × ((o.offset ≡ reached p) × TableStands (record t { appends = v })
+                (committed w d p))
+            commits_nothing idle =
+                let a = append_is o is in
+                let brought = brings_nothing (is_new s.record.declared o.declare) o.came idle in
+                let empty : length p.body ≡ 0 = sym a.came ∙ brought.0 in
+                let e = nothing_in p.body empty in
+                let still = sym new_is ∙ brought.1 in
+                let back : w.store ≡ committed_store w.store p = sym (store_same w.store p u there_is still e) in (
+                  sym refused ∙ nothing_refused w d p (idle_stays w.store p u there_is still e),
+                  (
+                    omega (arith, empty, a.offset),
+                    subst (λ m. TableStands (record t { appends = v })
+                        (record w { store = m; patches = without d w.patches })) back (drops t w stands d v gone),
+                  ),
+                )
+
+            -- something is brought
+            module _ (busy : (if is_new s.record.declared o.declare then false else o.came == 0) ≡ false) where
+              brings_is : length p.body ≡ 0 → is_new u.declared p.declare ≡ true
+              brings_is none =
+                  sym new_is ∙ brings (is_new s.record.declared o.declare) o.came busy ((append_is o is).came ∙ none)
+
+              pub known_is : known_or s.record.declared o.declare ≡ known_or u.declared p.declare
+              known_is =
+                  ap (λ k. known_or k o.declare) upload.2.tells.declared ∙ ap (known_or u.declared)
+                  (append_is o is).declare
+
+              pub still_open : (declared : Option ℕ) → declared ≡ known_or s.record.declared o.declare
+                  → o.offset + o.came ≤ longest declared → is_complete u ≡ false
+              still_open declared known within =
+                  open_still w.store p u there_is brings_is
+                  (subst (λ n. n ≤ longest (known_or u.declared p.declare)) end_is
+                  (subst (λ k. o.offset + o.came ≤ longest k) (known ∙ known_is) within)) as_long
+
+              first_of_patch : IsFirstAt (numbers t.slots.items) p.number place
+              first_of_patch = subst (λ n. IsFirstAt (numbers t.slots.items) n place) (append_is o is).number first
+
+              inside : place < length t.slots.items
+              inside = let l = first.within in omega (arith, l, count_of t.slots.items)
+
+              -- want of memory may come in place of these
+              late : IsLate (commit_refusal w d p)
+              late = subst IsLate refused (late_text w d p)
+
+              slots_same : (new : Slot) (slots : Slots) → slots.items ≡ set t.slots.items place new
+                  → SlotStands w.store.indexes p.number u new
+                  → TableStands (record t { slots = slots; appends = v }) (dropped w d)
+              slots_same new slots after_put kept =
+                  let ups = w.store.uploads in
+                  let back : replaced p.number (patched u None []) ups ≡ ups =
+                  ap (λ z. replaced p.number z ups) (with_nothing u) ∙ replaced_same p.number u ups there_is in
+                  subst (λ us. TableStands (record t { slots = slots; appends = v })
+                  (record w { store = record w.store { uploads = us }; patches = without d w.patches })) back
+                  (puts (record t { appends = v }) (dropped w d) (drops t w stands d v gone) p.number u None [] place new
+                  slots there_is first_of_patch inside after_put
+                  (subst (λ z. SlotStands w.store.indexes p.number z new) (sym (with_nothing u)) kept))
+
+              -- what has no value is no text that stays
+              no_value : (done : Bool) → completes w.store p ≡ done → is_complete u ≡ false
+                  → is_there (patch_text w.store.indexes p done).fault ≡ true
+                  → commit_refusal w d p ≡ Some refusals.Unencodable
+              no_value done is_done unfinished fault = sym refused ∙ by (text_stays w.store p) refl
+                where
+                  x : IndexSet
+                  x = w.store.indexes
+
+                  nothing : text_stays w.store p ≡ true → is_there (text_with x u [] false).fault ≡ true
+                  nothing stay =
+                      let empty = stays w.store p u there_is brings_is stay in
+                      ap (λ (z : Upload). is_there (text_with x z [] false).fault) as_before.1
+                      ∙ ap (λ b. is_there (text_with x p.began b false).fault) (sym empty.0)
+                      ∙ ap (λ b. is_there (text_with x p.began p.body b).fault) (sym empty.1 ∙ is_done)
+                      ∙ ap (λ r. is_there r.fault) (sym (patch_text_is x p done)) ∙ fault
+
+                  encodable : (text_with x u [] false).fault ≡ None
+                  encodable = ap (λ b. (text_with x u [] b).fault) (sym unfinished) ∙ upload.2.encodable
+
+                  by : (b : Bool) → text_stays w.store p ≡ b → text_refusal w d p ≡ Some refusals.Unencodable
+                  by true stay = absurd (let k = sym (ap is_there encodable) ∙ nothing stay in cc)
+                  by false moves =
+                      no_code w d p moves (ap (λ b. is_there (patch_text x p b).fault) is_done ∙ fault)
+
+              pub commits : (r : Result ℕ UploadError) (done : Bool) (new : Slot) (slots : Slots)
+                  → completes w.store p ≡ done → is_complete u ≡ false
+                  → slots.items ≡ set t.slots.items place new
+                  → IsPut w.store.indexes p u done new r
+                  → Answers (commit_refusal w d p) r
+                  (λ n. (n ≡ reached p) × TableStands (record t { slots = slots; appends = v }) (committed w d p))
+                  (TableStands (record t { slots = slots; appends = v }) (dropped w d))
+              commits (Ok n) done new slots is_done unfinished after_put put = (
+                sym refused ∙ text_fine w d p (text_stays w.store p) refl
+                    (ap (λ b. (patch_text w.store.indexes p b).fault) is_done ∙ put.1) (append_is o is).roomy
+                    stands.unlimited,
                 (
-                  omega (arith, empty, a.offset),
-                  subst
-                      (λ m. TableStands (record t { appends = v }) (record w { store = m; patches = without d w.patches })) back
-                      (drops t w stands d v gone),
+                  put.0,
+                  subst (λ m. TableStands (record t { slots = slots; appends = v })
+                      (record w { store = m; patches = without d w.patches })) (sym
+                      (store_longer w.store p u there_is brings_is))
+                      (puts (record t { appends = v }) (dropped w d) (drops t w stands d v gone) p.number u p.declare
+                      p.body place new slots there_is first_of_patch inside after_put put.2),
                 ),
               )
-
-          -- something came
-          module _ (some : (o.came ≡ 0 → ⊥)) where
-            pub body_some : 0 < length p.body
-            body_some = let c = (append_is o is).came in positive (length p.body) (λ e. some (c ∙ e))
-              where
-                positive : (n : ℕ) → (n ≡ 0 → ⊥) → 0 < n
-                positive n other = omega (arith, other)
-
-            first_of_patch : IsFirstAt (numbers t.slots.items) p.number place
-            first_of_patch = subst (λ n. IsFirstAt (numbers t.slots.items) n place) (append_is o is).number first
-
-            inside : place < length t.slots.items
-            inside = let l = first.within in omega (arith, l, count_of t.slots.items)
-
-            refused : text_refusal w d p ≡ commit_refusal w d p
-            refused = sym (same_offset w d p upload.0 upload.1 as_long)
-
-            -- want of memory may come in place of these
-            late : IsLate (commit_refusal w d p)
-            late = subst IsLate refused (late_text w d p)
-
-            slots_same : (new : Slot) (slots : Slots) → slots.items ≡ set t.slots.items place new
-                → SlotStands w.store.indexes p.number p.began new
-                → TableStands (record t { slots = slots; appends = v }) (dropped w d)
-            slots_same new slots after_put kept =
-                let ups = w.store.uploads in
-                let back : replaced p.number (with_bytes p.began []) ups ≡ ups =
-                ap (λ u. replaced p.number u ups) (with_nothing p.began) ∙ replaced_same p.number p.began ups found in
-                subst (λ us. TableStands (record t { slots = slots; appends = v })
-                (record w { store = record w.store { uploads = us }; patches = without d w.patches })) back
-                (puts (record t { appends = v }) (dropped w d) (drops t w stands d v gone) p.number p.began [] place new
-                slots found first_of_patch inside after_put
-                (subst (λ u. SlotStands w.store.indexes p.number u new) (sym (with_nothing p.began)) kept))
-
-            pub commits : (r : Result ℕ UploadError) (new : Slot) (slots : Slots)
-                → slots.items ≡ set t.slots.items place new
-                → IsPut w.store.indexes p new r
-                → Answers (commit_refusal w d p) r
-                (λ n. (n ≡ reached p) × TableStands (record t { slots = slots; appends = v }) (committed w d p))
-                (TableStands (record t { slots = slots; appends = v }) (dropped w d))
-            commits (Ok n) new slots after_put done = (
-              sym refused ∙ text_fine w d p body_some done.1 (append_is o is).roomy stands.unlimited,
-              (
-                done.0,
-                subst (λ m. TableStands (record t { slots = slots; appends = v })
-                    (record w { store = m; patches = without d w.patches })) (sym
-                    (store_longer w.store p p.began body_some found))
-                    (puts (record t { appends = v }) (dropped w d) (drops t w stands d v gone) p.number p.began p.body
-                    place new slots found first_of_patch inside after_put done.2),
-              ),
-            )
-            commits (Err NoMemory) new slots after_put kept = (late, slots_same new slots after_put kept)
-            commits (Err DiskFault) new slots after_put kept = absurd kept
-            commits (Err (Refused refusals.Unencodable)) new slots after_put kept =
-                (sym refused ∙ no_code w d p body_some kept.0, slots_same new slots after_put kept.1)
-            commits (Err (Refused refusals.NoSuch)) new slots after_put kept = absurd kept
-            commits (Err (Refused refusals.Offset)) new slots after_put kept = absurd kept
-            commits (Err (Refused refusals.TooLong)) new slots after_put kept = absurd kept
-            commits (Err (Refused refusals.Slots)) new slots after_put kept = absurd kept
-            commits (Err (Refused refusals.TooLarge)) new slots after_put kept = absurd kept
-            commits (Err (Refused refusals.Full)) new slots after_put kept = absurd kept
+              commits (Err NoMemory) done new slots is_done unfinished after_put kept =
+                  (late, slots_same new slots after_put kept)
+              commits (Err DiskFault) done new slots is_done unfinished after_put kept = absurd kept
+              commits (Err (Refused refusals.Unencodable)) done new slots is_done unfinished after_put kept =
+                  (no_value done is_done unfinished kept.0, slots_same new slots after_put kept.1)
+              commits (Err (Refused refusals.NoSuch)) done new slots is_done unfinished after_put kept = absurd kept
+              commits (Err (Refused refusals.Offset)) done new slots is_done unfinished after_put kept = absurd kept
+              commits (Err (Refused refusals.TooLong)) done new slots is_done unfinished after_put kept = absurd kept
+              commits (Err (Refused refusals.Slots)) done new slots is_done unfinished after_put kept = absurd kept
+              commits (Err (Refused refusals.TooLarge)) done new slots is_done unfinished after_put kept = absurd kept
+              commits (Err (Refused refusals.Full)) done new slots is_done unfinished after_put kept = absurd kept
+              commits (Err (Refused refusals.LengthSet)) done new slots is_done unfinished after_put kept = absurd kept

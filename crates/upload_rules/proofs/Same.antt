@@ -3,29 +3,32 @@ use Rattle.std.proofs.Common.{◌≡◌, ℕ, ◌+◌, List, [], ◌∷◌, ◌+
 use Rattle.std.proofs.Common.{append-nil}
 use Rattle.std.proofs.lemmas.List.{length-append}
 use Rattle.std.proofs.lemmas.Option.{none-some, same_Some}
-use Rattle.upload_rules.specs.Store.{Upload, upload_of, find, with_bytes}
+use Rattle.upload_rules.specs.Store.{Upload, upload_of, find, with_length, patched}
 use Rattle.upload_rules.specs.World.{Patch, World}
 use Rattle.upload_rules.specs.Grown.{GrewFrom, IsGrown}
 
-same_bytes : (began : Upload) (more : List ℕ) → length (began.accepted ++ more) ≡ length began.accepted
-    → with_bytes began more ≡ began
-same_bytes began [] e = ap (λ x. record began { accepted = x }) (append-nil began.accepted)
-same_bytes began (b ∷ more) e =
+same_bytes : (began : Upload) (declare : Option ℕ) (more : List ℕ)
+    → length (began.accepted ++ more) ≡ length began.accepted → patched began declare more ≡ with_length began declare
+same_bytes began declare [] e =
+    ap (λ x. record (with_length began declare) { accepted = x }) (append-nil began.accepted)
+same_bytes began declare (b ∷ more) e =
     let l : length (began.accepted ++ b ∷ more) ≡ length began.accepted + length (b ∷ more) =
     length-append began.accepted (b ∷ more) in
     absurd (omega arith)
 
 grew_same : (p : Patch) (o : Option Upload) (u : Upload) → GrewFrom p o → o ≡ Some u
-    → length u.accepted ≡ length p.began.accepted → u ≡ p.began
+    → length u.accepted ≡ length p.began.accepted
+    → (declare : Option ℕ) × (u ≡ with_length p.began declare)
 grew_same p None u g f e = absurd (none-some u f)
 grew_same p (Some v) u g f e =
     let h : v ≡ u = same_Some v u f in
-    let k : u ≡ with_bytes p.began g.0 = sym h ∙ g.1 in
-    let l : length (p.began.accepted ++ g.0) ≡ length p.began.accepted = sym (ap (λ x. length x.accepted) k) ∙ e in
-    k ∙ same_bytes p.began g.0 l
+    let k : u ≡ patched p.began g.0 g.1 = sym h ∙ g.2 in
+    let l : length (p.began.accepted ++ g.1) ≡ length p.began.accepted = sym (ap (λ x. length x.accepted) k) ∙ e in
+    (g.0, k ∙ same_bytes p.began g.0 g.1 l)
 
--- an open patch whose offset is still the count of accepted bytes began at the upload as it is
+-- an open patch whose offset is still the count of accepted bytes began at the upload as it is, but for a length
 pub same_upload : (w : World) (d : ℕ) (p : Patch) (u : Upload) → IsGrown w → find d w.patches ≡ Some p
     → upload_of w.store p.number ≡ Some u
-    → length u.accepted ≡ length p.began.accepted → u ≡ p.began
+    → length u.accepted ≡ length p.began.accepted
+    → (declare : Option ℕ) × (u ≡ with_length p.began declare)
 same_upload w d p u grown found there e = grew_same p (upload_of w.store p.number) u (grown.each d p found) there e

@@ -7,7 +7,7 @@ use Rattle.std.proofs.Math.Seq.{map-set_same}
 use Rattle.upload_rules.specs.declared.appends.OpenAppend.{OpenAppend}
 use Rattle.upload_rules.specs.declared.slots.Slot.{Slot}
 use Rattle.upload_rules.specs.declared.table.Table.{Table}
-use Rattle.upload_rules.specs.Store.{New, Upload, find, upload_of, replaced, with_bytes, new_upload}
+use Rattle.upload_rules.specs.Store.{New, Upload, find, upload_of, replaced, patched, new_upload}
 use Rattle.upload_rules.specs.World.{Patch, World, is_there, free_number}
 use Rattle.upload_rules.specs.Calls.{created, begun, begun_at, first_patch, dropped}
 use Rattle.upload_rules.specs.Slots.{number_of, numbers, IsRising, IsBelow, IsFirstAt, SlotStands, AllStand}
@@ -31,6 +31,7 @@ weaker x next p o h = record {
   number = h.number;
   offset = h.offset;
   came = h.came;
+  declare = h.declare;
   held = h.held;
   within = h.within;
   fits = h.fits;
@@ -105,11 +106,12 @@ module _ (t : Table) (w : World) (stands : TableStands t w) where
   }
 
   -- with a patch more
-  pub begins : (n count : ℕ) (u : Upload) (d : ℕ) (o : OpenAppend) (v : Appends) → upload_of w.store n ≡ Some u
+  pub begins : (n count : ℕ) (declare : Option ℕ) (u : Upload) (d : ℕ) (o : OpenAppend) (v : Appends)
+      → upload_of w.store n ≡ Some u
       → IsPlaced t.appends.items o d v.items
-      → AppendStands w.store.indexes w.store.next (first_patch n count u) o
-      → (d ≡ free_number w) × TableStands (record t { appends = v }) (begun w n count)
-  begins n count u d o v there placed held =
+      → AppendStands w.store.indexes w.store.next (first_patch n count declare u) o
+      → (d ≡ free_number w) × TableStands (record t { appends = v }) (begun w n count declare)
+  begins n count declare u d o v there placed held =
       let none : is_there (find d w.patches) ≡ false =
       not_there (find d w.patches) (draft_at t.appends.items d) (stands.appends d) placed.free in
       let full : (k : ℕ) → k < d → is_there (find k w.patches) ≡ true =
@@ -117,9 +119,9 @@ module _ (t : Table) (w : World) (stands : TableStands t w) where
       (draft_at t.appends.items k) (stands.appends k)).1 (placed.least k lt) in
       let free = sym (is_free w d full none) in (
         free,
-        subst (λ o. TableStands (record t { appends = v }) (begun_at w n count o)) (sym there)
+        subst (λ o. TableStands (record t { appends = v }) (begun_at w n count declare o)) (sym there)
             (subst (λ k. TableStands (record t { appends = v })
-            (record w { patches = (k, first_patch n count u) ∷ w.patches })) free
+            (record w { patches = (k, first_patch n count declare u) ∷ w.patches })) free
             (record {
               indexes = stands.indexes;
               next = stands.next;
@@ -127,9 +129,9 @@ module _ (t : Table) (w : World) (stands : TableStands t w) where
               rising = stands.rising;
               below = stands.below;
               appends = begun_stand (AppendStands w.store.indexes w.store.next) w.patches t.appends.items v.items
-                  stands.appends d (first_patch n count u) o placed held;
+                  stands.appends d (first_patch n count declare u) o placed held;
               apart = (none_there (find d w.patches) none, stands.apart);
-              grown = grown_begun w stands.grown n count u d there;
+              grown = grown_begun w stands.grown n count declare u d there;
               unlimited = stands.unlimited;
             })),
       )
@@ -173,27 +175,27 @@ module _ (t : Table) (w : World) (stands : TableStands t w) where
         unlimited = stands.unlimited;
       }
 
-  -- with a body behind an upload
-  pub puts : (n : ℕ) (u : Upload) (body : List ℕ) (place : ℕ) (s : Slot) (v : Vec Slot Global)
+  -- with what a patch brings to an upload
+  pub puts : (n : ℕ) (u : Upload) (declare : Option ℕ) (body : List ℕ) (place : ℕ) (s : Slot) (v : Vec Slot Global)
       → upload_of w.store n ≡ Some u → IsFirstAt (numbers t.slots.items) n place
       → place < length t.slots.items → v.items ≡ set t.slots.items place s
-      → SlotStands w.store.indexes n (with_bytes u body) s
+      → SlotStands w.store.indexes n (patched u declare body) s
       → TableStands (record t { slots = v })
-      (record w { store = record w.store { uploads = replaced n (with_bytes u body) w.store.uploads } })
-  puts n u body place s v there first lt is held =
+      (record w { store = record w.store { uploads = replaced n (patched u declare body) w.store.uploads } })
+  puts n u declare body place s v there first lt is held =
       let same : numbers v.items ≡ numbers t.slots.items =
       ap numbers is ∙ map-set_same number_of t.slots.items place s s
       (held.tells.number_is ∙ sym first.here ∙ number_at t.slots.items place s lt) in
       record {
         indexes = stands.indexes;
         next = stands.next;
-        slots = subst (AllStand w.store.indexes (replaced n (with_bytes u body) w.store.uploads)) (sym is)
-            (put w.store.indexes n w.store.uploads t.slots.items place (with_bytes u body) s stands.slots lt first.here
-            first.before held);
+        slots = subst (AllStand w.store.indexes (replaced n (patched u declare body) w.store.uploads)) (sym is)
+            (put w.store.indexes n w.store.uploads t.slots.items place (patched u declare body) s stands.slots lt
+            first.here first.before held);
         rising = subst IsRising (sym same) stands.rising;
         below = subst (λ ns. IsBelow ns w.store.next) (sym same) stands.below;
         appends = stands.appends;
         apart = stands.apart;
-        grown = grown_put w stands.grown n u body there;
+        grown = grown_put w stands.grown n u declare body there;
         unlimited = stands.unlimited;
       }

@@ -24,9 +24,9 @@ Answers refusal (Err DiskFault) done same = IsLate refusal
 Answers refusal (Err (Refused e)) done same = (refusal ≡ Some e) × same
 
 -- a draft holds the first patch of the upload
-abbrev pub IsBegun : (Patch → Type 0) → ℕ → ℕ → Option Upload → Type 0
-IsBegun holds number count None = Unit {0}
-IsBegun holds number count (Some u) = holds (first_patch number count u)
+abbrev pub IsBegun : (Patch → Type 0) → ℕ → ℕ → Option ℕ → Option Upload → Type 0
+IsBegun holds number count declare None = Unit {0}
+IsBegun holds number count declare (Some u) = holds (first_patch number count declare u)
 
 -- the store is one of these
 abbrev pub Among : Store → List Store → Type 0

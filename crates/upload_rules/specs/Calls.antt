@@ -1,12 +1,14 @@
 -- What the calls make of a world, and why they are refused.
 use Rattle.std.specs.Prelude.{ℕ, ◌+◌, ◌^◌, Bool, true, false, List, [], ◌∷◌, ◌++◌, length, nat_lt, nat_le, ◌==◌}
-use Rattle.std.specs.Prelude.{if◌then◌else◌, Option, Some, None}
+use Rattle.std.specs.Prelude.{◌&&◌, if◌then◌else◌, Option, Some, None}
 use Rattle.upload_rules.specs.declared.errors.UploadRefusal.{UploadRefusal}
 use Rattle.upload_rules.specs.declared.errors.UploadRefusal.TheVariants.{TooLarge, Slots, NoSuch, Offset, TooLong}
+use Rattle.upload_rules.specs.declared.errors.UploadRefusal.TheVariants.{LengthSet}
 use Rattle.upload_rules.specs.declared.errors.UploadRefusal.TheVariants.{Unencodable, Full}
 use Rattle.upload_rules.specs.Store.{New, Upload, Store, find, replaced, without, upload_of, created_store}
-use Rattle.upload_rules.specs.Store.{deleted_store, appended_store}
-use Rattle.upload_rules.specs.World.{Patch, World, is_there, free_number, completes, patch_text}
+use Rattle.upload_rules.specs.Store.{deleted_store, patched_store}
+use Rattle.upload_rules.specs.Lengths.{known_or, is_new, differ, is_too_large, longest}
+use Rattle.upload_rules.specs.World.{Patch, World, is_there, free_number, reached, completes, patch_text}
 use Rattle.upload_rules.specs.Reading.{no_such}
 use Rattle.upload_rules.specs.Room.{is_short}
 
@@ -18,11 +20,18 @@ or_else (Some f) other = Some f
 abbrev pub refuse_if : Bool → UploadRefusal → Option UploadRefusal
 refuse_if holds f = if holds then Some f else None
 
+-- LENGTHS
+
+-- the length that is known, the one that a patch declares, and the count of accepted bytes with its body
+abbrev pub length_refusal : Option ℕ → Option ℕ → ℕ → Option UploadRefusal
+length_refusal known declare end =
+    if differ known declare then Some LengthSet else refuse_if (nat_lt (longest (known_or known declare)) end) TooLong
+
 -- CREATE
 
 abbrev pub create_refusal : World → New → Option UploadRefusal
 create_refusal w new =
-    if nat_lt 1073741824 new.declared then Some TooLarge
+    if is_too_large new.declared then Some TooLarge
     else if nat_le 512 (length w.store.uploads) then Some Slots
     else refuse_if (nat_le (10 ^ 18) w.store.next) Slots
 
@@ -38,26 +47,38 @@ terminate_refusal w number = no_such (upload_of w.store number)
 abbrev pub terminated : World → ℕ → World
 terminated w number = record w { store = deleted_store w.store number }
 
--- BEGIN (with deferred lengths: TooLarge and LengthSet stand between Offset and TooLong)
+-- BEGIN
 
-abbrev pub begin_refusal_at : ℕ → ℕ → Option Upload → Option UploadRefusal
-begin_refusal_at offset count None = Some NoSuch
-begin_refusal_at offset count (Some u) =
-    if length u.accepted == offset then refuse_if (nat_lt u.declared (offset + count)) TooLong else Some Offset
+-- the first that holds of NoSuch, Offset, TooLarge, LengthSet and TooLong
+abbrev pub begin_refusal_at : ℕ → ℕ → Option ℕ → Option Upload → Option UploadRefusal
+begin_refusal_at offset count declare None = Some NoSuch
+begin_refusal_at offset count declare (Some u) =
+    if length u.accepted == offset
+    then or_else (refuse_if (is_too_large declare) TooLarge) (length_refusal u.declared declare (offset + count))
+    else Some Offset
 
-abbrev pub begin_refusal : World → ℕ → ℕ → ℕ → Option UploadRefusal
-begin_refusal w number offset count = begin_refusal_at offset count (upload_of w.store number)
+abbrev pub begin_refusal : World → ℕ → ℕ → ℕ → Option ℕ → Option UploadRefusal
+begin_refusal w number offset count declare = begin_refusal_at offset count declare (upload_of w.store number)
 
-abbrev pub first_patch : ℕ → ℕ → Upload → Patch
-first_patch number count u = record { number = number; began = u; count = count; body = []; short = false }
+abbrev pub first_patch : ℕ → ℕ → Option ℕ → Upload → Patch
+first_patch number count declare u = record {
+  number = number;
+  began = u;
+  count = count;
+  declare = declare;
+  body = [];
+  short = false;
+}
 
-abbrev pub begun_at : World → ℕ → ℕ → Option Upload → World
-begun_at w number count None = w
-begun_at w number count (Some u) = record w { patches = (free_number w, first_patch number count u) ∷ w.patches }
+abbrev pub begun_at : World → ℕ → ℕ → Option ℕ → Option Upload → World
+begun_at w number count declare None = w
+begun_at w number count declare (Some u) = record w {
+  patches = (free_number w, first_patch number count declare u) ∷ w.patches;
+}
 
 -- a patch is open under the least free draft number
-abbrev pub begun : World → ℕ → ℕ → World
-begun w number count = begun_at w number count (upload_of w.store number)
+abbrev pub begun : World → ℕ → ℕ → Option ℕ → World
+begun w number count declare = begun_at w number count declare (upload_of w.store number)
 
 -- APPEND
 
@@ -78,35 +99,50 @@ abbrev pub is_empty : List ℕ → Bool
 is_empty [] = true
 is_empty (b ∷ bytes) = false
 
--- the text has no value with the body, or no room. An empty body has neither fault
+abbrev pub declares_at : Patch → Option Upload → Bool
+declares_at p None = false
+declares_at p (Some u) = is_new u.declared p.declare
+
+-- the upload gets its length by this patch
+abbrev pub declares : Store → Patch → Bool
+declares m p = declares_at p (upload_of m p.number)
+
+-- the patch brings neither a length nor bytes
+abbrev pub is_idle : Store → Patch → Bool
+is_idle m p = if declares m p then false else is_empty p.body
+
+-- The text stays as it is: the body is empty, and no length says now that the accepted bytes are all.
+abbrev pub text_stays : Store → Patch → Bool
+text_stays m p = if declares m p && completes m p then false else is_empty p.body
+
+-- with what the patch brings, the text has no value, or no room. A text that stays has neither fault
 abbrev pub text_refusal : World → ℕ → Patch → Option UploadRefusal
 text_refusal w d p =
-    if is_empty p.body then None
-    else if is_there (patch_text w.store.indexes p (completes p)).fault then Some Unencodable
-    else refuse_if (is_short w d p (completes p)) Full
+    if text_stays w.store p then None
+    else if is_there (patch_text w.store.indexes p (completes w.store p)).fault then Some Unencodable
+    else refuse_if (is_short w d p (completes w.store p)) Full
 
-abbrev pub offset_refusal : Patch → Option Upload → Option UploadRefusal
-offset_refusal p None = Some NoSuch
-offset_refusal p (Some u) = refuse_if (if length u.accepted == length p.began.accepted then false else true) Offset
+-- the patch doesn't go with the upload as it is: NoSuch, Offset, LengthSet or TooLong
+abbrev pub upload_refusal : Patch → Option Upload → Option UploadRefusal
+upload_refusal p None = Some NoSuch
+upload_refusal p (Some u) =
+    if length u.accepted == length p.began.accepted
+    then length_refusal u.declared p.declare (reached p)
+    else Some Offset
 
--- (with deferred lengths: LengthSet and TooLong stand between Offset and Unencodable, and an empty body that declares
--- is no empty body) the first that holds of NoSuch, Offset, Unencodable and Full
+-- the first that holds of NoSuch, Offset, LengthSet, TooLong, Unencodable and Full
 unfoldable pub commit_refusal : World → ℕ → Patch → Option UploadRefusal
-commit_refusal w d p = or_else (offset_refusal p (upload_of w.store p.number)) (text_refusal w d p)
+commit_refusal w d p = or_else (upload_refusal p (upload_of w.store p.number)) (text_refusal w d p)
 
 abbrev pub dropped : World → ℕ → World
 dropped w d = record w { patches = without d w.patches }
 
--- the body is at the upload's end. An empty body changes nothing
+-- the upload has what the patch brings
 abbrev pub committed_store : Store → Patch → Store
-committed_store m p = if is_empty p.body then m else appended_store m p.number p.body
+committed_store m p = if is_idle m p then m else patched_store m p.number p.declare p.body
 
 abbrev pub committed : World → ℕ → Patch → World
 committed w d p = record w { store = committed_store w.store p; patches = without d w.patches }
-
--- the new offset
-abbrev pub reached : Patch → ℕ
-reached p = length p.began.accepted + length p.body
 
 -- what `commit` makes of the world, refused or not: the patch is spent
 abbrev pub spent : World → ℕ → Patch → Option UploadRefusal → World

@@ -5,21 +5,22 @@ use Rattle.enc_model.specs.declared.Mode.{Mode}
 use Rattle.enc_model.specs.Encode.{Coded}
 use Rattle.enc_model.specs.Indexes.{IndexSet, tables}
 use Rattle.enc_model.specs.Decode.{text}
+use Rattle.upload_rules.specs.Lengths.{is_length, known_or}
 
 -- the fields of an upload to be made
 pub record New : Type 0 where
-  pub declared : ℕ
+  pub declared : Option ℕ
   pub from : Encoding
   pub to : Encoding
   pub mode : Mode
   pub metadata : List ℕ
 
--- (with deferred lengths: `declared` may be unknown, and such an upload is never complete)
+-- an upload. Its declared length may be unknown
 pub record Upload : Type 0 where
   pub from : Encoding
   pub to : Encoding
   pub mode : Mode
-  pub declared : ℕ
+  pub declared : Option ℕ
   pub metadata : List ℕ
   pub accepted : List ℕ
 
@@ -56,10 +57,15 @@ others n (entry ∷ entries) = if entry.0 == n then others n entries else entry 
 
 -- complete: the accepted bytes are as many as were declared
 abbrev pub is_complete : Upload → Bool
-is_complete u = length u.accepted == u.declared
+is_complete u = is_length u.declared (length u.accepted)
 
-abbrev pub with_bytes : Upload → List ℕ → Upload
-with_bytes u bytes = record u { accepted = u.accepted ++ bytes }
+-- with the length that a patch declares, where none is known
+abbrev pub with_length : Upload → Option ℕ → Upload
+with_length u declare = record u { declared = known_or u.declared declare }
+
+-- with what a patch brings: a length, where none is known, and bytes at the end
+abbrev pub patched : Upload → Option ℕ → List ℕ → Upload
+patched u declare bytes = record (with_length u declare) { accepted = u.accepted ++ bytes }
 
 -- what the text is with these further bytes, the end among them or not: its bytes, or the first code point that has no
 -- code
@@ -90,11 +96,11 @@ created_store m new = record m { uploads = m.uploads ++ (m.next, new_upload new)
 abbrev pub deleted_store : Store → ℕ → Store
 deleted_store m n = record m { uploads = others n m.uploads }
 
--- (with deferred lengths: `declared_store`)
--- `append`: bytes at the end of an upload
-abbrev pub appended_to : Store → ℕ → List ℕ → Option Upload → Store
-appended_to m n bytes None = m
-appended_to m n bytes (Some u) = record m { uploads = replaced n (with_bytes u bytes) m.uploads }
+abbrev pub patched_at : Store → ℕ → Option ℕ → List ℕ → Option Upload → Store
+patched_at m n declare bytes None = m
+patched_at m n declare bytes (Some u) = record m { uploads = replaced n (patched u declare bytes) m.uploads }
 
-abbrev pub appended_store : Store → ℕ → List ℕ → Store
-appended_store m n bytes = appended_to m n bytes (upload_of m n)
+-- `declare`, which gives an upload of unknown length one, and behind it `append`, which puts bytes at the upload's end:
+-- each where the patch brings it
+abbrev pub patched_store : Store → ℕ → Option ℕ → List ℕ → Store
+patched_store m n declare bytes = patched_at m n declare bytes (upload_of m n)

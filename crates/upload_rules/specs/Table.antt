@@ -33,9 +33,9 @@ IsSlotOf x n (Some u) (Some s) = SlotStands x n u s
 IsSlotOf x n _ _ = ⊥
 
 -- an append of an upload as it is, or the rules' refusal
-abbrev pub IsOpened : World → ℕ → ℕ → ℕ → Option Upload → Result OpenAppend UploadRefusal → Type 0
-IsOpened w n offset count None (Ok o) = ⊥
-IsOpened w n offset count (Some u) (Ok o) =
-    (begin_refusal_at offset count (Some u) ≡ None) × AppendStands w.store.indexes w.store.next (first_patch n count u)
-    o
-IsOpened w n offset count u (Err e) = begin_refusal_at offset count u ≡ Some e
+abbrev pub IsOpened : World → ℕ → ℕ → ℕ → Option ℕ → Option Upload → Result OpenAppend UploadRefusal → Type 0
+IsOpened w n offset count declare None (Ok o) = ⊥
+IsOpened w n offset count declare (Some u) (Ok o) =
+    (begin_refusal_at offset count declare (Some u) ≡ None)
+    × AppendStands w.store.indexes w.store.next (first_patch n count declare u) o
+IsOpened w n offset count declare u (Err e) = begin_refusal_at offset count declare u ≡ Some e

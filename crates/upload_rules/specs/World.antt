@@ -3,14 +3,16 @@ use Rattle.std.specs.Prelude.{ℕ, zero, suc, ◌+◌, Bool, false, true, List, 
 use Rattle.std.specs.Prelude.{None}
 use Rattle.enc_model.specs.Encode.{Coded}
 use Rattle.enc_model.specs.Indexes.{IndexSet}
-use Rattle.upload_rules.specs.Store.{Upload, Store, find, text_with}
+use Rattle.upload_rules.specs.Lengths.{is_length, known_or}
+use Rattle.upload_rules.specs.Store.{Upload, Store, find, upload_of, text_with}
 
 -- An open append: of which upload, what the upload was at the patch's head moment, how many bytes the body is to have,
--- the body so far, and whether it is short of room
+-- the length that it declares, the body so far, and whether it is short of room
 pub record Patch : Type 0 where
   pub number : ℕ
   pub began : Upload
   pub count : ℕ
+  pub declare : Option ℕ
   pub body : List ℕ
   pub short : Bool
 
@@ -36,9 +38,18 @@ least_from (suc left) n patches = if is_there (find n patches) then least_from l
 abbrev pub free_number : World → ℕ
 free_number w = least_from (length w.patches) 0 w.patches
 
--- the accepted bytes with the patch's body: as many as were declared
-abbrev pub completes : Patch → Bool
-completes p = (length p.began.accepted + length p.body) == p.began.declared
+-- the count of accepted bytes with the patch's body
+abbrev pub reached : Patch → ℕ
+reached p = length p.began.accepted + length p.body
+
+-- the length of the patch's upload once the patch is done: another patch may have declared it since this one began
+abbrev pub length_then : Patch → Option Upload → Option ℕ
+length_then p None = None
+length_then p (Some u) = known_or u.declared p.declare
+
+-- the accepted bytes with the patch's body: as many as are declared then
+abbrev pub completes : Store → Patch → Bool
+completes m p = is_length (length_then p (upload_of m p.number)) (reached p)
 
 -- the text over the accepted bytes at the head moment followed by the body so far
 unfoldable pub patch_text : IndexSet → Patch → Bool → Coded

@@ -1,11 +1,14 @@
 //! Appends under way.
 
-ghost use Rattle.std.specs.Prelude.{◌<◌, ◌≤◌, ◌+◌, ◌++◌, ℕ, length, OnOk, OnErr, IsErrOf};
-ghost use Rattle.upload_rules.specs.World.{Patch};
+ghost use Rattle.std.specs.Prelude.{◌≡◌, ◌==◌, ◌≤◌, ◌+◌, ◌++◌, ℕ, if◌then◌else◌, Option, false, length, OnOk, OnErr, IsErrOf};
+ghost use Rattle.upload_rules.specs.Lengths.{is_length, is_new, known_or};
+ghost use Rattle.upload_rules.specs.Store.{Upload, with_length, is_complete};
+ghost use Rattle.upload_rules.specs.World.{Patch, reached};
 ghost use Rattle.upload_rules.specs.Slots.{SlotStands};
 ghost use Rattle.upload_rules.specs.Appends.{AppendStands, IsPut};
 
 use crate::UploadError;
+use crate::lengths::{is_length, is_new};
 use crate::new_text::NewText;
 use crate::slots::Slot;
 use enc_index::IndexSet;
@@ -21,6 +24,8 @@ pub(crate) struct OpenAppend {
     pub(crate) offset: u64,
     /// How many bytes came since.
     pub(crate) came: u64,
+    /// The length that it declares.
+    pub(crate) declare: Option<u64>,
     /// What they add to the text.
     pub(crate) text: NewText,
 }
@@ -42,22 +47,37 @@ impl OpenAppend {
         Ok(())
     }
 
-    /// Puts the new text behind the slot's, and answers the new count of accepted bytes.
-    pub(crate) fn put_behind(self, slot: &mut Slot, indexes: &IndexSet) -> Result<u64, UploadError>
-        ensures put { (next : ℕ) (p : Patch) → AppendStands indexes.now next p self → 0 < length p.body
-            → SlotStands indexes.now p.number p.began slot.old
-            → IsPut indexes.now p slot.new result }
+    /// Whether it brings neither bytes nor a length to its upload, whose length is known or not.
+    pub(crate) fn is_idle(&self, known: Option<u64>) -> bool
+        ensures { result ≡ (if is_new known self.now.declare then false else self.now.came == 0) }
+    {
+        self.came == 0 && !is_new(known, self.declare)
+    }
+
+    /// Puts the new text behind the slot's, whose length is then `declared`, and answers the new count of accepted
+    /// bytes.
+    pub(crate) fn put_behind(
+        self,
+        slot: &mut Slot,
+        declared: Option<u64>,
+        indexes: &IndexSet,
+    ) -> Result<u64, UploadError>
+        ensures put { (next : ℕ) (p : Patch) (u : Upload) → AppendStands indexes.now next p self
+            → (length : Option ℕ) × (u ≡ with_length p.began length) → is_complete u ≡ false
+            → declared ≡ known_or u.declared p.declare → SlotStands indexes.now p.number u slot.old
+            → IsPut indexes.now p u (is_length declared (reached p)) slot.new result }
         ensures no_device { IsErrOf result UploadError.DiskFault → ⊥ }
     {
         let OpenAppend {
             number: _,
             offset,
             came,
+            declare: _,
             text,
         } = self;
         let accepted = offset.saturating_add(came);
-        let (state, text) = text.ended(indexes, accepted == slot.record.declared)?;
-        match slot.grow(&text, accepted, state) {
+        let (state, text) = text.ended(indexes, is_length(declared, accepted))?;
+        match slot.grow(&text, declared, accepted, state) {
             Ok(()) => Ok(accepted),
             Err(_) => Err(UploadError::NoMemory),
         }

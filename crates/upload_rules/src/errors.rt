@@ -9,7 +9,7 @@ pub enum UploadRefusal {
     NoSuch,
     /// The offset isn't the count of accepted bytes.
     Offset,
-    /// More bytes than the declared length leaves.
+    /// More bytes than the declared length leaves, or, while it is unknown, than 1,073,741,824.
     TooLong,
     /// No slot is free, or no number is left.
     Slots,
@@ -17,6 +17,8 @@ pub enum UploadRefusal {
     TooLarge,
     /// No block is free for the text.
     Full,
+    /// The declared length is known, and another one was declared.
+    LengthSet,
 }
 
 /// Why a call on uploads gives no answer.

@@ -3,9 +3,11 @@
 ghost use Rattle.std.specs.Prelude.{◌≡◌, ◌++◌, [], ℕ, Bool, true, false, None, List, IfOk, IfSome, OnOk, OnErr};
 ghost use Rattle.std.specs.Prelude.{IsErrOf, IsOk, MatchOption};
 ghost use Rattle.enc_model.specs.Indexes.{IndexSet as Indexes};
+ghost use Rattle.upload_rules.specs.Lengths.{is_length};
 ghost use Rattle.upload_rules.specs.Store.{Upload, text_with, is_complete};
 ghost use Rattle.upload_rules.specs.declared.errors.UploadRefusal.{UploadRefusal as Refusal};
 
+use crate::lengths::is_length;
 use crate::{Record, UploadError, UploadRefusal};
 use enc_index::IndexSet;
 use enc_stream::{TranscodeError, Transcoder};
@@ -42,9 +44,10 @@ impl NewText {
 
         // Whatever the record says.
         ensures goes_on { IfSome result (GoesOn upload.now.state) }
-        ensures room { IfSome result (λ text. IsGrowing text → upload.now.accepted ≡ upload.now.declared → ⊥) }
+        ensures room { IfSome result
+            (λ text. IsGrowing text → is_length upload.now.declared upload.now.accepted ≡ false) }
     {
-        if upload.accepted == upload.declared {
+        if is_length(upload.declared, upload.accepted) {
             return Some(NewText::Complete);
         }
         Some(NewText::Growing {

@@ -1,12 +1,14 @@
 //! What a store tells of an upload, and what it is given to make one.
 
-ghost use Rattle.std.specs.Prelude.{◌≡◌, ◌≤◌, ◌<◌, ◌+◌, ◌^◌, ℕ, IsOk, None, Some, MatchResult};
+ghost use Rattle.std.specs.Prelude.{◌≡◌, ◌≤◌, ◌<◌, ◌+◌, ◌^◌, ℕ, false, IsOk, None, Some, MatchResult};
 ghost use Rattle.enc_model.specs.Indexes.{IndexSet};
 ghost use Rattle.enc_stream.specs.Standing.{IsOutput};
 ghost use Rattle.upload_rules.specs.Calls.{begin_refusal_at};
+ghost use Rattle.upload_rules.specs.Lengths.{is_too_large, known_or, longest};
 ghost use Rattle.upload_rules.specs.Store.{New as Fields, Upload, new_upload};
 
 use crate::UploadRefusal;
+use crate::lengths::{is_length, is_too_large, length_then};
 use enc_model::{Encoding, Mode};
 use enc_stream::Transcoder;
 use std::marker::Model;
@@ -16,8 +18,8 @@ use std::marker::Model;
 pub struct Record {
     /// The upload's number, from 1 on.
     pub number: u64,
-    /// The declared length in bytes.
-    pub declared: u64,
+    /// The declared length in bytes, where it is known.
+    pub declared: Option<u64>,
     /// How many bytes were accepted.
     pub accepted: u64,
     /// The length of the stored text in bytes.
@@ -38,8 +40,8 @@ pub struct Record {
 /// The fields of an upload to be made.
 #[derive(Drop)]
 pub struct New {
-    /// The declared length in bytes.
-    pub declared: u64,
+    /// The declared length in bytes, where it is known.
+    pub declared: Option<u64>,
     /// The encoding by its label; the index set offers it.
     pub from: Encoding,
     /// The encoding that the text is stored in: an output encoding that the index set offers.
@@ -72,7 +74,7 @@ impl Record {
             mode,
             metadata,
         } = fields;
-        let transcoder = if declared == 0 {
+        let transcoder = if is_length(declared, 0) {
             Transcoder::ended(from, to, mode)
         } else {
             Transcoder::new(from, to, mode)
@@ -90,20 +92,24 @@ impl Record {
         }
     }
 
-    /// Whether `count` bytes may come at an offset: refused with `Offset`, `TooLong`.
-    pub fn admits(&self, offset: u64, count: u64) -> Result<(), UploadRefusal>
-        ensures room { IsOk result
-            → (self.now.accepted ≡ offset) × (offset + count ≤ self.now.declared) × (self.now.declared < 2 ^ 64) }
+    /// Whether a patch may begin that puts `count` bytes at an offset and may declare the length: refused with
+    /// `Offset`, `TooLarge`, `LengthSet`, `TooLong`.
+    pub fn admits(&self, offset: u64, count: u64, declare: Option<u64>) -> Result<(), UploadRefusal>
+        ensures room { IsOk result → (self.now.accepted ≡ offset)
+            × (offset + count ≤ longest (known_or self.now.declared declare))
+            × (longest (known_or self.now.declared declare) < 2 ^ 64) }
+        ensures small { IsOk result → is_too_large declare ≡ false }
         ensures rules { (x : IndexSet) (n : ℕ) (u : Upload) → Tells x n self.now u
-            → MatchResult result (λ _. begin_refusal_at offset count (Some u) ≡ None)
-            (λ e. begin_refusal_at offset count (Some u) ≡ Some e) }
+            → MatchResult result (λ _. begin_refusal_at offset count declare (Some u) ≡ None)
+            (λ e. begin_refusal_at offset count declare (Some u) ≡ Some e) }
     {
         if self.accepted != offset {
             return Err(UploadRefusal::Offset);
         }
-        if self.declared < offset || self.declared - offset < count {
-            return Err(UploadRefusal::TooLong);
+        if is_too_large(declare) {
+            return Err(UploadRefusal::TooLarge);
         }
+        length_then(self.declared, declare, offset, count)?;
         Ok(())
     }
 }

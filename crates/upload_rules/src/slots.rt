@@ -32,20 +32,22 @@ impl Slot {
         }
     }
 
-    /// The text with these bytes behind it, and as many accepted bytes and the state as are said.
+    /// The text with these bytes behind it; and the length, the count of accepted bytes and the state that are said.
     pub(crate) fn grow(
         &mut self,
         text: &[u8],
+        declared: Option<u64>,
         accepted: u64,
         state: [u8; 32],
     ) -> Result<(), AllocError>
         ensures text { OnOk result (self.new.text.items ≡ self.old.text.items ++ text.now) }
         ensures record { OnOk result
             (self.new.record ≡ record self.old.record
-            { accepted = accepted; text_len = length self.new.text.items; state = state }) }
+            { declared = declared; accepted = accepted; text_len = length self.new.text.items; state = state }) }
         ensures same { OnErr result ((self.new.text.items ≡ self.old.text.items) × (self.new.record ≡ self.old.record)) }
     {
         self.text.extend_from_slice(text)?;
+        self.record.declared = declared;
         self.record.accepted = accepted;
         self.record.text_len = self.text.len() as u64;
         self.record.state = state;

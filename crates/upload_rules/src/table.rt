@@ -2,14 +2,12 @@
 
 use crate::appends::OpenAppend;
 use crate::drafts::{placed, put_back, taken};
+use crate::lengths::{is_too_large, length_then};
 use crate::new_text::NewText;
 use crate::slots::{Slot, place_of, places_to, read_from};
 use crate::{New, Record, UploadError, UploadRefusal, Uploads};
 use enc_index::IndexSet;
 use std::alloc::Global;
-
-/// The greatest declared length, in bytes.
-pub const LENGTH_LIMIT: u64 = 1_073_741_824;
 
 /// How many uploads there may be.
 const SLOT_COUNT: usize = 512;
@@ -63,14 +61,20 @@ impl Table {
     }
 
     /// The append that `begin` opens, if the rules allow it.
-    fn opened(&self, number: u64, offset: u64, count: u64) -> Result<OpenAppend, UploadRefusal>
-        ensures { (w : World) → TableStands self.now w → IsOpened w number offset count (upload_of w.store number)
-            result }
+    fn opened(
+        &self,
+        number: u64,
+        offset: u64,
+        count: u64,
+        declare: Option<u64>,
+    ) -> Result<OpenAppend, UploadRefusal>
+        ensures { (w : World) → TableStands self.now w
+            → IsOpened w number offset count declare (upload_of w.store number) result }
     {
         let Some(slot) = self.slot(number) else {
             return Err(UploadRefusal::NoSuch);
         };
-        slot.record.admits(offset, count)?;
+        slot.record.admits(offset, count, declare)?;
         let Some(text) = NewText::behind(self.alloc, &slot.record) else {
             return Err(UploadRefusal::NoSuch);
         };
@@ -78,6 +82,7 @@ impl Table {
             number,
             offset,
             came: 0,
+            declare,
             text,
         })
     }
@@ -123,7 +128,7 @@ impl Uploads for Table {
     }
 
     fn create(&mut self, new: New) -> Result<u64, UploadError> {
-        if new.declared > LENGTH_LIMIT {
+        if is_too_large(new.declared) {
             return Err(UploadError::Refused(UploadRefusal::TooLarge));
         }
         if self.slots.len() >= SLOT_COUNT || self.next >= NUMBERS_END {
@@ -145,8 +150,14 @@ impl Uploads for Table {
         Ok(())
     }
 
-    fn begin(&mut self, number: u64, offset: u64, count: u64) -> Result<TableDraft, UploadError> {
-        let append = match self.opened(number, offset, count) {
+    fn begin(
+        &mut self,
+        number: u64,
+        offset: u64,
+        count: u64,
+        declare: Option<u64>,
+    ) -> Result<TableDraft, UploadError> {
+        let append = match self.opened(number, offset, count, declare) {
             Ok(append) => append,
             Err(refusal) => return Err(UploadError::Refused(refusal)),
         };
@@ -176,13 +187,19 @@ impl Uploads for Table {
         let Some(place) = place_of(&self.slots, append.number) else {
             return Err(UploadError::Refused(UploadRefusal::NoSuch));
         };
-        if self.slots[place].record.accepted != append.offset {
+        let record = &self.slots[place].record;
+        if record.accepted != append.offset {
             return Err(UploadError::Refused(UploadRefusal::Offset));
         }
-        if append.came == 0 {
+        let known = record.declared;
+        let declared = match length_then(known, append.declare, append.offset, append.came) {
+            Ok(declared) => declared,
+            Err(refusal) => return Err(UploadError::Refused(refusal)),
+        };
+        if append.is_idle(known) {
             return Ok(append.offset);
         }
-        append.put_behind(&mut self.slots[place], &self.indexes)
+        append.put_behind(&mut self.slots[place], declared, &self.indexes)
     }
 
     fn drop_open(&mut self, draft: TableDraft) {

@@ -2,10 +2,10 @@
 ghost use Rattle.std.specs.Prelude.{◌≡◌, ◌≤◌, ◌<◌, ◌+◌, ℕ, List, length, Option, Some, None, IsErrOf, option_copied};
 ghost use Rattle.enc_model.specs.Indexes.{IndexSet as Indexes};
 ghost use Rattle.upload_rules.specs.Store.{Upload, Store, upload_of, find};
-ghost use Rattle.upload_rules.specs.World.{Patch, World, free_number};
+ghost use Rattle.upload_rules.specs.World.{Patch, World, free_number, reached};
 ghost use Rattle.upload_rules.specs.Calls.{create_refusal, created, create_outcome, terminate_refusal, terminated};
 ghost use Rattle.upload_rules.specs.Calls.{terminate_outcome, begin_refusal, begun, appended, longer, commit_refusal};
-ghost use Rattle.upload_rules.specs.Calls.{committed, commit_outcome, dropped, reached};
+ghost use Rattle.upload_rules.specs.Calls.{committed, commit_outcome, dropped};
 ghost use Rattle.upload_rules.specs.Answers.{Answers, IsBegun, Among, Limits, Quiet, Counts};
 ghost use Rattle.upload_rules.specs.Records.{TellsOf, with_number, above, IsWellFormed, IsOffered};
 ghost use Rattle.upload_rules.specs.Reading.{no_such, text_at, IsRead};
@@ -83,13 +83,19 @@ pub trait Uploads {
             → Limits (moment self.old) (moment self.new) (left_only self.old) (left_only self.new) w.store w.store }
         ensures counts { Counts (IsErrOf result UploadError.DiskFault) (failures self.old) (failures self.new) };
 
-    /// Opens a draft of `count` bytes at an offset, under the least number that is free: refused with `NoSuch`,
-    /// `Offset`, `TooLong`, `NoMemory`.
-    fn begin(&mut self, number: u64, offset: u64, count: u64) -> Result<Self::Draft, UploadError>
+    /// Opens a draft of `count` bytes at an offset, which may declare the upload's length, under the least number that
+    /// is free: refused with `NoSuch`, `Offset`, `TooLarge`, `LengthSet`, `TooLong`, `NoMemory`.
+    fn begin(
+        &mut self,
+        number: u64,
+        offset: u64,
+        count: u64,
+        declare: Option<u64>,
+    ) -> Result<Self::Draft, UploadError>
         ensures answer { (w : World) → stands self.old w
-            → Answers (begin_refusal w number offset count) result
-            (λ draft. (Self.number_of draft ≡ free_number w) × IsBegun (holds draft) number count
-            (upload_of w.store number) × stands self.new (begun w number count))
+            → Answers (begin_refusal w number offset count declare) result
+            (λ draft. (Self.number_of draft ≡ free_number w) × IsBegun (holds draft) number count declare
+            (upload_of w.store number) × stands self.new (begun w number count declare))
             (stands self.new w) }
         ensures no_device { IsErrOf result UploadError.DiskFault → ⊥ }
         ensures crash { Quiet (moment self.old) (moment self.new) (left_only self.old) (left_only self.new) }
@@ -111,8 +117,9 @@ pub trait Uploads {
             → Quiet (moment self.old) (moment self.new) (left_only self.old) (left_only self.new) }
         ensures counts { Counts (IsErrOf result UploadError.DiskFault) (failures self.old) (failures self.new) };
 
-    /// Puts a draft's text behind its upload's, and answers the new offset: refused with `NoSuch`, `Offset`,
-    /// `Unencodable`, `Full`, `NoMemory`, `DiskFault`. The draft is spent in every case.
+    /// Puts a draft's text behind its upload's, gives the upload the length that the draft declares where it had none,
+    /// and answers the new offset: refused with `NoSuch`, `Offset`, `LengthSet`, `TooLong`, `Unencodable`, `Full`,
+    /// `NoMemory`, `DiskFault`. The draft is spent in every case.
     fn commit(&mut self, draft: Self::Draft) -> Result<u64, UploadError>
         ensures answer { (w : World) (p : Patch) → stands self.old w → find (Self.number_of draft) w.patches ≡ Some p
             → holds draft p

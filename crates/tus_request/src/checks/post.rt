@@ -10,7 +10,7 @@ ghost use Rattle.tus_request.specs.CheckParts.{asking_shown, verdict_shown};
 use super::rules::{passed, refused};
 use super::{Asking, Verdict};
 use crate::faults::Fault;
-use crate::lookups::number_in;
+use crate::lookups::declared_in;
 use crate::metadata::{Choice, choice_of, read};
 use crate::requests::Action;
 use enc_index::IndexSet;
@@ -28,7 +28,7 @@ pub(super) fn check_post(
     if asking.length > 0 {
         return Ok(refused(asking, Fault::BadHeader));
     }
-    match number_in(asking.fields, "upload-length") {
+    match declared_in(asking.fields) {
         Some(declared) => check_metadata(alloc, asking, set, declared),
         None => Ok(refused(asking, Fault::BadHeader)),
     }
@@ -39,7 +39,7 @@ fn check_metadata(
     alloc: Global,
     asking: &Asking<'_>,
     set: &IndexSet,
-    declared: u64,
+    declared: Option<u64>,
 ) -> Result<Verdict, AllocError>
     ensures { IfOk result (λ v. verdict_shown v ≡ with_metadata (offers set.now) (asking_shown asking.now) declared
         (values asking.now.fields.now (codes "upload-metadata"))) }
@@ -59,7 +59,7 @@ fn check_value(
     alloc: Global,
     asking: &Asking<'_>,
     set: &IndexSet,
-    declared: u64,
+    declared: Option<u64>,
     value: &HeaderValue,
 ) -> Result<Verdict, AllocError>
     ensures { IfOk result (λ v. verdict_shown v ≡ with_pairs (offers set.now) (asking_shown asking.now) declared
@@ -76,7 +76,7 @@ fn check_pairs(
     alloc: Global,
     asking: &Asking<'_>,
     set: &IndexSet,
-    declared: u64,
+    declared: Option<u64>,
     metadata: &str,
 ) -> Result<Verdict, AllocError>
     ensures { IfOk result (λ v. verdict_shown v ≡ with_pairs (offers set.now) (asking_shown asking.now) declared
@@ -93,7 +93,7 @@ fn check_choice(
     alloc: Global,
     asking: &Asking<'_>,
     set: &IndexSet,
-    declared: u64,
+    declared: Option<u64>,
     metadata: &str,
     choice: Option<Choice>,
 ) -> Result<Verdict, AllocError>

@@ -1,14 +1,15 @@
 //! The checks of the fields, in their order.
 ghost use Rattle.std.specs.Prelude.{◌≡◌, IfOk};
 ghost use Rattle.enc_model.specs.Indexes.{offers};
-ghost use Rattle.tus_request.specs.Checks.{decided, on_all, on_upload, patch_checked, passed, refused, lacks_version};
+ghost use Rattle.tus_request.specs.Checks.{decided, on_all, on_upload, patch_checked, passed, passed_patch, refused};
+ghost use Rattle.tus_request.specs.Checks.{lacks_version};
 ghost use Rattle.tus_request.specs.CheckParts.{asking_shown, verdict_shown};
 ghost use Rattle.tus_request.specs.Shown.{action_shown};
 
 use super::post::check_post;
 use super::{Asking, Refusal, Verdict};
 use crate::faults::Fault;
-use crate::lookups::{is_only, is_patch_media, number_in};
+use crate::lookups::{is_only, is_patch_media, number_in, optional_number_in};
 use crate::methods::Verb;
 use crate::places::{Place, on_files};
 use crate::requests::{Action, Request};
@@ -41,6 +42,23 @@ pub(super) fn passed(asking: &Asking<'_>, action: Action) -> Verdict
     })
 }
 
+/// An append that passed its checks.
+fn passed_patch(asking: &Asking<'_>, number: u64, offset: u64, declare: Option<u64>) -> Verdict
+    ensures { verdict_shown result ≡ passed_patch (asking_shown asking.now) number offset declare }
+{
+    Verdict::Asks(Request {
+        action: Action::Patch {
+            number,
+            offset,
+            declare,
+        },
+        length: asking.length,
+        bare: asking.bare,
+        expects: asking.expects,
+        closes: asking.closes,
+    })
+}
+
 /// Whether the version of the protocol is needed, and isn't there. OPTIONS and GET need none.
 fn lacks_version(asking: &Asking<'_>) -> bool
     ensures { result ≡ lacks_version (asking_shown asking.now) }
@@ -61,13 +79,10 @@ fn check_patch(asking: &Asking<'_>, number: u64) -> Verdict
     let Some(offset) = number_in(asking.fields, "upload-offset") else {
         return refused(asking, Fault::BadHeader);
     };
-    Verdict::Asks(Request {
-        action: Action::Patch { number, offset },
-        length: asking.length,
-        bare: asking.bare,
-        expects: asking.expects,
-        closes: asking.closes,
-    })
+    let Some(declare) = optional_number_in(asking.fields, "upload-length") else {
+        return refused(asking, Fault::BadHeader);
+    };
+    passed_patch(asking, number, offset, declare)
 }
 
 /// What is asked of an upload.

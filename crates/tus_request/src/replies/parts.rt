@@ -1,6 +1,7 @@
 //! The parts of a reply, as they print.
 ghost use Rattle.std.specs.Prelude.{◌≡◌, Some};
-ghost use Rattle.tus_request.specs.Replies.{length_line, close_line, metadata_line, refusal_lead, status_of};
+ghost use Rattle.tus_request.specs.Replies.{length_line, close_line, declared_line, metadata_line, refusal_lead};
+ghost use Rattle.tus_request.specs.Replies.{status_of};
 ghost use Rattle.tus_request.specs.ReplyParts.{status_shown, lines_shown, reply_shown};
 
 use crate::faults::Fault;
@@ -57,7 +58,7 @@ pub(crate) enum Lines<'m> {
     Created(u64),
     Shown {
         offset: u64,
-        declared: u64,
+        declared: Option<u64>,
         metadata: &'m str,
     },
     Offset(u64),
@@ -76,7 +77,8 @@ impl fmt::Display for Lines<'_> {
         match self {
             Lines::Options => write!(
                 f,
-                "Tus-Version: 1.0.0\r\nTus-Extension: creation,termination\r\nTus-Max-Size: 1073741824\r\n"
+                "Tus-Version: 1.0.0\r\nTus-Extension: creation,creation-defer-length,termination\r\n\
+                 Tus-Max-Size: 1073741824\r\n"
             ),
             Lines::Created(number) => write!(f, "Location: /files/{number}\r\n"),
             Lines::Shown {
@@ -84,11 +86,9 @@ impl fmt::Display for Lines<'_> {
                 declared,
                 metadata,
             } => {
+                let length = DeclaredLine(*declared);
                 let last = MetadataLine(metadata);
-                write!(
-                    f,
-                    "Upload-Offset: {offset}\r\nUpload-Length: {declared}\r\n{last}"
-                )
+                write!(f, "Upload-Offset: {offset}\r\n{length}{last}")
             }
             Lines::Offset(offset) => write!(f, "Upload-Offset: {offset}\r\n"),
             Lines::Deleted => Ok(()),
@@ -123,6 +123,21 @@ impl fmt::Display for Reply<'_> {
             f,
             "HTTP/1.1 {status}\r\nTus-Resumable: 1.0.0\r\nCache-Control: no-store\r\n{lines}{length}{close}\r\n"
         )
+    }
+}
+
+/// The line that says how many bytes an upload will have, or that it isn't known yet.
+#[derive(Drop)]
+struct DeclaredLine(Option<u64>);
+
+impl fmt::Display for DeclaredLine {
+    ghost output = { λ l. Some (declared_line l.0) };
+
+    fn fmt<W: fmt::Write>(&self, f: &mut fmt::Formatter<W>) -> fmt::Result {
+        match self.0 {
+            Some(declared) => write!(f, "Upload-Length: {declared}\r\n"),
+            None => write!(f, "Upload-Defer-Length: 1\r\n"),
+        }
     }
 }
 

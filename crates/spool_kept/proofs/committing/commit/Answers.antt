@@ -4,10 +4,10 @@ use Rattle.spool_drafts.specs.declared.draft.SpoolDraft.{SpoolDraft}
 use Rattle.spool_pages.specs.View.{SlotRecord}
 use Rattle.spool_texts.specs.Drafts.{GivesBack}
 use Rattle.upload_rules.specs.Answers.{Answers}
-use Rattle.upload_rules.specs.Calls.{commit_refusal, committed, dropped, reached}
+use Rattle.upload_rules.specs.Calls.{commit_refusal, committed, dropped}
 use Rattle.upload_rules.specs.Drafts.{draft_at}
 use Rattle.upload_rules.specs.Store.{find}
-use Rattle.upload_rules.specs.World.{Patch, World}
+use Rattle.upload_rules.specs.World.{Patch, World, reached}
 use Rattle.upload_rules.specs.declared.errors.UploadError.{UploadError}
 use Rattle.upload_rules.specs.declared.errors.UploadError.TheVariants.{Refused}
 use Rattle.upload_rules.specs.declared.errors.UploadRefusal.{UploadRefusal}

@@ -8,7 +8,7 @@ use Rattle.spool_texts.specs.Drafts.{GivesBack}
 use Rattle.spool_disk.specs.Views.{Lasts}
 use Rattle.spool_disk.specs.declared.disk.Disk.{Ghosts}
 use Rattle.upload_rules.specs.Calls.{commit_outcome, commit_refusal, dropped}
-use Rattle.upload_rules.specs.Store.{Store, appended_store}
+use Rattle.upload_rules.specs.Store.{Store, patched_store}
 use Rattle.spool_kept.specs.Extending.{HandsOn, IsLonger, IsPending, IsWritten}
 use Rattle.spool_kept.specs.Holding.{Holding}
 use Rattle.spool_kept.specs.Shows.{ImageShows}
@@ -105,7 +105,7 @@ returns-in-Ok-extend-clause-crash g c drafts number w p is =
     let pending = pending_on g.D.Disk c.ended.new.disk c.ended.new.kept w.store p.number p.body c.in-Ok.end.0
     c.list.ensures.blocks c.deref.ensures.value answer.1.1 in
     spent.either_then g.D.Disk c.args.disk.now c.ended.new.disk c.args.kept.now.layout w.store c.extend.new.disk
-    (appended_store w.store p.number p.body) (commit_outcome w number p) (spent.outcome_is w number p answer.0 is.some)
+    (patched_store w.store p.number p.declare p.body) (commit_outcome w number p) (spent.outcome_is w number p answer.0 is.some)
     (c.ended.ensures.quiet drafts number w p is) c.ended.new.kept.layout
     (ap (λ (h : Holding). h.layout) c.ended.ensures.same.same) (c.extend.ensures.crash w.store p.number p.body pending)
 
@@ -115,7 +115,7 @@ returns-in-Err-DiskFault-clause-crash g c drafts number w p is =
     let pending = pending_on g.D.Disk c.ended.new.disk c.ended.new.kept w.store p.number p.body c.in-Ok.end.0
     c.list.ensures.blocks c.deref.ensures.value answer.1.1 in
     spent.either_then g.D.Disk c.args.disk.now c.ended.new.disk c.args.kept.now.layout w.store c.extend.new.disk
-    (appended_store w.store p.number p.body) (commit_outcome w number p) (spent.outcome_is w number p answer.0 is.some)
+    (patched_store w.store p.number p.declare p.body) (commit_outcome w number p) (spent.outcome_is w number p answer.0 is.some)
     (c.ended.ensures.quiet drafts number w p is) c.ended.new.kept.layout
     (ap (λ (h : Holding). h.layout) c.ended.ensures.same.same) (c.extend.ensures.crash w.store p.number p.body pending)
 

@@ -1,5 +1,6 @@
-use Rattle.std.proofs.Common.{◌≡◌, ◌∙◌, ◌≤◌, ap, subst, sym, arith}
+use Rattle.std.proofs.Common.{◌≡◌, ◌∙◌, false, ap, subst, sym}
 use Rattle.upload_rules.specs.Answers.{IsLate}
+use Rattle.upload_rules.specs.Lengths.{is_too_large}
 use Rattle.upload_rules.specs.Store.{New}
 use Rattle.spool_kept.specs.Holding.{Holding}
 use Rattle.spool_kept.proofs.MadeNew.{next_is, allowed, stored_new, crash_new}
@@ -13,8 +14,9 @@ returns-in-Ok-change-clause-answer g c m stored =
     let slot = c.in-Some.slot in
     let r = c.new_record-record.result in
     let room = c.in-Some.ensures.room in
-    let small : c.args.new.declared ≤ 1073741824 =
-    omega (arith, c.if-new-gt-LENGTH_LIMIT.false, ap (λ (n : New). n.declared) c.new.view_is) in
+    let small : is_too_large c.args.new.declared ≡ false =
+    ap is_too_large (sym (ap (λ (n : New). n.declared) c.new.view_is)) ∙ sym c.is_too_large.ensures
+    ∙ c.if-is_too_large.false in
     let few = c.in-Some.ensures.few v m stored.keeps stored.shows in
     let is = c.new_record-record.ensures in
     let taken = c.in-Ok.ensures.taken in
@@ -36,8 +38,9 @@ returns-in-Ok-change-clause-answer g c m stored =
 pub returns-in-Ok-change-clause-crash : goal.returns-in-Ok-change-clause-crash
 returns-in-Ok-change-clause-crash g c m stored =
     let v = stored.view in
-    let small : c.args.new.declared ≤ 1073741824 =
-    omega (arith, c.if-new-gt-LENGTH_LIMIT.false, ap (λ (n : New). n.declared) c.new.view_is) in
+    let small : is_too_large c.args.new.declared ≡ false =
+    ap is_too_large (sym (ap (λ (n : New). n.declared) c.new.view_is)) ∙ sym c.is_too_large.ensures
+    ∙ c.if-is_too_large.false in
     let few = c.in-Some.ensures.few v m stored.keeps stored.shows in
     let layout : v.blocks ≡ c.kept-2.inside.layout =
     sym (ap (λ (k : Holding). k.layout) c.kept-2.view_is ∙ c.in-Ok.ensures.taken.layout ∙ stored.keeps.blocks) in
@@ -50,8 +53,9 @@ returns-in-Ok-change-clause-crash g c m stored =
 
 pub returns-clause-answer : goal.returns-clause-answer
 returns-clause-answer g c m stored =
-    let small : c.args.new.declared ≤ 1073741824 =
-    omega (arith, c.if-new-gt-LENGTH_LIMIT.false, ap (λ (n : New). n.declared) c.new.view_is) in
+    let small : is_too_large c.args.new.declared ≡ false =
+    ap is_too_large (sym (ap (λ (n : New). n.declared) c.new.view_is)) ∙ sym c.is_too_large.ensures
+    ∙ c.if-is_too_large.false in
     let few = c.in-Some.ensures.few stored.view m stored.keeps stored.shows in
     subst IsLate
     (sym (allowed c.args.kept.now stored.view m c.args.new c.in-Some.slot c.new_record-record.result stored.keeps
@@ -60,8 +64,9 @@ returns-clause-answer g c m stored =
 pub returns-clause-crash : goal.returns-clause-crash
 returns-clause-crash g c m stored =
     let v = stored.view in
-    let small : c.args.new.declared ≤ 1073741824 =
-    omega (arith, c.if-new-gt-LENGTH_LIMIT.false, ap (λ (n : New). n.declared) c.new.view_is) in
+    let small : is_too_large c.args.new.declared ≡ false =
+    ap is_too_large (sym (ap (λ (n : New). n.declared) c.new.view_is)) ∙ sym c.is_too_large.ensures
+    ∙ c.if-is_too_large.false in
     let few = c.in-Some.ensures.few v m stored.keeps stored.shows in
     let layout : v.blocks ≡ c.kept-2.inside.layout =
     sym (ap (λ (k : Holding). k.layout) c.kept-2.view_is ∙ c.in-Ok.ensures.taken.layout ∙ stored.keeps.blocks) in

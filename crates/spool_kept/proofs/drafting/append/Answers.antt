@@ -5,14 +5,15 @@ use Rattle.spool_journal.specs.Image.{journal_pages}
 use Rattle.upload_rules.specs.Calls.{longer}
 use Rattle.upload_rules.specs.Drafts.{draft_at}
 use Rattle.upload_rules.specs.Grown.{IsGrown}
-use Rattle.upload_rules.specs.Store.{find, upload_of}
+use Rattle.upload_rules.specs.Store.{find}
 use Rattle.upload_rules.proofs.Finds.{replaced_same}
 use Rattle.upload_rules.proofs.Growing.{grown_longer}
 use Rattle.upload_rules.proofs.Patches.{draft_of}
 use Rattle.spool_blocks.specs.Blocks.{Row}
 use Rattle.spool_drafts.specs.Drafts.{IsPlaced, Holds, Carries, IsLonger, number_of, with_piece, tail_of}
 use Rattle.spool_drafts.specs.declared.draft.SpoolDraft.{SpoolDraft}
-use Rattle.spool_kept.specs.Drafting.{DraftsFit, DraftsHold, IsOfUpload, DraftStands, DraftsStand, IsOwnedBy, StandsFor}
+use Rattle.spool_kept.specs.Drafting.{DraftsFit, DraftsHold, IsOfUpload, DraftStands, DraftsStand, IsOwnedBy}
+use Rattle.spool_kept.specs.Drafting.{IsStillOpen, StandsFor}
 use Rattle.spool_kept.proofs.Drafted.{reserves_only}
 use Rattle.spool_kept.proofs.SameView.{shows_still}
 use Rattle.spool_kept.specs.Holding.{Holding}
@@ -109,8 +110,8 @@ returns-clause-answer g c w p s there fits =
     let piece = c.args.piece.now in
     let longer_stands = stand_longer w.store.indexes seen seen' first c.kept.inside.layout records h h' w before after
     s'.stands fit number o new here effect.own effect.grasp changed rows only.writes.outside in
-    let tail : (upload_of w.store p.number ≡ Some p.began) → IsOwnedBy records h'.rows p.number (tail_of new) =
-    λ still. subst (IsOwnedBy records h'.rows p.number) (sym c.append-answer.ensures.same.3)
+    let tail : IsStillOpen w.store p → IsOwnedBy records h'.rows p.number (tail_of new) =
+    λ still. subst (IsOwnedBy records h'.rows p.number) (sym c.append-answer.ensures.same.4)
     (subst (λ (r : List Row). IsOwnedBy records r p.number (tail_of o)) (sym rows) (is.tail still)) in
     let back = replaced_same number p w.patches there in
     answered _ _ c.append-answer.result

@@ -14,7 +14,7 @@ returns-in-Err-clause-answer g c disk w s =
     let opens = c.in-Err.ensures.opened s.stored.view w.store (g.D.Disk.seen disk) s.stored.keeps s.stored.shows
     (rests_says s.stored.rests) in (
       begin_refused g.D.Disk disk c.args.kept.now c.args.drafts.now.items w s c.args.number c.args.offset c.args.count
-          (upload_of w.store c.args.number) c.in-Err.refusal refl opens,
+          c.args.declare (upload_of w.store c.args.number) c.in-Err.refusal refl opens,
       s,
     )
 
@@ -44,9 +44,10 @@ returns-in-Ok-placed-clause-answer g c disk w s =
     let n = c.args.number in
     let opens = c.in-Ok.ensures.opened s.stored.view w.store (g.D.Disk.seen disk) s.stored.keeps s.stored.shows
     (rests_says s.stored.rests) in (
-      begin_allowed g.D.Disk disk h before w s n c.args.offset c.args.count
+      begin_allowed g.D.Disk disk h before w s n c.args.offset c.args.count c.args.declare
           (upload_of w.store n) c.in-Ok.draft refl opens,
-      begins g.D.Disk disk h before w s n c.args.offset c.args.count c.placed.new.drafts.items c.in-Ok-placed.number
+      begins g.D.Disk disk h before w s n c.args.offset c.args.count c.args.declare c.placed.new.drafts.items
+          c.in-Ok-placed.number
           c.in-Ok.draft c.in-Ok-placed.ensures.ok
           c.in-Ok.ensures.none c.in-Ok.ensures.owned (upload_of w.store n) refl opens,
     )
@@ -58,7 +59,7 @@ returns-in-Err-placed-clause-answer g c disk w s =
     let n = c.args.number in
     let opens = c.in-Ok.ensures.opened s.stored.view w.store (g.D.Disk.seen disk) s.stored.keeps s.stored.shows
     (rests_says s.stored.rests) in (
-      begin_late g.D.Disk disk h before w s n c.args.offset c.args.count (upload_of w.store n) c.in-Ok.draft refl opens,
+      begin_late g.D.Disk disk h before w s n c.args.offset c.args.count c.args.declare (upload_of w.store n) c.in-Ok.draft refl opens,
       subst (λ (drafts : List (Option SpoolDraft)). StandsFor g.D.Disk disk h drafts w)
           (sym c.in-Err-placed.ensures.err) s,
     )

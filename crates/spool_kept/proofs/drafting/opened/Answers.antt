@@ -13,11 +13,11 @@ returns-clause-owned c = tail_owned c.args.kept.now.slots c.args.kept.now.blocks
 pub returns-clause-below : goal.returns-clause-below
 returns-clause-below c =
     let r = c.in-Some.found.upload.now in
-    begins_below c.args.kept.now.next r.number r.accepted c.begin.result c.in-Some.ensures.numbered
+    begins_below c.args.kept.now.next r.number r.accepted c.args.declare c.begin.result c.in-Some.ensures.numbered
     c.begin.ensures.named
 
 pub returns-clause-of_upload : goal.returns-clause-of_upload
-returns-clause-of_upload c = begins_kept c.args.kept.now.slots c.in-Some.found.upload.now c.begin.result
+returns-clause-of_upload c = begins_kept c.args.kept.now.slots c.in-Some.found.upload.now c.args.declare c.begin.result
     c.in-Some.ensures.kept c.begin.ensures.named c.begin.ensures.behind
 
 pub returns-clause-opened : goal.returns-clause-opened
@@ -25,7 +25,7 @@ returns-clause-opened c v m bytes kept shows says =
     let told = c.in-Some.ensures.told v m bytes kept shows says in
     let n = c.args.number in
     let first = 25 + 2 * journal_pages c.args.kept.now.layout in
-    subst (λ (o : Option Upload). OpensFor m n c.args.offset c.args.count bytes first o c.begin.result) (sym told.there)
-    (opens_for m n c.args.offset c.args.count bytes first told.upload c.begin.result
+    subst (λ (o : Option Upload). OpensFor m n c.args.offset c.args.count c.args.declare bytes first o c.begin.result) (sym told.there)
+    (opens_for m n c.args.offset c.args.count c.args.declare bytes first told.upload c.begin.result
     (c.begin.ensures.begun m.indexes n told.upload told.keeps)
     (c.begin.ensures.content m.indexes n told.upload bytes first told.keeps told.text))

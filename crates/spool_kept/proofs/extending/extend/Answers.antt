@@ -59,7 +59,7 @@ write_last-requires-clause-blocks g c i lt =
     )
 
 pub returns-clause-written : goal.returns-clause-written
-returns-clause-written g c m n bytes pending =
+returns-clause-written g c m n declare bytes pending =
     let may = c.requires.may in
     let stored = pending.stored in
     let layout : c.kept.inside.layout ≡ c.args.kept.now.layout =
@@ -73,7 +73,7 @@ returns-clause-written g c m n bytes pending =
     (length (bytes_with (g.D.Disk.seen c.args.disk.now) (25 + 2 * journal_pages n) c.args.more.now c.args.last.now)) ≡
     bytes_with (g.D.Disk.seen c.args.disk.now) (25 + 2 * journal_pages n) c.args.more.now c.args.last.now) layout
     (c.in_ok-write_last.ensures.written stored.honest) in
-    let append = appended g.D.Disk c.args.disk.now c.write_last.new.disk c.args.kept.now m n bytes c.args.longer.now
+    let append = appended g.D.Disk c.args.disk.now c.write_last.new.disk c.args.kept.now m n declare bytes c.args.longer.now
     c.args.more.now c.args.last.now pending c.requires.reserved wrote c.write_last.ensures.honest.0 written in
     let honest = c.write_last.ensures.honest.0 stored.honest in
     record {
@@ -87,7 +87,7 @@ returns-clause-written g c m n bytes pending =
     }
 
 pub returns-clause-answer : goal.returns-clause-answer
-returns-clause-answer g c m n bytes pending =
+returns-clause-answer g c m n declare bytes pending =
     let may = c.requires.may in
     let stored = pending.stored in
     let is = c.in_ok-take_over.ensures.longer in
@@ -107,29 +107,29 @@ returns-clause-answer g c m n bytes pending =
     (length (bytes_with (g.D.Disk.seen c.args.disk.now) (25 + 2 * journal_pages n) c.args.more.now c.args.last.now)) ≡
     bytes_with (g.D.Disk.seen c.args.disk.now) (25 + 2 * journal_pages n) c.args.more.now c.args.last.now) layout
     (c.in_ok-write_last.ensures.written stored.honest) in
-    let append = appended g.D.Disk c.args.disk.now c.write_last.new.disk c.args.kept.now m n bytes c.args.longer.now
+    let append = appended g.D.Disk c.args.disk.now c.write_last.new.disk c.args.kept.now m n declare bytes c.args.longer.now
     c.args.more.now c.args.last.now pending c.requires.reserved wrote c.write_last.ensures.honest.0 written in
     let honest = c.write_last.ensures.honest.0 stored.honest in
     let before' = before g.D.Disk c.write_last.new.disk c.args.kept.now c.take_over.new.self fits c.args.longer.now
-    c.args.more.now may c.requires.reserved is size m n bytes append in
+    c.args.more.now may c.requires.reserved is size m n declare bytes append in
     let after' = after g.D.Disk c.write_last.new.disk c.args.kept.now c.take_over.new.self fits c.args.longer.now
-    c.args.more.now may c.requires.reserved is size m n bytes append in
+    c.args.more.now may c.requires.reserved is size m n declare bytes append in
     let changes = after_changes g.D.Disk c.write_last.new.disk c.args.kept.now c.take_over.new.self fits
-    c.args.longer.now c.args.more.now may c.requires.reserved is size m n bytes append
+    c.args.longer.now c.args.more.now may c.requires.reserved is size m n declare bytes append
     c.in_ok-pages.pages c.fill_rows.new.pages c.in_ok-pages.ensures.changes
     (λ v v' blocks but same. c.fill_rows.ensures.changes v v'
     (blocks ∙ ap (λ (k : Holding). k.layout) (sym c.kept.view_is)) but (same ∙ rows)) in
     let texts = after_texts g.D.Disk c.write_last.new.disk c.args.kept.now c.take_over.new.self fits c.args.longer.now
-    c.args.more.now may c.requires.reserved is size m n bytes append in
+    c.args.more.now may c.requires.reserved is size m n declare bytes append in
     let rest = append.stored in
     after_stored g.D.Disk c.write_last.new.disk c.args.kept.now c.take_over.new.self fits c.args.longer.now
-    c.args.more.now may c.requires.reserved is size m n bytes append c.change.new.disk
+    c.args.more.now may c.requires.reserved is size m n declare bytes append c.change.new.disk
     (c.in_ok-change.ensures.honest.0 honest)
     (c.in_ok-change.ensures.done honest before' after' (sym rest.keeps.blocks ∙ sym layout) rest.shows.sound.version
     rest.rests changes texts)
 
 pub returns-clause-crash : goal.returns-clause-crash
-returns-clause-crash g c m n bytes pending =
+returns-clause-crash g c m n declare bytes pending =
     let may = c.requires.may in
     let stored = pending.stored in
     let is = c.in_ok-take_over.ensures.longer in
@@ -149,31 +149,31 @@ returns-clause-crash g c m n bytes pending =
     (length (bytes_with (g.D.Disk.seen c.args.disk.now) (25 + 2 * journal_pages n) c.args.more.now c.args.last.now)) ≡
     bytes_with (g.D.Disk.seen c.args.disk.now) (25 + 2 * journal_pages n) c.args.more.now c.args.last.now) layout
     (c.in_ok-write_last.ensures.written stored.honest) in
-    let append = appended g.D.Disk c.args.disk.now c.write_last.new.disk c.args.kept.now m n bytes c.args.longer.now
+    let append = appended g.D.Disk c.args.disk.now c.write_last.new.disk c.args.kept.now m n declare bytes c.args.longer.now
     c.args.more.now c.args.last.now pending c.requires.reserved wrote c.write_last.ensures.honest.0 written in
     let honest = c.write_last.ensures.honest.0 stored.honest in
     let before' = before g.D.Disk c.write_last.new.disk c.args.kept.now c.take_over.new.self fits c.args.longer.now
-    c.args.more.now may c.requires.reserved is size m n bytes append in
+    c.args.more.now may c.requires.reserved is size m n declare bytes append in
     let after' = after g.D.Disk c.write_last.new.disk c.args.kept.now c.take_over.new.self fits c.args.longer.now
-    c.args.more.now may c.requires.reserved is size m n bytes append in
+    c.args.more.now may c.requires.reserved is size m n declare bytes append in
     let changes = after_changes g.D.Disk c.write_last.new.disk c.args.kept.now c.take_over.new.self fits
-    c.args.longer.now c.args.more.now may c.requires.reserved is size m n bytes append
+    c.args.longer.now c.args.more.now may c.requires.reserved is size m n declare bytes append
     c.in_ok-pages.pages c.fill_rows.new.pages c.in_ok-pages.ensures.changes
     (λ v v' blocks but same. c.fill_rows.ensures.changes v v'
     (blocks ∙ ap (λ (k : Holding). k.layout) (sym c.kept.view_is)) but (same ∙ rows)) in
     let texts = after_texts g.D.Disk c.write_last.new.disk c.args.kept.now c.take_over.new.self fits c.args.longer.now
-    c.args.more.now may c.requires.reserved is size m n bytes append in
+    c.args.more.now may c.requires.reserved is size m n declare bytes append in
     let rest = append.stored in
-    let before_it = shown g.D.Disk c.args.disk.now c.write_last.new.disk c.args.kept.now m n bytes c.args.longer.now
+    let before_it = shown g.D.Disk c.args.disk.now c.write_last.new.disk c.args.kept.now m n declare bytes c.args.longer.now
     c.args.more.now c.args.last.now pending c.requires.reserved wrote in
     lasts_on (lasts_more before_it (λ image is'. inl is'))
     (after_lasts g.D.Disk c.write_last.new.disk c.args.kept.now c.take_over.new.self fits c.args.longer.now
-    c.args.more.now may c.requires.reserved is size m n bytes append c.change.new.disk
+    c.args.more.now may c.requires.reserved is size m n declare bytes append c.change.new.disk
     (c.in_ok-change.ensures.lasts honest before' after' (sym rest.keeps.blocks ∙ sym layout) rest.shows.sound.version
     rest.rests changes texts))
 
 pub returns-in_err-change-clause-crash : goal.returns-in_err-change-clause-crash
-returns-in_err-change-clause-crash g c m n bytes pending =
+returns-in_err-change-clause-crash g c m n declare bytes pending =
     let may = c.requires.may in
     let stored = pending.stored in
     let is = c.in_ok-take_over.ensures.longer in
@@ -193,31 +193,31 @@ returns-in_err-change-clause-crash g c m n bytes pending =
     (length (bytes_with (g.D.Disk.seen c.args.disk.now) (25 + 2 * journal_pages n) c.args.more.now c.args.last.now)) ≡
     bytes_with (g.D.Disk.seen c.args.disk.now) (25 + 2 * journal_pages n) c.args.more.now c.args.last.now) layout
     (c.in_ok-write_last.ensures.written stored.honest) in
-    let append = appended g.D.Disk c.args.disk.now c.write_last.new.disk c.args.kept.now m n bytes c.args.longer.now
+    let append = appended g.D.Disk c.args.disk.now c.write_last.new.disk c.args.kept.now m n declare bytes c.args.longer.now
     c.args.more.now c.args.last.now pending c.requires.reserved wrote c.write_last.ensures.honest.0 written in
     let honest = c.write_last.ensures.honest.0 stored.honest in
     let before' = before g.D.Disk c.write_last.new.disk c.args.kept.now c.take_over.new.self fits c.args.longer.now
-    c.args.more.now may c.requires.reserved is size m n bytes append in
+    c.args.more.now may c.requires.reserved is size m n declare bytes append in
     let after' = after g.D.Disk c.write_last.new.disk c.args.kept.now c.take_over.new.self fits c.args.longer.now
-    c.args.more.now may c.requires.reserved is size m n bytes append in
+    c.args.more.now may c.requires.reserved is size m n declare bytes append in
     let changes = after_changes g.D.Disk c.write_last.new.disk c.args.kept.now c.take_over.new.self fits
-    c.args.longer.now c.args.more.now may c.requires.reserved is size m n bytes append
+    c.args.longer.now c.args.more.now may c.requires.reserved is size m n declare bytes append
     c.in_ok-pages.pages c.fill_rows.new.pages c.in_ok-pages.ensures.changes
     (λ v v' blocks but same. c.fill_rows.ensures.changes v v'
     (blocks ∙ ap (λ (k : Holding). k.layout) (sym c.kept.view_is)) but (same ∙ rows)) in
     let texts = after_texts g.D.Disk c.write_last.new.disk c.args.kept.now c.take_over.new.self fits c.args.longer.now
-    c.args.more.now may c.requires.reserved is size m n bytes append in
+    c.args.more.now may c.requires.reserved is size m n declare bytes append in
     let rest = append.stored in
-    let before_it = shown g.D.Disk c.args.disk.now c.write_last.new.disk c.args.kept.now m n bytes c.args.longer.now
+    let before_it = shown g.D.Disk c.args.disk.now c.write_last.new.disk c.args.kept.now m n declare bytes c.args.longer.now
     c.args.more.now c.args.last.now pending c.requires.reserved wrote in
     lasts_on (lasts_more before_it (λ image is'. inl is'))
     (after_lasts g.D.Disk c.write_last.new.disk c.args.kept.now c.take_over.new.self fits c.args.longer.now
-    c.args.more.now may c.requires.reserved is size m n bytes append c.change.new.disk
+    c.args.more.now may c.requires.reserved is size m n declare bytes append c.change.new.disk
     (c.in_err-change.ensures.lasts honest before' after' (sym rest.keeps.blocks ∙ sym layout) rest.shows.sound.version
     rest.rests changes texts))
 
 pub returns-in_err-write_last-clause-crash : goal.returns-in_err-write_last-clause-crash
-returns-in_err-write_last-clause-crash g c m n bytes pending =
+returns-in_err-write_last-clause-crash g c m n declare bytes pending =
     let may = c.requires.may in
     let stored = pending.stored in
     let layout : c.kept.inside.layout ≡ c.args.kept.now.layout =
@@ -226,6 +226,6 @@ returns-in_err-write_last-clause-crash g c m n bytes pending =
     c.write_last.new.disk =
     subst (λ (n : ℕ). OnlyWrites g.D.Disk (journal_pages n) c.args.more.now c.args.disk.now c.write_last.new.disk)
     layout (only (c.write_last.ensures.writes stored.honest) (c.write_last.ensures.lasts stored.honest)) in
-    let before_it = shown g.D.Disk c.args.disk.now c.write_last.new.disk c.args.kept.now m n bytes c.args.longer.now
+    let before_it = shown g.D.Disk c.args.disk.now c.write_last.new.disk c.args.kept.now m n declare bytes c.args.longer.now
     c.args.more.now c.args.last.now pending c.requires.reserved wrote in
     lasts_more before_it (λ image is'. inl is')

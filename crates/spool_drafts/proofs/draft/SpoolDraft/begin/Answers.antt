@@ -1,13 +1,23 @@
-use Rattle.std.proofs.Common.{refl, ap, ◌∙◌}
+use Rattle.std.proofs.Common.{Err, refl, sym, ap, subst, ◌∙◌}
+use Rattle.std.proofs.lemmas.Result.{err_from_is_err_and}
+use Rattle.upload_rules.specs.Lengths.{is_length}
+use Rattle.spool_drafts.specs.Drafts.{IsBegun}
 use Rattle.spool_drafts.specs.Growth.{bytes_on}
 use Rattle.spool_drafts.proofs.Begins.{begins, begins_bytes}
+use Rattle.spool_drafts.proofs.Lengths.{room_behind}
 use Rattle.spool_drafts.proofs.draft.SpoolDraft.begin.Goals as goal
+
+pub returns-in_err-admits-clause-begun : goal.returns-in_err-admits-clause-begun
+returns-in_err-admits-clause-begun c x n u keeps =
+    let e = err_from_is_err_and c.from_residual.result c.from_residual.ensures.1 in
+    subst (IsBegun x n c.args.offset c.args.count c.args.declare u) (sym (e.1 ∙ ap Err e.2))
+    (c.in_err-admits.ensures.rules x n u keeps.tells)
 
 pub returns-clause-begun : goal.returns-clause-begun
 returns-clause-begun c x n u keeps = (
   c.in_ok-admits.ensures.rules x n u keeps.tells,
-  begins x u n c.args.count c.args.upload.now c.args.offset c.behind-2.result c.in-Some.fresh keeps
-      (c.in_ok-admits.ensures.room refl)
+  begins x u n c.args.count c.args.declare c.args.upload.now c.args.offset c.behind-2.result c.in-Some.fresh keeps
+      (c.in_ok-admits.ensures.room refl) (c.in_ok-admits.ensures.small refl)
       (c.in-Some.ensures.holds x n u keeps.tells keeps.encodable keeps.sound) c.behind-2.ensures.len
       c.behind-2.ensures.none c.behind-2.ensures.roomy,
 )
@@ -15,5 +25,16 @@ returns-clause-begun c x n u keeps = (
 pub returns-clause-content : goal.returns-clause-content
 returns-clause-content c x n u seen first keeps same kept =
     ap (bytes_on seen first c.behind-2.result) c.behind-2.ensures.none
-    ∙ begins_bytes x u n c.args.count seen first c.args.upload.now.text_len c.args.list.now _ c.requires.long
-    (c.behind-2.ensures.bytes seen first) same keeps.tells.text_len kept.incomplete
+    ∙ begins_bytes x u n c.args.count c.args.declare seen first c.args.upload.now.text_len c.args.list.now _
+    c.requires.long (c.behind-2.ensures.bytes seen first) same keeps.tells.text_len kept.incomplete
+
+pub returns-clause-behind : goal.returns-clause-behind
+returns-clause-behind c = record {
+  committed = c.behind-2.ensures.len;
+  goes_on = c.in-Some.ensures.goes_on;
+  room = λ growing. room_behind c.args.upload.now.declared c.args.declare c.args.offset c.args.count
+      (ap (is_length c.args.upload.now.declared) (sym (c.in_ok-admits.ensures.room refl).0)
+      ∙ c.in-Some.ensures.room growing)
+      (c.in_ok-admits.ensures.small refl) (c.in_ok-admits.ensures.room refl).1
+      (c.in_ok-admits.ensures.room refl).2;
+}

@@ -75,12 +75,12 @@ returns-clause-used c r fits padded =
     range_is c.args.bytes.now r.metadata 66 (66 + c.get_u16.result) 1982 at.metadata (omega (arith, fits.metadata))
     (omega (arith, is)) (omega (arith, long, is, fits.metadata)) in
     ap (λ (x : SlotRecord). Ok (Some x))
-    (record_eq r c.get_u64-number.result c.get_u64.result c.get_u64-2.result c.get_u64-3.result
+    (record_eq r c.get_u64-number.result c.declared_in.result c.get_u64.result c.get_u64-2.result
     c.copy_from_slice.new.self _
     (c.get_u64-number.ensures.is r.number fits.number at.number)
-    (c.get_u64.ensures.is r.declared fits.declared at.declared)
-    (c.get_u64-2.ensures.is r.accepted fits.accepted at.accepted)
-    (c.get_u64-3.ensures.is r.text_len fits.text_len at.text_len)
+    (c.declared_in.ensures.is r.declared fits.declared at.declared)
+    (c.get_u64.ensures.is r.accepted fits.accepted at.accepted)
+    (c.get_u64-2.ensures.is r.text_len fits.text_len at.text_len)
     state_is metadata_is)
 
 pub returns-clause-sound : goal.returns-clause-sound
@@ -95,8 +95,8 @@ returns-clause-sound c =
     let metadata_size : length (slice_range bytes 66 (66 + len)) ≡ len =
     omega (arith, length-range bytes 66 (66 + len) (omega (arith, long, few))) in
     let front =
-    of_parts (byte_of bytes) _ size c.get_u64-number.ensures.there c.get_u64.ensures.there
-    c.get_u64-2.ensures.there c.get_u64-3.ensures.there
+    of_parts (byte_of bytes) _ size c.get_u64-number.ensures.there c.declared_in.ensures.there
+    c.get_u64.ensures.there c.get_u64-2.ensures.there
     (subst (λ (xs : List ℕ). Stands (byte_of bytes) 32 32 xs) (sym state) (range_stands bytes 32 64 32 (omega arith)))
     (subst (λ (n : ℕ). Stands (byte_of bytes) 64 2 (to_be_bytes w16 n)) (sym metadata_size) c.get_u16.ensures.there)
     (range_stands bytes 66 (66 + len) (length (slice_range bytes 66 (66 + len))) (omega (arith, metadata_size))) in

@@ -1,11 +1,12 @@
 use Rattle.std.proofs.Common.{◌≡◌, [], length, refl, sym, ◌∙◌, ap, subst}
 use Rattle.enc_stream.specs.Standing.{Standing, start, finished}
 use Rattle.enc_stream.specs.StateBytes.{IsSound, state_bytes}
+use Rattle.upload_rules.specs.Lengths.{is_length}
 use Rattle.upload_rules.specs.Store.{New, new_upload, is_complete}
 use Rattle.upload_rules.specs.States.{transcoder_with, state_with}
 use Rattle.upload_rules.proofs.NewUploads.{new_text, new_encodable, new_open, new_complete}
 use Rattle.upload_rules.proofs.records.Record.first.Goals as goal
-use Rattle.upload_rules.proofs.records.Record.first.Goals.{then-declared-eq0, else-declared-eq0}
+use Rattle.upload_rules.proofs.records.Record.first.Goals.{then-is_length, else-is_length}
 
 pub returns : goal.returns
 unfolding state_with
@@ -14,18 +15,18 @@ returns c = λ x.
     let new = c.args.fields in
     let u = new_upload new in
     let declared = ap (λ (n : New). n.declared) is in
-    let stands : c.if-declared-eq0.transcoder.transcoder ≡ transcoder_with x u [] (is_complete u) =
-    elim c.if-declared-eq0.branch [
-      | then-declared-eq0 w ↦
+    let stands : c.if-is_length.transcoder.transcoder ≡ transcoder_with x u [] (is_complete u) =
+    elim c.if-is_length.branch [
+      | then-is_length w ↦
           ap (λ (t : Standing). t.transcoder) w.transcoder-is
           ∙ new_complete x new w.ended-transcoder.result
           (w.ended-transcoder.ensures ∙ ap (λ (n : New). finished (start n.from n.to n.mode)) is)
-          (sym declared ∙ w.if-declared-eq0.true)
-      | else-declared-eq0 w ↦
+          (ap (λ k. is_length k 0) (sym declared) ∙ sym c.is_length.ensures ∙ w.if-is_length.true)
+      | else-is_length w ↦
           ap (λ (t : Standing). t.transcoder) w.transcoder-is
           ∙ new_open x new w.new-transcoder.result
           (w.new-transcoder.ensures.value ∙ ap (λ (n : New). start n.from n.to n.mode) is)
-          (λ e. w.if-declared-eq0.false (declared ∙ e))
+          (ap (λ k. is_length k 0) (sym declared) ∙ sym c.is_length.ensures ∙ w.if-is_length.false)
     ] in
     record {
       tells = record {

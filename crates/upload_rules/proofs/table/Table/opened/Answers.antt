@@ -1,12 +1,21 @@
-use Rattle.std.proofs.Common.{arith, refl}
+use Rattle.std.proofs.Common.{Err, refl, sym, ◌∙◌, ap, subst}
+use Rattle.std.proofs.lemmas.Result.{err_from_is_err_and}
+use Rattle.upload_rules.specs.Table.{IsOpened}
 use Rattle.upload_rules.specs.Store.{upload_of}
-use Rattle.upload_rules.proofs.Openings.{opens}
+use Rattle.upload_rules.proofs.Openings.{opens, refuses}
 use Rattle.upload_rules.proofs.table.Table.opened.Goals as goal
+
+pub returns-in_err-admits : goal.returns-in_err-admits
+returns-in_err-admits c = λ w stands.
+    let u = upload_of w.store c.args.number in
+    let e = err_from_is_err_and c.from_residual.result c.from_residual.ensures.1 in
+    subst (IsOpened w c.args.number c.args.offset c.args.count c.args.declare u) (sym (e.1 ∙ ap Err e.2))
+    (refuses w c.args.number c.args.offset c.args.count c.args.declare u c.in-Some.slot.now c.in_err-admits.field-0.0
+    (c.in-Some.ensures w stands) c.in_err-admits.ensures.rules)
 
 pub returns : goal.returns
 returns c = λ w stands.
-    opens c.args.self.now w stands c.args.number c.args.offset c.args.count (upload_of w.store c.args.number)
-    c.in-Some.slot.now c.in-Some-behind.text refl
-    (c.in-Some.ensures w stands) (c.in_ok-admits.ensures.room refl).0
-    (omega (arith, (c.in_ok-admits.ensures.room refl).1)) (omega (arith, (c.in_ok-admits.ensures.room refl).1))
-    (c.in_ok-admits.ensures.room refl).2 c.in-Some-behind.ensures.holds
+    let room = c.in_ok-admits.ensures.room refl in
+    opens c.args.self.now w stands c.args.number c.args.offset c.args.count c.args.declare
+    (upload_of w.store c.args.number) c.in-Some.slot.now c.in-Some-behind.text refl (c.in-Some.ensures w stands) room.0
+    room.1 room.2 c.in_ok-admits.ensures.rules c.in-Some-behind.ensures.holds

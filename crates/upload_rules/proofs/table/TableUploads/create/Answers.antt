@@ -1,4 +1,5 @@
-use Rattle.std.proofs.Common.{◌≤◌, ◌<◌, ◌∙◌, [], ◌∷◌, ◌++◌, not, ap, subst, refl, sym, arith, length, if◌then◌else◌}
+use Rattle.std.proofs.Common.{◌≡◌, ◌<◌, ◌∙◌, false, [], ◌∷◌, ◌++◌, not, ap, subst, refl, sym, arith, length, if◌then◌else◌}
+use Rattle.upload_rules.specs.Lengths.{is_too_large}
 use Rattle.upload_rules.specs.Store.{New}
 use Rattle.upload_rules.specs.Answers.{IsLate}
 use Rattle.upload_rules.proofs.Makes.{many, spent_numbers, creatable, not_created}
@@ -10,8 +11,9 @@ use Rattle.upload_rules.proofs.table.TableUploads.create.Goals.{then-len-ge-SLOT
 pub returns-then-len-ge-SLOT_COUNT-clause-answer : goal.returns-then-len-ge-SLOT_COUNT-clause-answer
 returns-then-len-ge-SLOT_COUNT-clause-answer c = λ w stands.
     let t = c.args.self.now in
-    let small : c.args.new.declared ≤ 1073741824 =
-    omega (arith, c.if-new-gt-LENGTH_LIMIT.false, ap (λ (n : New). n.declared) c.new.view_is) in
+    let small : is_too_large c.args.new.declared ≡ false =
+    ap is_too_large (sym (ap (λ (n : New). n.declared) c.new.view_is)) ∙ sym c.is_too_large.ensures
+    ∙ c.if-is_too_large.false in
     let long = c.len.ensures in (
       elim c.then-len-ge-SLOT_COUNT.branch [
         | then-len-ge-SLOT_COUNT-via-then-len-ge-SLOT_COUNT v ↦ many t w stands c.args.new small
@@ -26,8 +28,9 @@ returns-then-len-ge-SLOT_COUNT-clause-answer c = λ w stands.
 pub returns-then-is_err-clause-answer : goal.returns-then-is_err-clause-answer
 returns-then-is_err-clause-answer c = λ w stands.
     let t = c.args.self.now in
-    let small : c.args.new.declared ≤ 1073741824 =
-    omega (arith, c.if-new-gt-LENGTH_LIMIT.false, ap (λ (n : New). n.declared) c.new.view_is) in
+    let small : is_too_large c.args.new.declared ≡ false =
+    ap is_too_large (sym (ap (λ (n : New). n.declared) c.new.view_is)) ∙ sym c.is_too_large.ensures
+    ∙ c.if-is_too_large.false in
     let room : length t.slots.items < 512 = omega (arith, c.if-len-ge-SLOT_COUNT.false, c.len.ensures) in
     let more = t.slots.items ++ c.new-2.result ∷ [] in (
       subst IsLate (sym (creatable t w stands c.args.new small room c.if-self-ge-NUMBERS_END.false)) tt,
@@ -39,8 +42,9 @@ returns-then-is_err-clause-answer c = λ w stands.
 pub returns-clause-answer : goal.returns-clause-answer
 returns-clause-answer c = λ w stands.
     let t = c.args.self.now in
-    let small : c.args.new.declared ≤ 1073741824 =
-    omega (arith, c.if-new-gt-LENGTH_LIMIT.false, ap (λ (n : New). n.declared) c.new.view_is) in
+    let small : is_too_large c.args.new.declared ≡ false =
+    ap is_too_large (sym (ap (λ (n : New). n.declared) c.new.view_is)) ∙ sym c.is_too_large.ensures
+    ∙ c.if-is_too_large.false in
     let room : length t.slots.items < 512 = omega (arith, c.if-len-ge-SLOT_COUNT.false, c.len.ensures) in
     let more = t.slots.items ++ c.new-2.result ∷ [] in (
       creatable t w stands c.args.new small room c.if-self-ge-NUMBERS_END.false,

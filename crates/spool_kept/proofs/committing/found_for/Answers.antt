@@ -2,7 +2,7 @@ use Rattle.std.proofs.Common.{◌≡◌, ◌∙◌, ℕ, None, Some, ap, get_or,
 use Rattle.std.proofs.lemmas.Option.{same_Some}
 use Rattle.spool_pages.specs.View.{SlotRecord}
 use Rattle.spool_kept.specs.Holding.{IsUsedBy}
-use Rattle.spool_kept.proofs.committing.slot_for.Goals as goal
+use Rattle.spool_kept.proofs.committing.found_for.Goals as goal
 
 pub returns-in_default : goal.returns-in_default
 returns-in_default c slot used = c.in_default.ensures.used slot

@@ -1,0 +1,65 @@
+//! Declared lengths, which may be unknown.
+
+ghost use Rattle.std.specs.Prelude.{◌≡◌, ◌≤◌, ◌+◌, None, Some, MatchResult};
+ghost use Rattle.upload_rules.specs.Lengths.{is_length, is_new, is_too_large, known_or, longest};
+ghost use Rattle.upload_rules.specs.Calls.{length_refusal};
+
+use crate::UploadRefusal;
+
+/// The greatest length of an upload, in bytes.
+pub const LENGTH_LIMIT: u64 = 1_073_741_824;
+
+/// Whether a length is known and over the limit.
+pub fn is_too_large(length: Option<u64>) -> bool
+    ensures { result ≡ is_too_large length }
+{
+    match length {
+        Some(length) => length > LENGTH_LIMIT,
+        None => false,
+    }
+}
+
+/// Whether the length is known, and the count is as great.
+pub fn is_length(length: Option<u64>, count: u64) -> bool
+    ensures { result ≡ is_length length count }
+{
+    match length {
+        Some(length) => count == length,
+        None => false,
+    }
+}
+
+/// Whether a length is declared where none is known.
+pub fn is_new(known: Option<u64>, declare: Option<u64>) -> bool
+    ensures { result ≡ is_new known declare }
+{
+    known.is_none() && declare.is_some()
+}
+
+/// The length of an upload with the one that a patch declares, which puts `count` bytes at `offset`: refused with
+/// `LengthSet`, `TooLong`.
+pub fn length_then(
+    known: Option<u64>,
+    declare: Option<u64>,
+    offset: u64,
+    count: u64,
+) -> Result<Option<u64>, UploadRefusal>
+    ensures { MatchResult result
+        (λ length. (length ≡ known_or known declare) × (offset + count ≤ longest length)
+        × (length_refusal known declare (offset + count) ≡ None))
+        (λ e. length_refusal known declare (offset + count) ≡ Some e) }
+{
+    let length = match (known, declare) {
+        (Some(known), Some(declare)) if known != declare => return Err(UploadRefusal::LengthSet),
+        (Some(known), _) => Some(known),
+        (None, declare) => declare,
+    };
+    let longest = match length {
+        Some(length) => length,
+        None => LENGTH_LIMIT,
+    };
+    if longest < offset || longest - offset < count {
+        return Err(UploadRefusal::TooLong);
+    }
+    Ok(length)
+}
