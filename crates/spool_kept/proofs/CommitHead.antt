@@ -122,7 +122,7 @@ module _ {D : Type 0} (disk : Ghosts D) (d : D) (h : Holding) (drafts : List (Op
       (subst (R p) (some_draft at.0 o (sym at.1 ∙ here)) at.2).holds
 
   -- what a slot's record tells
-  told : (slot : ℕ) (used : SlotRecord) → get_or h.slots slot None ≡ Some used
+  pub told : (slot : ℕ) (used : SlotRecord) → get_or h.slots slot None ≡ Some used
       → IsTold w.store used (s.stored.view.texts slot)
   told slot used there = s.stored.shows.told slot used (ap (λ (xs : List (Option SlotRecord)). get_or xs slot None)
       (sym s.stored.keeps.slots) ∙ there)
@@ -192,7 +192,7 @@ module _ {D : Type 0} (disk : Ghosts D) (d : D) (h : Holding) (drafts : List (Op
   head_refused Full found = absurd found
 
   module _ (found : Found) (finds : IsFound h.slots o found) where
-    u : Upload
+    abbrev u : Upload
     u = upload found.slot finds.same
 
     here_is : upload_of w.store p.number ≡ Some (upload found.slot finds.same)

@@ -1,7 +1,6 @@
 -- A commit's draft is spent: what the disk and what is kept stand for then.
-use Rattle.std.proofs.Common.{Err, ◌≡◌, ◌≢◌, ◌⊎◌, inl, true, false, ℕ, ◌+◌, ◌*◌, ◌<◌, ◌≤◌, List, [], Option, None, Some, length}
-use Rattle.std.proofs.Common.{get_or, set, refl}
-use Rattle.std.proofs.Common.{sym, ◌∙◌, ap, subst, arith}
+use Rattle.std.proofs.Common.{Result, Ok, Err, IfOk, ◌≡◌, ◌≢◌, ◌⊎◌, inl, inr, Bool, true, false, ◌&&◌, if◌then◌else◌, ℕ, ◌+◌, ◌*◌, ◌<◌, ◌≤◌}
+use Rattle.std.proofs.Common.{List, [], ◌∷◌, Option, None, Some, length, get_or, set, refl, sym, ◌∙◌, ap, subst, arith}
 use Rattle.enc_model.specs.Indexes.{IndexSet}
 use Rattle.spool_blocks.specs.Blocks.{Row, Held}
 use Rattle.spool_disk.specs.declared.disk.Disk.{Ghosts}
@@ -15,16 +14,19 @@ use Rattle.spool_drafts.proofs.Stays.{bytes_same}
 use Rattle.spool_pages.specs.View.{SlotRecord, text_page}
 use Rattle.spool_room.specs.Holdings.{IsInSome}
 use Rattle.spool_texts.specs.Drafts.{GivesBack, IsReserved}
-use Rattle.upload_rules.specs.Answers.{Answers}
-use Rattle.upload_rules.specs.Calls.{commit_outcome, commit_refusal, committed, committed_store, dropped, outcome}
+use Rattle.upload_rules.specs.Answers.{Answers, IsLate}
+use Rattle.upload_rules.specs.Calls.{commit_outcome, commit_refusal, committed, committed_store, declares, dropped}
+use Rattle.upload_rules.specs.Calls.{is_empty, outcome}
 use Rattle.upload_rules.specs.Drafts.{DraftOf, draft_at}
 use Rattle.upload_rules.specs.Grown.{IsGrown}
-use Rattle.upload_rules.specs.Store.{Store, find, is_complete, patched, patched_at, patched_store, replaced}
+use Rattle.upload_rules.specs.Lengths.{is_length}
+use Rattle.upload_rules.specs.Store.{Store, Upload, find, is_complete, patched, patched_at, patched_store, replaced}
 use Rattle.upload_rules.specs.Store.{with_length, without}
-use Rattle.upload_rules.specs.World.{Patch, World}
+use Rattle.upload_rules.specs.World.{Patch, World, completes, length_then, reached}
 use Rattle.upload_rules.specs.declared.errors.UploadError.{UploadError}
 use Rattle.upload_rules.specs.declared.errors.UploadError.TheVariants.{NoMemory, DiskFault, Refused}
 use Rattle.upload_rules.specs.declared.errors.UploadRefusal.{UploadRefusal}
+use Rattle.upload_rules.proofs.Commits.{complete_patched}
 use Rattle.upload_rules.proofs.Growing.{grown_dropped, grown_put}
 use Rattle.spool_kept.specs.Committing.{IsCommit, with_length_at}
 use Rattle.spool_kept.specs.Drafting.{DraftStands, DraftsStand, IsOwnedBy, OnlyReserves, StandsFor, lists_at}
@@ -54,8 +56,18 @@ module _ {D : Type 0} (disk : Ghosts D) (d d' : D) (n : ℕ) (m : Store) where
   pub either_then : (d'' : D) (after after' : Store) → after' ≡ after → Lasts disk d d' (λ image. ImageShows n image m)
       → (n' : ℕ) → n' ≡ n → Lasts disk d' d'' (ShowsEither n' m after) → Lasts disk d d'' (ShowsEither n m after')
   either_then d'' after after' same lasts n' size next =
-      let then = subst (λ (k : ℕ). Lasts disk d' d'' (ShowsEither k m after)) size next in
-      subst (λ (s : Store). Lasts disk d d'' (ShowsEither n m s)) (sym same) (lasts_on (as_before after lasts) then)
+      let further = subst (λ (k : ℕ). Lasts disk d' d'' (ShowsEither k m after)) size next in
+      subst (λ (s : Store). Lasts disk d d'' (ShowsEither n m s)) (sym same) (lasts_on (as_before after lasts) further)
+
+-- THE TEXT CHANGES
+
+some_or_all : (declared done : Bool) (body : List ℕ) → (if declared && done then false else is_empty body) ≡ false
+    → (0 < length body) ⊎ (done ≡ true)
+some_or_all true true body changes = inr refl
+some_or_all true false [] changes = absurd cc
+some_or_all true false (b ∷ body) changes = inl (omega arith)
+some_or_all false done [] changes = absurd cc
+some_or_all false done (b ∷ body) changes = inl (omega arith)
 
 -- THE ANSWER
 
@@ -66,6 +78,15 @@ pub also_refused : {T U : Type 0} (refusal : Option UploadRefusal) (e : UploadEr
 also_refused refusal NoMemory done done' X Y is y = (is.0, y)
 also_refused refusal DiskFault done done' X Y is y = is
 also_refused refusal (Refused f) done done' X Y is y = (is.0, y)
+
+-- the answer of a call that refuses nothing
+pub alone : (refusal : Option UploadRefusal) → refusal ≡ None → (result : Result ℕ UploadError) (a k : ℕ)
+    (P P' Q : Type 0) → Answers None result (λ n. P) Q → IfOk result (λ n. n ≡ a) → a ≡ k → (P → P')
+    → Answers refusal result (λ n. (n ≡ k) × P') Q
+alone refusal none (Ok n) a k P P' Q is count same then_so = (none, (count ∙ same, then_so is.1))
+alone refusal none (Err NoMemory) a k P P' Q is count same then_so = (subst IsLate (sym none) is.0, is.1)
+alone refusal none (Err DiskFault) a k P P' Q is count same then_so = subst IsLate (sym none) is
+alone refusal none (Err (Refused e)) a k P P' Q is count same then_so = absurd (let k = is.0 in cc)
 
 -- WHAT IT STANDS FOR
 
@@ -125,10 +146,16 @@ module _ {D : Type 0} (disk : Ghosts D) (d d' : D) (h h' : Holding) (only : Only
           (all_given h.layout h.blocks h'.blocks drafts is.fits number o o' is.here effect.own effect.grasp reserved
           placed is.stands.stands.all h''.blocks gives)
 
+  completes_is : completes w.store p ≡ is_complete (patched (with_length p.began is.still.0) p.declare p.body)
+  completes_is = ap (λ (v : Option Upload). is_length (length_then p v) (reached p)) is.still.1
+      ∙ sym (complete_patched (with_length p.began is.still.0) p.declare p.body)
+
+  brings : (0 < length p.body) ⊎ (is_complete (patched (with_length p.began is.still.0) p.declare p.body) ≡ true)
+  brings = elim (some_or_all (declares w.store p) (completes w.store p) p.body is.changes)
+      [ inl some ↦ inl some | inr all ↦ inr (sym completes_is ∙ all) ]
+
   -- its blocks are its upload's
   module _ (longer : Longer) (append : IsAppend disk d' h' w.store p.number p.declare p.body longer (list_of o'))
-      (more : (0 < length p.body)
-      ⊎ (is_complete (patched (with_length p.began is.still.0) p.declare p.body) ≡ true))
       (used : SlotRecord) (d'' : D) (h'' : Holding) (is_longer : IsLonger h' used longer (list_of o') h'')
       (hands : HandsOn h'.blocks.reserved h''.blocks.reserved (list_of o'))
       (texts : (q : ℕ) → 4096 * text_page h'.layout ≤ q → disk.seen d'' q ≡ disk.seen d' q)
@@ -158,7 +185,7 @@ module _ {D : Type 0} (disk : Ghosts D) (d d' : D) (h h' : Holding) (only : Only
     put_stands e other r a found there s =
         let mid = others e other r a there s in
         let other_number = other_upload w is.stands.stands.grown p.number (with_length p.began is.still.0) is.still.1
-        p.declare p.body more e r found in
+        p.declare p.body brings e r found in
         let same : (q : ℕ) → 4096 * (25 + 2 * journal_pages h.layout) ≤ q → disk.seen d'' q ≡ disk.seen d' q =
         λ q from. texts q (subst (λ (n : ℕ). 4096 * (25 + 2 * journal_pages n) ≤ q)
         (sym (ap (λ (k : Holding). k.layout) only.same)) from) in

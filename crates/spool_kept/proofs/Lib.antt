@@ -29,6 +29,8 @@ pub mod CommitEnded
 pub mod DraftSpent
 pub mod CommitSpent
 pub mod CommitHead
+pub mod Declared
+pub mod FoundFor
 pub mod LastWritten
 pub mod OfUploads
 pub mod CommitFits

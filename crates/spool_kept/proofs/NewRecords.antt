@@ -1,9 +1,7 @@
 -- The record of a new upload.
-use Rattle.std.proofs.Common.{◌≡◌, ℕ, zero, suc, ◌+◌, ◌≤◌, List, [], ◌∷◌, Option, false, All, length, refl, sym, ◌∙◌, ap, subst, arith}
-use Rattle.std.proofs.lemmas.List.{length-append}
+use Rattle.std.proofs.Common.{◌≡◌, ℕ, ◌+◌, ◌≤◌, List, [], Option, false, All, length, sym, ◌∙◌, ap, subst, arith}
 use Rattle.enc_model.specs.Indexes.{IndexSet}
-use Rattle.enc_model.specs.Transcode.{Transcoder}
-use Rattle.enc_stream.specs.StateBytes.{state_bytes, padded, phase_bytes, shift_number}
+use Rattle.enc_stream.specs.StateBytes.{state_bytes}
 use Rattle.upload_rules.specs.Lengths.{is_too_large, longest}
 use Rattle.upload_rules.specs.Records.{Keeps, IsWellFormed}
 use Rattle.upload_rules.specs.States.{state_with, transcoder_with}
@@ -13,18 +11,8 @@ use Rattle.upload_rules.proofs.NewUploads.{new_text}
 use Rattle.spool_kept.specs.Creating.{IsNewRecord}
 use Rattle.spool_kept.specs.Records.{said_of, FitsMemory}
 use Rattle.spool_kept.specs.Shows.{IsRecordOf, IsSoundRecord}
+use Rattle.spool_kept.proofs.Extended.{small_is, state_length}
 use Rattle.spool_kept.proofs.Told.{told_state, with_from, with_to, with_mode}
-
-length-padded : (n : ℕ) (bytes : List ℕ) → length (padded n bytes) ≡ n
-length-padded zero bytes = refl
-length-padded (suc n) [] = ap (λ (k : ℕ). suc k) (length-padded n [])
-length-padded (suc n) (b ∷ bytes) = ap (λ (k : ℕ). suc k) (length-padded n bytes)
-
-state_size : (s : Transcoder) → length (state_bytes s) ≡ 32
-state_size s =
-    let front = phase_bytes s.phase in
-    let shift = shift_number s.shift ∷ [] in
-    omega (arith, length-append (padded 12 front) (padded 16 shift), length-padded 12 front, length-padded 16 shift)
 
 module _ (x : IndexSet) (n : ℕ) (r : Record) (new : New) (keeps : Keeps x n r (new_upload new)) where
   state_is : r.state ≡ state_bytes (transcoder_with x (new_upload new) [] (is_complete (new_upload new)))
@@ -61,10 +49,6 @@ module _ (x : IndexSet) (n : ℕ) (r : Record) (new : New) (keeps : Keeps x n r 
   no_text : r.text_len ≡ 0
   no_text = keeps.tells.text_len ∙ ap length (new_text x new)
 
-  small_is : (known : Option ℕ) → is_too_large known ≡ false → longest known ≤ 1073741824
-  small_is None small = omega arith
-  small_is (Some k) small = omega (arith, small)
-
   sound_new : IsWellFormed new → 1 ≤ n → is_too_large new.declared ≡ false → IsSoundRecord (n + 1) (said_of r)
   sound_new well some small = record {
     some = omega (arith, keeps.tells.number_is, some);
@@ -73,7 +57,7 @@ module _ (x : IndexSet) (n : ℕ) (r : Record) (new : New) (keeps : Keeps x n r 
     declared = subst (λ (k : Option ℕ). longest k ≤ 1073741824) (sym keeps.tells.declared)
         (small_is new.declared small);
     text_fits = omega (arith, no_text);
-    state_size = ap length state_is ∙ state_size (transcoder_with x (new_upload new) [] (is_complete (new_upload new)));
+    state_size = ap length state_is ∙ state_length (transcoder_with x (new_upload new) [] (is_complete (new_upload new)));
     state = told_state x (said_of r) [] (new_upload new) tells_new;
     metadata_size = subst (λ (bytes : List ℕ). length bytes ≤ 1536) (sym keeps.tells.metadata) well.short;
     printable = subst (λ (bytes : List ℕ). All (λ b. (0x20 ≤ b) × (b ≤ 0x7E)) bytes) (sym keeps.tells.metadata)

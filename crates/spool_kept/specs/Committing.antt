@@ -10,6 +10,7 @@ use Rattle.spool_pages.specs.View.{SlotRecord}
 use Rattle.upload_rules.specs.Calls.{length_refusal, text_stays, upload_refusal}
 use Rattle.upload_rules.specs.Drafts.{draft_at}
 use Rattle.upload_rules.specs.Lengths.{is_length, is_new, known_or, longest}
+use Rattle.upload_rules.specs.States.{IsState}
 use Rattle.upload_rules.specs.Store.{find, patched_store, upload_of}
 use Rattle.upload_rules.specs.World.{Patch, World}
 use Rattle.upload_rules.specs.declared.errors.UploadRefusal.{UploadRefusal}
@@ -45,6 +46,7 @@ pub record HasOtherLength (slots : List (Option SlotRecord)) (o : SpoolDraft) (e
 -- no bytes came and no length says now that the accepted ones are all.
 pub record IsFound (slots : List (Option SlotRecord)) (o : SpoolDraft) (found : Found) : Type 0 where
   pub same : HasSameCount slots o found.slot
+  pub state : IsState same.used.state
   pub allowed : length_refusal same.used.declared (declare_of o) (offset_of o + came_of o) ≡ None
   pub declares : found.declares ≡ is_new same.used.declared (declare_of o)
   pub declared : found.declared ≡ known_or same.used.declared (declare_of o)

@@ -64,14 +64,16 @@ fn found_for(kept: &Kept, draft: &SpoolDraft) -> Result<Found, UploadRefusal>
     if accepted != draft.offset() {
         return Err(UploadRefusal::Offset);
     }
-    let declared = length_then(known, draft.declare(), accepted, draft.came())?;
-    let declares = is_new(known, draft.declare());
+    let came = draft.came();
+    let declare = draft.declare();
+    let declared = length_then(known, declare, accepted, came)?;
+    let declares = is_new(known, declare);
     let completes = declares && is_length(declared, accepted);
     Ok(Found {
         slot,
         declares,
         declared,
-        stays: draft.came() == 0 && !completes,
+        stays: came == 0 && !completes,
     })
 }
 
@@ -201,26 +203,28 @@ fn put_behind<D: Disk>(
     }
 }
 
-// Gives the upload of a slot its length, on the disk and in memory: refused with `NoMemory`, `DiskFault`. Its text stays.
+// Gives the upload of a slot its length, on the disk and in memory, and answers how many bytes it has accepted: refused
+// with `NoMemory`, `DiskFault`. Its text stays.
 fn set_length<D: Disk>(
     alloc: Global,
     disk: &mut D,
     kept: &mut Kept,
     slot: u32,
     declared: Option<u64>,
-) -> Result<(), UploadError>
+) -> Result<u64, UploadError>
     requires room { 4096 * all_pages kept.old.layout ≤ D.size disk.old }
     requires may { MayDeclare kept.old.slots slot declared }
     ensures size { D.size disk.new ≡ D.size disk.old }
     ensures honest { D.honest disk.old ↔ D.honest disk.new }
     ensures counts { Counts (IsErrOf result UploadError.DiskFault) (D.failures disk.old) (D.failures disk.new) }
     ensures layout { kept.new.layout ≡ kept.old.layout }
+    ensures count { (r : Said) → get_or kept.old.slots slot None ≡ Some r → IfOk result (λ n. n ≡ r.accepted) }
     ensures no_refusal { (e : Refusal) → IsErrOf result (UploadError.Refused e) → ⊥ }
     ensures fits { (drafts : List (Option Draft)) → DraftsFit kept.old drafts → DraftsFit kept.new drafts }
     ensures answer { (drafts : List (Option Draft)) (w : World) (n : ℕ)
         → StandsFor D.Disk disk.old kept.old drafts w → IsUsedBy kept.old.slots slot n → is_too_large declared ≡ false
         → Answers None result
-        (λ done. StandsFor D.Disk disk.new kept.new drafts (with_length_at w n declared))
+        (λ count. StandsFor D.Disk disk.new kept.new drafts (with_length_at w n declared))
         (StandsFor D.Disk disk.new kept.new drafts w) }
     ensures crash { (m : Store) (n : ℕ)
         → Stored D.Disk disk.old kept.old m → IsUsedBy kept.old.slots slot n → is_too_large declared ≡ false
@@ -236,7 +240,7 @@ fn set_length<D: Disk>(
         state: used.state,
     };
     match extend(alloc, disk, kept, &longer, &[], &[]) {
-        Ok(()) => Ok(()),
+        Ok(()) => Ok(longer.accepted),
         Err(ExtendError::NoMemory) => Err(UploadError::NoMemory),
         Err(ExtendError::DiskFault) => Err(UploadError::DiskFault),
     }
@@ -300,7 +304,7 @@ pub fn commit<D: Disk>(
     let offset = draft.offset();
     draft.give_back(&mut kept.blocks);
     if found.declares {
-        set_length(alloc, disk, kept, found.slot, found.declared)?;
+        return set_length(alloc, disk, kept, found.slot, found.declared);
     }
     Ok(offset)
 }

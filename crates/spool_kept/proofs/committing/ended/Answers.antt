@@ -11,7 +11,7 @@ use Rattle.spool_pages.specs.View.{SlotRecord}
 use Rattle.upload_rules.specs.declared.errors.UploadError.{UploadError}
 use Rattle.upload_rules.specs.States.{IsState}
 use Rattle.upload_rules.specs.World.{completes}
-use Rattle.spool_kept.specs.Committing.{HasSameCount, IsCommit}
+use Rattle.spool_kept.specs.Committing.{IsCommit, IsFound}
 use Rattle.spool_kept.specs.Holding.{Holding}
 use Rattle.spool_kept.specs.Shows.{ImageShows}
 use Rattle.spool_kept.proofs.CommitEnded as lemmas
@@ -42,17 +42,16 @@ returns-in_err-state-clause-answer g c drafts number w p is =
     let o' = c.end.new.self in
     let is' = subst (λ (h : Holding). IsCommit g.D.Disk c.args.disk.now h drafts number o w p) (sym c.kept.view_is)
     is in
-    let has = subst (λ (h : Holding). HasSameCount h.slots o c.args.slot) (sym c.kept.view_is) c.requires.used in
-    let used : c.unwrap.result.now ≡ has.used = search rules in
+    let finds = subst (λ (h : Holding). IsFound h.slots o c.args.found) (sym c.kept.view_is) c.requires.found in
     let only = lemmas.only_blocks _ c.end.new.blocks c.end.ensures.rows in
     let effect = c.end.ensures.effect in
     let sum : c.saturating_add-accepted.result ≡ min (offset_of o + came_of o) (2 ^ 64 - 1) =
     c.saturating_add-accepted.ensures ∙ ap (λ (n : ℕ). min (n + c.came.result) (2 ^ 64 - 1)) c.offset.ensures
     ∙ ap (λ (n : ℕ). min (offset_of o + n) (2 ^ 64 - 1)) c.came.ensures in
     let ends = lemmas.ends_as g.D.Disk c.args.disk.now c.end.new.disk _ _ only drafts number o o' w p is' effect
-    c.args.slot has
-    c.saturating_add-accepted.result sum _ (c.record-used.ensures.said ∙ used) c.end.result c.end.ensures.answer in
-    let placed = lemmas.placed_still c.kept.inside.layout o o' c.end.ensures.same.3 c.end.ensures.same.4
+    c.args.found finds c.saturating_add-accepted.result sum c.is_length-completes.result c.is_length-completes.ensures
+    c.end.result c.end.ensures.answer in
+    let placed = lemmas.placed_still c.kept.inside.layout o o' c.end.ensures.same.4 c.end.ensures.same.5
     (subst (λ (h : Holding). IsPlaced h.layout o) (sym c.kept.view_is) c.requires.placed) in
     let err = err_from_is_err_and c.from_residual.result c.from_residual.ensures.1 in
     lemmas.not_ended g.D.Disk c.args.disk.now c.end.new.disk _ _ only drafts number o o' w p is' effect placed
@@ -86,43 +85,41 @@ returns-clause-answer g c drafts number w p is =
     let o' = c.end.new.self in
     let is' = subst (λ (h : Holding). IsCommit g.D.Disk c.args.disk.now h drafts number o w p) (sym c.kept.view_is)
     is in
-    let has = subst (λ (h : Holding). HasSameCount h.slots o c.args.slot) (sym c.kept.view_is) c.requires.used in
-    let used : c.unwrap.result.now ≡ has.used = search rules in
+    let finds = subst (λ (h : Holding). IsFound h.slots o c.args.found) (sym c.kept.view_is) c.requires.found in
     let only = lemmas.only_blocks _ c.end.new.blocks c.end.ensures.rows in
     let effect = c.end.ensures.effect in
     let sum : c.saturating_add-accepted.result ≡ min (offset_of o + came_of o) (2 ^ 64 - 1) =
     c.saturating_add-accepted.ensures ∙ ap (λ (n : ℕ). min (n + c.came.result) (2 ^ 64 - 1)) c.offset.ensures
     ∙ ap (λ (n : ℕ). min (offset_of o + n) (2 ^ 64 - 1)) c.came.ensures in
     let ends = lemmas.ends_as g.D.Disk c.args.disk.now c.end.new.disk _ _ only drafts number o o' w p is' effect
-    c.args.slot has
-    c.saturating_add-accepted.result sum _ (c.record-used.ensures.said ∙ used) c.end.result c.end.ensures.answer in
-    let placed = lemmas.placed_still c.kept.inside.layout o o' c.end.ensures.same.3 c.end.ensures.same.4
+    c.args.found finds c.saturating_add-accepted.result sum c.is_length-completes.result c.is_length-completes.ensures
+    c.end.result c.end.ensures.answer in
+    let placed = lemmas.placed_still c.kept.inside.layout o o' c.end.ensures.same.4 c.end.ensures.same.5
     (subst (λ (h : Holding). IsPlaced h.layout o) (sym c.kept.view_is) c.requires.placed) in
-    let whole : IsWhole w.store.indexes p (completes p) o' end =
-    subst (λ (r : Result DraftEnd UploadError). EndsAs w.store.indexes p (completes p) o o' c.kept.inside.blocks
-    c.end.new.blocks r) c.in_ok-state.was ends in
+    let whole : IsWhole w.store.indexes p (completes w.store p) o' end =
+    subst (λ (r : Result DraftEnd UploadError). EndsAs w.store.indexes p (completes w.store p) o o'
+    c.kept.inside.blocks c.end.new.blocks r) c.in_ok-state.was ends in
     let ends_on = lemmas.ends_on g.D.Disk c.args.disk.now c.end.new.disk _ _ only drafts number o o' w p is' effect
-    c.args.slot has
-    c.saturating_add-accepted.result sum _ (c.record-used.ensures.said ∙ used) c.end.result c.end.ensures.content in
+    c.args.found finds c.saturating_add-accepted.result sum c.is_length-completes.result c.is_length-completes.ensures
+    c.end.result c.end.ensures.content in
     let page = 25 + 2 * journal_pages c.kept.inside.layout in
-    let text = open_text w.store.indexes p (completes p) in
+    let text = open_text w.store.indexes p (completes w.store p) in
     let content = subst (λ (r : Result DraftEnd UploadError). IfOk r
     (λ e. 1 ≤ length (list_of o') → bytes_with (g.D.Disk.seen c.end.new.disk) page (list_of o')
     e.last.items ≡ text)) c.in_ok-state.was ends_on in
     let fits = c.in_ok-state.ensures.fits in
     let came = lemmas.all_came g.D.Disk c.args.disk.now c.end.new.disk _ _ only drafts number o o' w p is' effect
-    c.args.slot has
-    c.saturating_add-accepted.result sum _ (c.record-used.ensures.said ∙ used) in
+    c.args.found finds c.saturating_add-accepted.result sum in
     let allowed = lemmas.allowed g.D.Disk c.args.disk.now c.end.new.disk _ _ only drafts number o o' w p is' effect
-    placed c.end.ensures.reserved c.rows-rows.ensures.reserved end whole c.args.slot has in
+    placed c.end.ensures.reserved c.rows-rows.ensures.reserved end whole c.args.found finds in
     let stored = lemmas.stored_after g.D.Disk c.args.disk.now c.end.new.disk _ _ only drafts number o o' w p is' effect
     c.end.ensures.honest.0 in (
       allowed,
       (
         came,
         lemmas.pending g.D.Disk c.args.disk.now c.end.new.disk _ _ only drafts number o o' w p is' effect placed
-            c.end.ensures.reserved c.rows-rows.ensures.reserved end whole c.args.slot has
-            _ refl came refl refl stored fits content,
+            c.end.ensures.reserved c.rows-rows.ensures.reserved end whole c.args.found finds
+            _ refl refl came refl refl stored fits content,
       ),
     )
 
@@ -130,32 +127,9 @@ returns-clause-answer g c drafts number w p is =
 
 pub returns-clause-may : goal.returns-clause-may
 returns-clause-may g c =
-    let has = c.requires.used in
-    let there = ap (λ (h : Holding). get_or h.slots c.args.slot None) c.kept.view_is ∙ has.there in
-    let used : c.unwrap.result.now ≡ has.used = search rules in
-    let unpacked = c.record-used.ensures.unpacked in
-    let old : IsState has.used.state = record {
-      transcoder = unpacked.transcoder;
-      sound = unpacked.sound;
-      is = ap (λ (r : SlotRecord). r.state) (sym used ∙ sym c.record-used.ensures.said) ∙ unpacked.is;
-    } in
-    lemmas.may _ c.args.slot c.saturating_add-accepted.result (list_of c.end.new.self) _ has.used there
-    (c.in_ok-state.ensures.behind has.used.text_len has.used.state old (c.requires.behind has.used has.there))
-
-pub returns-clause-more : goal.returns-clause-more
-returns-clause-more g c r there =
-    let has = c.requires.used in
-    let same = same_Some has.used r
-    (sym has.there ∙ ap (λ (h : Holding). get_or h.slots c.args.slot None) (sym c.kept.view_is) ∙ there) in
-    let room = c.in_ok-state.ensures.room has.used.text_len has.used.state (c.requires.behind has.used has.there)
-    refl in
-    omega (
-      arith,
-      c.saturating_add-accepted.ensures,
-      c.offset.ensures,
-      c.came.ensures,
-      c.requires.some,
-      room,
-      has.count,
-      ap (λ (q : SlotRecord). q.accepted) same,
-    )
+    let has = c.requires.found.same in
+    let there = ap (λ (h : Holding). get_or h.slots c.args.found.slot None) c.kept.view_is ∙ has.there in
+    lemmas.may _ c.args.found.slot c.args.found.declared c.saturating_add-accepted.result (list_of c.end.new.self) _
+    has.used there
+    (c.in_ok-state.ensures.behind has.used.text_len has.used.state c.requires.found.state
+    (c.requires.behind has.used has.there))

@@ -1,4 +1,5 @@
-use Rattle.std.proofs.Common.{◌≡◌, ◌∙◌, ap, refl, subst, sym, ℕ, List, Err, None, set}
+use Rattle.std.proofs.Common.{◌≡◌, ◌∙◌, inl, inr, ap, arith, refl, subst, sym, ℕ, List, Err, None, set}
+use Rattle.std.proofs.lemmas.Bool.{cases_lt}
 use Rattle.spool_drafts.proofs.Effects.{only_then}
 use Rattle.spool_drafts.specs.Drafts.{list_of}
 use Rattle.spool_drafts.specs.Effect.{Effect, OnlyWrites}
@@ -9,6 +10,7 @@ use Rattle.spool_disk.specs.Views.{Lasts}
 use Rattle.spool_disk.specs.declared.disk.Disk.{Ghosts}
 use Rattle.upload_rules.specs.Calls.{commit_outcome, commit_refusal, dropped}
 use Rattle.upload_rules.specs.Store.{Store, patched_store}
+use Rattle.upload_rules.specs.World.{Patch}
 use Rattle.spool_kept.specs.Extending.{HandsOn, IsLonger, IsPending, IsWritten}
 use Rattle.spool_kept.specs.Holding.{Holding}
 use Rattle.spool_kept.specs.Shows.{ImageShows}
@@ -16,7 +18,7 @@ use Rattle.spool_kept.specs.Stored.{ShowsEither}
 use Rattle.spool_kept.specs.declared.extending.ExtendError.{ExtendError}
 use Rattle.spool_kept.specs.declared.extending.Longer.{Longer}
 use Rattle.spool_kept.proofs.CommitFits.{fits_given, fits_handed}
-use Rattle.spool_kept.proofs.CommitRefusals.{late}
+use Rattle.spool_kept.proofs.CommitRefusals.{late, store_changed}
 use Rattle.spool_kept.proofs.CommitSpent as spent
 use Rattle.spool_kept.proofs.Drafted.{reserves_only}
 use Rattle.spool_kept.proofs.committing.put_behind.Goals as goal
@@ -65,14 +67,33 @@ returns-in-Err-DiskFault-clause-fits g c drafts number fit here =
     (c.in-Ok.ensures.more may.used may.there) (c.extend.ensures.blocks (λ e. cc))
     (c.extend.ensures.longer (λ e. cc) may.used may.there)
 
+pub returns-in-Err-DiskFault-clause-counts : goal.returns-in-Err-DiskFault-clause-counts
+returns-in-Err-DiskFault-clause-counts g c =
+    let fault : c.extend.result ≡ Err ExtendError.DiskFault = c.in-Err-DiskFault.is
+    ∙ ap (λ (e : ExtendError). Err e) c.in-Err-DiskFault.field-0-is in
+    let before = c.ended.ensures.counts in
+    let after = c.extend.ensures.counts in
+    record {
+      later = omega (arith, before.later, after.later);
+      counted = λ failed. elim (after.counted fault) [
+        | inl more ↦ inl (omega (arith, more, before.later))
+        | inr most ↦ elim (cases_lt (g.D.Disk.failures c.args.disk.now) (g.D.Disk.failures c.ended.new.disk)) [
+          | inl more ↦ inl (omega (arith, more, after.later))
+          | inr same ↦ inr (omega (arith, most, same))
+        ]
+      ];
+      nothing_else = λ more. refl;
+    }
+
 -- WHAT A CRASH MAY LEAVE
 
-pending_on : {D : Type 0} (disk : Ghosts D) (d : D) (h : Holding) (m : Store) (n : ℕ) (bytes : List ℕ) (longer : Longer)
-    {more more' last last' : List ℕ} → more' ≡ more → last' ≡ last → IsPending disk d h m n bytes longer more last
-    → IsPending disk d h m n bytes longer more' last'
-pending_on disk d h m n bytes longer {more' = more'} {last = last} list bytes_last is =
-    subst (IsPending disk d h m n bytes longer more') (sym bytes_last)
-    (subst (λ (xs : List ℕ). IsPending disk d h m n bytes longer xs last) (sym list) is)
+pending_on : {D : Type 0} (disk : Ghosts D) (d : D) (h : Holding) (m : Store) (p : Patch) (longer : Longer)
+    {more more' last last' : List ℕ} → more' ≡ more → last' ≡ last
+    → IsPending disk d h m p.number p.declare p.body longer more last
+    → IsPending disk d h m p.number p.declare p.body longer more' last'
+pending_on disk d h m p longer {more' = more'} {last = last} list bytes_last is =
+    subst (IsPending disk d h m p.number p.declare p.body longer more') (sym bytes_last)
+    (subst (λ (xs : List ℕ). IsPending disk d h m p.number p.declare p.body longer xs last) (sym list) is)
 
 pub returns-in-Err-clause-crash : goal.returns-in-Err-clause-crash
 returns-in-Err-clause-crash g c drafts number w p is =
@@ -102,22 +123,24 @@ returns-in-Err-NoMemory-clause-crash g c drafts number w p is =
 pub returns-in-Ok-extend-clause-crash : goal.returns-in-Ok-extend-clause-crash
 returns-in-Ok-extend-clause-crash g c drafts number w p is =
     let answer = c.in-Ok.ensures.answer drafts number w p is in
-    let pending = pending_on g.D.Disk c.ended.new.disk c.ended.new.kept w.store p.number p.body c.in-Ok.end.0
+    let pending = pending_on g.D.Disk c.ended.new.disk c.ended.new.kept w.store p c.in-Ok.end.0
     c.list.ensures.blocks c.deref.ensures.value answer.1.1 in
     spent.either_then g.D.Disk c.args.disk.now c.ended.new.disk c.args.kept.now.layout w.store c.extend.new.disk
-    (patched_store w.store p.number p.declare p.body) (commit_outcome w number p) (spent.outcome_is w number p answer.0 is.some)
+    (patched_store w.store p.number p.declare p.body) (commit_outcome w number p) (spent.outcome_is w number p answer.0
+    (patched_store w.store p.number p.declare p.body) (store_changed w.store p is.changes))
     (c.ended.ensures.quiet drafts number w p is) c.ended.new.kept.layout
-    (ap (λ (h : Holding). h.layout) c.ended.ensures.same.same) (c.extend.ensures.crash w.store p.number p.body pending)
+    (ap (λ (h : Holding). h.layout) c.ended.ensures.same.same) (c.extend.ensures.crash w.store p.number p.declare p.body pending)
 
 pub returns-in-Err-DiskFault-clause-crash : goal.returns-in-Err-DiskFault-clause-crash
 returns-in-Err-DiskFault-clause-crash g c drafts number w p is =
     let answer = c.in-Ok.ensures.answer drafts number w p is in
-    let pending = pending_on g.D.Disk c.ended.new.disk c.ended.new.kept w.store p.number p.body c.in-Ok.end.0
+    let pending = pending_on g.D.Disk c.ended.new.disk c.ended.new.kept w.store p c.in-Ok.end.0
     c.list.ensures.blocks c.deref.ensures.value answer.1.1 in
     spent.either_then g.D.Disk c.args.disk.now c.ended.new.disk c.args.kept.now.layout w.store c.extend.new.disk
-    (patched_store w.store p.number p.declare p.body) (commit_outcome w number p) (spent.outcome_is w number p answer.0 is.some)
+    (patched_store w.store p.number p.declare p.body) (commit_outcome w number p) (spent.outcome_is w number p answer.0
+    (patched_store w.store p.number p.declare p.body) (store_changed w.store p is.changes))
     (c.ended.ensures.quiet drafts number w p is) c.ended.new.kept.layout
-    (ap (λ (h : Holding). h.layout) c.ended.ensures.same.same) (c.extend.ensures.crash w.store p.number p.body pending)
+    (ap (λ (h : Holding). h.layout) c.ended.ensures.same.same) (c.extend.ensures.crash w.store p.number p.declare p.body pending)
 
 -- THE ANSWER
 
@@ -143,7 +166,7 @@ returns-in-Err-NoMemory-clause-answer g c drafts number w p is =
     c.ended.ensures.same drafts number c.args.draft c.ended.new.draft w p is c.ended.ensures.effect
     c.ended.ensures.reserved c.ended.ensures.placed _ (reserves_only c.ended.new.kept _ _ same refl
     c.give_back-in-Err-NoMemory.ensures.rows) gives (c.ended.ensures.stored drafts number w p is) in (
-      late w number p is.upload,
+      late w number p is.allowed,
       spent.on_disk g.D.Disk c.ended.new.disk c.extend.new.disk _ (set drafts number None)
           (dropped w number) unmade.1 stands,
     )
@@ -152,11 +175,11 @@ pub returns-in-Ok-extend-clause-answer : goal.returns-in-Ok-extend-clause-answer
 returns-in-Ok-extend-clause-answer g c drafts number w p is =
     let answer = c.in-Ok.ensures.answer drafts number w p is in
     let may = c.in-Ok.ensures.may in
-    let pending = pending_on g.D.Disk c.ended.new.disk c.ended.new.kept w.store p.number p.body c.in-Ok.end.0
+    let pending = pending_on g.D.Disk c.ended.new.disk c.ended.new.kept w.store p c.in-Ok.end.0
     c.list.ensures.blocks c.deref.ensures.value answer.1.1 in
     let wrote = subst (λ (more : List ℕ). IsWritten g.D.Disk c.ended.new.disk c.extend.new.disk c.ended.new.kept w.store
-    p.number p.body c.in-Ok.end.0 more) c.list.ensures.blocks
-    (c.in-Ok-extend.ensures.written w.store p.number p.body pending) in
+    p.number p.declare p.body c.in-Ok.end.0 more) c.list.ensures.blocks
+    (c.in-Ok-extend.ensures.written w.store p.number p.declare p.body pending) in
     let effect = c.ended.ensures.effect in
     let only = subst (λ (n : ℕ). OnlyWrites g.D.Disk (journal_pages n)
     (list_of c.ended.new.draft) c.ended.new.disk wrote.mid)
@@ -180,7 +203,7 @@ returns-in-Ok-extend-clause-answer g c drafts number w p is =
             drafts number c.args.draft c.ended.new.draft w p is effect'
             c.ended.ensures.reserved c.ended.ensures.placed c.in-Ok.end.0 wrote.append may.used c.extend.new.disk
             c.extend.new.kept longer hands
-            wrote.texts (c.in-Ok-extend.ensures.answer w.store p.number p.body pending),
+            wrote.texts (c.in-Ok-extend.ensures.answer w.store p.number p.declare p.body pending),
       ),
     )
 
