@@ -35,9 +35,10 @@ use Rattle.spool_kept.specs.Shows.{Shows}
 use Rattle.spool_kept.specs.Stored.{Stored}
 
 -- a draft of any upload
-pub begun_any : (number count : ℕ) (u : Option Upload) → IsBegun (λ p. Unit {0}) number count u
-begun_any number count None = tt
-begun_any number count (Some u) = tt
+pub begun_any : (number count : ℕ) (declare : Option ℕ) (u : Option Upload)
+    → IsBegun (λ p. Unit {0}) number count declare u
+begun_any number count declare None = tt
+begun_any number count declare (Some u) = tt
 
 -- A READ
 
@@ -109,9 +110,9 @@ module _ (seen seen' : ℕ → ℕ) (first : ℕ) (slots slots' : List (Option S
       record {
         holds = is.holds;
         below = omega (arith, is.below);
-        carries = λ there kept. bytes_same seen seen' first o.growth o.growth.on same
-            ∙ is.carries (sym found ∙ there) kept;
-        tail = λ there. owned (is.tail (sym found ∙ there));
+        carries = λ still kept. bytes_same seen seen' first o.growth o.growth.on same
+            ∙ is.carries (still.0, sym found ∙ still.1, still.2) kept;
+        tail = λ still. owned (is.tail (still.0, sym found ∙ still.1, still.2));
       }
     where
       owned : IsOwnedBy slots rows p.number (tail_of o) → IsOwnedBy slots' rows p.number (tail_of o)

@@ -15,8 +15,8 @@ use spool_blocks::Row;
 use spool_kept::{KeptRecord, blocks_of, record_at};
 use upload_rules::{LENGTH_LIMIT, NUMBERS_END, Record, is_length};
 
-// Whether a transcoder may have come so far behind so many bytes: it has ended exactly where the length is known and all
-// its bytes were accepted, and before a byte order mark is decided all accepted bytes are held.
+// Whether a transcoder may have come so far behind so many bytes: it has ended exactly where the length is known and
+// all its bytes were accepted, and before a byte order mark is decided all accepted bytes are held.
 fn fits_progress(progress: Progress, accepted: u64, declared: Option<u64>) -> bool
     ensures { (p : Phase) → progress_of p ≡ progress → IsTrue result ↔ FitsPhase p accepted declared }
 {
@@ -62,8 +62,8 @@ fn is_sound_at(slots: &[Option<KeptRecord>], slot: usize, next: u64) -> bool
 }
 
 /// Whether the next number and all records may be there: numbers are below the next number, which is 1 to 10^18, the
-/// accepted bytes are no more than the declared length, which is at most 1,073,741,824, as they are where it is unknown,
-/// and the state is that of a transcoder that has come so far.
+/// accepted bytes are no more than the declared length, which is at most 1,073,741,824, and no more than this where the
+/// length is unknown, and the state is that of a transcoder that has come so far.
 pub(crate) fn are_sound(slots: &[Option<KeptRecord>], next: u64) -> bool
     ensures { IsTrue result ↔ RecordsPass next slots.now }
 {
