@@ -51,7 +51,12 @@ say 1 DELETE /files/1 HTTP/1.1
 say 1 Tus-Resumable: 1.0.0
 say 1
 ",
-    stages: &[(b"", NONE), (MADE, DEFERRED), (FILLED, FULL), (DELETED, NONE)],
+    stages: &[
+        (b"", NONE),
+        (MADE, DEFERRED),
+        (FILLED, FULL),
+        (DELETED, NONE),
+    ],
 };
 
 const MADE: &[u8] =

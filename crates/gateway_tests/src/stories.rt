@@ -103,7 +103,10 @@ pub(crate) const FULL_SPOOL: &[Step] = &[
     Came(1, PIECE),
     Came(1, PIECE),
     Patched(1, 61_440),
-    Changed(&[(4096, Some(4096), BLOCK), (61_440, Some(61_441), FIFTEEN_BLOCKS)]),
+    Changed(&[
+        (4096, Some(4096), BLOCK),
+        (61_440, Some(61_441), FIFTEEN_BLOCKS),
+    ]),
     Patch(1, 2, 61_440, 1),
     Came(1, b"a"),
     Refused(1, "507 Insufficient Storage", 17),

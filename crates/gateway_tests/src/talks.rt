@@ -115,7 +115,9 @@ impl Talk {
             Step::Post(length, metadata) => self.post(Some(length), metadata),
             Step::Made(number, length, metadata) => self.made(number, Some(length), metadata),
             Step::Deferred(number, metadata) => self.made(number, None, metadata),
-            Step::Patch(conn, number, offset, count) => self.patch(conn, number, offset, None, count),
+            Step::Patch(conn, number, offset, count) => self.patch(
+                conn, number, offset, None, count,
+            ),
             Step::Declare(conn, number, offset, length, count) => self.patch(
                 conn,
                 number,
@@ -202,7 +204,9 @@ impl Talk {
             Some(length) => format!(in self.alloc; "Upload-Length: {length}")?,
             None => String::from_str(self.alloc, "Upload-Defer-Length: 1")?,
         };
-        let mut head = format!(in self.alloc; "POST /files HTTP/1.1\nTus-Resumable: 1.0.0\n{length}")?;
+        let mut head = format!(in self.alloc;
+            "POST /files HTTP/1.1\nTus-Resumable: 1.0.0\n{length}"
+        )?;
         if !metadata.is_empty() {
             head.push_str("\nUpload-Metadata: ")?;
             head.push_str(metadata)?;
@@ -210,12 +214,7 @@ impl Talk {
         self.say(1, &head)
     }
 
-    fn made(
-        &mut self,
-        number: u64,
-        length: Option<u64>,
-        metadata: &str,
-    ) -> Result<(), AllocError> {
+    fn made(&mut self, number: u64, length: Option<u64>, metadata: &str) -> Result<(), AllocError> {
         self.post(length, metadata)?;
         let lines = format!(in self.alloc; "Location: /files/{number}\nContent-Length: 0")?;
         self.reply(1, "201 Created", &lines, b"")

@@ -264,11 +264,11 @@ module _ {D : Type 0} (disk : Ghosts D) (d d' d'' : D) (h h' : Holding) (drafts 
     stored = subst (Stored disk d'' h') named_is stored;
     stands = subst (λ (k : ℕ). DraftsStand w.store.indexes (disk.seen d'') (25 + 2 * journal_pages k) h'.slots h'.blocks
         (record w { store = named }) drafts) (sym is_longer.layout) record {
-      each = each_named;
-      apart = stands.stands.apart;
-      grown = grown_put w stands.stands.grown n append.upload declare [] append.there;
-      limit = stands.stands.limit ∙ ap (λ (b : Held). Some (length b.rows)) (sym (is_longer.same refl));
-      all = subst (λ (b : Held). (k : ℕ) → get_or b.reserved k false ≡ true → IsInSome (lists_at drafts) k)
-          (sym (is_longer.same refl)) stands.stands.all;
-    };
+          each = each_named;
+          apart = stands.stands.apart;
+          grown = grown_put w stands.stands.grown n append.upload declare [] append.there;
+          limit = stands.stands.limit ∙ ap (λ (b : Held). Some (length b.rows)) (sym (is_longer.same refl));
+          all = subst (λ (b : Held). (k : ℕ) → get_or b.reserved k false ≡ true → IsInSome (lists_at drafts) k)
+              (sym (is_longer.same refl)) stands.stands.all;
+        };
   }

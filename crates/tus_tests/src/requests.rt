@@ -67,7 +67,8 @@ fn an_upload_is_made_without_a_length(rt: HostRuntime) -> Result<(), Fail> {
 
 #[test]
 fn an_upload_has_a_length_or_defers_it(rt: HostRuntime) -> Result<(), Fail> {
-    let head = b"POST /files HTTP/1.1\nTus-Resumable: 1.0.0\nUpload-Length: 5\nUpload-Defer-Length: 1\n\n";
+    let head =
+        b"POST /files HTTP/1.1\nTus-Resumable: 1.0.0\nUpload-Length: 5\nUpload-Defer-Length: 1\n\n";
     let answer = parsed(rt.alloc(), head)?;
     assert_eq!(rt; answer, refusal(head, Fault::BadHeader, true, false));
     Ok(())
@@ -75,7 +76,8 @@ fn an_upload_has_a_length_or_defers_it(rt: HostRuntime) -> Result<(), Fail> {
 
 #[test]
 fn an_append_declares_a_length(rt: HostRuntime) -> Result<(), Fail> {
-    let head = b"PATCH /files/1 HTTP/1.1\nTus-Resumable: 1.0.0\nUpload-Offset: 0\nUpload-Length: 5\n\
+    let head =
+        b"PATCH /files/1 HTTP/1.1\nTus-Resumable: 1.0.0\nUpload-Offset: 0\nUpload-Length: 5\n\
         Content-Type: application/offset+octet-stream\n\n";
     let answer = parsed(rt.alloc(), head)?;
     let action = Action::Patch {
@@ -89,7 +91,8 @@ fn an_append_declares_a_length(rt: HostRuntime) -> Result<(), Fail> {
 
 #[test]
 fn an_append_declares_one_length(rt: HostRuntime) -> Result<(), Fail> {
-    let head = b"PATCH /files/1 HTTP/1.1\nTus-Resumable: 1.0.0\nUpload-Offset: 0\nUpload-Length: 5\n\
+    let head =
+        b"PATCH /files/1 HTTP/1.1\nTus-Resumable: 1.0.0\nUpload-Offset: 0\nUpload-Length: 5\n\
         Upload-Length: 5\nContent-Type: application/offset+octet-stream\n\n";
     let answer = parsed(rt.alloc(), head)?;
     assert_eq!(rt; answer, refusal(head, Fault::BadHeader, false, false));

@@ -4,8 +4,7 @@ use Rattle.spool_image.proofs.spool.SpoolUploads.begin.Goals as goal
 
 pub returns-clause-answer : goal.returns-clause-answer
 returns-clause-answer g c w stands =
-    let a = c.in_ok-number.ensures.answer c.args.self.now.disk w stands in
-    (
+    let a = c.in_ok-number.ensures.answer c.args.self.now.disk w stands in (
       a.0,
       (a.1.0, begun_any c.args.number c.args.count c.args.declare (upload_of w.store c.args.number), a.1.1),
     )
