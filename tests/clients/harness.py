@@ -247,8 +247,8 @@ class Client:
         return None if headers["Upload-Defer-Length"] == "1" else int(headers["Upload-Length"])
 
     def patch(self, path, offset, piece, length=None):
-        """The offset after a piece, with which the upload's length may be declared. Where a body that was cut before reached the upload since the offset was asked for,
-        the piece is refused, and the offset is asked for again."""
+        """The offset after a piece, with which the upload's length may be declared. Where a body that was cut before
+        reached the upload since the offset was asked for, the piece is refused, and the offset is asked for again."""
         headers = {**OCTETS, "Upload-Offset": str(offset), **declaring(length)}
         try:
             return int(self.ask(204, "PATCH", path, headers, piece)[0]["Upload-Offset"])

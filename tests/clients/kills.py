@@ -6,9 +6,9 @@
 It formats a spool in a temporary folder and serves it at a port of 127.0.0.1. Each time the server is ended by SIGKILL,
 by its own process id, at a random moment; started again, each client asks for the offset, which must be no less than
 what was acknowledged and no more than what was sent, goes on there, and compares the whole text at the end. The length
-of some uploads comes with their last bytes or behind them. Whole uploads are deleted meanwhile: behind each start those whose deletion was acknowledged are still gone, no number comes
-twice, and the texts of the others are compared again before they are deleted, or at the end. The status is 0 where all
-was so. (SIGKILL ends a process and leaves the kernel's cache: it tries recovery, not the disk.)
+of some uploads comes with their last bytes or behind them. Whole uploads are deleted meanwhile: behind each start those
+whose deletion was acknowledged are still gone, no number comes twice, and the texts of the others are compared again
+before they are deleted, or at the end. The status is 0 where all was so. (SIGKILL ends a process and leaves the kernel's cache: it tries recovery, not the disk.)
 """
 
 import argparse

@@ -36,8 +36,8 @@ pub(crate) enum Step<'a> {
     Deferred(u64, &'a str),
     /// The head of a PATCH on a connection: the upload, the offset and how many bytes are to come.
     Patch(u32, u64, u64, usize),
-    /// The head of a PATCH on a connection that declares a length: the upload, the offset, the length and how many bytes
-    /// are to come.
+    /// The head of a PATCH on a connection that declares a length: the upload, the offset, the length and how many
+    /// bytes are to come.
     Declare(u32, u64, u64, u64, usize),
     /// What a PATCH whose bytes were taken is answered, up to an offset.
     Patched(u32, u64),

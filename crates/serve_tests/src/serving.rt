@@ -149,7 +149,8 @@ fn close_is_told_before_the_socket_closes(rt: HostRuntime) -> Result<(), Fail> {
     Ok(())
 }
 
-/// Serves a connection over a spool whose disk fails at the first call behind its opening: whether serving stopped for that.
+/// Serves a connection over a spool whose disk fails at the first call behind its opening: whether serving stopped for
+/// that.
 fn stops_at_a_fault(
     rt: &HostRuntime,
     alloc: Global,

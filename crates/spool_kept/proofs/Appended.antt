@@ -113,7 +113,8 @@ module _ (v : View) (m : Store) (shows : Shows v m) (s : ℕ) (r r' : SlotRecord
       upload = patched u declare bytes;
       there = ap (λ (n : ℕ). find n (replaced r.number (patched u declare bytes) m.uploads)) (number_is same ∙ number)
           ∙ find_replaced_same r.number u (patched u declare bytes) m.uploads found;
-      tells = subst (λ (x : SlotRecord). IsRecordOf m.indexes x (texts_with v s text t) (patched u declare bytes)) (sym same)
+      tells = subst (λ (x : SlotRecord). IsRecordOf m.indexes x (texts_with v s text t) (patched u declare bytes))
+          (sym same)
           (subst (λ (shown : List ℕ). IsRecordOf m.indexes r' shown (patched u declare bytes))
           (sym (text_here v s text t at)) is);
     }
@@ -135,7 +136,8 @@ module _ (v : View) (m : Store) (shows : Shows v m) (s : ℕ) (r r' : SlotRecord
     all_still n w e = elim (cases_eq r.number n) [
       | inl same ↦ record { slot = s; used = r'; there = slot_here v.slots s r' inside; number = number ∙ same }
       | inr other ↦
-          let has = shows.all n w (sym (find_replaced_other r.number n (patched u declare bytes) m.uploads other) ∙ e) in
+          let has = shows.all n w (sym (find_replaced_other r.number n (patched u declare bytes) m.uploads other) ∙
+          e) in
           let used = used_still has.slot has.used has.there in
           record { slot = has.slot; used = used.0; there = used.1; number = used.2 ∙ has.number }
     ]

@@ -1,5 +1,6 @@
 -- The texts behind an append.
-use Rattle.std.proofs.Common.{◌≡◌, inl, inr, ℕ, zero, suc, ◌+◌, ◌-◌, ◌*◌, ◌/◌, ◌%◌, ◌<◌, ◌≤◌, List, ◌++◌, Option, None, Some}
+use Rattle.std.proofs.Common.{◌≡◌, inl, inr, ℕ, zero, suc, ◌+◌, ◌-◌, ◌*◌, ◌/◌, ◌%◌, ◌<◌, ◌≤◌, List, ◌++◌, Option, None}
+use Rattle.std.proofs.Common.{Some}
 use Rattle.std.proofs.Common.{length, get_or, take, drop, refl, sym, ◌∙◌, ap, subst, arith, length-append, length-take}
 use Rattle.std.proofs.lemmas.List.{append_assoc, take-append-drop, take-take}
 use Rattle.upload_rules.specs.Store.{Upload, Store, find, patched, patched_store}
@@ -131,7 +132,8 @@ module _ (v : View) (m : Store) (shows : Shows v m) (s : ℕ) (r r' : SlotRecord
     one_each = owns_one_each v.rows s (r.text_len / 4096) more rows hands no_owner (blocks_of r.text_len) (omega arith)
         (shows.sound.lists s r there)
 
-    pub handed_shows : (u : Upload) (declare : Option ℕ) (bytes : List ℕ) → r'.number ≡ r.number → find r.number m.uploads ≡ Some u
+    pub handed_shows : (u : Upload) (declare : Option ℕ) (bytes : List ℕ) → r'.number ≡ r.number → find r.number
+        m.uploads ≡ Some u
         → IsRecordOf m.indexes r' text (patched u declare bytes) → IsSoundRecord m.next r'
         → r.text_len / 4096 + length more ≤ 65536 → Shows (appended_view v s r' rows text)
         (patched_store m r.number declare bytes)

@@ -1,6 +1,7 @@
 -- What a commit finds of its draft's upload.
 use Rattle.std.proofs.Common.{Result, Err, IsErrOf, refl, inl, inr, ◌↔◌, ◌⊎◌, ◌≡◌, ◌≤◌, ◌<◌, ◌&&◌, ℕ, ◌+◌, ◌*◌, Bool}
-use Rattle.std.proofs.Common.{true, false, if◌then◌else◌, List, [], ◌∷◌, Option, None, Some, length, get_or, sym, ◌∙◌, ap}
+use Rattle.std.proofs.Common.{true, false, if◌then◌else◌, List, [], ◌∷◌, Option, None, Some, length, get_or, sym, ◌∙◌}
+use Rattle.std.proofs.Common.{ap}
 use Rattle.std.proofs.Common.{subst, arith, eqb-true}
 use Rattle.std.proofs.lemmas.Bool.{ne_eqb}
 use Rattle.spool_disk.specs.declared.disk.Disk.{Ghosts}
@@ -8,7 +9,8 @@ use Rattle.spool_journal.specs.Image.{journal_pages}
 use Rattle.spool_drafts.specs.Drafts.{Holds, came_of, declare_of, number_of, offset_of}
 use Rattle.spool_drafts.specs.declared.draft.SpoolDraft.{SpoolDraft}
 use Rattle.spool_pages.specs.View.{SlotRecord}
-use Rattle.upload_rules.specs.Calls.{commit_refusal, committed, committed_store, declares, declares_at, dropped, is_empty}
+use Rattle.upload_rules.specs.Calls.{commit_refusal, committed, committed_store, declares, declares_at, dropped}
+use Rattle.upload_rules.specs.Calls.{is_empty}
 use Rattle.upload_rules.specs.Calls.{is_idle, length_refusal, text_stays, upload_refusal}
 use Rattle.upload_rules.specs.Drafts.{draft_at}
 use Rattle.upload_rules.specs.Lengths.{is_length, is_new, is_too_large, known_or, longest}
@@ -22,7 +24,8 @@ use Rattle.upload_rules.specs.declared.errors.UploadRefusal.TheVariants.{TooLarg
 use Rattle.upload_rules.proofs.Patches.{draft_of}
 use Rattle.upload_rules.proofs.Refusals.{no_such_upload, other_offset}
 use Rattle.upload_rules.proofs.Same.{same_upload}
-use Rattle.spool_kept.specs.Committing.{Finds, HasOtherCount, HasOtherLength, HasSameCount, IsCommit, IsFound, MayDeclare}
+use Rattle.spool_kept.specs.Committing.{Finds, HasOtherCount, HasOtherLength, HasSameCount, IsCommit, IsFound}
+use Rattle.spool_kept.specs.Committing.{MayDeclare}
 use Rattle.spool_kept.specs.Committing.{with_length_at}
 use Rattle.spool_kept.specs.Drafting.{DraftStands, DraftsHold, IsStillOpen, StandsFor}
 use Rattle.spool_kept.specs.Holding.{Holding, IsUsedBy}
@@ -233,7 +236,8 @@ module _ {D : Type 0} (disk : Ghosts D) (d : D) (h : Holding) (drafts : List (Op
             was.0,
             here_is ∙ ap (λ (v : Upload). Some v) was.1,
             subst (λ (v : Upload). is_complete v ≡ false) was.1
-                (subst (λ (k : Option ℕ). is_length k (length u.accepted) ≡ false) (is found.slot finds.same).tells.declared
+                (subst (λ (k : Option ℕ). is_length k (length u.accepted) ≡ false) (is found.slot
+                finds.same).tells.declared
                 (subst (λ (n : ℕ). is_length finds.same.used.declared n ≡ false)
                 (is found.slot finds.same).tells.accepted (found_open h.slots o found finds goes))),
           )
@@ -325,7 +329,12 @@ by_length_exactly : {T : Type 0} (slots : List (Option SlotRecord)) (o : SpoolDr
 by_length_exactly slots o e other not_gone not_offset = (
   (
     λ refused. absurd (not_gone (same_refusal e NoSuch refused)),
-    λ gone. absurd (gone other.slot (record { used = other.same.used; there = other.same.there; is = other.same.number })),
+    λ gone. absurd (gone other.slot (record {
+      used = other.same.used;
+      there = other.same.there;
+      is =
+          other.same.number;
+    })),
   ),
   (λ refused. absurd (not_offset (same_refusal e Offset refused)), λ has. absurd (has.none other.slot other.same)),
 )

@@ -1,5 +1,6 @@
 -- A draft that is spent after a call on it: its blocks are given back, or its upload's.
-use Rattle.std.proofs.Common.{◌≡◌, ◌≢◌, ◌⊎◌, inl, inr, ℕ, zero, suc, ◌/◌, ◌≤◌, ◌<◌, ◌++◌, true, false, List, [], ◌∷◌, Option}
+use Rattle.std.proofs.Common.{◌≡◌, ◌≢◌, ◌⊎◌, inl, inr, ℕ, zero, suc, ◌/◌, ◌≤◌, ◌<◌, ◌++◌, true, false, List, [], ◌∷◌}
+use Rattle.std.proofs.Common.{Option}
 use Rattle.std.proofs.Common.{None, Some, length, get_or, set, refl, sym, ◌∙◌, ap, subst, arith, length-append}
 use Rattle.std.proofs.lemmas.Bool.{both_ways, cases_eq, cases_lt}
 use Rattle.std.proofs.lemmas.List.{get_or_past}
@@ -174,7 +175,8 @@ module _ (w : World) (grown : IsGrown w) (n : ℕ) (u : Upload) (upload : upload
       → (still : IsStillOpen (record w.store { uploads = replaced n (patched u declare body) w.store.uploads }) r)
       → patched u declare body ≡ with_length r.began still.0
   same_number r same still = same_Some (patched u declare body) (with_length r.began still.0)
-      (sym (subst (λ (k : ℕ). find k (replaced n (patched u declare body) w.store.uploads) ≡ Some (patched u declare body))
+      (sym (subst (λ (k : ℕ). find k (replaced n (patched u declare body) w.store.uploads) ≡ Some (patched u declare
+      body))
       same (find_replaced_same n u (patched u declare body) w.store.uploads upload)) ∙ still.1)
 
   -- and of another one, which is as it was

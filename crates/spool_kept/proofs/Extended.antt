@@ -1,6 +1,7 @@
 -- A longer upload, as the disk is to say it.
 use Rattle.std.proofs.Common.{◌≡◌, inl, inr, ◌⊎◌, ℕ, zero, suc, ◌∷◌, ◌+◌, ◌-◌, ◌/◌, ◌%◌, ◌^◌, ◌<◌, ◌≤◌, List, [], ◌++◌}
-use Rattle.std.proofs.Common.{Option, None, Some, false, length, length-append, get_or, set, drop, refl, sym, ◌∙◌, ap, subst}
+use Rattle.std.proofs.Common.{Option, None, Some, false, length, length-append, get_or, set, drop, refl, sym, ◌∙◌, ap}
+use Rattle.std.proofs.Common.{subst}
 use Rattle.std.proofs.Common.{arith}
 use Rattle.std.proofs.lemmas.Bool.{cases_lt, both_ways, lt-ltb}
 use Rattle.std.proofs.lemmas.List.{append-nil}
@@ -119,7 +120,8 @@ module _ (h new : Holding) (v : View) (m : Store) (keeps : KeepsView h v) (shows
     text : List ℕ
     text = v.texts longer.slot ++ added
 
-    tells : IsRecordOf m.indexes (longer_record may.used longer) (v.texts longer.slot ++ added) (patched u declare bytes)
+    tells : IsRecordOf m.indexes (longer_record may.used longer) (v.texts longer.slot ++ added) (patched u declare
+        bytes)
     tells = record {
       declared = ext.declared;
       accepted = ext.accepted;
@@ -287,7 +289,8 @@ module _ {D : Type 0} (disk : Ghosts D) (old : D) (h new : Holding) (fits' : Fit
 
   pub after_shows : Shows after (patched_store m n declare bytes)
   after_shows = extended_shows h new append.stored.view m append.stored.keeps append.stored.shows longer more may
-      reserved is state_size n number append.upload append.there declare bytes append.added (disk.seen old) append.extension
+      reserved is state_size n number append.upload append.there declare bytes append.added (disk.seen old)
+      append.extension
 
   pub after_texts : HasTexts (disk.seen old) after
   after_texts =
@@ -302,7 +305,8 @@ module _ {D : Type 0} (disk : Ghosts D) (old : D) (h new : Holding) (fits' : Fit
     view = after;
     rests = rests;
     keeps = extended_keeps h new append.stored.view m append.stored.keeps append.stored.shows longer more may reserved
-        is state_size n number append.upload append.there declare bytes append.added (disk.seen old) append.extension fits';
+        is state_size n number append.upload append.there declare bytes append.added (disk.seen old) append.extension
+        fits';
     shows = after_shows;
   }
 

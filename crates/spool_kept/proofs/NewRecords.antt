@@ -57,7 +57,8 @@ module _ (x : IndexSet) (n : ℕ) (r : Record) (new : New) (keeps : Keeps x n r 
     declared = subst (λ (k : Option ℕ). longest k ≤ 1073741824) (sym keeps.tells.declared)
         (small_is new.declared small);
     text_fits = omega (arith, no_text);
-    state_size = ap length state_is ∙ state_length (transcoder_with x (new_upload new) [] (is_complete (new_upload new)));
+    state_size = ap length state_is ∙ state_length (transcoder_with x (new_upload new) [] (is_complete (new_upload
+        new)));
     state = told_state x (said_of r) [] (new_upload new) tells_new;
     metadata_size = subst (λ (bytes : List ℕ). length bytes ≤ 1536) (sym keeps.tells.metadata) well.short;
     printable = subst (λ (bytes : List ℕ). All (λ b. (0x20 ≤ b) × (b ≤ 0x7E)) bytes) (sym keeps.tells.metadata)

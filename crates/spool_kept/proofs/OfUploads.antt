@@ -1,5 +1,6 @@
 -- The drafts' uploads, whatever the disk said: what is in their slots, and what becomes of it.
-use Rattle.std.proofs.Common.{◌≡◌, inl, inr, ℕ, ◌<◌, ◌≤◌, false, List, [], Option, length-set, None, Some, IfOk, IfSome, MatchOption}
+use Rattle.std.proofs.Common.{◌≡◌, inl, inr, ℕ, ◌<◌, ◌≤◌, false, List, [], Option, length-set, None, Some, IfOk, IfSome}
+use Rattle.std.proofs.Common.{MatchOption}
 use Rattle.std.proofs.Common.{Result, Ok, Err, get_or, length, set, refl, sym, ◌∙◌, ap, subst, arith}
 use Rattle.std.proofs.lemmas.Bool.{both_ways, cases_eq, cases_lt}
 use Rattle.std.proofs.lemmas.Option.{same_Some}
@@ -62,15 +63,18 @@ of_begun slots r o kept number offset behind = record {
       subst (λ (p : SlotRecord). IsBehind p.text_len p.state o) (sym (kept.only s q there (is ∙ number))) behind;
 }
 
-pub begins_kept : (slots : List (Option SlotRecord)) (r : Record) (declare : Option ℕ) (result : Result SpoolDraft UploadRefusal)
+pub begins_kept : (slots : List (Option SlotRecord)) (r : Record) (declare : Option ℕ)
+    (result : Result SpoolDraft UploadRefusal)
     → IsKept slots r
     → IfOk result (λ o. (number_of o ≡ r.number) × (offset_of o ≡ r.accepted) × (declare_of o ≡ declare))
     → IfOk result (IsBehind r.text_len r.state) → IfOk result (IsOfUpload slots)
 begins_kept slots r declare (Ok o) kept named behind = of_begun slots r o kept named.0 named.1 behind
 begins_kept slots r declare (Err e) kept named behind = tt
 
-pub begins_below : (next number offset : ℕ) (declare : Option ℕ) (result : Result SpoolDraft UploadRefusal) → number < next
-    → IfOk result (λ o. (number_of o ≡ number) × (offset_of o ≡ offset) × (declare_of o ≡ declare)) → IfOk result (λ o. number_of o < next)
+pub begins_below : (next number offset : ℕ) (declare : Option ℕ) (result : Result SpoolDraft UploadRefusal)
+    → number < next
+    → IfOk result (λ o. (number_of o ≡ number) × (offset_of o ≡ offset) × (declare_of o ≡ declare))
+    → IfOk result (λ o. number_of o < next)
 begins_below next number offset declare (Ok o) lt named = omega (arith, lt, named.0)
 begins_below next number offset declare (Err e) lt named = tt
 

@@ -81,8 +81,8 @@ pub record IsOwnedBy (slots : List (Option SlotRecord)) (rows : List Row) (numbe
   pub used : IsUsedBy slots slot number
   pub owned : (i : ℕ) → i < length list → (k : ℕ) × Owns rows (get_or list i 0) slot k
 
--- The patch's upload is what it was when the patch began, but for a length that another one may have declared since, and
--- isn't complete.
+-- The patch's upload is what it was when the patch began, but for a length that another one may have declared since,
+-- and isn't complete.
 abbrev pub IsStillOpen : Store → Patch → Type 0
 IsStillOpen m p =
     (since : Option ℕ) × (upload_of m p.number ≡ Some (with_length p.began since))

@@ -246,8 +246,8 @@ fn set_length<D: Disk>(
     }
 }
 
-/// Puts the text of the draft of a number behind its upload's, gives that the length that the draft declares where it had
-/// none, and answers the new offset: refused with `NoSuch`, `Offset`, `LengthSet`, `TooLong`, `Unencodable`, `Full`,
+/// Puts the text of the draft of a number behind its upload's, gives that the length that the draft declares where it
+/// had none, and answers the new offset: refused with `NoSuch`, `Offset`, `LengthSet`, `TooLong`, `Unencodable`, `Full`,
 /// `NoMemory`, `DiskFault`. The draft is spent in every case. After a fault of the device what is kept may be ahead of
 /// the disk: the spool must be opened again.
 pub fn commit<D: Disk>(

@@ -169,9 +169,9 @@ impl Kept {
     }
 }
 
-/// An upload gets longer, or its length, on the disk and in memory: its text by these reserved blocks, which replace its
-/// last, unfinished one. Where there are none its text stays. It writes the last bytes to them, once no growth is left, and
-/// syncs them.
+/// An upload gets longer, or its length, on the disk and in memory: its text by these reserved blocks, which replace
+/// its last, unfinished one. Where there are none its text stays. It writes the last bytes to them, once no growth is
+/// left, and syncs them.
 ///
 /// # Errors
 ///

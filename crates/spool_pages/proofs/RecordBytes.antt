@@ -179,7 +179,8 @@ no_number bytes padded = record {
       (padded.each i ∙ sym ((padded_zeros 8).each i));
 }
 
-pub record_eq : (r : SlotRecord) (n : ℕ) (d : Option ℕ) (a t : ℕ) (s m : List ℕ) → n ≡ r.number → d ≡ r.declared → a ≡ r.accepted
+pub record_eq : (r : SlotRecord) (n : ℕ) (d : Option ℕ) (a t : ℕ) (s m : List ℕ) → n ≡ r.number → d ≡ r.declared → a
+    ≡ r.accepted
     → t ≡ r.text_len → s ≡ r.state → m ≡ r.metadata
     → record { number = n; declared = d; accepted = a; text_len = t; state = s; metadata = m } ≡ r
 record_eq r n d a t s m e1 e2 e3 e4 e5 e6 = rw (e1, e2, e3, e4, e5, e6)

@@ -35,8 +35,8 @@ fn put<D: Disk>(disk: &mut D, at: u64, bytes: &[u8]) -> Result<(), DiskFault> {
     disk.write_at(at, bytes)
 }
 
-/// A spool with the uploads 7 in slot 0, 3, of which a byte was accepted, in slot 4, and 2, of unknown length and with as
-/// many accepted bytes as there may be, in slot 6. The text of upload 7 has 4,097 bytes, on the blocks 3 and 9.
+/// A spool with the uploads 7 in slot 0, 3, of which a byte was accepted, in slot 4, and 2, of unknown length and with
+/// as many accepted bytes as there may be, in slot 6. The text of upload 7 has 4,097 bytes, on the blocks 3 and 9.
 fn write_uploads<D: Disk>(disk: &mut D) -> Result<(), DiskFault> {
     let transcoder = Transcoder::new(Encoding::Utf8, Encoding::ShiftJis, Mode::Fatal);
     let mut record = SlotRecord {

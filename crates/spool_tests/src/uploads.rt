@@ -152,7 +152,8 @@ fn left_on(
     Ok((accepted, read, buf))
 }
 
-/// Whether an append was committed or not, as it was answered, where the call of this number fails once and writes other bytes.
+/// Whether an append was committed or not, as it was answered, where the call of this number fails once and writes
+/// other bytes.
 fn is_right_around(alloc: Global, call: u64) -> Result<bool, Fail> {
     let (disk, made) = with_upload(alloc)?;
     let (hiccup, answer) = patched_on(alloc, HiccupDisk::new(disk, call, Some(0xA5)));

@@ -1,5 +1,6 @@
 -- What the commit of a PATCH makes of the uploads: `declare`, or `append`, or both.
-use Rattle.std.proofs.Common.{◌≡◌, ◌≤◌, ◌+◌, ◌==◌, ℕ, Bool, true, false, List, [], ◌∷◌, ◌++◌, length, Option, Some, None}
+use Rattle.std.proofs.Common.{◌≡◌, ◌≤◌, ◌+◌, ◌==◌, ℕ, Bool, true, false, List, [], ◌∷◌, ◌++◌, length, Option, Some}
+use Rattle.std.proofs.Common.{None}
 use Rattle.std.proofs.Common.{refl, sym, ◌∙◌, ap, subst, arith, append-nil, if◌then◌else◌}
 use Rattle.std.proofs.lemmas.Bool.Decides.{nat_tests}
 use Rattle.upload_rules.specs.Lengths.{known_or, is_new, longest}
@@ -37,7 +38,8 @@ module _ (m : Store) (n : ℕ) (u : Upload) (there : upload_of m n ≡ Some u) w
     named bytes =
         let put : Option ℕ → Store =
         λ k. record m {
-          uploads = replaced n (record u { declared = known_or k (Some total); accepted = u.accepted ++ bytes }) m.uploads;
+          uploads = replaced n (record u { declared = known_or k (Some total); accepted = u.accepted ++ bytes })
+              m.uploads;
         } in
         ap (patched_at m n (Some total) bytes) there ∙ ap put unknown
 

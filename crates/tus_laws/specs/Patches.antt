@@ -84,7 +84,10 @@ declared_store m n total = declared_at m n total (upload_of m n)
 -- `append`: an upload gets bytes at its end
 abbrev pub appended_at : Store → ℕ → List ℕ → Option Upload → Store
 appended_at m n bytes None = m
-appended_at m n bytes (Some u) = record m { uploads = replaced n (record u { accepted = u.accepted ++ bytes }) m.uploads }
+appended_at m n bytes (Some u) = record m {
+  uploads = replaced n (record u { accepted = u.accepted ++ bytes })
+      m.uploads;
+}
 
 abbrev pub appended_store : Store → ℕ → List ℕ → Store
 appended_store m n bytes = appended_at m n bytes (upload_of m n)

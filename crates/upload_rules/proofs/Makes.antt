@@ -1,5 +1,6 @@
 -- A table's `create` and `begin`.
-use Rattle.std.proofs.Common.{◌≡◌, ℕ, ◌<◌, ◌≤◌, ◌^◌, false, List, length, Option, Some, None, Ok, refl, sym, ◌∙◌, ap, subst}
+use Rattle.std.proofs.Common.{◌≡◌, ℕ, ◌<◌, ◌≤◌, ◌^◌, false, List, length, Option, Some, None, Ok, refl, sym, ◌∙◌, ap}
+use Rattle.std.proofs.Common.{subst}
 use Rattle.std.proofs.Common.{arith, Vec, Global}
 use Rattle.std.proofs.lemmas.Bool.{le-leb, lt-leb}
 use Rattle.upload_rules.specs.declared.errors.UploadRefusal.TheVariants as refusals

@@ -68,7 +68,8 @@ pub new_encodable : (x : IndexSet) (new : New) (done : Bool) → (text_with x (n
 new_encodable x new done = ap (λ r. r.fault) (text_of_nothing (tables x) new.from new.to new.mode done)
 
 -- where a transcoder stands that saw no byte, and the end where none is to come
-pub new_open : (x : IndexSet) (new : New) (t : Standing) → t ≡ start new.from new.to new.mode → is_length new.declared 0 ≡ false
+pub new_open : (x : IndexSet) (new : New) (t : Standing) → t ≡ start new.from new.to new.mode → is_length
+    new.declared 0 ≡ false
     → t.transcoder ≡ transcoder_with x (new_upload new) [] (is_complete (new_upload new))
 new_open x new t is some =
     ap (λ s. s.transcoder) is

@@ -1,7 +1,8 @@
 -- Why calls are refused, and a table's commit.
 use Rattle.std.proofs.Common.{◌≡◌, ◌==◌, ℕ, zero, suc, ◌+◌, ◌<◌, ◌≤◌, ◌&&◌, Bool, true, false, List, [], ◌∷◌, ◌++◌}
 use Rattle.std.proofs.Common.{length, get_or, set}
-use Rattle.std.proofs.Common.{Option, Some, None, Result, Ok, Err, refl, sym, ◌∙◌, ap, subst, arith, eq-eqb, eqb-true, append-nil}
+use Rattle.std.proofs.Common.{Option, Some, None, Result, Ok, Err, refl, sym, ◌∙◌, ap, subst, arith, eq-eqb, eqb-true}
+use Rattle.std.proofs.Common.{append-nil}
 use Rattle.std.proofs.Common.{inl, inr, if◌then◌else◌, Vec, Global}
 use Rattle.std.proofs.lemmas.Bool.{ne_eqb, cases_lt}
 use Rattle.std.proofs.lemmas.List.{get_or_past}
@@ -211,7 +212,8 @@ longer_is w d p piece e f =
 module _ (t : Table) (w : World) (stands : TableStands t w) (d : ℕ) (p : Patch) (there : find d w.patches ≡ Some p)
   where
     -- the append of the draft is the patch's
-    pub append_is : (o : OpenAppend) → Some o ≡ draft_at t.appends.items d → AppendStands w.store.indexes w.store.next p o
+    pub append_is : (o : OpenAppend) → Some o ≡ draft_at t.appends.items d → AppendStands w.store.indexes
+        w.store.next p o
     append_is o is =
         let a = draft_of (AppendStands w.store.indexes w.store.next) p (find d w.patches) (draft_at t.appends.items d)
         there (stands.appends d) in
@@ -253,7 +255,8 @@ module _ (t : Table) (w : World) (stands : TableStands t w) (d : ℕ) (p : Patch
           (first : IsFirstAt (numbers t.slots.items) o.number place)
           (here : s ≡ get_or t.slots.items place s) where
         -- the upload of the slot
-        abbrev pub upload : (u : Upload) × (upload_of w.store p.number ≡ Some u) × SlotStands w.store.indexes p.number u s
+        abbrev pub upload : (u : Upload) × (upload_of w.store p.number ≡ Some u) × SlotStands w.store.indexes
+            p.number u s
         upload = upload_at t w stands p.number place s
             (subst (λ n. IsFirstAt (numbers t.slots.items) n place) (append_is o is).number first) here
 
@@ -367,7 +370,8 @@ module _ (t : Table) (w : World) (stands : TableStands t w) (d : ℕ) (p : Patch
                   ap (λ z. replaced p.number z ups) (with_nothing u) ∙ replaced_same p.number u ups there_is in
                   subst (λ us. TableStands (record t { slots = slots; appends = v })
                   (record w { store = record w.store { uploads = us }; patches = without d w.patches })) back
-                  (puts (record t { appends = v }) (dropped w d) (drops t w stands d v gone) p.number u None [] place new
+                  (puts (record t { appends = v }) (dropped w d) (drops t w stands d v gone) p.number u None [] place
+                  new
                   slots there_is first_of_patch inside after_put
                   (subst (λ z. SlotStands w.store.indexes p.number z new) (sym (with_nothing u)) kept))
 

@@ -1,6 +1,7 @@
 //! Appends under way.
 
-ghost use Rattle.std.specs.Prelude.{◌≡◌, ◌==◌, ◌≤◌, ◌+◌, ◌++◌, ℕ, if◌then◌else◌, Option, false, length, OnOk, OnErr, IsErrOf};
+ghost use Rattle.std.specs.Prelude.{◌≡◌, ◌==◌, ◌≤◌, ◌+◌, ◌++◌, ℕ, if◌then◌else◌, Option, false, length, OnOk, OnErr};
+ghost use Rattle.std.specs.Prelude.{IsErrOf};
 ghost use Rattle.upload_rules.specs.Lengths.{is_length, is_new, known_or};
 ghost use Rattle.upload_rules.specs.Store.{Upload, with_length, is_complete};
 ghost use Rattle.upload_rules.specs.World.{Patch, reached};

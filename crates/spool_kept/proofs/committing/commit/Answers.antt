@@ -149,7 +149,8 @@ returns-clause-answer g c w p s there =
           c.in-Ok.found c.in-Ok.ensures (not_false c.in-Ok.found.stays c.if-not-found.false),
       (
         head.left_reached g.D.Disk c.args.disk.now c.args.kept.now before c.args.number c.in-Some.draft w p s there
-            here c.in-Ok.found c.in-Ok.ensures (not_false c.in-Ok.found.stays c.if-not-found.false) c.offset-offset.result c.offset-offset.ensures,
+            here c.in-Ok.found c.in-Ok.ensures (not_false c.in-Ok.found.stays c.if-not-found.false)
+            c.offset-offset.result c.offset-offset.ensures,
         head.idle_stands g.D.Disk c.args.disk.now c.args.kept.now before c.args.number c.in-Some.draft w p s there here
             c.in-Ok.found c.in-Ok.ensures (not_false c.in-Ok.found.stays c.if-not-found.false) c.if-found.false _ _
             (drops g.D.Disk c.args.disk.now c.args.kept.now _ before c.taken.new.drafts.items c.args.number w

@@ -1,4 +1,5 @@
-use Rattle.std.proofs.Common.{◌≡◌, ◌∙◌, ◌⊎◌, ◌<◌, ◌&&◌, inl, inr, ℕ, Bool, true, false, not, nat_eq, Result, Err, None, Some}
+use Rattle.std.proofs.Common.{◌≡◌, ◌∙◌, ◌⊎◌, ◌<◌, ◌&&◌, inl, inr, ℕ, Bool, true, false, not, nat_eq, Result, Err, None}
+use Rattle.std.proofs.Common.{Some}
 use Rattle.std.proofs.Common.{ap, arith, eqb-true, get_or, refl, rules, subst, sym}
 use Rattle.std.proofs.lemmas.Bool.{both_ways}
 use Rattle.std.proofs.lemmas.Result.{err_from_is_err_and}
@@ -53,7 +54,8 @@ returns-in_err-declared c =
     subst (Finds slots c.args.draft.now) (sym is) (lemmas.refused slots c.args.draft.now slot r
     (there ∙ ap (λ (q : SlotRecord). Some q) (sym c.record.ensures.said))
     (subst (IsUsedBy slots slot) c.number.ensures c.in-Some.ensures.used)
-    (c.if-accepted-offset.false ∙ c.offset.ensures) c.declare-declare.result c.declare-declare.ensures c.came-came.result c.came-came.ensures
+    (c.if-accepted-offset.false ∙ c.offset.ensures) c.declare-declare.result c.declare-declare.ensures
+    c.came-came.result c.came-came.ensures
     c.in_err-declared.field-0.0 c.in_err-declared.ensures)
 
 not_true : (b : Bool) → not b ≡ true → b ≡ false
@@ -99,7 +101,8 @@ returns-then-came-eq0 c =
     lemmas.found slots c.args.draft.now slot r
     (there ∙ ap (λ (q : SlotRecord). Some q) (sym c.record.ensures.said))
     (subst (IsUsedBy slots slot) c.number.ensures c.in-Some.ensures.used)
-    (c.if-accepted-offset.false ∙ c.offset.ensures) c.declare-declare.result c.declare-declare.ensures c.came-came.result c.came-came.ensures
+    (c.if-accepted-offset.false ∙ c.offset.ensures) c.declare-declare.result c.declare-declare.ensures
+    c.came-came.result c.came-came.ensures
     c.in_ok-declared.declared c.in_ok-declared.ensures.0 c.in_ok-declared.ensures.1 c.in_ok-declared.ensures.2
     (search rules) c.record.ensures.unpacked declares c.is_new-declares.ensures (not c.if-declares.completes)
     (λ stays. (c.if-came-eq0.true, ends.0 stays)) (λ goes. inr (ends.1 goes))
@@ -113,7 +116,8 @@ returns-else-came-eq0 c =
     lemmas.found slots c.args.draft.now slot r
     (there ∙ ap (λ (q : SlotRecord). Some q) (sym c.record.ensures.said))
     (subst (IsUsedBy slots slot) c.number.ensures c.in-Some.ensures.used)
-    (c.if-accepted-offset.false ∙ c.offset.ensures) c.declare-declare.result c.declare-declare.ensures c.came-came.result c.came-came.ensures
+    (c.if-accepted-offset.false ∙ c.offset.ensures) c.declare-declare.result c.declare-declare.ensures
+    c.came-came.result c.came-came.ensures
     c.in_ok-declared.declared c.in_ok-declared.ensures.0 c.in_ok-declared.ensures.1 c.in_ok-declared.ensures.2
     (search rules) c.record.ensures.unpacked c.is_new-declares.result c.is_new-declares.ensures
     (nat_eq c.came-came.result 0) (λ none. absurd (c.if-came-eq0.false (eqb-true c.came-came.result 0 none)))

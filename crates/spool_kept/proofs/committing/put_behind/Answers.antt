@@ -129,7 +129,8 @@ returns-in-Ok-extend-clause-crash g c drafts number w p is =
     (patched_store w.store p.number p.declare p.body) (commit_outcome w number p) (spent.outcome_is w number p answer.0
     (patched_store w.store p.number p.declare p.body) (store_changed w.store p is.changes))
     (c.ended.ensures.quiet drafts number w p is) c.ended.new.kept.layout
-    (ap (λ (h : Holding). h.layout) c.ended.ensures.same.same) (c.extend.ensures.crash w.store p.number p.declare p.body pending)
+    (ap (λ (h : Holding). h.layout) c.ended.ensures.same.same) (c.extend.ensures.crash w.store p.number p.declare
+    p.body pending)
 
 pub returns-in-Err-DiskFault-clause-crash : goal.returns-in-Err-DiskFault-clause-crash
 returns-in-Err-DiskFault-clause-crash g c drafts number w p is =
@@ -140,7 +141,8 @@ returns-in-Err-DiskFault-clause-crash g c drafts number w p is =
     (patched_store w.store p.number p.declare p.body) (commit_outcome w number p) (spent.outcome_is w number p answer.0
     (patched_store w.store p.number p.declare p.body) (store_changed w.store p is.changes))
     (c.ended.ensures.quiet drafts number w p is) c.ended.new.kept.layout
-    (ap (λ (h : Holding). h.layout) c.ended.ensures.same.same) (c.extend.ensures.crash w.store p.number p.declare p.body pending)
+    (ap (λ (h : Holding). h.layout) c.ended.ensures.same.same) (c.extend.ensures.crash w.store p.number p.declare
+    p.body pending)
 
 -- THE ANSWER
 

@@ -40,13 +40,15 @@ returns-in-Err-DiskFault-clause-fits g c drafts fit =
 pub returns-in-Ok-clause-crash : goal.returns-in-Ok-clause-crash
 returns-in-Ok-clause-crash g c m n stored used small =
     c.extend.ensures.crash m n c.args.declared []
-    (declared.pending g.D.Disk c.args.disk.now c.args.kept.now m n c.args.slot c.args.declared stored (done_may g c) used
+    (declared.pending g.D.Disk c.args.disk.now c.args.kept.now m n c.args.slot c.args.declared stored (done_may g c)
+    used
     small)
 
 pub returns-in-Err-DiskFault-clause-crash : goal.returns-in-Err-DiskFault-clause-crash
 returns-in-Err-DiskFault-clause-crash g c m n stored used small =
     c.extend.ensures.crash m n c.args.declared []
-    (declared.pending g.D.Disk c.args.disk.now c.args.kept.now m n c.args.slot c.args.declared stored (failed_may g c) used
+    (declared.pending g.D.Disk c.args.disk.now c.args.kept.now m n c.args.slot c.args.declared stored (failed_may g
+    c) used
     small)
 
 pub returns-in-Ok-clause-answer : goal.returns-in-Ok-clause-answer

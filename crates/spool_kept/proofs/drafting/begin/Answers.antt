@@ -59,7 +59,8 @@ returns-in-Err-placed-clause-answer g c disk w s =
     let n = c.args.number in
     let opens = c.in-Ok.ensures.opened s.stored.view w.store (g.D.Disk.seen disk) s.stored.keeps s.stored.shows
     (rests_says s.stored.rests) in (
-      begin_late g.D.Disk disk h before w s n c.args.offset c.args.count c.args.declare (upload_of w.store n) c.in-Ok.draft refl opens,
+      begin_late g.D.Disk disk h before w s n c.args.offset c.args.count c.args.declare (upload_of w.store n)
+          c.in-Ok.draft refl opens,
       subst (λ (drafts : List (Option SpoolDraft)). StandsFor g.D.Disk disk h drafts w)
           (sym c.in-Err-placed.ensures.err) s,
     )

@@ -25,7 +25,8 @@ returns-clause-opened c v m bytes kept shows says =
     let told = c.in-Some.ensures.told v m bytes kept shows says in
     let n = c.args.number in
     let first = 25 + 2 * journal_pages c.args.kept.now.layout in
-    subst (λ (o : Option Upload). OpensFor m n c.args.offset c.args.count c.args.declare bytes first o c.begin.result) (sym told.there)
+    subst (λ (o : Option Upload). OpensFor m n c.args.offset c.args.count c.args.declare bytes first o
+    c.begin.result) (sym told.there)
     (opens_for m n c.args.offset c.args.count c.args.declare bytes first told.upload c.begin.result
     (c.begin.ensures.begun m.indexes n told.upload told.keeps)
     (c.begin.ensures.content m.indexes n told.upload bytes first told.keeps told.text))

@@ -73,7 +73,8 @@ returns-clause-written g c m n declare bytes pending =
     (length (bytes_with (g.D.Disk.seen c.args.disk.now) (25 + 2 * journal_pages n) c.args.more.now c.args.last.now)) ≡
     bytes_with (g.D.Disk.seen c.args.disk.now) (25 + 2 * journal_pages n) c.args.more.now c.args.last.now) layout
     (c.in_ok-write_last.ensures.written stored.honest) in
-    let append = appended g.D.Disk c.args.disk.now c.write_last.new.disk c.args.kept.now m n declare bytes c.args.longer.now
+    let append = appended g.D.Disk c.args.disk.now c.write_last.new.disk c.args.kept.now m n declare bytes
+    c.args.longer.now
     c.args.more.now c.args.last.now pending c.requires.reserved wrote c.write_last.ensures.honest.0 written in
     let honest = c.write_last.ensures.honest.0 stored.honest in
     record {
@@ -107,7 +108,8 @@ returns-clause-answer g c m n declare bytes pending =
     (length (bytes_with (g.D.Disk.seen c.args.disk.now) (25 + 2 * journal_pages n) c.args.more.now c.args.last.now)) ≡
     bytes_with (g.D.Disk.seen c.args.disk.now) (25 + 2 * journal_pages n) c.args.more.now c.args.last.now) layout
     (c.in_ok-write_last.ensures.written stored.honest) in
-    let append = appended g.D.Disk c.args.disk.now c.write_last.new.disk c.args.kept.now m n declare bytes c.args.longer.now
+    let append = appended g.D.Disk c.args.disk.now c.write_last.new.disk c.args.kept.now m n declare bytes
+    c.args.longer.now
     c.args.more.now c.args.last.now pending c.requires.reserved wrote c.write_last.ensures.honest.0 written in
     let honest = c.write_last.ensures.honest.0 stored.honest in
     let before' = before g.D.Disk c.write_last.new.disk c.args.kept.now c.take_over.new.self fits c.args.longer.now
@@ -149,7 +151,8 @@ returns-clause-crash g c m n declare bytes pending =
     (length (bytes_with (g.D.Disk.seen c.args.disk.now) (25 + 2 * journal_pages n) c.args.more.now c.args.last.now)) ≡
     bytes_with (g.D.Disk.seen c.args.disk.now) (25 + 2 * journal_pages n) c.args.more.now c.args.last.now) layout
     (c.in_ok-write_last.ensures.written stored.honest) in
-    let append = appended g.D.Disk c.args.disk.now c.write_last.new.disk c.args.kept.now m n declare bytes c.args.longer.now
+    let append = appended g.D.Disk c.args.disk.now c.write_last.new.disk c.args.kept.now m n declare bytes
+    c.args.longer.now
     c.args.more.now c.args.last.now pending c.requires.reserved wrote c.write_last.ensures.honest.0 written in
     let honest = c.write_last.ensures.honest.0 stored.honest in
     let before' = before g.D.Disk c.write_last.new.disk c.args.kept.now c.take_over.new.self fits c.args.longer.now
@@ -164,7 +167,8 @@ returns-clause-crash g c m n declare bytes pending =
     let texts = after_texts g.D.Disk c.write_last.new.disk c.args.kept.now c.take_over.new.self fits c.args.longer.now
     c.args.more.now may c.requires.reserved is size m n declare bytes append in
     let rest = append.stored in
-    let before_it = shown g.D.Disk c.args.disk.now c.write_last.new.disk c.args.kept.now m n declare bytes c.args.longer.now
+    let before_it = shown g.D.Disk c.args.disk.now c.write_last.new.disk c.args.kept.now m n declare bytes
+    c.args.longer.now
     c.args.more.now c.args.last.now pending c.requires.reserved wrote in
     lasts_on (lasts_more before_it (λ image is'. inl is'))
     (after_lasts g.D.Disk c.write_last.new.disk c.args.kept.now c.take_over.new.self fits c.args.longer.now
@@ -193,7 +197,8 @@ returns-in_err-change-clause-crash g c m n declare bytes pending =
     (length (bytes_with (g.D.Disk.seen c.args.disk.now) (25 + 2 * journal_pages n) c.args.more.now c.args.last.now)) ≡
     bytes_with (g.D.Disk.seen c.args.disk.now) (25 + 2 * journal_pages n) c.args.more.now c.args.last.now) layout
     (c.in_ok-write_last.ensures.written stored.honest) in
-    let append = appended g.D.Disk c.args.disk.now c.write_last.new.disk c.args.kept.now m n declare bytes c.args.longer.now
+    let append = appended g.D.Disk c.args.disk.now c.write_last.new.disk c.args.kept.now m n declare bytes
+    c.args.longer.now
     c.args.more.now c.args.last.now pending c.requires.reserved wrote c.write_last.ensures.honest.0 written in
     let honest = c.write_last.ensures.honest.0 stored.honest in
     let before' = before g.D.Disk c.write_last.new.disk c.args.kept.now c.take_over.new.self fits c.args.longer.now
@@ -208,7 +213,8 @@ returns-in_err-change-clause-crash g c m n declare bytes pending =
     let texts = after_texts g.D.Disk c.write_last.new.disk c.args.kept.now c.take_over.new.self fits c.args.longer.now
     c.args.more.now may c.requires.reserved is size m n declare bytes append in
     let rest = append.stored in
-    let before_it = shown g.D.Disk c.args.disk.now c.write_last.new.disk c.args.kept.now m n declare bytes c.args.longer.now
+    let before_it = shown g.D.Disk c.args.disk.now c.write_last.new.disk c.args.kept.now m n declare bytes
+    c.args.longer.now
     c.args.more.now c.args.last.now pending c.requires.reserved wrote in
     lasts_on (lasts_more before_it (λ image is'. inl is'))
     (after_lasts g.D.Disk c.write_last.new.disk c.args.kept.now c.take_over.new.self fits c.args.longer.now
@@ -226,6 +232,7 @@ returns-in_err-write_last-clause-crash g c m n declare bytes pending =
     c.write_last.new.disk =
     subst (λ (n : ℕ). OnlyWrites g.D.Disk (journal_pages n) c.args.more.now c.args.disk.now c.write_last.new.disk)
     layout (only (c.write_last.ensures.writes stored.honest) (c.write_last.ensures.lasts stored.honest)) in
-    let before_it = shown g.D.Disk c.args.disk.now c.write_last.new.disk c.args.kept.now m n declare bytes c.args.longer.now
+    let before_it = shown g.D.Disk c.args.disk.now c.write_last.new.disk c.args.kept.now m n declare bytes
+    c.args.longer.now
     c.args.more.now c.args.last.now pending c.requires.reserved wrote in
     lasts_more before_it (λ image is'. inl is')
