@@ -1,5 +1,4 @@
-use Rattle.std.proofs.Common.{◌≡◌, ◌<◌, ◌∙◌, false, [], ◌∷◌, ◌++◌, not, ap, subst, refl, sym, arith, length}
-use Rattle.std.proofs.Common.{if◌then◌else◌}
+use Rattle.std.proofs.Common.{◌≡◌, ◌<◌, ◌∙◌, false, [], ◌∷◌, ◌++◌, not, ap, subst, refl, sym, arith, length, if◌then◌else◌}
 use Rattle.upload_rules.specs.Lengths.{is_too_large}
 use Rattle.upload_rules.specs.Store.{New}
 use Rattle.upload_rules.specs.Answers.{IsLate}
@@ -7,9 +6,7 @@ use Rattle.upload_rules.proofs.Makes.{many, spent_numbers, creatable, not_create
 use Rattle.upload_rules.proofs.Worlds.{creates}
 use Rattle.upload_rules.proofs.table.TableUploads.create.Goals as goal
 use Rattle.upload_rules.proofs.table.TableUploads.create.Goals.{then-len-ge-SLOT_COUNT-via-then-len-ge-SLOT_COUNT}
-use Rattle.upload_rules.proofs.table.TableUploads.create.Goals.{}
-use Rattle.upload_rules.proofs.table.TableUploads.create.Goals.{then-len-ge-SLOT_COUNT-via-else-len-ge-SLOT_COUNT+then-self-ge-NUMBERS_END
-    use Rattle.upload_rules.proofs.table.TableUploads.create.Goals.{then-len-ge-SLOT_COUNT-via-else-len-ge-SLOT_COUNT+then-self-ge-NUMBERS_END}
+use Rattle.upload_rules.proofs.table.TableUploads.create.Goals.{then-len-ge-SLOT_COUNT-via-else-len-ge-SLOT_COUNT+then-self-ge-NUMBERS_END}
 
 pub returns-then-len-ge-SLOT_COUNT-clause-answer : goal.returns-then-len-ge-SLOT_COUNT-clause-answer
 returns-then-len-ge-SLOT_COUNT-clause-answer c = λ w stands.
