@@ -8,7 +8,9 @@ Each case is a script over a spool that holds its uploads already. For each numb
 status 2 and `refused: 0 NoMemory` behind the front of the output; or with status 0, where one connection got `! N 0` in
 place of an answer and then only `! N 30`, and the others got what they get without it. Afterwards each upload has at
 least the bytes that were told to be accepted, and exactly their text; one whose deletion was told is gone; and a length
-that came with an upload's last bytes is known where they are there. The status is 0 where all was so.
+that came with an upload's last bytes is known where they are there. Last comes an upgrade of a spool of version 1: it
+ends with status 2 and `refused: 0 NoMemory`, and no byte of the spool is another; or it is done, and the spool has the
+bytes that it had in version 2 before. The status is 0 where all was so.
 """
 
 import argparse
@@ -22,7 +24,7 @@ import tempfile
 from collections import namedtuple
 from pathlib import Path
 
-from harness import format_spool, write_indexes
+from harness import format_spool, make_old, state_page, version_of, write_indexes
 
 LIBRARY = r"""
 #define _GNU_SOURCE
@@ -147,9 +149,9 @@ CASES = {
 
 
 class Run:
-    """A script over a spool, with one allocation refused, if any."""
+    """A script, or another command, over a spool, with one allocation refused, if any."""
 
-    def __init__(self, gateway, spool, lines, library=None, number=0):
+    def __init__(self, gateway, spool, lines, library=None, number=0, command="script"):
         env = dict(os.environ, REFUSED=str(number))
         if library:
             env["LD_PRELOAD"] = str(library)
@@ -158,7 +160,7 @@ class Run:
         os.close(write)
         given = "".join(f"{line}\n" for line in lines).encode()
         how = {"input": given, "capture_output": True, "env": env, "pass_fds": [9], "timeout": 60}
-        ran = subprocess.run([gateway, "script", str(spool)], **how)
+        ran = subprocess.run([gateway, command, str(spool)], **how)
         os.close(9)
         self.reached = os.read(read, 1) == b"!"
         os.close(read)
@@ -262,6 +264,40 @@ def try_case(gateway, folder, library, empty, name):
     return wrong
 
 
+def but_journal(spool):
+    """A spool's bytes, without the head and the pages of its journal."""
+    data = spool.read_bytes()
+    return data[:8192] + data[state_page(spool) - 22 * 4096 :]
+
+
+def try_upgrade(gateway, folder, library, empty):
+    """Each allocation of an upgrade, refused in turn: the numbers of those that went wrong."""
+    new, old, spool = folder / "new", folder / "old", folder / "spool"
+    shutil.copyfile(empty, new)
+    lines = ["open 0", *post(0, 5, "utf-8"), *patch(0, 1, 0, b"hello"), *post(0, 18, "shift_jis", "a" * 900)]
+    lines += [*patch(0, 2, 0, SHIFT_JIS[:7]), *post(0, None, "shift_jis"), *patch(0, 3, 0, SHIFT_JIS[:7])]
+    assert Run(gateway, new, lines).status == 0
+    shutil.copyfile(new, old)
+    make_old(old)
+    assert version_of(new) == 2 and version_of(old) == 1 and list_of(gateway, new) == list_of(gateway, old)
+    wrong, ended, number = [], 0, 0
+    while True:
+        number += 1
+        shutil.copyfile(old, spool)
+        run = Run(gateway, spool, [], library, number, "upgrade")
+        if run.status == 2:
+            ended += 1
+            well = run.said == "refused: 0 NoMemory\n" and run.out == b"" and spool.read_bytes() == old.read_bytes()
+        else:
+            well = run.status == 0 and run.out == b"upgraded to version 2\n" and but_journal(spool) == but_journal(new)
+        if not well:
+            wrong.append(number)
+        if not run.reached:
+            break
+    print(f"upgrade: {number - 1} allocations refused in turn, {ended} ended the run, {len(wrong)} wrong {wrong[:10]}")
+    return wrong
+
+
 def main():
     words = argparse.ArgumentParser(description=__doc__.splitlines()[0])
     words.add_argument("--gateway", default="crates/gateway/out/gateway")
@@ -280,6 +316,7 @@ def main():
             write_indexes(indexes)
         format_spool(gateway, folder / "empty", 64, indexes)
         wrong = [try_case(gateway, folder, library, folder / "empty", case) for case in CASES]
+        wrong.append(try_upgrade(gateway, folder, library, folder / "empty"))
     raise SystemExit(1 if any(wrong) else 0)
 
 

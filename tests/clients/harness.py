@@ -171,6 +171,40 @@ def format_spool(gateway, spool, blocks, indexes):
     print(subprocess.run(words, check=True, capture_output=True, text=True, timeout=300).stdout.strip())
 
 
+def state_page(spool):
+    """Where the state page of a spool begins."""
+    with open(spool, "rb") as file:
+        blocks = int.from_bytes(file.read(12)[8:], "big")
+    return 4096 * (282 + -(-blocks // 512))
+
+
+def version_of(spool):
+    """The version that a spool's state page says. (Its gate is closed.)"""
+    return int.from_bytes(read_at(spool, state_page(spool), 4), "big")
+
+
+def read_at(path, place, count):
+    with open(path, "rb") as file:
+        file.seek(place)
+        return file.read(count)
+
+
+def make_old(spool):
+    """Makes a spool of version 2, whose gate is closed, one of version 1: the number, and each unknown length."""
+    state = state_page(spool)
+    with open(spool, "r+b") as file:
+        write_at(file, state, (1).to_bytes(4, "big"))
+        for record in range(state + 4096, state + 257 * 4096, 2048):
+            if read_at(spool, record + 1602, 1) == b"\1":
+                write_at(file, record + 8, b"\xff" * 8)
+                write_at(file, record + 1602, b"\0")
+
+
+def write_at(file, place, data):
+    file.seek(place)
+    file.write(data)
+
+
 class Server:
     """A gateway that serves a spool at a port of its own."""
 

@@ -3,7 +3,8 @@
 
     python3 tests/clients/hostile.py [--gateway PROGRAM] [--spools N] [--indexes N] [--heads N] [--seed N]
 
-A damaged spool is listed twice, and where it is taken each of its texts is read; a damaged index file is formatted
+A damaged spool, of version 1 or 2, is listed twice, and where it is taken each of its texts is read; it is upgraded
+where it is taken and of version 1, and refused so too where it isn't taken; a damaged index file is formatted
 with; a damaged head is given whole and in pieces, whose replies must be the same bytes. The status is 0 where nothing
 hung, was ended by a signal or went on otherwise the second time. What was wrong is printed with its seed.
 """
@@ -17,7 +18,7 @@ import tempfile
 from pathlib import Path
 
 from growths import LONG, SHIFT_JIS, ask, came, patch, post
-from harness import write_indexes
+from harness import make_old, version_of, write_indexes
 
 PAGE = 4096
 BLOCKS = 16
@@ -35,6 +36,7 @@ HEAD = [
 ]
 WORDS = ["", "0", "-1", "9" * 20, "5, 5", "chunked", "\x00", "\xff" * 9, " " * 99, "a" * 9000, "\r\n\r\n", "%2F"]
 LINES = (b"refused: 3 ", b"refused: 4 ", b"refused: 5 ", b"refused: 33 ")
+ALREADY_NEW = b"refused: 35 AlreadyNew\n"
 
 
 class Program:
@@ -87,7 +89,7 @@ def damage_spool(rng, data):
 def try_spool(program, rng, folder, sound):
     """A damaged spool is taken or refused, and then taken or refused so again."""
     spool = folder / "damaged"
-    spool.write_bytes(damage_spool(rng, sound))
+    spool.write_bytes(damage_spool(rng, rng.choice([sound, (folder / "old").read_bytes()])))
     first = program.run("list", spool)
     again = program.run("list", spool)
     if (first.returncode, first.stdout, first.stderr) != (again.returncode, again.stdout, again.stderr):
@@ -97,6 +99,22 @@ def try_spool(program, rng, folder, sound):
         read = program.script(spool, ["open 0", *(line for number in numbers for line in ask(0, "GET", number))])
         if read.returncode or read.stdout.count(b"200 OK") != len(numbers):
             raise ValueError(f"listed {numbers}, and read {read.stdout[-200:]} {read.stderr}")
+    upgrade_listed(program, spool, first)
+
+
+def upgrade_listed(program, spool, listed):
+    """A spool of version 1 is upgraded where it was listed, and lists the same; else it is refused so too. Of version 2
+    it is refused before it is found to be damaged behind its version."""
+    ran = program.run("upgrade", spool)
+    if ran.stderr == ALREADY_NEW:
+        right = ran.returncode == 2 and version_of(spool) == 2 and listed.stderr in (b"", b"refused: 2 Damaged\n")
+    elif listed.returncode == 0:
+        again = program.run("list", spool)
+        right = ran.returncode == 0 and version_of(spool) == 2 and again.stdout == listed.stdout
+    else:
+        right = (ran.returncode, ran.stderr) == (listed.returncode, listed.stderr)
+    if not right:
+        raise ValueError(f"listed {listed.stdout} {listed.stderr}, and upgraded {ran.stdout} {ran.stderr}")
 
 
 def try_index(program, rng, folder, sound):
@@ -156,7 +174,8 @@ def try_head(program, rng, folder, sound):
 
 
 def sound_spool(program, folder):
-    """A spool with four uploads, one of them without its last bytes, and one of unknown length."""
+    """A spool with four uploads, one of them without its last bytes, and one of unknown length; a copy of version 1
+    lies beside it."""
     spool = folder / "sound"
     program.run("format", spool, "--blocks", BLOCKS, "--indexes", folder / "idx")
     texts = [(LONG[:9000], "utf-8", 9000), (SHIFT_JIS, "shift_jis", len(SHIFT_JIS)), (SHIFT_JIS[:5], "shift_jis", 9)]
@@ -166,6 +185,8 @@ def sound_spool(program, folder):
         lines += [*post(0, declared, label, f"text {number}"), *patch(0, number, 0, data)]
     if program.script(spool, lines).stdout.count(b" 204 ") != len(texts):
         raise ValueError("the sound spool could not be made")
+    shutil.copyfile(spool, folder / "old")
+    make_old(folder / "old")
     return spool.read_bytes()
 
 

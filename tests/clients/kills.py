@@ -8,20 +8,25 @@ by its own process id, at a random moment; started again, each client asks for t
 what was acknowledged and no more than what was sent, goes on there, and compares the whole text at the end. The length
 of some uploads comes with their last bytes or behind them. Whole uploads are deleted meanwhile: behind each start those
 whose deletion was acknowledged are still gone, no number comes twice, and the texts of the others are compared again
-before they are deleted, or at the end. The status is 0 where all was so. (SIGKILL ends a process and leaves the kernel's cache: it tries recovery, not the disk.)
+before they are deleted, or at the end. For the first half of the ends the spool is of version 1; then it is upgraded,
+by runs that are ended hard too. The status is 0 where all was so. (SIGKILL ends a process and leaves the kernel's
+cache: it tries recovery, not the disk.)
 """
 
 import argparse
 import http.client
+import subprocess
 import tempfile
 import threading
 import time
 from pathlib import Path
 
-from harness import ENCODINGS, Client, Refused, Sample, Server, format_spool, random_sample, rng_of, write_indexes
+from harness import ENCODINGS, Client, Refused, Sample, Server, format_spool, make_old, random_sample, rng_of
+from harness import version_of, write_indexes
 
 BLOCKS = 8192
 MOST_KEPT = 20
+MOST_UPGRADES = 20
 LOST = (OSError, http.client.HTTPException)
 
 
@@ -184,16 +189,37 @@ def work(load, place, seed):
         load.is_wrong(f"client {place}: {error}")
 
 
-def end_again_and_again(load, kills, seed):
-    """Ends the server hard at random moments, and starts it again."""
-    rng = rng_of(seed, "moments")
-    for _ in range(kills):
+def end_again_and_again(load, given, spool):
+    """Ends the server hard at random moments, and starts it again; halfway the spool is upgraded in between."""
+    rng = rng_of(given.seed, "moments")
+    for end in range(given.kills):
         time.sleep(rng.uniform(0.02, 1.0))
         load.server.kill()
+        if end == given.kills // 2:
+            upgrade(load, given.gateway, spool, rng)
         load.server.start()
         ask_for_deleted(load)
         load.port = load.server.port
     load.over.set()
+
+
+def upgrade(load, gateway, spool, rng):
+    """Brings the spool to version 2 by runs that are ended hard at random moments, but for the last one."""
+    for number in range(MOST_UPGRADES):
+        run = subprocess.Popen([gateway, "upgrade", str(spool)], stdout=subprocess.PIPE, stderr=subprocess.PIPE)
+        try:
+            out, said = run.communicate(timeout=rng.uniform(0.0, 0.3) if number < MOST_UPGRADES - 1 else 60)
+        except subprocess.TimeoutExpired:
+            run.kill()
+            run.communicate()
+            continue
+        # (a run before may have been ended behind its commit)
+        done = run.returncode == 0 and out == b"upgraded to version 2\n"
+        if not (done or number > 0 and said == b"refused: 35 AlreadyNew\n") or version_of(spool) != 2:
+            load.is_wrong(f"upgrade {number}: status {run.returncode}, {out} {said}")
+        print(f"upgraded, {number} runs ended before")
+        return
+    load.is_wrong("the upgrade doesn't end")
 
 
 def ask_for_deleted(load):
@@ -205,13 +231,13 @@ def ask_for_deleted(load):
     client.close()
 
 
-def run(server, given):
+def run(server, given, spool):
     load = Load(server)
     clients = [threading.Thread(target=work, args=(load, place, given.seed)) for place in range(given.clients)]
     for client in clients:
         client.start()
     try:
-        end_again_and_again(load, given.kills, given.seed)
+        end_again_and_again(load, given, spool)
     finally:
         load.over.set()
         for client in clients:
@@ -236,10 +262,12 @@ def main():
         indexes = given.indexes or folder
         if not given.indexes:
             write_indexes(folder)
-        format_spool(given.gateway, Path(folder, "spool"), BLOCKS, indexes)
-        server = Server(given.gateway, Path(folder, "spool"))
+        spool = Path(folder, "spool")
+        format_spool(given.gateway, spool, BLOCKS, indexes)
+        make_old(spool)
+        server = Server(given.gateway, spool)
         try:
-            return run(server, given)
+            return run(server, given, spool)
         finally:
             server.kill()
 

@@ -3,7 +3,7 @@
 use enc_index::ReadError;
 use gateway_engine::RunFault;
 use spool_disk::DiskFault;
-use spool_image::{FormatError, OpenFault};
+use spool_image::{FormatError, OpenFault, UpgradeError};
 use std::alloc::AllocError;
 use std::{fmt, io};
 
@@ -24,8 +24,10 @@ pub(crate) enum Fault {
     Size,
     /// The file is no spool.
     NotASpool,
-    /// The spool has another version.
+    /// The spool is of no version that is known.
     Version,
+    /// The spool is of version 2 already.
+    AlreadyNew,
     /// A line of the script.
     Script(u64),
     /// A reader, a writer or a file failed.
@@ -54,6 +56,7 @@ impl fmt::Display for Fault {
             Fault::Version => f.write_str("refused: 16 Version"),
             Fault::Script(line) => write!(f, "refused: 32 Script {line}"),
             Fault::Io => f.write_str("refused: 33 Io"),
+            Fault::AlreadyNew => f.write_str("refused: 35 AlreadyNew"),
         }
     }
 }
@@ -107,6 +110,15 @@ impl From<OpenFault> for Fault {
             OpenFault::Damaged => Fault::Damaged,
             OpenFault::Version => Fault::Version,
             OpenFault::NoMemory => Fault::NoMemory,
+        }
+    }
+}
+
+impl From<UpgradeError> for Fault {
+    fn from(error: UpgradeError) -> Self {
+        match error {
+            UpgradeError::Open(fault) => Fault::from(fault),
+            UpgradeError::AlreadyNew => Fault::AlreadyNew,
         }
     }
 }

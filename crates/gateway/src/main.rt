@@ -11,6 +11,7 @@ mod serving;
 mod spool_files;
 #[cfg(test)]
 mod tests;
+mod upgrading;
 
 use clap::Error;
 use clap::error::ErrorKind;
@@ -24,6 +25,7 @@ use serving::serve_file;
 use std::alloc::Global;
 use std::process::ExitCode;
 use std::{env, io};
+use upgrading::upgrade_file;
 
 // The status of a command line that is none.
 const USAGE: u8 = 1;
@@ -75,6 +77,10 @@ fn obey<'a>(rt: &HostRuntime, order: Order<'a>) -> Result<ExitCode, Failure<'a>>
         Order::Script { spool } => run_script(rt, alloc, spool)?,
         Order::Serve(service) => serve_file(rt, alloc, service)?,
         Order::List { spool } => list_file(rt, alloc, spool)?,
+        Order::Upgrade { spool } => {
+            upgrade_file(rt, alloc, spool)?;
+            println!(rt; "upgraded to version 2")?;
+        }
     }
     Ok(ExitCode::SUCCESS)
 }

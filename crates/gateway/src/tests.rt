@@ -5,10 +5,12 @@ use crate::formatting::format_file;
 use crate::listing::list_on;
 use crate::scripting::run_over_disk;
 use crate::spool_files::open_spool;
+use crate::upgrading::upgrade_file;
 use gateway_orders::{Order, Service, read_order};
-use spool_disk::FileDisk;
+use spool_disk::{Disk, FileDisk};
 use std::alloc::{AllocError, Global};
 use std::fs;
+use std::process::Abort;
 use std::test::Fail;
 
 const FOLDER: &str = "gateway_file_test";
@@ -51,12 +53,67 @@ fn spool_is_made_used_and_listed(rt: HostRuntime) -> Result<(), Fail> {
     let (disk, ran) = run_over_disk(rt.alloc(), &mut script, &mut written, disk);
     ran?;
     assert_eq!(rt; written.as_slice(), WRITTEN);
-    let mut lines = Vec::new(rt.alloc());
-    let (disk, listed) = list_on(rt.alloc(), &mut lines, disk);
-    listed?;
+    let (disk, lines) = lines_of(rt.alloc(), disk)?;
     assert_eq!(rt; lines.as_slice(), LISTED);
     drop(disk);
     fs::remove_dir_all(&rt, FOLDER)?;
+    Ok(())
+}
+
+const OLD_FOLDER: &str = "gateway_old_file_test";
+
+const OLD_SPOOL: &str = "gateway_old_file_test/spool";
+
+#[test]
+fn old_spool_is_listed_and_upgraded(rt: HostRuntime) -> Result<(), Fail> {
+    let alloc = rt.alloc();
+    let _ = fs::remove_dir_all(&rt, OLD_FOLDER);
+    fs::create_dir(&rt, OLD_FOLDER)?;
+    let _made = format_file(&rt, alloc, OLD_SPOOL, 16, OLD_FOLDER)?;
+    let disk = FileDisk::open(&rt, OLD_SPOOL)?;
+    let (mut disk, ran) = run_over_disk(alloc, &mut SCRIPT, &mut Vec::new(alloc), disk);
+    ran?;
+    make_old(&rt, &mut disk)?;
+    let (disk, lines) = lines_of(alloc, disk)?;
+    assert_eq!(rt; lines.as_slice(), LISTED);
+    drop(disk);
+    upgrade_file(&rt, alloc, OLD_SPOOL)?;
+    let (disk, lines) = lines_of(alloc, FileDisk::open(&rt, OLD_SPOOL)?)?;
+    assert_eq!(rt; lines.as_slice(), LISTED);
+    drop(disk);
+    match upgrade_file(&rt, alloc, OLD_SPOOL) {
+        Ok(()) => panic!(rt; "upgraded again"),
+        Err(failure) => {
+            assert_eq!(rt; said(alloc, &failure)?.as_str(), "refused: 35 AlreadyNew");
+            assert_eq!(rt; failure.status(), 2);
+        }
+    }
+    fs::remove_dir_all(&rt, OLD_FOLDER)?;
+    Ok(())
+}
+
+/// What is listed of the spool on a disk.
+fn lines_of(alloc: Global, disk: FileDisk) -> Result<(FileDisk, Vec<u8>), Fail> {
+    let mut lines = Vec::new(alloc);
+    let (disk, listed) = list_on(alloc, &mut lines, disk);
+    listed?;
+    Ok((disk, lines))
+}
+
+/// Makes the spool of version 1 again: its state page's version, and the third record's unknown length.
+fn make_old(rt: &impl Abort, disk: &mut FileDisk) -> Result<(), Fail> {
+    // 16 text blocks have 258 journal pages, so the state page is page 283
+    let state_page = 4096 * 283u64;
+    let third_record = state_page + 4096 + 2 * 2048;
+    let mut length = [1; 8];
+    let mut tag = [0];
+    disk.read(third_record + 8, &mut length)?;
+    disk.read(third_record + 1602, &mut tag)?;
+    assert_eq!(rt; (length, tag), ([0; 8], [1]));
+    disk.write_at(state_page, &1u32.to_be_bytes())?;
+    disk.write_at(third_record + 8, &[0xFF; 8])?;
+    disk.write_at(third_record + 1602, &[0])?;
+    disk.sync()?;
     Ok(())
 }
 
@@ -97,7 +154,7 @@ fn failure_says_what_the_system_said(rt: HostRuntime) -> Result<(), Fail> {
 }
 
 /// Command lines that ask for something, and what for.
-const ORDERS: [(&str, Order); 5] = [
+const ORDERS: [(&str, Order); 6] = [
     (
         "gateway format new --blocks 16 --indexes idx",
         Order::Format {
@@ -126,10 +183,11 @@ const ORDERS: [(&str, Order); 5] = [
         }),
     ),
     ("gateway list old", Order::List { spool: "old" }),
+    ("gateway upgrade old", Order::Upgrade { spool: "old" }),
 ];
 
 /// Command lines that ask for nothing: with a word too few, one too many, one that doesn't read, and for help.
-const NO_ORDERS: [&str; 9] = [
+const NO_ORDERS: [&str; 10] = [
     "gateway",
     "gateway list",
     "gateway format new --blocks 16",
@@ -139,6 +197,7 @@ const NO_ORDERS: [&str; 9] = [
     "gateway serve old --port 65536 --connections 1 --turns 1",
     "gateway help",
     "gateway list --help",
+    "gateway upgrade",
 ];
 
 /// The words of a line.

@@ -11,7 +11,8 @@ pub(crate) fn gateway<'a>(alloc: Global) -> Result<Command<'a>, AllocError> {
         .subcommand(format(alloc)?)?
         .subcommand(script(alloc)?)?
         .subcommand(serve(alloc)?)?
-        .subcommand(list(alloc)?)
+        .subcommand(list(alloc)?)?
+        .subcommand(upgrade(alloc)?)
 }
 
 fn format<'a>(alloc: Global) -> Result<Command<'a>, AllocError> {
@@ -61,6 +62,12 @@ fn serve<'a>(alloc: Global) -> Result<Command<'a>, AllocError> {
 fn list<'a>(alloc: Global) -> Result<Command<'a>, AllocError> {
     Command::new(alloc, "list")
         .about("Prints the uploads of a spool, by number")
+        .arg(spool(alloc, "The file with the spool"))
+}
+
+fn upgrade<'a>(alloc: Global) -> Result<Command<'a>, AllocError> {
+    Command::new(alloc, "upgrade")
+        .about("Brings a spool of version 1 to version 2. There is no way back")
         .arg(spool(alloc, "The file with the spool"))
 }
 

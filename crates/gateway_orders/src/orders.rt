@@ -23,6 +23,10 @@ pub enum Order<'a> {
     List {
         spool: &'a str,
     },
+    /// The spool at this path, brought to version 2.
+    Upgrade {
+        spool: &'a str,
+    },
 }
 
 /// What to serve: the spool in a file, at a port of 127.0.0.1.
@@ -48,6 +52,7 @@ pub fn read_order<'a>(alloc: Global, words: &'a [String]) -> Result<Option<Order
         Some(("script", given)) => script_order(given),
         Some(("serve", given)) => serve_order(given),
         Some(("list", given)) => list_order(given),
+        Some(("upgrade", given)) => upgrade_order(given),
         _ => None,
     })
 }
@@ -77,6 +82,12 @@ fn serve_order<'a>(given: &ArgMatches<'a>) -> Option<Order<'a>> {
 
 fn list_order<'a>(given: &ArgMatches<'a>) -> Option<Order<'a>> {
     Some(Order::List {
+        spool: given.get_str("SPOOL")?,
+    })
+}
+
+fn upgrade_order<'a>(given: &ArgMatches<'a>) -> Option<Order<'a>> {
+    Some(Order::Upgrade {
         spool: given.get_str("SPOOL")?,
     })
 }

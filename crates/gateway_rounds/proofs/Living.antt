@@ -5,7 +5,10 @@ use Rattle.std.proofs.lemmas.List.{take_all, take_more, take_more_set}
 use Rattle.spool_disk.specs.declared.disk.Disk.{Ghosts}
 use Rattle.upload_rules.specs.Store.{Store}
 use Rattle.gateway_rounds.specs.declared.round.Round.{Round}
-use Rattle.gateway_rounds.specs.Rounds.{IsRound, Lives}
+use Rattle.gateway_rounds.specs.declared.round.Work.{Work}
+use Rattle.gateway_rounds.specs.declared.round.Work.TheVariants.{Run, Upgrade}
+use Rattle.spool_image.specs.LeftOnly.{AllShow}
+use Rattle.gateway_rounds.specs.Rounds.{IsRound, IsWork, Lives}
 
 pub lives_on : {D C : Type 0} (disk : Ghosts D) (chosen : C → D → D → Type 0) (n : ℕ) (d : D) (m : Store)
     (rounds told : List (Round C)) (mid after : D) (now next : Store) (r t : Round C)
@@ -49,3 +52,19 @@ lives_all {D} {C} disk chosen n d m old now i last end long over lives =
     subst (λ (rounds : List (Round C)). Lives disk chosen n d m rounds now last end)
     (take_all i old (omega (arith, long, over)))
     (subst (λ (all : List (Round C)). Lives disk chosen n d m (take i old) all last end) (take_all i now over) lives)
+
+-- behind a round each image shows the next uploads
+work_shows : {D C : Type 0} (disk : Ghosts D) (chosen : C → D → D → Type 0) (n : ℕ) (before after : D)
+    (m next : Store) (crash : C) (work told : Work) → IsWork disk chosen n before after m next crash work told
+    → AllShow disk after n next
+work_shows disk chosen n before after m next crash (Run run) (Run told) is = is.passes.shows
+work_shows disk chosen n before after m next crash (Upgrade error) (Upgrade told) is =
+    subst (AllShow disk after n) (sym is.0) is.1.shows
+work_shows disk chosen n before after m next crash (Run run) (Upgrade told) is = absurd is
+work_shows disk chosen n before after m next crash (Upgrade error) (Run told) is = absurd is
+
+pub round_shows : {D C : Type 0} (disk : Ghosts D) (chosen : C → D → D → Type 0) (n : ℕ) (before after : D)
+    (m next : Store) (round told : Round C) → IsRound disk chosen n before after m next round told
+    → AllShow disk after n next
+round_shows disk chosen n before after m next round told is =
+    work_shows disk chosen n before after m next round.crash round.work told.work is

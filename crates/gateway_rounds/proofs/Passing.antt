@@ -1,14 +1,18 @@
 -- From a run and a crash to a round.
-use Rattle.std.proofs.Common.{◌≡◌, ◌≤◌, ◌*◌, inl, inr, ℕ, List, [], ◌∷◌, ◌++◌, drop, Option, Some, None, Ok, Err, refl}
+use Rattle.std.proofs.Common.{◌≡◌, ◌⊎◌, ◌≤◌, ◌*◌, inl, inr, ℕ, List, [], ◌∷◌, ◌++◌, drop, Option, Some, None, Result, Ok, Err, refl}
 use Rattle.std.proofs.Common.{sym, subst, ap, ◌∙◌, append-nil, append_assoc, arith, ⊎_elim}
 use Rattle.spool_disk.specs.Disk.{Counts, IsImage}
 use Rattle.spool_disk.specs.declared.disk.Disk.{Ghosts}
 use Rattle.spool_journal.specs.Image.{all_pages}
-use Rattle.spool_image.specs.LeftOnly.{AllShow, IsSpool}
+use Rattle.spool_disk.specs.Views.{Lasts}
+use Rattle.spool_image.specs.LeftOnly.{AllShow, IsSpool, LeftOrShows}
+use Rattle.spool_image.specs.Texts.{HasText}
+use Rattle.spool_image.specs.declared.error.UpgradeError.TheVariants as upgrades
+use Rattle.spool_image.specs.declared.error.UpgradeError.{UpgradeError}
 use Rattle.spool_image.proofs.Crashed.{synced_shows, text_shown}
 use Rattle.spool_kept.specs.Shows.{ImageShows}
 use Rattle.spool_kept.specs.declared.error.OpenFault.TheVariants as opens
-use Rattle.upload_rules.specs.Store.{Store}
+use Rattle.upload_rules.specs.Store.{Store, Upload, upload_of}
 use Rattle.tus_session.specs.History.{State, Mark, Marked, beginning, history}
 use Rattle.gateway_script.specs.Script as script
 use Rattle.gateway_script.specs.Script.{script as the_script, Exit}
@@ -17,7 +21,7 @@ use Rattle.gateway_script.specs.declared.faults.CallFault.TheVariants as calls
 use Rattle.gateway_engine.specs.RanOn.{HasFailedOn, EndedOn, Unopened, UnopenedOn, HasRunOn}
 use Rattle.gateway_engine.specs.declared.faults.RunFault.{RunFault}
 use Rattle.gateway_engine.specs.declared.faults.RunFault.TheVariants.{Open, NoMemory, DiskFault, Script, Io}
-use Rattle.gateway_rounds.specs.Rounds.{IsFault, Leaves, IsWhole, EndsAs, Passes}
+use Rattle.gateway_rounds.specs.Rounds.{IsFault, Leaves, IsWhole, EndsAs, Passes, UpgradeEnds}
 
 -- WHAT WAS WRITTEN
 
@@ -88,6 +92,17 @@ module _ {D : Type 0} (disk : Ghosts D) (before back after : D) (n : ℕ) (m : S
     texts = λ k u is. text_shown n (disk.seen after) next k u
         (all.each (disk.seen after) (record { same = λ p firm. refl })) is;
   }
+
+  -- and an upgrade may have been stopped anywhere
+  pub upgraded_to : Lasts disk before back (LeftOrShows disk before n m) → disk.honest back
+      → disk.size back ≡ disk.size before → AllShow disk after n m
+  upgraded_to lasts honest same =
+      let left = lasts.nothing_else (disk.moment before) (disk.seen after) (omega arith)
+      (now (disk.moment before) (disk.seen after) lasts.later (image honest)) in
+      let shows : ImageShows n (disk.seen after) m =
+      ⊎_elim (λ here. shown.each (disk.seen after) (only (disk.seen after) here))
+      (λ one. ⊎_elim (λ here. shown.each (disk.seen after) here) (λ is. is) one) left in
+      settled m honest (subst (λ (k : ℕ). 4096 * all_pages n ≤ k) (sym same) shown.room) shows
 
   -- the bytes that were there, and those that a run of this script with this fault wrote behind them
   module _ (front held bytes : List ℕ) where
@@ -219,3 +234,50 @@ is_spool disk d n m all = record {
   room = all.room;
   shows = all.each (disk.seen d) (record { same = λ p firm. refl });
 }
+
+-- UPGRADES
+
+pub upgrade_ends : {New : Type 0} (e : UpgradeError)
+    → (New × (e ≡ upgrades.AlreadyNew)) ⊎ (e ≡ upgrades.Open opens.NoMemory) ⊎ (e ≡ upgrades.Open opens.DiskFault)
+    → UpgradeEnds (Some e)
+upgrade_ends e (inl new) = subst (λ (x : UpgradeError). UpgradeEnds (Some x)) (sym new.1) tt
+upgrade_ends e (inr (inl is)) = subst (λ (x : UpgradeError). UpgradeEnds (Some x)) (sym is) tt
+upgrade_ends e (inr (inr is)) = subst (λ (x : UpgradeError). UpgradeEnds (Some x)) (sym is) tt
+
+-- the failures of an upgrade are told
+none_some : (x : UpgradeError) → ◌≡◌ {A = Option UpgradeError} None (Some x) → ⊥
+none_some x e = cc
+
+ok_err : (t : Unit {0}) (x : UpgradeError) → ◌≡◌ {A = Result (Unit {0}) UpgradeError} (Ok t) (Err x) → ⊥
+ok_err t x e = cc
+
+some_err : (e x : UpgradeError) → ◌≡◌ {A = Option UpgradeError} (Some e) (Some x)
+    → ◌≡◌ {A = Result (Unit {0}) UpgradeError} (Err e) (Err x)
+some_err e x same = cc
+
+err_some : (e x : UpgradeError) → ◌≡◌ {A = Result (Unit {0}) UpgradeError} (Err e) (Err x)
+    → ◌≡◌ {A = Option UpgradeError} (Some e) (Some x)
+err_some e x same = cc
+
+pub counts_done : {t : Unit {0}} (x : UpgradeError) (a b c : ℕ) → c ≡ b
+    → Counts (◌≡◌ {A = Result (Unit {0}) UpgradeError} (Ok t) (Err x)) a b
+    → Counts (◌≡◌ {A = Option UpgradeError} None (Some x)) a c
+counts_done {t} x a b c same counts = counts_behind a b c same (record {
+  later = counts.later;
+  counted = λ e. absurd (none_some x e);
+  nothing_else = λ less. absurd (ok_err t x (counts.nothing_else less));
+})
+
+pub counts_told : (e x : UpgradeError) (a b c : ℕ) → c ≡ b
+    → Counts (◌≡◌ {A = Result (Unit {0}) UpgradeError} (Err e) (Err x)) a b
+    → Counts (◌≡◌ {A = Option UpgradeError} (Some e) (Some x)) a c
+counts_told e x a b c same counts = counts_behind a b c same (record {
+  later = counts.later;
+  counted = λ told. counts.counted (some_err e x told);
+  nothing_else = λ less. err_some e x (counts.nothing_else less);
+})
+
+pub texts_of : {D : Type 0} (disk : Ghosts D) (after : D) (n : ℕ) (m : Store) → AllShow disk after n m → (k : ℕ)
+    (u : Upload) → upload_of m k ≡ Some u → HasText (disk.seen after) m.indexes k u
+texts_of disk after n m all k u is =
+    text_shown n (disk.seen after) m k u (all.each (disk.seen after) (record { same = λ p firm. refl })) is

@@ -1,9 +1,12 @@
--- The rounds of a disk's life. In each it is opened, a script is run over it, and it crashes.
+-- The rounds of a disk's life. In each it is opened and a script is run over it, or it is brought to version 2, and it
+-- crashes.
 use Rattle.std.specs.Prelude.{◌≡◌, ℕ, List, [], ◌∷◌, ◌++◌, Option, Some, None, take}
 use Rattle.spool_disk.specs.Disk.{Counts, IsImage}
 use Rattle.spool_disk.specs.declared.disk.Disk.{Ghosts}
 use Rattle.spool_image.specs.LeftOnly.{AllShow}
 use Rattle.spool_image.specs.Texts.{HasText}
+use Rattle.spool_image.specs.declared.error.UpgradeError.{UpgradeError}
+use Rattle.spool_image.specs.declared.error.UpgradeError.TheVariants as upgrades
 use Rattle.spool_kept.specs.declared.error.OpenFault.TheVariants as opens
 use Rattle.upload_rules.specs.Answers.{Among}
 use Rattle.upload_rules.specs.Store.{Store, Upload, upload_of}
@@ -15,8 +18,11 @@ use Rattle.gateway_script.specs.declared.faults.CallFault.TheVariants as calls
 use Rattle.gateway_engine.specs.declared.faults.RunFault.{RunFault}
 use Rattle.gateway_engine.specs.declared.faults.RunFault.TheVariants.{Open, NoMemory, DiskFault, Script, Io}
 use Rattle.gateway_rounds.specs.declared.round.Round.{Round}
+use Rattle.gateway_rounds.specs.declared.round.Run.{Run as RunOf}
+use Rattle.gateway_rounds.specs.declared.round.Work.{Work}
+use Rattle.gateway_rounds.specs.declared.round.Work.TheVariants.{Run, Upgrade}
 
--- THE EVENTS OF A ROUND, of which the latest is first
+-- THE EVENTS OF A RUN, of which the latest is first
 
 -- The uploads behind them. Where the device failed at the latest one, they have its change or they don't
 abbrev pub Leaves : Option RunFault → State → List Marked → Store → Type 0
@@ -45,7 +51,7 @@ IsFault (Some DiskFault) = Unit {0}
 IsFault (Some (Open opens.DiskFault)) = Unit {0}
 IsFault _ = ⊥
 
--- A ROUND
+-- A RUN
 
 -- Over these uploads some first events of the script happened, by some marks. What was written is the front of what
 -- these gave, and each image of the disk behind the crash shows the uploads behind them, with their texts
@@ -72,15 +78,54 @@ pub record Crashes {D C : Type 0} (disk : Ghosts D) (chosen : C → D → D → 
 abbrev pub read_of : List ℕ → List ℕ
 read_of bytes = take 1073741825 bytes
 
--- a round as it was told, from a disk with these uploads to a disk with the next, by way of the disk that came back
-pub record IsRound {D C : Type 0} (disk : Ghosts D) (chosen : C → D → D → Type 0) (n : ℕ) (before after : D)
-    (m next : Store) (round told : Round C) : Type 0 where
+-- a run and a crash as they were told, from a disk with these uploads to a disk with the next, by way of the disk that
+-- came back
+pub record IsRun {D C : Type 0} (disk : Ghosts D) (chosen : C → D → D → Type 0) (n : ℕ) (before after : D)
+    (m next : Store) (crash : C) (run told : RunOf) : Type 0 where
   pub out : List ℕ
-  pub written : told.written.items ≡ round.written.items ++ out
-  pub passes : Passes disk after n m next (read_of round.script.items) told.fault out
+  pub written : told.written.items ≡ run.written.items ++ out
+  pub passes : Passes disk after n m next (read_of run.script.items) told.fault out
   pub back : D
-  pub crashes : Crashes disk chosen round.crash back after
+  pub crashes : Crashes disk chosen crash back after
   pub counts : Counts (IsFault told.fault) (disk.failures before) (disk.failures after)
+
+-- AN UPGRADE
+
+-- how it ended: it is refused for memory, by the device, or where the spool is of version 2
+abbrev pub UpgradeEnds : Option UpgradeError → Type 0
+UpgradeEnds None = Unit {0}
+UpgradeEnds (Some upgrades.AlreadyNew) = Unit {0}
+UpgradeEnds (Some (upgrades.Open opens.NoMemory)) = Unit {0}
+UpgradeEnds (Some (upgrades.Open opens.DiskFault)) = Unit {0}
+UpgradeEnds (Some (upgrades.Open _)) = ⊥
+
+-- an upgrade and a crash as they were told: each image of the disk behind the crash shows the same uploads, with their
+-- texts
+pub record IsUpgrade {D C : Type 0} (disk : Ghosts D) (chosen : C → D → D → Type 0) (n : ℕ) (before after : D)
+    (m : Store) (crash : C) (told : Option UpgradeError) : Type 0 where
+  pub ends : UpgradeEnds told
+  pub shows : AllShow disk after n m
+  pub texts : (k : ℕ) (u : Upload) → upload_of m k ≡ Some u → HasText (disk.seen after) m.indexes k u
+  pub back : D
+  pub crashes : Crashes disk chosen crash back after
+  pub counts : Counts (told ≡ Some (upgrades.Open opens.DiskFault)) (disk.failures before) (disk.failures after)
+
+-- A ROUND
+
+-- what is done as it was told, from a disk with these uploads to a disk with the next
+abbrev pub IsWork : {D C : Type 0} → Ghosts D → (C → D → D → Type 0) → ℕ → D → D → Store → Store → C → Work → Work
+    → Type 0
+IsWork disk chosen n before after m next crash (Run run) (Run told) =
+    IsRun disk chosen n before after m next crash run told
+IsWork disk chosen n before after m next crash (Upgrade error) (Upgrade told) =
+    (next ≡ m) × IsUpgrade disk chosen n before after m crash told
+IsWork disk chosen n before after m next crash (Run run) (Upgrade told) = ⊥
+IsWork disk chosen n before after m next crash (Upgrade error) (Run told) = ⊥
+
+abbrev pub IsRound : {D C : Type 0} → Ghosts D → (C → D → D → Type 0) → ℕ → D → D → Store → Store → Round C → Round C
+    → Type 0
+IsRound disk chosen n before after m next round told =
+    IsWork disk chosen n before after m next round.crash round.work told.work
 
 -- ALL ROUNDS
 

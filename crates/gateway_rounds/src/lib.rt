@@ -1,4 +1,5 @@
-//! A disk that lives through rounds: in each it is opened, a script is run over it, and it crashes.
+//! A disk that lives through rounds: in each it is opened and a script is run over it, or it is brought to version 2,
+//! and it crashes.
 #![tactic(auto)]
 
 mod life;
@@ -7,4 +8,4 @@ mod round;
 mod tests;
 
 pub use life::{endure, live_through};
-pub use round::Round;
+pub use round::{Round, Run, Work};

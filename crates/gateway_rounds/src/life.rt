@@ -14,8 +14,9 @@ use spool_image::{FormatError, format};
 use std::alloc::Global;
 
 /// Makes a spool of so many text blocks on a disk, and then lives through the rounds, one after the other. In each the
-/// disk is opened, the script is run over it, up to its end or the call at which the device stops, and it goes on with
-/// one of the images that a crash leaves then. What came of each round stands in it afterwards.
+/// disk is opened and the script is run over it, or it is brought to version 2, up to the end or the call at which the
+/// device stops, and it goes on with one of the images that a crash leaves then. What came of each round stands in it
+/// afterwards.
 ///
 /// # Errors
 ///
@@ -28,8 +29,8 @@ pub fn endure<D: CrashDisk>(
     indexes: &IndexSet,
     rounds: &mut [Round<D::How>],
 ) -> Result<D, (D, FormatError)>
-    // Behind each round the disk has the uploads behind the first events of its script, in order, each of them whole
-    // and with its text; and each event of which a reply was written is one of these.
+    // Behind each run the disk has the uploads behind the first events of its script, in order, each of them whole and
+    // with its text; and each event of which a reply was written is one of these. An upgrade changes no upload.
     ensures lives { D.honest disk
         → IfOk result (λ last. HasLived D.Disk D.chosen blocks (no_uploads indexes.now) rounds.old rounds.new last) }
 
@@ -48,7 +49,8 @@ pub fn endure<D: CrashDisk>(
     }
 }
 
-/// Lives through the rounds on a disk of which every image shows the same uploads, as `endure` does on a new one.
+/// Lives through the rounds on a disk of which every image shows the same uploads, in either version, as `endure` does
+/// on a new one.
 pub fn live_through<D: CrashDisk>(alloc: Global, disk: D, rounds: &mut [Round<D::How>]) -> D
     ensures { (n : ℕ) (m : Store) → AllShow D.Disk disk n m
         → (last : Store) × Lives D.Disk D.chosen n disk m rounds.old rounds.new result last }

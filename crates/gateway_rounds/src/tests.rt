@@ -1,13 +1,15 @@
 //! A life of two rounds, over disks that stop or fail at each call.
 
-use crate::{Round, endure};
+use crate::{Round, Run, Work, endure, live_through};
 use enc_index::IndexSet;
-use spool_disk::{Crash, CrashDisk, FuseDisk, HiccupDisk, MemoryDisk};
+use spool_disk::{Crash, CrashDisk, Disk, FuseDisk, HiccupDisk, MemoryDisk};
+use spool_image::{UpgradeError, format};
 use std::alloc::Global;
 use std::process::Abort;
 use std::test::Fail;
 
 /// What the first round does with an upload.
+#[derive(Drop)]
 struct Deeds {
     script: &'static [u8],
     /// What there is to be written in turn, and what a HEAD of the upload is given behind it.
@@ -121,16 +123,32 @@ fn lives<D: CrashDisk<How = (Crash, u64)> + Drop>(
     deeds: &Deeds,
 ) -> Result<bool, Fail> {
     let mut rounds = [
-        Round::new(alloc, deeds.script.to_vec(alloc)?, (kind, NO_STOP)),
-        Round::new(alloc, LOOKS.to_vec(alloc)?, (kind, NO_STOP)),
+        round_of(
+            Work::Run(Run::new(alloc, deeds.script.to_vec(alloc)?)),
+            kind,
+        ),
+        round_of(Work::Run(Run::new(alloc, LOOKS.to_vec(alloc)?)), kind),
     ];
     match endure(alloc, disk, 16, &IndexSet::new(alloc)?, &mut rounds) {
         Ok(_disk) => {}
         Err((_disk, fault)) => panic!(rt; "{fault}"),
     }
     let [first, later] = &rounds;
-    check(rt, deeds, &first.written, &later.written);
-    Ok(first.fault.is_none())
+    match (&first.work, &later.work) {
+        (Work::Run(first), Work::Run(later)) => {
+            check(rt, deeds, &first.written, &later.written);
+            Ok(first.fault.is_none())
+        }
+        _ => panic!(rt; "a run became an upgrade"),
+    }
+}
+
+/// A round with this work, and this kind of crash.
+fn round_of(work: Work, kind: Crash) -> Round<(Crash, u64)> {
+    Round {
+        work,
+        crash: (kind, NO_STOP),
+    }
 }
 
 /// The disk stops at each of its calls in turn, and a crash of this kind comes.
@@ -183,4 +201,35 @@ fn fail_at_each_call(rt: &impl Abort, alloc: Global, deeds: &Deeds) -> Result<()
 fn each_call_fails_and_leaves_zeros(rt: HostRuntime) -> Result<(), Fail> {
     fail_at_each_call(&rt, rt.alloc(), &FILLS)?;
     fail_at_each_call(&rt, rt.alloc(), &DECLARES_AND_DELETES)
+}
+
+/// A spool of version 1 is filled, brought to version 2, and looked at.
+#[test]
+fn upgrade_is_a_round(rt: HostRuntime) -> Result<(), Fail> {
+    let alloc = rt.alloc();
+    let mut disk = MemoryDisk::new(alloc, 557 * 4096)?;
+    format(&mut disk, 16, &IndexSet::new(alloc)?)?;
+    // the state page of 16 text blocks is page 283
+    disk.write_at(283 * 4096, &1u32.to_be_bytes())?;
+    let mut rounds = [
+        round_of(
+            Work::Run(Run::new(alloc, FILLS.script.to_vec(alloc)?)),
+            Crash::Old,
+        ),
+        round_of(Work::Upgrade(None), Crash::Old),
+        round_of(Work::Upgrade(None), Crash::New),
+        round_of(Work::Run(Run::new(alloc, LOOKS.to_vec(alloc)?)), Crash::Old),
+    ];
+    let _disk = live_through(alloc, FuseDisk::new(disk, NO_STOP), &mut rounds);
+    match &rounds[3].work {
+        Work::Run(run) => assert_eq!(rt; run.written.as_slice(), FULL),
+        Work::Upgrade(_) => panic!(rt; "a run became an upgrade"),
+    }
+    match (&rounds[1].work, &rounds[2].work) {
+        (Work::Upgrade(first), Work::Upgrade(second)) => {
+            assert_eq!(rt; (*first, *second), (None, Some(UpgradeError::AlreadyNew)));
+        }
+        _ => panic!(rt; "an upgrade became a run"),
+    }
+    Ok(())
 }

@@ -7,12 +7,29 @@ use crate::disks::{byte_at, disk_of};
 use spool_disk::{Crash, Disk, DiskFault, MemoryDisk};
 use spool_journal::{Layout, PAGE, Pages, commit};
 use spool_pages::{
-    Damaged, RECORD, SlotRecord, blocks_said, change, fill_rows, first_page,
+    Damaged, RECORD, SlotRecord, Version, blocks_said, change, fill_rows, first_page,
     is_blank_behind_fields, pages_of_change, pages_of_new, row_at, row_page, state_page,
     version_and_next,
 };
 use std::alloc::{AllocError, Global};
 use std::test::Fail;
+
+/// Whether a record's bytes on a spool of this version are read as the same record.
+fn is_read_back(record: &SlotRecord<'_>, version: Version) -> bool
+    requires { length record.now.metadata ≤ 1536 }
+{
+    match SlotRecord::from_bytes(version, &record.to_bytes(version)) {
+        Ok(Some(read)) => {
+            read.number == record.number
+                && read.declared == record.declared
+                && read.accepted == record.accepted
+                && read.text_len == record.text_len
+                && read.state == record.state
+                && read.metadata == record.metadata
+        }
+        _ => false,
+    }
+}
 
 #[test]
 fn record_is_read_as_it_was_written(rt: HostRuntime) -> Result<(), Fail> {
@@ -26,66 +43,105 @@ fn record_is_read_as_it_was_written(rt: HostRuntime) -> Result<(), Fail> {
         state,
         metadata: b"note",
     };
-    let bytes = record.to_bytes();
-    // the number, the state, the metadata's length and the metadata
+    let bytes = record.to_bytes(Version::Two);
+    // the number, the length, the state, the metadata's length, the metadata and the tag
     for (at, want) in [
         (6, 1),
         (7, 2),
+        (15, 4),
         (36, 2),
         (65, 4),
         (66, b'n'),
         (69, b'e'),
         (70, 0),
+        (1602, 0),
     ] {
         assert_eq!(rt; bytes[at], want, "at {at}");
     }
-    match SlotRecord::from_bytes(&bytes) {
-        Ok(Some(read)) => {
-            assert_eq!(rt; read.number, 258);
-            assert_eq!(rt; read.text_len, 1 << 40);
-            assert_eq!(rt; read.metadata, b"note".as_slice());
-        }
-        _ => panic!(rt; "no record"),
+    for version in [Version::One, Version::Two] {
+        assert!(rt; is_read_back(&record, version), "{version:?}");
+        assert!(rt; matches!(SlotRecord::from_bytes(version, &[0; RECORD]), Ok(None)));
     }
-    assert!(rt; matches!(SlotRecord::from_bytes(&[0; RECORD]), Ok(None)));
     Ok(())
 }
 
 #[test]
-fn unknown_length_is_eight_bytes_ff(rt: HostRuntime) -> Result<(), Fail> {
+fn unknown_length_is_said_as_the_version_says(rt: HostRuntime) -> Result<(), Fail> {
     let mut record = seventh(b"n");
     record.declared = None;
-    let bytes = record.to_bytes();
-    assert_eq!(rt; &bytes[8..16], [0xFF; 8].as_slice());
-    match SlotRecord::from_bytes(&bytes) {
-        Ok(Some(read)) => assert_eq!(rt; read.declared, None),
-        _ => panic!(rt; "no record"),
+    for (version, length, tag) in [(Version::One, [0xFF; 8], 0), (Version::Two, [0; 8], 1)] {
+        let bytes = record.to_bytes(version);
+        assert_eq!(rt; &bytes[8..16], length.as_slice(), "{version:?}");
+        assert_eq!(rt; bytes[1602], tag, "{version:?}");
+        assert!(rt; is_read_back(&record, version), "{version:?}");
     }
     Ok(())
 }
 
 /// Whether a slot whose bytes are these but for one is damaged.
-fn is_damaged(mut bytes: [u8; RECORD], at: usize, byte: u8) -> bool
+fn is_damaged(version: Version, mut bytes: [u8; RECORD], at: usize, byte: u8) -> bool
     requires { at < 2048 }
 {
     bytes[at] = byte;
-    matches!(SlotRecord::from_bytes(&bytes), Err(Damaged))
+    matches!(SlotRecord::from_bytes(version, &bytes), Err(Damaged))
 }
 
 #[test]
 fn bytes_that_nothing_writes_are_damaged(rt: HostRuntime) -> Result<(), Fail> {
-    assert!(rt; is_damaged([0; RECORD], 2047, 1), "a free slot");
-    let bytes = seventh(b"n").to_bytes();
-    assert!(rt; !is_damaged(bytes, 66, b'm'));
-    assert!(rt; is_damaged(bytes, 7, 0), "no number");
-    assert!(rt; is_damaged(bytes, 64, 6), "1,537 bytes of metadata");
-    assert!(rt; is_damaged(bytes, 67, 1), "behind the metadata");
-    assert!(rt; is_damaged(bytes, 2047, 1), "the last byte");
+    for version in [Version::One, Version::Two] {
+        assert!(rt; is_damaged(version, [0; RECORD], 2047, 1), "a free slot");
+        let bytes = seventh(b"n").to_bytes(version);
+        assert!(rt; !is_damaged(version, bytes, 66, b'm'));
+        assert!(rt; is_damaged(version, bytes, 7, 0), "no number");
+        assert!(rt;
+            is_damaged(version, bytes, 64, 6),
+            "1,537 bytes of metadata"
+        );
+        assert!(rt; is_damaged(version, bytes, 67, 1), "behind the metadata");
+        assert!(rt;
+            is_damaged(version, bytes, 1601, 1),
+            "the last byte of the room"
+        );
+        assert!(rt;
+            is_damaged(version, bytes, 1602, 1),
+            "the tag 1 and a length"
+        );
+        assert!(rt; is_damaged(version, bytes, 1603, 1), "behind the tag");
+        assert!(rt; is_damaged(version, bytes, 2047, 1), "the last byte");
+    }
     assert_eq!(rt; row_at(&[0, 0, 0, 0, 0, 0, 0, 1], 0), Err(Damaged));
-    let mut page = state_page(7);
+    let mut page = state_page(Version::Two, 7);
     assert!(rt; is_blank_behind_fields(&page));
     page[12] = 1;
     assert!(rt; !is_blank_behind_fields(&page));
+    Ok(())
+}
+
+#[test]
+fn lengths_that_nothing_writes_are_damaged(rt: HostRuntime) -> Result<(), Fail> {
+    let mut record = seventh(b"n");
+    record.declared = None;
+    let old = record.to_bytes(Version::One);
+    let new = record.to_bytes(Version::Two);
+    assert!(rt; is_damaged(Version::Two, new, 1602, 2), "no such tag");
+    assert!(rt;
+        is_damaged(Version::Two, new, 15, 1),
+        "the tag 1 and a length"
+    );
+    assert!(rt; !is_damaged(Version::Two, new, 1602, 0), "the length 0");
+    assert!(rt;
+        is_damaged(Version::One, old, 1602, 1),
+        "eight FF and a tag"
+    );
+    // as the other version says an unknown length
+    assert!(rt;
+        is_damaged(Version::Two, old, 1602, 0),
+        "eight FF in version 2"
+    );
+    assert!(rt;
+        is_damaged(Version::One, new, 1602, 1),
+        "the tag 1 in version 1"
+    );
     Ok(())
 }
 
@@ -96,7 +152,19 @@ fn pages_are_read_as_they_were_written(rt: HostRuntime) -> Result<(), Fail> {
     assert_eq!(rt; row_at(&page, 0), Ok(None));
     assert_eq!(rt; row_at(&page, 8), Ok(Some((511, 65535))));
     assert_eq!(rt; row_at(&page, 4088), Ok(None));
-    assert_eq!(rt; version_and_next(&state_page(7)), (1, 7));
+    for version in [Version::One, Version::Two] {
+        assert_eq!(rt;
+            version_and_next(&state_page(version, 7)),
+            Some((version, 7))
+        );
+    }
+    let mut page = state_page(Version::Two, 7);
+    assert_eq!(rt;
+        &page[..12],
+        [0, 0, 0, 2, 0, 0, 0, 0, 0, 0, 0, 7].as_slice()
+    );
+    page[3] = 9;
+    assert_eq!(rt; version_and_next(&page), None, "no such version");
     let mut front = [0; 12];
     front.copy_from_slice(&first_page(65536)[..12]);
     assert_eq!(rt; blocks_said(&front), Some(65536));
@@ -123,15 +191,32 @@ fn change_is_committed(rt: HostRuntime) -> Result<(), Fail> {
     let layout = Layout::of(1040).ok_or(DiskFault)?;
     let mut disk = MemoryDisk::new(rt.alloc(), PAGE * layout.pages() as usize)?;
     let record = seventh(b"n");
-    let pages = pages_of_new(rt.alloc(), &layout, 8, 3, &record, Some(&seventh(b"")))?;
+    let pages = pages_of_new(
+        rt.alloc(),
+        &layout,
+        Version::Two,
+        8,
+        3,
+        &record,
+        Some(&seventh(b"")),
+    )?;
     assert_eq!(rt; commit(&mut disk, &layout, &pages), Ok(()));
-    let mut pages = pages_of_change(rt.alloc(), &layout, 0, Some(&record), None, &[1, 1039, 0])?;
+    let mut pages = pages_of_change(
+        rt.alloc(),
+        &layout,
+        Version::Two,
+        0,
+        Some(&record),
+        None,
+        &[1, 1039, 0],
+    )?;
     fill_rows(&mut pages, &layout, &[None, Some((3, 0))]);
     assert_eq!(rt; pages.len(), 3);
     assert_eq!(rt; pages.number(2), 544);
     assert_eq!(rt; commit(&mut disk, &layout, &pages), Ok(()));
-    // the next number, the numbers of three records, and the slot of a row
+    // the version, the next number, the numbers of three records, and the slot of a row
     for (at, want) in [
+        (285 * 4096 + 3, 2),
         (285 * 4096 + 11, 8),
         (286 * 4096 + 7, 7),
         (287 * 4096 + 7, 7),
@@ -148,7 +233,7 @@ fn next_number(alloc: Global, next: u64) -> Result<Pages, AllocError>
     ensures { IfOk result (λ pages. InArea (journal_pages 16) pages × (1 ≤ length pages)) }
 {
     let mut pages = Pages::new(alloc);
-    pages.put(283, &state_page(next))?;
+    pages.put(283, &state_page(Version::Two, next))?;
     Ok(pages)
 }
 
@@ -162,6 +247,6 @@ fn change_is_on_the_disk(rt: HostRuntime) -> Result<(), Fail> {
     let mut page = [0; PAGE];
     assert!(rt; disk.len() >= 4096 * 284);
     assert_eq!(rt; disk.read(4096 * 283, &mut page), Ok(()));
-    assert_eq!(rt; version_and_next(&page), (1, 7));
+    assert_eq!(rt; version_and_next(&page), Some((Version::Two, 7)));
     Ok(())
 }

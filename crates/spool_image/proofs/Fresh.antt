@@ -10,6 +10,7 @@ use Rattle.spool_disk.specs.Disk.{IsImage, Writes, Syncs}
 use Rattle.spool_journal.specs.Image.{byte_of, all_pages}
 use Rattle.spool_journal.specs.Phases.{Still}
 use Rattle.spool_journal.proofs.Steps.{span_at}
+use Rattle.spool_pages.specs.declared.version.Version.TheVariants.{Two}
 use Rattle.spool_pages.specs.View.{index_place, state_place, first_page, state_page}
 use Rattle.spool_load.proofs.Looks.{length-state}
 use Rattle.spool_image.specs.Fresh.{fresh_byte, IsFreshTo, IsFresh}
@@ -29,7 +30,7 @@ module _ (n : ℕ) (x : IndexSet) (p : ℕ) where
   unfolding fresh_byte
   fresh_area from below = rw (no p (index_place n) from, yes p (state_place n) below)
 
-  pub fresh_state : state_place n ≤ p → fresh_byte n x p ≡ byte_of (state_page 1 1) (p - state_place n)
+  pub fresh_state : state_place n ≤ p → fresh_byte n x p ≡ byte_of (state_page Two 1) (p - state_place n)
   unfolding fresh_byte
   fresh_state from =
       let far : index_place n ≤ p = omega (arith, from) in
@@ -39,7 +40,7 @@ module _ (n : ℕ) (x : IndexSet) (p : ℕ) where
 pub fresh_zeros : (n : ℕ) (x : IndexSet) (p : ℕ) → state_place n + 12 ≤ p → fresh_byte n x p ≡ 0
 fresh_zeros n x p from =
     fresh_state n x p (omega (arith, from))
-    ∙ get_or-eq_default (state_page 1 1) 0 (omega (arith, length-state 1 1, from))
+    ∙ get_or-eq_default (state_page Two 1) 0 (omega (arith, length-state Two 1, from))
 
 -- a page more
 pub fresh_more : {seen seen' : ℕ → ℕ} {loose loose' : ℕ → Type 0} {done : Type 0} (n : ℕ) (x : IndexSet) (page : ℕ)

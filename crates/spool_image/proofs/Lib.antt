@@ -7,3 +7,4 @@ pub mod AnswersMore
 pub mod StandsOn
 pub mod Crashed
 pub mod Refused
+pub mod Upgraded

@@ -11,6 +11,7 @@ use Rattle.spool_journal.specs.Image.{journal_pages, all_pages, byte_of, overlai
 use Rattle.spool_journal.proofs.Gate.{shut_view}
 use Rattle.upload_rules.specs.Store.{no_uploads}
 use Rattle.spool_pages.specs.View.{SlotRecord, View, Says, Stands, slot_bytes, row_bytes, index_place, state_place}
+use Rattle.spool_pages.specs.declared.version.Version.TheVariants.{Two}
 use Rattle.spool_pages.specs.View.{slot_place, row_place, state_page, first_page}
 use Rattle.spool_kept.specs.Shows.{IsSound, ImageShows}
 use Rattle.spool_image.specs.Fresh.{IsFresh}
@@ -33,7 +34,7 @@ never none some = cc
 fresh_view : ℕ → IndexSet → View
 fresh_view n x = record {
   blocks = n;
-  version = 1;
+  version = Two;
   next = 1;
   indexes = x;
   slots = replicate 512 None;
@@ -78,9 +79,9 @@ module _ (n : ℕ) (x : IndexSet) (image : ℕ → ℕ) (fresh : IsFresh n x ima
           each = λ i lt.
               let at : state_place n + i - state_place n ≡ i = omega arith in
               fresh.behind.each (state_place n + i) (omega arith) (omega (arith, lt, all, j))
-              ∙ fresh_state n x (state_place n + i) (omega arith) ∙ ap (λ (p : ℕ). byte_of (state_page 1 1) p) at;
+              ∙ fresh_state n x (state_place n + i) (omega arith) ∙ ap (λ (p : ℕ). byte_of (state_page Two 1) p) at;
         };
-        slots = λ s lt. subst (λ (o : Option SlotRecord). Stands image (slot_place n s) 2048 (slot_bytes o))
+        slots = λ s lt. subst (λ (o : Option SlotRecord). Stands image (slot_place n s) 2048 (slot_bytes Two o))
             (sym (none_at 512 s)) (slot s lt);
         rows = λ b lt. subst (λ (o : Option (ℕ × ℕ)). Stands image (row_place n b) 8 (row_bytes o)) (sym (none_at n b))
             (row_none b lt);
@@ -92,7 +93,6 @@ module _ (n : ℕ) (x : IndexSet) (image : ℕ → ℕ) (fresh : IsFresh n x ima
   fresh_sound least most valid = record {
     least = least;
     most = most;
-    version = refl;
     next_least = omega arith;
     next_most = omega arith;
     indexes = valid;

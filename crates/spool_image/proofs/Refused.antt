@@ -1,15 +1,20 @@
 -- At most one reason of a refusal holds, and none of a sound spool.
-use Rattle.std.proofs.Common.{◌≡◌, ◌⊎◌, inl, inr, ℕ, refl, subst, arith}
+use Rattle.std.proofs.Common.{◌≡◌, ◌⊎◌, inl, inr, ℕ, refl, subst, ap, arith}
 use Rattle.spool_journal.specs.Image.{overlaid}
-use Rattle.spool_pages.specs.View.{Stands, state_page, state_place}
+use Rattle.spool_pages.specs.View.{state_place, version_number}
 use Rattle.spool_kept.specs.declared.error.OpenFault.{OpenFault}
 use Rattle.spool_kept.specs.declared.error.OpenFault.TheVariants.{NotASpool, DiskFault, Damaged, Version, NoMemory}
 use Rattle.spool_kept.specs.Holding.{Holding}
 use Rattle.spool_load.specs.Loaded.{OpenedFrom}
 use Rattle.spool_load.specs.Reads.{SaysBlocks}
-use Rattle.spool_load.specs.Refusals.{HasJournal, IsFirstVersion, IsNoSpool, HasOtherVersion, IsDamaged, RefusedFor}
+use Rattle.spool_load.specs.Refusals.{HasJournal, HasKnownVersion, IsNoSpool, HasOtherVersion, IsDamaged, RefusedFor}
+use Rattle.spool_load.specs.Refusals.{NamesVersion}
+use Rattle.spool_pages.specs.declared.version.Version.TheVariants.{One, Two}
+use Rattle.spool_image.specs.Upgrade.{IsAlreadyNew, IsOldDamaged, UpgradeRefusedFor}
+use Rattle.spool_image.specs.declared.error.UpgradeError.{UpgradeError}
+use Rattle.spool_image.specs.declared.error.UpgradeError.TheVariants.{Open, AlreadyNew}
 use Rattle.spool_load.proofs.Opens.{view_says_blocks}
-use Rattle.spool_load.proofs.Refused.{says_one, version_stands}
+use Rattle.spool_load.proofs.Refused.{known_stands, says_one, version_one, version_stands}
 
 -- told with this fault, where each other reason would be this one, or for memory or by the device
 told_as : (e fault : OpenFault) → (e ≡ NotASpool → e ≡ fault) → (e ≡ Version → e ≡ fault) → (e ≡ Damaged → e ≡ fault)
@@ -22,15 +27,15 @@ told_as DiskFault fault no_spool version damaged = inr (inr refl)
 
 module _ (size : ℕ) (seen : ℕ → ℕ) where
   -- the version of a disk doesn't depend on how its number of blocks is named
-  first_at : (n m : ℕ) → SaysBlocks size seen n → SaysBlocks size seen m → IsFirstVersion n (overlaid seen)
-      → IsFirstVersion m (overlaid seen)
-  first_at n m a b first = subst (λ (k : ℕ). IsFirstVersion k (overlaid seen)) (says_one size seen n m a b) first
+  known_at : (n m : ℕ) → SaysBlocks size seen n → SaysBlocks size seen m → HasKnownVersion n (overlaid seen)
+      → HasKnownVersion m (overlaid seen)
+  known_at n m a b known = subst (λ (k : ℕ). HasKnownVersion k (overlaid seen)) (says_one size seen n m a b) known
 
   other_not_damaged : HasOtherVersion size seen → IsDamaged size seen → ⊥
   other_not_damaged other damaged =
       let e : other.blocks ≡ damaged.blocks = says_one size seen other.blocks damaged.blocks other.says damaged.says in
       let J : ℕ → Type 0 = λ k. HasJournal k seen in
-      other.other (first_at damaged.blocks other.blocks damaged.says other.says
+      other.other (known_at damaged.blocks other.blocks damaged.says other.says
       (damaged.version (subst J e other.journal)))
 
   module _ (kept : Holding) (opened : OpenedFrom size seen kept) where
@@ -40,14 +45,23 @@ module _ (size : ℕ) (seen : ℕ → ℕ) where
     pub opened_is_spool : IsNoSpool size seen → ⊥
     opened_is_spool none = none opened.view.blocks opened_says
 
-    pub opened_is_first : HasOtherVersion size seen → ⊥
-    opened_is_first other =
+    pub opened_is_known : HasOtherVersion size seen → ⊥
+    opened_is_known other =
         let v = opened.view in
-        let stands =
-        subst (λ (k : ℕ). Stands (overlaid seen) (state_place v.blocks) 4096 (state_page k v.next))
-        opened.sound.version opened.is.says.state in
-        other.other (first_at v.blocks other.blocks opened_says other.says
-        (version_stands (overlaid seen) (state_place v.blocks) 4096 1 v.next (omega arith) stands))
+        other.other (known_at v.blocks other.blocks opened_says other.says
+        (known_stands (overlaid seen) (state_place v.blocks) 4096 v.version v.next (omega arith) opened.is.says.state))
+
+    pub opened_is_old : opened.view.version ≡ One → IsAlreadyNew size seen → ⊥
+    opened_is_old old new =
+        let v = opened.view in
+        let N : ℕ → Type 0 = λ k. NamesVersion k (overlaid seen) Two in
+        let there = subst N (says_one size seen new.blocks v.blocks new.says opened_says) new.new in
+        let said = version_stands (overlaid seen) (state_place v.blocks) 4096 v.version v.next (omega arith)
+        opened.is.says.state in
+        let same : version_number v.version ≡ 2 =
+        version_one (overlaid seen) (state_place v.blocks) v.version Two said there in
+        let one : version_number v.version ≡ 1 = ap version_number old in
+        omega (arith, same, one)
 
     pub opened_is_whole : IsDamaged size seen → ⊥
     opened_is_whole damaged =
@@ -76,3 +90,49 @@ module _ (size : ℕ) (seen : ℕ → ℕ) where
   told_damaged e reason damaged =
       told_as e Damaged (λ is. absurd (given e NotASpool reason is damaged.blocks damaged.says))
       (λ is. absurd (other_not_damaged (given e Version reason is) damaged)) (λ is. is)
+
+  -- THE SAME OF AN UPGRADE
+
+  -- it is refused so, or for memory or by the device
+  abbrev pub Upgrades : UpgradeError → UpgradeError → Type 0
+  Upgrades e error = (e ≡ error) ⊎ (e ≡ Open NoMemory) ⊎ (e ≡ Open DiskFault)
+
+  opens : (e fault : OpenFault) → (e ≡ fault) ⊎ (e ≡ NoMemory) ⊎ (e ≡ DiskFault) → Upgrades (Open e) (Open fault)
+  opens e fault (inl is) = inl (ap Open is)
+  opens e fault (inr (inl is)) = inr (inl (ap Open is))
+  opens e fault (inr (inr is)) = inr (inr (ap Open is))
+
+  pub plain_reason : (e : OpenFault) → UpgradeRefusedFor size seen (Open e) → RefusedFor size seen e
+  plain_reason NotASpool is = is
+  plain_reason Version is = is
+  plain_reason Damaged is = is.0
+  plain_reason NoMemory is = tt
+  plain_reason DiskFault is = tt
+
+  new_is_known : IsAlreadyNew size seen → HasOtherVersion size seen → ⊥
+  new_is_known new other =
+      other.other (known_at new.blocks other.blocks new.says other.says (record { version = Two; said = new.new }))
+
+  pub upgrade_no_spool : (e : UpgradeError) → UpgradeRefusedFor size seen e → IsNoSpool size seen
+      → Upgrades e (Open NotASpool)
+  upgrade_no_spool AlreadyNew new none = absurd (none new.blocks new.says)
+  upgrade_no_spool (Open e) reason none = opens e NotASpool (told_no_spool e (plain_reason e reason) none)
+
+  pub upgrade_version : (e : UpgradeError) → UpgradeRefusedFor size seen e → HasOtherVersion size seen
+      → Upgrades e (Open Version)
+  upgrade_version AlreadyNew new other = absurd (new_is_known new other)
+  upgrade_version (Open e) reason other = opens e Version (told_version e (plain_reason e reason) other)
+
+  pub upgrade_damaged : (e : UpgradeError) → UpgradeRefusedFor size seen e → IsOldDamaged size seen
+      → Upgrades e (Open Damaged)
+  upgrade_damaged AlreadyNew new damaged = absurd (damaged.1 new)
+  upgrade_damaged (Open e) reason damaged = opens e Damaged (told_damaged e (plain_reason e reason) damaged.0)
+
+  pub upgrade_new : (e : UpgradeError) → UpgradeRefusedFor size seen e → IsAlreadyNew size seen
+      → Upgrades e AlreadyNew
+  upgrade_new AlreadyNew reason new = inl refl
+  upgrade_new (Open NotASpool) reason new = absurd (reason new.blocks new.says)
+  upgrade_new (Open Version) reason new = absurd (new_is_known new reason)
+  upgrade_new (Open Damaged) reason new = absurd (reason.1 new)
+  upgrade_new (Open NoMemory) reason new = inr (inl refl)
+  upgrade_new (Open DiskFault) reason new = inr (inr refl)

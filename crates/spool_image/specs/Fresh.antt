@@ -1,16 +1,17 @@
--- A spool without uploads, byte by byte.
+-- A spool without uploads, of version 2, byte by byte.
 use Rattle.std.specs.Prelude.{◌≡◌, ℕ, ◌-◌, ◌*◌, ◌<◌, ◌≤◌, nat_lt, if◌then◌else◌}
 use Rattle.enc_model.specs.Indexes.{IndexSet}
 use Rattle.enc_index.specs.Area.{area_byte}
 use Rattle.spool_journal.specs.Image.{byte_of, all_pages}
 use Rattle.spool_pages.specs.View.{index_place, state_place, first_page, state_page}
+use Rattle.spool_pages.specs.declared.version.Version.TheVariants.{Two}
 
 -- its bytes behind page 0: zeros, the index area, and the state page with zeros behind it
 unfoldable pub fresh_byte : ℕ → IndexSet → ℕ → ℕ
 fresh_byte n x p =
     if nat_lt p (index_place n) then 0
     else if nat_lt p (state_place n) then area_byte x (p - index_place n)
-    else byte_of (state_page 1 1) (p - state_place n)
+    else byte_of (state_page Two 1) (p - state_place n)
 
 -- so stand all its pages but page 0, below a place
 pub record IsFreshTo (n : ℕ) (x : IndexSet) (end : ℕ) (image : ℕ → ℕ) : Type 0 where

@@ -1,7 +1,9 @@
-// Why a spool is not made.
+// Why a spool is not made, or not brought to version 2.
 ghost use Rattle.std.specs.Prelude.{◌≡◌};
 
 use spool_disk::DiskFault;
+use spool_kept::OpenFault;
+use std::alloc::AllocError;
 use std::error::Error;
 use std::fmt;
 
@@ -37,3 +39,55 @@ impl fmt::Display for FormatError {
 }
 
 impl Error for FormatError {}
+
+/// Why `upgrade` brings no spool to version 2.
+#[derive(Clone, Copy, Debug, PartialEq, Eq)]
+pub enum UpgradeError {
+    /// It can't be opened, or memory or the disk refuses it.
+    Open(OpenFault),
+    /// The spool is of version 2 already.
+    AlreadyNew,
+}
+
+impl From<OpenFault> for UpgradeError {
+    ghost use Rattle.spool_image.specs.declared.error.UpgradeError.{UpgradeError};
+
+    ghost from_gives = { λ fault error. error ≡ UpgradeError.Open fault };
+
+    fn from(fault: OpenFault) -> UpgradeError {
+        UpgradeError::Open(fault)
+    }
+}
+
+impl From<DiskFault> for UpgradeError {
+    ghost use Rattle.spool_image.specs.declared.error.UpgradeError.{UpgradeError};
+    ghost use Rattle.spool_kept.specs.declared.error.OpenFault.{OpenFault};
+
+    ghost from_gives = { λ _ error. error ≡ UpgradeError.Open OpenFault.DiskFault };
+
+    fn from(_fault: DiskFault) -> UpgradeError {
+        UpgradeError::Open(OpenFault::DiskFault)
+    }
+}
+
+impl From<AllocError> for UpgradeError {
+    ghost use Rattle.spool_image.specs.declared.error.UpgradeError.{UpgradeError};
+    ghost use Rattle.spool_kept.specs.declared.error.OpenFault.{OpenFault};
+
+    ghost from_gives = { λ _ error. error ≡ UpgradeError.Open OpenFault.NoMemory };
+
+    fn from(_error: AllocError) -> UpgradeError {
+        UpgradeError::Open(OpenFault::NoMemory)
+    }
+}
+
+impl fmt::Display for UpgradeError {
+    fn fmt<W: fmt::Write>(&self, f: &mut fmt::Formatter<W>) -> fmt::Result {
+        match self {
+            UpgradeError::Open(fault) => fault.fmt(f),
+            UpgradeError::AlreadyNew => f.write_str("the spool is of version 2 already"),
+        }
+    }
+}
+
+impl Error for UpgradeError {}

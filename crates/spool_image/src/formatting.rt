@@ -15,7 +15,7 @@ use crate::FormatError;
 use enc_index::IndexSet;
 use spool_disk::{Disk, DiskFault};
 use spool_journal::{Layout, PAGE};
-use spool_pages::{MAGIC, blank_page, first_page, state_page};
+use spool_pages::{MAGIC, Version, blank_page, first_page, state_page};
 
 // A page behind page 0 of a spool without uploads.
 fn fresh_page(layout: &Layout, indexes: &IndexSet, page: u32) -> [u8; PAGE]
@@ -32,7 +32,7 @@ fn fresh_page(layout: &Layout, indexes: &IndexSet, page: u32) -> [u8; PAGE]
         return indexes.to_area((page - index_page) as usize);
     }
     if page == metadata_page {
-        return state_page(1);
+        return state_page(Version::Two, 1);
     }
     blank_page()
 }
@@ -98,8 +98,8 @@ fn is_spool<D: Disk>(disk: &mut D) -> Result<bool, DiskFault>
     Ok(front == MAGIC)
 }
 
-/// Makes a spool without uploads of so many text blocks. It writes all pages but page 0 and syncs, and then page 0 and
-/// syncs. `AlreadySpool` where the disk begins with the first bytes of a spool; `Size` where the text blocks are not 16
+/// Makes a spool of version 2 without uploads, of so many text blocks. It writes all pages but page 0 and syncs, and
+/// then page 0 and syncs. `AlreadySpool` where the disk begins with the first bytes of a spool; `Size` where the text blocks are not 16
 /// to 65,536 or the disk is shorter than all pages; these in this order, and then nothing was written. `DiskFault`
 /// where the disk failed. It takes no memory.
 pub fn format<D: Disk>(disk: &mut D, blocks: u32, indexes: &IndexSet) -> Result<(), FormatError>

@@ -66,7 +66,6 @@ module _ (v : View) (m : Store) (new : New) (s : ℕ) (r : SlotRecord) (shows : 
   created_sound sound most = record {
     least = shows.sound.least;
     most = shows.sound.most;
-    version = shows.sound.version;
     next_least = omega arith;
     next_most = omega (arith, most, shows.next);
     indexes = shows.sound.indexes;

@@ -33,7 +33,6 @@ module _ (v : View) (m : Store) (shows : Shows v m) (s : ℕ) (r : SlotRecord) (
   deleted_sound = record {
     least = shows.sound.least;
     most = shows.sound.most;
-    version = shows.sound.version;
     next_least = shows.sound.next_least;
     next_most = shows.sound.next_most;
     indexes = shows.sound.indexes;

@@ -379,7 +379,6 @@ pub longer_world : {D : Type 0} (disk : Ghosts D) (d : D) (h : Holding) (drafts 
     → DraftsStand w.store.indexes (disk.seen d) (25 + 2 * journal_pages h.layout) h.slots h.blocks
     (record w { patches = replaced number (longer w number p piece) w.patches }) drafts
     → StandsFor disk d h drafts (appended_at w number piece a)
-longer_world disk d h drafts w number piece p a e stored stands = subst (λ q. StandsFor disk d h drafts (appended_at w number piece q)) (sym e) (record {
-  stored = stored;
-  stands = stands;
-})
+longer_world disk d h drafts w number piece p a e stored stands =
+    subst (λ q. StandsFor disk d h drafts (appended_at w number piece q)) (sym e)
+    (record { stored = stored; stands = stands })

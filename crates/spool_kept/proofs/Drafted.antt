@@ -89,6 +89,7 @@ fit_changed n h h' old new d o fit is own others placed apart = record {
 pub keeps_on : (old new : Holding) (v : View) → OnlyReserves old new → KeepsView old v → KeepsView new v
 keeps_on old new v same keeps = record {
   blocks = ap (λ (h : Holding). h.layout) same.same ∙ keeps.blocks;
+  version = ap (λ (h : Holding). h.version) same.same ∙ keeps.version;
   next = ap (λ (h : Holding). h.next) same.same ∙ keeps.next;
   indexes = ap (λ (h : Holding). h.indexes) same.same ∙ keeps.indexes;
   slots = ap (λ (h : Holding). h.slots) same.same ∙ keeps.slots;

@@ -252,7 +252,8 @@ module _ (h new : Holding) (v : View) (m : Store) (keeps : KeepsView h v) (shows
     extended_keeps fits' =
         keeps_said new (appended_view v longer.slot (longer_record may.used longer) new.blocks.rows
         (v.texts longer.slot ++ added)) fits' extended_shows.sound
-        (sym keeps.blocks ∙ sym longer_is.layout) (longer_is.next ∙ keeps.next) (longer_is.indexes ∙ keeps.indexes)
+        (sym keeps.blocks ∙ sym longer_is.layout) (longer_is.version ∙ keeps.version) (longer_is.next ∙ keeps.next)
+        (longer_is.indexes ∙ keeps.indexes)
         (longer_is.slots ∙ ap (λ (xs : List (Option SlotRecord)). set xs longer.slot
         (Some (longer_record may.used longer))) keeps.slots) refl
 
@@ -262,9 +263,8 @@ module _ (h new : Holding) (v : View) (m : Store) (keeps : KeepsView h v) (shows
       → ChangesButRows pages v (appended_view v longer.slot (longer_record may.used longer) rows shown)
   changes_text pages rows shown is' = record {
     blocks = is'.blocks;
-    version = is'.version;
     indexes = is'.indexes;
-    next = is'.next;
+    state = is'.state;
     slots = is'.slots;
     rows = is'.rows;
   }
@@ -323,7 +323,7 @@ module _ {D : Type 0} (disk : Ghosts D) (old : D) (h new : Holding) (fits' : Fit
   ])
 
   module _ (blank filled : List (ℕ × List ℕ))
-      (but : (v : View) → v.blocks ≡ h.layout → v.slots ≡ h.slots → (r : SlotRecord)
+      (but : (v : View) → v.blocks ≡ h.layout → v.version ≡ h.version → v.slots ≡ h.slots → (r : SlotRecord)
       → get_or h.slots longer.slot None ≡ Some r → (rows : List Row)
       → (length more ≡ 0 → SameRowsBut [] v.rows rows)
       → (0 < length more → SameRowsBut (more ++ drop (r.text_len / 4096) (get_or h.lists longer.slot [])) v.rows rows)
@@ -335,7 +335,7 @@ module _ {D : Type 0} (disk : Ghosts D) (old : D) (h new : Holding) (fits' : Fit
         let v = append.stored.view in
         let keeps = append.stored.keeps in
         let shows = append.stored.shows in
-        let pages = but v (sym keeps.blocks) (sym keeps.slots) may.used may.there new.blocks.rows
+        let pages = but v (sym keeps.blocks) (sym keeps.version) (sym keeps.slots) may.used may.there new.blocks.rows
         (rows_none h new v m keeps shows longer more may reserved is state_size)
         (rows_some h new v m keeps shows longer more may reserved is state_size) in
         fill v after (sym keeps.blocks ∙ sym (is may.used may.there).layout)

@@ -9,8 +9,8 @@ use Rattle.spool_kept.specs.Shows.{IsSound}
 use Rattle.spool_kept.proofs.Sound.{in_use}
 
 module _ (h : Holding) (v : View) (fits : FitsTogether h) (sound : IsSound v) (blocks : v.blocks ≡ h.layout)
-    (next : h.next ≡ v.next) (indexes : h.indexes ≡ v.indexes) (slots : h.slots ≡ v.slots)
-    (rows : h.blocks.rows ≡ v.rows) where
+    (version : h.version ≡ v.version) (next : h.next ≡ v.next) (indexes : h.indexes ≡ v.indexes)
+    (slots : h.slots ≡ v.slots) (rows : h.blocks.rows ≡ v.rows) where
   has : (s : ℕ) (r : SlotRecord) → slot_at v s ≡ Some r → HasBlocks h.blocks.rows s r.text_len (get_or h.lists s [])
   has s r e =
       let lt : s < 512 = let inside = in_use v.slots s r e in omega (arith, inside, sound.slot_count) in
@@ -20,6 +20,7 @@ module _ (h : Holding) (v : View) (fits : FitsTogether h) (sound : IsSound v) (b
   pub keeps_said : KeepsView h v
   keeps_said = record {
     blocks = sym blocks;
+    version = version;
     next = next;
     indexes = indexes;
     slots = slots;

@@ -43,3 +43,4 @@ pub mod Deleted
 pub mod Terminated
 pub mod OfDeleted
 pub mod Forgotten
+pub mod Upgraded

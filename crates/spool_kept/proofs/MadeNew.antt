@@ -67,9 +67,8 @@ module _ (h : Holding) (v : View) (m : Store) (new : New) (slot : ℕ) (r : Slot
           record {
             others = record {
               blocks = c.others.blocks;
-              version = c.others.version;
               indexes = c.others.indexes;
-              next = c.others.next;
+              state = c.others.state;
               slots = c.others.slots;
               rows = c.others.rows;
             };
@@ -78,8 +77,8 @@ module _ (h : Holding) (v : View) (m : Store) (new : New) (slot : ℕ) (r : Slot
 
   keeps_new : (h' : Holding) → IsTakenIn h slot r h' → KeepsView h' (created_view v slot r)
   keeps_new h' taken = keeps_said h' (created_view v slot r) taken.fits shows_new.sound
-      (sym (taken.layout ∙ keeps.blocks)) (taken.next ∙ ap (λ (n : ℕ). n + 1) keeps.next)
-      (taken.indexes ∙ keeps.indexes)
+      (sym (taken.layout ∙ keeps.blocks)) (taken.version ∙ keeps.version)
+      (taken.next ∙ ap (λ (n : ℕ). n + 1) keeps.next) (taken.indexes ∙ keeps.indexes)
       (taken.slots ∙ ap (λ (xs : List (Option SlotRecord)). slice_set xs slot (Some r)) keeps.slots)
       (ap (λ b. b.rows) taken.blocks ∙ keeps.rows)
 

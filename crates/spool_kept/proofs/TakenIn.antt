@@ -81,6 +81,7 @@ module _ (h : Holding) (slot : ℕ) (r : SlotRecord) (fits : FitsTogether h) (ro
   pub taken_fits : (order : List NumberedSlot) → IsAdded h.order h.next slot order
       → FitsTogether (record {
         layout = h.layout;
+        version = h.version;
         next = h.next + 1;
         indexes = h.indexes;
         slots =

@@ -65,8 +65,8 @@ module _ (h : Holding) (v : View) (m : Store) (number slot : ℕ) (keeps : Keeps
 
     keeps_after : FitsTogether h' → KeepsView h' (deleted_view v slot h'.blocks.rows)
     keeps_after fits =
-        keeps_said h' after fits shows_after.sound (sym (out.layout ∙ keeps.blocks)) (out.next ∙ keeps.next)
-        (out.indexes ∙ keeps.indexes)
+        keeps_said h' after fits shows_after.sound (sym (out.layout ∙ keeps.blocks))
+        (out.version ∙ keeps.version) (out.next ∙ keeps.next) (out.indexes ∙ keeps.indexes)
         (out.slots ∙ ap (λ (xs : List (Option SlotRecord)). slice_set xs slot None) keeps.slots) refl
 
     shows_either : (image : ℕ → ℕ) → IsViewOf image v ⊎ IsViewOf image (deleted_view v slot h'.blocks.rows)
@@ -80,7 +80,7 @@ module _ (h : Holding) (v : View) (m : Store) (number slot : ℕ) (keeps : Keeps
 module _ {D : Type 0} (disk : Ghosts D) (d : D) (h h' : Holding) (m : Store) (number slot : ℕ)
     (stored : Stored disk d h m) (used : IsUsedBy h.slots slot number) (out : IsTakenOut h slot h')
     (blank filled : List (ℕ × List ℕ))
-    (but : (v : View) → v.blocks ≡ h.layout → v.slots ≡ h.slots → (rows : List Row)
+    (but : (v : View) → v.blocks ≡ h.layout → v.version ≡ h.version → v.slots ≡ h.slots → (rows : List Row)
     → SameRowsBut (get_or h.lists slot []) v.rows rows
     → ChangesButRows blank v (record (with_slot v slot None) { rows = rows }))
     (fill : (v v' : View) → v.blocks ≡ h'.layout → ChangesButRows blank v v' → v'.rows ≡ h'.blocks.rows
@@ -97,7 +97,8 @@ module _ {D : Type 0} (disk : Ghosts D) (d : D) (h h' : Holding) (m : Store) (nu
   changes : Changes filled old new
   changes =
       let rows = rows_but h old m number slot stored.keeps stored.shows used h' out in
-      fill old new blocks (but old (sym stored.keeps.blocks) (sym stored.keeps.slots) h'.blocks.rows rows) refl
+      fill old new blocks (but old (sym stored.keeps.blocks) (sym stored.keeps.version) (sym stored.keeps.slots)
+      h'.blocks.rows rows) refl
 
   texts : HasTexts (disk.seen d) new
   texts =
@@ -107,7 +108,7 @@ module _ {D : Type 0} (disk : Ghosts D) (d : D) (h h' : Holding) (m : Store) (nu
   -- what the commit of the pages makes of a view
   abbrev Makes : (View → View → Type 0) → Type 0
   Makes Made =
-      (v v' : View) → v.blocks ≡ h'.layout → v.version ≡ 1 → Rests v (disk.seen d) (disk.loose d)
+      (v v' : View) → v.blocks ≡ h'.layout → Rests v (disk.seen d) (disk.loose d)
       → Changes filled v v' → HasTexts (disk.seen d) v' → Made v v'
 
   -- a crash leaves the upload or its deletion
@@ -118,7 +119,7 @@ module _ {D : Type 0} (disk : Ghosts D) (d : D) (h h' : Holding) (m : Store) (nu
       subst (λ (f : Option UploadRefusal).
       Lasts disk d d' (ShowsEither h.layout m (outcome f m (deleted_store m number))))
       (sym (allowed h old m number slot stored.keeps stored.shows used))
-      (lasts_more (lasts old new blocks stored.shows.sound.version stored.rests changes texts)
+      (lasts_more (lasts old new blocks stored.rests changes texts)
       (shows_either h old m number slot stored.keeps stored.shows used h' out))
 
   pub stored_after : (d' : D) → FitsTogether h' → disk.honest d'
@@ -127,7 +128,7 @@ module _ {D : Type 0} (disk : Ghosts D) (d : D) (h h' : Holding) (m : Store) (nu
   stored_after d' fits honest done = record {
     honest = honest;
     view = new;
-    rests = done old new blocks stored.shows.sound.version stored.rests changes texts;
+    rests = done old new blocks stored.rests changes texts;
     keeps = keeps_after h old m number slot stored.keeps stored.shows used h' out fits;
     shows = shows_after h old m number slot stored.keeps stored.shows used h' out;
   }

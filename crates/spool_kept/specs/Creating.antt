@@ -16,6 +16,7 @@ pub record HasRoomAt (h : Holding) (slot : ℕ) : Type 0 where
 -- the record is in the slot, under the next number, and all fits together
 pub record IsTakenIn (old : Holding) (slot : ℕ) (r : SlotRecord) (new : Holding) : Type 0 where
   pub layout : new.layout ≡ old.layout
+  pub version : new.version ≡ old.version
   pub next : new.next ≡ old.next + 1
   pub indexes : new.indexes ≡ old.indexes
   pub slots : new.slots ≡ slice_set old.slots slot (Some r)

@@ -60,6 +60,7 @@ pub record HandsOn (old new : List Bool) (list : List ℕ) : Type 0 where
 -- what is kept has the longer upload, of which `used` was the record
 pub record IsLonger (h : Holding) (used : SlotRecord) (longer : Longer) (more : List ℕ) (new : Holding) : Type 0 where
   pub layout : new.layout ≡ h.layout
+  pub version : new.version ≡ h.version
   pub next : new.next ≡ h.next
   pub indexes : new.indexes ≡ h.indexes
   pub slots : new.slots ≡ slice_set h.slots longer.slot (Some (longer_record used longer))

@@ -6,6 +6,7 @@ use Rattle.spool_blocks.specs.Chains.{OwnsOneEach}
 use Rattle.upload_rules.specs.Room.{blocks_of}
 use Rattle.spool_pages.specs.Fits.{FitsRow}
 use Rattle.spool_pages.specs.View.{SlotRecord}
+use Rattle.spool_pages.specs.declared.version.Version.{Version}
 use Rattle.spool_kept.specs.declared.kept.Kept.TheInside.{Inside}
 use Rattle.spool_kept.specs.declared.order.NumberedSlot.{NumberedSlot}
 
@@ -88,6 +89,7 @@ OwnsText rows slot (Some r) = OwnsOneEach rows slot (blocks_of r.text_len)
 
 pub record Holding : Type 0 where
   pub layout : ℕ
+  pub version : Version
   pub next : ℕ
   pub indexes : IndexSet
   pub slots : List (Option SlotRecord)
@@ -99,6 +101,7 @@ pub record Holding : Type 0 where
 abbrev pub held_of : Inside → Holding
 held_of k = record {
   layout = k.layout;
+  version = k.version;
   next = k.next;
   indexes = k.indexes;
   slots = k.slots.items;

@@ -8,6 +8,7 @@ use Rattle.spool_kept.specs.Holding.{Holding, Orders}
 -- it says what the view says, the slots in use stand by ascending numbers, and the blocks of each one's text are listed
 pub record KeepsView (h : Holding) (v : View) : Type 0 where
   pub blocks : h.layout ≡ v.blocks
+  pub version : h.version ≡ v.version
   pub next : h.next ≡ v.next
   pub indexes : h.indexes ≡ v.indexes
   pub slots : h.slots ≡ v.slots

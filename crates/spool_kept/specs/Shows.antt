@@ -48,7 +48,6 @@ pub record IsOwned (v : View) (slot ordinal : ℕ) : Type 0 where
 pub record IsSound (v : View) : Type 0 where
   pub least : 16 ≤ v.blocks
   pub most : v.blocks ≤ 65536
-  pub version : v.version ≡ 1
   pub next_least : 1 ≤ v.next
   pub next_most : v.next ≤ 10 ^ 18
   pub indexes : IsIndexSet v.indexes

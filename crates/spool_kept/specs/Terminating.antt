@@ -32,6 +32,7 @@ pub record IsWithout (old : List NumberedSlot) (number : ℕ) (new : List Number
 -- the slot is free, and so are its blocks; nothing else is another
 pub record IsTakenOut (old : Holding) (slot : ℕ) (new : Holding) : Type 0 where
   pub layout : new.layout ≡ old.layout
+  pub version : new.version ≡ old.version
   pub next : new.next ≡ old.next
   pub indexes : new.indexes ≡ old.indexes
   pub slots : new.slots ≡ slice_set old.slots slot None

@@ -164,6 +164,7 @@ fn put_behind<D: Disk>(
     ensures honest { D.honest disk.old ↔ D.honest disk.new }
     ensures counts { Counts (IsErrOf result UploadError.DiskFault) (D.failures disk.old) (D.failures disk.new) }
     ensures layout { kept.new.layout ≡ kept.old.layout }
+    ensures version { kept.new.version ≡ kept.old.version }
     ensures fits { (drafts : List (Option Draft)) (number : ℕ) → DraftsFit kept.old drafts
         → draft_at drafts number ≡ Some draft → DraftsFit kept.new (slice_set drafts number None) }
     ensures refusal { (e : Refusal) → IsErrOf result (UploadError.Refused e)
@@ -218,6 +219,7 @@ fn set_length<D: Disk>(
     ensures honest { D.honest disk.old ↔ D.honest disk.new }
     ensures counts { Counts (IsErrOf result UploadError.DiskFault) (D.failures disk.old) (D.failures disk.new) }
     ensures layout { kept.new.layout ≡ kept.old.layout }
+    ensures version { kept.new.version ≡ kept.old.version }
     ensures count { (r : Said) → get_or kept.old.slots slot None ≡ Some r → IfOk result (λ n. n ≡ r.accepted) }
     ensures no_refusal { (e : Refusal) → IsErrOf result (UploadError.Refused e) → ⊥ }
     ensures fits { (drafts : List (Option Draft)) → DraftsFit kept.old drafts → DraftsFit kept.new drafts }
@@ -247,9 +249,9 @@ fn set_length<D: Disk>(
 }
 
 /// Puts the text of the draft of a number behind its upload's, gives that the length that the draft declares where it
-/// had none, and answers the new offset: refused with `NoSuch`, `Offset`, `LengthSet`, `TooLong`, `Unencodable`, `Full`,
-/// `NoMemory`, `DiskFault`. The draft is spent in every case. After a fault of the device what is kept may be ahead of
-/// the disk: the spool must be opened again.
+/// had none, and answers the new offset: refused with `NoSuch`, `Offset`, `LengthSet`, `TooLong`, `Unencodable`,
+/// `Full`, `NoMemory`, `DiskFault`. The draft is spent in every case. After a fault of the device what is kept may be
+/// ahead of the disk: the spool must be opened again.
 pub fn commit<D: Disk>(
     alloc: Global,
     disk: &mut D,
@@ -261,6 +263,7 @@ pub fn commit<D: Disk>(
     requires fits { DraftsFit kept.old drafts.old.items }
     ensures fits { DraftsFit kept.new drafts.new.items }
     ensures layout { kept.new.layout ≡ kept.old.layout }
+    ensures version { kept.new.version ≡ kept.old.version }
     ensures size { D.size disk.new ≡ D.size disk.old }
     ensures honest { D.honest disk.old ↔ D.honest disk.new }
     ensures counts { Counts (IsErrOf result UploadError.DiskFault) (D.failures disk.old) (D.failures disk.new) }

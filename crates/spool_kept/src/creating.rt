@@ -67,14 +67,22 @@ impl Kept {
         requires { HasRoomAt self.now slot }
         ensures area { IfOk result (λ pages. InArea (journal_pages self.now.layout) pages) }
         ensures some { IfOk result (λ pages. 1 ≤ length pages) }
-        ensures changes { (v : View) → v.blocks ≡ self.now.layout → v.slots ≡ self.now.slots
-            → IfOk result (λ pages. Changes pages v (record (with_record v slot «record».now)
+        ensures changes { (v : View) → v.blocks ≡ self.now.layout → v.version ≡ self.now.version
+            → v.slots ≡ self.now.slots → IfOk result (λ pages. Changes pages v (record (with_record v slot «record».now)
             { next = self.now.next + 1 })) }
     {
         let kept = record.slot_record();
         let beside = self.beside(slot);
         let next = self.next + 1;
-        pages_of_new(alloc, &self.layout, next, slot, &kept, beside.as_ref())
+        pages_of_new(
+            alloc,
+            &self.layout,
+            self.version,
+            next,
+            slot,
+            &kept,
+            beside.as_ref(),
+        )
     }
 
     // Takes a new upload's record in. Where a growth is refused all is as it was.
@@ -104,8 +112,8 @@ impl Kept {
         ensures taken { IfOk result (λ pages. IsTakenIn self.old slot «record» self.new) }
         ensures area { IfOk result (λ pages. InArea (journal_pages self.old.layout) pages) }
         ensures some { IfOk result (λ pages. 1 ≤ length pages) }
-        ensures changes { (v : View) → v.blocks ≡ self.old.layout → v.slots ≡ self.old.slots
-            → IfOk result (λ pages. Changes pages v (record (with_record v slot «record»)
+        ensures changes { (v : View) → v.blocks ≡ self.old.layout → v.version ≡ self.old.version
+            → v.slots ≡ self.old.slots → IfOk result (λ pages. Changes pages v (record (with_record v slot «record»)
             { next = self.old.next + 1 })) }
         ensures unmade { IsErr result → self.new ≡ self.old }
     {
@@ -130,6 +138,7 @@ pub fn create<D: Disk>(
     ensures honest { D.honest disk.old ↔ D.honest disk.new }
     ensures counts { Counts (IsErrOf result UploadError.DiskFault) (D.failures disk.old) (D.failures disk.new) }
     ensures layout { kept.new.layout ≡ kept.old.layout }
+    ensures version { kept.new.version ≡ kept.old.version }
     ensures blocks { kept.new.blocks ≡ kept.old.blocks }
     ensures slots { (slot : ℕ) (r : Said) → get_or kept.old.slots slot None ≡ Some r
         → get_or kept.new.slots slot None ≡ Some r }

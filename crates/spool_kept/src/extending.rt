@@ -120,9 +120,9 @@ impl Kept {
         requires reserved { IsReserved self.now.blocks more.now }
         ensures area { IfOk result (λ pages. InArea (journal_pages self.now.layout) pages) }
         ensures some { IfOk result (λ pages. 1 ≤ length pages) }
-        ensures changes { (v : View) → v.blocks ≡ self.now.layout → v.slots ≡ self.now.slots → (r : Said)
-            → get_or self.now.slots longer.now.slot None ≡ Some r → (rows : List HeldRow)
-            → (length more.now ≡ 0 → SameRowsBut [] v.rows rows)
+        ensures changes { (v : View) → v.blocks ≡ self.now.layout → v.version ≡ self.now.version
+            → v.slots ≡ self.now.slots → (r : Said) → get_or self.now.slots longer.now.slot None ≡ Some r
+            → (rows : List HeldRow) → (length more.now ≡ 0 → SameRowsBut [] v.rows rows)
             → (0 < length more.now
             → SameRowsBut (more.now ++ drop (r.text_len / 4096) (get_or self.now.lists longer.now.slot [])) v.rows rows)
             → IfOk result (λ pages. ChangesButRows pages v (record
@@ -143,6 +143,7 @@ impl Kept {
         pages_of_change(
             alloc,
             &self.layout,
+            self.version,
             slot,
             Some(&next),
             beside.as_ref(),
@@ -192,6 +193,7 @@ pub(crate) fn extend<D: Disk>(
     ensures honest { D.honest disk.old ↔ D.honest disk.new }
     ensures counts { Counts (result ≡ Err ExtendError.DiskFault) (D.failures disk.old) (D.failures disk.new) }
     ensures layout { kept.new.layout ≡ kept.old.layout }
+    ensures version { kept.new.version ≡ kept.old.version }
     ensures unmade { result ≡ Err ExtendError.NoMemory → (kept.new ≡ kept.old) × (disk.new ≡ disk.old) }
     ensures blocks { (result ≡ Err ExtendError.NoMemory → ⊥)
         → HandsOn kept.old.blocks.reserved kept.new.blocks.reserved more.now }

@@ -14,11 +14,11 @@ ghost use Rattle.spool_pages.specs.View.{SlotRecord as Said, View};
 use crate::OpenFault;
 use crate::lists::{BlockList, lists_of};
 use crate::order::{NumberedSlot, order_of};
-use crate::records::{KeptRecord, record_at};
+use crate::records::{KeptRecord, slot_record_at};
 use enc_index::IndexSet;
 use spool_blocks::Blocks;
 use spool_journal::Layout;
-use spool_pages::SlotRecord;
+use spool_pages::{SlotRecord, Version};
 use std::alloc::Global;
 use std::marker::Model;
 
@@ -26,6 +26,7 @@ use std::marker::Model;
 #[derive(Drop)]
 pub struct Kept {
     pub(crate) layout: Layout,
+    pub(crate) version: Version,
     /// The number of the next upload.
     pub(crate) next: u64,
     /// The index files.
@@ -62,6 +63,7 @@ impl Kept {
     pub fn of(
         alloc: Global,
         layout: Layout,
+        version: Version,
         next: u64,
         indexes: IndexSet,
         slots: Vec<Option<KeptRecord>>,
@@ -72,6 +74,7 @@ impl Kept {
         requires fits { (b : ℕ) → FitsRow (get_or blocks.rows b None) }
         requires below { AreBelow next slots.items }
         ensures layout { IfOk result (λ kept. kept.layout ≡ layout) }
+        ensures version { IfOk result (λ kept. kept.version ≡ version) }
         ensures next { IfOk result (λ kept. kept.next ≡ next) }
         ensures indexes { IfOk result (λ kept. kept.indexes ≡ indexes) }
         ensures slots { IfOk result (λ kept. kept.slots ≡ slots.items) }
@@ -81,14 +84,15 @@ impl Kept {
             → OwnsOneEach blocks.rows s (blocks_of r.text_len)) }
         ensures no_device { result ≡ Err OpenFault.DiskFault → ⊥ }
         ensures late { IfErr result IsLate }
-        ensures said { (v : View) → IsSound v → v.blocks ≡ layout → next ≡ v.next → indexes ≡ v.indexes
-            → slots.items ≡ v.slots → blocks.rows ≡ v.rows → blocks.reserved ≡ replicate v.blocks false
-            → LoadsAs result (λ kept. KeepsAlone kept v) }
+        ensures said { (v : View) → IsSound v → v.blocks ≡ layout → version ≡ v.version → next ≡ v.next
+            → indexes ≡ v.indexes → slots.items ≡ v.slots → blocks.rows ≡ v.rows
+            → blocks.reserved ≡ replicate v.blocks false → LoadsAs result (λ kept. KeepsAlone kept v) }
     {
         let order = order_of(alloc, &slots)?;
         let lists = lists_of(alloc, &blocks, &slots)?;
         Ok(Kept {
             layout,
+            version,
             next,
             indexes,
             slots,
@@ -105,14 +109,20 @@ impl Kept {
         &self.layout
     }
 
+    /// The version of the spool's layout.
+    pub fn version(&self) -> Version
+        ensures { result ≡ self.now.version }
+    {
+        self.version
+    }
+
     /// The record of the other slot on a slot's page.
     pub(crate) fn beside(&self, slot: u32) -> Option<SlotRecord<'_>>
         requires { slot < 512 }
         ensures said { result ≡ get_or self.now.slots (neighbour slot) None }
         ensures short { IfSome result (λ r. length r.metadata ≤ 1536) }
     {
-        let kept = record_at(&self.slots, neighbour(slot) as usize)?;
-        Some(kept.slot_record())
+        slot_record_at(&self.slots, neighbour(slot) as usize)
     }
 }
 

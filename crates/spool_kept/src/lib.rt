@@ -12,6 +12,7 @@ mod lists;
 mod order;
 mod records;
 mod terminating;
+mod upgrading;
 
 pub use committing::commit;
 pub use creating::create;
@@ -21,3 +22,4 @@ pub use kept::Kept;
 pub use lists::blocks_of;
 pub use records::{KeptRecord, record_at};
 pub use terminating::terminate;
+pub use upgrading::upgraded_shows;

@@ -1,5 +1,6 @@
 // The record of an upload, kept in memory.
-ghost use Rattle.std.specs.Prelude.{◌≡◌, ◌≤◌, All, Err, None, Some, length, get_or, option_copied, IfOk, IfErr, OnOk};
+ghost use Rattle.std.specs.Prelude.{◌≡◌, ◌≤◌, All, Err, None, Some, length, get_or, option_copied, IfOk, IfErr, IfSome};
+ghost use Rattle.std.specs.Prelude.{OnOk};
 ghost use Rattle.upload_rules.specs.States.{SameEncodings};
 ghost use Rattle.spool_kept.specs.Extending.{longer_record};
 ghost use Rattle.spool_kept.specs.Loads.{LoadsAs, IsLate};
@@ -117,6 +118,14 @@ pub fn record_at(slots: &[Option<KeptRecord>], slot: usize) -> Option<&KeptRecor
         Some(record) => record.as_ref(),
         None => None,
     }
+}
+
+/// The record of a slot as its bytes say it, none where the slot is free or isn't there.
+pub(crate) fn slot_record_at(slots: &[Option<KeptRecord>], slot: usize) -> Option<SlotRecord<'_>>
+    ensures said { result ≡ get_or slots.now slot None }
+    ensures short { IfSome result (λ r. length r.metadata ≤ 1536) }
+{
+    Some(record_at(slots, slot)?.slot_record())
 }
 
 // The bytes as text. `Damaged` where one isn't printable ASCII.

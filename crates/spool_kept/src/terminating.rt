@@ -61,13 +61,21 @@ impl Kept {
         requires used { (n : ℕ) × IsUsedBy self.now.slots slot n }
         ensures area { IfOk result (λ pages. InArea (journal_pages self.now.layout) pages) }
         ensures some { IfOk result (λ pages. 1 ≤ length pages) }
-        ensures changes { (v : View) → v.blocks ≡ self.now.layout → v.slots ≡ self.now.slots → (rows : List HeldRow)
-            → SameRowsBut (get_or self.now.lists slot []) v.rows rows
+        ensures changes { (v : View) → v.blocks ≡ self.now.layout → v.version ≡ self.now.version
+            → v.slots ≡ self.now.slots → (rows : List HeldRow) → SameRowsBut (get_or self.now.lists slot []) v.rows rows
             → IfOk result (λ pages. ChangesButRows pages v (record (with_slot v slot None) { rows = rows })) }
     {
         let list = self.lists[slot as usize].blocks();
         let beside = self.beside(slot);
-        pages_of_change(alloc, &self.layout, slot, None, beside.as_ref(), list)
+        pages_of_change(
+            alloc,
+            &self.layout,
+            self.version,
+            slot,
+            None,
+            beside.as_ref(),
+            list,
+        )
     }
 
     // Takes an upload out of its slot. It takes no memory.
@@ -99,6 +107,7 @@ pub fn terminate<D: Disk>(
     ensures honest { D.honest disk.old ↔ D.honest disk.new }
     ensures counts { Counts (IsErrOf result UploadError.DiskFault) (D.failures disk.old) (D.failures disk.new) }
     ensures layout { kept.new.layout ≡ kept.old.layout }
+    ensures version { kept.new.version ≡ kept.old.version }
 
     // Whatever the disk said, it is refused so exactly where no slot has the number.
     ensures no_such { IsErrOf result (UploadError.Refused UploadRefusal.NoSuch)

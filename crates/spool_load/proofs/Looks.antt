@@ -14,6 +14,7 @@ use Rattle.spool_journal.proofs.Recovers.{get_span}
 use Rattle.spool_pages.specs.Bytes.{IsPadded}
 use Rattle.spool_pages.specs.View.{SlotRecord, Stands, state_page, slot_bytes, slot_place, row_bytes, row_place}
 use Rattle.spool_pages.specs.Fits.{FitsSlotOf}
+use Rattle.spool_pages.specs.declared.version.Version.{Version as Known}
 use Rattle.spool_pages.proofs.Says.{all_is}
 use Rattle.spool_load.specs.Reads.{OnlyReads, IsReadAt, IsFrontOf, IsSameTo, StandSlots, StandRows}
 use Rattle.spool_kept.specs.Loads.{LoadsAs}
@@ -55,7 +56,7 @@ read_padded bytes place at buf xs size read long same few stands = record {
   ];
 }
 
-pub length-state : (version next : ℕ) → length (state_page version next) ≡ 12
+pub length-state : (version : Known) (next : ℕ) → length (state_page version next) ≡ 12
 unfolding state_page
 length-state version next = refl
 
@@ -113,10 +114,20 @@ pub if_ok_more : {T E : Type 0} (r : Result T E) {P Q : T → Type 0} → ((t : 
 if_ok_more (Ok t) more p = more t p
 if_ok_more (Err e) more p = tt
 
+pub loads_both : {T : Type 0} (r : Result T OpenFault) {P Q R : T → Type 0} → ((t : T) → P t → Q t → R t)
+    → LoadsAs r P → IfOk r Q → LoadsAs r R
+loads_both (Ok t) more p q = more t p q
+loads_both (Err e) more p q = loads_err _ _ e p
+
 pub if_ok_both : {T E : Type 0} (r : Result T E) {P Q R : T → Type 0} → ((t : T) → P t → Q t → R t) → IfOk r P
     → IfOk r Q → IfOk r R
 if_ok_both (Ok t) more p q = more t p q
 if_ok_both (Err e) more p q = tt
+
+pub if_ok_three : {T E : Type 0} (r : Result T E) {P Q R S : T → Type 0} → ((t : T) → P t → Q t → R t → S t)
+    → IfOk r P → IfOk r Q → IfOk r R → IfOk r S
+if_ok_three (Ok t) more p q s = more t p q s
+if_ok_three (Err e) more p q s = tt
 
 pub if_err_more : {T E : Type 0} (r : Result T E) {P Q : E → Type 0} → ((e : E) → P e → Q e) → IfErr r P → IfErr r Q
 if_err_more (Ok t) more p = tt
@@ -124,17 +135,17 @@ if_err_more (Err e) more p = more e p
 
 -- SLOTS AND ROWS
 
-pub stand_push : (bytes : ℕ → ℕ) (n : ℕ) (slots : List (Option SlotRecord)) (kept : Option SlotRecord)
-    (new : List (Option SlotRecord)) → StandSlots bytes n slots → new ≡ slots ++ kept ∷ []
-    → Stands bytes (slot_place n (length slots)) 2048 (slot_bytes kept) → FitsSlotOf kept → StandSlots bytes n new
-stand_push bytes n slots kept new was is stands fits = record {
+pub stand_push : (bytes : ℕ → ℕ) (n : ℕ) (version : Known) (slots : List (Option SlotRecord)) (kept : Option SlotRecord)
+    (new : List (Option SlotRecord)) → StandSlots bytes n version slots → new ≡ slots ++ kept ∷ []
+    → Stands bytes (slot_place n (length slots)) 2048 (slot_bytes version kept) → FitsSlotOf kept → StandSlots bytes n version new
+stand_push bytes n version slots kept new was is stands fits = record {
   each = λ s lt. elim (cases_lt s (length slots)) [
-    | inl below ↦ subst (λ (o : Option SlotRecord). Stands bytes (slot_place n s) 2048 (slot_bytes o))
+    | inl below ↦ subst (λ (o : Option SlotRecord). Stands bytes (slot_place n s) 2048 (slot_bytes version o))
         (sym (before s below)) (was.each s below)
     | inr over ↦
         let here : length slots ≡ s = omega (arith, over, lt, one_more) in
-        let P : ℕ → Type 0 = λ k. Stands bytes (slot_place n k) 2048 (slot_bytes (get_or new k None)) in
-        subst P here (subst (λ (o : Option SlotRecord). Stands bytes (slot_place n (length slots)) 2048 (slot_bytes o))
+        let P : ℕ → Type 0 = λ k. Stands bytes (slot_place n k) 2048 (slot_bytes version (get_or new k None)) in
+        subst P here (subst (λ (o : Option SlotRecord). Stands bytes (slot_place n (length slots)) 2048 (slot_bytes version o))
         (sym at_end) stands)
   ];
   fit = λ s. elim (cases_lt s (length slots)) [

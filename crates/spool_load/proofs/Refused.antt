@@ -1,11 +1,13 @@
 -- Why a disk is refused.
-use Rattle.std.proofs.Common.{◌≡◌, ◌⊎◌, inl, inr, ℕ, ◌+◌, ◌*◌, ◌^◌, ◌<◌, ◌≤◌, ◌++◌, get_or, Result, Ok, Err, IfErr}
+use Rattle.std.proofs.Common.{◌≡◌, ◌⊎◌, inl, inr, ℕ, ◌+◌, ◌*◌, ◌^◌, ◌<◌, ◌≤◌, ◌++◌, List, length, get_or, IsTrue, ◌↔◌, Result, Ok, Err, IfErr}
 use Rattle.std.proofs.Common.{refl, sym, ◌∙◌, ap, subst, arith}
 use Rattle.std.specs.Int.{to_be_bytes, from_be_bytes, w32}
 use Rattle.std.proofs.lemmas.Nat.{from_be_bytes-to_be_bytes_4}
-use Rattle.spool_journal.specs.Image.{journal_pages, all_pages, overlaid}
+use Rattle.spool_journal.specs.Image.{journal_pages, all_pages, byte_of, overlaid}
 use Rattle.spool_journal.specs.Phases.{Settled}
-use Rattle.spool_pages.specs.View.{View, Stands, IsViewOf, magic, first_page, state_page, state_place}
+use Rattle.spool_pages.specs.View.{View, Stands, IsViewOf, magic, first_page, state_page, state_place, version_number}
+use Rattle.spool_pages.specs.declared.version.Version.{Version as Known}
+use Rattle.spool_pages.specs.declared.version.Version.TheVariants.{One, Two}
 use Rattle.spool_pages.proofs.Numbers.{four_at}
 use Rattle.spool_pages.proofs.RecordBytes.{stands_front, stands_behind}
 use Rattle.spool_pages.proofs.Says.{says_same, some_journal}
@@ -14,10 +16,12 @@ use Rattle.spool_kept.specs.declared.error.OpenFault.TheVariants.{NotASpool, Dis
 use Rattle.spool_kept.specs.Holding.{Holding}
 use Rattle.spool_kept.specs.Loads.{LoadsAs, IsLate}
 use Rattle.spool_kept.specs.Shows.{IsSound}
-use Rattle.spool_load.specs.Loaded.{LoadedFrom, OpenedFrom}
-use Rattle.spool_load.specs.Reads.{SaysBlocks}
-use Rattle.spool_load.specs.Refusals.{HasJournal, IsFirstVersion, RefusedAt}
-use Rattle.spool_load.specs.Refusals.{TellsOfVersion, RefusedFor}
+use Rattle.spool_load.specs.Loaded.{FoundOn, LoadedFrom, OpenedFrom, StandsFound}
+use Rattle.spool_load.specs.declared.finding.Found.{Found}
+use Rattle.spool_load.specs.Reads.{IsReadAt, SaysBlocks}
+use Rattle.spool_load.proofs.Looks.{read_back, read_stands}
+use Rattle.spool_load.specs.Refusals.{HasJournal, HidesVersion, NotFoundFor, RefusedAt, RefusedFor}
+use Rattle.spool_load.specs.Refusals.{SaysKnownVersion, SaysVersion}
 use Rattle.spool_load.proofs.Opens.{front_plain}
 
 -- NUMBERS IN FOUR BYTES
@@ -44,48 +48,98 @@ says_one size seen n m a b =
     number_one seen 8 n m (omega (arith, a.most)) (omega (arith, b.most)) (number_stands size seen n a)
     (number_stands size seen m b)
 
-pub version_stands : (f : ℕ → ℕ) (at size version next : ℕ) → 4 ≤ size → Stands f at size (state_page version next)
-    → Stands f at 4 (to_be_bytes w32 version)
+pub version_stands : (f : ℕ → ℕ) (at size : ℕ) (version : Known) (next : ℕ) → 4 ≤ size
+    → Stands f at size (state_page version next) → SaysVersion f at version
 unfolding state_page
-version_stands f at size version next room stands = stands_front (to_be_bytes w32 version) _ 4 refl room stands
+version_stands f at size version next room stands =
+    stands_front (to_be_bytes w32 (version_number version)) _ 4 refl room stands
 
--- WHAT A REFUSAL SAYS OF THE VERSION
+pub known_stands : (f : ℕ → ℕ) (at size : ℕ) (version : Known) (next : ℕ) → 4 ≤ size
+    → Stands f at size (state_page version next) → SaysKnownVersion f at
+known_stands f at size version next room stands =
+    record { version = version; said = version_stands f at size version next room stands }
 
-pub tells_on : {P Q : Type 0} (e : OpenFault) → (P → Q) → (Q → P) → TellsOfVersion P e → TellsOfVersion Q e
-tells_on NotASpool on back told = told
-tells_on Version on back told = λ q. told (back q)
-tells_on Damaged on back told = on told
-tells_on NoMemory on back told = tt
-tells_on DiskFault on back told = tt
+-- a place says one version
+pub version_one : (f : ℕ → ℕ) (at : ℕ) (a b : Known) → SaysVersion f at a → SaysVersion f at b
+    → version_number a ≡ version_number b
+version_one f at a b = number_one f at (version_number a) (version_number b) (small a) (small b)
+  where
+    small : (version : Known) → version_number version < 2 ^ 32
+    small One = omega arith
+    small Two = omega arith
 
--- behind a look at the version
-pub tells_late : (n : ℕ) (bytes : ℕ → ℕ) (e : OpenFault) → IsFirstVersion n bytes → IsLate e
-    → TellsOfVersion (IsFirstVersion n bytes) e
-tells_late n bytes NotASpool first late = absurd late
-tells_late n bytes Version first late = absurd late
-tells_late n bytes Damaged first late = first
-tells_late n bytes NoMemory first late = tt
-tells_late n bytes DiskFault first late = tt
+-- what is hidden at one place is hidden at another that says as much
+pub hides_on : (f g : ℕ → ℕ) (at there : ℕ) (e : OpenFault) → (SaysKnownVersion g there → SaysKnownVersion f at)
+    → HidesVersion f at e → HidesVersion g there e
+hides_on f g at there NotASpool back told = told
+hides_on f g at there Version back told = λ known. told (back known)
+hides_on f g at there Damaged back told = told
+hides_on f g at there NoMemory back told = told
+hides_on f g at there DiskFault back told = tt
 
--- and so behind a state page of version 1
-pub state_tells : (bytes : ℕ → ℕ) (n next : ℕ) (e : OpenFault) → Stands bytes (state_place n) 4096 (state_page 1 next)
-    → IsLate e → TellsOfVersion (IsFirstVersion n bytes) e
-state_tells bytes n next e state late =
-    tells_late n bytes e (version_stands bytes (state_place n) 4096 1 next (omega arith) state) late
+-- what was found in a page that was read
+pub found_read : (bytes : ℕ → ℕ) (n place : ℕ) (buf : List ℕ) (found : Found) → IsReadAt bytes place buf
+    → length buf ≡ 4096 → state_place n ≡ place + 0 → found.layout ≡ n
+    → Stands (byte_of buf) 0 12 (state_page found.version found.next)
+    → (IsTrue found.is_rest_blank ↔ Stands (byte_of buf) 0 4096 (state_page found.version found.next))
+    → StandsFound bytes found
+found_read bytes n place buf found read long here same fields rest =
+    let said = state_page found.version found.next in
+    let S : ℕ → ℕ → Type 0 = λ many k. Stands bytes (state_place k) many said in
+    record {
+      fields = subst (S 12) (sym same) (read_back bytes place (state_place n) 0 12 buf said read (omega (arith, long))
+          here fields);
+      rest = (
+        λ blank. subst (S 4096) (sym same) (read_back bytes place (state_place n) 0 4096 buf said read
+            (omega (arith, long)) here (rest.0 blank)),
+        λ there. rest.1 (read_stands bytes place (state_place n) 0 4096 buf said read (omega (arith, long)) here
+            (subst (S 4096) same there)),
+      );
+    }
 
 -- BEHIND A RECOVERY
 
 module _ (n : ℕ) (old seen : ℕ → ℕ) (loose : ℕ → Type 0) (settled : Settled (journal_pages n) (overlaid old) seen loose)
     (journal : HasJournal n old) where
-  version_same : (i : ℕ) → seen (state_place n + i) ≡ overlaid old (state_place n + i)
-  version_same i = let j = some_journal n in settled.same (state_place n + i) (inr (omega arith))
+  pub state_same : (i : ℕ) → seen (state_place n + i) ≡ overlaid old (state_place n + i)
+  state_same i = let j = some_journal n in settled.same (state_place n + i) (inr (omega arith))
 
-  pub refused_on : (e : OpenFault) → TellsOfVersion (IsFirstVersion n seen) e → RefusedAt n old e
+  pub state_on : (size : ℕ) (xs : List ℕ) → Stands seen (state_place n) size xs
+      → Stands (overlaid old) (state_place n) size xs
+  state_on size xs stands = record { each = λ i lt. sym (state_same i) ∙ stands.each i lt }
+
+  pub state_back : (size : ℕ) (xs : List ℕ) → Stands (overlaid old) (state_place n) size xs
+      → Stands seen (state_place n) size xs
+  state_back size xs stands = record { each = λ i lt. state_same i ∙ stands.each i lt }
+
+  pub refused_on : (e : OpenFault) → HidesVersion seen (state_place n) e → RefusedAt n old e
   refused_on NotASpool told = told
-  refused_on Version told = (journal, λ first. told (record { each = λ i lt. version_same i ∙ first.each i lt }))
-  refused_on Damaged told = λ form. record { each = λ i lt. sym (version_same i) ∙ told.each i lt }
-  refused_on NoMemory told = tt
+  refused_on Version told = (
+    journal,
+    λ known. told (record { version = known.version; said = state_back 4 _ known.said }),
+  )
+  refused_on Damaged told = absurd told
+  refused_on NoMemory told = told
   refused_on DiskFault told = tt
+
+  pub found_on : (size : ℕ) (found : Found) → found.layout ≡ n → SaysBlocks size old n → StandsFound seen found
+      → FoundOn size old found
+  found_on size found same says stands =
+      let said = state_page found.version found.next in
+      let S : (ℕ → ℕ) → ℕ → ℕ → Type 0 = λ f many k. Stands f (state_place k) many said in
+      record {
+        says = subst (SaysBlocks size old) (sym same) says;
+        journal = subst (λ (k : ℕ). HasJournal k old) (sym same) journal;
+        state = record {
+          fields = subst (S (overlaid old) 12) (sym same) (state_on 12 said (subst (S seen 12) same stands.fields));
+          rest = (
+            λ blank. subst (S (overlaid old) 4096) (sym same)
+                (state_on 4096 said (subst (S seen 4096) same (stands.rest.0 blank))),
+            λ there. stands.rest.1 (subst (S seen 4096) (sym same)
+                (state_back 4096 said (subst (S (overlaid old) 4096) same there))),
+          );
+        };
+      }
 
   pub says_on : (size size' : ℕ) → size' ≡ size → SaysBlocks size old n → SaysBlocks size' seen n
   says_on size size' same says = record {
@@ -115,28 +169,70 @@ module _ (n : ℕ) (old seen : ℕ → ℕ) (loose : ℕ → Type 0) (settled : 
         keeps = loaded.keeps;
       }
 
+-- and of what was found
+pub found_back : (size : ℕ) (found : Found) (old seen : ℕ → ℕ) (loose : ℕ → Type 0)
+    → Settled (journal_pages found.layout) (overlaid old) seen loose → FoundOn size old found → StandsFound seen found
+found_back size found old seen loose settled is =
+    let n = found.layout in
+    let said = state_page found.version found.next in
+    let back = λ (many : ℕ). state_back n old seen loose settled is.journal many said in
+    let on = λ (many : ℕ). state_on n old seen loose settled is.journal many said in
+    record {
+      fields = back 12 is.state.fields;
+      rest = (λ blank. back 4096 (is.state.rest.0 blank), λ there. is.state.rest.1 (on 4096 there));
+    }
+
 -- THE REASON OF A REFUSAL
 
-pub reason_of : {T : Type 0} (size : ℕ) (seen : ℕ → ℕ) (n : ℕ) (r : Result T OpenFault) (P : View → T → Type 0)
-    → SaysBlocks size seen n
-    → ((v : View) → IsSound v → v.blocks ≡ n → IsViewOf seen v → LoadsAs r (P v)) → IfErr r (RefusedAt n seen)
-    → IfErr r (RefusedFor size seen)
-reason_of size seen n (Ok t) P says said refused = tt
-reason_of size seen n (Err NotASpool) P says said refused = absurd refused
-reason_of size seen n (Err Version) P says said refused =
+pub found_reason : {T : Type 0} (size : ℕ) (seen : ℕ → ℕ) (n : ℕ) (r : Result T OpenFault) → SaysBlocks size seen n
+    → IfErr r (RefusedAt n seen) → IfErr r (NotFoundFor size seen)
+found_reason size seen n (Ok t) says refused = tt
+found_reason size seen n (Err NotASpool) says refused = absurd refused
+found_reason size seen n (Err Version) says refused =
     record { blocks = n; says = says; journal = refused.0; other = refused.1 }
-reason_of size seen n (Err Damaged) P says said refused =
-    record { blocks = n; says = says; version = refused; no_view = λ v sound is e. said v sound e is }
-reason_of size seen n (Err NoMemory) P says said refused = tt
-reason_of size seen n (Err DiskFault) P says said refused = tt
+found_reason size seen n (Err Damaged) says refused = record { blocks = n; says = says; bad = refused }
+found_reason size seen n (Err NoMemory) says refused = absurd refused
+found_reason size seen n (Err DiskFault) says refused = tt
 
 pub front_reason : {T : Type 0} (size : ℕ) (seen : ℕ → ℕ) (e : OpenFault) (P : ℕ → T → Type 0)
     → (e ≡ NotASpool) ⊎ (e ≡ DiskFault)
-    → ((n : ℕ) → SaysBlocks size seen n → LoadsAs {T = T} (Err e) (P n)) → RefusedFor size seen e
+    → ((n : ℕ) → SaysBlocks size seen n → LoadsAs {T = T} (Err e) (P n)) → NotFoundFor size seen e
 front_reason size seen NotASpool P one said = said
 front_reason size seen DiskFault P one said = tt
-front_reason size seen NoMemory P one said = tt
+front_reason size seen NoMemory P (inl e) said = absurd (cc)
+front_reason size seen NoMemory P (inr e) said = absurd (cc)
 front_reason size seen Version P (inl e) said = absurd (cc)
 front_reason size seen Version P (inr e) said = absurd (cc)
 front_reason size seen Damaged P (inl e) said = absurd (cc)
 front_reason size seen Damaged P (inr e) said = absurd (cc)
+
+-- why it isn't found is why it isn't opened
+pub unfound_reason : (size : ℕ) (seen : ℕ → ℕ) (e : OpenFault) → NotFoundFor size seen e → RefusedFor size seen e
+unfound_reason size seen NotASpool why = why
+unfound_reason size seen Version why = why
+unfound_reason size seen Damaged why = record {
+  blocks = why.blocks;
+  says = why.says;
+  version = λ form. absurd (why.bad form);
+  no_view = λ v sound is e. why.bad (subst (λ (k : ℕ). HasJournal k seen) e is.form);
+}
+unfound_reason size seen NoMemory why = absurd why
+unfound_reason size seen DiskFault why = tt
+
+-- and so is why what was found isn't read
+pub read_reason : {T : Type 0} (size : ℕ) (seen : ℕ → ℕ) (found : Found) (r : Result T OpenFault)
+    (P : View → T → Type 0) → FoundOn size seen found
+    → ((v : View) → IsSound v → IsViewOf seen v → 4096 * all_pages v.blocks ≤ size → LoadsAs r (P v))
+    → IfErr r IsLate → IfErr r (RefusedFor size seen)
+read_reason size seen found (Ok t) P is said late = tt
+read_reason size seen found (Err NotASpool) P is said late = absurd late
+read_reason size seen found (Err Version) P is said late = absurd late
+read_reason size seen found (Err Damaged) P is said late = record {
+  blocks = found.layout;
+  says = is.says;
+  version = λ form. known_stands (overlaid seen) (state_place found.layout) 12 found.version found.next (omega arith)
+      is.state.fields;
+  no_view = λ v sound view e. said v sound view (subst (λ (k : ℕ). 4096 * all_pages k ≤ size) (sym e) is.says.room);
+}
+read_reason size seen found (Err NoMemory) P is said late = tt
+read_reason size seen found (Err DiskFault) P is said late = tt

@@ -1,7 +1,7 @@
 -- A sound view, of what was read and what was checked of it.
 use Rattle.std.proofs.Common.{◌≡◌, ℕ, Bool, ◌+◌, ◌-◌, ◌*◌, ◌^◌, ◌<◌, ◌≤◌, List, [], Option, None, Some, Result, Ok, Err}
 use Rattle.std.proofs.Common.{IfOk, OnOk}
-use Rattle.std.proofs.Common.{false, replicate, length, get_or, refl, subst, ap, ◌∙◌, arith}
+use Rattle.std.proofs.Common.{false, replicate, length, get_or, refl, sym, subst, ap, ◌∙◌, arith}
 use Rattle.enc_model.specs.Indexes.{IndexSet}
 use Rattle.enc_index.specs.Area.{area_byte}
 use Rattle.enc_index.specs.Sets.{IsIndexSet}
@@ -12,7 +12,8 @@ use Rattle.upload_rules.specs.Room.{blocks_of}
 use Rattle.spool_pages.specs.Fits.{FitsSlotOf, FitsRow}
 use Rattle.spool_pages.specs.View.{SlotRecord, View, Says, Stands, state_page, slot_bytes, row_bytes, text_page}
 use Rattle.spool_pages.specs.View.{index_place, state_place, slot_place, row_place}
-use Rattle.spool_kept.proofs.Sound.{said_state, said_area, said_slot, said_row, slots_fit, rows_fit}
+use Rattle.spool_pages.specs.declared.version.Version.{Version}
+use Rattle.spool_kept.proofs.Sound.{said_area, said_slot, said_row, slots_fit, rows_fit}
 use Rattle.spool_kept.specs.Records.{FitsKept}
 use Rattle.spool_kept.specs.Holding.{AreDistinct}
 use Rattle.spool_kept.specs.Shows.{IsSound, IsSoundRecord, IsOwned}
@@ -48,20 +49,18 @@ sound_rows v sound b slot ordinal owns =
 
 -- of bytes that say it: what holds of each next number, index set, slots and rows that may be there holds of its own
 module _ (bytes : ℕ → ℕ) (n : ℕ) (v : View) (sound : IsSound v) (blocks : v.blocks ≡ n) (says : Says bytes v) where
-  pub next_said : {Q : ℕ → Type 0}
-      → ((next : ℕ) → next < 2 ^ 64 → Stands bytes (state_place n) 4096 (state_page 1 next) → Q next) → Q v.next
-  next_said said =
-      let S : ℕ → Type 0 = λ version. Stands bytes (state_place n) 4096 (state_page version v.next) in
-      said v.next (omega (arith, sound.next_most)) (subst S sound.version (said_state bytes v n blocks says))
-
   pub area_said : {Q : IndexSet → Type 0} → ((x : IndexSet) → IsIndexSet x
       → ((i : ℕ) → i < 90112 → bytes (index_place n + i) ≡ area_byte x i) → Q x) → Q v.indexes
   area_said said = said v.indexes sound.indexes (said_area bytes v n blocks says)
 
-  pub slots_said : {Q : List (Option SlotRecord) → Type 0} → ((said : List (Option SlotRecord)) → length said ≡ 512
-      → ((s : ℕ) → FitsKept (get_or said s None))
-      → ((s : ℕ) → s < 512 → Stands bytes (slot_place n s) 2048 (slot_bytes (get_or said s None))) → Q said) → Q v.slots
-  slots_said said = said v.slots sound.slot_count (slots_fit v sound) (said_slot bytes v n blocks says)
+  pub slots_said : (version : Version) → version ≡ v.version → {Q : List (Option SlotRecord) → Type 0}
+      → ((said : List (Option SlotRecord)) → length said ≡ 512 → ((s : ℕ) → FitsKept (get_or said s None))
+      → ((s : ℕ) → s < 512 → Stands bytes (slot_place n s) 2048 (slot_bytes version (get_or said s None))) → Q said)
+      → Q v.slots
+  slots_said version is said =
+      let S : Version → Type 0 =
+      λ w. (s : ℕ) → s < 512 → Stands bytes (slot_place n s) 2048 (slot_bytes w (get_or v.slots s None)) in
+      said v.slots sound.slot_count (slots_fit v sound) (subst S (sym is) (said_slot bytes v n blocks says))
 
   pub rows_said : {Q : List (Option (ℕ × ℕ)) → Type 0} → ((all : List (Option (ℕ × ℕ))) → length all ≡ n
       → ((b : ℕ) → FitsRow (get_or all b None))
@@ -71,7 +70,7 @@ module _ (bytes : ℕ → ℕ) (n : ℕ) (v : View) (sound : IsSound v) (blocks 
 
 -- WHAT PASSES IS A SOUND VIEW
 
-module _ (bytes : ℕ → ℕ) (n next : ℕ) (x : IndexSet) (slots : List (Option SlotRecord))
+module _ (bytes : ℕ → ℕ) (n : ℕ) (version : Version) (next : ℕ) (x : IndexSet) (slots : List (Option SlotRecord))
     (rows : List (Option (ℕ × ℕ))) where
   abbrev shown_at : ℕ → Option SlotRecord → List ℕ
   shown_at s None = []
@@ -80,7 +79,7 @@ module _ (bytes : ℕ → ℕ) (n next : ℕ) (x : IndexSet) (slots : List (Opti
   abbrev pub view_read : View
   view_read = record {
     blocks = n;
-    version = 1;
+    version = version;
     next = next;
     indexes = x;
     slots = slots;
@@ -88,21 +87,21 @@ module _ (bytes : ℕ → ℕ) (n next : ℕ) (x : IndexSet) (slots : List (Opti
     texts = λ s. shown_at s (get_or slots s None);
   }
 
-  pub read_says : StandFields bytes n next x → StandSlots bytes n slots → length slots ≡ 512
-      → StandRows bytes n (512 * (journal_pages n - 257)) rows → Says bytes view_read
-  read_says fields stand long there = record {
+  pub read_says : StandFields bytes n x → Stands bytes (state_place n) 4096 (state_page version next)
+      → StandSlots bytes n version slots → length slots ≡ 512 → StandRows bytes n (512 * (journal_pages n - 257)) rows → Says bytes view_read
+  read_says fields state stand long there = record {
     first = fields.first;
     area = fields.area.each;
-    state = fields.state;
+    state = state;
     slots = λ s lt. stand.each s (omega (arith, lt, long));
     rows = there.each;
     texts = λ s r e. ap (shown_at s) e;
   }
 
-  slot_fits : StandSlots bytes n slots → (s : ℕ) (r : SlotRecord) → get_or slots s None ≡ Some r → FitsSlotOf (Some r)
+  slot_fits : StandSlots bytes n version slots → (s : ℕ) (r : SlotRecord) → get_or slots s None ≡ Some r → FitsSlotOf (Some r)
   slot_fits stand s r e = subst FitsSlotOf e (stand.fit s)
 
-  record_sound : StandSlots bytes n slots → RecordsPass next slots → (s : ℕ) (r : SlotRecord)
+  record_sound : StandSlots bytes n version slots → RecordsPass next slots → (s : ℕ) (r : SlotRecord)
       → get_or slots s None ≡ Some r → IsSoundRecord next r
   record_sound stand are s r e =
       let fits = slot_fits stand s r e in
@@ -119,7 +118,7 @@ module _ (bytes : ℕ → ℕ) (n next : ℕ) (x : IndexSet) (slots : List (Opti
         printable = fits.1;
       }
 
-  pub read_sound : 16 ≤ n → n ≤ 65536 → StandFields bytes n next x → StandSlots bytes n slots → length slots ≡ 512
+  pub read_sound : 16 ≤ n → n ≤ 65536 → StandFields bytes n x → StandSlots bytes n version slots → length slots ≡ 512
       → length rows ≡ n
       → RecordsPass next slots → RowsPass slots rows → ((b : ℕ) → FitsRow (get_or rows b None)) → AreDistinct slots
       → ((s : ℕ) (r : SlotRecord) → get_or slots s None ≡ Some r → OwnsOneEach rows s (blocks_of r.text_len))
@@ -127,7 +126,6 @@ module _ (bytes : ℕ → ℕ) (n next : ℕ) (x : IndexSet) (slots : List (Opti
   read_sound least most fields stand long wide are owned fit distinct lists = record {
     least = least;
     most = most;
-    version = refl;
     next_least = are.least;
     next_most = are.most;
     indexes = fields.area.valid;
@@ -144,21 +142,21 @@ module _ (bytes : ℕ → ℕ) (n next : ℕ) (x : IndexSet) (slots : List (Opti
 
   -- and so it is kept
   pub read_loaded : (reserved : List Bool) (r : Result Holding OpenFault) → 16 ≤ n → n ≤ 65536
-      → StandFields bytes n next x → StandSlots bytes n slots → length slots ≡ 512
+      → StandFields bytes n x → Stands bytes (state_place n) 4096 (state_page version next) → StandSlots bytes n version slots → length slots ≡ 512
       → length rows ≡ n → StandRows bytes n (512 * (journal_pages n - 257)) rows → RecordsPass next slots
       → RowsPass slots rows → ((b : ℕ) → FitsRow (get_or rows b None))
       → reserved ≡ replicate n false → OnOk r (AreDistinct slots)
       → OnOk r ((s : ℕ) (q : SlotRecord) → get_or slots s None ≡ Some q → OwnsOneEach rows s (blocks_of q.text_len))
-      → ((v : View) → IsSound v → v.blocks ≡ n → next ≡ v.next → x ≡ v.indexes → slots ≡ v.slots → rows ≡ v.rows
+      → ((v : View) → IsSound v → v.blocks ≡ n → version ≡ v.version → next ≡ v.next → x ≡ v.indexes → slots ≡ v.slots → rows ≡ v.rows
       → reserved ≡ replicate v.blocks false → LoadsAs r (λ kept. KeepsAlone kept v))
       → IfOk r (LoadedFrom bytes n)
-  read_loaded reserved (Err e) least most fields stand long wide there are owned fit none distinct lists kept = tt
-  read_loaded reserved (Ok h) least most fields stand long wide there are owned fit none distinct lists kept =
+  read_loaded reserved (Err e) least most fields state stand long wide there are owned fit none distinct lists kept = tt
+  read_loaded reserved (Ok h) least most fields state stand long wide there are owned fit none distinct lists kept =
       let sound = read_sound least most fields stand long wide are owned fit distinct lists in
       record {
         view = view_read;
         sound = sound;
         blocks = refl;
-        says = read_says fields stand long there;
-        keeps = kept view_read sound refl refl refl refl refl none;
+        says = read_says fields state stand long there;
+        keeps = kept view_read sound refl refl refl refl refl refl none;
       }

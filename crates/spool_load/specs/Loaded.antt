@@ -1,10 +1,37 @@
 -- What is kept of a spool is a sound view that its bytes say.
-use Rattle.std.specs.Prelude.{◌≡◌, ℕ, ◌*◌, ◌≤◌}
-use Rattle.spool_journal.specs.Image.{all_pages}
+use Rattle.std.specs.Prelude.{◌≡◌, ◌↔◌, ℕ, ◌*◌, ◌≤◌, IsTrue}
+use Rattle.spool_journal.specs.Image.{all_pages, overlaid}
 use Rattle.spool_kept.specs.Holding.{Holding}
 use Rattle.spool_kept.specs.Kept.{KeepsAlone}
 use Rattle.spool_kept.specs.Shows.{IsSound}
-use Rattle.spool_pages.specs.View.{View, Says, IsViewOf}
+use Rattle.spool_pages.specs.View.{View, Stands, Says, IsViewOf, state_place, state_page}
+use Rattle.spool_pages.specs.declared.version.Version.{Version}
+use Rattle.spool_load.specs.Reads.{SaysBlocks}
+use Rattle.spool_load.specs.Refusals.{HasJournal}
+use Rattle.spool_load.specs.declared.finding.Found.{Found}
+
+-- the state page says this version and this next number, and whether its rest is zeros
+pub record StandsFound (bytes : ℕ → ℕ) (found : Found) : Type 0 where
+  pub fields : Stands bytes (state_place found.layout) 12 (state_page found.version found.next)
+  pub rest : IsTrue found.is_rest_blank ↔ Stands bytes (state_place found.layout) 4096
+      (state_page found.version found.next)
+
+-- the disk begins as a spool of so many blocks does, its journal is in form, and the state page is read plainly
+pub record FoundOn (size : ℕ) (seen : ℕ → ℕ) (found : Found) : Type 0 where
+  pub says : SaysBlocks size seen found.layout
+  pub journal : HasJournal found.layout seen
+  pub state : StandsFound (overlaid seen) found
+
+-- this version and this next number were found, and zeros behind them
+pub record SaysState (said : Version) (number : ℕ) (found : Found) : Type 0 where
+  pub version : found.version ≡ said
+  pub next : found.next ≡ number
+  pub rest : IsTrue found.is_rest_blank
+
+-- a spool of this view was found
+pub record IsFoundOf (v : View) (found : Found) : Type 0 where
+  pub blocks : found.layout ≡ v.blocks
+  pub state : SaysState v.version v.next found
 
 -- the bytes say it, of so many blocks
 pub record LoadedFrom (bytes : ℕ → ℕ) (n : ℕ) (kept : Holding) : Type 0 where

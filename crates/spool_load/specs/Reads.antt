@@ -10,6 +10,7 @@ use Rattle.enc_index.specs.Sets.{IsIndexSet}
 use Rattle.spool_pages.specs.Fits.{FitsSlotOf}
 use Rattle.spool_pages.specs.View.{SlotRecord, Stands, first_page, state_page, slot_bytes, row_bytes}
 use Rattle.spool_pages.specs.View.{index_place, state_place, slot_place, row_place}
+use Rattle.spool_pages.specs.declared.version.Version.{Version}
 
 -- a disk that held these bytes, all synced, still does, and so does each image of a crash in between
 pub record OnlyReads {D : Type 0} (disk : Ghosts D) (old new : D) : Type 0 where
@@ -54,15 +55,15 @@ pub record StandsArea (bytes : ℕ → ℕ) (n : ℕ) (x : IndexSet) : Type 0 wh
   pub valid : IsIndexSet x
   pub each : (i : ℕ) → i < 90112 → bytes (index_place n + i) ≡ area_byte x i
 
--- page 0 and the state page, of version 1, are those of this next number, and the index area is that of the set
-pub record StandFields (bytes : ℕ → ℕ) (n next : ℕ) (x : IndexSet) : Type 0 where
+-- page 0 is that of a spool, and the index area is that of the set
+pub record StandFields (bytes : ℕ → ℕ) (n : ℕ) (x : IndexSet) : Type 0 where
   pub first : Stands bytes 0 4096 (first_page n)
-  pub state : Stands bytes (state_place n) 4096 (state_page 1 next)
   pub area : StandsArea bytes n x
 
--- the first of the slots stand, each free or with a record that fits it
-pub record StandSlots (bytes : ℕ → ℕ) (n : ℕ) (slots : List (Option SlotRecord)) : Type 0 where
-  pub each : (s : ℕ) → s < length slots → Stands bytes (slot_place n s) 2048 (slot_bytes (get_or slots s None))
+-- the first of the slots stand by this version, each free or with a record that fits it
+pub record StandSlots (bytes : ℕ → ℕ) (n : ℕ) (version : Version) (slots : List (Option SlotRecord)) : Type 0 where
+  pub each : (s : ℕ) → s < length slots → Stands bytes (slot_place n s) 2048
+      (slot_bytes version (get_or slots s None))
   pub fit : (s : ℕ) → FitsSlotOf (get_or slots s None)
 
 -- the rows of the blocks below the end stand, and zeros behind the last one

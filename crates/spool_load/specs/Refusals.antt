@@ -1,55 +1,83 @@
--- Why a disk is not opened: it is no spool, a spool of another version, or a damaged one. No two of these hold, and
--- none of a disk of which a plain reading gives a sound view.
+-- Why a disk is not opened: it is no spool, a spool of a version that isn't known, or a damaged one. No two of these
+-- hold, and none of a disk of which a plain reading gives a sound view.
 use Rattle.std.specs.Prelude.{◌≡◌, ℕ}
 use Rattle.std.specs.Int.{to_be_bytes, w32}
 use Rattle.spool_journal.specs.Image.{journal_pages, InForm, count, number, overlaid}
 use Rattle.spool_kept.specs.declared.error.OpenFault.{OpenFault}
 use Rattle.spool_kept.specs.declared.error.OpenFault.TheVariants.{NotASpool, DiskFault, Damaged, Version, NoMemory}
 use Rattle.spool_kept.specs.Shows.{IsSound}
-use Rattle.spool_pages.specs.View.{View, Stands, IsViewOf, state_place}
+use Rattle.spool_pages.specs.View.{View, Stands, IsViewOf, state_place, version_number}
+use Rattle.spool_pages.specs.declared.version.Version.{Version as Known}
 use Rattle.spool_load.specs.Reads.{SaysBlocks}
 
 -- where the gate is open, the journal's head is in form
 abbrev pub HasJournal : ℕ → (ℕ → ℕ) → Type 0
 HasJournal n seen = seen 4096 ≡ 165 → InForm (journal_pages n) (count seen) (number seen)
 
--- the state page's version is 1
-abbrev pub IsFirstVersion : ℕ → (ℕ → ℕ) → Type 0
-IsFirstVersion n bytes = Stands bytes (state_place n) 4 (to_be_bytes w32 1)
+-- from the place on the number of this version stands
+abbrev pub SaysVersion : (ℕ → ℕ) → ℕ → Known → Type 0
+SaysVersion bytes place version = Stands bytes place 4 (to_be_bytes w32 (version_number version))
+
+-- that of a version that is known
+pub record SaysKnownVersion (bytes : ℕ → ℕ) (place : ℕ) : Type 0 where
+  pub version : Known
+  pub said : SaysVersion bytes place version
+
+-- the state page of a spool of n blocks says this version
+abbrev pub NamesVersion : ℕ → (ℕ → ℕ) → Known → Type 0
+NamesVersion n bytes version = SaysVersion bytes (state_place n) version
+
+-- it says a version that is known
+abbrev pub HasKnownVersion : ℕ → (ℕ → ℕ) → Type 0
+HasKnownVersion n bytes = SaysKnownVersion bytes (state_place n)
 
 -- the disk begins as no spool does, or is too short for what it says
 abbrev pub IsNoSpool : ℕ → (ℕ → ℕ) → Type 0
 IsNoSpool size seen = (n : ℕ) → SaysBlocks size seen n → ⊥
 
--- a spool whose journal is in form, and whose state page, read plainly, says another version
+-- a spool whose journal is in form, and whose state page, read plainly, says no version that is known
 pub record HasOtherVersion (size : ℕ) (seen : ℕ → ℕ) : Type 0 where
   pub blocks : ℕ
   pub says : SaysBlocks size seen blocks
   pub journal : HasJournal blocks seen
-  pub other : IsFirstVersion blocks (overlaid seen) → ⊥
+  pub other : HasKnownVersion blocks (overlaid seen) → ⊥
 
--- a spool of version 1 unless its journal is out of form, of which a plain reading gives no sound view
+-- a spool of a known version unless its journal is out of form, of which a plain reading gives no sound view
 pub record IsDamaged (size : ℕ) (seen : ℕ → ℕ) : Type 0 where
   pub blocks : ℕ
   pub says : SaysBlocks size seen blocks
-  pub version : HasJournal blocks seen → IsFirstVersion blocks (overlaid seen)
+  pub version : HasJournal blocks seen → HasKnownVersion blocks (overlaid seen)
   pub no_view : (v : View) → IsSound v → IsViewOf seen v → v.blocks ≡ blocks → ⊥
 
--- what a refusal says of a disk that begins as a spool of n blocks
+-- a spool whose journal is out of form
+pub record HasBadJournal (size : ℕ) (seen : ℕ → ℕ) : Type 0 where
+  pub blocks : ℕ
+  pub says : SaysBlocks size seen blocks
+  pub bad : HasJournal blocks seen → ⊥
+
+-- what a refusal behind a look at the version says of what stands from the place on
+abbrev pub HidesVersion : (ℕ → ℕ) → ℕ → OpenFault → Type 0
+HidesVersion bytes place NotASpool = ⊥
+HidesVersion bytes place Version = SaysKnownVersion bytes place → ⊥
+HidesVersion bytes place Damaged = ⊥
+HidesVersion bytes place NoMemory = ⊥
+HidesVersion bytes place DiskFault = Unit {0}
+
+-- what a refusal to find it says of a disk that begins as a spool of n blocks
 abbrev pub RefusedAt : ℕ → (ℕ → ℕ) → OpenFault → Type 0
 RefusedAt n seen NotASpool = ⊥
-RefusedAt n seen Version = HasJournal n seen × (IsFirstVersion n (overlaid seen) → ⊥)
-RefusedAt n seen Damaged = HasJournal n seen → IsFirstVersion n (overlaid seen)
-RefusedAt n seen NoMemory = Unit {0}
+RefusedAt n seen Version = HasJournal n seen × (HasKnownVersion n (overlaid seen) → ⊥)
+RefusedAt n seen Damaged = HasJournal n seen → ⊥
+RefusedAt n seen NoMemory = ⊥
 RefusedAt n seen DiskFault = Unit {0}
 
--- what a refusal says of the version of a disk that begins as a spool: whether it is the first
-abbrev pub TellsOfVersion : Type 0 → OpenFault → Type 0
-TellsOfVersion First NotASpool = ⊥
-TellsOfVersion First Version = First → ⊥
-TellsOfVersion First Damaged = First
-TellsOfVersion First NoMemory = Unit {0}
-TellsOfVersion First DiskFault = Unit {0}
+-- what a refusal to find a spool says of the disk
+abbrev pub NotFoundFor : ℕ → (ℕ → ℕ) → OpenFault → Type 0
+NotFoundFor size seen NotASpool = IsNoSpool size seen
+NotFoundFor size seen Version = HasOtherVersion size seen
+NotFoundFor size seen Damaged = HasBadJournal size seen
+NotFoundFor size seen NoMemory = ⊥
+NotFoundFor size seen DiskFault = Unit {0}
 
 -- what a refusal says of the disk
 abbrev pub RefusedFor : ℕ → (ℕ → ℕ) → OpenFault → Type 0

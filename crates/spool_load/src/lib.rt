@@ -2,10 +2,13 @@
 #![tactic(auto)]
 
 mod checks;
+mod finding;
 mod loading;
 mod opening;
 mod owners;
 mod reading;
 mod slots;
 
+pub use finding::{Found, find};
+pub use loading::read;
 pub use opening::load;

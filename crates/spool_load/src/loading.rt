@@ -1,22 +1,22 @@
 // What is kept of a spool is read.
 ghost use Rattle.std.specs.Prelude.{◌≡◌, ◌≤◌, ◌<◌, ◌*◌, ◌-◌};
-ghost use Rattle.std.specs.Prelude.{ℕ, Err, None, false, replicate, length, get_or, IfOk, IfErr, OnOk};
+ghost use Rattle.std.specs.Prelude.{ℕ, Err, None, false, replicate, length, get_or, IfOk, IfErr, IsTrue, OnOk};
 ghost use Rattle.spool_disk.specs.Disk.{Counts};
 ghost use Rattle.spool_journal.specs.Image.{all_pages, journal_pages};
 ghost use Rattle.spool_journal.specs.Phases.{Still};
 ghost use Rattle.spool_load.specs.Checks.{RowsPass};
-ghost use Rattle.spool_load.specs.Loaded.{LoadedFrom};
+ghost use Rattle.spool_load.specs.Loaded.{IsFoundOf, LoadedFrom, StandsFound};
 ghost use Rattle.spool_load.specs.Reads.{OnlyReads, SaysBlocks, StandFields, StandRows};
-ghost use Rattle.spool_load.specs.Refusals.{IsFirstVersion, TellsOfVersion};
 ghost use Rattle.spool_kept.specs.Kept.{KeepsAlone};
 ghost use Rattle.spool_kept.specs.Loads.{LoadsAs, IsLate};
 ghost use Rattle.spool_kept.specs.Shows.{IsSound};
 ghost use Rattle.spool_pages.specs.Fits.{FitsRow};
-ghost use Rattle.spool_pages.specs.View.{View, Says, first_page};
+ghost use Rattle.spool_pages.specs.View.{View, Stands, Says, first_page, state_page, state_place};
 
+use crate::Found;
 use crate::checks::{are_rows_sound, are_sound};
 use crate::owners::load_rows;
-use crate::reading::{check_front, load_indexes, load_next};
+use crate::reading::{check_front, load_indexes};
 use crate::slots::load_slots;
 use enc_index::IndexSet;
 use spool_blocks::Blocks;
@@ -25,30 +25,21 @@ use spool_journal::Layout;
 use spool_kept::{Kept, KeptRecord, OpenFault};
 use std::alloc::Global;
 
-// The next number and the index files.
-fn load_fields<D: Disk>(
-    alloc: Global,
-    disk: &mut D,
-    layout: &Layout,
-) -> Result<(u64, IndexSet), OpenFault>
+// The rest of page 0, and the index files.
+fn load_fields<D: Disk>(alloc: Global, disk: &mut D, layout: &Layout) -> Result<IndexSet, OpenFault>
     requires { 4096 * all_pages layout.now ≤ D.size disk.old }
     ensures reads { OnlyReads D.Disk disk.old disk.new }
     ensures counts { Counts (result ≡ Err OpenFault.DiskFault) (D.failures disk.old) (D.failures disk.new) }
     ensures said { D.honest disk.old → (bytes : ℕ → ℕ) → Still bytes (D.seen disk.old) (D.loose disk.old)
         → (v : View) → IsSound v → v.blocks ≡ layout.now → Says bytes v
-        → LoadsAs result (λ said. (said.0 ≡ v.next) × (said.1 ≡ v.indexes)) }
+        → LoadsAs result (λ indexes. indexes ≡ v.indexes) }
     ensures sound { D.honest disk.old → (bytes : ℕ → ℕ) → Still bytes (D.seen disk.old) (D.loose disk.old)
         → ((i : ℕ) → i < 12 → bytes i ≡ get_or (first_page layout.now) i 0)
-        → IfOk result (λ said. StandFields bytes layout.now said.0 said.1) }
-    ensures refused { D.honest disk.old → (bytes : ℕ → ℕ) → Still bytes (D.seen disk.old) (D.loose disk.old)
-        → IfErr result (TellsOfVersion (IsFirstVersion layout.now bytes)) }
-    ensures version { D.honest disk.old → (bytes : ℕ → ℕ) → Still bytes (D.seen disk.old) (D.loose disk.old)
-        → OnOk result (IsFirstVersion layout.now bytes) }
+        → IfOk result (StandFields bytes layout.now) }
+    ensures late { IfErr result IsLate }
 {
-    let next = load_next(disk, layout)?;
     check_front(disk, layout)?;
-    let indexes = load_indexes(alloc, disk, layout)?;
-    Ok((next, indexes))
+    load_indexes(alloc, disk, layout)
 }
 
 // The blocks.
@@ -82,28 +73,46 @@ fn load_blocks<D: Disk>(
     Ok(blocks)
 }
 
-/// Reads a spool whose bytes are all synced.
-pub(crate) fn load_kept<D: Disk>(
-    alloc: Global,
-    disk: &mut D,
-    layout: Layout,
-) -> Result<Kept, OpenFault>
-    requires { 4096 * all_pages layout ≤ D.size disk.old }
+/// Reads a spool that was found, whose bytes are all synced.
+///
+/// # Errors
+///
+/// `Damaged` where what is read is not what a spool may say; `NoMemory` where a growth was refused, and `DiskFault`
+/// where the device failed.
+pub fn read<D: Disk>(alloc: Global, disk: &mut D, found: Found) -> Result<Kept, OpenFault>
+    requires { 4096 * all_pages found.layout ≤ D.size disk.old }
     ensures reads { OnlyReads D.Disk disk.old disk.new }
     ensures counts { Counts (result ≡ Err OpenFault.DiskFault) (D.failures disk.old) (D.failures disk.new) }
-    ensures layout { IfOk result (λ kept. kept.layout ≡ layout) }
+    ensures layout { IfOk result (λ kept. kept.layout ≡ found.layout) }
+    ensures version { IfOk result (λ kept. kept.version ≡ found.version) }
+
+    // A sound spool is read, or memory or the device refuses it.
     ensures said { D.honest disk.old → (bytes : ℕ → ℕ) → Still bytes (D.seen disk.old) (D.loose disk.old)
-        → (v : View) → IsSound v → v.blocks ≡ layout → Says bytes v → LoadsAs result (λ kept. KeepsAlone kept v) }
+        → (v : View) → IsSound v → IsFoundOf v found → Says bytes v → LoadsAs result (λ kept. KeepsAlone kept v) }
+
+    // What is read is sound, and stands there.
     ensures sound { D.honest disk.old → (bytes : ℕ → ℕ) → Still bytes (D.seen disk.old) (D.loose disk.old)
-        → SaysBlocks (D.size disk.old) bytes layout → IfOk result (LoadedFrom bytes layout) }
-    ensures refused { D.honest disk.old → (bytes : ℕ → ℕ) → Still bytes (D.seen disk.old) (D.loose disk.old)
-        → IfErr result (TellsOfVersion (IsFirstVersion layout bytes)) }
+        → SaysBlocks (D.size disk.old) bytes found.layout
+        → StandsFound bytes found
+        → IfOk result (LoadedFrom bytes found.layout) }
+    ensures late { IfErr result IsLate }
 {
-    let (next, indexes) = load_fields(alloc, disk, &layout)?;
-    let slots = load_slots(alloc, disk, &layout)?;
-    if !are_sound(&slots, next) {
+    if !found.is_rest_blank {
         return Err(OpenFault::Damaged);
     }
-    let blocks = load_blocks(alloc, disk, &layout, &slots)?;
-    Kept::of(alloc, layout, next, indexes, slots, blocks)
+    let indexes = load_fields(alloc, disk, &found.layout)?;
+    let slots = load_slots(alloc, disk, &found.layout, found.version)?;
+    if !are_sound(&slots, found.next) {
+        return Err(OpenFault::Damaged);
+    }
+    let blocks = load_blocks(alloc, disk, &found.layout, &slots)?;
+    Kept::of(
+        alloc,
+        found.layout,
+        found.version,
+        found.next,
+        indexes,
+        slots,
+        blocks,
+    )
 }

@@ -1,7 +1,6 @@
 // A spool whose bytes are all synced is read.
 ghost use Rattle.std.specs.Prelude.{◌≡◌, ◌≤◌, ◌<◌, ◌*◌, ◌+◌, ◌^◌};
-ghost use Rattle.std.specs.Prelude.{ℕ, length, get_or, IsErr, OnOk, IfOk, IfErr, Ok, Err};
-ghost use Rattle.std.specs.Int.{to_be_bytes, w32};
+ghost use Rattle.std.specs.Prelude.{ℕ, length, get_or, IsErr, OnOk, IfOk, IfErr, Err};
 ghost use Rattle.enc_model.specs.Indexes.{IndexSet as Indexes};
 ghost use Rattle.enc_index.specs.Area.{area_byte};
 ghost use Rattle.enc_index.specs.Sets.{IsIndexSet};
@@ -9,16 +8,15 @@ ghost use Rattle.spool_disk.specs.Disk.{Counts};
 ghost use Rattle.spool_journal.specs.Image.{all_pages, byte_of};
 ghost use Rattle.spool_journal.specs.Phases.{Still};
 ghost use Rattle.spool_load.specs.Reads.{OnlyReads, IsReadAt, StandsArea};
-ghost use Rattle.spool_load.specs.Refusals.{IsFirstVersion, TellsOfVersion};
 ghost use Rattle.spool_kept.specs.Loads.{LoadsAs, IsLate};
 ghost use Rattle.spool_pages.specs.Bytes.{IsPadded};
-ghost use Rattle.spool_pages.specs.View.{Stands, first_page, state_page, state_place, index_place};
+ghost use Rattle.spool_pages.specs.View.{Stands, first_page, index_place};
 
 use enc_index::{AreaError, IndexSet};
 use spool_disk::{Disk, DiskFault};
 use spool_journal::{Layout, PAGE};
 use spool_kept::OpenFault;
-use spool_pages::{VERSION, is_blank_behind_fields, version_and_next};
+use spool_pages::is_blank_behind_fields;
 use std::alloc::Global;
 
 /// Fills the buffer from a place on.
@@ -30,41 +28,6 @@ pub(crate) fn read_at<D: Disk>(disk: &mut D, place: u64, buf: &mut [u8]) -> Resu
         → OnOk result (IsReadAt bytes place buf.new) }
 {
     disk.read(place, buf)
-}
-
-// The next number that a state page says.
-fn next_in(page: &[u8; PAGE]) -> Result<u64, OpenFault>
-    ensures said { (next : ℕ) → next < 2 ^ 64 → IsPadded page.now (state_page 1 next) → result ≡ Ok next }
-    ensures sound { IfOk result (λ next. Stands (byte_of page.now) 0 4096 (state_page 1 next)) }
-    ensures refused { IfErr result (TellsOfVersion (Stands (byte_of page.now) 0 4 (to_be_bytes w32 1))) }
-    ensures no_device { result ≡ Err OpenFault.DiskFault → ⊥ }
-{
-    let (version, next) = version_and_next(page);
-    if version != VERSION {
-        return Err(OpenFault::Version);
-    }
-    if !is_blank_behind_fields(page) {
-        return Err(OpenFault::Damaged);
-    }
-    Ok(next)
-}
-
-/// The next number.
-pub(crate) fn load_next<D: Disk>(disk: &mut D, layout: &Layout) -> Result<u64, OpenFault>
-    requires { 4096 * all_pages layout.now ≤ D.size disk.old }
-    ensures reads { OnlyReads D.Disk disk.old disk.new }
-    ensures counts { Counts (result ≡ Err OpenFault.DiskFault) (D.failures disk.old) (D.failures disk.new) }
-    ensures said { D.honest disk.old → (bytes : ℕ → ℕ) → Still bytes (D.seen disk.old) (D.loose disk.old)
-        → (next : ℕ) → next < 2 ^ 64 → Stands bytes (state_place layout.now) 4096 (state_page 1 next)
-        → LoadsAs result (λ said. said ≡ next) }
-    ensures sound { D.honest disk.old → (bytes : ℕ → ℕ) → Still bytes (D.seen disk.old) (D.loose disk.old)
-        → IfOk result (λ next. Stands bytes (state_place layout.now) 4096 (state_page 1 next)) }
-    ensures refused { D.honest disk.old → (bytes : ℕ → ℕ) → Still bytes (D.seen disk.old) (D.loose disk.old)
-        → IfErr result (TellsOfVersion (IsFirstVersion layout.now bytes)) }
-{
-    let mut page = [0; PAGE];
-    read_at(disk, 4096 * layout.metadata_page() as u64, &mut page)?;
-    next_in(&page)
 }
 
 /// Looks at what stands behind the fields of page 0.

@@ -16,19 +16,23 @@ use spool_blocks::SLOTS;
 use spool_disk::Disk;
 use spool_journal::Layout;
 use spool_kept::{KeptRecord, OpenFault};
-use spool_pages::{RECORD, SlotRecord};
+use spool_pages::{RECORD, SlotRecord, Version};
 use std::alloc::Global;
 
 // The record in a slot's bytes, kept.
-fn kept_of(alloc: Global, bytes: &[u8; RECORD]) -> Result<Option<KeptRecord>, OpenFault>
-    ensures said { (slot : Option Said) → FitsKept slot → IsPadded bytes.now (slot_bytes slot)
+fn kept_of(
+    alloc: Global,
+    version: Version,
+    bytes: &[u8; RECORD],
+) -> Result<Option<KeptRecord>, OpenFault>
+    ensures said { (slot : Option Said) → FitsKept slot → IsPadded bytes.now (slot_bytes version slot)
         → LoadsAs result (λ kept. kept ≡ slot) }
-    ensures stands { IfOk result (λ kept. IsPadded bytes.now (slot_bytes kept)) }
+    ensures stands { IfOk result (λ kept. IsPadded bytes.now (slot_bytes version kept)) }
     ensures fits { IfOk result FitsSlotOf }
     ensures late { IfErr result IsLate }
     ensures no_device { result ≡ Err OpenFault.DiskFault → ⊥ }
 {
-    match SlotRecord::from_bytes(bytes)? {
+    match SlotRecord::from_bytes(version, bytes)? {
         Some(record) => {
             let kept = KeptRecord::of(alloc, &record)?;
             Ok(Some(kept))
@@ -42,6 +46,7 @@ fn load_slot<D: Disk>(
     alloc: Global,
     disk: &mut D,
     layout: &Layout,
+    version: Version,
     slot: u32,
 ) -> Result<Option<KeptRecord>, OpenFault>
     requires room { 4096 * all_pages layout.now ≤ D.size disk.old }
@@ -49,17 +54,17 @@ fn load_slot<D: Disk>(
     ensures reads { OnlyReads D.Disk disk.old disk.new }
     ensures counts { Counts (result ≡ Err OpenFault.DiskFault) (D.failures disk.old) (D.failures disk.new) }
     ensures said { D.honest disk.old → (bytes : ℕ → ℕ) → Still bytes (D.seen disk.old) (D.loose disk.old)
-        → (said : Option Said) → FitsKept said → Stands bytes (slot_place layout.now slot) 2048 (slot_bytes said)
+        → (said : Option Said) → FitsKept said → Stands bytes (slot_place layout.now slot) 2048 (slot_bytes version said)
         → LoadsAs result (λ kept. kept ≡ said) }
     ensures stands { D.honest disk.old → (bytes : ℕ → ℕ) → Still bytes (D.seen disk.old) (D.loose disk.old)
-        → IfOk result (λ kept. Stands bytes (slot_place layout.now slot) 2048 (slot_bytes kept)) }
+        → IfOk result (λ kept. Stands bytes (slot_place layout.now slot) 2048 (slot_bytes version kept)) }
     ensures fits { IfOk result FitsSlotOf }
     ensures late { IfErr result IsLate }
 {
     let mut bytes = [0; RECORD];
     let place = 4096 * (layout.metadata_page() as u64 + 1) + 2048 * slot as u64;
     read_at(disk, place, &mut bytes)?;
-    kept_of(alloc, &bytes)
+    kept_of(alloc, version, &bytes)
 }
 
 // The record of the next slot, behind those before it.
@@ -67,6 +72,7 @@ fn push_slot<D: Disk>(
     alloc: Global,
     disk: &mut D,
     layout: &Layout,
+    version: Version,
     slots: &mut Vec<Option<KeptRecord>>,
     slot: u32,
 ) -> Result<(), OpenFault>
@@ -77,15 +83,15 @@ fn push_slot<D: Disk>(
     ensures long { OnOk result (length slots.new.items ≡ length slots.old.items + 1) }
     ensures said { D.honest disk.old → (bytes : ℕ → ℕ) → Still bytes (D.seen disk.old) (D.loose disk.old)
         → (said : List (Option Said)) → length said ≡ 512 → FitsKept (get_or said slot None)
-        → Stands bytes (slot_place layout.now slot) 2048 (slot_bytes (get_or said slot None))
+        → Stands bytes (slot_place layout.now slot) 2048 (slot_bytes version (get_or said slot None))
         → length slots.old.items ≡ slot → IsFrontOf said slots.old.items
         → LoadsAs result (λ done. IsFrontOf said slots.new.items) }
     ensures sound { D.honest disk.old → (bytes : ℕ → ℕ) → Still bytes (D.seen disk.old) (D.loose disk.old)
-        → length slots.old.items ≡ slot → StandSlots bytes layout.now slots.old.items
-        → OnOk result (StandSlots bytes layout.now slots.new.items) }
+        → length slots.old.items ≡ slot → StandSlots bytes layout.now version slots.old.items
+        → OnOk result (StandSlots bytes layout.now version slots.new.items) }
     ensures late { IfErr result IsLate }
 {
-    let kept = load_slot(alloc, disk, layout, slot)?;
+    let kept = load_slot(alloc, disk, layout, version, slot)?;
     match slots.push(kept) {
         Ok(()) => Ok(()),
         Err(_) => Err(OpenFault::NoMemory),
@@ -97,6 +103,7 @@ pub(crate) fn load_slots<D: Disk>(
     alloc: Global,
     disk: &mut D,
     layout: &Layout,
+    version: Version,
 ) -> Result<Vec<Option<KeptRecord>>, OpenFault>
     requires { 4096 * all_pages layout.now ≤ D.size disk.old }
     ensures reads { OnlyReads D.Disk disk.old disk.new }
@@ -104,15 +111,15 @@ pub(crate) fn load_slots<D: Disk>(
     ensures long { IfOk result (λ slots. length slots.items ≡ 512) }
     ensures said { D.honest disk.old → (bytes : ℕ → ℕ) → Still bytes (D.seen disk.old) (D.loose disk.old)
         → (said : List (Option Said)) → length said ≡ 512 → ((s : ℕ) → FitsKept (get_or said s None))
-        → ((s : ℕ) → s < 512 → Stands bytes (slot_place layout.now s) 2048 (slot_bytes (get_or said s None)))
+        → ((s : ℕ) → s < 512 → Stands bytes (slot_place layout.now s) 2048 (slot_bytes version (get_or said s None)))
         → LoadsAs result (λ slots. slots.items ≡ said) }
     ensures sound { D.honest disk.old → (bytes : ℕ → ℕ) → Still bytes (D.seen disk.old) (D.loose disk.old)
-        → IfOk result (λ slots. StandSlots bytes layout.now slots.items) }
+        → IfOk result (λ slots. StandSlots bytes layout.now version slots.items) }
     ensures late { IfErr result IsLate }
 {
     let mut slots = Vec::new(alloc);
     for slot in 0..SLOTS {
-        push_slot(alloc, disk, layout, &mut slots, slot)?;
+        push_slot(alloc, disk, layout, version, &mut slots, slot)?;
     }
     Ok(slots)
 }

@@ -1,12 +1,30 @@
 -- Zeros behind what stands at the front of a page.
-use Rattle.std.proofs.Common.{◌≡◌, ℕ, ◌+◌, ◌-◌, ◌≤◌, List, [], length, get_or, take, drop}
+use Rattle.std.proofs.Common.{◌≡◌, ℕ, ◌+◌, ◌-◌, ◌<◌, ◌≤◌, List, [], length, get_or, take, drop}
 use Rattle.std.proofs.Common.{inl, inr, sym, ◌∙◌, subst, arith}
 use Rattle.std.proofs.Math.ListN.{get_or-eq_default, length-take}
 use Rattle.std.proofs.lemmas.Bool.{cases_lt}
 use Rattle.std.proofs.lemmas.List.{get_or-take, get_or-drop}
+use Rattle.std.specs.List.{slice_range}
 use Rattle.spool_journal.specs.Image.{byte_of}
 use Rattle.spool_pages.specs.Bytes.{IsPadded}
 use Rattle.spool_pages.specs.View.{Stands}
+
+-- a range is blank where nothing stands in it
+module _ (bytes : List ℕ) (at end : ℕ) where
+  range_byte : (i : ℕ) → i < end - at → get_or (slice_range bytes at end) i 0 ≡ get_or bytes (at + i) 0
+  range_byte i below = get_or-take (end - at) (drop at bytes) i 0 below ∙ get_or-drop at bytes i 0
+
+  pub range_blank : Stands (byte_of bytes) at (end - at) [] → IsPadded (slice_range bytes at end) []
+  range_blank stands = record {
+    each = λ i. elim (cases_lt i (end - at)) [
+      | inl below ↦ range_byte i below ∙ stands.each i below
+      | inr from ↦
+          get_or-eq_default (slice_range bytes at end) 0 (omega (arith, from, length-take (end - at) (drop at bytes)))
+    ];
+  }
+
+  pub blank_range : IsPadded (slice_range bytes at end) [] → Stands (byte_of bytes) at (end - at) []
+  blank_range blank = record { each = λ i below. sym (range_byte i below) ∙ blank.each i }
 
 module _ (page : List ℕ) (n m : ℕ) (all : n + m ≡ length page) where
   -- a byte of the m bytes behind the first n

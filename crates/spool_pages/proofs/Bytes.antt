@@ -42,3 +42,14 @@ padded_zeros n = record {
     | inr from ↦ get_or-eq_default (replicate n 0) 0 (omega (arith, length-replicate {A = ℕ} n 0, from))
   ];
 }
+
+-- zeros more are nothing more
+pub padded_room : (page xs : List ℕ) (n : ℕ) → IsPadded page xs → IsPadded page (xs ++ replicate n 0)
+padded_room page xs n padded = record {
+  each = λ i. padded.each i ∙ elim (cases_lt i (length xs)) [
+    | inl below ↦ sym (get_or-append xs (replicate n 0) 0 i below)
+    | inr from ↦
+        get_or-eq_default xs 0 from
+        ∙ sym (get_or-append_right xs (replicate n 0) i 0 from ∙ (padded_zeros n).each (i - length xs))
+  ];
+}

@@ -6,9 +6,10 @@ use Rattle.std.proofs.lemmas.Bool.Decides.{nat_tests}
 use Rattle.std.proofs.lemmas.List.{get_or-set_same, get_or-set_other}
 use Rattle.spool_blocks.specs.Blocks.{Row}
 use Rattle.spool_journal.specs.Image.{IsPut, byte_of, journal_pages, page_number}
-use Rattle.spool_pages.specs.Changes.{page_in, Said, state_number, record_number, row_number, SaysNext, SaysSlot}
+use Rattle.spool_pages.specs.Changes.{page_in, Said, state_number, record_number, row_number, SaysState, SaysSlot}
 use Rattle.spool_pages.specs.Changes.{SaysRow, ChangesButRows, Changes, with_record, with_slot, neighbour, SameRowsBut}
 use Rattle.spool_pages.specs.View.{SlotRecord, View, Stands, slot_at, row_bytes}
+use Rattle.spool_pages.specs.declared.version.Version.{Version}
 use Rattle.spool_pages.proofs.PageIn.{in_none, in_put, in_put_else, none_same, of_found, same_page, some_length}
 
 pub is_neighbour : (s slot : ℕ) → s / 2 ≡ slot / 2 → (s ≡ slot → ⊥) → s ≡ neighbour slot
@@ -16,42 +17,54 @@ is_neighbour s slot same ne = grind (arith, nat_tests)
 
 -- the page of two slots, given this one's and the one's beside it
 module _ (pages : List (ℕ × List ℕ)) (v : View) (slot : ℕ) (kept : Option SlotRecord) (bytes : List ℕ) where
+  -- a slot before the change and behind it, by the version
+  abbrev was : ℕ → Version × Option SlotRecord
+  was s = (v.version, slot_at v s)
+
+  abbrev now : ℕ → Version × Option SlotRecord
+  now s = (v.version, slot_at (with_slot v slot kept) s)
+
   pub slots_said : length v.slots ≡ 512 → slot < 512 → page_in (record_number v.blocks slot) pages ≡ Some bytes
       → ((s : ℕ) → s < 512 → (s / 2 ≡ slot / 2 → ⊥) → page_in (record_number v.blocks s) pages ≡ None)
-      → SaysSlot slot bytes kept → SaysSlot (neighbour slot) bytes (slot_at v (neighbour slot))
-      → (s : ℕ) → s < 512 → Said (page_in (record_number v.blocks s) pages) (SaysSlot s) (slot_at v s)
-      (slot_at (with_slot v slot kept) s)
+      → SaysSlot slot bytes (v.version, kept)
+      → SaysSlot (neighbour slot) bytes (v.version, slot_at v (neighbour slot))
+      → (s : ℕ) → s < 512 → Said (page_in (record_number v.blocks s) pages) (SaysSlot s) (was s) (now s)
   slots_said long few here others says beside s lt = ⊎_elim
-      (λ (e : s ≡ slot). subst (λ (t : ℕ). Said (page_in (record_number v.blocks t) pages) (SaysSlot t) (slot_at v t)
-      (slot_at (with_slot v slot kept) t)) (sym e) at_slot)
+      (λ (e : s ≡ slot). subst (λ (t : ℕ). Said (page_in (record_number v.blocks t) pages) (SaysSlot t) (was t)
+      (now t)) (sym e) at_slot)
       (λ (ne : s ≡ slot → ⊥). ⊎_elim
       (λ (same : s / 2 ≡ slot / 2).
       let is : s ≡ neighbour slot = is_neighbour s slot same ne in
       let there : page_in (record_number v.blocks s) pages ≡ Some bytes =
       subst (λ (k : ℕ). page_in (26 + journal_pages v.blocks + k) pages ≡ Some bytes) (sym same) here in
-      let was : SaysSlot s bytes (slot_at v s) = subst (λ (t : ℕ). SaysSlot t bytes (slot_at v t)) (sym is) beside in
-      let now : SaysSlot s bytes (slot_at (with_slot v slot kept) s) =
-      subst (λ (x : Option SlotRecord). SaysSlot s bytes x) (sym (stays s ne)) was in
-      subst (λ (o : Option (List ℕ)). Said o (SaysSlot s) (slot_at v s) (slot_at (with_slot v slot kept) s)) (sym there)
-      now)
+      let before : SaysSlot s bytes (was s) = subst (λ (t : ℕ). SaysSlot t bytes (was t)) (sym is) beside in
+      let behind : SaysSlot s bytes (now s) =
+      subst (λ (x : Option SlotRecord). SaysSlot s bytes (v.version, x)) (sym (stays s ne)) before in
+      subst (λ (o : Option (List ℕ)). Said o (SaysSlot s) (was s) (now s)) (sym there) behind)
       (λ (apart : s / 2 ≡ slot / 2 → ⊥).
-      subst (λ (o : Option (List ℕ)). Said o (SaysSlot s) (slot_at v s) (slot_at (with_slot v slot kept) s))
-      (sym (others s lt apart)) (stays s ne))
+      subst (λ (o : Option (List ℕ)). Said o (SaysSlot s) (was s) (now s)) (sym (others s lt apart))
+      (ap (λ (x : Option SlotRecord). (v.version, x)) (stays s ne)))
       (cases_eq (s / 2) (slot / 2)))
       (cases_eq s slot)
     where
       stays : (s : ℕ) → (s ≡ slot → ⊥) → slot_at (with_slot v slot kept) s ≡ slot_at v s
       stays s ne = get_or-set_other v.slots slot s kept None ne
 
-      at_slot : Said (page_in (record_number v.blocks slot) pages) (SaysSlot slot) (slot_at v slot)
-          (slot_at (with_slot v slot kept) slot)
+      at_slot : Said (page_in (record_number v.blocks slot) pages) (SaysSlot slot) (was slot) (now slot)
       at_slot =
           let new : slot_at (with_slot v slot kept) slot ≡ kept =
           get_or-set_same v.slots slot kept None (omega (arith, long, few)) in
-          let now : SaysSlot slot bytes (slot_at (with_slot v slot kept) slot) =
-          subst (λ (x : Option SlotRecord). SaysSlot slot bytes x) (sym new) says in
-          subst (λ (o : Option (List ℕ)). Said o (SaysSlot slot) (slot_at v slot)
-          (slot_at (with_slot v slot kept) slot)) (sym here) now
+          let behind : SaysSlot slot bytes (now slot) =
+          subst (λ (x : Option SlotRecord). SaysSlot slot bytes (v.version, x)) (sym new) says in
+          subst (λ (o : Option (List ℕ)). Said o (SaysSlot slot) (was slot) (now slot)) (sym here) behind
+
+-- what the slot beside it has, by the view's version
+pub said_beside : (v : View) {version : Version} {kept : Option SlotRecord} (slot : ℕ) (bytes : List ℕ)
+    → v.version ≡ version → slot_at v (neighbour slot) ≡ kept → SaysSlot (neighbour slot) bytes (version, kept)
+    → SaysSlot (neighbour slot) bytes (v.version, slot_at v (neighbour slot))
+said_beside v {kept = kept} slot bytes version beside says =
+    subst (λ (x : Option SlotRecord). SaysSlot (neighbour slot) bytes (v.version, x)) (sym beside)
+    (subst (λ (w : Version). SaysSlot (neighbour slot) bytes (w, kept)) (sym version) says)
 
 -- A NEW RECORD AND THE NEXT NUMBER
 
@@ -59,15 +72,15 @@ module _ {none first both : List (ℕ × List ℕ)} {state place : ℕ} {state_b
   pub new_changes : none ≡ [] → IsPut none state state_bytes first → IsPut first place bytes both
       → (v : View) (next slot : ℕ) (r : SlotRecord)
       → state ≡ state_number v.blocks → place ≡ record_number v.blocks slot → slot < 512 → length v.slots ≡ 512
-      → SaysNext state_bytes next → SaysSlot slot bytes (Some r) → SaysSlot (neighbour slot) bytes
-      (slot_at v (neighbour slot))
+      → SaysState state_bytes (v.version, next) → SaysSlot slot bytes (v.version, Some r)
+      → SaysSlot (neighbour slot) bytes (v.version, slot_at v (neighbour slot))
       → Changes both v (record (with_record v slot r) { next = next })
   new_changes empty put_state put_slot v next slot r state_is place_is few long says_next says beside = record {
     others = record {
       blocks = refl;
-      version = refl;
       indexes = refl;
-      next = subst (λ (o : Option (List ℕ)). Said o SaysNext v.next next) (sym state_in) says_next;
+      state = subst (λ (o : Option (List ℕ)). Said o SaysState (v.version, v.next) (v.version, next)) (sym state_in)
+          says_next;
       slots = slots_said both v slot (Some r) bytes long few slot_in
           (λ s lt apart. none_else (record_number v.blocks s) (omega (arith, state_is))
           (omega (arith, place_is, apart))) says beside;
@@ -104,14 +117,14 @@ module _ (pages : List (ℕ × List ℕ)) {none first : List (ℕ × List ℕ)} 
       → ((page : ℕ) → page < 282 + journal_pages v.blocks → page_in page pages ≡ page_in page first)
       → ((i : ℕ) → i < length blocks → IsSome (page_in (row_number v.blocks (get_or blocks i 0)) pages))
       → place ≡ record_number v.blocks slot → slot < 512 → length v.slots ≡ 512
-      → SaysSlot slot bytes kept → SaysSlot (neighbour slot) bytes (slot_at v (neighbour slot))
+      → SaysSlot slot bytes (v.version, kept)
+      → SaysSlot (neighbour slot) bytes (v.version, slot_at v (neighbour slot))
       → SameRowsBut blocks v.rows rows
       → ChangesButRows pages v (record (with_slot v slot kept) { rows = rows })
   room_changes empty put v slot kept blocks rows front there place_is few long says beside same = record {
     blocks = refl;
-    version = refl;
     indexes = refl;
-    next = subst (λ (o : Option (List ℕ)). Said o SaysNext v.next v.next)
+    state = subst (λ (o : Option (List ℕ)). Said o SaysState (v.version, v.next) (v.version, v.next))
         (sym (none_else (state_number v.blocks) (omega arith) (omega (arith, place_is)))) refl;
     slots = slots_said pages v slot kept bytes long few slot_in
         (λ s lt apart. none_else (record_number v.blocks s) (omega (arith, lt)) (omega (arith, place_is, apart))) says
@@ -143,12 +156,11 @@ module _ (old new : List (ℕ × List ℕ)) (rows : List Row) (first : ℕ) wher
   filled_changes long numbers others filled v v' first_is changes rows_are = record {
     others = record {
       blocks = changes.blocks;
-      version = changes.version;
       indexes = changes.indexes;
-      next = subst (λ (o : Option (List ℕ)). Said o SaysNext v.next v'.next)
-          (sym (same (state_number v.blocks) (omega (arith, first_is)))) changes.next;
-      slots = λ s lt. subst (λ (o : Option (List ℕ)). Said o (SaysSlot s) (slot_at v s) (slot_at v' s))
-          (sym (same (record_number v.blocks s) (omega (arith, first_is, lt)))) (changes.slots s lt);
+      state = subst (λ (o : Option (List ℕ)). Said o SaysState (v.version, v.next) (v'.version, v'.next))
+          (sym (same (state_number v.blocks) (omega (arith, first_is)))) changes.state;
+      slots = λ s lt. subst (λ (o : Option (List ℕ)). Said o (SaysSlot s) (v.version, slot_at v s)
+          (v'.version, slot_at v' s)) (sym (same (record_number v.blocks s) (omega (arith, first_is, lt)))) (changes.slots s lt);
       rows = λ b lt no. changes.rows b lt (none_same (row_number v.blocks b) old new long numbers no);
     };
     rows = λ b lt. by b lt (page_in (row_number v.blocks b) new) refl;

@@ -9,7 +9,9 @@ use Rattle.spool_journal.specs.Image.{Ascends}
 use Rattle.spool_journal.proofs.Over.{yes, no, over_hit, over_pass, over_none}
 use Rattle.spool_pages.specs.Changes.{page_in, Said, Changes, state_number, record_number, row_number}
 use Rattle.spool_pages.specs.Rests.{Rests, HasTexts}
-use Rattle.spool_pages.specs.View.{View, Stands, Says, first_page, state_page, slot_bytes, row_bytes, slot_at}
+use Rattle.spool_pages.specs.View.{SlotRecord, View, Stands, Says, first_page, state_page, slot_bytes, row_bytes}
+use Rattle.spool_pages.specs.View.{slot_at}
+use Rattle.spool_pages.specs.declared.version.Version.{Version}
 use Rattle.spool_pages.specs.View.{index_place, state_place, slot_place, row_place, text_page}
 use Rattle.spool_pages.proofs.Resting.{rests_says}
 use Rattle.spool_pages.proofs.Says.{shown_same}
@@ -138,7 +140,7 @@ module _ (pages : List (ℕ × List ℕ)) (base : ℕ → ℕ) where
 
 -- WHAT THE CHANGED PAGES SAY
 
-module _ (pages : List (ℕ × List ℕ)) (seen : ℕ → ℕ) (v v' : View) (version : v.version ≡ 1)
+module _ (pages : List (ℕ × List ℕ)) (seen : ℕ → ℕ) (v v' : View)
     (inside : InArea (journal_pages v.blocks) pages) (ascends : Ascends pages) (changes : Changes pages v v')
     (texts : HasTexts seen v') (says : Says seen v) where
   out : (p : ℕ) → (InMeta (journal_pages v.blocks) (p / 4096) → ⊥) → laid pages seen p ≡ seen p
@@ -150,15 +152,16 @@ module _ (pages : List (ℕ × List ℕ)) (seen : ℕ → ℕ) (v v' : View) (ve
   same_journal : journal_pages v'.blocks ≡ journal_pages v.blocks
   same_journal = ap journal_pages changes.others.blocks
 
-  state_there : Stands (laid pages seen) (state_place v.blocks) 4096 (state_page 1 v'.next)
-  state_there = stands_said pages seen (state_page 1) v.next v'.next (state_number v.blocks) 0 4096
-      (state_place v.blocks) ascends (omega arith) (omega arith) changes.others.next
-      (subst (λ (n : ℕ). Stands seen (state_place v.blocks) 4096 (state_page n v.next)) version says.state)
+  state_there : Stands (laid pages seen) (state_place v.blocks) 4096 (state_page v'.version v'.next)
+  state_there = stands_said pages seen (λ (s : Version × ℕ). state_page s.0 s.1) (v.version, v.next)
+      (v'.version, v'.next) (state_number v.blocks) 0 4096 (state_place v.blocks) ascends (omega arith) (omega arith)
+      changes.others.state says.state
 
-  slot_there : (s : ℕ) → s < 512 → Stands (laid pages seen) (slot_place v.blocks s) 2048 (slot_bytes (slot_at v' s))
-  slot_there s lt = stands_said pages seen slot_bytes (slot_at v s) (slot_at v' s) (record_number v.blocks s)
-      (2048 * (s % 2)) 2048 (slot_place v.blocks s) ascends (omega arith) (omega arith) (changes.others.slots s lt)
-      (says.slots s lt)
+  slot_there : (s : ℕ) → s < 512 → Stands (laid pages seen) (slot_place v.blocks s) 2048
+      (slot_bytes v'.version (slot_at v' s))
+  slot_there s lt = stands_said pages seen (λ (x : Version × Option SlotRecord). slot_bytes x.0 x.1)
+      (v.version, slot_at v s) (v'.version, slot_at v' s) (record_number v.blocks s) (2048 * (s % 2)) 2048
+      (slot_place v.blocks s) ascends (omega arith) (omega arith) (changes.others.slots s lt) (says.slots s lt)
 
   row_there : (b : ℕ) → b < 512 * (journal_pages v.blocks - 257) → Stands (laid pages seen) (row_place v.blocks b) 8
       (row_bytes (get_or v'.rows b None))
@@ -173,10 +176,9 @@ module _ (pages : List (ℕ × List ℕ)) (seen : ℕ → ℕ) (v v' : View) (ve
     };
     area = λ i lt. area_there i lt;
     state = subst (λ (n : ℕ). Stands (laid pages seen) (state_place n) 4096 (state_page v'.version v'.next)) same_size
-        (subst (λ (n : ℕ). Stands (laid pages seen) (state_place v.blocks) 4096 (state_page n v'.next))
-        (sym (changes.others.version ∙ version)) state_there);
-    slots = λ s lt. subst (λ (n : ℕ). Stands (laid pages seen) (slot_place n s) 2048 (slot_bytes (slot_at v' s)))
-        same_size (slot_there s lt);
+        state_there;
+    slots = λ s lt. subst (λ (n : ℕ). Stands (laid pages seen) (slot_place n s) 2048
+        (slot_bytes v'.version (slot_at v' s))) same_size (slot_there s lt);
     rows = λ b lt. subst (λ (n : ℕ). Stands (laid pages seen) (row_place n b) 8 (row_bytes (get_or v'.rows b None)))
         same_size (row_there b (omega (arith, lt, same_journal)));
     texts = λ s r e. texts s r e ∙ sym
@@ -192,8 +194,8 @@ module _ (pages : List (ℕ × List ℕ)) (seen : ℕ → ℕ) (v v' : View) (ve
 
 -- a commit of them makes the new view of the old one
 pub changed_says : {n : ℕ} {pages : List (ℕ × List ℕ)} {seen : ℕ → ℕ} {loose : ℕ → Type 0} {v v' : View} → v.blocks ≡ n
-    → InArea (journal_pages n) pages → v.version ≡ 1 → Rests v seen loose → Ascends pages → Changes pages v v'
+    → InArea (journal_pages n) pages → Rests v seen loose → Ascends pages → Changes pages v v'
     → HasTexts seen v' → Says (laid pages seen) v'
-changed_says {pages = pages} {seen = seen} {v = v} {v' = v'} size inside version rests ascends changes texts =
-    laid_says pages seen v v' version (subst (λ (m : ℕ). InArea (journal_pages m) pages) (sym size) inside) ascends
+changed_says {pages = pages} {seen = seen} {v = v} {v' = v'} size inside rests ascends changes texts =
+    laid_says pages seen v v' (subst (λ (m : ℕ). InArea (journal_pages m) pages) (sym size) inside) ascends
     changes texts (rests_says rests)

@@ -2,10 +2,10 @@ pub mod Bytes
 pub mod Blank
 pub mod Numbers
 pub mod Says
-pub mod Declared
 pub mod RecordBytes
 pub mod RowBytes
 pub mod PageIn
 pub mod Changed
 pub mod Resting
 pub mod Laid
+pub mod Upgraded

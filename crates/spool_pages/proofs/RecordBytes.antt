@@ -1,67 +1,88 @@
 -- The bytes of a record.
 use Rattle.std.proofs.Common.{◌≡◌, inl, inr, ℕ, ◌+◌, ◌-◌, ◌≤◌, ◌++◌, List, [], Option, Some, None, length, get_or, drop}
-use Rattle.std.proofs.Common.{refl, sym, ◌∙◌, ap, subst, arith}
+use Rattle.std.proofs.Common.{◌∷◌, ◌<◌, ◌^◌, replicate, refl, sym, ◌∙◌, ap, subst, arith}
 use Rattle.std.specs.Int.{to_be_bytes, w16, w64}
 use Rattle.std.specs.List.{slice_range}
 use Rattle.std.proofs.Common.{length-drop}
-use Rattle.std.proofs.Math.ListN.{get_or-append, length-append, length-take}
+use Rattle.std.proofs.Math.ListN.{get_or-append, length-append, length-replicate, length-take}
 use Rattle.std.proofs.Math.Seq.{get_or-append_right}
 use Rattle.std.proofs.lemmas.Bool.{cases_lt}
 use Rattle.std.proofs.lemmas.List.{get_or-append-add, get_or-take, get_or-drop, ext_get_or}
 use Rattle.spool_journal.specs.Image.{byte_of}
 use Rattle.spool_pages.specs.Bytes.{IsPadded}
 use Rattle.spool_pages.proofs.Bytes.{padded_zeros}
-use Rattle.spool_pages.specs.View.{SlotRecord, Stands, declared_bytes, record_bytes, slot_bytes}
-use Rattle.spool_pages.specs.Fits.{FitsSlotOf}
+use Rattle.spool_pages.specs.View.{SlotRecord, Stands, length_number, length_tag, record_bytes, slot_bytes}
+use Rattle.spool_pages.specs.declared.version.Version.{Version}
+use Rattle.spool_pages.specs.declared.version.Version.TheVariants.{One, Two}
+use Rattle.spool_pages.specs.Fits.{FitsLength, FitsSlotOf}
 
 pub pad : {page : List ℕ} (xs : List ℕ) {ys : List ℕ} (zs : List ℕ) → ys ≡ zs → IsPadded page (xs ++ ys)
     → IsPadded page (xs ++ zs)
 pad {page = page} xs zs e padded = subst (λ (bytes : List ℕ). IsPadded page (xs ++ bytes)) e padded
 
--- the four numbers, with the state, and with the metadata's length
-abbrev pub two_of : SlotRecord → List ℕ
-two_of r = to_be_bytes w64 r.number ++ declared_bytes r.declared
+-- the four numbers, with the state, with the metadata's length, with the metadata, and with the rest of its room
+abbrev pub two_of : Version → SlotRecord → List ℕ
+two_of version r = to_be_bytes w64 r.number ++ to_be_bytes w64 (length_number version r.declared)
 
-abbrev pub three_of : SlotRecord → List ℕ
-three_of r = two_of r ++ to_be_bytes w64 r.accepted
+abbrev pub three_of : Version → SlotRecord → List ℕ
+three_of version r = two_of version r ++ to_be_bytes w64 r.accepted
 
-abbrev pub four_of : SlotRecord → List ℕ
-four_of r = three_of r ++ to_be_bytes w64 r.text_len
+abbrev pub four_of : Version → SlotRecord → List ℕ
+four_of version r = three_of version r ++ to_be_bytes w64 r.text_len
 
-abbrev pub state_end : SlotRecord → List ℕ
-state_end r = four_of r ++ r.state
+abbrev pub state_end : Version → SlotRecord → List ℕ
+state_end version r = four_of version r ++ r.state
 
-abbrev pub head_of : SlotRecord → List ℕ
-head_of r = state_end r ++ to_be_bytes w16 (length r.metadata)
+abbrev pub head_of : Version → SlotRecord → List ℕ
+head_of version r = state_end version r ++ to_be_bytes w16 (length r.metadata)
 
-pub length-declared : (declared : Option ℕ) → length (declared_bytes declared) ≡ 8
-unfolding declared_bytes
-length-declared None = refl
-length-declared (Some n) = refl
+abbrev pub metadata_end : Version → SlotRecord → List ℕ
+metadata_end version r = head_of version r ++ r.metadata
 
-pub length-two : (r : SlotRecord) → length (two_of r) ≡ 16
-length-two r = omega (
-  arith,
-  length-append (to_be_bytes w64 r.number) (declared_bytes r.declared),
-  length-declared r.declared,
-)
+abbrev pub room_end : Version → SlotRecord → List ℕ
+room_end version r = metadata_end version r ++ replicate (1536 - length r.metadata) 0
 
-pub length-three : (r : SlotRecord) → length (three_of r) ≡ 24
-length-three r = omega (arith, length-append (two_of r) (to_be_bytes w64 r.accepted), length-two r)
+module _ (version : Version) (r : SlotRecord) where
+  pub length-two : length (two_of version r) ≡ 16
+  length-two = refl
 
-pub length-four : (r : SlotRecord) → length (four_of r) ≡ 32
-length-four r = omega (arith, length-append (three_of r) (to_be_bytes w64 r.text_len), length-three r)
+  pub length-three : length (three_of version r) ≡ 24
+  length-three = refl
 
-pub length-state_end : (r : SlotRecord) → length r.state ≡ 32 → length (state_end r) ≡ 64
-length-state_end r size = omega (arith, size, length-append (four_of r) r.state, length-four r)
+  pub length-four : length (four_of version r) ≡ 32
+  length-four = refl
 
-pub length-head : (r : SlotRecord) → length r.state ≡ 32 → length (head_of r) ≡ 66
-length-head r size =
-    omega (arith, length-state_end r size, length-append (state_end r) (to_be_bytes w16 (length r.metadata)))
+  pub record_is : room_end version r ++ length_tag version r.declared ∷ [] ≡ record_bytes version r
+  unfolding record_bytes
+  record_is = refl
 
-pub record_is : (r : SlotRecord) → head_of r ++ r.metadata ≡ record_bytes r
-unfolding record_bytes
-record_is r = refl
+  module _ (state : length r.state ≡ 32) where
+    pub length-state_end : length (state_end version r) ≡ 64
+    length-state_end = omega (arith, state, length-append (four_of version r) r.state, length-four)
+
+    pub length-head : length (head_of version r) ≡ 66
+    length-head = omega (
+      arith,
+      length-state_end,
+      length-append (state_end version r) (to_be_bytes w16 (length r.metadata)),
+    )
+
+    pub length-metadata_end : length (metadata_end version r) ≡ 66 + length r.metadata
+    length-metadata_end = omega (arith, length-head, length-append (head_of version r) r.metadata)
+
+    pub length-room_end : length r.metadata ≤ 1536 → length (room_end version r) ≡ 1602
+    length-room_end few = omega (
+      arith,
+      few,
+      length-metadata_end,
+      length-append (metadata_end version r) (replicate (1536 - length r.metadata) 0),
+      length-replicate {A = ℕ} (1536 - length r.metadata) 0,
+    )
+
+    pub length-record : length r.metadata ≤ 1536 → length (record_bytes version r) ≡ 1603
+    length-record few =
+        ap length (sym record_is)
+        ∙ omega (arith, length-room_end few, length-append (room_end version r) (length_tag version r.declared ∷ []))
 
 -- PARTS
 
@@ -115,49 +136,92 @@ padded_stands {page = page} {xs = xs} size padded = record {
       subst (λ (p : ℕ). get_or page p 0 ≡ get_or xs i 0) at (padded.each i);
 }
 
+-- zeros stand where nothing stands
+module _ {f : ℕ → ℕ} {place : ℕ} (n : ℕ) where
+  pub to_zeros : Stands f place n [] → Stands f place n (replicate n 0)
+  to_zeros stands = record { each = λ i lt. stands.each i lt ∙ sym ((padded_zeros n).each i) }
+
+  pub of_zeros : Stands f place n (replicate n 0) → Stands f place n []
+  of_zeros stands = record { each = λ i lt. stands.each i lt ∙ (padded_zeros n).each i }
+
+one_stands : {f : ℕ → ℕ} {place x : ℕ} → f place ≡ x → Stands f place 1 (x ∷ [])
+one_stands {f = f} {place = place} {x = x} e = record {
+  each = λ i lt.
+      let first : i ≡ 0 = omega (arith, lt) in
+      let at : place + i ≡ place = omega (arith, first) in
+      ap f at ∙ e ∙ sym (ap (λ (k : ℕ). get_or (x ∷ []) k 0) first);
+}
+
+-- a length's number fits its eight bytes
+pub number_fits : (version : Version) (declared : Option ℕ) → FitsLength declared → length_number version declared < 2 ^ 64
+number_fits version (Some n) fits = omega (arith, fits)
+number_fits One None fits = omega arith
+number_fits Two None fits = omega arith
+
 -- where a record's parts stand
-pub record PartsAt (f : ℕ → ℕ) (r : SlotRecord) : Type 0 where
+pub record PartsAt (f : ℕ → ℕ) (version : Version) (r : SlotRecord) : Type 0 where
   pub number : Stands f 0 8 (to_be_bytes w64 r.number)
-  pub declared : Stands f 8 8 (declared_bytes r.declared)
+  pub declared : Stands f 8 8 (to_be_bytes w64 (length_number version r.declared))
   pub accepted : Stands f 16 8 (to_be_bytes w64 r.accepted)
   pub text_len : Stands f 24 8 (to_be_bytes w64 r.text_len)
   pub state : Stands f 32 32 r.state
   pub metadata_len : Stands f 64 2 (to_be_bytes w16 (length r.metadata))
-  pub metadata : Stands f 66 1982 r.metadata
+  pub metadata : Stands f 66 (length r.metadata) r.metadata
+  pub room : Stands f (66 + length r.metadata) (1536 - length r.metadata) []
+  pub tag : f 1602 ≡ length_tag version r.declared
 
-pub parts_of : (f : ℕ → ℕ) (r : SlotRecord) → length r.state ≡ 32 → Stands f 0 2048 (record_bytes r) → PartsAt f r
-parts_of f r size whole =
-    let all : Stands f 0 2048 (head_of r ++ r.metadata) =
-    subst (λ (xs : List ℕ). Stands f 0 2048 xs) (sym (record_is r)) whole in
-    let head = stands_front (head_of r) _ 66 (length-head r size) (omega arith) all in
-    let state = stands_front (state_end r) _ 64 (length-state_end r size) (omega arith) head in
-    let four = stands_front (four_of r) _ 32 (length-four r) (omega arith) state in
-    let three = stands_front (three_of r) _ 24 (length-three r) (omega arith) four in
-    let two = stands_front (two_of r) _ 16 (length-two r) (omega arith) three in
-    record {
-      number = stands_front (to_be_bytes w64 r.number) _ 8 refl (omega arith) two;
-      declared = stands_behind (to_be_bytes w64 r.number) _ 8 8 refl (omega arith) two;
-      accepted = stands_behind (two_of r) _ 16 8 (length-two r) (omega arith) three;
-      text_len = stands_behind (three_of r) _ 24 8 (length-three r) (omega arith) four;
-      state = stands_behind (four_of r) _ 32 32 (length-four r) (omega arith) state;
-      metadata_len = stands_behind (state_end r) _ 64 2 (length-state_end r size) (omega arith) head;
-      metadata = stands_behind (head_of r) _ 66 1982 (length-head r size) (omega arith) all;
-    }
+module _ (f : ℕ → ℕ) (version : Version) (r : SlotRecord) (size : length r.state ≡ 32)
+    (few : length r.metadata ≤ 1536) where
+  at : 0 + (66 + length r.metadata) ≡ 66 + length r.metadata
+  at = omega arith
 
-pub of_parts : (f : ℕ → ℕ) (r : SlotRecord) → length r.state ≡ 32
-    → Stands f 0 8 (to_be_bytes w64 r.number) → Stands f 8 8 (declared_bytes r.declared)
-    → Stands f 16 8 (to_be_bytes w64 r.accepted) → Stands f 24 8 (to_be_bytes w64 r.text_len)
-    → Stands f 32 32 r.state → Stands f 64 2 (to_be_bytes w16 (length r.metadata))
-    → Stands f 66 (length r.metadata) r.metadata
-    → Stands f 0 (66 + length r.metadata) (record_bytes r)
-of_parts f r size number declared accepted text_len state metadata_len metadata =
-    let two = stands_both (to_be_bytes w64 r.number) _ 8 8 refl number declared in
-    let three = stands_both (two_of r) _ 16 8 (length-two r) two accepted in
-    let four = stands_both (three_of r) _ 24 8 (length-three r) three text_len in
-    let more = stands_both (four_of r) _ 32 32 (length-four r) four state in
-    let head = stands_both (state_end r) _ 64 2 (length-state_end r size) more metadata_len in
-    subst (λ (xs : List ℕ). Stands f 0 (66 + length r.metadata) xs) (record_is r)
-    (stands_both (head_of r) r.metadata 66 (length r.metadata) (length-head r size) head metadata)
+  pub parts_of : Stands f 0 2048 (record_bytes version r) → PartsAt f version r
+  parts_of whole =
+      let all : Stands f 0 2048 (room_end version r ++ length_tag version r.declared ∷ []) =
+      subst (λ (xs : List ℕ). Stands f 0 2048 xs) (sym (record_is version r)) whole in
+      let long = length-metadata_end version r size in
+      let room = stands_front (room_end version r) _ 1602 (length-room_end version r size few) (omega arith) all in
+      let metadata = stands_front (metadata_end version r) _ (66 + length r.metadata) long (omega (arith, few)) room in
+      let head = stands_front (head_of version r) _ 66 (length-head version r size) (omega arith) metadata in
+      let state = stands_front (state_end version r) _ 64 (length-state_end version r size) (omega arith) head in
+      let four = stands_front (four_of version r) _ 32 refl (omega arith) state in
+      let three = stands_front (three_of version r) _ 24 refl (omega arith) four in
+      let two = stands_front (two_of version r) _ 16 refl (omega arith) three in
+      let tag = stands_behind (room_end version r) _ 1602 1 (length-room_end version r size few) (omega arith) all in
+      record {
+        number = stands_front (to_be_bytes w64 r.number) _ 8 refl (omega arith) two;
+        declared = stands_behind (to_be_bytes w64 r.number) _ 8 8 refl (omega arith) two;
+        accepted = stands_behind (two_of version r) _ 16 8 refl (omega arith) three;
+        text_len = stands_behind (three_of version r) _ 24 8 refl (omega arith) four;
+        state = stands_behind (four_of version r) _ 32 32 refl (omega arith) state;
+        metadata_len = stands_behind (state_end version r) _ 64 2 (length-state_end version r size) (omega arith) head;
+        metadata = stands_behind (head_of version r) _ 66 (length r.metadata) (length-head version r size) (omega arith)
+            metadata;
+        room = subst (λ (place : ℕ). Stands f place (1536 - length r.metadata) []) at
+            (of_zeros (1536 - length r.metadata) (stands_behind (metadata_end version r) _ (66 + length r.metadata)
+            (1536 - length r.metadata) long (omega (arith, few)) room));
+        tag = tag.each 0 (omega arith);
+      }
+
+  pub of_parts : PartsAt f version r → Stands f 0 1603 (record_bytes version r)
+  of_parts parts =
+      let two = stands_both (to_be_bytes w64 r.number) _ 8 8 refl parts.number parts.declared in
+      let three = stands_both (two_of version r) _ 16 8 refl two parts.accepted in
+      let four = stands_both (three_of version r) _ 24 8 refl three parts.text_len in
+      let state = stands_both (four_of version r) _ 32 32 refl four parts.state in
+      let head =
+      stands_both (state_end version r) _ 64 2 (length-state_end version r size) state parts.metadata_len in
+      let metadata =
+      stands_both (head_of version r) _ 66 (length r.metadata) (length-head version r size) head parts.metadata in
+      let room = stands_both (metadata_end version r) _ (66 + length r.metadata) (1536 - length r.metadata)
+      (length-metadata_end version r size) metadata (to_zeros (1536 - length r.metadata)
+      (subst (λ (place : ℕ). Stands f place (1536 - length r.metadata) []) (sym at) parts.room)) in
+      let full : 66 + length r.metadata + (1536 - length r.metadata) ≡ 1602 = omega (arith, few) in
+      let room_there : Stands f 0 1602 (room_end version r) =
+      subst (λ (n : ℕ). Stands f 0 n (room_end version r)) full room in
+      subst (λ (xs : List ℕ). Stands f 0 1603 xs) (record_is version r)
+      (stands_both (room_end version r) _ 1602 1 (length-room_end version r size few) room_there
+      (one_stands parts.tag))
 
 -- the bytes of a range
 pub range_is : (bytes xs : List ℕ) (at end size : ℕ) → Stands (byte_of bytes) at size xs → length xs ≤ size
@@ -185,12 +249,6 @@ pub record_eq : (r : SlotRecord) (n : ℕ) (d : Option ℕ) (a t : ℕ) (s m : L
     → record { number = n; declared = d; accepted = a; text_len = t; state = s; metadata = m } ≡ r
 record_eq r n d a t s m e1 e2 e3 e4 e5 e6 = rw (e1, e2, e3, e4, e5, e6)
 
-pub length-record : (r : SlotRecord) → length r.state ≡ 32 → length (record_bytes r) ≡ 66 + length r.metadata
-length-record r size =
-    let whole : length (record_bytes r) ≡ length (head_of r) + length r.metadata =
-    ap length (sym (record_is r)) ∙ length-append (head_of r) r.metadata in
-    omega (arith, whole, length-head r size)
-
-pub slot_few : (slot : Option SlotRecord) → FitsSlotOf slot → length (slot_bytes slot) ≤ 2048
-slot_few None fits = omega arith
-slot_few (Some r) fits = omega (arith, length-record r fits.0.state, fits.0.metadata)
+pub slot_few : (version : Version) (slot : Option SlotRecord) → FitsSlotOf slot → length (slot_bytes version slot) ≤ 2048
+slot_few version None fits = omega arith
+slot_few version (Some r) fits = omega (arith, length-record version r fits.0.state fits.0.metadata)

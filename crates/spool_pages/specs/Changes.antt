@@ -4,6 +4,8 @@ use Rattle.std.specs.Prelude.{None, length, get_or, slice_set}
 use Rattle.spool_blocks.specs.Blocks.{Row}
 use Rattle.spool_journal.specs.Image.{byte_of, journal_pages}
 use Rattle.spool_pages.specs.View.{SlotRecord, View, Stands, slot_at, state_page, slot_bytes, row_bytes}
+use Rattle.spool_pages.specs.declared.version.Version.{Version}
+use Rattle.spool_pages.specs.declared.version.Version.TheVariants.{Two}
 
 -- the bytes of the page of this number, if it is among them
 unfoldable pub page_in : ℕ → List (ℕ × List ℕ) → Option (List ℕ)
@@ -28,25 +30,26 @@ row_number n block = 282 + journal_pages n + block / 512
 
 -- WHAT ONE SAYS
 
-abbrev pub SaysNext : List ℕ → ℕ → Type 0
-SaysNext bytes next = Stands (byte_of bytes) 0 4096 (state_page 1 next)
+-- the version and the next number
+abbrev pub SaysState : List ℕ → Version × ℕ → Type 0
+SaysState bytes state = Stands (byte_of bytes) 0 4096 (state_page state.0 state.1)
 
-abbrev pub SaysSlot : ℕ → List ℕ → Option SlotRecord → Type 0
-SaysSlot slot bytes kept = Stands (byte_of bytes) (2048 * (slot % 2)) 2048 (slot_bytes kept)
+-- a slot, by a version
+abbrev pub SaysSlot : ℕ → List ℕ → Version × Option SlotRecord → Type 0
+SaysSlot slot bytes kept = Stands (byte_of bytes) (2048 * (slot % 2)) 2048 (slot_bytes kept.0 kept.1)
 
 abbrev pub SaysRow : ℕ → List ℕ → Row → Type 0
 SaysRow block bytes row = Stands (byte_of bytes) (8 * (block % 512)) 8 (row_bytes row)
 
--- THE CHANGE: the size, the version and the index files stay
+-- THE CHANGE: the size and the index files stay, and the version where not all pages that tell by it are changed
 
 -- all of it but for the rows on changed pages
 pub record ChangesButRows (pages : List (ℕ × List ℕ)) (v v' : View) : Type 0 where
   pub blocks : v'.blocks ≡ v.blocks
-  pub version : v'.version ≡ v.version
   pub indexes : v'.indexes ≡ v.indexes
-  pub next : Said (page_in (state_number v.blocks) pages) SaysNext v.next v'.next
-  pub slots : (s : ℕ) → s < 512 → Said (page_in (record_number v.blocks s) pages) (SaysSlot s) (slot_at v s)
-      (slot_at v' s)
+  pub state : Said (page_in (state_number v.blocks) pages) SaysState (v.version, v.next) (v'.version, v'.next)
+  pub slots : (s : ℕ) → s < 512 → Said (page_in (record_number v.blocks s) pages) (SaysSlot s)
+      (v.version, slot_at v s) (v'.version, slot_at v' s)
   pub rows : (b : ℕ) → b < 512 * (journal_pages v.blocks - 257) → page_in (row_number v.blocks b) pages ≡ None
       → get_or v'.rows b None ≡ get_or v.rows b None
 
@@ -64,6 +67,10 @@ with_slot v slot kept = record v { slots = slice_set v.slots slot kept }
 -- another record in a slot
 abbrev pub with_record : View → ℕ → SlotRecord → View
 with_record v slot r = with_slot v slot (Some r)
+
+-- the same in version 2
+abbrev pub upgraded : View → View
+upgraded v = record v { version = Two }
 
 -- the slot whose record is on the same page
 abbrev pub neighbour : ℕ → ℕ

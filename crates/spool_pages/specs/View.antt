@@ -6,6 +6,8 @@ use Rattle.enc_model.specs.Indexes.{IndexSet}
 use Rattle.enc_index.specs.Area.{area_byte}
 use Rattle.spool_journal.specs.Image.{byte_of, journal_pages, InForm, count, number, overlaid}
 use Rattle.spool_journal.specs.Texts.{text_shown}
+use Rattle.spool_pages.specs.declared.version.Version.{Version}
+use Rattle.spool_pages.specs.declared.version.Version.TheVariants.{One, Two}
 
 -- WHAT A SPOOL SAYS
 
@@ -22,7 +24,7 @@ pub record SlotRecord : Type 0 where
 -- ordinal, and each slot's text
 pub record View : Type 0 where
   pub blocks : ℕ
-  pub version : ℕ
+  pub version : Version
   pub next : ℕ
   pub indexes : IndexSet
   pub slots : List (Option SlotRecord)
@@ -41,23 +43,35 @@ magic = 0x54 ∷ 0x55 ∷ 0x53 ∷ 0x53 ∷ 0x50 ∷ 0x4F ∷ 0x4F ∷ 0x4C ∷ 
 unfoldable pub first_page : ℕ → List ℕ
 first_page blocks = magic ++ to_be_bytes w32 blocks
 
-unfoldable pub state_page : ℕ → ℕ → List ℕ
-state_page version next = to_be_bytes w32 version ++ to_be_bytes w64 next
+abbrev pub version_number : Version → ℕ
+version_number One = 1
+version_number Two = 2
 
--- an unknown length is eight bytes FF
-unfoldable pub declared_bytes : Option ℕ → List ℕ
-declared_bytes None = replicate 8 0xFF
-declared_bytes (Some n) = to_be_bytes w64 n
+unfoldable pub state_page : Version → ℕ → List ℕ
+state_page version next = to_be_bytes w32 (version_number version) ++ to_be_bytes w64 next
 
-unfoldable pub record_bytes : SlotRecord → List ℕ
-record_bytes r =
-    to_be_bytes w64 r.number ++ declared_bytes r.declared ++ to_be_bytes w64 r.accepted ++ to_be_bytes w64 r.text_len
-    ++ r.state ++ to_be_bytes w16 (length r.metadata) ++ r.metadata
+-- the number that stands for a length: an unknown one is eight bytes FF in version 1, and zeros in version 2
+abbrev pub length_number : Version → Option ℕ → ℕ
+length_number version (Some n) = n
+length_number One None = 0xFFFFFFFFFFFFFFFF
+length_number Two None = 0
+
+-- and the byte behind the metadata's room: 1 for an unknown length in version 2
+abbrev pub length_tag : Version → Option ℕ → ℕ
+length_tag version (Some n) = 0
+length_tag One None = 0
+length_tag Two None = 1
+
+unfoldable pub record_bytes : Version → SlotRecord → List ℕ
+record_bytes version r =
+    to_be_bytes w64 r.number ++ to_be_bytes w64 (length_number version r.declared) ++ to_be_bytes w64 r.accepted
+    ++ to_be_bytes w64 r.text_len ++ r.state ++ to_be_bytes w16 (length r.metadata) ++ r.metadata
+    ++ replicate (1536 - length r.metadata) 0 ++ length_tag version r.declared ∷ []
 
 -- a free slot is all zeros
-abbrev pub slot_bytes : Option SlotRecord → List ℕ
-slot_bytes None = []
-slot_bytes (Some r) = record_bytes r
+abbrev pub slot_bytes : Version → Option SlotRecord → List ℕ
+slot_bytes version None = []
+slot_bytes version (Some r) = record_bytes version r
 
 -- slot + 1 and the ordinal; zeros where no slot owns the block
 unfoldable pub row_bytes : Option (ℕ × ℕ) → List ℕ
@@ -93,7 +107,8 @@ pub record Says (image : ℕ → ℕ) (v : View) : Type 0 where
   pub first : Stands image 0 4096 (first_page v.blocks)
   pub area : (i : ℕ) → i < 90112 → image (index_place v.blocks + i) ≡ area_byte v.indexes i
   pub state : Stands image (state_place v.blocks) 4096 (state_page v.version v.next)
-  pub slots : (s : ℕ) → s < 512 → Stands image (slot_place v.blocks s) 2048 (slot_bytes (slot_at v s))
+  pub slots : (s : ℕ) → s < 512 → Stands image (slot_place v.blocks s) 2048
+      (slot_bytes v.version (slot_at v s))
   pub rows : (b : ℕ) → b < 512 * (journal_pages v.blocks - 257) → Stands image (row_place v.blocks b) 8
       (row_bytes (get_or v.rows b None))
   pub texts : (s : ℕ) (r : SlotRecord) → slot_at v s ≡ Some r → v.texts s ≡ text_shown image (text_page v.blocks) v.rows

@@ -10,16 +10,17 @@ ghost use Rattle.spool_pages.specs.View.{View, slot_at};
 
 use crate::places::{first_row_number, record_number, row_number, state_number};
 use crate::slot_pages::page_with;
-use crate::{SlotRecord, blank_page, row_page, state_page};
+use crate::{SlotRecord, Version, blank_page, row_page, state_page};
 use spool_blocks::{BlockNo, Row};
 use spool_journal::{Layout, Pages};
 use std::alloc::{AllocError, Global};
 
-/// The pages that a new record and the next number make. `beside` is the record that the other slot on the same page
-/// has, none where it is free. Err only where memory runs out.
+/// The pages that a new record and the next number make on a spool of this version. `beside` is the record that the
+/// other slot on the same page has, none where it is free. Err only where memory runs out.
 pub fn pages_of_new(
     alloc: Global,
     layout: &Layout,
+    version: Version,
     next: u64,
     slot: u32,
     kept: &SlotRecord<'_>,
@@ -30,15 +31,15 @@ pub fn pages_of_new(
     requires beside { IfSome beside (λ r. length r.now.metadata ≤ 1536) }
     ensures area { IfOk result (λ pages. InArea (journal_pages layout.now) pages) }
     ensures some { IfOk result (λ pages. 1 ≤ length pages) }
-    ensures changes { (v : View) → v.blocks ≡ layout.now → length v.slots ≡ 512
+    ensures changes { (v : View) → v.blocks ≡ layout.now → v.version ≡ version → length v.slots ≡ 512
         → slot_at v (neighbour slot) ≡ option_copied beside.entry
         → IfOk result (λ pages. Changes pages v (record (with_record v slot kept.now) { next = next })) }
 {
     let mut pages = Pages::new(alloc);
-    pages.put(state_number(layout), &state_page(next))?;
+    pages.put(state_number(layout), &state_page(version, next))?;
     pages.put(
         record_number(layout, slot),
-        &page_with(slot, Some(kept), beside),
+        &page_with(version, slot, Some(kept), beside),
     )?;
     Ok(pages)
 }
@@ -74,6 +75,7 @@ fn make_room(pages: &mut Pages, page: u32) -> Result<(), AllocError>
 pub fn pages_of_change(
     alloc: Global,
     layout: &Layout,
+    version: Version,
     slot: u32,
     kept: Option<&SlotRecord<'_>>,
     beside: Option<&SlotRecord<'_>>,
@@ -85,14 +87,17 @@ pub fn pages_of_change(
     requires blocks { (i : ℕ) → i < length blocks.now → get_or blocks.now i 0 < layout.now }
     ensures area { IfOk result (λ pages. InArea (journal_pages layout.now) pages) }
     ensures some { IfOk result (λ pages. 1 ≤ length pages) }
-    ensures changes { (v : View) → v.blocks ≡ layout.now → length v.slots ≡ 512
+    ensures changes { (v : View) → v.blocks ≡ layout.now → v.version ≡ version → length v.slots ≡ 512
         → slot_at v (neighbour slot) ≡ option_copied beside.entry
         → (rows : List HeldRow) → SameRowsBut blocks.now v.rows rows
         → IfOk result (λ pages. ChangesButRows pages v
         (record (with_slot v slot (option_copied kept.entry)) { rows = rows })) }
 {
     let mut pages = Pages::new(alloc);
-    pages.put(record_number(layout, slot), &page_with(slot, kept, beside))?;
+    pages.put(
+        record_number(layout, slot),
+        &page_with(version, slot, kept, beside),
+    )?;
     for block in blocks {
         make_room(&mut pages, row_number(layout, *block))?;
     }

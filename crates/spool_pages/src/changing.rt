@@ -22,7 +22,7 @@ pub fn change<D: Disk>(disk: &mut D, layout: &Layout, pages: &Pages) -> Result<(
     ensures counts { Counts (IsErr result) (D.failures disk.old) (D.failures disk.new) }
 
     // The spool rests with the new view.
-    ensures done { D.honest disk.old → (v v' : View) → v.blocks ≡ layout.now → v.version ≡ 1
+    ensures done { D.honest disk.old → (v v' : View) → v.blocks ≡ layout.now
         → Rests v (D.seen disk.old) (D.loose disk.old) → Changes pages.now v v' → HasTexts (D.seen disk.old) v'
         → OnOk result (Rests v' (D.seen disk.new) (D.loose disk.new)) }
 
@@ -34,7 +34,7 @@ pub fn change<D: Disk>(disk: &mut D, layout: &Layout, pages: &Pages) -> Result<(
         ((p : ℕ) → 4096 * text_page layout.now ≤ p → D.seen disk.new p ≡ D.seen disk.old p) }
 
     // A crash during it leaves the old view or the new one.
-    ensures lasts { D.honest disk.old → (v v' : View) → v.blocks ≡ layout.now → v.version ≡ 1
+    ensures lasts { D.honest disk.old → (v v' : View) → v.blocks ≡ layout.now
         → Rests v (D.seen disk.old) (D.loose disk.old) → Changes pages.now v v' → HasTexts (D.seen disk.old) v'
         → Lasts D.Disk disk.old disk.new (λ image. IsViewOf image v ⊎ IsViewOf image v') }
 {

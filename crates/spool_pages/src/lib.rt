@@ -11,14 +11,18 @@ mod records;
 mod rests;
 mod rows;
 mod slot_pages;
+mod upgrading;
+mod version;
 
 pub use changes::{fill_rows, pages_of_change, pages_of_new};
 pub use changing::change;
 pub use damaged::Damaged;
 pub use pages::{
-    MAGIC, VERSION, blank_page, blocks_said, first_page, is_blank, is_blank_behind_fields,
-    state_page, version_and_next,
+    MAGIC, blank_page, blocks_said, first_page, is_blank, is_blank_behind_fields, state_page,
+    version_and_next,
 };
 pub use records::{METADATA, RECORD, SlotRecord};
 pub use rests::{resting_images, resting_writes, settled_rests};
 pub use rows::{ROWS, row_at, row_page};
+pub use upgrading::pages_of_upgrade;
+pub use version::Version;

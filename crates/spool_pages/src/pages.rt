@@ -1,18 +1,18 @@
 // The pages of a spool that are neither records nor rows.
 ghost use Rattle.std.specs.Prelude.{◌≡◌, ◌<◌, ◌≤◌, ◌^◌, ◌↔◌};
-ghost use Rattle.std.specs.Prelude.{ℕ, [], Some, IfSome, IsTrue, get_or};
+ghost use Rattle.std.specs.Prelude.{ℕ, [], None, Some, IfSome, IsTrue, get_or};
+ghost use Rattle.std.specs.Int.{to_be_bytes, w32};
 ghost use Rattle.spool_journal.specs.Image.{byte_of};
 ghost use Rattle.spool_pages.specs.Bytes.{IsPadded};
-ghost use Rattle.spool_pages.specs.View.{Stands, magic, first_page, state_page};
+ghost use Rattle.spool_pages.specs.View.{Stands, magic, first_page, state_page, version_number};
+ghost use Rattle.spool_pages.specs.declared.version.Version.{Version as Known};
 
+use crate::Version;
 use crate::fields::{get_u32, get_u64, put};
 use spool_journal::PAGE;
 
 /// The first bytes of a spool.
 pub const MAGIC: [u8; 8] = *b"TUSSPOOL";
-
-/// The version of the layout.
-pub const VERSION: u32 = 1;
 
 /// A page of zeros.
 pub fn blank_page() -> [u8; PAGE]
@@ -32,11 +32,11 @@ pub fn first_page(blocks: u32) -> [u8; PAGE]
 }
 
 /// The state page: the version and the next number.
-pub fn state_page(next: u64) -> [u8; PAGE]
-    ensures { IsPadded result (state_page 1 next) }
+pub fn state_page(version: Version, next: u64) -> [u8; PAGE]
+    ensures { IsPadded result (state_page version next) }
 {
     let mut page = [0; PAGE];
-    put(&mut page, 0, &VERSION.to_be_bytes());
+    put(&mut page, 0, &version.number().to_be_bytes());
     put(&mut page, 4, &next.to_be_bytes());
     page
 }
@@ -48,20 +48,25 @@ pub fn is_blank(bytes: &[u8]) -> bool
     bytes.iter().all(|byte| *byte == 0)
 }
 
-/// What a state page says: the version and the next number.
-pub fn version_and_next(page: &[u8; PAGE]) -> (u32, u64)
-    ensures said { (version next : ℕ) → version < 2 ^ 32 → next < 2 ^ 64 → IsPadded page.now (state_page version next)
-        → result ≡ (version, next) }
-    ensures there { Stands (byte_of page.now) 0 12 (state_page result.0 result.1) }
+/// What a state page says: the version and the next number, or none where there is no such version.
+pub fn version_and_next(page: &[u8; PAGE]) -> Option<(Version, u64)>
+    ensures said { (version : Known) (next : ℕ) → next < 2 ^ 64 → IsPadded page.now (state_page version next)
+        → result ≡ Some (version, next) }
+    ensures there { IfSome result (λ said. Stands (byte_of page.now) 0 12 (state_page said.0 said.1)) }
+    ensures unknown { result ≡ None → (version : Known)
+        → Stands (byte_of page.now) 0 4 (to_be_bytes w32 (version_number version)) → ⊥ }
 {
-    (get_u32(page, 0), get_u64(page, 4))
+    match Version::of(get_u32(page, 0)) {
+        Some(version) => Some((version, get_u64(page, 4))),
+        None => None,
+    }
 }
 
 /// Whether there are only zeros behind the fields of page 0 or of the state page, its first 12 bytes.
 pub fn is_blank_behind_fields(page: &[u8; PAGE]) -> bool
     ensures first { (blocks : ℕ) → Stands (byte_of page.now) 0 12 (first_page blocks)
         → (IsTrue result ↔ Stands (byte_of page.now) 0 4096 (first_page blocks)) }
-    ensures state { (version next : ℕ) → Stands (byte_of page.now) 0 12 (state_page version next)
+    ensures state { (version : Known) (next : ℕ) → Stands (byte_of page.now) 0 12 (state_page version next)
         → (IsTrue result ↔ Stands (byte_of page.now) 0 4096 (state_page version next)) }
 {
     is_blank(&page[12..])

@@ -1,12 +1,13 @@
 // The record of an upload as its slot keeps it.
 ghost use Rattle.std.specs.Prelude.{◌≡◌, ◌≤◌, ℕ, Option, [], length, Ok, Some, None, IfOk, IfSome};
+ghost use Rattle.std.specs.Int.{to_be_bytes, w64};
 ghost use Rattle.spool_journal.specs.Image.{byte_of};
 ghost use Rattle.spool_pages.specs.Bytes.{IsPadded};
 ghost use Rattle.spool_pages.specs.Fits.{FitsLength, FitsSlot};
-ghost use Rattle.spool_pages.specs.View.{SlotRecord as Said, Stands, declared_bytes, record_bytes, slot_bytes};
+ghost use Rattle.spool_pages.specs.View.{SlotRecord as Said, length_number, length_tag, record_bytes, slot_bytes};
 
 use crate::fields::{get_u16, get_u64, put};
-use crate::{Damaged, is_blank};
+use crate::{Damaged, Version, is_blank};
 use std::marker::Model;
 
 /// How many bytes a slot has.
@@ -15,25 +16,39 @@ pub const RECORD: usize = 2048;
 /// How many bytes of metadata a slot has room for.
 pub const METADATA: usize = 1536;
 
-// Stands for a length that is not known.
+// Where a slot has the tag of its length.
+const TAG: usize = 66 + METADATA;
+
+// Stands for an unknown length in version 1. In version 2 it's no length.
 const UNKNOWN: u64 = u64::MAX;
 
-// The bytes of a length that may be unknown.
-fn declared_bytes(declared: Option<u64>) -> [u8; 8]
-    ensures { result ≡ declared_bytes declared }
+// The number and the tag of a length that may be unknown.
+fn length_fields(version: Version, declared: Option<u64>) -> (u64, u8)
+    ensures { result ≡ (length_number version declared, length_tag version declared) }
 {
-    declared.unwrap_or(UNKNOWN).to_be_bytes()
+    match (version, declared) {
+        (_, Some(length)) => (length, 0),
+        (Version::One, None) => (UNKNOWN, 0),
+        (Version::Two, None) => (0, 1),
+    }
 }
 
-// The declared length in a slot's bytes, where it is known.
-fn declared_in(bytes: &[u8; RECORD]) -> Option<u64>
-    ensures is { (declared : Option ℕ) → FitsLength declared
-        → Stands (byte_of bytes.now) 8 8 (declared_bytes declared) → result ≡ declared }
-    ensures there { Stands (byte_of bytes.now) 8 8 (declared_bytes result) }
-    ensures fits { FitsLength result }
+// The length that a number and a tag tell.
+fn declared_in(version: Version, number: u64, tag: u8) -> Result<Option<u64>, Damaged>
+    ensures is { (declared : Option ℕ) → FitsLength declared → number ≡ length_number version declared
+        → tag ≡ length_tag version declared → result ≡ Ok declared }
+    ensures number { IfOk result (λ declared. length_number version declared ≡ number) }
+    ensures tag { IfOk result (λ declared. length_tag version declared ≡ tag) }
+    ensures fits { IfOk result FitsLength }
 {
-    let length = get_u64(bytes, 8);
-    (length != UNKNOWN).then_some(length)
+    let (unknown, unknown_tag) = length_fields(version, None);
+    if number == unknown && tag == unknown_tag {
+        return Ok(None);
+    }
+    if tag != 0 || number == UNKNOWN {
+        return Err(Damaged);
+    }
+    Ok(Some(number))
 }
 
 /// The record of an upload as its slot's bytes say it.
@@ -67,31 +82,36 @@ impl<'a> Model for SlotRecord<'a> {
 }
 
 impl<'a> SlotRecord<'a> {
-    /// The slot's bytes.
-    pub fn to_bytes(&self) -> [u8; RECORD]
+    /// The slot's bytes on a spool of this version.
+    pub fn to_bytes(&self, version: Version) -> [u8; RECORD]
         requires { length self.now.metadata ≤ 1536 }
-        ensures { IsPadded result (record_bytes self.now) }
+        ensures { IsPadded result (record_bytes version self.now) }
     {
+        let (length, tag) = length_fields(version, self.declared);
         let mut bytes = [0; RECORD];
         put(&mut bytes, 0, &self.number.to_be_bytes());
-        put(&mut bytes, 8, &declared_bytes(self.declared));
+        put(&mut bytes, 8, &length.to_be_bytes());
         put(&mut bytes, 16, &self.accepted.to_be_bytes());
         put(&mut bytes, 24, &self.text_len.to_be_bytes());
         put(&mut bytes, 32, &self.state);
         put(&mut bytes, 64, &(self.metadata.len() as u16).to_be_bytes());
         put(&mut bytes, 66, self.metadata);
+        put(&mut bytes, TAG, &[tag]);
         bytes
     }
 
-    /// The record in a slot's bytes, or none where the slot is free.
+    /// The record in a slot's bytes on a spool of this version, or none where the slot is free.
     ///
     /// # Errors
     ///
-    /// `Damaged` where the bytes are neither all 0 nor those of a record with zeros behind it.
-    pub fn from_bytes(bytes: &'a [u8; RECORD]) -> Result<Option<SlotRecord<'a>>, Damaged>
+    /// `Damaged` where the bytes are neither all 0 nor those of a record with zeros in each place that it leaves.
+    pub fn from_bytes(
+        version: Version,
+        bytes: &'a [u8; RECORD],
+    ) -> Result<Option<SlotRecord<'a>>, Damaged>
         ensures free { IsPadded bytes.now [] → result ≡ Ok None }
-        ensures used { (r : Said) → FitsSlot r → IsPadded bytes.now (record_bytes r) → result ≡ Ok (Some r) }
-        ensures sound { IfOk result (λ found. IsPadded bytes.now (slot_bytes found)) }
+        ensures used { (r : Said) → FitsSlot r → IsPadded bytes.now (record_bytes version r) → result ≡ Ok (Some r) }
+        ensures sound { IfOk result (λ found. IsPadded bytes.now (slot_bytes version found)) }
         ensures fits { IfOk result (λ found. IfSome found FitsSlot) }
     {
         if is_blank(bytes) {
@@ -99,14 +119,19 @@ impl<'a> SlotRecord<'a> {
         }
         let number = get_u64(bytes, 0);
         let metadata_end = 66 + get_u16(bytes, 64) as usize;
-        if number == 0 || metadata_end > 66 + METADATA || !is_blank(&bytes[metadata_end..]) {
+        if number == 0
+            || metadata_end > TAG
+            || !is_blank(&bytes[metadata_end..TAG])
+            || !is_blank(&bytes[TAG + 1..])
+        {
             return Err(Damaged);
         }
+        let declared = declared_in(version, get_u64(bytes, 8), bytes[TAG])?;
         let mut state = [0; 32];
         state.copy_from_slice(&bytes[32..64]);
         Ok(Some(SlotRecord {
             number,
-            declared: declared_in(bytes),
+            declared,
             accepted: get_u64(bytes, 16),
             text_len: get_u64(bytes, 24),
             state,

@@ -6,50 +6,52 @@ ghost use Rattle.spool_pages.specs.Changes.{SaysSlot, neighbour};
 ghost use Rattle.spool_pages.specs.View.{Stands, slot_bytes};
 
 use crate::fields::put;
-use crate::{RECORD, SlotRecord};
+use crate::{RECORD, SlotRecord, Version};
 use spool_journal::PAGE;
 
 // The bytes of a slot: zeros where it is free.
-fn bytes_of(slot: Option<&SlotRecord<'_>>) -> [u8; RECORD]
+fn bytes_of(version: Version, slot: Option<&SlotRecord<'_>>) -> [u8; RECORD]
     requires { IfSome slot (λ r. length r.now.metadata ≤ 1536) }
-    ensures { IsPadded result (slot_bytes (option_copied slot.entry)) }
+    ensures { IsPadded result (slot_bytes version (option_copied slot.entry)) }
 {
     match slot {
-        Some(kept) => kept.to_bytes(),
+        Some(kept) => kept.to_bytes(version),
         None => [0; RECORD],
     }
 }
 
 /// The page of two slots, each with its record or free.
 pub(crate) fn record_page(
+    version: Version,
     first: Option<&SlotRecord<'_>>,
     second: Option<&SlotRecord<'_>>,
 ) -> [u8; PAGE]
     requires first { IfSome first (λ r. length r.now.metadata ≤ 1536) }
     requires second { IfSome second (λ r. length r.now.metadata ≤ 1536) }
-    ensures first { Stands (byte_of result) 0 2048 (slot_bytes (option_copied first.entry)) }
-    ensures second { Stands (byte_of result) 2048 2048 (slot_bytes (option_copied second.entry)) }
+    ensures first { Stands (byte_of result) 0 2048 (slot_bytes version (option_copied first.entry)) }
+    ensures second { Stands (byte_of result) 2048 2048 (slot_bytes version (option_copied second.entry)) }
 {
     let mut page = [0; PAGE];
-    put(&mut page, 0, &bytes_of(first));
-    put(&mut page, RECORD, &bytes_of(second));
+    put(&mut page, 0, &bytes_of(version, first));
+    put(&mut page, RECORD, &bytes_of(version, second));
     page
 }
 
 /// The page of a slot with this record, or free, and beside it what the slot on the same page has.
 pub(crate) fn page_with(
+    version: Version,
     slot: u32,
     kept: Option<&SlotRecord<'_>>,
     beside: Option<&SlotRecord<'_>>,
 ) -> [u8; PAGE]
     requires kept { IfSome kept (λ r. length r.now.metadata ≤ 1536) }
     requires beside { IfSome beside (λ r. length r.now.metadata ≤ 1536) }
-    ensures kept { SaysSlot slot result (option_copied kept.entry) }
-    ensures beside { SaysSlot (neighbour slot) result (option_copied beside.entry) }
+    ensures kept { SaysSlot slot result (version, option_copied kept.entry) }
+    ensures beside { SaysSlot (neighbour slot) result (version, option_copied beside.entry) }
 {
     if slot % 2 == 0 {
-        record_page(kept, beside)
+        record_page(version, kept, beside)
     } else {
-        record_page(beside, kept)
+        record_page(version, beside, kept)
     }
 }

@@ -23,7 +23,7 @@ fn with_hello(alloc: Global) -> Result<MemoryDisk, Fail> {
 }
 
 /// Whether an upload's text is these bytes.
-fn has_text<D: Disk>(spool: &mut Spool<D>, number: u64, want: &[u8]) -> bool {
+pub(crate) fn has_text<D: Disk>(spool: &mut Spool<D>, number: u64, want: &[u8]) -> bool {
     let mut buf = [0; 65536];
     let read = spool.read_text(number, 0, &mut buf);
     read == Ok(want.len()) && buf.starts_with(want)

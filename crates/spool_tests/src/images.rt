@@ -5,7 +5,7 @@ use enc_model::{Encoding, Mode};
 use enc_stream::Transcoder;
 use spool_disk::{Disk, DiskFault, FuseDisk, MemoryDisk};
 use spool_image::{FormatError, OpenFault, Spool, format, pages_of};
-use spool_pages::SlotRecord;
+use spool_pages::{SlotRecord, Version};
 use std::alloc::{AllocError, Global};
 use std::test::Fail;
 use upload_rules::{UploadError, UploadRefusal, Uploads};
@@ -16,7 +16,7 @@ fn small_disk(alloc: Global) -> Result<MemoryDisk, AllocError> {
 }
 
 /// A byte, if it is there.
-fn byte_at<D: Disk>(disk: &mut D, at: u64) -> Result<u8, DiskFault> {
+pub(crate) fn byte_at<D: Disk>(disk: &mut D, at: u64) -> Result<u8, DiskFault> {
     if at >= disk.len() {
         return Err(DiskFault);
     }
@@ -26,7 +26,7 @@ fn byte_at<D: Disk>(disk: &mut D, at: u64) -> Result<u8, DiskFault> {
 }
 
 /// Writes bytes, if there is room.
-fn put<D: Disk>(disk: &mut D, at: u64, bytes: &[u8]) -> Result<(), DiskFault> {
+pub(crate) fn put<D: Disk>(disk: &mut D, at: u64, bytes: &[u8]) -> Result<(), DiskFault> {
     let size = disk.len();
     let count = bytes.len() as u64;
     if size < count || size - count < at {
@@ -47,17 +47,17 @@ fn write_uploads<D: Disk>(disk: &mut D) -> Result<(), DiskFault> {
         state: transcoder.pack(),
         metadata: b"name",
     };
-    put(disk, 284 * 4096, &record.to_bytes())?;
+    put(disk, 284 * 4096, &record.to_bytes(Version::Two))?;
     record.number = 3;
     record.accepted = 1;
     record.text_len = 0;
     // decoding
     record.state[3] = 1;
-    put(disk, 286 * 4096, &record.to_bytes())?;
+    put(disk, 286 * 4096, &record.to_bytes(Version::Two))?;
     record.number = 2;
     record.declared = None;
     record.accepted = 1_073_741_824;
-    put(disk, 287 * 4096, &record.to_bytes())?;
+    put(disk, 287 * 4096, &record.to_bytes(Version::Two))?;
     put(disk, 283 * 4096 + 11, &[8])?;
     put(disk, 540 * 4096 + 8 * 3 + 3, &[1])?;
     put(disk, 540 * 4096 + 8 * 9 + 3, &[1, 0, 0, 0, 1])?;
@@ -90,7 +90,7 @@ fn spool_is_not_formatted_again(rt: HostRuntime) -> Result<(), Fail> {
         (261 * 4096, 1),
         (261 * 4096 + 34, 0x30),
         (261 * 4096 + 36, 0xFF),
-        (283 * 4096 + 3, 1),
+        (283 * 4096 + 3, 2),
         (283 * 4096 + 11, 1),
         (283 * 4096 + 12, 0),
         (284 * 4096, 0),
@@ -145,7 +145,7 @@ fn fault_of_the_disk_leaves_no_spool(rt: HostRuntime) -> Result<(), Fail> {
 }
 
 /// What opening a disk answers where it is refused, and the disk.
-fn refused(rt: &HostRuntime, disk: MemoryDisk) -> (MemoryDisk, Option<OpenFault>) {
+pub(crate) fn refused(rt: &HostRuntime, disk: MemoryDisk) -> (MemoryDisk, Option<OpenFault>) {
     match Spool::open(rt.alloc(), disk) {
         Ok(spool) => (spool.into_disk(), None),
         Err((disk, fault)) => (disk, Some(fault)),

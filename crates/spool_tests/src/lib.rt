@@ -10,4 +10,6 @@ mod images;
 #[cfg(test)]
 mod tables;
 #[cfg(test)]
+mod upgrades;
+#[cfg(test)]
 mod uploads;

@@ -1,5 +1,6 @@
 use Rattle.std.proofs.Common.{◌≡◌, ◌+◌, ◌-◌, ◌*◌, ℕ, get_or, sym, ◌∙◌, ap, arith}
 use Rattle.enc_index.specs.Area.{area_byte}
+use Rattle.spool_pages.specs.declared.version.Version.TheVariants.{Two}
 use Rattle.spool_pages.specs.View.{index_place, state_page}
 use Rattle.spool_image.proofs.Fresh.{fresh_front, fresh_area, fresh_state, fresh_zeros}
 use Rattle.spool_image.proofs.formatting.fresh_page.Goals as goal
@@ -21,7 +22,7 @@ pub returns-then-page-metadata_page-2-clause-bytes : goal.returns-then-page-meta
 returns-then-page-metadata_page-2-clause-bytes c i lt =
     let n = c.args.layout.now in
     let at : i ≡ 4096 * c.args.page + i - index_place n - 4096 * 22 = omega arith in
-    c.state_page.ensures.each i ∙ ap (λ (p : ℕ). get_or (state_page 1 1) p 0) (omega arith)
+    c.state_page.ensures.each i ∙ ap (λ (p : ℕ). get_or (state_page Two 1) p 0) (omega arith)
     ∙ sym (fresh_state n c.args.indexes.now (4096 * c.args.page + i) (omega arith))
 
 pub returns-clause-bytes : goal.returns-clause-bytes

@@ -22,7 +22,8 @@ returns-in-Ok-change-clause-answer g c m stored =
     let taken = c.in-Ok.ensures.taken in
     let layout : v.blocks ≡ c.kept-2.inside.layout =
     sym (ap (λ (k : Holding). k.layout) c.kept-2.view_is ∙ taken.layout ∙ stored.keeps.blocks) in
-    let changes = c.in-Ok.ensures.changes v (sym stored.keeps.blocks) (sym stored.keeps.slots) in (
+    let changes = c.in-Ok.ensures.changes v (sym stored.keeps.blocks) (sym stored.keeps.version)
+    (sym stored.keeps.slots) in (
       allowed h v m c.args.new slot r stored.keeps stored.shows room small few is,
       (
         ap (λ (k : Holding). k.next) c.kept.view_is ∙ next_is h v m c.args.new slot r stored.keeps stored.shows room
@@ -30,8 +31,7 @@ returns-in-Ok-change-clause-answer g c m stored =
         stored_new h v m c.args.new slot r stored.keeps stored.shows room small few is g.D.Disk c.args.disk.now
             c.change.new.disk stored.rests changes c.prepare_new.new.self taken
             (c.in-Ok-change.ensures.honest.0 stored.honest)
-            (λ v' made texts. c.in-Ok-change.ensures.done stored.honest v v' layout stored.shows.sound.version
-            stored.rests made texts),
+            (λ v' made texts. c.in-Ok-change.ensures.done stored.honest v v' layout stored.rests made texts),
       ),
     )
 
@@ -44,12 +44,12 @@ returns-in-Ok-change-clause-crash g c m stored =
     let few = c.in-Some.ensures.few v m stored.keeps stored.shows in
     let layout : v.blocks ≡ c.kept-2.inside.layout =
     sym (ap (λ (k : Holding). k.layout) c.kept-2.view_is ∙ c.in-Ok.ensures.taken.layout ∙ stored.keeps.blocks) in
-    let changes = c.in-Ok.ensures.changes v (sym stored.keeps.blocks) (sym stored.keeps.slots) in
+    let changes = c.in-Ok.ensures.changes v (sym stored.keeps.blocks) (sym stored.keeps.version)
+    (sym stored.keeps.slots) in
     crash_new c.args.kept.now v m c.args.new c.in-Some.slot c.new_record-record.result stored.keeps stored.shows
     c.in-Some.ensures.room small few c.new_record-record.ensures g.D.Disk c.args.disk.now c.change.new.disk
     stored.rests changes
-    (λ v' made texts. c.in-Ok-change.ensures.lasts stored.honest v v' layout stored.shows.sound.version stored.rests
-    made texts)
+    (λ v' made texts. c.in-Ok-change.ensures.lasts stored.honest v v' layout stored.rests made texts)
 
 pub returns-clause-answer : goal.returns-clause-answer
 returns-clause-answer g c m stored =
@@ -70,12 +70,12 @@ returns-clause-crash g c m stored =
     let few = c.in-Some.ensures.few v m stored.keeps stored.shows in
     let layout : v.blocks ≡ c.kept-2.inside.layout =
     sym (ap (λ (k : Holding). k.layout) c.kept-2.view_is ∙ c.in-Ok.ensures.taken.layout ∙ stored.keeps.blocks) in
-    let changes = c.in-Ok.ensures.changes v (sym stored.keeps.blocks) (sym stored.keeps.slots) in
+    let changes = c.in-Ok.ensures.changes v (sym stored.keeps.blocks) (sym stored.keeps.version)
+    (sym stored.keeps.slots) in
     crash_new c.args.kept.now v m c.args.new c.in-Some.slot c.new_record-record.result stored.keeps stored.shows
     c.in-Some.ensures.room small few c.new_record-record.ensures g.D.Disk c.args.disk.now c.change.new.disk
     stored.rests changes
-    (λ v' made texts. c.in-Err.ensures.lasts stored.honest v v' layout stored.shows.sound.version stored.rests made
-    texts)
+    (λ v' made texts. c.in-Err.ensures.lasts stored.honest v v' layout stored.rests made texts)
 
 -- THE DRAFTS
 

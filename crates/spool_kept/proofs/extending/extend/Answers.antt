@@ -38,6 +38,18 @@ pub returns-in_err-write_last-clause-layout : goal.returns-in_err-write_last-cla
 returns-in_err-write_last-clause-layout g c =
     (c.in_ok-take_over.ensures.longer c.requires.may.used c.requires.may.there).layout
 
+pub returns-in_err-change-clause-version : goal.returns-in_err-change-clause-version
+returns-in_err-change-clause-version g c =
+    (c.in_ok-take_over.ensures.longer c.requires.may.used c.requires.may.there).version
+
+pub returns-clause-version : goal.returns-clause-version
+returns-clause-version g c =
+    (c.in_ok-take_over.ensures.longer c.requires.may.used c.requires.may.there).version
+
+pub returns-in_err-write_last-clause-version : goal.returns-in_err-write_last-clause-version
+returns-in_err-write_last-clause-version g c =
+    (c.in_ok-take_over.ensures.longer c.requires.may.used c.requires.may.there).version
+
 pub write_last-requires-clause-room : goal.write_last-requires-clause-room
 write_last-requires-clause-room g c =
     let may = c.requires.may in
@@ -127,8 +139,8 @@ returns-clause-answer g c m n declare bytes pending =
     after_stored g.D.Disk c.write_last.new.disk c.args.kept.now c.take_over.new.self fits c.args.longer.now
     c.args.more.now may c.requires.reserved is size m n declare bytes append c.change.new.disk
     (c.in_ok-change.ensures.honest.0 honest)
-    (c.in_ok-change.ensures.done honest before' after' (sym rest.keeps.blocks ∙ sym layout) rest.shows.sound.version
-    rest.rests changes texts)
+    (c.in_ok-change.ensures.done honest before' after' (sym rest.keeps.blocks ∙ sym layout) rest.rests changes
+    texts)
 
 pub returns-clause-crash : goal.returns-clause-crash
 returns-clause-crash g c m n declare bytes pending =
@@ -173,8 +185,8 @@ returns-clause-crash g c m n declare bytes pending =
     lasts_on (lasts_more before_it (λ image is'. inl is'))
     (after_lasts g.D.Disk c.write_last.new.disk c.args.kept.now c.take_over.new.self fits c.args.longer.now
     c.args.more.now may c.requires.reserved is size m n declare bytes append c.change.new.disk
-    (c.in_ok-change.ensures.lasts honest before' after' (sym rest.keeps.blocks ∙ sym layout) rest.shows.sound.version
-    rest.rests changes texts))
+    (c.in_ok-change.ensures.lasts honest before' after' (sym rest.keeps.blocks ∙ sym layout) rest.rests changes
+    texts))
 
 pub returns-in_err-change-clause-crash : goal.returns-in_err-change-clause-crash
 returns-in_err-change-clause-crash g c m n declare bytes pending =
@@ -219,8 +231,8 @@ returns-in_err-change-clause-crash g c m n declare bytes pending =
     lasts_on (lasts_more before_it (λ image is'. inl is'))
     (after_lasts g.D.Disk c.write_last.new.disk c.args.kept.now c.take_over.new.self fits c.args.longer.now
     c.args.more.now may c.requires.reserved is size m n declare bytes append c.change.new.disk
-    (c.in_err-change.ensures.lasts honest before' after' (sym rest.keeps.blocks ∙ sym layout) rest.shows.sound.version
-    rest.rests changes texts))
+    (c.in_err-change.ensures.lasts honest before' after' (sym rest.keeps.blocks ∙ sym layout) rest.rests changes
+    texts))
 
 pub returns-in_err-write_last-clause-crash : goal.returns-in_err-write_last-clause-crash
 returns-in_err-write_last-clause-crash g c m n declare bytes pending =

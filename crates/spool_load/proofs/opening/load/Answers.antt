@@ -1,113 +1,99 @@
-use Rattle.std.proofs.Common.{◌≡◌, inl, inr, ℕ, IfOk, IfErr, sym, subst, rules, ⊎_elim}
+use Rattle.std.proofs.Common.{◌≡◌, ◌∙◌, inr, ℕ, ◌*◌, ◌≤◌, sym, subst, rules}
 use Rattle.spool_disk.proofs.Firm.{lasts_on, lasts_more}
-use Rattle.spool_journal.specs.Image.{journal_pages, overlaid}
-use Rattle.spool_journal.specs.Phases.{ReadsAs, Settled}
+use Rattle.spool_journal.specs.Image.{all_pages, journal_pages, overlaid}
+use Rattle.spool_journal.specs.Phases.{Settled}
 use Rattle.spool_kept.specs.Kept.{KeepsAlone}
-use Rattle.spool_kept.specs.Loads.{LoadsAs}
-use Rattle.spool_kept.specs.Shows.{IsSound}
-use Rattle.spool_pages.specs.View.{View, IsViewOf}
 use Rattle.spool_kept.specs.declared.kept.Kept.{Kept}
-use Rattle.spool_load.proofs.Looks.{loads_err, if_ok_both}
-use Rattle.spool_load.proofs.Refused.{front_reason, reason_of}
-use Rattle.spool_load.specs.Loaded.{OpenedFrom}
-use Rattle.spool_load.specs.Reads.{SaysBlocks}
-use Rattle.spool_load.specs.Refusals.{RefusedAt}
-use Rattle.spool_load.proofs.Opens.{gate_shut, same_function, view_says_blocks, keeps_image, keeps_on}
+use Rattle.spool_load.proofs.Looks.{loads_err, if_ok_more, ok_no_fault}
+use Rattle.spool_load.proofs.Opens.{keeps_image, keeps_on, settled_on, settled_reads, settled_says, settled_still}
+use Rattle.spool_load.proofs.Opens.{still_as, still_as_image}
+use Rattle.spool_load.proofs.Refused.{found_back, opened_on, read_reason, says_on, unfound_reason}
 use Rattle.spool_load.proofs.opening.load.Goals as goal
 
-pub returns-in_err-layout-clause-said : goal.returns-in_err-layout-clause-said
-returns-in_err-layout-clause-said g c honest v sound is room =
-    let found = c.in_err-layout.ensures.said honest v.blocks (view_says_blocks _ _ v sound is room) in
+pub returns-in_err-found-clause-said : goal.returns-in_err-found-clause-said
+returns-in_err-found-clause-said g c honest v sound is room =
+    let found = c.in_err-found.ensures.said honest v sound is room in
     let handed = loads_err _ (λ (kept : Kept). KeepsAlone kept v) _ found in
     search rules
 
-pub returns-clause-said : goal.returns-clause-said
-returns-clause-said g c honest v sound is room =
-    let keeps = c.find_layout.ensures.keeps honest in
-    let seen : g.D.Disk.seen c.find_layout.new.disk ≡ g.D.Disk.seen c.args.disk.now = same_function _ _ keeps.same in
-    let layout : c.in_ok-layout.layout ≡ v.blocks =
-    c.in_ok-layout.ensures.said honest v.blocks (view_says_blocks _ _ v sound is room) in
-    c.restore.ensures.said (c.find_layout.ensures.honest.0 honest) v sound (sym layout)
-    (subst (λ (image : ℕ → ℕ). IsViewOf image v) (sym seen) is)
-
-pub returns-clause-lasts : goal.returns-clause-lasts
-returns-clause-lasts g c honest v sound is room =
-    let keeps = c.find_layout.ensures.keeps honest in
-    let was = g.D.Disk.seen c.args.disk.now in
-    let seen : g.D.Disk.seen c.find_layout.new.disk ≡ was = same_function _ _ keeps.same in
-    let layout : c.in_ok-layout.layout ≡ v.blocks =
-    c.in_ok-layout.ensures.said honest v.blocks (view_says_blocks _ _ v sound is room) in
-    let first = lasts_more (c.find_layout.ensures.lasts honest) (λ image here. inl here) in
-    let then = lasts_more (c.restore.ensures.lasts (c.find_layout.ensures.honest.0 honest)) (λ image one. ⊎_elim
-    (λ here. inl (keeps_image keeps here))
-    (λ reads. inr (subst (λ (n : ℕ). ReadsAs (journal_pages n) image (overlaid was)) layout
-    (subst (λ (f : ℕ → ℕ). ReadsAs (journal_pages c.in_ok-layout.layout) image (overlaid f)) seen reads)))
-    one) in
-    lasts_on first then
-
-pub returns-clause-unwritten : goal.returns-clause-unwritten
-returns-clause-unwritten g c honest none =
-    let keeps = c.find_layout.ensures.keeps honest in
-    let shut = gate_shut keeps (c.in_ok-layout.ensures.found honest) none in
-    lasts_on (c.find_layout.ensures.lasts honest)
-    (lasts_more (c.restore.ensures.unwritten (c.find_layout.ensures.honest.0 honest) shut)
-    (λ image here. keeps_image keeps here))
-
-pub returns-clause-same : goal.returns-clause-same
-returns-clause-same g c honest none fine =
-    let keeps = c.find_layout.ensures.keeps honest in
-    let shut = gate_shut keeps (c.in_ok-layout.ensures.found honest) none in
-    keeps_on keeps (c.restore.ensures.same (c.find_layout.ensures.honest.0 honest) shut fine)
-
-pub returns-in_err-layout-clause-refused : goal.returns-in_err-layout-clause-refused
-returns-in_err-layout-clause-refused g c honest =
-    let reason =
-    front_reason (g.D.Disk.size c.args.disk.now) (g.D.Disk.seen c.args.disk.now) c.in_err-layout.field-0.0 _
-    c.in_err-layout.ensures.no_other (c.in_err-layout.ensures.said honest) in
+pub returns-in_err-found-clause-refused : goal.returns-in_err-found-clause-refused
+returns-in_err-found-clause-refused g c honest =
+    let reason = unfound_reason _ _ c.in_err-found.field-0.0 (c.in_err-found.ensures.refused honest) in
     search rules
 
-pub returns-clause-refused : goal.returns-clause-refused
-returns-clause-refused g c honest =
-    let keeps = c.find_layout.ensures.keeps honest in
-    let mid = c.find_layout.ensures.honest.0 honest in
-    let layout = c.in_ok-layout.layout in
-    let was = g.D.Disk.seen c.args.disk.now in
-    let seen : g.D.Disk.seen c.find_layout.new.disk ≡ was = same_function _ _ keeps.same in
-    let said =
-    subst (λ (f : ℕ → ℕ). (v : View) → IsSound v → v.blocks ≡ layout → IsViewOf f v → LoadsAs c.restore.result
-    (λ kept. KeepsAlone kept v)) seen (c.restore.ensures.said mid) in
-    reason_of (g.D.Disk.size c.args.disk.now) was layout c.restore.result (λ v kept. KeepsAlone kept v)
-    (c.in_ok-layout.ensures.found honest) said
-    (subst (λ (f : ℕ → ℕ). IfErr c.restore.result (RefusedAt layout f)) seen (c.restore.ensures.refused mid))
+pub returns-clause-room : goal.returns-clause-room
+returns-clause-room g c =
+    if_ok_more c.read.result
+    (λ kept same. subst (λ (n : ℕ). 4096 * all_pages n ≤ g.D.Disk.size c.args.disk.now) (sym same)
+    c.in_ok-found.ensures.room) c.read.ensures.layout
+
+pub returns-clause-said : goal.returns-clause-said
+returns-clause-said g c honest v sound is room =
+    let settled = c.in_ok-found.ensures.settled honest in
+    let found = c.in_ok-found.ensures.said honest v sound is room in
+    let J : ℕ → Type 0 =
+    λ n. Settled (journal_pages n) (overlaid (g.D.Disk.seen c.args.disk.now)) (g.D.Disk.seen c.find.new.disk)
+    (g.D.Disk.loose c.find.new.disk) in
+    c.read.ensures.said (c.find.ensures.honest.0 honest) _ (settled_still settled) v sound found
+    (settled_says v (subst J found.blocks settled) is.says)
 
 pub returns-clause-sound : goal.returns-clause-sound
 returns-clause-sound g c honest =
-    let keeps = c.find_layout.ensures.keeps honest in
-    let mid = c.find_layout.ensures.honest.0 honest in
-    let layout = c.in_ok-layout.layout in
-    let seen : g.D.Disk.seen c.find_layout.new.disk ≡ g.D.Disk.seen c.args.disk.now = same_function _ _ keeps.same in
-    let size = c.find_layout.ensures.size in
-    let found =
-    subst (λ (k : ℕ). SaysBlocks k (g.D.Disk.seen c.args.disk.now) layout) (sym size)
-    (c.in_ok-layout.ensures.found honest) in
-    let there =
-    c.restore.ensures.sound mid
-    (subst (λ (f : ℕ → ℕ). SaysBlocks (g.D.Disk.size c.find_layout.new.disk) f layout) (sym seen) found) in
-    let sized =
-    subst (λ (k : ℕ). IfOk c.restore.result (OpenedFrom k (g.D.Disk.seen c.find_layout.new.disk))) size there in
-    subst (λ (f : ℕ → ℕ). IfOk c.restore.result (OpenedFrom (g.D.Disk.size c.args.disk.now) f)) seen sized
+    let settled = c.in_ok-found.ensures.settled honest in
+    let found = c.in_ok-found.ensures.found honest in
+    let n = c.in_ok-found.found.layout in
+    let was = g.D.Disk.seen c.args.disk.now in
+    let now = g.D.Disk.seen c.find.new.disk in
+    let loose = g.D.Disk.loose c.find.new.disk in
+    let size = g.D.Disk.size c.args.disk.now in
+    let says =
+    says_on n was now loose settled found.journal size (g.D.Disk.size c.find.new.disk) c.find.ensures.size found.says in
+    if_ok_more c.read.result
+    (λ kept loaded. opened_on n was now loose settled found.journal size kept found.says loaded)
+    (c.read.ensures.sound (c.find.ensures.honest.0 honest) now (settled_still settled) says
+    (found_back size c.in_ok-found.found was now loose settled found))
+
+pub returns-clause-refused : goal.returns-clause-refused
+returns-clause-refused g c honest =
+    read_reason (g.D.Disk.size c.args.disk.now) (g.D.Disk.seen c.args.disk.now) c.in_ok-found.found c.read.result
+    (λ v kept. KeepsAlone kept v) (c.in_ok-found.ensures.found honest) (returns-clause-said g c honest)
+    c.read.ensures.late
 
 pub returns-clause-settled : goal.returns-clause-settled
 returns-clause-settled g c honest =
-    let keeps = c.find_layout.ensures.keeps honest in
-    let seen : g.D.Disk.seen c.find_layout.new.disk ≡ g.D.Disk.seen c.args.disk.now = same_function _ _ keeps.same in
-    let now = g.D.Disk.seen c.restore.new.disk in
-    let loose = g.D.Disk.loose c.restore.new.disk in
-    let there =
-    subst (λ (f : ℕ → ℕ). IfOk c.restore.result
-    (λ kept. Settled (journal_pages c.in_ok-layout.layout) (overlaid f) now loose)) seen
-    (c.restore.ensures.settled (c.find_layout.ensures.honest.0 honest)) in
-    if_ok_both c.restore.result
-    (λ kept same settled. subst
-    (λ (n : ℕ). Settled (journal_pages n) (overlaid (g.D.Disk.seen c.args.disk.now)) now loose) (sym same) settled)
-    c.restore.ensures.layout there
+    let settled = c.in_ok-found.ensures.settled honest in
+    let mid = c.find.ensures.honest.0 honest in
+    let there = settled_on settled (c.read.ensures.reads.still mid _ (settled_still settled)) in
+    let J : ℕ → Type 0 =
+    λ n. Settled (journal_pages n) (overlaid (g.D.Disk.seen c.args.disk.now)) (g.D.Disk.seen c.read.new.disk)
+    (g.D.Disk.loose c.read.new.disk) in
+    if_ok_more c.read.result (λ kept same. subst J (sym same) there) c.read.ensures.layout
+
+pub returns-clause-lasts : goal.returns-clause-lasts
+returns-clause-lasts g c honest v sound is room =
+    let settled = c.in_ok-found.ensures.settled honest in
+    let mid = c.find.ensures.honest.0 honest in
+    let found = c.in_ok-found.ensures.said honest v sound is room in
+    let J : ℕ → Type 0 =
+    λ n. Settled (journal_pages n) (overlaid (g.D.Disk.seen c.args.disk.now)) (g.D.Disk.seen c.find.new.disk)
+    (g.D.Disk.loose c.find.new.disk) in
+    let here = subst J found.blocks settled in
+    lasts_on (c.find.ensures.lasts honest v sound is room)
+    (lasts_more (c.read.ensures.reads.lasts mid _ (settled_still settled))
+    (λ image same. inr (settled_reads image here same)))
+
+pub returns-clause-unwritten : goal.returns-clause-unwritten
+returns-clause-unwritten g c honest none =
+    let settled = c.in_ok-found.ensures.settled honest in
+    let mid = c.find.ensures.honest.0 honest in
+    let keeps = c.find.ensures.same honest none (ok_no_fault _ _ c.in_ok-found.was) in
+    lasts_on (c.find.ensures.unwritten honest none)
+    (lasts_more (c.read.ensures.reads.lasts mid _ (settled_still settled))
+    (λ image same. keeps_image keeps (still_as_image image same)))
+
+pub returns-clause-same : goal.returns-clause-same
+returns-clause-same g c honest none fine =
+    let settled = c.in_ok-found.ensures.settled honest in
+    let mid = c.find.ensures.honest.0 honest in
+    let keeps = c.find.ensures.same honest none (ok_no_fault _ _ c.in_ok-found.was) in
+    keeps_on keeps (still_as (c.read.ensures.reads.still mid _ (settled_still settled)))

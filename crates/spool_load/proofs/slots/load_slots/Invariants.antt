@@ -13,8 +13,8 @@ invariant-loop-slot g l = record {
   said : g.D.Disk.honest l.fn.disk → (bytes : ℕ → ℕ)
       → Still bytes (g.D.Disk.seen l.fn.disk) (g.D.Disk.loose l.fn.disk) →
       (said : List (Option SlotRecord)) → length said ≡ 512 → ((s : ℕ) → FitsKept (get_or said s None)) →
-      ((s : ℕ) → s < 512 → Stands bytes (slot_place l.layout s) 2048 (slot_bytes (get_or said s None)))
+      ((s : ℕ) → s < 512 → Stands bytes (slot_place l.layout s) 2048 (slot_bytes l.version (get_or said s None)))
       → IsFrontOf said l.slots.items;
   sound : g.D.Disk.honest l.fn.disk → (bytes : ℕ → ℕ) → Still bytes (g.D.Disk.seen l.fn.disk) (g.D.Disk.loose l.fn.disk)
-      → StandSlots bytes l.layout l.slots.items;
+      → StandSlots bytes l.layout l.version l.slots.items;
 }

@@ -10,13 +10,13 @@ pub returns-clause-sound : goal.returns-clause-sound
 returns-clause-sound g c honest bytes still long was =
     let n = c.args.layout.now in
     let kept = c.in_ok-kept.kept in
-    let P : Result (Unit {0}) OpenFault → Type 0 = λ r. OnOk r (StandSlots bytes n c.push.new.self.items) in
-    let S : ℕ → Type 0 = λ s. Stands bytes (slot_place n s) 2048 (slot_bytes kept) in
+    let P : Result (Unit {0}) OpenFault → Type 0 = λ r. OnOk r (StandSlots bytes n c.args.version c.push.new.self.items) in
+    let S : ℕ → Type 0 = λ s. Stands bytes (slot_place n s) 2048 (slot_bytes c.args.version kept) in
     elim c.match-push.branch [
       | in-Ok w ↦
           let items : c.push.new.self.items ≡ c.args.slots.now.items ++ kept ∷ [] = search rules in
           subst P (sym w.result-is)
-          (stand_push bytes n c.args.slots.now.items kept _ was items
+          (stand_push bytes n c.args.version c.args.slots.now.items kept _ was items
           (subst S (sym long) (c.in_ok-kept.ensures.stands honest bytes still)) c.in_ok-kept.ensures.fits)
       | in-Err w ↦ subst P (sym w.result-is) tt
     ]

@@ -1,9 +1,9 @@
-use Rattle.std.proofs.Common.{◌∙◌, ◌+◌, ◌/◌, ◌<◌, ℕ, Option, option_copied, IsSome, get_or, below_more, sym, ap, subst}
+use Rattle.std.proofs.Common.{◌∙◌, ◌+◌, ◌/◌, ◌<◌, ℕ, option_copied, IsSome, get_or, below_more, sym, ap, subst}
 use Rattle.std.proofs.Common.{arith}
 use Rattle.spool_journal.specs.Image.{journal_pages}
-use Rattle.spool_pages.specs.Changes.{page_in, row_number, SaysSlot, neighbour}
-use Rattle.spool_pages.specs.View.{SlotRecord}
-use Rattle.spool_pages.proofs.Changed.{room_some, room_changes}
+use Rattle.spool_pages.specs.Changes.{page_in, row_number, SaysSlot}
+use Rattle.spool_pages.specs.declared.version.Version.{Version}
+use Rattle.spool_pages.proofs.Changed.{room_some, room_changes, said_beside}
 use Rattle.spool_pages.proofs.PageIn.{still_some}
 use Rattle.spool_pages.proofs.changes.pages_of_change.Goals as goal
 
@@ -26,13 +26,14 @@ returns-clause-some c = room_some c.loop-block.pages (282 + journal_pages c.args
     (omega (arith, c.record_number.ensures.number, c.requires.slot))
 
 pub returns-clause-changes : goal.returns-clause-changes
-returns-clause-changes c v blocks slots beside rows same =
+returns-clause-changes c v blocks version slots beside rows same =
     room_changes c.loop-block.pages c.new-pages.ensures c.in_ok-put.ensures.put v c.args.slot
     (option_copied c.args.kept) c.args.blocks.now rows
     (λ page below. c.loop-block.invariant.front page (subst (λ (n : ℕ). page < 282 + journal_pages n) blocks below))
     (λ i lt. subst (λ (n : ℕ). IsSome (page_in (row_number n (get_or c.args.blocks.now i 0)) c.loop-block.pages))
     (sym blocks) (c.loop-block.invariant.there i (omega (arith, lt))))
     (c.record_number.ensures.number ∙ ap (λ (n : ℕ). 26 + journal_pages n + c.args.slot / 2) (sym blocks))
-    c.requires.slot slots c.page_with.ensures.kept
-    (subst (λ (x : Option SlotRecord). SaysSlot (neighbour c.args.slot) c.page_with.result x) (sym beside)
-    c.page_with.ensures.beside) same
+    c.requires.slot slots
+    (subst (λ (w : Version). SaysSlot c.args.slot c.page_with.result (w, option_copied c.args.kept)) (sym version)
+    c.page_with.ensures.kept)
+    (said_beside v c.args.slot c.page_with.result version beside c.page_with.ensures.beside) same

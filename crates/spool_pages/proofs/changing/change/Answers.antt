@@ -7,10 +7,10 @@ use Rattle.spool_pages.proofs.Resting.{rests_idle, rests_before, reads_is, settl
 use Rattle.spool_pages.proofs.changing.change.Goals as goal
 
 pub returns-clause-done : goal.returns-clause-done
-returns-clause-done g c honest v v' size version rests changes texts =
+returns-clause-done g c honest v v' size rests changes texts =
     on_more c.commit.result (c.commit.ensures.done honest (rests_idle size rests) c.requires.some)
     (λ settled. settled_rests (changes.others.blocks ∙ size) settled
-    (changed_says size c.requires.area version rests c.commit.ensures.ascends changes texts))
+    (changed_says size c.requires.area rests c.commit.ensures.ascends changes texts))
 
 pub returns-clause-texts : goal.returns-clause-texts
 returns-clause-texts g c honest v size rests =
@@ -19,7 +19,7 @@ returns-clause-texts g c honest v size rests =
     (journal_pages c.args.layout.now) p c.requires.area (λ within. omega (arith, within.below, from)))
 
 pub returns-clause-lasts : goal.returns-clause-lasts
-returns-clause-lasts g c honest v v' size version rests changes texts =
+returns-clause-lasts g c honest v v' size rests changes texts =
     lasts_more {P = λ image. IsBefore (journal_pages c.args.layout.now) (g.D.Disk.seen c.args.disk.now)
     (g.D.Disk.loose c.args.disk.now) image ⊎ ReadsAs (journal_pages c.args.layout.now) image
     (laid c.args.pages.now (g.D.Disk.seen c.args.disk.now))}
@@ -27,5 +27,5 @@ returns-clause-lasts g c honest v v' size version rests changes texts =
     (λ before. inl (rests_before image size rests before))
     (λ reads. inr (reads_is image (laid c.args.pages.now (g.D.Disk.seen c.args.disk.now)) v'
     (changes.others.blocks ∙ size) reads
-    (changed_says size c.requires.area version rests c.commit.ensures.ascends changes texts)))
+    (changed_says size c.requires.area rests c.commit.ensures.ascends changes texts)))
     either)

@@ -6,7 +6,7 @@ use Rattle.upload_rules.specs.World.{at_rest}
 use Rattle.spool_kept.specs.Drafting.{StandsFor}
 use Rattle.spool_load.proofs.Opens.{settled_reads}
 use Rattle.spool_image.proofs.Opens.{image_shows, lasts_shown, view_room}
-use Rattle.spool_image.proofs.Refused.{opened_is_spool, opened_is_first, opened_is_whole, told_no_spool, told_version}
+use Rattle.spool_image.proofs.Refused.{opened_is_spool, opened_is_known, opened_is_whole, told_no_spool, told_version}
 use Rattle.spool_image.proofs.Refused.{told_damaged}
 use Rattle.spool_image.proofs.StandsOn.{stands_opened}
 use Rattle.spool_image.proofs.spool.Spool.open.Goals as goal
@@ -54,7 +54,7 @@ returns-in-Ok-clause-not_a_spool g c honest is =
 
 pub returns-in-Ok-clause-version : goal.returns-in-Ok-clause-version
 returns-in-Ok-clause-version g c honest is =
-    absurd (opened_is_first (g.D.Disk.size c.args.disk) (g.D.Disk.seen c.args.disk) c.in-Ok.kept
+    absurd (opened_is_known (g.D.Disk.size c.args.disk) (g.D.Disk.seen c.args.disk) c.in-Ok.kept
     (c.in-Ok.ensures.sound honest) is)
 
 pub returns-in-Ok-clause-damaged : goal.returns-in-Ok-clause-damaged

@@ -56,7 +56,7 @@ pages_of_change-requires-clause-blocks c =
     ]
 
 pub returns-clause-changes : goal.returns-clause-changes
-returns-clause-changes c v blocks slots r there rows none some =
+returns-clause-changes c v blocks version slots r there rows none some =
     let h = c.args.self.now in
     let fits = subst FitsTogether c.self.view_is c.self.invariant in
     let slot = c.args.longer.now.slot in
@@ -81,6 +81,7 @@ returns-clause-changes c v blocks slots r there rows none some =
     ap (λ (xs : List (Option SlotRecord)). get_or xs (neighbour slot) None) slots ∙ sym c.beside-beside.ensures.said
     ∙ sym c.as_ref.ensures.value in
     let told = c.pages_of_change.ensures.changes v (blocks ∙ sym (ap (λ (k : Holding). k.layout) c.self.view_is))
+    (version ∙ sym (ap (λ (k : Holding). k.version) c.self.view_is))
     (ap (λ (xs : List (Option SlotRecord)). length xs) slots ∙ fits.slot_count) beside rows same in
     let kept : c.unwrap-kept.result.now ≡ r = search rules in
     subst (λ (q : SlotRecord). IfOk c.pages_of_change.result

@@ -31,7 +31,7 @@ pages_of_change-requires-clause-blocks c =
     (listed_below h c.args.slot c.requires.used.0 fits c.requires.used.1))
 
 pub returns-clause-changes : goal.returns-clause-changes
-returns-clause-changes c v blocks slots rows same =
+returns-clause-changes c v blocks version slots rows same =
     let h = c.args.self.now in
     let slot = c.args.slot in
     let fits = subst FitsTogether c.self.view_is c.self.invariant in
@@ -40,5 +40,6 @@ returns-clause-changes c v blocks slots rows same =
     ap (λ (xs : List (Option SlotRecord)). get_or xs (neighbour slot) None) slots ∙ sym c.beside-beside.ensures.said
     ∙ sym c.as_ref.ensures.value in
     c.pages_of_change.ensures.changes v (blocks ∙ sym (ap (λ (k : Holding). k.layout) c.self.view_is))
+    (version ∙ sym (ap (λ (k : Holding). k.version) c.self.view_is))
     (ap (λ (xs : List (Option SlotRecord)). length xs) slots ∙ fits.slot_count) beside rows
     (subst (λ (xs : List ℕ). SameRowsBut xs v.rows rows) (sym is) same)

@@ -23,6 +23,7 @@ returns-clause-taken c =
     let is = c.self.view_is in
     record {
       layout = ap (λ (k : Holding). k.layout) is;
+      version = ap (λ (k : Holding). k.version) is;
       next = ap (λ (k : Holding). k.next + 1) is;
       indexes = ap (λ (k : Holding). k.indexes) is;
       slots = ap (λ (k : Holding). slice_set k.slots c.args.slot (Some c.args.record)) is;

@@ -129,6 +129,7 @@ returns-clause-longer c r there =
             blocks = w.own.new.self;
           })) c.self.view_is (record {
             layout = refl;
+            version = refl;
             next = refl;
             indexes = refl;
             slots = slots;
@@ -147,6 +148,7 @@ returns-clause-longer c r there =
           (λ (k : Holding). IsLonger k r c.args.longer.now c.args.more.now
           (record h { slots = c.set_record.new.slots.items })) c.self.view_is (record {
             layout = refl;
+            version = refl;
             next = refl;
             indexes = refl;
             slots = slots;

@@ -5,7 +5,7 @@ use Rattle.std.proofs.lemmas.Option.{same_Some}
 use Rattle.spool_journal.specs.Image.{all_pages}
 use Rattle.spool_pages.specs.View.{first_page}
 use Rattle.spool_load.proofs.Opens.{some_pages}
-use Rattle.spool_load.proofs.opening.find_layout.Goals as goal
+use Rattle.spool_load.proofs.finding.find_layout.Goals as goal
 
 none_from : {A : Type 0} (o : Option A) → ((x : A) → o ≡ Some x → ⊥) → IsNone o
 none_from None never = refl

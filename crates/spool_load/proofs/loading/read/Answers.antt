@@ -5,17 +5,16 @@ use Rattle.spool_kept.specs.Holding.{Holding}
 use Rattle.spool_disk.proofs.Firm.{counts_on}
 use Rattle.spool_pages.specs.View.{SlotRecord}
 use Rattle.spool_load.specs.Checks.{RecordsPass}
-use Rattle.spool_load.proofs.Refused.{tells_late}
 use Rattle.spool_load.proofs.Sounds.{slots_said, sound_passes, read_loaded}
-use Rattle.spool_load.proofs.Looks.{if_err_more, reads_on, loads_err, ok_no_fault}
+use Rattle.spool_load.proofs.Looks.{reads_on, loads_err, ok_no_fault}
 use Rattle.spool_journal.proofs.Steps.{no_failure}
-use Rattle.spool_load.proofs.loading.load_kept.Goals as goal
+use Rattle.spool_load.proofs.loading.read.Goals as goal
 
 pub of-requires-clause-below : goal.of-requires-clause-below
 of-requires-clause-below g c s r there =
     let looked : c.deref.result.now ≡ c.in_ok-slots.slots.items = search rules in
     let are =
-    subst (λ (xs : List (Option SlotRecord)). RecordsPass c.in_ok-next.next xs) looked
+    subst (λ (xs : List (Option SlotRecord)). RecordsPass c.args.found.next xs) looked
     (c.are_sound.ensures.0 (search rules)) in
     (are.records s r there).below
 
@@ -23,10 +22,10 @@ pub returns-in_err-slots-clause-reads : goal.returns-in_err-slots-clause-reads
 returns-in_err-slots-clause-reads g c = reads_on c.load_fields.ensures.reads c.load_slots.ensures.reads
 
 pub returns-in_err-slots-clause-said : goal.returns-in_err-slots-clause-said
-returns-in_err-slots-clause-said g c honest bytes still v sound blocks says =
+returns-in_err-slots-clause-said g c honest bytes still v sound is says =
     let first = c.load_fields.ensures.reads in
     let loaded =
-    slots_said bytes c.args.layout v sound blocks says
+    slots_said bytes c.args.found.layout v sound (sym is.blocks) says c.args.found.version is.state.version
     (c.in_err-slots.ensures.said (first.honest honest) bytes (first.still honest bytes still)) in
     let handed = loads_err _ (λ (kept : Holding). KeepsAlone kept v) _ loaded in
     search rules
@@ -35,17 +34,16 @@ pub returns-then-not-are_sound-clause-reads : goal.returns-then-not-are_sound-cl
 returns-then-not-are_sound-clause-reads g c = reads_on c.load_fields.ensures.reads c.load_slots.ensures.reads
 
 pub returns-then-not-are_sound-clause-said : goal.returns-then-not-are_sound-clause-said
-returns-then-not-are_sound-clause-said g c honest bytes still v sound blocks says =
+returns-then-not-are_sound-clause-said g c honest bytes still v sound is says =
     let first = c.load_fields.ensures.reads in
-    let fields = c.in_ok-next.ensures.said honest bytes still v sound blocks says in
     let slots : c.in_ok-slots.slots.items ≡ v.slots =
-    slots_said bytes c.args.layout v sound blocks says
+    slots_said bytes c.args.found.layout v sound (sym is.blocks) says c.args.found.version is.state.version
     (c.in_ok-slots.ensures.said (first.honest honest) bytes (first.still honest bytes still)) in
     let looked : c.deref.result.now ≡ v.slots = search rules in
-    let are = subst (λ (n : ℕ). RecordsPass n v.slots) (sym fields.0) (sound_passes v sound) in
+    let are = subst (λ (n : ℕ). RecordsPass n v.slots) (sym is.state.next) (sound_passes v sound) in
     let passes =
     c.are_sound.ensures.1
-    (subst (λ (xs : List (Option SlotRecord)). RecordsPass c.in_ok-next.next xs) (sym looked) are) in
+    (subst (λ (xs : List (Option SlotRecord)). RecordsPass c.args.found.next xs) (sym looked) are) in
     false≢true (sym c.if-not-are_sound.true ∙ passes)
 
 pub returns-in_err-blocks-clause-reads : goal.returns-in_err-blocks-clause-reads
@@ -53,14 +51,14 @@ returns-in_err-blocks-clause-reads g c =
     reads_on (reads_on c.load_fields.ensures.reads c.load_slots.ensures.reads) c.load_blocks.ensures.reads
 
 pub returns-in_err-blocks-clause-said : goal.returns-in_err-blocks-clause-said
-returns-in_err-blocks-clause-said g c honest bytes still v sound blocks says =
+returns-in_err-blocks-clause-said g c honest bytes still v sound is says =
     let first = c.load_fields.ensures.reads in
     let second = reads_on first c.load_slots.ensures.reads in
     let slots : c.in_ok-slots.slots.items ≡ v.slots =
-    slots_said bytes c.args.layout v sound blocks says
+    slots_said bytes c.args.found.layout v sound (sym is.blocks) says c.args.found.version is.state.version
     (c.in_ok-slots.ensures.said (first.honest honest) bytes (first.still honest bytes still)) in
     let loaded =
-    c.in_err-blocks.ensures.said (second.honest honest) bytes (second.still honest bytes still) v sound blocks says
+    c.in_err-blocks.ensures.said (second.honest honest) bytes (second.still honest bytes still) v sound (sym is.blocks) says
     (search rules) in
     let handed = loads_err _ (λ (kept : Holding). KeepsAlone kept v) _ loaded in
     search rules
@@ -70,70 +68,51 @@ returns-clause-reads g c =
     reads_on (reads_on c.load_fields.ensures.reads c.load_slots.ensures.reads) c.load_blocks.ensures.reads
 
 pub returns-clause-said : goal.returns-clause-said
-returns-clause-said g c honest bytes still v sound blocks says =
+returns-clause-said g c honest bytes still v sound is says =
     let first = c.load_fields.ensures.reads in
     let second = reads_on first c.load_slots.ensures.reads in
-    let fields = c.in_ok-next.ensures.said honest bytes still v sound blocks says in
+    let indexes = c.in_ok-indexes.ensures.said honest bytes still v sound (sym is.blocks) says in
     let slots : c.in_ok-slots.slots.items ≡ v.slots =
-    slots_said bytes c.args.layout v sound blocks says
+    slots_said bytes c.args.found.layout v sound (sym is.blocks) says c.args.found.version is.state.version
     (c.in_ok-slots.ensures.said (first.honest honest) bytes (first.still honest bytes still)) in
     let held =
-    c.in_ok-blocks.ensures.said (second.honest honest) bytes (second.still honest bytes still) v sound blocks says
+    c.in_ok-blocks.ensures.said (second.honest honest) bytes (second.still honest bytes still) v sound (sym is.blocks) says
     (search rules) in
-    c.of.ensures.said v sound blocks fields.0 fields.1 slots held.0 held.1
+    c.of.ensures.said v sound (sym is.blocks) is.state.version is.state.next indexes slots held.0 held.1
 
 pub returns-in_err-slots-clause-counts : goal.returns-in_err-slots-clause-counts
 returns-in_err-slots-clause-counts g c =
     let counted =
-    counts_on c.load_fields.ensures.counts (ok_no_fault _ _ c.in_ok-next.was) c.in_err-slots.ensures.counts in
+    counts_on c.load_fields.ensures.counts (ok_no_fault _ _ c.in_ok-indexes.was) c.in_err-slots.ensures.counts in
     search rules
 
 pub returns-then-not-are_sound-clause-counts : goal.returns-then-not-are_sound-clause-counts
 returns-then-not-are_sound-clause-counts g c =
-    let first = no_failure c.load_fields.ensures.counts (ok_no_fault _ _ c.in_ok-next.was) in
+    let first = no_failure c.load_fields.ensures.counts (ok_no_fault _ _ c.in_ok-indexes.was) in
     let second = no_failure c.load_slots.ensures.counts (ok_no_fault _ _ c.in_ok-slots.was) in
     search rules
 
 pub returns-in_err-blocks-clause-counts : goal.returns-in_err-blocks-clause-counts
 returns-in_err-blocks-clause-counts g c =
     let second =
-    counts_on c.load_fields.ensures.counts (ok_no_fault _ _ c.in_ok-next.was) c.load_slots.ensures.counts in
+    counts_on c.load_fields.ensures.counts (ok_no_fault _ _ c.in_ok-indexes.was) c.load_slots.ensures.counts in
     let counted = counts_on second (ok_no_fault _ _ c.in_ok-slots.was) c.in_err-blocks.ensures.counts in
     search rules
 
-pub returns-in_err-slots-clause-refused : goal.returns-in_err-slots-clause-refused
-returns-in_err-slots-clause-refused g c honest bytes still =
-    let first = c.in_ok-next.ensures.version honest bytes still in
-    let told = tells_late c.args.layout bytes _ first c.in_err-slots.ensures.late in
-    search rules
-
-pub returns-then-not-are_sound-clause-refused : goal.returns-then-not-are_sound-clause-refused
-returns-then-not-are_sound-clause-refused g c honest bytes still = c.in_ok-next.ensures.version honest bytes still
-
-pub returns-in_err-blocks-clause-refused : goal.returns-in_err-blocks-clause-refused
-returns-in_err-blocks-clause-refused g c honest bytes still =
-    let first = c.in_ok-next.ensures.version honest bytes still in
-    let told = tells_late c.args.layout bytes _ first c.in_err-blocks.ensures.late in
-    search rules
-
-pub returns-clause-refused : goal.returns-clause-refused
-returns-clause-refused g c honest bytes still =
-    let first = c.in_ok-next.ensures.version honest bytes still in
-    if_err_more c.of.result (λ e late. tells_late c.args.layout bytes e first late) c.of.ensures.late
-
 pub returns-clause-sound : goal.returns-clause-sound
-returns-clause-sound g c honest bytes still says =
+returns-clause-sound g c honest bytes still says found =
     let first = c.load_fields.ensures.reads in
     let second = reads_on first c.load_slots.ensures.reads in
-    let fields = c.in_ok-next.ensures.sound honest bytes still says.front in
+    let fields = c.in_ok-indexes.ensures.sound honest bytes still says.front in
+    let state = found.rest.0 (search rules) in
     let slots = c.in_ok-slots.ensures.sound (first.honest honest) bytes (first.still honest bytes still) in
     let rows = c.in_ok-blocks.ensures.sound (second.honest honest) bytes (second.still honest bytes still) in
     let looked : c.deref.result.now ≡ c.in_ok-slots.slots.items = search rules in
     let are =
-    subst (λ (xs : List (Option SlotRecord)). RecordsPass c.in_ok-next.next xs) looked
+    subst (λ (xs : List (Option SlotRecord)). RecordsPass c.args.found.next xs) looked
     (c.are_sound.ensures.0 (search rules)) in
-    read_loaded bytes c.args.layout c.in_ok-next.next c.in_ok-next.indexes c.in_ok-slots.slots.items
+    read_loaded bytes c.args.found.layout c.args.found.version c.args.found.next c.in_ok-indexes.indexes c.in_ok-slots.slots.items
     c.in_ok-blocks.blocks.rows c.in_ok-blocks.blocks.reserved c.of.result
-    says.least says.most fields slots c.in_ok-slots.ensures.long c.in_ok-blocks.ensures.long rows are (search rules)
+    says.least says.most fields state slots c.in_ok-slots.ensures.long c.in_ok-blocks.ensures.long rows are (search rules)
     c.in_ok-blocks.ensures.fits c.in_ok-blocks.ensures.reserved
     c.of.ensures.distinct c.of.ensures.whole c.of.ensures.said

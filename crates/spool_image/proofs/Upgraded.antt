@@ -1,0 +1,182 @@
+-- What an upgrade leaves.
+use Rattle.std.proofs.Common.{◌≡◌, ◌⊎◌, inl, inr, ℕ, ◌*◌, ◌≤◌, ◌∙◌, Result, Ok, Err, IfErr, OnOk, refl, sym, ap, subst, ⊎_elim}
+use Rattle.std.proofs.Common.{arith}
+use Rattle.spool_disk.specs.Disk.{IsImage}
+use Rattle.spool_disk.specs.Views.{Lasts}
+use Rattle.spool_disk.specs.declared.disk.Disk.{Ghosts}
+use Rattle.spool_disk.proofs.Firm.{lasts_more}
+use Rattle.spool_journal.specs.Image.{all_pages, journal_pages, overlaid}
+use Rattle.spool_journal.specs.Phases.{Settled}
+use Rattle.upload_rules.specs.Store.{Store}
+use Rattle.spool_pages.specs.Changes.{upgraded}
+use Rattle.spool_pages.specs.Rests.{Rests}
+use Rattle.spool_pages.specs.View.{View, IsViewOf, Stands, state_page, state_place, version_number}
+use Rattle.spool_pages.specs.declared.version.Version.{Version}
+use Rattle.spool_pages.specs.declared.version.Version.TheVariants.{One, Two}
+use Rattle.spool_pages.proofs.Resting.{rests_image, shut_is}
+use Rattle.spool_kept.specs.Holding.{Holding}
+use Rattle.spool_kept.specs.Kept.{KeepsAlone}
+use Rattle.spool_kept.specs.Shows.{ImageShows, IsSound}
+use Rattle.spool_kept.specs.declared.error.OpenFault.{OpenFault}
+use Rattle.spool_kept.specs.declared.error.OpenFault.TheVariants.{NotASpool, DiskFault, Damaged, NoMemory}
+use Rattle.spool_kept.specs.declared.error.OpenFault.TheVariants as faults
+use Rattle.spool_kept.specs.Loads.{IsLate, LoadsAs}
+use Rattle.spool_kept.proofs.Upgraded.{upgraded_shows}
+use Rattle.spool_load.specs.Loaded.{OpenedFrom, FoundOn, IsFoundOf}
+use Rattle.spool_load.specs.declared.finding.Found.{Found}
+use Rattle.spool_load.specs.Refusals.{HasJournal, NamesVersion, NotFoundFor, RefusedFor}
+use Rattle.spool_load.proofs.Opens.{settled_says}
+use Rattle.spool_load.proofs.Refused.{says_one, unfound_reason, version_one, version_stands}
+use Rattle.spool_image.specs.LeftOnly.{AllShow, IsSpool, LeftOrShows}
+use Rattle.spool_image.specs.Upgrade.{IsAlreadyNew, IsLateRefusal, UpgradedFrom, UpgradeRefusedFor, UpgradesOf}
+use Rattle.spool_image.specs.declared.error.UpgradeError.{UpgradeError}
+use Rattle.spool_image.specs.declared.error.UpgradeError.TheVariants.{Open, AlreadyNew}
+use Rattle.spool_image.proofs.Opens.{view_room}
+
+-- a recovered spool rests
+pub settled_rests : {was seen : ℕ → ℕ} {loose : ℕ → Type 0} (v : View) (n : ℕ) → n ≡ v.blocks
+    → Settled (journal_pages n) (overlaid was) seen loose → IsViewOf was v → Rests v seen loose
+settled_rests {was = was} {seen = seen} {loose = loose} v n same settled is =
+    let J : ℕ → Type 0 = λ k. Settled (journal_pages k) (overlaid was) seen loose in
+    let here = subst J same settled in
+    record {
+      closed = here.closed;
+      firm = λ p l. absurd (here.firm p l);
+      is = shut_is seen v here.closed (settled_says v here is.says);
+    }
+
+-- ANSWERS
+
+pub upgrades_late : {T : Type 0} (version : Version) (r : Result T UpgradeError) → version ≡ One
+    → IfErr r IsLateRefusal → UpgradesOf version r
+upgrades_late version (Ok t) old late = old
+upgrades_late version (Err e) old late = inr late
+
+pub refused_late : {T : Type 0} (size : ℕ) (seen : ℕ → ℕ) (r : Result T UpgradeError) → IfErr r IsLateRefusal
+    → IfErr r (UpgradeRefusedFor size seen)
+refused_late size seen (Ok t) late = tt
+refused_late size seen (Err e) (inl is) = subst (UpgradeRefusedFor size seen) (sym is) tt
+refused_late size seen (Err e) (inr is) = subst (UpgradeRefusedFor size seen) (sym is) tt
+
+pub on_ok_more : {T E A B : Type 0} (r : Result T E) → (A → B) → OnOk r A → OnOk r B
+on_ok_more (Ok t) more a = more a
+on_ok_more (Err e) more a = tt
+
+-- what shows behind it
+pub rests_show : {D : Type 0} (disk : Ghosts D) (d' : D) (n : ℕ) (m : Store) (v : View) → v.blocks ≡ n
+    → disk.honest d' → 4096 * all_pages n ≤ disk.size d' → Rests v (disk.seen d') (disk.loose d')
+    → ((image : ℕ → ℕ) → IsViewOf image v → ImageShows n image m) → AllShow disk d' n m
+rests_show disk d' n m v same honest room rests shows = record {
+  honest = honest;
+  room = room;
+  each = λ image here. shows image (rests_image image rests here);
+}
+
+pub view_shows : (n : ℕ) (m : Store) (was image : ℕ → ℕ) (shown : ImageShows n was m) → IsViewOf image shown.view
+    → ImageShows n image m
+view_shows n m was image shown is =
+    record { view = shown.view; blocks = shown.blocks; is = is; shows = shown.shows }
+
+pub upgraded_view_shows : (n : ℕ) (m : Store) (was image : ℕ → ℕ) (shown : ImageShows n was m)
+    → IsViewOf image (upgraded shown.view) → ImageShows n image m
+upgraded_view_shows n m was image shown is = record {
+  view = upgraded shown.view;
+  blocks = shown.blocks;
+  is = is;
+  shows = upgraded_shows shown.view m shown.shows;
+}
+
+pub crash_shown : {D : Type 0} (disk : Ghosts D) (d d' : D) (n : ℕ) (m : Store) (is : IsSpool disk d n m)
+    → ((v : View) → IsSound v → IsViewOf (disk.seen d) v → 4096 * all_pages v.blocks ≤ disk.size d
+    → Lasts disk d d' (λ image. IsImage (disk.seen d) (disk.loose d) image ⊎ IsViewOf image v
+    ⊎ IsViewOf image (upgraded v)))
+    → Lasts disk d d' (LeftOrShows disk d n m)
+crash_shown disk d d' n m is lasts =
+    lasts_more (lasts is.shows.view is.shows.shows.sound is.shows.is (view_room disk d n m is))
+    (λ image one. ⊎_elim (λ here. inl here)
+    (λ then. inr (⊎_elim (view_shows n m (disk.seen d) image is.shows)
+    (upgraded_view_shows n m (disk.seen d) image is.shows) then)) one)
+
+-- what was found of version 2
+pub found_new : (size : ℕ) (seen : ℕ → ℕ) (found : Found) → FoundOn size seen found → found.version ≡ Two
+    → IsAlreadyNew size seen
+found_new size seen found is new = record {
+  blocks = found.layout;
+  says = is.says;
+  journal = is.journal;
+  new = version_stands (overlaid seen) _ 12 Two found.next (omega arith)
+      (subst (λ (w : Version). Stands (overlaid seen) (state_place found.layout) 12 (state_page w found.next)) new
+      is.state.fields);
+}
+
+-- and what was found of version 1
+pub found_old : (size : ℕ) (seen : ℕ → ℕ) (found : Found) → FoundOn size seen found → found.version ≡ One
+    → IsAlreadyNew size seen → ⊥
+found_old size seen found is old new =
+    let n = found.layout in
+    let N : ℕ → Type 0 = λ k. NamesVersion k (overlaid seen) Two in
+    let there = subst N (says_one size seen new.blocks n new.says is.says) new.new in
+    let said = version_stands (overlaid seen) (state_place n) 12 found.version found.next (omega arith)
+    is.state.fields in
+    let same : version_number found.version ≡ 2 =
+    version_one (overlaid seen) (state_place n) found.version Two said there in
+    let one : version_number found.version ≡ 1 = ap version_number old in
+    omega (arith, same, one)
+
+-- a refusal to open an old spool is one to upgrade it
+pub old_reason : (size : ℕ) (seen : ℕ → ℕ) (e : OpenFault) → (e ≡ Damaged → IsAlreadyNew size seen → ⊥)
+    → RefusedFor size seen e → UpgradeRefusedFor size seen (Open e)
+old_reason size seen NotASpool old is = is
+old_reason size seen faults.Version old is = is
+old_reason size seen Damaged old is = (is, old refl)
+old_reason size seen NoMemory old is = tt
+old_reason size seen DiskFault old is = tt
+
+-- nor is why it isn't found another one
+pub unfound_upgrade : (size : ℕ) (seen : ℕ → ℕ) (e : OpenFault) → NotFoundFor size seen e
+    → UpgradeRefusedFor size seen (Open e)
+unfound_upgrade size seen NotASpool why = why
+unfound_upgrade size seen faults.Version why = why
+unfound_upgrade size seen Damaged why = (
+  unfound_reason size seen Damaged why,
+  λ new. why.bad (subst (λ (k : ℕ). HasJournal k seen)
+      (says_one size seen new.blocks why.blocks new.says why.says) new.journal),
+)
+unfound_upgrade size seen NoMemory why = absurd why
+unfound_upgrade size seen DiskFault why = tt
+
+-- a spool that a read shows is found, unless the device fails
+pub unfound_device : {T : Type 0} (size : ℕ) (seen : ℕ → ℕ) (e : OpenFault) (P : T → Type 0)
+    → LoadsAs {T = T} (Err e) P → NotFoundFor size seen e → e ≡ DiskFault
+unfound_device size seen NotASpool P h why = absurd h
+unfound_device size seen faults.Version P h why = absurd h
+unfound_device size seen Damaged P h why = absurd h
+unfound_device size seen NoMemory P h why = absurd why
+unfound_device size seen DiskFault P h why = refl
+
+pub loads_upgrades : {T : Type 0} (U : Type 0) (version : Version) (e : OpenFault) (P : T → Type 0) → LoadsAs {T = T} (Err e) P
+    → UpgradesOf {T = U} version (Err (Open e))
+loads_upgrades U version NoMemory P h = inr (inl refl)
+loads_upgrades U version DiskFault P h = inr (inr refl)
+loads_upgrades U version NotASpool P h = absurd h
+loads_upgrades U version Damaged P h = absurd h
+loads_upgrades U version faults.Version P h = absurd h
+
+pub other_old : (version : Version) → (version ≡ Two → ⊥) → version ≡ One
+other_old One not = refl
+other_old Two not = absurd (not refl)
+
+-- behind an upgrade each image shows the same, unless the device failed
+pub behind_shows : {D : Type 0} (disk : Ghosts D) (d' : D) (n : ℕ) (m : Store) (v : View)
+    (r : Result (Unit {0}) UpgradeError) → v.blocks ≡ n → disk.honest d' → 4096 * all_pages n ≤ disk.size d'
+    → (r ≡ Err (Open DiskFault) → ⊥)
+    → OnOk r (Rests (upgraded v) (disk.seen d') (disk.loose d'))
+    → IfErr r (λ e. (e ≡ Open DiskFault → ⊥) → Rests v (disk.seen d') (disk.loose d'))
+    → ((image : ℕ → ℕ) → IsViewOf image v → ImageShows n image m)
+    → ((image : ℕ → ℕ) → IsViewOf image (upgraded v) → ImageShows n image m) → AllShow disk d' n m
+behind_shows disk d' n m v (Ok t) same honest room fine done stays old new =
+    rests_show disk d' n m (upgraded v) same honest room done new
+behind_shows disk d' n m v (Err e) same honest room fine done stays old new =
+    rests_show disk d' n m v same honest room
+    (stays (λ is. fine (subst (λ (x : UpgradeError). ◌≡◌ {A = Result (Unit {0}) UpgradeError} (Err e) (Err x)) is refl)))
+    old

@@ -1,0 +1,151 @@
+use Rattle.std.proofs.Common.{◌≡◌, ◌∙◌, inl, inr, ℕ, ◌*◌, ◌≤◌, Err, refl, sym, subst, rules}
+use Rattle.spool_disk.proofs.Firm.{lasts_on, lasts_more}
+use Rattle.spool_journal.specs.Image.{all_pages, journal_pages, overlaid}
+use Rattle.spool_journal.specs.Phases.{Settled}
+use Rattle.spool_kept.specs.Kept.{KeepsAlone}
+use Rattle.spool_kept.specs.declared.kept.Kept.{Kept}
+use Rattle.spool_kept.specs.Shows.{IsSound}
+use Rattle.spool_pages.specs.View.{View, IsViewOf}
+use Rattle.spool_pages.specs.declared.version.Version.TheVariants.{Two}
+use Rattle.spool_load.specs.Loaded.{IsFoundOf}
+use Rattle.spool_load.proofs.Opens.{settled_on, settled_reads, settled_says, settled_still}
+use Rattle.spool_load.proofs.Refused.{found_back, opened_on, read_reason, says_on}
+use Rattle.spool_image.proofs.Upgraded.{found_new, found_old, loads_upgrades, old_reason, other_old, settled_rests}
+use Rattle.spool_image.proofs.Upgraded.{unfound_device, unfound_upgrade}
+use Rattle.spool_image.proofs.upgrading.load_old.Goals as goal
+
+pub returns-in_err-found-clause-said : goal.returns-in_err-found-clause-said
+returns-in_err-found-clause-said g c honest v sound is room =
+    let up =
+    loads_upgrades Kept v.version c.in_err-found.field-0.0 (IsFoundOf v)
+    (c.in_err-found.ensures.said honest v sound is room) in
+    search rules
+
+pub returns-in_err-found-clause-refused : goal.returns-in_err-found-clause-refused
+returns-in_err-found-clause-refused g c honest =
+    let reason = unfound_upgrade _ _ c.in_err-found.field-0.0 (c.in_err-found.ensures.refused honest) in
+    search rules
+
+pub returns-in_err-found-clause-stays : goal.returns-in_err-found-clause-stays
+returns-in_err-found-clause-stays g c honest v sound is room =
+    let device =
+    unfound_device _ _ c.in_err-found.field-0.0 (IsFoundOf v) (c.in_err-found.ensures.said honest v sound is room)
+    (c.in_err-found.ensures.refused honest) in
+    search rules
+
+pub returns-in_err-kept-clause-said : goal.returns-in_err-kept-clause-said
+returns-in_err-kept-clause-said g c honest v sound is room =
+    let settled = c.in_ok-found.ensures.settled honest in
+    let found = c.in_ok-found.ensures.said honest v sound is room in
+    let J : ℕ → Type 0 =
+    λ n. Settled (journal_pages n) (overlaid (g.D.Disk.seen c.args.disk.now)) (g.D.Disk.seen c.find.new.disk)
+    (g.D.Disk.loose c.find.new.disk) in
+    let loads =
+    c.in_err-kept.ensures.said (c.find.ensures.honest.0 honest) _ (settled_still settled) v sound found
+    (settled_says v (subst J found.blocks settled) is.says) in
+    let up = loads_upgrades Kept v.version c.in_err-kept.field-0.0 (λ (kept : Kept). KeepsAlone kept v) loads in
+    search rules
+
+pub returns-in_err-kept-clause-refused : goal.returns-in_err-kept-clause-refused
+returns-in_err-kept-clause-refused g c honest =
+    let settled = c.in_ok-found.ensures.settled honest in
+    let on = c.in_ok-found.ensures.found honest in
+    let mid = c.find.ensures.honest.0 honest in
+    let said =
+    λ (v : View) (sound : IsSound v) (is : IsViewOf (g.D.Disk.seen c.args.disk.now) v)
+    (room : 4096 * all_pages v.blocks ≤ g.D.Disk.size c.args.disk.now).
+    (let found = c.in_ok-found.ensures.said honest v sound is room in
+    let K : ℕ → Type 0 =
+    λ n. Settled (journal_pages n) (overlaid (g.D.Disk.seen c.args.disk.now)) (g.D.Disk.seen c.find.new.disk)
+    (g.D.Disk.loose c.find.new.disk) in
+    c.in_err-kept.ensures.said mid _ (settled_still settled) v sound found
+    (settled_says v (subst K found.blocks settled) is.says)) in
+    let reason =
+    read_reason {T = Kept} (g.D.Disk.size c.args.disk.now) (g.D.Disk.seen c.args.disk.now) c.in_ok-found.found
+    (Err c.in_err-kept.field-0.0) (λ v kept. KeepsAlone kept v) on said c.in_err-kept.ensures.late in
+    let old =
+    old_reason (g.D.Disk.size c.args.disk.now) (g.D.Disk.seen c.args.disk.now) c.in_err-kept.field-0.0
+    (λ e. found_old (g.D.Disk.size c.args.disk.now) (g.D.Disk.seen c.args.disk.now) c.in_ok-found.found on
+    (search rules)) reason in
+    search rules
+
+pub returns-in_err-kept-clause-stays : goal.returns-in_err-kept-clause-stays
+returns-in_err-kept-clause-stays g c honest v sound is room =
+    let settled = c.in_ok-found.ensures.settled honest in
+    let found = c.in_ok-found.ensures.said honest v sound is room in
+    let mid = c.find.ensures.honest.0 honest in
+    let there = settled_on settled (c.read.ensures.reads.still mid _ (settled_still settled)) in
+    let rests = settled_rests v c.in_ok-found.found.layout found.blocks there is in
+    search rules
+
+pub returns-in_err-kept-clause-lasts : goal.returns-in_err-kept-clause-lasts
+returns-in_err-kept-clause-lasts g c honest v sound is room =
+    let settled = c.in_ok-found.ensures.settled honest in
+    let mid = c.find.ensures.honest.0 honest in
+    let found = c.in_ok-found.ensures.said honest v sound is room in
+    let J : ℕ → Type 0 =
+    λ n. Settled (journal_pages n) (overlaid (g.D.Disk.seen c.args.disk.now)) (g.D.Disk.seen c.find.new.disk)
+    (g.D.Disk.loose c.find.new.disk) in
+    let here = subst J found.blocks settled in
+    lasts_on (c.find.ensures.lasts honest v sound is room)
+    (lasts_more (c.read.ensures.reads.lasts mid _ (settled_still settled))
+    (λ image same. inr (settled_reads image here same)))
+
+pub returns-clause-lasts : goal.returns-clause-lasts
+returns-clause-lasts g c honest v sound is room =
+    let settled = c.in_ok-found.ensures.settled honest in
+    let mid = c.find.ensures.honest.0 honest in
+    let found = c.in_ok-found.ensures.said honest v sound is room in
+    let J : ℕ → Type 0 =
+    λ n. Settled (journal_pages n) (overlaid (g.D.Disk.seen c.args.disk.now)) (g.D.Disk.seen c.find.new.disk)
+    (g.D.Disk.loose c.find.new.disk) in
+    let here = subst J found.blocks settled in
+    lasts_on (c.find.ensures.lasts honest v sound is room)
+    (lasts_more (c.read.ensures.reads.lasts mid _ (settled_still settled))
+    (λ image same. inr (settled_reads image here same)))
+
+pub returns-clause-kept : goal.returns-clause-kept
+returns-clause-kept g c honest v sound is room =
+    let settled = c.in_ok-found.ensures.settled honest in
+    let found = c.in_ok-found.ensures.said honest v sound is room in
+    let J : ℕ → Type 0 =
+    λ n. Settled (journal_pages n) (overlaid (g.D.Disk.seen c.args.disk.now)) (g.D.Disk.seen c.find.new.disk)
+    (g.D.Disk.loose c.find.new.disk) in
+    c.in_ok-kept.ensures.said (c.find.ensures.honest.0 honest) _ (settled_still settled) v sound found
+    (settled_says v (subst J found.blocks settled) is.says)
+
+pub returns-clause-sound : goal.returns-clause-sound
+returns-clause-sound g c honest =
+    let settled = c.in_ok-found.ensures.settled honest in
+    let found = c.in_ok-found.ensures.found honest in
+    let n = c.in_ok-found.found.layout in
+    let was = g.D.Disk.seen c.args.disk.now in
+    let now = g.D.Disk.seen c.find.new.disk in
+    let loose = g.D.Disk.loose c.find.new.disk in
+    let size = g.D.Disk.size c.args.disk.now in
+    let says =
+    says_on n was now loose settled found.journal size (g.D.Disk.size c.find.new.disk) c.find.ensures.size found.says in
+    opened_on n was now loose settled found.journal size c.in_ok-kept.kept found.says
+    (c.in_ok-kept.ensures.sound (c.find.ensures.honest.0 honest) now (settled_still settled) says
+    (found_back size c.in_ok-found.found was now loose settled found))
+
+pub returns-clause-settled : goal.returns-clause-settled
+returns-clause-settled g c honest =
+    let settled = c.in_ok-found.ensures.settled honest in
+    let mid = c.find.ensures.honest.0 honest in
+    let there = settled_on settled (c.read.ensures.reads.still mid _ (settled_still settled)) in
+    let J : ℕ → Type 0 =
+    λ n. Settled (journal_pages n) (overlaid (g.D.Disk.seen c.args.disk.now)) (g.D.Disk.seen c.read.new.disk)
+    (g.D.Disk.loose c.read.new.disk) in
+    subst J (sym c.in_ok-kept.ensures.layout) there
+
+pub returns-then-eq-clause-refused : goal.returns-then-eq-clause-refused
+returns-then-eq-clause-refused g c honest =
+    let new : c.in_ok-found.found.version ≡ Two = search rules in
+    found_new (g.D.Disk.size c.args.disk.now) (g.D.Disk.seen c.args.disk.now) c.in_ok-found.found
+    (c.in_ok-found.ensures.found honest) new
+
+pub returns-then-eq-clause-stays : goal.returns-then-eq-clause-stays
+returns-then-eq-clause-stays g c honest v sound is room device =
+    let found = c.in_ok-found.ensures.said honest v sound is room in
+    settled_rests v c.in_ok-found.found.layout found.blocks (c.in_ok-found.ensures.settled honest) is

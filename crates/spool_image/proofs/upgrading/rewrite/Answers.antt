@@ -1,0 +1,28 @@
+use Rattle.std.proofs.Common.{◌≡◌, rules}
+use Rattle.spool_pages.specs.Changes.{upgraded}
+use Rattle.spool_pages.proofs.Resting.{rests_says}
+use Rattle.spool_image.proofs.upgrading.rewrite.Goals as goal
+
+pub returns-clause-done : goal.returns-clause-done
+returns-clause-done g c honest v keeps rests =
+    let said = rests_says rests in
+    let kept = keeps.blocks in
+    let same : v.blocks ≡ c.layout.result.now = search rules in
+    c.in_ok-change.ensures.done honest v (upgraded v) same rests
+    (c.in_ok-pages.ensures.changes v keeps) said.texts
+
+pub returns-clause-lasts : goal.returns-clause-lasts
+returns-clause-lasts g c honest v keeps rests =
+    let said = rests_says rests in
+    let kept = keeps.blocks in
+    let same : v.blocks ≡ c.layout.result.now = search rules in
+    c.change.ensures.lasts honest v (upgraded v) same rests (c.in_ok-pages.ensures.changes v keeps)
+    said.texts
+
+pub returns-in_err-change-clause-lasts : goal.returns-in_err-change-clause-lasts
+returns-in_err-change-clause-lasts g c honest v keeps rests =
+    let said = rests_says rests in
+    let kept = keeps.blocks in
+    let same : v.blocks ≡ c.layout.result.now = search rules in
+    c.change.ensures.lasts honest v (upgraded v) same rests (c.in_ok-pages.ensures.changes v keeps)
+    said.texts

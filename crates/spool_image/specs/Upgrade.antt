@@ -1,0 +1,58 @@
+-- What bringing a spool to version 2 asks for and leaves, and what it refuses.
+use Rattle.std.specs.Prelude.{◌≡◌, ◌⊎◌, ℕ, ◌*◌, ◌≤◌, Result, Ok, Err}
+use Rattle.spool_journal.specs.Image.{all_pages, overlaid}
+use Rattle.spool_kept.specs.Shows.{IsSound}
+use Rattle.spool_kept.specs.declared.error.OpenFault.{OpenFault}
+use Rattle.spool_kept.specs.declared.error.OpenFault.TheVariants.{NotASpool, DiskFault, Damaged, NoMemory}
+use Rattle.spool_load.specs.Reads.{SaysBlocks}
+use Rattle.spool_load.specs.Refusals.{HasJournal, IsDamaged, NamesVersion, RefusedFor}
+use Rattle.spool_pages.specs.Changes.{upgraded}
+use Rattle.spool_pages.specs.Rests.{Rests}
+use Rattle.spool_pages.specs.View.{View, IsViewOf}
+use Rattle.spool_pages.specs.declared.version.Version.{Version}
+use Rattle.spool_pages.specs.declared.version.Version.TheVariants.{One, Two}
+use Rattle.spool_image.specs.declared.error.UpgradeError.{UpgradeError}
+use Rattle.spool_image.specs.declared.error.UpgradeError.TheVariants.{Open, AlreadyNew}
+
+-- a read gave a sound view of version 1, and now each image says the same in version 2
+pub record UpgradedFrom (size : ℕ) (before seen : ℕ → ℕ) (loose : ℕ → Type 0) : Type 0 where
+  pub view : View
+  pub sound : IsSound view
+  pub old : view.version ≡ One
+  pub was : IsViewOf before view
+  pub room : 4096 * all_pages view.blocks ≤ size
+  pub rests : Rests (upgraded view) seen loose
+
+-- WHY NOT
+
+-- a spool whose journal is in form, and whose state page, read plainly, says version 2
+pub record IsAlreadyNew (size : ℕ) (seen : ℕ → ℕ) : Type 0 where
+  pub blocks : ℕ
+  pub says : SaysBlocks size seen blocks
+  pub journal : HasJournal blocks seen
+  pub new : NamesVersion blocks (overlaid seen) Two
+
+-- a damaged spool that isn't of version 2
+abbrev pub IsOldDamaged : ℕ → (ℕ → ℕ) → Type 0
+IsOldDamaged size seen = IsDamaged size seen × (IsAlreadyNew size seen → ⊥)
+
+-- what a refusal says of the disk
+abbrev pub UpgradeRefusedFor : ℕ → (ℕ → ℕ) → UpgradeError → Type 0
+UpgradeRefusedFor size seen AlreadyNew = IsAlreadyNew size seen
+UpgradeRefusedFor size seen (Open Damaged) = IsOldDamaged size seen
+UpgradeRefusedFor size seen (Open fault) = RefusedFor size seen fault
+
+-- refused with this error, or for memory or by the device
+abbrev pub RefusesUpgradeAs : {T : Type 0} → Result T UpgradeError → UpgradeError → Type 0
+RefusesUpgradeAs (Ok t) error = ⊥
+RefusesUpgradeAs (Err e) error = (e ≡ error) ⊎ (e ≡ Open NoMemory) ⊎ (e ≡ Open DiskFault)
+
+-- a spool of version 1 is brought to version 2 and one of version 2 refused, or each for memory or by the device
+abbrev pub UpgradesOf : {T : Type 0} → Version → Result T UpgradeError → Type 0
+UpgradesOf version (Ok t) = version ≡ One
+UpgradesOf version (Err e) =
+    ((version ≡ Two) × (e ≡ AlreadyNew)) ⊎ (e ≡ Open NoMemory) ⊎ (e ≡ Open DiskFault)
+
+-- refused for memory or by the device
+abbrev pub IsLateRefusal : UpgradeError → Type 0
+IsLateRefusal e = (e ≡ Open NoMemory) ⊎ (e ≡ Open DiskFault)

@@ -1,0 +1,138 @@
+// A spool is brought to version 2.
+ghost use Rattle.std.specs.Prelude.{◌≡◌, ◌⊎◌, ◌≤◌, ◌*◌, ◌↔◌, ℕ, Err, IfOk, IfErr, OnOk};
+ghost use Rattle.spool_disk.specs.Disk.{Counts, IsImage};
+ghost use Rattle.spool_disk.specs.Views.{Lasts};
+ghost use Rattle.spool_journal.specs.Image.{all_pages, journal_pages, overlaid};
+ghost use Rattle.spool_journal.specs.Phases.{ReadsAs, Settled};
+ghost use Rattle.upload_rules.specs.Store.{Store};
+ghost use Rattle.spool_kept.specs.Kept.{KeepsAlone, KeepsView};
+ghost use Rattle.spool_kept.specs.Shows.{IsSound};
+ghost use Rattle.spool_load.specs.Loaded.{OpenedFrom};
+ghost use Rattle.spool_kept.specs.declared.error.OpenFault.{OpenFault as Fault};
+ghost use Rattle.spool_load.specs.Refusals.{HasOtherVersion, IsNoSpool};
+ghost use Rattle.spool_pages.specs.Changes.{upgraded};
+ghost use Rattle.spool_pages.specs.Rests.{Rests};
+ghost use Rattle.spool_pages.specs.View.{View, IsViewOf};
+ghost use Rattle.spool_pages.specs.declared.version.Version.{Version as Known};
+ghost use Rattle.spool_image.specs.LeftOnly.{AllShow, IsSpool, LeftOrShows};
+ghost use Rattle.spool_image.specs.Upgrade.{IsAlreadyNew, IsLateRefusal, IsOldDamaged, RefusesUpgradeAs};
+ghost use Rattle.spool_image.specs.Upgrade.{UpgradedFrom, UpgradeRefusedFor, UpgradesOf};
+
+use crate::UpgradeError;
+use spool_disk::Disk;
+use spool_kept::Kept;
+use spool_load::{find, read};
+use spool_pages::{Version, change};
+use std::alloc::Global;
+
+// A spool of version 1, made whole and read.
+fn load_old<D: Disk>(alloc: Global, disk: &mut D) -> Result<Kept, UpgradeError>
+    ensures size { D.size disk.new ≡ D.size disk.old }
+    ensures honest { D.honest disk.old ↔ D.honest disk.new }
+    ensures counts { Counts (result ≡ Err (UpgradeError.Open Fault.DiskFault)) (D.failures disk.old)
+        (D.failures disk.new) }
+    ensures room { IfOk result (λ kept. 4096 * all_pages kept.layout ≤ D.size disk.old) }
+    ensures said { D.honest disk.old → (v : View) → IsSound v → IsViewOf (D.seen disk.old) v
+        → 4096 * all_pages v.blocks ≤ D.size disk.old → UpgradesOf v.version result }
+    ensures kept { D.honest disk.old → (v : View) → IsSound v → IsViewOf (D.seen disk.old) v
+        → 4096 * all_pages v.blocks ≤ D.size disk.old → IfOk result (λ kept. KeepsAlone kept v) }
+    ensures sound { D.honest disk.old → IfOk result (OpenedFrom (D.size disk.old) (D.seen disk.old)) }
+    ensures version { IfOk result (λ kept. kept.version ≡ Known.One) }
+    ensures refused { D.honest disk.old → IfErr result (UpgradeRefusedFor (D.size disk.old) (D.seen disk.old)) }
+    ensures settled { D.honest disk.old → IfOk result (λ kept.
+        Settled (journal_pages kept.layout) (overlaid (D.seen disk.old)) (D.seen disk.new) (D.loose disk.new)) }
+    ensures stays { D.honest disk.old → (v : View) → IsSound v → IsViewOf (D.seen disk.old) v
+        → 4096 * all_pages v.blocks ≤ D.size disk.old
+        → IfErr result (λ e. (e ≡ UpgradeError.Open Fault.DiskFault → ⊥)
+        → Rests v (D.seen disk.new) (D.loose disk.new)) }
+    ensures lasts { D.honest disk.old → (v : View) → IsSound v → IsViewOf (D.seen disk.old) v
+        → 4096 * all_pages v.blocks ≤ D.size disk.old → Lasts D.Disk disk.old disk.new (λ image.
+        IsImage (D.seen disk.old) (D.loose disk.old) image
+        ⊎ ReadsAs (journal_pages v.blocks) image (overlaid (D.seen disk.old))) }
+{
+    let found = find(disk)?;
+    if found.version == Version::Two {
+        return Err(UpgradeError::AlreadyNew);
+    }
+    let kept = read(alloc, disk, found)?;
+    Ok(kept)
+}
+
+// Brings a spool at rest to version 2.
+fn rewrite<D: Disk>(alloc: Global, disk: &mut D, kept: &Kept) -> Result<(), UpgradeError>
+    requires { 4096 * all_pages kept.now.layout ≤ D.size disk.old }
+    ensures size { D.size disk.new ≡ D.size disk.old }
+    ensures honest { D.honest disk.old ↔ D.honest disk.new }
+    ensures counts { Counts (result ≡ Err (UpgradeError.Open Fault.DiskFault)) (D.failures disk.old)
+        (D.failures disk.new) }
+    ensures done { D.honest disk.old → (v : View) → KeepsView kept.now v
+        → Rests v (D.seen disk.old) (D.loose disk.old)
+        → OnOk result (Rests (upgraded v) (D.seen disk.new) (D.loose disk.new)) }
+    ensures stays { D.honest disk.old → (v : View) → Rests v (D.seen disk.old) (D.loose disk.old)
+        → IfErr result (λ e. (e ≡ UpgradeError.Open Fault.DiskFault → ⊥)
+        → Rests v (D.seen disk.new) (D.loose disk.new)) }
+    ensures late { IfErr result IsLateRefusal }
+    ensures lasts { D.honest disk.old → (v : View) → KeepsView kept.now v
+        → Rests v (D.seen disk.old) (D.loose disk.old)
+        → Lasts D.Disk disk.old disk.new (λ image. IsViewOf image v ⊎ IsViewOf image (upgraded v)) }
+{
+    let pages = kept.pages_of_upgrade(alloc)?;
+    change(disk, kept.layout(), &pages)?;
+    Ok(())
+}
+
+/// Brings a spool to version 2, by one commit of its state page and its 256 pages of records. There is no way back. It
+/// may crash too, and be called again, or the spool be opened.
+///
+/// # Errors
+///
+/// As `Spool::open`: `Open(NotASpool)`, then as `recover`, then `Open(Version)`; then `AlreadyNew` where the spool is of
+/// version 2; then `Open(Damaged)`. `Open(NoMemory)` where a growth was refused, and `Open(DiskFault)` where the device
+/// failed. Unless the device failed, nothing was changed then but by the recovery.
+pub fn upgrade<D: Disk>(alloc: Global, disk: &mut D) -> Result<(), UpgradeError>
+    ensures size { D.size disk.new ≡ D.size disk.old }
+    ensures honest { D.honest disk.old ↔ D.honest disk.new }
+    ensures counts { Counts (result ≡ Err (UpgradeError.Open Fault.DiskFault)) (D.failures disk.old)
+        (D.failures disk.new) }
+
+    // A spool that a read shows is brought to version 2 where it is of version 1, or memory or the device refuses it.
+    ensures upgraded { D.honest disk.old → (v : View) → IsSound v → IsViewOf (D.seen disk.old) v
+        → 4096 * all_pages v.blocks ≤ D.size disk.old → UpgradesOf v.version result }
+
+    // What was brought to version 2 was a sound spool of version 1, and each image now says the same in version 2.
+    ensures sound { D.honest disk.old
+        → OnOk result (UpgradedFrom (D.size disk.old) (D.seen disk.old) (D.seen disk.new) (D.loose disk.new)) }
+
+    // Each refusal has its reason, and each reason is answered so, unless memory or the device refuses it.
+    ensures refused { D.honest disk.old → IfErr result (UpgradeRefusedFor (D.size disk.old) (D.seen disk.old)) }
+    ensures not_a_spool { D.honest disk.old → IsNoSpool (D.size disk.old) (D.seen disk.old)
+        → RefusesUpgradeAs result (UpgradeError.Open Fault.NotASpool) }
+    ensures version { D.honest disk.old → HasOtherVersion (D.size disk.old) (D.seen disk.old)
+        → RefusesUpgradeAs result (UpgradeError.Open Fault.Version) }
+    ensures already_new { D.honest disk.old → IsAlreadyNew (D.size disk.old) (D.seen disk.old)
+        → RefusesUpgradeAs result UpgradeError.AlreadyNew }
+    ensures damaged { D.honest disk.old → IsOldDamaged (D.size disk.old) (D.seen disk.old)
+        → RefusesUpgradeAs result (UpgradeError.Open Fault.Damaged) }
+
+    // A refusal leaves what a read shows, in the version that it was.
+    ensures stays { D.honest disk.old → (v : View) → IsSound v → IsViewOf (D.seen disk.old) v
+        → 4096 * all_pages v.blocks ≤ D.size disk.old
+        → IfErr result (λ e. (e ≡ UpgradeError.Open Fault.DiskFault → ⊥)
+        → Rests v (D.seen disk.new) (D.loose disk.new)) }
+
+    // A crash during it leaves what it might have left before, or the same in the old version or in version 2.
+    ensures lasts { D.honest disk.old → (v : View) → IsSound v → IsViewOf (D.seen disk.old) v
+        → 4096 * all_pages v.blocks ≤ D.size disk.old → Lasts D.Disk disk.old disk.new (λ image.
+        IsImage (D.seen disk.old) (D.loose disk.old) image ⊎ IsViewOf image v ⊎ IsViewOf image (upgraded v)) }
+
+    // And so it leaves what it might have left before, or what shows the same uploads and so many blocks.
+    ensures crash { (n : ℕ) (m : Store) → IsSpool D.Disk disk.old n m
+        → Lasts D.Disk disk.old disk.new (LeftOrShows D.Disk disk.old n m) }
+
+    // And behind it every image shows them, unless the device failed.
+    ensures shows { (n : ℕ) (m : Store) → IsSpool D.Disk disk.old n m
+        → (result ≡ Err (UpgradeError.Open Fault.DiskFault) → ⊥) → AllShow D.Disk disk.new n m }
+{
+    let kept = load_old(alloc, disk)?;
+    rewrite(alloc, disk, &kept)
+}

@@ -1,0 +1,105 @@
+use Rattle.std.proofs.Common.{◌≡◌, inl, inr, ℕ, IfOk, IfErr, sym, subst, rules, ⊎_elim}
+use Rattle.spool_disk.proofs.Firm.{lasts_on, lasts_more}
+use Rattle.spool_journal.specs.Image.{journal_pages, overlaid}
+use Rattle.spool_journal.specs.Phases.{ReadsAs, Settled}
+use Rattle.spool_pages.specs.View.{IsViewOf}
+use Rattle.spool_load.proofs.Looks.{loads_err, if_ok_both}
+use Rattle.spool_load.proofs.Refused.{front_reason, found_reason}
+use Rattle.spool_load.specs.Loaded.{FoundOn, IsFoundOf}
+use Rattle.spool_load.specs.Reads.{SaysBlocks}
+use Rattle.spool_load.specs.Refusals.{RefusedAt}
+use Rattle.spool_load.proofs.Opens.{gate_shut, same_function, view_says_blocks, keeps_image, keeps_on}
+use Rattle.spool_load.proofs.finding.find.Goals as goal
+
+pub returns-in_err-layout-clause-said : goal.returns-in_err-layout-clause-said
+returns-in_err-layout-clause-said g c honest v sound is room =
+    let found = c.in_err-layout.ensures.said honest v.blocks (view_says_blocks _ _ v sound is room) in
+    let handed = loads_err _ (IsFoundOf v) _ found in
+    search rules
+
+pub returns-clause-said : goal.returns-clause-said
+returns-clause-said g c honest v sound is room =
+    let keeps = c.find_layout.ensures.keeps honest in
+    let seen : g.D.Disk.seen c.find_layout.new.disk ≡ g.D.Disk.seen c.args.disk.now = same_function _ _ keeps.same in
+    let layout : c.in_ok-layout.layout ≡ v.blocks =
+    c.in_ok-layout.ensures.said honest v.blocks (view_says_blocks _ _ v sound is room) in
+    c.restore.ensures.said (c.find_layout.ensures.honest.0 honest) v sound (sym layout)
+    (subst (λ (image : ℕ → ℕ). IsViewOf image v) (sym seen) is)
+
+pub returns-clause-lasts : goal.returns-clause-lasts
+returns-clause-lasts g c honest v sound is room =
+    let keeps = c.find_layout.ensures.keeps honest in
+    let was = g.D.Disk.seen c.args.disk.now in
+    let seen : g.D.Disk.seen c.find_layout.new.disk ≡ was = same_function _ _ keeps.same in
+    let layout : c.in_ok-layout.layout ≡ v.blocks =
+    c.in_ok-layout.ensures.said honest v.blocks (view_says_blocks _ _ v sound is room) in
+    let first = lasts_more (c.find_layout.ensures.lasts honest) (λ image here. inl here) in
+    let then = lasts_more (c.restore.ensures.lasts (c.find_layout.ensures.honest.0 honest)) (λ image one. ⊎_elim
+    (λ here. inl (keeps_image keeps here))
+    (λ reads. inr (subst (λ (n : ℕ). ReadsAs (journal_pages n) image (overlaid was)) layout
+    (subst (λ (f : ℕ → ℕ). ReadsAs (journal_pages c.in_ok-layout.layout) image (overlaid f)) seen reads)))
+    one) in
+    lasts_on first then
+
+pub returns-clause-unwritten : goal.returns-clause-unwritten
+returns-clause-unwritten g c honest none =
+    let keeps = c.find_layout.ensures.keeps honest in
+    let shut = gate_shut keeps (c.in_ok-layout.ensures.found honest) none in
+    lasts_on (c.find_layout.ensures.lasts honest)
+    (lasts_more (c.restore.ensures.unwritten (c.find_layout.ensures.honest.0 honest) shut)
+    (λ image here. keeps_image keeps here))
+
+pub returns-clause-same : goal.returns-clause-same
+returns-clause-same g c honest none fine =
+    let keeps = c.find_layout.ensures.keeps honest in
+    let shut = gate_shut keeps (c.in_ok-layout.ensures.found honest) none in
+    keeps_on keeps (c.restore.ensures.same (c.find_layout.ensures.honest.0 honest) shut fine)
+
+pub returns-in_err-layout-clause-refused : goal.returns-in_err-layout-clause-refused
+returns-in_err-layout-clause-refused g c honest =
+    let reason =
+    front_reason (g.D.Disk.size c.args.disk.now) (g.D.Disk.seen c.args.disk.now) c.in_err-layout.field-0.0 _
+    c.in_err-layout.ensures.no_other (c.in_err-layout.ensures.said honest) in
+    search rules
+
+pub returns-clause-refused : goal.returns-clause-refused
+returns-clause-refused g c honest =
+    let keeps = c.find_layout.ensures.keeps honest in
+    let mid = c.find_layout.ensures.honest.0 honest in
+    let layout = c.in_ok-layout.layout in
+    let was = g.D.Disk.seen c.args.disk.now in
+    let seen : g.D.Disk.seen c.find_layout.new.disk ≡ was = same_function _ _ keeps.same in
+    found_reason (g.D.Disk.size c.args.disk.now) was layout c.restore.result (c.in_ok-layout.ensures.found honest)
+    (subst (λ (f : ℕ → ℕ). IfErr c.restore.result (RefusedAt layout f)) seen (c.restore.ensures.refused mid))
+
+pub returns-clause-found : goal.returns-clause-found
+returns-clause-found g c honest =
+    let keeps = c.find_layout.ensures.keeps honest in
+    let mid = c.find_layout.ensures.honest.0 honest in
+    let layout = c.in_ok-layout.layout in
+    let seen : g.D.Disk.seen c.find_layout.new.disk ≡ g.D.Disk.seen c.args.disk.now = same_function _ _ keeps.same in
+    let size = c.find_layout.ensures.size in
+    let found =
+    subst (λ (k : ℕ). SaysBlocks k (g.D.Disk.seen c.args.disk.now) layout) (sym size)
+    (c.in_ok-layout.ensures.found honest) in
+    let there =
+    c.restore.ensures.found mid
+    (subst (λ (f : ℕ → ℕ). SaysBlocks (g.D.Disk.size c.find_layout.new.disk) f layout) (sym seen) found) in
+    let sized =
+    subst (λ (k : ℕ). IfOk c.restore.result (FoundOn k (g.D.Disk.seen c.find_layout.new.disk))) size there in
+    subst (λ (f : ℕ → ℕ). IfOk c.restore.result (FoundOn (g.D.Disk.size c.args.disk.now) f)) seen sized
+
+pub returns-clause-settled : goal.returns-clause-settled
+returns-clause-settled g c honest =
+    let keeps = c.find_layout.ensures.keeps honest in
+    let seen : g.D.Disk.seen c.find_layout.new.disk ≡ g.D.Disk.seen c.args.disk.now = same_function _ _ keeps.same in
+    let now = g.D.Disk.seen c.restore.new.disk in
+    let loose = g.D.Disk.loose c.restore.new.disk in
+    let there =
+    subst (λ (f : ℕ → ℕ). IfOk c.restore.result
+    (λ kept. Settled (journal_pages c.in_ok-layout.layout) (overlaid f) now loose)) seen
+    (c.restore.ensures.settled (c.find_layout.ensures.honest.0 honest)) in
+    if_ok_both c.restore.result
+    (λ kept same settled. subst
+    (λ (n : ℕ). Settled (journal_pages n) (overlaid (g.D.Disk.seen c.args.disk.now)) now loose) (sym same) settled)
+    c.restore.ensures.layout there

@@ -1,0 +1,41 @@
+use Rattle.std.proofs.Common.{◌≡◌, rules, ◌+◌, ◌*◌, length, arith}
+use Rattle.spool_journal.specs.Image.{byte_of}
+use Rattle.spool_pages.specs.View.{state_place, state_page}
+use Rattle.spool_pages.proofs.Says.{all_is, some_journal}
+use Rattle.spool_load.proofs.Looks.{read_padded, read_stands, length-state, if_err_more, if_ok_three}
+use Rattle.spool_load.proofs.Refused.{found_read, hides_on}
+use Rattle.spool_load.proofs.finding.load_state.Goals as goal
+
+pub read_at-requires : goal.read_at-requires
+read_at-requires g c = omega (arith, all_is c.args.layout, some_journal c.args.layout)
+
+pub returns-clause-said : goal.returns-clause-said
+returns-clause-said g c honest bytes still version next fits stands =
+    let here : 4096 * c.metadata_page.result ≡ state_place c.args.layout = omega arith in
+    let padded =
+    read_padded bytes _ _ c.read_at.new.buf (state_page version next) 4096
+    (c.in_ok-read_at.ensures.bytes honest bytes still) (search rules) here (omega (arith, length-state version next))
+    stands in
+    c.found_in.ensures.said version next fits padded
+
+pub returns-clause-found : goal.returns-clause-found
+returns-clause-found g c honest bytes still =
+    let read = c.in_ok-read_at.ensures.bytes honest bytes still in
+    let wide : length c.read_at.new.buf ≡ 4096 = search rules in
+    let here : state_place c.args.layout ≡ 4096 * c.metadata_page.result + 0 = omega arith in
+    if_ok_three c.found_in.result
+    (λ found same fields rest. found_read bytes c.args.layout _ c.read_at.new.buf found read wide here same fields
+    rest) c.found_in.ensures.layout c.found_in.ensures.fields c.found_in.ensures.rest
+
+pub returns-clause-refused : goal.returns-clause-refused
+returns-clause-refused g c honest bytes still =
+    let read = c.in_ok-read_at.ensures.bytes honest bytes still in
+    let wide : length c.read_at.new.buf ≡ 4096 = search rules in
+    let here : state_place c.args.layout ≡ 4096 * c.metadata_page.result + 0 = omega arith in
+    if_err_more c.found_in.result
+    (λ e told. hides_on (byte_of c.read_at.new.buf) bytes 0 (state_place c.args.layout) e
+    (λ known. record {
+      version = known.version;
+      said = read_stands bytes _ (state_place c.args.layout) 0 4 c.read_at.new.buf _ read (omega (arith, wide)) here
+          known.said;
+    }) told) c.found_in.ensures.unknown

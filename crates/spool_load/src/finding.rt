@@ -1,0 +1,189 @@
+// A spool is found on a disk and made whole.
+ghost use Rattle.std.specs.Prelude.{◌≡◌, ◌⊎◌, ◌≤◌, ◌<◌, ◌*◌, ◌^◌, ◌↔◌};
+ghost use Rattle.std.specs.Prelude.{ℕ, Ok, Err, IsErr, IfOk, IfErr, IsTrue, get_or};
+ghost use Rattle.spool_disk.specs.Disk.{IsImage, Counts, Keeps};
+ghost use Rattle.spool_disk.specs.Views.{Lasts};
+ghost use Rattle.spool_journal.specs.Image.{journal_pages, all_pages, byte_of, overlaid};
+ghost use Rattle.spool_journal.specs.Phases.{Settled, ReadsAs, Still};
+ghost use Rattle.spool_kept.specs.Loads.{LoadsAs};
+ghost use Rattle.spool_kept.specs.Shows.{IsSound};
+ghost use Rattle.spool_load.specs.Loaded.{FoundOn, IsFoundOf, SaysState, StandsFound};
+ghost use Rattle.spool_load.specs.Reads.{NeedsReplay, OnlyReads, SaysBlocks};
+ghost use Rattle.spool_load.specs.Refusals.{HidesVersion, NotFoundFor, RefusedAt};
+ghost use Rattle.spool_pages.specs.Bytes.{IsPadded};
+ghost use Rattle.spool_pages.specs.View.{View, IsViewOf, Stands, state_page, state_place};
+ghost use Rattle.spool_pages.specs.declared.version.Version.{Version as Known};
+
+use crate::reading::read_at;
+use spool_disk::{Disk, DiskFault};
+use spool_journal::{Layout, PAGE, recover};
+use spool_kept::OpenFault;
+use spool_pages::{Version, blocks_said, is_blank_behind_fields, version_and_next};
+
+/// A spool that was found on a disk and made whole.
+#[derive(Drop)]
+pub struct Found {
+    /// How many text blocks it has, and where its pages are.
+    pub layout: Layout,
+    /// The version of its layout.
+    pub version: Version,
+    /// The number of the next upload.
+    pub next: u64,
+    /// Whether the rest of the state page is zeros.
+    pub is_rest_blank: bool,
+}
+
+// Reads the first twelve bytes.
+fn read_front<D: Disk>(disk: &mut D) -> Result<[u8; 12], DiskFault>
+    requires { 12 ≤ D.size disk.old }
+    ensures size { D.size disk.new ≡ D.size disk.old }
+    ensures honest { D.honest disk.old ↔ D.honest disk.new }
+    ensures counts { Counts (IsErr result) (D.failures disk.old) (D.failures disk.new) }
+    ensures keeps { D.honest disk.old
+        → Keeps (D.seen disk.old) (D.seen disk.new) (D.loose disk.old) (D.loose disk.new) }
+    ensures lasts { D.honest disk.old → Lasts D.Disk disk.old disk.new (IsImage (D.seen disk.old) (D.loose disk.old)) }
+    ensures bytes { D.honest disk.old → IfOk result (λ front. (i : ℕ) → i < 12 → get_or front i 0 ≡ D.seen disk.old i) }
+{
+    let mut front = [0; 12];
+    disk.read(0, &mut front)?;
+    Ok(front)
+}
+
+// The layout that page 0 says.
+fn find_layout<D: Disk>(disk: &mut D) -> Result<Layout, OpenFault>
+    ensures size { D.size disk.new ≡ D.size disk.old }
+    ensures honest { D.honest disk.old ↔ D.honest disk.new }
+    ensures counts { Counts (result ≡ Err OpenFault.DiskFault) (D.failures disk.old) (D.failures disk.new) }
+    ensures keeps { D.honest disk.old
+        → Keeps (D.seen disk.old) (D.seen disk.new) (D.loose disk.old) (D.loose disk.new) }
+    ensures lasts { D.honest disk.old → Lasts D.Disk disk.old disk.new (IsImage (D.seen disk.old) (D.loose disk.old)) }
+    ensures room { IfOk result (λ layout. 4096 * all_pages layout ≤ D.size disk.old) }
+    ensures found { D.honest disk.old → IfOk result (SaysBlocks (D.size disk.old) (D.seen disk.old)) }
+    ensures said { D.honest disk.old → (n : ℕ) → SaysBlocks (D.size disk.old) (D.seen disk.old) n
+        → LoadsAs result (λ layout. layout ≡ n) }
+    ensures no_other { IfErr result (λ fault. (fault ≡ OpenFault.NotASpool) ⊎ (fault ≡ OpenFault.DiskFault)) }
+{
+    if disk.len() < 12 {
+        return Err(OpenFault::NotASpool);
+    }
+    let front = read_front(disk)?;
+    let Some(blocks) = blocks_said(&front) else {
+        return Err(OpenFault::NotASpool);
+    };
+    let Some(layout) = Layout::of(blocks) else {
+        return Err(OpenFault::NotASpool);
+    };
+    if disk.len() < 4096 * layout.pages() as u64 {
+        return Err(OpenFault::NotASpool);
+    }
+    Ok(layout)
+}
+
+// What the state page says.
+fn found_in(layout: Layout, page: &[u8; PAGE]) -> Result<Found, OpenFault>
+    ensures layout { IfOk result (λ found. found.layout ≡ layout) }
+    ensures said { (version : Known) (next : ℕ) → next < 2 ^ 64 → IsPadded page.now (state_page version next)
+        → LoadsAs result (SaysState version next) }
+    ensures fields { IfOk result (λ found. Stands (byte_of page.now) 0 12 (state_page found.version found.next)) }
+    ensures rest { IfOk result (λ found. IsTrue found.is_rest_blank
+        ↔ Stands (byte_of page.now) 0 4096 (state_page found.version found.next)) }
+    ensures unknown { IfErr result (HidesVersion (byte_of page.now) 0) }
+    ensures no_device { result ≡ Err OpenFault.DiskFault → ⊥ }
+{
+    let Some((version, next)) = version_and_next(page) else {
+        return Err(OpenFault::Version);
+    };
+    Ok(Found {
+        layout,
+        version,
+        next,
+        is_rest_blank: is_blank_behind_fields(page),
+    })
+}
+
+// Reads the state page.
+fn load_state<D: Disk>(disk: &mut D, layout: Layout) -> Result<Found, OpenFault>
+    requires { 4096 * all_pages layout ≤ D.size disk.old }
+    ensures reads { OnlyReads D.Disk disk.old disk.new }
+    ensures counts { Counts (result ≡ Err OpenFault.DiskFault) (D.failures disk.old) (D.failures disk.new) }
+    ensures layout { IfOk result (λ found. found.layout ≡ layout) }
+    ensures said { D.honest disk.old → (bytes : ℕ → ℕ) → Still bytes (D.seen disk.old) (D.loose disk.old)
+        → (version : Known) (next : ℕ) → next < 2 ^ 64
+        → Stands bytes (state_place layout) 4096 (state_page version next) → LoadsAs result (SaysState version next) }
+    ensures found { D.honest disk.old → (bytes : ℕ → ℕ) → Still bytes (D.seen disk.old) (D.loose disk.old)
+        → IfOk result (StandsFound bytes) }
+    ensures refused { D.honest disk.old → (bytes : ℕ → ℕ) → Still bytes (D.seen disk.old) (D.loose disk.old)
+        → IfErr result (HidesVersion bytes (state_place layout)) }
+{
+    let mut page = [0; PAGE];
+    read_at(disk, 4096 * layout.metadata_page() as u64, &mut page)?;
+    found_in(layout, &page)
+}
+
+// Makes a spool whole, and looks at its version.
+fn restore<D: Disk>(disk: &mut D, layout: Layout) -> Result<Found, OpenFault>
+    requires { 4096 * all_pages layout ≤ D.size disk.old }
+    ensures size { D.size disk.new ≡ D.size disk.old }
+    ensures honest { D.honest disk.old ↔ D.honest disk.new }
+    ensures counts { Counts (result ≡ Err OpenFault.DiskFault) (D.failures disk.old) (D.failures disk.new) }
+    ensures layout { IfOk result (λ found. found.layout ≡ layout) }
+    ensures said { D.honest disk.old → (v : View) → IsSound v → v.blocks ≡ layout → IsViewOf (D.seen disk.old) v
+        → LoadsAs result (IsFoundOf v) }
+    ensures found { D.honest disk.old → SaysBlocks (D.size disk.old) (D.seen disk.old) layout
+        → IfOk result (FoundOn (D.size disk.old) (D.seen disk.old)) }
+    ensures refused { D.honest disk.old → IfErr result (RefusedAt layout (D.seen disk.old)) }
+    ensures settled { D.honest disk.old → IfOk result
+        (λ found. Settled (journal_pages layout) (overlaid (D.seen disk.old)) (D.seen disk.new) (D.loose disk.new)) }
+    ensures lasts { D.honest disk.old → Lasts D.Disk disk.old disk.new (λ image.
+        IsImage (D.seen disk.old) (D.loose disk.old) image
+        ⊎ ReadsAs (journal_pages layout) image (overlaid (D.seen disk.old))) }
+    ensures unwritten { D.honest disk.old → (D.seen disk.old 4096 ≡ 165 → ⊥)
+        → Lasts D.Disk disk.old disk.new (IsImage (D.seen disk.old) (D.loose disk.old)) }
+    ensures same { D.honest disk.old → (D.seen disk.old 4096 ≡ 165 → ⊥) → (result ≡ Err OpenFault.DiskFault → ⊥)
+        → Keeps (D.seen disk.old) (D.seen disk.new) (D.loose disk.old) (D.loose disk.new) }
+{
+    recover(disk, &layout)?;
+    load_state(disk, layout)
+}
+
+/// Finds a spool and makes it whole. It may crash too, and be called again. It takes no memory.
+///
+/// # Errors
+///
+/// `NotASpool` where the first 12 bytes say none or the disk is shorter than its layout, then as `recover`, then
+/// `Version` where the state page says no version that is known; `DiskFault` where the device failed.
+pub fn find<D: Disk>(disk: &mut D) -> Result<Found, OpenFault>
+    ensures size { D.size disk.new ≡ D.size disk.old }
+    ensures honest { D.honest disk.old ↔ D.honest disk.new }
+    ensures counts { Counts (result ≡ Err OpenFault.DiskFault) (D.failures disk.old) (D.failures disk.new) }
+    ensures room { IfOk result (λ found. 4096 * all_pages found.layout ≤ D.size disk.old) }
+
+    // What a read shows is found, or the device refuses it.
+    ensures said { D.honest disk.old → (v : View) → IsSound v → IsViewOf (D.seen disk.old) v
+        → 4096 * all_pages v.blocks ≤ D.size disk.old → LoadsAs result (IsFoundOf v) }
+
+    // What is found is what a read shows, and each refusal has its reason.
+    ensures found { D.honest disk.old → IfOk result (FoundOn (D.size disk.old) (D.seen disk.old)) }
+    ensures refused { D.honest disk.old → IfErr result (NotFoundFor (D.size disk.old) (D.seen disk.old)) }
+
+    // And it stands on the disk, all of it synced, behind a closed gate.
+    ensures settled { D.honest disk.old → IfOk result (λ found.
+        Settled (journal_pages found.layout) (overlaid (D.seen disk.old)) (D.seen disk.new) (D.loose disk.new)) }
+
+    // A crash during it leaves what it might have left before, or what reads the same.
+    ensures lasts { D.honest disk.old → (v : View) → IsSound v → IsViewOf (D.seen disk.old) v
+        → 4096 * all_pages v.blocks ≤ D.size disk.old → Lasts D.Disk disk.old disk.new (λ image.
+        IsImage (D.seen disk.old) (D.loose disk.old) image
+        ⊎ ReadsAs (journal_pages v.blocks) image (overlaid (D.seen disk.old))) }
+
+    // Where no journal is to be replayed it writes nothing: every image is one from before, and so is what a read
+    // gives.
+    ensures unwritten { D.honest disk.old → (NeedsReplay (D.size disk.old) (D.seen disk.old) → ⊥)
+        → Lasts D.Disk disk.old disk.new (IsImage (D.seen disk.old) (D.loose disk.old)) }
+    ensures same { D.honest disk.old → (NeedsReplay (D.size disk.old) (D.seen disk.old) → ⊥)
+        → (result ≡ Err OpenFault.DiskFault → ⊥)
+        → Keeps (D.seen disk.old) (D.seen disk.new) (D.loose disk.old) (D.loose disk.new) }
+{
+    let layout = find_layout(disk)?;
+    restore(disk, layout)
+}

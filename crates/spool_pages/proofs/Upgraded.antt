@@ -1,0 +1,76 @@
+-- The pages that bring a view to version 2.
+use Rattle.std.proofs.Common.{◌≡◌, inl, inr, ℕ, ◌+◌, ◌*◌, ◌/◌, ◌%◌, ◌<◌, ◌≤◌, List, Option, Some, None, get_or}
+use Rattle.std.proofs.Common.{refl, sym, ◌∙◌, subst, arith}
+use Rattle.std.proofs.lemmas.Bool.{cases_eq, cases_lt}
+use Rattle.spool_journal.specs.Image.{IsPut, byte_of, journal_pages}
+use Rattle.spool_pages.specs.Changes.{page_in, Said, state_number, record_number, row_number, SaysState, SaysSlot}
+use Rattle.spool_pages.specs.Changes.{SaysRow, Changes, upgraded}
+use Rattle.spool_pages.specs.View.{SlotRecord, View, Stands, slot_at, slot_bytes}
+use Rattle.spool_pages.specs.declared.version.Version.{Version}
+use Rattle.spool_pages.specs.declared.version.Version.TheVariants.{Two}
+use Rattle.spool_pages.proofs.PageIn.{in_put, in_put_else}
+
+-- the slot's page is among them, and says this in version 2
+pub record SaysAt (n : ℕ) (pages : List (ℕ × List ℕ)) (s : ℕ) (slot : Option SlotRecord) : Type 0 where
+  pub bytes : List ℕ
+  pub there : page_in (record_number n s) pages ≡ Some bytes
+  pub says : SaysSlot s bytes (Two, slot)
+
+-- the page of the next two slots is put among those before
+module _ (n pair : ℕ) (slots : List (Option SlotRecord)) {old new : List (ℕ × List ℕ)} {page : ℕ} {bytes : List ℕ}
+    (put : IsPut old page bytes new) (here : page ≡ 26 + journal_pages n + pair) where
+  put_slot : page_in page old ≡ None → (s place : ℕ) → s / 2 ≡ pair → place ≡ 2048 * (s % 2)
+      → Stands (byte_of bytes) place 2048 (slot_bytes Two (get_or slots s None)) → SaysAt n new s (get_or slots s None)
+  put_slot none s place half is stands = record {
+    bytes = bytes;
+    there = subst (λ (q : ℕ). page_in q new ≡ Some bytes) (omega (arith, here, half)) (in_put put none);
+    says = subst (λ (p : ℕ). Stands (byte_of bytes) p 2048 (slot_bytes Two (get_or slots s None))) is stands;
+  }
+
+  pub slots_more : ((s : ℕ) → s < 2 * pair → SaysAt n old s (get_or slots s None)) → page_in page old ≡ None
+      → Stands (byte_of bytes) 0 2048 (slot_bytes Two (get_or slots (2 * pair) None))
+      → Stands (byte_of bytes) 2048 2048 (slot_bytes Two (get_or slots (2 * pair + 1) None))
+      → (s : ℕ) → s < 2 * (pair + 1) → SaysAt n new s (get_or slots s None)
+  slots_more before none first second s lt = elim (cases_lt s (2 * pair)) [
+    | inl below ↦
+        let was = before s below in
+        record {
+          bytes = was.bytes;
+          there = in_put_else put (record_number n s) (λ e. omega (arith, e, here, below)) ∙ was.there;
+          says = was.says;
+        }
+    | inr from ↦ elim (cases_eq s (2 * pair)) [
+      | inl even ↦ put_slot none s 0 (omega (arith, even)) (omega (arith, even))
+          (subst (λ (t : ℕ). Stands (byte_of bytes) 0 2048 (slot_bytes Two (get_or slots t None))) (sym even) first)
+      | inr other ↦
+          let odd : s ≡ 2 * pair + 1 = omega (arith, lt, from, other) in
+          put_slot none s 2048 (omega (arith, odd)) (omega (arith, odd))
+          (subst (λ (t : ℕ). Stands (byte_of bytes) 2048 2048 (slot_bytes Two (get_or slots t None))) (sym odd) second)
+    ]
+  ]
+
+-- the state page and all slots' pages bring the view to version 2
+pub upgraded_changes : (n : ℕ) (pages : List (ℕ × List ℕ)) (slots : List (Option SlotRecord)) (next : ℕ)
+    (state : List ℕ) → page_in (state_number n) pages ≡ Some state → SaysState state (Two, next)
+    → ((s : ℕ) → s < 512 → SaysAt n pages s (get_or slots s None))
+    → ((q : ℕ) → 282 + journal_pages n ≤ q → page_in q pages ≡ None)
+    → (v : View) → v.blocks ≡ n → v.next ≡ next → v.slots ≡ slots → Changes pages v (upgraded v)
+upgraded_changes n pages slots next state state_in says_state each none v size next_is slots_are = record {
+  others = record {
+    blocks = refl;
+    indexes = refl;
+    state = subst (λ (o : Option (List ℕ)). Said o SaysState (v.version, v.next) (Two, v.next))
+        (sym (subst (λ (k : ℕ). page_in (state_number k) pages ≡ Some state) (sym size) state_in))
+        (subst (λ (k : ℕ). SaysState state (Two, k)) (sym next_is) says_state);
+    slots = λ s lt.
+        let at = each s lt in
+        subst (λ (o : Option (List ℕ)). Said o (SaysSlot s) (v.version, slot_at v s) (Two, slot_at v s))
+        (sym (subst (λ (k : ℕ). page_in (record_number k s) pages ≡ Some at.bytes) (sym size) at.there))
+        (subst (λ (xs : List (Option SlotRecord)). SaysSlot s at.bytes (Two, get_or xs s None)) (sym slots_are)
+        at.says);
+    rows = λ b lt no. refl;
+  };
+  rows = λ b lt. subst (λ (o : Option (List ℕ)). Said o (SaysRow b) (get_or v.rows b None) (get_or v.rows b None))
+      (sym (none (row_number v.blocks b) (subst (λ (k : ℕ). 282 + journal_pages k ≤ row_number v.blocks b) size
+      (omega arith)))) refl;
+}

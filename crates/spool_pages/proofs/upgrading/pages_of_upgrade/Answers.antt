@@ -1,0 +1,57 @@
+use Rattle.std.proofs.Common.{◌≡◌, ◌+◌, ◌*◌, ◌<◌, ◌≤◌, ℕ, Some, length, refl, ◌∙◌, ap, subst, arith}
+use Rattle.spool_journal.specs.Image.{journal_pages}
+use Rattle.spool_journal.proofs.Puts.{put_area}
+use Rattle.spool_pages.specs.Changes.{page_in, state_number}
+use Rattle.spool_pages.proofs.PageIn.{in_none, in_put, in_put_else, number_none, some_length}
+use Rattle.spool_pages.proofs.RecordBytes.{padded_stands}
+use Rattle.spool_pages.proofs.Upgraded.{slots_more, upgraded_changes}
+use Rattle.spool_pages.proofs.upgrading.pages_of_upgrade.Goals as goal
+
+pub put-requires-in-loop-pair : goal.put-requires-in-loop-pair
+put-requires-in-loop-pair c k lt e =
+    number_none c.record_number.result c.loop-pair.pages
+    (c.loop-pair.invariant.none c.record_number.result (omega (arith, c.record_number.ensures.number))) k lt e
+
+pub loop-pair-init : goal.loop-pair-init
+loop-pair-init c =
+    let put = c.in_ok-put.ensures.put in
+    let empty = c.new-pages.ensures in
+    record {
+      area = put_area put
+          (λ k lt. absurd (let no : length c.new-pages.result ≡ 0 = ap length empty in omega (arith, lt, no)))
+          c.state_number.ensures.inside;
+      some = some_length c.state_number.result c.put.new.self c.state_page.result
+          (in_put put (in_none c.state_number.result c.new-pages.result empty));
+      state = refl;
+      says = λ s lt. absurd (omega (arith, lt));
+      none = λ q from. in_put_else put q (λ e. omega (arith, e, from, c.state_number.ensures.number))
+          ∙ in_none q c.new-pages.result empty;
+    }
+
+pub loop-pair-preserved : goal.loop-pair-preserved
+loop-pair-preserved c =
+    let inv = c.loop-pair.invariant in
+    let n = c.args.layout.now in
+    let put = c.in_ok-put-2.ensures.put in
+    let here : c.record_number.result ≡ 26 + journal_pages n + c.loop-pair.pair =
+    omega (arith, c.record_number.ensures.number) in
+    let none = inv.none c.record_number.result (omega (arith, here)) in
+    record {
+      area = put_area put inv.area c.record_number.ensures.inside;
+      some = some_length c.record_number.result c.put-in-loop-pair.new.self c.pair_page.result (in_put put none);
+      state = in_put_else put (state_number n) (λ e. omega (arith, e, here)) ∙ inv.state;
+      says = slots_more n c.loop-pair.pair c.args.slots.now put here inv.says none c.pair_page.ensures.first
+          c.pair_page.ensures.second;
+      none = λ q from. in_put_else put q (λ e. omega (arith, e, here, from)) ∙ inv.none q (omega (arith, from));
+    }
+
+pub returns-clause-changes : goal.returns-clause-changes
+returns-clause-changes c v size next slots =
+    let inv = c.loop-pair.invariant in
+    let n = c.args.layout.now in
+    upgraded_changes n c.loop-pair.pages c.args.slots.now c.args.next c.state_page.result
+    (inv.state ∙ subst (λ (q : ℕ). page_in q c.put.new.self ≡ Some c.state_page.result) c.state_number.ensures.number
+    (in_put c.in_ok-put.ensures.put (in_none c.state_number.result c.new-pages.result c.new-pages.ensures)))
+    (padded_stands 4096 c.state_page.ensures)
+    (λ s lt. inv.says s (omega (arith, lt, c.loop-pair-test.false)))
+    (λ q from. inv.none q (omega (arith, from, c.loop-pair.auto.pair-end))) v size next slots

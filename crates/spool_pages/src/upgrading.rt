@@ -1,0 +1,50 @@
+// The pages that bring a spool to version 2.
+ghost use Rattle.std.specs.Prelude.{◌≡◌, ◌≤◌, ◌<◌, ◌+◌, ℕ, None, IfOk, IfSome, length, get_or};
+ghost use Rattle.spool_journal.specs.Image.{byte_of, journal_pages, InArea};
+ghost use Rattle.spool_pages.specs.Changes.{Changes, upgraded};
+ghost use Rattle.spool_pages.specs.View.{View, Stands, slot_bytes};
+ghost use Rattle.spool_pages.specs.declared.version.Version.TheVariants.{Two};
+
+use crate::places::{record_number, state_number};
+use crate::slot_pages::record_page;
+use crate::{SlotRecord, Version, state_page};
+use spool_blocks::SLOTS;
+use spool_journal::{Layout, PAGE, Pages};
+use std::alloc::{AllocError, Global};
+
+// The page of a slot and the one behind it, in version 2.
+fn pair_page(slots: &[Option<SlotRecord<'_>>], slot: usize) -> [u8; PAGE]
+    requires within { slot + 1 < length slots.now }
+    requires metadata { (s : ℕ) → IfSome (get_or slots.now s None) (λ r. length r.metadata ≤ 1536) }
+    ensures first { Stands (byte_of result) 0 2048 (slot_bytes Two (get_or slots.now slot None)) }
+    ensures second { Stands (byte_of result) 2048 2048 (slot_bytes Two (get_or slots.now (slot + 1) None)) }
+{
+    record_page(Version::Two, slots[slot].as_ref(), slots[slot + 1].as_ref())
+}
+
+/// The 257 pages that bring a spool with this next number and these records to version 2: the state page, and each page
+/// of records. Err only where memory runs out.
+pub fn pages_of_upgrade(
+    alloc: Global,
+    layout: &Layout,
+    next: u64,
+    slots: &[Option<SlotRecord<'_>>],
+) -> Result<Pages, AllocError>
+    requires slots { length slots.now ≡ 512 }
+    requires metadata { (s : ℕ) → IfSome (get_or slots.now s None) (λ r. length r.metadata ≤ 1536) }
+    ensures area { IfOk result (λ pages. InArea (journal_pages layout.now) pages) }
+    ensures some { IfOk result (λ pages. 1 ≤ length pages) }
+    ensures changes { (v : View) → v.blocks ≡ layout.now → v.next ≡ next → v.slots ≡ slots.now
+        → IfOk result (λ pages. Changes pages v (upgraded v)) }
+{
+    let mut pages = Pages::new(alloc);
+    pages.put(state_number(layout), &state_page(Version::Two, next))?;
+    for pair in 0..SLOTS / 2 {
+        let slot = 2 * pair;
+        pages.put(
+            record_number(layout, slot),
+            &pair_page(slots, slot as usize),
+        )?;
+    }
+    Ok(pages)
+}

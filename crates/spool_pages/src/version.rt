@@ -1,0 +1,37 @@
+// The versions of a spool's layout.
+ghost use Rattle.std.specs.Prelude.{◌≡◌, Some, IfSome};
+ghost use Rattle.spool_pages.specs.View.{version_number};
+ghost use Rattle.spool_pages.specs.declared.version.Version.{Version as Known};
+
+/// How the records of a spool say an unknown length.
+#[derive(Clone, Copy, Debug, PartialEq, Eq, Drop)]
+pub enum Version {
+    /// By eight bytes FF.
+    One,
+    /// By a byte behind the metadata's room, and zeros in the length's place.
+    Two,
+}
+
+impl Version {
+    /// The version of this number, or none where there is no such version.
+    pub fn of(number: u32) -> Option<Version>
+        ensures known { (version : Known) → number ≡ version_number version → result ≡ Some version }
+        ensures only { IfSome result (λ version. version_number version ≡ number) }
+    {
+        match number {
+            1 => Some(Version::One),
+            2 => Some(Version::Two),
+            _ => None,
+        }
+    }
+
+    /// The number that the state page says.
+    pub fn number(self) -> u32
+        ensures { result ≡ version_number self }
+    {
+        match self {
+            Version::One => 1,
+            Version::Two => 2,
+        }
+    }
+}
