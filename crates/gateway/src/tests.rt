@@ -105,6 +105,7 @@ fn make_old(rt: &impl Abort, disk: &mut FileDisk) -> Result<(), Fail> {
     // 16 text blocks have 258 journal pages, so the state page is page 283
     let state_page = 4096 * 283u64;
     let third_record = state_page + 4096 + 2 * 2048;
+    assert!(rt; disk.len() >= third_record + 2048);
     let mut length = [1; 8];
     let mut tag = [0];
     disk.read(third_record + 8, &mut length)?;
