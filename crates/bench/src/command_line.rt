@@ -24,7 +24,8 @@ pub(crate) struct Task<'a> {
 }
 
 impl<'a> Task<'a> {
-    /// The index files by their kinds. That of a single-byte encoding is the file's, or the written one's where the file is in UTF-8.
+    /// The index files by their kinds. That of a single-byte encoding is the file's, or the written one's where the
+    /// file is in UTF-8.
     pub(crate) fn indexes(&self) -> [(Kind, Option<&'a str>); 4] {
         let single = match self.from {
             Encoding::Utf8 => self.to,

@@ -73,11 +73,12 @@ few_found (Some p) h c = h c
 
 -- THE CODE OF SEVERAL
 
-one_single : (f : Encoder) (mode : Mode) (s : Shift) (c b : ℕ) → f s c ≡ Wrote (b ∷ []) s → code_of f mode s c ≡ record {
-  bytes = b ∷ [];
-  state = s;
-  fault = None;
-}
+one_single : (f : Encoder) (mode : Mode) (s : Shift) (c b : ℕ) → f s c ≡ Wrote (b ∷ []) s → code_of f mode s c
+    ≡ record {
+      bytes = b ∷ [];
+      state = s;
+      fault = None;
+    }
 one_single f mode s c b e = rw e refl
 
 all_single : (f : Encoder) (mode : Mode) (s : Shift) (at cs bytes : List ℕ) → AreSingles f at → AllSingle at cs bytes →

@@ -248,8 +248,8 @@ impl Encoder {
         ensures ok { IfOk result (λ r. HeldFront (code_from (tables set.now) (shifted self.now (shift_of shift)))
             text.now r.1.now out.old held.old out.new held.new (Ok r.0)) }
         ensures err { IfErr result
-            (λ e. (rest : List ℕ) × HeldFront (code_from (tables set.now) (shifted self.now (shift_of shift))) text.now rest
-            out.old held.old out.new held.new (Err e)) }
+            (λ e. (rest : List ℕ) × HeldFront (code_from (tables set.now) (shifted self.now (shift_of shift)))
+            text.now rest out.old held.old out.new held.new (Err e)) }
     {
         if let Some((lanes, front)) = own_front(to, text) {
             held.make_room(out)?;
@@ -296,7 +296,8 @@ impl Encoder {
 
     /// Appends a text as it is, where texts are in UTF-8.
     fn encode_utf8(&self, run: &str, out: &mut Vec<u8>) -> Result<ShiftState, EncodeError>
-        requires { (self.now.to ≡ Encoding.Utf8) ⊎ ((self.now.to ≡ Encoding.Utf16Be) ⊎ (self.now.to ≡ Encoding.Utf16Le)) }
+        requires { (self.now.to ≡ Encoding.Utf8)
+            ⊎ ((self.now.to ≡ Encoding.Utf16Be) ⊎ (self.now.to ≡ Encoding.Utf16Le)) }
         ensures { (t : Tables) → Gave (code_from t self.now (chars run.now)) out.old out.new result }
     {
         append(run.as_bytes(), out)?;

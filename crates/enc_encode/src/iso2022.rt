@@ -89,7 +89,8 @@ pub fn iso2022_ascii(shift: ShiftState, b: u8) -> Written
 #[tactic(auto, unfolding(enc_model::specs::Encode::iso2022_encoder))]
 #[inline(always)]
 pub fn iso2022_jp(set: &IndexSet, shift: ShiftState, c: char) -> Written
-    ensures { written_of result ≡ iso2022_encoder (tables set.now).jis0208 (tables set.now).katakana (shift_of shift) c }
+    ensures { written_of result
+        ≡ iso2022_encoder (tables set.now).jis0208 (tables set.now).katakana (shift_of shift) c }
 {
     match (shift, c) {
         (_, '\0'..='\u{7F}') => iso2022_ascii(shift, c as u8),

@@ -90,7 +90,8 @@ fn codes_of(
     requires inside { start + pointers ≤ 22099 }
     ensures long { IfOk result (λ codes. length codes.items ≡ pointers) }
     ensures codes { IfOk result
-        (λ codes. (k : ℕ) → k < pointers → slice_index_or codes.items k None ≡ scalar_of (word_of area.now (start + k))) }
+        (λ codes. (k : ℕ) → k < pointers → slice_index_or codes.items k None
+        ≡ scalar_of (word_of area.now (start + k))) }
 {
     let mut codes = Vec::new(alloc);
     for pointer in 0..pointers {

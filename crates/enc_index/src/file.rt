@@ -1,6 +1,6 @@
 //! The lines of an index file.
 
-ghost use Rattle.std.specs.Prelude.{◌≡◌, ℕ, ◌+◌, ◌<◌, ◌≤◌, ◌^◌, length, ◌∷◌, IfSome, Option, Some, Ok, Err};
+ghost use Rattle.std.specs.Prelude.{◌≡◌, ◌+◌, ◌<◌, ◌≤◌, ◌^◌, length, ◌∷◌, IfSome, Option, Some, Ok, Err};
 ghost use Rattle.std.specs.Prelude.{MatchResult, option_copied};
 ghost use Rattle.enc_index.specs.Entries.{pairs_from, AreScalars};
 ghost use Rattle.enc_index.specs.Files.{lines_behind, before, behind, without_cr, is_dropped, number, without_spaces};

@@ -1,6 +1,6 @@
 //! An index file that was read.
 
-ghost use Rattle.std.specs.Prelude.{◌≡◌, ℕ, ◌≤◌, replicate, None, IfOk};
+ghost use Rattle.std.specs.Prelude.{◌≡◌, ◌≤◌, replicate, None, IfOk};
 ghost use Rattle.enc_index.specs.Files.{pointers_of};
 ghost use Rattle.enc_index.specs.Sets.{IsIndex};
 ghost use Rattle.enc_index.specs.Kinds.{KindedIndex, IsReading};

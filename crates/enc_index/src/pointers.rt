@@ -1,8 +1,7 @@
 //! Least pointers by code point.
 
 ghost use Rattle.std.specs.Prelude.{◌≡◌, ℕ, Option, IfOk, IfSome, None, ◌<◌, length, slice_index_or};
-ghost use Rattle.enc_model.specs.Index.{pointer_where};
-ghost use Rattle.enc_index.specs.Entries.{pairs_from, found, GivesLeast};
+ghost use Rattle.enc_index.specs.Entries.{found, GivesLeast};
 ghost use Rattle.enc_index.specs.Usable.{keeps};
 
 use crate::usable::Usable;

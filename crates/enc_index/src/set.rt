@@ -1,7 +1,7 @@
 //! The index files that were set.
 
 ghost use Rattle.std.specs.Prelude.{◌≡◌, ◌<◌, ℕ, Option, None, IfOk, IfSome, MatchOption, option_copied, length};
-ghost use Rattle.std.specs.Prelude.{slice_index, slice_index_or, replicate};
+ghost use Rattle.std.specs.Prelude.{slice_index, slice_index_or};
 ghost use Rattle.enc_model.specs.Index.{code, pointer, pointer_sjis};
 ghost use Rattle.enc_model.specs.Indexes.{no_indexes, tables, offers, place_of, single_of};
 ghost use Rattle.enc_index.specs.Files.{pointers_of};
@@ -217,7 +217,8 @@ impl IndexSet {
     #[tactic(auto, using(crate::proofs::Lookups::table_is))]
     #[inline(always)]
     pub fn ready(&self, kind: Kind) -> Option<&[Option<Utf8Char>]>
-        ensures { IfSome result (λ s. (p : ℕ) → slice_index_or s.now p None ≡ code (table_of (tables self.now) kind) p) }
+        ensures { IfSome result
+            (λ s. (p : ℕ) → slice_index_or s.now p None ≡ code (table_of (tables self.now) kind) p) }
     {
         Some(self.table(kind)?.ready())
     }

@@ -1,10 +1,9 @@
 //! One index, and its look-ups.
 
-ghost use Rattle.std.specs.Prelude.{◌≡◌, ℕ, ◌<◌, IfOk, IfSome, None, length, slice_index, slice_index_or};
-ghost use Rattle.enc_model.specs.Index.{Index, code, pointer_where, pointer, pointer_sjis};
-ghost use Rattle.enc_index.specs.Entries.{pairs_from, found, GivesLeast, AreAgreed};
+ghost use Rattle.std.specs.Prelude.{◌≡◌, ℕ, ◌<◌, IfOk, None, length, slice_index, slice_index_or};
+ghost use Rattle.enc_model.specs.Index.{Index, code, pointer, pointer_sjis};
+ghost use Rattle.enc_index.specs.Entries.{pairs_from, found, AreAgreed};
 ghost use Rattle.enc_index.specs.Bytes.{byte_char};
-ghost use Rattle.enc_index.specs.Usable.{keeps};
 
 use crate::pointers::Pointers;
 use crate::ready::{ready, ready_bytes};

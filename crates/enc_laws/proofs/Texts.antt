@@ -56,14 +56,16 @@ module _ (x : IndexSet) (valid : IsIndexSet x) (ended : Bool) (bytes : List ℕ)
   decoding_scalars : (e : Encoding) → AreScalars (decoding (tables x) ended (decoding_start e) bytes).text
   unfolding decoding
   decoding_scalars encodings.Utf8 = subst AreScalars (sym (text_is ended bytes)) (segments_are ended (segments bytes))
-  decoding_scalars encodings.Utf16Be = sound_steps (utf16 true) IsKept (utf16_reads true) (utf16_ends true) ended utf16_start bytes (record {
-    byte = tt;
-    lead = tt;
-  }) all
-  decoding_scalars encodings.Utf16Le = sound_steps (utf16 false) IsKept (utf16_reads false) (utf16_ends false) ended utf16_start bytes (record {
-    byte = tt;
-    lead = tt;
-  }) all
+  decoding_scalars encodings.Utf16Be =
+      sound_steps (utf16 true) IsKept (utf16_reads true) (utf16_ends true) ended utf16_start bytes (record {
+        byte = tt;
+        lead = tt;
+      }) all
+  decoding_scalars encodings.Utf16Le =
+      sound_steps (utf16 false) IsKept (utf16_reads false) (utf16_ends false) ended utf16_start bytes (record {
+        byte = tt;
+        lead = tt;
+      }) all
   decoding_scalars encodings.ShiftJis =
       let i = (tables x).jis0208 in
       sound_steps (shift_jis i) Always (shift_jis_reads i (set_scalars x.jis0208 11280 valid.jis0208))

@@ -61,11 +61,12 @@ sjis_lead : (i : Index) (a : ℕ) → IsShiftJisLead a → shift_jis i 0 (Some a
 unfolding shift_jis
 sjis_lead i a l = grind (arith, nat_tests, l)
 
-sjis_trail : (i : Index) (a b c : ℕ) → IsShiftJisLead a → shift_jis_pair i a b ≡ Some c → shift_jis i a (Some b) ≡ record {
-  state = 0;
-  answer = Point c;
-  restored = [];
-}
+sjis_trail : (i : Index) (a b c : ℕ) → IsShiftJisLead a → shift_jis_pair i a b ≡ Some c → shift_jis i a (Some b)
+    ≡ record {
+      state = 0;
+      answer = Point c;
+      restored = [];
+    }
 unfolding shift_jis
 sjis_trail i a b c l e = rw e (grind (arith, nat_tests, l))
 
@@ -124,7 +125,8 @@ euc_one i j s rest e l a =
 
 pub euc_two : (i j : Index) (s : EucJp) (rest : List ℕ) (c : ℕ) → s ≡ euc_jp_start → 2 ≤ length rest
     → IsRow (get_or rest 0 0) →
-    euc_jp_pair i j false (get_or rest 0 0) (get_or rest 1 0) ≡ Some c → steps (euc_jp i j) false s (take 2 rest) ≡ record {
+    euc_jp_pair i j false (get_or rest 0 0) (get_or rest 1 0) ≡ Some c → steps (euc_jp i j) false s (take 2 rest)
+    ≡ record {
       text = c ∷ [];
       state = euc_jp_start;
     }
@@ -134,10 +136,11 @@ euc_two i j s rest c e l lead pair =
     (euc_lead i j a lead)
     (euc_trail i j a (get_or rest 1 0) c lead pair))
 
-pub euc_ascii : (i j : Index) (s : EucJp) → s ≡ euc_jp_start → (b : ℕ) → b < 128 → steps (euc_jp i j) false s (b ∷ []) ≡ record {
-  text = b ∷ [];
-  state = s;
-}
+pub euc_ascii : (i j : Index) (s : EucJp) → s ≡ euc_jp_start → (b : ℕ) → b < 128 → steps (euc_jp i j) false s (b ∷ [])
+    ≡ record {
+      text = b ∷ [];
+      state = s;
+    }
 euc_ascii i j s e b l = euc_one i j s (b ∷ []) e (omega arith) l ∙ ap (λ (z : EucJp). record {
   text = b ∷ [];
   state = z;
@@ -145,7 +148,8 @@ euc_ascii i j s e b l = euc_one i j s (b ∷ []) e (omega arith) l ∙ ap (λ (z
 
 pub euc_pairs : {A : Type 0} (now : A → ℕ) (i j : Index) (s : EucJp) (a b : ℕ) (o : Option A) → s ≡ euc_jp_start
     → OnSome o (IsRow a) →
-    IfSome o (λ c. euc_jp_pair i j false a b ≡ Some (now c)) → IfSome o (λ c. steps (euc_jp i j) false s (a ∷ b ∷ []) ≡ record {
+    IfSome o (λ c. euc_jp_pair i j false a b ≡ Some (now c))
+    → IfSome o (λ c. steps (euc_jp i j) false s (a ∷ b ∷ []) ≡ record {
       text = now c ∷ [];
       state = s;
     })

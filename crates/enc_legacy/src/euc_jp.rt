@@ -1,8 +1,8 @@
 //! The decoder of EUC-JP.
 
-ghost use Rattle.std.specs.Prelude.{◌≡◌, OnOk, OnSome, IfSome, true, false, ◌<◌, ◌≤◌, ◌+◌, [], ◌∷◌, Some, None};
+ghost use Rattle.std.specs.Prelude.{◌≡◌, OnOk, OnSome, IfSome, true, false, ◌<◌, ◌+◌, [], Some, None};
 ghost use Rattle.enc_legacy.specs.EucJpState.{IsEucJpState, IsRow};
-ghost use Rattle.enc_model.specs.Stream.{restored_bytes, IsCalm, steps};
+ghost use Rattle.enc_model.specs.Stream.{steps};
 ghost use Rattle.enc_model.specs.Sink.{Given};
 ghost use Rattle.enc_model.specs.Japanese.{EucJp, euc_jp, euc_jp_start, euc_jp_pair};
 ghost use Rattle.enc_model.specs.Indexes.{tables};
@@ -201,9 +201,10 @@ impl EucJpState {
     /// The sink's refusal, at once; nothing more is said of the state then.
     pub fn finish<S: Sink>(&mut self, indexes: &IndexSet, sink: &mut S) -> Result<(), S::Refusal>
         ensures given { Given S.takes S.refuses sink.old
-            (steps (euc_jp (tables indexes.now).jis0208 (tables indexes.now).jis0212) true self.old []).text sink.new result }
-        ensures state { OnOk result
-            (self.new ≡ (steps (euc_jp (tables indexes.now).jis0208 (tables indexes.now).jis0212) true self.old []).state) }
+            (steps (euc_jp (tables indexes.now).jis0208 (tables indexes.now).jis0212) true self.old []).text sink.new
+            result }
+        ensures state { OnOk result (self.new
+            ≡ (steps (euc_jp (tables indexes.now).jis0208 (tables indexes.now).jis0212) true self.old []).state) }
     {
         finish(self, indexes, sink)
     }

@@ -1,11 +1,11 @@
 //! The decoder of ISO-2022-JP.
 
-ghost use Rattle.std.specs.Prelude.{◌≡◌, OnOk, OnSome, IfSome, ◌+◌, ◌-◌, ◌*◌, true, ◌≤◌, ℕ, false, [], ◌∷◌, Some, None};
+ghost use Rattle.std.specs.Prelude.{◌≡◌, OnOk, OnSome, IfSome, ◌+◌, ◌-◌, ◌*◌, true, ◌≤◌, false, [], Some, None};
 ghost use Rattle.enc_legacy.specs.Iso2022State.{IsStand};
-ghost use Rattle.enc_model.specs.Stream.{restored_bytes, IsCalm, steps};
+ghost use Rattle.enc_model.specs.Stream.{restored_bytes, steps};
 ghost use Rattle.enc_model.specs.Sink.{Given};
 ghost use Rattle.enc_model.specs.Japanese.{Iso2022, iso2022, iso2022_start, iso2022_answer, iso2022_byte, iso2022_end};
-ghost use Rattle.enc_model.specs.Japanese.{iso2022_plain, answer_of, escape_of, introducer_byte};
+ghost use Rattle.enc_model.specs.Japanese.{iso2022_plain, escape_of, introducer_byte};
 ghost use Rattle.enc_model.specs.Index.{code};
 ghost use Rattle.enc_model.proofs.Calm.{iso2022_calm};
 ghost use Rattle.enc_model.specs.Indexes.{tables};
@@ -114,7 +114,8 @@ impl Iso2022State {
     /// The end.
     fn end(&mut self) -> (Answer, Restored)
         ensures answer { result.0 ≡ (iso2022_end self.old.place self.old.output self.old.flag).answer }
-        ensures restored { restored_bytes result.1 ≡ (iso2022_end self.old.place self.old.output self.old.flag).restored }
+        ensures restored { restored_bytes result.1
+            ≡ (iso2022_end self.old.place self.old.output self.old.flag).restored }
         ensures state { self.new ≡ (iso2022_end self.old.place self.old.output self.old.flag).state }
     {
         match self.place {
@@ -235,7 +236,8 @@ impl Decoder for Iso2022State {
 fn ready_pair(indexes: &IndexSet, lead: u8, b: u8) -> Option<&Utf8Char>
     ensures lead { OnSome result ((0x21 ≤ lead) × (lead ≤ 0x7E)) }
     ensures trail { OnSome result ((0x21 ≤ b) × (b ≤ 0x7E)) }
-    ensures char { IfSome result (λ c. code (tables indexes.now).jis0208 ((lead - 0x21) * 94 + (b - 0x21)) ≡ Some c.now) }
+    ensures char { IfSome result
+        (λ c. code (tables indexes.now).jis0208 ((lead - 0x21) * 94 + (b - 0x21)) ≡ Some c.now) }
 {
     if lead < 0x21 || 0x7E < lead || b < 0x21 || 0x7E < b {
         return None;

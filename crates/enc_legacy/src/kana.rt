@@ -1,7 +1,7 @@
 //! What the decoders of Japanese text share.
 
 ghost use Rattle.std.specs.Prelude.{◌≡◌, ◌+◌, ◌<◌, ℕ, Option, Some};
-ghost use Rattle.enc_model.specs.Stream.{Step, restored_bytes};
+ghost use Rattle.enc_model.specs.Stream.{restored_bytes};
 ghost use Rattle.enc_model.specs.Japanese.{answer_of, pair_step};
 
 use enc_model::{Answer, Restored};

@@ -1,8 +1,8 @@
 //! The decoder of Shift_JIS.
 
-ghost use Rattle.std.specs.Prelude.{◌≡◌, OnOk, OnSome, IfSome, true, false, ◌⊎◌, ◌<◌, ◌≤◌, ◌+◌, ℕ, [], ◌∷◌, Some, None};
+ghost use Rattle.std.specs.Prelude.{◌≡◌, OnOk, OnSome, IfSome, true, false, ◌<◌, ◌≤◌, ◌+◌, ℕ, [], Some, None};
 ghost use Rattle.enc_legacy.specs.ShiftJis.{IsShiftJisLead, IsShiftJisState};
-ghost use Rattle.enc_model.specs.Stream.{restored_bytes, IsCalm, steps};
+ghost use Rattle.enc_model.specs.Stream.{steps};
 ghost use Rattle.enc_model.specs.Sink.{Given};
 ghost use Rattle.enc_model.specs.Japanese.{shift_jis, shift_jis_at, shift_jis_pair};
 ghost use Rattle.enc_model.specs.Indexes.{tables};
@@ -206,7 +206,8 @@ impl ShiftJisState {
     pub fn finish<S: Sink>(&mut self, indexes: &IndexSet, sink: &mut S) -> Result<(), S::Refusal>
         ensures given { Given S.takes S.refuses sink.old
             (steps (shift_jis (tables indexes.now).jis0208) true self.old []).text sink.new result }
-        ensures state { OnOk result (self.new ≡ (steps (shift_jis (tables indexes.now).jis0208) true self.old []).state) }
+        ensures state { OnOk result
+            (self.new ≡ (steps (shift_jis (tables indexes.now).jis0208) true self.old []).state) }
     {
         finish(self, indexes, sink)
     }

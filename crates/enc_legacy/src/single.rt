@@ -1,7 +1,7 @@
 //! The decoder of the single-byte encodings.
 
 ghost use Rattle.std.specs.Prelude.{◌≡◌, OnOk, true, false, ◌-◌, [], None, Some};
-ghost use Rattle.enc_model.specs.Stream.{restored_bytes, IsCalm, steps};
+ghost use Rattle.enc_model.specs.Stream.{steps};
 ghost use Rattle.enc_model.specs.Sink.{Given};
 ghost use Rattle.enc_model.specs.Japanese.{single};
 ghost use Rattle.enc_model.specs.Indexes.{tables};

@@ -57,7 +57,8 @@ took_char old new c u s e =
     let n : length new ≡ length (old ++ encode c) = ap length e in
     let k = length-encode c in
     record {
-      text = ap chars e ∙ chars-append old (encode c) (IsUtf8-from_is_utf8 old u) ∙ ap (λ z. chars old ++ z) (one_char c s);
+      text = ap chars e ∙ chars-append old (encode c) (IsUtf8-from_is_utf8 old u)
+          ∙ ap (λ z. chars old ++ z) (one_char c s);
       size = omega (arith, size, l, n, k);
     }
 

@@ -107,10 +107,11 @@ four_parts : (c : ℕ) → c / 262144 * 64 + c / 4096 % 64 ≡ c / 4096
 four_parts c = omega arith
 
 -- one character
-two : (c : ℕ) → 128 ≤ c → c < 2048 → all_bytes (byte_of utf8) utf8_start ((192 + c / 64) ∷ (128 + c % 64) ∷ []) ≡ record {
-  text = c ∷ [];
-  state = utf8_start;
-}
+two : (c : ℕ) → 128 ≤ c → c < 2048 → all_bytes (byte_of utf8) utf8_start ((192 + c / 64) ∷ (128 + c % 64) ∷ [])
+    ≡ record {
+      text = c ∷ [];
+      state = utf8_start;
+    }
 two c l h =
     goes utf8_start _ (192 + c / 64) ((128 + c % 64) ∷ []) (lead_two (c / 64) (omega arith) (omega arith))
     ∙ ends _ utf8_start (128 + c % 64) (c / 64 * 64 + c % 64)
@@ -143,7 +144,8 @@ three c l h out =
     parts (inr a) = inr (omega arith)
 
 four : (c : ℕ) → 65536 ≤ c → c < 1114112 →
-    all_bytes (byte_of utf8) utf8_start ((240 + c / 262144) ∷ (128 + c / 4096 % 64) ∷ (128 + c / 64 % 64) ∷ (128 + c % 64) ∷ []) ≡ record {
+    all_bytes (byte_of utf8) utf8_start
+    ((240 + c / 262144) ∷ (128 + c / 4096 % 64) ∷ (128 + c / 64 % 64) ∷ (128 + c % 64) ∷ []) ≡ record {
       text = c ∷ [];
       state = utf8_start;
     }

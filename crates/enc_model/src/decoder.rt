@@ -1,10 +1,10 @@
 //! A handler over pieces.
 
-ghost use Rattle.std.specs.Prelude.{◌≡◌, ◌≤◌, length, ℕ, ◌<◌, List, [], ◌∷◌, true, false, Option, None, OnOk, IfOk};
+ghost use Rattle.std.specs.Prelude.{◌≡◌, ◌≤◌, length, ◌<◌, [], ◌∷◌, true, false, Option, None, OnOk, IfOk};
 ghost use Rattle.std.specs.Prelude.{IfErr, take, ◌+◌, ◌*◌};
 ghost use Rattle.enc_model.specs.Front.{IsFront};
 ghost use Rattle.enc_model.specs.Batches.{BatchTook};
-ghost use Rattle.enc_model.specs.Stream.{Step, Handler, Run, IsCalm, restored_bytes, said, steps, quick, all_bytes};
+ghost use Rattle.enc_model.specs.Stream.{Handler, IsCalm, restored_bytes, said, steps, quick, all_bytes};
 ghost use Rattle.enc_model.specs.Stream.{end_to};
 ghost use Rattle.enc_model.specs.Sink.{Given};
 
@@ -67,7 +67,8 @@ fn again<D: Decoder, S: Sink>(
     byte: u8,
     sink: &mut S,
 ) -> Result<(), S::Refusal>
-    ensures given { Given S.takes S.refuses sink.old (quick (D.handler tables.now) state.old byte).text sink.new result }
+    ensures given { Given S.takes S.refuses sink.old (quick (D.handler tables.now) state.old byte).text sink.new
+        result }
     ensures state { OnOk result (state.new ≡ (quick (D.handler tables.now) state.old byte).state) }
 {
     let (answer, _restored) = state.read(tables, Some(byte));

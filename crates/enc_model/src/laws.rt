@@ -1,14 +1,13 @@
 //! The laws of the definitions, each as the contract of a function that does nothing.
 
-ghost use Rattle.std.specs.Prelude.{◌≡◌, ◌++◌, ◌∷◌, [], List, ℕ, Bool, true, false, Option, Some, None};
+ghost use Rattle.std.specs.Prelude.{◌≡◌, ◌++◌, List, ℕ, Bool, true, false, None};
 ghost use Rattle.enc_model.specs.declared.Encoding.{Encoding};
-ghost use Rattle.enc_model.specs.declared.Mode.{Mode};
 ghost use Rattle.enc_model.specs.Stream.{PutsBack};
 ghost use Rattle.enc_model.specs.Index.{Index};
 ghost use Rattle.enc_model.specs.Utf8.{utf8};
 ghost use Rattle.enc_model.specs.Utf16.{utf16};
 ghost use Rattle.enc_model.specs.Japanese.{single, shift_jis, euc_jp, iso2022};
-ghost use Rattle.enc_model.specs.Encode.{Tables, Coded, behind, coded, encoder};
+ghost use Rattle.enc_model.specs.Encode.{Tables};
 ghost use Rattle.enc_model.specs.Decode.{Decoding, decoding, behind_run, decoded, advance, conclude};
 ghost use Rattle.enc_model.specs.Transcode.{Transcoder, IsAt, stepped, added, so_far};
 

@@ -26,10 +26,11 @@ unfolding fed
 fed_sniffed t e in_effect held piece rest h s =
     ap fed_of (decoded_reading t e (held ++ piece) h ∙ ap (λ z. Reading (decoding t false (decoding_start z.0) z.1)) s)
 
-pub fed_during : (t : Tables) (e : Encoding) (s : Decoding) (piece : List ℕ) → fed t e (During s) piece ≡ (let r = decoding t false s piece in record {
-  text = r.text;
-  phase = During r.state;
-})
+pub fed_during : (t : Tables) (e : Encoding) (s : Decoding) (piece : List ℕ) → fed t e (During s) piece
+    ≡ (let r = decoding t false s piece in record {
+      text = r.text;
+      phase = During r.state;
+    })
 unfolding fed
 fed_during t e s piece = refl
 

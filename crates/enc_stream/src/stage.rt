@@ -1,6 +1,6 @@
 //! Decoding with the sniffing of a BOM, over pieces.
 
-ghost use Rattle.std.specs.Prelude.{◌≡◌, ◌++◌, ◌↔◌, OnOk, IfOk, IsTrue, true, false, []};
+ghost use Rattle.std.specs.Prelude.{◌≡◌, ◌++◌, ◌↔◌, IfOk, IsTrue, false};
 ghost use Rattle.enc_model.specs.Decode.{decoding, decoding_start};
 ghost use Rattle.enc_model.specs.Indexes.{tables};
 ghost use Rattle.enc_model.specs.Sink.{Given};

@@ -1,13 +1,11 @@
 //! The states of decoders as bytes.
 
-ghost use Rattle.std.specs.Prelude.{◌≡◌, ◌≤◌, ◌∷◌, [], length, Some, None, IfSome};
+ghost use Rattle.std.specs.Prelude.{◌≡◌, ◌∷◌, [], Some, None, IfSome};
 ghost use Rattle.enc_model.specs.Utf8.{Utf8};
 ghost use Rattle.enc_model.specs.Utf16.{Utf16};
 ghost use Rattle.enc_model.specs.Japanese.{EucJp, Iso2022};
-ghost use Rattle.enc_model.specs.Decode.{OfUtf8, OfUtf16, OfShiftJis, OfEucJp, OfIso2022};
+ghost use Rattle.enc_model.specs.Decode.{OfUtf8, OfUtf16, OfEucJp, OfIso2022};
 ghost use Rattle.enc_legacy.specs.ShiftJis.{IsShiftJisState};
-ghost use Rattle.enc_legacy.specs.EucJpState.{IsEucJpState};
-ghost use Rattle.enc_legacy.specs.Iso2022State.{IsStand};
 ghost use Rattle.lane_kernels.specs.Orders.{is_big};
 ghost use Rattle.enc_stream.specs.StateBytes.{IsReached, padded, decoder_bytes};
 

@@ -1,12 +1,12 @@
 //! The code of what is decoded.
 
-ghost use Rattle.std.specs.Prelude.{◌≡◌, ◌++◌, ◌<◌, ◌≤◌, ◌+◌, length, None, false, OnOk, IfOk, IfErr, vec_capacity};
+ghost use Rattle.std.specs.Prelude.{◌≡◌, ◌<◌, ◌≤◌, false, OnOk, IfOk, IfErr, vec_capacity};
 ghost use Rattle.enc_encode.specs.State.{shifted, code_from};
-ghost use Rattle.enc_model.specs.Encode.{InAscii, encoder_end, ended_coded};
+ghost use Rattle.enc_model.specs.Encode.{InAscii, ended_coded};
 ghost use Rattle.enc_model.specs.Indexes.{tables};
-ghost use Rattle.enc_model.specs.Transcode.{GrownByPrefix, fed, fed_end};
+ghost use Rattle.enc_model.specs.Transcode.{fed, fed_end};
 ghost use Rattle.enc_stream.specs.Stage.{phase_at, is_done_at, is_spent_at};
-ghost use Rattle.enc_stream.specs.Standing.{Stops, IsStopped, IsWritten};
+ghost use Rattle.enc_stream.specs.Standing.{IsStopped, IsWritten};
 
 use crate::error::TranscodeError;
 use crate::stage::{Stage, conclude, go_on};

@@ -1,4 +1,5 @@
-//! The index files of the Encoding Standard: the code point at each pointer in hexadecimal, and 0000 where there is none.
+//! The index files of the Encoding Standard: the code point at each pointer in hexadecimal, and 0000 where there is
+//! none.
 
 /// index-jis0208.txt
 #[rattlefmt::skip]

@@ -2,9 +2,7 @@
 
 ghost use Rattle.std.specs.Prelude.{◌≤◌};
 
-use lane_kernels::{
-    Order, Pairing, Step, ascii_front, narrow, narrow_front, plain_front_2022, scalar_front,
-};
+use lane_kernels::{Order, Pairing, Step, ascii_front, narrow, plain_front_2022, scalar_front};
 use std::process::Abort;
 
 /// The longest prefix below 80 without some, a byte at a time.
@@ -82,25 +80,6 @@ fn narrowing(rt: HostRuntime) {
                 narrows(&rt, &units[..length], length / 2);
                 narrows(&rt, &units[..length], length);
             }
-        }
-    }
-}
-
-/// Whether the fixed form gives of 32 units what the other gives.
-fn narrows_front(units: &[u16; 32]) -> bool {
-    let mut out = [0; 32];
-    let count = narrow(units, &mut out);
-    let (bytes, front) = narrow_front(units);
-    front == count && front <= 32 && bytes[..front] == out[..front]
-}
-
-#[test]
-fn narrowing_32_units(rt: HostRuntime) {
-    for place in 0..32 {
-        for stop in [0x00, 0x7F, 0x80, 0x100, 0x141, 0xFF61] {
-            let mut units = [0x61; 32];
-            units[place] = stop;
-            assert!(rt; narrows_front(&units), "{stop} at {place}");
         }
     }
 }

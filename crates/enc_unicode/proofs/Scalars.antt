@@ -1,8 +1,8 @@
 -- The scalars of units in a batch, unit by unit.
 use Rattle.std.proofs.Common.{ℕ, suc, ◌+◌, ◌*◌, ◌<◌, ◌≤◌, ◌≡◌, Bool, true, false, cond, take, List, [], ◌∷◌, ◌++◌}
 use Rattle.std.proofs.Common.{Option, Some, None, All, refl, sym, ◌∙◌, ap, subst, arith, length, length-append, drop}
-use Rattle.std.proofs.Common.{take, get_or, append_assoc, append-nil}
-use Rattle.std.proofs.Math.Seq.{drop-cons, take-length}
+use Rattle.std.proofs.Common.{get_or, append_assoc, append-nil, min}
+use Rattle.std.proofs.Math.Seq.{drop-cons, take-append_seam, take-length}
 use Rattle.std.proofs.lemmas.List.{take_all, length-take-le, get_or-take}
 use Rattle.std.proofs.lemmas.List.Sums.{prefix_len-le-length, prefix_len_passes}
 use Rattle.std.specs.List.{prefix_len}
@@ -94,13 +94,26 @@ unit_scalar_at units at n all inside small =
     is_scalar : (c : ℕ) → c < 65536 → is_scalar_unit c ≡ true → IsScalar c
     is_scalar c small p = grind (arith, nat_tests, p)
 
+-- the bytes of units below 80 stand in front
+pub narrowed_front : (units old new : List ℕ) (n : ℕ) → n ≡ min (prefix_len is_ascii units) (length old)
+    → new ≡ take n units ++ drop n old → take n new ≡ take n units
+narrowed_front units old new n count written =
+    let long : length (take n units) ≡ n =
+    length-take-le n units (omega (arith, count, prefix_len-le-length is_ascii units)) in
+    ap (take n) written ∙ subst (λ k. take k (take n units ++ drop n old) ≡ take n units) long
+    (take-append_seam (take n units) (drop n old))
+
 -- units that are all below 80 are their own bytes
-pub narrowed : (units bytes : List ℕ) (n : ℕ) → length units ≡ 32 → length bytes ≡ 32 → n ≡ 32 →
-    n ≡ prefix_len is_ascii units → take n bytes ≡ take n units → (bytes ≡ units) × All (λ u. u < 128) bytes
-narrowed units bytes n long size all front there =
-    let same : bytes ≡ units =
-    sym (take_all n bytes (omega (arith, size, all))) ∙ there ∙ take_all n units (omega (arith, long, all)) in
-    let low = subst (λ k. All (λ u. u < 128) (take k units)) (omega (arith, front, all, long)) (front_all units) in
+pub narrowed : (units old new : List ℕ) (n : ℕ) → length units ≡ 32 → n ≡ 32
+    → n ≡ min (prefix_len is_ascii units) (length old) → new ≡ take n units ++ drop n old
+    → (take 32 new ≡ units) × All (λ u. u < 128) (take 32 new)
+narrowed units old new n long all count written =
+    let same : take 32 new ≡ units =
+    subst (λ k. take k new ≡ take k units) all (narrowed_front units old new n count written)
+    ∙ take_all 32 units (omega (arith, long)) in
+    let front : prefix_len is_ascii units ≡ length units =
+    omega (arith, all, count, long, prefix_len-le-length is_ascii units) in
+    let low = subst (λ k. All (λ u. u < 128) (take k units)) front (front_all units) in
     (same, subst (λ z. All (λ u. u < 128) z) (take-length units ∙ sym same) low)
 
 -- units without surrogates are scalars of their own

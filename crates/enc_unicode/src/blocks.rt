@@ -1,18 +1,18 @@
 //! Bytes of UTF-16, 32 units at a time where they are paired.
 
-ghost use Rattle.std.specs.Prelude.{◌≡◌, ◌<◌, ◌≤◌, ◌+◌, ◌*◌, false, All, length, take};
+ghost use Rattle.std.specs.Prelude.{◌≡◌, ◌<◌, ◌≤◌, ◌+◌, ◌*◌, false, length, take};
 ghost use Rattle.std.specs.Bool.{OnTrue, OnFalse};
 ghost use Rattle.enc_model.specs.Batches.{BatchTook};
 ghost use Rattle.enc_model.specs.Stream.{steps};
 ghost use Rattle.enc_model.specs.Utf16.{utf16};
 ghost use Rattle.lane_kernels.specs.Orders.{is_big};
 ghost use Rattle.lane_kernels.specs.Steps.{scalar_text, scalars_of, step_text, unit_scalar};
-ghost use Rattle.lane_kernels.specs.Units.{IsCarried, lead_of};
+ghost use Rattle.lane_kernels.specs.Units.{IsCarried};
 
 use crate::scalar_units::{CODE, write_scalars};
 use enc_model::{Batch, ROOM};
 use lane_kernels::{
-    Order, Pairing, Step, lead_in, narrow_front, paired, paired_units_decode, scalar_front,
+    Order, Pairing, Step, lead_in, narrow, paired, paired_units_decode, scalar_front,
 };
 use std::str::from_utf8_unchecked;
 
@@ -68,12 +68,11 @@ fn push_paired(carried: Option<u16>, units: &[u16; 32], batch: &mut Batch)
     requires room { length batch.old + 128 ≤ ROOM }
     ensures { BatchTook batch.old (scalars_of carried units.now) batch.new }
 {
-    let (bytes, ascii) = narrow_front(units);
+    let mut code = [0; CODE];
+    let ascii = narrow(units, &mut code);
     if ascii == 32 {
-        batch.push_ascii(&bytes);
+        batch.push_ascii(&code[..32]);
     } else if scalar_front(units) == 32 {
-        let mut code = [0; CODE];
-        code[..32].copy_from_slice(&bytes);
         let len = write_scalars(units, ascii, &mut code);
         batch.push_str(unsafe { from_utf8_unchecked(&code[..len]) });
     } else {

@@ -1,12 +1,12 @@
 //! The decoder of UTF-16.
 
-ghost use Rattle.std.specs.Prelude.{◌≡◌, OnOk, true, false, ◌<◌, ◌≤◌, ◌+◌, ◌-◌, ◌*◌, [], ◌∷◌, Some, None};
+ghost use Rattle.std.specs.Prelude.{◌≡◌, OnOk, true, false, ◌<◌, ◌-◌, ◌*◌, [], Some, None};
 ghost use Rattle.enc_unicode.specs.Utf16State.{InOrder};
 ghost use Rattle.lane_kernels.specs.Orders.{is_big};
 ghost use Rattle.lane_kernels.specs.Units.{IsCarried};
-ghost use Rattle.enc_model.specs.Stream.{restored_bytes, IsCalm, steps};
+ghost use Rattle.enc_model.specs.Stream.{restored_bytes, steps};
 ghost use Rattle.enc_model.specs.Sink.{Given};
-ghost use Rattle.enc_model.specs.Utf16.{Utf16, utf16, utf16_start, unit_of, utf16_unit, utf16_end};
+ghost use Rattle.enc_model.specs.Utf16.{Utf16, utf16, utf16_start, utf16_unit, utf16_end};
 ghost use Rattle.enc_model.proofs.Calm.{utf16_calm};
 
 use crate::blocks::decode_block;
@@ -207,7 +207,8 @@ impl Utf16State {
         ensures given { Given S.takes S.refuses sink.old
             (steps (utf16 self.old.big) false self.old.state piece.now).text sink.new result }
         ensures order { self.new.big ≡ self.old.big }
-        ensures state { OnOk result (self.new.state ≡ (steps (utf16 self.old.big) false self.old.state piece.now).state) }
+        ensures state { OnOk result
+            (self.new.state ≡ (steps (utf16 self.old.big) false self.old.state piece.now).state) }
     {
         feed(&mut self.units, &self.order, piece, sink)
     }

@@ -3,7 +3,7 @@
 ghost use Rattle.std.specs.Prelude.{◌≡◌, ◌≢◌, IfSome, IfNone, IfOk, IfErr, OnOk, true, false, ◌<◌, ◌≤◌, ◌+◌, ◌*◌, []};
 ghost use Rattle.std.specs.Prelude.{◌∷◌, length, take, Some};
 ghost use Rattle.enc_unicode.specs.Utf8State.{IsUtf8State, IsBehind, utf8_behind};
-ghost use Rattle.enc_model.specs.Stream.{restored_bytes, IsCalm, steps};
+ghost use Rattle.enc_model.specs.Stream.{steps};
 ghost use Rattle.enc_model.specs.Sink.{Given};
 ghost use Rattle.enc_model.specs.Batches.{BatchTook};
 ghost use Rattle.enc_model.specs.Utf8.{Utf8, utf8, utf8_start, utf8_first, utf8_next};
@@ -230,7 +230,8 @@ impl Utf8State {
     /// Gives the sink the texts that bytes begin with, one window after the other, and says how far they go.
     fn give_texts<S: Sink>(&self, bytes: &[u8], sink: &mut S) -> Result<usize, S::Refusal>
         ensures within { IfOk result (λ n. n ≤ length bytes.now) }
-        ensures taken { IfOk result (λ n. S.takes sink.old (steps utf8 false self.now (take n bytes.now)).text sink.new) }
+        ensures taken { IfOk result
+            (λ n. S.takes sink.old (steps utf8 false self.now (take n bytes.now)).text sink.new) }
         ensures refused { IfErr result (λ e. S.refuses sink.old (steps utf8 false self.now bytes.now).text e sink.new) }
         ensures state { IfOk result (λ n. self.now ≡ (steps utf8 false self.now (take n bytes.now)).state) }
     {
@@ -291,7 +292,8 @@ impl Utf8State {
         requires front { text.now ≡ take (length text.now) rest.now }
         requires start { 0 < length text.now → self.old ≡ utf8_start }
         ensures some { IfOk result (λ n. (0 < n) × (n ≤ length rest.now)) }
-        ensures taken { IfOk result (λ n. S.takes sink.old (steps utf8 false self.old (take n rest.now)).text sink.new) }
+        ensures taken { IfOk result
+            (λ n. S.takes sink.old (steps utf8 false self.old (take n rest.now)).text sink.new) }
         ensures refused { IfErr result (λ e. S.refuses sink.old (steps utf8 false self.old rest.now).text e sink.new) }
         ensures state { IfOk result (λ n. self.new ≡ (steps utf8 false self.old (take n rest.now)).state) }
     {

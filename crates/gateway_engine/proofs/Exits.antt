@@ -37,7 +37,8 @@ begins v same stands is = record {
   history = record {
     state = refl;
     output = refl;
-    images = subst (λ c. LimitsTo (v.u.moment c) (v.u.moment v.now) (v.u.left_only c) (v.u.left_only v.now) (stores_of v.st [])) (sym same) (limits_none (v.u.moment v.now) (v.u.left_only v.now) (stores_of v.st []));
+    images = subst (λ c. LimitsTo (v.u.moment c) (v.u.moment v.now) (v.u.left_only c) (v.u.left_only v.now)
+        (stores_of v.st [])) (sym same) (limits_none (v.u.moment v.now) (v.u.left_only v.now) (stores_of v.st []));
   };
 }
 
@@ -276,7 +277,8 @@ pub shows_through : {U B : Type 0} (u : Ghosts U B) (before first last now : U) 
 shows_through u before first last now stores same quiet shows =
     subst (λ b. LimitsTo (u.moment b) (u.moment now) (u.left_only b) (u.left_only now) stores) same (record {
       later = omega (arith, shows.later, quiet.later);
-      limits = λ n t ms le left among. quiet.keeps n t ms (omega (arith, shows.later)) (shows.limits n t ms le left among);
+      limits = λ n t ms le left among.
+          quiet.keeps n t ms (omega (arith, shows.later)) (shows.limits n t ms le left among);
     })
 
 pub last_through : {U B : Type 0} (u : Ghosts U B) (last now : U) (st : State) (past : List Marked)

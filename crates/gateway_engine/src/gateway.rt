@@ -4,8 +4,6 @@ ghost use Rattle.upload_rules.specs.Store.{Store};
 ghost use Rattle.upload_rules.specs.World.{at_rest};
 ghost use Rattle.upload_rules.specs.Answers.{Quiet};
 ghost use Rattle.tus_session.specs.History.{State, beginning};
-ghost use Rattle.tus_session.specs.Places.{places_of};
-ghost use Rattle.tus_session.specs.Stands.{SessionStands};
 ghost use Rattle.gateway_engine.specs.Gateways.{GatewayStands, store_of, is_down};
 
 use gateway_script::Connections;

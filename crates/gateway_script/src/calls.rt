@@ -2,7 +2,6 @@
 ghost use Rattle.std.specs.Prelude.{ℕ, List, Option, IsErrOf};
 ghost use Rattle.upload_rules.specs.Answers.{Counts};
 ghost use Rattle.tus_session.specs.History.{State, Opened, Came, More, Ended};
-ghost use Rattle.tus_session.specs.Faults.{error_number};
 ghost use Rattle.gateway_script.specs.Script.{Run, call};
 ghost use Rattle.gateway_script.specs.Runs.{view, IsAt, Went, Refuses, Called, Tells};
 

@@ -33,7 +33,8 @@ fn give_text<C: Connections, W: CountedWrite>(
 ) -> Result<bool, CallFault>
     ensures does { (before : C) (st : State) (r : Run) (front : Option (List ℕ))
         → IsAt (view C.Connections before core.old st (W.contents writer.old) front) r
-        → Flowed (view C.Connections before core.new st (W.contents writer.new) front) result (mores most_calls conn) r }
+        → Flowed (view C.Connections before core.new st (W.contents writer.new) front) result (mores most_calls conn)
+        r }
     ensures counts { Counts (IsErrOf result CallFault.DiskFault) (C.failures core.old) (C.failures core.new) }
     ensures io { Counts (IsErrOf result CallFault.Io) (W.refusals writer.old) (W.refusals writer.new) }
 {

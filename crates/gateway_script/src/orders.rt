@@ -1,5 +1,5 @@
 //! The lines of a script.
-ghost use Rattle.std.specs.Prelude.{◌≡◌, IfOk, option_map};
+ghost use Rattle.std.specs.Prelude.{◌≡◌, IfOk};
 ghost use Rattle.gateway_script.specs.Script.{bared, order_of, conn_number, order_of_word};
 ghost use Rattle.gateway_script.specs.Shown.{order_shown, say_of, came_of};
 

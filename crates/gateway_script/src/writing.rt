@@ -1,9 +1,8 @@
 //! What a script's run writes.
-ghost use Rattle.std.specs.Prelude.{◌≡◌, ◌++◌, OnOk, OnErr, IsErrOf, ◌⊎◌};
+ghost use Rattle.std.specs.Prelude.{◌≡◌, ◌++◌, OnOk, IsErrOf};
 ghost use Rattle.std.specs.Io.KnownBytes.{Appends};
 ghost use Rattle.upload_rules.specs.Answers.{Counts};
-ghost use Rattle.tus_session.specs.Faults.{error_number};
-ghost use Rattle.gateway_script.specs.Script.{written_bytes, written_close, written_refusal};
+ghost use Rattle.gateway_script.specs.Script.{written_bytes, written_close};
 ghost use Rattle.gateway_script.specs.Outputs.{IsWriteFault, AppendsPart, count_line, refusal_bytes};
 
 use crate::faults::CallFault;
@@ -84,7 +83,8 @@ pub(crate) fn report(
     closes: bool,
     out: &mut Vec<u8>,
 ) -> Result<(), AllocError>
-    ensures { OnOk result (out.new.items ≡ out.old.items ++ (written_bytes conn bytes.now ++ written_close conn closes)) }
+    ensures { OnOk result
+        (out.new.items ≡ out.old.items ++ (written_bytes conn bytes.now ++ written_close conn closes)) }
 {
     report_bytes(alloc, conn, bytes, out)?;
     report_close(alloc, conn, closes, out)

@@ -139,7 +139,8 @@ one_more_left {S} i places d p' ended ended' st past inside with all = λ k. let
             λ le.
                 subst (λ (x : Place S). PlaceFell x (seen_of k ended') st past k)
                 (sym (get_or-set_other places i k p' Free ne))
-                (subst (λ x. PlaceFell (get_or places k Free) x st past k) (sym others) ((all k).1 (omega (arith, le)))),
+                (subst (λ x. PlaceFell (get_or places k Free) x st past k) (sym others)
+                ((all k).1 (omega (arith, le)))),
           )
     ]
 

@@ -11,7 +11,7 @@ mod units;
 
 pub use front::{ascii_front, plain_front_2022};
 pub use laws::paired_units_decode;
-pub use narrowing::{narrow, narrow_front};
+pub use narrowing::narrow;
 pub use order::Order;
 pub use pairing::{Pairing, Step};
 pub use units::{lead_in, paired, scalar_front, unit_in};

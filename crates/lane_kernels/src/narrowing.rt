@@ -1,6 +1,6 @@
 //! Units below 80 as bytes.
 
-ghost use Rattle.std.specs.Prelude.{◌≡◌, ◌+◌, ◌≤◌, ◌%◌, ◌++◌, length, map, take, drop, min};
+ghost use Rattle.std.specs.Prelude.{◌≡◌, ◌+◌, ◌≤◌, ◌++◌, length, take, drop, min};
 ghost use Rattle.std.specs.Simd.Lanes.{chunk, put_chunk};
 ghost use Rattle.std.specs.List.{prefix_len};
 ghost use Rattle.std.specs.Char.{is_ascii};
@@ -14,25 +14,6 @@ fn ascii_lanes(lanes: u16x32) -> usize
     ensures { result ≡ prefix_len is_ascii lanes }
 {
     first_set(lanes.simd_ge(u16x32::splat(0x80)).to_bitmask(), LANES)
-}
-
-/// The low seven bits of each of the lanes.
-#[inline(always)]
-fn low_bits(lanes: u16x32) -> u8x32
-    ensures { result ≡ map (λ unit. unit % 128) lanes }
-{
-    (lanes & u16x32::splat(0x7F)).cast::<u8>()
-}
-
-/// Bytes, and how many of them, from the first, are those of units below 80: as many as there are before the first that
-/// isn't.
-#[inline(always)]
-pub fn narrow_front(units: &[u16; 32]) -> ([u8; 32], usize)
-    ensures front { result.1 ≡ prefix_len is_ascii units.now }
-    ensures bytes { take result.1 result.0 ≡ take result.1 units.now }
-{
-    let lanes = u16x32::from_array(*units);
-    (low_bits(lanes).to_array(), ascii_lanes(lanes))
 }
 
 /// How many of the lanes at a place are below 80 before the first that isn't.
@@ -89,6 +70,9 @@ pub fn narrow(units: &[u16], out: &mut [u8]) -> usize
     {
         write_lanes(units, out, at);
         at += LANES;
+    }
+    if at == units.len() {
+        return at;
     }
     narrow_by_units(units, out, at)
 }

@@ -1,12 +1,12 @@
 //! UTF-16 across pieces.
 
-ghost use Rattle.std.specs.Prelude.{◌≡◌, ◌↔◌, ◌+◌, ◌-◌, ◌*◌, [], ◌∷◌, IsTrue, true, false, Some, None};
+ghost use Rattle.std.specs.Prelude.{◌≡◌, ◌↔◌, ◌-◌, ◌*◌, [], ◌∷◌, IsTrue, true, false, Some, None};
 ghost use Rattle.std.specs.Bool.{OnTrue, OnFalse};
 ghost use Rattle.enc_model.specs.Stream.{steps};
 ghost use Rattle.enc_model.specs.declared.Answer.TheVariants.{Error};
-ghost use Rattle.enc_model.specs.Utf16.{Utf16, utf16, utf16_start, unit_of};
+ghost use Rattle.enc_model.specs.Utf16.{Utf16, utf16, utf16_start};
 ghost use Rattle.lane_kernels.specs.Orders.{is_big};
-ghost use Rattle.lane_kernels.specs.Units.{IsCarried, is_lead, is_trail, ArePaired, last_lead, lead_of, left_over};
+ghost use Rattle.lane_kernels.specs.Units.{IsCarried, ArePaired, last_lead, lead_of, left_over};
 ghost use Rattle.lane_kernels.specs.Units.{units_of, with_carried};
 ghost use Rattle.lane_kernels.specs.Steps.{step_text, unit_fault, unit_scalar};
 

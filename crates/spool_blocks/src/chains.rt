@@ -92,7 +92,8 @@ impl Chains {
         requires { slot < 512 }
         ensures size { IfOk result (λ list. length list.items ≡ slot_count slot self.now) }
         ensures listed { IfOk result
-            (λ list. (i : ℕ) → i < length list.items → IsWhole slot self.now → Owns self.now (get_or list.items i 0) slot i) }
+            (λ list. (i : ℕ) → i < length list.items → IsWhole slot self.now
+            → Owns self.now (get_or list.items i 0) slot i) }
     {
         let at = slot as usize;
         let mut list = vec![in alloc; 0; self.counts[at] as usize]?;

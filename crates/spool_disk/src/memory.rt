@@ -43,7 +43,8 @@ impl MemoryDisk {
     pub fn crash(self, kind: Crash) -> Self
         ensures size { size_of result ≡ size_of self }
         ensures image { IsImage (bytes_of self) (loose_of self) (bytes_of result) }
-        ensures left { (p : ℕ) → loose_of self p → bytes_of result p ≡ left_by kind (synced_of self p) (bytes_of self p) }
+        ensures left { (p : ℕ) → loose_of self p → bytes_of result p
+            ≡ left_by kind (synced_of self p) (bytes_of self p) }
         ensures old { kind ≡ Crash.Old → (p : ℕ) → bytes_of result p ≡ synced_of self p }
         ensures synced { (p : ℕ) → synced_of result p ≡ bytes_of result p }
         ensures firm { (p : ℕ) → loose_of result p → ⊥ }
@@ -68,7 +69,8 @@ impl MemoryDisk {
 fn tear(written: &mut [u8], synced: &[u8], unsynced: &[bool], kind: Crash)
     requires same { length synced.now ≡ length written.old }
     requires marked { length unsynced.now ≡ length written.old }
-    ensures kept { (p : ℕ) → (get_or unsynced.now p false ≡ true → ⊥) → get_or written.new p 0 ≡ get_or written.old p 0 }
+    ensures kept { (p : ℕ) → (get_or unsynced.now p false ≡ true → ⊥) → get_or written.new p 0
+        ≡ get_or written.old p 0 }
     ensures left { (p : ℕ) → get_or unsynced.now p false ≡ true → get_or written.new p 0 ≡ left_by kind
         (get_or synced.now p 0) (get_or written.old p 0) }
 {

@@ -1,5 +1,5 @@
 // An append under way on a disk.
-ghost use Rattle.std.specs.Prelude.{◌≡◌, ◌⊎◌, get_or, ◌≤◌, ◌*◌, ◌+◌, ◌<◌, ◌/◌, ◌%◌, ◌-◌, ◌↔◌, ◌^◌, ℕ, List, [], true};
+ghost use Rattle.std.specs.Prelude.{◌≡◌, ◌⊎◌, get_or, ◌≤◌, ◌*◌, ◌+◌, ◌<◌, ◌/◌, ◌-◌, ◌↔◌, ◌^◌, ℕ, List, []};
 ghost use Rattle.std.specs.Prelude.{false, min, length, IsOk, IsErrOf, OnOk, IfOk};
 ghost use Rattle.enc_model.specs.Indexes.{IndexSet as Indexes};
 ghost use Rattle.spool_disk.specs.Disk.{Counts, IsImage, Keeps as OnlyRead};

@@ -1,14 +1,14 @@
 // The new text of a draft, on reserved blocks.
-ghost use Rattle.std.specs.Prelude.{◌≡◌, ◌≢◌, get_or, ◌≤◌, ◌*◌, ◌+◌, ◌%◌, ◌/◌, ◌<◌, ◌++◌, ◌↔◌, ◌^◌, ℕ, List, [], true};
-ghost use Rattle.std.specs.Prelude.{false, None, length, IsOk, IsErr, IsErrOf, OnOk, IfOk};
+ghost use Rattle.std.specs.Prelude.{◌≡◌, get_or, ◌≤◌, ◌*◌, ◌+◌, ◌%◌, ◌/◌, ◌<◌, ◌++◌, ◌↔◌, ℕ, List, [], true};
+ghost use Rattle.std.specs.Prelude.{false, None, length, IsOk, IsErrOf, OnOk, IfOk};
 ghost use Rattle.spool_disk.specs.Disk.{Counts, IsImage, Keeps};
 ghost use Rattle.spool_disk.specs.Views.{Lasts};
 ghost use Rattle.spool_journal.specs.Image.{journal_pages, all_pages};
-ghost use Rattle.spool_texts.specs.Drafts.{IsReserved, GivesBack, bytes_with, content_on, held_count};
+ghost use Rattle.spool_texts.specs.Drafts.{IsReserved, GivesBack, bytes_with, content_on};
 ghost use Rattle.spool_texts.specs.TextOn.{AllBelow, text_on};
-ghost use Rattle.spool_drafts.specs.Effect.{Effect, Regrasps, RunsShort};
+ghost use Rattle.spool_drafts.specs.Effect.{Effect, Regrasps};
 ghost use Rattle.spool_drafts.specs.Growth.{list_on, tail_list, front_on, bytes_on, count_with, IsTailed, HoldsLen};
-ghost use Rattle.spool_drafts.specs.Growth.{HoldsCount, GrowsTo, ClosesAs};
+ghost use Rattle.spool_drafts.specs.Growth.{GrowsTo, ClosesAs};
 ghost use Rattle.upload_rules.specs.declared.errors.UploadRefusal.{UploadRefusal as Refusal};
 
 use spool_blocks::{BlockNo, Blocks};

@@ -1,5 +1,7 @@
 -- What an upgrade leaves.
-use Rattle.std.proofs.Common.{◌≡◌, ◌⊎◌, inl, inr, ℕ, ◌*◌, ◌≤◌, ◌∙◌, Result, Ok, Err, IfErr, OnOk, refl, sym, ap, subst, ⊎_elim}
+use Rattle.std.proofs.Common.{◌≡◌, ◌⊎◌, ◌∙◌, inl, inr, ℕ, ◌*◌, ◌≤◌, Result, Ok, Err, IfErr, OnOk, refl, sym, ap, subst}
+use Rattle.std.proofs.Common.{⊎_elim}
+use Rattle.std.specs.Result.{IsErrAnd}
 use Rattle.std.proofs.Common.{arith}
 use Rattle.spool_disk.specs.Disk.{IsImage}
 use Rattle.spool_disk.specs.Views.{Lasts}
@@ -14,23 +16,21 @@ use Rattle.spool_pages.specs.View.{View, IsViewOf, Stands, state_page, state_pla
 use Rattle.spool_pages.specs.declared.version.Version.{Version}
 use Rattle.spool_pages.specs.declared.version.Version.TheVariants.{One, Two}
 use Rattle.spool_pages.proofs.Resting.{rests_image, shut_is}
-use Rattle.spool_kept.specs.Holding.{Holding}
-use Rattle.spool_kept.specs.Kept.{KeepsAlone}
 use Rattle.spool_kept.specs.Shows.{ImageShows, IsSound}
 use Rattle.spool_kept.specs.declared.error.OpenFault.{OpenFault}
 use Rattle.spool_kept.specs.declared.error.OpenFault.TheVariants.{NotASpool, DiskFault, Damaged, NoMemory}
 use Rattle.spool_kept.specs.declared.error.OpenFault.TheVariants as faults
-use Rattle.spool_kept.specs.Loads.{IsLate, LoadsAs}
+use Rattle.spool_kept.specs.Loads.{LoadsAs}
 use Rattle.spool_kept.proofs.Upgraded.{upgraded_shows}
-use Rattle.spool_load.specs.Loaded.{OpenedFrom, FoundOn, IsFoundOf}
+use Rattle.spool_load.specs.Loaded.{FoundOn}
 use Rattle.spool_load.specs.declared.finding.Found.{Found}
 use Rattle.spool_load.specs.Refusals.{HasJournal, NamesVersion, NotFoundFor, RefusedFor}
 use Rattle.spool_load.proofs.Opens.{settled_says}
 use Rattle.spool_load.proofs.Refused.{says_one, unfound_reason, version_one, version_stands}
 use Rattle.spool_image.specs.LeftOnly.{AllShow, IsSpool, LeftOrShows}
-use Rattle.spool_image.specs.Upgrade.{IsAlreadyNew, IsLateRefusal, UpgradedFrom, UpgradeRefusedFor, UpgradesOf}
+use Rattle.spool_image.specs.Upgrade.{IsAlreadyNew, IsLateRefusal, UpgradeRefusedFor, UpgradesOf}
 use Rattle.spool_image.specs.declared.error.UpgradeError.{UpgradeError}
-use Rattle.spool_image.specs.declared.error.UpgradeError.TheVariants.{Open, AlreadyNew}
+use Rattle.spool_image.specs.declared.error.UpgradeError.TheVariants.{Open}
 use Rattle.spool_image.proofs.Opens.{view_room}
 
 -- a recovered spool rests
@@ -61,6 +61,26 @@ refused_late size seen (Err e) (inr is) = subst (UpgradeRefusedFor size seen) (s
 pub on_ok_more : {T E A B : Type 0} (r : Result T E) → (A → B) → OnOk r A → OnOk r B
 on_ok_more (Ok t) more a = more a
 on_ok_more (Err e) more a = tt
+
+-- what holds before a refusal that changes nothing holds behind it
+pub untouched_on : {D T E : Type 0} (P : D → Type 0) (fault : E) (mid new : D) (r : Result T E) → P mid
+    → IfErr r (λ e. (e ≡ fault → ⊥) → new ≡ mid) → IfErr r (λ e. (e ≡ fault → ⊥) → P new)
+untouched_on P fault mid new (Ok t) p same = tt
+untouched_on P fault mid new (Err e) p same = λ fine. subst P (sym (same fine)) p
+
+pub ok_not_err : {T E : Type 0} (r : Result T E) (t : T) (e : E) → r ≡ Ok t → r ≡ Err e → ⊥
+ok_not_err r t e is err = cc
+
+pub if_err : {T E : Type 0} (r : Result T E) (P Q : E → Type 0) → IsErrAnd r P → ((e : E) → P e → Q e) → IfErr r Q
+if_err (Ok t) P Q told more = tt
+if_err (Err e) P Q told more = more e told
+
+pub other_err : {T E : Type 0} (r : Result T E) (e fault : E) → r ≡ Err e → (e ≡ fault → ⊥) → r ≡ Err fault → ⊥
+other_err r e fault is fine bad = fine (ap (error_or fault) (sym is ∙ bad))
+  where
+    error_or : {T E : Type 0} → E → Result T E → E
+    error_or other (Ok t) = other
+    error_or other (Err e) = e
 
 -- what shows behind it
 pub rests_show : {D : Type 0} (disk : Ghosts D) (d' : D) (n : ℕ) (m : Store) (v : View) → v.blocks ≡ n
@@ -154,7 +174,8 @@ unfound_device size seen Damaged P h why = absurd h
 unfound_device size seen NoMemory P h why = absurd why
 unfound_device size seen DiskFault P h why = refl
 
-pub loads_upgrades : {T : Type 0} (U : Type 0) (version : Version) (e : OpenFault) (P : T → Type 0) → LoadsAs {T = T} (Err e) P
+pub loads_upgrades : {T : Type 0} (U : Type 0) (version : Version) (e : OpenFault) (P : T → Type 0)
+    → LoadsAs {T = T} (Err e) P
     → UpgradesOf {T = U} version (Err (Open e))
 loads_upgrades U version NoMemory P h = inr (inl refl)
 loads_upgrades U version DiskFault P h = inr (inr refl)
@@ -178,5 +199,6 @@ behind_shows disk d' n m v (Ok t) same honest room fine done stays old new =
     rests_show disk d' n m (upgraded v) same honest room done new
 behind_shows disk d' n m v (Err e) same honest room fine done stays old new =
     rests_show disk d' n m v same honest room
-    (stays (λ is. fine (subst (λ (x : UpgradeError). ◌≡◌ {A = Result (Unit {0}) UpgradeError} (Err e) (Err x)) is refl)))
+    (stays (λ is. fine (subst (λ (x : UpgradeError). ◌≡◌ {A = Result (Unit {0}) UpgradeError} (Err e) (Err x)) is
+    refl)))
     old

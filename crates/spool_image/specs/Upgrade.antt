@@ -2,8 +2,7 @@
 use Rattle.std.specs.Prelude.{◌≡◌, ◌⊎◌, ℕ, ◌*◌, ◌≤◌, Result, Ok, Err}
 use Rattle.spool_journal.specs.Image.{all_pages, overlaid}
 use Rattle.spool_kept.specs.Shows.{IsSound}
-use Rattle.spool_kept.specs.declared.error.OpenFault.{OpenFault}
-use Rattle.spool_kept.specs.declared.error.OpenFault.TheVariants.{NotASpool, DiskFault, Damaged, NoMemory}
+use Rattle.spool_kept.specs.declared.error.OpenFault.TheVariants.{DiskFault, Damaged, NoMemory}
 use Rattle.spool_load.specs.Reads.{SaysBlocks}
 use Rattle.spool_load.specs.Refusals.{HasJournal, IsDamaged, NamesVersion, RefusedFor}
 use Rattle.spool_pages.specs.Changes.{upgraded}

@@ -1,5 +1,5 @@
 //! Laws of what a crash leaves: what a call promises is what the next opening asks for.
-ghost use Rattle.std.specs.Prelude.{◌≡◌, ◌≤◌, ℕ, List, ◌∷◌, [], Some};
+ghost use Rattle.std.specs.Prelude.{◌≡◌, ℕ, List, Some};
 ghost use Rattle.spool_disk.specs.Disk.{IsImage};
 ghost use Rattle.spool_disk.specs.Views.{Lasts};
 ghost use Rattle.upload_rules.specs.Store.{Store, Upload, upload_of};

@@ -1,6 +1,6 @@
 // A spool is brought to version 2.
 ghost use Rattle.std.specs.Prelude.{◌≡◌, ◌⊎◌, ◌≤◌, ◌*◌, ◌↔◌, ℕ, Err, IfOk, IfErr, OnOk};
-ghost use Rattle.spool_disk.specs.Disk.{Counts, IsImage};
+ghost use Rattle.spool_disk.specs.Disk.{Counts, IsImage, Keeps};
 ghost use Rattle.spool_disk.specs.Views.{Lasts};
 ghost use Rattle.spool_journal.specs.Image.{all_pages, journal_pages, overlaid};
 ghost use Rattle.spool_journal.specs.Phases.{ReadsAs, Settled};
@@ -8,6 +8,7 @@ ghost use Rattle.upload_rules.specs.Store.{Store};
 ghost use Rattle.spool_kept.specs.Kept.{KeepsAlone, KeepsView};
 ghost use Rattle.spool_kept.specs.Shows.{IsSound};
 ghost use Rattle.spool_load.specs.Loaded.{OpenedFrom};
+ghost use Rattle.spool_load.specs.Reads.{NeedsReplay};
 ghost use Rattle.spool_kept.specs.declared.error.OpenFault.{OpenFault as Fault};
 ghost use Rattle.spool_load.specs.Refusals.{HasOtherVersion, IsNoSpool};
 ghost use Rattle.spool_pages.specs.Changes.{upgraded};
@@ -49,6 +50,11 @@ fn load_old<D: Disk>(alloc: Global, disk: &mut D) -> Result<Kept, UpgradeError>
         → 4096 * all_pages v.blocks ≤ D.size disk.old → Lasts D.Disk disk.old disk.new (λ image.
         IsImage (D.seen disk.old) (D.loose disk.old) image
         ⊎ ReadsAs (journal_pages v.blocks) image (overlaid (D.seen disk.old))) }
+    ensures unwritten { D.honest disk.old → (NeedsReplay (D.size disk.old) (D.seen disk.old) → ⊥)
+        → Lasts D.Disk disk.old disk.new (IsImage (D.seen disk.old) (D.loose disk.old)) }
+    ensures same { D.honest disk.old → (NeedsReplay (D.size disk.old) (D.seen disk.old) → ⊥)
+        → (result ≡ Err (UpgradeError.Open Fault.DiskFault) → ⊥)
+        → Keeps (D.seen disk.old) (D.seen disk.new) (D.loose disk.old) (D.loose disk.new) }
 {
     let found = find(disk)?;
     if found.version == Version::Two {
@@ -75,6 +81,7 @@ fn rewrite<D: Disk>(alloc: Global, disk: &mut D, kept: &Kept) -> Result<(), Upgr
     ensures lasts { D.honest disk.old → (v : View) → KeepsView kept.now v
         → Rests v (D.seen disk.old) (D.loose disk.old)
         → Lasts D.Disk disk.old disk.new (λ image. IsViewOf image v ⊎ IsViewOf image (upgraded v)) }
+    ensures untouched { IfErr result (λ e. (e ≡ UpgradeError.Open Fault.DiskFault → ⊥) → disk.new ≡ disk.old) }
 {
     let pages = kept.pages_of_upgrade(alloc)?;
     change(disk, kept.layout(), &pages)?;
@@ -86,7 +93,8 @@ fn rewrite<D: Disk>(alloc: Global, disk: &mut D, kept: &Kept) -> Result<(), Upgr
 ///
 /// # Errors
 ///
-/// As `Spool::open`: `Open(NotASpool)`, then as `recover`, then `Open(Version)`; then `AlreadyNew` where the spool is of
+/// As `Spool::open`: `Open(NotASpool)`, then as `recover`, then `Open(Version)`; then `AlreadyNew` where the spool is
+/// of
 /// version 2; then `Open(Damaged)`. `Open(NoMemory)` where a growth was refused, and `Open(DiskFault)` where the device
 /// failed. Unless the device failed, nothing was changed then but by the recovery.
 pub fn upgrade<D: Disk>(alloc: Global, disk: &mut D) -> Result<(), UpgradeError>
@@ -119,6 +127,14 @@ pub fn upgrade<D: Disk>(alloc: Global, disk: &mut D) -> Result<(), UpgradeError>
         → 4096 * all_pages v.blocks ≤ D.size disk.old
         → IfErr result (λ e. (e ≡ UpgradeError.Open Fault.DiskFault → ⊥)
         → Rests v (D.seen disk.new) (D.loose disk.new)) }
+
+    // A refusal of a spool of which no journal is to be replayed has written nothing, whatever is on the disk.
+    ensures unwritten { D.honest disk.old → (NeedsReplay (D.size disk.old) (D.seen disk.old) → ⊥)
+        → IfErr result (λ e. (e ≡ UpgradeError.Open Fault.DiskFault → ⊥)
+        → Lasts D.Disk disk.old disk.new (IsImage (D.seen disk.old) (D.loose disk.old))) }
+    ensures same { D.honest disk.old → (NeedsReplay (D.size disk.old) (D.seen disk.old) → ⊥)
+        → IfErr result (λ e. (e ≡ UpgradeError.Open Fault.DiskFault → ⊥)
+        → Keeps (D.seen disk.old) (D.seen disk.new) (D.loose disk.old) (D.loose disk.new)) }
 
     // A crash during it leaves what it might have left before, or the same in the old version or in version 2.
     ensures lasts { D.honest disk.old → (v : View) → IsSound v → IsViewOf (D.seen disk.old) v

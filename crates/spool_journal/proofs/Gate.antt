@@ -27,10 +27,11 @@ module _ {j : ℕ} {a b : ℕ → ℕ} where
   })
 
   same_number : j ≤ 385 → 1 ≤ j → SameJournal j a b → (k : ℕ) → k < j → number a k ≡ number b k
-  same_number few some same k below = word_same a b (8196 + 4 * k) (8196 + 4 * k) (λ i lt. same.same (8196 + 4 * k + i) record {
-    from = omega arith;
-    below = omega (arith, lt, below, few, some);
-  })
+  same_number few some same k below =
+      word_same a b (8196 + 4 * k) (8196 + 4 * k) (λ i lt. same.same (8196 + 4 * k + i) record {
+        from = omega arith;
+        below = omega (arith, lt, below, few, some);
+      })
 
   same_content : SameJournal j a b → (k x : ℕ) → k < j → x < 4096 → content a k x ≡ content b k x
   same_content same k x below lt = same.same (4096 * (3 + k) + x) record {
@@ -98,15 +99,17 @@ module _ {j : ℕ} {opened seen image : ℕ → ℕ} {loose : ℕ → Type 0} wh
       gateless p (inr le) e = omega (arith, le, e)
 
       at : (p : ℕ) → (p ≡ 4096 → ⊥) → (Hit opened p → ⊥) → image p ≡ opened p
-      at p away miss = same p away ∙ placed.all p ∙ over_none (number opened) (content opened) opened (count opened) p (λ k lt e. miss record {
-        k = k;
-        below = lt;
-        here = e;
-      })
+      at p away miss = same p away ∙ placed.all p
+          ∙ over_none (number opened) (content opened) opened (count opened) p (λ k lt e. miss record {
+            k = k;
+            below = lt;
+            here = e;
+          })
 
       journal : SameJournal j image opened
       journal = record {
-        same = λ p within. at p (λ e. omega (arith, e, within.from)) (λ hit. omega (arith, hit_from j opened p placed.form hit, within.below));
+        same = λ p within. at p (λ e. omega (arith, e, within.from))
+            (λ hit. omega (arith, hit_from j opened p placed.form hit, within.below));
       }
 
 -- while the gate opens

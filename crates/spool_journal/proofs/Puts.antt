@@ -26,7 +26,8 @@ module _ {old : List (ℕ × List ℕ)} {page : ℕ} {bytes : List ℕ} {new : L
       (λ (below : k < is.at). inr record {
         at = k;
         below = omega (arith, below, is.within);
-        here = number_of _ _ k is.put ∙ ap (λ (p : ℕ × List ℕ). p.0) (get_or-insert_below old is.at (page, bytes) (0, []) k below is.within);
+        here = number_of _ _ k is.put
+            ∙ ap (λ (p : ℕ × List ℕ). p.0) (get_or-insert_below old is.at (page, bytes) (0, []) k below is.within);
       })
       (λ (from : is.at ≤ k). ⊎_elim
       (λ (e : k ≡ is.at). inl (number_of _ _ k is.put ∙ ap (λ (i : ℕ). page_number (insert old is.at (page, bytes)) i) e

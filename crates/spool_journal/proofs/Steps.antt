@@ -182,12 +182,13 @@ ready {seen = seen} {j = j} pages head some few fits inside ascends a copied cou
         numbers = numbers;
         contents = λ k x lt below. kept _ (omega arith) ∙ copied k x lt below;
       };
-      form = form_same j (length pages) (count seen) (page_number pages) (number seen) (sym size) (λ k lt. sym (numbers k lt)) record {
-        some = some;
-        few = fits;
-        inside = inside;
-        ascends = ascends;
-      };
+      form = form_same j (length pages) (count seen) (page_number pages) (number seen) (sym size)
+          (λ k lt. sym (numbers k lt)) record {
+            some = some;
+            few = fits;
+            inside = inside;
+            ascends = ascends;
+          };
     }
   where
     size : count seen ≡ length pages

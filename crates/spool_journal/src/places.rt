@@ -54,7 +54,8 @@ pub(crate) fn place_pages<D: Disk>(
     ensures honest { D.honest disk.old ↔ D.honest disk.new }
     ensures counts { Counts (IsErr result) (D.failures disk.old) (D.failures disk.new) }
     ensures placing { D.honest disk.old → (j : ℕ) (opened : ℕ → ℕ) → Matches items.now opened
-        → Placing j opened (D.seen disk.old) (D.loose disk.old) → Placing j opened (D.seen disk.new) (D.loose disk.new) }
+        → Placing j opened (D.seen disk.old) (D.loose disk.old)
+        → Placing j opened (D.seen disk.new) (D.loose disk.new) }
     ensures upto { D.honest disk.old → (opened : ℕ → ℕ) → Matches items.now opened → Upto opened (D.seen disk.old) 0
         → OnOk result (Upto opened (D.seen disk.new) (length items.now)) }
     ensures lasts { D.honest disk.old → (j : ℕ) → j ≤ 385 → (opened : ℕ → ℕ) → Matches items.now opened

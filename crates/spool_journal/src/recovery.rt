@@ -1,9 +1,9 @@
 // What a crash left is made whole again. A recovery may crash too.
-ghost use Rattle.std.specs.Prelude.{◌≡◌, ◌⊎◌, ◌≤◌, ◌<◌, ◌*◌, ◌+◌, ◌↔◌, ℕ, length, IsErr, IfOk, OnOk, ◌==◌, true, false};
+ghost use Rattle.std.specs.Prelude.{◌≡◌, ◌⊎◌, ◌≤◌, ◌<◌, ◌*◌, ◌+◌, ◌↔◌, ℕ, IsErr, IfOk, OnOk, ◌==◌, true, false};
 ghost use Rattle.std.specs.Prelude.{Err};
 ghost use Rattle.spool_disk.specs.Disk.{IsImage, Counts};
 ghost use Rattle.spool_disk.specs.Views.{Lasts};
-ghost use Rattle.spool_journal.specs.Image.{journal_pages, all_pages, replayed, overlaid, word, byte_of, content};
+ghost use Rattle.spool_journal.specs.Image.{journal_pages, all_pages, replayed, overlaid, word, byte_of};
 ghost use Rattle.spool_journal.specs.Image.{count, number, InForm};
 ghost use Rattle.spool_journal.specs.Phases.{Idle, ReadsAs, Still, Placing, Upto, Settled, HeadOf};
 
@@ -72,7 +72,8 @@ fn get_word(head: &[u8; PAGE], at: usize) -> u32
 // Whether the head of a journal is in form.
 fn is_in_form(head: &[u8; PAGE], journal: u32) -> bool
     requires { journal ≤ 385 }
-    ensures yes { result ≡ true → InForm journal (word (byte_of head.now) 0) (λ k. word (byte_of head.now) (4 + 4 * k)) }
+    ensures yes { result ≡ true
+        → InForm journal (word (byte_of head.now) 0) (λ k. word (byte_of head.now) (4 + 4 * k)) }
     ensures no { result ≡ false → InForm journal (word (byte_of head.now) 0) (λ k. word (byte_of head.now) (4 + 4 * k))
         → ⊥ }
 {

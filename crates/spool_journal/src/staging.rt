@@ -1,5 +1,5 @@
 // The journal is written while the gate is closed.
-ghost use Rattle.std.specs.Prelude.{◌≡◌, ◌⊎◌, ◌≤◌, ◌<◌, ◌*◌, ◌+◌, ◌↔◌, ℕ, List, length, IsErr, OnOk};
+ghost use Rattle.std.specs.Prelude.{◌≡◌, ◌≤◌, ◌<◌, ◌*◌, ◌+◌, ◌↔◌, ℕ, length, IsErr, OnOk};
 ghost use Rattle.spool_disk.specs.Disk.{Counts, Apart};
 ghost use Rattle.spool_disk.specs.Views.{Lasts};
 ghost use Rattle.spool_journal.specs.Image.{word, byte_of, page_number, InArea, Ascends};

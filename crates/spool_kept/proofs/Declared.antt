@@ -1,19 +1,18 @@
 -- A length alone: what it makes of an upload whose text stays.
-use Rattle.std.proofs.Common.{◌≡◌, ◌∙◌, ◌≤◌, ◌+◌, ◌++◌, ℕ, Bool, true, false, List, [], Option, None, Some, length}
+use Rattle.std.proofs.Common.{◌≡◌, ◌∙◌, ◌≤◌, ◌+◌, ◌++◌, ℕ, Bool, false, List, [], Option, None, Some, length}
 use Rattle.std.proofs.Common.{get_or}
 use Rattle.std.proofs.Common.{refl, sym, ap, subst, arith}
 use Rattle.std.proofs.lemmas.List.{append-nil}
-use Rattle.enc_model.specs.Indexes.{IndexSet}
 use Rattle.enc_stream.specs.StateBytes.{IsSound}
 use Rattle.spool_disk.specs.declared.disk.Disk.{Ghosts}
 use Rattle.spool_pages.specs.View.{SlotRecord, text_page}
 use Rattle.upload_rules.specs.Lengths.{is_length, is_too_large, known_or, longest}
-use Rattle.upload_rules.specs.States.{state_of, state_with, transcoder_with}
+use Rattle.upload_rules.specs.States.{state_with, transcoder_with}
 use Rattle.upload_rules.specs.Store.{Store, Upload, find, is_complete, patched, text_of, text_with, upload_of}
 use Rattle.upload_rules.proofs.Commits.{complete_patched, state_patched, text_of_is, text_patched, transcoder_patched}
 use Rattle.upload_rules.proofs.Commits.{whole_patched}
 use Rattle.spool_kept.specs.Committing.{MayDeclare}
-use Rattle.spool_kept.specs.Extending.{IsAppend, IsExtension, IsPending, OnlyDeclares}
+use Rattle.spool_kept.specs.Extending.{IsExtension, IsPending, OnlyDeclares}
 use Rattle.spool_kept.specs.Holding.{Holding, IsUsedBy}
 use Rattle.spool_kept.specs.Shows.{IsTold}
 use Rattle.spool_kept.specs.Stored.{Stored}

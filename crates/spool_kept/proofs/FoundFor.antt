@@ -8,12 +8,10 @@ use Rattle.spool_pages.specs.View.{SlotRecord}
 use Rattle.upload_rules.specs.Calls.{length_refusal}
 use Rattle.upload_rules.specs.Lengths.{is_length, is_new, known_or, longest}
 use Rattle.upload_rules.specs.declared.errors.UploadRefusal.{UploadRefusal}
-use Rattle.upload_rules.specs.declared.errors.UploadRefusal.TheVariants.{LengthSet, TooLong}
 use Rattle.upload_rules.specs.declared.records.Record.{Record}
 use Rattle.spool_kept.specs.Committing.{Finds, HasSameCount, IsFound}
 use Rattle.spool_kept.specs.Holding.{IsUsedBy}
 use Rattle.spool_kept.specs.Records.{IsUnpacked, said_of}
-use Rattle.spool_kept.specs.declared.committing.Found.{Found}
 use Rattle.spool_kept.proofs.ChangedSlots.{one_value}
 use Rattle.spool_kept.proofs.CommitRefusals.{length_refused}
 

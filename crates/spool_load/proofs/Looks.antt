@@ -137,7 +137,8 @@ if_err_more (Err e) more p = more e p
 
 pub stand_push : (bytes : ℕ → ℕ) (n : ℕ) (version : Known) (slots : List (Option SlotRecord)) (kept : Option SlotRecord)
     (new : List (Option SlotRecord)) → StandSlots bytes n version slots → new ≡ slots ++ kept ∷ []
-    → Stands bytes (slot_place n (length slots)) 2048 (slot_bytes version kept) → FitsSlotOf kept → StandSlots bytes n version new
+    → Stands bytes (slot_place n (length slots)) 2048 (slot_bytes version kept) → FitsSlotOf kept
+    → StandSlots bytes n version new
 stand_push bytes n version slots kept new was is stands fits = record {
   each = λ s lt. elim (cases_lt s (length slots)) [
     | inl below ↦ subst (λ (o : Option SlotRecord). Stands bytes (slot_place n s) 2048 (slot_bytes version o))
@@ -145,7 +146,8 @@ stand_push bytes n version slots kept new was is stands fits = record {
     | inr over ↦
         let here : length slots ≡ s = omega (arith, over, lt, one_more) in
         let P : ℕ → Type 0 = λ k. Stands bytes (slot_place n k) 2048 (slot_bytes version (get_or new k None)) in
-        subst P here (subst (λ (o : Option SlotRecord). Stands bytes (slot_place n (length slots)) 2048 (slot_bytes version o))
+        subst P here (subst (λ (o : Option SlotRecord).
+        Stands bytes (slot_place n (length slots)) 2048 (slot_bytes version o))
         (sym at_end) stands)
   ];
   fit = λ s. elim (cases_lt s (length slots)) [

@@ -1,15 +1,18 @@
 -- Steps of opening a spool.
-use Rattle.std.proofs.Common.{◌≡◌, inl, inr, ℕ, ◌+◌, ◌*◌, ◌<◌, ◌≤◌, get_or, Result, Ok, Err, IfOk, refl, sym, ◌∙◌}
+use Rattle.std.proofs.Common.{◌≡◌, ◌⊎◌, inl, inr, ℕ, ◌+◌, ◌*◌, ◌<◌, ◌≤◌, get_or, Result, Ok, Err, IfOk, refl, sym, ◌∙◌}
 use Rattle.std.proofs.Common.{subst, arith}
 use Rattle.std.proofs.lemmas.Bool.{cases_eq}
 use Rattle.spool_disk.specs.Disk.{IsImage, Keeps}
+use Rattle.spool_disk.specs.Views.{Lasts}
+use Rattle.spool_disk.specs.declared.disk.Disk.{Ghosts}
+use Rattle.spool_disk.proofs.Firm.{lasts_more, lasts_on}
 use Rattle.spool_journal.specs.Image.{journal_pages, all_pages, overlaid, InForm, count, number, content}
 use Rattle.spool_journal.specs.Phases.{Settled, ReadsAs, Still}
 use Rattle.spool_journal.proofs.Over.{over_none}
 use Rattle.spool_journal.proofs.Gate.{open_view, shut_view}
 use Rattle.spool_pages.specs.View.{View, Says, IsViewOf, first_page}
 use Rattle.spool_kept.specs.Shows.{IsSound}
-use Rattle.spool_load.specs.Reads.{NeedsReplay, SaysBlocks}
+use Rattle.spool_load.specs.Reads.{NeedsReplay, OnlyReads, SaysBlocks}
 use Rattle.spool_pages.proofs.Says.{says_same}
 
 -- a spool has at least so many pages
@@ -102,3 +105,42 @@ if_ok (Err e) x = tt
 pub keeps_image : {seen seen' image : ℕ → ℕ} {loose loose' : ℕ → Type 0} → Keeps seen seen' loose loose'
     → IsImage seen' loose' image → IsImage seen loose image
 keeps_image keeps is = record { same = λ p firm. is.same p (λ l. firm (keeps.loosens p l)) ∙ keeps.same p }
+
+-- A READ BEHIND A RECOVERY
+
+-- what was recovered says the view that was on the disk
+pub recovered_says : {was seen : ℕ → ℕ} {loose : ℕ → Type 0} (n : ℕ) (v : View) → n ≡ v.blocks
+    → Settled (journal_pages n) (overlaid was) seen loose → IsViewOf was v → Says seen v
+recovered_says {was = was} {seen = seen} {loose = loose} n v same settled is =
+    let J : ℕ → Type 0 = λ k. Settled (journal_pages k) (overlaid was) seen loose in
+    settled_says v (subst J same settled) is.says
+
+module _ {D : Type 0} (disk : Ghosts D) (old mid new : D) (n : ℕ) (honest : disk.honest mid)
+    (settled : Settled (journal_pages n) (overlaid (disk.seen old)) (disk.seen mid) (disk.loose mid))
+    (reads : OnlyReads disk mid new) where
+  pub read_settled : Settled (journal_pages n) (overlaid (disk.seen old)) (disk.seen new) (disk.loose new)
+  read_settled = settled_on settled (reads.still honest _ (settled_still settled))
+
+  pub read_lasts : (blocks : ℕ) → n ≡ blocks
+      → Lasts disk old mid (λ image. IsImage (disk.seen old) (disk.loose old) image
+      ⊎ ReadsAs (journal_pages blocks) image (overlaid (disk.seen old)))
+      → Lasts disk old new (λ image. IsImage (disk.seen old) (disk.loose old) image
+      ⊎ ReadsAs (journal_pages blocks) image (overlaid (disk.seen old)))
+  read_lasts blocks equal first =
+      let J : ℕ → Type 0 =
+      λ k. Settled (journal_pages k) (overlaid (disk.seen old)) (disk.seen mid) (disk.loose mid) in
+      lasts_on first
+      (lasts_more (reads.lasts honest _ (settled_still settled))
+      (λ image same. inr (settled_reads image (subst J equal settled) same)))
+
+  pub read_unwritten : Keeps (disk.seen old) (disk.seen mid) (disk.loose old) (disk.loose mid)
+      → Lasts disk old mid (IsImage (disk.seen old) (disk.loose old))
+      → Lasts disk old new (IsImage (disk.seen old) (disk.loose old))
+  read_unwritten keeps first =
+      lasts_on first
+      (lasts_more (reads.lasts honest _ (settled_still settled))
+      (λ image same. keeps_image keeps (still_as_image image same)))
+
+  pub read_same : Keeps (disk.seen old) (disk.seen mid) (disk.loose old) (disk.loose mid)
+      → Keeps (disk.seen old) (disk.seen new) (disk.loose old) (disk.loose new)
+  read_same keeps = keeps_on keeps (still_as (reads.still honest _ (settled_still settled)))

@@ -1,5 +1,5 @@
 -- A sound view, of what was read and what was checked of it.
-use Rattle.std.proofs.Common.{◌≡◌, ℕ, Bool, ◌+◌, ◌-◌, ◌*◌, ◌^◌, ◌<◌, ◌≤◌, List, [], Option, None, Some, Result, Ok, Err}
+use Rattle.std.proofs.Common.{◌≡◌, ℕ, Bool, ◌+◌, ◌-◌, ◌*◌, ◌<◌, ◌≤◌, List, [], Option, None, Some, Result, Ok, Err}
 use Rattle.std.proofs.Common.{IfOk, OnOk}
 use Rattle.std.proofs.Common.{false, replicate, length, get_or, refl, sym, subst, ap, ◌∙◌, arith}
 use Rattle.enc_model.specs.Indexes.{IndexSet}
@@ -88,7 +88,8 @@ module _ (bytes : ℕ → ℕ) (n : ℕ) (version : Version) (next : ℕ) (x : I
   }
 
   pub read_says : StandFields bytes n x → Stands bytes (state_place n) 4096 (state_page version next)
-      → StandSlots bytes n version slots → length slots ≡ 512 → StandRows bytes n (512 * (journal_pages n - 257)) rows → Says bytes view_read
+      → StandSlots bytes n version slots → length slots ≡ 512 → StandRows bytes n (512 * (journal_pages n - 257)) rows
+      → Says bytes view_read
   read_says fields state stand long there = record {
     first = fields.first;
     area = fields.area.each;
@@ -98,7 +99,8 @@ module _ (bytes : ℕ → ℕ) (n : ℕ) (version : Version) (next : ℕ) (x : I
     texts = λ s r e. ap (shown_at s) e;
   }
 
-  slot_fits : StandSlots bytes n version slots → (s : ℕ) (r : SlotRecord) → get_or slots s None ≡ Some r → FitsSlotOf (Some r)
+  slot_fits : StandSlots bytes n version slots → (s : ℕ) (r : SlotRecord) → get_or slots s None ≡ Some r
+      → FitsSlotOf (Some r)
   slot_fits stand s r e = subst FitsSlotOf e (stand.fit s)
 
   record_sound : StandSlots bytes n version slots → RecordsPass next slots → (s : ℕ) (r : SlotRecord)
@@ -142,12 +144,14 @@ module _ (bytes : ℕ → ℕ) (n : ℕ) (version : Version) (next : ℕ) (x : I
 
   -- and so it is kept
   pub read_loaded : (reserved : List Bool) (r : Result Holding OpenFault) → 16 ≤ n → n ≤ 65536
-      → StandFields bytes n x → Stands bytes (state_place n) 4096 (state_page version next) → StandSlots bytes n version slots → length slots ≡ 512
+      → StandFields bytes n x → Stands bytes (state_place n) 4096 (state_page version next)
+      → StandSlots bytes n version slots → length slots ≡ 512
       → length rows ≡ n → StandRows bytes n (512 * (journal_pages n - 257)) rows → RecordsPass next slots
       → RowsPass slots rows → ((b : ℕ) → FitsRow (get_or rows b None))
       → reserved ≡ replicate n false → OnOk r (AreDistinct slots)
       → OnOk r ((s : ℕ) (q : SlotRecord) → get_or slots s None ≡ Some q → OwnsOneEach rows s (blocks_of q.text_len))
-      → ((v : View) → IsSound v → v.blocks ≡ n → version ≡ v.version → next ≡ v.next → x ≡ v.indexes → slots ≡ v.slots → rows ≡ v.rows
+      → ((v : View) → IsSound v → v.blocks ≡ n → version ≡ v.version → next ≡ v.next → x ≡ v.indexes → slots ≡ v.slots
+      → rows ≡ v.rows
       → reserved ≡ replicate v.blocks false → LoadsAs r (λ kept. KeepsAlone kept v))
       → IfOk r (LoadedFrom bytes n)
   read_loaded reserved (Err e) least most fields state stand long wide there are owned fit none distinct lists kept = tt

@@ -8,8 +8,8 @@ use Rattle.enc_model.specs.Indexes.{IndexSet}
 use Rattle.enc_index.specs.Area.{area_byte}
 use Rattle.enc_index.specs.Sets.{IsIndexSet}
 use Rattle.spool_pages.specs.Fits.{FitsSlotOf}
-use Rattle.spool_pages.specs.View.{SlotRecord, Stands, first_page, state_page, slot_bytes, row_bytes}
-use Rattle.spool_pages.specs.View.{index_place, state_place, slot_place, row_place}
+use Rattle.spool_pages.specs.View.{SlotRecord, Stands, first_page, slot_bytes, row_bytes}
+use Rattle.spool_pages.specs.View.{index_place, slot_place, row_place}
 use Rattle.spool_pages.specs.declared.version.Version.{Version}
 
 -- a disk that held these bytes, all synced, still does, and so does each image of a crash in between

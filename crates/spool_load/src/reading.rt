@@ -1,15 +1,14 @@
 // A spool whose bytes are all synced is read.
-ghost use Rattle.std.specs.Prelude.{◌≡◌, ◌≤◌, ◌<◌, ◌*◌, ◌+◌, ◌^◌};
+ghost use Rattle.std.specs.Prelude.{◌≡◌, ◌≤◌, ◌<◌, ◌*◌, ◌+◌};
 ghost use Rattle.std.specs.Prelude.{ℕ, length, get_or, IsErr, OnOk, IfOk, IfErr, Err};
 ghost use Rattle.enc_model.specs.Indexes.{IndexSet as Indexes};
 ghost use Rattle.enc_index.specs.Area.{area_byte};
 ghost use Rattle.enc_index.specs.Sets.{IsIndexSet};
 ghost use Rattle.spool_disk.specs.Disk.{Counts};
-ghost use Rattle.spool_journal.specs.Image.{all_pages, byte_of};
+ghost use Rattle.spool_journal.specs.Image.{all_pages};
 ghost use Rattle.spool_journal.specs.Phases.{Still};
 ghost use Rattle.spool_load.specs.Reads.{OnlyReads, IsReadAt, StandsArea};
 ghost use Rattle.spool_kept.specs.Loads.{LoadsAs, IsLate};
-ghost use Rattle.spool_pages.specs.Bytes.{IsPadded};
 ghost use Rattle.spool_pages.specs.View.{Stands, first_page, index_place};
 
 use enc_index::{AreaError, IndexSet};

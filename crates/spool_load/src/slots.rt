@@ -54,7 +54,8 @@ fn load_slot<D: Disk>(
     ensures reads { OnlyReads D.Disk disk.old disk.new }
     ensures counts { Counts (result ≡ Err OpenFault.DiskFault) (D.failures disk.old) (D.failures disk.new) }
     ensures said { D.honest disk.old → (bytes : ℕ → ℕ) → Still bytes (D.seen disk.old) (D.loose disk.old)
-        → (said : Option Said) → FitsKept said → Stands bytes (slot_place layout.now slot) 2048 (slot_bytes version said)
+        → (said : Option Said) → FitsKept said
+        → Stands bytes (slot_place layout.now slot) 2048 (slot_bytes version said)
         → LoadsAs result (λ kept. kept ≡ said) }
     ensures stands { D.honest disk.old → (bytes : ℕ → ℕ) → Still bytes (D.seen disk.old) (D.loose disk.old)
         → IfOk result (λ kept. Stands bytes (slot_place layout.now slot) 2048 (slot_bytes version kept)) }

@@ -160,7 +160,8 @@ module _ (old new : List (ℕ × List ℕ)) (rows : List Row) (first : ℕ) wher
       state = subst (λ (o : Option (List ℕ)). Said o SaysState (v.version, v.next) (v'.version, v'.next))
           (sym (same (state_number v.blocks) (omega (arith, first_is)))) changes.state;
       slots = λ s lt. subst (λ (o : Option (List ℕ)). Said o (SaysSlot s) (v.version, slot_at v s)
-          (v'.version, slot_at v' s)) (sym (same (record_number v.blocks s) (omega (arith, first_is, lt)))) (changes.slots s lt);
+          (v'.version, slot_at v' s)) (sym (same (record_number v.blocks s) (omega (arith, first_is, lt))))
+          (changes.slots s lt);
       rows = λ b lt no. changes.rows b lt (none_same (row_number v.blocks b) old new long numbers no);
     };
     rows = λ b lt. by b lt (page_in (row_number v.blocks b) new) refl;

@@ -153,7 +153,8 @@ one_stands {f = f} {place = place} {x = x} e = record {
 }
 
 -- a length's number fits its eight bytes
-pub number_fits : (version : Version) (declared : Option ℕ) → FitsLength declared → length_number version declared < 2 ^ 64
+pub number_fits : (version : Version) (declared : Option ℕ) → FitsLength declared
+    → length_number version declared < 2 ^ 64
 number_fits version (Some n) fits = omega (arith, fits)
 number_fits One None fits = omega arith
 number_fits Two None fits = omega arith
@@ -249,6 +250,7 @@ pub record_eq : (r : SlotRecord) (n : ℕ) (d : Option ℕ) (a t : ℕ) (s m : L
     → record { number = n; declared = d; accepted = a; text_len = t; state = s; metadata = m } ≡ r
 record_eq r n d a t s m e1 e2 e3 e4 e5 e6 = rw (e1, e2, e3, e4, e5, e6)
 
-pub slot_few : (version : Version) (slot : Option SlotRecord) → FitsSlotOf slot → length (slot_bytes version slot) ≤ 2048
+pub slot_few : (version : Version) (slot : Option SlotRecord) → FitsSlotOf slot
+    → length (slot_bytes version slot) ≤ 2048
 slot_few version None fits = omega arith
 slot_few version (Some r) fits = omega (arith, length-record version r fits.0.state fits.0.metadata)

@@ -6,7 +6,6 @@ use Rattle.spool_journal.specs.Image.{IsPut, byte_of, journal_pages}
 use Rattle.spool_pages.specs.Changes.{page_in, Said, state_number, record_number, row_number, SaysState, SaysSlot}
 use Rattle.spool_pages.specs.Changes.{SaysRow, Changes, upgraded}
 use Rattle.spool_pages.specs.View.{SlotRecord, View, Stands, slot_at, slot_bytes}
-use Rattle.spool_pages.specs.declared.version.Version.{Version}
 use Rattle.spool_pages.specs.declared.version.Version.TheVariants.{Two}
 use Rattle.spool_pages.proofs.PageIn.{in_put, in_put_else}
 

@@ -1,10 +1,10 @@
 // The pages of a spool that are neither records nor rows.
-ghost use Rattle.std.specs.Prelude.{◌≡◌, ◌<◌, ◌≤◌, ◌^◌, ◌↔◌};
+ghost use Rattle.std.specs.Prelude.{◌≡◌, ◌<◌, ◌^◌, ◌↔◌};
 ghost use Rattle.std.specs.Prelude.{ℕ, [], None, Some, IfSome, IsTrue, get_or};
 ghost use Rattle.std.specs.Int.{to_be_bytes, w32};
 ghost use Rattle.spool_journal.specs.Image.{byte_of};
 ghost use Rattle.spool_pages.specs.Bytes.{IsPadded};
-ghost use Rattle.spool_pages.specs.View.{Stands, magic, first_page, state_page, version_number};
+ghost use Rattle.spool_pages.specs.View.{Stands, first_page, state_page, version_number};
 ghost use Rattle.spool_pages.specs.declared.version.Version.{Version as Known};
 
 use crate::Version;

@@ -1,7 +1,6 @@
 // The record of an upload as its slot keeps it.
 ghost use Rattle.std.specs.Prelude.{◌≡◌, ◌≤◌, ℕ, Option, [], length, Ok, Some, None, IfOk, IfSome};
-ghost use Rattle.std.specs.Int.{to_be_bytes, w64};
-ghost use Rattle.spool_journal.specs.Image.{byte_of};
+ghost use Rattle.std.specs.Int.{to_be_bytes};
 ghost use Rattle.spool_pages.specs.Bytes.{IsPadded};
 ghost use Rattle.spool_pages.specs.Fits.{FitsLength, FitsSlot};
 ghost use Rattle.spool_pages.specs.View.{SlotRecord as Said, length_number, length_tag, record_bytes, slot_bytes};

@@ -1,5 +1,5 @@
 // The page of two slots.
-ghost use Rattle.std.specs.Prelude.{◌≡◌, ◌≤◌, IfSome, length, option_copied};
+ghost use Rattle.std.specs.Prelude.{◌≤◌, IfSome, length, option_copied};
 ghost use Rattle.spool_journal.specs.Image.{byte_of};
 ghost use Rattle.spool_pages.specs.Bytes.{IsPadded};
 ghost use Rattle.spool_pages.specs.Changes.{SaysSlot, neighbour};

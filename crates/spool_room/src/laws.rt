@@ -1,5 +1,5 @@
 // Each law as the contract of a function that does nothing.
-ghost use Rattle.std.specs.Prelude.{◌≡◌, ◌≤◌, ◌<◌, ◌+◌, ◌/◌, ◌%◌, ℕ, List, Bool, Some, None, length, get_or, map};
+ghost use Rattle.std.specs.Prelude.{◌≡◌, ◌≤◌, ◌<◌, ◌+◌, ◌/◌, ◌%◌, ℕ, List, Bool, Some, None, length, map};
 ghost use Rattle.enc_model.specs.Indexes.{IndexSet};
 ghost use Rattle.spool_blocks.specs.Blocks.{Row, Held, CountLaw, IsWhole, owned_count, reserved_count, slot_count};
 ghost use Rattle.spool_blocks.specs.Chains.{Owns, OwnsOneEach};

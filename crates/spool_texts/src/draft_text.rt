@@ -1,8 +1,8 @@
 // The new text of a draft.
-ghost use Rattle.std.specs.Prelude.{◌≡◌, ◌≤◌, ◌<◌, ◌≢◌, ◌*◌, ◌+◌, ◌-◌, ◌/◌, ◌%◌, ◌++◌, ◌^◌, ◌↔◌, ℕ, [], ◌∷◌, length};
-ghost use Rattle.std.specs.Prelude.{take, drop, replicate, min, true, get_or, IsOk, IsErr, IsErrOf, IfOk, OnOk, OnErr};
+ghost use Rattle.std.specs.Prelude.{◌≡◌, ◌≤◌, ◌<◌, ◌≢◌, ◌*◌, ◌+◌, ◌-◌, ◌/◌, ◌%◌, ◌++◌, ◌^◌, ◌↔◌, ℕ, [], length};
+ghost use Rattle.std.specs.Prelude.{take, drop, replicate, min, get_or, IsOk, IsErr, IsErrOf, IfOk, OnOk, OnErr};
 ghost use Rattle.std.specs.Prelude.{vec_len, vec_capacity};
-ghost use Rattle.spool_blocks.specs.Blocks.{IsFree, with_reserved};
+ghost use Rattle.spool_blocks.specs.Blocks.{IsFree};
 ghost use Rattle.spool_disk.specs.Disk.{Counts, IsImage, Keeps};
 ghost use Rattle.spool_disk.specs.Views.{Lasts};
 ghost use Rattle.spool_journal.specs.Image.{journal_pages, all_pages};
@@ -137,8 +137,8 @@ impl DraftText {
             → (self.new ≡ self.old) × (disk.new ≡ disk.old) × (blocks.new ≡ blocks.old) × IsOk result }
         ensures held { OnOk result (held_count self.new ≡ held_count self.old + length bytes.now) }
         ensures content { D.honest disk.old → OnOk result
-            (content_on (D.seen disk.new) (25 + 2 * journal_pages layout.now) self.new ≡ content_on (D.seen disk.old)
-            (25 + 2 * journal_pages layout.now) self.old ++ bytes.now) }
+            (content_on (D.seen disk.new) (25 + 2 * journal_pages layout.now) self.new
+            ≡ content_on (D.seen disk.old) (25 + 2 * journal_pages layout.now) self.old ++ bytes.now) }
 
         // Where memory is short, nothing is done.
         ensures memory { IsErrOf result DraftError.NoMemory
@@ -213,8 +213,8 @@ impl DraftText {
         ensures few { length self.new.unfinished < 4096 }
         ensures held { IfOk result (λ n. held_count self.new ≡ held_count self.old + n) }
         ensures content { D.honest disk.old → IfOk result
-            (λ n. content_on (D.seen disk.new) (25 + 2 * journal_pages layout.now) self.new ≡ content_on (D.seen disk.old)
-            (25 + 2 * journal_pages layout.now) self.old ++ take n bytes.now) }
+            (λ n. content_on (D.seen disk.new) (25 + 2 * journal_pages layout.now) self.new
+            ≡ content_on (D.seen disk.old) (25 + 2 * journal_pages layout.now) self.old ++ take n bytes.now) }
         ensures takes { Takes blocks.old blocks.new self.old.blocks self.new.blocks }
         ensures reserved { IsReserved blocks.new self.new.blocks }
         ensures full { IsErrOf result DraftError.Full → (b : ℕ) → IsFree blocks.new b → ⊥ }
@@ -338,7 +338,8 @@ fn read_tail<D: Disk>(
     ensures tail { D.honest disk.old → OnOk result
         (take (len % 4096) page.new ≡ drop (len - len % 4096)
         (text_on (D.seen disk.old) (25 + 2 * journal_pages layout.now) list.now len)) }
-    ensures keeps { D.honest disk.old → Keeps (D.seen disk.old) (D.seen disk.new) (D.loose disk.old) (D.loose disk.new) }
+    ensures keeps { D.honest disk.old
+        → Keeps (D.seen disk.old) (D.seen disk.new) (D.loose disk.old) (D.loose disk.new) }
     ensures lasts { D.honest disk.old → Lasts D.Disk disk.old disk.new (IsImage (D.seen disk.old) (D.loose disk.old)) }
 {
     let tail = (len % PAGE as u64) as usize;

@@ -28,8 +28,10 @@ pub fn read_text<D: Disk>(
     ensures counts { Counts (IsErr result) (D.failures disk.old) (D.failures disk.new) }
     ensures later { D.moment disk.old ≤ D.moment disk.new }
     ensures read { D.honest disk.old → IfOk result
-        (λ n. IsRead (text_on (D.seen disk.old) (25 + 2 * journal_pages layout.now) list.now len) at n buf.old buf.new) }
-    ensures keeps { D.honest disk.old → Keeps (D.seen disk.old) (D.seen disk.new) (D.loose disk.old) (D.loose disk.new) }
+        (λ n. IsRead (text_on (D.seen disk.old) (25 + 2 * journal_pages layout.now) list.now len) at n buf.old
+        buf.new) }
+    ensures keeps { D.honest disk.old
+        → Keeps (D.seen disk.old) (D.seen disk.new) (D.loose disk.old) (D.loose disk.new) }
     ensures lasts { D.honest disk.old → Lasts D.Disk disk.old disk.new (IsImage (D.seen disk.old) (D.loose disk.old)) }
 {
     let count = len.saturating_sub(at).min(buf.len() as u64) as usize;
@@ -60,7 +62,8 @@ fn read_piece<D: Disk>(
     ensures within { IfOk result (λ n. n ≤ length buf.old) }
     ensures piece { D.honest disk.old → IfOk result
         (λ n. IsPiece (D.seen disk.old) (25 + 2 * journal_pages layout.now) list.now at n buf.old buf.new) }
-    ensures keeps { D.honest disk.old → Keeps (D.seen disk.old) (D.seen disk.new) (D.loose disk.old) (D.loose disk.new) }
+    ensures keeps { D.honest disk.old
+        → Keeps (D.seen disk.old) (D.seen disk.new) (D.loose disk.old) (D.loose disk.new) }
     ensures lasts { D.honest disk.old → Lasts D.Disk disk.old disk.new (IsImage (D.seen disk.old) (D.loose disk.old)) }
 {
     let offset = at % PAGE as u64;

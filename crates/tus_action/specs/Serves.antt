@@ -54,7 +54,8 @@ pub record ActedAs {U B : Type 0} (u : Ghosts U B) (store : U) (a : code.Acted B
   pub closes : a.closes ≡ m.closes
   pub bytes : new ≡ old ++ m.bytes
 
--- It is done as the rules say. Or memory was wanting, and the store stands for the world without what was begun, and nothing was written.
+-- It is done as the rules say. Or memory was wanting, and the store stands for the world without what was begun, and
+-- nothing was written.
 -- Or the device failed, and nothing was written.
 abbrev pub Serves : {U B : Type 0} → Ghosts U B → U → Result (code.Acted B) Stop → List ℕ → List ℕ → World → Acted
     → Type 0
@@ -89,7 +90,8 @@ IsGiven m Last old new h (Some up) = (pending_after h ≡ None) × (new ≡ old 
 IsGiven m Gone old new h None = new ≡ old
 IsGiven m _ old new h _ = ⊥
 
--- as the uploads say. The device may fail, or memory be wanting, only where the upload is there, and then nothing was written
+-- as the uploads say. The device may fail, or memory be wanting, only where the upload is there, and then nothing was
+-- written
 abbrev pub Gives : {U B : Type 0} → Ghosts U B → U → Result Given Stop → List ℕ → List ℕ → World → Giving → Type 0
 Gives u store (Ok given) old new w h = u.stands store w × IsGiven w.store given old new h (upload_of w.store h.number)
 Gives u store (Err NoMemory) old new w h =
@@ -110,7 +112,8 @@ CanBeRead w _ = Unit {0}
 abbrev pub replied_only : {B : Type 0} → Bool → code.Acted B
 replied_only closes = record { draft = None; giving = None; closes = closes }
 
--- A call on the uploads gave no answer: its refusal is replied to, unless memory is wanting; and what isn't refused stops here.
+-- A call on the uploads gave no answer: its refusal is replied to, unless memory is wanting; and what isn't refused
+-- stops here.
 abbrev pub RepliesTo : {B : Type 0} → Result (code.Acted B) Stop → UploadError → Bool → Bool → Bool → List ℕ → List ℕ
     → Type 0
 RepliesTo (Ok a) (errors.Refused f) on_files bare closes old new =

@@ -1,5 +1,5 @@
 //! Requests that read the uploads: HEAD and GET, and the further pieces of a text.
-ghost use Rattle.std.specs.Prelude.{◌≡◌, ◌++◌, ◌+◌, ◌≤◌, Some, None, IsErrOf, OnOk, IfOk};
+ghost use Rattle.std.specs.Prelude.{◌≡◌, ◌+◌, Some, None, IsErrOf};
 ghost use Rattle.upload_rules.specs.Store.{Upload, upload_of};
 ghost use Rattle.upload_rules.specs.World.{World};
 ghost use Rattle.upload_rules.specs.Answers.{Quiet, Counts};

@@ -1,5 +1,5 @@
 //! A request at its head.
-ghost use Rattle.std.specs.Prelude.{◌≡◌, Some, IsErrOf};
+ghost use Rattle.std.specs.Prelude.{IsErrOf};
 ghost use Rattle.upload_rules.specs.World.{World};
 ghost use Rattle.upload_rules.specs.Answers.{Limits, Counts};
 ghost use Rattle.tus_request.specs.Requests.{Asks};

@@ -1,6 +1,6 @@
 -- What an event makes of the uploads.
 use Rattle.std.proofs.Common.{◌≡◌, ◌-◌, ℕ, Bool, true, false, List, length, Option, Some, None, refl, sym, ◌∙◌, ap}
-use Rattle.std.proofs.Common.{subst, if◌then◌else◌}
+use Rattle.std.proofs.Common.{subst}
 use Rattle.std.proofs.lemmas.Option.{none-some}
 use Rattle.upload_rules.specs.declared.errors.UploadRefusal.{UploadRefusal}
 use Rattle.upload_rules.specs.Store.{New, Upload, find, upload_of}
@@ -19,7 +19,7 @@ use Rattle.tus_session.specs.History.{came_at, more_at, ended_at, step}
 use Rattle.tus_session.proofs.Feeding.{fed_store}
 use Rattle.tus_session.proofs.Unmade.{opened_uploads}
 use Rattle.tus_session.proofs.RequestLeaves.{Leaves, Nothing as Idle, Text, Patching, leaves}
-use Rattle.tus_laws.specs.Patches.{moments_in, at_its_head, BodyCame, BodyCut, IsDoneOn, DonePatch, IsAccepted}
+use Rattle.tus_laws.specs.Patches.{moments_in, at_its_head, BodyCame, BodyCut, IsDoneOn, DonePatch}
 use Rattle.tus_laws.specs.Patches.{IsRefused, Changed, Nothing, Made, Deleted}
 use Rattle.tus_laws.proofs.Commits.{committed_changed}
 

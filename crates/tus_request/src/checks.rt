@@ -83,7 +83,8 @@ fn check(
     fields: &HeaderMap,
     set: &IndexSet,
 ) -> Result<Verdict, AllocError>
-    ensures { IfOk result (λ v. verdict_shown v ≡ checked (offers set.now) (line_shown line.entry) (values fields.now)) }
+    ensures { IfOk result
+        (λ v. verdict_shown v ≡ checked (offers set.now) (line_shown line.entry) (values fields.now)) }
 {
     let place = named_by(alloc, path(line.target))?;
     if is_given(fields, "transfer-encoding") {

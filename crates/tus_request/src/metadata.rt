@@ -80,7 +80,8 @@ fn has_key(pairs: &[Pair<'_>], key: &[u8]) -> bool
 
 /// The pairs that a text writes, if it writes pairs whose keys differ.
 fn read_pairs<'m>(alloc: Global, text: &'m [u8]) -> Result<Option<Vec<Pair<'m>>>, AllocError>
-    ensures { IfOk result (λ found. pairs_shown found ≡ pairs_from (Some []) (map (trimmed (32 ∷ [])) (parts text.now))) }
+    ensures { IfOk result
+        (λ found. pairs_shown found ≡ pairs_from (Some []) (map (trimmed (32 ∷ [])) (parts text.now))) }
 {
     let mut pairs = Vec::new(alloc);
     for part in text.split(|b| *b == b',') {

@@ -196,7 +196,8 @@ three {h} {h'} {b} {b'} {c} {c'} e f g =
       head = x;
       body = b;
       came = c;
-    }) e ∙ (ap (λ x. record { head = h'; body = x; came = c }) f ∙ ap (λ x. record { head = h'; body = b'; came = x }) g)
+    }) e ∙ (ap (λ x. record { head = h'; body = x; came = c }) f
+    ∙ ap (λ x. record { head = h'; body = b'; came = x }) g)
 
 -- behind whole requests, the moments are those without them
 moments_behind : (ws : List Asked) (r : Rest) (d : Cut)

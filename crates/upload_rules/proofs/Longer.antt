@@ -1,5 +1,5 @@
 -- An upload's text with what a patch brings.
-use Rattle.std.proofs.Common.{◌≡◌, ℕ, Bool, false, List, [], ◌++◌, length, Option, Some, None, refl, sym, ◌∙◌, ap}
+use Rattle.std.proofs.Common.{◌≡◌, ℕ, Bool, false, List, [], ◌++◌, Option, Some, None, sym, ◌∙◌, ap}
 use Rattle.std.proofs.Common.{append_assoc, append-nil}
 use Rattle.enc_model.specs.Indexes.{IndexSet, tables}
 use Rattle.enc_model.specs.Decode.{text}

@@ -1,5 +1,5 @@
 -- An upload without bytes: its text is empty, complete or not.
-use Rattle.std.proofs.Common.{◌≡◌, Bool, true, false, [], None, refl, sym, ◌∙◌, ap}
+use Rattle.std.proofs.Common.{◌≡◌, Bool, true, false, [], None, refl, ◌∙◌, ap}
 use Rattle.enc_model.specs.declared.Encoding.{Encoding}
 use Rattle.enc_model.specs.declared.Encoding.TheVariants as encodings
 use Rattle.enc_model.specs.declared.Mode.{Mode}

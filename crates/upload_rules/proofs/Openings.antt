@@ -1,6 +1,5 @@
 -- The append that `begin` opens.
 use Rattle.std.proofs.Common.{◌≡◌, ℕ, ◌+◌, ◌<◌, ◌≤◌, ◌^◌, [], length, Option, Some, None, Ok, Err, refl, sym, ◌∙◌, ap}
-use Rattle.std.proofs.Common.{subst}
 use Rattle.std.proofs.Common.{arith}
 use Rattle.enc_model.specs.Indexes.{IndexSet}
 use Rattle.enc_stream.specs.StateBytes.{IsSound}

@@ -4,7 +4,7 @@ use Rattle.enc_model.specs.Indexes.{IndexSet}
 use Rattle.upload_rules.specs.declared.errors.UploadError.{UploadError}
 use Rattle.upload_rules.specs.declared.errors.UploadError.TheVariants.{NoMemory, Refused}
 use Rattle.upload_rules.specs.declared.errors.UploadRefusal.TheVariants as refusals
-use Rattle.upload_rules.specs.Lengths.{is_length, known_or, longest}
+use Rattle.upload_rules.specs.Lengths.{known_or, longest}
 use Rattle.upload_rules.specs.Store.{Upload, patched}
 use Rattle.upload_rules.specs.World.{Patch, is_there, reached, patch_text}
 use Rattle.upload_rules.specs.Slots.{SlotStands}

@@ -1,5 +1,5 @@
 -- The uploads and the open patches.
-use Rattle.std.specs.Prelude.{ℕ, zero, suc, ◌+◌, Bool, false, true, List, [], length, ◌==◌, if◌then◌else◌, Option, Some}
+use Rattle.std.specs.Prelude.{ℕ, zero, suc, ◌+◌, Bool, false, true, List, [], length, if◌then◌else◌, Option, Some}
 use Rattle.std.specs.Prelude.{None}
 use Rattle.enc_model.specs.Encode.{Coded}
 use Rattle.enc_model.specs.Indexes.{IndexSet}

@@ -1,6 +1,6 @@
 //! The laws of the definitions, each as the contract of a function that does nothing.
 
-ghost use Rattle.std.specs.Prelude.{◌≡◌, ◌++◌, ◌==◌, ◌+◌, ℕ, List, [], Bool, false, length, Option, Some, None};
+ghost use Rattle.std.specs.Prelude.{◌≡◌, ◌++◌, ◌+◌, ℕ, List, [], Bool, false, length, Option, Some, None};
 ghost use Rattle.enc_model.specs.Indexes.{IndexSet};
 ghost use Rattle.upload_rules.specs.Store.{Upload, find, upload_of, text_of, text_with, with_length, patched};
 ghost use Rattle.upload_rules.specs.Store.{is_complete};

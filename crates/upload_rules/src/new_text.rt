@@ -1,6 +1,6 @@
 //! What an append adds to its upload's text.
 
-ghost use Rattle.std.specs.Prelude.{◌≡◌, ◌++◌, [], ℕ, Bool, true, false, None, List, IfOk, IfSome, OnOk, OnErr};
+ghost use Rattle.std.specs.Prelude.{◌≡◌, ◌++◌, [], ℕ, false, None, List, IfOk, IfSome, OnOk, OnErr};
 ghost use Rattle.std.specs.Prelude.{IsErrOf, IsOk, MatchOption};
 ghost use Rattle.enc_model.specs.Indexes.{IndexSet as Indexes};
 ghost use Rattle.upload_rules.specs.Lengths.{is_length};

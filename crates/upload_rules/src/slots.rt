@@ -1,7 +1,6 @@
 //! The uploads of a table, by ascending numbers.
 
-ghost use Rattle.std.specs.Prelude.{◌≡◌, ◌++◌, ◌<◌, ◌≤◌, [], ℕ, length, IfOk, OnOk, OnErr, MatchOption, IfSome};
-ghost use Rattle.std.specs.Prelude.{slice_index};
+ghost use Rattle.std.specs.Prelude.{◌≡◌, ◌++◌, ◌<◌, ◌≤◌, length, OnOk, OnErr, MatchOption, IfSome};
 ghost use Rattle.enc_stream.specs.Standing.{IsOutput};
 ghost use Rattle.upload_rules.specs.Store.{new_upload};
 ghost use Rattle.upload_rules.specs.Reading.{IsRead};
@@ -44,7 +43,8 @@ impl Slot {
         ensures record { OnOk result
             (self.new.record ≡ record self.old.record
             { declared = declared; accepted = accepted; text_len = length self.new.text.items; state = state }) }
-        ensures same { OnErr result ((self.new.text.items ≡ self.old.text.items) × (self.new.record ≡ self.old.record)) }
+        ensures same { OnErr result
+            ((self.new.text.items ≡ self.old.text.items) × (self.new.record ≡ self.old.record)) }
     {
         self.text.extend_from_slice(text)?;
         self.record.declared = declared;

@@ -1,6 +1,5 @@
 //! Uploads: each call is stated for every world that the store stands for.
 ghost use Rattle.std.specs.Prelude.{◌≡◌, ◌≤◌, ◌<◌, ◌+◌, ℕ, List, length, Option, Some, None, IsErrOf, option_copied};
-ghost use Rattle.enc_model.specs.Indexes.{IndexSet as Indexes};
 ghost use Rattle.upload_rules.specs.Store.{Upload, Store, upload_of, find};
 ghost use Rattle.upload_rules.specs.World.{Patch, World, free_number, reached};
 ghost use Rattle.upload_rules.specs.Calls.{create_refusal, created, create_outcome, terminate_refusal, terminated};

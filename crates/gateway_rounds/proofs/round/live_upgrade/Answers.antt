@@ -1,4 +1,3 @@
-use Rattle.std.proofs.Common.{◌∙◌, sym}
 use Rattle.spool_image.proofs.Opens.{view_room}
 use Rattle.spool_image.specs.declared.error.UpgradeError.TheVariants.{Open}
 use Rattle.spool_kept.specs.declared.error.OpenFault.TheVariants.{DiskFault}
@@ -38,7 +37,8 @@ returns-in-Err g c n m all =
     let honest = c.upgrade.ensures.honest.0 all.honest in
     let shows =
     upgraded_to g.D.Disk before back after n m (g.met.D.Disk.counts_now back) (g.met.D.Disk.only_now before) all
-    c.restart-in-Err.ensures.honest.0 c.restart-in-Err.ensures.size c.restart-in-Err.ensures.image c.restart-in-Err.ensures.firm
+    c.restart-in-Err.ensures.honest.0 c.restart-in-Err.ensures.size c.restart-in-Err.ensures.image
+    c.restart-in-Err.ensures.firm
     (c.upgrade.ensures.crash n m is) honest c.upgrade.ensures.size in
     record {
       ends = upgrade_ends c.in-Err.refusal
@@ -52,5 +52,6 @@ returns-in-Err g c n m all =
         image = c.restart-in-Err.ensures.image honest;
         synced = c.restart-in-Err.ensures.firm honest;
       };
-      counts = counts_told c.in-Err.refusal (Open DiskFault) _ _ _ c.restart-in-Err.ensures.counts c.in-Err.ensures.counts;
+      counts = counts_told c.in-Err.refusal (Open DiskFault) _ _ _ c.restart-in-Err.ensures.counts
+          c.in-Err.ensures.counts;
     }

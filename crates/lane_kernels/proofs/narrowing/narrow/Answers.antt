@@ -20,6 +20,16 @@ by_lanes-preserved c =
           ∙ written_chunk units c.args.out.now at 32 inside room;
     }
 
+pub returns-then-at-units-clause-length : goal.returns-then-at-units-clause-length
+returns-then-at-units-clause-length c =
+    omega (
+      arith,
+      c.if-at-units.true,
+      prefix_len-le-length is_ascii c.args.units.now,
+      c.by_lanes.invariant.front,
+      c.by_lanes.invariant.room,
+    )
+
 pub returns-clause-written : goal.returns-clause-written
 returns-clause-written c =
     let n = c.narrow_by_units.result in

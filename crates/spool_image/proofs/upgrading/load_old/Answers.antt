@@ -1,5 +1,4 @@
-use Rattle.std.proofs.Common.{◌≡◌, ◌∙◌, inl, inr, ℕ, ◌*◌, ◌≤◌, Err, refl, sym, subst, rules}
-use Rattle.spool_disk.proofs.Firm.{lasts_on, lasts_more}
+use Rattle.std.proofs.Common.{◌≡◌, ℕ, ◌*◌, ◌≤◌, Err, sym, subst, rules}
 use Rattle.spool_journal.specs.Image.{all_pages, journal_pages, overlaid}
 use Rattle.spool_journal.specs.Phases.{Settled}
 use Rattle.spool_kept.specs.Kept.{KeepsAlone}
@@ -8,9 +7,10 @@ use Rattle.spool_kept.specs.Shows.{IsSound}
 use Rattle.spool_pages.specs.View.{View, IsViewOf}
 use Rattle.spool_pages.specs.declared.version.Version.TheVariants.{Two}
 use Rattle.spool_load.specs.Loaded.{IsFoundOf}
-use Rattle.spool_load.proofs.Opens.{settled_on, settled_reads, settled_says, settled_still}
+use Rattle.spool_load.proofs.Looks.{ok_no_fault}
+use Rattle.spool_load.proofs.Opens.{read_lasts, read_same, read_settled, read_unwritten, recovered_says, settled_still}
 use Rattle.spool_load.proofs.Refused.{found_back, opened_on, read_reason, says_on}
-use Rattle.spool_image.proofs.Upgraded.{found_new, found_old, loads_upgrades, old_reason, other_old, settled_rests}
+use Rattle.spool_image.proofs.Upgraded.{found_new, found_old, loads_upgrades, old_reason, settled_rests}
 use Rattle.spool_image.proofs.Upgraded.{unfound_device, unfound_upgrade}
 use Rattle.spool_image.proofs.upgrading.load_old.Goals as goal
 
@@ -37,12 +37,9 @@ pub returns-in_err-kept-clause-said : goal.returns-in_err-kept-clause-said
 returns-in_err-kept-clause-said g c honest v sound is room =
     let settled = c.in_ok-found.ensures.settled honest in
     let found = c.in_ok-found.ensures.said honest v sound is room in
-    let J : ℕ → Type 0 =
-    λ n. Settled (journal_pages n) (overlaid (g.D.Disk.seen c.args.disk.now)) (g.D.Disk.seen c.find.new.disk)
-    (g.D.Disk.loose c.find.new.disk) in
     let loads =
     c.in_err-kept.ensures.said (c.find.ensures.honest.0 honest) _ (settled_still settled) v sound found
-    (settled_says v (subst J found.blocks settled) is.says) in
+    (recovered_says c.in_ok-found.found.layout v found.blocks settled is) in
     let up = loads_upgrades Kept v.version c.in_err-kept.field-0.0 (λ (kept : Kept). KeepsAlone kept v) loads in
     search rules
 
@@ -55,11 +52,8 @@ returns-in_err-kept-clause-refused g c honest =
     λ (v : View) (sound : IsSound v) (is : IsViewOf (g.D.Disk.seen c.args.disk.now) v)
     (room : 4096 * all_pages v.blocks ≤ g.D.Disk.size c.args.disk.now).
     (let found = c.in_ok-found.ensures.said honest v sound is room in
-    let K : ℕ → Type 0 =
-    λ n. Settled (journal_pages n) (overlaid (g.D.Disk.seen c.args.disk.now)) (g.D.Disk.seen c.find.new.disk)
-    (g.D.Disk.loose c.find.new.disk) in
     c.in_err-kept.ensures.said mid _ (settled_still settled) v sound found
-    (settled_says v (subst K found.blocks settled) is.says)) in
+    (recovered_says c.in_ok-found.found.layout v found.blocks settled is)) in
     let reason =
     read_reason {T = Kept} (g.D.Disk.size c.args.disk.now) (g.D.Disk.seen c.args.disk.now) c.in_ok-found.found
     (Err c.in_err-kept.field-0.0) (λ v kept. KeepsAlone kept v) on said c.in_err-kept.ensures.late in
@@ -71,48 +65,61 @@ returns-in_err-kept-clause-refused g c honest =
 
 pub returns-in_err-kept-clause-stays : goal.returns-in_err-kept-clause-stays
 returns-in_err-kept-clause-stays g c honest v sound is room =
-    let settled = c.in_ok-found.ensures.settled honest in
     let found = c.in_ok-found.ensures.said honest v sound is room in
-    let mid = c.find.ensures.honest.0 honest in
-    let there = settled_on settled (c.read.ensures.reads.still mid _ (settled_still settled)) in
+    let there =
+    read_settled g.D.Disk c.args.disk.now c.find.new.disk c.read.new.disk c.in_ok-found.found.layout
+    (c.find.ensures.honest.0 honest) (c.in_ok-found.ensures.settled honest) c.read.ensures.reads in
     let rests = settled_rests v c.in_ok-found.found.layout found.blocks there is in
     search rules
 
 pub returns-in_err-kept-clause-lasts : goal.returns-in_err-kept-clause-lasts
 returns-in_err-kept-clause-lasts g c honest v sound is room =
-    let settled = c.in_ok-found.ensures.settled honest in
-    let mid = c.find.ensures.honest.0 honest in
     let found = c.in_ok-found.ensures.said honest v sound is room in
-    let J : ℕ → Type 0 =
-    λ n. Settled (journal_pages n) (overlaid (g.D.Disk.seen c.args.disk.now)) (g.D.Disk.seen c.find.new.disk)
-    (g.D.Disk.loose c.find.new.disk) in
-    let here = subst J found.blocks settled in
-    lasts_on (c.find.ensures.lasts honest v sound is room)
-    (lasts_more (c.read.ensures.reads.lasts mid _ (settled_still settled))
-    (λ image same. inr (settled_reads image here same)))
+    read_lasts g.D.Disk c.args.disk.now c.find.new.disk c.read.new.disk c.in_ok-found.found.layout
+    (c.find.ensures.honest.0 honest) (c.in_ok-found.ensures.settled honest) c.read.ensures.reads v.blocks found.blocks
+    (c.find.ensures.lasts honest v sound is room)
+
+pub returns-in_err-kept-clause-unwritten : goal.returns-in_err-kept-clause-unwritten
+returns-in_err-kept-clause-unwritten g c honest none =
+    read_unwritten g.D.Disk c.args.disk.now c.find.new.disk c.read.new.disk c.in_ok-found.found.layout
+    (c.find.ensures.honest.0 honest) (c.in_ok-found.ensures.settled honest) c.read.ensures.reads
+    (c.find.ensures.same honest none (ok_no_fault _ _ c.in_ok-found.was)) (c.find.ensures.unwritten honest none)
+
+pub returns-in_err-kept-clause-same : goal.returns-in_err-kept-clause-same
+returns-in_err-kept-clause-same g c honest none fine =
+    read_same g.D.Disk c.args.disk.now c.find.new.disk c.read.new.disk c.in_ok-found.found.layout
+    (c.find.ensures.honest.0 honest) (c.in_ok-found.ensures.settled honest) c.read.ensures.reads
+    (c.find.ensures.same honest none (ok_no_fault _ _ c.in_ok-found.was))
+
+pub returns-then-eq-clause-same : goal.returns-then-eq-clause-same
+returns-then-eq-clause-same g c honest none fine =
+    c.find.ensures.same honest none (ok_no_fault _ _ c.in_ok-found.was)
 
 pub returns-clause-lasts : goal.returns-clause-lasts
 returns-clause-lasts g c honest v sound is room =
-    let settled = c.in_ok-found.ensures.settled honest in
-    let mid = c.find.ensures.honest.0 honest in
     let found = c.in_ok-found.ensures.said honest v sound is room in
-    let J : ℕ → Type 0 =
-    λ n. Settled (journal_pages n) (overlaid (g.D.Disk.seen c.args.disk.now)) (g.D.Disk.seen c.find.new.disk)
-    (g.D.Disk.loose c.find.new.disk) in
-    let here = subst J found.blocks settled in
-    lasts_on (c.find.ensures.lasts honest v sound is room)
-    (lasts_more (c.read.ensures.reads.lasts mid _ (settled_still settled))
-    (λ image same. inr (settled_reads image here same)))
+    read_lasts g.D.Disk c.args.disk.now c.find.new.disk c.read.new.disk c.in_ok-found.found.layout
+    (c.find.ensures.honest.0 honest) (c.in_ok-found.ensures.settled honest) c.read.ensures.reads v.blocks found.blocks
+    (c.find.ensures.lasts honest v sound is room)
+
+pub returns-clause-unwritten : goal.returns-clause-unwritten
+returns-clause-unwritten g c honest none =
+    read_unwritten g.D.Disk c.args.disk.now c.find.new.disk c.read.new.disk c.in_ok-found.found.layout
+    (c.find.ensures.honest.0 honest) (c.in_ok-found.ensures.settled honest) c.read.ensures.reads
+    (c.find.ensures.same honest none (ok_no_fault _ _ c.in_ok-found.was)) (c.find.ensures.unwritten honest none)
+
+pub returns-clause-same : goal.returns-clause-same
+returns-clause-same g c honest none fine =
+    read_same g.D.Disk c.args.disk.now c.find.new.disk c.read.new.disk c.in_ok-found.found.layout
+    (c.find.ensures.honest.0 honest) (c.in_ok-found.ensures.settled honest) c.read.ensures.reads
+    (c.find.ensures.same honest none (ok_no_fault _ _ c.in_ok-found.was))
 
 pub returns-clause-kept : goal.returns-clause-kept
 returns-clause-kept g c honest v sound is room =
     let settled = c.in_ok-found.ensures.settled honest in
     let found = c.in_ok-found.ensures.said honest v sound is room in
-    let J : ℕ → Type 0 =
-    λ n. Settled (journal_pages n) (overlaid (g.D.Disk.seen c.args.disk.now)) (g.D.Disk.seen c.find.new.disk)
-    (g.D.Disk.loose c.find.new.disk) in
     c.in_ok-kept.ensures.said (c.find.ensures.honest.0 honest) _ (settled_still settled) v sound found
-    (settled_says v (subst J found.blocks settled) is.says)
+    (recovered_says c.in_ok-found.found.layout v found.blocks settled is)
 
 pub returns-clause-sound : goal.returns-clause-sound
 returns-clause-sound g c honest =
@@ -131,9 +138,9 @@ returns-clause-sound g c honest =
 
 pub returns-clause-settled : goal.returns-clause-settled
 returns-clause-settled g c honest =
-    let settled = c.in_ok-found.ensures.settled honest in
-    let mid = c.find.ensures.honest.0 honest in
-    let there = settled_on settled (c.read.ensures.reads.still mid _ (settled_still settled)) in
+    let there =
+    read_settled g.D.Disk c.args.disk.now c.find.new.disk c.read.new.disk c.in_ok-found.found.layout
+    (c.find.ensures.honest.0 honest) (c.in_ok-found.ensures.settled honest) c.read.ensures.reads in
     let J : ℕ → Type 0 =
     λ n. Settled (journal_pages n) (overlaid (g.D.Disk.seen c.args.disk.now)) (g.D.Disk.seen c.read.new.disk)
     (g.D.Disk.loose c.read.new.disk) in

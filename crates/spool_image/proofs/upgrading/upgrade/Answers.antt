@@ -1,10 +1,15 @@
 use Rattle.std.proofs.Common.{◌≡◌, ◌∙◌, ◌⊎◌, inl, inr, ℕ, ◌*◌, ◌≤◌, sym, subst, rules, ⊎_elim}
+use Rattle.spool_disk.specs.Disk.{IsImage, Keeps}
+use Rattle.spool_disk.specs.Views.{Lasts}
 use Rattle.spool_disk.proofs.Firm.{lasts_on, lasts_more}
-use Rattle.spool_journal.specs.Image.{all_pages, overlaid}
+use Rattle.spool_journal.specs.Image.{all_pages}
+use Rattle.spool_kept.specs.declared.error.OpenFault.TheVariants.{DiskFault}
+use Rattle.spool_image.specs.declared.error.UpgradeError.TheVariants.{Open}
 use Rattle.spool_image.proofs.Opens.{reads_shows, view_room}
 use Rattle.spool_image.proofs.Refused.{opened_is_known, opened_is_old, opened_is_spool, opened_is_whole}
 use Rattle.spool_image.proofs.Refused.{upgrade_damaged, upgrade_new, upgrade_no_spool, upgrade_version}
-use Rattle.spool_image.proofs.Upgraded.{crash_shown, on_ok_more, refused_late, rests_show, settled_rests}
+use Rattle.spool_image.proofs.Upgraded.{crash_shown, ok_not_err, if_err, on_ok_more, other_err, refused_late, rests_show, settled_rests}
+use Rattle.spool_image.proofs.Upgraded.{untouched_on}
 use Rattle.spool_image.proofs.Upgraded.{behind_shows, upgraded_view_shows, upgrades_late, view_shows}
 use Rattle.spool_image.proofs.upgrading.upgrade.Goals as goal
 
@@ -140,3 +145,28 @@ returns-clause-shows g c n m is fine =
     (c.rewrite.ensures.done mid v keeps rests) (c.rewrite.ensures.stays mid v rests)
     (λ image here. view_shows n m was image is.shows here)
     (λ image here. upgraded_view_shows n m was image is.shows here)
+
+pub returns-in_err-kept-clause-same : goal.returns-in_err-kept-clause-same
+returns-in_err-kept-clause-same g c honest none =
+    let same : (c.in_err-kept.field-0.0 ≡ Open DiskFault → ⊥)
+    → Keeps (g.D.Disk.seen c.args.disk.now) (g.D.Disk.seen c.load_old.new.disk) (g.D.Disk.loose c.args.disk.now)
+    (g.D.Disk.loose c.load_old.new.disk) =
+    λ fine. c.load_old.ensures.same honest none (other_err _ _ (Open DiskFault) c.in_err-kept.was fine) in
+    if_err c.from_residual.result (λ e. e ≡ c.in_err-kept.field-0.0) _ c.from_residual.ensures.1
+    (λ e is fine. same (λ bad. fine (is ∙ bad)))
+
+pub returns-clause-unwritten : goal.returns-clause-unwritten
+returns-clause-unwritten g c honest none =
+    untouched_on
+    (λ d. Lasts g.D.Disk c.args.disk.now d
+    (IsImage (g.D.Disk.seen c.args.disk.now) (g.D.Disk.loose c.args.disk.now)))
+    (Open DiskFault) c.load_old.new.disk c.rewrite.new.disk c.rewrite.result
+    (c.load_old.ensures.unwritten honest none) c.rewrite.ensures.untouched
+
+pub returns-clause-same : goal.returns-clause-same
+returns-clause-same g c honest none =
+    untouched_on
+    (λ d. Keeps (g.D.Disk.seen c.args.disk.now) (g.D.Disk.seen d) (g.D.Disk.loose c.args.disk.now)
+    (g.D.Disk.loose d))
+    (Open DiskFault) c.load_old.new.disk c.rewrite.new.disk c.rewrite.result
+    (c.load_old.ensures.same honest none (ok_not_err _ _ _ c.in_ok-kept.was)) c.rewrite.ensures.untouched

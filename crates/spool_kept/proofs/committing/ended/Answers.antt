@@ -1,15 +1,12 @@
-use Rattle.std.proofs.Common.{◌≡◌, ◌∙◌, ◌≤◌, ◌+◌, ◌-◌, ◌*◌, ◌^◌, Result, None, Err, IfOk, arith, get_or, length, ap}
-use Rattle.std.proofs.Common.{refl, min, rules, subst, sym, ℕ}
-use Rattle.std.proofs.lemmas.Option.{same_Some}
+use Rattle.std.proofs.Common.{◌≡◌, ◌∙◌, ◌≤◌, ◌+◌, ◌-◌, ◌*◌, ◌^◌, Result, None, Err, IfOk, get_or, length, ap}
+use Rattle.std.proofs.Common.{refl, min, subst, sym, ℕ}
 use Rattle.std.proofs.lemmas.Result.{err_from_is_err_and}
 use Rattle.spool_drafts.specs.declared.draft.DraftEnd.{DraftEnd}
 use Rattle.spool_texts.specs.Drafts.{bytes_with}
 use Rattle.spool_drafts.specs.Drafts.{EndsAs, IsPlaced, IsWhole, came_of, list_of, offset_of, open_text}
 use Rattle.spool_disk.specs.Views.{Lasts}
 use Rattle.spool_journal.specs.Image.{journal_pages}
-use Rattle.spool_pages.specs.View.{SlotRecord}
 use Rattle.upload_rules.specs.declared.errors.UploadError.{UploadError}
-use Rattle.upload_rules.specs.States.{IsState}
 use Rattle.upload_rules.specs.World.{completes}
 use Rattle.spool_kept.specs.Committing.{IsCommit, IsFound}
 use Rattle.spool_kept.specs.Holding.{Holding}

@@ -1,16 +1,13 @@
-use Rattle.std.proofs.Common.{◌≡◌, ◌∙◌, ◌⊎◌, ◌<◌, ◌&&◌, inl, inr, ℕ, Bool, true, false, not, nat_eq, Result, Err, None}
+use Rattle.std.proofs.Common.{◌≡◌, ◌∙◌, inl, inr, ℕ, Bool, true, false, not, nat_eq, Err, None}
 use Rattle.std.proofs.Common.{Some}
 use Rattle.std.proofs.Common.{ap, arith, eqb-true, get_or, refl, rules, subst, sym}
 use Rattle.std.proofs.lemmas.Bool.{both_ways}
 use Rattle.std.proofs.lemmas.Result.{err_from_is_err_and}
-use Rattle.spool_drafts.specs.Drafts.{number_of, offset_of}
 use Rattle.spool_pages.specs.View.{SlotRecord}
 use Rattle.upload_rules.specs.Lengths.{is_length}
 use Rattle.upload_rules.specs.declared.errors.UploadRefusal.{UploadRefusal}
 use Rattle.spool_kept.specs.Committing.{Finds}
 use Rattle.spool_kept.specs.Holding.{IsUsedBy}
-use Rattle.spool_kept.specs.Records.{said_of}
-use Rattle.spool_kept.specs.declared.committing.Found.{Found}
 use Rattle.spool_kept.proofs.ChangedSlots.{one_value}
 use Rattle.spool_kept.proofs.FoundFor as lemmas
 use Rattle.spool_kept.proofs.committing.found_for.Goals as goal

@@ -1,8 +1,6 @@
-use Rattle.std.proofs.Common.{◌≡◌, ◌∙◌, ◌≤◌, ℕ, List, [], Option, None, Some, Err, ap, get_or, refl, rules, sym}
-use Rattle.spool_drafts.specs.declared.draft.SpoolDraft.{SpoolDraft}
+use Rattle.std.proofs.Common.{◌≡◌, ◌∙◌, [], refl, rules}
 use Rattle.spool_kept.specs.Committing.{MayDeclare}
 use Rattle.spool_kept.specs.Records.{said_of}
-use Rattle.spool_kept.specs.declared.extending.ExtendError.{ExtendError}
 use Rattle.spool_kept.proofs.CommitSpent.{stands_declared}
 use Rattle.spool_kept.proofs.Declared as declared
 use Rattle.spool_kept.proofs.OfUploads.{fits_declared}

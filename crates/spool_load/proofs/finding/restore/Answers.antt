@@ -50,7 +50,8 @@ returns-clause-said g c honest v sound blocks is =
     (g.D.Disk.loose c.recover.new.disk) in
     let settled_v = subst J (sym blocks) settled in
     let there = (settled_says v settled_v is.says).state in
-    let state : Stands (g.D.Disk.seen c.recover.new.disk) (state_place c.args.layout) 4096 (state_page v.version v.next) =
+    let state : Stands (g.D.Disk.seen c.recover.new.disk) (state_place c.args.layout) 4096
+    (state_page v.version v.next) =
     subst (λ (n : ℕ). Stands (g.D.Disk.seen c.recover.new.disk) (state_place n) 4096 (state_page v.version v.next))
     blocks there in
     loads_both c.load_state.result (λ found says same. record { blocks = same ∙ sym blocks; state = says })

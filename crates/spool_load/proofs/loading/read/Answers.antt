@@ -58,7 +58,8 @@ returns-in_err-blocks-clause-said g c honest bytes still v sound is says =
     slots_said bytes c.args.found.layout v sound (sym is.blocks) says c.args.found.version is.state.version
     (c.in_ok-slots.ensures.said (first.honest honest) bytes (first.still honest bytes still)) in
     let loaded =
-    c.in_err-blocks.ensures.said (second.honest honest) bytes (second.still honest bytes still) v sound (sym is.blocks) says
+    c.in_err-blocks.ensures.said (second.honest honest) bytes (second.still honest bytes still) v sound
+    (sym is.blocks) says
     (search rules) in
     let handed = loads_err _ (λ (kept : Holding). KeepsAlone kept v) _ loaded in
     search rules
@@ -76,7 +77,8 @@ returns-clause-said g c honest bytes still v sound is says =
     slots_said bytes c.args.found.layout v sound (sym is.blocks) says c.args.found.version is.state.version
     (c.in_ok-slots.ensures.said (first.honest honest) bytes (first.still honest bytes still)) in
     let held =
-    c.in_ok-blocks.ensures.said (second.honest honest) bytes (second.still honest bytes still) v sound (sym is.blocks) says
+    c.in_ok-blocks.ensures.said (second.honest honest) bytes (second.still honest bytes still) v sound (sym is.blocks)
+    says
     (search rules) in
     c.of.ensures.said v sound (sym is.blocks) is.state.version is.state.next indexes slots held.0 held.1
 
@@ -111,8 +113,10 @@ returns-clause-sound g c honest bytes still says found =
     let are =
     subst (λ (xs : List (Option SlotRecord)). RecordsPass c.args.found.next xs) looked
     (c.are_sound.ensures.0 (search rules)) in
-    read_loaded bytes c.args.found.layout c.args.found.version c.args.found.next c.in_ok-indexes.indexes c.in_ok-slots.slots.items
+    read_loaded bytes c.args.found.layout c.args.found.version c.args.found.next c.in_ok-indexes.indexes
+    c.in_ok-slots.slots.items
     c.in_ok-blocks.blocks.rows c.in_ok-blocks.blocks.reserved c.of.result
-    says.least says.most fields state slots c.in_ok-slots.ensures.long c.in_ok-blocks.ensures.long rows are (search rules)
+    says.least says.most fields state slots c.in_ok-slots.ensures.long c.in_ok-blocks.ensures.long rows are
+    (search rules)
     c.in_ok-blocks.ensures.fits c.in_ok-blocks.ensures.reserved
     c.of.ensures.distinct c.of.ensures.whole c.of.ensures.said

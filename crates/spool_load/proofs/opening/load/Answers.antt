@@ -1,12 +1,10 @@
-use Rattle.std.proofs.Common.{◌≡◌, ◌∙◌, inr, ℕ, ◌*◌, ◌≤◌, sym, subst, rules}
-use Rattle.spool_disk.proofs.Firm.{lasts_on, lasts_more}
+use Rattle.std.proofs.Common.{ℕ, ◌*◌, ◌≤◌, sym, subst, rules}
 use Rattle.spool_journal.specs.Image.{all_pages, journal_pages, overlaid}
 use Rattle.spool_journal.specs.Phases.{Settled}
 use Rattle.spool_kept.specs.Kept.{KeepsAlone}
 use Rattle.spool_kept.specs.declared.kept.Kept.{Kept}
 use Rattle.spool_load.proofs.Looks.{loads_err, if_ok_more, ok_no_fault}
-use Rattle.spool_load.proofs.Opens.{keeps_image, keeps_on, settled_on, settled_reads, settled_says, settled_still}
-use Rattle.spool_load.proofs.Opens.{still_as, still_as_image}
+use Rattle.spool_load.proofs.Opens.{read_lasts, read_same, read_settled, read_unwritten, recovered_says, settled_still}
 use Rattle.spool_load.proofs.Refused.{found_back, opened_on, read_reason, says_on, unfound_reason}
 use Rattle.spool_load.proofs.opening.load.Goals as goal
 
@@ -31,11 +29,8 @@ pub returns-clause-said : goal.returns-clause-said
 returns-clause-said g c honest v sound is room =
     let settled = c.in_ok-found.ensures.settled honest in
     let found = c.in_ok-found.ensures.said honest v sound is room in
-    let J : ℕ → Type 0 =
-    λ n. Settled (journal_pages n) (overlaid (g.D.Disk.seen c.args.disk.now)) (g.D.Disk.seen c.find.new.disk)
-    (g.D.Disk.loose c.find.new.disk) in
     c.read.ensures.said (c.find.ensures.honest.0 honest) _ (settled_still settled) v sound found
-    (settled_says v (subst J found.blocks settled) is.says)
+    (recovered_says c.in_ok-found.found.layout v found.blocks settled is)
 
 pub returns-clause-sound : goal.returns-clause-sound
 returns-clause-sound g c honest =
@@ -62,8 +57,9 @@ returns-clause-refused g c honest =
 pub returns-clause-settled : goal.returns-clause-settled
 returns-clause-settled g c honest =
     let settled = c.in_ok-found.ensures.settled honest in
-    let mid = c.find.ensures.honest.0 honest in
-    let there = settled_on settled (c.read.ensures.reads.still mid _ (settled_still settled)) in
+    let there =
+    read_settled g.D.Disk c.args.disk.now c.find.new.disk c.read.new.disk c.in_ok-found.found.layout
+    (c.find.ensures.honest.0 honest) settled c.read.ensures.reads in
     let J : ℕ → Type 0 =
     λ n. Settled (journal_pages n) (overlaid (g.D.Disk.seen c.args.disk.now)) (g.D.Disk.seen c.read.new.disk)
     (g.D.Disk.loose c.read.new.disk) in
@@ -71,29 +67,19 @@ returns-clause-settled g c honest =
 
 pub returns-clause-lasts : goal.returns-clause-lasts
 returns-clause-lasts g c honest v sound is room =
-    let settled = c.in_ok-found.ensures.settled honest in
-    let mid = c.find.ensures.honest.0 honest in
     let found = c.in_ok-found.ensures.said honest v sound is room in
-    let J : ℕ → Type 0 =
-    λ n. Settled (journal_pages n) (overlaid (g.D.Disk.seen c.args.disk.now)) (g.D.Disk.seen c.find.new.disk)
-    (g.D.Disk.loose c.find.new.disk) in
-    let here = subst J found.blocks settled in
-    lasts_on (c.find.ensures.lasts honest v sound is room)
-    (lasts_more (c.read.ensures.reads.lasts mid _ (settled_still settled))
-    (λ image same. inr (settled_reads image here same)))
+    read_lasts g.D.Disk c.args.disk.now c.find.new.disk c.read.new.disk c.in_ok-found.found.layout
+    (c.find.ensures.honest.0 honest) (c.in_ok-found.ensures.settled honest) c.read.ensures.reads v.blocks found.blocks
+    (c.find.ensures.lasts honest v sound is room)
 
 pub returns-clause-unwritten : goal.returns-clause-unwritten
 returns-clause-unwritten g c honest none =
-    let settled = c.in_ok-found.ensures.settled honest in
-    let mid = c.find.ensures.honest.0 honest in
-    let keeps = c.find.ensures.same honest none (ok_no_fault _ _ c.in_ok-found.was) in
-    lasts_on (c.find.ensures.unwritten honest none)
-    (lasts_more (c.read.ensures.reads.lasts mid _ (settled_still settled))
-    (λ image same. keeps_image keeps (still_as_image image same)))
+    read_unwritten g.D.Disk c.args.disk.now c.find.new.disk c.read.new.disk c.in_ok-found.found.layout
+    (c.find.ensures.honest.0 honest) (c.in_ok-found.ensures.settled honest) c.read.ensures.reads
+    (c.find.ensures.same honest none (ok_no_fault _ _ c.in_ok-found.was)) (c.find.ensures.unwritten honest none)
 
 pub returns-clause-same : goal.returns-clause-same
 returns-clause-same g c honest none fine =
-    let settled = c.in_ok-found.ensures.settled honest in
-    let mid = c.find.ensures.honest.0 honest in
-    let keeps = c.find.ensures.same honest none (ok_no_fault _ _ c.in_ok-found.was) in
-    keeps_on keeps (still_as (c.read.ensures.reads.still mid _ (settled_still settled)))
+    read_same g.D.Disk c.args.disk.now c.find.new.disk c.read.new.disk c.in_ok-found.found.layout
+    (c.find.ensures.honest.0 honest) (c.in_ok-found.ensures.settled honest) c.read.ensures.reads
+    (c.find.ensures.same honest none (ok_no_fault _ _ c.in_ok-found.was))

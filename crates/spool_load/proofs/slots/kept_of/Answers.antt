@@ -25,8 +25,10 @@ pub returns-in_ok-kept-in-Some-clause-stands : goal.returns-in_ok-kept-in-Some-c
 returns-in_ok-kept-in-Some-clause-stands c =
     let bytes = c.args.bytes.now in
     let padded =
-    subst (λ (o : Option SlotRecord). IsPadded bytes (slot_bytes c.args.version o)) c.in-Some.is c.in_ok-record.ensures.sound in
-    subst (λ (r : SlotRecord). IsPadded bytes (record_bytes c.args.version r)) (sym c.in_ok-kept-in-Some.ensures.same) padded
+    subst (λ (o : Option SlotRecord). IsPadded bytes (slot_bytes c.args.version o)) c.in-Some.is
+    c.in_ok-record.ensures.sound in
+    subst (λ (r : SlotRecord). IsPadded bytes (record_bytes c.args.version r)) (sym c.in_ok-kept-in-Some.ensures.same)
+    padded
 
 pub returns-in_ok-kept-in-Some-clause-fits : goal.returns-in_ok-kept-in-Some-clause-fits
 returns-in_ok-kept-in-Some-clause-fits c =

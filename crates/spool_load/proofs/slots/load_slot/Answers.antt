@@ -16,7 +16,8 @@ returns-clause-said g c honest bytes still said fits stands =
     let here : 4096 * (c.metadata_page.result + 1) + 2048 * c.args.slot ≡ slot_place c.args.layout.now c.args.slot =
     omega arith in
     c.kept_of.ensures.said said fits
-    (read_padded bytes _ _ c.read_at.new.buf (slot_bytes c.args.version said) 2048 (c.in_ok-read_at.ensures.bytes honest bytes still)
+    (read_padded bytes _ _ c.read_at.new.buf (slot_bytes c.args.version said) 2048
+    (c.in_ok-read_at.ensures.bytes honest bytes still)
     (search rules) here (slot_few c.args.version said (fits_slot said fits)) stands)
 
 pub returns-clause-stands : goal.returns-clause-stands
@@ -24,5 +25,6 @@ returns-clause-stands g c honest bytes still =
     let here : slot_place c.args.layout.now c.args.slot ≡ 4096 * (c.metadata_page.result + 1) + 2048 * c.args.slot =
     omega arith in
     if_ok_more c.kept_of.result
-    (λ kept padded. padded_back bytes _ (slot_place c.args.layout.now c.args.slot) c.read_at.new.buf (slot_bytes c.args.version kept)
+    (λ kept padded. padded_back bytes _ (slot_place c.args.layout.now c.args.slot) c.read_at.new.buf
+    (slot_bytes c.args.version kept)
     2048 (c.in_ok-read_at.ensures.bytes honest bytes still) (search rules) here padded) c.kept_of.ensures.stands

@@ -10,7 +10,8 @@ pub returns-clause-sound : goal.returns-clause-sound
 returns-clause-sound g c honest bytes still long was =
     let n = c.args.layout.now in
     let kept = c.in_ok-kept.kept in
-    let P : Result (Unit {0}) OpenFault → Type 0 = λ r. OnOk r (StandSlots bytes n c.args.version c.push.new.self.items) in
+    let P : Result (Unit {0}) OpenFault
+    → Type 0 = λ r. OnOk r (StandSlots bytes n c.args.version c.push.new.self.items) in
     let S : ℕ → Type 0 = λ s. Stands bytes (slot_place n s) 2048 (slot_bytes c.args.version kept) in
     elim c.match-push.branch [
       | in-Ok w ↦

@@ -26,7 +26,8 @@ module _ (front : List ℕ) (blocks : ℕ) (long : length front ≡ 12)
 
   whole : Stands (byte_of front) 0 12 (first_page blocks)
   whole = record {
-    each = λ i lt. let at : i ≡ 0 + i = omega arith in subst (λ (p : ℕ). get_or front p 0 ≡ get_or (first_page blocks) i 0) at (same i lt);
+    each = λ i lt. let at : i
+        ≡ 0 + i = omega arith in subst (λ (p : ℕ). get_or front p 0 ≡ get_or (first_page blocks) i 0) at (same i lt);
   }
 
   number_at : Stands (byte_of front) 8 4 (to_be_bytes w32 blocks)

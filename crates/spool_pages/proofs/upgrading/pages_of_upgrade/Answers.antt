@@ -1,4 +1,4 @@
-use Rattle.std.proofs.Common.{◌≡◌, ◌+◌, ◌*◌, ◌<◌, ◌≤◌, ℕ, Some, length, refl, ◌∙◌, ap, subst, arith}
+use Rattle.std.proofs.Common.{◌≡◌, ◌+◌, ℕ, Some, length, refl, ◌∙◌, ap, subst, arith}
 use Rattle.spool_journal.specs.Image.{journal_pages}
 use Rattle.spool_journal.proofs.Puts.{put_area}
 use Rattle.spool_pages.specs.Changes.{page_in, state_number}

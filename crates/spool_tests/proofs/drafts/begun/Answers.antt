@@ -6,4 +6,5 @@ use Rattle.spool_tests.proofs.drafts.begun.Goals as goal
 
 pub returns-clause-placed : goal.returns-clause-placed
 returns-clause-placed g c =
-    subst (λ (r : Result SpoolDraft UploadRefusal). IfOk r (IsPlaced c.args.layout.now)) c.expect.ensures (c.begin.ensures.placed c.args.layout.now c.requires.listed)
+    subst (λ (r : Result SpoolDraft UploadRefusal). IfOk r (IsPlaced c.args.layout.now)) c.expect.ensures
+    (c.begin.ensures.placed c.args.layout.now c.requires.listed)

@@ -59,5 +59,6 @@ returns c =
             method = c.unwrap.result.now;
             target = c.unwrap-2.result.now;
             minor = c.unwrap-3.result;
-          }) c.parse.new.self.headers.now (verdict_shown c.in_ok-verdict.verdict) line holds.1.fields c.in_ok-verdict.ensures),
+          }) c.parse.new.self.headers.now (verdict_shown c.in_ok-verdict.verdict) line holds.1.fields
+          c.in_ok-verdict.ensures),
     )

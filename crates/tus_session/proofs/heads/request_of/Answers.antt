@@ -38,7 +38,8 @@ returns-in-None-clause-answer g c w conn h n stands is =
           c.requires.cleared left.1
       | inr some ↦
           let left = c.without_patch-place.ensures.text some.0 some.1 in
-          let turn = text_told w conn h c.args.bytes.now n c.args.before _ is g.U.Uploads _ c.in-Ok.acted some.0 _ _ (record {
+          let turn = text_told w conn h c.args.bytes.now n c.args.before _ is g.U.Uploads _ c.in-Ok.acted some.0 _ _
+          (record {
             head = c.args.head;
             left = 0;
             task = Idle;

@@ -7,11 +7,12 @@ use Rattle.enc_stream.specs.StateBytes.{IsPhaseOf, IsShiftIn, standing}
 use Rattle.enc_stream.proofs.Bytes.{from_there, to_there, mode_there, phase_there, shift_there, kept_there}
 use Rattle.enc_stream.proofs.transcoder.Transcoder.read.Goals as goal
 
-stands : (s : Transcoder) (from : Encoding) (e : EncoderState) (phase : Phase) (spent : Bool) → from ≡ s.from → e ≡ record {
-  to = s.to;
-  mode = s.mode;
-  shift = s.shift;
-} →
+stands : (s : Transcoder) (from : Encoding) (e : EncoderState) (phase : Phase) (spent : Bool) → from ≡ s.from → e
+    ≡ record {
+      to = s.to;
+      mode = s.mode;
+      shift = s.shift;
+    } →
     phase ≡ s.phase → spent ≡ false →
     standing s ≡ record {
       transcoder =

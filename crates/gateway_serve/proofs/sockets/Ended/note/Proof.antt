@@ -94,7 +94,8 @@ module _ {M : Type 1} {𝓤 : Ura M} (𝓛 : Logic 𝓤) (at_mem : Memory → SP
     walk fits =
         qed 𝓛 ((‵ (flft κ q) ⊛ (‵ (flft κ' q') ⊛ (‵ (flft κ'' q'') ⊛ ‵ ftrue))) ∷ ‵
         (owns (MutRef (named 0) κ T.the_row ∷ usize ∷ ShrRef (named 1) κ' L.the_row ∷ ShrRef (named 2) κ''
-        L.the_row ∷ []) x at) ∷ []) ∵ split ! $ move ! (2 ∷ []) $ fsplit ! $ fsplit3 ! $ drop ! $ move ! (0 ∷ 1 ∷ 3 ∷ []) $
+        L.the_row ∷ []) x at) ∷ []) ∵ split ! $ move ! (2 ∷ []) $ fsplit ! $ fsplit3 ! $ drop ! $ move !
+        (0 ∷ 1 ∷ 3 ∷ []) $
         enter ! C Λ code.function
         (vptr b o ∷ vint w64 n ∷ vptr s.ref_ptr.0 s.ref_ptr.1 ∷ vptr t.ref_ptr.0 t.ref_ptr.1 ∷ []) _ $
         alloc_all ! (λ l. pass_all ! refl ((tt, tt), ((tt, record { fits = fits }), ((tt, tt), ((tt, tt), tt)))) $

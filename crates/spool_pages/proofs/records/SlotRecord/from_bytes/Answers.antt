@@ -1,4 +1,4 @@
-use Rattle.std.proofs.Common.{rules, refl, sym, subst, ◌≤◌, ◌≡◌, ◌+◌, ◌-◌, ℕ, [], length, Ok, Some, List, IsTrue, ◌∙◌, ap}
+use Rattle.std.proofs.Common.{rules, sym, subst, ◌≤◌, ◌≡◌, ◌+◌, ◌-◌, ℕ, [], length, Ok, Some, List, IsTrue, ◌∙◌, ap}
 use Rattle.std.proofs.Common.{arith}
 use Rattle.std.specs.Int.{to_be_bytes, w16, w64}
 use Rattle.std.specs.List.{slice_range}

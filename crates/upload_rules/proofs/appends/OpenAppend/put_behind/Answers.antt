@@ -1,9 +1,8 @@
-use Rattle.std.proofs.Common.{◌≡◌, ◌+◌, ◌++◌, ℕ, Bool, false, Option, Ok, Err, length, sym, ◌∙◌, ap, subst, arith}
+use Rattle.std.proofs.Common.{◌≡◌, ◌+◌, ◌++◌, false, Ok, Err, sym, ◌∙◌, ap, subst, arith}
 use Rattle.std.proofs.lemmas.Result.{err_from_is_err_and}
 use Rattle.upload_rules.specs.Lengths.{is_length, known_or}
 use Rattle.upload_rules.specs.World.{reached}
 use Rattle.upload_rules.specs.Store.{Upload, with_length, is_complete}
-use Rattle.upload_rules.specs.Texts.{HoldsText}
 use Rattle.upload_rules.specs.Slots.{SlotStands}
 use Rattle.upload_rules.specs.Appends.{IsPut}
 use Rattle.upload_rules.proofs.Commits.{not_put, put_there, reaches, holds_with_length, complete_patched}

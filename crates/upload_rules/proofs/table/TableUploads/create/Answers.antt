@@ -1,4 +1,5 @@
-use Rattle.std.proofs.Common.{◌≡◌, ◌<◌, ◌∙◌, false, [], ◌∷◌, ◌++◌, not, ap, subst, refl, sym, arith, length, if◌then◌else◌}
+use Rattle.std.proofs.Common.{◌≡◌, ◌<◌, ◌∙◌, false, [], ◌∷◌, ◌++◌, not, ap, subst, refl, sym, arith, length}
+use Rattle.std.proofs.Common.{if◌then◌else◌}
 use Rattle.upload_rules.specs.Lengths.{is_too_large}
 use Rattle.upload_rules.specs.Store.{New}
 use Rattle.upload_rules.specs.Answers.{IsLate}
