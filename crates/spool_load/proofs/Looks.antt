@@ -73,8 +73,8 @@ pub front_all : {A : Type 0} (whole front : List (Option A)) → IsFrontOf whole
     → front ≡ whole
 front_all whole front is long = ext_get_or None front whole long (λ i lt. is.each i lt)
 
-pub ok_no_fault : {T : Type 0} (r : Result T OpenFault) (t : T) → r ≡ Ok t → r ≡ Err DiskFault → ⊥
-ok_no_fault r t e f = cc
+pub ok_no_fault : {T E : Type 0} (r : Result T E) (t : T) {fault : E} → r ≡ Ok t → r ≡ Err fault → ⊥
+ok_no_fault r t is err = cc
 
 -- what stands on the disk within the range stands in the buffer
 pub read_stands : (bytes : ℕ → ℕ) (place at off size : ℕ) (buf xs : List ℕ) → IsReadAt bytes place buf

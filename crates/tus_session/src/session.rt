@@ -66,9 +66,8 @@ impl<U: Uploads> Session<U> {
     /// is made.
     ///
     /// A call takes up to the end of the request under way, or all bytes where that end isn't among them. While a text
-    /// is still to be given it
-    /// takes none, and a request that leaves a text to be given is taken up to the end of its head.
-    /// Of an unfinished head at most 8,192 bytes are kept, and each call looks for its end there once.
+    /// is still to be given it takes none, and a request that leaves a text to be given is taken up to the end of its
+    /// head. Of an unfinished head at most 8,192 bytes are kept, and each call looks for its end there once.
     ///
     /// Refused with `Closed` where the connection isn't open, and then with `NoMemory`, which closes the connection, or
     /// `DiskFault`.

@@ -4,13 +4,15 @@ use Rattle.spool_disk.specs.Views.{Lasts}
 use Rattle.spool_disk.proofs.Firm.{lasts_on, lasts_more}
 use Rattle.spool_journal.specs.Image.{all_pages}
 use Rattle.spool_kept.specs.declared.error.OpenFault.TheVariants.{DiskFault}
+use Rattle.spool_pages.specs.Rests.{Rests}
+use Rattle.spool_load.proofs.Looks.{ok_no_fault}
 use Rattle.spool_image.specs.declared.error.UpgradeError.TheVariants.{Open}
 use Rattle.spool_image.proofs.Opens.{reads_shows, view_room}
 use Rattle.spool_image.proofs.Refused.{opened_is_known, opened_is_old, opened_is_spool, opened_is_whole}
 use Rattle.spool_image.proofs.Refused.{upgrade_damaged, upgrade_new, upgrade_no_spool, upgrade_version}
-use Rattle.spool_image.proofs.Upgraded.{crash_shown, ok_not_err, if_err, on_ok_more, other_err, refused_late, rests_show, settled_rests}
-use Rattle.spool_image.proofs.Upgraded.{untouched_on}
-use Rattle.spool_image.proofs.Upgraded.{behind_shows, upgraded_view_shows, upgrades_late, view_shows}
+use Rattle.spool_image.proofs.Upgraded.{behind_shows, crash_shown, if_err, on_ok_more, other_err, refused_late}
+use Rattle.spool_image.proofs.Upgraded.{rests_show, settled_rests, untouched_on, upgraded_view_shows}
+use Rattle.spool_image.proofs.Upgraded.{upgrades_late, view_shows}
 use Rattle.spool_image.proofs.upgrading.upgrade.Goals as goal
 
 pub returns-in_err-kept-clause-lasts : goal.returns-in_err-kept-clause-lasts
@@ -111,8 +113,9 @@ returns-clause-damaged g c honest is =
 pub returns-clause-stays : goal.returns-clause-stays
 returns-clause-stays g c honest v sound is room =
     let keeps = (c.in_ok-kept.ensures.kept honest v sound is room).0 in
-    c.rewrite.ensures.stays (c.load_old.ensures.honest.0 honest) v
-    (settled_rests v c.in_ok-kept.kept.layout keeps.blocks (c.in_ok-kept.ensures.settled honest) is)
+    let rests = settled_rests v c.in_ok-kept.kept.layout keeps.blocks (c.in_ok-kept.ensures.settled honest) is in
+    untouched_on (λ d. Rests v (g.D.Disk.seen d) (g.D.Disk.loose d)) (Open DiskFault) c.load_old.new.disk
+    c.rewrite.new.disk c.rewrite.result rests c.rewrite.ensures.untouched
 
 pub returns-clause-lasts : goal.returns-clause-lasts
 returns-clause-lasts g c honest v sound is room =
@@ -142,7 +145,9 @@ returns-clause-shows g c n m is fine =
     let was = g.D.Disk.seen c.args.disk.now in
     let back = c.rewrite.new.disk in
     behind_shows g.D.Disk back n m v c.rewrite.result is.shows.blocks (c.rewrite.ensures.honest.0 mid) wide fine
-    (c.rewrite.ensures.done mid v keeps rests) (c.rewrite.ensures.stays mid v rests)
+    (c.rewrite.ensures.done mid v keeps rests)
+    (untouched_on (λ d. Rests v (g.D.Disk.seen d) (g.D.Disk.loose d)) (Open DiskFault) c.load_old.new.disk back
+    c.rewrite.result rests c.rewrite.ensures.untouched)
     (λ image here. view_shows n m was image is.shows here)
     (λ image here. upgraded_view_shows n m was image is.shows here)
 
@@ -169,4 +174,4 @@ returns-clause-same g c honest none =
     (λ d. Keeps (g.D.Disk.seen c.args.disk.now) (g.D.Disk.seen d) (g.D.Disk.loose c.args.disk.now)
     (g.D.Disk.loose d))
     (Open DiskFault) c.load_old.new.disk c.rewrite.new.disk c.rewrite.result
-    (c.load_old.ensures.same honest none (ok_not_err _ _ _ c.in_ok-kept.was)) c.rewrite.ensures.untouched
+    (c.load_old.ensures.same honest none (ok_no_fault _ _ c.in_ok-kept.was)) c.rewrite.ensures.untouched
