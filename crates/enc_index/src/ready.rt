@@ -10,16 +10,23 @@ use std::alloc::{AllocError, Global};
 /// How many bytes there are.
 const BYTES: usize = 256;
 
+// A code point, in UTF-8.
+fn ready_code(code: Option<char>) -> Option<Utf8Char>
+    ensures { result ≡ code }
+{
+    match code {
+        Some(c) => Some(Utf8Char::of(c)),
+        None => None,
+    }
+}
+
 /// The code points at the pointers, in UTF-8.
 pub fn ready(alloc: Global, codes: &[Option<char>]) -> Result<Vec<Option<Utf8Char>>, AllocError>
     ensures { IfOk result (λ ready. ready.items ≡ codes.now) }
 {
     let mut ready = Vec::with_capacity(alloc, codes.len())?;
     for code in codes {
-        match code {
-            Some(c) => ready.push(Some(Utf8Char::of(*c)))?,
-            None => ready.push(None)?,
-        }
+        ready.push(ready_code(*code))?;
     }
     Ok(ready)
 }
