@@ -9,7 +9,7 @@ ghost use Rattle.gateway_script.specs.Images.{shown_by};
 ghost use Rattle.gateway_serve.specs.Bytes.{came_of, went_of, stream_of};
 
 use crate::sockets::Socket;
-use gateway_engine::Connections;
+use gateway_script::Connections;
 use std::alloc::Global;
 use std::io::{self, Read, Write};
 use std::marker::Model;

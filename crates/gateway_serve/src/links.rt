@@ -7,7 +7,7 @@ ghost use Rattle.gateway_serve.specs.Joined.{stage_by, stage_behind, taken_behin
 use crate::buffers::{Input, Output, PIECE};
 use crate::idle::Tick;
 use crate::sockets::{Ended, Socket};
-use gateway_engine::Connections;
+use gateway_script::Connections;
 use spool_disk::DiskFault;
 use std::alloc::Global;
 use std::io::{self, ErrorKind, Read, Write};

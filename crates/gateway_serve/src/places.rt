@@ -6,7 +6,7 @@ ghost use Rattle.gateway_serve.specs.Joined.{GoesAt, OthersStay, IsNew, with_pla
 use crate::idle::Tick;
 use crate::links::{Left, Link};
 use crate::sockets::Ended;
-use gateway_engine::Connections;
+use gateway_script::Connections;
 use spool_disk::DiskFault;
 use std::alloc::Global;
 use std::io::{Read, Write};

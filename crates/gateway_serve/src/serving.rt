@@ -9,7 +9,7 @@ ghost use Rattle.gateway_serve.specs.Joined.{ended_of};
 use crate::idle::{Tick, Watch};
 use crate::places::{Place, Turned, unless_failed};
 use crate::sockets::Ended;
-use gateway_engine::Connections;
+use gateway_script::Connections;
 use spool_disk::DiskFault;
 use std::alloc::Global;
 use std::io::{Read, Write};
