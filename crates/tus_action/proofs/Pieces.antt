@@ -1,44 +1,20 @@
 -- The pieces of a text that is given.
 use Rattle.std.proofs.Common.{◌≡◌, ◌≤◌, ◌<◌, ◌+◌, ◌-◌, min, arith, ℕ, Bool, true, false, List, [], ◌∷◌, ◌++◌, length}
-use Rattle.std.proofs.Common.{take, drop, nat_le, Option, Some, None, Ok, Err, refl, sym, subst, ap, ◌∙◌, if◌then◌else◌}
+use Rattle.std.proofs.Common.{take, drop, nat_le, Option, Some, None, Ok, refl, sym, subst, ap, ◌∙◌, if◌then◌else◌}
 use Rattle.std.proofs.Common.{append-nil}
 use Rattle.std.proofs.lemmas.List.{length-take, length-drop, take_all, take-take, drop-drop, drop_all, drop-take}
-use Rattle.std.proofs.lemmas.List.{length-take-le, take-append-le}
-use borrow.Rule.Slice.PartMut.{put_mid, post_of}
+use Rattle.std.proofs.lemmas.List.{length-take-le}
 use Rattle.std.proofs.lemmas.Bool.{leb-true, leb-false}
 use Rattle.upload_rules.specs.Store.{Store, Upload, upload_of, text_of}
-use Rattle.upload_rules.specs.Answers.{Answers}
 use Rattle.upload_rules.specs.Reading.{text_at, IsRead}
 use Rattle.upload_rules.specs.World.{World}
 use Rattle.upload_rules.specs.Records.{TellsOf, with_number}
 use Rattle.upload_rules.specs.declared.records.Record.{Record}
 use Rattle.upload_rules.specs.declared.uploads.Uploads.{Ghosts}
-use Rattle.upload_rules.specs.declared.errors.UploadError.{UploadError}
-use Rattle.upload_rules.specs.declared.errors.UploadError.TheVariants as errors
-use Rattle.upload_rules.specs.declared.errors.UploadRefusal.{UploadRefusal}
-use Rattle.tus_action.specs.Faults.{stop_of}
 use Rattle.tus_action.specs.Acts.{Giving, piece_of, pending_of, pending_after}
 use Rattle.tus_action.specs.Serves.{GivesAs, IsGiving, GivingIs, GivesPiece, IsGiven, Gives, giving_behind}
 use Rattle.tus_action.specs.declared.acts.Giving as given
 use Rattle.tus_action.specs.declared.acts.Given.TheVariants.{Piece, Last}
-
--- a list was made longer, and a buffer was read over what is new of it
-pub read_behind : (old zeros xs buf : List ℕ) (before n : ℕ) → before ≡ length old → xs ≡ take (before + n) old ++ zeros
-    → length xs ≡ before + n
-    → length buf ≡ length (take (length xs - before) (drop before xs))
-    → (put_mid before (length xs - before) xs buf ≡ old ++ buf) × (length buf ≡ n)
-read_behind old zeros xs buf before n size more all filled =
-    let k : ℕ = length xs - before in
-    let whole : take (before + n) old ≡ old = take_all (before + n) old (omega arith) in
-    let cut : take before (old ++ zeros) ≡ take before old = take-append-le before old zeros (omega arith) in
-    let front : take before xs ≡ old =
-    ap (take before) (more ∙ ap (λ x. x ++ zeros) whole) ∙ (cut ∙ take_all before old (omega arith)) in
-    let behind : length (drop before xs) ≡ length xs - before = length-drop before xs in
-    let none : post_of before k xs ≡ [] = drop_all k (drop before xs) (omega arith) in (
-      ap (λ x. x ++ (buf ++ post_of before k xs)) front ∙ ap (λ ys. old ++ ys)
-          (ap (λ ys. buf ++ ys) none ∙ append-nil buf),
-      filled ∙ (length-take-le k (drop before xs) (omega arith) ∙ omega arith),
-    )
 
 -- what is left of the first bytes of a text
 pub left_is : (text : List ℕ) (l g : ℕ) → g ≤ l → drop g (take l text) ≡ take (l - g) (drop g text)
@@ -148,15 +124,6 @@ behind_case m g h up gives all c count false under =
 pub gives_on : (m : Store) (g : given.Giving) (h : Giving) (up : Upload) → GivesAs m g h up → IsGiving m g h → (c : ℕ)
     → c ≡ min (g.length - g.given) 65536 → GivingIs m (giving_behind g c) (pending_after h)
 gives_on m g h up gives all c count = behind_case m g h up gives all c count (nat_le g.length (g.given + c)) refl
-
--- a text that can't be read: nothing was given
-pub unread : {U B T : Type 0} (u : Ghosts U B) (store : U) (w : World) (h : Giving) (refusal : Option UploadRefusal)
-    (done : T → Type 0) (error : UploadError) (old new : List ℕ)
-    → Answers refusal (Err error) done (u.stands store w) → new ≡ old → GivesPiece u store (Err (stop_of error)) old new
-    w h
-unread u store w h refusal done errors.NoMemory old new told same = (told.1, same)
-unread u store w h refusal done errors.DiskFault old new told same = same
-unread u store w h refusal done (errors.Refused f) old new told same = (told.1, same)
 
 -- the upload that a record tells of
 pub told_there : (m : Store) (n k : ℕ) (r : Record) → n ≡ k → TellsOf m.indexes (with_number n (upload_of m n)) (Some r)

@@ -10,6 +10,6 @@ mod writes;
 
 pub use acts::{Acted, Given, Giving, Stop};
 pub use bodies::{cut_body, end_body, feed_body};
-pub use reads::give_more;
+pub use reads::{PIECE, PieceBuffer, give_more};
 pub use refusals::fault_of;
 pub use requests::act;

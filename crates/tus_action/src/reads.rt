@@ -14,7 +14,10 @@ use tus_request::replies::{reply_head, reply_text};
 use upload_rules::{UploadError, UploadRefusal, Uploads};
 
 /// The most bytes of a text that one call gives.
-const PIECE: u64 = 65536;
+pub const PIECE: usize = 65536;
+
+/// A buffer that the pieces of texts are read into. It is made once, so that no memory is filled for a piece.
+pub type PieceBuffer = [u8; PIECE];
 
 /// Tells how far an upload has come.
 pub(crate) fn show<U: Uploads>(
@@ -55,10 +58,11 @@ pub(crate) fn show<U: Uploads>(
 }
 
 // Gives the next piece of the text of an upload that is there, 65,536 bytes or all that are left where they are fewer:
-// appends it to `out`.
+// reads it into the buffer, and appends it to `out`.
 fn next_piece<U: Uploads>(
     store: &mut U,
     giving: Giving,
+    buffer: &mut PieceBuffer,
     out: &mut Vec<u8>,
 ) -> Result<Option<Giving>, Stop>
     ensures answer { (w : World) (h : Pending) (up : Upload) → U.stands store.old w → IsGiving w.store giving h
@@ -67,17 +71,16 @@ fn next_piece<U: Uploads>(
     ensures crash { Quiet (U.moment store.old) (U.moment store.new) (U.left_only store.old) (U.left_only store.new) }
     ensures counts { Counts (IsErrOf result Stop.DiskFault) (U.failures store.old) (U.failures store.new) }
 {
-    let count = giving.length.saturating_sub(giving.given).min(PIECE) as usize;
-    let before = out.len();
-    let Ok(()) = out.resize(before + count, 0) else {
-        return Err(Stop::NoMemory);
-    };
-    match store.read_text(giving.number, giving.given, &mut out[before..]) {
-        Ok(_count) => Ok(giving.behind(count as u64)),
-        Err(error) => {
-            out.truncate(before);
-            Err(Stop::from(error))
-        }
+    let left = giving.length.saturating_sub(giving.given);
+    let count = left.min(PIECE as u64) as usize;
+    let piece = &mut buffer[..count];
+    match store.read_text(giving.number, giving.given, piece) {
+        Ok(_count) => {}
+        Err(error) => return Err(Stop::from(error)),
+    }
+    match out.extend_from_slice(piece) {
+        Ok(()) => Ok(giving.behind(count as u64)),
+        Err(_) => Err(Stop::NoMemory),
     }
 }
 
@@ -86,6 +89,7 @@ fn next_piece<U: Uploads>(
 pub fn give_more<U: Uploads>(
     store: &mut U,
     giving: Giving,
+    buffer: &mut PieceBuffer,
     out: &mut Vec<u8>,
 ) -> Result<Given, Stop>
     ensures answer { (w : World) (h : Pending) → U.stands store.old w → IsGiving w.store giving h
@@ -96,7 +100,7 @@ pub fn give_more<U: Uploads>(
     let Some(_there) = store.record(giving.number) else {
         return Ok(Given::Gone);
     };
-    match next_piece(store, giving, out) {
+    match next_piece(store, giving, buffer, out) {
         Ok(Some(left)) => Ok(Given::Piece(left)),
         Ok(None) => Ok(Given::Last),
         Err(stop) => Err(stop),
@@ -110,6 +114,7 @@ pub(crate) fn give_text<U: Uploads>(
     number: u64,
     bare: bool,
     closes: bool,
+    buffer: &mut PieceBuffer,
     out: &mut Vec<u8>,
 ) -> Result<Acted<U::Draft>, Stop>
     ensures answer { (w : World) (r : Request) → U.stands store.old w → bare ≡ r.bare → closes ≡ r.closes
@@ -135,7 +140,7 @@ pub(crate) fn give_text<U: Uploads>(
         given: 0,
         closes,
     };
-    match next_piece(store, giving, out) {
+    match next_piece(store, giving, buffer, out) {
         Ok(left) => Ok(Acted::giving(left, closes)),
         Err(stop) => {
             out.truncate(before);

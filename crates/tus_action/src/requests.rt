@@ -8,18 +8,20 @@ ghost use Rattle.tus_action.specs.Acts.{acted};
 ghost use Rattle.tus_action.specs.Serves.{Serves, CanBeMade, CanBeRead};
 
 use crate::acts::{Acted, Stop};
-use crate::reads::{give_text, show};
+use crate::reads::{PieceBuffer, give_text, show};
 use crate::writes::{begin, create, delete};
 use std::alloc::Global;
 use tus_request::replies::reply_options;
 use tus_request::{Action, Request};
 use upload_rules::{New, Uploads};
 
-/// Does what a request asks for at its head, and appends the reply to `out`.
+/// Does what a request asks for at its head, and appends the reply to `out`, with a text's first piece. That is read
+/// into the buffer.
 pub fn act<U: Uploads>(
     alloc: Global,
     store: &mut U,
     request: Request,
+    buffer: &mut PieceBuffer,
     out: &mut Vec<u8>,
 ) -> Result<Acted<U::Draft>, Stop>
     requires well_formed { CanBeMade (request_shown request).action }
@@ -63,7 +65,7 @@ pub fn act<U: Uploads>(
             create(alloc, store, new, bare, closes, out)
         }
         Action::Head(number) => show(alloc, store, number, bare, closes, out),
-        Action::Get(number) => give_text(alloc, store, number, bare, closes, out),
+        Action::Get(number) => give_text(alloc, store, number, bare, closes, buffer, out),
         Action::Patch {
             number,
             offset,

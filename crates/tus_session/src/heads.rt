@@ -18,7 +18,7 @@ use crate::conns::{Link, Patching, Place, Task};
 use crate::turns::{place_of, unmoved, waits};
 use crate::{Answer, SessionError};
 use std::alloc::Global;
-use tus_action::{Acted, Giving, Stop, act};
+use tus_action::{Acted, Giving, PieceBuffer, Stop, act};
 use tus_request::replies::reply_refused;
 use tus_request::{Action, HeadBuffer, Parsed, Request};
 use upload_rules::Uploads;
@@ -74,6 +74,7 @@ fn request_of<U: Uploads>(
     request: Request,
     before: usize,
     bytes: &[u8],
+    buffer: &mut PieceBuffer,
     out: &mut Vec<u8>,
 ) -> (Place<U::Draft>, Result<Answer, SessionError>)
     requires makeable { CanBeMade (request_shown request).action }
@@ -102,7 +103,7 @@ fn request_of<U: Uploads>(
     let reached = reached_by(&request);
     let behind = &bytes[before..];
     let start = out.len();
-    let acted = match act(alloc, store, request, out) {
+    let acted = match act(alloc, store, request, buffer, out) {
         Ok(acted) => acted,
         Err(Stop::NoMemory) => return (Place::Closed, Err(SessionError::NoMemory)),
         Err(Stop::DiskFault) => return (Place::Closed, Err(SessionError::DiskFault)),
@@ -142,6 +143,7 @@ fn head_of<U: Uploads>(
     store: &mut U,
     head: HeadBuffer,
     bytes: &[u8],
+    buffer: &mut PieceBuffer,
     out: &mut Vec<u8>,
 ) -> (Place<U::Draft>, Result<Answer, SessionError>)
     ensures answer { (w : World) (conn : Conn) → U.stands store.old w → InsideHead w conn (bytes_of head)
@@ -182,7 +184,7 @@ fn head_of<U: Uploads>(
         }
         Parsed::Head { taken, request } => {
             let before = taken.saturating_sub(had);
-            request_of(alloc, store, head, request, before, bytes, out)
+            request_of(alloc, store, head, request, before, bytes, buffer, out)
         }
     }
 }
@@ -193,6 +195,7 @@ pub(crate) fn came_of<U: Uploads>(
     store: &mut U,
     link: Link<U::Draft>,
     bytes: &[u8],
+    buffer: &mut PieceBuffer,
     out: &mut Vec<u8>,
 ) -> (Place<U::Draft>, Result<Answer, SessionError>)
     ensures answer { (w : World) (conn : Conn) → U.stands store.old w
@@ -225,6 +228,6 @@ pub(crate) fn came_of<U: Uploads>(
             let (place, answer) = skip(head, left, 0, bytes.len(), false);
             (place, Ok(answer))
         }
-        Task::Idle => head_of(alloc, store, head, bytes, out),
+        Task::Idle => head_of(alloc, store, head, bytes, buffer, out),
     }
 }

@@ -14,6 +14,7 @@ use crate::turns::{drop_link, end_of, more_of};
 use crate::{Answer, SessionError};
 use std::alloc::{AllocError, Global};
 use std::mem;
+use tus_action::{PIECE, PieceBuffer};
 use tus_request::HeadBuffer;
 use upload_rules::Uploads;
 
@@ -22,6 +23,8 @@ use upload_rules::Uploads;
 pub struct Session<U: Uploads> {
     alloc: Global,
     places: Vec<Place<U::Draft>>,
+    // what the pieces of texts are read into
+    buffer: Box<PieceBuffer>,
 }
 
 impl<U: Uploads> Session<U> {
@@ -30,6 +33,7 @@ impl<U: Uploads> Session<U> {
         ensures { (store : U) (m : Store) (blocks : Option ℕ) → U.stands store (at_rest m blocks)
             → IfOk result (λ s. SessionStands U.Uploads (places_of s) store (beginning m blocks)) }
     {
+        let buffer = Box::new(alloc, [0; PIECE])?;
         let mut places = Vec::with_capacity(alloc, 16)?;
         for _ in 0..16usize {
             match places.push(Place::Closed) {
@@ -37,7 +41,11 @@ impl<U: Uploads> Session<U> {
                 Err(_full) => unreachable!(),
             }
         }
-        Ok(Session { alloc, places })
+        Ok(Session {
+            alloc,
+            places,
+            buffer,
+        })
     }
 
     /// Opens a connection. It needs no memory.
@@ -97,7 +105,7 @@ impl<U: Uploads> Session<U> {
         }
         let (next, answer) = match mem::replace(&mut self.places[conn], Place::Closed) {
             Place::Closed => return Err(SessionError::Closed),
-            Place::Open(link) => came_of(self.alloc, store, link, bytes, out),
+            Place::Open(link) => came_of(self.alloc, store, link, bytes, &mut self.buffer, out),
         };
         put_back(&mut self.places[conn], next);
         answer
@@ -127,7 +135,7 @@ impl<U: Uploads> Session<U> {
         }
         let (next, answer) = match mem::replace(&mut self.places[conn], Place::Closed) {
             Place::Closed => return Err(SessionError::Closed),
-            Place::Open(link) => more_of(store, link, out),
+            Place::Open(link) => more_of(store, link, &mut self.buffer, out),
         };
         put_back(&mut self.places[conn], next);
         answer
@@ -171,6 +179,7 @@ impl<U: Uploads> Session<U> {
         let Session {
             alloc: _,
             mut places,
+            buffer: _,
         } = self;
         while let Some(place) = places.pop() {
             match place {

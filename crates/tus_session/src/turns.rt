@@ -9,7 +9,7 @@ ghost use Rattle.tus_session.specs.Turned.{Turned, Ended};
 
 use crate::conns::{Link, Patching, Place, Task};
 use crate::{Answer, SessionError};
-use tus_action::{Given, Stop, cut_body, give_more};
+use tus_action::{Given, PieceBuffer, Stop, cut_body, give_more};
 use tus_request::HeadBuffer;
 use upload_rules::Uploads;
 
@@ -37,6 +37,7 @@ pub(crate) fn waits(taken: usize, more: bool) -> Answer
 pub(crate) fn more_of<U: Uploads>(
     store: &mut U,
     link: Link<U::Draft>,
+    buffer: &mut PieceBuffer,
     out: &mut Vec<u8>,
 ) -> (Place<U::Draft>, Result<Answer, SessionError>)
     ensures answer { (w : World) (conn : Conn) → U.stands store.old w
@@ -51,7 +52,7 @@ pub(crate) fn more_of<U: Uploads>(
         Task::Text(giving) => giving,
         task => return unmoved(Link { head, left, task }, false),
     };
-    match give_more(store, giving, out) {
+    match give_more(store, giving, buffer, out) {
         Ok(Given::Piece(rest)) => {
             let answer = Answer {
                 taken: 0,
