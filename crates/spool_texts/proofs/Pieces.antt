@@ -7,8 +7,8 @@ use Rattle.std.proofs.lemmas.List.{get_or_append_left, get_or-append_right, get_
 use borrow.Rule.Slice.PartMut.{put_mid}
 use Rattle.spool_disk.specs.Disk.{span, Keeps, IsImage}
 use Rattle.spool_disk.proofs.Span.{length-span}
-use Rattle.spool_texts.specs.Reading.{IsRead, IsPiece, byte_on}
-use Rattle.spool_texts.specs.TextOn.{blocks_on, text_on}
+use Rattle.spool_texts.specs.Reading.{IsRead, IsPiece, Follow, byte_on}
+use Rattle.spool_texts.specs.TextOn.{blocks_on, text_on, AllBelow}
 use Rattle.spool_texts.proofs.Shown.{length-blocks_on}
 
 -- a byte of a span
@@ -19,14 +19,34 @@ get_or-span f at (suc n) zero lt = let e : at ≡ at + 0 = omega arith in ap f e
 get_or-span f at (suc n) (suc k) lt = let e : at + 1 + k ≡ at + suc k =
     omega arith in get_or-span f (at + 1) n k (omega (arith, lt)) ∙ ap f e
 
-pub piece_is : (seen : ℕ → ℕ) (first : ℕ) (list : List ℕ) (at n : ℕ) (buf new : List ℕ) → n ≤ length buf
-    → at % 4096 + n ≤ 4096 → new ≡ span seen (4096 * (first + get_or list (at / 4096) 0) + at % 4096) n
+-- blocks that follow one another end where the blocks end
+pub run_below : (list : List ℕ) (blocks at count : ℕ) → AllBelow blocks list → Follow list at count → 1 ≤ count
+    → at + count ≤ length list → get_or list at 0 + count ≤ blocks
+run_below list blocks at count below follow some within =
+    let last : get_or list (at + (count - 1)) 0 ≡ get_or list at 0 + (count - 1) =
+    follow (count - 1) (omega (arith, some)) in
+    omega (arith, last, below (at + (count - 1)) (omega (arith, some, within)), some)
+
+-- a place behind `at` on blocks that follow one another
+pub place_on : (list : List ℕ) (at count k : ℕ) → Follow list (at / 4096) count → at % 4096 + k < 4096 * count
+    → 4096 * get_or list (at / 4096) 0 + (at % 4096 + k) ≡ 4096 * get_or list ((at + k) / 4096) 0 + (at + k) % 4096
+place_on list at count k follow lt =
+    let e : at / 4096 + (at % 4096 + k) / 4096 ≡ (at + k) / 4096 = omega arith in
+    let rest : (at + k) % 4096 ≡ (at % 4096 + k) % 4096 = omega arith in
+    let there : get_or list ((at + k) / 4096) 0 ≡ get_or list (at / 4096) 0 + (at % 4096 + k) / 4096 =
+    ap (λ (i : ℕ). get_or list i 0) (sym e) ∙ follow ((at % 4096 + k) / 4096) (omega (arith, lt)) in
+    omega (arith, rest, there)
+
+-- what was read from blocks that follow one another
+pub piece_is : (seen : ℕ → ℕ) (first : ℕ) (list : List ℕ) (at count n : ℕ) (buf new : List ℕ) → n ≤ length buf
+    → Follow list (at / 4096) count → at % 4096 + n ≤ 4096 * count
+    → new ≡ span seen (4096 * (first + get_or list (at / 4096) 0) + at % 4096) n
     → IsPiece seen first list at n buf (new ++ drop n buf)
-piece_is seen first list at n buf new fits within is = record {
+piece_is seen first list at count n buf new fits follow within is = record {
   size = omega (arith, length-append new (drop n buf), length-drop n buf, size, fits);
   bytes = λ k lt. get_or_append_left new (drop n buf) 0 k (omega (arith, lt, size))
       ∙ ap (λ (xs : List ℕ). get_or xs k 0) is ∙ get_or-span seen
-      (4096 * (first + get_or list (at / 4096) 0) + at % 4096) n k lt ∙ same k lt;
+      (4096 * (first + get_or list (at / 4096) 0) + at % 4096) n k lt ∙ ap seen (same k lt);
   rest = λ k le. let e : n + (k - n) ≡ k =
       omega (arith, le) in get_or-append_right new (drop n buf) n k 0 size le ∙ get_or-drop n buf (k - n) 0
       ∙ ap (λ (i : ℕ). get_or buf i 0) e;
@@ -35,15 +55,9 @@ piece_is seen first list at n buf new fits within is = record {
     size : length new ≡ n
     size = ap length is ∙ length-span seen (4096 * (first + get_or list (at / 4096) 0) + at % 4096) n
 
-    same : (k : ℕ) → k < n → seen (4096 * (first + get_or list (at / 4096) 0) + at % 4096 + k) ≡ byte_on seen first list
-        (at + k)
-    same k lt =
-        let quotient : at / 4096 ≡ (at + k) / 4096 = omega (arith, lt, within) in
-        let rest : at % 4096 + k ≡ (at + k) % 4096 = omega (arith, lt, within) in
-        subst (λ (i : ℕ). seen (4096 * (first + get_or list (at / 4096) 0) + at % 4096 + k) ≡ seen
-        (4096 * (first + get_or list i 0) + (at + k) % 4096)) quotient
-        (let e : 4096 * (first + get_or list (at / 4096) 0) + at % 4096 + k ≡ 4096 * (first + get_or list (at / 4096)
-        0) + (at + k) % 4096 = omega (arith, rest) in ap seen e)
+    same : (k : ℕ) → k < n → 4096 * (first + get_or list (at / 4096) 0) + at % 4096 + k ≡ 4096 * (first + get_or list
+        ((at + k) / 4096) 0) + (at + k) % 4096
+    same k lt = let e = place_on list at count k follow (omega (arith, lt, within)) in omega (arith, e)
 
 -- a write into a middle of a buffer
 pub mid_before : (buf sub : List ℕ) (from size k : ℕ) → k < from → from ≤ length buf

@@ -15,3 +15,7 @@ pub record IsPiece (seen : ℕ → ℕ) (first : ℕ) (list : List ℕ) (at n : 
   pub size : length new ≡ length old
   pub bytes : (k : ℕ) → k < n → get_or new k 0 ≡ byte_on seen first list (at + k)
   pub rest : (k : ℕ) → n ≤ k → get_or new k 0 ≡ get_or old k 0
+
+-- so many of the listed blocks from this index on follow one another
+abbrev pub Follow : List ℕ → ℕ → ℕ → Type 0
+Follow list at count = (i : ℕ) → i < count → get_or list (at + i) 0 ≡ get_or list at 0 + i

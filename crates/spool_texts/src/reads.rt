@@ -1,9 +1,9 @@
 // A piece of a text is read.
-ghost use Rattle.std.specs.Prelude.{◌≡◌, ◌≤◌, ◌*◌, ◌+◌, ◌↔◌, length, IsErr, IfOk};
+ghost use Rattle.std.specs.Prelude.{◌≡◌, ◌≢◌, ◌<◌, ◌≤◌, ◌*◌, ◌+◌, ◌↔◌, length, get_or, IsErr, IfOk};
 ghost use Rattle.spool_disk.specs.Disk.{Counts, IsImage, Keeps};
 ghost use Rattle.spool_disk.specs.Views.{Lasts};
 ghost use Rattle.spool_journal.specs.Image.{journal_pages, all_pages};
-ghost use Rattle.spool_texts.specs.Reading.{IsRead, IsPiece};
+ghost use Rattle.spool_texts.specs.Reading.{IsRead, IsPiece, Follow};
 ghost use Rattle.spool_texts.specs.TextOn.{text_on, AllBelow};
 
 use spool_blocks::BlockNo;
@@ -11,7 +11,7 @@ use spool_disk::{Disk, DiskFault};
 use spool_journal::{Layout, PAGE};
 
 /// Reads bytes of the text of this length on the listed blocks from `at` on, as many as there are and fit. It reads
-/// each block concerned once, and takes no memory.
+/// each block concerned once, those that follow one another by one call, and takes no memory.
 pub fn read_text<D: Disk>(
     disk: &mut D,
     layout: &Layout,
@@ -42,7 +42,7 @@ pub fn read_text<D: Disk>(
     Ok(count)
 }
 
-// Reads bytes from a place of the blocks on, as many as fit and lie on the same block.
+// Reads bytes from a place of the blocks on by one call, as many as fit and lie on blocks that follow one another.
 fn read_piece<D: Disk>(
     disk: &mut D,
     layout: &Layout,
@@ -66,9 +66,32 @@ fn read_piece<D: Disk>(
         → Keeps (D.seen disk.old) (D.seen disk.new) (D.loose disk.old) (D.loose disk.new) }
     ensures lasts { D.honest disk.old → Lasts D.Disk disk.old disk.new (IsImage (D.seen disk.old) (D.loose disk.old)) }
 {
-    let offset = at % PAGE as u64;
-    let page = layout.block_page(list[(at / PAGE as u64) as usize]);
-    let n = buf.len().min(PAGE - offset as usize);
-    disk.read(PAGE as u64 * page as u64 + offset, &mut buf[..n])?;
+    let index = (at / PAGE as u64) as usize;
+    let offset = (at % PAGE as u64) as usize;
+    let page = layout.block_page(list[index]);
+    let count = run(list, index, (offset + buf.len()).div_ceil(PAGE));
+    let n = buf.len().min(PAGE * count - offset);
+    disk.read(PAGE as u64 * page as u64 + offset as u64, &mut buf[..n])?;
     Ok(n)
+}
+
+// How many of the listed blocks from an index on, at most so many, follow one another.
+fn run(list: &[BlockNo], at: usize, most: usize) -> usize
+    requires at { at < length list.now }
+    requires most { 1 ≤ most }
+    ensures some { 1 ≤ result }
+    ensures few { result ≤ most }
+    ensures within { at + result ≤ length list.now }
+    ensures follow { Follow list.now at result }
+    ensures longest { result < most → at + result < length list.now
+        → get_or list.now (at + result) 0 ≢ get_or list.now at 0 + result }
+{
+    let mut count = 1;
+    while count < most
+        && at + count < list.len()
+        && list[at + count] as usize == list[at] as usize + count
+    {
+        count += 1;
+    }
+    count
 }

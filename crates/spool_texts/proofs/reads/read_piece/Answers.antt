@@ -1,14 +1,16 @@
-use Rattle.std.proofs.Common.{rules, ◌≡◌, ◌*◌, ◌+◌, length, ℕ, ◌<◌, ◌/◌, ◌%◌, ap, arith, ◌∙◌, get_or, length-take, take}
+use Rattle.std.proofs.Common.{rules, ◌≡◌, ◌≤◌, ◌*◌, ◌+◌, length, ℕ, ◌/◌, ◌%◌, ap, arith, ◌∙◌, get_or, length-take, take}
 use Rattle.spool_disk.specs.Disk.{span}
 use Rattle.spool_journal.specs.Image.{journal_pages}
 use Rattle.spool_journal.proofs.Recovers.{all_is}
-use Rattle.spool_texts.proofs.Pieces.{piece_is}
+use Rattle.spool_texts.proofs.Pieces.{piece_is, run_below}
 use Rattle.spool_texts.proofs.reads.read_piece.Goals as goal
 
 pub read-requires : goal.read-requires
 read-requires g c =
-    let here : get_or c.args.list.now (c.args.at / 4096) 0 < c.args.layout.now =
-    c.requires.blocks (c.args.at / 4096) (omega (arith, c.requires.long, c.requires.some)) in
+    let run = c.run-count.ensures in
+    let here : get_or c.args.list.now (c.args.at / 4096) 0 + c.run-count.result ≤ c.args.layout.now =
+    run_below c.args.list.now c.args.layout.now (c.args.at / 4096) c.run-count.result c.requires.blocks run.follow
+    run.some run.within in
     omega (
       arith,
       here,
@@ -29,7 +31,8 @@ returns-clause-piece g c honest =
       c.block_page-page.ensures.page,
     ) in
     piece_is (g.D.Disk.seen c.args.disk.now) (25 + 2 * journal_pages c.args.layout.now) c.args.list.now c.args.at
-    c.min-n.result c.args.buf.now c.read.new.buf (omega (arith, c.min-n.ensures)) (omega (arith, c.min-n.ensures))
+    c.run-count.result c.min-n.result c.args.buf.now c.read.new.buf (omega (arith, c.min-n.ensures))
+    c.run-count.ensures.follow (omega (arith, c.min-n.ensures, c.run-count.ensures.some))
     (c.in_ok-read.ensures.bytes honest (search rules) ∙ ap
     (λ (n : ℕ). span (g.D.Disk.seen c.args.disk.now) (4096 * c.block_page-page.result + c.args.at % 4096) n) size
     ∙ ap (λ (at : ℕ). span (g.D.Disk.seen c.args.disk.now) at c.min-n.result) place)
