@@ -7,7 +7,6 @@ use enc_model::{Charset, Encoding, Place, Sink};
 use enc_unicode::{Order, Utf8State, Utf16State};
 use std::alloc::{AllocError, Global};
 use std::process::Abort;
-use std::test::Fail;
 
 /// The text so far.
 #[derive(Drop)]
@@ -47,19 +46,19 @@ impl Sink for Collected {
 }
 
 /// The text of two pieces in UTF-16.
-fn utf16(alloc: Global, order: Order, pieces: (&[u8], &[u8])) -> Result<String, AllocError> {
+fn utf16(rt: &impl Abort, alloc: Global, order: Order, pieces: (&[u8], &[u8])) -> String {
     let mut sink = Collected {
         text: String::new(alloc),
     };
     let mut state = Utf16State::new(order);
-    state.feed(pieces.0, &mut sink)?;
-    state.feed(pieces.1, &mut sink)?;
-    state.finish(&mut sink)?;
-    Ok(sink.text)
+    state.feed(pieces.0, &mut sink).expect(rt, "memory");
+    state.feed(pieces.1, &mut sink).expect(rt, "memory");
+    state.finish(&mut sink).expect(rt, "memory");
+    sink.text
 }
 
 /// Cuts a text in UTF-16LE, all A but for a pair of surrogates at one place, in two at each place.
-fn pair_at(rt: &impl Abort, alloc: Global, place: usize) -> Result<(), Fail> {
+fn pair_at(rt: &impl Abort, alloc: Global, place: usize) {
     let mut bytes = Vec::new(alloc);
     let mut text = String::new(alloc);
     for at in 0..99 {
@@ -69,69 +68,75 @@ fn pair_at(rt: &impl Abort, alloc: Global, place: usize) -> Result<(), Fail> {
         } else {
             &[0x41, 0x00]
         };
-        bytes.extend_from_slice(units)?;
-        text.push(c)?;
+        bytes.extend_from_slice(units).expect(rt, "memory");
+        text.push(c).expect(rt, "memory");
     }
     for cut in 0..bytes.len() + 1 {
-        let out = utf16(alloc, Order::Little, bytes.split_at(cut))?;
+        let out = utf16(rt, alloc, Order::Little, bytes.split_at(cut));
         assert!(rt; out == text, "pair at {place}, cut at {cut}");
     }
-    Ok(())
 }
 
 /// A text of 200 bytes with a pair of surrogates at each place, which the blocks of 64 bytes cut in each way.
 #[test]
-fn utf16_pair_at_each_place(rt: HostRuntime) -> Result<(), Fail> {
+fn utf16_pair_at_each_place(rt: HostRuntime) {
     for place in 0..99 {
-        pair_at(&rt, rt.alloc(), place)?;
+        pair_at(&rt, rt.alloc(), place);
     }
-    Ok(())
 }
 
 /// A mark, which the decoder itself takes for a character.
 #[test]
-fn utf8(rt: HostRuntime) -> Result<(), Fail> {
+fn utf8(rt: HostRuntime) {
     let mut sink = Collected {
         text: String::new(rt.alloc()),
     };
     let mut state = Utf8State::new();
-    state.feed(&[0xEF, 0xBB, 0xBF, 0xF0, 0x90], &mut sink)?;
-    state.finish(&mut sink)?;
+    state
+        .feed(&[0xEF, 0xBB, 0xBF, 0xF0, 0x90], &mut sink)
+        .expect(&rt, "memory");
+    state.finish(&mut sink).expect(&rt, "memory");
     assert!(rt; sink.text.as_str() == "\u{FEFF}\u{FFFD}");
-    Ok(())
 }
 
 /// The text of bytes in each legacy encoding, one behind the other.
-fn legacy(alloc: Global, set: &IndexSet) -> Result<String, AllocError> {
+fn legacy(rt: &impl Abort, alloc: Global, set: &IndexSet) -> String {
     let mut sink = Collected {
         text: String::new(alloc),
     };
     let mut single = SingleState::new(Encoding::Windows1252);
-    single.feed(set, &[0x41, 0x80, 0x81], &mut sink)?;
-    single.finish(set, &mut sink)?;
+    single
+        .feed(set, &[0x41, 0x80, 0x81], &mut sink)
+        .expect(rt, "memory");
+    single.finish(set, &mut sink).expect(rt, "memory");
     let mut shift_jis = ShiftJisState::new();
-    shift_jis.feed(set, &[0x82, 0xA0, 0x82], &mut sink)?;
-    shift_jis.finish(set, &mut sink)?;
+    shift_jis
+        .feed(set, &[0x82, 0xA0, 0x82], &mut sink)
+        .expect(rt, "memory");
+    shift_jis.finish(set, &mut sink).expect(rt, "memory");
     let mut euc_jp = EucJpState::new();
-    euc_jp.feed(set, &[0x8F, 0xB0, 0xA1, 0xB0], &mut sink)?;
-    euc_jp.finish(set, &mut sink)?;
+    euc_jp
+        .feed(set, &[0x8F, 0xB0, 0xA1, 0xB0], &mut sink)
+        .expect(rt, "memory");
+    euc_jp.finish(set, &mut sink).expect(rt, "memory");
     let mut iso2022 = Iso2022State::new();
-    iso2022.feed(set, &[0x1B, 0x24, 0x42, 0x24, 0x22], &mut sink)?;
-    iso2022.finish(set, &mut sink)?;
-    Ok(sink.text)
+    iso2022
+        .feed(set, &[0x1B, 0x24, 0x42, 0x24, 0x22], &mut sink)
+        .expect(rt, "memory");
+    iso2022.finish(set, &mut sink).expect(rt, "memory");
+    sink.text
 }
 
-fn legacy_is(rt: &impl Abort, alloc: Global, set: &IndexSet, text: &str) -> Result<(), Fail> {
-    let out = legacy(alloc, set)?;
+fn legacy_is(rt: &impl Abort, alloc: Global, set: &IndexSet, text: &str) {
+    let out = legacy(rt, alloc, set);
     assert!(rt; out.as_str() == text);
-    Ok(())
 }
 
 #[test]
-fn legacy_encodings(rt: HostRuntime) -> Result<(), Fail> {
-    let set = few_pairs(rt.alloc())?;
+fn legacy_encodings(rt: HostRuntime) {
+    let set = few_pairs(&rt, rt.alloc());
     let text = "A\u{20AC}\u{FFFD}\u{3042}\u{FFFD}\u{4E02}\u{FFFD}\u{3042}";
-    legacy_is(&rt, rt.alloc(), &set, text)
+    legacy_is(&rt, rt.alloc(), &set, text);
 }
 
 #[test]

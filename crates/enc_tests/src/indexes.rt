@@ -4,7 +4,6 @@ use enc_index::{AreaError, Index, IndexSet, Kind, ReadError};
 use enc_model::Encoding;
 use std::alloc::Global;
 use std::process::Abort;
-use std::test::Fail;
 
 const SMALL: &[u8] = b"# test\n\n  0\t0x3000\n60\tFF0D\n61\tFF0D\n";
 
@@ -18,10 +17,9 @@ fn looks_up(rt: &impl Abort, index: &Index) {
 }
 
 #[test]
-fn least_pointer_of_a_small_file(rt: HostRuntime) -> Result<(), Fail> {
-    let index = Index::read(rt.alloc(), SMALL, Kind::Jis0208)?;
+fn least_pointer_of_a_small_file(rt: HostRuntime) {
+    let index = Index::read(rt.alloc(), SMALL, Kind::Jis0208).expect(&rt, "lines of an index file");
     looks_up(&rt, &index);
-    Ok(())
 }
 
 fn refusal(alloc: Global, bytes: &[u8], kind: Kind) -> Option<ReadError> {
@@ -61,62 +59,65 @@ fn excludes(rt: &impl Abort, set: &IndexSet) {
 }
 
 #[test]
-fn excluded_pointers(rt: HostRuntime) -> Result<(), Fail> {
-    let mut set = IndexSet::new(rt.alloc())?;
+fn excluded_pointers(rt: HostRuntime) {
+    let mut set = IndexSet::new(rt.alloc()).expect(&rt, "memory");
     assert!(rt; set.pointer_sjis('\u{7E8A}').is_none() && !set.offers(Encoding::ShiftJis));
-    set.set(Index::read(rt.alloc(), b"8272\t7E8A\r\n10744\t7E8A\r\n", Kind::Jis0208)?);
+    set.set(Index::read(rt.alloc(), b"8272\t7E8A\r\n10744\t7E8A\r\n", Kind::Jis0208).expect(
+        &rt,
+        "lines of an index file",
+    ));
     excludes(&rt, &set);
-    Ok(())
 }
 
-fn area_of(alloc: Global, set: &IndexSet) -> Result<Vec<u8>, Fail> {
+fn area_of(rt: &impl Abort, alloc: Global, set: &IndexSet) -> Vec<u8> {
     let mut area = Vec::new(alloc);
     for page in 0..22usize {
-        area.extend_from_slice(&set.to_area(page))?;
+        area.extend_from_slice(&set.to_area(page))
+            .expect(rt, "memory");
     }
-    Ok(area)
+    area
 }
 
 /// The area of SMALL for jis0208 and of one entry for windows-1252.
-fn small_area(alloc: Global) -> Result<Vec<u8>, Fail> {
+fn small_area(rt: &impl Abort, alloc: Global) -> Vec<u8> {
     let windows = Kind::Single(Encoding::Windows1252);
     let files = [(Kind::Jis0208, SMALL), (windows, b"0\t20AC\n".as_slice())];
-    let mut set = IndexSet::new(alloc)?;
+    let mut set = IndexSet::new(alloc).expect(rt, "memory");
     for (kind, lines) in &files {
-        set.set(Index::read(alloc, *lines, *kind)?);
+        set.set(Index::read(alloc, *lines, *kind).expect(rt, "lines of an index file"));
     }
-    area_of(alloc, &set)
+    area_of(rt, alloc, &set)
 }
 
-fn is_small(rt: &impl Abort, alloc: Global, set: &IndexSet, area: &[u8]) -> Result<(), Fail> {
+fn is_small(rt: &impl Abort, alloc: Global, set: &IndexSet, area: &[u8]) {
     assert!(rt; set.pointer(Kind::Jis0208, '\u{FF0D}') == Some(60));
     assert!(rt; set.code(Kind::Single(Encoding::Windows1252), 0) == Some('\u{20AC}'));
     assert!(rt; !set.offers(Encoding::Koi8R));
-    let again = area_of(alloc, set)?;
+    let again = area_of(rt, alloc, set);
     assert!(rt; again.as_slice() == area);
-    Ok(())
 }
 
 #[test]
-fn area_there_and_back(rt: HostRuntime) -> Result<(), Fail> {
-    let area = small_area(rt.alloc())?;
+fn area_there_and_back(rt: HostRuntime) {
+    let area = small_area(&rt, rt.alloc());
     assert!(rt; area.len() == 90112);
     assert!(rt; area[0] == 1 && area[1] == 0);
     // windows-1252 is the twelfth file, and the first pointer of its table
     assert!(rt; area[11] == 1 && area[84846] == 0x20 && area[84847] == 0xAC);
-    let set = IndexSet::from_area(rt.alloc(), &area).ok().ok_or("no set")?;
-    is_small(&rt, rt.alloc(), &set, &area)
+    let set = IndexSet::from_area(rt.alloc(), &area)
+        .ok()
+        .expect(&rt, "a set");
+    is_small(&rt, rt.alloc(), &set, &area);
 }
 
 #[test]
-fn area_with_a_surrogate(rt: HostRuntime) -> Result<(), Fail> {
-    let mut area = small_area(rt.alloc())?;
+fn area_with_a_surrogate(rt: HostRuntime) {
+    let mut area = small_area(&rt, rt.alloc());
     assert!(rt; area.len() == 90112);
     // the entry of pointer 5
     area[52..56].copy_from_slice(&[0, 0, 0xD8, 0]);
     let refused = IndexSet::from_area(rt.alloc(), &area);
     assert!(rt; matches!(&refused, Err(AreaError::Damaged)));
-    Ok(())
 }
 
 /// A code point of its own for each of the 11,280 pointers, scattered over U+4E00 to U+7A0F.
@@ -129,31 +130,30 @@ fn scattered(pointer: u32) -> Option<char> {
 }
 
 /// A file with a code point at each pointer that jis0208 can have.
-fn full_file(alloc: Global) -> Result<Vec<u8>, Fail> {
+fn full_file(rt: &impl Abort, alloc: Global) -> Vec<u8> {
     let mut file = Vec::new(alloc);
     for pointer in 0..11280u32 {
-        let code = scattered(pointer).ok_or("no scalar value")? as u32;
-        let line = format!(in alloc; "{pointer}\t{code:X}\n")?;
-        file.extend_from_slice(line.as_bytes())?;
+        let code = scattered(pointer).expect(rt, "a scalar value") as u32;
+        let line = format!(in alloc; "{pointer}\t{code:X}\n").expect(rt, "memory");
+        file.extend_from_slice(line.as_bytes()).expect(rt, "memory");
     }
-    Ok(file)
+    file
 }
 
 /// Looks each entry of a full index up, once by its pointer and twice by its code point.
-fn finds_all(rt: &impl Abort, index: &Index) -> Result<(), Fail> {
+fn finds_all(rt: &impl Abort, index: &Index) {
     for pointer in 0..11280u32 {
-        let c = scattered(pointer).ok_or("no scalar value")?;
+        let c = scattered(pointer).expect(rt, "a scalar value");
         let usable = pointer < 8272 || 8835 < pointer;
         let wanted = if usable { Some(pointer) } else { None };
         assert!(rt; index.code(pointer) == Some(c) && index.pointer(c) == Some(pointer));
         assert!(rt; index.pointer_sjis(c) == wanted, "pointer {pointer}");
     }
-    Ok(())
 }
 
 #[test]
-fn each_entry_of_a_full_file(rt: HostRuntime) -> Result<(), Fail> {
-    let file = full_file(rt.alloc())?;
-    let index = Index::read(rt.alloc(), &file, Kind::Jis0208)?;
-    finds_all(&rt, &index)
+fn each_entry_of_a_full_file(rt: HostRuntime) {
+    let file = full_file(&rt, rt.alloc());
+    let index = Index::read(rt.alloc(), &file, Kind::Jis0208).expect(&rt, "lines of an index file");
+    finds_all(&rt, &index);
 }

@@ -4,31 +4,33 @@ use crate::index_files::*;
 use enc_index::{Index, IndexSet, Kind};
 use enc_model::Encoding;
 use std::alloc::Global;
-use std::test::Fail;
+use std::process::Abort;
 
 /// The set of these files, a kind and its lines each.
-pub fn set_of(alloc: Global, files: &[(Kind, &str)]) -> Result<IndexSet, Fail> {
-    let mut set = IndexSet::new(alloc)?;
+pub fn set_of(rt: &impl Abort, alloc: Global, files: &[(Kind, &str)]) -> IndexSet {
+    let mut set = IndexSet::new(alloc).expect(rt, "memory");
     for (kind, lines) in files {
-        set.set(Index::read(alloc, lines.as_bytes(), *kind)?);
+        set.set(Index::read(alloc, lines.as_bytes(), *kind).expect(rt, "lines of an index file"));
     }
-    Ok(set)
+    set
 }
 
 /// The lines of the index file with these code points at its pointers.
-fn lines_of(alloc: Global, codes: &str) -> Result<Vec<u8>, Fail> {
+fn lines_of(rt: &impl Abort, alloc: Global, codes: &str) -> Vec<u8> {
     let mut lines = Vec::new(alloc);
     for (pointer, code) in codes.split_whitespace().enumerate() {
         if code != "0000" {
-            let line = format!(in alloc; "{pointer:5}\t0x{code}\n")?;
-            lines.extend_from_slice(line.as_bytes())?;
+            let line = format!(in alloc; "{pointer:5}\t0x{code}\n").expect(rt, "memory");
+            lines
+                .extend_from_slice(line.as_bytes())
+                .expect(rt, "memory");
         }
     }
-    Ok(lines)
+    lines
 }
 
 /// The set of all files.
-pub fn all_files(alloc: Global) -> Result<IndexSet, Fail> {
+pub fn all_files(rt: &impl Abort, alloc: Global) -> IndexSet {
     let files = [
         (Kind::Jis0208, JIS0208),
         (Kind::Jis0212, JIS0212),
@@ -49,19 +51,21 @@ pub fn all_files(alloc: Global) -> Result<IndexSet, Fail> {
         (Kind::Single(Encoding::Windows1257), WINDOWS_1257),
         (Kind::Single(Encoding::Windows1258), WINDOWS_1258),
     ];
-    let mut set = IndexSet::new(alloc)?;
+    let mut set = IndexSet::new(alloc).expect(rt, "memory");
     for (kind, codes) in &files {
-        set.set(Index::read(alloc, &lines_of(alloc, *codes)?, *kind)?);
+        let lines = lines_of(rt, alloc, *codes);
+        set.set(Index::read(alloc, &lines, *kind).expect(rt, "lines of an index file"));
     }
-    Ok(set)
+    set
 }
 
 /// What the worked examples need of the index files.
-pub fn few_pairs(alloc: Global) -> Result<IndexSet, Fail> {
+pub fn few_pairs(rt: &impl Abort, alloc: Global) -> IndexSet {
     let jis0208 =
         "0\t3000\n2\t3002\n60\tFF0D\n283\t3042\n1410\t4E9C\n3569\t65E5\n4007\t672C\n8272\t7E8A\n10744\t7E8A\n";
     let windows = Kind::Single(Encoding::Windows1252);
     set_of(
+        rt,
         alloc,
         &[
             (Kind::Jis0208, jis0208),

@@ -7,7 +7,6 @@ use enc_model::{Encoding, Mode};
 use enc_stream::Transcoder;
 use std::alloc::Global;
 use std::process::Abort;
-use std::test::Fail;
 
 /// The state bytes that begin with these, zeros behind them.
 fn with_zeros(front: &[u8]) -> [u8; 32] {
@@ -19,26 +18,23 @@ fn with_zeros(front: &[u8]) -> [u8; 32] {
 }
 
 /// Packs behind a piece, and goes on from the bytes to the text of all.
-fn goes_on(
-    rt: &impl Abort,
-    alloc: Global,
-    set: &IndexSet,
-    mut first: Transcoder,
-    line: &str,
-) -> Result<(), Fail> {
-    let (front, rest) = word(line)?;
-    let (state, rest) = word(rest)?;
-    let (back, text) = word(rest)?;
+fn goes_on(rt: &impl Abort, alloc: Global, set: &IndexSet, mut first: Transcoder, line: &str) {
+    let (front, rest) = word(rt, line);
+    let (state, rest) = word(rt, rest);
+    let (back, text) = word(rt, rest);
     let mut out = Vec::new(alloc);
-    first.feed(set, &bytes_of(rt, alloc, front)?, &mut out)?;
+    first
+        .feed(set, &bytes_of(rt, alloc, front), &mut out)
+        .expect(rt, "each character has a code");
     let bytes = first.pack();
-    assert!(rt; bytes == with_zeros(&bytes_of(rt, alloc, state)?), "{line}");
-    let mut next = Transcoder::unpack(&bytes).ok_or("refused")?;
-    next.feed(set, &bytes_of(rt, alloc, back)?, &mut out)?;
-    next.finish(set, &mut out)?;
-    assert!(rt; out == bytes_of(rt, alloc, text)?, "{line}");
+    assert!(rt; bytes == with_zeros(&bytes_of(rt, alloc, state)), "{line}");
+    let mut next = Transcoder::unpack(&bytes).expect(rt, "state bytes");
+    next.feed(set, &bytes_of(rt, alloc, back), &mut out)
+        .expect(rt, "each character has a code");
+    next.finish(set, &mut out)
+        .expect(rt, "each character has a code");
+    assert!(rt; out == bytes_of(rt, alloc, text), "{line}");
     assert!(rt; next.pack()[3] == 2);
-    Ok(())
 }
 
 /// On each line two encodings, a piece, the state bytes behind it, another piece, and the text of both.
@@ -51,19 +47,18 @@ KOI8-R UTF-8 FFFE3DD800 0A000001020300D83D DE F09F9880
 EUC-JP ISO-2022-JP A4A28FA4 0405000104A40100000000000000000002 A2 1B244224221B2842262336353533333B
 ";
 
-fn all_go_on(rt: &impl Abort, alloc: Global, set: &IndexSet) -> Result<(), Fail> {
+fn all_go_on(rt: &impl Abort, alloc: Global, set: &IndexSet) {
     for line in STATES.lines() {
-        let (from, rest) = word(line)?;
-        let (to, rest) = word(rest)?;
-        goes_on(rt, alloc, set, between(rt, from, to, Mode::Html)?, rest)?;
+        let (from, rest) = word(rt, line);
+        let (to, rest) = word(rt, rest);
+        goes_on(rt, alloc, set, between(rt, from, to, Mode::Html), rest);
     }
-    Ok(())
 }
 
 #[test]
-fn state_bytes_behind_a_piece(rt: HostRuntime) -> Result<(), Fail> {
-    let set = few_pairs(rt.alloc())?;
-    all_go_on(&rt, rt.alloc(), &set)
+fn state_bytes_behind_a_piece(rt: HostRuntime) {
+    let set = few_pairs(&rt, rt.alloc());
+    all_go_on(&rt, rt.alloc(), &set);
 }
 
 #[test]

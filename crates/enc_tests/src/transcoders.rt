@@ -11,47 +11,58 @@ use enc_model::{Encoding, Mode};
 use enc_stream::{Progress, TranscodeError, Transcoder};
 use std::alloc::Global;
 use std::process::Abort;
-use std::test::Fail;
 
 /// The transcoder of a direction and a label.
-fn start_of(rt: &impl Abort, direction: &str, label: &str) -> Result<Transcoder, Fail> {
+fn start_of(rt: &impl Abort, direction: &str, label: &str) -> Transcoder {
     match direction {
         "decode" => between(rt, label, "UTF-8", Mode::Html),
         "encode" => between(rt, "UTF-8", label, Mode::Html),
-        _ => Err("no direction")?,
+        _ => panic!(rt; "no direction"),
     }
 }
 
 /// The text of bytes that come in pieces of a size.
 fn in_pieces(
+    rt: &impl Abort,
     alloc: Global,
     start: &Transcoder,
     set: &IndexSet,
     bytes: &[u8],
     size: usize,
-) -> Result<Vec<u8>, Fail> {
+) -> Vec<u8> {
     let mut out = Vec::new(alloc);
     let mut transcoder = start.copy();
     for piece in bytes.chunks(size.max(1)) {
-        transcoder.feed(set, piece, &mut out)?;
+        transcoder
+            .feed(set, piece, &mut out)
+            .expect(rt, "each character has a code");
     }
-    transcoder.finish(set, &mut out)?;
-    Ok(out)
+    transcoder
+        .finish(set, &mut out)
+        .expect(rt, "each character has a code");
+    out
 }
 
 /// The text of two pieces.
 fn in_two(
+    rt: &impl Abort,
     alloc: Global,
     start: &Transcoder,
     set: &IndexSet,
     pieces: (&[u8], &[u8]),
-) -> Result<Vec<u8>, Fail> {
+) -> Vec<u8> {
     let mut out = Vec::new(alloc);
     let mut transcoder = start.copy();
-    transcoder.feed(set, pieces.0, &mut out)?;
-    transcoder.feed(set, pieces.1, &mut out)?;
-    transcoder.finish(set, &mut out)?;
-    Ok(out)
+    transcoder
+        .feed(set, pieces.0, &mut out)
+        .expect(rt, "each character has a code");
+    transcoder
+        .feed(set, pieces.1, &mut out)
+        .expect(rt, "each character has a code");
+    transcoder
+        .finish(set, &mut out)
+        .expect(rt, "each character has a code");
+    out
 }
 
 /// Checks the text of bytes that come one by one, and in two pieces with the cut at each place, so also whole.
@@ -62,125 +73,117 @@ fn in_any_cut(
     set: &IndexSet,
     bytes: &[u8],
     text: &[u8],
-) -> Result<(), Fail> {
-    let out = in_pieces(alloc, start, set, bytes, 1)?;
+) {
+    let out = in_pieces(rt, alloc, start, set, bytes, 1);
     assert!(rt; out.as_slice() == text, "byte by byte");
     for cut in 0..bytes.len() + 1 {
-        let out = in_two(alloc, start, set, bytes.split_at(cut))?;
+        let out = in_two(rt, alloc, start, set, bytes.split_at(cut));
         assert!(rt; out.as_slice() == text, "cut at {cut}");
     }
-    Ok(())
 }
 
 /// Checks a line of a direction, a label, bytes, and what they give.
-fn holds(rt: &impl Abort, alloc: Global, set: &IndexSet, line: &str) -> Result<(), Fail> {
-    let (direction, rest) = word(line)?;
-    let (label, rest) = word(rest)?;
-    let (input, output) = word(rest)?;
-    let start = start_of(rt, direction, label)?;
-    let bytes = bytes_of(rt, alloc, input)?;
-    let text = bytes_of(rt, alloc, output)?;
-    in_any_cut(rt, alloc, &start, set, &bytes, &text)
+fn holds(rt: &impl Abort, alloc: Global, set: &IndexSet, line: &str) {
+    let (direction, rest) = word(rt, line);
+    let (label, rest) = word(rt, rest);
+    let (input, output) = word(rt, rest);
+    let start = start_of(rt, direction, label);
+    let bytes = bytes_of(rt, alloc, input);
+    let text = bytes_of(rt, alloc, output);
+    in_any_cut(rt, alloc, &start, set, &bytes, &text);
 }
 
-fn all_hold(rt: &impl Abort, alloc: Global, set: &IndexSet, lines: &str) -> Result<(), Fail> {
+fn all_hold(rt: &impl Abort, alloc: Global, set: &IndexSet, lines: &str) {
     for line in lines.lines() {
-        holds(rt, alloc, set, line)?;
+        holds(rt, alloc, set, line);
     }
-    Ok(())
 }
 
 #[test]
-fn strings_of_another_implementation(rt: HostRuntime) -> Result<(), Fail> {
+fn strings_of_another_implementation(rt: HostRuntime) {
     assert_eq!(rt; STRINGS.lines().count(), 480);
-    let set = all_files(rt.alloc())?;
-    all_hold(&rt, rt.alloc(), &set, STRINGS)
+    let set = all_files(&rt, rt.alloc());
+    all_hold(&rt, rt.alloc(), &set, STRINGS);
 }
 
 /// The bytes of hexadecimal digits, 80 times over.
-fn repeated(rt: &impl Abort, alloc: Global, hex: &str) -> Result<Vec<u8>, Fail> {
-    let bytes = bytes_of(rt, alloc, hex)?;
+fn repeated(rt: &impl Abort, alloc: Global, hex: &str) -> Vec<u8> {
+    let bytes = bytes_of(rt, alloc, hex);
     let mut all = Vec::new(alloc);
     for _ in 0..80 {
-        all.extend_from_slice(&bytes)?;
+        all.extend_from_slice(&bytes).expect(rt, "memory");
     }
-    Ok(all)
+    all
 }
 
 /// Checks a line whose bytes come many times over, so that blocks and windows are crossed.
-fn holds_repeated(rt: &impl Abort, alloc: Global, set: &IndexSet, line: &str) -> Result<(), Fail> {
-    let (direction, rest) = word(line)?;
-    let (label, rest) = word(rest)?;
-    let (input, output) = word(rest)?;
-    let start = start_of(rt, direction, label)?;
-    let bytes = repeated(rt, alloc, input)?;
-    let text = repeated(rt, alloc, output)?;
+fn holds_repeated(rt: &impl Abort, alloc: Global, set: &IndexSet, line: &str) {
+    let (direction, rest) = word(rt, line);
+    let (label, rest) = word(rt, rest);
+    let (input, output) = word(rt, rest);
+    let start = start_of(rt, direction, label);
+    let bytes = repeated(rt, alloc, input);
+    let text = repeated(rt, alloc, output);
     for size in [61, 1000, 4096, 65536] {
-        let out = in_pieces(alloc, &start, set, &bytes, size)?;
+        let out = in_pieces(rt, alloc, &start, set, &bytes, size);
         assert!(rt; out == text, "{direction} {label} in pieces of {size}");
     }
-    Ok(())
 }
 
-fn all_hold_repeated(
-    rt: &impl Abort,
-    alloc: Global,
-    set: &IndexSet,
-    lines: &str,
-) -> Result<(), Fail> {
+fn all_hold_repeated(rt: &impl Abort, alloc: Global, set: &IndexSet, lines: &str) {
     for line in lines.lines() {
-        holds_repeated(rt, alloc, set, line)?;
+        holds_repeated(rt, alloc, set, line);
     }
-    Ok(())
 }
 
 #[test]
-fn long_texts_of_another_implementation(rt: HostRuntime) -> Result<(), Fail> {
-    let set = all_files(rt.alloc())?;
-    all_hold_repeated(&rt, rt.alloc(), &set, TEXTS)
+fn long_texts_of_another_implementation(rt: HostRuntime) {
+    let set = all_files(&rt, rt.alloc());
+    all_hold_repeated(&rt, rt.alloc(), &set, TEXTS);
 }
 
 /// So many letters, bytes, and so many letters again.
 fn among_letters(
+    rt: &impl Abort,
     alloc: Global,
     before: usize,
     bytes: &[u8],
     behind: usize,
-) -> Result<Vec<u8>, Fail> {
+) -> Vec<u8> {
     let mut all = Vec::new(alloc);
-    all.resize(before, b'a')?;
-    all.extend_from_slice(bytes)?;
-    all.resize(all.len().saturating_add(behind), b'a')?;
-    Ok(all)
+    all.resize(before, b'a').expect(rt, "memory");
+    all.extend_from_slice(bytes).expect(rt, "memory");
+    all.resize(all.len().saturating_add(behind), b'a')
+        .expect(rt, "memory");
+    all
 }
 
 /// Checks a line whose bytes stand among so many letters, in two pieces, cut within the bytes and around them.
-fn holds_among(
-    rt: &impl Abort,
-    alloc: Global,
-    set: &IndexSet,
-    line: &str,
-    letters: (usize, usize),
-) -> Result<(), Fail>
+fn holds_among(rt: &impl Abort, alloc: Global, set: &IndexSet, line: &str, letters: (usize, usize))
     requires before { letters.0 ≤ 4096 }
     requires behind { letters.1 ≤ 4096 }
 {
-    let (direction, rest) = word(line)?;
-    let (label, rest) = word(rest)?;
-    let (input, output) = word(rest)?;
-    let start = start_of(rt, direction, label)?;
-    let bytes = among_letters(alloc, letters.0, &bytes_of(rt, alloc, input)?, letters.1)?;
-    let text = among_letters(alloc, letters.0, &bytes_of(rt, alloc, output)?, letters.1)?;
+    let (direction, rest) = word(rt, line);
+    let (label, rest) = word(rt, rest);
+    let (input, output) = word(rt, rest);
+    let start = start_of(rt, direction, label);
+    let bytes = among_letters(rt, alloc, letters.0, &bytes_of(rt, alloc, input), letters.1);
+    let text = among_letters(
+        rt,
+        alloc,
+        letters.0,
+        &bytes_of(rt, alloc, output),
+        letters.1,
+    );
     for back in 0..bytes.len().min(8) {
         let cut = (letters.0 + 6).min(bytes.len()).saturating_sub(back);
-        let out = in_two(alloc, &start, set, bytes.split_at(cut))?;
+        let out = in_two(rt, alloc, &start, set, bytes.split_at(cut));
         assert!(rt;
             out == text,
             "{line} behind {} letters, cut at {cut}",
             letters.0
         );
     }
-    Ok(())
 }
 
 /// What stands among letters: one character in each encoding, and faults.
@@ -199,28 +202,26 @@ decode UTF-8 ED9FF0908080 EFBFBDF0908080
 ";
 
 #[test]
-fn one_character_among_letters(rt: HostRuntime) -> Result<(), Fail> {
-    let set = few_pairs(rt.alloc())?;
+fn one_character_among_letters(rt: HostRuntime) {
+    let set = few_pairs(&rt, rt.alloc());
     for before in 0..100usize {
         for line in AMONG.lines() {
-            holds_among(&rt, rt.alloc(), &set, line, (before, 100 - before))?;
+            holds_among(&rt, rt.alloc(), &set, line, (before, 100 - before));
         }
     }
-    Ok(())
 }
 
 /// Behind so many letters that blocks, fronts of 512 bytes and windows are crossed.
 #[test]
-fn one_character_behind_many_letters(rt: HostRuntime) -> Result<(), Fail> {
-    let set = few_pairs(rt.alloc())?;
+fn one_character_behind_many_letters(rt: HostRuntime) {
+    let set = few_pairs(&rt, rt.alloc());
     for before in [
         250, 253, 255, 256, 510, 511, 512, 1020, 1023, 1024, 2000, 4090usize,
     ] {
         for line in AMONG.lines() {
-            holds_among(&rt, rt.alloc(), &set, line, (before, 300))?;
+            holds_among(&rt, rt.alloc(), &set, line, (before, 300));
         }
     }
-    Ok(())
 }
 
 /// Worked examples, which stand on a few entries of the index files.
@@ -258,51 +259,54 @@ encode windows-1252 41C3A9E38182 41E9262331323335343B
 ";
 
 #[test]
-fn worked_examples(rt: HostRuntime) -> Result<(), Fail> {
-    let set = few_pairs(rt.alloc())?;
-    all_hold(&rt, rt.alloc(), &set, WORKED)
+fn worked_examples(rt: HostRuntime) {
+    let set = few_pairs(&rt, rt.alloc());
+    all_hold(&rt, rt.alloc(), &set, WORKED);
 }
 
 #[test]
-fn character_that_the_encoding_lacks(rt: HostRuntime) -> Result<(), Fail> {
-    let set = IndexSet::new(rt.alloc())?;
+fn character_that_the_encoding_lacks(rt: HostRuntime) {
+    let set = IndexSet::new(rt.alloc()).expect(&rt, "memory");
     holds(
         &rt,
         rt.alloc(),
         &set,
         "encode windows-1252 C3A9 26233233333B",
-    )
+    );
 }
 
 #[test]
-fn katakana_that_stand_for_one_another(rt: HostRuntime) -> Result<(), Fail> {
+fn katakana_that_stand_for_one_another(rt: HostRuntime) {
     let files = [
         (Kind::Jis0208, "0\tFF61\n"),
         (Kind::Katakana, "0\tFF62\n1\tFF61\n"),
     ];
-    let set = set_of(rt.alloc(), &files)?;
+    let set = set_of(&rt, rt.alloc(), &files);
     let line = "encode ISO-2022-JP EFBDA2EFBDA1 1B244221211B2842262336353337383B";
-    holds(&rt, rt.alloc(), &set, line)
+    holds(&rt, rt.alloc(), &set, line);
 }
 
 /// Checks a line of an encoding, another, and pieces, each with the text behind it.
-fn gives_so_far(rt: &impl Abort, alloc: Global, set: &IndexSet, line: &str) -> Result<(), Fail> {
-    let (from, rest) = word(line)?;
-    let (to, pieces) = word(rest)?;
-    let mut transcoder = between(rt, from, to, Mode::Html)?;
+fn gives_so_far(rt: &impl Abort, alloc: Global, set: &IndexSet, line: &str) {
+    let (from, rest) = word(rt, line);
+    let (to, pieces) = word(rt, rest);
+    let mut transcoder = between(rt, from, to, Mode::Html);
     let mut out = Vec::new(alloc);
     for piece in pieces.split_whitespace() {
-        let (input, output) = piece.split_once('=').ok_or("no text")?;
-        transcoder.feed(set, &bytes_of(rt, alloc, input)?, &mut out)?;
-        assert!(rt; out == bytes_of(rt, alloc, output)?, "{line}");
+        let (input, output) = piece.split_once('=').expect(rt, "a text");
+        transcoder
+            .feed(set, &bytes_of(rt, alloc, input), &mut out)
+            .expect(rt, "each character has a code");
+        assert!(rt; out == bytes_of(rt, alloc, output), "{line}");
     }
-    transcoder.finish(set, &mut out)?;
-    Ok(())
+    transcoder
+        .finish(set, &mut out)
+        .expect(rt, "each character has a code");
 }
 
 #[test]
-fn text_behind_each_piece(rt: HostRuntime) -> Result<(), Fail> {
-    let set = few_pairs(rt.alloc())?;
+fn text_behind_each_piece(rt: HostRuntime) {
+    let set = few_pairs(&rt, rt.alloc());
     for line in [
         "UTF-8 UTF-8 EF= BB= BF41=41",
         "UTF-8 UTF-8 F090= 80=",
@@ -311,9 +315,8 @@ fn text_behind_each_piece(rt: HostRuntime) -> Result<(), Fail> {
         "ISO-2022-JP UTF-8 1B= 2442= 2422=E38182",
         "UTF-8 ISO-2022-JP E38182=1B24422422 F09F9880=1B244224221B284226233132383531323B",
     ] {
-        gives_so_far(&rt, rt.alloc(), &set, line)?;
+        gives_so_far(&rt, rt.alloc(), &set, line);
     }
-    Ok(())
 }
 
 /// What a transcoder answers that has refused a character.
@@ -325,14 +328,13 @@ fn is_spent(rt: &impl Abort, set: &IndexSet, spent: &mut Transcoder, out: &mut V
 }
 
 #[test]
-fn spent_behind_a_refusal(rt: HostRuntime) -> Result<(), Fail> {
-    let set = IndexSet::new(rt.alloc())?;
+fn spent_behind_a_refusal(rt: HostRuntime) {
+    let set = IndexSet::new(rt.alloc()).expect(&rt, "memory");
     let mut out = Vec::new(rt.alloc());
     let mut fatal = Transcoder::new(Encoding::Utf8, Encoding::Windows1252, Mode::Fatal);
     let refused = fatal.feed(&set, "A\u{E9}".as_bytes(), &mut out);
     assert_eq!(rt; refused, Err(TranscodeError::Unencodable('\u{E9}')));
     is_spent(&rt, &set, &mut fatal, &mut out);
-    Ok(())
 }
 
 /// What a transcoder answers that has ended.
@@ -345,11 +347,11 @@ fn is_ended(rt: &impl Abort, set: &IndexSet, ended: &mut Transcoder, out: &mut V
 }
 
 #[test]
-fn done_behind_the_end(rt: HostRuntime) -> Result<(), Fail> {
-    let set = IndexSet::new(rt.alloc())?;
+fn done_behind_the_end(rt: HostRuntime) {
+    let set = IndexSet::new(rt.alloc()).expect(&rt, "memory");
     let mut out = Vec::new(rt.alloc());
     let mut html = Transcoder::new(Encoding::Utf8, Encoding::Windows1252, Mode::Html);
-    html.finish(&set, &mut out)?;
+    html.finish(&set, &mut out)
+        .expect(&rt, "each character has a code");
     is_ended(&rt, &set, &mut html, &mut out);
-    Ok(())
 }

@@ -5,7 +5,6 @@ ghost use Rattle.std.specs.Prelude.{◌≡◌, ◌≤◌};
 use spool_disk::{
     Crash, Disk, DiskFault, FileDisk, FuseDisk, HiccupDisk, MemoryDisk, read, write, write_synced,
 };
-use std::test::Fail;
 use std::{fs, io};
 
 const FOLDER: &str = "spool_disk_file_test";
@@ -13,6 +12,8 @@ const FOLDER: &str = "spool_disk_file_test";
 const PATH: &str = "spool_disk_file_test/spool";
 
 const SHARED: &str = "spool_disk_lock_test";
+
+const SHORT: &str = "spool_disk_short_test";
 
 // The first four bytes.
 fn front<D: Disk>(disk: &mut D) -> Result<[u8; 4], DiskFault>
@@ -25,25 +26,24 @@ fn front<D: Disk>(disk: &mut D) -> Result<[u8; 4], DiskFault>
 }
 
 #[test]
-fn crash_leaves_old_new_or_torn_bytes(rt: HostRuntime) -> Result<(), Fail> {
+fn crash_leaves_old_new_or_torn_bytes(rt: HostRuntime) {
     for (kind, want) in [
         (Crash::Old, *b"abc\0"),
         (Crash::New, *b"aXY\0"),
         (Crash::Torn(7), *b"a\x07\x07\0"),
     ] {
-        let mut disk = MemoryDisk::new(rt.alloc(), 4)?;
+        let mut disk = MemoryDisk::new(rt.alloc(), 4).expect(&rt, "memory");
         assert_eq!(rt; disk.len(), 4);
-        write_synced(&mut disk, 0, b"abc")?;
-        write(&mut disk, 1, b"XY")?;
+        write_synced(&mut disk, 0, b"abc").expect(&rt, "no call fails");
+        write(&mut disk, 1, b"XY").expect(&rt, "no call fails");
         let mut left = disk.crash(kind);
         assert_eq!(rt; front(&mut left), Ok(want), "{kind:?}");
     }
-    Ok(())
 }
 
 #[test]
-fn fuse_passes_calls_and_then_none(rt: HostRuntime) -> Result<(), Fail> {
-    let mut disk = FuseDisk::new(MemoryDisk::new(rt.alloc(), 4)?, 2);
+fn fuse_passes_calls_and_then_none(rt: HostRuntime) {
+    let mut disk = FuseDisk::new(MemoryDisk::new(rt.alloc(), 4).expect(&rt, "memory"), 2);
     assert_eq!(rt; disk.len(), 4);
     assert_eq!(rt; disk.write_at(1, b"a"), Ok(()));
     assert_eq!(rt; disk.sync(), Ok(()));
@@ -52,13 +52,16 @@ fn fuse_passes_calls_and_then_none(rt: HostRuntime) -> Result<(), Fail> {
     assert_eq!(rt; front(&mut disk), Err(DiskFault));
     let mut inner = disk.into_inner();
     assert_eq!(rt; front(&mut inner), Ok(*b"\0a\0\0"));
-    Ok(())
 }
 
 #[test]
-fn hiccup_fails_one_call_and_fills_its_range(rt: HostRuntime) -> Result<(), Fail> {
+fn hiccup_fails_one_call_and_fills_its_range(rt: HostRuntime) {
     for (fill, want) in [(None, *b"abcd"), (Some(9), *b"a\x09\x09d")] {
-        let mut disk = HiccupDisk::new(MemoryDisk::new(rt.alloc(), 4)?, 1, fill);
+        let mut disk = HiccupDisk::new(
+            MemoryDisk::new(rt.alloc(), 4).expect(&rt, "memory"),
+            1,
+            fill,
+        );
         assert_eq!(rt; disk.len(), 4);
         assert_eq!(rt; disk.write_at(0, b"abcd"), Ok(()));
         assert_eq!(rt; disk.write_at(1, b"XY"), Err(DiskFault));
@@ -67,57 +70,53 @@ fn hiccup_fails_one_call_and_fills_its_range(rt: HostRuntime) -> Result<(), Fail
         let mut inner = disk.into_inner();
         assert_eq!(rt; front(&mut inner), Ok(want));
     }
-    Ok(())
 }
 
 #[test]
-fn file_holds_its_bytes_when_opened_again(rt: HostRuntime) -> Result<(), Fail> {
+fn file_holds_its_bytes_when_opened_again(rt: HostRuntime) {
     let _ = fs::remove_dir_all(&rt, FOLDER);
-    fs::create_dir(&rt, FOLDER)?;
-    let mut made = FileDisk::create(&rt, PATH, 4)?;
+    assert!(rt; fs::create_dir(&rt, FOLDER).is_ok());
+    let mut made = FileDisk::create(&rt, PATH, 4).expect(&rt, "a new file");
     assert_eq!(rt; made.len(), 4);
     assert_eq!(rt; made.write_at(1, b"ab"), Ok(()));
     assert_eq!(rt; made.sync(), Ok(()));
     assert_eq!(rt; front(&mut made), Ok(*b"\0ab\0"));
     drop(made);
-    let mut found = FileDisk::open(&rt, PATH)?;
+    let mut found = FileDisk::open(&rt, PATH).expect(&rt, "the file is there");
     assert!(rt; found.len() == 4);
     assert_eq!(rt; front(&mut found), Ok(*b"\0ab\0"));
     drop(found);
-    let mut longer = FileDisk::create(&rt, PATH, 9)?;
+    let mut longer = FileDisk::create(&rt, PATH, 9).expect(&rt, "the file is there");
     assert_eq!(rt; front(&mut longer), Ok(*b"\0ab\0"));
-    assert_eq!(rt; fs::metadata(&rt, PATH)?.len(), 9);
+    assert!(rt; matches!(fs::metadata(&rt, PATH), Ok(file) if file.len() == 9));
     drop(longer);
-    fs::remove_dir_all(&rt, FOLDER)?;
+    assert!(rt; fs::remove_dir_all(&rt, FOLDER).is_ok());
     assert!(rt; matches!(FileDisk::open(&rt, PATH), Err(DiskFault)));
     assert!(rt; matches!(FileDisk::create(&rt, PATH, 4), Err(DiskFault)));
-    Ok(())
 }
 
 #[test]
-fn file_in_use_is_opened_once(rt: HostRuntime) -> Result<(), Fail> {
-    let made = FileDisk::create(&rt, SHARED, 4)?;
+fn file_in_use_is_opened_once(rt: HostRuntime) {
+    let made = FileDisk::create(&rt, SHARED, 4).expect(&rt, "a new file");
     assert!(rt; matches!(FileDisk::open(&rt, SHARED), Err(DiskFault)));
     assert!(rt; matches!(FileDisk::create(&rt, SHARED, 9), Err(DiskFault)));
-    assert_eq!(rt; fs::metadata(&rt, SHARED)?.len(), 4);
+    assert!(rt; matches!(fs::metadata(&rt, SHARED), Ok(file) if file.len() == 4));
     match FileDisk::try_open(&rt, SHARED) {
         Ok(_disk) => panic!(rt; "opened twice"),
         Err(error) => assert_eq!(rt; error.kind(), io::ErrorKind::ResourceBusy),
     }
     drop(made);
-    let found = FileDisk::open(&rt, SHARED)?;
+    let found = FileDisk::open(&rt, SHARED).expect(&rt, "the file is there");
     assert!(rt; matches!(FileDisk::try_create(&rt, SHARED, 4), Err(_)));
     drop(found);
-    fs::remove_file(&rt, SHARED)?;
-    Ok(())
+    assert!(rt; fs::remove_file(&rt, SHARED).is_ok());
 }
 
 #[test]
-fn shortened_file_answers_faults(rt: HostRuntime) -> Result<(), Fail> {
-    let mut disk = FileDisk::create(&rt, "spool_disk_short_test", 4)?;
-    fs::write(&rt, "spool_disk_short_test", b"abc".as_slice())?;
+fn shortened_file_answers_faults(rt: HostRuntime) {
+    let mut disk = FileDisk::create(&rt, SHORT, 4).expect(&rt, "a new file");
+    assert!(rt; fs::write(&rt, SHORT, b"abc".as_slice()).is_ok());
     assert_eq!(rt; front(&mut disk), Err(DiskFault));
     drop(disk);
-    fs::remove_file(&rt, "spool_disk_short_test")?;
-    Ok(())
+    assert!(rt; fs::remove_file(&rt, SHORT).is_ok());
 }

@@ -4,7 +4,7 @@ ghost use Rattle.std.specs.Prelude.{◌≡◌, ◌≤◌, ◌<◌, IfOk, length}
 ghost use Rattle.spool_journal.specs.Image.{journal_pages, InArea};
 
 use crate::disks::{byte_at, disk_of};
-use spool_disk::{Crash, Disk, DiskFault, MemoryDisk};
+use spool_disk::{Crash, Disk};
 use spool_journal::{Layout, PAGE, Pages, commit};
 use spool_pages::{
     Damaged, RECORD, SlotRecord, Version, blocks_said, change, fill_rows, first_page,
@@ -12,7 +12,6 @@ use spool_pages::{
     version_and_next,
 };
 use std::alloc::{AllocError, Global};
-use std::test::Fail;
 
 /// Whether a record's bytes on a spool of this version are read as the same record.
 fn is_read_back(record: &SlotRecord<'_>, version: Version) -> bool
@@ -32,7 +31,7 @@ fn is_read_back(record: &SlotRecord<'_>, version: Version) -> bool
 }
 
 #[test]
-fn record_is_read_as_it_was_written(rt: HostRuntime) -> Result<(), Fail> {
+fn record_is_read_as_it_was_written(rt: HostRuntime) {
     let mut state = [0; 32];
     state[4] = 2;
     let record = SlotRecord {
@@ -56,26 +55,27 @@ fn record_is_read_as_it_was_written(rt: HostRuntime) -> Result<(), Fail> {
         (70, 0),
         (1602, 0),
     ] {
-        assert_eq!(rt; bytes[at], want, "at {at}");
+        assert!(rt; bytes[at] == want, "at {at}");
     }
     for version in [Version::One, Version::Two] {
         assert!(rt; is_read_back(&record, version), "{version:?}");
-        assert!(rt; matches!(SlotRecord::from_bytes(version, &[0; RECORD]), Ok(None)));
+        let blank = SlotRecord::from_bytes(version, &[0; RECORD]);
+        assert!(rt; matches!(blank, Ok(None)), "{version:?}");
     }
-    Ok(())
 }
 
 #[test]
-fn unknown_length_is_said_as_the_version_says(rt: HostRuntime) -> Result<(), Fail> {
+fn unknown_length_is_said_as_the_version_says(rt: HostRuntime) {
     let mut record = seventh(b"n");
     record.declared = None;
     for (version, length, tag) in [(Version::One, [0xFF; 8], 0), (Version::Two, [0; 8], 1)] {
         let bytes = record.to_bytes(version);
-        assert_eq!(rt; &bytes[8..16], length.as_slice(), "{version:?}");
-        assert_eq!(rt; bytes[1602], tag, "{version:?}");
+        assert!(rt;
+            &bytes[8..16] == length.as_slice() && bytes[1602] == tag,
+            "{version:?}"
+        );
         assert!(rt; is_read_back(&record, version), "{version:?}");
     }
-    Ok(())
 }
 
 /// Whether a slot whose bytes are these but for one is damaged.
@@ -87,89 +87,81 @@ fn is_damaged(version: Version, mut bytes: [u8; RECORD], at: usize, byte: u8) ->
 }
 
 #[test]
-fn bytes_that_nothing_writes_are_damaged(rt: HostRuntime) -> Result<(), Fail> {
+fn bytes_that_nothing_writes_are_damaged(rt: HostRuntime) {
     for version in [Version::One, Version::Two] {
         assert!(rt; is_damaged(version, [0; RECORD], 2047, 1), "a free slot");
         let bytes = seventh(b"n").to_bytes(version);
-        assert!(rt; !is_damaged(version, bytes, 66, b'm'));
-        assert!(rt; is_damaged(version, bytes, 7, 0), "no number");
-        assert!(rt;
-            is_damaged(version, bytes, 64, 6),
-            "1,537 bytes of metadata"
-        );
-        assert!(rt; is_damaged(version, bytes, 67, 1), "behind the metadata");
-        assert!(rt;
-            is_damaged(version, bytes, 1601, 1),
-            "the last byte of the room"
-        );
-        assert!(rt;
-            is_damaged(version, bytes, 1602, 1),
-            "the tag 1 and a length"
-        );
-        assert!(rt; is_damaged(version, bytes, 1603, 1), "behind the tag");
-        assert!(rt; is_damaged(version, bytes, 2047, 1), "the last byte");
+        assert!(rt; !is_damaged(version, bytes, 66, b'm'), "other metadata");
+        for (at, byte, what) in [
+            (7, 0, "no number"),
+            (64, 6, "1,537 bytes of metadata"),
+            (67, 1, "behind the metadata"),
+            (1601, 1, "the last byte of the room"),
+            (1602, 1, "the tag 1 and a length"),
+            (1603, 1, "behind the tag"),
+            (2047, 1, "the last byte"),
+        ] {
+            assert!(rt; is_damaged(version, bytes, at, byte), "{version:?}: {what}");
+        }
     }
-    assert_eq!(rt; row_at(&[0, 0, 0, 0, 0, 0, 0, 1], 0), Err(Damaged));
-    let mut page = state_page(Version::Two, 7);
-    assert!(rt; is_blank_behind_fields(&page));
-    page[12] = 1;
-    assert!(rt; !is_blank_behind_fields(&page));
-    Ok(())
+    assert!(rt; row_at(&[0, 0, 0, 0, 0, 0, 0, 1], 0) == Err(Damaged));
 }
 
 #[test]
-fn lengths_that_nothing_writes_are_damaged(rt: HostRuntime) -> Result<(), Fail> {
+fn lengths_that_nothing_writes_are_damaged(rt: HostRuntime) {
     let mut record = seventh(b"n");
     record.declared = None;
     let old = record.to_bytes(Version::One);
     let new = record.to_bytes(Version::Two);
-    assert!(rt; is_damaged(Version::Two, new, 1602, 2), "no such tag");
-    assert!(rt;
-        is_damaged(Version::Two, new, 15, 1),
-        "the tag 1 and a length"
-    );
     assert!(rt; !is_damaged(Version::Two, new, 1602, 0), "the length 0");
-    assert!(rt;
-        is_damaged(Version::One, old, 1602, 1),
-        "eight FF and a tag"
-    );
-    // as the other version says an unknown length
-    assert!(rt;
-        is_damaged(Version::Two, old, 1602, 0),
-        "eight FF in version 2"
-    );
-    assert!(rt;
-        is_damaged(Version::One, new, 1602, 1),
-        "the tag 1 in version 1"
-    );
-    Ok(())
+    for (version, bytes, at, byte, what) in [
+        (Version::Two, new, 1602, 2, "no such tag"),
+        (Version::Two, new, 15, 1, "the tag 1 and a length"),
+        (Version::One, old, 1602, 1, "eight FF and a tag"),
+        // as the other version says an unknown length
+        (Version::Two, old, 1602, 0, "eight FF in version 2"),
+        (Version::One, new, 1602, 1, "the tag 1 in version 1"),
+    ] {
+        assert!(rt; is_damaged(version, bytes, at, byte), "{what}");
+    }
 }
 
 #[test]
-fn pages_are_read_as_they_were_written(rt: HostRuntime) -> Result<(), Fail> {
+fn rows_are_read_as_they_were_written(rt: HostRuntime) {
     let page = row_page(&[None, Some((511, 65535))], 0);
-    assert_eq!(rt; &page[8..16], [0, 0, 2, 0, 0, 0, 255, 255].as_slice());
-    assert_eq!(rt; row_at(&page, 0), Ok(None));
-    assert_eq!(rt; row_at(&page, 8), Ok(Some((511, 65535))));
-    assert_eq!(rt; row_at(&page, 4088), Ok(None));
-    for version in [Version::One, Version::Two] {
-        assert_eq!(rt;
-            version_and_next(&state_page(version, 7)),
-            Some((version, 7))
+    assert!(rt; &page[8..16] == [0, 0, 2, 0, 0, 0, 255, 255].as_slice());
+    for (at, row) in [(0, None), (8, Some((511, 65535))), (4088, None)] {
+        assert!(rt; row_at(&page, at) == Ok(row), "at {at}");
+    }
+}
+
+#[test]
+fn state_page_is_read_as_it_was_written(rt: HostRuntime) {
+    for (version, digit) in [(Version::One, 1), (Version::Two, 2)] {
+        let page = state_page(version, 7);
+        assert!(rt;
+            &page[..12] == [0, 0, 0, digit, 0, 0, 0, 0, 0, 0, 0, 7].as_slice(),
+            "{version:?}"
         );
+        assert!(rt;
+            version_and_next(&page) == Some((version, 7)),
+            "{version:?}"
+        );
+        assert!(rt; is_blank_behind_fields(&page), "{version:?}");
     }
     let mut page = state_page(Version::Two, 7);
-    assert_eq!(rt;
-        &page[..12],
-        [0, 0, 0, 2, 0, 0, 0, 0, 0, 0, 0, 7].as_slice()
-    );
     page[3] = 9;
-    assert_eq!(rt; version_and_next(&page), None, "no such version");
+    page[12] = 1;
+    assert!(rt; version_and_next(&page).is_none(), "no such version");
+    assert!(rt; !is_blank_behind_fields(&page), "a byte behind the fields");
+}
+
+#[test]
+fn count_of_blocks_is_read_as_it_was_written(rt: HostRuntime) {
     let mut front = [0; 12];
     front.copy_from_slice(&first_page(65536)[..12]);
-    assert_eq!(rt; blocks_said(&front), Some(65536));
-    assert_eq!(rt; blocks_said(&[0; 12]), None);
-    Ok(())
+    assert!(rt; blocks_said(&front) == Some(65536));
+    assert!(rt; blocks_said(&[0; 12]).is_none());
 }
 
 /// The record of upload 7, with a byte of metadata.
@@ -187,9 +179,9 @@ fn seventh(metadata: &[u8]) -> SlotRecord<'_>
 }
 
 #[test]
-fn change_is_committed(rt: HostRuntime) -> Result<(), Fail> {
-    let layout = Layout::of(1040).ok_or(DiskFault)?;
-    let mut disk = MemoryDisk::new(rt.alloc(), PAGE * layout.pages() as usize)?;
+fn change_is_committed(rt: HostRuntime) {
+    let layout = Layout::of(1040).expect(&rt, "enough blocks");
+    let mut disk = disk_of(rt.alloc(), layout.pages()).expect(&rt, "memory");
     let record = seventh(b"n");
     let pages = pages_of_new(
         rt.alloc(),
@@ -199,8 +191,9 @@ fn change_is_committed(rt: HostRuntime) -> Result<(), Fail> {
         3,
         &record,
         Some(&seventh(b"")),
-    )?;
-    assert_eq!(rt; commit(&mut disk, &layout, &pages), Ok(()));
+    )
+    .expect(&rt, "memory");
+    commit(&mut disk, &layout, &pages).expect(&rt, "no call fails");
     let mut pages = pages_of_change(
         rt.alloc(),
         &layout,
@@ -209,11 +202,11 @@ fn change_is_committed(rt: HostRuntime) -> Result<(), Fail> {
         Some(&record),
         None,
         &[1, 1039, 0],
-    )?;
+    )
+    .expect(&rt, "memory");
     fill_rows(&mut pages, &layout, &[None, Some((3, 0))]);
-    assert_eq!(rt; pages.len(), 3);
-    assert_eq!(rt; pages.number(2), 544);
-    assert_eq!(rt; commit(&mut disk, &layout, &pages), Ok(()));
+    assert!(rt; pages.len() == 3 && pages.number(2) == 544);
+    commit(&mut disk, &layout, &pages).expect(&rt, "no call fails");
     // the version, the next number, the numbers of three records, and the slot of a row
     for (at, want) in [
         (285 * 4096 + 3, 2),
@@ -225,7 +218,6 @@ fn change_is_committed(rt: HostRuntime) -> Result<(), Fail> {
     ] {
         assert_eq!(rt; byte_at(&mut disk, at), Ok(want), "at {at}");
     }
-    Ok(())
 }
 
 /// The next number of a spool of 16 blocks, whose state page is 283.
@@ -238,15 +230,15 @@ fn next_number(alloc: Global, next: u64) -> Result<Pages, AllocError>
 }
 
 #[test]
-fn change_is_on_the_disk(rt: HostRuntime) -> Result<(), Fail> {
-    let layout = Layout::of(16).ok_or("few blocks")?;
-    let mut disk = disk_of(rt.alloc(), layout.pages())?;
-    let pages = next_number(rt.alloc(), 7)?;
-    assert_eq!(rt; change(&mut disk, &layout, &pages), Ok(()));
+fn change_is_on_the_disk(rt: HostRuntime) {
+    let layout = Layout::of(16).expect(&rt, "enough blocks");
+    let mut disk = disk_of(rt.alloc(), layout.pages()).expect(&rt, "memory");
+    let pages = next_number(rt.alloc(), 7).expect(&rt, "memory");
+    change(&mut disk, &layout, &pages).expect(&rt, "no call fails");
     let mut disk = disk.crash(Crash::Torn(9));
     let mut page = [0; PAGE];
     assert!(rt; disk.len() >= 4096 * 284);
-    assert_eq!(rt; disk.read(4096 * 283, &mut page), Ok(()));
-    assert_eq!(rt; version_and_next(&page), Some((Version::Two, 7)));
-    Ok(())
+    disk.read(4096 * 283, &mut page)
+        .expect(&rt, "no call fails");
+    assert!(rt; version_and_next(&page) == Some((Version::Two, 7)));
 }
