@@ -59,14 +59,14 @@ const ACCEPTED: [(&str, usize, &str); 12] = [
     (
         "\r\n\nPOST /files?x HTTP/1.1\nTus-Resumable: 1.0.0\r\nupload-LENGTH:  5 \r\n\r\n",
         0,
-        "Create { declared: Some(5), from: Utf8, to: Utf8, mode: Html, metadata: \"\" },\
+        "Create { declared: Some(5), from: Utf8, to: Utf8, mode: Html, metadata: \"\" }, \
           length: 0, bare: false, expects: false, closes: false",
     ),
     // No length yet.
     (
         "POST /files HTTP/1.1\r\nTus-Resumable: 1.0.0\r\nUpload-Defer-Length: 1\r\n\r\n",
         0,
-        "Create { declared: None, from: Utf8, to: Utf8, mode: Html, metadata: \"\" },\
+        "Create { declared: None, from: Utf8, to: Utf8, mode: Html, metadata: \"\" }, \
           length: 0, bare: false, expects: false, closes: false",
     ),
     // Pairs with spaces round them.
