@@ -151,8 +151,9 @@ fn state_page_is_read_as_it_was_written(rt: HostRuntime) {
     }
     let mut page = state_page(Version::Two, 7);
     page[3] = 9;
-    page[12] = 1;
     assert!(rt; version_and_next(&page).is_none(), "no such version");
+    let mut page = state_page(Version::Two, 7);
+    page[12] = 1;
     assert!(rt; !is_blank_behind_fields(&page), "a byte behind the fields");
 }
 
