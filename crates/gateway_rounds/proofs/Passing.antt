@@ -8,11 +8,18 @@ use Rattle.spool_journal.specs.Image.{all_pages}
 use Rattle.spool_disk.specs.Views.{Lasts}
 use Rattle.spool_image.specs.LeftOnly.{AllShow, IsSpool, LeftOrShows}
 use Rattle.spool_image.specs.Texts.{HasText}
+use Rattle.spool_image.specs.Upgrade.{UpgradedFrom}
 use Rattle.spool_image.specs.declared.error.UpgradeError.TheVariants as upgrades
 use Rattle.spool_image.specs.declared.error.UpgradeError.{UpgradeError}
 use Rattle.spool_image.proofs.Crashed.{synced_shows, text_shown}
-use Rattle.spool_kept.specs.Shows.{ImageShows}
+use Rattle.spool_kept.proofs.Upgraded.{upgraded_sound}
+use Rattle.spool_kept.specs.Shows.{ImageShows, IsSound}
 use Rattle.spool_kept.specs.declared.error.OpenFault.TheVariants as opens
+use Rattle.spool_pages.proofs.Resting.{rests_image}
+use Rattle.spool_pages.specs.Changes.{upgraded}
+use Rattle.spool_pages.specs.Rests.{Rests}
+use Rattle.spool_pages.specs.View.{View, IsViewOf}
+use Rattle.spool_pages.specs.declared.version.Version.TheVariants.{Two}
 use Rattle.upload_rules.specs.Store.{Store, Upload, upload_of}
 use Rattle.tus_session.specs.History.{State, Mark, Marked, beginning, history}
 use Rattle.gateway_script.specs.Script as script
@@ -22,7 +29,7 @@ use Rattle.gateway_script.specs.declared.faults.CallFault.TheVariants as calls
 use Rattle.gateway_engine.specs.RanOn.{HasFailedOn, EndedOn, Unopened, UnopenedOn, HasRunOn}
 use Rattle.gateway_engine.specs.declared.faults.RunFault.{RunFault}
 use Rattle.gateway_engine.specs.declared.faults.RunFault.TheVariants.{Open, NoMemory, DiskFault, Script, Io}
-use Rattle.gateway_rounds.specs.Rounds.{IsFault, Leaves, IsWhole, EndsAs, Passes, UpgradeEnds}
+use Rattle.gateway_rounds.specs.Rounds.{IsFault, Leaves, IsWhole, EndsAs, Passes, IsUpgraded, UpgradeEnds, UpgradeLeaves}
 
 -- WHAT WAS WRITTEN
 
@@ -244,6 +251,42 @@ pub upgrade_ends : {New : Type 0} (e : UpgradeError)
 upgrade_ends e (inl new) = subst (λ (x : UpgradeError). UpgradeEnds (Some x)) (sym new.1) tt
 upgrade_ends e (inr (inl is)) = subst (λ (x : UpgradeError). UpgradeEnds (Some x)) (sym is) tt
 upgrade_ends e (inr (inr is)) = subst (λ (x : UpgradeError). UpgradeEnds (Some x)) (sym is) tt
+
+-- an image behind the crash is one of the disk that came back
+pub image_back : {D : Type 0} (disk : Ghosts D) (back after : D) (image : ℕ → ℕ)
+    → IsImage (disk.seen back) (disk.loose back) (disk.seen after) → ((p : ℕ) → disk.loose after p → ⊥)
+    → IsImage (disk.seen after) (disk.loose after) image → IsImage (disk.seen back) (disk.loose back) image
+image_back disk back after image left firm here =
+    record { same = λ p shut. here.same p (firm p) ∙ left.same p shut }
+
+pub done_leaves : {seen : ℕ → ℕ} {loose : ℕ → Type 0} (size : ℕ) (before image : ℕ → ℕ)
+    → UpgradedFrom size before seen loose → IsImage seen loose image → IsUpgraded image
+done_leaves size before image from here = record {
+  view = upgraded from.view;
+  sound = upgraded_sound from.view from.sound;
+  new = refl;
+  is = rests_image image from.rests here;
+}
+
+not_device : (e : UpgradeError) → e ≡ upgrades.AlreadyNew → e ≡ upgrades.Open opens.DiskFault → ⊥
+not_device e new device = cc
+
+pub refused_leaves : {seen : ℕ → ℕ} {loose : ℕ → Type 0} (e : UpgradeError) (v : View) (image : ℕ → ℕ) → IsSound v
+    → ((v.version ≡ Two) × (e ≡ upgrades.AlreadyNew)) ⊎ (e ≡ upgrades.Open opens.NoMemory)
+    ⊎ (e ≡ upgrades.Open opens.DiskFault)
+    → ((e ≡ upgrades.Open opens.DiskFault → ⊥) → Rests v seen loose) → IsImage seen loose image
+    → UpgradeLeaves (Some e) image
+refused_leaves e v image sound (inl new) rests here =
+    subst (λ (x : UpgradeError). UpgradeLeaves (Some x) image) (sym new.1) (record {
+      view = v;
+      sound = sound;
+      new = new.0;
+      is = rests_image image (rests (not_device e new.1)) here;
+    })
+refused_leaves e v image sound (inr (inl is)) rests here =
+    subst (λ (x : UpgradeError). UpgradeLeaves (Some x) image) (sym is) tt
+refused_leaves e v image sound (inr (inr is)) rests here =
+    subst (λ (x : UpgradeError). UpgradeLeaves (Some x) image) (sym is) tt
 
 -- the failures of an upgrade are told
 none_some : (x : UpgradeError) → ◌≡◌ {A = Option UpgradeError} None (Some x) → ⊥

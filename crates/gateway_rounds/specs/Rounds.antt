@@ -7,7 +7,10 @@ use Rattle.spool_image.specs.LeftOnly.{AllShow}
 use Rattle.spool_image.specs.Texts.{HasText}
 use Rattle.spool_image.specs.declared.error.UpgradeError.{UpgradeError}
 use Rattle.spool_image.specs.declared.error.UpgradeError.TheVariants as upgrades
+use Rattle.spool_kept.specs.Shows.{IsSound}
 use Rattle.spool_kept.specs.declared.error.OpenFault.TheVariants as opens
+use Rattle.spool_pages.specs.View.{View, IsViewOf}
+use Rattle.spool_pages.specs.declared.version.Version.TheVariants.{Two}
 use Rattle.upload_rules.specs.Answers.{Among}
 use Rattle.upload_rules.specs.Store.{Store, Upload, upload_of}
 use Rattle.tus_session.specs.History.{State, Mark, Marked, beginning, history}
@@ -99,13 +102,27 @@ UpgradeEnds (Some (upgrades.Open opens.NoMemory)) = Unit {0}
 UpgradeEnds (Some (upgrades.Open opens.DiskFault)) = Unit {0}
 UpgradeEnds (Some (upgrades.Open _)) = ⊥
 
+-- read plainly, the image is a sound spool of version 2
+pub record IsUpgraded (image : ℕ → ℕ) : Type 0 where
+  pub view : View
+  pub sound : IsSound view
+  pub new : view.version ≡ Two
+  pub is : IsViewOf image view
+
+-- what it leaves where it was done, and where there was nothing left to do
+abbrev pub UpgradeLeaves : Option UpgradeError → (ℕ → ℕ) → Type 0
+UpgradeLeaves None image = IsUpgraded image
+UpgradeLeaves (Some upgrades.AlreadyNew) image = IsUpgraded image
+UpgradeLeaves (Some (upgrades.Open _)) image = Unit {0}
+
 -- an upgrade and a crash as they were told: each image of the disk behind the crash shows the same uploads, with their
--- texts
+-- texts, in version 2 unless memory or the device refused it
 pub record IsUpgrade {D C : Type 0} (disk : Ghosts D) (chosen : C → D → D → Type 0) (n : ℕ) (before after : D)
     (m : Store) (crash : C) (told : Option UpgradeError) : Type 0 where
   pub ends : UpgradeEnds told
   pub shows : AllShow disk after n m
   pub texts : (k : ℕ) (u : Upload) → upload_of m k ≡ Some u → HasText (disk.seen after) m.indexes k u
+  pub leaves : (image : ℕ → ℕ) → IsImage (disk.seen after) (disk.loose after) image → UpgradeLeaves told image
   pub back : D
   pub crashes : Crashes disk chosen crash back after
   pub counts : Counts (told ≡ Some (upgrades.Open opens.DiskFault)) (disk.failures before) (disk.failures after)

@@ -6,3 +6,4 @@ pub mod Fronts
 pub mod Reserves
 pub mod Contents
 pub mod Lasts
+pub mod GivenBack

@@ -287,14 +287,15 @@ impl DraftText {
         Ok(last)
     }
 
-    /// Gives the reserved blocks back, without memory and without the disk.
+    /// Gives the reserved blocks back, without memory and without the disk. The first goes last, so that it is the next
+    /// one to be taken.
     pub fn give_back(self, blocks: &mut Blocks)
         requires { IsReserved blocks.old self.blocks }
         ensures { GivesBack blocks.old blocks.new self.blocks }
     {
         let list = self.into_list();
-        for block in &list {
-            blocks.give_back(*block);
+        for given in 0..list.len() {
+            blocks.give_back(list[list.len() - 1 - given]);
         }
     }
 
