@@ -6,7 +6,6 @@ use spool_disk::{Crash, CrashDisk, Disk, FuseDisk, HiccupDisk, MemoryDisk};
 use spool_image::{UpgradeError, format};
 use std::alloc::Global;
 use std::process::Abort;
-use std::test::Fail;
 
 /// What the first round does with an upload.
 #[derive(Drop)]
@@ -121,15 +120,13 @@ fn lives<D: CrashDisk<How = (Crash, u64)> + Drop>(
     disk: D,
     kind: Crash,
     deeds: &Deeds,
-) -> Result<bool, Fail> {
+) -> bool {
+    let indexes = IndexSet::new(alloc).expect(rt, "there is memory");
     let mut rounds = [
-        round_of(
-            Work::Run(Run::new(alloc, deeds.script.to_vec(alloc)?)),
-            kind,
-        ),
-        round_of(Work::Run(Run::new(alloc, LOOKS.to_vec(alloc)?)), kind),
+        run_of(rt, alloc, deeds.script, kind),
+        run_of(rt, alloc, LOOKS, kind),
     ];
-    match endure(alloc, disk, 16, &IndexSet::new(alloc)?, &mut rounds) {
+    match endure(alloc, disk, 16, &indexes, &mut rounds) {
         Ok(_disk) => {}
         Err((_disk, fault)) => panic!(rt; "{fault}"),
     }
@@ -137,7 +134,7 @@ fn lives<D: CrashDisk<How = (Crash, u64)> + Drop>(
     match (&first.work, &later.work) {
         (Work::Run(first), Work::Run(later)) => {
             check(rt, deeds, &first.written, &later.written);
-            Ok(first.fault.is_none())
+            first.fault.is_none()
         }
         _ => panic!(rt; "a run became an upgrade"),
     }
@@ -151,74 +148,76 @@ fn round_of(work: Work, kind: Crash) -> Round<(Crash, u64)> {
     }
 }
 
+/// A round that runs this script, and this kind of crash.
+fn run_of(rt: &impl Abort, alloc: Global, script: &[u8], kind: Crash) -> Round<(Crash, u64)> {
+    let script = script.to_vec(alloc).expect(rt, "there is memory");
+    round_of(Work::Run(Run::new(alloc, script)), kind)
+}
+
+/// A disk for 16 text blocks.
+fn blank(rt: &impl Abort, alloc: Global) -> MemoryDisk {
+    MemoryDisk::new(alloc, 557 * 4096).expect(rt, "there is memory")
+}
+
 /// The disk stops at each of its calls in turn, and a crash of this kind comes.
-fn stop_at_each_call(
-    rt: &impl Abort,
-    alloc: Global,
-    kind: Crash,
-    deeds: &Deeds,
-) -> Result<(), Fail> {
+fn stop_at_each_call(rt: &impl Abort, alloc: Global, kind: Crash, deeds: &Deeds) {
     // formatting makes 560 calls, and an opening 540
     for calls in 1098..1400u64 {
-        let disk = FuseDisk::new(MemoryDisk::new(alloc, 557 * 4096)?, calls);
-        if lives(rt, alloc, disk, kind, deeds)? {
-            return Ok(());
+        let disk = FuseDisk::new(blank(rt, alloc), calls);
+        if lives(rt, alloc, disk, kind, deeds) {
+            return;
         }
     }
     panic!(rt; "the round makes too many calls")
 }
 
+/// The crash loses bytes, keeps them, or opens gates.
 #[test]
-fn stop_at_each_call_and_lose_bytes(rt: HostRuntime) -> Result<(), Fail> {
-    stop_at_each_call(&rt, rt.alloc(), Crash::Old, &FILLS)?;
-    stop_at_each_call(&rt, rt.alloc(), Crash::Old, &DECLARES_AND_DELETES)
-}
-
-#[test]
-fn stop_at_each_call_and_keep_bytes(rt: HostRuntime) -> Result<(), Fail> {
-    stop_at_each_call(&rt, rt.alloc(), Crash::New, &FILLS)?;
-    stop_at_each_call(&rt, rt.alloc(), Crash::New, &DECLARES_AND_DELETES)
-}
-
-#[test]
-fn stop_at_each_call_and_open_gates(rt: HostRuntime) -> Result<(), Fail> {
-    stop_at_each_call(&rt, rt.alloc(), Crash::Torn(165), &FILLS)?;
-    stop_at_each_call(&rt, rt.alloc(), Crash::Torn(165), &DECLARES_AND_DELETES)
+fn stop_at_each_call_and_crash(rt: HostRuntime) {
+    for kind in [Crash::Old, Crash::New, Crash::Torn(165)] {
+        stop_at_each_call(&rt, rt.alloc(), kind, &FILLS);
+        stop_at_each_call(&rt, rt.alloc(), kind, &DECLARES_AND_DELETES);
+    }
 }
 
 /// Each call of the disk fails in turn, and leaves zeros.
-fn fail_at_each_call(rt: &impl Abort, alloc: Global, deeds: &Deeds) -> Result<(), Fail> {
+fn fail_at_each_call(rt: &impl Abort, alloc: Global, deeds: &Deeds) {
     for call in 1098..1400u64 {
-        let disk = HiccupDisk::new(MemoryDisk::new(alloc, 557 * 4096)?, call, Some(0));
-        if lives(rt, alloc, disk, Crash::Torn(0), deeds)? {
-            return Ok(());
+        let disk = HiccupDisk::new(blank(rt, alloc), call, Some(0));
+        if lives(rt, alloc, disk, Crash::Torn(0), deeds) {
+            return;
         }
     }
     panic!(rt; "the round makes too many calls")
 }
 
 #[test]
-fn each_call_fails_and_leaves_zeros(rt: HostRuntime) -> Result<(), Fail> {
-    fail_at_each_call(&rt, rt.alloc(), &FILLS)?;
-    fail_at_each_call(&rt, rt.alloc(), &DECLARES_AND_DELETES)
+fn each_call_fails_and_leaves_zeros(rt: HostRuntime) {
+    fail_at_each_call(&rt, rt.alloc(), &FILLS);
+    fail_at_each_call(&rt, rt.alloc(), &DECLARES_AND_DELETES);
+}
+
+/// An empty spool of version 1.
+fn spool_of_version_1(rt: &impl Abort, alloc: Global) -> MemoryDisk {
+    let mut disk = MemoryDisk::new(alloc, 557 * 4096).expect(rt, "there is memory");
+    let indexes = IndexSet::new(alloc).expect(rt, "there is memory");
+    format(&mut disk, 16, &indexes).expect(rt, "the disk has room");
+    // the state page of 16 text blocks is page 283
+    disk.write_at(283 * 4096, &1u32.to_be_bytes())
+        .expect(rt, "the disk has this page");
+    disk
 }
 
 /// A spool of version 1 is filled, brought to version 2, and looked at.
 #[test]
-fn upgrade_is_a_round(rt: HostRuntime) -> Result<(), Fail> {
+fn upgrade_is_a_round(rt: HostRuntime) {
     let alloc = rt.alloc();
-    let mut disk = MemoryDisk::new(alloc, 557 * 4096)?;
-    format(&mut disk, 16, &IndexSet::new(alloc)?)?;
-    // the state page of 16 text blocks is page 283
-    disk.write_at(283 * 4096, &1u32.to_be_bytes())?;
+    let disk = spool_of_version_1(&rt, alloc);
     let mut rounds = [
-        round_of(
-            Work::Run(Run::new(alloc, FILLS.script.to_vec(alloc)?)),
-            Crash::Old,
-        ),
+        run_of(&rt, alloc, FILLS.script, Crash::Old),
         round_of(Work::Upgrade(None), Crash::Old),
         round_of(Work::Upgrade(None), Crash::New),
-        round_of(Work::Run(Run::new(alloc, LOOKS.to_vec(alloc)?)), Crash::Old),
+        run_of(&rt, alloc, LOOKS, Crash::Old),
     ];
     let _disk = live_through(alloc, FuseDisk::new(disk, NO_STOP), &mut rounds);
     match &rounds[3].work {
@@ -231,5 +230,4 @@ fn upgrade_is_a_round(rt: HostRuntime) -> Result<(), Fail> {
         }
         _ => panic!(rt; "an upgrade became a run"),
     }
-    Ok(())
 }
