@@ -1,104 +1,68 @@
-//! Deletions: blocks that are used again, and connections at work on a deleted upload.
+//! Deletions while connections are at work on the deleted upload.
 
-use crate::spools::ran;
-use crate::stories::{FREED, LONG_TEXT};
-use crate::talks::Step::{self, Bytes, Came, Deleted, Gone, Made, Open, Patch, Refused};
+use crate::spools::{ends, opened};
+use crate::stories::LONG_TEXT;
 use crate::talks::{Talk, fresh};
-use enc_index::IndexSet;
 use gateway_engine::{Connections, Gateway};
 use spool_disk::MemoryDisk;
-use std::alloc::Global;
+use spool_image::Spool;
 use std::process::Abort;
-use std::test::Fail;
 
-/// A disk behind these steps over a spool of so many blocks.
-fn behind(rt: &impl Abort, alloc: Global, blocks: u32, steps: &[Step]) -> Result<MemoryDisk, Fail> {
-    let talk = Talk::new(rt, alloc, steps)?;
-    let (disk, fault, written) = ran(alloc, &talk, fresh(alloc, blocks, &IndexSet::new(alloc)?)?);
-    assert_eq!(rt; fault, None);
-    assert_eq!(rt; written, talk.wanted);
-    Ok(disk)
-}
-
-#[test]
-fn blocks_are_used_again(rt: HostRuntime) -> Result<(), Fail> {
-    let _disk = behind(&rt, rt.alloc(), 16, FREED)?;
-    Ok(())
-}
-
-#[test]
-fn patch_of_a_deleted_upload(rt: HostRuntime) -> Result<(), Fail> {
-    let steps = [
-        Open(2),
-        Made(1, 5, ""),
-        Patch(1, 1, 0, 3),
-        Came(1, b"ab"),
-        Deleted(2, 1),
-        Came(1, b"c"),
-        Refused(1, "404 Not Found", 8),
-        Bytes(106),
-        Gone(1, 1),
-    ];
-    let _disk = behind(&rt, rt.alloc(), 16, &steps)?;
-    Ok(())
-}
-
-/// The bytes that a call gives, and whether it closes.
+/// All these bytes are taken on a connection, which stays open: so many are given.
 fn gives(
     rt: &impl Abort,
-    gateway: &mut impl Connections,
+    gateway: &mut Gateway<Spool<MemoryDisk>>,
+    out: &mut Vec<u8>,
     conn: usize,
     bytes: &[u8],
-    out: &mut Vec<u8>,
-) -> bool {
+    given: usize,
+) {
     out.clear();
-    match gateway.came(conn, bytes, out) {
-        Ok(answer) => {
-            assert_eq!(rt; answer.taken, bytes.len());
-            answer.closes
-        }
-        Err(error) => panic!(rt; "{error:?}"),
-    }
+    let answer = gateway.came(conn, bytes, out).expect(rt, "an answer");
+    assert_eq!(rt; answer.taken, bytes.len());
+    assert!(rt; !answer.closes);
+    assert_eq!(rt; out.len(), given);
 }
+
+/// Connections, the bytes that come on them in turn, and how many each is answered. The second makes an upload.
+const CALLS: [(usize, &[u8], usize); 5] = [
+    (1, b"GET /files/1 HTTP/1.1\r\n\r\n", 65_666),
+    (
+        2,
+        b"DELETE /files/1 HTTP/1.1\r\nTus-Resumable: 1.0.0\r\n\r\n",
+        74,
+    ),
+    (
+        2,
+        b"POST /files HTTP/1.1\r\nTus-Resumable: 1.0.0\r\nUpload-Length: 70000\r\n\r\n",
+        110,
+    ),
+    (
+        2,
+        b"PATCH /files/2 HTTP/1.1\r\nTus-Resumable: 1.0.0\r\nContent-Type: application/offset+octet-stream\r\n\
+        Upload-Offset: 0\r\nContent-Length: 70000\r\n\r\n",
+        0,
+    ),
+    (2, &[b'b'; 70_000], 96),
+];
 
 /// The text has 18 blocks, and so has the spool: what comes behind the deletion is on the same blocks.
 #[test]
-fn text_of_a_deleted_upload_ends(rt: HostRuntime) -> Result<(), Fail> {
+fn text_of_a_deleted_upload_ends(rt: HostRuntime) {
+    let talk = Talk::new(&rt, rt.alloc(), LONG_TEXT);
+    let disk = fresh(&rt, rt.alloc(), 18, None);
+    let disk = ends(&rt, rt.alloc(), "a long text", &talk, disk, None);
+    let mut gateway = opened(&rt, rt.alloc(), disk);
     let mut out = Vec::new(rt.alloc());
-    let disk = behind(&rt, rt.alloc(), 18, LONG_TEXT)?;
-    let mut gateway = match Gateway::open(rt.alloc(), disk) {
-        Ok(gateway) => gateway,
-        Err((_, fault)) => panic!(rt; "{fault}"),
-    };
-    let delete = b"DELETE /files/1 HTTP/1.1\r\nTus-Resumable: 1.0.0\r\n\r\n";
-    let post = b"POST /files HTTP/1.1\r\nTus-Resumable: 1.0.0\r\nUpload-Length: 70000\r\n\r\n";
-    let patch =
-        b"PATCH /files/2 HTTP/1.1\r\nTus-Resumable: 1.0.0\r\nContent-Type: application/offset+octet-stream\r\n\
-        Upload-Offset: 0\r\nContent-Length: 70000\r\n\r\n";
-    assert!(rt; gateway.opened(1).is_ok());
-    assert!(rt; gateway.opened(2).is_ok());
-    assert!(rt;
-        !gives(
-            &rt,
-            &mut gateway,
-            1,
-            b"GET /files/1 HTTP/1.1\r\n\r\n",
-            &mut out
-        )
-    );
-    assert_eq!(rt; out.len(), 65_666);
-    assert!(rt; !gives(&rt, &mut gateway, 2, delete, &mut out));
-    assert_eq!(rt; out.len(), 74);
-    assert!(rt; !gives(&rt, &mut gateway, 2, post, &mut out));
-    assert!(rt; !gives(&rt, &mut gateway, 2, patch, &mut out));
-    assert!(rt; !gives(&rt, &mut gateway, 2, &[b'b'; 70_000], &mut out));
+    gateway.opened(1).expect(&rt, "a connection");
+    gateway.opened(2).expect(&rt, "a connection");
+    for (conn, bytes, given) in CALLS {
+        gives(&rt, &mut gateway, &mut out, conn, bytes, given);
+    }
     assert!(rt; out.starts_with(b"HTTP/1.1 204 No Content\r\n"));
     out.clear();
-    match gateway.more(1, &mut out) {
-        Ok(answer) => assert!(rt; answer.closes && !answer.more),
-        Err(error) => panic!(rt; "{error:?}"),
-    }
+    let answer = gateway.more(1, &mut out).expect(&rt, "an answer");
+    assert!(rt; answer.closes && !answer.more);
     assert!(rt; out.is_empty());
-    let _disk = gateway.into_disk();
-    Ok(())
+    drop(gateway.into_disk());
 }

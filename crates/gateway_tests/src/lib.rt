@@ -2,8 +2,6 @@
 #![tactic(auto)]
 
 #[cfg(test)]
-mod deferred;
-#[cfg(test)]
 mod deletions;
 #[cfg(test)]
 mod faults;

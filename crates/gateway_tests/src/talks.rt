@@ -1,11 +1,10 @@
 //! Talks: scripts, and what their runs are to write.
 
-use enc_index::IndexSet;
+use enc_index::{Index, IndexSet, Kind};
 use spool_disk::MemoryDisk;
 use spool_image::format;
-use std::alloc::{AllocError, Global};
+use std::alloc::Global;
 use std::process::Abort;
-use std::test::Fail;
 
 /// A step of a talk: lines of its script, or what is to be written.
 #[derive(Clone, Copy)]
@@ -60,8 +59,8 @@ pub(crate) enum Step<'a> {
 #[derive(Drop)]
 pub(crate) struct Stage {
     pub(crate) written: usize,
-    /// By their numbers: how many bytes were accepted, how many were declared, and the text.
-    pub(crate) uploads: Vec<(u64, Option<u64>, Vec<u8>)>,
+    /// As `put_upload` shows them, by their numbers.
+    pub(crate) uploads: Vec<u8>,
 }
 
 /// A script, what its run is to write, and what becomes of the uploads by it.
@@ -75,9 +74,31 @@ pub(crate) struct Talk {
     latest: usize,
 }
 
+const MEMORY: &str = "memory for a talk";
+
+/// These bytes come behind the others.
+fn put(rt: &impl Abort, to: &mut Vec<u8>, bytes: &[u8]) {
+    to.extend_from_slice(bytes).expect(rt, MEMORY);
+}
+
+/// An upload comes behind others: how many bytes were accepted, how many were declared, and the text.
+pub(crate) fn put_upload(
+    rt: &impl Abort,
+    alloc: Global,
+    to: &mut Vec<u8>,
+    accepted: u64,
+    declared: Option<u64>,
+    text: &[u8],
+) {
+    let count = text.len();
+    let line = format!(in alloc; "{accepted} of {declared:?}, {count}: ").expect(rt, MEMORY);
+    put(rt, to, line.as_bytes());
+    put(rt, to, text);
+}
+
 impl Talk {
     /// A talk of these steps, over a spool without uploads.
-    pub(crate) fn new(rt: &impl Abort, alloc: Global, steps: &[Step]) -> Result<Self, AllocError> {
+    pub(crate) fn new(rt: &impl Abort, alloc: Global, steps: &[Step]) -> Self {
         let mut talk = Talk {
             alloc,
             script: Vec::new(alloc),
@@ -85,221 +106,233 @@ impl Talk {
             stages: Vec::new(alloc),
             latest: 0,
         };
-        talk.changed(&[])?;
-        talk.go_on(rt, steps)?;
-        Ok(talk)
+        talk.changed(rt, &[]);
+        talk.go_on(rt, steps);
+        talk
     }
 
     /// These steps come behind the others.
-    pub(crate) fn go_on(&mut self, rt: &impl Abort, steps: &[Step]) -> Result<(), AllocError> {
+    pub(crate) fn go_on(&mut self, rt: &impl Abort, steps: &[Step]) {
         for step in steps.iter() {
-            self.take(rt, *step)?;
+            self.take(rt, *step);
         }
-        Ok(())
     }
 
-    fn take(&mut self, rt: &impl Abort, step: Step) -> Result<(), AllocError> {
+    fn take(&mut self, rt: &impl Abort, step: Step) {
         match step {
-            Step::Open(last) => self.open(last),
-            Step::Line(text) => self.line(text),
-            Step::Say(conn, head) => self.say(conn, head),
-            Step::Came(conn, bytes) => self.came(conn, bytes),
-            Step::Told(text) => self.told(text),
-            Step::Given(conn, bytes) => self.given(conn, bytes),
-            Step::Reply(conn, status, lines, body) => self.reply(conn, status, lines, body),
-            Step::Refused(conn, status, number) => self.refused(conn, status, number),
-            Step::Bytes(count) => {
-                assert_eq!(rt; self.latest, count);
-                Ok(())
-            }
-            Step::Post(length, metadata) => self.post(Some(length), metadata),
-            Step::Made(number, length, metadata) => self.made(number, Some(length), metadata),
-            Step::Deferred(number, metadata) => self.made(number, None, metadata),
+            Step::Open(last) => self.open(rt, last),
+            Step::Line(text) => self.line(rt, text),
+            Step::Say(conn, head) => self.say(rt, conn, head),
+            Step::Came(conn, bytes) => self.came(rt, conn, bytes),
+            Step::Told(text) => self.told(rt, text),
+            Step::Given(conn, bytes) => self.given(rt, conn, bytes),
+            Step::Reply(conn, status, lines, body) => self.reply(rt, conn, status, lines, body),
+            Step::Refused(conn, status, number) => self.refused(rt, conn, status, number),
+            Step::Bytes(count) => assert_eq!(rt; self.latest, count),
+            Step::Post(length, metadata) => self.post(rt, Some(length), metadata),
+            Step::Made(number, length, metadata) => self.made(rt, number, Some(length), metadata),
+            Step::Deferred(number, metadata) => self.made(rt, number, None, metadata),
             Step::Patch(conn, number, offset, count) => self.patch(
-                conn, number, offset, None, count,
+                rt, conn, number, offset, None, count,
             ),
             Step::Declare(conn, number, offset, length, count) => self.patch(
+                rt,
                 conn,
                 number,
                 offset,
                 Some(length),
                 count,
             ),
-            Step::Patched(conn, offset) => self.patched(conn, offset),
-            Step::Added(number, offset, bytes, reached) => self.added(
-                number, offset, bytes, reached,
-            ),
-            Step::Deleted(conn, number) => self.deleted(conn, number),
-            Step::Gone(conn, number) => self.gone(conn, number),
-            Step::Shown(conn, number, lines) => self.shown(conn, number, lines),
-            Step::Text(number, charset, text) => self.text(number, charset, text),
-            Step::Changed(uploads) => self.changed(uploads),
+            Step::Patched(conn, offset) => self.patched(rt, conn, offset),
+            Step::Added(number, offset, bytes, reached) => {
+                self.patch(rt, 1, number, offset, None, bytes.len());
+                self.came(rt, 1, bytes);
+                self.patched(rt, 1, reached);
+            }
+            Step::Deleted(conn, number) => {
+                self.ask(rt, conn, "DELETE", number);
+                self.reply(rt, conn, "204 No Content", "", b"");
+            }
+            Step::Gone(conn, number) => {
+                self.ask(rt, conn, "HEAD", number);
+                self.reply(rt, conn, "404 Not Found", "X-Refusal: 8", b"");
+            }
+            Step::Shown(conn, number, lines) => {
+                self.ask(rt, conn, "HEAD", number);
+                self.reply(rt, conn, "200 OK", lines, b"");
+            }
+            Step::Text(number, charset, text) => self.text(rt, number, charset, text),
+            Step::Changed(uploads) => self.changed(rt, uploads),
         }
     }
 
-    fn line(&mut self, text: &str) -> Result<(), AllocError> {
-        self.script.extend_from_slice(text.as_bytes())?;
-        self.script.extend_from_slice(b"\n")
+    fn line(&mut self, rt: &impl Abort, text: &str) {
+        put(rt, &mut self.script, text.as_bytes());
+        put(rt, &mut self.script, b"\n");
     }
 
-    fn told(&mut self, text: &str) -> Result<(), AllocError> {
-        self.wanted.extend_from_slice(text.as_bytes())?;
-        self.wanted.extend_from_slice(b"\n")
+    fn told(&mut self, rt: &impl Abort, text: &str) {
+        put(rt, &mut self.wanted, text.as_bytes());
+        put(rt, &mut self.wanted, b"\n");
     }
 
-    fn open(&mut self, last: u32) -> Result<(), AllocError> {
+    fn open(&mut self, rt: &impl Abort, last: u32) {
         for conn in 1..=last {
-            self.line(&format!(in self.alloc; "open {conn}")?)?;
+            self.line(
+                rt,
+                &format!(in self.alloc; "open {conn}").expect(rt, MEMORY),
+            );
         }
-        Ok(())
     }
 
-    fn say(&mut self, conn: u32, head: &str) -> Result<(), AllocError> {
+    fn say(&mut self, rt: &impl Abort, conn: u32, head: &str) {
         for line in head.split('\n') {
-            self.line(&format!(in self.alloc; "say {conn} {line}")?)?;
+            self.line(
+                rt,
+                &format!(in self.alloc; "say {conn} {line}").expect(rt, MEMORY),
+            );
         }
-        self.line(&format!(in self.alloc; "say {conn}")?)
+        self.line(rt, &format!(in self.alloc; "say {conn}").expect(rt, MEMORY));
     }
 
-    fn came(&mut self, conn: u32, bytes: &[u8]) -> Result<(), AllocError> {
-        let digits = hex::encode(self.alloc, bytes)?;
-        self.line(&format!(in self.alloc; "came {conn} {digits}")?)
+    fn came(&mut self, rt: &impl Abort, conn: u32, bytes: &[u8]) {
+        let digits = hex::encode(self.alloc, bytes).expect(rt, MEMORY);
+        self.line(
+            rt,
+            &format!(in self.alloc; "came {conn} {digits}").expect(rt, MEMORY),
+        );
     }
 
-    fn given(&mut self, conn: u32, bytes: &[u8]) -> Result<(), AllocError> {
+    fn given(&mut self, rt: &impl Abort, conn: u32, bytes: &[u8]) {
         let count = bytes.len();
-        self.told(&format!(in self.alloc; "< {conn} {count}")?)?;
-        self.wanted.extend_from_slice(bytes)?;
-        self.told("")
+        self.told(
+            rt,
+            &format!(in self.alloc; "< {conn} {count}").expect(rt, MEMORY),
+        );
+        put(rt, &mut self.wanted, bytes);
+        self.told(rt, "");
     }
 
-    fn reply(
-        &mut self,
-        conn: u32,
-        status: &str,
-        lines: &str,
-        body: &[u8],
-    ) -> Result<(), AllocError> {
+    fn reply(&mut self, rt: &impl Abort, conn: u32, status: &str, lines: &str, body: &[u8]) {
         let mut bytes = Vec::new(self.alloc);
-        bytes.extend_from_slice(b"HTTP/1.1 ")?;
-        bytes.extend_from_slice(status.as_bytes())?;
-        bytes.extend_from_slice(b"\r\nTus-Resumable: 1.0.0\r\nCache-Control: no-store\r\n")?;
+        put(rt, &mut bytes, b"HTTP/1.1 ");
+        put(rt, &mut bytes, status.as_bytes());
+        put(
+            rt,
+            &mut bytes,
+            b"\r\nTus-Resumable: 1.0.0\r\nCache-Control: no-store\r\n",
+        );
         for line in lines.lines() {
-            bytes.extend_from_slice(line.as_bytes())?;
-            bytes.extend_from_slice(b"\r\n")?;
+            put(rt, &mut bytes, line.as_bytes());
+            put(rt, &mut bytes, b"\r\n");
         }
-        bytes.extend_from_slice(b"\r\n")?;
-        bytes.extend_from_slice(body)?;
+        put(rt, &mut bytes, b"\r\n");
+        put(rt, &mut bytes, body);
         self.latest = bytes.len();
-        self.given(conn, &bytes)
+        self.given(rt, conn, &bytes);
     }
 
-    fn refused(&mut self, conn: u32, status: &str, number: u8) -> Result<(), AllocError> {
-        let lines = format!(in self.alloc; "X-Refusal: {number}\nContent-Length: 0")?;
-        self.reply(conn, status, &lines, b"")
+    fn refused(&mut self, rt: &impl Abort, conn: u32, status: &str, number: u8) {
+        let lines = format!(in self.alloc; "X-Refusal: {number}\nContent-Length: 0").expect(
+            rt, MEMORY,
+        );
+        self.reply(rt, conn, status, &lines, b"");
     }
 
-    fn post(&mut self, length: Option<u64>, metadata: &str) -> Result<(), AllocError> {
-        let length = match length {
-            Some(length) => format!(in self.alloc; "Upload-Length: {length}")?,
-            None => String::from_str(self.alloc, "Upload-Defer-Length: 1")?,
+    fn post(&mut self, rt: &impl Abort, length: Option<u64>, metadata: &str) {
+        let (defers, length) = match length {
+            Some(length) => ("Length", length),
+            None => ("Defer-Length", 1),
         };
-        let mut head = format!(in self.alloc;
-            "POST /files HTTP/1.1\nTus-Resumable: 1.0.0\n{length}"
-        )?;
-        if !metadata.is_empty() {
-            head.push_str("\nUpload-Metadata: ")?;
-            head.push_str(metadata)?;
-        }
-        self.say(1, &head)
+        let named = if metadata.is_empty() {
+            ""
+        } else {
+            "\nUpload-Metadata: "
+        };
+        let head = format!(in self.alloc;
+            "POST /files HTTP/1.1\nTus-Resumable: 1.0.0\nUpload-{defers}: {length}{named}{metadata}"
+        ).expect(rt, MEMORY);
+        self.say(rt, 1, &head);
     }
 
-    fn made(&mut self, number: u64, length: Option<u64>, metadata: &str) -> Result<(), AllocError> {
-        self.post(length, metadata)?;
-        let lines = format!(in self.alloc; "Location: /files/{number}\nContent-Length: 0")?;
-        self.reply(1, "201 Created", &lines, b"")
+    fn made(&mut self, rt: &impl Abort, number: u64, length: Option<u64>, metadata: &str) {
+        self.post(rt, length, metadata);
+        let lines = format!(in self.alloc; "Location: /files/{number}\nContent-Length: 0").expect(
+            rt, MEMORY,
+        );
+        self.reply(rt, 1, "201 Created", &lines, b"");
     }
 
     fn patch(
         &mut self,
+        rt: &impl Abort,
         conn: u32,
         number: u64,
         offset: u64,
         declare: Option<u64>,
         count: usize,
-    ) -> Result<(), AllocError> {
+    ) {
         let mut head = format!(in self.alloc;
             "PATCH /files/{number} HTTP/1.1\nTus-Resumable: 1.0.0\nContent-Type: application/offset+octet-stream\n\
             Upload-Offset: {offset}\nContent-Length: {count}"
-        )?;
+        )
+        .expect(rt, MEMORY);
         if let Some(length) = declare {
-            head.push_str(&format!(in self.alloc; "\nUpload-Length: {length}")?)?;
+            let line = format!(in self.alloc; "\nUpload-Length: {length}").expect(rt, MEMORY);
+            head.push_str(&line).expect(rt, MEMORY);
         }
-        self.say(conn, &head)
+        self.say(rt, conn, &head);
     }
 
-    fn patched(&mut self, conn: u32, offset: u64) -> Result<(), AllocError> {
-        let lines = format!(in self.alloc; "Upload-Offset: {offset}")?;
-        self.reply(conn, "204 No Content", &lines, b"")
+    fn patched(&mut self, rt: &impl Abort, conn: u32, offset: u64) {
+        let lines = format!(in self.alloc; "Upload-Offset: {offset}").expect(rt, MEMORY);
+        self.reply(rt, conn, "204 No Content", &lines, b"");
     }
 
-    fn added(
-        &mut self,
-        number: u64,
-        offset: u64,
-        bytes: &[u8],
-        reached: u64,
-    ) -> Result<(), AllocError> {
-        self.patch(1, number, offset, None, bytes.len())?;
-        self.came(1, bytes)?;
-        self.patched(1, reached)
+    /// The head of a request for an upload.
+    fn ask(&mut self, rt: &impl Abort, conn: u32, method: &str, number: u64) {
+        let head = format!(in self.alloc;
+            "{method} /files/{number} HTTP/1.1\nTus-Resumable: 1.0.0"
+        ).expect(rt, MEMORY);
+        self.say(rt, conn, &head);
     }
 
-    fn deleted(&mut self, conn: u32, number: u64) -> Result<(), AllocError> {
-        let head = format!(in self.alloc; "DELETE /files/{number} HTTP/1.1\nTus-Resumable: 1.0.0")?;
-        self.say(conn, &head)?;
-        self.reply(conn, "204 No Content", "", b"")
-    }
-
-    fn gone(&mut self, conn: u32, number: u64) -> Result<(), AllocError> {
-        let head = format!(in self.alloc; "HEAD /files/{number} HTTP/1.1\nTus-Resumable: 1.0.0")?;
-        self.say(conn, &head)?;
-        self.reply(conn, "404 Not Found", "X-Refusal: 8", b"")
-    }
-
-    fn shown(&mut self, conn: u32, number: u64, lines: &str) -> Result<(), AllocError> {
-        let head = format!(in self.alloc; "HEAD /files/{number} HTTP/1.1\nTus-Resumable: 1.0.0")?;
-        self.say(conn, &head)?;
-        self.reply(conn, "200 OK", lines, b"")
-    }
-
-    fn text(&mut self, number: u64, charset: &str, text: &[u8]) -> Result<(), AllocError> {
-        let head = format!(in self.alloc; "GET /files/{number} HTTP/1.1")?;
-        self.say(1, &head)?;
+    fn text(&mut self, rt: &impl Abort, number: u64, charset: &str, text: &[u8]) {
+        let head = format!(in self.alloc; "GET /files/{number} HTTP/1.1").expect(rt, MEMORY);
+        self.say(rt, 1, &head);
         let length = text.len();
         let lines = format!(in self.alloc;
             "Content-Type: text/plain; charset={charset}\nContent-Length: {length}"
-        )?;
-        self.reply(1, "200 OK", &lines, text)
+        ).expect(rt, MEMORY);
+        self.reply(rt, 1, "200 OK", &lines, text);
     }
 
-    fn changed(&mut self, uploads: &[(u64, Option<u64>, &[u8])]) -> Result<(), AllocError> {
-        let mut stage = Stage {
-            written: self.wanted.len(),
-            uploads: Vec::new(self.alloc),
-        };
+    fn changed(&mut self, rt: &impl Abort, uploads: &[(u64, Option<u64>, &[u8])]) {
+        let mut shown = Vec::new(self.alloc);
         for (accepted, declared, text) in uploads {
-            let text = text.to_vec(self.alloc)?;
-            stage.uploads.push((*accepted, *declared, text))?;
+            put_upload(rt, self.alloc, &mut shown, *accepted, *declared, text);
         }
-        self.stages.push(stage)?;
-        Ok(())
+        let stage = Stage {
+            written: self.wanted.len(),
+            uploads: shown,
+        };
+        self.stages.push(stage).expect(rt, MEMORY);
     }
 }
 
-/// A spool of so many blocks on a disk of its size, without uploads.
-pub(crate) fn fresh(alloc: Global, blocks: u32, indexes: &IndexSet) -> Result<MemoryDisk, Fail> {
-    let mut disk = MemoryDisk::new(alloc, (541 + blocks as usize) * 4096)?;
-    format(&mut disk, blocks, indexes)?;
-    Ok(disk)
+/// A spool of so many blocks on a disk of its size, without uploads, with this index file if there is one.
+pub(crate) fn fresh(
+    rt: &impl Abort,
+    alloc: Global,
+    blocks: u32,
+    file: Option<(Kind, &[u8])>,
+) -> MemoryDisk {
+    let mut indexes = IndexSet::new(alloc).expect(rt, "memory for a set");
+    if let Some((kind, lines)) = file {
+        indexes.set(Index::read(alloc, lines, kind).expect(rt, "an index file"));
+    }
+    let size = (541 + blocks as usize) * 4096;
+    let mut disk = MemoryDisk::new(alloc, size).expect(rt, "memory for a disk");
+    format(&mut disk, blocks, &indexes).expect(rt, "a disk of this size");
+    disk
 }
