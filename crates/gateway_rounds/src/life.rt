@@ -30,7 +30,8 @@ pub fn endure<D: CrashDisk>(
     rounds: &mut [Round<D::How>],
 ) -> Result<D, (D, FormatError)>
     // Behind each run the disk has the uploads behind the first events of its script, in order, each of them whole and
-    // with its text; and each event of which a reply was written is one of these. An upgrade changes no upload.
+    // with its text; and each event of which a reply was written is one of these. An upgrade changes no upload, and
+    // behind one that was done the disk has a sound spool of version 2.
     ensures lives { D.honest disk
         → IfOk result (λ last. HasLived D.Disk D.chosen blocks (no_uploads indexes.now) rounds.old rounds.new last) }
 
