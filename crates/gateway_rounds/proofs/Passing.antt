@@ -29,7 +29,8 @@ use Rattle.gateway_script.specs.declared.faults.CallFault.TheVariants as calls
 use Rattle.gateway_engine.specs.RanOn.{HasFailedOn, EndedOn, Unopened, UnopenedOn, HasRunOn}
 use Rattle.gateway_engine.specs.declared.faults.RunFault.{RunFault}
 use Rattle.gateway_engine.specs.declared.faults.RunFault.TheVariants.{Open, NoMemory, DiskFault, Script, Io}
-use Rattle.gateway_rounds.specs.Rounds.{IsFault, Leaves, IsWhole, EndsAs, Passes, IsUpgraded, UpgradeEnds, UpgradeLeaves}
+use Rattle.gateway_rounds.specs.Rounds.{IsFault, Leaves, IsWhole, EndsAs, Passes}
+use Rattle.gateway_rounds.specs.Rounds.{IsUpgraded, UpgradeEnds, UpgradeLeaves}
 
 -- WHAT WAS WRITTEN
 
