@@ -165,23 +165,51 @@ const STORIES: [(Option<(Kind, &[u8])>, &[Step]); 8] = [
     (None, PATCH_OF_A_DELETED),
 ];
 
-#[test]
-fn disks_that_fail(rt: HostRuntime) {
+/// In each story each call fails once, and leaves so many bytes of this value.
+fn fail_once(rt: &impl Abort, alloc: Global, fill: Option<u8>) {
     for (file, steps) in STORIES {
-        let talk = Talk::new(&rt, rt.alloc(), steps);
+        let talk = Talk::new(rt, alloc, steps);
         let story = Story {
-            alloc: rt.alloc(),
+            alloc,
             blocks: 16,
             file,
             talk: &talk,
         };
-        for fill in [None, Some(0), Some(165)] {
-            story.fails_once(&rt, fill);
-        }
-        for kind in [Crash::Old, Crash::New, Crash::Torn(0), Crash::Torn(165)] {
-            story.stays_failed(&rt, kind);
-        }
+        story.fails_once(rt, fill);
     }
+}
+
+/// In each story all calls fail from each one on, and a crash of this kind comes.
+fn stay_failed(rt: &impl Abort, alloc: Global, kind: Crash) {
+    for (file, steps) in STORIES {
+        let talk = Talk::new(rt, alloc, steps);
+        let story = Story {
+            alloc,
+            blocks: 16,
+            file,
+            talk: &talk,
+        };
+        story.stays_failed(rt, kind);
+    }
+}
+
+#[test]
+fn calls_that_fail_once(rt: HostRuntime) {
+    fail_once(&rt, rt.alloc(), None);
+    fail_once(&rt, rt.alloc(), Some(0));
+    fail_once(&rt, rt.alloc(), Some(165));
+}
+
+#[test]
+fn disks_that_stop_and_lose_or_keep_bytes(rt: HostRuntime) {
+    stay_failed(&rt, rt.alloc(), Crash::Old);
+    stay_failed(&rt, rt.alloc(), Crash::New);
+}
+
+#[test]
+fn disks_that_stop_and_tear_bytes(rt: HostRuntime) {
+    stay_failed(&rt, rt.alloc(), Crash::Torn(0));
+    stay_failed(&rt, rt.alloc(), Crash::Torn(165));
 }
 
 #[test]
