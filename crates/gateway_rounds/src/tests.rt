@@ -78,16 +78,16 @@ const NONE: &[u8] =
     b"< 1 87\nHTTP/1.1 404 Not Found\r\nTus-Resumable: 1.0.0\r\nCache-Control: no-store\r\nX-Refusal: 8\r\n\r\n\n";
 
 const EMPTY: &[u8] =
-    b"< 1 102\nHTTP/1.1 200 OK\r\nTus-Resumable: 1.0.0\r\nCache-Control: no-store\r\nUpload-Offset: 0\r\nUpload-Length: \
-    5\r\n\r\n\n";
+    b"< 1 102\nHTTP/1.1 200 OK\r\nTus-Resumable: 1.0.0\r\nCache-Control: no-store\r\nUpload-Offset: 0\r\n\
+    Upload-Length: 5\r\n\r\n\n";
 
 const DEFERRED: &[u8] =
     b"< 1 108\nHTTP/1.1 200 OK\r\nTus-Resumable: 1.0.0\r\nCache-Control: no-store\r\nUpload-Offset: 0\r\n\
     Upload-Defer-Length: 1\r\n\r\n\n";
 
 const FULL: &[u8] =
-    b"< 1 102\nHTTP/1.1 200 OK\r\nTus-Resumable: 1.0.0\r\nCache-Control: no-store\r\nUpload-Offset: 5\r\nUpload-Length: \
-    5\r\n\r\n\n";
+    b"< 1 102\nHTTP/1.1 200 OK\r\nTus-Resumable: 1.0.0\r\nCache-Control: no-store\r\nUpload-Offset: 5\r\n\
+    Upload-Length: 5\r\n\r\n\n";
 
 /// More calls than a round makes.
 const NO_STOP: u64 = 100_000;
