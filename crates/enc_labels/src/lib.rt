@@ -6,8 +6,6 @@ ghost use Rattle.std.specs.Char.{to_ascii_lowercase};
 ghost use Rattle.enc_labels.specs.Labels.{lowered, found, encoding_of, output_of, name_of};
 
 mod table;
-#[cfg(test)]
-mod tests;
 
 use enc_model::Encoding;
 use table::LABELS;

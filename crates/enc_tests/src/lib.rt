@@ -14,6 +14,8 @@ mod indexes;
 #[cfg(test)]
 mod kernels;
 #[cfg(test)]
+mod labels;
+#[cfg(test)]
 mod sets;
 #[cfg(test)]
 mod states;

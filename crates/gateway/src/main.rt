@@ -1,31 +1,18 @@
 //! A gateway for resumable uploads of text in old and new encodings.
 #![tactic(auto)]
 
-mod failures;
-mod faults;
-mod formatting;
-mod index_files;
-mod listing;
 mod scripting;
 mod serving;
-mod spool_files;
-#[cfg(test)]
-mod tests;
-mod upgrading;
 
 use clap::Error;
 use clap::error::ErrorKind;
-use failures::Failure;
-use faults::Fault;
-use formatting::format_file;
+use gateway_files::{Failure, Fault, format_file, list_file, upgrade_file};
 use gateway_orders::{Order, read_order};
-use listing::list_file;
 use scripting::run_script;
 use serving::serve_file;
 use std::alloc::Global;
 use std::process::ExitCode;
 use std::{env, io};
-use upgrading::upgrade_file;
 
 // The status of a command line that is none.
 const USAGE: u8 = 1;

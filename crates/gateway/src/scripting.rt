@@ -1,10 +1,8 @@
 //! Standard input as a script over a spool.
 
-use crate::failures::Failure;
-use crate::faults::Fault;
-use crate::spool_files::open_spool;
 use enc_index::IndexSet;
-use gateway_engine::{Counted, CountedRead, CountedWrite, run};
+use gateway_engine::{Counted, CountedRead, CountedWrite, RunFault, run};
+use gateway_files::{Failure, Fault, open_spool};
 use spool_disk::{Disk, MemoryDisk};
 use spool_image::{format, pages_of};
 use std::alloc::Global;
@@ -34,9 +32,9 @@ pub(crate) fn run_script<'a>(
     }
 }
 
-/// Runs a script from `reader` over the spool on a disk, and writes to `writer` what its calls give. The disk is handed
-/// back.
-pub(crate) fn run_over_disk<D: Disk + Drop, R: CountedRead, W: CountedWrite>(
+// Runs a script from `reader` over the spool on a disk, and writes to `writer` what its calls give. The disk is handed
+// back.
+fn run_over_disk<D: Disk + Drop, R: CountedRead, W: CountedWrite>(
     alloc: Global,
     reader: &mut R,
     writer: &mut W,
@@ -44,12 +42,23 @@ pub(crate) fn run_over_disk<D: Disk + Drop, R: CountedRead, W: CountedWrite>(
 ) -> (D, Result<(), Fault>) {
     match run(alloc, reader, writer, disk) {
         Ok(disk) => (disk, Ok(())),
-        Err((disk, fault)) => (disk, Err(Fault::from(fault))),
+        Err((disk, fault)) => (disk, Err(fault_of(fault))),
     }
 }
 
-/// A spool in memory, without uploads and without index files.
-pub(crate) fn spool_in_memory(alloc: Global) -> Result<MemoryDisk, Fault> {
+// Why a run ended, as the program tells it.
+fn fault_of(fault: RunFault) -> Fault {
+    match fault {
+        RunFault::Open(fault) => Fault::from(fault),
+        RunFault::NoMemory => Fault::NoMemory,
+        RunFault::DiskFault => Fault::Device,
+        RunFault::Script(line) => Fault::Script(line),
+        RunFault::Io => Fault::Io,
+    }
+}
+
+// A spool in memory, without uploads and without index files.
+fn spool_in_memory(alloc: Global) -> Result<MemoryDisk, Fault> {
     let indexes = IndexSet::new(alloc)?;
     let Some(pages) = pages_of(MEMORY_BLOCKS) else {
         return Err(Fault::Size);

@@ -1,9 +1,7 @@
 //! A spool in a file, served over sockets.
 
-use crate::failures::{Failure, Task};
-use crate::faults::Fault;
-use crate::spool_files::open_spool;
 use gateway_engine::Gateway;
+use gateway_files::{Failure, Fault, Task, open_spool};
 use gateway_orders::Service;
 use gateway_serve::{Outcome, serve_on};
 use std::alloc::Global;

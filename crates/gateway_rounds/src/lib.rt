@@ -4,8 +4,6 @@
 
 mod life;
 mod round;
-#[cfg(test)]
-mod tests;
 
 pub use life::{endure, live_through};
 pub use round::{Round, Run, Work};

@@ -1,7 +1,6 @@
 //! Why the program ends before its work is done.
 
 use enc_index::ReadError;
-use gateway_engine::RunFault;
 use spool_disk::DiskFault;
 use spool_image::{FormatError, OpenFault, UpgradeError};
 use std::alloc::AllocError;
@@ -9,7 +8,7 @@ use std::{fmt, io};
 
 /// Why the program ends before its work is done.
 #[derive(Clone, Copy, Debug, PartialEq, Eq, Drop)]
-pub(crate) enum Fault {
+pub enum Fault {
     /// A growth was refused.
     NoMemory,
     /// The device failed.
@@ -63,7 +62,7 @@ impl fmt::Display for Fault {
 
 impl Fault {
     /// The status that the program ends with.
-    pub(crate) fn status(self) -> u8 {
+    pub fn status(self) -> u8 {
         match self {
             Fault::Device => 3,
             _ => 2,
@@ -119,18 +118,6 @@ impl From<UpgradeError> for Fault {
         match error {
             UpgradeError::Open(fault) => Fault::from(fault),
             UpgradeError::AlreadyNew => Fault::AlreadyNew,
-        }
-    }
-}
-
-impl From<RunFault> for Fault {
-    fn from(fault: RunFault) -> Self {
-        match fault {
-            RunFault::Open(fault) => Fault::from(fault),
-            RunFault::NoMemory => Fault::NoMemory,
-            RunFault::DiskFault => Fault::Device,
-            RunFault::Script(line) => Fault::Script(line),
-            RunFault::Io => Fault::Io,
         }
     }
 }

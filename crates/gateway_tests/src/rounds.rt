@@ -1,7 +1,7 @@
 //! A life of two rounds, over disks that stop or fail at each call.
 
-use crate::{Round, Run, Work, endure, live_through};
 use enc_index::IndexSet;
+use gateway_rounds::{Round, Run, Work, endure, live_through};
 use spool_disk::{Crash, CrashDisk, Disk, FuseDisk, HiccupDisk, MemoryDisk};
 use spool_image::{UpgradeError, format};
 use std::alloc::Global;

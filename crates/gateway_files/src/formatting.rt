@@ -9,15 +9,15 @@ use std::alloc::Global;
 
 /// A spool that was made.
 #[derive(Drop)]
-pub(crate) struct Formatted {
+pub struct Formatted {
     /// How many pages it has.
-    pub(crate) pages: u32,
+    pub pages: u32,
     /// The names of the index files that were read.
-    pub(crate) read: Vec<&'static str>,
+    pub read: Vec<&'static str>,
 }
 
 /// Makes a spool without uploads in a file, which is made or lengthened.
-pub(crate) fn format_file<'a>(
+pub fn format_file<'a>(
     rt: &HostRuntime,
     alloc: Global,
     spool: &'a str,

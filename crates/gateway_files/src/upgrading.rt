@@ -7,7 +7,7 @@ use spool_image::upgrade;
 use std::alloc::Global;
 
 /// Brings the spool in a file to version 2.
-pub(crate) fn upgrade_file<'a>(
+pub fn upgrade_file<'a>(
     rt: &HostRuntime,
     alloc: Global,
     spool: &'a str,

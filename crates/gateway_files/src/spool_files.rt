@@ -5,7 +5,7 @@ use crate::faults::Fault;
 use spool_disk::FileDisk;
 
 /// The spool in the file at this path.
-pub(crate) fn open_spool<'a>(rt: &HostRuntime, path: &'a str) -> Result<FileDisk, Failure<'a>> {
+pub fn open_spool<'a>(rt: &HostRuntime, path: &'a str) -> Result<FileDisk, Failure<'a>> {
     match FileDisk::try_open(rt, path) {
         Ok(disk) => Ok(disk),
         Err(error) => Err(Failure::new(Fault::Device, Task::OpenSpool(path), error)),

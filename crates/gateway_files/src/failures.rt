@@ -7,7 +7,7 @@ use std::{fmt, io};
 
 /// What the system failed at.
 #[derive(Clone, Copy, Debug, PartialEq, Eq, Drop)]
-pub(crate) enum Task<'a> {
+pub enum Task<'a> {
     /// Making, lengthening or locking the spool at this path.
     MakeSpool(&'a str),
     /// Opening or locking the spool at this path.
@@ -40,7 +40,7 @@ impl fmt::Display for Task<'_> {
 
 /// Why the program ends before its work is done: one line, and a second one where the system failed.
 #[derive(Clone, Copy, Debug, Drop)]
-pub(crate) struct Failure<'a> {
+pub struct Failure<'a> {
     fault: Fault,
     /// what the system failed at, and why
     cause: Option<(Task<'a>, io::Error)>,
@@ -48,7 +48,7 @@ pub(crate) struct Failure<'a> {
 
 impl<'a> Failure<'a> {
     /// The system failed at a task.
-    pub(crate) fn new(fault: Fault, task: Task<'a>, error: io::Error) -> Self {
+    pub fn new(fault: Fault, task: Task<'a>, error: io::Error) -> Self {
         Failure {
             fault,
             cause: Some((task, error)),
@@ -56,7 +56,7 @@ impl<'a> Failure<'a> {
     }
 
     /// Work on the spool at this path failed. Where it was for the device, the disk says why.
-    pub(crate) fn on_spool(fault: Fault, path: &'a str, disk: &FileDisk) -> Self {
+    pub fn on_spool(fault: Fault, path: &'a str, disk: &FileDisk) -> Self {
         match (fault, disk.error()) {
             (Fault::Device, Some(error)) => Failure::new(fault, Task::UseSpool(path), error),
             _ => Failure::from(fault),
@@ -64,7 +64,7 @@ impl<'a> Failure<'a> {
     }
 
     /// The status that the program ends with.
-    pub(crate) fn status(&self) -> u8 {
+    pub fn status(&self) -> u8 {
         self.fault.status()
     }
 }

@@ -16,11 +16,7 @@ use upload_rules::Uploads;
 const MOST_UPLOADS: usize = 512;
 
 /// Prints the uploads of the spool in a file, by number.
-pub(crate) fn list_file<'a>(
-    rt: &HostRuntime,
-    alloc: Global,
-    spool: &'a str,
-) -> Result<(), Failure<'a>> {
+pub fn list_file<'a>(rt: &HostRuntime, alloc: Global, spool: &'a str) -> Result<(), Failure<'a>> {
     let (disk, listed) = list_on(alloc, &mut io::writer(rt), open_spool(rt, spool)?);
     match listed {
         Ok(()) => Ok(()),
@@ -29,7 +25,7 @@ pub(crate) fn list_file<'a>(
 }
 
 /// Writes a line for each upload of the spool on a disk, by number. The disk is handed back.
-pub(crate) fn list_on<D: Disk + Drop, W: Write>(
+pub fn list_on<D: Disk + Drop, W: Write>(
     alloc: Global,
     writer: &mut W,
     disk: D,

@@ -1,0 +1,107 @@
+//! Spools in files.
+
+use crate::spools::ran;
+use crate::talks::Step::{Added, Deferred, Made, Open};
+use crate::talks::{Step, Talk};
+use gateway_files::{Failure, format_file, list_on, open_spool, upgrade_file};
+use spool_disk::{Disk, FileDisk};
+use std::alloc::Global;
+use std::fs;
+use std::process::Abort;
+
+const FOLDER: &str = "gateway_file_test";
+
+const SPOOL: &str = "gateway_file_test/spool";
+
+/// Three uploads: one in part, one of no bytes from UTF-16LE in the mode `fatal`, and one of no known length.
+const STEPS: &[Step] = &[
+    Open(1),
+    Made(1, 6, ""),
+    Added(1, 0, b"hello", 5),
+    Made(2, 0, "from dXRmLTE2bGU=,mode ZmF0YWw="),
+    Deferred(3, ""),
+];
+
+const LISTED: &[u8] =
+    b"1 5/6 5 UTF-8 UTF-8 html\n2 0/0 0 UTF-16LE UTF-8 fatal\n3 0/? 0 UTF-8 UTF-8 html\n";
+
+/// The uploads on a disk are listed as they are to be.
+fn lists(rt: &impl Abort, alloc: Global, disk: FileDisk) -> FileDisk {
+    let mut lines = Vec::new(alloc);
+    let (disk, listed) = list_on(alloc, &mut lines, disk);
+    assert!(rt; listed.is_ok());
+    assert_eq!(rt; lines.as_slice(), LISTED);
+    disk
+}
+
+/// Makes the spool of version 1 again: its state page's version, and the third record's unknown length.
+fn make_old(rt: &impl Abort, disk: &mut FileDisk) {
+    // 16 text blocks have 258 journal pages, so the state page is page 283
+    let state_page = 4096 * 283u64;
+    let third_record = state_page + 4096 + 2 * 2048;
+    assert!(rt; disk.len() >= third_record + 2048);
+    let mut length = [1; 8];
+    let mut tag = [0];
+    disk.read(third_record + 8, &mut length)
+        .expect(rt, "a length");
+    disk.read(third_record + 1602, &mut tag).expect(rt, "a tag");
+    assert_eq!(rt; (length, tag), ([0; 8], [1]));
+    disk.write_at(state_page, &1u32.to_be_bytes())
+        .expect(rt, "a version");
+    disk.write_at(third_record + 8, &[0xFF; 8])
+        .expect(rt, "no length");
+    disk.write_at(third_record + 1602, &[0])
+        .expect(rt, "no tag");
+    disk.sync().expect(rt, "an old spool");
+}
+
+#[test]
+fn spool_is_made_used_listed_and_upgraded(rt: HostRuntime) {
+    let alloc = rt.alloc();
+    let _ = fs::remove_dir_all(&rt, FOLDER);
+    fs::create_dir(&rt, FOLDER).expect(&rt, "a folder");
+    let made = format_file(&rt, alloc, SPOOL, 16, FOLDER).expect(&rt, "a spool");
+    assert_eq!(rt; made.pages, 557);
+    assert!(rt; made.read.is_empty());
+    let talk = Talk::new(&rt, alloc, STEPS);
+    let disk = open_spool(&rt, SPOOL).expect(&rt, "a new spool");
+    let (disk, fault, written) = ran(alloc, &talk, disk);
+    assert_eq!(rt; fault, None);
+    assert_eq!(rt; written, talk.wanted);
+    let mut disk = lists(&rt, alloc, disk);
+    make_old(&rt, &mut disk);
+    drop(lists(&rt, alloc, disk));
+    upgrade_file(&rt, alloc, SPOOL).expect(&rt, "an old spool");
+    let disk = open_spool(&rt, SPOOL).expect(&rt, "an upgraded spool");
+    drop(lists(&rt, alloc, disk));
+    let again = upgrade_file(&rt, alloc, SPOOL);
+    fails(&rt, alloc, again, 2, "refused: 35 AlreadyNew");
+    fs::remove_dir_all(&rt, FOLDER).expect(&rt, "a folder");
+}
+
+/// The program fails with this status, and says this.
+fn fails(rt: &impl Abort, alloc: Global, ended: Result<(), Failure>, status: u8, said: &str) {
+    let failure = ended.expect_err(rt, said);
+    let told = format!(in alloc; "{failure}").expect(rt, "memory for a line");
+    assert_eq!(rt; (failure.status(), told.as_str()), (status, said));
+}
+
+#[test]
+fn failure_says_what_the_system_said(rt: HostRuntime) {
+    let alloc = rt.alloc();
+    let lost = open_spool(&rt, "no_such_folder/spool").map(drop);
+    let said = "device fault\n\
+    cannot open the spool no_such_folder/spool: No such file or directory (os error 2)";
+    fails(&rt, alloc, lost, 3, said);
+    let unmade = format_file(&rt, alloc, "gateway_unmade_test", 16, "no_such_folder").map(drop);
+    let said = "refused: 33 Io\n\
+    cannot look into the folder no_such_folder: No such file or directory (os error 2)";
+    fails(&rt, alloc, unmade, 2, said);
+    assert!(rt; !fs::exists(&rt, "gateway_unmade_test").expect(&rt, "a folder"));
+    let used = FileDisk::create(&rt, "gateway_used_test", 4).expect(&rt, "a file");
+    let twice = open_spool(&rt, "gateway_used_test").map(drop);
+    let said = "device fault\ncannot open the spool gateway_used_test: it is in use";
+    fails(&rt, alloc, twice, 3, said);
+    drop(used);
+    fs::remove_file(&rt, "gateway_used_test").expect(&rt, "a file");
+}

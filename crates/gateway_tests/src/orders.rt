@@ -1,0 +1,71 @@
+//! Command lines.
+
+use gateway_orders::{Order, Service, read_order};
+use std::alloc::Global;
+use std::process::Abort;
+
+/// Command lines, and what they ask for. None is asked for by a line with a word too few, one too many or one that
+/// doesn't read, and by a call for help.
+const LINES: [(&str, Option<Order>); 16] = [
+    (
+        "gateway format new --blocks 16 --indexes idx",
+        Some(Order::Format {
+            spool: "new",
+            blocks: 16,
+            indexes: "idx",
+        }),
+    ),
+    ("gateway script -", Some(Order::Script { spool: "-" })),
+    (
+        "gateway serve --turns 18446744073709551615 --connections 7 --port=65535 old",
+        Some(Order::Serve(Service {
+            spool: "old",
+            port: 65_535,
+            connections: 7,
+            turns: 18_446_744_073_709_551_615,
+        })),
+    ),
+    (
+        "gateway serve old --port 0 --connections 0 --turns 0",
+        Some(Order::Serve(Service {
+            spool: "old",
+            port: 0,
+            connections: 0,
+            turns: 0,
+        })),
+    ),
+    ("gateway list old", Some(Order::List { spool: "old" })),
+    ("gateway upgrade old", Some(Order::Upgrade { spool: "old" })),
+    ("gateway", None),
+    ("gateway list", None),
+    ("gateway format new --blocks 16", None),
+    ("gateway list old older", None),
+    ("gateway delete old", None),
+    ("gateway format new --blocks -1 --indexes idx", None),
+    (
+        "gateway serve old --port 65536 --connections 1 --turns 1",
+        None,
+    ),
+    ("gateway help", None),
+    ("gateway list --help", None),
+    ("gateway upgrade", None),
+];
+
+/// The words of a line.
+fn words_of(rt: &impl Abort, alloc: Global, line: &str) -> Vec<String> {
+    let mut words = Vec::new(alloc);
+    for word in line.split(' ') {
+        let word = String::from_str(alloc, word).expect(rt, "memory for a word");
+        words.push(word).expect(rt, "memory for words");
+    }
+    words
+}
+
+#[test]
+fn command_lines(rt: HostRuntime) {
+    for (line, order) in LINES.iter() {
+        let words = words_of(&rt, rt.alloc(), line);
+        let read = read_order(rt.alloc(), &words).ok();
+        assert_eq!(rt; read, order.map(Some), "{line}");
+    }
+}

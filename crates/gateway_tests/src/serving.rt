@@ -1,0 +1,211 @@
+//! Clients over sockets, in one thread: each writes all that it has to say before it is served.
+
+use crate::spools::opened;
+use crate::talks::fresh;
+use gateway_engine::Gateway;
+use gateway_serve::{Outcome, serve_on};
+use spool_disk::{Disk, FuseDisk, MemoryDisk};
+use std::alloc::Global;
+use std::cell::Cell;
+use std::io::{self, Read, Write};
+use std::net::{Ipv4Addr, Net, Shutdown, TcpListener, TcpStream};
+use std::process::Abort;
+use std::time::{Clock, Duration};
+
+const POST: &[u8] = b"POST /files HTTP/1.1\r\nTus-Resumable: 1.0.0\r\nUpload-Length: 5\r\n\r\n";
+
+const OPTIONS: &[u8] = b"OPTIONS /files HTTP/1.1\r\n\r\n";
+
+const OPTIONS_REPLY: &[u8] =
+    b"HTTP/1.1 204 No Content\r\nTus-Resumable: 1.0.0\r\nCache-Control: no-store\r\n\
+Tus-Version: 1.0.0\r\nTus-Extension: creation,creation-defer-length,termination\r\nTus-Max-Size: 1073741824\r\n\r\n";
+
+const MADE_FIRST: &[u8] =
+    b"HTTP/1.1 201 Created\r\nTus-Resumable: 1.0.0\r\nCache-Control: no-store\r\n\
+Location: /files/1\r\nContent-Length: 0\r\n\r\n";
+
+const SECOND: &[u8] = b"POST /files HTTP/1.1\r\nTus-Resumable: 1.0.0\r\nUpload-Length: 5\r\n\r\n\
+PATCH /files/2 HTTP/1.1\r\nTus-Resumable: 1.0.0\r\nContent-Type: application/offset+octet-stream\r\n\
+Upload-Offset: 0\r\nContent-Length: 5\r\n\r\nhello\
+HEAD /files/2 HTTP/1.1\r\nTus-Resumable: 1.0.0\r\n\r\n\
+GET /files/2 HTTP/1.1\r\n\r\n";
+
+const MADE_SECOND: &[u8] =
+    b"HTTP/1.1 201 Created\r\nTus-Resumable: 1.0.0\r\nCache-Control: no-store\r\n\
+Location: /files/2\r\nContent-Length: 0\r\n\r\n\
+HTTP/1.1 204 No Content\r\nTus-Resumable: 1.0.0\r\nCache-Control: no-store\r\nUpload-Offset: 5\r\n\r\n\
+HTTP/1.1 200 OK\r\nTus-Resumable: 1.0.0\r\nCache-Control: no-store\r\nUpload-Offset: 5\r\nUpload-Length: 5\r\n\r\n\
+HTTP/1.1 200 OK\r\nTus-Resumable: 1.0.0\r\nCache-Control: no-store\r\nContent-Type: text/plain; charset=UTF-8\r\n\
+Content-Length: 5\r\n\r\nhello";
+
+const CUT_BODY: &[u8] = b"POST /files HTTP/1.1\r\nTus-Resumable: 1.0.0\r\nUpload-Length: 10\r\n\r\n\
+PATCH /files/1 HTTP/1.1\r\nTus-Resumable: 1.0.0\r\nContent-Type: application/offset+octet-stream\r\n\
+Upload-Offset: 0\r\nContent-Length: 10\r\n\r\nabcd";
+
+const HEAD: &[u8] = b"HEAD /files/1 HTTP/1.1\r\nTus-Resumable: 1.0.0\r\n\r\n";
+
+const FOUR_OF_TEN: &[u8] = b"HTTP/1.1 200 OK\r\nTus-Resumable: 1.0.0\r\nCache-Control: no-store\r\n\
+Upload-Offset: 4\r\nUpload-Length: 10\r\n\r\n";
+
+const NOT_HTTP: &[u8] = b"BAD\r\n\r\nGET /files/1 HTTP/1.1\r\n\r\n";
+
+const MALFORMED: &[u8] =
+    b"HTTP/1.1 400 Bad Request\r\nTus-Resumable: 1.0.0\r\nCache-Control: no-store\r\n\
+X-Refusal: 18\r\nContent-Length: 0\r\nConnection: close\r\n\r\n";
+
+/// A listener at any port.
+fn listen<R: Abort + Net<Listener = TcpListener, Stream = TcpStream>>(rt: &R) -> TcpListener {
+    TcpListener::bind(rt, (Ipv4Addr::LOCALHOST, 0)).expect(rt, "a port")
+}
+
+/// A client that connects, says this and stays.
+fn stays<R: Abort + Net<Listener = TcpListener, Stream = TcpStream>>(
+    rt: &R,
+    listener: &TcpListener,
+    says: &[u8],
+) -> TcpStream {
+    let address = listener.local_addr().expect(rt, "an address");
+    let mut stream = TcpStream::connect(rt, address).expect(rt, "a connection");
+    stream
+        .write_all(says)
+        .expect(rt, "a socket that takes bytes");
+    stream
+}
+
+/// A client that connects, says this and says no more.
+fn client<R: Abort + Net<Listener = TcpListener, Stream = TcpStream>>(
+    rt: &R,
+    listener: &TcpListener,
+    says: &[u8],
+) -> TcpStream {
+    let stream = stays(rt, listener, says);
+    stream
+        .shutdown(Shutdown::Write)
+        .expect(rt, "an open socket");
+    stream
+}
+
+/// A client is told this, up to the socket's end.
+fn is_told(rt: &impl Abort, alloc: Global, client: &mut TcpStream, wanted: &[u8]) {
+    let mut bytes = Vec::new(alloc);
+    client
+        .read_to_end(&mut bytes)
+        .expect(rt, "a socket that gives bytes");
+    assert_eq!(rt; bytes.as_slice(), wanted);
+}
+
+/// Serves so many connections over the spool on a disk, in at most so many turns. The disk behind it, and whether it
+/// went well.
+fn served<D: Disk + Drop, T: Clock>(
+    rt: &impl Abort,
+    alloc: Global,
+    clock: &T,
+    listener: &TcpListener,
+    disk: D,
+    connections: u64,
+    turns: u64,
+) -> (D, bool) {
+    let gateway = opened(rt, alloc, disk);
+    let Outcome {
+        gateway,
+        served,
+        connections: _,
+        ended: _,
+    } = serve_on(alloc, clock, listener, gateway, connections, turns);
+    (gateway.into_disk(), served.is_ok())
+}
+
+/// Serves a connection over the spool on a disk, in at most 1,000 turns.
+fn serve<R: Abort + Clock>(
+    rt: &R,
+    alloc: Global,
+    listener: &TcpListener,
+    disk: MemoryDisk,
+) -> MemoryDisk {
+    let (disk, well) = served(rt, alloc, rt, listener, disk, 1, 1000);
+    assert!(rt; well);
+    disk
+}
+
+#[test]
+fn two_clients_are_served(rt: HostRuntime) {
+    let alloc = rt.alloc();
+    let listener = listen(&rt);
+    let mut first = client(&rt, &listener, POST);
+    let mut second = client(&rt, &listener, SECOND);
+    let disk = fresh(&rt, alloc, 16, None);
+    let (_disk, well) = served(&rt, alloc, &rt, &listener, disk, 2, 1000);
+    assert!(rt; well);
+    is_told(&rt, alloc, &mut first, MADE_FIRST);
+    is_told(&rt, alloc, &mut second, MADE_SECOND);
+}
+
+#[test]
+fn cut_body_counts_up_to_the_cut_and_a_close_is_told(rt: HostRuntime) {
+    let alloc = rt.alloc();
+    let listener = listen(&rt);
+    let disk = fresh(&rt, alloc, 16, None);
+    drop(client(&rt, &listener, CUT_BODY));
+    let disk = serve(&rt, alloc, &listener, disk);
+    let mut later = client(&rt, &listener, HEAD);
+    let disk = serve(&rt, alloc, &listener, disk);
+    is_told(&rt, alloc, &mut later, FOUR_OF_TEN);
+    let mut lost = client(&rt, &listener, NOT_HTTP);
+    drop(serve(&rt, alloc, &listener, disk));
+    is_told(&rt, alloc, &mut lost, MALFORMED);
+}
+
+/// A disk fails at the first call behind the opening of its spool.
+#[test]
+fn nothing_is_told_behind_a_fault_of_the_device(rt: HostRuntime) {
+    let alloc = rt.alloc();
+    let listener = listen(&rt);
+    let mut client = client(&rt, &listener, POST);
+    let disk = FuseDisk::new(fresh(&rt, alloc, 16, None), 540);
+    let (_disk, well) = served(&rt, alloc, &rt, &listener, disk, 1, 1000);
+    assert!(rt; !well);
+    is_told(&rt, alloc, &mut client, b"");
+}
+
+/// A clock that goes on by a second at each reading.
+#[derive(Drop)]
+struct Seconds {
+    read: Cell<u64>,
+}
+
+impl Clock for Seconds {
+    fn monotonic(&self) -> io::Result<Duration> {
+        let read = self.read.get();
+        self.read.set(read.saturating_add(1));
+        Ok(Duration::from_secs(read))
+    }
+
+    fn since_1970(&self) -> io::Result<Duration> {
+        self.monotonic()
+    }
+}
+
+#[test]
+fn clients_that_stay_are_served_and_ended_after_a_minute(rt: HostRuntime) {
+    let alloc = rt.alloc();
+    let listener = listen(&rt);
+    let mut clients = Vec::new(alloc);
+    for _ in 0..17 {
+        clients
+            .push(stays(&rt, &listener, OPTIONS))
+            .expect(&rt, "memory for a client");
+    }
+    let clock = Seconds { read: Cell::new(0) };
+    let disk = fresh(&rt, alloc, 16, None);
+    let (disk, well) = served(&rt, alloc, &clock, &listener, disk, 17, 30);
+    assert!(rt; well);
+    for client in clients.iter_mut() {
+        is_told(&rt, alloc, client, OPTIONS_REPLY);
+    }
+    let mut idle = stays(&rt, &listener, POST);
+    let clock = Seconds { read: Cell::new(0) };
+    let (_disk, well) = served(&rt, alloc, &clock, &listener, disk, 1, 70);
+    assert!(rt; well);
+    assert!(rt; clock.read.get() > 60 && clock.read.get() < 70);
+    is_told(&rt, alloc, &mut idle, MADE_FIRST);
+}

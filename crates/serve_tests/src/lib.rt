@@ -1,5 +1,0 @@
-//! Tests of serving: clients over sockets.
-#![tactic(auto)]
-
-#[cfg(test)]
-mod serving;
