@@ -4,7 +4,7 @@ use enc_labels::{encoding_of, name_of, output_of};
 use enc_model::Encoding;
 
 /// Each name with its labels.
-const NAMES: [(&str, &str); 21] = [
+static NAMES: [(&str, &str); 21] = [
     (
         "UTF-8",
         "unicode-1-1-utf-8, unicode11utf8, unicode20utf8, utf-8, utf8, x-unicode20utf8",
@@ -68,7 +68,7 @@ fn every_label(rt: HostRuntime) {
 }
 
 /// Labels with whitespace or large letters, and what is none.
-const OTHERS: [(&[u8], Option<Encoding>); 6] = [
+static OTHERS: [(&[u8], Option<Encoding>); 6] = [
     (b"\t Latin1\n", Some(Encoding::Windows1252)),
     (b"\r\x0CUTF-8 ", Some(Encoding::Utf8)),
     (b"utf-16", Some(Encoding::Utf16Le)),
@@ -79,8 +79,8 @@ const OTHERS: [(&[u8], Option<Encoding>); 6] = [
 
 #[test]
 fn whitespace_case_and_outputs(rt: HostRuntime) {
-    for (label, encoding) in OTHERS {
-        assert_eq!(rt; encoding_of(label), encoding);
+    for (label, encoding) in OTHERS.iter() {
+        assert_eq!(rt; encoding_of(label), *encoding);
     }
     assert_eq!(rt; output_of(Encoding::Utf16Le), Encoding::Utf8);
     assert_eq!(rt; output_of(Encoding::ShiftJis), Encoding::ShiftJis);

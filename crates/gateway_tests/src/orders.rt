@@ -6,7 +6,7 @@ use std::process::Abort;
 
 /// Command lines, and what they ask for. None is asked for by a line with a word too few, one too many or one that
 /// doesn't read, and by a call for help.
-const LINES: [(&str, Option<Order>); 16] = [
+static LINES: [(&str, Option<Order>); 16] = [
     (
         "gateway format new --blocks 16 --indexes idx",
         Some(Order::Format {
