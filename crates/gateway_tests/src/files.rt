@@ -3,7 +3,7 @@
 use crate::spools::ran;
 use crate::talks::Step::{Added, Deferred, Made, Open};
 use crate::talks::{Step, Talk};
-use gateway_files::{Failure, format_file, list_on, open_spool, upgrade_file};
+use gateway_files::{Failure, format_file, list_file, list_on, open_spool, upgrade_file};
 use spool_disk::{Disk, FileDisk};
 use std::alloc::Global;
 use std::fs;
@@ -74,6 +74,7 @@ fn spool_is_made_used_listed_and_upgraded(rt: HostRuntime) {
     upgrade_file(&rt, alloc, SPOOL).expect(&rt, "an old spool");
     let disk = open_spool(&rt, SPOOL).expect(&rt, "an upgraded spool");
     drop(lists(&rt, alloc, disk));
+    list_file(&rt, alloc, SPOOL).expect(&rt, "its lines");
     let again = upgrade_file(&rt, alloc, SPOOL);
     fails(&rt, alloc, again, 2, "refused: 35 AlreadyNew");
     fs::remove_dir_all(&rt, FOLDER).expect(&rt, "a folder");
