@@ -70,29 +70,23 @@ pub(crate) fn read_task<'a>(alloc: Global, words: &'a [String]) -> Result<Option
 
 // The program's arguments.
 fn bench<'a>(alloc: Global) -> Result<Command<'a>, AllocError> {
+    let rounds = option(alloc, "rounds", "N").value_parser(clap::value_parser!(u32));
     Command::new(alloc, "bench")
         .about("Transcodes a file so many times, in pieces of 4,096 bytes, and tells the quickest")
-        .arg(
+        .args(vec![in alloc;
             option(alloc, "from", "LABEL")
                 .required(true)
                 .help("The file's encoding"),
-        )?
-        .arg(
             option(alloc, "to", "LABEL")
                 .required(true)
                 .help("The encoding that is written"),
-        )?
-        .arg(
-            option(alloc, "rounds", "N")
-                .required(true)
-                .value_parser(clap::value_parser!(u32))
-                .help("How many times"),
-        )?
-        .arg(option(alloc, "jis0208", "INDEX").help("Its index file"))?
-        .arg(option(alloc, "jis0212", "INDEX").help("Its index file"))?
-        .arg(option(alloc, "katakana", "INDEX").help("Its index file"))?
-        .arg(option(alloc, "single", "INDEX").help("The index file of the single-byte encoding"))?
-        .arg(Arg::new(alloc, "FILE").required(true).help("The file"))
+            rounds.required(true).help("How many times"),
+            option(alloc, "jis0208", "INDEX").help("Its index file"),
+            option(alloc, "jis0212", "INDEX").help("Its index file"),
+            option(alloc, "katakana", "INDEX").help("Its index file"),
+            option(alloc, "single", "INDEX").help("The index file of the single-byte encoding"),
+            Arg::new(alloc, "FILE").required(true).help("The file"),
+        ]?)
 }
 
 // An option with a value.

@@ -5,14 +5,19 @@ use std::alloc::{AllocError, Global};
 
 /// All commands.
 pub(crate) fn gateway<'a>(alloc: Global) -> Result<Command<'a>, AllocError> {
-    Command::new(alloc, "gateway")
+    let mut gateway = Command::new(alloc, "gateway")
         .about("A gateway for resumable uploads (tus 1.0.0) of text in old and new encodings")
-        .subcommand_required(true)
-        .subcommand(format(alloc)?)?
-        .subcommand(script(alloc)?)?
-        .subcommand(serve(alloc)?)?
-        .subcommand(list(alloc)?)?
-        .subcommand(upgrade(alloc)?)
+        .subcommand_required(true);
+    for command in [
+        format(alloc),
+        script(alloc),
+        serve(alloc),
+        list(alloc),
+        upgrade(alloc),
+    ] {
+        gateway = gateway.subcommand(command?)?;
+    }
+    Ok(gateway)
 }
 
 fn format<'a>(alloc: Global) -> Result<Command<'a>, AllocError> {
@@ -24,12 +29,14 @@ fn format<'a>(alloc: Global) -> Result<Command<'a>, AllocError> {
     );
     Command::new(alloc, "format")
         .about("Makes a spool without uploads")
-        .arg(spool(
-            alloc,
-            "The file to be made. One that is there and is no spool is overwritten",
-        ))?
-        .arg(blocks)?
-        .arg(indexes)
+        .args(vec![in alloc;
+            spool(
+                alloc,
+                "The file to be made. One that is there and is no spool is overwritten",
+            ),
+            blocks,
+            indexes,
+        ]?)
 }
 
 fn script<'a>(alloc: Global) -> Result<Command<'a>, AllocError> {
@@ -53,10 +60,12 @@ fn serve<'a>(alloc: Global) -> Result<Command<'a>, AllocError> {
         .help("It ends behind so many turns over the open connections");
     Command::new(alloc, "serve")
         .about("Serves connections over sockets")
-        .arg(spool(alloc, "The file with the spool"))?
-        .arg(port)?
-        .arg(connections)?
-        .arg(turns)
+        .args(vec![in alloc;
+            spool(alloc, "The file with the spool"),
+            port,
+            connections,
+            turns,
+        ]?)
 }
 
 fn list<'a>(alloc: Global) -> Result<Command<'a>, AllocError> {
