@@ -13,6 +13,10 @@ use Rattle.gateway_serve.specs.Served.{IsBack, WentOn, Serves, AllServed, AllLef
 use Rattle.gateway_serve.specs.declared.links.Stage.{Stage}
 use Rattle.gateway_serve.specs.declared.links.Stage.TheVariants.{Taking, Giving, Closed}
 use Rattle.gateway_serve.specs.declared.links.Link.{Link}
+use Rattle.gateway_serve.specs.Idle.{longest_idle, seconds_from}
+use Rattle.gateway_serve.specs.declared.idle.At.{At}
+use Rattle.gateway_serve.specs.declared.idle.At.TheVariants.{Between, Request, Reply}
+use Rattle.gateway_serve.specs.declared.idle.Tick.{Tick}
 use Rattle.gateway_serve.specs.declared.places.Place.{Place}
 use Rattle.gateway_serve.specs.declared.places.Place.TheVariants.{Free, Open}
 use Rattle.gateway_serve.specs.declared.serving.Server.{Server}
@@ -56,6 +60,22 @@ pub record Joins (j : Joint) (ended : List Seen) (st : State) (past : List Marke
 -- the session closed it, and all is written
 abbrev pub IsOver : Joint → Type 0
 IsOver j = (j.closed ≡ true) × (j.output ≡ [])
+
+-- WHAT IT IS AT: in a reply while bytes wait for the socket or a text is still to be given, even where the latest call
+-- for what came was answered
+abbrev pub at_by : Stage → List ℕ → Bool → At
+at_by Taking [] true = Between
+at_by Taking [] false = Request
+at_by Taking (b ∷ output) replied = Reply
+at_by Giving output replied = Reply
+at_by Closed output replied = Reply
+
+abbrev pub at_of : {S : Type 0} → Link S → At
+at_of l = at_by l.stage l.output l.replied
+
+-- nothing came or went for as long as it may be idle
+abbrev pub HasIdled : {S : Type 0} → Link S → Tick → Type 0
+HasIdled l tick = longest_idle (at_of l) tick.full ≤ seconds_from l.moved tick.now
 
 -- WHAT A TURN DOES: so many bytes are written
 abbrev pub wrote : ℕ → Joint → Joint

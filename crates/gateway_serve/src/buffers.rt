@@ -1,12 +1,13 @@
 //! The bytes between a socket and a session. Each buffer is seen as the bytes that are left in it.
 ghost use Rattle.std.specs.Prelude.{◌≡◌, ◌≤◌, ◌++◌, ℕ, List, [], length, take, drop, slice_range, vec_len};
-ghost use Rattle.std.specs.Prelude.{IfOk, OnErr, IsErrOf};
+ghost use Rattle.std.specs.Prelude.{◌↔◌, IfOk, OnErr, IsErrOf, IsTrue, vec_capacity};
 ghost use Rattle.std.specs.Io.KnownBytes.{Consumes, Appends, Keeps, IsAtEnd};
 ghost use Rattle.upload_rules.specs.Answers.{Limits, Quiet, Counts};
 ghost use Rattle.tus_session.specs.History.{State, Came, More};
 ghost use Rattle.gateway_script.specs.Connections.{Gives, Falls, mark_of};
 ghost use Rattle.gateway_script.specs.Images.{shown_by};
 ghost use Rattle.gateway_serve.specs.Bytes.{came_of, went_of, stream_of};
+ghost use Rattle.gateway_serve.specs.Waiting.{HasRoom};
 
 use crate::sockets::Socket;
 use gateway_script::Connections;
@@ -17,6 +18,12 @@ use tus_session::{Answer, SessionError};
 
 /// The most bytes that are read at once.
 pub(crate) const PIECE: usize = 4096;
+
+/// Where so many bytes wait to be written, the session is given and asked for no more.
+const MOST_WAITING: usize = 65_536;
+
+/// So much memory a buffer of which all is written keeps, in bytes: a piece of a text needs none anew.
+const MOST_KEPT: usize = 131_072;
 
 /// What was read from a socket: the session took a front part of it.
 #[derive(Drop)]
@@ -125,6 +132,13 @@ impl Output {
         &self.bytes[self.written..]
     }
 
+    /// Whether the session may give more: fewer than 65,536 bytes wait to be written.
+    pub(crate) fn has_room(&self) -> bool
+        ensures { IsTrue result ↔ HasRoom self.now }
+    {
+        self.left().len() < MOST_WAITING
+    }
+
     /// Writes a front part of what is left: how many bytes.
     pub(crate) fn write<S: Read + Write>(&mut self, socket: &mut Socket<S>) -> io::Result<usize>
         ensures rest { IfOk result (λ n. self.new ≡ drop n self.old) }
@@ -139,6 +153,10 @@ impl Output {
         match socket.write(&self.bytes[self.written..]) {
             Ok(count) => {
                 self.written += count;
+                if self.written == self.bytes.len() {
+                    free_written(&mut self.bytes, self.written);
+                    self.written = 0;
+                }
                 Ok(count)
             }
             Err(error) => Err(error),
@@ -152,6 +170,7 @@ impl Output {
         conn: usize,
         bytes: &[u8],
     ) -> Result<Answer, SessionError>
+        requires { HasRoom self.old }
         ensures gives { (st : State) → C.stands gateway.old st
             → Gives (C.stands gateway.new) result self.old self.new st (Came conn bytes.now) }
         ensures crash { (st : State) → C.stands gateway.old st
@@ -172,6 +191,7 @@ impl Output {
         gateway: &mut C,
         conn: usize,
     ) -> Result<Answer, SessionError>
+        requires { HasRoom self.old }
         ensures gives { (st : State) → C.stands gateway.old st
             → Gives (C.stands gateway.new) result self.old self.new st (More conn) }
         ensures crash { Quiet (C.moment gateway.old) (C.moment gateway.new) (C.left_only gateway.old)
@@ -186,13 +206,17 @@ impl Output {
     }
 }
 
-// Lets the bytes go that are written: mostly these are all.
+// Lets the bytes go that are written: mostly these are all, and then the memory too that a burst took.
 fn free_written(bytes: &mut Vec<u8>, written: usize)
     requires { written ≤ vec_len bytes.old }
-    ensures { bytes.new.items ≡ drop written bytes.old.items }
+    ensures items { bytes.new.items ≡ drop written bytes.old.items }
+    ensures memory { written ≡ vec_len bytes.old → vec_capacity bytes.new ≤ 131072 }
 {
     if written == bytes.len() {
         bytes.clear();
+        if bytes.capacity() > MOST_KEPT {
+            bytes.shrink_to_fit();
+        }
     } else if written > 0 {
         drop(bytes.drain(..written));
     }

@@ -1,4 +1,6 @@
-//! How long an idle connection is kept, and how long an idle server rests.
+//! How long an idle connection is kept, how often a quiet socket is asked, and how long an idle server rests.
+ghost use Rattle.std.specs.Prelude.{◌≡◌, ◌↔◌, ◌≤◌, IsTrue, false};
+ghost use Rattle.gateway_serve.specs.Idle.{longest_idle, seconds_from};
 
 use std::thread;
 use std::time::{Clock, Duration};
@@ -6,8 +8,11 @@ use std::time::{Clock, Duration};
 /// A connection is ended once nothing came or went for so many seconds.
 const LONGEST_IDLE: u64 = 60;
 
-/// Where all places are taken, a connection to which no reply is owed is ended after so many seconds.
+/// Where all places are taken, a connection between requests is ended after so many seconds.
 const IDLE_WHEN_FULL: u64 = 1;
+
+/// A quiet socket is passed over in at most so many turns, one after the other.
+const MOST_PASSED: u32 = 31;
 
 /// A server doesn't rest before it was idle for so many microseconds.
 const SHORTEST_IDLE: u64 = 200;
@@ -15,24 +20,82 @@ const SHORTEST_IDLE: u64 = 200;
 /// The longest rest, in milliseconds.
 const LONGEST_REST: u64 = 10;
 
-/// A turn's time, and whether all places for connections are taken.
+/// A turn's time, whether all places for connections are taken, and whether the turn before did something.
 #[derive(Clone, Copy, Debug, PartialEq, Eq, Drop)]
 pub(crate) struct Tick {
     pub(crate) now: Duration,
     pub(crate) full: bool,
+    pub(crate) busy: bool,
 }
 
-impl Tick {
-    /// Whether a connection is to be ended over which nothing came or went since then.
-    /// `replied` says that no reply is owed to it.
-    pub(crate) fn is_over(self, since: Duration, replied: bool) -> bool {
-        let idle = self.now.saturating_sub(since);
-        let longest = if self.full && replied {
-            IDLE_WHEN_FULL
+/// What a connection is at.
+#[derive(Clone, Copy, Debug, PartialEq, Eq, Drop)]
+pub(crate) enum At {
+    /// Between requests: no reply is owed.
+    Between,
+    /// In a request: a reply is owed.
+    Request,
+    /// In a reply: bytes wait for the socket, or a text is still to be given.
+    Reply,
+}
+
+impl At {
+    /// Whether a connection is over that is at this, and over which nothing came or went since then.
+    pub(crate) fn is_over(self, since: Duration, tick: Tick) -> bool
+        ensures { IsTrue result ↔ (longest_idle self tick.full ≤ seconds_from since tick.now) }
+    {
+        self.longest_idle(tick.full) <= tick.now.saturating_sub(since).as_secs()
+    }
+
+    // For so many seconds it may be idle, where all places are taken or not.
+    fn longest_idle(self, full: bool) -> u64
+        ensures { result ≡ longest_idle self full }
+    {
+        match self {
+            At::Between if full => IDLE_WHEN_FULL,
+            At::Between | At::Request | At::Reply => LONGEST_IDLE,
+        }
+    }
+}
+
+/// How often a socket is asked: in each turn while it has something to do. After each time that it had nothing it is
+/// asked half as often, down to once in 32 turns.
+#[derive(Clone, Copy, Debug, PartialEq, Eq, Drop)]
+pub(crate) struct Pace {
+    /// turns that pass it over after it had nothing
+    between: u32,
+    /// those of them that are to come
+    left: u32,
+}
+
+impl Pace {
+    /// Of a socket that is asked in the next turn.
+    pub(crate) fn new() -> Self {
+        Pace {
+            between: 0,
+            left: 0,
+        }
+    }
+
+    /// Whether the socket is asked in this turn. Where the turn before did nothing each one is.
+    pub(crate) fn is_due(&mut self, busy: bool) -> bool
+        ensures { busy ≡ false → IsTrue result }
+    {
+        if busy && self.left > 0 {
+            self.left -= 1;
+            return false;
+        }
+        true
+    }
+
+    /// The socket was asked, and had something to do or not.
+    pub(crate) fn asked(&mut self, moved: bool) {
+        self.between = if moved {
+            0
         } else {
-            LONGEST_IDLE
+            (self.between.min(MOST_PASSED / 2) * 2) + 1
         };
-        idle >= Duration::from_secs(longest)
+        self.left = self.between;
     }
 }
 

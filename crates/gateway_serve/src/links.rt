@@ -1,11 +1,12 @@
 //! A socket and its connection of the gateway.
-ghost use Rattle.std.specs.Prelude.{◌≡◌, ◌≢◌, ◌↔◌, IsErr, IsErrOf, IfOk, IfSome};
+ghost use Rattle.std.specs.Prelude.{◌≡◌, ◌≢◌, ◌↔◌, IsErr, IsErrOf, IfOk, IfSome, IsTrue};
 ghost use Rattle.upload_rules.specs.Answers.{Counts};
 ghost use Rattle.gateway_serve.specs.Joined.{Goes, IsOver, Writes, Reads, joint_of, nothing_yet, with_link};
-ghost use Rattle.gateway_serve.specs.Joined.{stage_by, stage_behind, taken_behind};
+ghost use Rattle.gateway_serve.specs.Joined.{stage_by, stage_behind, taken_behind, at_of, HasIdled};
+ghost use Rattle.gateway_serve.specs.Waiting.{HasRoom};
 
 use crate::buffers::{Input, Output, PIECE};
-use crate::idle::Tick;
+use crate::idle::{At, Pace, Tick};
 use crate::sockets::{Ended, Socket};
 use gateway_script::Connections;
 use spool_disk::DiskFault;
@@ -30,7 +31,7 @@ enum Stage {
 pub(crate) enum Left {
     /// It is open.
     Open,
-    /// It is open, and the socket had nothing to do.
+    /// It is open, and the socket had nothing to do, or was passed over.
     Idle,
     /// The session closed it, and all is written.
     Closed,
@@ -49,6 +50,7 @@ pub(crate) struct Link<S> {
     moved: Duration,
     /// no reply is owed: nothing came, or the latest call for what came gave bytes
     replied: bool,
+    pace: Pace,
 }
 
 impl<S: Read + Write> Link<S> {
@@ -63,6 +65,7 @@ impl<S: Read + Write> Link<S> {
             stage: Stage::Taking,
             moved: now,
             replied: true,
+            pace: Pace::new(),
         }
     }
 
@@ -74,7 +77,8 @@ impl<S: Read + Write> Link<S> {
     }
 
     /// A turn: what is left is written, else the next piece of a text is asked for, else bytes are read and given to
-    /// the session. Where nothing of this could be done for too long, the connection is lost.
+    /// the session. Where nothing of this could be done for too long, the connection is lost. One that had nothing to
+    /// do is passed over in some of the turns, unless the turn before did nothing at all.
     ///
     /// Refused with `DiskFault` where the session was.
     pub(crate) fn turn<C: Connections>(
@@ -87,6 +91,9 @@ impl<S: Read + Write> Link<S> {
         ensures over { result ≡ Ok Left.Closed → IsOver (joint_of self.new) }
         ensures counts { Counts (IsErr result) (C.failures gateway.old) (C.failures gateway.new) }
     {
+        if !self.pace.is_due(tick.busy) {
+            return Ok(Left::Idle);
+        }
         match self.go_on(gateway, conn) {
             Ok(left) => Ok(self.left_at(left, tick)),
             Err(fault) => Err(fault),
@@ -97,14 +104,29 @@ impl<S: Read + Write> Link<S> {
     fn left_at(&mut self, left: Left, tick: Tick) -> Left
         ensures same { joint_of self.new ≡ joint_of self.old }
         ensures over { result ≡ Left.Closed → left ≡ Left.Closed }
+        ensures idle { result ≡ Left.Lost → left ≢ Left.Lost → HasIdled self.old tick }
     {
-        if left != Left::Idle {
+        let moved = left != Left::Idle;
+        self.pace.asked(moved);
+        if moved {
             self.moved = tick.now;
             left
-        } else if tick.is_over(self.moved, self.replied) {
+        } else if self.at().is_over(self.moved, tick) {
             Left::Lost
         } else {
             Left::Idle
+        }
+    }
+
+    // What it is at.
+    fn at(&self) -> At
+        ensures { result ≡ at_of self.now }
+    {
+        let written = self.output.left().is_empty();
+        match self.stage {
+            Stage::Taking if written && self.replied => At::Between,
+            Stage::Taking if written => At::Request,
+            Stage::Taking | Stage::Giving | Stage::Closed => At::Reply,
         }
     }
 
@@ -138,6 +160,7 @@ impl<S: Read + Write> Link<S> {
 
     // Asks the session for the next piece of a text.
     fn more<C: Connections>(&mut self, gateway: &mut C, conn: usize) -> Result<Left, DiskFault>
+        requires { HasRoom (joint_of self.old).output }
         ensures serves { Goes C.Connections gateway.old gateway.new result self.old self.new conn }
         ensures unclosed { result ≢ Ok Left.Closed }
         ensures counts { Counts (IsErr result) (C.failures gateway.old) (C.failures gateway.new) }
@@ -182,13 +205,14 @@ impl<S: Read + Write> Link<S> {
         }
     }
 
-    // Gives the session what was read, until all is taken, a text is to be given or the connection is closed.
+    // Gives the session what was read, until all is taken, enough waits to be written, a text is to be given or the
+    // connection is closed.
     fn give<C: Connections>(&mut self, gateway: &mut C, conn: usize) -> Result<(), DiskFault>
         ensures serves { Goes C.Connections gateway.old gateway.new result self.old self.new conn }
         ensures counts { Counts (IsErr result) (C.failures gateway.old) (C.failures gateway.new) }
     {
         let mut calls = PIECE;
-        while calls > 0 && self.stage == Stage::Taking && !self.input.left().is_empty() {
+        while calls > 0 && self.goes_on() {
             match self.came(gateway, conn) {
                 Ok(()) => {}
                 Err(fault) => return Err(fault),
@@ -198,8 +222,16 @@ impl<S: Read + Write> Link<S> {
         Ok(())
     }
 
+    // Whether the session may be given more of what was read.
+    fn goes_on(&self) -> bool
+        ensures { IsTrue result → HasRoom (joint_of self.now).output }
+    {
+        self.stage == Stage::Taking && !self.input.left().is_empty() && self.output.has_room()
+    }
+
     // Gives the session what was read once: it takes the bytes of at most one request.
     fn came<C: Connections>(&mut self, gateway: &mut C, conn: usize) -> Result<(), DiskFault>
+        requires { HasRoom (joint_of self.old).output }
         ensures serves { Goes C.Connections gateway.old gateway.new result self.old self.new conn }
         ensures counts { Counts (IsErr result) (C.failures gateway.old) (C.failures gateway.new) }
     {

@@ -6,7 +6,7 @@ ghost use Rattle.gateway_serve.specs.Served.{Serves, AllServed, AllLeft};
 ghost use Rattle.gateway_serve.specs.Joined.{AllFell, GoesOn, Ends, Finishes, IsFreeAt, SamePlaces, places_of};
 ghost use Rattle.gateway_serve.specs.Joined.{ended_of};
 
-use crate::idle::{Tick, Watch};
+use crate::idle::{Pace, Tick, Watch};
 use crate::places::{Place, Turned, unless_failed};
 use crate::sockets::Ended;
 use gateway_script::Connections;
@@ -43,6 +43,8 @@ struct Server<S> {
     /// whether anything was done in the latest turn
     busy: bool,
     watch: Watch,
+    /// how often the listener is asked
+    door: Pace,
 }
 
 impl<S: Read + Write + OpenStream + Drop> Server<S> {
@@ -59,6 +61,7 @@ impl<S: Read + Write + OpenStream + Drop> Server<S> {
             closed: 0,
             busy: false,
             watch,
+            door: Pace::new(),
         }
     }
 
@@ -107,7 +110,8 @@ impl<S: Read + Write + OpenStream + Drop> Server<S> {
         end_each(&mut self.places, gateway, &mut self.ended)
     }
 
-    // A turn: a connection is accepted where fewer than 16 are open, then each has its turn, in order.
+    // A turn: a connection is accepted where fewer than 16 are open and the listener is asked, then each has its turn, in
+    // order.
     fn turn<L: OpenListener<Stream = S>, C: Connections>(
         &mut self,
         listener: &L,
@@ -124,6 +128,7 @@ impl<S: Read + Write + OpenStream + Drop> Server<S> {
             tick: Tick {
                 now: self.watch.now,
                 full: self.free_place().is_none(),
+                busy: self.busy,
             },
             busy: self.accepted > accepted,
             closed: self.closed,
@@ -148,7 +153,7 @@ impl<S: Read + Write + OpenStream + Drop> Server<S> {
         let Some(conn) = self.free_place() else {
             return Ok(());
         };
-        let Some(stream) = next_stream(listener) else {
+        let Some(stream) = next_stream(listener, &mut self.door, self.busy) else {
             return Ok(());
         };
         match gateway.opened(conn) {
@@ -274,12 +279,18 @@ fn free_each<S: Read + Write + Drop>(places: &mut [Place<S>], ended: &mut Ended)
     }
 }
 
-// The socket of the next connection, which doesn't wait. An accept that fails gives none.
-fn next_stream<L: OpenListener>(listener: &L) -> Option<L::Stream>
+// The socket of the next connection, which doesn't wait, where the listener is asked in this turn. An accept that
+// fails gives none.
+fn next_stream<L: OpenListener>(listener: &L, door: &mut Pace, busy: bool) -> Option<L::Stream>
 where
     L::Stream: OpenStream,
 {
-    let Ok((stream, _peer)) = listener.accept() else {
+    if !door.is_due(busy) {
+        return None;
+    }
+    let accepted = listener.accept();
+    door.asked(accepted.is_ok());
+    let Ok((stream, _peer)) = accepted else {
         return None;
     };
     if stream.set_nonblocking(true).is_ok() {
@@ -294,8 +305,11 @@ where
 /// Each turn accepts a connection, where fewer than 16 are open, and then goes on at each open one, in order: what is
 /// left to write is written, else the next piece of a text is asked for, else up to 4,096 bytes are read and given to
 /// the session. A socket that fails or is at its end ends its connection, and so does one over which nothing came or
-/// went for a minute; where 16 are open, a second is enough if no reply is owed. One that the session closed is
-/// closed once all is written. At the end the open connections are ended.
+/// went for a minute; where 16 are open, a second is enough between requests. One that the session closed is closed
+/// once all is written. At the end the open connections are ended.
+///
+/// While there is something to do, the listener and each connection that had nothing are passed over in more and more
+/// turns, in at most 31 one after the other. Where 65,536 bytes wait for a socket, nothing more is taken of it.
 ///
 /// The listener and its sockets are made not to wait; of a listener that can't be no connection is accepted. Behind
 /// turns in which no socket had anything to do it rests, at most 10 milliseconds.

@@ -16,6 +16,8 @@ mod scripts;
 #[cfg(test)]
 mod serving;
 #[cfg(test)]
+mod slow_readers;
+#[cfg(test)]
 mod spools;
 #[cfg(test)]
 mod stories;

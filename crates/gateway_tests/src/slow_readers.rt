@@ -1,0 +1,154 @@
+//! Clients that read late, over sockets of the tests' own.
+
+use crate::spools::opened;
+use crate::talks::fresh;
+use gateway_serve::{Outcome, serve_on};
+use spool_disk::MemoryDisk;
+use std::alloc::Global;
+use std::cell::Cell;
+use std::io::{self, ErrorKind, Read, Write};
+use std::net::{Ipv4Addr, OpenListener, OpenStream, SocketAddr};
+use std::process::Abort;
+use std::time::{Clock, Duration};
+
+/// Makes an upload of five bytes, then asks for its text.
+const SAYS: &[u8] = b"POST /files HTTP/1.1\r\nTus-Resumable: 1.0.0\r\nUpload-Length: 5\r\n\r\n\
+PATCH /files/1 HTTP/1.1\r\nTus-Resumable: 1.0.0\r\nContent-Type: application/offset+octet-stream\r\n\
+Upload-Offset: 0\r\nContent-Length: 5\r\n\r\nhello\
+GET /files/1 HTTP/1.1\r\n\r\n";
+
+const TOLD: &[u8] = b"HTTP/1.1 201 Created\r\nTus-Resumable: 1.0.0\r\nCache-Control: no-store\r\n\
+Location: /files/1\r\nContent-Length: 0\r\n\r\n\
+HTTP/1.1 204 No Content\r\nTus-Resumable: 1.0.0\r\nCache-Control: no-store\r\nUpload-Offset: 5\r\n\r\n\
+HTTP/1.1 200 OK\r\nTus-Resumable: 1.0.0\r\nCache-Control: no-store\r\nContent-Type: text/plain; charset=UTF-8\r\n\
+Content-Length: 5\r\n\r\nhello";
+
+/// A client as the server's socket shows it: it said so much, takes so many bytes and then none for some writes.
+#[derive(Drop)]
+struct Client<'a> {
+    says: &'a [u8],
+    takes: usize,
+    pauses: u32,
+    told: &'a Cell<usize>,
+}
+
+impl Read for Client<'_> {
+    fn read(&mut self, buf: &mut [u8]) -> io::Result<usize> {
+        let count = self.says.len().min(buf.len());
+        if count == 0 {
+            return Err(io::Error::from(ErrorKind::WouldBlock));
+        }
+        buf[..count].copy_from_slice(&self.says[..count]);
+        self.says = &self.says[count..];
+        Ok(count)
+    }
+}
+
+impl Write for Client<'_> {
+    fn write(&mut self, buf: &[u8]) -> io::Result<usize> {
+        if self.takes == 0 && self.pauses > 0 {
+            self.pauses -= 1;
+            return Err(io::Error::from(ErrorKind::WouldBlock));
+        }
+        let count = if self.pauses > 0 {
+            self.takes.min(buf.len())
+        } else {
+            buf.len()
+        };
+        self.takes = self.takes.saturating_sub(count);
+        self.told.set(self.told.get().saturating_add(count));
+        Ok(count)
+    }
+
+    fn flush(&mut self) -> io::Result<()> {
+        Ok(())
+    }
+}
+
+impl OpenStream for Client<'_> {
+    fn set_nonblocking(&self, _nonblocking: bool) -> io::Result<()> {
+        Ok(())
+    }
+}
+
+/// Clients that come one after the other: the first one says and takes so much, the others nothing.
+#[derive(Drop)]
+struct Clients<'a> {
+    left: Cell<u32>,
+    pauses: u32,
+    told: &'a Cell<usize>,
+    others: &'a Cell<usize>,
+}
+
+impl<'a> OpenListener for Clients<'a> {
+    type Stream = Client<'a>;
+
+    fn accept(&self) -> io::Result<(Client<'a>, SocketAddr)> {
+        let left = self.left.get();
+        if left == 0 {
+            return Err(io::Error::from(ErrorKind::WouldBlock));
+        }
+        self.left.set(left - 1);
+        let first = left == 16;
+        let client = Client {
+            says: if first { SAYS } else { b"" },
+            takes: 10,
+            pauses: self.pauses,
+            told: if first { self.told } else { self.others },
+        };
+        Ok((client, SocketAddr::from((Ipv4Addr::LOCALHOST, 1))))
+    }
+
+    fn set_nonblocking(&self, _nonblocking: bool) -> io::Result<()> {
+        Ok(())
+    }
+}
+
+/// A clock that goes on by a second at each reading.
+#[derive(Drop)]
+struct Seconds {
+    read: Cell<u64>,
+}
+
+impl Clock for Seconds {
+    fn monotonic(&self) -> io::Result<Duration> {
+        let read = self.read.get();
+        self.read.set(read.saturating_add(1));
+        Ok(Duration::from_secs(read))
+    }
+
+    fn since_1970(&self) -> io::Result<Duration> {
+        self.monotonic()
+    }
+}
+
+/// How many bytes the first of 16 clients is told that pauses for so many writes, in at most 120 turns of a second.
+fn told(rt: &impl Abort, alloc: Global, pauses: u32) -> usize {
+    let told = Cell::new(0);
+    let others = Cell::new(0);
+    let clients = Clients {
+        left: Cell::new(16),
+        pauses,
+        told: &told,
+        others: &others,
+    };
+    let clock = Seconds { read: Cell::new(0) };
+    let gateway = opened(rt, alloc, fresh(rt, alloc, 16, None));
+    let Outcome {
+        gateway,
+        served,
+        connections,
+        ended: _,
+    } = serve_on(alloc, &clock, &clients, gateway, 17, 120);
+    assert!(rt; served.is_ok() && connections == 16);
+    assert_eq!(rt; others.get(), 0);
+    drop(gateway.into_disk());
+    told.get()
+}
+
+#[test]
+fn replies_under_way_are_kept_for_a_minute_where_all_places_are_taken(rt: HostRuntime) {
+    let alloc = rt.alloc();
+    assert_eq!(rt; told(&rt, alloc, 5), TOLD.len());
+    assert_eq!(rt; told(&rt, alloc, 100), 10);
+}
