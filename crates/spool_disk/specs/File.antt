@@ -1,16 +1,27 @@
 -- What a disk over a file stands for.
-use Rattle.std.specs.Prelude.{ℕ, Option}
+use Rattle.std.specs.Prelude.{ℕ, Option, List}
 use Rattle.std.specs.declared.io.Error.{Error}
-use Rattle.spool_disk.specs.declared.file.FileDisk.{FileDisk}
+use Rattle.spool_disk.specs.Positioned.{Made}
+use Rattle.spool_disk.specs.SystemFile.{calls_of}
+use Rattle.spool_disk.specs.declared.file.PositionedDisk.{PositionedDisk}
+use Rattle.spool_disk.specs.declared.system_file.SystemFile.{SystemFile}
 
--- the number of its bytes
-abbrev pub length_of : FileDisk → ℕ
-length_of disk = disk.len
+module _ {F : Type 0} where
+  abbrev pub file_of : PositionedDisk F → F
+  file_of disk = disk.file
 
--- how many calls failed
-abbrev pub failed_in : FileDisk → ℕ
-failed_in disk = disk.failed
+  -- the number of its bytes
+  abbrev pub length_of : PositionedDisk F → ℕ
+  length_of disk = disk.len
 
--- why the latest call that failed did
-abbrev pub latest_error : FileDisk → Option Error
-latest_error disk = disk.error
+  -- how many calls failed
+  abbrev pub failed_in : PositionedDisk F → ℕ
+  failed_in disk = disk.failed
+
+  -- why the latest call that failed did
+  abbrev pub latest_error : PositionedDisk F → Option Error
+  latest_error disk = disk.error
+
+-- the calls that were made of a file of the operating system
+abbrev pub calls_in : PositionedDisk SystemFile → List Made
+calls_in disk = calls_of disk.file

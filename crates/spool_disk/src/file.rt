@@ -1,33 +1,36 @@
-//! A disk over a file of the operating system.
-ghost use Rattle.std.specs.Prelude.{◌≡◌, ◌↔◌, IfOk, IfErr, IsErr, Some};
+//! A disk over a file.
+ghost use Rattle.std.specs.Prelude.{◌≡◌, ◌↔◌, ◌++◌, ℕ, [], ◌∷◌, true, is_ok, IfOk, IfErr, IsErr, OnOk, Some};
 ghost use Rattle.spool_disk.specs.Disk.{Counts, IsImage};
+ghost use Rattle.spool_disk.specs.Positioned.{made, lengthened, created};
 
-use crate::{Disk, DiskFault};
-use std::fs::{File, Files, OpenOptions, TryLockError};
+use crate::{Disk, DiskFault, FileCall, Positioned, SystemFile};
+use std::fs::{File, Files};
 use std::io;
-use std::os::unix::fs::FileExt;
-use std::path::Path;
 
 /// A file as a disk. Its length is that of the moment at which it was opened, and does not change.
 ///
-/// It holds the file's exclusive lock (`flock`) until it is dropped, so that no other `FileDisk` of this or another
-/// process is over the same file meanwhile. The lock is advisory: whoever doesn't ask for it can still write to the
-/// file.
-///
 /// No contract says what a file gives or keeps, so no file is proved to be honest: that a file behaves as a disk is a
-/// premise of whoever relies on it, and of its bytes and images the clauses claim nothing. That the length stays and
-/// that each failed call is counted is proved of every file.
+/// premise of whoever relies on it, and of its bytes and images the clauses claim nothing. What is proved of every file
+/// is which call of it each call of the disk makes (`made`): one, at this place, with these bytes, and a sync that
+/// syncs; that the length stays, and that each failed call is counted.
 #[derive(Drop)]
-pub struct FileDisk {
-    file: File,
+pub struct PositionedDisk<F> {
+    file: F,
     len: u64,
     failed: u64,
     /// why the latest call that failed did
     error: Option<io::Error>,
 }
 
-impl FileDisk {
-    ghost use Rattle.spool_disk.specs.File.{length_of, failed_in, latest_error};
+/// A file of the operating system as a disk.
+///
+/// It holds the file's exclusive lock (`flock`) until it is dropped, so that no other `FileDisk` of this or another
+/// process is over the same file meanwhile. The lock is advisory: whoever doesn't ask for it can still write to the
+/// file.
+pub type FileDisk = PositionedDisk<SystemFile>;
+
+impl PositionedDisk<SystemFile> {
+    ghost use Rattle.spool_disk.specs.File.{length_of, failed_in, calls_in};
 
     /// Opens the file at the path, and makes it where there is none. What it holds stays, and one that is shorter than
     /// `len` is made `len` long with zeros. `DiskFault` for every fault of the file system, and where another disk is
@@ -35,6 +38,7 @@ impl FileDisk {
     pub fn create<R: Files<File = File>>(rt: &R, path: &str, len: u64) -> Result<Self, DiskFault>
         ensures len { IfOk result (λ disk. length_of disk ≡ len) }
         ensures none { IfOk result (λ disk. failed_in disk ≡ 0) }
+        ensures made { IfOk result (λ disk. (found : ℕ) × (calls_in disk ≡ created found len)) }
     {
         FileDisk::try_create(rt, path, len).map_err(DiskFault::from)
     }
@@ -42,7 +46,8 @@ impl FileDisk {
     /// Opens the file at the path, which is as long as it is then. `DiskFault` for every fault of the file system, and
     /// where another disk is over the file.
     pub fn open<R: Files<File = File>>(rt: &R, path: &str) -> Result<Self, DiskFault>
-        ensures { IfOk result (λ disk. failed_in disk ≡ 0) }
+        ensures none { IfOk result (λ disk. failed_in disk ≡ 0) }
+        ensures made { IfOk result (λ disk. calls_in disk ≡ made (FileCall.Len (length_of disk)) [] true ∷ []) }
     {
         FileDisk::try_open(rt, path).map_err(DiskFault::from)
     }
@@ -51,16 +56,40 @@ impl FileDisk {
     pub fn try_create<R: Files<File = File>>(rt: &R, path: &str, len: u64) -> io::Result<Self>
         ensures len { IfOk result (λ disk. length_of disk ≡ len) }
         ensures none { IfOk result (λ disk. failed_in disk ≡ 0) }
+        ensures made { IfOk result (λ disk. (found : ℕ) × (calls_in disk ≡ created found len)) }
     {
-        Ok(FileDisk::new(make(rt, path, len)?, len))
+        let mut file = SystemFile::create(rt, path)?;
+        lengthen(&mut file, len)?;
+        file.sync_folder(rt, path)?;
+        Ok(PositionedDisk::new(file, len))
     }
 
     /// As `open`, with the system's reason where it fails: `ResourceBusy` where another disk is over the file.
     pub fn try_open<R: Files<File = File>>(rt: &R, path: &str) -> io::Result<Self>
-        ensures { IfOk result (λ disk. failed_in disk ≡ 0) }
+        ensures none { IfOk result (λ disk. failed_in disk ≡ 0) }
+        ensures made { IfOk result (λ disk. calls_in disk ≡ made (FileCall.Len (length_of disk)) [] true ∷ []) }
     {
-        let (file, len) = find(rt, path)?;
-        Ok(FileDisk::new(file, len))
+        let mut file = SystemFile::open(rt, path)?;
+        let len = file.len()?;
+        Ok(PositionedDisk::new(file, len))
+    }
+}
+
+impl<F> PositionedDisk<F> {
+    ghost use Rattle.spool_disk.specs.File.{file_of, length_of, failed_in, latest_error};
+
+    /// A disk of so many bytes over a file that is at least so long. No call of it failed.
+    pub fn new(file: F, len: u64) -> Self
+        ensures file { file_of result ≡ file }
+        ensures len { length_of result ≡ len }
+        ensures none { failed_in result ≡ 0 }
+    {
+        PositionedDisk {
+            file,
+            len,
+            failed: 0,
+            error: None,
+        }
     }
 
     /// Why the latest call that failed did. `None` where none failed.
@@ -70,23 +99,11 @@ impl FileDisk {
         self.error
     }
 
-    // A disk of which no call failed.
-    fn new(file: File, len: u64) -> Self
-        ensures len { length_of result ≡ len }
-        ensures none { failed_in result ≡ 0 }
-    {
-        FileDisk {
-            file,
-            len,
-            failed: 0,
-            error: None,
-        }
-    }
-
     // Counts a call that failed, and keeps why.
     fn note(&mut self, outcome: io::Result<()>) -> Result<(), DiskFault>
+        ensures file { file_of self.new ≡ file_of self.old }
         ensures len { length_of self.new ≡ length_of self.old }
-        ensures told { IsErr result ↔ IsErr outcome }
+        ensures told { is_ok result ≡ is_ok outcome }
         ensures counts { Counts (IsErr result) (failed_in self.old) (failed_in self.new) }
         ensures why { IfErr outcome (λ error. latest_error self.new ≡ Some error) }
     {
@@ -107,52 +124,18 @@ impl From<io::Error> for DiskFault {
     }
 }
 
-// The file at the path, locked and no shorter than so many bytes, with its name and its length on the disk.
-fn make<R: Files<File = File>>(rt: &R, path: &str, len: u64) -> io::Result<File> {
-    let file = OpenOptions::new()
-        .read(true)
-        .write(true)
-        .create(true)
-        .open(rt, path)?;
-    lock(&file)?;
-    if file.metadata()?.len() < len {
+// Makes the file so long where it is shorter, and syncs all of it.
+fn lengthen<F: Positioned>(file: &mut F, len: u64) -> io::Result<()>
+    ensures { OnOk result ((found : ℕ) × (F.calls file.new ≡ lengthened found len ++ F.calls file.old)) }
+{
+    if file.len()? < len {
         file.set_len(len)?;
     }
-    file.sync_all()?;
-    sync_folder(rt, path)?;
-    Ok(file)
+    file.sync_all()
 }
 
-// The file at the path, locked, and its length.
-fn find<R: Files<File = File>>(rt: &R, path: &str) -> io::Result<(File, u64)> {
-    let file = OpenOptions::new().read(true).write(true).open(rt, path)?;
-    lock(&file)?;
-    let len = file.metadata()?.len();
-    Ok((file, len))
-}
-
-// Takes the file's exclusive lock, which it keeps until it is closed.
-fn lock(file: &File) -> io::Result<()> {
-    match file.try_lock() {
-        Ok(()) => Ok(()),
-        Err(TryLockError::WouldBlock) => {
-            Err(io::Error::new(io::ErrorKind::ResourceBusy, "it is in use"))
-        }
-        Err(TryLockError::Error(error)) => Err(error),
-    }
-}
-
-// Syncs the folder of the path, so that a name which was made lasts.
-fn sync_folder<R: Files<File = File>>(rt: &R, path: &str) -> io::Result<()> {
-    let folder = match Path::new(path).parent() {
-        Some(parent) if !parent.as_str().is_empty() => parent,
-        _ => Path::new("."),
-    };
-    File::open(rt, folder)?.sync_all()
-}
-
-impl Disk for FileDisk {
-    ghost use Rattle.spool_disk.specs.File.{length_of, failed_in};
+impl<F: Positioned> Disk for PositionedDisk<F> {
+    ghost use Rattle.spool_disk.specs.File.{file_of, length_of, failed_in};
 
     ghost size = { length_of };
 
@@ -180,18 +163,36 @@ impl Disk for FileDisk {
         self.len
     }
 
-    fn read(&mut self, at: u64, buf: &mut [u8]) -> Result<(), DiskFault> {
+    /// Makes one read of the file, of this range, and gives what came.
+    fn read(&mut self, at: u64, buf: &mut [u8]) -> Result<(), DiskFault>
+        ensures size { length_of self.new ≡ length_of self.old }
+        ensures counts { Counts (IsErr result) (failed_in self.old) (failed_in self.new) }
+        ensures made { F.calls (file_of self.new)
+            ≡ made (FileCall.ReadAt at) buf.new (is_ok result) ∷ F.calls (file_of self.old) }
+    {
         let outcome = self.file.read_exact_at(buf, at);
         self.note(outcome)
     }
 
-    fn write_at(&mut self, at: u64, bytes: &[u8]) -> Result<(), DiskFault> {
+    /// Makes one write to the file, of these bytes at this place.
+    fn write_at(&mut self, at: u64, bytes: &[u8]) -> Result<(), DiskFault>
+        ensures size { length_of self.new ≡ length_of self.old }
+        ensures counts { Counts (IsErr result) (failed_in self.old) (failed_in self.new) }
+        ensures made { F.calls (file_of self.new)
+            ≡ made (FileCall.WriteAt at) bytes.now (is_ok result) ∷ F.calls (file_of self.old) }
+    {
         let outcome = self.file.write_all_at(bytes, at);
         self.note(outcome)
     }
 
-    fn sync(&mut self) -> Result<(), DiskFault> {
-        let outcome = self.file.sync_all();
+    /// Makes one sync of the file's bytes. Its length is as it was made and synced before.
+    fn sync(&mut self) -> Result<(), DiskFault>
+        ensures size { length_of self.new ≡ length_of self.old }
+        ensures counts { Counts (IsErr result) (failed_in self.old) (failed_in self.new) }
+        ensures made { F.calls (file_of self.new)
+            ≡ made FileCall.SyncData [] (is_ok result) ∷ F.calls (file_of self.old) }
+    {
+        let outcome = self.file.sync_data();
         self.note(outcome)
     }
 }

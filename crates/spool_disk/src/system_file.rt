@@ -1,0 +1,118 @@
+//! A file of the operating system. That each call here is the one that its clause names is read, and not proved: no
+//! contract of the kit says what a file does.
+ghost use Rattle.std.specs.Prelude.{◌≡◌, [], ◌∷◌, is_ok, IfOk};
+ghost use Rattle.spool_disk.specs.Positioned.{made};
+
+use crate::log::Log;
+use crate::{FileCall, Positioned};
+use std::fs::{File, Files, OpenOptions, TryLockError};
+use std::io;
+use std::os::unix::fs::FileExt;
+use std::path::Path;
+
+/// A file of the operating system, with its exclusive lock (`flock`), which it keeps until it is dropped.
+#[derive(Drop)]
+pub struct SystemFile {
+    file: File,
+    log: Log,
+}
+
+impl SystemFile {
+    ghost use Rattle.spool_disk.specs.SystemFile.{calls_of};
+
+    /// Opens the file at the path, and makes it where there is none. `ResourceBusy` where it is locked.
+    pub fn create<R: Files<File = File>>(rt: &R, path: &str) -> io::Result<Self>
+        ensures { IfOk result (λ file. calls_of file ≡ []) }
+    {
+        let file = OpenOptions::new()
+            .read(true)
+            .write(true)
+            .create(true)
+            .open(rt, path)?;
+        SystemFile::lock(file)
+    }
+
+    /// Opens the file at the path. `ResourceBusy` where it is locked.
+    pub fn open<R: Files<File = File>>(rt: &R, path: &str) -> io::Result<Self>
+        ensures { IfOk result (λ file. calls_of file ≡ []) }
+    {
+        let file = OpenOptions::new().read(true).write(true).open(rt, path)?;
+        SystemFile::lock(file)
+    }
+
+    // The file with its exclusive lock.
+    fn lock(file: File) -> io::Result<Self>
+        ensures { IfOk result (λ file. calls_of file ≡ []) }
+    {
+        match file.try_lock() {
+            Ok(()) => Ok(SystemFile {
+                file,
+                log: Log::new(),
+            }),
+            Err(TryLockError::WouldBlock) => {
+                Err(io::Error::new(io::ErrorKind::ResourceBusy, "it is in use"))
+            }
+            Err(TryLockError::Error(error)) => Err(error),
+        }
+    }
+
+    /// Syncs the folder of the path that it was opened at, so that its name lasts.
+    pub fn sync_folder<R: Files<File = File>>(&mut self, rt: &R, path: &str) -> io::Result<()>
+        ensures { calls_of self.new ≡ made FileCall.SyncFolder [] (is_ok result) ∷ calls_of self.old }
+    {
+        let outcome = sync_folder_of(rt, path);
+        self.log = self.log.and(&FileCall::SyncFolder, &[], outcome.is_ok());
+        outcome
+    }
+}
+
+// Syncs the folder of the path.
+fn sync_folder_of<R: Files<File = File>>(rt: &R, path: &str) -> io::Result<()> {
+    let folder = match Path::new(path).parent() {
+        Some(parent) if !parent.as_str().is_empty() => parent,
+        _ => Path::new("."),
+    };
+    File::open(rt, folder)?.sync_all()
+}
+
+impl Positioned for SystemFile {
+    ghost use Rattle.spool_disk.specs.SystemFile.{calls_of};
+
+    ghost calls = { calls_of };
+
+    fn len(&mut self) -> io::Result<u64> {
+        let len = self.file.metadata()?.len();
+        self.log = self.log.and(&FileCall::Len(len), &[], true);
+        Ok(len)
+    }
+
+    fn read_exact_at(&mut self, buf: &mut [u8], at: u64) -> io::Result<()> {
+        let outcome = self.file.read_exact_at(buf, at);
+        self.log = self.log.and(&FileCall::ReadAt(at), buf, outcome.is_ok());
+        outcome
+    }
+
+    fn write_all_at(&mut self, bytes: &[u8], at: u64) -> io::Result<()> {
+        let outcome = self.file.write_all_at(bytes, at);
+        self.log = self.log.and(&FileCall::WriteAt(at), bytes, outcome.is_ok());
+        outcome
+    }
+
+    fn set_len(&mut self, len: u64) -> io::Result<()> {
+        let outcome = self.file.set_len(len);
+        self.log = self.log.and(&FileCall::SetLen(len), &[], outcome.is_ok());
+        outcome
+    }
+
+    fn sync_data(&mut self) -> io::Result<()> {
+        let outcome = self.file.sync_data();
+        self.log = self.log.and(&FileCall::SyncData, &[], outcome.is_ok());
+        outcome
+    }
+
+    fn sync_all(&mut self) -> io::Result<()> {
+        let outcome = self.file.sync_all();
+        self.log = self.log.and(&FileCall::SyncAll, &[], outcome.is_ok());
+        outcome
+    }
+}
