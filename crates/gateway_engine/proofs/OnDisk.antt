@@ -1,11 +1,12 @@
 -- From the uploads on a disk to the disk.
-use Rattle.std.proofs.Common.{◌≡◌, ◌≤◌, ◌*◌, inl, inr, ℕ, List, [], ◌∷◌, Option, Some, Ok, Err, sym, subst, arith}
-use Rattle.std.proofs.Common.{⊎_elim}
+use Rattle.std.proofs.Common.{◌≡◌, ◌≤◌, ◌*◌, inl, inr, ℕ, List, [], ◌∷◌, Option, None, Some, Ok, Err, refl, sym}
+use Rattle.std.proofs.Common.{subst, arith, ⊎_elim}
 use Rattle.spool_disk.specs.Disk.{IsImage}
 use Rattle.spool_disk.specs.Views.{Lasts}
 use Rattle.spool_disk.specs.declared.disk.Disk.{Ghosts}
 use Rattle.spool_journal.specs.Image.{all_pages}
 use Rattle.spool_image.specs.LeftOnly.{AllShow, IsSpool, LeftOnly, LeftOrShows, ShowsOne, SpoolLeft}
+use Rattle.spool_image.specs.Opening.{OpensExactly}
 use Rattle.spool_kept.specs.Loads.{LoadsAs}
 use Rattle.spool_kept.specs.Shows.{ImageShows}
 use Rattle.spool_kept.specs.declared.error.OpenFault.{OpenFault}
@@ -23,7 +24,7 @@ use Rattle.gateway_engine.specs.Ran.{Shows, Rests, EndedSo, RestsSo, FailedSo, S
 use Rattle.gateway_engine.specs.Ran.{HasRefused, CountsEither}
 use Rattle.gateway_engine.specs.RanOn.{AllShowOne, LastsOver, EndedOn, RestsOn, FailedOn, StoppedOn, UnopenedOn}
 use Rattle.gateway_engine.specs.RanOn.{HasRunOn}
-use Rattle.gateway_engine.specs.RanOn.{HasRefusedOn}
+use Rattle.gateway_engine.specs.RanOn.{HasFailedOn, HasRefusedOn, refusal_in}
 use Rattle.gateway_script.specs.declared.faults.CallFault.{CallFault}
 use Rattle.gateway_engine.specs.declared.faults.RunFault.{RunFault}
 use Rattle.gateway_engine.specs.declared.faults.RunFault.TheVariants.{Open}
@@ -207,7 +208,25 @@ pub refused_on : {D U : Type 0} {a b v w : ℕ} (store : U) (d : D) (fault : Scr
 refused_on {a = a} {b = b} {v = v} {w = w} store d fault told is c =
     subst (λ f. CountsEither (HasRefusedOn (Err (d, f))) a b v w) (sym is) (same_refusal store d fault c)
 
+-- a fault behind the opening is no refusal to open
+no_refusal : {D : Type 0} (d : D) (fault : ScriptFault) → refusal_in {D = D} (Err (d, run_fault fault)) ≡ None
+no_refusal d runs.NoMemory = refl
+no_refusal d runs.DiskFault = refl
+no_refusal d (runs.Script line) = refl
+no_refusal d runs.Io = refl
+
+pub opened_still : {D : Type 0} (size : ℕ) (seen : ℕ → ℕ) (d : D) (fault : ScriptFault) (told : RunFault)
+    → told ≡ run_fault fault → OpensExactly size seen None → OpensExactly size seen (refusal_in {D = D} (Err (d, told)))
+opened_still {D = D} size seen d fault told is exact =
+    subst (λ (f : RunFault). OpensExactly size seen (refusal_in {D = D} (Err (d, f)))) (sym is)
+    (subst (OpensExactly size seen) (sym (no_refusal d fault)) exact)
+
 -- THE DISK WASN'T OPENED
+pub fault_told : {D : Type 0} (d : D) (fault : OpenFault) → (HasFailedOn {D = D} (Err (d, Open fault)) → ⊥)
+    → fault ≡ opens.DiskFault → ⊥
+fault_told {D = D} d fault sound is =
+    sound (subst (λ (f : OpenFault). HasFailedOn {D = D} (Err (d, Open f))) (sym is) (tt {0}))
+
 pub refused_as : {T U : Type 0} (done : T → Type 0) (done' : U → Type 0) (fault : OpenFault)
     → LoadsAs {T = T} (Err fault) done
     → LoadsAs {T = U} (Err fault) done'

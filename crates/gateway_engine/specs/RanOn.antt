@@ -1,11 +1,12 @@
 -- What a run of a script over a spool on a disk comes to.
-use Rattle.std.specs.Prelude.{◌≡◌, ◌≤◌, ◌*◌, ℕ, List, Option, Result, Ok, Err}
+use Rattle.std.specs.Prelude.{◌≡◌, ◌≤◌, ◌*◌, ℕ, List, Option, None, Some, Result, Ok, Err}
 use Rattle.std.specs.Io.KnownBytes.{Appends}
 use Rattle.spool_disk.specs.Disk.{IsImage}
 use Rattle.spool_disk.specs.Views.{Lasts}
 use Rattle.spool_disk.specs.declared.disk.Disk.{Ghosts}
 use Rattle.spool_journal.specs.Image.{all_pages}
 use Rattle.spool_image.specs.LeftOnly.{AllShow, LeftOnly, LeftOrShows, ShowsOne}
+use Rattle.spool_kept.specs.declared.error.OpenFault.{OpenFault}
 use Rattle.spool_kept.specs.declared.error.OpenFault.TheVariants as opens
 use Rattle.upload_rules.specs.Store.{Store}
 use Rattle.tus_session.specs.History.{State, Mark, Marked, history}
@@ -104,6 +105,11 @@ HasRunOn disk before (Err (d, Open _)) held front n st bytes = ⊥
 abbrev pub disk_back : {D : Type 0} → Result D (D × RunFault) → D
 disk_back (Ok d) = d
 disk_back (Err (d, fault)) = d
+
+-- why it wasn't opened, None where it was
+abbrev pub refusal_in : {D : Type 0} → Result D (D × RunFault) → Option OpenFault
+refusal_in (Err (d, Open fault)) = Some fault
+refusal_in result = None
 
 -- the device failed
 abbrev pub HasFailedOn : {D : Type 0} → Result D (D × RunFault) → Type 0

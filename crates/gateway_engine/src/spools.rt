@@ -3,6 +3,7 @@ ghost use Rattle.std.specs.Prelude.{◌≡◌, ◌↔◌, ℕ, false, List, Some
 ghost use Rattle.spool_disk.specs.Disk.{Counts};
 ghost use Rattle.spool_disk.specs.Views.{Lasts};
 ghost use Rattle.spool_image.specs.LeftOnly.{AllShow, IsSpool, LeftOrShows, SpoolLeft};
+ghost use Rattle.spool_image.specs.Opening.{OpensExactly, ReadsSame, Unwritten, refusal_of};
 ghost use Rattle.spool_image.specs.Spool.{IsFault, OpensAs};
 ghost use Rattle.upload_rules.specs.Store.{Store};
 ghost use Rattle.upload_rules.specs.Answers.{Quiet};
@@ -10,7 +11,8 @@ ghost use Rattle.tus_session.specs.History.{State, beginning};
 ghost use Rattle.gateway_engine.specs.Gateways.{GatewayStands, disk_in, size_in, disk_after, is_down};
 ghost use Rattle.gateway_script.specs.Script.{IsScript};
 ghost use Rattle.gateway_engine.specs.Ran.{CountsEither};
-ghost use Rattle.gateway_engine.specs.RanOn.{HasRunOn, HasFailedOn, HasRefusedOn, Unopened, disk_back};
+ghost use Rattle.gateway_engine.specs.RanOn.{HasRunOn, HasFailedOn, HasRefusedOn, Unopened};
+ghost use Rattle.gateway_engine.specs.RanOn.{disk_back, refusal_in};
 
 use crate::faults::RunFault;
 use crate::gateway::Gateway;
@@ -36,7 +38,14 @@ impl<D: Disk> Gateway<Spool<D>> {
         ensures opened { (n : ℕ) (m : Store) → IsSpool D.Disk disk n m
             → OpensAs result (λ g. GatewayStands ⟦<Spool<D> as Uploads>⟧ g (beginning m (Some n))) }
 
-        // Every image then shows them.
+        // What is opened is a sound spool. Each refusal has its reason, and each reason is answered so.
+        ensures exact { D.honest disk → OpensExactly (D.size disk) (D.seen disk) (refusal_of result) }
+
+        // Where no journal is to be replayed nothing is written.
+        ensures unwritten { D.honest disk → Unwritten D.Disk disk (disk_after result) }
+        ensures same { D.honest disk → ReadsSame D.Disk disk (disk_after result) (IsFault result) }
+
+        // Behind an opening every image shows the uploads that a read showed.
         ensures shows { (n : ℕ) (m : Store) → IsSpool D.Disk disk n m
             → IfOk result (λ g. AllShow D.Disk (disk_in g) n m) }
         ensures up { IfOk result (λ g. is_down g ≡ false) }
@@ -84,9 +93,18 @@ pub fn run<D: Disk, R: CountedRead, W: CountedWrite>(
         → (script : List ℕ) × IsScript (R.remaining reader.old) script
         × HasRunOn D.Disk disk result (W.contents writer.new) (W.contents writer.old) n (beginning m (Some n)) script }
 
-    // A disk that isn't opened: nothing is read and nothing written.
+    // What is opened is a sound spool. Each refusal to open has its reason, and each reason is answered so.
+    ensures exact { D.honest disk → OpensExactly (D.size disk) (D.seen disk) (refusal_in result) }
+
+    // A disk that isn't opened: nothing is read of the script and no output is written.
     ensures unopened { Unopened result ((R.remaining reader.new ≡ R.remaining reader.old)
         × (W.contents writer.new ≡ W.contents writer.old)) }
+
+    // And it comes back as its opening left it: where no journal is to be replayed nothing is written to it.
+    ensures size { Unopened result (D.size (disk_back result) ≡ D.size disk) }
+    ensures honest { Unopened result (D.honest disk ↔ D.honest (disk_back result)) }
+    ensures unwritten { D.honest disk → Unopened result (Unwritten D.Disk disk (disk_back result)) }
+    ensures same { D.honest disk → Unopened result (ReadsSame D.Disk disk (disk_back result) (HasFailedOn result)) }
     ensures counts { Counts (HasFailedOn result) (D.failures disk) (D.failures (disk_back result)) }
 
     // `Io` exactly where the reader or the writer refused a call.

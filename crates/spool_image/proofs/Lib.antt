@@ -2,6 +2,7 @@ pub mod Fresh
 pub mod Formats
 pub mod NoUploads
 pub mod Opens
+pub mod Opening
 pub mod LeftImages
 pub mod AnswersMore
 pub mod StandsOn

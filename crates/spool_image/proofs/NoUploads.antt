@@ -10,10 +10,11 @@ use Rattle.enc_index.specs.Sets.{IsIndexSet}
 use Rattle.spool_journal.specs.Image.{journal_pages, all_pages, byte_of, overlaid}
 use Rattle.spool_journal.proofs.Gate.{shut_view}
 use Rattle.upload_rules.specs.Store.{no_uploads}
-use Rattle.spool_pages.specs.View.{SlotRecord, View, Says, Stands, slot_bytes, row_bytes, index_place, state_place}
+use Rattle.spool_pages.specs.View.{SlotRecord, View, IsViewOf, Says, Stands, slot_bytes, row_bytes, index_place, state_place}
 use Rattle.spool_pages.specs.declared.version.Version.TheVariants.{Two}
 use Rattle.spool_pages.specs.View.{slot_place, row_place, state_page, first_page}
 use Rattle.spool_kept.specs.Shows.{IsSound, ImageShows}
+use Rattle.spool_image.specs.Format.{IsNewest}
 use Rattle.spool_image.specs.Fresh.{IsFresh}
 use Rattle.spool_image.proofs.Fresh.{fresh_front, fresh_area, fresh_state, fresh_zeros}
 use Rattle.spool_pages.proofs.Says.{some_journal, all_is, says_same}
@@ -110,15 +111,19 @@ module _ (n : ℕ) (x : IndexSet) (image : ℕ → ℕ) (fresh : IsFresh n x ima
       fresh.behind.each 4096 (omega arith) (omega (arith, all_is n)) ∙ fresh_front n x 4096 (omega arith) in
       omega (arith, zero_there, ajar)
 
+  fresh_is : IsViewOf image (fresh_view n x)
+  unfolding fresh_view
+  fresh_is = record {
+    form = λ ajar. absurd (gate_shut ajar);
+    says = says_same (overlaid image) image (fresh_view n x) (λ p outside. shut_view image p gate_shut) fresh_says;
+  }
+
   pub fresh_shows : 16 ≤ n → n ≤ 65536 → IsIndexSet x → ImageShows n image (no_uploads x)
   unfolding fresh_view
   fresh_shows least most valid = record {
     view = fresh_view n x;
     blocks = refl;
-    is = record {
-      form = λ ajar. absurd (gate_shut ajar);
-      says = says_same (overlaid image) image (fresh_view n x) (λ p outside. shut_view image p gate_shut) fresh_says;
-    };
+    is = fresh_is;
     shows = record {
       sound = fresh_sound least most valid;
       next = refl;
@@ -128,3 +133,9 @@ module _ (n : ℕ) (x : IndexSet) (image : ℕ → ℕ) (fresh : IsFresh n x ima
       all = λ k u e. never refl e;
     };
   }
+
+  -- in version 2
+  pub fresh_newest : 16 ≤ n → n ≤ 65536 → IsIndexSet x → IsNewest image
+  unfolding fresh_view
+  fresh_newest least most valid =
+      record { view = fresh_view n x; sound = fresh_sound least most valid; new = refl; is = fresh_is }

@@ -4,8 +4,9 @@ use Rattle.enc_model.specs.Indexes.{IndexSet}
 use Rattle.spool_disk.specs.Disk.{span}
 use Rattle.spool_journal.specs.Image.{all_pages, byte_of}
 use Rattle.upload_rules.specs.Store.{no_uploads}
-use Rattle.spool_kept.specs.Shows.{ImageShows}
-use Rattle.spool_pages.specs.View.{first_page, magic}
+use Rattle.spool_kept.specs.Shows.{ImageShows, IsSound}
+use Rattle.spool_pages.specs.View.{View, IsViewOf, first_page, magic}
+use Rattle.spool_pages.specs.declared.version.Version.TheVariants.{Two}
 use Rattle.spool_image.specs.declared.error.FormatError.{FormatError}
 use Rattle.spool_image.specs.declared.error.FormatError.TheVariants.{AlreadySpool, Size, DiskFault}
 
@@ -27,6 +28,13 @@ pub record FrontStays (seen : ℕ → ℕ) (loose : ℕ → Type 0) (image : ℕ
 -- where its page 0 is whole, it shows no uploads, these indexes and so many text blocks
 pub record FormatsTo (n : ℕ) (x : IndexSet) (image : ℕ → ℕ) : Type 0 where
   pub shows : ((p : ℕ) → p < 4096 → image p ≡ byte_of (first_page n) p) → ImageShows n image (no_uploads x)
+
+-- read plainly, the image is a sound spool of version 2
+pub record IsNewest (image : ℕ → ℕ) : Type 0 where
+  pub view : View
+  pub sound : IsSound view
+  pub new : view.version ≡ Two
+  pub is : IsViewOf image view
 
 -- What a crash may leave while a spool is made: page 0 as before, or a torn one, or the spool without uploads
 abbrev pub LeftByFormat : ℕ → IndexSet → (ℕ → ℕ) → (ℕ → Type 0) → (ℕ → ℕ) → Type 0

@@ -7,7 +7,7 @@ ghost use Rattle.spool_disk.specs.Views.{Lasts};
 ghost use Rattle.spool_journal.specs.Image.{all_pages};
 ghost use Rattle.upload_rules.specs.Store.{no_uploads};
 ghost use Rattle.spool_pages.specs.View.{index_place, state_place};
-ghost use Rattle.spool_image.specs.Format.{FitsSpool, FrontStays, HasMagic, IsRefusal, LeftByFormat};
+ghost use Rattle.spool_image.specs.Format.{FitsSpool, FrontStays, HasMagic, IsNewest, IsRefusal, LeftByFormat};
 ghost use Rattle.spool_image.specs.Fresh.{fresh_byte, IsFreshTo, IsFresh, KeepsFront};
 ghost use Rattle.spool_image.specs.LeftOnly.{AllShow};
 
@@ -125,8 +125,10 @@ pub fn format<D: Disk>(disk: &mut D, blocks: u32, indexes: &IndexSet) -> Result<
     ensures crash { D.honest disk.old → Lasts D.Disk disk.old disk.new
         (LeftByFormat blocks indexes.now (D.seen disk.old) (D.loose disk.old)) }
 
-    // Else every image shows no uploads, these indexes and so many blocks.
+    // Else every image shows no uploads, these indexes and so many blocks, in version 2.
     ensures shows { D.honest disk.old → OnOk result (AllShow D.Disk disk.new blocks (no_uploads indexes.now)) }
+    ensures newest { D.honest disk.old → OnOk result
+        ((image : ℕ → ℕ) → IsImage (D.seen disk.new) (D.loose disk.new) image → IsNewest image) }
     ensures firm { D.honest disk.old → OnOk result ((p : ℕ) → D.loose disk.new p → ⊥) }
 {
     if is_spool(disk)? {
@@ -150,6 +152,8 @@ fn make<D: Disk>(disk: &mut D, layout: &Layout, indexes: &IndexSet) -> Result<()
     ensures counts { Counts (IsErr result) (D.failures disk.old) (D.failures disk.new) }
     ensures firm { D.honest disk.old → OnOk result ((p : ℕ) → D.loose disk.new p → ⊥) }
     ensures shows { D.honest disk.old → OnOk result (AllShow D.Disk disk.new layout.now (no_uploads indexes.now)) }
+    ensures newest { D.honest disk.old → OnOk result
+        ((image : ℕ → ℕ) → IsImage (D.seen disk.new) (D.loose disk.new) image → IsNewest image) }
     ensures crash { D.honest disk.old → Lasts D.Disk disk.old disk.new
         (LeftByFormat layout.now indexes.now (D.seen disk.old) (D.loose disk.old)) }
 {

@@ -1,6 +1,6 @@
 // The uploads on a disk, and appends to them that are under way.
 ghost use Rattle.std.specs.Prelude.{◌≡◌, ◌≤◌, ◌*◌, ◌↔◌, ℕ, Some, IfOk, IfErr};
-ghost use Rattle.spool_disk.specs.Disk.{Counts, IsImage, Keeps as KeepsDisk};
+ghost use Rattle.spool_disk.specs.Disk.{Counts};
 ghost use Rattle.spool_disk.specs.Views.{Lasts};
 ghost use Rattle.spool_journal.specs.Image.{journal_pages, all_pages};
 ghost use Rattle.spool_journal.specs.Phases.{Idle};
@@ -10,9 +10,9 @@ ghost use Rattle.spool_kept.proofs.Facts.{fits_prop};
 ghost use Rattle.spool_kept.specs.Drafting.{DraftsFit};
 ghost use Rattle.spool_kept.specs.Shows.{IsSound};
 ghost use Rattle.spool_pages.specs.View.{View, IsViewOf};
-ghost use Rattle.spool_load.specs.Reads.{NeedsReplay};
 ghost use Rattle.spool_load.specs.Refusals.{IsNoSpool, HasOtherVersion, IsDamaged, RefusedFor};
 ghost use Rattle.spool_image.specs.LeftOnly.{AllShow, IsSpool, LeftOrShows};
+ghost use Rattle.spool_image.specs.Opening.{ReadsSame, Unwritten};
 
 use enc_index::IndexSet;
 use spool_disk::Disk;
@@ -77,12 +77,9 @@ impl<D: Disk> Spool<D> {
             → RefusesAs result OpenFault.Damaged }
 
         // Where no journal is to be replayed it writes nothing: every image is one from before, and so is what a read
-        // gives. So it is with every disk that is refused as no spool, and with one of another version behind a closed
-        // gate.
-        ensures unwritten { D.honest disk → (NeedsReplay (D.size disk) (D.seen disk) → ⊥)
-            → Lasts D.Disk disk (disk_after result) (IsImage (D.seen disk) (D.loose disk)) }
-        ensures same { D.honest disk → (NeedsReplay (D.size disk) (D.seen disk) → ⊥) → (IsFault result → ⊥)
-            → KeepsDisk (D.seen disk) (D.seen (disk_after result)) (D.loose disk) (D.loose (disk_after result)) }
+        // gives.
+        ensures unwritten { D.honest disk → Unwritten D.Disk disk (disk_after result) }
+        ensures same { D.honest disk → ReadsSame D.Disk disk (disk_after result) (IsFault result) }
 
         // And so a commit may be made.
         ensures idle { D.honest disk → IfOk result

@@ -2,12 +2,14 @@ use Rattle.std.proofs.Common.{◌≤◌, ◌*◌, ℕ, [], ◌∷◌, Some, Ok, 
 use Rattle.spool_journal.specs.Image.{all_pages}
 use Rattle.spool_image.specs.Spool.{disk_of, size_of}
 use Rattle.spool_image.specs.contracts.spool.SpoolUploads.TheImpl.Laws.{durable-law}
+use Rattle.spool_image.proofs.Opening.{opened_exactly, refused_exactly}
 use Rattle.upload_rules.specs.World.{at_rest}
 use Rattle.tus_session.specs.History.{beginning}
 use Rattle.gateway_engine.specs.Faults.{run_fault}
 use Rattle.gateway_engine.specs.RanOn.{HasRunOn}
 use Rattle.gateway_engine.proofs.Exits.{some_script}
-use Rattle.gateway_engine.proofs.OnDisk.{all_show, unopened_on, ran_on, broke_on, refused_on, view_room}
+use Rattle.gateway_engine.proofs.OnDisk.{all_show, broke_on, fault_told, opened_still, ran_on, refused_on, unopened_on}
+use Rattle.gateway_engine.proofs.OnDisk.{view_room}
 use Rattle.gateway_engine.proofs.spools.run.Goals as goal
 
 pub returns-in-Err-clause-runs : goal.returns-in-Err-clause-runs
@@ -89,3 +91,25 @@ pub returns-in-Err-run_over-clause-io : goal.returns-in-Err-run_over-clause-io
 returns-in-Err-run_over-clause-io g c =
     refused_on c.in-Err-run_over.spool c.into_disk-in-Err-run_over.result c.in-Err-run_over.fault c.from.result
     c.from.ensures c.in-Err-run_over.ensures.io
+
+pub returns-in-Err-clause-exact : goal.returns-in-Err-clause-exact
+returns-in-Err-clause-exact g c honest =
+    let said = c.in-Err.ensures in
+    refused_exactly c.in-Err.fault (said.refused honest) (said.not_a_spool honest) (said.version honest)
+    (said.damaged honest)
+
+pub returns-in-Ok-run_over-clause-exact : goal.returns-in-Ok-run_over-clause-exact
+returns-in-Ok-run_over-clause-exact g c honest =
+    let said = c.in-Ok.ensures in
+    opened_exactly (said.sound honest) (said.not_a_spool honest) (said.version honest) (said.damaged honest)
+
+pub returns-in-Err-run_over-clause-exact : goal.returns-in-Err-run_over-clause-exact
+returns-in-Err-run_over-clause-exact g c honest =
+    let said = c.in-Ok.ensures in
+    opened_still (g.D.Disk.size c.args.disk) (g.D.Disk.seen c.args.disk) c.into_disk-in-Err-run_over.result
+    c.in-Err-run_over.fault c.from.result c.from.ensures
+    (opened_exactly (said.sound honest) (said.not_a_spool honest) (said.version honest) (said.damaged honest))
+
+pub returns-in-Err-clause-same : goal.returns-in-Err-clause-same
+returns-in-Err-clause-same g c honest none sound =
+    c.in-Err.ensures.same honest none (fault_told c.in-Err.disk c.in-Err.fault sound)

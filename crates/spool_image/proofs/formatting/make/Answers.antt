@@ -2,7 +2,7 @@ use Rattle.std.proofs.Common.{inl, inr, rules, ⊎_elim}
 use Rattle.spool_disk.proofs.Firm.{lasts_more, lasts_on, on_ok}
 use Rattle.spool_image.proofs.Formats.{front_stays}
 use Rattle.spool_image.proofs.Fresh.{fresh_on}
-use Rattle.spool_image.proofs.NoUploads.{fresh_shows}
+use Rattle.spool_image.proofs.NoUploads.{fresh_newest, fresh_shows}
 use Rattle.spool_image.proofs.formatting.make.Goals as goal
 
 pub returns-clause-shows : goal.returns-clause-shows
@@ -16,6 +16,12 @@ returns-clause-shows g c honest =
           (search rules)
           (search rules) c.in_ok-write_pages.ensures.valid;
     })
+
+pub returns-clause-newest : goal.returns-clause-newest
+returns-clause-newest g c honest =
+    on_ok c.write_first.result (λ done image is.
+    fresh_newest c.args.layout.now c.args.indexes.now image (fresh_on is (search rules) (search rules)) (search rules)
+    (search rules) c.in_ok-write_pages.ensures.valid)
 
 pub returns-in_err-write_pages-clause-crash : goal.returns-in_err-write_pages-clause-crash
 returns-in_err-write_pages-clause-crash g c honest =

@@ -1,0 +1,40 @@
+-- From the answer of an opening to that of what opens.
+use Rattle.std.proofs.Common.{ℕ, None, Some}
+use Rattle.spool_kept.specs.Holding.{Holding}
+use Rattle.spool_kept.specs.declared.error.OpenFault.{OpenFault}
+use Rattle.spool_kept.specs.declared.error.OpenFault.TheVariants.{NotASpool, Damaged, Version, NoMemory}
+use Rattle.spool_load.specs.Loaded.{OpenedFrom}
+use Rattle.spool_load.specs.Refusals.{IsNoSpool, HasOtherVersion, IsDamaged, RefusedFor}
+use Rattle.spool_image.specs.Opening.{IsRefusedAs, OpensExactly}
+
+module _ {size : ℕ} {seen : ℕ → ℕ} where
+  -- it was opened
+  pub opened_exactly : {kept : Holding} → OpenedFrom size seen kept → (IsNoSpool size seen → ⊥)
+      → (HasOtherVersion size seen → ⊥) → (IsDamaged size seen → ⊥) → OpensExactly size seen None
+  opened_exactly from spool known whole = record {
+    sound = λ opened. record { view = from.view; sound = from.sound; is = from.is; room = from.room };
+    refused = tt;
+    not_a_spool = spool;
+    version = known;
+    damaged = whole;
+  }
+
+  -- it was refused
+  pub refused_exactly : (fault : OpenFault) → RefusedFor size seen fault
+      → (IsNoSpool size seen → IsRefusedAs (Some fault) NotASpool)
+      → (HasOtherVersion size seen → IsRefusedAs (Some fault) Version)
+      → (IsDamaged size seen → IsRefusedAs (Some fault) Damaged) → OpensExactly size seen (Some fault)
+  refused_exactly fault reason no_spool other damaged = record {
+    sound = λ opened. absurd (cc);
+    refused = reason;
+    not_a_spool = no_spool;
+    version = other;
+    damaged = damaged;
+  }
+
+  -- it was opened, and then memory ran out
+  pub exhausted_exactly : (IsNoSpool size seen → ⊥) → (HasOtherVersion size seen → ⊥) → (IsDamaged size seen → ⊥)
+      → OpensExactly size seen (Some NoMemory)
+  exhausted_exactly spool known whole =
+      refused_exactly NoMemory tt (λ no. absurd (spool no)) (λ other. absurd (known other))
+      (λ damaged. absurd (whole damaged))

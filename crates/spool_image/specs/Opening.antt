@@ -1,0 +1,53 @@
+-- How a disk is opened, whatever is on it.
+use Rattle.std.specs.Prelude.{◌≡◌, ◌⊎◌, ℕ, ◌*◌, ◌≤◌, Option, None, Some, IfSome, Result, Ok, Err}
+use Rattle.spool_disk.specs.Disk.{IsImage, Keeps}
+use Rattle.spool_disk.specs.Views.{Lasts}
+use Rattle.spool_disk.specs.declared.disk.Disk.{Ghosts}
+use Rattle.spool_journal.specs.Image.{all_pages}
+use Rattle.spool_kept.specs.Shows.{IsSound}
+use Rattle.spool_kept.specs.declared.error.OpenFault.{OpenFault}
+use Rattle.spool_kept.specs.declared.error.OpenFault.TheVariants.{NotASpool, DiskFault, Damaged, Version, NoMemory}
+use Rattle.spool_load.specs.Reads.{NeedsReplay}
+use Rattle.spool_load.specs.Refusals.{IsNoSpool, HasOtherVersion, IsDamaged, RefusedFor}
+use Rattle.spool_pages.specs.View.{View, IsViewOf}
+
+-- WHAT IS ANSWERED
+
+-- a plain reading gives a sound view, and the disk has room for its blocks
+pub record HoldsSpool (size : ℕ) (seen : ℕ → ℕ) : Type 0 where
+  pub view : View
+  pub sound : IsSound view
+  pub is : IsViewOf seen view
+  pub room : 4096 * all_pages view.blocks ≤ size
+
+-- why it wasn't opened, None where it was
+abbrev pub refusal_of : {D S : Type 0} → Result S (D × OpenFault) → Option OpenFault
+refusal_of (Ok s) = None
+refusal_of (Err e) = Some e.1
+
+-- refused with this fault, or for memory or by the device
+abbrev pub IsRefusedAs : Option OpenFault → OpenFault → Type 0
+IsRefusedAs None fault = ⊥
+IsRefusedAs (Some e) fault = (e ≡ fault) ⊎ (e ≡ NoMemory) ⊎ (e ≡ DiskFault)
+
+-- Of a disk of this size and these bytes: what is opened is a sound spool, each refusal has its reason, and each reason
+-- is answered so, unless memory or the device refuses it
+pub record OpensExactly (size : ℕ) (seen : ℕ → ℕ) (refusal : Option OpenFault) : Type 0 where
+  pub sound : refusal ≡ None → HoldsSpool size seen
+  pub refused : IfSome refusal (RefusedFor size seen)
+  pub not_a_spool : IsNoSpool size seen → IsRefusedAs refusal NotASpool
+  pub version : HasOtherVersion size seen → IsRefusedAs refusal Version
+  pub damaged : IsDamaged size seen → IsRefusedAs refusal Damaged
+
+-- WHAT IS LEFT, where no journal is to be replayed. So it is with every disk that is refused as no spool, and with one
+-- of another version behind a closed gate
+
+-- every image is one from before
+abbrev pub Unwritten : {D : Type 0} → Ghosts D → D → D → Type 0
+Unwritten disk before after = (NeedsReplay (disk.size before) (disk.seen before) → ⊥)
+    → Lasts disk before after (IsImage (disk.seen before) (disk.loose before))
+
+-- and a read gives what it gave, unless the device failed
+abbrev pub ReadsSame : {D : Type 0} → Ghosts D → D → D → Type 0 → Type 0
+ReadsSame disk before after failed = (NeedsReplay (disk.size before) (disk.seen before) → ⊥) → (failed → ⊥)
+    → Keeps (disk.seen before) (disk.seen after) (disk.loose before) (disk.loose after)
