@@ -1,8 +1,12 @@
 //! What the program says of its end: the fault, and what the system said where it was the system that failed.
+ghost use Rattle.std.specs.Prelude.{◌≡◌};
+ghost use Rattle.gateway_files.specs.Faults.{status_of};
+ghost use Rattle.gateway_files.specs.Failures.{ended_with, fault_in};
 
 use crate::faults::Fault;
 use spool_disk::FileDisk;
 use std::alloc::AllocError;
+use std::io::Write;
 use std::{fmt, io};
 
 /// What the system failed at.
@@ -20,6 +24,10 @@ pub enum Task<'a> {
     ReadIndex(&'a str, &'static str),
     /// Listening at this port.
     Listen(u16),
+    /// Reading the command line.
+    ReadWords,
+    /// Reading standard input.
+    ReadInput,
     /// Writing to standard output or standard error.
     Print,
 }
@@ -33,6 +41,8 @@ impl fmt::Display for Task<'_> {
             Task::FindFolder(path) => write!(f, "cannot look into the folder {path}"),
             Task::ReadIndex(folder, file) => write!(f, "cannot read {folder}/{file}"),
             Task::Listen(port) => write!(f, "cannot listen at 127.0.0.1:{port}"),
+            Task::ReadWords => f.write_str("cannot read the command line"),
+            Task::ReadInput => f.write_str("cannot read standard input"),
             Task::Print => f.write_str("cannot write to standard output or standard error"),
         }
     }
@@ -48,7 +58,9 @@ pub struct Failure<'a> {
 
 impl<'a> Failure<'a> {
     /// The system failed at a task.
-    pub fn new(fault: Fault, task: Task<'a>, error: io::Error) -> Self {
+    pub fn new(fault: Fault, task: Task<'a>, error: io::Error) -> Self
+        ensures { fault_in result ≡ fault }
+    {
         Failure {
             fault,
             cause: Some((task, error)),
@@ -56,16 +68,46 @@ impl<'a> Failure<'a> {
     }
 
     /// Work on the spool at this path failed. Where it was for the device, the disk says why.
-    pub fn on_spool(fault: Fault, path: &'a str, disk: &FileDisk) -> Self {
+    pub fn on_spool(fault: Fault, path: &'a str, disk: &FileDisk) -> Self
+        ensures { fault_in result ≡ fault }
+    {
         match (fault, disk.error()) {
             (Fault::Device, Some(error)) => Failure::new(fault, Task::UseSpool(path), error),
             _ => Failure::from(fault),
         }
     }
 
-    /// The status that the program ends with.
-    pub fn status(&self) -> u8 {
+    /// A run over what was read and written failed. Where it was for one of these, the one that failed last says why.
+    pub fn on_streams(fault: Fault, input: Option<io::Error>, output: Option<io::Error>) -> Self
+        ensures { fault_in result ≡ fault }
+    {
+        match (fault, input, output) {
+            (Fault::Io, Some(error), _) => Failure::new(fault, Task::ReadInput, error),
+            (Fault::Io, None, Some(error)) => Failure::new(fault, Task::Print, error),
+            _ => Failure::from(fault),
+        }
+    }
+
+    /// The status that the program ends with: 3 for a fault of the device, 2 for a refusal.
+    pub fn status(&self) -> u8
+        ensures { result ≡ status_of (fault_in self.now) }
+    {
         self.fault.status()
+    }
+}
+
+/// The status that the program ends with. A failure is told to a writer; where that takes nothing, the status alone
+/// says it.
+pub fn ended<W: Write>(writer: &mut W, outcome: Result<u8, Failure>) -> u8
+    ensures { result ≡ ended_with outcome.entry }
+{
+    match outcome {
+        Ok(status) => status,
+        Err(failure) => {
+            let told = writeln!(writer, "{failure}");
+            drop(told);
+            failure.status()
+        }
     }
 }
 
@@ -79,12 +121,18 @@ impl fmt::Display for Failure<'_> {
 }
 
 impl<'a> From<Fault> for Failure<'a> {
+    ghost from_gives = { λ fault failure. fault_in failure ≡ fault };
+
     fn from(fault: Fault) -> Self {
         Failure { fault, cause: None }
     }
 }
 
 impl<'a> From<AllocError> for Failure<'a> {
+    ghost use Rattle.gateway_files.specs.declared.faults.Fault.{Fault};
+
+    ghost from_gives = { λ _ failure. fault_in failure ≡ Fault.NoMemory };
+
     fn from(error: AllocError) -> Self {
         Failure::from(Fault::from(error))
     }

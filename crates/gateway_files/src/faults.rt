@@ -1,4 +1,6 @@
 //! Why the program ends before its work is done.
+ghost use Rattle.std.specs.Prelude.{◌≡◌, Some, option_map};
+ghost use Rattle.gateway_files.specs.Faults.{line_of, refusal_of, row, status_of};
 
 use enc_index::ReadError;
 use spool_disk::DiskFault;
@@ -34,35 +36,50 @@ pub enum Fault {
 }
 
 impl fmt::Display for Fault {
+    ghost output = { λ fault. Some (line_of fault) };
+
     fn fmt<W: fmt::Write>(&self, f: &mut fmt::Formatter<W>) -> fmt::Result {
+        let Some((number, name)) = self.refusal() else {
+            return f.write_str("device fault");
+        };
         match self {
-            Fault::NoMemory => f.write_str("refused: 0 NoMemory"),
-            Fault::Device => f.write_str("device fault"),
-            Fault::Damaged => f.write_str("refused: 2 Damaged"),
-            Fault::Index(file, ReadError::Line(line)) => write!(f, "refused: 3 Line {file} {line}"),
-            Fault::Index(file, ReadError::Range(line)) => write!(
-                f,
-                "refused: 4 Range {file} {line}"
-            ),
-            Fault::Index(file, ReadError::Twice(line)) => write!(
-                f,
-                "refused: 5 Twice {file} {line}"
-            ),
-            Fault::Index(_, ReadError::NoMemory) => f.write_str("refused: 0 NoMemory"),
-            Fault::AlreadySpool => f.write_str("refused: 13 AlreadySpool"),
-            Fault::Size => f.write_str("refused: 14 Size"),
-            Fault::NotASpool => f.write_str("refused: 15 NotASpool"),
-            Fault::Version => f.write_str("refused: 16 Version"),
-            Fault::Script(line) => write!(f, "refused: 32 Script {line}"),
-            Fault::Io => f.write_str("refused: 33 Io"),
-            Fault::AlreadyNew => f.write_str("refused: 35 AlreadyNew"),
+            Fault::Index(file, ReadError::Line(line))
+            | Fault::Index(file, ReadError::Range(line))
+            | Fault::Index(file, ReadError::Twice(line)) => {
+                write!(f, "refused: {number} {name} {file} {line}")
+            }
+            Fault::Script(line) => write!(f, "refused: {number} {name} {line}"),
+            _ => write!(f, "refused: {number} {name}"),
         }
     }
 }
 
 impl Fault {
-    /// The status that the program ends with.
-    pub fn status(self) -> u8 {
+    /// The number and the name of the refusal. `None` for a fault of the device, which is none.
+    pub fn refusal(self) -> Option<(u8, &'static str)>
+        ensures { option_map row result ≡ refusal_of self }
+    {
+        Some(match self {
+            Fault::Device => return None,
+            Fault::NoMemory | Fault::Index(_, ReadError::NoMemory) => (0, "NoMemory"),
+            Fault::Damaged => (2, "Damaged"),
+            Fault::Index(_, ReadError::Line(_)) => (3, "Line"),
+            Fault::Index(_, ReadError::Range(_)) => (4, "Range"),
+            Fault::Index(_, ReadError::Twice(_)) => (5, "Twice"),
+            Fault::AlreadySpool => (13, "AlreadySpool"),
+            Fault::Size => (14, "Size"),
+            Fault::NotASpool => (15, "NotASpool"),
+            Fault::Version => (16, "Version"),
+            Fault::Script(_) => (32, "Script"),
+            Fault::Io => (33, "Io"),
+            Fault::AlreadyNew => (35, "AlreadyNew"),
+        })
+    }
+
+    /// The status that the program ends with: 3 for a fault of the device, 2 for a refusal.
+    pub fn status(self) -> u8
+        ensures { result ≡ status_of self }
+    {
         match self {
             Fault::Device => 3,
             _ => 2,
@@ -71,6 +88,10 @@ impl Fault {
 }
 
 impl From<AllocError> for Fault {
+    ghost use Rattle.gateway_files.specs.declared.faults.Fault.{Fault};
+
+    ghost from_gives = { λ _ fault. fault ≡ Fault.NoMemory };
+
     fn from(_error: AllocError) -> Self {
         Fault::NoMemory
     }
@@ -86,12 +107,20 @@ impl From<io::Error> for Fault {
 }
 
 impl From<DiskFault> for Fault {
+    ghost use Rattle.gateway_files.specs.declared.faults.Fault.{Fault};
+
+    ghost from_gives = { λ _ fault. fault ≡ Fault.Device };
+
     fn from(_fault: DiskFault) -> Self {
         Fault::Device
     }
 }
 
 impl From<FormatError> for Fault {
+    ghost use Rattle.gateway_files.specs.Faults.{format_fault};
+
+    ghost from_gives = { λ below fault. fault ≡ format_fault below };
+
     fn from(error: FormatError) -> Self {
         match error {
             FormatError::AlreadySpool => Fault::AlreadySpool,
@@ -102,6 +131,10 @@ impl From<FormatError> for Fault {
 }
 
 impl From<OpenFault> for Fault {
+    ghost use Rattle.gateway_files.specs.Faults.{open_fault};
+
+    ghost from_gives = { λ below fault. fault ≡ open_fault below };
+
     fn from(fault: OpenFault) -> Self {
         match fault {
             OpenFault::NotASpool => Fault::NotASpool,
@@ -114,6 +147,10 @@ impl From<OpenFault> for Fault {
 }
 
 impl From<UpgradeError> for Fault {
+    ghost use Rattle.gateway_files.specs.Faults.{upgrade_fault};
+
+    ghost from_gives = { λ below fault. fault ≡ upgrade_fault below };
+
     fn from(error: UpgradeError) -> Self {
         match error {
             UpgradeError::Open(fault) => Fault::from(fault),

@@ -1,4 +1,6 @@
 //! The operator's index files.
+ghost use Rattle.std.specs.Prelude.{◌≡◌, map};
+ghost use Rattle.gateway_files.specs.IndexFiles.{found, kind_of, named};
 
 use crate::failures::{Failure, Task};
 use crate::faults::Fault;
@@ -59,6 +61,26 @@ static FILES: [(&str, Kind); 18] = [
         Kind::Single(Encoding::Windows1258),
     ),
 ];
+
+/// Which index the file of this name has, if it is the name of an index file: those of the Encoding Standard, section
+/// 5, of each index that the gateway has.
+pub fn kind_of(name: &str) -> Option<Kind>
+    ensures { result ≡ kind_of name.now }
+{
+    find(&FILES, name)
+}
+
+// The kind in the first row of this name.
+fn find(table: &[(&str, Kind)], name: &str) -> Option<Kind>
+    ensures { result ≡ found (map named table.now) name.now }
+{
+    for (known, kind) in table {
+        if *known == name {
+            return Some(*kind);
+        }
+    }
+    None
+}
 
 /// The index files of a folder.
 pub(crate) struct IndexFiles {

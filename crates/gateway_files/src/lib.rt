@@ -1,4 +1,4 @@
-//! Spools in files: made, listed and upgraded; and what the program says where that fails.
+//! Spools in files: made, listed and upgraded; and what the program says, of what it did and where that fails.
 #![tactic(auto)]
 
 mod failures;
@@ -6,12 +6,17 @@ mod faults;
 mod formatting;
 mod index_files;
 mod listing;
+mod said;
 mod spool_files;
+mod streams;
 mod upgrading;
 
-pub use failures::{Failure, Task};
+pub use failures::{Failure, Task, ended};
 pub use faults::Fault;
-pub use formatting::{Formatted, format_file};
+pub use formatting::{Formatted, format_file, format_on, is_spool_on};
+pub use index_files::kind_of;
 pub use listing::{list_file, list_on};
+pub use said::{say_formatted, say_read, say_served, say_upgraded};
 pub use spool_files::open_spool;
+pub use streams::Noted;
 pub use upgrading::upgrade_file;

@@ -3,6 +3,7 @@
 use crate::failures::Failure;
 use crate::faults::Fault;
 use crate::spool_files::open_spool;
+use crate::streams::Noted;
 use enc_labels::name_of;
 use enc_model::Mode;
 use spool_disk::Disk;
@@ -17,9 +18,11 @@ const MOST_UPLOADS: usize = 512;
 
 /// Prints the uploads of the spool in a file, by number.
 pub fn list_file<'a>(rt: &HostRuntime, alloc: Global, spool: &'a str) -> Result<(), Failure<'a>> {
-    let (disk, listed) = list_on(alloc, &mut io::writer(rt), open_spool(rt, spool)?);
+    let mut output = Noted::new(io::writer(rt));
+    let (disk, listed) = list_on(alloc, &mut output, open_spool(rt, spool)?);
     match listed {
         Ok(()) => Ok(()),
+        Err(Fault::Io) => Err(Failure::on_streams(Fault::Io, None, output.error())),
         Err(fault) => Err(Failure::on_spool(fault, spool, &disk)),
     }
 }

@@ -1,0 +1,71 @@
+-- Why the program ends before its work is done: what it says of it, and its status.
+use Rattle.std.specs.Prelude.{ℕ, List, [], ◌∷◌, ◌++◌, codes, decimal, Option, Some, None}
+use Rattle.std.specs.Borrow.{Bor}
+use Rattle.enc_index.specs.declared.kind.ReadError.TheVariants as lines
+use Rattle.spool_image.specs.declared.error.FormatError.{FormatError}
+use Rattle.spool_image.specs.declared.error.FormatError.TheVariants as formats
+use Rattle.spool_image.specs.declared.error.UpgradeError.{UpgradeError}
+use Rattle.spool_image.specs.declared.error.UpgradeError.TheVariants as upgrades
+use Rattle.spool_kept.specs.declared.error.OpenFault.{OpenFault}
+use Rattle.spool_kept.specs.declared.error.OpenFault.TheVariants as opens
+use Rattle.gateway_files.specs.declared.faults.Fault.{Fault}
+use Rattle.gateway_files.specs.declared.faults.Fault.TheVariants as faults
+
+-- THE PROGRAM'S REFUSALS, each with its number and its name. A fault of the device is none
+abbrev pub refusal_of : Fault → Option (ℕ × List ℕ)
+refusal_of faults.NoMemory = Some (0, codes "NoMemory")
+refusal_of faults.Device = None
+refusal_of faults.Damaged = Some (2, codes "Damaged")
+refusal_of (faults.Index file (lines.Line line)) = Some (3, codes "Line")
+refusal_of (faults.Index file (lines.Range line)) = Some (4, codes "Range")
+refusal_of (faults.Index file (lines.Twice line)) = Some (5, codes "Twice")
+refusal_of (faults.Index file lines.NoMemory) = Some (0, codes "NoMemory")
+refusal_of faults.AlreadySpool = Some (13, codes "AlreadySpool")
+refusal_of faults.Size = Some (14, codes "Size")
+refusal_of faults.NotASpool = Some (15, codes "NotASpool")
+refusal_of faults.Version = Some (16, codes "Version")
+refusal_of (faults.Script line) = Some (32, codes "Script")
+refusal_of faults.Io = Some (33, codes "Io")
+refusal_of faults.AlreadyNew = Some (35, codes "AlreadyNew")
+
+-- a number and a name, as the code gives them
+abbrev pub row : ℕ × Bor (List ℕ) → ℕ × List ℕ
+row refusal = (refusal.0, refusal.1.now)
+
+-- after them the index file and its line, or the script's line: each with a space before it
+abbrev pub place_of : Fault → List ℕ
+place_of (faults.Index file (lines.Line line)) = 32 ∷ (file.now ++ (32 ∷ decimal line))
+place_of (faults.Index file (lines.Range line)) = 32 ∷ (file.now ++ (32 ∷ decimal line))
+place_of (faults.Index file (lines.Twice line)) = 32 ∷ (file.now ++ (32 ∷ decimal line))
+place_of (faults.Script line) = 32 ∷ decimal line
+place_of fault = []
+
+abbrev pub said : Option (ℕ × List ℕ) → List ℕ → List ℕ
+said None place = codes "device fault"
+said (Some refusal) place = codes "refused: " ++ (decimal refusal.0 ++ (32 ∷ (refusal.1 ++ place)))
+
+-- the line that the program ends with
+abbrev pub line_of : Fault → List ℕ
+line_of fault = said (refusal_of fault) (place_of fault)
+
+-- and its status: 3 for the device, 2 for each refusal
+abbrev pub status_of : Fault → ℕ
+status_of faults.Device = 3
+status_of fault = 2
+
+-- WHAT THE CALLS BELOW REFUSE, as the program says it
+abbrev pub open_fault : OpenFault → Fault
+open_fault opens.NotASpool = faults.NotASpool
+open_fault opens.DiskFault = faults.Device
+open_fault opens.Damaged = faults.Damaged
+open_fault opens.Version = faults.Version
+open_fault opens.NoMemory = faults.NoMemory
+
+abbrev pub format_fault : FormatError → Fault
+format_fault formats.AlreadySpool = faults.AlreadySpool
+format_fault formats.Size = faults.Size
+format_fault formats.DiskFault = faults.Device
+
+abbrev pub upgrade_fault : UpgradeError → Fault
+upgrade_fault (upgrades.Open fault) = open_fault fault
+upgrade_fault upgrades.AlreadyNew = faults.AlreadyNew

@@ -1,0 +1,33 @@
+-- The names of the index files: that of each index of the gateway, as the Encoding Standard names it (section 5).
+use Rattle.std.specs.Prelude.{ℕ, List, [], ◌∷◌, codes, bytes_eq, if◌then◌else◌, Option, Some, None}
+use Rattle.std.specs.Borrow.{Bor}
+use Rattle.enc_model.specs.declared.Encoding.TheVariants as e
+use Rattle.enc_index.specs.declared.kind.Kind.{Kind}
+use Rattle.enc_index.specs.declared.kind.Kind.TheVariants.{Jis0208, Jis0212, Katakana, Single}
+
+-- in the order of a spool's index area
+unfoldable pub index_files : List (List ℕ × Kind)
+index_files =
+    (codes "index-jis0208.txt", Jis0208) ∷ (codes "index-jis0212.txt", Jis0212)
+    ∷ (codes "index-iso-2022-jp-katakana.txt", Katakana) ∷ (codes "index-ibm866.txt", Single e.Ibm866)
+    ∷ (codes "index-iso-8859-2.txt", Single e.Iso8859X2) ∷ (codes "index-iso-8859-5.txt", Single e.Iso8859X5)
+    ∷ (codes "index-iso-8859-15.txt", Single e.Iso8859X15) ∷ (codes "index-koi8-r.txt", Single e.Koi8R)
+    ∷ (codes "index-macintosh.txt", Single e.Macintosh) ∷ (codes "index-windows-1250.txt", Single e.Windows1250)
+    ∷ (codes "index-windows-1251.txt", Single e.Windows1251) ∷ (codes "index-windows-1252.txt", Single e.Windows1252)
+    ∷ (codes "index-windows-1253.txt", Single e.Windows1253) ∷ (codes "index-windows-1254.txt", Single e.Windows1254)
+    ∷ (codes "index-windows-1255.txt", Single e.Windows1255) ∷ (codes "index-windows-1256.txt", Single e.Windows1256)
+    ∷ (codes "index-windows-1257.txt", Single e.Windows1257) ∷ (codes "index-windows-1258.txt", Single e.Windows1258)
+    ∷ []
+
+-- the kind in the first row of this name
+unfoldable pub found : List (List ℕ × Kind) → List ℕ → Option Kind
+found [] name = None
+found (row ∷ rows) name = if bytes_eq row.0 name then Some row.1 else found rows name
+
+-- which index the file of this name has
+abbrev pub kind_of : List ℕ → Option Kind
+kind_of name = found index_files name
+
+-- a row of the code's table
+abbrev pub named : Bor (List ℕ) × Kind → List ℕ × Kind
+named row = (row.0.now, row.1)

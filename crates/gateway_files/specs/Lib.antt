@@ -1,0 +1,5 @@
+pub mod Faults
+pub mod Failures
+pub mod IndexFiles
+pub mod Streams
+pub mod Said

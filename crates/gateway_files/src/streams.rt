@@ -1,0 +1,67 @@
+//! Readers and writers that keep why they failed.
+ghost use Rattle.std.specs.Prelude.{◌≡◌, None};
+
+use std::io::{self, ErrorKind, Read, Write};
+
+/// A reader or a writer that keeps why its latest call failed.
+#[derive(Drop)]
+pub struct Noted<S> {
+    stream: S,
+    error: Option<io::Error>,
+}
+
+impl<S> Noted<S> {
+    ghost use Rattle.gateway_files.specs.Streams.{error_of, stream_of};
+
+    /// No call failed so far.
+    pub fn new(stream: S) -> Self
+        ensures stream { stream_of result ≡ stream }
+        ensures none { error_of result ≡ None }
+    {
+        Noted {
+            stream,
+            error: None,
+        }
+    }
+
+    /// Why the latest call failed. `None` where it didn't, or there was none.
+    pub fn error(&self) -> Option<io::Error>
+        ensures { result ≡ error_of self.now }
+    {
+        self.error
+    }
+}
+
+impl<R: Read> Read for Noted<R> {
+    ghost use Rattle.gateway_files.specs.Streams.{stream_of};
+
+    ghost remaining = { λ noted. R.remaining (stream_of noted) };
+
+    fn read(&mut self, buf: &mut [u8]) -> io::Result<usize> {
+        let outcome = self.stream.read(buf);
+        self.error = outcome.err();
+        outcome
+    }
+}
+
+impl<W: Write> Write for Noted<W> {
+    ghost use Rattle.gateway_files.specs.Streams.{stream_of};
+
+    ghost contents = { λ noted. W.contents (stream_of noted) };
+
+    fn write(&mut self, buf: &[u8]) -> io::Result<usize> {
+        let outcome = self.stream.write(buf);
+        // a writer that takes nothing fails too
+        self.error = match outcome {
+            Ok(0) if !buf.is_empty() => Some(io::Error::from(ErrorKind::WriteZero)),
+            _ => outcome.err(),
+        };
+        outcome
+    }
+
+    fn flush(&mut self) -> io::Result<()> {
+        let outcome = self.stream.flush();
+        self.error = outcome.err();
+        outcome
+    }
+}
