@@ -1,8 +1,8 @@
 -- Steps over some bytes at once.
-use Rattle.std.proofs.Common.{Bool, true, false, ap, ◌==◌, IsTrue, IfSome, OnSome, Option, None, ℕ, sym, subst, ◌+◌}
+use Rattle.std.proofs.Common.{Bool, true, false, ap, IfSome, OnSome, Option, None, ℕ, sym, subst, ◌+◌}
 use Rattle.std.proofs.Common.{◌-◌, ◌*◌, ◌<◌, ◌≤◌, ◌≡◌, List, [], ◌∷◌, Some, refl, ◌∙◌, arith, take, get_or, length, All}
 use Rattle.std.proofs.lemmas.Bool.Decides.{nat_tests}
-use Rattle.std.proofs.lemmas.List.{length-take, get_or-take}
+use Rattle.std.proofs.lemmas.List.{length-take, get_or-take, get_or-drop, take_rest}
 use Rattle.std.proofs.lemmas.List.Elements.{All-head, All-tail, All-from_get_or}
 use Rattle.std.proofs.lemmas.List.Sums.{prefix_len-le-length, prefix_len_passes}
 use Rattle.std.specs.List.{prefix_len}
@@ -11,15 +11,18 @@ use Rattle.enc_model.specs.declared.Answer.TheVariants.{Point, Nothing}
 use Rattle.enc_model.specs.declared.Charset.{Charset}
 use Rattle.enc_model.specs.declared.Charset.TheVariants.{Ascii, Lead}
 use Rattle.enc_model.specs.declared.Place.TheVariants.{In, Trail}
-use Rattle.enc_model.specs.Index.{Index, code}
+use Rattle.enc_model.specs.Index.{Index, code, within}
 use Rattle.enc_model.specs.Stream.{Handler, IsCalm, steps}
 use Rattle.enc_model.specs.Japanese.{shift_jis, shift_jis_pair, EucJp, euc_jp, euc_jp_start, euc_jp_pair, iso2022}
 use Rattle.enc_model.specs.Japanese.{Iso2022}
 use Rattle.enc_model.proofs.Calm.{shift_jis_calm, euc_jp_calm, iso2022_calm}
-use Rattle.enc_model.proofs.Steps.{steps_one, steps_bytes, steps_run, steps_append}
+use Rattle.enc_model.specs.Batches.{BatchTook}
+use Rattle.enc_model.specs.BatchLaws.{batch_sink}
+use Rattle.enc_model.proofs.Steps.{steps_none, steps_one, steps_bytes, steps_run, steps_append}
 use Rattle.enc_legacy.specs.ShiftJis.{IsShiftJisLead}
 use Rattle.enc_legacy.specs.EucJpState.{IsRow}
-use Rattle.enc_legacy.proofs.Fronts.{sjis_own, euc_own}
+use Rattle.enc_legacy.specs.Ready.{IsReady}
+use Rattle.std.proofs.Common.{drop, slice_index, slice_index_or}
 
 take_one : (xs : List ℕ) → 0 < length xs → take 1 xs ≡ get_or xs 0 0 ∷ []
 take_one [] l = absurd (omega (arith, l))
@@ -51,6 +54,27 @@ module _ {S : Type 0} (h : Handler S) (calm : IsCalm h) where
   two_read s mid next rest c l e f =
       rw (take_two rest l) (steps_bytes h calm s (get_or rest 0 0 ∷ get_or rest 1 0 ∷ []) ∙ (rw (e, f) refl))
 
+-- a byte of a part in which all are so
+pub part_byte : (P : ℕ → Type 0) (rest : List ℕ) (end at k : ℕ) → All P (take end rest) → at + k < end
+    → end ≤ length rest → P (slice_index (take (length rest - at) (drop at rest)) k)
+part_byte P rest end at k all inside few =
+    let long : at + k < length (take end rest) = let t = length-take end rest in omega (arith, t, inside, few) in
+    rw (take_rest rest at)
+    (subst P (sym (get_or-drop at rest k 0))
+    (subst P (get_or-take end rest (at + k) 0 inside) (all (at + k) 0 long)))
+
+-- what is taken after nothing
+pub after_nothing : {S : Type 0} (h : Handler S) (s : S) (rest : List ℕ) (n : ℕ) (old mid : List ℕ) → n ≡ 0
+    → BatchTook old (steps h false s (take n rest)).text mid → (length mid ≤ length old)
+    × ((given new : List ℕ) → BatchTook mid given new → BatchTook old given new)
+after_nothing h s rest n old mid e t =
+    let none : (steps h false s (take n rest)).text ≡ [] = rw e (ap (λ run. run.text) (steps_none h s)) in
+    let took : BatchTook old [] mid = subst (λ z. BatchTook old z mid) none t in
+    let size = took.size in (
+      omega (arith, size),
+      λ given new more. (batch_sink {E = ℕ}).both old mid new [] given took more,
+    )
+
 -- SHIFT_JIS
 
 sjis_lead : (i : Index) (a : ℕ) → IsShiftJisLead a → shift_jis i 0 (Some a) ≡ record {
@@ -70,11 +94,6 @@ sjis_trail : (i : Index) (a b c : ℕ) → IsShiftJisLead a → shift_jis_pair i
 unfolding shift_jis
 sjis_trail i a b c l e = rw e (grind (arith, nat_tests, l))
 
-pub sjis_one : (i : Index) (s : ℕ) (rest : List ℕ) → s ≡ 0 → 0 < length rest → get_or rest 0 0 < 128 →
-    steps (shift_jis i) false s (take 1 rest) ≡ record { text = get_or rest 0 0 ∷ []; state = 0 }
-sjis_one i s rest e l a =
-    rw e (one_read (shift_jis i) (shift_jis_calm i) 0 0 rest (get_or rest 0 0) l (sjis_own i (get_or rest 0 0) a))
-
 pub sjis_two : (i : Index) (s : ℕ) (rest : List ℕ) (c : ℕ) → s ≡ 0 → 2 ≤ length rest → IsShiftJisLead (get_or rest 0 0)
     →
     shift_jis_pair i (get_or rest 0 0) (get_or rest 1 0) ≡ Some c → steps (shift_jis i) false s (take 2 rest) ≡ record {
@@ -86,21 +105,17 @@ sjis_two i s rest c e l lead pair =
     rw e (two_read (shift_jis i) (shift_jis_calm i) 0 a 0 rest c l (sjis_lead i a lead)
     (sjis_trail i a (get_or rest 1 0) c lead pair))
 
-pub sjis_ascii : (i : Index) (s : ℕ) → s ≡ 0 → (b : ℕ) → b < 128 → steps (shift_jis i) false s (b ∷ []) ≡ record {
-  text = b ∷ [];
-  state = s;
-}
-sjis_ascii i s e b l = sjis_one i s (b ∷ []) e (omega arith) l ∙ ap (λ z. record { text = b ∷ []; state = z }) (sym e)
-
-pub sjis_pairs : {A : Type 0} (now : A → ℕ) (i : Index) (s a b : ℕ) (o : Option A) → s ≡ 0 → OnSome o (IsShiftJisLead a)
-    → IfSome o (λ c. shift_jis_pair i a b ≡ Some (now c)) →
+pub sjis_pairs : {A : Type 0} (now : A → ℕ) (i : Index) (s a b : ℕ) (ready : List (Option ℕ)) (o : Option A)
+    → IsReady 0 i s ready → OnSome o (IsShiftJisLead a) →
+    IfSome o
+    (λ c. (i : Index) → ((p : ℕ) → slice_index_or ready p None ≡ code i p) → shift_jis_pair i a b ≡ Some (now c)) →
     IfSome o (λ c. steps (shift_jis i) false s (a ∷ b ∷ []) ≡ record { text = now c ∷ []; state = s })
-sjis_pairs now i s a b None e lead pair = tt
-sjis_pairs now i s a b (Some c) e lead pair =
-    sjis_two i s (a ∷ b ∷ []) (now c) e (omega arith) lead pair ∙ ap (λ z. record {
+sjis_pairs now i s a b ready None is lead pair = tt
+sjis_pairs now i s a b ready (Some c) is lead pair =
+    sjis_two i s (a ∷ b ∷ []) (now c) is.nothing (omega arith) lead (pair i is.codes) ∙ ap (λ z. record {
       text = now c ∷ [];
       state = z;
-    }) (sym e)
+    }) (sym is.nothing)
 
 -- EUC-JP
 
@@ -117,12 +132,6 @@ euc_trail : (i j : Index) (a b c : ℕ) → IsRow a → euc_jp_pair i j false a 
 unfolding euc_jp
 euc_trail i j a b c l e = rw e (grind (arith, nat_tests, l))
 
-pub euc_one : (i j : Index) (s : EucJp) (rest : List ℕ) → s ≡ euc_jp_start → 0 < length rest → get_or rest 0 0 < 128 →
-    steps (euc_jp i j) false s (take 1 rest) ≡ record { text = get_or rest 0 0 ∷ []; state = euc_jp_start }
-euc_one i j s rest e l a =
-    rw e (one_read (euc_jp i j) (euc_jp_calm i j) euc_jp_start euc_jp_start rest (get_or rest 0 0) l
-    (euc_own i j (get_or rest 0 0) a))
-
 pub euc_two : (i j : Index) (s : EucJp) (rest : List ℕ) (c : ℕ) → s ≡ euc_jp_start → 2 ≤ length rest
     → IsRow (get_or rest 0 0) →
     euc_jp_pair i j false (get_or rest 0 0) (get_or rest 1 0) ≡ Some c → steps (euc_jp i j) false s (take 2 rest)
@@ -136,33 +145,36 @@ euc_two i j s rest c e l lead pair =
     (euc_lead i j a lead)
     (euc_trail i j a (get_or rest 1 0) c lead pair))
 
-pub euc_ascii : (i j : Index) (s : EucJp) → s ≡ euc_jp_start → (b : ℕ) → b < 128 → steps (euc_jp i j) false s (b ∷ [])
-    ≡ record {
-      text = b ∷ [];
-      state = s;
-    }
-euc_ascii i j s e b l = euc_one i j s (b ∷ []) e (omega arith) l ∙ ap (λ (z : EucJp). record {
-  text = b ∷ [];
-  state = z;
-}) (sym e)
+row_pair : (i j : Index) (a b : ℕ) → IsRow a → IsRow b → euc_jp_pair i j false a b ≡ code i
+    ((a - 0xA1) * 94 + (b - 0xA1))
+row_pair i j a b l m = grind (arith, nat_tests, l, m)
 
-pub euc_pairs : {A : Type 0} (now : A → ℕ) (i j : Index) (s : EucJp) (a b : ℕ) (o : Option A) → s ≡ euc_jp_start
-    → OnSome o (IsRow a) →
-    IfSome o (λ c. euc_jp_pair i j false a b ≡ Some (now c))
-    → IfSome o (λ c. steps (euc_jp i j) false s (a ∷ b ∷ []) ≡ record {
-      text = now c ∷ [];
-      state = s;
-    })
-euc_pairs now i j s a b None e lead pair = tt
-euc_pairs now i j s a b (Some c) e lead pair =
-    euc_two i j s (a ∷ b ∷ []) (now c) e (omega arith) lead pair ∙ ap (λ (z : EucJp). record {
+pub euc_pairs : {A : Type 0} (now : A → ℕ) (i j : Index) (s : EucJp) (a b : ℕ) (ready : List (Option ℕ)) (o : Option A)
+    → IsReady euc_jp_start i s ready → IsRow a → IsRow b →
+    IfSome o (λ c. slice_index_or ready ((a - 0xA1) * 94 + (b - 0xA1)) None ≡ Some (now c))
+    → IfSome o (λ c. steps (euc_jp i j) false s (a ∷ b ∷ []) ≡ record { text = now c ∷ []; state = s })
+euc_pairs now i j s a b ready None is lead trail pair = tt
+euc_pairs now i j s a b ready (Some c) is lead trail pair =
+    let stands = row_pair i j a b lead trail ∙ sym (is.codes ((a - 0xA1) * 94 + (b - 0xA1))) ∙ pair in
+    euc_two i j s (a ∷ b ∷ []) (now c) is.nothing (omega arith) lead stands ∙ ap (λ (z : EucJp). record {
       text = now c ∷ [];
       state = z;
-    }) (sym e)
+    }) (sym is.nothing)
 
--- a test of no lead that was passed
-pub no_lead : (lead : ℕ) → IsTrue (lead == 0) → lead ≡ 0
-no_lead lead t = grind (arith, nat_tests, t)
+within_row : (b : ℕ) → within 0xA1 0xFE b ≡ true → IsRow b
+within_row b t = grind (arith, nat_tests, t)
+
+-- bytes of rows
+pub row_front : (bytes : List ℕ) (n : ℕ) → n ≡ prefix_len (within 0xA1 0xFE) bytes
+    → (n ≤ length bytes) × All IsRow (take n bytes)
+row_front bytes n e =
+    let few : n ≤ length bytes = let w = prefix_len-le-length (within 0xA1 0xFE) bytes in omega (arith, w, e) in (
+      few,
+      All-from_get_or IsRow (take n bytes) 0 (λ k l.
+          let m : k < n = let t = length-take n bytes in omega (arith, l, t) in
+          subst IsRow (sym (get_or-take n bytes k 0 m))
+          (within_row (get_or bytes k 0) (prefix_len_passes (within 0xA1 0xFE) bytes k 0 (subst (λ z. k < z) e m)))),
+    )
 
 -- ISO-2022-JP
 

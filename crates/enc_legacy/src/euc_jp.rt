@@ -1,7 +1,8 @@
 //! The decoder of EUC-JP.
 
-ghost use Rattle.std.specs.Prelude.{◌≡◌, OnOk, OnSome, IfSome, true, false, ◌<◌, ◌+◌, [], Some, None};
+ghost use Rattle.std.specs.Prelude.{◌≡◌, OnOk, IfSome, false, true, ◌+◌, ◌-◌, ◌*◌, [], Some, None, slice_index_or};
 ghost use Rattle.enc_legacy.specs.EucJpState.{IsEucJpState, IsRow};
+ghost use Rattle.enc_legacy.specs.Ready.{IsReady};
 ghost use Rattle.enc_model.specs.Stream.{steps};
 ghost use Rattle.enc_model.specs.Sink.{Given};
 ghost use Rattle.enc_model.specs.Japanese.{EucJp, euc_jp, euc_jp_start, euc_jp_pair};
@@ -9,10 +10,10 @@ ghost use Rattle.enc_model.specs.Indexes.{tables};
 ghost use Rattle.enc_model.proofs.Calm.{euc_jp_calm};
 
 use crate::kana::{half_width, pair_answer};
-use crate::stride::{PairReader, Strider, decode_strides, read_pair};
+use crate::stride::{PairReader, Strider, decode_strides, read_run};
 use enc_index::{IndexSet, Kind};
 use enc_model::{Answer, Batch, BlockDecoder, Decoder, Restored, Sink, Utf8Char, feed, finish};
-use lane_kernels::ascii_front;
+use lane_kernels::{ascii_front, range_front};
 use std::marker::Model;
 
 /// A decoder of EUC-JP (Encoding Standard, section 12.1.1): the lead that is kept, or 0, and whether it is one of
@@ -94,50 +95,67 @@ impl Decoder for EucJpState {
     ghost calm = { λ t. euc_jp_calm (tables t).jis0208 (tables t).jis0212 };
 }
 
-/// The character of jis0208 that two bytes stand for where none is kept.
+/// The character of jis0208 that two bytes of its rows stand for.
 #[inline(always)]
-fn ready_pair(indexes: &IndexSet, lead: u8, b: u8) -> Option<&Utf8Char>
-    ensures lead { OnSome result (IsRow lead) }
-    ensures char { IfSome result
-        (λ c. euc_jp_pair (tables indexes.now).jis0208 (tables indexes.now).jis0212 false lead b ≡ Some c.now) }
+fn row_char(ready: &[Option<Utf8Char>], lead: u8, b: u8) -> Option<&Utf8Char>
+    requires lead { IsRow lead }
+    requires trail { IsRow b }
+    ensures { IfSome result (λ c. slice_index_or ready.now ((lead - 0xA1) * 94 + (b - 0xA1)) None ≡ Some c.now) }
 {
-    if lead < 0xA1 || 0xFE < lead || b < 0xA1 || 0xFE < b {
-        return None;
-    }
     let pointer = (lead as usize - 0xA1) * 94 + (b as usize - 0xA1);
-    indexes.ready(Kind::Jis0208)?.get(pointer)?.as_ref()
+    ready.get(pointer)?.as_ref()
 }
 
 impl PairReader for EucJpState {
+    ghost pairs = { IsRow };
+
+    ghost is_ready = { λ t s r. IsReady euc_jp_start (tables t).jis0208 s r };
+
     #[inline(always)]
-    fn takes_ascii(&self, _indexes: &IndexSet) -> bool {
-        self.lead == 0
+    #[tactic(auto, using(enc_model::proofs::Fronts::front_none, crate::proofs::Fronts::euc_front))]
+    fn ascii(&self, _indexes: &IndexSet, bytes: &[u8]) -> usize {
+        if self.lead == 0 {
+            ascii_front(bytes)
+        } else {
+            0
+        }
     }
 
     #[inline(always)]
-    fn ready_pair<'a>(&self, indexes: &'a IndexSet, first: u8, second: u8) -> Option<&'a Utf8Char> {
+    fn ready<'a>(&self, indexes: &'a IndexSet) -> Option<&'a [Option<Utf8Char>]> {
         if self.lead != 0 {
             return None;
         }
-        ready_pair(indexes, first, second)
+        indexes.ready(Kind::Jis0208)
+    }
+
+    #[inline(always)]
+    fn pair_front(&self, bytes: &[u8]) -> usize {
+        range_front(bytes, 0xA1, 0xFE)
+    }
+
+    #[inline(always)]
+    fn ready_pair<'a>(
+        &self,
+        _indexes: &IndexSet,
+        ready: &'a [Option<Utf8Char>],
+        first: u8,
+        second: u8,
+    ) -> Option<&'a Utf8Char> {
+        row_char(ready, first, second)
     }
 }
 
 impl Strider for EucJpState {
     #[inline(always)]
     fn stride(&mut self, indexes: &IndexSet, rest: &[u8], batch: &mut Batch) -> usize {
-        read_pair(self, indexes, rest, batch)
+        read_run(self, indexes, rest, batch)
     }
 }
 
 impl BlockDecoder for EucJpState {
-    #[tactic(auto, using(enc_model::proofs::Fronts::front_none, crate::proofs::Fronts::euc_front))]
-    fn front(&self, _indexes: &IndexSet, bytes: &[u8]) -> usize {
-        if self.lead == 0 {
-            ascii_front(bytes)
-        } else {
-            0
-        }
+    fn front(&self, indexes: &IndexSet, bytes: &[u8]) -> usize {
+        self.ascii(indexes, bytes)
     }
 
     fn decode_block(&mut self, indexes: &IndexSet, block: &[u8], batch: &mut Batch) {

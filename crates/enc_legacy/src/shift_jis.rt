@@ -1,7 +1,9 @@
 //! The decoder of Shift_JIS.
 
-ghost use Rattle.std.specs.Prelude.{◌≡◌, OnOk, OnSome, IfSome, true, false, ◌<◌, ◌≤◌, ◌+◌, ℕ, [], Some, None};
+ghost use Rattle.std.specs.Prelude.{◌≡◌, OnOk, OnSome, IfSome, true, false, ◌<◌, ◌≤◌, ◌+◌, ℕ, [], Some, None, slice_index_or};
 ghost use Rattle.enc_legacy.specs.ShiftJis.{IsShiftJisLead, IsShiftJisState};
+ghost use Rattle.enc_legacy.specs.Ready.{IsReady};
+ghost use Rattle.enc_model.specs.Index.{Index, code};
 ghost use Rattle.enc_model.specs.Stream.{steps};
 ghost use Rattle.enc_model.specs.Sink.{Given};
 ghost use Rattle.enc_model.specs.Japanese.{shift_jis, shift_jis_at, shift_jis_pair};
@@ -9,7 +11,7 @@ ghost use Rattle.enc_model.specs.Indexes.{tables};
 ghost use Rattle.enc_model.proofs.Calm.{shift_jis_calm};
 
 use crate::kana::{half_width, pair_answer};
-use crate::stride::{PairReader, Strider, decode_strides, read_pair};
+use crate::stride::{PairReader, Strider, decode_strides, read_run};
 use enc_index::{IndexSet, Kind};
 use enc_model::{Answer, Batch, BlockDecoder, Decoder, Restored, Sink, Utf8Char, feed, finish};
 use lane_kernels::ascii_front;
@@ -89,11 +91,11 @@ impl Decoder for ShiftJisState {
     ghost calm = { λ t. shift_jis_calm (tables t).jis0208 };
 }
 
-/// The character of jis0208 that two bytes stand for where none is kept.
+/// The pointer that two bytes stand for in jis0208, where they are a pair.
 #[inline(always)]
-fn ready_pair(indexes: &IndexSet, lead: u8, b: u8) -> Option<&Utf8Char>
+fn pair_pointer(lead: u8, b: u8) -> Option<u32>
     ensures lead { OnSome result (IsShiftJisLead lead) }
-    ensures char { IfSome result (λ c. shift_jis_pair (tables indexes.now).jis0208 lead b ≡ Some c.now) }
+    ensures pair { IfSome result (λ p. (i : Index) → shift_jis_pair i lead b ≡ code i p) }
 {
     if !(0x81 <= lead && lead <= 0x9F || 0xE0 <= lead && lead <= 0xFC) {
         return None;
@@ -105,42 +107,71 @@ fn ready_pair(indexes: &IndexSet, lead: u8, b: u8) -> Option<&Utf8Char>
     if 8836 <= pointer && pointer <= 10715 {
         return None;
     }
-    indexes
-        .ready(Kind::Jis0208)?
-        .get(pointer as usize)?
-        .as_ref()
+    Some(pointer)
+}
+
+/// The character of jis0208 that two bytes stand for.
+#[inline(always)]
+fn row_char(ready: &[Option<Utf8Char>], lead: u8, b: u8) -> Option<&Utf8Char>
+    ensures lead { OnSome result (IsShiftJisLead lead) }
+    ensures char { IfSome result
+        (λ c. (i : Index) → ((p : ℕ) → slice_index_or ready.now p None ≡ code i p)
+        → shift_jis_pair i lead b ≡ Some c.now) }
+{
+    let pointer = pair_pointer(lead, b)?;
+    ready.get(pointer as usize)?.as_ref()
 }
 
 impl PairReader for ShiftJisState {
+    ghost pairs = { λ _. Unit {0} };
+
+    ghost is_ready = { λ t s r. IsReady 0 (tables t).jis0208 s r };
+
     #[inline(always)]
-    fn takes_ascii(&self, _indexes: &IndexSet) -> bool {
-        self.lead == 0
+    #[tactic(auto, using(enc_model::proofs::Fronts::front_none, crate::proofs::Fronts::sjis_front))]
+    fn ascii(&self, _indexes: &IndexSet, bytes: &[u8]) -> usize {
+        if self.lead == 0 {
+            ascii_front(bytes)
+        } else {
+            0
+        }
     }
 
     #[inline(always)]
-    fn ready_pair<'a>(&self, indexes: &'a IndexSet, first: u8, second: u8) -> Option<&'a Utf8Char> {
+    fn ready<'a>(&self, indexes: &'a IndexSet) -> Option<&'a [Option<Utf8Char>]> {
         if self.lead != 0 {
             return None;
         }
-        ready_pair(indexes, first, second)
+        indexes.ready(Kind::Jis0208)
+    }
+
+    #[inline(always)]
+    fn pair_front(&self, bytes: &[u8]) -> usize {
+        bytes.len()
+    }
+
+    #[inline(always)]
+    fn ready_pair<'a>(
+        &self,
+        _indexes: &IndexSet,
+        ready: &'a [Option<Utf8Char>],
+        first: u8,
+        second: u8,
+    ) -> Option<&'a Utf8Char> {
+        row_char(ready, first, second)
     }
 }
 
 impl Strider for ShiftJisState {
     #[inline(always)]
     fn stride(&mut self, indexes: &IndexSet, rest: &[u8], batch: &mut Batch) -> usize {
-        read_pair(self, indexes, rest, batch)
+        read_run(self, indexes, rest, batch)
     }
 }
 
 impl BlockDecoder for ShiftJisState {
-    #[tactic(auto, using(enc_model::proofs::Fronts::front_none, crate::proofs::Fronts::sjis_front))]
-    fn front(&self, _indexes: &IndexSet, bytes: &[u8]) -> usize {
-        if self.lead == 0 {
-            ascii_front(bytes)
-        } else {
-            0
-        }
+    fn front(&self, indexes: &IndexSet, bytes: &[u8]) -> usize {
+        self.ascii(indexes, bytes)
     }
 
     fn decode_block(&mut self, indexes: &IndexSet, block: &[u8], batch: &mut Batch) {

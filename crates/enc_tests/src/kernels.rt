@@ -2,7 +2,9 @@
 
 ghost use Rattle.std.specs.Prelude.{◌≤◌};
 
-use lane_kernels::{Order, Pairing, Step, ascii_front, narrow, plain_front_2022, scalar_front};
+use lane_kernels::{
+    Order, Pairing, Step, ascii_front, narrow, plain_front_2022, range_front, scalar_front,
+};
 use std::process::Abort;
 
 /// The longest prefix below 80 without some, a byte at a time.
@@ -16,32 +18,66 @@ fn slow_front(bytes: &[u8], without: &[u8]) -> usize {
     bytes.len()
 }
 
-fn fronts_agree(rt: &impl Abort, bytes: &[u8]) {
-    let length = bytes.len();
-    assert_eq!(rt; ascii_front(bytes), slow_front(bytes, &[]), "of {length}");
-    assert_eq!(rt;
-        plain_front_2022(bytes),
-        slow_front(bytes, &[0x0E, 0x0F, 0x1B]),
-        "of {length}"
-    );
+/// The longest prefix from the lowest to the highest, a byte at a time.
+fn slow_range(bytes: &[u8], lo: u8, hi: u8) -> usize {
+    for i in 0..bytes.len() {
+        if bytes[i] < lo || hi < bytes[i] {
+            return i;
+        }
+    }
+    bytes.len()
 }
 
-fn fronts_with(rt: &impl Abort, fill: u8, place: usize, stop: u8) {
-    for length in 0..201 {
-        let mut bytes = [fill; 200];
-        if place < 200 {
-            bytes[place] = stop;
-        }
-        fronts_agree(rt, &bytes[..length]);
+const PLACES: [usize; 14] = [0, 1, 30, 31, 32, 33, 63, 64, 100, 127, 128, 198, 199, 200];
+
+/// Bytes of one value, with another at a place, where that is in range.
+fn filled(fill: u8, place: usize, stop: u8) -> [u8; 200] {
+    let mut bytes = [fill; 200];
+    if place < 200 {
+        bytes[place] = stop;
     }
+    bytes
 }
 
 #[test]
 fn fronts(rt: HostRuntime) {
-    for place in [0, 1, 30, 31, 32, 33, 63, 64, 100, 127, 128, 198, 199, 200] {
+    for place in PLACES {
         for stop in [0x00, 0x0E, 0x0F, 0x1B, 0x7F, 0x80, 0xA0, 0xA1, 0xFE, 0xFF] {
-            fronts_with(&rt, 0x61, place, stop);
-            fronts_with(&rt, 0xC1, place, stop);
+            let bytes = filled(0x61, place, stop);
+            for length in 0..201 {
+                let front = &bytes[..length];
+                assert_eq!(rt; ascii_front(front), slow_front(front, &[]), "of {length}");
+                assert_eq!(rt;
+                    plain_front_2022(front),
+                    slow_front(front, &[0x0E, 0x0F, 0x1B]),
+                    "of {length}"
+                );
+            }
+        }
+    }
+}
+
+#[test]
+fn ranges(rt: HostRuntime) {
+    // the lowest and the highest byte, one of them, and one that is first past them or in an empty range
+    for (lo, hi, fill, stop) in [
+        (0xA1, 0xFE, 0xA1, 0xA0),
+        (0xA1, 0xFE, 0xFE, 0xFF),
+        (0xA1, 0xFE, 0xC1, 0x7F),
+        (0x00, 0x7F, 0x00, 0x80),
+        (0x00, 0xFF, 0xFF, 0x00),
+        (0x80, 0x80, 0x80, 0x7F),
+        (0xFF, 0x00, 0xFF, 0x00),
+    ] {
+        for place in PLACES {
+            let bytes = filled(fill, place, stop);
+            for length in 0..201 {
+                let front = &bytes[..length];
+                assert!(rt;
+                    range_front(front, lo, hi) == slow_range(front, lo, hi),
+                    "{lo:X} to {hi:X}, {stop:X} at {place} of {length}"
+                );
+            }
         }
     }
 }

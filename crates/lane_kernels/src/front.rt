@@ -3,9 +3,10 @@
 ghost use Rattle.std.specs.Prelude.{◌≡◌, ◌≤◌, ◌+◌, length, drop};
 ghost use Rattle.std.specs.List.{prefix_len};
 ghost use Rattle.std.specs.Char.{is_ascii};
+ghost use Rattle.enc_model.specs.Index.{within};
 ghost use Rattle.lane_kernels.specs.Front.{is_plain_2022};
 
-use crate::lanes::{Ascii, Class, LANES, Plain2022, WIDE, wide_ascii};
+use crate::lanes::{Ascii, Class, LANES, Plain2022, Range, WIDE, wide_ascii};
 
 /// The front of the bytes, one byte at a time.
 fn front_by_bytes<C: Class>(class: &C, bytes: &[u8]) -> usize
@@ -59,4 +60,11 @@ pub fn plain_front_2022(bytes: &[u8]) -> usize
     ensures { result ≡ prefix_len is_plain_2022 bytes.now }
 {
     front(&Plain2022, bytes)
+}
+
+/// How many bytes are from `lo` to `hi`, both included, before the first that isn't: none where `hi` is below `lo`.
+pub fn range_front(bytes: &[u8], lo: u8, hi: u8) -> usize
+    ensures { result ≡ prefix_len (within lo hi) bytes.now }
+{
+    front(&Range { lo, hi }, bytes)
 }

@@ -4,6 +4,7 @@ ghost use Rattle.std.specs.Prelude.{◌≡◌, ℕ, Bool, ◌+◌, ◌≤◌, le
 ghost use Rattle.std.specs.Simd.Lanes.{chunk};
 ghost use Rattle.std.specs.List.{prefix_len};
 ghost use Rattle.std.specs.Char.{is_ascii};
+ghost use Rattle.enc_model.specs.Index.{within};
 ghost use Rattle.lane_kernels.specs.Front.{is_plain_2022, first_set};
 
 use std::simd::prelude::*;
@@ -87,6 +88,28 @@ impl Class for Plain2022 {
             | lanes.simd_eq(u8x32::splat(0x0E))
             | lanes.simd_eq(u8x32::splat(0x0F))
             | lanes.simd_eq(u8x32::splat(0x1B));
+        first_set(stops.to_bitmask(), LANES)
+    }
+}
+
+/// The bytes from the lowest to the highest.
+#[derive(Clone, Copy)]
+pub(crate) struct Range {
+    pub(crate) lo: u8,
+    pub(crate) hi: u8,
+}
+
+impl Class for Range {
+    ghost has = { λ c. within c.lo c.hi };
+
+    fn has(&self, byte: u8) -> bool {
+        self.lo <= byte && byte <= self.hi
+    }
+
+    #[inline(always)]
+    fn run(&self, bytes: &[u8], at: usize) -> usize {
+        let lanes = u8x32::from_slice(&bytes[at..]);
+        let stops = lanes.simd_lt(u8x32::splat(self.lo)) | lanes.simd_gt(u8x32::splat(self.hi));
         first_set(stops.to_bitmask(), LANES)
     }
 }

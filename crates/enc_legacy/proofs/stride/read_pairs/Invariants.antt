@@ -1,0 +1,15 @@
+use Rattle.std.proofs.Common.{◌≡◌, ◌≤◌, ◌-◌, false, take}
+use Rattle.enc_model.specs.Batches.{BatchTook}
+use Rattle.enc_model.specs.Stream.{steps}
+use Rattle.enc_legacy.proofs.stride.read_pairs.Given as goal
+
+abbrev pub invariant-loop-at : goal.invariant-loop-at
+invariant-loop-at g l =
+    let so_far = steps (g.D.Decoder.handler l.tables) false l.state (take l.at l.rest) in record {
+      text : BatchTook l.fn.batch so_far.text l.batch;
+      state : l.state ≡ so_far.state;
+      at : l.at ≤ l.end;
+    }
+
+abbrev pub decreases-loop-at : goal.decreases-loop-at
+decreases-loop-at g l = l.end - l.at
