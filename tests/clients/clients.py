@@ -3,7 +3,7 @@
 all encodings; also streams, whose length comes last. Each text is compared with what Python's codecs decode and encode
 the same bytes to. Then deletions, by curl and by requests, also of uploads that others send or read.
 
-    python3 tests/clients/clients.py [--program PATH] [--indexes DIR] [--clients N] [--rounds N] [--seed N]
+    python3 tests/clients/clients.py [--program PATH] [--indexes DIR] [--clients N] [--rounds N] [--seed N] [--at-once]
 
 It formats two spools in a temporary folder and serves them at ports of 127.0.0.1. tuspy and chromium are left out where
 they aren't there. The status is 0 where every text, every offset and every reply to a deletion was right: a PATCH that
@@ -222,6 +222,8 @@ def all_at_once(server, clients, rounds, seed):
 
 def run(server, folder, given):
     """All clients: which uploads were wrong."""
+    if given.at_once:
+        return all_at_once(server, given.clients, given.rounds, given.seed)
     wrong = one_by_one("curl", lambda sample, rng: by_curl(server, sample, rng), given.seed)
     wrong += one_by_one("streams by curl", lambda sample, rng: stream_by_curl(server, sample, rng), given.seed)
     if has_tuspy():
@@ -240,6 +242,7 @@ def main():
     words = parser_of(__doc__)
     words.add_argument("--clients", type=int, default=16, help="how many work at once (16)")
     words.add_argument("--rounds", type=int, default=1, help="uploads in each encoding for each of these (1)")
+    words.add_argument("--at-once", action="store_true", help="only the clients that work at once")
     given = words.parse_args()
     with tempfile.TemporaryDirectory(ignore_cleanup_errors=True) as folder:
         indexes = indexes_in(folder, given.indexes)
@@ -249,7 +252,8 @@ def main():
             wrong = run(server, folder, given)
         finally:
             server.kill()
-        wrong += deletions.run(given.program, folder, indexes)
+        if not given.at_once:
+            wrong += deletions.run(given.program, folder, indexes)
     print("\n".join(wrong) or "every text and every offset was right")
     return 1 if wrong else 0
 

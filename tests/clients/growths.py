@@ -10,9 +10,9 @@ of the output; or with status 0, where one connection got `! N 0` in place of an
 others got what they get without it. Afterwards each upload that was told (also before the run) is there, with at least
 the bytes that were told to be accepted, at status 0 exactly these, and exactly their text; no other is there; one whose
 deletion was told is gone; and a length that came with an upload's last bytes is known where they are there. Last comes
-an upgrade of a spool of version 1: it ends with status 2 and `refused: 0 NoMemory`, and no byte of the spool is another;
-or it is done, and the spool has the bytes that it had in version 2 before. The status is 0 where all was so, and at
-least FLOOR allocations of each case were refused (fewer with --every, which tries one in N).
+an upgrade of a spool of version 1: it ends with status 2 and `refused: 0 NoMemory`, and no byte of the spool is
+another; or it is done, and the spool has the bytes that it had in version 2 before. The status is 0 where all was so,
+and at least FLOOR allocations of each case were refused (fewer with --every, which tries one in N).
 """
 
 import base64

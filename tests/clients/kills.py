@@ -10,9 +10,9 @@ of some uploads comes with their last bytes or after them. Whole uploads are del
 whose deletion was acknowledged are still gone, no number comes twice, and the texts of the others are compared again
 before they are deleted, or at the end. For the first half of the ends the spool is of version 1; then it is upgraded,
 by runs that are ended hard too. A connection that breaks, a reply in part and a refused connection are failures unless
-the server was ended meanwhile; a hang always is one. The status is 0 where all was so, and where one end in ten at least
-met an open gate: a commit that stands and isn't at its places yet. (SIGKILL ends a process and leaves the kernel's
-cache: it tries recovery; power.py tries the disk.)
+the server was ended meanwhile; a hang always is one. The status is 0 where all was so, and where one end in ten at
+least met an open gate: a commit that stands and isn't at its places yet. (SIGKILL ends a process and leaves the
+kernel's cache: it tries recovery; power.py tries the disk.)
 """
 
 import http.client
