@@ -3,22 +3,25 @@
 all encodings; also streams, whose length comes last. Each text is compared with what Python's codecs decode and encode
 the same bytes to. Then deletions, by curl and by requests, also of uploads that others send or read.
 
-    python3 tests/clients/clients.py [--gateway PROGRAM] [--indexes DIR] [--clients N] [--rounds N] [--seed N]
+    python3 tests/clients/clients.py [--program PATH] [--indexes DIR] [--clients N] [--rounds N] [--seed N] [--at-once]
 
 It formats two spools in a temporary folder and serves them at ports of 127.0.0.1. tuspy and chromium are left out where
-they aren't there. The status is 0 where every text and every reply to a deletion was right.
+they aren't there. The status is 0 where every text, every offset and every reply to a deletion was right: a PATCH that
+was answered with 204 takes all its bytes; after a cut the offset is no less than what was told before and no more than
+what was sent, and over all cuts some bytes were kept.
 """
 
-import argparse
 import io
+import subprocess
 import tempfile
 from concurrent.futures import ThreadPoolExecutor
+from http.client import HTTPException
 from pathlib import Path
 
 import browser
 import deletions
-from harness import ENCODINGS, OCTETS, TUS, Client, Sample, Server
-from harness import curl, declaring, fields, format_spool, has_tuspy, header, random_sample, rng_of, write_indexes
+from harness import ENCODINGS, OCTETS, TUS, Client, Sample, Server, Wrong, curl, declaring, fields, format_spool
+from harness import has_tuspy, header, holds, indexes_in, parser_of, random_sample, rng_of, same
 
 BLOCKS = 8192
 MOST_CUTS = 40
@@ -42,21 +45,24 @@ def patch_by_curl(url, offset, piece, length=None):
     """The offset after a piece, with which the upload's length may be declared."""
     wanted = {**OCTETS, "Upload-Offset": offset, **declaring(length)}
     reply = curl("-i", "-X", "PATCH", *fields(wanted), "--data-binary", "@-", url, body=piece).decode()
-    return int(header(reply, "Upload-Offset"))
+    reached = int(header(reply, "Upload-Offset"))
+    same(f"{url}: the offset after {len(piece)} bytes at {offset}", reached, offset + len(piece))
+    return reached
 
 
 def by_curl(server, sample, rng):
     """An upload in two pieces, whose second begins where HEAD says."""
     url = made_by_curl(server, sample, {"Upload-Length": len(sample.data)})
     first, _rest = cut_in_two(rng, sample.data)
-    patch_by_curl(url, 0, first)
+    reached = patch_by_curl(url, 0, first)
     offset = int(header(curl("-I", *fields(TUS), url).decode(), "Upload-Offset"))
+    same(f"{url}: the offset that HEAD says", offset, reached)
     patch_by_curl(url, offset, sample.data[offset:])
     return curl(url)
 
 
 def stream_by_curl(server, sample, rng):
-    """A stream in pieces, whose length comes with the last one or behind it."""
+    """A stream in pieces, whose length comes with the last one or after it."""
     url, stream, offset = made_by_curl(server, sample, {"Upload-Defer-Length": 1}), io.BytesIO(sample.data), 0
     size, with_last = rng.randrange(1, 4000), rng.randrange(2) == 0
     while piece := stream.read(size):
@@ -71,7 +77,7 @@ def end_stream(url, sample):
     """Declares the length of a stream whose bytes are all there."""
     head = curl("-I", *fields(TUS), url).decode()
     if header(head, "Upload-Defer-Length") != "1":
-        raise ValueError(f"{url}: its length is known")
+        raise Wrong(f"{url}: its length is known")
     patch_by_curl(url, int(header(head, "Upload-Offset")), b"", len(sample.data))
 
 
@@ -118,39 +124,69 @@ def by_chromium(server, folder, seed):
         page.close()
 
 
-def in_pieces(client, sample, rng):
-    """An upload in pieces of any length; some bodies are cut, and then HEAD says where to go on. What is there at any
-    moment is the front of the text. The length of some comes with any of the pieces, or behind them."""
-    deferred, whole = rng.randrange(3) == 0, len(sample.data)
-    path, offset, pieces, cuts = client.create(sample, deferred), 0, 0, 0
-    while offset < whole:
-        size = rng.choice([rng.randrange(1, 8), rng.randrange(1, 1500), whole])
-        piece = sample.data[offset : offset + size]
-        length = whole if deferred and rng.randrange(8) == 0 else None
-        if cuts < MOST_CUTS and rng.randrange(3) == 0:
-            sent = piece[: rng.randrange(len(piece))]
-            client.cut(path, offset, sent, count=len(piece), reset=rng.randrange(2) == 0, length=length)
-            cuts += 1
-            offset = client.offset(path)
-        else:
-            offset = client.patch(path, offset, piece, length)
-        pieces += 1
-        if rng.randrange(4) == 0 and not sample.text.startswith(client.text(path)):
-            raise ValueError(f"{path}: not the front of its text")
-    if deferred:
-        client.patch(path, whole, b"", whole)
-    return client.text(path), pieces, cuts
+class Pieces:
+    """An upload in pieces of any length, some of whose bodies are cut: then HEAD says where to go on. What is there at
+    any moment is a prefix of the text. The length of some comes with any of the pieces, or after them."""
+
+    def __init__(self, client, sample, rng):
+        self.client, self.sample, self.rng = client, sample, rng
+        self.deferred, self.whole = rng.randrange(3) == 0, len(sample.data)
+        self.path = client.create(sample, self.deferred)
+        self.offset = self.sent = self.pieces = self.cuts = self.kept = 0
+
+    def send(self):
+        """Sends all of it: the text."""
+        while self.offset < self.whole:
+            self.one_more()
+            self.pieces += 1
+            if self.rng.randrange(4) == 0:
+                text = self.client.text(self.path)
+                holds(f"{self.path}: not a prefix of its text", self.sample.text.startswith(text))
+        if self.deferred:
+            self.client.patch(self.path, self.whole, b"", self.whole)
+        return self.client.text(self.path)
+
+    def one_more(self):
+        """One piece, whole or cut."""
+        rng = self.rng
+        size = rng.choice([rng.randrange(1, 8), rng.randrange(1, 1500), self.whole])
+        piece = self.sample.data[self.offset : self.offset + size]
+        length = self.whole if self.deferred and rng.randrange(8) == 0 else None
+        if self.cuts < MOST_CUTS and rng.randrange(3) == 0:
+            self.cut(piece, length)
+            return
+        self.sent = max(self.sent, self.offset + len(piece))
+        self.offset = self.client.patch(self.path, self.offset, piece, length)
+        self.is_in_reach(self.offset)
+
+    def cut(self, piece, length):
+        """A piece of which only the first bytes are sent. (What was sent before may come only now.)"""
+        sent, reset = piece[: self.rng.randrange(len(piece))], self.rng.randrange(2) == 0
+        self.client.cut(self.path, self.offset, sent, count=len(piece), reset=reset, length=length)
+        self.sent = max(self.sent, self.offset + len(sent))
+        offset = self.client.offset(self.path)
+        self.is_in_reach(offset)
+        self.cuts, self.kept, self.offset = self.cuts + 1, self.kept + offset - self.offset, offset
+
+    def is_in_reach(self, offset):
+        """An offset is no less than what was told before, and no more than what was sent."""
+        holds(f"{self.path}: {offset} after {self.offset}, {self.sent} sent", self.offset <= offset <= self.sent)
 
 
 def at_once(server, place, labels, seed):
-    """The uploads of one of the clients that work at once: how many uploads, pieces and cuts, and which were wrong."""
-    rng, client, sums, wrong = rng_of(seed, "at once", place), Client(server.port), [0, 0, 0], []
+    """The uploads of one of the clients that work at once: how many uploads, pieces, cuts and bytes kept over cuts, and
+    which were wrong."""
+    rng, client, sums, wrong = rng_of(seed, "at once", place), Client(server.port), [0, 0, 0, 0], []
     for label in labels:
         sample = random_sample(rng, label)
-        text, pieces, cuts = in_pieces(client, sample, rng)
-        sums = [a + b for a, b in zip(sums, [1, pieces, cuts])]
-        if text != sample.text:
-            wrong.append(f"client {place}: {sample.label} to {sample.to}, {len(sample.data)} bytes")
+        try:
+            pieces = Pieces(client, sample, rng)
+            same("the text", pieces.send() == sample.text, True)
+            counts = [1, pieces.pieces, pieces.cuts, pieces.kept]
+            sums = [a + b for a, b in zip(sums, counts)]
+        except (Wrong, OSError, HTTPException) as error:
+            wrong.append(f"client {place}: {sample.label} to {sample.to}, {len(sample.data)} bytes: {error!r}")
+            client.close()
     client.close()
     return sums, wrong
 
@@ -160,8 +196,10 @@ def one_by_one(name, upload, seed):
     rng, wrong = rng_of(seed, name), []
     for label in ENCODINGS:
         sample = random_sample(rng, label)
-        if upload(sample, rng) != sample.text:
-            wrong.append(f"{name}: {sample.label} to {sample.to}, {len(sample.data)} bytes")
+        try:
+            same("the text", upload(sample, rng) == sample.text, True)
+        except (Wrong, ValueError, OSError, subprocess.SubprocessError) as error:
+            wrong.append(f"{name}: {sample.label} to {sample.to}, {len(sample.data)} bytes: {error}")
     print(f"{name}: {len(ENCODINGS)} uploads, {len(wrong)} wrong", flush=True)
     return wrong
 
@@ -173,14 +211,19 @@ def all_at_once(server, clients, rounds, seed):
     few = MOST_UPLOADS // clients
     with ThreadPoolExecutor(clients) as pool:
         done = list(pool.map(lambda place: at_once(server, place, labels[place][:few], seed), range(clients)))
-    uploads, pieces, cuts = [sum(parts) for parts in zip(*(sums for sums, _ in done))]
+    uploads, pieces, cuts, kept = [sum(parts) for parts in zip(*(sums for sums, _ in done))]
     wrong = [line for _, lines in done for line in lines]
-    print(f"{clients} at once: {uploads} uploads in {pieces} pieces, {cuts} cut, {len(wrong)} wrong", flush=True)
+    if not kept:
+        wrong.append(f"{cuts} cuts, and no byte of any cut body was kept")
+    print(f"{clients} at once: {uploads} uploads in {pieces} pieces, {cuts} cut, {kept} bytes of these kept,", end=" ")
+    print(f"{len(wrong)} wrong", flush=True)
     return wrong
 
 
 def run(server, folder, given):
     """All clients: which uploads were wrong."""
+    if given.at_once:
+        return all_at_once(server, given.clients, given.rounds, given.seed)
     wrong = one_by_one("curl", lambda sample, rng: by_curl(server, sample, rng), given.seed)
     wrong += one_by_one("streams by curl", lambda sample, rng: stream_by_curl(server, sample, rng), given.seed)
     if has_tuspy():
@@ -196,26 +239,22 @@ def run(server, folder, given):
 
 
 def main():
-    root = Path(__file__).resolve().parents[2]
-    words = argparse.ArgumentParser(description=__doc__.splitlines()[0])
-    words.add_argument("--gateway", default=str(root / "crates/gateway/out/gateway"), help="the program")
-    words.add_argument("--indexes", help="a folder with the standard's index files; else Python's codecs make them")
+    words = parser_of(__doc__)
     words.add_argument("--clients", type=int, default=16, help="how many work at once (16)")
     words.add_argument("--rounds", type=int, default=1, help="uploads in each encoding for each of these (1)")
-    words.add_argument("--seed", default="1", help="of the random texts and cuts")
+    words.add_argument("--at-once", action="store_true", help="only the clients that work at once")
     given = words.parse_args()
     with tempfile.TemporaryDirectory(ignore_cleanup_errors=True) as folder:
-        indexes = given.indexes or folder
-        if not given.indexes:
-            write_indexes(folder)
-        format_spool(given.gateway, Path(folder, "spool"), BLOCKS, indexes)
-        server = Server(given.gateway, Path(folder, "spool"))
+        indexes = indexes_in(folder, given.indexes)
+        format_spool(given.program, Path(folder, "spool"), BLOCKS, indexes)
+        server = Server(given.program, Path(folder, "spool"))
         try:
             wrong = run(server, folder, given)
         finally:
             server.kill()
-        wrong += deletions.run(given.gateway, folder, indexes)
-    print("\n".join(wrong) or "every text was right")
+        if not given.at_once:
+            wrong += deletions.run(given.program, folder, indexes)
+    print("\n".join(wrong) or "every text and every offset was right")
     return 1 if wrong else 0
 
 

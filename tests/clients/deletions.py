@@ -5,7 +5,7 @@ import socket
 import subprocess
 from pathlib import Path
 
-from harness import OCTETS, TUS, Client, Refused, Sample, Server, curl, fields, format_spool, has_tuspy, header
+from harness import OCTETS, TUS, Client, Sample, Server, Wrong, curl, fields, format_spool, has_tuspy, header, same
 
 BLOCKS = 4096
 ALL = BLOCKS * 4096
@@ -14,11 +14,11 @@ PIECE = 1 << 20
 CUT_SHORT = 18
 
 
-def run(gateway, folder, indexes):
+def run(program, folder, indexes):
     """Each trial over one spool of its own: which were wrong."""
     spool = Path(folder, "deletions")
-    format_spool(gateway, spool, BLOCKS, indexes)
-    server = Server(gateway, spool)
+    format_spool(program, spool, BLOCKS, indexes)
+    server = Server(program, spool)
     trials = [by_curl, while_patched, while_read, filled_again] + ([by_requests] if has_tuspy() else [])
     try:
         wrong = [line for trial in trials for line in tried(trial, server)]
@@ -33,16 +33,11 @@ def tried(trial, server):
     client = Client(server.port)
     try:
         trial(server, client)
-    except (ValueError, Refused, subprocess.SubprocessError) as error:
+    except (Wrong, ValueError, OSError, subprocess.SubprocessError) as error:
         return [f"deletions, {trial.__name__}: {error}"]
     finally:
         client.close()
     return []
-
-
-def same(what, got, wanted):
-    if got != wanted:
-        raise ValueError(f"{what}: {got!r}, not {wanted!r}")
 
 
 def by_curl(server, client):
@@ -80,7 +75,7 @@ def by_requests(server, client):
     except TusCommunicationError as error:
         same("going on", error.status_code, 404)
     else:
-        raise ValueError("goes on with a deleted upload")
+        raise Wrong("goes on with a deleted upload")
     is_next(client, first.url[first.url.index("/files") :])
 
 
@@ -164,6 +159,6 @@ def head(replies):
     lines = []
     while (line := replies.readline()) != b"\r\n":
         if not line:
-            raise ValueError(f"ended behind {lines}")
+            raise Wrong(f"ended after {lines}")
         lines.append(line.decode().rstrip())
     return lines

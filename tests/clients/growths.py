@@ -1,19 +1,20 @@
 #!/usr/bin/env python3
 """Scripts over a spool in which each allocation is refused in turn: all that was told holds, and all others go on.
 
-    python3 tests/clients/growths.py [--gateway PROGRAM] [--indexes DIR]
+    python3 tests/clients/growths.py [--program PATH] [--indexes DIR] [--every N] [CASE..]
 
 A small C library, made in a temporary folder and loaded before the C library, refuses the allocation of one number.
-Each case is a script over a spool that holds its uploads already. For each number the run ends in one of two ways: with
-status 2 and `refused: 0 NoMemory` behind the front of the output; or with status 0, where one connection got `! N 0` in
-place of an answer and then only `! N 30`, and the others got what they get without it. Afterwards each upload has at
-least the bytes that were told to be accepted, and exactly their text; one whose deletion was told is gone; and a length
-that came with an upload's last bytes is known where they are there. Last comes an upgrade of a spool of version 1: it
-ends with status 2 and `refused: 0 NoMemory`, and no byte of the spool is another; or it is done, and the spool has the
-bytes that it had in version 2 before. The status is 0 where all was so.
+Each case is a script over a spool that holds its uploads already. Without a refusal it has exactly the replies that
+stand beside it. For each number the run ends in one of two ways: with status 2 and `refused: 0 NoMemory` after a prefix
+of the output; or with status 0, where one connection got `! N 0` in place of an answer and then only `! N 30`, and the
+others got what they get without it. Afterwards each upload that was told (also before the run) is there, with at least
+the bytes that were told to be accepted, at status 0 exactly these, and exactly their text; no other is there; one whose
+deletion was told is gone; and a length that came with an upload's last bytes is known where they are there. Last comes
+an upgrade of a spool of version 1: it ends with status 2 and `refused: 0 NoMemory`, and no byte of the spool is
+another; or it is done, and the spool has the bytes that it had in version 2 before. The status is 0 where all was so,
+and at least FLOOR allocations of each case were refused (fewer with --every, which tries one in N).
 """
 
-import argparse
 import base64
 import codecs
 import os
@@ -24,12 +25,15 @@ import tempfile
 from collections import namedtuple
 from pathlib import Path
 
-from harness import format_spool, make_old, state_page, version_of, write_indexes
+from harness import build_library, format_spool, holds, indexes_in, make_old, parser_of, same, state_page, version_of
+from harness import Wrong
 
+FLOOR = 200
 LIBRARY = r"""
 #define _GNU_SOURCE
 #include <dlfcn.h>
 #include <stdlib.h>
+#include <string.h>
 #include <unistd.h>
 
 static long count, refused = -1;
@@ -43,10 +47,21 @@ static int refuses(void) {
     return write(9, "!", 1) == 1;
 }
 
-void *malloc(size_t size) {
+static void *made(size_t size) {
     static void *(*real)(size_t);
     if (!real) real = dlsym(RTLD_NEXT, "malloc");
-    return refuses() ? NULL : real(size);
+    return real(size);
+}
+
+void *malloc(size_t size) {
+    return refuses() ? NULL : made(size);
+}
+
+void *calloc(size_t count, size_t size) {
+    size_t all;
+    if (__builtin_mul_overflow(count, size, &all) || refuses()) return NULL;
+    void *to = made(all);
+    return to ? memset(to, 0, all) : NULL;
 }
 
 void *realloc(void *old, size_t size) {
@@ -81,17 +96,16 @@ def came(conn, data):
     return [f"came {conn} {data[at : at + 30_000].hex()}" for at in range(0, len(data), 30_000)]
 
 
-def post(conn, length, label, note=""):
+def post(conn, length, label, note="", to=""):
     """Makes an upload, of a length or (None) a deferred one."""
     line = "Upload-Defer-Length: 1" if length is None else f"Upload-Length: {length}"
-    metadata = f"from {base64.b64encode(label.encode()).decode()}"
-    if note:
-        metadata += f",filename {base64.b64encode(note.encode()).decode()}"
-    return say(conn, "POST /files HTTP/1.1", TUS, line, f"Upload-Metadata: {metadata}")
+    values = {"from": label, "filename": note, "to": to}
+    pairs = [f"{key} {base64.b64encode(value.encode()).decode()}" for key, value in values.items() if value]
+    return say(conn, "POST /files HTTP/1.1", TUS, line, f"Upload-Metadata: {','.join(pairs)}")
 
 
 def patch(conn, number, offset, data, length=None):
-    """Puts bytes behind an upload, and may declare its length."""
+    """Puts bytes at an upload's end, and may declare its length."""
     head = [f"PATCH /files/{number} HTTP/1.1", TUS, "Content-Type: application/offset+octet-stream"]
     head += [] if length is None else [f"Upload-Length: {length}"]
     return say(conn, *head, f"Upload-Offset: {offset}", f"Content-Length: {len(data)}") + came(conn, data)
@@ -104,45 +118,61 @@ def ask(conn, method, number):
 # An upload's bytes and encoding, and whether its length comes with the last of them.
 Upload = namedtuple("Upload", "data codec deferred", defaults=[False])
 
-# Of each case: the script that makes its uploads, the script that is tried, and the uploads by number.
+# A case: the script that makes its uploads, and how many bytes it leaves of each; the script that is tried, and what
+# its connections are told: the status and Location or Upload-Offset of each reply; the uploads by number. A connection
+# of the tried script sends to the upload of its own number alone.
+Case = namedtuple("Case", "before left tried told uploads")
+
 CASES = {
-    "stored run": (
+    "stored run": Case(
         ["open 0"],
+        {},
         ["open 1", *post(1, 5, "utf-8"), *patch(1, 1, 0, b"hello"), *ask(1, "HEAD", 1), *ask(1, "GET", 1), "cut 1"],
+        {1: ["201 /files/1", "204 5", "200 5", "200"]},
         {1: Upload(b"hello", "utf-8")},
     ),
-    "two connections": (
+    "two connections": Case(
         ["open 0", *post(0, 9, "utf-8"), *post(0, 18, "shift_jis")],
+        {1: 0, 2: 0},
         [
             *["open 1", "open 2", *patch(1, 1, 0, "aéb".encode()), *patch(2, 2, 0, SHIFT_JIS[:7])],
             *[*patch(1, 1, 4, b"cdefg"), *patch(2, 2, 7, SHIFT_JIS[7:]), *ask(1, "GET", 1), *ask(2, "GET", 2), "cut 1"],
         ],
+        {1: ["204 4", "204 9", "200"], 2: ["204 7", "204 18", "200"]},
         {1: Upload("aéb".encode() + b"cdefg", "utf-8"), 2: Upload(SHIFT_JIS, "cp932")},
     ),
-    "metadata": (
+    "metadata": Case(
         ["open 0"],
+        {},
         ["open 1", *post(1, 3, "windows-1252", "a" * 900), *patch(1, 1, 0, b"abc"), *ask(1, "HEAD", 1), "cut 1"],
+        {1: ["201 /files/1", "204 3", "200 3"]},
         {1: Upload(b"abc", "cp1252")},
     ),
-    "long GET": (
+    "long GET": Case(
         ["open 0", *post(0, len(LONG), "utf-8"), *patch(0, 1, 0, LONG)],
+        {1: 160_000},
         ["open 1", "open 2", *ask(1, "GET", 1), *ask(2, "HEAD", 1), *ask(2, "GET", 1), "cut 2"],
+        {1: ["200"], 2: ["200 160000", "200"]},
         {1: Upload(LONG, "utf-8")},
     ),
-    "deletion": (
+    "deletion": Case(
         ["open 0", *post(0, 5, "utf-8"), *patch(0, 1, 0, b"hello"), *post(0, 18, "shift_jis")],
+        {1: 5, 2: 0},
         [
             *["open 1", "open 2", *patch(2, 2, 0, SHIFT_JIS[:7]), *ask(1, "DELETE", 1), *ask(1, "HEAD", 1)],
             *[*patch(2, 2, 7, SHIFT_JIS[7:]), *ask(2, "GET", 2), "cut 1"],
         ],
+        {1: ["204", "404"], 2: ["204 7", "204 18", "200"]},
         {1: Upload(b"hello", "utf-8"), 2: Upload(SHIFT_JIS, "cp932")},
     ),
-    "deferred length": (
+    "deferred length": Case(
         ["open 0"],
+        {},
         [
             *["open 1", *post(1, None, "shift_jis"), *patch(1, 1, 0, SHIFT_JIS[:7]), *ask(1, "HEAD", 1)],
             *[*patch(1, 1, 7, SHIFT_JIS[7:], 18), *ask(1, "HEAD", 1), *ask(1, "GET", 1), "cut 1"],
         ],
+        {1: ["201 /files/1", "204 7", "200 7", "204 18", "200 18", "200"]},
         {1: Upload(SHIFT_JIS, "cp932", deferred=True)},
     ),
 }
@@ -151,7 +181,7 @@ CASES = {
 class Run:
     """A script, or another command, over a spool, with one allocation refused, if any."""
 
-    def __init__(self, gateway, spool, lines, library=None, number=0, command="script"):
+    def __init__(self, program, spool, lines, library=None, number=0, command="script"):
         env = dict(os.environ, REFUSED=str(number))
         if library:
             env["LD_PRELOAD"] = str(library)
@@ -160,7 +190,7 @@ class Run:
         os.close(write)
         given = "".join(f"{line}\n" for line in lines).encode()
         how = {"input": given, "capture_output": True, "env": env, "pass_fds": [9], "timeout": 60}
-        ran = subprocess.run([gateway, command, str(spool)], **how)
+        ran = subprocess.run([program, command, str(spool)], **how)
         os.close(9)
         self.reached = os.read(read, 1) == b"!"
         os.close(read)
@@ -179,20 +209,31 @@ class Run:
                 found.setdefault(conn, []).append(line)
         return found
 
-    def told(self):
-        """The offset that each connection was told last behind a PATCH, and None behind a deletion. (In the cases its
-        upload has its number.)"""
+    def replies(self):
+        """The replies to each connection: the status, with a Location or an Upload-Offset where there is one."""
         found = {}
         for conn, answers in self.answers().items():
-            replies = [it for it in answers if isinstance(it, bytes) and b" 204 " in it]
+            given = b"".join(it for it in answers if isinstance(it, bytes)).decode("utf-8", "replace")
+            heads = re.findall(r"HTTP/1\.1 (\d+).*?\r\n(.*?)\r\n\r\n", given, re.S)
+            told = [(status, re.search(r"(?:Location|Upload-Offset): (\S+)", fields)) for status, fields in heads]
+            found[int(conn)] = [f"{status} {value[1]}" if value else status for status, value in told]
+        return found
+
+    def told(self, left):
+        """The offset that was told last of each upload, None where its deletion was. `left` is what was told before."""
+        found = dict(left)
+        for conn, replies in self.replies().items():
             for reply in replies:
-                offset = re.search(rb"Upload-Offset: (\d+)", reply)
-                found[conn] = int(offset[1]) if offset else None
+                status, _, value = reply.partition(" ")
+                if status == "201":
+                    found[int(value.rpartition("/")[2])] = 0
+                elif status == "204":
+                    found[conn] = int(value) if value else None
         return found
 
 
 def is_refused(conn, got, wanted):
-    """Whether a connection was given the front of what it is given, then refused for memory, and then not open."""
+    """Whether a connection was given a prefix of what it is given, then refused for memory, and then not open."""
     at = next((n for n, answer in enumerate(got) if answer == f"! {conn} 0"), len(got))
     return at < len(got) and got[:at] == wanted[:at] and all(it == f"! {conn} 30" for it in got[at + 1 :])
 
@@ -203,9 +244,9 @@ def is_refused_once(answers, wanted):
     return not differ or len(differ) == 1 and is_refused(differ[0], answers.get(differ[0], []), wanted[differ[0]])
 
 
-def list_of(gateway, spool):
+def list_of(program, spool):
     """How many bytes of each upload are accepted, and how many are declared, by the word for it."""
-    listed = subprocess.run([gateway, "list", str(spool)], check=True, capture_output=True, text=True).stdout
+    listed = subprocess.run([program, "list", str(spool)], check=True, capture_output=True, text=True).stdout
     lines = re.findall(r"^(\d+) (\d+)/(\d+|\?) ", listed, re.M)
     return {int(number): (int(accepted), declared) for number, accepted, declared in lines}
 
@@ -215,22 +256,27 @@ def text_of(data, codec):
     return codecs.getincrementaldecoder(codec)().decode(data).encode()
 
 
-def holds_what_was_told(gateway, spool, run, uploads):
-    """Whether each upload has at least what was told, and exactly the text of what it has; or is gone as was told."""
-    listed, told = list_of(gateway, spool), run.told()
-    for number, upload in uploads.items():
-        least = told.get(str(number), 0)
+def holds_what_was_told(program, spool, case, run, whole):
+    """Each upload has at least what was told, and exactly that where the run went on; and exactly the text of what it
+    has. There are no uploads that weren't told, but for what was under way when a run ended."""
+    listed, least, most = list_of(program, spool), run.told(case.left), whole.told(case.left)
+    if run.status == 0:
+        most = least
+    for number, upload in case.uploads.items():
         if number not in listed:
-            if least:
-                return False
+            gone = least.get(number) is None or most.get(number, 0) is None
+            holds(f"upload {number} isn't there, and {least.get(number)} was told", gone)
             continue
+        holds(f"upload {number} is there", number in most and least.get(number, 0) is not None)
         accepted, declared = listed[number]
-        if least is None or accepted < least or declared != declared_of(upload, accepted):
-            return False
-        got = Run(gateway, spool, ["open 0", *ask(0, "GET", number)]).answers()["0"]
-        if b"".join(got).partition(b"\r\n\r\n")[2] != text_of(upload.data[:accepted], upload.codec):
-            return False
-    return True
+        top = len(upload.data) if most[number] is None else most[number]
+        reach = f"upload {number} has {accepted} bytes, told were {least.get(number)}, and at the end {top}"
+        holds(reach, least.get(number, 0) <= accepted <= top)
+        same(f"upload {number} is declared", declared, declared_of(upload, accepted))
+        got = Run(program, spool, ["open 0", *ask(0, "GET", number)]).answers()["0"]
+        text = b"".join(got).partition(b"\r\n\r\n")[2]
+        same(f"the text of upload {number}", text, text_of(upload.data[:accepted], upload.codec))
+    same("the uploads", set(listed) - set(case.uploads), set())
 
 
 def declared_of(upload, accepted):
@@ -238,30 +284,53 @@ def declared_of(upload, accepted):
     return "?" if upload.deferred and accepted < len(upload.data) else str(len(upload.data))
 
 
-def try_case(gateway, folder, library, empty, name):
-    """Each allocation of a case, refused in turn: how many there are, and the numbers of those that went wrong."""
-    before, lines, uploads = CASES[name]
-    made, spool = folder / "made", folder / "spool"
-    shutil.copyfile(empty, made)
-    assert Run(gateway, made, before).status == 0
-    shutil.copyfile(made, spool)
-    whole = Run(gateway, spool, lines)
-    wrong, ended, number = [], 0, 0
-    while True:
-        number += 1
-        shutil.copyfile(made, spool)
-        run = Run(gateway, spool, lines, library, number)
-        if not run.reached:
-            break
-        if run.status == 2:
-            ended += 1
-            well = run.said == "refused: 0 NoMemory\n" and whole.out.startswith(run.out)
-        else:
-            well = run.status == 0 and is_refused_once(run.answers(), whole.answers())
-        if not (well and holds_what_was_told(gateway, spool, run, uploads)):
-            wrong.append(number)
-    print(f"{name}: {number - 1} allocations refused in turn, {ended} ended the run, {len(wrong)} wrong {wrong[:10]}")
+def ended_well(run, whole):
+    """A run ended for want of memory after a prefix of its output, or went on without one connection."""
+    if run.status == 2:
+        same("what is said", run.said, "refused: 0 NoMemory\n")
+        holds(f"another output: {run.out}", whole.out.startswith(run.out))
+    else:
+        same("the status", run.status, 0)
+        holds(f"others are answered otherwise: {run.out}", is_refused_once(run.answers(), whole.answers()))
+
+
+def each_refused(name, every, run_at, judge):
+    """Refuses one allocation after the other, of every so many, until none is left: what went wrong."""
+    wrong, ended, tried, number = [], 0, 0, 1
+    while (run := run_at(number)).reached:
+        tried, ended = tried + 1, ended + (run.status == 2)
+        try:
+            judge(run)
+        except Wrong as error:
+            wrong.append(f"{name}, allocation {number}: {error}")
+        number += every
+    if tried < FLOOR // every:
+        wrong.append(f"{name}: {tried} allocations were refused, at least {FLOOR // every} expected")
+    print(f"{name}: {tried} allocations refused in turn, {ended} ended the run, {len(wrong)} wrong", flush=True)
     return wrong
+
+
+def try_case(program, folder, library, every, name):
+    """Each allocation of a case, refused in turn: what went wrong."""
+    case, made, spool = CASES[name], folder / "made", folder / "spool"
+    shutil.copyfile(folder / "empty", made)
+    same(f"{name}: the status of the script before", Run(program, made, case.before).status, 0)
+    listed = {number: accepted for number, (accepted, _) in list_of(program, made).items()}
+    same(f"{name}: the uploads before", listed, case.left)
+    shutil.copyfile(made, spool)
+    whole = Run(program, spool, case.tried)
+    same(f"{name}: the replies", whole.replies(), case.told)
+    holds_what_was_told(program, spool, case, whole, whole)
+
+    def run_at(number):
+        shutil.copyfile(made, spool)
+        return Run(program, spool, case.tried, library, number)
+
+    def judge(run):
+        ended_well(run, whole)
+        holds_what_was_told(program, spool, case, run, whole)
+
+    return each_refused(name, every, run_at, judge)
 
 
 def but_journal(spool):
@@ -270,54 +339,61 @@ def but_journal(spool):
     return data[:8192] + data[state_page(spool) - 22 * 4096 :]
 
 
-def try_upgrade(gateway, folder, library, empty):
-    """Each allocation of an upgrade, refused in turn: the numbers of those that went wrong."""
-    new, old, spool = folder / "new", folder / "old", folder / "spool"
-    shutil.copyfile(empty, new)
+def make_both(program, folder):
+    """A spool of version 2 with three uploads, and the same in version 1: their paths."""
+    new, old = folder / "new", folder / "old"
+    shutil.copyfile(folder / "empty", new)
     lines = ["open 0", *post(0, 5, "utf-8"), *patch(0, 1, 0, b"hello"), *post(0, 18, "shift_jis", "a" * 900)]
     lines += [*patch(0, 2, 0, SHIFT_JIS[:7]), *post(0, None, "shift_jis"), *patch(0, 3, 0, SHIFT_JIS[:7])]
-    assert Run(gateway, new, lines).status == 0
+    same("upgrade: the status of the script before", Run(program, new, lines).status, 0)
     shutil.copyfile(new, old)
     make_old(old)
-    assert version_of(new) == 2 and version_of(old) == 1 and list_of(gateway, new) == list_of(gateway, old)
-    wrong, ended, number = [], 0, 0
-    while True:
-        number += 1
+    same("the versions", (version_of(new), version_of(old)), (2, 1))
+    for spool in new, old:
+        same("upgrade: the uploads before", list_of(program, spool), {1: (5, "5"), 2: (7, "18"), 3: (7, "?")})
+    return new, old
+
+
+def try_upgrade(program, folder, library, every):
+    """Each allocation of an upgrade, refused in turn: what went wrong."""
+    new, old = make_both(program, folder)
+    spool = folder / "spool"
+
+    def run_at(number):
         shutil.copyfile(old, spool)
-        run = Run(gateway, spool, [], library, number, "upgrade")
+        return Run(program, spool, [], library, number, "upgrade")
+
+    def judge(run):
         if run.status == 2:
-            ended += 1
-            well = run.said == "refused: 0 NoMemory\n" and run.out == b"" and spool.read_bytes() == old.read_bytes()
+            same("what is said", (run.said, run.out), ("refused: 0 NoMemory\n", b""))
+            holds("a byte of the spool is another", spool.read_bytes() == old.read_bytes())
         else:
-            well = run.status == 0 and run.out == b"upgraded to version 2\n" and but_journal(spool) == but_journal(new)
-        if not well:
-            wrong.append(number)
-        if not run.reached:
-            break
-    print(f"upgrade: {number - 1} allocations refused in turn, {ended} ended the run, {len(wrong)} wrong {wrong[:10]}")
+            same("what is said", (run.status, run.out), (0, b"upgraded to version 2\n"))
+            holds("a byte isn't that of version 2", but_journal(spool) == but_journal(new))
+
+    wrong = each_refused("upgrade", every, run_at, judge)
+    judge(run_at(0))
     return wrong
 
 
 def main():
-    words = argparse.ArgumentParser(description=__doc__.splitlines()[0])
-    words.add_argument("--gateway", default="crates/gateway/out/gateway")
-    words.add_argument("--indexes")
+    words = parser_of(__doc__)
+    words.add_argument("--every", type=int, default=1, help="refuses one allocation in so many (1)")
+    words.add_argument("cases", nargs="*", help="`upgrade`, or a case's name, in place of all")
     given = words.parse_args()
-    gateway = str(Path(given.gateway).resolve())
+    wrong = []
     with tempfile.TemporaryDirectory() as name:
         folder = Path(name)
-        (folder / "growths.c").write_text(LIBRARY)
-        library = folder / "growths.so"
-        made = ["cc", "-shared", "-fPIC", "-O1", "-o", str(library), str(folder / "growths.c"), "-ldl"]
-        subprocess.run(made, check=True)
-        indexes = Path(given.indexes) if given.indexes else folder / "indexes"
-        if not given.indexes:
-            indexes.mkdir()
-            write_indexes(indexes)
-        format_spool(gateway, folder / "empty", 64, indexes)
-        wrong = [try_case(gateway, folder, library, folder / "empty", case) for case in CASES]
-        wrong.append(try_upgrade(gateway, folder, library, folder / "empty"))
-    raise SystemExit(1 if any(wrong) else 0)
+        library = build_library(folder, "growths", LIBRARY)
+        format_spool(given.program, folder / "empty", 64, indexes_in(folder, given.indexes))
+        for case in given.cases or [*CASES, "upgrade"]:
+            trial = try_upgrade if case == "upgrade" else lambda *words: try_case(*words, case)
+            try:
+                wrong += trial(given.program, folder, library, given.every)
+            except (Wrong, subprocess.SubprocessError) as error:
+                wrong.append(f"{case}: {error}")
+    print("\n".join(wrong[:20]) or "all that was told held")
+    raise SystemExit(1 if wrong else 0)
 
 
 if __name__ == "__main__":

@@ -1,8 +1,10 @@
 """What the client scripts share: a spool in a temporary folder, its server, requests, and texts in every encoding."""
 
+import argparse
 import base64
 import functools
 import http.client
+import os
 import random
 import select
 import socket
@@ -11,6 +13,9 @@ import subprocess
 import unicodedata
 from pathlib import Path
 
+from spools import OPEN, PAGE, Spool
+
+ROOT = Path(__file__).resolve().parents[2]
 EVER = str(2**64 - 1)
 TUS = {"Tus-Resumable": "1.0.0"}
 OCTETS = {**TUS, "Content-Type": "application/offset+octet-stream"}
@@ -165,22 +170,78 @@ def reference(codes, char):
     return bytes([codes[char]]) if char in codes else f"&#{ord(char)};".encode()
 
 
-def format_spool(gateway, spool, blocks, indexes):
+def parser_of(doc):
+    """A parser of the words that all scripts take: the program, the index files and the seed."""
+    words = argparse.ArgumentParser(description=doc.splitlines()[0])
+    words.add_argument("--program", default=str(ROOT / "crates/gateway/out/gateway"), type=absolute)
+    words.add_argument("--indexes", help="a folder with the standard's index files; else Python's codecs make them")
+    words.add_argument("--seed", default="1", help="of all that is random")
+    return words
+
+
+def absolute(path):
+    return str(Path(path).resolve())
+
+
+def indexes_in(folder, given):
+    """The folder of the index files: the one that was given, or else one that is made in a folder."""
+    if given:
+        return Path(given)
+    made = Path(folder, "indexes")
+    made.mkdir()
+    write_indexes(made)
+    return made
+
+
+def memory():
+    """A folder in memory for files that nobody needs to sync, where there is one."""
+    return "/dev/shm" if os.access("/dev/shm", os.W_OK) else None
+
+
+class Wrong(Exception):
+    """What the program did isn't what it has to do."""
+
+
+def same(what, got, wanted):
+    """Fails where something is another than what it has to be."""
+    if got != wanted:
+        raise Wrong(f"{what}: {got!r}, not {wanted!r}")
+
+
+def holds(what, does):
+    """Fails where something doesn't hold."""
+    if not does:
+        raise Wrong(what)
+
+
+def build_library(folder, name, source):
+    """A library that is loaded before the C library, made of C in a folder: its path."""
+    Path(folder, f"{name}.c").write_text(source)
+    library = Path(folder, f"{name}.so")
+    made = ["cc", "-shared", "-fPIC", "-O1", "-Wall", "-o", str(library), str(Path(folder, f"{name}.c")), "-ldl"]
+    subprocess.run(made, check=True)
+    return library
+
+
+def format_spool(program, spool, blocks, indexes):
     """Makes a spool with the index files of a folder."""
-    words = [gateway, "format", str(spool), "--blocks", str(blocks), "--indexes", str(indexes)]
+    words = [program, "format", str(spool), "--blocks", str(blocks), "--indexes", str(indexes)]
     print(subprocess.run(words, check=True, capture_output=True, text=True, timeout=300).stdout.strip())
 
 
 def state_page(spool):
     """Where the state page of a spool begins."""
-    with open(spool, "rb") as file:
-        blocks = int.from_bytes(file.read(12)[8:], "big")
-    return 4096 * (282 + -(-blocks // 512))
+    return Spool(read_at(spool, 0, 12)).state
 
 
 def version_of(spool):
     """The version that a spool's state page says. (Its gate is closed.)"""
     return int.from_bytes(read_at(spool, state_page(spool), 4), "big")
+
+
+def has_open_gate(spool):
+    """Whether a spool was left in a commit that stands and isn't at its places yet."""
+    return read_at(spool, PAGE, 1)[0] == OPEN
 
 
 def read_at(path, place, count):
@@ -208,26 +269,37 @@ def write_at(file, place, data):
 class Server:
     """A gateway that serves a spool at a port of its own."""
 
-    def __init__(self, gateway, spool):
-        self.words = [gateway, "serve", str(spool), "--port", "0", "--connections", EVER, "--turns", EVER]
+    def __init__(self, program, spool, env=None):
+        self.env = env
+        self.words = [program, "serve", str(spool), "--port", "0", "--connections", EVER, "--turns", EVER]
         self.start()
 
     def start(self):
         """Starts it, and waits until it listens."""
-        self.process = subprocess.Popen(self.words, stdout=subprocess.PIPE, text=True)
+        self.process = subprocess.Popen(self.words, stdout=subprocess.PIPE, text=True, env=self.env)
         if not select.select([self.process.stdout], [], [], 120)[0]:
             self.kill()
-            raise TimeoutError("the server doesn't listen")
-        self.port = int(self.process.stdout.readline().rpartition(":")[2])
+            raise Wrong("the server doesn't listen")
+        line = self.process.stdout.readline()
+        if not line.startswith("listening 127.0.0.1:"):
+            self.process.wait(60)
+            raise Wrong(f"the server says {line!r}, and ends with status {self.process.returncode}")
+        self.port = int(line.rpartition(":")[2])
 
     def kill(self):
-        """Ends it hard, by its own process id."""
-        self.process.kill()
-        self.process.wait(60)
-        self.process.stdout.close()
+        """Ends it hard, by its own process id. One that ended before, by itself, is a failure."""
+        if self.process is None:
+            return
+        process, self.process = self.process, None
+        status = process.poll()
+        process.kill()
+        process.wait(60)
+        process.stdout.close()
+        if status is not None:
+            raise Wrong(f"the server ended by itself, with status {status}")
 
 
-class Refused(Exception):
+class Refused(Wrong):
     """A reply whose status isn't the one that was asked for."""
 
     def __init__(self, request, status, number):
@@ -239,7 +311,7 @@ class Client:
     """A tus client on one connection."""
 
     def __init__(self, port):
-        self.port = port
+        self.port, self.reopens = port, True
         self.connection = http.client.HTTPConnection("127.0.0.1", port, timeout=60)
 
     def close(self):
@@ -247,8 +319,8 @@ class Client:
 
     def ask(self, wanted, method, path, headers, body=None):
         """The reply's headers and body, where its status is the wanted one. A kept connection that the server ended
-        meanwhile is opened again."""
-        kept = self.connection.sock is not None
+        meanwhile is opened again (an idle one may be), unless the client isn't to."""
+        kept = self.reopens and self.connection.sock is not None
         try:
             reply, text = self.reply(method, path, headers, body)
         except (http.client.RemoteDisconnected, BrokenPipeError, ConnectionResetError):
@@ -281,15 +353,20 @@ class Client:
         return None if headers["Upload-Defer-Length"] == "1" else int(headers["Upload-Length"])
 
     def patch(self, path, offset, piece, length=None):
-        """The offset after a piece, with which the upload's length may be declared. Where a body that was cut before
-        reached the upload since the offset was asked for, the piece is refused, and the offset is asked for again."""
+        """The offset after a piece, with which the upload's length may be declared. `offset` is one that was told, so
+        so many bytes are acknowledged. Where a body that was cut before reached the upload since then, the piece is
+        refused, and the offset is asked for again: it is greater now."""
         headers = {**OCTETS, "Upload-Offset": str(offset), **declaring(length)}
         try:
-            return int(self.ask(204, "PATCH", path, headers, piece)[0]["Upload-Offset"])
+            reached = int(self.ask(204, "PATCH", path, headers, piece)[0]["Upload-Offset"])
         except Refused as refused:
             if refused.status != 409:
                 raise
-            return self.offset(path)
+            reached = self.offset(path)
+            holds(f"{path}: refused with 409 at {offset}, and HEAD says {reached}", reached > offset)
+            return reached
+        same(f"{path}: the offset after {len(piece)} bytes at {offset}", reached, offset + len(piece))
+        return reached
 
     def text(self, path):
         return self.ask(200, "GET", path, {})[1]

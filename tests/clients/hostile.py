@@ -1,15 +1,19 @@
 #!/usr/bin/env python3
-"""Damaged spools, index files and heads: the program ends in time, with a status of its own, and the same twice.
+"""Damaged spools, index files and heads: the program takes exactly what the damage leaves, or refuses it, in time.
 
-    python3 tests/clients/hostile.py [--gateway PROGRAM] [--spools N] [--indexes N] [--heads N] [--seed N]
+    python3 tests/clients/hostile.py [--program PATH] [--spools N] [--files N] [--heads N] [--seed N]
 
-A damaged spool, of version 1 or 2, is listed twice, and where it is taken each of its texts is read; it is upgraded
-where it is taken and of version 1, and refused so too where it isn't taken; a damaged index file is formatted
-with; a damaged head is given whole and in pieces, whose replies must be the same bytes. The status is 0 where nothing
-hung, was ended by a signal or went on otherwise the second time. What was wrong is printed with its seed.
+A damaged spool, of version 1 or 2, is listed twice. It has to be refused where one of the checks of an opening doesn't
+hold (docs/FORMAT.md, read in Python), and to be taken where nothing is damaged that is checked; only where the bytes of
+a transcoder's state are damaged it may be either. Where it is taken, the uploads are those that its records say, and
+the texts those on its blocks; it is upgraded where it is of version 1, and refused so too where it isn't taken. A
+damaged index file is formatted with twice: it is refused with the line and the number that reading it in Python gives,
+or taken, and then bytes of Shift_JIS are decoded by exactly its pairs. A damaged head is given whole and in pieces,
+whose replies must be the same bytes. The status is 0 where all was so, nothing hung or was ended by a signal, no damage
+was told as a fault of the device (3), and of each kind some were taken and some refused. What was wrong is printed with
+its seed.
 """
 
-import argparse
 import collections
 import random
 import shutil
@@ -17,13 +21,15 @@ import subprocess
 import tempfile
 from pathlib import Path
 
-from growths import LONG, SHIFT_JIS, ask, came, patch, post
-from harness import make_old, version_of, write_indexes
+import spools
+from growths import LONG, SHIFT_JIS, Run, ask, came, patch, post
+from harness import Wrong, holds, indexes_in, make_old, parser_of, same, version_of
 
 PAGE = 4096
 BLOCKS = 16
 JIS0208 = "index-jis0208.txt"
-# The pages of a spool of 16 blocks: the front, the gate, the journal, the indexes, the state, the records, the rows.
+POINTERS = 11280
+# The pages of a spool of 16 blocks: page 0, the gate, the journal, the indexes, the state, the records, the rows.
 PLACES = [range(1), range(1, 2), range(2, 261), range(261, 283), range(283, 284), range(284, 540), range(540, 541)]
 HEAD = [
     "PATCH /files/1 HTTP/1.1",
@@ -35,22 +41,20 @@ HEAD = [
     "Upload-Metadata: from dXRmLTg=,to dXRmLTg=",
 ]
 WORDS = ["", "0", "-1", "9" * 20, "5, 5", "chunked", "\x00", "\xff" * 9, " " * 99, "a" * 9000, "\r\n\r\n", "%2F"]
-LINES = (b"refused: 3 ", b"refused: 4 ", b"refused: 5 ", b"refused: 33 ")
 ALREADY_NEW = b"refused: 35 AlreadyNew\n"
 
 
 class Program:
-    """The gateway: each run ends in time, by itself, with one of its statuses."""
+    """The gateway: each run ends in time, by itself, done or with a refusal."""
 
-    def __init__(self, gateway):
-        self.gateway = gateway
+    def __init__(self, path):
+        self.path = path
         self.statuses = collections.Counter()
 
     def run(self, *words, given=b""):
-        ran = subprocess.run([self.gateway, *map(str, words)], input=given, capture_output=True, timeout=60)
-        if ran.returncode not in (0, 2, 3):
-            raise ValueError(f"{words[0]} ended with status {ran.returncode}: {ran.stderr[-200:]}")
+        ran = subprocess.run([self.path, *map(str, words)], input=given, capture_output=True, timeout=60)
         self.statuses[words[0], ran.returncode] += 1
+        holds(f"{words[0]} ended with status {ran.returncode}: {ran.stderr[-200:]}", ran.returncode in (0, 2))
         return ran
 
     def script(self, spool, lines):
@@ -86,25 +90,39 @@ def damage_spool(rng, data):
     return data[: rng.randrange(len(data))] if rng.random() < 0.02 else data
 
 
-def try_spool(program, rng, folder, sound):
-    """A damaged spool is taken or refused, and then taken or refused so again."""
-    spool = folder / "damaged"
-    spool.write_bytes(damage_spool(rng, rng.choice([sound, (folder / "old").read_bytes()])))
+def try_spool(program, rng, folder, _sound):
+    """A damaged spool is taken as what the damage leaves, or refused, and then taken or refused so again."""
+    base, spool = (folder / rng.choice(["sound", "old"])).read_bytes(), folder / "damaged"
+    spool.write_bytes(damage_spool(rng, base))
+    refusal, left = spools.found(spool.read_bytes())
     first = program.run("list", spool)
     again = program.run("list", spool)
-    if (first.returncode, first.stdout, first.stderr) != (again.returncode, again.stdout, again.stderr):
-        raise ValueError(f"listed {first.stdout} {first.stderr}, and then {again.stdout} {again.stderr}")
-    if first.returncode == 0:
-        numbers = [line.split(b" ")[0].decode() for line in first.stdout.splitlines()]
-        read = program.script(spool, ["open 0", *(line for number in numbers for line in ask(0, "GET", number))])
-        if read.returncode or read.stdout.count(b"200 OK") != len(numbers):
-            raise ValueError(f"listed {numbers}, and read {read.stdout[-200:]} {read.stderr}")
+    told = (first.returncode, first.stdout, first.stderr)
+    same("listed again", (again.returncode, again.stdout, again.stderr), told)
+    if refusal:
+        same("the refusal", told, (2, b"", f"refused: {refusal}\n".encode()))
+    elif first.returncode:
+        same("the refusal", told, (2, b"", f"refused: {spools.DAMAGED}\n".encode()))
+        holds("refused, though nothing is damaged", left.checked() != spools.Spool(base).checked())
+    else:
+        is_taken(program, spool, left, first.stdout)
     upgrade_listed(program, spool, first)
+
+
+def is_taken(program, spool, left, listed):
+    """A damaged spool that was taken has the uploads of its records and the texts of its blocks."""
+    records = left.records()
+    wanted = [spools.listed(record) for record in records]
+    same("the uploads", listed.decode().lower().splitlines(), wanted)
+    for record in records:
+        ran = Run(program.path, spool, ["open 0", *ask(0, "GET", record.number)])
+        text = b"".join(ran.answers()["0"]).partition(b"\r\n\r\n")[2]
+        same(f"the text of {record.number}", text, left.text(record))
 
 
 def upgrade_listed(program, spool, listed):
     """A spool of version 1 is upgraded where it was listed, and lists the same; else it is refused so too. Of version 2
-    it is refused before it is found to be damaged behind its version."""
+    it is refused before it is found to be damaged after its version."""
     ran = program.run("upgrade", spool)
     if ran.stderr == ALREADY_NEW:
         right = ran.returncode == 2 and version_of(spool) == 2 and listed.stderr in (b"", b"refused: 2 Damaged\n")
@@ -113,18 +131,92 @@ def upgrade_listed(program, spool, listed):
         right = ran.returncode == 0 and version_of(spool) == 2 and again.stdout == listed.stdout
     else:
         right = (ran.returncode, ran.stderr) == (listed.returncode, listed.stderr)
-    if not right:
-        raise ValueError(f"listed {listed.stdout} {listed.stderr}, and upgraded {ran.stdout} {ran.stderr}")
+    holds(f"listed {listed.stdout} {listed.stderr}, and upgraded {ran.stdout} {ran.stderr}", right)
+
+
+def digits(field, base, most):
+    """The number in a field of digits, None where it isn't one."""
+    known = b"0123456789abcdefABCDEF"[: 10 if base == 10 else None]
+    return int(field, base) if 1 <= len(field) <= most and all(it in known for it in field) else None
+
+
+def read_index(data, bound):
+    """What an index file gives: its pairs, or the refusal with the first bad line."""
+    pairs, lines = {}, data.split(b"\n")
+    lines = [line.removesuffix(b"\r") for line in lines[:-1]] + lines[-1:]
+    for place, line in enumerate(lines, 1):
+        if line[:1] in (b"", b"#"):
+            continue
+        first, tab, rest = line.partition(b"\t")
+        pointer = digits(first.lstrip(b" "), 10, 6)
+        point = digits(rest.partition(b"\t")[0].removeprefix(b"0x"), 16, 8) if tab else None
+        if pointer is None or point is None:
+            return None, ("3 Line", place)
+        if pointer >= bound or not spools.is_scalar(point):
+            return None, ("4 Range", place)
+        if pointer in pairs:
+            return None, ("5 Twice", place)
+        pairs[pointer] = point
+    return pairs, None
+
+
+def other_pairs(rng, data):
+    """An index file of the form of one, with other pairs in another order."""
+    lines = [line.split(b"\t") for line in data.splitlines()]
+    for _ in range(rng.choice([1, 5, 500])):
+        a, b = rng.choice(lines), rng.choice(lines)
+        a[1], b[1] = b[1], a[1]
+        rng.choice(lines)[1] = b"0x%04X" % rng.choice([rng.randrange(0xD800), rng.randrange(0xE000, 0x110000)])
+    lines = rng.sample(lines, rng.randrange(len(lines) // 2, len(lines)))
+    end = rng.choice([b"\n", b"\r\n", b"\n# a remark\n", b"\tmore\n"])
+    return end.join(rng.choice([b"", b" "]) + b"\t".join(line) for line in lines)
 
 
 def try_index(program, rng, folder, sound):
-    """A damaged index file is taken, or refused with its line."""
-    (folder / "idx" / JIS0208).write_bytes(damage(rng, sound))
-    spool = folder / "formatted"
-    spool.unlink(missing_ok=True)
-    ran = program.run("format", spool, "--blocks", BLOCKS, "--indexes", folder / "idx")
-    if ran.returncode == 2 and not ran.stderr.startswith(LINES):
-        raise ValueError(f"refused with {ran.stderr}")
+    """A damaged index file is refused with its line, or taken, and then it decodes; and both the same twice."""
+    file = folder / "idx" / JIS0208
+    file.write_bytes(rng.choice([damage, other_pairs])(rng, sound))
+    pairs, refusal = read_index(file.read_bytes(), POINTERS)
+    made = [folder / "formatted", folder / "again"]
+    for spool in made:
+        spool.unlink(missing_ok=True)
+    ran, again = [program.run("format", spool, "--blocks", BLOCKS, "--indexes", folder / "idx") for spool in made]
+    told = (ran.returncode, ran.stdout, ran.stderr)
+    same("formatted again", (again.returncode, again.stdout, again.stderr), told)
+    if refusal:
+        wanted = f"refused: {refusal[0]} {JIS0208} {refusal[1]}\n".encode()
+        same("the refusal", (ran.returncode, ran.stderr), (2, wanted))
+        holds("a spool was made", not made[0].exists() and not made[1].exists())
+        return
+    same("the status", (ran.returncode, ran.stderr.splitlines()[:1]), (0, [b"index files read: 18"]))
+    holds("the spool made again is another", made[0].read_bytes() == made[1].read_bytes())
+    before, _ = read_index(sound, POINTERS)
+    decodes(program, rng, made[0], pairs, [it for it in before if pairs.get(it) != before[it]])
+
+
+def decodes(program, rng, spool, pairs, changed):
+    """Bytes of Shift_JIS are decoded by the pairs: those of pointers that changed, and others."""
+    pointers = rng.sample(changed, min(len(changed), 500)) + [rng.randrange(POINTERS) for _ in range(500)]
+    data, text = b"", ""
+    for pointer in pointers:
+        lead, trail = divmod(pointer, 188)
+        pair = bytes([lead + (0x81 if lead < 0x1F else 0xC1), trail + (0x40 if trail < 0x3F else 0x41)])
+        data, text = data + pair, text + decoded_pair(pairs, pointer, pair[1])
+    lines = ["open 0", *post(0, len(data), "shift_jis"), *patch(0, 1, 0, data), *ask(0, "GET", 1)]
+    given = b"".join(it for it in Run(program.path, spool, lines).answers()["0"] if isinstance(it, bytes))
+    got = given.split(b"\r\n\r\n", 3)[-1].decode()
+    for at, (a, b) in enumerate(zip(got, text)):
+        same(f"character {at} of {changed[:20]}", a, b)
+    same("the length of the text", len(got), len(text))
+
+
+def decoded_pair(pairs, pointer, trail):
+    """The text of two bytes of Shift_JIS (Encoding Standard, 12.3.1): a fault gives its ASCII byte back."""
+    if 8836 <= pointer <= 10715:
+        return chr(0xE000 - 8836 + pointer)
+    if pointer in pairs:
+        return chr(pairs[pointer])
+    return "\ufffd" + (chr(trail) if trail < 0x80 else "")
 
 
 def damaged_head(rng):
@@ -160,7 +252,7 @@ def gave(out):
 
 
 def try_head(program, rng, folder, sound):
-    """A damaged head, with a body and a sound request behind it, has the same replies in whatever pieces it comes."""
+    """A damaged head, with a body and a sound request after it, has the same replies in whatever pieces it comes."""
     given = (damaged_head(rng) + b"hello" + b"OPTIONS /files HTTP/1.1\r\n\r\n") or b"\n"
     cuts = sorted(rng.randrange(len(given) + 1) for _ in range(rng.choice([1, 2, 3, 30])))
     pieces = [given[a:b] for a, b in zip([0, *cuts], [*cuts, len(given)]) if a < b]
@@ -169,8 +261,8 @@ def try_head(program, rng, folder, sound):
         shutil.copyfile(folder / "sound", folder / "asked")
         ran = program.script(folder / "asked", ["open 1", *(line for part in parts for line in came(1, part))])
         replies.append((ran.returncode, gave(ran.stdout), program.run("list", folder / "asked").stdout))
-    if replies[0] != replies[1] or replies[0][0]:
-        raise ValueError(f"{given}: whole {replies[0]}, and in pieces {replies[1]}")
+    same(f"{given}: the status", replies[0][0], 0)
+    same(f"{given}: in pieces", replies[1], replies[0])
 
 
 def sound_spool(program, folder):
@@ -183,8 +275,7 @@ def sound_spool(program, folder):
     lines = ["open 0"]
     for number, (data, label, declared) in enumerate(texts, 1):
         lines += [*post(0, declared, label, f"text {number}"), *patch(0, number, 0, data)]
-    if program.script(spool, lines).stdout.count(b" 204 ") != len(texts):
-        raise ValueError("the sound spool could not be made")
+    same("the texts of the sound spool", program.script(spool, lines).stdout.count(b" 204 "), len(texts))
     shutil.copyfile(spool, folder / "old")
     make_old(folder / "old")
     return spool.read_bytes()
@@ -196,31 +287,40 @@ def try_each(name, count, seed, trying, program, folder, sound):
     for number in range(count):
         try:
             trying(program, random.Random(f"{seed} {name} {number}"), folder, sound)
-        except (ValueError, subprocess.TimeoutExpired) as error:
-            print(f"{name} {seed} {number}: {error}"[:2000])
+        except (Wrong, subprocess.TimeoutExpired) as error:
+            print(f"{name} {seed} {number}: {error!r}"[:2000])
             wrong.append(number)
     print(f"{count} {name}, {len(wrong)} wrong", flush=True)
     return wrong
 
 
+def saw_enough(program, given):
+    """Of the spools and of the index files some were taken, and some refused."""
+    wrong = []
+    for word, count in (("list", given.spools), ("format", given.files)):
+        for status in 0, 2:
+            if program.statuses[word, status] < count // 10:
+                wrong.append(f"{word} ended with status {status} fewer than {count // 10} times")
+    return wrong
+
+
 def main():
-    words = argparse.ArgumentParser(description=__doc__.splitlines()[0])
-    words.add_argument("--gateway", default="crates/gateway/out/gateway")
-    words.add_argument("--spools", type=int, default=2000)
-    words.add_argument("--indexes", type=int, default=1000)
-    words.add_argument("--heads", type=int, default=3000)
-    words.add_argument("--seed", default="1")
+    words = parser_of(__doc__)
+    words.add_argument("--spools", type=int, default=2000, help="how many damaged spools (2000)")
+    words.add_argument("--files", type=int, default=1000, help="how many damaged index files (1000)")
+    words.add_argument("--heads", type=int, default=3000, help="how many damaged heads (3000)")
     given = words.parse_args()
-    program = Program(str(Path(given.gateway).resolve()))
+    program = Program(given.program)
     with tempfile.TemporaryDirectory() as name:
         folder = Path(name)
-        (folder / "idx").mkdir()
-        write_indexes(folder / "idx")
+        shutil.copytree(indexes_in(folder, given.indexes), folder / "idx")
         spool, index = sound_spool(program, folder), (folder / "idx" / JIS0208).read_bytes()
         wrong = try_each("spools", given.spools, given.seed, try_spool, program, folder, spool)
         wrong += try_each("heads", given.heads, given.seed, try_head, program, folder, spool)
-        wrong += try_each("index files", given.indexes, given.seed, try_index, program, folder, index)
+        wrong += try_each("index files", given.files, given.seed, try_index, program, folder, index)
+    wrong += (missed := saw_enough(program, given))
     print(", ".join(f"{word} {status}: {count}" for (word, status), count in sorted(program.statuses.items())))
+    print("\n".join(missed) or "each was taken or refused as it had to be" * (not wrong))
     raise SystemExit(1 if wrong else 0)
 
 
