@@ -12,22 +12,21 @@ use std::str::from_utf8_unchecked;
 /// How many bytes are looked at in one go at first.
 pub const FIRST_REACH: usize = 1024;
 
-// From how many on they grow no more.
+/// How many bytes are looked at in one go at most.
 const WIDEST: usize = 4096;
 
 /// How many bytes longer the text of a block may be than the block for its faults to be few.
 const FEW: usize = 8;
 
 /// How far to look behind a text: further where it filled the reach, and else no further than a block.
-pub fn reach_behind_text(reach: usize, found: usize) -> usize {
+pub fn reach_behind_text(reach: usize, found: usize) -> usize
+    ensures { result ≤ WIDEST }
+{
     if found < reach - reach.min(4) {
         return BLOCK;
     }
-    if reach < WIDEST {
-        reach + reach / 4
-    } else {
-        reach
-    }
+    let reach = reach.min(WIDEST);
+    (reach + reach / 4).min(WIDEST)
 }
 
 /// How far to look behind what was found as a text, or else read and written as a block: no further than a block where
