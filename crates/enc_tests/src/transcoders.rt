@@ -202,6 +202,13 @@ encode ISO-2022-JP E38182 1B244224221B2842
 decode UTF-8 FF EFBFBD
 decode UTF-8 E0A0FFE0A080 EFBFBDEFBFBDE0A080
 decode UTF-8 ED9FF0908080 EFBFBDF0908080
+decode Shift_JIS 8220 EFBFBD20
+decode EUC-JP 8FA220 EFBFBD20
+decode ISO-2022-JP 1B24422422FF1B2842 E38182EFBFBD
+decode windows-1252 8DE981 EFBFBDC3A9EFBFBD
+encode windows-1252 E38182 262331323335343B
+encode Shift_JIS F09F9880 26233132383531323B
+encode ISO-2022-JP F09F9880 26233132383531323B
 ";
 
 #[test]
@@ -245,6 +252,16 @@ decode EUC-JP B041 EFBFBD41
 decode ISO-2022-JP 1B244224221B28421B284241 E38182EFBFBD41
 decode ISO-2022-JP 1B2842411B284241 4141
 decode ISO-2022-JP 1B24 EFBFBD24
+decode ISO-2022-JP 1B284A5C7E410E C2A5E280BE41EFBFBD
+decode ISO-2022-JP 1B2849215F60 EFBDA1EFBE9FEFBFBD
+decode ISO-2022-JP 1B24402422 E38182
+decode ISO-2022-JP 1B284A1B58 EFBFBD58
+decode ISO-2022-JP 1B284A1B2858 EFBFBD2858
+decode ISO-2022-JP 1B2442241B284241 EFBFBD41
+decode ISO-2022-JP 1B28 EFBFBD28
+decode Shift_JIS EFFC EFBFBD
+decode Shift_JIS F9FC EE9D97
+decode Shift_JIS FA40 EFBFBD40
 decode windows-1252 41E980 41C3A9E282AC
 encode UTF-8 61C3A9E282ACF09F9880 61C3A9E282ACF09F9880
 encode ISO-2022-JP E38182 1B244224221B2842
@@ -267,26 +284,50 @@ fn worked_examples(rt: HostRuntime) {
     all_hold(&rt, rt.alloc(), &set, WORKED);
 }
 
-#[test]
-fn character_that_the_encoding_lacks(rt: HostRuntime) {
-    let set = IndexSet::new(rt.alloc()).expect(&rt, "memory");
-    holds(
-        &rt,
-        rt.alloc(),
-        &set,
-        "encode windows-1252 C3A9 26233233333B",
-    );
-}
+/// What an encoder does where its index has few entries: their files, and lines.
+const SPARSE: [(&[(Kind, &str)], &str); 4] = [
+    (&[], "encode windows-1252 C3A9 26233233333B"),
+    // katakana that stand for one another
+    (
+        &[
+            (Kind::Jis0208, "0\tFF61\n"),
+            (Kind::Katakana, "0\tFF62\n1\tFF61\n"),
+        ],
+        "encode ISO-2022-JP EFBDA2EFBDA1 1B244221211B2842262336353337383B",
+    ),
+    // a pointer past the last row of two bytes: none in EUC-JP and ISO-2022-JP
+    (
+        &[
+            (Kind::Jis0208, "8836\t7E8A\n"),
+            (Kind::Jis0212, ""),
+            (Kind::Katakana, ""),
+        ],
+        "\
+encode EUC-JP E7BA8A 262333323339343B
+encode ISO-2022-JP E7BA8A 262333323339343B
+encode Shift_JIS E7BA8A F040
+",
+    ),
+    // a character that another stands for, and that has no pointer
+    (
+        &[
+            (Kind::Jis0208, "0\t3000\n"),
+            (Kind::Jis0212, ""),
+            (Kind::Katakana, ""),
+        ],
+        "\
+encode Shift_JIS E28892 262336353239333B
+encode EUC-JP E28892 262336353239333B
+encode ISO-2022-JP EFBDA2 262336353337383B
+",
+    ),
+];
 
 #[test]
-fn katakana_that_stand_for_one_another(rt: HostRuntime) {
-    let files = [
-        (Kind::Jis0208, "0\tFF61\n"),
-        (Kind::Katakana, "0\tFF62\n1\tFF61\n"),
-    ];
-    let set = set_of(&rt, rt.alloc(), &files);
-    let line = "encode ISO-2022-JP EFBDA2EFBDA1 1B244221211B2842262336353337383B";
-    holds(&rt, rt.alloc(), &set, line);
+fn indexes_of_few_entries(rt: HostRuntime) {
+    for (files, lines) in SPARSE {
+        all_hold(&rt, rt.alloc(), &set_of(&rt, rt.alloc(), files), lines);
+    }
 }
 
 /// Checks a line of an encoding, another, and pieces, each with the text behind it.

@@ -1,8 +1,7 @@
 //! Deletions of uploads on a spool.
 
-use crate::images::page_of;
 use crate::uploads::{declared, deferred, fresh, opened, patched, plain};
-use spool_disk::{Crash, Disk, FuseDisk, MemoryDisk};
+use spool_disk::MemoryDisk;
 use spool_image::Spool;
 use std::alloc::Global;
 use std::process::Abort;
@@ -96,75 +95,4 @@ fn open_append_of_a_deleted_upload_takes_no_other_text(rt: HostRuntime) {
         assert!(rt; has_text(&mut spool, 2, &text), "{len}");
         drop(spool.into_disk());
     }
-}
-
-/// Whether the first page of records and the page of rows have zeros alone.
-fn are_blank(rt: &impl Abort, disk: &mut MemoryDisk) -> (bool, bool) {
-    let records = page_of(rt, disk, 284) == [0; 4096];
-    (records, page_of(rt, disk, 540) == [0; 4096])
-}
-
-#[test]
-fn deletion_leaves_zeros(rt: HostRuntime) {
-    let mut disk = with_hello(&rt, rt.alloc());
-    assert_eq!(rt; are_blank(&rt, &mut disk), (false, false));
-    let mut spool = opened(&rt, rt.alloc(), disk);
-    assert_eq!(rt; spool.terminate(1), Ok(()));
-    let mut left = spool.into_disk();
-    assert_eq!(rt; are_blank(&rt, &mut left), (true, true));
-}
-
-/// What the deletion of the upload 1 answers on a disk that stops after so many calls, and the disk.
-fn deleted_within(
-    rt: &impl Abort,
-    alloc: Global,
-    calls: u64,
-) -> (MemoryDisk, Result<(), UploadError>) {
-    match Spool::open(alloc, FuseDisk::new(with_hello(rt, alloc), calls)) {
-        Ok(mut spool) => {
-            let answer = spool.terminate(1);
-            (spool.into_disk().into_inner(), answer)
-        }
-        Err((disk, _)) => (disk.into_inner(), Err(UploadError::DiskFault)),
-    }
-}
-
-/// Deletes the upload 1 on a disk that stops after so many calls of its opening and the deletion, and crashes in this
-/// way: the upload is whole or gone then, and gone where the deletion was made.
-fn stop_after(rt: &impl Abort, alloc: Global, calls: u64, kind: Crash) {
-    let (disk, answer) = deleted_within(rt, alloc, calls);
-    let mut spool = opened(rt, alloc, disk.crash(kind));
-    let whole = is_whole(&mut spool);
-    let gone = is_gone(&mut spool);
-    drop(spool.into_disk());
-    // opening is 540 calls, and the deletion of an upload with one block 11
-    if calls < 551 {
-        assert!(rt; whole || gone, "{calls}");
-        assert_eq!(rt; answer, Err(UploadError::DiskFault), "{calls}");
-    } else {
-        assert_eq!(rt; (whole, gone, answer), (false, true, Ok(())));
-    }
-}
-
-/// Lets the disk stop at each call of the deletion and behind it, and crash in this way.
-fn stop_everywhere(rt: &impl Abort, alloc: Global, kind: Crash) {
-    for calls in 540..552 {
-        stop_after(rt, alloc, calls, kind);
-    }
-}
-
-#[test]
-fn upload_is_whole_or_gone_where_unsynced_bytes_are_lost(rt: HostRuntime) {
-    stop_everywhere(&rt, rt.alloc(), Crash::Old);
-}
-
-#[test]
-fn upload_is_whole_or_gone_where_unsynced_bytes_are_kept(rt: HostRuntime) {
-    stop_everywhere(&rt, rt.alloc(), Crash::New);
-}
-
-#[test]
-fn upload_is_whole_or_gone_where_unsynced_bytes_are_torn(rt: HostRuntime) {
-    // the byte of an open gate
-    stop_everywhere(&rt, rt.alloc(), Crash::Torn(0xA5));
 }

@@ -24,15 +24,6 @@ pub(crate) fn byte_at(rt: &impl Abort, disk: &mut MemoryDisk, at: u64) -> u8 {
     byte[0]
 }
 
-/// A page of a disk.
-pub(crate) fn page_of(rt: &impl Abort, disk: &mut MemoryDisk, page: u16) -> [u8; 4096] {
-    let at = 4096 * u64::from(page);
-    assert!(rt; at + 4096 <= disk.len());
-    let mut bytes = [0; 4096];
-    disk.read(at, &mut bytes).expect(rt, "a read");
-    bytes
-}
-
 /// Writes bytes.
 pub(crate) fn put(rt: &impl Abort, disk: &mut MemoryDisk, at: u64, bytes: &[u8]) {
     let size = disk.len();

@@ -27,22 +27,3 @@ fn hello(rt: HostRuntime) {
     let read = table.read_text(1, 2, &mut buf);
     assert_eq!(rt; (read, buf), (Ok(3), *b"llo\0"));
 }
-
-#[test]
-fn character_cut_in_two(rt: HostRuntime) {
-    let mut table = with_one(&rt, rt.alloc(), 3);
-    assert_eq!(rt; patched(&mut table, 1, 0, b"\xf0\x90"), Ok(2));
-    let mut state = [0; 32];
-    state[3] = 1;
-    state[5] = 2;
-    state[6] = 0xf0;
-    state[7] = 0x90;
-    assert_eq!(rt;
-        table.record(1).map(|r| (r.state, r.text_len)),
-        Some((state, 0))
-    );
-    assert_eq!(rt; patched(&mut table, 1, 2, b"\x80"), Ok(3));
-    let mut buf = [0; 4];
-    let read = table.read_text(1, 0, &mut buf);
-    assert_eq!(rt; (read, buf), (Ok(3), *b"\xef\xbf\xbd\0"));
-}

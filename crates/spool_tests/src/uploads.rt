@@ -5,10 +5,9 @@ ghost use Rattle.upload_rules.specs.Records.{IsWellFormed};
 
 use enc_index::IndexSet;
 use enc_model::{Encoding, Mode};
-use spool_disk::{Crash, Disk, FileDisk, HiccupDisk, MemoryDisk};
+use spool_disk::{Disk, MemoryDisk};
 use spool_image::{Spool, format};
 use std::alloc::Global;
-use std::fs;
 use std::process::Abort;
 use upload_rules::{New, UploadError, UploadRefusal, Uploads};
 
@@ -123,49 +122,6 @@ fn blocks_of_a_dropped_append_come_back(rt: HostRuntime) {
     drop(spool.into_disk());
 }
 
-/// What an append of five bytes to the upload 1 answers on a disk where the call of this number fails once and writes
-/// other bytes, and the disk.
-fn patched_around(
-    alloc: Global,
-    disk: MemoryDisk,
-    call: u64,
-) -> (MemoryDisk, Result<u64, UploadError>) {
-    match Spool::open(alloc, HiccupDisk::new(disk, call, Some(0xA5))) {
-        Ok(mut spool) => {
-            let answer = patched(&mut spool, 1, 0, b"hello");
-            (spool.into_disk().into_inner(), answer)
-        }
-        Err((disk, _)) => (disk.into_inner(), Err(UploadError::DiskFault)),
-    }
-}
-
-/// Whether an append was committed or not, as it was answered, where the call of this number fails.
-fn is_right_around(rt: &impl Abort, alloc: Global, call: u64) -> bool {
-    let (disk, answer) = patched_around(alloc, with_one(rt, alloc, 5).into_disk(), call);
-    let mut spool = opened(rt, alloc, disk.crash(Crash::Torn(9)));
-    let accepted = spool.record(1).map(|r| r.accepted);
-    let mut buf = [0; 6];
-    let read = spool.read_text(1, 0, &mut buf);
-    drop(spool.into_disk());
-    let whole = accepted == Some(5) && read == Ok(5) && buf == *b"hello\0";
-    whole || accepted == Some(0) && answer == Err(UploadError::DiskFault)
-}
-
-#[test]
-fn append_is_committed_or_not_where_an_early_call_fails(rt: HostRuntime) {
-    // opening is 540 calls
-    for call in 540..550 {
-        assert!(rt; is_right_around(&rt, rt.alloc(), call), "{call}");
-    }
-}
-
-#[test]
-fn append_is_committed_or_not_where_a_late_call_fails(rt: HostRuntime) {
-    for call in 550..570 {
-        assert!(rt; is_right_around(&rt, rt.alloc(), call), "{call}");
-    }
-}
-
 #[test]
 fn append_wants_no_block_for_what_is_stored(rt: HostRuntime) {
     let text = vec![in rt.alloc(); b'a'; 40960].expect(&rt, "memory for a text");
@@ -190,28 +146,4 @@ fn append_wants_a_block_for_the_unfinished_one(rt: HostRuntime) {
         assert_eq!(rt; patched(&mut spool, 1, 61000, b"a"), want);
         drop(spool.into_disk());
     }
-}
-
-/// A file of this test alone.
-const FILE: &str = "spool_tests_file";
-
-#[test]
-fn file_holds_its_uploads_when_opened_again(rt: HostRuntime) {
-    let indexes = IndexSet::new(rt.alloc()).expect(&rt, "memory for a set");
-    let mut disk = FileDisk::create(&rt, FILE, 557 * 4096).expect(&rt, "a file");
-    format(&mut disk, 16, &indexes).expect(&rt, "a spool");
-    let mut spool = opened(&rt, rt.alloc(), disk);
-    assert_eq!(rt; spool.create(plain(rt.alloc(), 5)), Ok(1));
-    assert_eq!(rt; patched(&mut spool, 1, 0, b"hello"), Ok(5));
-    drop(spool.into_disk());
-    let mut again = opened(
-        &rt,
-        rt.alloc(),
-        FileDisk::open(&rt, FILE).expect(&rt, "the file"),
-    );
-    let mut buf = [0; 6];
-    let read = again.read_text(1, 0, &mut buf);
-    assert_eq!(rt; (read, buf), (Ok(5), *b"hello\0"));
-    drop(again.into_disk());
-    fs::remove_file(&rt, FILE).expect(&rt, "the file goes");
 }

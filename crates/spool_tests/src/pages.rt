@@ -1,17 +1,11 @@
-//! Records, rows and other pages as bytes, and changes of them.
+//! Records, rows and other pages as bytes.
 
-ghost use Rattle.std.specs.Prelude.{◌≡◌, ◌≤◌, ◌<◌, IfOk, length};
-ghost use Rattle.spool_journal.specs.Image.{journal_pages, InArea};
+ghost use Rattle.std.specs.Prelude.{◌≡◌, ◌≤◌, ◌<◌, length};
 
-use crate::disks::{byte_at, disk_of};
-use spool_disk::{Crash, Disk};
-use spool_journal::{Layout, PAGE, Pages, commit};
 use spool_pages::{
-    Damaged, RECORD, SlotRecord, Version, blocks_said, change, fill_rows, first_page,
-    is_blank_behind_fields, pages_of_change, pages_of_new, row_at, row_page, state_page,
-    version_and_next,
+    Damaged, RECORD, SlotRecord, Version, blocks_said, first_page, is_blank_behind_fields, row_at,
+    row_page, state_page, version_and_next,
 };
-use std::alloc::{AllocError, Global};
 
 /// Whether a record's bytes on a spool of this version are read as the same record.
 fn is_read_back(record: &SlotRecord<'_>, version: Version) -> bool
@@ -27,6 +21,20 @@ fn is_read_back(record: &SlotRecord<'_>, version: Version) -> bool
                 && read.metadata == record.metadata
         }
         _ => false,
+    }
+}
+
+/// The record of upload 7, with this metadata.
+fn seventh(metadata: &[u8]) -> SlotRecord<'_>
+    ensures { result.metadata ≡ metadata.now }
+{
+    SlotRecord {
+        number: 7,
+        declared: Some(4),
+        accepted: 0,
+        text_len: 0,
+        state: [0; 32],
+        metadata,
     }
 }
 
@@ -163,83 +171,4 @@ fn count_of_blocks_is_read_as_it_was_written(rt: HostRuntime) {
     front.copy_from_slice(&first_page(65536)[..12]);
     assert!(rt; blocks_said(&front) == Some(65536));
     assert!(rt; blocks_said(&[0; 12]).is_none());
-}
-
-/// The record of upload 7, with a byte of metadata.
-fn seventh(metadata: &[u8]) -> SlotRecord<'_>
-    ensures { result.metadata ≡ metadata.now }
-{
-    SlotRecord {
-        number: 7,
-        declared: Some(4),
-        accepted: 0,
-        text_len: 0,
-        state: [0; 32],
-        metadata,
-    }
-}
-
-#[test]
-fn change_is_committed(rt: HostRuntime) {
-    let layout = Layout::of(1040).expect(&rt, "enough blocks");
-    let mut disk = disk_of(rt.alloc(), layout.pages()).expect(&rt, "memory");
-    let record = seventh(b"n");
-    let pages = pages_of_new(
-        rt.alloc(),
-        &layout,
-        Version::Two,
-        8,
-        3,
-        &record,
-        Some(&seventh(b"")),
-    )
-    .expect(&rt, "memory");
-    commit(&mut disk, &layout, &pages).expect(&rt, "no call fails");
-    let mut pages = pages_of_change(
-        rt.alloc(),
-        &layout,
-        Version::Two,
-        0,
-        Some(&record),
-        None,
-        &[1, 1039, 0],
-    )
-    .expect(&rt, "memory");
-    fill_rows(&mut pages, &layout, &[None, Some((3, 0))]);
-    assert!(rt; pages.len() == 3 && pages.number(2) == 544);
-    commit(&mut disk, &layout, &pages).expect(&rt, "no call fails");
-    // the version, the next number, the numbers of three records, and the slot of a row
-    for (at, want) in [
-        (285 * 4096 + 3, 2),
-        (285 * 4096 + 11, 8),
-        (286 * 4096 + 7, 7),
-        (287 * 4096 + 7, 7),
-        (287 * 4096 + 2048 + 7, 7),
-        (542 * 4096 + 8 + 3, 4),
-    ] {
-        assert_eq!(rt; byte_at(&mut disk, at), Ok(want), "at {at}");
-    }
-}
-
-/// The next number of a spool of 16 blocks, whose state page is 283.
-fn next_number(alloc: Global, next: u64) -> Result<Pages, AllocError>
-    ensures { IfOk result (λ pages. InArea (journal_pages 16) pages × (1 ≤ length pages)) }
-{
-    let mut pages = Pages::new(alloc);
-    pages.put(283, &state_page(Version::Two, next))?;
-    Ok(pages)
-}
-
-#[test]
-fn change_is_on_the_disk(rt: HostRuntime) {
-    let layout = Layout::of(16).expect(&rt, "enough blocks");
-    let mut disk = disk_of(rt.alloc(), layout.pages()).expect(&rt, "memory");
-    let pages = next_number(rt.alloc(), 7).expect(&rt, "memory");
-    change(&mut disk, &layout, &pages).expect(&rt, "no call fails");
-    let mut disk = disk.crash(Crash::Torn(9));
-    let mut page = [0; PAGE];
-    assert!(rt; disk.len() >= 4096 * 284);
-    disk.read(4096 * 283, &mut page)
-        .expect(&rt, "no call fails");
-    assert!(rt; version_and_next(&page) == Some((Version::Two, 7)));
 }

@@ -1,0 +1,229 @@
+//! Going on after a crash: an upload is cut inside a character, its next append stops at any call of the disk, a crash
+//! comes, and what an opening finds goes on to the end as one uncut decoding does.
+
+use crate::uploads::{opened, patched};
+use enc_index::{Index, IndexSet, Kind};
+use enc_model::{Encoding, Mode};
+use spool_disk::{Crash, FuseDisk, MemoryDisk};
+use spool_image::{Spool, format};
+use std::alloc::Global;
+use std::process::Abort;
+use upload_rules::{New, Uploads};
+
+/// A piece of an upload, the text after it, and the state bytes after it: those that aren't written out are zeros.
+type Bar<'a> = (&'a [u8], &'a [u8], &'a [u8]);
+
+/// An upload in pieces, which are all its bytes.
+#[derive(Clone, Copy)]
+struct Row<'a> {
+    from: Encoding,
+    to: Encoding,
+    bars: &'a [Bar<'a>],
+}
+
+/// The state bytes were worked out by hand from the format of a spool: the source, the output, the mode, the phase, the
+/// encoding in effect and its decoder's state; at 16 the encoder's.
+const ROWS: [Row; 6] = [
+    // a byte order mark in three pieces
+    Row {
+        from: Encoding::Utf8,
+        to: Encoding::Utf8,
+        bars: &[
+            (b"\xef", b"", &[0, 0, 0, 0, 1, 0xEF]),
+            (b"\xbb", b"", &[0, 0, 0, 0, 2, 0xEF, 0xBB]),
+            (b"\xbfA", b"A", &[0, 0, 0, 2]),
+        ],
+    },
+    // U+1F600, cut after its lead surrogate and inside its trail
+    Row {
+        from: Encoding::Utf16Le,
+        to: Encoding::Utf8,
+        bars: &[
+            (b"\x3d\xd8", b"", &[2, 0, 0, 1, 2, 2, 0, 0xD8, 0x3D]),
+            (b"\x00", b"", &[2, 0, 0, 1, 2, 3, 0, 0xD8, 0x3D]),
+            (b"\xde", b"\xf0\x9f\x98\x80", &[2, 0, 0, 2]),
+        ],
+    },
+    // U+3042, then a lead byte before a space
+    Row {
+        from: Encoding::ShiftJis,
+        to: Encoding::Utf8,
+        bars: &[
+            (b"\x82", b"", &[3, 0, 0, 1, 3, 0x82]),
+            (b"\xa0", b"\xe3\x81\x82", &[3, 0, 0, 1, 3]),
+            (b"\x82 ", b"\xe3\x81\x82\xef\xbf\xbd ", &[3, 0, 0, 2]),
+        ],
+    },
+    // U+4E02 of jis0212
+    Row {
+        from: Encoding::EucJp,
+        to: Encoding::Utf8,
+        bars: &[
+            (b"\x8f", b"", &[4, 0, 0, 1, 4, 0x8F]),
+            (b"\xb0", b"", &[4, 0, 0, 1, 4, 0xB0, 1]),
+            (b"\xa1", b"\xe4\xb8\x82", &[4, 0, 0, 2]),
+        ],
+    },
+    // an escape in three pieces, U+3042, two escapes in a row
+    Row {
+        from: Encoding::Iso2022Jp,
+        to: Encoding::Utf8,
+        bars: &[
+            (b"\x1b", b"", &[5, 0, 0, 1, 5, 5]),
+            (b"$", b"", &[5, 0, 0, 1, 5, 6, 0, 0x24]),
+            (b"B$\"", b"\xe3\x81\x82", &[5, 0, 0, 1, 5, 3, 3]),
+            (
+                b"\x1b(B\x1b(BA",
+                b"\xe3\x81\x82\xef\xbf\xbdA",
+                &[5, 0, 0, 2],
+            ),
+        ],
+    },
+    // U+3042 by an escape, then a character without a code, back in ASCII
+    Row {
+        from: Encoding::Utf8,
+        to: Encoding::Iso2022Jp,
+        bars: &[
+            (
+                b"\xe3\x81\x82",
+                b"\x1b$B$\"",
+                &[0, 5, 0, 1, 0, 0, 0, 0, 0, 0, 0, 0, 0, 0, 0, 0, 2],
+            ),
+            (
+                b"\xf0\x9f\x98\x80",
+                b"\x1b$B$\"\x1b(B&#128512;",
+                &[0, 5, 0, 2],
+            ),
+        ],
+    },
+];
+
+/// An opening makes 540 calls of the disk, and the last of these read rows.
+const FIRST: u64 = 536;
+
+/// More calls than an opening and an append make.
+const LAST: u64 = 600;
+
+/// A spool of 16 blocks without uploads, with the index files that the rows need.
+fn with_files(rt: &impl Abort, alloc: Global) -> MemoryDisk {
+    let mut indexes = IndexSet::new(alloc).expect(rt, "memory for a set");
+    for (kind, lines) in [
+        (Kind::Jis0208, b"283\t3042\n".as_slice()),
+        (Kind::Jis0212, b"1410\t4E02\n"),
+        (Kind::Katakana, b"0\t3002\n"),
+    ] {
+        indexes.set(Index::read(alloc, lines, kind).expect(rt, "an index file"));
+    }
+    let mut disk = MemoryDisk::new(alloc, 557 * 4096).expect(rt, "memory for a disk");
+    format(&mut disk, 16, &indexes).expect(rt, "a spool");
+    disk
+}
+
+impl Row<'_> {
+    /// How many bytes the pieces before this bar have.
+    fn offset(&self, bar: usize) -> u64 {
+        self.bars.iter().take(bar).map(|it| it.0.len() as u64).sum()
+    }
+
+    /// Makes the upload.
+    fn make(&self, rt: &impl Abort, alloc: Global, spool: &mut Spool<MemoryDisk>) {
+        let offered = spool.indexes().offers(self.from) && spool.indexes().offers(self.to);
+        assert!(rt; offered && self.to != Encoding::Utf16Be && self.to != Encoding::Utf16Le);
+        let new = New {
+            declared: Some(self.offset(self.bars.len())),
+            from: self.from,
+            to: self.to,
+            mode: Mode::Html,
+            metadata: String::new(alloc),
+        };
+        assert_eq!(rt; spool.create(new), Ok(1));
+    }
+
+    /// After so many pieces all is as the row says.
+    fn check(&self, rt: &impl Abort, spool: &mut Spool<MemoryDisk>, bar: usize) {
+        let record = spool.record(1).expect(rt, "the upload");
+        let (accepted, state) = (record.accepted, record.state);
+        assert_eq!(rt; accepted, self.offset(bar));
+        if bar > 0 {
+            let (_, text, begins) = self.bars[bar - 1];
+            let (front, zeros) = state.split_at(begins.len());
+            assert!(rt;
+                front == begins && zeros.iter().all(|it| *it == 0),
+                "{state:?}"
+            );
+            let mut buf = [0; 64];
+            let read = spool.read_text(1, 0, &mut buf).expect(rt, "a text");
+            assert!(rt; &buf[..read] == text, "{buf:?}");
+        }
+    }
+
+    /// The pieces between two bars come, and after each all is as the row says.
+    fn go_on(&self, rt: &impl Abort, spool: &mut Spool<MemoryDisk>, from: usize, to: usize) {
+        for bar in from..to {
+            let answer = patched(spool, 1, self.offset(bar), self.bars[bar].0);
+            assert_eq!(rt; answer, Ok(self.offset(bar + 1)));
+            self.check(rt, spool, bar + 1);
+        }
+    }
+
+    /// The piece at a bar comes on a disk that stops after so many calls, and then a crash. Whether it was answered.
+    fn stops(&self, alloc: Global, disk: MemoryDisk, bar: usize, calls: u64) -> (MemoryDisk, bool) {
+        match Spool::open(alloc, FuseDisk::new(disk, calls)) {
+            Ok(mut spool) => {
+                let answer = patched(&mut spool, 1, self.offset(bar), self.bars[bar].0);
+                (spool.into_disk().into_inner(), answer.is_ok())
+            }
+            Err((disk, _)) => (disk.into_inner(), false),
+        }
+    }
+
+    /// As `stops`, on a fresh spool; what an opening finds is before the piece or after it, and goes on to the end.
+    fn resumes(&self, rt: &impl Abort, alloc: Global, bar: usize, calls: u64, kind: Crash) -> bool {
+        let mut spool = opened(rt, alloc, with_files(rt, alloc));
+        self.make(rt, alloc, &mut spool);
+        self.go_on(rt, &mut spool, 0, bar);
+        let (disk, answered) = self.stops(alloc, spool.into_disk(), bar, calls);
+        let mut spool = opened(rt, alloc, disk.crash(kind));
+        let accepted = spool.record(1).map(|it| it.accepted);
+        let came = if accepted == Some(self.offset(bar)) {
+            bar
+        } else {
+            bar + 1
+        };
+        assert!(rt; !answered || came == bar + 1);
+        self.check(rt, &mut spool, came);
+        self.go_on(rt, &mut spool, came, self.bars.len());
+        drop(spool.into_disk());
+        answered
+    }
+
+    /// The piece at a bar meets a stop at each call, until it is answered.
+    fn resumes_at(&self, rt: &impl Abort, alloc: Global, bar: usize, kind: Crash) {
+        let mut calls = FIRST;
+        while calls < LAST && !self.resumes(rt, alloc, bar, calls, kind) {
+            calls += 1;
+        }
+        assert!(rt; FIRST < calls && calls < LAST);
+    }
+}
+
+/// A stop at each call of each piece of each row, and a crash of this kind.
+fn resume_all(rt: &impl Abort, alloc: Global, kind: Crash) {
+    for row in ROWS {
+        for bar in 0..row.bars.len() {
+            row.resumes_at(rt, alloc, bar, kind);
+        }
+    }
+}
+
+#[test]
+fn cut_uploads_go_on_after_bytes_were_lost_or_kept(rt: HostRuntime) {
+    resume_all(&rt, rt.alloc(), Crash::Old);
+    resume_all(&rt, rt.alloc(), Crash::New);
+}
+
+#[test]
+fn cut_uploads_go_on_after_bytes_were_torn(rt: HostRuntime) {
+    resume_all(&rt, rt.alloc(), Crash::Torn(0));
+    resume_all(&rt, rt.alloc(), Crash::Torn(0xA5));
+}
