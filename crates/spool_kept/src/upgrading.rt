@@ -40,7 +40,7 @@ impl Kept {
     /// runs out.
     pub fn pages_of_upgrade(&self, alloc: Global) -> Result<Pages, AllocError>
         ensures area { IfOk result (λ pages. InArea (journal_pages self.now.layout) pages) }
-        ensures some { IfOk result (λ pages. 1 ≤ length pages) }
+        ensures count { IfOk result (λ pages. length pages ≡ 257) }
         ensures changes { (v : View) → KeepsView self.now v → IfOk result (λ pages. Changes pages v (upgraded v)) }
     {
         let records = slot_records(alloc, &self.slots)?;

@@ -33,7 +33,7 @@ pub fn pages_of_upgrade(
     requires slots { length slots.now ≡ 512 }
     requires metadata { (s : ℕ) → IfSome (get_or slots.now s None) (λ r. length r.metadata ≤ 1536) }
     ensures area { IfOk result (λ pages. InArea (journal_pages layout.now) pages) }
-    ensures some { IfOk result (λ pages. 1 ≤ length pages) }
+    ensures count { IfOk result (λ pages. length pages ≡ 257) }
     ensures changes { (v : View) → v.blocks ≡ layout.now → v.next ≡ next → v.slots ≡ slots.now
         → IfOk result (λ pages. Changes pages v (upgraded v)) }
 {

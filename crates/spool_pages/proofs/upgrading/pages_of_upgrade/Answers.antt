@@ -1,8 +1,8 @@
 use Rattle.std.proofs.Common.{◌≡◌, ◌+◌, ℕ, Some, length, refl, ◌∙◌, ap, subst, arith}
 use Rattle.spool_journal.specs.Image.{journal_pages}
-use Rattle.spool_journal.proofs.Puts.{put_area}
+use Rattle.spool_journal.proofs.Puts.{put_area, put_length}
 use Rattle.spool_pages.specs.Changes.{page_in, state_number}
-use Rattle.spool_pages.proofs.PageIn.{in_none, in_put, in_put_else, number_none, some_length}
+use Rattle.spool_pages.proofs.PageIn.{in_none, in_put, in_put_else, number_none}
 use Rattle.spool_pages.proofs.RecordBytes.{padded_stands}
 use Rattle.spool_pages.proofs.Upgraded.{slots_more, upgraded_changes}
 use Rattle.spool_pages.proofs.upgrading.pages_of_upgrade.Goals as goal
@@ -20,8 +20,7 @@ loop-pair-init c =
       area = put_area put
           (λ k lt. absurd (let no : length c.new-pages.result ≡ 0 = ap length empty in omega (arith, lt, no)))
           c.state_number.ensures.inside;
-      some = some_length c.state_number.result c.put.new.self c.state_page.result
-          (in_put put (in_none c.state_number.result c.new-pages.result empty));
+      count = let no : length c.new-pages.result ≡ 0 = ap length empty in omega (arith, put_length put, no);
       state = refl;
       says = λ s lt. absurd (omega (arith, lt));
       none = λ q from. in_put_else put q (λ e. omega (arith, e, from, c.state_number.ensures.number))
@@ -38,7 +37,7 @@ loop-pair-preserved c =
     let none = inv.none c.record_number.result (omega (arith, here)) in
     record {
       area = put_area put inv.area c.record_number.ensures.inside;
-      some = some_length c.record_number.result c.put-in-loop-pair.new.self c.pair_page.result (in_put put none);
+      count = omega (arith, put_length put, inv.count);
       state = in_put_else put (state_number n) (λ e. omega (arith, e, here)) ∙ inv.state;
       says = slots_more n c.loop-pair.pair c.args.slots.now put here inv.says none c.pair_page.ensures.first
           c.pair_page.ensures.second;

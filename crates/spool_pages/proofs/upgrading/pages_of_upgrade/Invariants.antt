@@ -7,7 +7,7 @@ use Rattle.spool_pages.proofs.upgrading.pages_of_upgrade.Given as goal
 abbrev pub invariant-loop-pair : goal.invariant-loop-pair
 invariant-loop-pair l = record {
   area : InArea (journal_pages l.layout) l.pages;
-  some : 1 ≤ length l.pages;
+  count : length l.pages ≡ l.pair + 1;
   state : page_in (state_number l.layout) l.pages ≡ page_in (state_number l.layout) l.initial.pages;
   says : (s : ℕ) → s < 2 * l.pair → SaysAt l.layout l.pages s (get_or l.slots s None);
   none : (q : ℕ) → 26 + journal_pages l.layout + l.pair ≤ q → page_in q l.pages ≡ None;
