@@ -3,4 +3,5 @@ mod Talks
 mod Behind
 mod Joints
 mod Freed
+mod Carries
 mod All

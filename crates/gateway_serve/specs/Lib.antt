@@ -4,4 +4,6 @@ pub mod Bytes
 pub mod Served
 pub mod Idle
 pub mod Waiting
+pub mod Streams
+pub mod Gone
 pub mod Joined

@@ -4,6 +4,10 @@ ghost use Rattle.upload_rules.specs.Answers.{Counts};
 ghost use Rattle.gateway_serve.specs.Joined.{Goes, IsOver, Writes, Reads, joint_of, nothing_yet, with_link};
 ghost use Rattle.gateway_serve.specs.Joined.{stage_by, stage_behind, taken_behind, at_of, HasIdled};
 ghost use Rattle.gateway_serve.specs.Waiting.{HasRoom};
+ghost use Rattle.gateway_serve.specs.Bytes.{stream_of};
+ghost use Rattle.gateway_serve.specs.Streams.{StaysOf, socket_of};
+ghost use Rattle.gateway_serve.specs.Gone.{IsFailure};
+ghost use Rattle.std.specs.IoError.{error_kind};
 
 use crate::buffers::{Input, Output, PIECE};
 use crate::idle::{At, Pace, Tick};
@@ -56,7 +60,8 @@ pub(crate) struct Link<S> {
 impl<S: Read + Write> Link<S> {
     /// A connection of which nothing came, accepted now. The socket doesn't wait.
     pub(crate) fn new(alloc: Global, stream: S, now: Duration) -> Self
-        ensures { joint_of result ≡ nothing_yet }
+        ensures stream { stream_of (socket_of result) ≡ stream }
+        ensures none { joint_of result ≡ nothing_yet }
     {
         Link {
             socket: Socket::new(stream),
@@ -87,6 +92,7 @@ impl<S: Read + Write> Link<S> {
         conn: usize,
         tick: Tick,
     ) -> Result<Left, DiskFault>
+        ensures stream { StaysOf S.remaining S.contents (socket_of self.old) (socket_of self.new) }
         ensures serves { Goes C.Connections gateway.old gateway.new result self.old self.new conn }
         ensures over { result ≡ Ok Left.Closed → IsOver (joint_of self.new) }
         ensures counts { Counts (IsErr result) (C.failures gateway.old) (C.failures gateway.new) }
@@ -102,6 +108,7 @@ impl<S: Read + Write> Link<S> {
 
     // What a turn leaves at its time: a connection that was idle for too long is lost.
     fn left_at(&mut self, left: Left, tick: Tick) -> Left
+        ensures socket { socket_of self.new ≡ socket_of self.old }
         ensures same { joint_of self.new ≡ joint_of self.old }
         ensures over { result ≡ Left.Closed → left ≡ Left.Closed }
         ensures idle { result ≡ Left.Lost → left ≢ Left.Lost → HasIdled self.old tick }
@@ -132,6 +139,7 @@ impl<S: Read + Write> Link<S> {
 
     // Writes, asks for the next piece of a text, or takes bytes.
     fn go_on<C: Connections>(&mut self, gateway: &mut C, conn: usize) -> Result<Left, DiskFault>
+        ensures stream { StaysOf S.remaining S.contents (socket_of self.old) (socket_of self.new) }
         ensures serves { Goes C.Connections gateway.old gateway.new result self.old self.new conn }
         ensures over { result ≡ Ok Left.Closed → IsOver (joint_of self.new) }
         ensures counts { Counts (IsErr result) (C.failures gateway.old) (C.failures gateway.new) }
@@ -148,6 +156,7 @@ impl<S: Read + Write> Link<S> {
 
     // Writes of what is left as much as the socket takes.
     fn write(&mut self) -> Left
+        ensures stream { StaysOf S.remaining S.contents (socket_of self.old) (socket_of self.new) }
         ensures part { Writes (joint_of self.old) (joint_of self.new) }
         ensures unclosed { result ≢ Left.Closed }
     {
@@ -161,6 +170,7 @@ impl<S: Read + Write> Link<S> {
     // Asks the session for the next piece of a text.
     fn more<C: Connections>(&mut self, gateway: &mut C, conn: usize) -> Result<Left, DiskFault>
         requires { HasRoom (joint_of self.old).output }
+        ensures socket { socket_of self.new ≡ socket_of self.old }
         ensures serves { Goes C.Connections gateway.old gateway.new result self.old self.new conn }
         ensures unclosed { result ≢ Ok Left.Closed }
         ensures counts { Counts (IsErr result) (C.failures gateway.old) (C.failures gateway.new) }
@@ -176,6 +186,7 @@ impl<S: Read + Write> Link<S> {
 
     // Gives the session what was read, or else what the socket has now.
     fn take<C: Connections>(&mut self, gateway: &mut C, conn: usize) -> Result<Left, DiskFault>
+        ensures stream { StaysOf S.remaining S.contents (socket_of self.old) (socket_of self.new) }
         ensures serves { Goes C.Connections gateway.old gateway.new result self.old self.new conn }
         ensures unclosed { result ≢ Ok Left.Closed }
         ensures counts { Counts (IsErr result) (C.failures gateway.old) (C.failures gateway.new) }
@@ -192,6 +203,7 @@ impl<S: Read + Write> Link<S> {
     // Reads what the socket has now, where the session took all that was read before. Where there is nothing to give:
     // what that leaves of the connection.
     fn read(&mut self) -> Option<Left>
+        ensures stream { StaysOf S.remaining S.contents (socket_of self.old) (socket_of self.new) }
         ensures part { Reads (joint_of self.old) (joint_of self.new) }
         ensures unclosed { IfSome result (λ left. left ≢ Left.Closed) }
     {
@@ -208,6 +220,7 @@ impl<S: Read + Write> Link<S> {
     // Gives the session what was read, until all is taken, enough waits to be written, a text is to be given or the
     // connection is closed.
     fn give<C: Connections>(&mut self, gateway: &mut C, conn: usize) -> Result<(), DiskFault>
+        ensures socket { socket_of self.new ≡ socket_of self.old }
         ensures serves { Goes C.Connections gateway.old gateway.new result self.old self.new conn }
         ensures counts { Counts (IsErr result) (C.failures gateway.old) (C.failures gateway.new) }
     {
@@ -232,6 +245,7 @@ impl<S: Read + Write> Link<S> {
     // Gives the session what was read once: it takes the bytes of at most one request.
     fn came<C: Connections>(&mut self, gateway: &mut C, conn: usize) -> Result<(), DiskFault>
         requires { HasRoom (joint_of self.old).output }
+        ensures socket { socket_of self.new ≡ socket_of self.old }
         ensures serves { Goes C.Connections gateway.old gateway.new result self.old self.new conn }
         ensures counts { Counts (IsErr result) (C.failures gateway.old) (C.failures gateway.new) }
     {
@@ -295,7 +309,8 @@ fn stage_by(answer: Answer) -> Stage
 
 // What a failed read or write leaves of a connection: one that would have waited is tried again in the next turn.
 fn left_behind(error: &io::Error) -> Left
-    ensures { result ≢ Left.Closed }
+    ensures unclosed { result ≢ Left.Closed }
+    ensures lost { result ≡ Left.Lost → IsFailure (error_kind error.now) }
 {
     match error.kind() {
         ErrorKind::WouldBlock => Left::Idle,

@@ -2,6 +2,7 @@
 ghost use Rattle.std.specs.Prelude.{◌≡◌, ◌↔◌, IsTrue, IsErr, IsErrOf};
 ghost use Rattle.upload_rules.specs.Answers.{Counts};
 ghost use Rattle.gateway_serve.specs.Joined.{GoesAt, OthersStay, IsNew, with_place};
+ghost use Rattle.gateway_serve.specs.Streams.{PlaceIsOf, PlaceKeeps};
 
 use crate::idle::Tick;
 use crate::links::{Left, Link};
@@ -36,7 +37,8 @@ pub(crate) enum Turned {
 impl<S: Read + Write + Drop> Place<S> {
     /// A connection that was opened now for a socket, which doesn't wait.
     pub(crate) fn open(alloc: Global, stream: S, now: Duration) -> Self
-        ensures { IsNew result }
+        ensures stream { PlaceIsOf S.remaining S.contents stream result }
+        ensures none { IsNew result }
     {
         Place::Open(Link::new(alloc, stream, now))
     }
@@ -58,6 +60,7 @@ impl<S: Read + Write + Drop> Place<S> {
         tick: Tick,
         ended: &mut Ended,
     ) -> Result<Turned, DiskFault>
+        ensures streams { PlaceKeeps S.remaining S.contents self.old self.new ended.old.sockets ended.new.sockets }
         ensures serves { GoesAt C.Connections gateway.old gateway.new result self.old self.new
             ended.old.sockets ended.new.sockets conn }
         ensures others { OthersStay conn ended.old.sockets ended.new.sockets }
@@ -90,6 +93,7 @@ impl<S: Read + Write + Drop> Place<S> {
         conn: usize,
         ended: &mut Ended,
     ) -> Result<(), DiskFault>
+        ensures streams { PlaceKeeps S.remaining S.contents self.old self.new ended.old.sockets ended.new.sockets }
         ensures serves { GoesAt C.Connections gateway.old gateway.new result self.old self.new
             ended.old.sockets ended.new.sockets conn }
         ensures free { self.new ≡ Place.Free }
@@ -105,6 +109,7 @@ impl<S: Read + Write + Drop> Place<S> {
 
     /// Lets the socket go, if one is there: the session isn't told.
     pub(crate) fn free(&mut self, conn: usize, ended: &mut Ended)
+        ensures streams { PlaceKeeps S.remaining S.contents self.old self.new ended.old.sockets ended.new.sockets }
         ensures free { self.new ≡ Place.Free }
         ensures ended { ended.new.sockets ≡ with_place conn self.old ended.old.sockets }
     {

@@ -5,6 +5,7 @@ ghost use Rattle.tus_session.specs.History.{State, Marked};
 ghost use Rattle.gateway_serve.specs.Served.{Serves, AllServed, AllLeft};
 ghost use Rattle.gateway_serve.specs.Joined.{AllFell, GoesOn, Ends, Finishes, IsFreeAt, SamePlaces, places_of};
 ghost use Rattle.gateway_serve.specs.Joined.{ended_of};
+ghost use Rattle.gateway_serve.specs.Streams.{AllHave, AllHad, AllKeep};
 
 use crate::idle::{Pace, Tick, Watch};
 use crate::places::{Place, Turned, unless_failed};
@@ -75,6 +76,8 @@ impl<S: Read + Write + OpenStream + Drop> Server<S> {
         connections: u64,
         turns: u64,
     ) -> Result<(), DiskFault>
+        ensures streams { AllHave S.remaining S.contents (places_of self.old)
+            → AllHad S.remaining S.contents (ended_of self.old) → AllHad S.remaining S.contents (ended_of self.new) }
         ensures serves { Finishes C.Connections gateway.old gateway.new result (places_of self.old)
             (ended_of self.old) (ended_of self.new) }
         ensures counts { Counts (IsErr result) (C.failures gateway.old) (C.failures gateway.new) }
@@ -97,6 +100,8 @@ impl<S: Read + Write + OpenStream + Drop> Server<S> {
         connections: u64,
         turns: u64,
     ) -> Result<(), DiskFault>
+        ensures streams { AllKeep S.remaining S.contents (places_of self.old) (places_of self.new)
+            (ended_of self.old) (ended_of self.new) }
         ensures serves { Ends C.Connections gateway.old gateway.new result (places_of self.old) (places_of self.new)
             (ended_of self.old) (ended_of self.new) }
         ensures counts { Counts (IsErr result) (C.failures gateway.old) (C.failures gateway.new) }
@@ -118,6 +123,8 @@ impl<S: Read + Write + OpenStream + Drop> Server<S> {
         gateway: &mut C,
         connections: u64,
     ) -> Result<(), DiskFault>
+        ensures streams { AllKeep S.remaining S.contents (places_of self.old) (places_of self.new)
+            (ended_of self.old) (ended_of self.new) }
         ensures serves { GoesOn C.Connections gateway.old gateway.new result (places_of self.old) (places_of self.new)
             (ended_of self.old) (ended_of self.new) }
         ensures counts { Counts (IsErr result) (C.failures gateway.old) (C.failures gateway.new) }
@@ -146,6 +153,8 @@ impl<S: Read + Write + OpenStream + Drop> Server<S> {
         listener: &L,
         gateway: &mut C,
     ) -> Result<(), DiskFault>
+        ensures streams { AllKeep S.remaining S.contents (places_of self.old) (places_of self.new)
+            (ended_of self.old) (ended_of self.new) }
         ensures serves { GoesOn C.Connections gateway.old gateway.new result (places_of self.old) (places_of self.new)
             (ended_of self.old) (ended_of self.new) }
         ensures counts { Counts (IsErr result) (C.failures gateway.old) (C.failures gateway.new) }
@@ -234,6 +243,7 @@ fn turn_each<S: Read + Write + Drop, C: Connections>(
     ended: &mut Ended,
     round: &mut Round,
 ) -> Result<(), DiskFault>
+    ensures streams { AllKeep S.remaining S.contents places.old places.new ended.old.sockets ended.new.sockets }
     ensures serves { GoesOn C.Connections gateway.old gateway.new result places.old places.new
         ended.old.sockets ended.new.sockets }
     ensures counts { Counts (IsErr result) (C.failures gateway.old) (C.failures gateway.new) }
@@ -256,6 +266,7 @@ fn end_each<S: Read + Write + Drop, C: Connections>(
     gateway: &mut C,
     ended: &mut Ended,
 ) -> Result<(), DiskFault>
+    ensures streams { AllKeep S.remaining S.contents places.old places.new ended.old.sockets ended.new.sockets }
     ensures serves { Ends C.Connections gateway.old gateway.new result places.old places.new
         ended.old.sockets ended.new.sockets }
     ensures counts { Counts (IsErr result) (C.failures gateway.old) (C.failures gateway.new) }
@@ -271,7 +282,8 @@ fn end_each<S: Read + Write + Drop, C: Connections>(
 
 // Lets all sockets go: the session isn't told.
 fn free_each<S: Read + Write + Drop>(places: &mut [Place<S>], ended: &mut Ended)
-    ensures { (st : State) (past : List Marked) → AllFell places.old ended.old.sockets st past
+    ensures streams { AllKeep S.remaining S.contents places.old places.new ended.old.sockets ended.new.sockets }
+    ensures left { (st : State) (past : List Marked) → AllFell places.old ended.old.sockets st past
         → AllLeft ended.new.sockets st past }
 {
     for (conn, place) in places.iter_mut().enumerate() {
@@ -335,6 +347,10 @@ where
         → Serves C.Connections gateway result.gateway st result.served
         (AllServed result.ended.sockets st) (AllLeft result.ended.sockets st) }
     ensures counts { Counts (IsErr result.served) (C.failures gateway) (C.failures result.gateway) }
+
+    // Each of these sockets had a stream of its own, as it was accepted. That was read and written and nothing else:
+    // what the reads gave is what came, and what the writes took is what went.
+    ensures streams { AllHad L.Stream.remaining L.Stream.contents result.ended.sockets }
 {
     let mut gateway = gateway;
     if listener.set_nonblocking(true).is_err() {

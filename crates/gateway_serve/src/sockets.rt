@@ -49,6 +49,7 @@ impl<S: Read + Write> Socket<S> {
 
     /// Nothing came, and nothing went.
     pub(crate) fn new(stream: S) -> Self
+        ensures stream { stream_of result ≡ stream }
         ensures came { came_of result ≡ [] }
         ensures went { went_of result ≡ [] }
     {

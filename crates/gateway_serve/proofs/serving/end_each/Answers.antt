@@ -2,6 +2,7 @@ use Rattle.std.proofs.Common.{◌<◌, ◌≤◌, length, Result, Ok, Err, ◌�
 use Rattle.spool_disk.specs.declared.disk.DiskFault.{DiskFault}
 use Rattle.gateway_script.proofs.Counting.{uncounted}
 use Rattle.gateway_serve.proofs.All.{among_all, all_served, free_before}
+use Rattle.gateway_serve.proofs.Carries.{among_keep}
 use Rattle.gateway_serve.proofs.serving.end_each.Goals as goal
 
 pub returns-in-Err-clause-serves : goal.returns-in-Err-clause-serves
@@ -14,6 +15,14 @@ returns-in-Err-clause-serves g c = λ before st past went joins.
     c.index-places-conn.result c.end.new.self c.loop-conn.ended.sockets c.end.new.ended.sockets
     c.in-Err.ensures.serves c.end.ensures.others inside before st s.0 s.1 s.2
 
+pub returns-in-Err-clause-streams : goal.returns-in-Err-clause-streams
+returns-in-Err-clause-streams g c = λ have had.
+    let s = c.loop-conn.invariant.2 have had in
+    let inside : c.loop-conn.conn < length c.loop-conn.places =
+    omega (arith, c.loop-conn-test.true, c.loop-conn.auto.places) in
+    among_keep g.S.Read.remaining g.S.Write.contents c.loop-conn.places c.loop-conn.conn c.index-places-conn.result
+    c.end.new.self c.loop-conn.ended.sockets c.end.new.ended.sockets inside c.end.ensures.streams s.0 s.1
+
 pub loop-conn-preserved : goal.loop-conn-preserved
 loop-conn-preserved g c =
     let inside : c.loop-conn.conn < length c.loop-conn.places =
@@ -25,7 +34,12 @@ loop-conn-preserved g c =
           among_all g.C.Connections c.loop-conn.gateway c.end.new.gateway told c.loop-conn.places c.loop-conn.conn
           c.index-places-conn.result c.end.new.self c.loop-conn.ended.sockets c.end.new.ended.sockets
           c.in-Ok.ensures.serves c.end.ensures.others inside before st s.0 s.1 s.2,
-      free_before c.loop-conn.conn c.loop-conn.places c.end.new.self inside c.end.ensures.free c.loop-conn.invariant.2,
+      λ have had.
+          let s = c.loop-conn.invariant.2 have had in
+          among_keep g.S.Read.remaining g.S.Write.contents c.loop-conn.places c.loop-conn.conn
+          c.index-places-conn.result c.end.new.self c.loop-conn.ended.sockets c.end.new.ended.sockets inside
+          c.end.ensures.streams s.0 s.1,
+      free_before c.loop-conn.conn c.loop-conn.places c.end.new.self inside c.end.ensures.free c.loop-conn.invariant.3,
     )
 
 pub returns-clause-serves : goal.returns-clause-serves
@@ -36,5 +50,5 @@ returns-clause-serves g c = λ before st past went joins.
       s.0,
       s.1,
       all_served c.loop-conn.places c.loop-conn.ended.sockets st s.0
-          (λ k lt. c.loop-conn.invariant.2 k (omega (arith, lt, most))) s.2,
+          (λ k lt. c.loop-conn.invariant.3 k (omega (arith, lt, most))) s.2,
     )

@@ -1,21 +1,31 @@
 use Rattle.std.proofs.Common.{◌<◌, ◌≤◌, length, arith}
 use Rattle.gateway_serve.proofs.All.{none_left, all_left, one_more_left}
+use Rattle.gateway_serve.proofs.Carries.{among_keep}
 use Rattle.gateway_serve.proofs.serving.free_each.Goals as goal
 
 pub loop-conn-init : goal.loop-conn-init
-loop-conn-init g c = λ st past all. none_left c.args.places.now c.args.ended.now.sockets st past all
+loop-conn-init g c = (
+  λ st past all. none_left c.args.places.now c.args.ended.now.sockets st past all,
+  λ have had. (have, had),
+)
 
 pub loop-conn-preserved : goal.loop-conn-preserved
-loop-conn-preserved g c = λ st past all.
+loop-conn-preserved g c =
     let inside : c.loop-conn.conn < length c.loop-conn.places =
-    omega (arith, c.loop-conn-test.true, c.loop-conn.auto.places) in
-    one_more_left c.loop-conn.conn c.loop-conn.places c.index-places-conn.result c.free.new.self
-    c.loop-conn.ended.sockets c.free.new.ended.sockets st past inside
-    c.free.ensures.ended (c.loop-conn.invariant st past all)
+    omega (arith, c.loop-conn-test.true, c.loop-conn.auto.places) in (
+      λ st past all. one_more_left c.loop-conn.conn c.loop-conn.places c.index-places-conn.result c.free.new.self
+          c.loop-conn.ended.sockets c.free.new.ended.sockets st past inside
+          c.free.ensures.ended (c.loop-conn.invariant.0 st past all),
+      λ have had.
+          let s = c.loop-conn.invariant.1 have had in
+          among_keep g.S.Read.remaining g.S.Write.contents c.loop-conn.places c.loop-conn.conn
+          c.index-places-conn.result c.free.new.self c.loop-conn.ended.sockets c.free.new.ended.sockets inside
+          c.free.ensures.streams s.0 s.1,
+    )
 
-pub returns : goal.returns
-returns g c = λ st past all.
+pub returns-clause-left : goal.returns-clause-left
+returns-clause-left g c = λ st past all.
     let most : length c.loop-conn.places ≤ c.loop-conn.conn =
     omega (arith, c.loop-conn-test.false, c.loop-conn.auto.places) in
     all_left c.loop-conn.conn c.loop-conn.places c.loop-conn.ended.sockets st past most
-    (c.loop-conn.invariant st past all)
+    (c.loop-conn.invariant.0 st past all)

@@ -3,6 +3,7 @@ use Rattle.spool_disk.specs.declared.disk.DiskFault.{DiskFault}
 use Rattle.gateway_serve.specs.declared.places.Turned.{Turned}
 use Rattle.gateway_script.proofs.Counting.{uncounted}
 use Rattle.gateway_serve.proofs.All.{among_all}
+use Rattle.gateway_serve.proofs.Carries.{among_keep}
 use Rattle.gateway_serve.proofs.serving.turn_each.Goals as goal
 
 pub returns-in-Err-clause-serves : goal.returns-in-Err-clause-serves
@@ -15,6 +16,14 @@ returns-in-Err-clause-serves g c = λ before st past went joins.
     c.index-places-conn.result c.turn.new.self c.loop-conn.ended.sockets c.turn.new.ended.sockets
     c.in-Err.ensures.serves c.turn.ensures.others inside before st s.0 s.1 s.2
 
+pub returns-in-Err-clause-streams : goal.returns-in-Err-clause-streams
+returns-in-Err-clause-streams g c = λ have had.
+    let s = c.loop-conn.invariant.2 have had in
+    let inside : c.loop-conn.conn < length c.loop-conn.places =
+    omega (arith, c.loop-conn-test.true, c.loop-conn.auto.places) in
+    among_keep g.S.Read.remaining g.S.Write.contents c.loop-conn.places c.loop-conn.conn c.index-places-conn.result
+    c.turn.new.self c.loop-conn.ended.sockets c.turn.new.ended.sockets inside c.turn.ensures.streams s.0 s.1
+
 pub loop-conn-preserved : goal.loop-conn-preserved
 loop-conn-preserved g c = (
   uncounted (λ fails. absurd (cc)) c.in-Ok.ensures.counts ∙ c.loop-conn.invariant.0,
@@ -26,4 +35,10 @@ loop-conn-preserved g c = (
       among_all g.C.Connections c.loop-conn.gateway c.turn.new.gateway told c.loop-conn.places c.loop-conn.conn
       c.index-places-conn.result c.turn.new.self c.loop-conn.ended.sockets c.turn.new.ended.sockets
       c.in-Ok.ensures.serves c.turn.ensures.others inside before st s.0 s.1 s.2,
+  λ have had.
+      let s = c.loop-conn.invariant.2 have had in
+      let inside : c.loop-conn.conn < length c.loop-conn.places =
+      omega (arith, c.loop-conn-test.true, c.loop-conn.auto.places) in
+      among_keep g.S.Read.remaining g.S.Write.contents c.loop-conn.places c.loop-conn.conn c.index-places-conn.result
+      c.turn.new.self c.loop-conn.ended.sockets c.turn.new.ended.sockets inside c.turn.ensures.streams s.0 s.1,
 )

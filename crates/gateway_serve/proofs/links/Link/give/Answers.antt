@@ -25,4 +25,5 @@ loop-calls-preserved g c = (
       let Joined : List Marked → Type 0 = λ now. Joins (joint_of c.came.new.self) ended st now n in
       alone_behind g.C.Connections before c.came.new.gateway st n past s.0 Joined Joined told s.2.0
       (c.in-Ok.ensures.serves before st s.0 ended s.1 s.2.1),
+  c.in-Ok.ensures.socket ∙ c.loop-calls.invariant.2,
 )

@@ -30,7 +30,7 @@ returns-in-Ok-clause-serves g c = λ before st past went joins.
     _ (λ now. Unit {0}) c.opened.result told goes does.keeps
     (quiet_limits _ _ c.opened.ensures.crash) c.opened.ensures.falls
     (λ ok. all_opened (places_of c.free_place.new.self) n ended st past c.opened.result does.answer all
-    c.in-Some.ensures.free.1 c.open.result c.in-Some.ensures.free.0 c.open.ensures tt c.in-Ok.is)
+    c.in-Some.ensures.free.1 c.open.result c.in-Some.ensures.free.0 c.open.ensures.none tt c.in-Ok.is)
     (λ fails. tt)
 
 pub returns-in-Err-clause-serves : goal.returns-in-Err-clause-serves

@@ -1,0 +1,6 @@
+use Rattle.gateway_serve.proofs.Carries.{new_is_of}
+use Rattle.gateway_serve.proofs.places.Place.open.Goals as goal
+
+pub returns-clause-stream : goal.returns-clause-stream
+returns-clause-stream g c =
+    new_is_of g.S.Read.remaining g.S.Write.contents c.args.stream c.new.result c.new.ensures.stream c.new.ensures.none

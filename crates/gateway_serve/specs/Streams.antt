@@ -1,0 +1,67 @@
+-- What was done with a stream since it was accepted.
+use Rattle.std.specs.Prelude.{◌≡◌, ℕ, List, [], ◌∷◌, ◌++◌, Option, get_or}
+use Rattle.std.specs.Io.KnownBytes.{Consumes, Appends, Keeps}
+use Rattle.gateway_serve.specs.Sockets.{Seen}
+use Rattle.gateway_serve.specs.Bytes.{came_of, went_of, stream_of}
+use Rattle.gateway_serve.specs.declared.sockets.Socket.{Socket}
+use Rattle.gateway_serve.specs.declared.links.Link.{Link}
+use Rattle.gateway_serve.specs.declared.places.Place.{Place}
+use Rattle.gateway_serve.specs.declared.places.Place.TheVariants.{Free, Open}
+
+-- THE STREAM was accepted so, and is so now. Since then it was read and written and nothing else: the reads gave all
+-- these bytes, and the writes took all those, each in order. What it has left and what it holds are as it tells them
+pub data Carried {S : Type 0} (remaining contents : S → Option (List ℕ)) (accepted : S)
+    : S → List ℕ → List ℕ → Type 0 where
+  untouched : Carried remaining contents accepted accepted [] []
+  read : (s s' : S) (came went bytes : List ℕ) → Carried remaining contents accepted s came went
+      → Consumes (remaining s) (remaining s') bytes
+      → Carried remaining contents accepted s' (came ++ bytes) went
+  not_read : (s s' : S) (came went : List ℕ) → Carried remaining contents accepted s came went
+      → Keeps (remaining s) (remaining s')
+      → Carried remaining contents accepted s' came went
+  written : (s s' : S) (came went bytes : List ℕ) → Carried remaining contents accepted s came went
+      → Appends (contents s) (contents s') bytes
+      → Carried remaining contents accepted s' came (went ++ bytes)
+  not_written : (s s' : S) (came went : List ℕ) → Carried remaining contents accepted s came went
+      → Keeps (contents s) (contents s')
+      → Carried remaining contents accepted s' came went
+
+module _ {S : Type 0} (remaining contents : S → Option (List ℕ)) where
+  -- a socket has the stream that was accepted, of which its bytes came, and to which its bytes went
+  abbrev pub IsOf : S → Socket S → Type 0
+  IsOf accepted s = Carried remaining contents accepted (stream_of s) (came_of s) (went_of s)
+
+  -- and it still does
+  abbrev pub StaysOf : Socket S → Socket S → Type 0
+  StaysOf old new = (accepted : S) → IsOf accepted old → IsOf accepted new
+
+  -- the place of a stream that was accepted
+  abbrev pub PlaceIsOf : S → Place S → Type 0
+  PlaceIsOf accepted Free = ⊥
+  PlaceIsOf accepted (Open l) = IsOf accepted l.socket
+
+  abbrev pub PlaceHas : Place S → Type 0
+  PlaceHas Free = Unit {0}
+  PlaceHas (Open l) = (accepted : S) × IsOf accepted l.socket
+
+  -- A SOCKET THAT ENDED had a stream that was accepted
+  abbrev pub Had : Seen → Type 0
+  Had s = (accepted : S) × (gone : S) × Carried remaining contents accepted gone s.came s.went
+
+  -- each of them had its own
+  abbrev pub AllHad : List Seen → Type 0
+  AllHad [] = Unit {0}
+  AllHad (s ∷ ended) = Had s × AllHad ended
+
+  -- what a place and the sockets that ended have, behind what was done there
+  abbrev pub PlaceKeeps : Place S → Place S → List Seen → List Seen → Type 0
+  PlaceKeeps p p' ended ended' = PlaceHas p → AllHad ended → PlaceHas p' × AllHad ended'
+
+  abbrev pub AllHave : List (Place S) → Type 0
+  AllHave places = (n : ℕ) → PlaceHas (get_or places n Free)
+
+  abbrev pub AllKeep : List (Place S) → List (Place S) → List Seen → List Seen → Type 0
+  AllKeep places places' ended ended' = AllHave places → AllHad ended → AllHave places' × AllHad ended'
+
+abbrev pub socket_of : {S : Type 0} → Link S → Socket S
+socket_of l = l.socket
