@@ -5,19 +5,16 @@ use Rattle.std.proofs.lemmas.List.{take_all, take_more, take_more_set}
 use Rattle.spool_disk.specs.declared.disk.Disk.{Ghosts}
 use Rattle.upload_rules.specs.Store.{Store}
 use Rattle.gateway_rounds.specs.declared.round.Round.{Round}
-use Rattle.gateway_rounds.specs.declared.round.Work.{Work}
-use Rattle.gateway_rounds.specs.declared.round.Work.TheVariants.{Run, Upgrade}
-use Rattle.spool_image.specs.LeftOnly.{AllShow}
-use Rattle.gateway_rounds.specs.Rounds.{IsRound, IsWork, Lives}
+use Rattle.gateway_rounds.specs.Rounds.{IsRound, Lives}
 
-pub lives_on : {D C : Type 0} (disk : Ghosts D) (chosen : C → D → D → Type 0) (n : ℕ) (d : D) (m : Store)
-    (rounds told : List (Round C)) (mid after : D) (now next : Store) (r t : Round C)
+pub lives_on : {D C : Type 0} (disk : Ghosts D) (chosen : C → D → D → Type 0) (n : ℕ) (d : D) (m : List Store)
+    (rounds told : List (Round C)) (mid after : D) (now next : List Store) (r t : Round C)
     → Lives disk chosen n d m rounds told mid now → IsRound disk chosen n mid after now next r t
     → Lives disk chosen n d m (rounds ++ r ∷ []) (told ++ t ∷ []) after next
 lives_on {D} disk chosen n d m [] [] mid after now next r t (same, is_same) round = (
   after,
   next,
-  subst (λ (e : Store). IsRound disk chosen n d after e next r t) is_same
+  subst (λ (e : List Store). IsRound disk chosen n d after e next r t) is_same
       (subst (λ (x : D). IsRound disk chosen n x after now next r t) same round),
   (refl, refl),
 )
@@ -27,8 +24,8 @@ lives_on disk chosen n d m (q ∷ rounds) (u ∷ told) mid after now next r t (b
     (behind, store, first, lives_on disk chosen n behind store rounds told mid after now next r t lives round)
 
 -- the next element of two lists that agree from there on
-pub lives_next : {D C : Type 0} (disk : Ghosts D) (chosen : C → D → D → Type 0) (n : ℕ) (d : D) (m : Store)
-    (old now : List (Round C)) (i : ℕ) (mid after : D) (store next : Store)
+pub lives_next : {D C : Type 0} (disk : Ghosts D) (chosen : C → D → D → Type 0) (n : ℕ) (d : D) (m : List Store)
+    (old now : List (Round C)) (i : ℕ) (mid after : D) (store next : List Store)
     (r t : Round C) → i < length now → length now ≡ length old → r ≡ get_or now i r → get_or now i r ≡ get_or old i r
     → Lives disk chosen n d m (take i old) (take i now) mid store → IsRound disk chosen n mid after store next
     (get_or now i r) t
@@ -44,27 +41,11 @@ lives_next {D} {C} disk chosen n d m old now i mid after store next r t below lo
     (subst (λ (x : Round C). IsRound disk chosen n mid after store next x t) (sym here) round)))
 
 -- at the end these are all rounds
-pub lives_all : {D C : Type 0} (disk : Ghosts D) (chosen : C → D → D → Type 0) (n : ℕ) (d : D) (m : Store)
-    (old now : List (Round C)) (i : ℕ) (last : D) (end : Store)
+pub lives_all : {D C : Type 0} (disk : Ghosts D) (chosen : C → D → D → Type 0) (n : ℕ) (d : D) (m : List Store)
+    (old now : List (Round C)) (i : ℕ) (last : D) (end : List Store)
     → length now ≡ length old → length now ≤ i → Lives disk chosen n d m (take i old) (take i now) last end
     → Lives disk chosen n d m old now last end
 lives_all {D} {C} disk chosen n d m old now i last end long over lives =
     subst (λ (rounds : List (Round C)). Lives disk chosen n d m rounds now last end)
     (take_all i old (omega (arith, long, over)))
     (subst (λ (all : List (Round C)). Lives disk chosen n d m (take i old) all last end) (take_all i now over) lives)
-
--- behind a round each image shows the next uploads
-work_shows : {D C : Type 0} (disk : Ghosts D) (chosen : C → D → D → Type 0) (n : ℕ) (before after : D)
-    (m next : Store) (crash : C) (work told : Work) → IsWork disk chosen n before after m next crash work told
-    → AllShow disk after n next
-work_shows disk chosen n before after m next crash (Run run) (Run told) is = is.passes.shows
-work_shows disk chosen n before after m next crash (Upgrade error) (Upgrade told) is =
-    subst (AllShow disk after n) (sym is.0) is.1.shows
-work_shows disk chosen n before after m next crash (Run run) (Upgrade told) is = absurd is
-work_shows disk chosen n before after m next crash (Upgrade error) (Run told) is = absurd is
-
-pub round_shows : {D C : Type 0} (disk : Ghosts D) (chosen : C → D → D → Type 0) (n : ℕ) (before after : D)
-    (m next : Store) (round told : Round C) → IsRound disk chosen n before after m next round told
-    → AllShow disk after n next
-round_shows disk chosen n before after m next round told is =
-    work_shows disk chosen n before after m next round.crash round.work told.work is

@@ -1,36 +1,39 @@
--- From a run and a crash to a round.
-use Rattle.std.proofs.Common.{◌≡◌, ◌⊎◌, ◌≤◌, ◌*◌, inl, inr, ℕ, List, [], ◌∷◌, ◌++◌, drop, Option, Some, None, Result}
-use Rattle.std.proofs.Common.{Ok, Err, refl}
+-- From a run or an upgrade and an end to a round.
+use Rattle.std.proofs.Common.{◌≡◌, ◌⊎◌, ◌<◌, ◌≤◌, ◌+◌, ◌*◌, ◌^◌, inl, inr, ℕ, List, [], ◌∷◌, ◌++◌, drop, Option}
+use Rattle.std.proofs.Common.{Some, None, Result, Ok, Err, refl}
 use Rattle.std.proofs.Common.{sym, subst, ap, ◌∙◌, append-nil, append_assoc, arith, ⊎_elim}
 use Rattle.spool_disk.specs.Disk.{Counts, IsImage}
 use Rattle.spool_disk.specs.declared.disk.Disk.{Ghosts}
 use Rattle.spool_journal.specs.Image.{all_pages}
 use Rattle.spool_disk.specs.Views.{Lasts}
+use Rattle.spool_image.specs.Format.{IsNewest}
 use Rattle.spool_image.specs.LeftOnly.{AllShow, IsSpool, LeftOrShows}
-use Rattle.spool_image.specs.Texts.{HasText}
 use Rattle.spool_image.specs.Upgrade.{UpgradedFrom}
+use Rattle.spool_image.specs.declared.error.FormatError.{FormatError}
+use Rattle.spool_image.specs.declared.error.FormatError.TheVariants as formats
 use Rattle.spool_image.specs.declared.error.UpgradeError.TheVariants as upgrades
 use Rattle.spool_image.specs.declared.error.UpgradeError.{UpgradeError}
-use Rattle.spool_image.proofs.Crashed.{synced_shows, text_shown}
+use Rattle.spool_image.proofs.Crashed.{synced_shows}
 use Rattle.spool_kept.proofs.Upgraded.{upgraded_sound}
-use Rattle.spool_kept.specs.Shows.{ImageShows, IsSound}
+use Rattle.spool_kept.specs.Shows.{IsSound}
 use Rattle.spool_kept.specs.declared.error.OpenFault.TheVariants as opens
 use Rattle.spool_pages.proofs.Resting.{rests_image}
 use Rattle.spool_pages.specs.Changes.{upgraded}
 use Rattle.spool_pages.specs.Rests.{Rests}
-use Rattle.spool_pages.specs.View.{View, IsViewOf}
+use Rattle.spool_pages.specs.View.{View}
 use Rattle.spool_pages.specs.declared.version.Version.TheVariants.{Two}
-use Rattle.upload_rules.specs.Store.{Store, Upload, upload_of}
+use Rattle.upload_rules.specs.Store.{Store}
 use Rattle.tus_session.specs.History.{State, Mark, Marked, beginning, history}
 use Rattle.gateway_script.specs.Script as script
 use Rattle.gateway_script.specs.Script.{script as the_script, Exit}
-use Rattle.gateway_script.specs.Images.{IsFirst, output_of, last_output, WroteMost}
+use Rattle.gateway_script.specs.Images.{IsFirst, output_of, last_output, last_stores, WroteMost}
 use Rattle.gateway_script.specs.declared.faults.CallFault.TheVariants as calls
-use Rattle.gateway_engine.specs.RanOn.{HasFailedOn, EndedOn, Unopened, UnopenedOn, HasRunOn}
+use Rattle.gateway_engine.specs.Ran.{CountsEither}
+use Rattle.gateway_engine.specs.RanOn.{AllShowOne, HasFailedOn, HasRefusedOn, EndedOn, Unopened, UnopenedOn, HasRunOn}
 use Rattle.gateway_engine.specs.declared.faults.RunFault.{RunFault}
 use Rattle.gateway_engine.specs.declared.faults.RunFault.TheVariants.{Open, NoMemory, DiskFault, Script, Io}
-use Rattle.gateway_rounds.specs.Rounds.{IsFault, Leaves, IsWhole, EndsAs, Passes}
-use Rattle.gateway_rounds.specs.Rounds.{IsUpgraded, UpgradeEnds, UpgradeLeaves}
+use Rattle.gateway_rounds.specs.Rounds.{OpensWith, Crashes, IsFault, left_by_run, left_by_upgrade, IsWhole, EndsAs, Passes}
+use Rattle.gateway_rounds.specs.Rounds.{UpgradeEnds, UpgradeLeaves}
 
 -- WHAT WAS WRITTEN
 
@@ -43,7 +46,7 @@ output_front : (st : State) (past : List Marked) → output_of st past ≡ outpu
 output_front st [] = refl
 output_front st (e ∷ past) = refl
 
--- what a run that was broken off wrote is the front of what its events gave
+-- what a run that was broken off wrote is the prefix of what its events gave
 most_front : (st : State) (past : List Marked) (out : List ℕ)
     → WroteMost calls.NoMemory st past out → (rest : List ℕ) × (output_of st past ≡ out ++ rest)
 most_front st past out (inl all) = ([], sym all ∙ sym (append-nil out))
@@ -59,37 +62,44 @@ part_front st past out (part, missing, is, wrote) = (
       (sym wrote))),
 )
 
--- BEHIND THE CRASH
+-- WHERE A ROUND BEGINS
 
--- from the disk before a run to the disk that came back, and to the disk behind the crash
-module _ {D : Type 0} (disk : Ghosts D) (before back after : D) (n : ℕ) (m : Store)
+-- where each image shows the same uploads, each shows one of these
+pub all_one : {D : Type 0} (disk : Ghosts D) (d : D) (n : ℕ) (m : Store) → AllShow disk d n m
+    → AllShowOne disk d n (m ∷ [])
+all_one disk d n m all = record {
+  honest = all.honest;
+  room = all.room;
+  each = λ image is. record { store = m; among = inl refl; shows = all.each image is };
+}
+
+-- what a read gives is an image
+pub read_opens : {D : Type 0} (disk : Ghosts D) (d : D) (n : ℕ) (stores : List Store) → AllShowOne disk d n stores
+    → (m : Store) × OpensWith disk d n stores m
+read_opens disk d n stores all =
+    let one = all.each (disk.seen d) (record { same = λ p firm. refl }) in
+    (one.store, record { among = one.among; shows = one.shows })
+
+pub is_spool : {D : Type 0} (disk : Ghosts D) (d : D) (n : ℕ) (stores : List Store) (m : Store)
+    → AllShowOne disk d n stores → OpensWith disk d n stores m → IsSpool disk d n m
+is_spool disk d n stores m all opened = record { honest = all.honest; room = all.room; shows = opened.shows }
+
+-- FROM THE DISK BEFORE TO THE DISK THAT CAME BACK
+module _ {D : Type 0} (disk : Ghosts D) (given back : D) (n : ℕ) (before : List Store) (m : Store)
     (now : (t : ℕ) (image : ℕ → ℕ) → t ≤ disk.moment back → IsImage (disk.seen back) (disk.loose back) image
     → disk.left_since back t image)
-    (only : (image : ℕ → ℕ) → disk.left_since before (disk.moment before) image
-    → IsImage (disk.seen before) (disk.loose before) image)
-    (shown : AllShow disk before n m) (keeps : disk.honest back → disk.honest after)
-    (size : disk.size after ≡ disk.size back)
-    (image : disk.honest back → IsImage (disk.seen back) (disk.loose back) (disk.seen after))
-    (firm : disk.honest back → (p : ℕ) → disk.loose after p → ⊥) where
+    (only : (image : ℕ → ℕ) → disk.left_since given (disk.moment given) image
+    → IsImage (disk.seen given) (disk.loose given) image)
+    (shown : AllShowOne disk given n before) (opened : OpensWith disk given n before m) where
   abbrev st : State
   st = beginning m (Some n)
 
-  -- the crash left an image of an honest disk that shows these uploads
-  settled : (next : Store) → disk.honest back → 4096 * all_pages n ≤ disk.size back
-      → ImageShows n (disk.seen after) next → AllShow disk after n next
-  settled next honest room is = synced_shows disk after n next
-      record { honest = keeps honest; room = subst (λ (k : ℕ). 4096 * all_pages n ≤ k) (sym size) room; shows = is }
-      (firm honest)
-
-  one_settled : (next : Store) → AllShow disk back n next → AllShow disk after n next
-  one_settled next all = settled next all.honest all.room (all.each (disk.seen after) (image all.honest))
-
-  passed : (next : Store) (marks : List Mark) (past : List Marked) (bytes : List ℕ) (fault : Option RunFault)
-      (out : List ℕ)
+  passed : (marks : List Mark) (past : List Marked) (bytes : List ℕ) (fault : Option RunFault) (out : List ℕ)
+      (left : List Store)
       → IsFirst past (the_script st marks bytes).run.past → (rest : List ℕ) × (output_of st past ≡ out ++ rest)
-      → Leaves fault st past next → EndsAs fault st (the_script st marks bytes) past out
-      → AllShow disk after n next → Passes disk after n m next bytes fault out
-  passed next marks past bytes fault out first replies leaves ends all = record {
+      → left ≡ left_by_run fault st past before → EndsAs fault st (the_script st marks bytes) past out
+      → Passes n m bytes fault out before left
+  passed marks past bytes fault out left first replies leaves ends = record {
     marks = marks;
     past = past;
     first = first;
@@ -97,118 +107,112 @@ module _ {D : Type 0} (disk : Ghosts D) (before back after : D) (n : ℕ) (m : S
     replies = replies.1;
     leaves = leaves;
     ends = ends;
-    shows = all;
-    texts = λ k u is. text_shown n (disk.seen after) next k u
-        (all.each (disk.seen after) (record { same = λ p firm. refl })) is;
   }
 
-  -- and an upgrade may have been stopped anywhere
-  pub upgraded_to : Lasts disk before back (LeftOrShows disk before n m) → disk.honest back
-      → disk.size back ≡ disk.size before → AllShow disk after n m
-  upgraded_to lasts honest same =
-      let left = lasts.nothing_else (disk.moment before) (disk.seen after) (omega arith)
-      (now (disk.moment before) (disk.seen after) lasts.later (image honest)) in
-      let shows : ImageShows n (disk.seen after) m =
-      ⊎_elim (λ here. shown.each (disk.seen after) (only (disk.seen after) here))
-      (λ one. ⊎_elim (λ here. shown.each (disk.seen after) here) (λ is. is) one) left in
-      settled m honest (subst (λ (k : ℕ). 4096 * all_pages n ≤ k) (sym same) shown.room) shows
+  -- what was stopped anywhere leaves images from before, or some that show the same
+  pub still_shown : Lasts disk given back (LeftOrShows disk given n m) → disk.honest back
+      → 4096 * all_pages n ≤ disk.size back → AllShowOne disk back n before
+  still_shown lasts honest room = record {
+    honest = honest;
+    room = room;
+    each = λ image is.
+        ⊎_elim (λ earlier. shown.each image (only image earlier))
+        (λ either. ⊎_elim (λ here. shown.each image here)
+        (λ shows. record { store = m; among = opened.among; shows = shows }) either)
+        (lasts.nothing_else (disk.moment given) image (omega arith) (now (disk.moment given) image lasts.later is));
+  }
 
-  -- the bytes that were there, and those that a run of this script with this fault wrote behind them
+  -- the bytes that were there, and those that a run of this script with this fault wrote after them
   module _ (front held bytes : List ℕ) where
     abbrev Lived : Option RunFault → Type 0
-    Lived fault = (next : Store) × (out : List ℕ) × (held ≡ front ++ out) × Passes disk after n m next bytes fault out
+    Lived fault =
+        (left : List Store) × AllShowOne disk back n left × (out : List ℕ) × (held ≡ front ++ out)
+        × Passes n m bytes fault out before left
 
-    whole : {exit : Exit} (r : script.Result) → EndedOn disk before back n st r (Some held) (Some front) exit
+    whole : {exit : Exit} (r : script.Result) → EndedOn disk given back n st r (Some held) (Some front) exit
         → IsWhole st r r.run.past r.run.out
     whole r is = record { events = refl; output = is.output }
 
-    written_whole : {exit : Exit} (r : script.Result) → EndedOn disk before back n st r (Some held) (Some front) exit
+    written_whole : {exit : Exit} (r : script.Result) → EndedOn disk given back n st r (Some held) (Some front) exit
         → (rest : List ℕ) × (output_of st r.run.past ≡ r.run.out ++ rest)
     written_whole r is = ([], sym is.output ∙ sym (append-nil r.run.out))
 
-    pub ran : HasRunOn disk before (Ok back) (Some held) (Some front) n st bytes → Lived None
+    pub ran : HasRunOn disk given (Ok back) (Some held) (Some front) n st bytes → Lived None
     ran (marks, is) =
         let r = the_script st marks bytes in (
-          r.run.state.world.store,
+          r.run.state.world.store ∷ [],
+          all_one disk back n r.run.state.world.store is.shows,
           r.run.out,
           is.ended.wrote,
-          passed r.run.state.world.store marks r.run.past bytes None r.run.out (all_first r.run.past)
-              (written_whole r is.ended)
-              (ap (λ (s : State). s.world.store) is.ended.state) (is.ended.exits, whole r is.ended)
-              (one_settled _ is.shows),
+          passed marks r.run.past bytes None r.run.out (r.run.state.world.store ∷ []) (all_first r.run.past)
+              (written_whole r is.ended) (ap (λ (s : State). s.world.store ∷ []) is.ended.state)
+              (is.ended.exits, whole r is.ended),
         )
 
-    at_line : (line : ℕ) → HasRunOn disk before (Err (back, Script line)) (Some held) (Some front) n st bytes
+    at_line : (line : ℕ) → HasRunOn disk given (Err (back, Script line)) (Some held) (Some front) n st bytes
         → Lived (Some (Script line))
     at_line line (marks, is) =
         let r = the_script st marks bytes in (
-          r.run.state.world.store,
+          r.run.state.world.store ∷ [],
+          all_one disk back n r.run.state.world.store is.shows,
           r.run.out,
           is.ended.wrote,
-          passed r.run.state.world.store marks r.run.past bytes (Some (Script line)) r.run.out (all_first r.run.past)
-              (written_whole r is.ended)
-              (ap (λ (s : State). s.world.store) is.ended.state) (is.ended.exits, whole r is.ended)
-              (one_settled _ is.shows),
+          passed marks r.run.past bytes (Some (Script line)) r.run.out (r.run.state.world.store ∷ [])
+              (all_first r.run.past) (written_whole r is.ended)
+              (ap (λ (s : State). s.world.store ∷ []) is.ended.state) (is.ended.exits, whole r is.ended),
         )
 
-    failed : HasRunOn disk before (Err (back, DiskFault)) (Some held) (Some front) n st bytes → Lived (Some DiskFault)
+    failed : HasRunOn disk given (Err (back, DiskFault)) (Some held) (Some front) n st bytes → Lived (Some DiskFault)
     failed (marks, is) =
-        let r = the_script st marks bytes in
-        let one = is.shows.each (disk.seen after) (image is.shows.honest) in (
-          one.store,
+        let r = the_script st marks bytes in (
+          last_stores st r.run.past,
+          is.shows,
           r.run.out,
           is.ended.wrote,
-          passed one.store marks r.run.past bytes (Some DiskFault) r.run.out (all_first r.run.past)
-              (written_whole r is.ended)
-              one.among (is.ended.exits, whole r is.ended) (settled one.store is.shows.honest is.shows.room one.shows),
+          passed marks r.run.past bytes (Some DiskFault) r.run.out (last_stores st r.run.past) (all_first r.run.past)
+              (written_whole r is.ended) refl (is.ended.exits, whole r is.ended),
         )
 
-    out_of_memory : HasRunOn disk before (Err (back, NoMemory)) (Some held) (Some front) n st bytes
+    out_of_memory : HasRunOn disk given (Err (back, NoMemory)) (Some held) (Some front) n st bytes
         → Lived (Some NoMemory)
     out_of_memory (marks, is) = (
-      (history st is.past).world.store,
+      (history st is.past).world.store ∷ [],
+      all_one disk back n (history st is.past).world.store is.shows,
       is.out,
       is.wrote,
-      passed _ marks is.past bytes (Some NoMemory) is.out is.first (most_front st is.past is.out is.most) refl is.most
-          (one_settled _ is.shows),
+      passed marks is.past bytes (Some NoMemory) is.out ((history st is.past).world.store ∷ []) is.first
+          (most_front st is.past is.out is.most) refl is.most,
     )
 
-    broken_off : HasRunOn disk before (Err (back, Io)) (Some held) (Some front) n st bytes → Lived (Some Io)
+    broken_off : HasRunOn disk given (Err (back, Io)) (Some held) (Some front) n st bytes → Lived (Some Io)
     broken_off (marks, is) = (
-      (history st is.past).world.store,
+      (history st is.past).world.store ∷ [],
+      all_one disk back n (history st is.past).world.store is.shows,
       is.out,
       is.wrote,
-      passed _ marks is.past bytes (Some Io) is.out is.first (part_front st is.past is.out is.most) refl is.most
-          (one_settled _ is.shows),
+      passed marks is.past bytes (Some Io) is.out ((history st is.past).world.store ∷ []) is.first
+          (part_front st is.past is.out is.most) refl is.most,
     )
-
-    -- an image behind an opening that was refused is one from before, or shows the same
-    unopened_image : UnopenedOn disk before back n m → ImageShows n (disk.seen after) m
-    unopened_image is =
-        let left = now (disk.moment before) (disk.seen after) is.lasts.later (image is.honest) in
-        ⊎_elim (λ earlier. shown.each (disk.seen after) (only (disk.seen after) earlier))
-        (λ either. ⊎_elim (shown.each (disk.seen after)) (λ shows. shows) either)
-        (is.lasts.nothing_else (disk.moment before) (disk.seen after) (omega arith) left)
 
     none_first : (past : List Marked) → IsFirst [] past
     none_first past = (past, sym (append-nil past))
 
-    unopened : (fault : RunFault) → held ≡ front → Leaves (Some fault) st [] m
+    unopened : (fault : RunFault) → held ≡ front → before ≡ left_by_run (Some fault) st [] before
         → EndsAs (Some fault) st (the_script st [] bytes) [] []
-        → UnopenedOn disk before back n m → Lived (Some fault)
+        → UnopenedOn disk given back n m → Lived (Some fault)
     unopened fault same leaves ends is = (
-      m,
+      before,
+      still_shown is.lasts is.honest is.room,
       [],
       same ∙ sym (append-nil front),
-      passed m [] [] bytes (Some fault) [] (none_first (the_script st [] bytes).run.past) ([], refl) leaves ends
-          (settled m is.honest is.room (unopened_image is)),
+      passed [] [] bytes (Some fault) [] before (none_first (the_script st [] bytes).run.past) ([], refl) leaves ends,
     )
 
     same_bytes : {R : Type 0} → R × (Some held ≡ Some front) → held ≡ front
     same_bytes (same, is) = cc
 
     pub refused : (R : Type 0) (fault : RunFault) → Unopened {D = D} (Err (back, fault)) (R × (Some held ≡ Some front))
-        → HasRunOn disk before (Err (back, fault)) (Some held) (Some front) n st bytes → Lived (Some fault)
+        → HasRunOn disk given (Err (back, fault)) (Some held) (Some front) n st bytes → Lived (Some fault)
     refused R (Open opens.NoMemory) same has = unopened (Open opens.NoMemory) (same_bytes same) refl refl has
     refused R (Open opens.DiskFault) same has = unopened (Open opens.DiskFault) (same_bytes same) refl refl has
     refused R (Open opens.NotASpool) same has = absurd has
@@ -219,30 +223,69 @@ module _ {D : Type 0} (disk : Ghosts D) (before back after : D) (n : ℕ) (m : S
     refused R (Script line) same has = at_line line has
     refused R Io same has = broken_off has
 
--- THE COUNT OF FAULTS: a crash is none
-pub counts_behind : {F : Type 0} (a b c : ℕ) → c ≡ b → Counts F a b → Counts F a c
-counts_behind {F} a b c same counts = subst (λ (k : ℕ). Counts F a k) (sym same) counts
-
-pub counts_refused : {D : Type 0} (back : D) (fault : RunFault) (a b c : ℕ) → c ≡ b
+-- THE COUNTS of faults, and of growths that were refused
+pub counts_refused : {D : Type 0} (back : D) (fault : RunFault) (a b : ℕ)
     → Counts (HasFailedOn {D = D} (Err (back, fault))) a b
-    → Counts (IsFault (Some fault)) a c
-counts_refused back (Open opens.NoMemory) a b c same counts = counts_behind a b c same counts
-counts_refused back (Open opens.DiskFault) a b c same counts = counts_behind a b c same counts
-counts_refused back (Open opens.NotASpool) a b c same counts = counts_behind a b c same counts
-counts_refused back (Open opens.Damaged) a b c same counts = counts_behind a b c same counts
-counts_refused back (Open opens.Version) a b c same counts = counts_behind a b c same counts
-counts_refused back NoMemory a b c same counts = counts_behind a b c same counts
-counts_refused back DiskFault a b c same counts = counts_behind a b c same counts
-counts_refused back (Script line) a b c same counts = counts_behind a b c same counts
-counts_refused back Io a b c same counts = counts_behind a b c same counts
+    → Counts (IsFault (Some fault)) a b
+counts_refused back (Open opens.NoMemory) a b counts = counts
+counts_refused back (Open opens.DiskFault) a b counts = counts
+counts_refused back (Open opens.NotASpool) a b counts = counts
+counts_refused back (Open opens.Damaged) a b counts = counts
+counts_refused back (Open opens.Version) a b counts = counts
+counts_refused back NoMemory a b counts = counts
+counts_refused back DiskFault a b counts = counts
+counts_refused back (Script line) a b counts = counts
+counts_refused back Io a b counts = counts
 
--- every image of it shows them, so it may be opened
-pub is_spool : {D : Type 0} (disk : Ghosts D) (d : D) (n : ℕ) (m : Store) → AllShow disk d n m → IsSpool disk d n m
-is_spool disk d n m all = record {
-  honest = all.honest;
-  room = all.room;
-  shows = all.each (disk.seen d) (record { same = λ p firm. refl });
+-- a reader that refuses nothing
+none_refused : (0 < 0) ⊎ (2 ^ 64 ≤ 0 + 1) → ⊥
+none_refused (inl less) = omega (arith, less)
+none_refused (inr full) = omega (arith, full)
+
+writer_alone : {R F : Type 0} {v w : ℕ} → (F → R) → (R → F) → CountsEither R 0 0 v w → Counts F v w
+writer_alone into from c = record {
+  later = c.writer_later;
+  counted = λ f. ⊎_elim (λ read. absurd (none_refused read)) (λ wrote. wrote) (c.counted (into f));
+  nothing_else = λ less. from (c.nothing_else (inr less));
 }
+
+pub refusals_done : {v w : ℕ} → CountsEither ⊥ 0 0 v w → Counts (◌≡◌ {A = Option RunFault} None (Some Io)) v w
+refusals_done c = writer_alone (λ e. absurd (cc)) (λ never. absurd never) c
+
+pub refusals_told : {D : Type 0} (back : D) (fault : RunFault) (v w : ℕ)
+    → CountsEither (HasRefusedOn {D = D} (Err (back, fault))) 0 0 v w
+    → Counts (◌≡◌ {A = Option RunFault} (Some fault) (Some Io)) v w
+refusals_told back (Open fault) v w c = writer_alone (λ e. absurd (cc)) (λ never. absurd never) c
+refusals_told back NoMemory v w c = writer_alone (λ e. absurd (cc)) (λ never. absurd never) c
+refusals_told back DiskFault v w c = writer_alone (λ e. absurd (cc)) (λ never. absurd never) c
+refusals_told back (Script line) v w c = writer_alone (λ e. absurd (cc)) (λ never. absurd never) c
+refusals_told back Io v w c = writer_alone (λ e. tt) (λ is. refl) c
+
+-- THE END OF A ROUND
+pub crashed : {D C : Type 0} (disk : Ghosts D) (chosen : C → D → D → Type 0) (how : C) (back after : D) (n : ℕ)
+    (left : List Store) → AllShowOne disk back n left → chosen how back after → disk.size after ≡ disk.size back
+    → (disk.honest back → disk.honest after)
+    → (disk.honest back → IsImage (disk.seen back) (disk.loose back) (disk.seen after))
+    → (disk.honest back → (p : ℕ) → disk.loose after p → ⊥) → disk.failures after ≡ disk.failures back
+    → (next : List Store) × AllShowOne disk after n next × Crashes disk chosen how back after left next
+crashed disk chosen how back after n left all is size keeps image firm failures =
+    let one = all.each (disk.seen after) (image all.honest) in (
+      one.store ∷ [],
+      all_one disk after n one.store (synced_shows disk after n one.store (record {
+        honest = keeps all.honest;
+        room = subst (λ (k : ℕ). 4096 * all_pages n ≤ k) (sym size) all.room;
+        shows = one.shows;
+      }) (firm all.honest)),
+      record {
+        is = is;
+        image = image all.honest;
+        synced = firm all.honest;
+        failures = failures;
+        store = one.store;
+        among = one.among;
+        alone = refl;
+      },
+    )
 
 -- UPGRADES
 
@@ -253,15 +296,8 @@ upgrade_ends e (inl new) = subst (λ (x : UpgradeError). UpgradeEnds (Some x)) (
 upgrade_ends e (inr (inl is)) = subst (λ (x : UpgradeError). UpgradeEnds (Some x)) (sym is) tt
 upgrade_ends e (inr (inr is)) = subst (λ (x : UpgradeError). UpgradeEnds (Some x)) (sym is) tt
 
--- an image behind the crash is one of the disk that came back
-pub image_back : {D : Type 0} (disk : Ghosts D) (back after : D) (image : ℕ → ℕ)
-    → IsImage (disk.seen back) (disk.loose back) (disk.seen after) → ((p : ℕ) → disk.loose after p → ⊥)
-    → IsImage (disk.seen after) (disk.loose after) image → IsImage (disk.seen back) (disk.loose back) image
-image_back disk back after image left firm here =
-    record { same = λ p shut. here.same p (firm p) ∙ left.same p shut }
-
 pub done_leaves : {seen : ℕ → ℕ} {loose : ℕ → Type 0} (size : ℕ) (before image : ℕ → ℕ)
-    → UpgradedFrom size before seen loose → IsImage seen loose image → IsUpgraded image
+    → UpgradedFrom size before seen loose → IsImage seen loose image → IsNewest image
 done_leaves size before image from here = record {
   view = upgraded from.view;
   sound = upgraded_sound from.view from.sound;
@@ -304,25 +340,48 @@ err_some : (e x : UpgradeError) → ◌≡◌ {A = Result (Unit {0}) UpgradeErro
     → ◌≡◌ {A = Option UpgradeError} (Some e) (Some x)
 err_some e x same = cc
 
-pub counts_done : {t : Unit {0}} (x : UpgradeError) (a b c : ℕ) → c ≡ b
+pub err_same : (e x : UpgradeError) → ◌≡◌ {A = Result (Unit {0}) UpgradeError} (Err e) (Err x) → e ≡ x
+err_same e x same = cc
+
+pub counts_done : {t : Unit {0}} (x : UpgradeError) (a b : ℕ)
     → Counts (◌≡◌ {A = Result (Unit {0}) UpgradeError} (Ok t) (Err x)) a b
-    → Counts (◌≡◌ {A = Option UpgradeError} None (Some x)) a c
-counts_done {t} x a b c same counts = counts_behind a b c same (record {
+    → Counts (◌≡◌ {A = Option UpgradeError} None (Some x)) a b
+counts_done {t} x a b counts = record {
   later = counts.later;
   counted = λ e. absurd (none_some x e);
   nothing_else = λ less. absurd (ok_err t x (counts.nothing_else less));
-})
+}
 
-pub counts_told : (e x : UpgradeError) (a b c : ℕ) → c ≡ b
+pub counts_told : (e x : UpgradeError) (a b : ℕ)
     → Counts (◌≡◌ {A = Result (Unit {0}) UpgradeError} (Err e) (Err x)) a b
-    → Counts (◌≡◌ {A = Option UpgradeError} (Some e) (Some x)) a c
-counts_told e x a b c same counts = counts_behind a b c same (record {
+    → Counts (◌≡◌ {A = Option UpgradeError} (Some e) (Some x)) a b
+counts_told e x a b counts = record {
   later = counts.later;
   counted = λ told. counts.counted (some_err e x told);
   nothing_else = λ less. err_some e x (counts.nothing_else less);
-})
+}
 
-pub texts_of : {D : Type 0} (disk : Ghosts D) (after : D) (n : ℕ) (m : Store) → AllShow disk after n m → (k : ℕ)
-    (u : Upload) → upload_of m k ≡ Some u → HasText (disk.seen after) m.indexes k u
-texts_of disk after n m all k u is =
-    text_shown n (disk.seen after) m k u (all.each (disk.seen after) (record { same = λ p firm. refl })) is
+-- what it leaves, by whether the device failed
+pub left_told : {D : Type 0} (disk : Ghosts D) (back : D) (n : ℕ) (m : Store) (before : List Store) (e : UpgradeError)
+    → ((e ≡ upgrades.Open opens.DiskFault → ⊥) → AllShow disk back n m) → AllShowOne disk back n before
+    → (left : List Store) × AllShowOne disk back n left × (left ≡ left_by_upgrade (Some e) m before)
+left_told disk back n m before upgrades.AlreadyNew shows still =
+    (m ∷ [], all_one disk back n m (shows (λ device. cc)), refl)
+left_told disk back n m before (upgrades.Open opens.NoMemory) shows still =
+    (m ∷ [], all_one disk back n m (shows (λ device. cc)), refl)
+left_told disk back n m before (upgrades.Open opens.NotASpool) shows still =
+    (m ∷ [], all_one disk back n m (shows (λ device. cc)), refl)
+left_told disk back n m before (upgrades.Open opens.Damaged) shows still =
+    (m ∷ [], all_one disk back n m (shows (λ device. cc)), refl)
+left_told disk back n m before (upgrades.Open opens.Version) shows still =
+    (m ∷ [], all_one disk back n m (shows (λ device. cc)), refl)
+left_told disk back n m before (upgrades.Open opens.DiskFault) shows still = (before, still, refl)
+
+-- THE MAKING: what is refused for its size begins as no spool
+pub refuses_spool : (fault : FormatError)
+    → ((◌≡◌ {A = Result (Unit {0}) FormatError} (Err fault) (Err formats.AlreadySpool) → ⊥)
+    → (◌≡◌ {A = Result (Unit {0}) FormatError} (Err fault) (Err formats.DiskFault) → ⊥) → ⊥)
+    → (fault ≡ formats.AlreadySpool) ⊎ (fault ≡ formats.DiskFault)
+refuses_spool formats.AlreadySpool no_spool = inl refl
+refuses_spool formats.Size no_spool = absurd (no_spool (λ e. cc) (λ e. cc))
+refuses_spool formats.DiskFault no_spool = inr refl

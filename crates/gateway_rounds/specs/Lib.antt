@@ -1,1 +1,3 @@
+pub mod Streams
 pub mod Rounds
+pub mod Making

@@ -1,16 +1,15 @@
--- The rounds of a disk's life. In each it is opened and a script is run over it, or it is brought to version 2, and it
--- crashes.
+-- The rounds of a disk's life. In each it is opened and a script is run over it, or it is brought to version 2, and then
+-- it crashes, or it goes on as it is.
 use Rattle.std.specs.Prelude.{◌≡◌, ℕ, List, [], ◌∷◌, ◌++◌, Option, Some, None, take}
 use Rattle.spool_disk.specs.Disk.{Counts, IsImage}
 use Rattle.spool_disk.specs.declared.disk.Disk.{Ghosts}
+use Rattle.spool_image.specs.Format.{IsNewest}
 use Rattle.spool_image.specs.LeftOnly.{AllShow}
 use Rattle.spool_image.specs.Texts.{HasText}
 use Rattle.spool_image.specs.declared.error.UpgradeError.{UpgradeError}
 use Rattle.spool_image.specs.declared.error.UpgradeError.TheVariants as upgrades
-use Rattle.spool_kept.specs.Shows.{IsSound}
+use Rattle.spool_kept.specs.Shows.{ImageShows}
 use Rattle.spool_kept.specs.declared.error.OpenFault.TheVariants as opens
-use Rattle.spool_pages.specs.View.{View, IsViewOf}
-use Rattle.spool_pages.specs.declared.version.Version.TheVariants.{Two}
 use Rattle.upload_rules.specs.Answers.{Among}
 use Rattle.upload_rules.specs.Store.{Store, Upload, upload_of}
 use Rattle.tus_session.specs.History.{State, Mark, Marked, beginning, history}
@@ -18,19 +17,29 @@ use Rattle.gateway_script.specs.Script as script
 use Rattle.gateway_script.specs.Script.{script as the_script, Ran, AtLine, Faulted}
 use Rattle.gateway_script.specs.Images.{IsFirst, output_of, last_stores, WroteMost}
 use Rattle.gateway_script.specs.declared.faults.CallFault.TheVariants as calls
+use Rattle.gateway_engine.specs.RanOn.{AllShowOne}
 use Rattle.gateway_engine.specs.declared.faults.RunFault.{RunFault}
 use Rattle.gateway_engine.specs.declared.faults.RunFault.TheVariants.{Open, NoMemory, DiskFault, Script, Io}
+use Rattle.gateway_rounds.specs.declared.round.End.{End}
+use Rattle.gateway_rounds.specs.declared.round.End.TheVariants.{Crash, Nothing}
 use Rattle.gateway_rounds.specs.declared.round.Round.{Round}
 use Rattle.gateway_rounds.specs.declared.round.Run.{Run as RunOf}
 use Rattle.gateway_rounds.specs.declared.round.Work.{Work}
 use Rattle.gateway_rounds.specs.declared.round.Work.TheVariants.{Run, Upgrade}
 
+-- WHERE A ROUND BEGINS: each image shows one of some stores. A read shows one of them, and the disk is opened with it
+pub record OpensWith {D : Type 0} (disk : Ghosts D) (given : D) (n : ℕ) (stores : List Store) (m : Store) : Type 0 where
+  pub among : Among m stores
+  pub shows : ImageShows n (disk.seen given) m
+
 -- THE EVENTS OF A RUN, of which the latest is first
 
--- The uploads behind them. Where the device failed at the latest one, they have its change or they don't
-abbrev pub Leaves : Option RunFault → State → List Marked → Store → Type 0
-Leaves (Some DiskFault) st past m = Among m (last_stores st past)
-Leaves fault st past m = m ≡ (history st past).world.store
+-- The stores of which each image shows one after them. Where the device failed at the latest event, they have its change
+-- or they don't; where the disk wasn't opened, they are those of before
+abbrev pub left_by_run : Option RunFault → State → List Marked → List Store → List Store
+left_by_run (Some DiskFault) st past before = last_stores st past
+left_by_run (Some (Open fault)) st past before = before
+left_by_run fault st past before = (history st past).world.store ∷ []
 
 -- they are all that the script asks for, and all that they gave was written
 pub record IsWhole (st : State) (r : script.Result) (past : List Marked) (out : List ℕ) : Type 0 where
@@ -56,41 +65,34 @@ IsFault _ = ⊥
 
 -- A RUN
 
--- Over these uploads some first events of the script happened, by some marks. What was written is the front of what
--- these gave, and each image of the disk behind the crash shows the uploads behind them, with their texts
-pub record Passes {D : Type 0} (disk : Ghosts D) (after : D) (n : ℕ) (m next : Store) (bytes : List ℕ)
-    (fault : Option RunFault) (out : List ℕ) : Type 0 where
+-- Over these uploads some first events of the script happened, by some marks. What was written is the prefix of what
+-- these gave, and they leave these stores
+pub record Passes (n : ℕ) (m : Store) (bytes : List ℕ) (fault : Option RunFault) (out : List ℕ)
+    (before left : List Store) : Type 0 where
   pub marks : List Mark
   pub past : List Marked
   pub first : IsFirst past (the_script (beginning m (Some n)) marks bytes).run.past
   pub unwritten : List ℕ
   pub replies : output_of (beginning m (Some n)) past ≡ out ++ unwritten
-  pub leaves : Leaves fault (beginning m (Some n)) past next
+  pub leaves : left ≡ left_by_run fault (beginning m (Some n)) past before
   pub ends : EndsAs fault (beginning m (Some n)) (the_script (beginning m (Some n)) marks bytes) past out
-  pub shows : AllShow disk after n next
-  pub texts : (k : ℕ) (u : Upload) → upload_of next k ≡ Some u → HasText (disk.seen after) next.indexes k u
-
--- the crash that was chosen left one of the images that it may leave, all of it synced
-pub record Crashes {D C : Type 0} (disk : Ghosts D) (chosen : C → D → D → Type 0) (how : C) (back after : D) :
-    Type 0 where
-  pub is : chosen how back after
-  pub image : IsImage (disk.seen back) (disk.loose back) (disk.seen after)
-  pub synced : (p : ℕ) → disk.loose after p → ⊥
 
 -- what is read of a script: its limit and one byte more, so that a longer one is refused at its line
 abbrev pub read_of : List ℕ → List ℕ
 read_of bytes = take 1073741825 bytes
 
--- a run and a crash as they were told, from a disk with these uploads to a disk with the next, by way of the disk that
--- came back
-pub record IsRun {D C : Type 0} (disk : Ghosts D) (chosen : C → D → D → Type 0) (n : ℕ) (before after : D)
-    (m next : Store) (crash : C) (run told : RunOf) : Type 0 where
+-- A run as it was told, from a disk to the disk that came back. It ends with `Io` exactly where what it wrote was refused
+-- to grow
+pub record IsRun {D : Type 0} (disk : Ghosts D) (n : ℕ) (given back : D) (before left : List Store)
+    (run told : RunOf) : Type 0 where
+  pub script : told.script ≡ run.script
+  pub store : Store
+  pub opened : OpensWith disk given n before store
   pub out : List ℕ
-  pub written : told.written.items ≡ run.written.items ++ out
-  pub passes : Passes disk after n m next (read_of run.script.items) told.fault out
-  pub back : D
-  pub crashes : Crashes disk chosen crash back after
-  pub counts : Counts (IsFault told.fault) (disk.failures before) (disk.failures after)
+  pub written : told.written.bytes.items ≡ run.written.bytes.items ++ out
+  pub passes : Passes n store (read_of run.script.items) told.fault out before left
+  pub counts : Counts (IsFault told.fault) (disk.failures given) (disk.failures back)
+  pub refusals : Counts (told.fault ≡ Some Io) run.written.refusals told.written.refusals
 
 -- AN UPGRADE
 
@@ -102,64 +104,92 @@ UpgradeEnds (Some (upgrades.Open opens.NoMemory)) = Unit {0}
 UpgradeEnds (Some (upgrades.Open opens.DiskFault)) = Unit {0}
 UpgradeEnds (Some (upgrades.Open _)) = ⊥
 
--- read plainly, the image is a sound spool of version 2
-pub record IsUpgraded (image : ℕ → ℕ) : Type 0 where
-  pub view : View
-  pub sound : IsSound view
-  pub new : view.version ≡ Two
-  pub is : IsViewOf image view
-
--- what it leaves where it was done, and where there was nothing left to do
+-- each image is of version 2 where it was done, and where there was nothing left to do
 abbrev pub UpgradeLeaves : Option UpgradeError → (ℕ → ℕ) → Type 0
-UpgradeLeaves None image = IsUpgraded image
-UpgradeLeaves (Some upgrades.AlreadyNew) image = IsUpgraded image
+UpgradeLeaves None image = IsNewest image
+UpgradeLeaves (Some upgrades.AlreadyNew) image = IsNewest image
 UpgradeLeaves (Some (upgrades.Open _)) image = Unit {0}
 
--- an upgrade and a crash as they were told: each image of the disk behind the crash shows the same uploads, with their
--- texts, in version 2 unless memory or the device refused it
-pub record IsUpgrade {D C : Type 0} (disk : Ghosts D) (chosen : C → D → D → Type 0) (n : ℕ) (before after : D)
-    (m : Store) (crash : C) (told : Option UpgradeError) : Type 0 where
+-- it changes no upload. Where the device failed, the images show one of the stores of before
+abbrev pub left_by_upgrade : Option UpgradeError → Store → List Store → List Store
+left_by_upgrade (Some (upgrades.Open opens.DiskFault)) m before = before
+left_by_upgrade told m before = m ∷ []
+
+-- an upgrade as it was told, from a disk to the disk that came back
+pub record IsUpgrade {D : Type 0} (disk : Ghosts D) (n : ℕ) (given back : D) (before left : List Store)
+    (told : Option UpgradeError) : Type 0 where
   pub ends : UpgradeEnds told
-  pub shows : AllShow disk after n m
-  pub texts : (k : ℕ) (u : Upload) → upload_of m k ≡ Some u → HasText (disk.seen after) m.indexes k u
-  pub leaves : (image : ℕ → ℕ) → IsImage (disk.seen after) (disk.loose after) image → UpgradeLeaves told image
-  pub back : D
-  pub crashes : Crashes disk chosen crash back after
-  pub counts : Counts (told ≡ Some (upgrades.Open opens.DiskFault)) (disk.failures before) (disk.failures after)
+  pub store : Store
+  pub opened : OpensWith disk given n before store
+  pub same : left ≡ left_by_upgrade told store before
+  pub leaves : (image : ℕ → ℕ) → IsImage (disk.seen back) (disk.loose back) image → UpgradeLeaves told image
+  pub counts : Counts (told ≡ Some (upgrades.Open opens.DiskFault)) (disk.failures given) (disk.failures back)
+
+-- THE END OF A ROUND
+
+-- The crash that was chosen left one of the images that it may leave, all of it synced, which shows one of the stores. It
+-- is no failure of the device
+pub record Crashes {D C : Type 0} (disk : Ghosts D) (chosen : C → D → D → Type 0) (how : C) (back after : D)
+    (left next : List Store) : Type 0 where
+  pub is : chosen how back after
+  pub image : IsImage (disk.seen back) (disk.loose back) (disk.seen after)
+  pub synced : (p : ℕ) → disk.loose after p → ⊥
+  pub failures : disk.failures after ≡ disk.failures back
+  pub store : Store
+  pub among : Among store left
+  pub alone : next ≡ store ∷ []
+
+-- a crash, or nothing
+abbrev pub IsEnd : {D C : Type 0} → Ghosts D → (C → D → D → Type 0) → End C → D → D → List Store → List Store → Type 0
+IsEnd disk chosen (Crash how) back after left next = Crashes disk chosen how back after left next
+IsEnd disk chosen Nothing back after left next = (after ≡ back) × (next ≡ left)
 
 -- A ROUND
 
--- what is done as it was told, from a disk with these uploads to a disk with the next
-abbrev pub IsWork : {D C : Type 0} → Ghosts D → (C → D → D → Type 0) → ℕ → D → D → Store → Store → C → Work → Work
-    → Type 0
-IsWork disk chosen n before after m next crash (Run run) (Run told) =
-    IsRun disk chosen n before after m next crash run told
-IsWork disk chosen n before after m next crash (Upgrade error) (Upgrade told) =
-    (next ≡ m) × IsUpgrade disk chosen n before after m crash told
-IsWork disk chosen n before after m next crash (Run run) (Upgrade told) = ⊥
-IsWork disk chosen n before after m next crash (Upgrade error) (Run told) = ⊥
+-- what is done as it was told
+abbrev pub IsWork : {D : Type 0} → Ghosts D → ℕ → D → D → List Store → List Store → Work → Work → Type 0
+IsWork disk n given back before left (Run run) (Run told) = IsRun disk n given back before left run told
+IsWork disk n given back before left (Upgrade error) (Upgrade told) = IsUpgrade disk n given back before left told
+IsWork disk n given back before left (Run run) (Upgrade told) = ⊥
+IsWork disk n given back before left (Upgrade error) (Run told) = ⊥
 
-abbrev pub IsRound : {D C : Type 0} → Ghosts D → (C → D → D → Type 0) → ℕ → D → D → Store → Store → Round C → Round C
-    → Type 0
-IsRound disk chosen n before after m next round told =
-    IsWork disk chosen n before after m next round.crash round.work told.work
+-- the uploads of a store are there in an image, with their texts
+abbrev pub HasTexts : (ℕ → ℕ) → Store → Type 0
+HasTexts image m = (k : ℕ) (u : Upload) → upload_of m k ≡ Some u → HasText image m.indexes k u
+
+-- A round as it was told, from a disk of which each image shows one of some stores to one of which each image shows one
+-- of the next, by way of the disk that came back
+pub record IsRound {D C : Type 0} (disk : Ghosts D) (chosen : C → D → D → Type 0) (n : ℕ) (given after : D)
+    (before next : List Store) (round told : Round C) : Type 0 where
+  pub back : D
+  pub left : List Store
+  pub work : IsWork disk n given back before left round.work told.work
+  pub shown : AllShowOne disk back n left
+  pub same_end : told.end ≡ round.end
+  pub end : IsEnd disk chosen round.end back after left next
+  pub shows : AllShowOne disk after n next
+  pub texts : (image : ℕ → ℕ) (m : Store) → ImageShows n image m → IsImage (disk.seen after) (disk.loose after) image
+      → HasTexts image m
 
 -- ALL ROUNDS
 
 -- one after the other, each from where the one before ended
-abbrev pub Lives : {D C : Type 0} → Ghosts D → (C → D → D → Type 0) → ℕ → D → Store → List (Round C) → List (Round C)
-    → D → Store → Type 0
-Lives disk chosen n d m [] [] last end = (last ≡ d) × (end ≡ m)
-Lives disk chosen n d m [] (t ∷ told) last end = ⊥
-Lives disk chosen n d m (r ∷ rounds) [] last end = ⊥
-Lives {D = D} disk chosen n d m (r ∷ rounds) (t ∷ told) last end =
-    (after : D) × (next : Store) × IsRound disk chosen n d after m next r t
+abbrev pub Lives : {D C : Type 0} → Ghosts D → (C → D → D → Type 0) → ℕ → D → List Store → List (Round C)
+    → List (Round C) → D → List Store → Type 0
+Lives disk chosen n d stores [] [] last end = (last ≡ d) × (end ≡ stores)
+Lives disk chosen n d stores [] (t ∷ told) last end = ⊥
+Lives disk chosen n d stores (r ∷ rounds) [] last end = ⊥
+Lives {D = D} disk chosen n d stores (r ∷ rounds) (t ∷ told) last end =
+    (after : D) × (next : List Store) × IsRound disk chosen n d after stores next r t
     × Lives disk chosen n after next rounds told last end
 
--- the disk was made a spool with these uploads, and then lived through the rounds
-pub record HasLived {D C : Type 0} (disk : Ghosts D) (chosen : C → D → D → Type 0) (n : ℕ) (m : Store)
+-- the disk was made a spool of version 2 with these uploads, without a failure, and then lived through the rounds
+pub record HasLived {D C : Type 0} (disk : Ghosts D) (chosen : C → D → D → Type 0) (given : D) (n : ℕ) (m : Store)
     (rounds told : List (Round C)) (last : D) : Type 0 where
   pub made : D
+  pub size : disk.size made ≡ disk.size given
+  pub failures : disk.failures made ≡ disk.failures given
   pub shows : AllShow disk made n m
-  pub end : Store
-  pub lives : Lives disk chosen n made m rounds told last end
+  pub newest : (image : ℕ → ℕ) → IsImage (disk.seen made) (disk.loose made) image → IsNewest image
+  pub end : List Store
+  pub lives : Lives disk chosen n made (m ∷ []) rounds told last end

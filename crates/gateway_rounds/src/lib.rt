@@ -1,9 +1,11 @@
 //! A disk that lives through rounds: in each it is opened and a script is run over it, or it is brought to version 2,
-//! and it crashes.
+//! and then it crashes, or it goes on as it is.
 #![tactic(auto)]
 
 mod life;
 mod round;
+mod streams;
 
 pub use life::{endure, live_through};
-pub use round::{Round, Run, Work};
+pub use round::{End, Round, Run, Work};
+pub use streams::Written;

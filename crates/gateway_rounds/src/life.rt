@@ -1,9 +1,11 @@
 //! A disk's life, from its formatting on.
-ghost use Rattle.std.specs.Prelude.{◌≡◌, ℕ, IsOk, IfOk, IfErr};
-ghost use Rattle.spool_disk.specs.Disk.{Counts};
-ghost use Rattle.spool_image.specs.Format.{FitsSpool, HasMagic};
-ghost use Rattle.spool_image.specs.LeftOnly.{AllShow};
+ghost use Rattle.std.specs.Prelude.{◌≡◌, ◌↔◌, ℕ, List, IsOk, IfOk, IfErr};
+ghost use Rattle.spool_disk.specs.Disk.{Counts, IsImage, Keeps};
+ghost use Rattle.spool_disk.specs.Views.{Lasts};
+ghost use Rattle.spool_image.specs.Format.{FitsSpool, HasMagic, LeftByFormat};
 ghost use Rattle.upload_rules.specs.Store.{Store, no_uploads};
+ghost use Rattle.gateway_engine.specs.RanOn.{AllShowOne};
+ghost use Rattle.gateway_rounds.specs.Making.{IsUnwritten, RefusesSpool};
 ghost use Rattle.gateway_rounds.specs.Rounds.{HasLived, Lives};
 
 use crate::Round;
@@ -15,12 +17,12 @@ use std::alloc::Global;
 
 /// Makes a spool of so many text blocks on a disk, and then lives through the rounds, one after the other. In each the
 /// disk is opened and the script is run over it, or it is brought to version 2, up to the end or the call at which the
-/// device stops, and it goes on with one of the images that a crash leaves then. What came of each round stands in it
-/// afterwards.
+/// device stops. Then it goes on with one of the images that a crash leaves, or as it is. What came of each round stands
+/// in it afterwards.
 ///
 /// # Errors
 ///
-/// As `format`, and the disk comes back. Then no round was begun. Behind it no round is left out, and none refuses to
+/// As `format`, and the disk comes back. Then no round was begun. After it no round is left out, and none refuses to
 /// open the disk but for memory or by the device.
 pub fn endure<D: CrashDisk>(
     alloc: Global,
@@ -29,19 +31,30 @@ pub fn endure<D: CrashDisk>(
     indexes: &IndexSet,
     rounds: &mut [Round<D::How>],
 ) -> Result<D, (D, FormatError)>
-    // Behind each run the disk has the uploads behind the first events of its script, in order, each of them whole and
+    // After each run the disk has the uploads after the first events of its script, in order, each of them whole and
     // with its text; and each event of which a reply was written is one of these. An upgrade changes no upload, and
-    // behind one that was done the disk has a sound spool of version 2.
-    ensures lives { D.honest disk
-        → IfOk result (λ last. HasLived D.Disk D.chosen blocks (no_uploads indexes.now) rounds.old rounds.new last) }
+    // after one that was done the disk has a sound spool of version 2.
+    ensures lives { D.honest disk → IfOk result
+        (λ last. HasLived D.Disk D.chosen disk blocks (no_uploads indexes.now) rounds.old rounds.new last) }
 
     // It is refused where `format` is, and then no round was begun.
     ensures fits { IsOk result → FitsSpool blocks (D.size disk) }
     ensures already { D.honest disk
         → IfErr result (λ e. e.1 ≡ FormatError.AlreadySpool → HasMagic (D.size disk) (D.seen disk)) }
+    ensures no_spool { D.honest disk → HasMagic (D.size disk) (D.seen disk) → RefusesSpool result }
     ensures too_long { IfErr result (λ e. e.1 ≡ FormatError.Size → FitsSpool blocks (D.size disk) → ⊥) }
     ensures counts { IfErr result (λ e. Counts (e.1 ≡ FormatError.DiskFault) (D.failures disk) (D.failures e.0)) }
     ensures unbegun { IfErr result (λ e. rounds.new ≡ rounds.old) }
+
+    // The disk then comes back as `format` left it.
+    ensures size { IfErr result (λ e. D.size e.0 ≡ D.size disk) }
+    ensures honest { IfErr result (λ e. D.honest disk ↔ D.honest e.0) }
+    ensures same { D.honest disk → IfErr result (λ e. IsUnwritten e.1
+        → Keeps (D.seen disk) (D.seen e.0) (D.loose disk) (D.loose e.0)) }
+    ensures lasts { D.honest disk → IfErr result (λ e. IsUnwritten e.1
+        → Lasts D.Disk disk e.0 (IsImage (D.seen disk) (D.loose disk))) }
+    ensures crash { D.honest disk → IfErr result (λ e.
+        Lasts D.Disk disk e.0 (LeftByFormat blocks indexes.now (D.seen disk) (D.loose disk))) }
 {
     let mut disk = disk;
     match format(&mut disk, blocks, indexes) {
@@ -50,11 +63,11 @@ pub fn endure<D: CrashDisk>(
     }
 }
 
-/// Lives through the rounds on a disk of which every image shows the same uploads, in either version, as `endure` does
-/// on a new one.
+/// Lives through the rounds on a disk of which every image shows one of some stores, as where it shows the same uploads
+/// in each, in either version. It does so as `endure` does on a new one.
 pub fn live_through<D: CrashDisk>(alloc: Global, disk: D, rounds: &mut [Round<D::How>]) -> D
-    ensures { (n : ℕ) (m : Store) → AllShow D.Disk disk n m
-        → (last : Store) × Lives D.Disk D.chosen n disk m rounds.old rounds.new result last }
+    ensures { (n : ℕ) (stores : List Store) → AllShowOne D.Disk disk n stores
+        → (last : List Store) × Lives D.Disk D.chosen n disk stores rounds.old rounds.new result last }
 {
     let mut disk = disk;
     for i in 0..rounds.len() {

@@ -1,21 +1,22 @@
-//! One round: work on a disk, and a crash.
-ghost use Rattle.std.specs.Prelude.{◌≡◌, ℕ, [], None};
+//! One round: work on a disk, and its end.
+ghost use Rattle.std.specs.Prelude.{◌≡◌, ℕ, List, [], None};
 ghost use Rattle.upload_rules.specs.Store.{Store};
-ghost use Rattle.spool_image.specs.LeftOnly.{AllShow};
-ghost use Rattle.gateway_rounds.specs.Rounds.{IsRound, IsRun, IsUpgrade};
+ghost use Rattle.gateway_engine.specs.RanOn.{AllShowOne};
+ghost use Rattle.gateway_rounds.specs.Rounds.{IsEnd, IsRound, IsRun, IsUpgrade, IsWork};
 
+use crate::streams::{ScriptBytes, Written};
 use gateway_engine::{RunFault, run};
 use spool_disk::CrashDisk;
 use spool_image::{UpgradeError, upgrade};
 use std::alloc::Global;
 
-/// A round of a disk's life: what is done up to a crash, and what came of it.
+/// A round of a disk's life: what is done, what came of it, and how the round ends.
 #[derive(Drop)]
 pub struct Round<C> {
     /// What is done.
     pub work: Work,
-    /// What is chosen of the crash behind it.
-    pub crash: C,
+    /// How the round ends.
+    pub end: End<C>,
 }
 
 /// What is done in a round.
@@ -23,8 +24,17 @@ pub struct Round<C> {
 pub enum Work {
     /// The spool is opened, and a script is run over it.
     Run(Run),
-    /// The spool is brought to version 2. Behind it stands why it wasn't.
+    /// The spool is brought to version 2. After it stands why it wasn't.
     Upgrade(Option<UpgradeError>),
+}
+
+/// How a round ends.
+#[derive(Drop)]
+pub enum End<C> {
+    /// The disk crashes, and goes on with the image that is chosen so.
+    Crash(C),
+    /// The disk goes on as it is, also where it failed.
+    Nothing,
 }
 
 /// A run of a script.
@@ -32,8 +42,8 @@ pub enum Work {
 pub struct Run {
     /// The script.
     pub script: Vec<u8>,
-    /// What the run writes is put behind what stands here.
-    pub written: Vec<u8>,
+    /// What the run writes is put after what stands here. The run ends with `Io` where this is refused to grow.
+    pub written: Written,
     /// Why the run ended before its script did.
     pub fault: Option<RunFault>,
 }
@@ -42,65 +52,84 @@ impl Run {
     /// A run that isn't begun yet.
     pub fn new(alloc: Global, script: Vec<u8>) -> Self
         ensures script { result.script ≡ script }
-        ensures unwritten { result.written.items ≡ [] }
+        ensures unwritten { result.written.bytes.items ≡ [] }
+        ensures unrefused { result.written.refusals ≡ 0 }
         ensures unended { result.fault ≡ None }
     {
         Run {
             script,
-            written: Vec::new(alloc),
+            written: Written {
+                bytes: Vec::new(alloc),
+                refusals: 0,
+            },
             fault: None,
         }
     }
 }
 
-// The disk is opened, the script is run over it, and it crashes.
-fn live_run<D: CrashDisk>(alloc: Global, disk: D, round: &mut Run, crash: &D::How) -> D
-    ensures { (n : ℕ) (m : Store) → AllShow D.Disk disk n m
-        → (next : Store) × IsRun D.Disk D.chosen n disk result m next crash.now round.old round.new }
+// The disk is opened, and the script is run over it.
+fn live_run<D: CrashDisk>(alloc: Global, disk: D, round: &mut Run) -> D
+    ensures { (n : ℕ) (before : List Store) → AllShowOne D.Disk disk n before → (left : List Store)
+        × AllShowOne D.Disk result n left × IsRun D.Disk n disk result before left round.old round.new }
 {
-    let mut script = round.script.as_slice();
+    let mut script = ScriptBytes::new(round.script.as_slice());
     match run(alloc, &mut script, &mut round.written, disk) {
         Ok(disk) => {
             round.fault = None;
-            disk.restart(crash)
+            disk
         }
         Err((disk, fault)) => {
             round.fault = Some(fault);
-            disk.restart(crash)
+            disk
         }
     }
 }
 
-// The spool is brought to version 2, and the disk crashes.
-fn live_upgrade<D: CrashDisk>(
-    alloc: Global,
-    disk: D,
-    error: &mut Option<UpgradeError>,
-    crash: &D::How,
-) -> D
-    ensures { (n : ℕ) (m : Store) → AllShow D.Disk disk n m
-        → IsUpgrade D.Disk D.chosen n disk result m crash.now error.new }
+// The spool is brought to version 2.
+fn live_upgrade<D: CrashDisk>(alloc: Global, disk: D, error: &mut Option<UpgradeError>) -> D
+    ensures { (n : ℕ) (before : List Store) → AllShowOne D.Disk disk n before → (left : List Store)
+        × AllShowOne D.Disk result n left × IsUpgrade D.Disk n disk result before left error.new }
 {
     let mut disk = disk;
     match upgrade(alloc, &mut disk) {
         Ok(()) => {
             *error = None;
-            disk.restart(crash)
+            disk
         }
         Err(refusal) => {
             *error = Some(refusal);
-            disk.restart(crash)
+            disk
         }
     }
 }
 
-// The work is done on the disk, and it crashes.
-pub(crate) fn live<D: CrashDisk>(alloc: Global, disk: D, round: &mut Round<D::How>) -> D
-    ensures { (n : ℕ) (m : Store) → AllShow D.Disk disk n m
-        → (next : Store) × IsRound D.Disk D.chosen n disk result m next round.old round.new }
+// The work is done on the disk.
+fn work_on<D: CrashDisk>(alloc: Global, disk: D, work: &mut Work) -> D
+    ensures { (n : ℕ) (before : List Store) → AllShowOne D.Disk disk n before → (left : List Store)
+        × AllShowOne D.Disk result n left × IsWork D.Disk n disk result before left work.old work.new }
 {
-    match &mut round.work {
-        Work::Run(run) => live_run(alloc, disk, run, &round.crash),
-        Work::Upgrade(error) => live_upgrade(alloc, disk, error, &round.crash),
+    match work {
+        Work::Run(run) => live_run(alloc, disk, run),
+        Work::Upgrade(error) => live_upgrade(alloc, disk, error),
     }
+}
+
+// The disk crashes, or it goes on as it is.
+fn end_of<D: CrashDisk>(disk: D, end: &End<D::How>) -> D
+    ensures { (n : ℕ) (left : List Store) → AllShowOne D.Disk disk n left → (next : List Store)
+        × AllShowOne D.Disk result n next × IsEnd D.Disk D.chosen end.now disk result left next }
+{
+    match end {
+        End::Crash(how) => disk.restart(how),
+        End::Nothing => disk,
+    }
+}
+
+// The work is done on the disk, and the round ends.
+pub(crate) fn live<D: CrashDisk>(alloc: Global, disk: D, round: &mut Round<D::How>) -> D
+    ensures { (n : ℕ) (before : List Store) → AllShowOne D.Disk disk n before
+        → (next : List Store) × IsRound D.Disk D.chosen n disk result before next round.old round.new }
+{
+    let back = work_on(alloc, disk, &mut round.work);
+    end_of(back, &round.end)
 }

@@ -1,7 +1,7 @@
 //! A life of two rounds, over disks that stop or fail at each call.
 
 use enc_index::IndexSet;
-use gateway_rounds::{Round, Run, Work, endure, live_through};
+use gateway_rounds::{End, Round, Run, Work, endure, live_through};
 use spool_disk::{Crash, CrashDisk, Disk, FuseDisk, HiccupDisk, MemoryDisk};
 use spool_image::{UpgradeError, format};
 use std::alloc::Global;
@@ -92,7 +92,7 @@ const FULL: &[u8] =
 /// More calls than a round makes.
 const NO_STOP: u64 = 100_000;
 
-/// Behind the crash the upload is as it was behind all that was written, or behind what was to be written next.
+/// After the first round's end the upload is as it was after all that was written, or after what was to be written next.
 fn check(rt: &impl Abort, deeds: &Deeds, written: &[u8], shown: &[u8]) {
     let mut left = written;
     let mut right = false;
@@ -118,7 +118,7 @@ fn lives<D: CrashDisk<How = (Crash, u64)> + Drop>(
     rt: &impl Abort,
     alloc: Global,
     disk: D,
-    kind: Crash,
+    kind: Option<Crash>,
     deeds: &Deeds,
 ) -> bool {
     let indexes = IndexSet::new(alloc).expect(rt, "there is memory");
@@ -133,23 +133,29 @@ fn lives<D: CrashDisk<How = (Crash, u64)> + Drop>(
     let [first, later] = &rounds;
     match (&first.work, &later.work) {
         (Work::Run(first), Work::Run(later)) => {
-            check(rt, deeds, &first.written, &later.written);
+            check(rt, deeds, &first.written.bytes, &later.written.bytes);
             first.fault.is_none()
         }
         _ => panic!(rt; "a run became an upgrade"),
     }
 }
 
-/// A round with this work, and this kind of crash.
-fn round_of(work: Work, kind: Crash) -> Round<(Crash, u64)> {
-    Round {
-        work,
-        crash: (kind, NO_STOP),
-    }
+/// A round with this work, and this kind of crash, if one comes.
+fn round_of(work: Work, kind: Option<Crash>) -> Round<(Crash, u64)> {
+    let end = match kind {
+        Some(kind) => End::Crash((kind, NO_STOP)),
+        None => End::Nothing,
+    };
+    Round { work, end }
 }
 
-/// A round that runs this script, and this kind of crash.
-fn run_of(rt: &impl Abort, alloc: Global, script: &[u8], kind: Crash) -> Round<(Crash, u64)> {
+/// A round that runs this script, and this kind of crash, if one comes.
+fn run_of(
+    rt: &impl Abort,
+    alloc: Global,
+    script: &[u8],
+    kind: Option<Crash>,
+) -> Round<(Crash, u64)> {
     let script = script.to_vec(alloc).expect(rt, "there is memory");
     round_of(Work::Run(Run::new(alloc, script)), kind)
 }
@@ -164,7 +170,7 @@ fn stop_at_each_call(rt: &impl Abort, alloc: Global, kind: Crash, deeds: &Deeds)
     // formatting makes 560 calls, and an opening 540
     for calls in 1098..1400u64 {
         let disk = FuseDisk::new(blank(rt, alloc), calls);
-        if lives(rt, alloc, disk, kind, deeds) {
+        if lives(rt, alloc, disk, Some(kind), deeds) {
             return;
         }
     }
@@ -180,11 +186,11 @@ fn stop_at_each_call_and_crash(rt: HostRuntime) {
     }
 }
 
-/// Each call of the disk fails in turn, and leaves zeros.
-fn fail_at_each_call(rt: &impl Abort, alloc: Global, deeds: &Deeds) {
+/// Each call of the disk fails in turn, and leaves zeros, and then a crash comes, or none.
+fn fail_at_each_call(rt: &impl Abort, alloc: Global, kind: Option<Crash>, deeds: &Deeds) {
     for call in 1098..1400u64 {
         let disk = HiccupDisk::new(blank(rt, alloc), call, Some(0));
-        if lives(rt, alloc, disk, Crash::Torn(0), deeds) {
+        if lives(rt, alloc, disk, kind, deeds) {
             return;
         }
     }
@@ -193,8 +199,8 @@ fn fail_at_each_call(rt: &impl Abort, alloc: Global, deeds: &Deeds) {
 
 #[test]
 fn each_call_fails_and_leaves_zeros(rt: HostRuntime) {
-    fail_at_each_call(&rt, rt.alloc(), &FILLS);
-    fail_at_each_call(&rt, rt.alloc(), &DECLARES_AND_DELETES);
+    fail_at_each_call(&rt, rt.alloc(), Some(Crash::Torn(0)), &FILLS);
+    fail_at_each_call(&rt, rt.alloc(), None, &DECLARES_AND_DELETES);
 }
 
 /// An empty spool of version 1.
@@ -214,14 +220,14 @@ fn upgrade_is_a_round(rt: HostRuntime) {
     let alloc = rt.alloc();
     let disk = spool_of_version_1(&rt, alloc);
     let mut rounds = [
-        run_of(&rt, alloc, FILLS.script, Crash::Old),
-        round_of(Work::Upgrade(None), Crash::Old),
-        round_of(Work::Upgrade(None), Crash::New),
-        run_of(&rt, alloc, LOOKS, Crash::Old),
+        run_of(&rt, alloc, FILLS.script, Some(Crash::Old)),
+        round_of(Work::Upgrade(None), Some(Crash::Old)),
+        round_of(Work::Upgrade(None), None),
+        run_of(&rt, alloc, LOOKS, Some(Crash::Old)),
     ];
     let _disk = live_through(alloc, FuseDisk::new(disk, NO_STOP), &mut rounds);
     match &rounds[3].work {
-        Work::Run(run) => assert_eq!(rt; run.written.as_slice(), FULL),
+        Work::Run(run) => assert_eq!(rt; run.written.bytes.as_slice(), FULL),
         Work::Upgrade(_) => panic!(rt; "a run became an upgrade"),
     }
     match (&rounds[1].work, &rounds[2].work) {

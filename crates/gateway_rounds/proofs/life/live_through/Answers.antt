@@ -1,7 +1,7 @@
-use Rattle.std.proofs.Common.{arith, get_or, ◌∙◌}
+use Rattle.std.proofs.Common.{arith, ◌∙◌}
 use Rattle.std.proofs.lemmas.Grind.{common_steps}
 use Rattle.std.proofs.lemmas.List.{get_or-set_other}
-use Rattle.gateway_rounds.proofs.Living.{lives_all, lives_next, round_shows}
+use Rattle.gateway_rounds.proofs.Living.{lives_all, lives_next}
 use Rattle.gateway_rounds.proofs.life.live_through.Goals as goal
 
 pub loop-i-preserved : goal.loop-i-preserved
@@ -15,8 +15,7 @@ loop-i-preserved g c =
           let so_far = inv.lived n m all in
           let one = c.live-disk.ensures n so_far.0 so_far.1 in (
             one.0,
-            round_shows g.D.Disk g.D.CrashDisk.chosen n c.loop-i.disk c.live-disk.result so_far.0 one.0
-                (get_or c.loop-i.rounds i c.index-rounds-i.result) c.live-disk.new.round one.1,
+            one.1.shows,
             lives_next g.D.Disk g.D.CrashDisk.chosen n c.args.disk m c.args.rounds.now c.loop-i.rounds i c.loop-i.disk
                 c.live-disk.result so_far.0 one.0
                 c.index-rounds-i.result c.live-disk.new.round (omega arith) inv.as_long c.index-rounds-i.is

@@ -1,56 +1,53 @@
-use Rattle.std.proofs.Common.{ℕ, List, None, Some, ◌∙◌, ap, subst}
+use Rattle.std.proofs.Common.{ℕ, List, None, Some, ◌∙◌, ap, refl, subst}
 use Rattle.gateway_rounds.specs.Rounds.{Passes, read_of}
-use Rattle.gateway_rounds.proofs.Passing.{counts_behind, counts_refused, is_spool, ran, refused}
+use Rattle.gateway_rounds.proofs.Passing.{counts_refused, is_spool, ran, read_opens, refusals_done, refusals_told}
+use Rattle.gateway_rounds.proofs.Passing.{refused}
 use Rattle.gateway_rounds.proofs.round.live_run.Goals as goal
 
 pub returns-in-Ok : goal.returns-in-Ok
-returns-in-Ok g c n m all =
-    let before = c.args.disk in
+returns-in-Ok g c n before all =
+    let given = c.args.disk in
     let back = c.in-Ok.disk in
-    let after = c.restart.result in
-    let has = c.in-Ok.ensures.runs n m (is_spool g.D.Disk before n m all) in
-    let lived = ran g.D.Disk before back after n m (g.met.D.Disk.counts_now back) (g.met.D.Disk.only_now before) all
-    c.restart.ensures.honest.0 c.restart.ensures.size c.restart.ensures.image c.restart.ensures.firm
-    c.args.round.now.written.items c.run.new.writer.items has.0 has.2 in (
+    let m = read_opens g.D.Disk given n before all in
+    let has = c.in-Ok.ensures.runs n m.0 (is_spool g.D.Disk given n before m.0 all m.1) in
+    let lived = ran g.D.Disk given back n before m.0 (g.met.D.Disk.counts_now back) (g.met.D.Disk.only_now given) all m.1
+    c.args.round.now.written.bytes.items c.run.new.writer.bytes.items has.0 has.2 in (
       lived.0,
+      lived.1,
       record {
-        out = lived.1;
-        written = lived.2;
-        passes = subst (λ (bytes : List ℕ). Passes g.D.Disk after n m lived.0 bytes None lived.1)
-            (has.1 ∙ ap read_of c.as_slice-script.ensures.value) lived.3;
-        back = back;
-        crashes = record {
-          is = c.restart.ensures.chosen;
-          image = c.restart.ensures.image (c.restart.ensures.honest.1 lived.3.shows.honest);
-          synced = c.restart.ensures.firm (c.restart.ensures.honest.1 lived.3.shows.honest);
-        };
-        counts = counts_behind _ _ _ c.restart.ensures.counts c.in-Ok.ensures.counts;
+        script = refl;
+        store = m.0;
+        opened = m.1;
+        out = lived.2;
+        written = lived.3;
+        passes = subst (λ (bytes : List ℕ). Passes n m.0 bytes None lived.2 before lived.0)
+            (has.1 ∙ ap read_of (c.new-script.ensures ∙ c.as_slice.ensures.value)) lived.4;
+        counts = c.in-Ok.ensures.counts;
+        refusals = refusals_done c.in-Ok.ensures.io;
       },
     )
 
 pub returns-in-Err : goal.returns-in-Err
-returns-in-Err g c n m all =
-    let before = c.args.disk in
+returns-in-Err g c n before all =
+    let given = c.args.disk in
     let back = c.in-Err.disk in
     let fault = c.in-Err.fault in
-    let after = c.restart-in-Err.result in
-    let has = c.in-Err.ensures.runs n m (is_spool g.D.Disk before n m all) in
-    let lived = refused g.D.Disk before back after n m (g.met.D.Disk.counts_now back) (g.met.D.Disk.only_now before) all
-    c.restart-in-Err.ensures.honest.0 c.restart-in-Err.ensures.size c.restart-in-Err.ensures.image
-    c.restart-in-Err.ensures.firm
-    c.args.round.now.written.items c.run.new.writer.items has.0 _ fault c.in-Err.ensures.unopened has.2 in (
+    let m = read_opens g.D.Disk given n before all in
+    let has = c.in-Err.ensures.runs n m.0 (is_spool g.D.Disk given n before m.0 all m.1) in
+    let lived = refused g.D.Disk given back n before m.0 (g.met.D.Disk.counts_now back) (g.met.D.Disk.only_now given) all
+    m.1 c.args.round.now.written.bytes.items c.run.new.writer.bytes.items has.0 _ fault c.in-Err.ensures.unopened has.2
+    in (
       lived.0,
+      lived.1,
       record {
-        out = lived.1;
-        written = lived.2;
-        passes = subst (λ (bytes : List ℕ). Passes g.D.Disk after n m lived.0 bytes (Some fault) lived.1)
-            (has.1 ∙ ap read_of c.as_slice-script.ensures.value) lived.3;
-        back = back;
-        crashes = record {
-          is = c.restart-in-Err.ensures.chosen;
-          image = c.restart-in-Err.ensures.image (c.restart-in-Err.ensures.honest.1 lived.3.shows.honest);
-          synced = c.restart-in-Err.ensures.firm (c.restart-in-Err.ensures.honest.1 lived.3.shows.honest);
-        };
-        counts = counts_refused back fault _ _ _ c.restart-in-Err.ensures.counts c.in-Err.ensures.counts;
+        script = refl;
+        store = m.0;
+        opened = m.1;
+        out = lived.2;
+        written = lived.3;
+        passes = subst (λ (bytes : List ℕ). Passes n m.0 bytes (Some fault) lived.2 before lived.0)
+            (has.1 ∙ ap read_of (c.new-script.ensures ∙ c.as_slice.ensures.value)) lived.4;
+        counts = counts_refused back fault _ _ c.in-Err.ensures.counts;
+        refusals = refusals_told back fault _ _ c.in-Err.ensures.io;
       },
     )

@@ -1,66 +1,58 @@
+use Rattle.std.proofs.Common.{[], ◌∷◌, ◌*◌, ◌≤◌, ℕ, refl, sym, subst}
 use Rattle.spool_image.proofs.Opens.{view_room}
 use Rattle.spool_image.specs.declared.error.UpgradeError.TheVariants.{Open}
+use Rattle.spool_journal.specs.Image.{all_pages}
 use Rattle.spool_kept.specs.declared.error.OpenFault.TheVariants.{DiskFault}
-use Rattle.gateway_rounds.proofs.Passing.{counts_done, counts_told, done_leaves, image_back, is_spool, refused_leaves}
-use Rattle.gateway_rounds.proofs.Passing.{texts_of, upgrade_ends, upgraded_to}
+use Rattle.gateway_rounds.proofs.Passing.{all_one, counts_done, counts_told, done_leaves, err_same, is_spool, left_told}
+use Rattle.gateway_rounds.proofs.Passing.{read_opens, refused_leaves, still_shown, upgrade_ends}
 use Rattle.gateway_rounds.proofs.round.live_upgrade.Goals as goal
 
 pub returns-in-Ok : goal.returns-in-Ok
-returns-in-Ok g c n m all =
-    let before = c.args.disk in
+returns-in-Ok g c n before all =
+    let given = c.args.disk in
     let back = c.upgrade.new.disk in
-    let after = c.restart.result in
-    let is = is_spool g.D.Disk before n m all in
-    let honest = c.upgrade.ensures.honest.0 all.honest in
-    let shows =
-    upgraded_to g.D.Disk before back after n m (g.met.D.Disk.counts_now back) (g.met.D.Disk.only_now before) all
-    c.restart.ensures.honest.0 c.restart.ensures.size c.restart.ensures.image c.restart.ensures.firm
-    (c.upgrade.ensures.crash n m is) honest c.upgrade.ensures.size in
-    record {
-      ends = tt;
-      shows = shows;
-      texts = texts_of g.D.Disk after n m shows;
-      leaves = λ image here. done_leaves _ _ image (c.in-Ok.ensures.sound is.honest)
-          (image_back g.D.Disk back after image (c.restart.ensures.image honest) (c.restart.ensures.firm honest) here);
-      back = back;
-      crashes = record {
-        is = c.restart.ensures.chosen;
-        image = c.restart.ensures.image honest;
-        synced = c.restart.ensures.firm honest;
-      };
-      counts = counts_done (Open DiskFault) _ _ _ c.restart.ensures.counts c.in-Ok.ensures.counts;
-    }
+    let m = read_opens g.D.Disk given n before all in
+    let is = is_spool g.D.Disk given n before m.0 all m.1 in (
+      m.0 ∷ [],
+      all_one g.D.Disk back n m.0 (c.in-Ok.ensures.shows n m.0 is (λ device. cc)),
+      record {
+        ends = tt;
+        store = m.0;
+        opened = m.1;
+        same = refl;
+        leaves = λ image here. done_leaves _ _ image (c.in-Ok.ensures.sound is.honest) here;
+        counts = counts_done (Open DiskFault) _ _ c.in-Ok.ensures.counts;
+      },
+    )
 
 pub returns-in-Err : goal.returns-in-Err
-returns-in-Err g c n m all =
-    let before = c.args.disk in
+returns-in-Err g c n before all =
+    let given = c.args.disk in
     let back = c.upgrade.new.disk in
-    let after = c.restart-in-Err.result in
-    let is = is_spool g.D.Disk before n m all in
-    let honest = c.upgrade.ensures.honest.0 all.honest in
+    let e = c.in-Err.refusal in
+    let m = read_opens g.D.Disk given n before all in
+    let is = is_spool g.D.Disk given n before m.0 all m.1 in
     let v = is.shows.view in
     let sound = is.shows.shows.sound in
-    let room = view_room g.D.Disk before n m is in
+    let room = view_room g.D.Disk given n m.0 is in
     let ends = c.in-Err.ensures.upgraded is.honest v sound is.shows.is room in
-    let shows =
-    upgraded_to g.D.Disk before back after n m (g.met.D.Disk.counts_now back) (g.met.D.Disk.only_now before) all
-    c.restart-in-Err.ensures.honest.0 c.restart-in-Err.ensures.size c.restart-in-Err.ensures.image
-    c.restart-in-Err.ensures.firm
-    (c.upgrade.ensures.crash n m is) honest c.upgrade.ensures.size in
-    record {
-      ends = upgrade_ends c.in-Err.refusal ends;
-      shows = shows;
-      texts = texts_of g.D.Disk after n m shows;
-      leaves = λ image here. refused_leaves c.in-Err.refusal v image sound ends
-          (c.in-Err.ensures.stays is.honest v sound is.shows.is room)
-          (image_back g.D.Disk back after image (c.restart-in-Err.ensures.image honest)
-          (c.restart-in-Err.ensures.firm honest) here);
-      back = back;
-      crashes = record {
-        is = c.restart-in-Err.ensures.chosen;
-        image = c.restart-in-Err.ensures.image honest;
-        synced = c.restart-in-Err.ensures.firm honest;
-      };
-      counts = counts_told c.in-Err.refusal (Open DiskFault) _ _ _ c.restart-in-Err.ensures.counts
-          c.in-Err.ensures.counts;
-    }
+    let honest = c.upgrade.ensures.honest.0 all.honest in
+    let still =
+    still_shown g.D.Disk given back n before m.0 (g.met.D.Disk.counts_now back) (g.met.D.Disk.only_now given) all m.1
+    (c.upgrade.ensures.crash n m.0 is) honest
+    (subst (λ (k : ℕ). 4096 * all_pages n ≤ k) (sym c.upgrade.ensures.size) all.room) in
+    let left =
+    left_told g.D.Disk back n m.0 before e
+    (λ sound. c.in-Err.ensures.shows n m.0 is (λ device. sound (err_same e (Open DiskFault) device))) still in (
+      left.0,
+      left.1,
+      record {
+        ends = upgrade_ends e ends;
+        store = m.0;
+        opened = m.1;
+        same = left.2;
+        leaves = λ image here.
+            refused_leaves e v image sound ends (c.in-Err.ensures.stays is.honest v sound is.shows.is room) here;
+        counts = counts_told e (Open DiskFault) _ _ c.in-Err.ensures.counts;
+      },
+    )
