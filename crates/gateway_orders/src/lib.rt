@@ -3,5 +3,7 @@
 
 mod commands;
 mod orders;
+mod usage;
 
 pub use orders::{Order, Service, read_order};
+pub use usage::{USAGE, say_usage};

@@ -1,0 +1,27 @@
+//! What the program says where its command line is no order.
+ghost use Rattle.std.specs.Prelude.{◌≡◌, ◌≢◌, ◌⊎◌, IfOk};
+ghost use Rattle.clap.specs.Values.{kind_of};
+ghost use Rattle.clap.specs.declared.error.kind.ErrorKind.{ErrorKind};
+
+use clap::Error;
+use std::io::{self, Write};
+
+/// The status that the program ends with where its command line is none.
+pub const USAGE: u8 = 1;
+
+/// Writes help to `out`, or to `err` what is wrong with the command line: the status that the program ends with, 0
+/// after help and `USAGE` else.
+pub fn say_usage<O: Write, E: Write>(error: &Error, out: &mut O, err: &mut E) -> io::Result<u8>
+    ensures help { (kind_of error.now ≡ ErrorKind.DisplayHelp) ⊎ (kind_of error.now ≡ ErrorKind.DisplayVersion)
+        → IfOk result (λ status. status ≡ 0) }
+    ensures wrong { (kind_of error.now ≢ ErrorKind.DisplayHelp) → (kind_of error.now ≢ ErrorKind.DisplayVersion)
+        → IfOk result (λ status. status ≡ 1) }
+{
+    if error.use_stderr() {
+        write!(err, "{error}")?;
+        Ok(USAGE)
+    } else {
+        write!(out, "{error}")?;
+        Ok(0)
+    }
+}
