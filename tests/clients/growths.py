@@ -314,12 +314,12 @@ def try_case(program, folder, library, every, name):
     """Each allocation of a case, refused in turn: what went wrong."""
     case, made, spool = CASES[name], folder / "made", folder / "spool"
     shutil.copyfile(folder / "empty", made)
-    same(f"{name}: the status of the script before", Run(program, made, case.before).status, 0)
+    same("the status of the script before", Run(program, made, case.before).status, 0)
     listed = {number: accepted for number, (accepted, _) in list_of(program, made).items()}
-    same(f"{name}: the uploads before", listed, case.left)
+    same("the uploads before", listed, case.left)
     shutil.copyfile(made, spool)
     whole = Run(program, spool, case.tried)
-    same(f"{name}: the replies", whole.replies(), case.told)
+    same("the replies", whole.replies(), case.told)
     holds_what_was_told(program, spool, case, whole, whole)
 
     def run_at(number):
@@ -345,12 +345,12 @@ def make_both(program, folder):
     shutil.copyfile(folder / "empty", new)
     lines = ["open 0", *post(0, 5, "utf-8"), *patch(0, 1, 0, b"hello"), *post(0, 18, "shift_jis", "a" * 900)]
     lines += [*patch(0, 2, 0, SHIFT_JIS[:7]), *post(0, None, "shift_jis"), *patch(0, 3, 0, SHIFT_JIS[:7])]
-    same("upgrade: the status of the script before", Run(program, new, lines).status, 0)
+    same("the status of the script before", Run(program, new, lines).status, 0)
     shutil.copyfile(new, old)
     make_old(old)
     same("the versions", (version_of(new), version_of(old)), (2, 1))
     for spool in new, old:
-        same("upgrade: the uploads before", list_of(program, spool), {1: (5, "5"), 2: (7, "18"), 3: (7, "?")})
+        same("the uploads before", list_of(program, spool), {1: (5, "5"), 2: (7, "18"), 3: (7, "?")})
     return new, old
 
 
