@@ -246,8 +246,9 @@ def is_refused_once(answers, wanted):
 
 def list_of(program, spool):
     """How many bytes of each upload are accepted, and how many are declared, by the word for it."""
-    listed = subprocess.run([program, "list", str(spool)], check=True, capture_output=True, text=True).stdout
-    lines = re.findall(r"^(\d+) (\d+)/(\d+|\?) ", listed, re.M)
+    ran = subprocess.run([program, "list", str(spool)], capture_output=True, text=True, timeout=60)
+    holds(f"an opening ends with status {ran.returncode}, {ran.stderr!r}", ran.returncode == 0)
+    lines = re.findall(r"^(\d+) (\d+)/(\d+|\?) ", ran.stdout, re.M)
     return {int(number): (int(accepted), declared) for number, accepted, declared in lines}
 
 

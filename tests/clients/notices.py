@@ -61,10 +61,10 @@ WANTED = [
     ("data alone synced", "syncs.py", "format:"),
     ("no library reaches it", "power.py", "the changes acknowledged"),
     ("no sync", "power.py", "changes were acknowledged, not"),
-    ("the journal not synced", "power.py", "returned non-zero exit status 2|the uploads|the text of"),
-    ("the open gate not synced", "power.py", "returned non-zero exit status 2|the uploads|the text of"),
-    ("the closed gate not synced", "power.py", "returned non-zero exit status 2|the uploads|the text of"),
-    ("the places not synced", "power.py", "returned non-zero exit status 2|the uploads|the text of"),
+    ("the journal not synced", "power.py", "an opening ends with status 2|the uploads|the text of"),
+    ("the open gate not synced", "power.py", "an opening ends with status 2|the uploads|the text of"),
+    ("the closed gate not synced", "power.py", "an opening ends with status 2|the uploads|the text of"),
+    ("the places not synced", "power.py", "an opening ends with status 2|the uploads|the text of"),
 ]
 
 
