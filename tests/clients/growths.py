@@ -246,8 +246,9 @@ def is_refused_once(answers, wanted):
 
 def list_of(program, spool):
     """How many bytes of each upload are accepted, and how many are declared, by the word for it."""
-    listed = subprocess.run([program, "list", str(spool)], check=True, capture_output=True, text=True).stdout
-    lines = re.findall(r"^(\d+) (\d+)/(\d+|\?) ", listed, re.M)
+    ran = subprocess.run([program, "list", str(spool)], capture_output=True, text=True, timeout=60)
+    holds(f"an opening ends with status {ran.returncode}, {ran.stderr!r}", ran.returncode == 0)
+    lines = re.findall(r"^(\d+) (\d+)/(\d+|\?) ", ran.stdout, re.M)
     return {int(number): (int(accepted), declared) for number, accepted, declared in lines}
 
 
@@ -314,12 +315,12 @@ def try_case(program, folder, library, every, name):
     """Each allocation of a case, refused in turn: what went wrong."""
     case, made, spool = CASES[name], folder / "made", folder / "spool"
     shutil.copyfile(folder / "empty", made)
-    same(f"{name}: the status of the script before", Run(program, made, case.before).status, 0)
+    same("the status of the script before", Run(program, made, case.before).status, 0)
     listed = {number: accepted for number, (accepted, _) in list_of(program, made).items()}
-    same(f"{name}: the uploads before", listed, case.left)
+    same("the uploads before", listed, case.left)
     shutil.copyfile(made, spool)
     whole = Run(program, spool, case.tried)
-    same(f"{name}: the replies", whole.replies(), case.told)
+    same("the replies", whole.replies(), case.told)
     holds_what_was_told(program, spool, case, whole, whole)
 
     def run_at(number):
@@ -345,12 +346,12 @@ def make_both(program, folder):
     shutil.copyfile(folder / "empty", new)
     lines = ["open 0", *post(0, 5, "utf-8"), *patch(0, 1, 0, b"hello"), *post(0, 18, "shift_jis", "a" * 900)]
     lines += [*patch(0, 2, 0, SHIFT_JIS[:7]), *post(0, None, "shift_jis"), *patch(0, 3, 0, SHIFT_JIS[:7])]
-    same("upgrade: the status of the script before", Run(program, new, lines).status, 0)
+    same("the status of the script before", Run(program, new, lines).status, 0)
     shutil.copyfile(new, old)
     make_old(old)
     same("the versions", (version_of(new), version_of(old)), (2, 1))
     for spool in new, old:
-        same("upgrade: the uploads before", list_of(program, spool), {1: (5, "5"), 2: (7, "18"), 3: (7, "?")})
+        same("the uploads before", list_of(program, spool), {1: (5, "5"), 2: (7, "18"), 3: (7, "?")})
     return new, old
 
 

@@ -28,6 +28,7 @@ from growths import Run, ask, list_of, post
 from harness import Wrong, format_spool, has_open_gate, holds, indexes_in, make_old, memory, parser_of, rng_of, same
 from harness import version_of
 from history import History, text_of
+from spools import PAGE
 
 BLOCKS = 64
 SECTOR = 512
@@ -48,20 +49,21 @@ class Disk:
         elif call.kind in "sd":
             kept = [it for it in self.loose if it.kind == "l" and call.kind == "d"]
             for it in self.loose:
-                lay(self.firm, it, 0, len(it.data)) if it not in kept else None
+                if it not in kept:
+                    lay(self.firm, it, 0, len(it.data))
             self.loose = kept
 
     def image(self, rng):
         """What a failure may leave: of each sector that was written since, one of the contents that it had."""
         data, chance = bytearray(self.firm), rng.choice([0.0, 0.5, 0.5, 0.9, 1.0])
-        last = {}
-        for place, call in enumerate(self.loose):
+        written = {}
+        for call in self.loose:
             for sector in sectors(call):
-                last.setdefault(sector, []).append(place)
-        for sector, places in last.items():
-            count = len(places) if rng.random() < chance else rng.randrange(len(places)) if chance else 0
-            for place in places[:count]:
-                call = self.loose[place]
+                written.setdefault(sector, []).append(call)
+        for sector, calls in written.items():
+            # (the latest of them by this chance, else an earlier one or none)
+            count = len(calls) if rng.random() < chance else rng.randrange(len(calls))
+            for call in calls[:count]:
                 lay(data, call, max(0, SECTOR * sector - call.at), SECTOR * (sector + 1) - call.at)
         return bytes(data)
 
@@ -219,9 +221,15 @@ def try_format(images, indexes, before):
     def judge(_told, calls):
         if any(call.kind == "r" for call in calls):
             holds("the spool isn't whole, and it was told", images.spool.read_bytes() == whole)
+        front = images.spool.read_bytes()[:PAGE]
         ran = subprocess.run([images.program, "list", str(images.spool)], capture_output=True, timeout=60)
         if (ran.returncode, ran.stderr) == (2, b"refused: 15 NotASpool\n"):
             images.met["no spool"] += 1
+            return
+        if ran.returncode and front not in ((before or b"")[:PAGE], whole[:PAGE]):
+            # (page 0 is torn: docs/FORMAT.md, Format)
+            same("the refusal", ran.stderr, b"refused: 2 Damaged\n")
+            images.met["torn"] += 1
             return
         images.opened({}, 1)
         images.met["whole spools"] += 1
