@@ -9,6 +9,7 @@ use Rattle.std.specs.List.{prefix_len}
 use Rattle.std.specs.Char.{IsScalar, is_ascii}
 use Rattle.std.specs.Bool.{OnTrue}
 use Rattle.enc_model.proofs.Fronts.{front_all}
+use Rattle.std.proofs.lemmas.Bool.{true≢false}
 use Rattle.std.proofs.lemmas.Bool.Decides.{nat_tests}
 use Rattle.std.proofs.lemmas.List.Elements.{All-head, All-tail, All-from_get_or}
 use Rattle.std.specs.Str.{IsUtf8, chars}
@@ -124,7 +125,7 @@ whole_unit lead unit e =
     let y : is_trail unit ≡ false = grind (arith, nat_tests, e) in
     (rw (x, y) refl, rw x refl)
 
-whole_front : (b : Bool) (n k : ℕ) → cond b (1 + n) 0 ≡ suc k → (b ≡ true) × (n ≡ k)
+pub whole_front : (b : Bool) (n k : ℕ) → cond b (1 + n) 0 ≡ suc k → (b ≡ true) × (n ≡ k)
 whole_front true n k e = (refl, omega (arith, e))
 whole_front false n k e = absurd (omega (arith, e))
 
@@ -139,3 +140,11 @@ whole_scalars lead (unit ∷ units) whole =
 pub on_true : (b : Bool) (P : Type 0) → P → OnTrue b P
 on_true true P p = p
 on_true false P p = tt
+
+pub on_true_from : (b : Bool) (P : Type 0) → (b ≡ true → P) → OnTrue b P
+on_true_from true P f = f refl
+on_true_from false P f = tt
+
+pub on_true_at : (b : Bool) (P : Type 0) → b ≡ true → OnTrue b P → P
+on_true_at true P e p = p
+on_true_at false P e p = absurd (true≢false (sym e))

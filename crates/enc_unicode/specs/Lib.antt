@@ -1,3 +1,5 @@
 pub mod Nowhere
 pub mod Utf8State
 pub mod Utf16State
+pub mod WroteUnits
+pub mod Packing

@@ -9,12 +9,8 @@ ghost use Rattle.lane_kernels.specs.Orders.{is_big};
 ghost use Rattle.lane_kernels.specs.Steps.{scalar_text, scalars_of, step_text, unit_scalar};
 ghost use Rattle.lane_kernels.specs.Units.{IsCarried};
 
-use crate::scalar_units::{CODE, write_scalars};
 use enc_model::{Batch, ROOM};
-use lane_kernels::{
-    Order, Pairing, Step, lead_in, narrow, paired, paired_units_decode, scalar_front,
-};
-use std::str::from_utf8_unchecked;
+use lane_kernels::{Order, Pairing, Step, lead_in, paired, paired_units_decode};
 
 /// How many bytes are looked at in one go.
 const LANES: usize = 64;
@@ -62,24 +58,6 @@ fn push_units(carried: Option<u16>, units: &[u16; 32], batch: &mut Batch)
     }
 }
 
-/// Takes units that are paired behind a carried lead or none.
-fn push_paired(carried: Option<u16>, units: &[u16; 32], batch: &mut Batch)
-    requires carried { IsCarried carried }
-    requires room { length batch.old + 128 ≤ ROOM }
-    ensures { BatchTook batch.old (scalars_of carried units.now) batch.new }
-{
-    let mut code = [0; CODE];
-    let ascii = narrow(units, &mut code);
-    if ascii == 32 {
-        batch.push_ascii(&code[..32]);
-    } else if scalar_front(units) == 32 {
-        let len = write_scalars(units, ascii, &mut code);
-        batch.push_str(unsafe { from_utf8_unchecked(&code[..len]) });
-    } else {
-        push_units(carried, units, batch);
-    }
-}
-
 /// The steps over bytes, one after the other.
 fn decode_each(pairing: &mut Pairing, order: Order, bytes: &[u8], batch: &mut Batch)
     requires { length batch.old + 12 * length bytes.now ≤ ROOM }
@@ -104,7 +82,7 @@ fn decode_paired(pairing: &mut Pairing, order: Order, bytes: &[u8; 64], batch: &
     let mut units = [0; 32];
     let is_paired = pairing.block(order, bytes, &mut units);
     if is_paired {
-        push_paired(carried, &units, batch);
+        push_units(carried, &units, batch);
     }
     is_paired
 }

@@ -2,7 +2,9 @@
 #![tactic(auto)]
 
 mod blocks;
-mod scalar_units;
+mod packing;
+mod packs;
+mod runs;
 mod utf16;
 mod utf8;
 mod well_formed;

@@ -1,6 +1,7 @@
 //! The decoder of UTF-16.
 
-ghost use Rattle.std.specs.Prelude.{◌≡◌, OnOk, true, false, ◌<◌, ◌-◌, ◌*◌, [], Some, None};
+ghost use Rattle.std.specs.Prelude.{◌≡◌, IfOk, IfErr, OnOk, true, false, ◌<◌, ◌≤◌, ◌-◌, ◌*◌, [], Some, None, length, take};
+ghost use Rattle.std.specs.Bool.{OnTrue};
 ghost use Rattle.enc_unicode.specs.Utf16State.{InOrder};
 ghost use Rattle.lane_kernels.specs.Orders.{is_big};
 ghost use Rattle.lane_kernels.specs.Units.{IsCarried};
@@ -10,9 +11,11 @@ ghost use Rattle.enc_model.specs.Utf16.{Utf16, utf16, utf16_start, utf16_unit, u
 ghost use Rattle.enc_model.proofs.Calm.{utf16_calm};
 
 use crate::blocks::decode_block;
-use enc_model::{Answer, Batch, BlockDecoder, Decoder, Restored, Sink, feed, finish};
+use crate::runs::{CODE, write_text};
+use enc_model::{Answer, BLOCK, Batch, BlockDecoder, Decoder, Restored, Sink, feed, finish};
 use lane_kernels::{Order, Pairing, paired, unit_in};
 use std::marker::Model;
+use std::str::from_utf8_unchecked;
 
 /// What is kept of the bytes so far: the first byte of a unit, and a lead surrogate.
 #[derive(Drop)]
@@ -131,6 +134,76 @@ impl BlockDecoder for Units {
     }
 }
 
+impl Units {
+    /// Whether nothing is kept.
+    fn is_empty(&self) -> bool
+        ensures { OnTrue result (self.now ≡ utf16_start) }
+    {
+        self.byte.is_none() && self.lead.is_none()
+    }
+
+    /// How many bytes are read at once where no run begins: those that a kept byte or lead needs, or else a block.
+    fn count(&self, rest: &[u8]) -> usize
+        requires { 0 < length rest.now }
+        ensures { (0 < result) × (result ≤ length rest.now) }
+    {
+        let wanted = match (self.byte, self.lead) {
+            (Some(_), _) => 1,
+            (None, Some(_)) => 2,
+            (None, None) => BLOCK,
+        };
+        wanted.min(rest.len())
+    }
+
+    /// Goes on at the rest of a piece, and says how far: over the run without surrogates at its front, or over a block
+    /// where there is none.
+    fn advance<S: Sink>(
+        &mut self,
+        order: Order,
+        rest: &[u8],
+        sink: &mut S,
+    ) -> Result<usize, S::Refusal>
+        requires some { 0 < length rest.now }
+        ensures some { IfOk result (λ n. (0 < n) × (n ≤ length rest.now)) }
+        ensures taken { IfOk result
+            (λ n. S.takes sink.old (steps (utf16 (is_big order)) false self.old (take n rest.now)).text sink.new) }
+        ensures refused { IfErr result
+            (λ e. S.refuses sink.old (steps (utf16 (is_big order)) false self.old rest.now).text e sink.new) }
+        ensures state { IfOk result
+            (λ n. self.new ≡ (steps (utf16 (is_big order)) false self.old (take n rest.now)).state) }
+    {
+        if self.is_empty() {
+            let mut code = [0; CODE];
+            let (read, len) = write_text(order, rest, &mut code);
+            if 0 < read {
+                sink.text(unsafe { from_utf8_unchecked(&code[..len]) })?;
+                return Ok(read);
+            }
+        }
+        let count = self.count(rest);
+        feed(self, &order, &rest[..count], sink)?;
+        Ok(count)
+    }
+
+    /// The steps over a piece, by runs without surrogates and by blocks.
+    fn feed_runs<S: Sink>(
+        &mut self,
+        order: Order,
+        piece: &[u8],
+        sink: &mut S,
+    ) -> Result<(), S::Refusal>
+        ensures given { Given S.takes S.refuses sink.old (steps (utf16 (is_big order)) false self.old piece.now).text
+            sink.new result }
+        ensures state { OnOk result (self.new ≡ (steps (utf16 (is_big order)) false self.old piece.now).state) }
+    {
+        let mut at = 0;
+        while at < piece.len() {
+            at += self.advance(order, &piece[at..], sink)?;
+        }
+        Ok(())
+    }
+}
+
 /// A decoder of UTF-16 (Encoding Standard, section 14.2.1), in the order that it was made with.
 #[derive(Drop)]
 pub struct Utf16State {
@@ -210,7 +283,7 @@ impl Utf16State {
         ensures state { OnOk result
             (self.new.state ≡ (steps (utf16 self.old.big) false self.old.state piece.now).state) }
     {
-        feed(&mut self.units, &self.order, piece, sink)
+        self.units.feed_runs(self.order, piece, sink)
     }
 
     /// The steps of the end.

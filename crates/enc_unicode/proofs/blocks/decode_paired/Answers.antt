@@ -20,9 +20,9 @@ returns-then-is_paired-clause-text c =
     let some : 0 < length (units_of big (with_carried s.byte bytes)) = omega (arith, long, same) in
     let run = c.paired_units_decode.ensures big s bytes paired some in
     on_true c.block-is_paired.result _
-    (subst (λ z. BatchTook c.args.batch.now z c.push_paired.new.batch)
+    (subst (λ z. BatchTook c.args.batch.now z c.push_units.new.batch)
     (ap₂ scalars_of c.lead-carried.ensures.value e.units ∙ sym (ap (λ (z : Run Utf16). z.text) run))
-    c.push_paired.ensures)
+    c.push_units.ensures)
 
 pub returns-then-is_paired-clause-state : goal.returns-then-is_paired-clause-state
 returns-then-is_paired-clause-state c =

@@ -1,0 +1,149 @@
+//! Bytes of UTF-16 without surrogates as UTF-8, 32 units at a time.
+
+ghost use Rattle.std.specs.Prelude.{◌≡◌, ◌+◌, ◌*◌, ◌/◌, ◌%◌, ◌<◌, ◌≤◌, ◌++◌, IfSome, IfNone, All, false, not, length, map, take};
+ghost use Rattle.std.specs.Bool.{OnTrue};
+ghost use Rattle.std.specs.List.{prefix_len};
+ghost use Rattle.std.specs.Simd.Lanes.{mask_l};
+ghost use Rattle.std.specs.Str.{chars, IsUtf8};
+ghost use Rattle.enc_model.specs.Index.{within};
+ghost use Rattle.enc_model.specs.Stream.{steps};
+ghost use Rattle.enc_model.specs.Utf16.{utf16, utf16_start};
+ghost use Rattle.lane_kernels.specs.Orders.{is_big};
+ghost use Rattle.lane_kernels.specs.Units.{units_of};
+ghost use Rattle.enc_unicode.specs.WroteUnits.{WroteUnits};
+
+use crate::packing::{BLOCK_CODE, write_units};
+use lane_kernels::Order;
+use std::simd::prelude::*;
+
+/// How many bytes are read in one go.
+const LANES: usize = 64;
+
+/// How many bytes of UTF-8 are gathered before a sink takes them.
+pub const CODE: usize = 2048;
+
+/// The units of 64 bytes, of which the lower comes first.
+#[inline(always)]
+fn low_first(bytes: u8x64) -> u16x32
+    ensures { result ≡ units_of false bytes }
+{
+    u16x32::from_le_bytes(bytes)
+}
+
+/// Each unit with its two bytes changed round.
+#[inline(always)]
+fn turned_round(units: u16x32) -> u16x32
+    ensures { result ≡ map (λ unit. unit % 256 * 256 + unit / 256) units }
+{
+    (units << 8) + (units >> 8)
+}
+
+/// The units of 64 bytes.
+#[inline(always)]
+fn units_in(order: Order, bytes: &[u8; LANES]) -> u16x32
+    ensures { result ≡ units_of (is_big order) bytes.now }
+{
+    let units = low_first(u8x64::from_array(*bytes));
+    match order {
+        Order::Big => turned_round(units),
+        Order::Little => units,
+    }
+}
+
+/// A bit for each unit, set where the unit is from the lowest to the highest.
+#[inline(always)]
+fn mask_within(units: u16x32, lowest: u16, highest: u16) -> u64
+    ensures { result ≡ mask_l (map (within lowest highest) units) }
+{
+    (units.simd_ge(u16x32::splat(lowest)) & units.simd_le(u16x32::splat(highest))).to_bitmask()
+}
+
+/// Whether no unit is from the lowest to the highest.
+#[inline(always)]
+fn has_none(units: u16x32, lowest: u16, highest: u16) -> bool
+    ensures { OnTrue result (prefix_len (λ unit. not (within lowest highest unit)) units ≡ 32) }
+{
+    mask_within(units, lowest, highest) == 0
+}
+
+/// Whether all units are below 80.
+#[inline(always)]
+fn is_ascii(units: u16x32) -> bool
+    ensures { OnTrue result (All (λ unit. unit < 128) units) }
+{
+    has_none(units, 0x80, 0xFFFF)
+}
+
+/// Writes units below 80 after the first so many bytes, which are a text.
+#[inline(always)]
+fn write_ascii(units: u16x32, code: &mut [u8], from: usize)
+    requires room { from + 32 ≤ length code.old }
+    requires utf8 { IsUtf8 (take from code.old) }
+    requires below { All (λ unit. unit < 128) units }
+    ensures { WroteUnits units (take from code.old) (take (from + 32) code.new) }
+{
+    units.cast::<u8>().copy_to_slice(&mut code[from..]);
+}
+
+/// Writes the units of 64 bytes after the first so many, which are a text, where none is a surrogate, and counts on.
+#[inline(always)]
+fn write_block(
+    order: Order,
+    bytes: &[u8; LANES],
+    code: &mut [u8; CODE],
+    from: usize,
+) -> Option<usize>
+    requires room { from + BLOCK_CODE ≤ CODE }
+    requires utf8 { IsUtf8 (take from code.old) }
+    ensures unchanged { IfNone result (code.new ≡ code.old) }
+    ensures wrote { IfSome result (λ n. (n ≤ from + BLOCK_CODE) × WroteUnits (units_of (is_big order) bytes.now)
+        (take from code.old) (take n code.new)) }
+{
+    let units = units_in(order, bytes);
+    if is_ascii(units) {
+        write_ascii(units, code, from);
+        return Some(from + 32);
+    }
+    if has_none(units, 0xD800, 0xDFFF) {
+        return Some(write_units(units, code, from));
+    }
+    None
+}
+
+/// The same of the 64 bytes that others begin with, where there are as many.
+#[inline(always)]
+fn write_next(order: Order, rest: &[u8], code: &mut [u8; CODE], from: usize) -> Option<usize>
+    requires room { from + BLOCK_CODE ≤ CODE }
+    requires utf8 { IsUtf8 (take from code.old) }
+    ensures unchanged { IfNone result (code.new ≡ code.old) }
+    ensures wrote { IfSome result (λ n. (LANES ≤ length rest.now) × (n ≤ from + BLOCK_CODE) × WroteUnits
+        (units_of (is_big order) (take LANES rest.now)) (take from code.old) (take n code.new)) }
+{
+    match rest.first_chunk::<LANES>() {
+        Some(bytes) => write_block(order, bytes, code, from),
+        None => None,
+    }
+}
+
+/// Writes the text that bytes begin with, as far as there is room, blocks are whole and no unit is a surrogate: how many
+/// bytes were read, and how many written.
+pub fn write_text(order: Order, bytes: &[u8], code: &mut [u8; CODE]) -> (usize, usize)
+    ensures read { result.0 ≤ length bytes.now }
+    ensures few { result.1 ≤ CODE }
+    ensures utf8 { IsUtf8 (take result.1 code.new) }
+    ensures run { steps (utf16 (is_big order)) false utf16_start (take result.0 bytes.now)
+        ≡ record { text = chars (take result.1 code.new); state = utf16_start } }
+{
+    let mut read = 0;
+    let mut len = 0;
+    'by_blocks: while len + BLOCK_CODE <= CODE {
+        match write_next(order, &bytes[read..], code, len) {
+            Some(end) => {
+                len = end;
+                read += LANES;
+            }
+            None => break,
+        }
+    }
+    (read, len)
+}
