@@ -6,48 +6,36 @@ mod serving;
 
 use clap::Error;
 use clap::error::ErrorKind;
-use gateway_files::{Failure, Fault, format_file, list_file, upgrade_file};
-use gateway_orders::{Order, read_order};
+use gateway_files::{
+    Failure, Fault, Formatted, Task, ended, format_file, list_file, say_formatted, say_read,
+    say_upgraded, upgrade_file,
+};
+use gateway_orders::{Order, USAGE, read_order, say_usage};
 use scripting::run_script;
 use serving::serve_file;
 use std::alloc::Global;
 use std::process::ExitCode;
 use std::{env, io};
 
-// The status of a command line that is none.
-const USAGE: u8 = 1;
-
 fn main(rt: HostRuntime) -> ExitCode {
-    match words(&rt, rt.alloc()) {
+    let status = match words(&rt, rt.alloc()) {
         Ok(words) => run(&rt, &words),
-        Err(error) => ended(&rt, no_words(&rt, error)),
-    }
+        Err(error) => ended(&mut rt.stderr(), no_words(&rt, error)),
+    };
+    ExitCode::from(status)
 }
 
 // Does what the command line asks for: the status that the program ends with.
-fn run(rt: &HostRuntime, words: &[String]) -> ExitCode {
+fn run(rt: &HostRuntime, words: &[String]) -> u8 {
     match read_order(rt.alloc(), words) {
-        Ok(Some(order)) => ended(rt, obey(rt, order)),
-        Ok(None) => ExitCode::from(USAGE),
-        Err(error) => ended(rt, told(rt, error)),
-    }
-}
-
-// The status that the program ends with. A failure is told.
-fn ended(rt: &HostRuntime, outcome: Result<ExitCode, Failure>) -> ExitCode {
-    match outcome {
-        Ok(code) => code,
-        Err(failure) => {
-            // Where standard error takes nothing, the status alone says it.
-            let told = eprintln!(rt; "{failure}");
-            drop(told);
-            ExitCode::from(failure.status())
-        }
+        Ok(Some(order)) => ended(&mut rt.stderr(), obey(rt, order)),
+        Ok(None) => USAGE,
+        Err(error) => ended(&mut rt.stderr(), refuse(rt, error)),
     }
 }
 
 // Does what there is to do.
-fn obey<'a>(rt: &HostRuntime, order: Order<'a>) -> Result<ExitCode, Failure<'a>> {
+fn obey<'a>(rt: &HostRuntime, order: Order<'a>) -> Result<u8, Failure<'a>> {
     let alloc = rt.alloc();
     match order {
         Order::Format {
@@ -55,10 +43,10 @@ fn obey<'a>(rt: &HostRuntime, order: Order<'a>) -> Result<ExitCode, Failure<'a>>
             blocks,
             indexes,
         } => {
-            let made = format_file(rt, alloc, spool, blocks, indexes)?;
-            println!(rt; "formatted {blocks} blocks, {} pages", made.pages)?;
+            let Formatted { pages, read } = format_file(rt, alloc, spool, blocks, indexes)?;
+            say_formatted(&mut io::writer(rt), blocks, pages)?;
             // Where standard error takes nothing, the index files aren't told.
-            let told = tell_read(rt, &made.read);
+            let told = say_read(&mut rt.stderr(), read.as_slice());
             drop(told);
         }
         Order::Script { spool } => run_script(rt, alloc, spool)?,
@@ -66,19 +54,10 @@ fn obey<'a>(rt: &HostRuntime, order: Order<'a>) -> Result<ExitCode, Failure<'a>>
         Order::List { spool } => list_file(rt, alloc, spool)?,
         Order::Upgrade { spool } => {
             upgrade_file(rt, alloc, spool)?;
-            println!(rt; "upgraded to version 2")?;
+            say_upgraded(&mut io::writer(rt))?;
         }
     }
-    Ok(ExitCode::SUCCESS)
-}
-
-// Tells which index files were read, on standard error.
-fn tell_read(rt: &HostRuntime, names: &[&str]) -> io::Result<()> {
-    eprintln!(rt; "index files read: {}", names.len())?;
-    for name in names.iter() {
-        eprintln!(rt; "{name}")?;
-    }
-    Ok(())
+    Ok(0)
 }
 
 // The words of the command line.
@@ -91,23 +70,18 @@ fn words(rt: &HostRuntime, alloc: Global) -> io::Result<Vec<String>> {
 }
 
 // Why the command line has no words: one that isn't UTF-8 is a usage fault.
-fn no_words<'a>(rt: &HostRuntime, error: io::Error) -> Result<ExitCode, Failure<'a>> {
+fn no_words<'a>(rt: &HostRuntime, error: io::Error) -> Result<u8, Failure<'a>> {
     if error.kind() != io::ErrorKind::InvalidData {
-        return Err(Failure::from(Fault::from(error)));
+        return Err(Failure::new(Fault::from(error), Task::ReadWords, error));
     }
     eprintln!(rt; "error: invalid UTF-8 was detected in one or more arguments")?;
-    Ok(ExitCode::from(USAGE))
+    Ok(USAGE)
 }
 
 // Prints help, or what is wrong with the command line. Want of memory is no fault of the command line.
-fn told<'a>(rt: &HostRuntime, error: Error) -> Result<ExitCode, Failure<'a>> {
+fn refuse<'a>(rt: &HostRuntime, error: Error) -> Result<u8, Failure<'a>> {
     if error.kind() == ErrorKind::OutOfMemory {
         return Err(Failure::from(Fault::NoMemory));
     }
-    error.print(rt)?;
-    Ok(if error.use_stderr() {
-        ExitCode::from(USAGE)
-    } else {
-        ExitCode::SUCCESS
-    })
+    Ok(say_usage(&error, &mut io::writer(rt), &mut rt.stderr())?)
 }

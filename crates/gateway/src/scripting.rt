@@ -2,11 +2,10 @@
 
 use enc_index::IndexSet;
 use gateway_engine::{Counted, CountedRead, CountedWrite, RunFault, run};
-use gateway_files::{Failure, Fault, open_spool};
+use gateway_files::{Failure, Fault, Noted, open_spool};
 use spool_disk::{Disk, MemoryDisk};
 use spool_image::{format, pages_of};
 use std::alloc::Global;
-use std::io;
 
 // How many text blocks a spool in memory has.
 const MEMORY_BLOCKS: u32 = 64;
@@ -17,17 +16,20 @@ pub(crate) fn run_script<'a>(
     alloc: Global,
     spool: &'a str,
 ) -> Result<(), Failure<'a>> {
-    let mut reader = Counted::new(rt.reader());
-    let mut writer = Counted::new(io::writer(rt));
+    let mut input = Noted::new(rt.reader());
+    let mut output = Noted::new(rt.stdout());
+    let mut reader = Counted::new(&mut input);
+    let mut writer = Counted::new(&mut output);
     if spool == "-" {
         let disk = spool_in_memory(alloc)?;
         let (_disk, ran) = run_over_disk(alloc, &mut reader, &mut writer, disk);
-        return Ok(ran?);
+        return ran.map_err(|fault| Failure::on_streams(fault, input.error(), output.error()));
     }
     let disk = open_spool(rt, spool)?;
     let (disk, ran) = run_over_disk(alloc, &mut reader, &mut writer, disk);
     match ran {
         Ok(()) => Ok(()),
+        Err(Fault::Io) => Err(Failure::on_streams(Fault::Io, input.error(), output.error())),
         Err(fault) => Err(Failure::on_spool(fault, spool, &disk)),
     }
 }
