@@ -117,7 +117,8 @@ pub block_more : (big : Bool) (bytes : List ℕ) (read : ℕ) (old new : List �
     steps (utf16 big) false utf16_start (take (read + 64) bytes) ≡ record { text = chars new; state = utf16_start }
 block_more big bytes read old new inside run wrote =
     let block = take 64 (drop read bytes) in
-    let long : length block ≡ 64 = length-take-le 64 (drop read bytes) (omega (arith, length-drop read bytes, inside)) in
+    let long : length block ≡ 64 =
+    length-take-le 64 (drop read bytes) (omega (arith, length-drop read bytes, inside)) in
     ap (steps (utf16 big) false utf16_start) (take-add read 64 bytes)
     ∙ steps_append (utf16 big) (utf16_calm big) false utf16_start (take read bytes) block
     ∙ ap (λ r. after r.text (steps (utf16 big) false r.state block)) run

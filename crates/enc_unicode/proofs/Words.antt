@@ -94,7 +94,8 @@ module _ (v : List ℕ) (long : length v ≡ 4) where
       (sel_l (map (top (hbits w32)) (zip2 (λ a b. cond (ltb a b) (2 ^ bits w32 - 1) 0) v (replicate 4 2048))) a b)
       ≡ map word v
   words_are p q small =
-      chosen v 128 (λ x. x) (λ x. cond (ltb x 2048) (two x) (three x)) long (sym (same v)) (chosen v 2048 two three long p q)
+      chosen v 128 (λ x. x) (λ x. cond (ltb x 2048) (two x) (three x)) long (sym (same v))
+      (chosen v 2048 two three long p q)
       ∙ lanes v small
 
 -- their bytes

@@ -1,6 +1,7 @@
 //! Bytes of UTF-16 without surrogates as UTF-8, 32 units at a time.
 
-ghost use Rattle.std.specs.Prelude.{◌≡◌, ◌+◌, ◌*◌, ◌/◌, ◌%◌, ◌<◌, ◌≤◌, ◌++◌, IfSome, IfNone, All, false, not, length, map, take};
+ghost use Rattle.std.specs.Prelude.{◌≡◌, ◌+◌, ◌*◌, ◌/◌, ◌%◌, ◌<◌, ◌≤◌, IfSome, IfNone, All, false, not};
+ghost use Rattle.std.specs.Prelude.{length, map, take};
 ghost use Rattle.std.specs.Bool.{OnTrue};
 ghost use Rattle.std.specs.List.{prefix_len};
 ghost use Rattle.std.specs.Simd.Lanes.{mask_l};
@@ -125,8 +126,8 @@ fn write_next(order: Order, rest: &[u8], code: &mut [u8; CODE], from: usize) -> 
     }
 }
 
-/// Writes the text that bytes begin with, as far as there is room, blocks are whole and no unit is a surrogate: how many
-/// bytes were read, and how many written.
+/// Writes the text that bytes begin with, as far as there is room, blocks are whole and no unit is a surrogate: how
+/// many bytes were read, and how many written.
 pub fn write_text(order: Order, bytes: &[u8], code: &mut [u8; CODE]) -> (usize, usize)
     ensures read { result.0 ≤ length bytes.now }
     ensures few { result.1 ≤ CODE }

@@ -1,6 +1,7 @@
 //! The decoder of UTF-16.
 
-ghost use Rattle.std.specs.Prelude.{◌≡◌, IfOk, IfErr, OnOk, true, false, ◌<◌, ◌≤◌, ◌-◌, ◌*◌, [], Some, None, length, take};
+ghost use Rattle.std.specs.Prelude.{◌≡◌, IfOk, IfErr, OnOk, true, false, ◌<◌, ◌≤◌, ◌-◌, ◌*◌, [], Some, None};
+ghost use Rattle.std.specs.Prelude.{length, take};
 ghost use Rattle.std.specs.Bool.{OnTrue};
 ghost use Rattle.enc_unicode.specs.Utf16State.{InOrder};
 ghost use Rattle.lane_kernels.specs.Orders.{is_big};

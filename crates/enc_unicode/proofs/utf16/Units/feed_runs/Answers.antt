@@ -11,7 +11,8 @@ use Rattle.enc_unicode.proofs.utf16.Units.feed_runs.Goals as goal
 
 pub loop-at-init : goal.loop-at-init
 loop-at-init g c = (
-  feed_begins g.S.Sink.takes g.S.Sink.refuses g.met.S.Sink.is_sink (utf16 (is_big c.args.order)) (utf16_calm (is_big c.args.order)) c.args.self.now c.args.sink.now,
+  feed_begins g.S.Sink.takes g.S.Sink.refuses g.met.S.Sink.is_sink (utf16 (is_big c.args.order))
+      (utf16_calm (is_big c.args.order)) c.args.self.now c.args.sink.now,
   ap (λ (run : Run Utf16). run.state) (sym (steps_none (utf16 (is_big c.args.order)) c.args.self.now)),
   omega arith,
 )
@@ -22,7 +23,8 @@ returns-in_err-at-clause-given g c =
     let at = c.loop-at.at in
     given_err g.S.Sink.takes g.S.Sink.refuses c.args.sink.now c.advance.new.sink _ c.from_residual.result
     c.in_err-at.field-0.0 c.from_residual.ensures.1
-    (part_refused (utf16 (is_big c.args.order)) (utf16_calm (is_big c.args.order)) g.S.Sink.takes g.S.Sink.refuses g.met.S.Sink.is_sink c.args.self.now c.loop-at.self
+    (part_refused (utf16 (is_big c.args.order)) (utf16_calm (is_big c.args.order)) g.S.Sink.takes g.S.Sink.refuses
+    g.met.S.Sink.is_sink c.args.self.now c.loop-at.self
     piece (take (length piece - at) (drop at piece)) at
     c.args.sink.now c.loop-at.sink c.advance.new.sink c.in_err-at.field-0.0 refl c.loop-at.invariant.1
     c.loop-at.invariant.0 c.in_err-at.ensures.refused)
@@ -34,11 +36,13 @@ loop-at-preserved g c =
     let rest = take (length piece - at) (drop at piece) in
     let n = c.in_ok-at.field-0 in
     let some = c.in_ok-at.ensures.some in (
-      part_taken (utf16 (is_big c.args.order)) (utf16_calm (is_big c.args.order)) g.S.Sink.takes g.S.Sink.refuses g.met.S.Sink.is_sink c.args.self.now c.loop-at.self
+      part_taken (utf16 (is_big c.args.order)) (utf16_calm (is_big c.args.order)) g.S.Sink.takes g.S.Sink.refuses
+          g.met.S.Sink.is_sink c.args.self.now c.loop-at.self
           piece rest at n
           c.args.sink.now c.loop-at.sink c.advance.new.sink refl c.loop-at.invariant.1 c.loop-at.invariant.0
           c.in_ok-at.ensures.taken,
-      part_state (utf16 (is_big c.args.order)) (utf16_calm (is_big c.args.order)) c.args.self.now c.loop-at.self c.advance.new.self piece rest at n refl
+      part_state (utf16 (is_big c.args.order)) (utf16_calm (is_big c.args.order)) c.args.self.now c.loop-at.self
+          c.advance.new.self piece rest at n refl
           c.loop-at.invariant.1 c.in_ok-at.ensures.state,
       grind (arith, common_steps),
     )
