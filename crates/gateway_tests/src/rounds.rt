@@ -186,7 +186,7 @@ fn stop_at_each_call_and_crash(rt: HostRuntime) {
     }
 }
 
-/// Each call of the disk fails in turn, and leaves zeros, and then a crash comes, or none.
+/// Each call of the disk fails in turn, and leaves zeros, and then a crash of this kind comes.
 fn fail_at_each_call(rt: &impl Abort, alloc: Global, kind: Option<Crash>, deeds: &Deeds) {
     for call in 1098..1400u64 {
         let disk = HiccupDisk::new(blank(rt, alloc), call, Some(0));
@@ -200,7 +200,7 @@ fn fail_at_each_call(rt: &impl Abort, alloc: Global, kind: Option<Crash>, deeds:
 #[test]
 fn each_call_fails_and_leaves_zeros(rt: HostRuntime) {
     fail_at_each_call(&rt, rt.alloc(), Some(Crash::Torn(0)), &FILLS);
-    fail_at_each_call(&rt, rt.alloc(), None, &DECLARES_AND_DELETES);
+    fail_at_each_call(&rt, rt.alloc(), Some(Crash::Torn(0)), &DECLARES_AND_DELETES);
 }
 
 /// An empty spool of version 1.
