@@ -13,6 +13,8 @@ const FOLDER: &str = "gateway_file_test";
 
 const SPOOL: &str = "gateway_file_test/spool";
 
+const AGAIN: &str = "gateway_again_test";
+
 /// Three uploads: one in part, one of no bytes from UTF-16LE in the mode `fatal`, and one of no known length.
 const STEPS: &[Step] = &[
     Open(1),
@@ -85,6 +87,25 @@ fn fails(rt: &impl Abort, alloc: Global, ended: Result<(), Failure>, status: u8,
     let failure = ended.expect_err(rt, said);
     let told = format!(in alloc; "{failure}").expect(rt, "memory for a line");
     assert_eq!(rt; (failure.status(), told.as_str()), (status, said));
+}
+
+#[test]
+fn spool_stays_as_it_is(rt: HostRuntime) {
+    let alloc = rt.alloc();
+    let _ = fs::remove_dir_all(&rt, AGAIN);
+    fs::create_dir(&rt, AGAIN).expect(&rt, "a folder");
+    fs::write(&rt, "gateway_again_test/spool", "no spool").expect(&rt, "a file");
+    let made = format_file(&rt, alloc, "gateway_again_test/spool", 16, AGAIN).expect(
+        &rt, "a spool",
+    );
+    assert_eq!(rt; made.pages, 557);
+    let before = fs::read(&rt, "gateway_again_test/spool").expect(&rt, "its bytes");
+    let again = format_file(&rt, alloc, "gateway_again_test/spool", 32, AGAIN).map(drop);
+    fails(&rt, alloc, again, 2, "refused: 13 AlreadySpool");
+    let after = fs::read(&rt, "gateway_again_test/spool").expect(&rt, "its bytes");
+    assert_eq!(rt; before.len(), 557 * 4096);
+    assert!(rt; before == after);
+    fs::remove_dir_all(&rt, AGAIN).expect(&rt, "a folder");
 }
 
 #[test]

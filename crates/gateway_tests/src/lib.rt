@@ -22,4 +22,6 @@ mod spools;
 #[cfg(test)]
 mod stories;
 #[cfg(test)]
+mod surface;
+#[cfg(test)]
 mod talks;

@@ -1,0 +1,157 @@
+//! What the program says, and the statuses that it ends with.
+
+use enc_index::ReadError;
+use gateway_files::{Failure, Fault, Noted, ended, format_file, say_formatted, say_read};
+use gateway_orders::{USAGE, read_order, say_usage};
+use std::alloc::Global;
+use std::fs;
+use std::io::{self, ErrorKind, Read, Write};
+use std::process::Abort;
+
+const FOLDER: &str = "gateway_surface_test";
+
+const SPOOL: &str = "gateway_surface_test/spool";
+
+/// Command lines that are none, and whether it is help that they ask for.
+static LINES: [(&[&str], bool); 5] = [
+    (&["gateway"], false),
+    (&["gateway", "list"], false),
+    (
+        &[
+            "gateway",
+            "format",
+            "new",
+            "--blocks",
+            "-1",
+            "--indexes",
+            "idx",
+        ],
+        false,
+    ),
+    (&["gateway", "help"], true),
+    (&["gateway", "list", "--help"], true),
+];
+
+/// A failure is told so, and the program ends with this status.
+fn tells(rt: &impl Abort, alloc: Global, failure: Failure, status: u8, said: &str) {
+    let mut told = Vec::new(alloc);
+    assert_eq!(rt; ended(&mut told, Err(failure)), status);
+    assert_eq!(rt; told.as_slice(), said.as_bytes());
+}
+
+/// A stream that fails.
+#[derive(Drop)]
+struct Lost;
+
+impl Read for Lost {
+    fn read(&mut self, _buf: &mut [u8]) -> io::Result<usize> {
+        Err(io::Error::new(ErrorKind::Other, "it is lost"))
+    }
+}
+
+impl Write for Lost {
+    fn write(&mut self, _buf: &[u8]) -> io::Result<usize> {
+        Ok(0)
+    }
+
+    fn flush(&mut self) -> io::Result<()> {
+        Ok(())
+    }
+}
+
+#[test]
+fn format_says_what_it_did(rt: HostRuntime) {
+    let alloc = rt.alloc();
+    let _ = fs::remove_dir_all(&rt, FOLDER);
+    fs::create_dir(&rt, FOLDER).expect(&rt, "a folder");
+    fs::write(&rt, "gateway_surface_test/index-jis0208.txt", "0\t3000\n").expect(&rt, "a file");
+    fs::write(
+        &rt,
+        "gateway_surface_test/index-jis0212.txt",
+        "# two\n108\t02D8\n",
+    )
+    .expect(&rt, "a file");
+    let made = format_file(&rt, alloc, SPOOL, 16, FOLDER).expect(&rt, "a spool");
+    let mut out = Vec::new(alloc);
+    say_formatted(&mut out, 16, made.pages).expect(&rt, "a line");
+    assert_eq!(rt;
+        out.as_slice(),
+        "formatted 16 blocks, 557 pages\n".as_bytes()
+    );
+    let mut err = Vec::new(alloc);
+    say_read(&mut err, made.read.as_slice()).expect(&rt, "lines");
+    assert_eq!(rt;
+        err.as_slice(),
+        "index files read: 2\nindex-jis0208.txt\nindex-jis0212.txt\n".as_bytes()
+    );
+    fs::write(
+        &rt,
+        "gateway_surface_test/index-jis0212.txt",
+        "0\t3000\n8836\t3000\n",
+    )
+    .expect(&rt, "a file");
+    let unread = format_file(&rt, alloc, "gateway_surface_test/other", 16, FOLDER).map(drop);
+    let failure = unread.expect_err(&rt, "a line out of range");
+    tells(
+        &rt,
+        alloc,
+        failure,
+        2,
+        "refused: 4 Range index-jis0212.txt 2\n",
+    );
+    fs::remove_dir_all(&rt, FOLDER).expect(&rt, "a folder");
+}
+
+#[test]
+fn failures_are_told(rt: HostRuntime) {
+    let alloc = rt.alloc();
+    for (fault, status, said) in [
+        (Fault::Script(2), 2, "refused: 32 Script 2\n"),
+        (
+            Fault::Index("index-ibm866.txt", ReadError::Twice(7)),
+            2,
+            "refused: 5 Twice index-ibm866.txt 7\n",
+        ),
+        (Fault::AlreadySpool, 2, "refused: 13 AlreadySpool\n"),
+        (Fault::Device, 3, "device fault\n"),
+    ] {
+        tells(&rt, alloc, Failure::from(fault), status, said);
+    }
+    let mut input = Noted::new(Lost);
+    assert!(rt; input.read(&mut [0]).is_err());
+    let failure = Failure::on_streams(Fault::Io, input.error(), None);
+    tells(
+        &rt,
+        alloc,
+        failure,
+        2,
+        "refused: 33 Io\ncannot read standard input: it is lost\n",
+    );
+    let mut output = Noted::new(Lost);
+    assert!(rt; output.write_all(b"a").is_err());
+    assert_eq!(rt;
+        output.error().map(|error| error.kind()),
+        Some(ErrorKind::WriteZero)
+    );
+}
+
+#[test]
+fn usage_is_told(rt: HostRuntime) {
+    let alloc = rt.alloc();
+    for (line, helps) in LINES.iter() {
+        let mut words = Vec::new(alloc);
+        for word in line.iter() {
+            let word = String::from_str(alloc, word).expect(&rt, "memory for a word");
+            words.push(word).expect(&rt, "memory for words");
+        }
+        let error = read_order(alloc, &words).expect_err(&rt, "no order");
+        let mut out = Vec::new(alloc);
+        let mut err = Vec::new(alloc);
+        let status = say_usage(&error, &mut out, &mut err).expect(&rt, "lines");
+        let wanted = if *helps { 0 } else { USAGE };
+        assert_eq!(rt;
+            (status, out.is_empty(), err.is_empty()),
+            (wanted, !*helps, *helps)
+        );
+    }
+}
