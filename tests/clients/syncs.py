@@ -8,9 +8,9 @@ those that give replies. Each call is a letter, by its kind and its place in the
 word of a pattern. A commit is the texts and the journal's pages, a sync, the gate opened, a sync, the pages at their
 places, a sync, the gate closed, a sync; every reply that acknowledges a change stands right after a commit of its own,
 over a script's output and over sockets. Also a spool is made (its file, its folder and all pages but the first are
-synced before that one is written, and that one before the line is printed; by fsync, since the length is new), opened
-with its gate closed and with its gate open, and upgraded. The status is 0 where all was so, over at least --changes
-changes of each run.
+synced before that one is written, and that one before the line is printed; once its length is set all of the file is
+synced by fsync, and from then on its data alone may be), opened with its gate closed and with its gate open, and
+upgraded. The status is 0 where all was so, over at least --changes changes of each run.
 """
 
 import re
@@ -28,9 +28,9 @@ BLOCKS = 64
 # places, T the texts, X anything else; S a sync (s of the data alone), F one of the folder, L the length set; R output
 # that acknowledges a change, and r other output.
 COMMIT = "T*J+[Ss]O[Ss]P+[Ss]C[Ss]"
-SERVED = f"S(?:{COMMIT}r*R?|T|r)*"
-RECOVERED = "SP+[Ss]C[Ss]"
-FORMATTED = "LSF[CJIPT]+SBSr+"
+SERVED = f"[Ss](?:{COMMIT}r*R?|T|r)*"
+RECOVERED = "[Ss]P+[Ss]C[Ss]"
+FORMATTED = "LSF[CJIPT]+[Ss]B[Ss]r+"
 
 
 def letter(spool, call):
@@ -88,7 +88,7 @@ def try_format(log, program, indexes):
     is_word("format", FORMATTED, word)
     written = {call.at for call in calls if call.kind == "w"}
     same("format: the pages written", written, set(range(0, spool.size, PAGE)))
-    print(f"format: {len(written)} pages, {word.count('S')} syncs, and its folder's")
+    print(f"format: {len(written)} pages, {len(re.findall('[Ss]', word))} syncs, and its folder's")
 
 
 def try_script(log, program, given):
@@ -136,7 +136,7 @@ def try_openings(log, program):
     """An opening syncs, and where the gate is open it brings the journal to its places."""
     spool = Spool(log.spool.read_bytes())
     ran, calls = log.run(program, "list")
-    is_word("an opening", "Sr*", word_of(spool, calls))
+    is_word("an opening", "[Ss]r*", word_of(spool, calls))
     listed = ran.stdout
     with open(log.spool, "r+b") as file:
         write_at(file, PAGE, bytes([OPEN]))
@@ -154,7 +154,7 @@ def try_upgrade(log, program):
     ran, calls = log.run(program, "upgrade")
     word = word_of(spool, calls)
     same("upgrade: its status", ran.returncode, 0)
-    is_word("upgrade", f"S{COMMIT}r+", word)
+    is_word("upgrade", f"[Ss]{COMMIT}r+", word)
     same("upgrade: the pages at their places", word.count("P"), 257)
     print(f"upgrade: {word.count('P')} pages, {len(re.findall('[Ss]', word))} syncs")
 
