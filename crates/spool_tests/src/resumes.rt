@@ -1,6 +1,7 @@
 //! Going on after a crash: an upload is cut inside a character, its next append stops at any call of the disk, a crash
 //! comes, and what an opening finds goes on to the end as one uncut decoding does.
 
+use crate::deletions::has_text;
 use crate::uploads::{opened, patched};
 use enc_index::{Index, IndexSet, Kind};
 use enc_model::{Encoding, Mode};
@@ -119,10 +120,28 @@ fn with_files(rt: &impl Abort, alloc: Global) -> MemoryDisk {
     disk
 }
 
-impl Row<'_> {
+/// 32 state bytes: these, and zeros after them.
+fn with_zeros(front: &[u8]) -> [u8; 32] {
+    let mut state = [0; 32];
+    for (place, byte) in state.iter_mut().zip(front.iter()) {
+        *place = *byte;
+    }
+    state
+}
+
+impl<'a> Row<'a> {
+    /// The bar of this number.
+    fn bar(&self, rt: &impl Abort, bar: usize) -> Bar<'a> {
+        *self.bars.get(bar).expect(rt, "a bar")
+    }
+
     /// How many bytes the pieces before this bar have.
     fn offset(&self, bar: usize) -> u64 {
-        self.bars.iter().take(bar).map(|it| it.0.len() as u64).sum()
+        let mut offset = 0u64;
+        for (piece, _, _) in self.bars.iter().take(bar) {
+            offset = offset.saturating_add(piece.len() as u64);
+        }
+        offset
     }
 
     /// Makes the upload.
@@ -140,57 +159,39 @@ impl Row<'_> {
     }
 
     /// After so many pieces all is as the row says.
-    fn check(&self, rt: &impl Abort, spool: &mut Spool<MemoryDisk>, bar: usize) {
+    fn check(&self, rt: &impl Abort, spool: &mut Spool<MemoryDisk>, came: usize) {
         let record = spool.record(1).expect(rt, "the upload");
         let (accepted, state) = (record.accepted, record.state);
-        assert_eq!(rt; accepted, self.offset(bar));
-        if bar > 0 {
-            let (_, text, begins) = self.bars[bar - 1];
-            let (front, zeros) = state.split_at(begins.len());
-            assert!(rt;
-                front == begins && zeros.iter().all(|it| *it == 0),
-                "{state:?}"
-            );
-            let mut buf = [0; 64];
-            let read = spool.read_text(1, 0, &mut buf).expect(rt, "a text");
-            assert!(rt; &buf[..read] == text, "{buf:?}");
+        assert_eq!(rt; accepted, self.offset(came));
+        if came > 0 {
+            let (_, text, begins) = self.bar(rt, came - 1);
+            assert_eq!(rt; state, with_zeros(begins));
+            assert!(rt; has_text(spool, 1, text));
         }
     }
 
     /// The pieces between two bars come, and after each all is as the row says.
     fn go_on(&self, rt: &impl Abort, spool: &mut Spool<MemoryDisk>, from: usize, to: usize) {
         for bar in from..to {
-            let answer = patched(spool, 1, self.offset(bar), self.bars[bar].0);
+            let (piece, _, _) = self.bar(rt, bar);
+            let answer = patched(spool, 1, self.offset(bar), piece);
             assert_eq!(rt; answer, Ok(self.offset(bar + 1)));
             self.check(rt, spool, bar + 1);
         }
     }
 
-    /// The piece at a bar comes on a disk that stops after so many calls, and then a crash. Whether it was answered.
-    fn stops(&self, alloc: Global, disk: MemoryDisk, bar: usize, calls: u64) -> (MemoryDisk, bool) {
-        match Spool::open(alloc, FuseDisk::new(disk, calls)) {
-            Ok(mut spool) => {
-                let answer = patched(&mut spool, 1, self.offset(bar), self.bars[bar].0);
-                (spool.into_disk().into_inner(), answer.is_ok())
-            }
-            Err((disk, _)) => (disk.into_inner(), false),
-        }
-    }
-
-    /// As `stops`, on a fresh spool; what an opening finds is before the piece or after it, and goes on to the end.
+    /// The piece at a bar comes on a disk that stops after so many calls, and then a crash; what an opening finds is
+    /// before the piece or after it, and goes on to the end. Whether the piece was answered.
     fn resumes(&self, rt: &impl Abort, alloc: Global, bar: usize, calls: u64, kind: Crash) -> bool {
         let mut spool = opened(rt, alloc, with_files(rt, alloc));
         self.make(rt, alloc, &mut spool);
         self.go_on(rt, &mut spool, 0, bar);
-        let (disk, answered) = self.stops(alloc, spool.into_disk(), bar, calls);
+        let (piece, _, _) = self.bar(rt, bar);
+        let (disk, answered) = stops(alloc, spool.into_disk(), self.offset(bar), piece, calls);
         let mut spool = opened(rt, alloc, disk.crash(kind));
-        let accepted = spool.record(1).map(|it| it.accepted);
-        let came = if accepted == Some(self.offset(bar)) {
-            bar
-        } else {
-            bar + 1
-        };
-        assert!(rt; !answered || came == bar + 1);
+        let before = spool.record(1).map(|it| it.accepted) == Some(self.offset(bar));
+        assert!(rt; !(answered && before));
+        let came = bar.saturating_add(usize::from(!before));
         self.check(rt, &mut spool, came);
         self.go_on(rt, &mut spool, came, self.bars.len());
         drop(spool.into_disk());
@@ -199,11 +200,32 @@ impl Row<'_> {
 
     /// The piece at a bar meets a stop at each call, until it is answered.
     fn resumes_at(&self, rt: &impl Abort, alloc: Global, bar: usize, kind: Crash) {
-        let mut calls = FIRST;
-        while calls < LAST && !self.resumes(rt, alloc, bar, calls, kind) {
-            calls += 1;
+        let mut answered = false;
+        for calls in FIRST..LAST {
+            if self.resumes(rt, alloc, bar, calls, kind) {
+                answered = calls > FIRST;
+                break;
+            }
         }
-        assert!(rt; FIRST < calls && calls < LAST);
+        assert!(rt; answered);
+    }
+}
+
+/// Bytes come to the upload 1 from an offset on, on a disk that stops after so many calls: the disk, and whether they
+/// were answered.
+fn stops(
+    alloc: Global,
+    disk: MemoryDisk,
+    offset: u64,
+    bytes: &[u8],
+    calls: u64,
+) -> (MemoryDisk, bool) {
+    match Spool::open(alloc, FuseDisk::new(disk, calls)) {
+        Ok(mut spool) => {
+            let answer = patched(&mut spool, 1, offset, bytes);
+            (spool.into_disk().into_inner(), answer.is_ok())
+        }
+        Err((disk, _)) => (disk.into_inner(), false),
     }
 }
 
