@@ -6,6 +6,7 @@ ghost use Rattle.gateway_serve.specs.Served.{Serves, AllServed, AllLeft};
 ghost use Rattle.gateway_serve.specs.Joined.{AllFell, GoesOn, Ends, Finishes, IsFreeAt, SamePlaces, places_of};
 ghost use Rattle.gateway_serve.specs.Joined.{ended_of};
 ghost use Rattle.gateway_serve.specs.Streams.{AllHave, AllHad, AllKeep};
+ghost use Rattle.gateway_serve.specs.Reasons.{StayReasoned};
 
 use crate::idle::{Pace, Tick, Watch};
 use crate::places::{Place, Turned, unless_failed};
@@ -123,6 +124,7 @@ impl<S: Read + Write + OpenStream + Drop> Server<S> {
         gateway: &mut C,
         connections: u64,
     ) -> Result<(), DiskFault>
+        ensures reasons { StayReasoned (ended_of self.old) (ended_of self.new) }
         ensures streams { AllKeep S.remaining S.contents (places_of self.old) (places_of self.new)
             (ended_of self.old) (ended_of self.new) }
         ensures serves { GoesOn C.Connections gateway.old gateway.new result (places_of self.old) (places_of self.new)
@@ -153,6 +155,7 @@ impl<S: Read + Write + OpenStream + Drop> Server<S> {
         listener: &L,
         gateway: &mut C,
     ) -> Result<(), DiskFault>
+        ensures reasons { StayReasoned (ended_of self.old) (ended_of self.new) }
         ensures streams { AllKeep S.remaining S.contents (places_of self.old) (places_of self.new)
             (ended_of self.old) (ended_of self.new) }
         ensures serves { GoesOn C.Connections gateway.old gateway.new result (places_of self.old) (places_of self.new)
@@ -244,6 +247,7 @@ fn turn_each<S: Read + Write + Drop, C: Connections>(
     round: &mut Round,
 ) -> Result<(), DiskFault>
     ensures streams { AllKeep S.remaining S.contents places.old places.new ended.old.sockets ended.new.sockets }
+    ensures reasons { StayReasoned ended.old.sockets ended.new.sockets }
     ensures serves { GoesOn C.Connections gateway.old gateway.new result places.old places.new
         ended.old.sockets ended.new.sockets }
     ensures counts { Counts (IsErr result) (C.failures gateway.old) (C.failures gateway.new) }
