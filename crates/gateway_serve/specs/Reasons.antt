@@ -1,5 +1,5 @@
 -- Why connections ended.
-use Rattle.std.specs.Prelude.{◌≡◌, ◌⊎◌, List, [], ◌∷◌}
+use Rattle.std.specs.Prelude.{◌≡◌, ◌⊎◌, ℕ, ◌+◌, List, [], ◌∷◌}
 use Rattle.gateway_serve.specs.Sockets.{Seen}
 use Rattle.gateway_serve.specs.Bytes.{latest_of}
 use Rattle.gateway_serve.specs.Gone.{EndsBy}
@@ -39,3 +39,20 @@ AllReasoned (s ∷ ended) = IsReason s.left × AllReasoned ended
 -- and so did those that ended since
 abbrev pub StayReasoned : List Seen → List Seen → Type 0
 StayReasoned ended ended' = AllReasoned ended → AllReasoned ended'
+
+-- since then, of the connections below this number, at most one of each ended
+pub data EndedOnce (before : List Seen) : ℕ → List Seen → Type 0 where
+  none : EndedOnce before 0 before
+  free : (n : ℕ) (ended : List Seen) → EndedOnce before n ended → EndedOnce before (n + 1) ended
+  one_more : (s : Seen) (ended : List Seen) → EndedOnce before s.conn ended → EndedOnce before (s.conn + 1) (s ∷ ended)
+
+abbrev pub AtMostOnce : List Seen → List Seen → Type 0
+AtMostOnce before ended = (n : ℕ) × EndedOnce before n ended
+
+-- WHEN SERVING IS OVER what is open is ended, at most one connection of each number. Each one before ended for a reason
+abbrev pub EndsReasoned : List Seen → Type 0
+EndsReasoned ended = (before : List Seen) × AllReasoned before × AtMostOnce before ended
+
+-- and behind a fault of the device the rest is let go
+abbrev pub IsLeftReasoned : List Seen → Type 0
+IsLeftReasoned ended = (before : List Seen) × EndsReasoned before × AtMostOnce before ended

@@ -3,6 +3,7 @@ use Rattle.std.proofs.lemmas.List.{with_items_is}
 use Rattle.gateway_serve.specs.Joined.{AllJoin, AllFell, ended_of}
 use Rattle.gateway_serve.specs.Served.{Serves, AllServed}
 use Rattle.gateway_serve.specs.Streams.{AllHave}
+use Rattle.gateway_serve.proofs.Reasons.{none_more}
 use Rattle.gateway_serve.proofs.serving.Server.take_turns.Goals as goal
 
 pub returns-clause-streams : goal.returns-clause-streams
@@ -24,3 +25,17 @@ returns-clause-serves g c = λ before st past went joins.
     (AllServed ended st) (AllFell places ended st)) (sym same)
     (c.end_each.ensures.serves before st s.0 s.1
     (subst (λ places. AllJoin places (ended_of c.loop-left.self) st s.0) (sym c.deref_mut.ensures.value) s.2))
+
+pub returns-clause-reasons : goal.returns-clause-reasons
+returns-clause-reasons g c = λ all. (
+  ended_of c.loop-left.self,
+  c.loop-left.invariant.3 all,
+  c.end_each.ensures.once,
+)
+
+pub returns-in_err-turn-clause-reasons : goal.returns-in_err-turn-clause-reasons
+returns-in_err-turn-clause-reasons g c = λ all. (
+  ended_of c.turn.new.self,
+  c.turn.ensures.reasons (c.loop-left.invariant.3 all),
+  none_more (ended_of c.turn.new.self),
+)
