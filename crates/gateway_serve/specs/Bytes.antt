@@ -2,6 +2,8 @@
 use Rattle.std.specs.Prelude.{ℕ, List}
 use Rattle.gateway_serve.specs.Sockets.{Seen}
 use Rattle.gateway_serve.specs.declared.sockets.Socket.{Socket}
+use Rattle.gateway_serve.specs.declared.sockets.Latest.{Latest}
+use Rattle.gateway_serve.specs.declared.links.Left.{Left}
 
 abbrev pub came_of : {S : Type 0} → Socket S → List ℕ
 came_of s = s.came.bytes
@@ -12,6 +14,9 @@ went_of s = s.went.bytes
 abbrev pub stream_of : {S : Type 0} → Socket S → S
 stream_of s = s.stream
 
--- what is seen of it, where it serves the connection with this number
-abbrev pub seen : {S : Type 0} → ℕ → Socket S → Seen
-seen n s = record { conn = n; came = came_of s; went = went_of s }
+abbrev pub latest_of : {S : Type 0} → Socket S → Latest
+latest_of s = s.latest
+
+-- what is seen of it, where it serves the connection with this number, of which a turn left this
+abbrev pub seen : {S : Type 0} → ℕ → Socket S → Left → Seen
+seen n s left = record { conn = n; came = came_of s; went = went_of s; left = left }

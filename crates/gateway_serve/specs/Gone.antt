@@ -1,8 +1,39 @@
 -- Why a socket is given up.
-use Rattle.std.specs.Prelude.{◌≢◌}
+use Rattle.std.specs.Prelude.{◌≡◌, ◌≢◌, ℕ, Result, Ok, Err}
+use Rattle.std.specs.IoError.{error_kind}
+use Rattle.std.specs.declared.io.Error.{Error}
 use Rattle.std.specs.declared.io.ErrorKind.{ErrorKind}
 use Rattle.std.specs.declared.io.ErrorKind.TheVariants as Kind
+use Rattle.gateway_serve.specs.declared.sockets.Latest.{Latest}
+use Rattle.gateway_serve.specs.declared.sockets.Latest.TheVariants as Was
+use Rattle.gateway_serve.specs.declared.links.Gone.{Gone}
+use Rattle.gateway_serve.specs.declared.links.Gone.TheVariants.{Ended, Failed, Stuck, Idle}
+use Rattle.gateway_serve.specs.declared.links.Left.{Left}
+use Rattle.gateway_serve.specs.declared.links.Left.TheVariants as Is
 
 -- a read or write failed so, and not because it would have waited or was interrupted
 abbrev pub IsFailure : ErrorKind → Type 0
 IsFailure kind = (kind ≢ Kind.WouldBlock) × (kind ≢ Kind.Interrupted)
+
+-- THE LATEST CALL of a stream, as a read or a write answered
+abbrev pub after_read : Result ℕ Error → Latest
+after_read (Ok n) = Was.Read n
+after_read (Err e) = Was.Failed (error_kind e)
+
+abbrev pub after_write : Result ℕ Error → Latest
+after_write (Ok n) = Was.Written n
+after_write (Err e) = Was.Failed (error_kind e)
+
+-- THE REASONS: a read gave nothing, a read or write failed, or a write took nothing. That a connection was idle for too
+-- long is none of the socket's
+abbrev pub EndsBy : Gone → Latest → Type 0
+EndsBy Ended latest = latest ≡ Was.Read 0
+EndsBy Failed latest = (kind : ErrorKind) × (latest ≡ Was.Failed kind) × IsFailure kind
+EndsBy Stuck latest = latest ≡ Was.Written 0
+EndsBy Idle latest = ⊥
+
+abbrev pub IfLost : Left → (Gone → Type 0) → Type 0
+IfLost Is.Open P = Unit {0}
+IfLost Is.Idle P = Unit {0}
+IfLost Is.Closed P = Unit {0}
+IfLost (Is.Lost gone) P = P gone

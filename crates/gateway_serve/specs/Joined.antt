@@ -141,7 +141,7 @@ IsNew {S} p = (l : Link S) × (p ≡ Open l) × (joint_of l ≡ nothing_yet)
 
 -- the sockets, with that of a link that ends
 abbrev pub with_link : {S : Type 0} → ℕ → Link S → List Seen → List Seen
-with_link n l ended = seen n l.socket ∷ ended
+with_link n l ended = seen n l.socket l.left ∷ ended
 
 abbrev pub with_place : {S : Type 0} → ℕ → Place S → List Seen → List Seen
 with_place n Free ended = ended

@@ -7,3 +7,4 @@ pub mod Waiting
 pub mod Streams
 pub mod Gone
 pub mod Joined
+pub mod Reasons

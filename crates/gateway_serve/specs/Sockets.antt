@@ -1,13 +1,15 @@
 -- What is seen of sockets.
 use Rattle.std.specs.Prelude.{◌≡◌, ◌≤◌, ◌==◌, ℕ, length, false, List, [], ◌∷◌, ◌++◌, if◌then◌else◌}
 use Rattle.gateway_serve.specs.Conversations.{Conversation}
+use Rattle.gateway_serve.specs.declared.links.Left.{Left}
 
--- a socket that served its connection: the connection's number, all bytes that came from the socket, and all that went
--- to it
+-- a socket that served its connection: the connection's number, all bytes that came from the socket, all that went to
+-- it, and what the latest turn left of the connection
 pub record Seen : Type 0 where
   pub conn : ℕ
   pub came : List ℕ
   pub went : List ℕ
+  pub left : Left
 
 -- those of one connection
 abbrev pub seen_of : ℕ → List Seen → List Seen

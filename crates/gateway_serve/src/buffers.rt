@@ -6,7 +6,8 @@ ghost use Rattle.upload_rules.specs.Answers.{Limits, Quiet, Counts};
 ghost use Rattle.tus_session.specs.History.{State, Came, More};
 ghost use Rattle.gateway_script.specs.Connections.{Gives, Falls, mark_of};
 ghost use Rattle.gateway_script.specs.Images.{shown_by};
-ghost use Rattle.gateway_serve.specs.Bytes.{came_of, went_of, stream_of};
+ghost use Rattle.gateway_serve.specs.Bytes.{came_of, went_of, stream_of, latest_of};
+ghost use Rattle.gateway_serve.specs.Gone.{after_read, after_write};
 ghost use Rattle.gateway_serve.specs.Waiting.{HasRoom};
 
 use crate::sockets::Socket;
@@ -70,6 +71,7 @@ impl Input {
         ensures went { went_of socket.new ≡ went_of socket.old }
         ensures same { OnErr result (came_of socket.new ≡ came_of socket.old) }
         ensures none { OnErr result (self.new ≡ []) }
+        ensures latest { latest_of socket.new ≡ after_read result }
         ensures bytes { IfOk result (λ n.
             Consumes (S.remaining (stream_of socket.old)) (S.remaining (stream_of socket.new)) self.new) }
         ensures end { IfOk result (λ n. n ≡ 0 → IsAtEnd (S.remaining (stream_of socket.new))) }
@@ -146,6 +148,7 @@ impl Output {
         ensures came { came_of socket.new ≡ came_of socket.old }
         ensures none { OnErr result (went_of socket.new ≡ went_of socket.old) }
         ensures same { OnErr result (self.new ≡ self.old) }
+        ensures latest { latest_of socket.new ≡ after_write result }
         ensures bytes { IfOk result (λ n.
             Appends (S.contents (stream_of socket.old)) (S.contents (stream_of socket.new)) (take n self.old)) }
         ensures err { OnErr result (Keeps (S.contents (stream_of socket.old)) (S.contents (stream_of socket.new))) }

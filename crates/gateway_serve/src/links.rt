@@ -1,12 +1,13 @@
 //! A socket and its connection of the gateway.
-ghost use Rattle.std.specs.Prelude.{◌≡◌, ◌≢◌, ◌↔◌, IsErr, IsErrOf, IfOk, IfSome, IsTrue};
+ghost use Rattle.std.specs.Prelude.{◌≡◌, ◌≢◌, ◌⊎◌, ◌↔◌, IsErr, IsErrOf, IfOk, IfSome, IsTrue};
 ghost use Rattle.upload_rules.specs.Answers.{Counts};
 ghost use Rattle.gateway_serve.specs.Joined.{Goes, IsOver, Writes, Reads, joint_of, nothing_yet, with_link};
-ghost use Rattle.gateway_serve.specs.Joined.{stage_by, stage_behind, taken_behind, at_of, HasIdled};
+ghost use Rattle.gateway_serve.specs.Joined.{stage_by, stage_behind, taken_behind, at_of};
 ghost use Rattle.gateway_serve.specs.Waiting.{HasRoom};
-ghost use Rattle.gateway_serve.specs.Bytes.{stream_of};
+ghost use Rattle.gateway_serve.specs.Bytes.{stream_of, latest_of};
 ghost use Rattle.gateway_serve.specs.Streams.{StaysOf, socket_of};
-ghost use Rattle.gateway_serve.specs.Gone.{IsFailure};
+ghost use Rattle.gateway_serve.specs.Gone.{EndsBy, IfLost, IsFailure};
+ghost use Rattle.gateway_serve.specs.Reasons.{IsIdleFor, IsLostBy, left_of};
 ghost use Rattle.std.specs.IoError.{error_kind};
 
 use crate::buffers::{Input, Output, PIECE};
@@ -30,6 +31,19 @@ enum Stage {
     Closed,
 }
 
+/// Why a connection is lost.
+#[derive(Clone, Copy, Debug, PartialEq, Eq, Drop)]
+pub(crate) enum Gone {
+    /// A read gave nothing: the socket is at its end.
+    Ended,
+    /// A read or write failed, and not because it would have waited or was interrupted.
+    Failed,
+    /// A write took nothing.
+    Stuck,
+    /// Nothing came or went for too long.
+    Idle,
+}
+
 /// What a turn left of a connection.
 #[derive(Clone, Copy, Debug, PartialEq, Eq, Drop)]
 pub(crate) enum Left {
@@ -39,8 +53,8 @@ pub(crate) enum Left {
     Idle,
     /// The session closed it, and all is written.
     Closed,
-    /// The socket failed, is at its end or was idle for too long: the session is still to be told.
-    Lost,
+    /// It is lost: the session is still to be told.
+    Lost(Gone),
 }
 
 /// A socket and its connection of the gateway.
@@ -55,6 +69,8 @@ pub(crate) struct Link<S> {
     /// no reply is owed: nothing came, or the latest call for what came gave bytes
     replied: bool,
     pace: Pace,
+    /// what the latest turn left of it
+    left: Left,
 }
 
 impl<S: Read + Write> Link<S> {
@@ -71,6 +87,7 @@ impl<S: Read + Write> Link<S> {
             moved: now,
             replied: true,
             pace: Pace::new(),
+            left: Left::Open,
         }
     }
 
@@ -78,7 +95,7 @@ impl<S: Read + Write> Link<S> {
     pub(crate) fn end(&self, conn: usize, ended: &mut Ended)
         ensures { ended.new.sockets ≡ with_link conn self.now ended.old.sockets }
     {
-        ended.add(conn, &self.socket);
+        ended.add(conn, &self.socket, &self.left);
     }
 
     /// A turn: what is left is written, else the next piece of a text is asked for, else bytes are read and given to
@@ -92,16 +109,22 @@ impl<S: Read + Write> Link<S> {
         conn: usize,
         tick: Tick,
     ) -> Result<Left, DiskFault>
+        ensures lost { IfOk result (λ left. IfLost left (λ gone. IsLostBy self.new tick gone)) }
+        ensures left { IfOk result (λ left. left_of self.new ≡ left) }
         ensures stream { StaysOf S.remaining S.contents (socket_of self.old) (socket_of self.new) }
         ensures serves { Goes C.Connections gateway.old gateway.new result self.old self.new conn }
         ensures over { result ≡ Ok Left.Closed → IsOver (joint_of self.new) }
         ensures counts { Counts (IsErr result) (C.failures gateway.old) (C.failures gateway.new) }
     {
         if !self.pace.is_due(tick.busy) {
+            self.left = Left::Idle;
             return Ok(Left::Idle);
         }
         match self.go_on(gateway, conn) {
-            Ok(left) => Ok(self.left_at(left, tick)),
+            Ok(left) => {
+                self.left = self.left_at(left, tick);
+                Ok(self.left)
+            }
             Err(fault) => Err(fault),
         }
     }
@@ -111,7 +134,7 @@ impl<S: Read + Write> Link<S> {
         ensures socket { socket_of self.new ≡ socket_of self.old }
         ensures same { joint_of self.new ≡ joint_of self.old }
         ensures over { result ≡ Left.Closed → left ≡ Left.Closed }
-        ensures idle { result ≡ Left.Lost → left ≢ Left.Lost → HasIdled self.old tick }
+        ensures lost { IfLost result (λ gone. (left ≡ Left.Lost gone) ⊎ IsIdleFor self.new tick gone) }
     {
         let moved = left != Left::Idle;
         self.pace.asked(moved);
@@ -119,7 +142,7 @@ impl<S: Read + Write> Link<S> {
             self.moved = tick.now;
             left
         } else if self.at().is_over(self.moved, tick) {
-            Left::Lost
+            Left::Lost(Gone::Idle)
         } else {
             Left::Idle
         }
@@ -139,6 +162,7 @@ impl<S: Read + Write> Link<S> {
 
     // Writes, asks for the next piece of a text, or takes bytes.
     fn go_on<C: Connections>(&mut self, gateway: &mut C, conn: usize) -> Result<Left, DiskFault>
+        ensures lost { IfOk result (λ left. IfLost left (λ gone. EndsBy gone (latest_of (socket_of self.new)))) }
         ensures stream { StaysOf S.remaining S.contents (socket_of self.old) (socket_of self.new) }
         ensures serves { Goes C.Connections gateway.old gateway.new result self.old self.new conn }
         ensures over { result ≡ Ok Left.Closed → IsOver (joint_of self.new) }
@@ -156,12 +180,13 @@ impl<S: Read + Write> Link<S> {
 
     // Writes of what is left as much as the socket takes.
     fn write(&mut self) -> Left
+        ensures lost { IfLost result (λ gone. EndsBy gone (latest_of (socket_of self.new))) }
         ensures stream { StaysOf S.remaining S.contents (socket_of self.old) (socket_of self.new) }
         ensures part { Writes (joint_of self.old) (joint_of self.new) }
         ensures unclosed { result ≢ Left.Closed }
     {
         match self.output.write(&mut self.socket) {
-            Ok(0) => Left::Lost,
+            Ok(0) => Left::Lost(Gone::Stuck),
             Ok(_) => Left::Open,
             Err(error) => left_behind(&error),
         }
@@ -170,6 +195,7 @@ impl<S: Read + Write> Link<S> {
     // Asks the session for the next piece of a text.
     fn more<C: Connections>(&mut self, gateway: &mut C, conn: usize) -> Result<Left, DiskFault>
         requires { HasRoom (joint_of self.old).output }
+        ensures lost { IfOk result (λ left. IfLost left (λ gone. EndsBy gone (latest_of (socket_of self.new)))) }
         ensures socket { socket_of self.new ≡ socket_of self.old }
         ensures serves { Goes C.Connections gateway.old gateway.new result self.old self.new conn }
         ensures unclosed { result ≢ Ok Left.Closed }
@@ -186,6 +212,7 @@ impl<S: Read + Write> Link<S> {
 
     // Gives the session what was read, or else what the socket has now.
     fn take<C: Connections>(&mut self, gateway: &mut C, conn: usize) -> Result<Left, DiskFault>
+        ensures lost { IfOk result (λ left. IfLost left (λ gone. EndsBy gone (latest_of (socket_of self.new)))) }
         ensures stream { StaysOf S.remaining S.contents (socket_of self.old) (socket_of self.new) }
         ensures serves { Goes C.Connections gateway.old gateway.new result self.old self.new conn }
         ensures unclosed { result ≢ Ok Left.Closed }
@@ -203,6 +230,7 @@ impl<S: Read + Write> Link<S> {
     // Reads what the socket has now, where the session took all that was read before. Where there is nothing to give:
     // what that leaves of the connection.
     fn read(&mut self) -> Option<Left>
+        ensures lost { IfSome result (λ left. IfLost left (λ gone. EndsBy gone (latest_of (socket_of self.new)))) }
         ensures stream { StaysOf S.remaining S.contents (socket_of self.old) (socket_of self.new) }
         ensures part { Reads (joint_of self.old) (joint_of self.new) }
         ensures unclosed { IfSome result (λ left. left ≢ Left.Closed) }
@@ -211,7 +239,7 @@ impl<S: Read + Write> Link<S> {
             return None;
         }
         match self.input.read(&mut self.socket) {
-            Ok(0) => Some(Left::Lost),
+            Ok(0) => Some(Left::Lost(Gone::Ended)),
             Ok(_) => None,
             Err(error) => Some(left_behind(&error)),
         }
@@ -310,11 +338,11 @@ fn stage_by(answer: Answer) -> Stage
 // What a failed read or write leaves of a connection: one that would have waited is tried again in the next turn.
 fn left_behind(error: &io::Error) -> Left
     ensures unclosed { result ≢ Left.Closed }
-    ensures lost { result ≡ Left.Lost → IsFailure (error_kind error.now) }
+    ensures lost { IfLost result (λ gone. (gone ≡ Gone.Failed) × IsFailure (error_kind error.now)) }
 {
     match error.kind() {
         ErrorKind::WouldBlock => Left::Idle,
         ErrorKind::Interrupted => Left::Open,
-        _ => Left::Lost,
+        _ => Left::Lost(Gone::Failed),
     }
 }

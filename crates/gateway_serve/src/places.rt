@@ -3,6 +3,7 @@ ghost use Rattle.std.specs.Prelude.{◌≡◌, ◌↔◌, IsTrue, IsErr, IsErrOf
 ghost use Rattle.upload_rules.specs.Answers.{Counts};
 ghost use Rattle.gateway_serve.specs.Joined.{GoesAt, OthersStay, IsNew, with_place};
 ghost use Rattle.gateway_serve.specs.Streams.{PlaceIsOf, PlaceKeeps};
+ghost use Rattle.gateway_serve.specs.Reasons.{StayReasoned};
 
 use crate::idle::Tick;
 use crate::links::{Left, Link};
@@ -60,6 +61,7 @@ impl<S: Read + Write + Drop> Place<S> {
         tick: Tick,
         ended: &mut Ended,
     ) -> Result<Turned, DiskFault>
+        ensures reasons { StayReasoned ended.old.sockets ended.new.sockets }
         ensures streams { PlaceKeeps S.remaining S.contents self.old self.new ended.old.sockets ended.new.sockets }
         ensures serves { GoesAt C.Connections gateway.old gateway.new result self.old self.new
             ended.old.sockets ended.new.sockets conn }
@@ -76,7 +78,7 @@ impl<S: Read + Write + Drop> Place<S> {
                 self.free(conn, ended);
                 Ok(Turned::Closed)
             }
-            Ok(Left::Lost) => match self.end(gateway, conn, ended) {
+            Ok(Left::Lost(_)) => match self.end(gateway, conn, ended) {
                 Ok(()) => Ok(Turned::Closed),
                 Err(fault) => Err(fault),
             },
@@ -93,6 +95,7 @@ impl<S: Read + Write + Drop> Place<S> {
         conn: usize,
         ended: &mut Ended,
     ) -> Result<(), DiskFault>
+        ensures ended { ended.new.sockets ≡ with_place conn self.old ended.old.sockets }
         ensures streams { PlaceKeeps S.remaining S.contents self.old self.new ended.old.sockets ended.new.sockets }
         ensures serves { GoesAt C.Connections gateway.old gateway.new result self.old self.new
             ended.old.sockets ended.new.sockets conn }

@@ -6,6 +6,7 @@ ghost use Rattle.gateway_serve.specs.Served.{Serves, AllServed, AllLeft};
 ghost use Rattle.gateway_serve.specs.Joined.{AllFell, GoesOn, Ends, Finishes, IsFreeAt, SamePlaces, places_of};
 ghost use Rattle.gateway_serve.specs.Joined.{ended_of};
 ghost use Rattle.gateway_serve.specs.Streams.{AllHave, AllHad, AllKeep};
+ghost use Rattle.gateway_serve.specs.Reasons.{AllReasoned, StayReasoned, AtMostOnce, EndsReasoned, IsLeftReasoned};
 
 use crate::idle::{Pace, Tick, Watch};
 use crate::places::{Place, Turned, unless_failed};
@@ -76,6 +77,7 @@ impl<S: Read + Write + OpenStream + Drop> Server<S> {
         connections: u64,
         turns: u64,
     ) -> Result<(), DiskFault>
+        ensures reasons { AllReasoned (ended_of self.old) → IsLeftReasoned (ended_of self.new) }
         ensures streams { AllHave S.remaining S.contents (places_of self.old)
             → AllHad S.remaining S.contents (ended_of self.old) → AllHad S.remaining S.contents (ended_of self.new) }
         ensures serves { Finishes C.Connections gateway.old gateway.new result (places_of self.old)
@@ -100,6 +102,7 @@ impl<S: Read + Write + OpenStream + Drop> Server<S> {
         connections: u64,
         turns: u64,
     ) -> Result<(), DiskFault>
+        ensures reasons { AllReasoned (ended_of self.old) → EndsReasoned (ended_of self.new) }
         ensures streams { AllKeep S.remaining S.contents (places_of self.old) (places_of self.new)
             (ended_of self.old) (ended_of self.new) }
         ensures serves { Ends C.Connections gateway.old gateway.new result (places_of self.old) (places_of self.new)
@@ -123,6 +126,7 @@ impl<S: Read + Write + OpenStream + Drop> Server<S> {
         gateway: &mut C,
         connections: u64,
     ) -> Result<(), DiskFault>
+        ensures reasons { StayReasoned (ended_of self.old) (ended_of self.new) }
         ensures streams { AllKeep S.remaining S.contents (places_of self.old) (places_of self.new)
             (ended_of self.old) (ended_of self.new) }
         ensures serves { GoesOn C.Connections gateway.old gateway.new result (places_of self.old) (places_of self.new)
@@ -153,6 +157,7 @@ impl<S: Read + Write + OpenStream + Drop> Server<S> {
         listener: &L,
         gateway: &mut C,
     ) -> Result<(), DiskFault>
+        ensures reasons { StayReasoned (ended_of self.old) (ended_of self.new) }
         ensures streams { AllKeep S.remaining S.contents (places_of self.old) (places_of self.new)
             (ended_of self.old) (ended_of self.new) }
         ensures serves { GoesOn C.Connections gateway.old gateway.new result (places_of self.old) (places_of self.new)
@@ -244,6 +249,7 @@ fn turn_each<S: Read + Write + Drop, C: Connections>(
     round: &mut Round,
 ) -> Result<(), DiskFault>
     ensures streams { AllKeep S.remaining S.contents places.old places.new ended.old.sockets ended.new.sockets }
+    ensures reasons { StayReasoned ended.old.sockets ended.new.sockets }
     ensures serves { GoesOn C.Connections gateway.old gateway.new result places.old places.new
         ended.old.sockets ended.new.sockets }
     ensures counts { Counts (IsErr result) (C.failures gateway.old) (C.failures gateway.new) }
@@ -267,6 +273,7 @@ fn end_each<S: Read + Write + Drop, C: Connections>(
     ended: &mut Ended,
 ) -> Result<(), DiskFault>
     ensures streams { AllKeep S.remaining S.contents places.old places.new ended.old.sockets ended.new.sockets }
+    ensures once { AtMostOnce ended.old.sockets ended.new.sockets }
     ensures serves { Ends C.Connections gateway.old gateway.new result places.old places.new
         ended.old.sockets ended.new.sockets }
     ensures counts { Counts (IsErr result) (C.failures gateway.old) (C.failures gateway.new) }
@@ -283,6 +290,7 @@ fn end_each<S: Read + Write + Drop, C: Connections>(
 // Lets all sockets go: the session isn't told.
 fn free_each<S: Read + Write + Drop>(places: &mut [Place<S>], ended: &mut Ended)
     ensures streams { AllKeep S.remaining S.contents places.old places.new ended.old.sockets ended.new.sockets }
+    ensures once { AtMostOnce ended.old.sockets ended.new.sockets }
     ensures left { (st : State) (past : List Marked) → AllFell places.old ended.old.sockets st past
         → AllLeft ended.new.sockets st past }
 {
@@ -351,6 +359,11 @@ where
     // Each of these sockets had a stream of its own, as it was accepted. That was read and written and nothing else:
     // what the reads gave is what came, and what the writes took is what went.
     ensures streams { AllHad L.Stream.remaining L.Stream.contents result.ended.sockets }
+
+    // Each of them ended because the session closed its connection or the connection was lost, but for those that
+    // were open when serving was over: at most one for each number of a connection, and where the device failed at
+    // most one more.
+    ensures reasons { IsLeftReasoned result.ended.sockets }
 {
     let mut gateway = gateway;
     if listener.set_nonblocking(true).is_err() {

@@ -6,7 +6,8 @@ ghost use Rattle.std.specs.Io.{ReadsAtMost, WritesAtMost};
 ghost use Rattle.std.specs.Io.KnownBytes.{ReadConsumes, WriteAppends};
 ghost use Rattle.gateway_serve.specs.Sockets.{Seen};
 
-use std::io::{self, Read, Write};
+use crate::links::Left;
+use std::io::{self, ErrorKind, Read, Write};
 use std::marker::{Model, PhantomData};
 
 /// Bytes in their order.
@@ -36,16 +37,31 @@ impl Log {
     {}
 }
 
+/// What the latest call of a stream answered.
+#[derive(Clone, Copy, Drop)]
+pub(crate) enum Latest {
+    /// There was none.
+    None,
+    /// A read gave so many bytes.
+    Read(usize),
+    /// A write took so many bytes.
+    Written(usize),
+    /// A read or a write failed.
+    Failed(ErrorKind),
+}
+
 /// A stream whose bytes are seen.
 #[derive(Drop)]
 pub(crate) struct Socket<S> {
     stream: S,
     came: Log,
     went: Log,
+    latest: Latest,
 }
 
 impl<S: Read + Write> Socket<S> {
-    ghost use Rattle.gateway_serve.specs.Bytes.{came_of, went_of, stream_of};
+    ghost use Rattle.gateway_serve.specs.Bytes.{came_of, went_of, stream_of, latest_of};
+    ghost use Rattle.gateway_serve.specs.Gone.{after_read, after_write};
 
     /// Nothing came, and nothing went.
     pub(crate) fn new(stream: S) -> Self
@@ -57,6 +73,7 @@ impl<S: Read + Write> Socket<S> {
             stream,
             came: Log::new(),
             went: Log::new(),
+            latest: Latest::None,
         }
     }
 
@@ -66,15 +83,20 @@ impl<S: Read + Write> Socket<S> {
         ensures came { IfOk result (λ n. came_of self.new ≡ came_of self.old ++ take n buf.new) }
         ensures none { OnErr result (came_of self.new ≡ came_of self.old) }
         ensures went { went_of self.new ≡ went_of self.old }
+        ensures latest { latest_of self.new ≡ after_read result }
         ensures bytes { ReadConsumes (S.remaining (stream_of self.old)) (S.remaining (stream_of self.new)) result
             buf.new }
     {
         match self.stream.read(buf) {
             Ok(count) => {
                 self.came.add(&buf[..count]);
+                self.latest = Latest::Read(count);
                 Ok(count)
             }
-            Err(error) => Err(error),
+            Err(error) => {
+                self.latest = Latest::Failed(error.kind());
+                Err(error)
+            }
         }
     }
 
@@ -84,15 +106,20 @@ impl<S: Read + Write> Socket<S> {
         ensures went { IfOk result (λ n. went_of self.new ≡ went_of self.old ++ take n bytes.now) }
         ensures none { OnErr result (went_of self.new ≡ went_of self.old) }
         ensures came { came_of self.new ≡ came_of self.old }
+        ensures latest { latest_of self.new ≡ after_write result }
         ensures bytes { WriteAppends (S.contents (stream_of self.old)) (S.contents (stream_of self.new)) result
             bytes.now }
     {
         match self.stream.write(bytes) {
             Ok(count) => {
                 self.went.add(&bytes[..count]);
+                self.latest = Latest::Written(count);
                 Ok(count)
             }
-            Err(error) => Err(error),
+            Err(error) => {
+                self.latest = Latest::Failed(error.kind());
+                Err(error)
+            }
         }
     }
 }
@@ -121,15 +148,19 @@ impl Ended {
     }
 
     // A socket that served the connection with this number, of which these bytes came, and to which these went.
-    fn note(&mut self, _conn: usize, _came: &Log, _went: &Log)
-        ensures { self.new.sockets
-            ≡ record { conn = _conn; came = _came.now.bytes; went = _went.now.bytes } ∷ self.old.sockets }
+    fn note(&mut self, _conn: usize, _came: &Log, _went: &Log, _left: &Left)
+        ensures { self.new.sockets ≡ record {
+          conn = _conn;
+          came = _came.now.bytes;
+          went = _went.now.bytes;
+          left = _left.now;
+        } ∷ self.old.sockets }
     {}
 
-    /// A socket that served the connection with this number.
-    pub(crate) fn add<S>(&mut self, conn: usize, socket: &Socket<S>)
-        ensures { self.new.sockets ≡ seen conn socket.now ∷ self.old.sockets }
+    /// A socket that served the connection with this number, of which the latest turn left this.
+    pub(crate) fn add<S>(&mut self, conn: usize, socket: &Socket<S>, left: &Left)
+        ensures { self.new.sockets ≡ seen conn socket.now left.now ∷ self.old.sockets }
     {
-        self.note(conn, &socket.came, &socket.went);
+        self.note(conn, &socket.came, &socket.went, left);
     }
 }

@@ -1,8 +1,10 @@
-use Rattle.std.proofs.Common.{◌<◌, ◌≤◌, length, Result, Ok, Err, ◌∙◌, arith}
+use Rattle.std.proofs.Common.{◌+◌, ◌<◌, ◌≤◌, get_or, length, Result, Ok, Err, ◌∙◌, refl, arith}
 use Rattle.spool_disk.specs.declared.disk.DiskFault.{DiskFault}
 use Rattle.gateway_script.proofs.Counting.{uncounted}
+use Rattle.gateway_serve.specs.Reasons.{none}
 use Rattle.gateway_serve.proofs.All.{among_all, all_served, free_before}
 use Rattle.gateway_serve.proofs.Carries.{among_keep}
+use Rattle.gateway_serve.proofs.Reasons.{ended_once}
 use Rattle.gateway_serve.proofs.serving.end_each.Goals as goal
 
 pub returns-in-Err-clause-serves : goal.returns-in-Err-clause-serves
@@ -23,6 +25,15 @@ returns-in-Err-clause-streams g c = λ have had.
     among_keep g.S.Read.remaining g.S.Write.contents c.loop-conn.places c.loop-conn.conn c.index-places-conn.result
     c.end.new.self c.loop-conn.ended.sockets c.end.new.ended.sockets inside c.end.ensures.streams s.0 s.1
 
+pub loop-conn-init : goal.loop-conn-init
+loop-conn-init g c = (
+  refl,
+  λ before st past went joins. (past, went, joins),
+  λ have had. (have, had),
+  λ k lt. absurd (omega (arith, lt)),
+  none,
+)
+
 pub loop-conn-preserved : goal.loop-conn-preserved
 loop-conn-preserved g c =
     let inside : c.loop-conn.conn < length c.loop-conn.places =
@@ -40,6 +51,9 @@ loop-conn-preserved g c =
           c.index-places-conn.result c.end.new.self c.loop-conn.ended.sockets c.end.new.ended.sockets inside
           c.end.ensures.streams s.0 s.1,
       free_before c.loop-conn.conn c.loop-conn.places c.end.new.self inside c.end.ensures.free c.loop-conn.invariant.3,
+      ended_once c.args.ended.now.sockets c.loop-conn.conn
+          (get_or c.loop-conn.places c.loop-conn.conn c.index-places-conn.result) c.loop-conn.ended.sockets
+          c.end.new.ended.sockets c.end.ensures.ended c.loop-conn.invariant.4,
     )
 
 pub returns-clause-serves : goal.returns-clause-serves
@@ -52,3 +66,14 @@ returns-clause-serves g c = λ before st past went joins.
       all_served c.loop-conn.places c.loop-conn.ended.sockets st s.0
           (λ k lt. c.loop-conn.invariant.3 k (omega (arith, lt, most))) s.2,
     )
+
+pub returns-in-Err-clause-once : goal.returns-in-Err-clause-once
+returns-in-Err-clause-once g c = (
+  c.loop-conn.conn + 1,
+  ended_once c.args.ended.now.sockets c.loop-conn.conn
+      (get_or c.loop-conn.places c.loop-conn.conn c.index-places-conn.result) c.loop-conn.ended.sockets
+      c.end.new.ended.sockets c.end.ensures.ended c.loop-conn.invariant.4,
+)
+
+pub returns-clause-once : goal.returns-clause-once
+returns-clause-once g c = (c.loop-conn.conn, c.loop-conn.invariant.4)

@@ -1,12 +1,15 @@
-use Rattle.std.proofs.Common.{◌<◌, ◌≤◌, length, arith}
+use Rattle.std.proofs.Common.{◌<◌, ◌≤◌, get_or, length, arith}
 use Rattle.gateway_serve.proofs.All.{none_left, all_left, one_more_left}
+use Rattle.gateway_serve.specs.Reasons.{none}
 use Rattle.gateway_serve.proofs.Carries.{among_keep}
+use Rattle.gateway_serve.proofs.Reasons.{ended_once}
 use Rattle.gateway_serve.proofs.serving.free_each.Goals as goal
 
 pub loop-conn-init : goal.loop-conn-init
 loop-conn-init g c = (
   λ st past all. none_left c.args.places.now c.args.ended.now.sockets st past all,
   λ have had. (have, had),
+  none,
 )
 
 pub loop-conn-preserved : goal.loop-conn-preserved
@@ -21,6 +24,9 @@ loop-conn-preserved g c =
           among_keep g.S.Read.remaining g.S.Write.contents c.loop-conn.places c.loop-conn.conn
           c.index-places-conn.result c.free.new.self c.loop-conn.ended.sockets c.free.new.ended.sockets inside
           c.free.ensures.streams s.0 s.1,
+      ended_once c.args.ended.now.sockets c.loop-conn.conn
+          (get_or c.loop-conn.places c.loop-conn.conn c.index-places-conn.result) c.loop-conn.ended.sockets
+          c.free.new.ended.sockets c.free.ensures.ended c.loop-conn.invariant.2,
     )
 
 pub returns-clause-left : goal.returns-clause-left
@@ -29,3 +35,6 @@ returns-clause-left g c = λ st past all.
     omega (arith, c.loop-conn-test.false, c.loop-conn.auto.places) in
     all_left c.loop-conn.conn c.loop-conn.places c.loop-conn.ended.sockets st past most
     (c.loop-conn.invariant.0 st past all)
+
+pub returns-clause-once : goal.returns-clause-once
+returns-clause-once g c = (c.loop-conn.conn, c.loop-conn.invariant.2)

@@ -2,6 +2,7 @@ use Rattle.std.proofs.Common.{List}
 use Rattle.tus_session.specs.History.{State, Marked}
 use Rattle.gateway_serve.specs.Joined.{AllFell}
 use Rattle.gateway_serve.specs.Streams.{AllKeep}
+use Rattle.gateway_serve.specs.Reasons.{EndedOnce}
 use Rattle.gateway_serve.proofs.All.{HalfLeft}
 use Rattle.gateway_serve.proofs.serving.free_each.Given as goal
 
@@ -10,3 +11,4 @@ invariant-loop-conn g l =
     ((st : State) (past : List Marked) → AllFell l.fn.places l.fn.ended.sockets st past
     → HalfLeft l.conn l.places l.ended.sockets st past)
     × AllKeep g.S.Read.remaining g.S.Write.contents l.fn.places l.places l.fn.ended.sockets l.ended.sockets
+    × EndedOnce l.fn.ended.sockets l.conn l.ended.sockets

@@ -24,6 +24,9 @@ returns-in-Err-clause-streams g c = λ have had.
     among_keep g.S.Read.remaining g.S.Write.contents c.loop-conn.places c.loop-conn.conn c.index-places-conn.result
     c.turn.new.self c.loop-conn.ended.sockets c.turn.new.ended.sockets inside c.turn.ensures.streams s.0 s.1
 
+pub returns-in-Err-clause-reasons : goal.returns-in-Err-clause-reasons
+returns-in-Err-clause-reasons g c = λ all. c.turn.ensures.reasons (c.loop-conn.invariant.3 all)
+
 pub loop-conn-preserved : goal.loop-conn-preserved
 loop-conn-preserved g c = (
   uncounted (λ fails. absurd (cc)) c.in-Ok.ensures.counts ∙ c.loop-conn.invariant.0,
@@ -41,4 +44,5 @@ loop-conn-preserved g c = (
       omega (arith, c.loop-conn-test.true, c.loop-conn.auto.places) in
       among_keep g.S.Read.remaining g.S.Write.contents c.loop-conn.places c.loop-conn.conn c.index-places-conn.result
       c.turn.new.self c.loop-conn.ended.sockets c.turn.new.ended.sockets inside c.turn.ensures.streams s.0 s.1,
+  λ all. c.turn.ensures.reasons (c.loop-conn.invariant.3 all),
 )

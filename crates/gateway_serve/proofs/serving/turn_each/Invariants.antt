@@ -2,6 +2,7 @@ use Rattle.std.proofs.Common.{◌≡◌, Result, Ok}
 use Rattle.spool_disk.specs.declared.disk.DiskFault.{DiskFault}
 use Rattle.gateway_serve.specs.Joined.{GoesOn}
 use Rattle.gateway_serve.specs.Streams.{AllKeep}
+use Rattle.gateway_serve.specs.Reasons.{StayReasoned}
 use Rattle.gateway_serve.proofs.serving.turn_each.Given as goal
 
 abbrev pub invariant-loop-conn : goal.invariant-loop-conn
@@ -10,3 +11,4 @@ invariant-loop-conn g l =
     (g.C.Connections.failures l.gateway ≡ g.C.Connections.failures l.fn.gateway)
     × GoesOn g.C.Connections l.fn.gateway l.gateway on l.fn.places l.places l.fn.ended.sockets l.ended.sockets
     × AllKeep g.S.Read.remaining g.S.Write.contents l.fn.places l.places l.fn.ended.sockets l.ended.sockets
+    × StayReasoned l.fn.ended.sockets l.ended.sockets

@@ -1,4 +1,5 @@
 use Rattle.gateway_serve.proofs.Carries.{written_stays, not_written_stays}
+use Rattle.gateway_serve.proofs.Reasons.{failed_lost}
 use Rattle.gateway_serve.proofs.links.Link.write.Goals as goal
 
 pub returns-in-Ok-eq0-clause-stream : goal.returns-in-Ok-eq0-clause-stream
@@ -15,3 +16,7 @@ pub returns-in-Err-clause-stream : goal.returns-in-Err-clause-stream
 returns-in-Err-clause-stream g c =
     not_written_stays g.S.Read.remaining g.S.Write.contents c.args.self.now.socket c.write.new.socket
     c.write.ensures.came c.in-Err.ensures.none c.in-Err.ensures.err
+
+pub returns-in-Err-clause-lost : goal.returns-in-Err-clause-lost
+returns-in-Err-clause-lost g c =
+    failed_lost c.left_behind.result _ _ c.in-Err.ensures.latest c.left_behind.ensures.lost

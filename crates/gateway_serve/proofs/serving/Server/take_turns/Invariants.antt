@@ -2,6 +2,7 @@ use Rattle.std.proofs.Common.{◌≡◌, Result, Ok}
 use Rattle.spool_disk.specs.declared.disk.DiskFault.{DiskFault}
 use Rattle.gateway_serve.specs.Joined.{GoesOn, places_of, ended_of}
 use Rattle.gateway_serve.specs.Streams.{AllKeep}
+use Rattle.gateway_serve.specs.Reasons.{StayReasoned}
 use Rattle.gateway_serve.proofs.serving.Server.take_turns.Given as goal
 
 abbrev pub invariant-loop-left : goal.invariant-loop-left
@@ -12,6 +13,7 @@ invariant-loop-left g l =
     (ended_of l.self)
     × AllKeep g.S.Read.remaining g.S.Write.contents (places_of l.fn.self) (places_of l.self) (ended_of l.fn.self)
     (ended_of l.self)
+    × StayReasoned (ended_of l.fn.self) (ended_of l.self)
 
 abbrev pub decreases-loop-left : goal.decreases-loop-left
 decreases-loop-left g l = l.left

@@ -1,0 +1,78 @@
+-- Why connections ended.
+use Rattle.std.proofs.Common.{◌≡◌, ◌⊎◌, inl, inr, refl, sym, subst, ℕ, ◌+◌, List, []}
+use Rattle.std.specs.declared.io.ErrorKind.{ErrorKind}
+use Rattle.gateway_serve.specs.Sockets.{Seen}
+use Rattle.gateway_serve.specs.Bytes.{latest_of, seen}
+use Rattle.gateway_serve.specs.Gone.{EndsBy, IfLost, IsFailure}
+use Rattle.gateway_serve.specs.Joined.{with_place}
+use Rattle.gateway_serve.specs.Reasons.{IsReason, AllReasoned, EndedOnce, none, free, one_more, AtMostOnce}
+use Rattle.gateway_serve.specs.Reasons.{EndsReasoned, IsLeftReasoned, left_of}
+use Rattle.gateway_serve.specs.declared.sockets.Latest.{Latest}
+use Rattle.gateway_serve.specs.declared.sockets.Latest.TheVariants as Was
+use Rattle.gateway_serve.specs.declared.sockets.Socket.{Socket}
+use Rattle.gateway_serve.specs.declared.links.Gone.{Gone}
+use Rattle.gateway_serve.specs.declared.links.Gone.TheVariants.{Failed}
+use Rattle.gateway_serve.specs.declared.links.Left.{Left}
+use Rattle.gateway_serve.specs.declared.links.Left.TheVariants as Is
+use Rattle.gateway_serve.specs.declared.links.Link.{Link}
+use Rattle.gateway_serve.specs.declared.places.Place.{Place}
+use Rattle.gateway_serve.specs.declared.places.Place.TheVariants.{Free, Open}
+
+-- a read or write failed, and that is the latest call
+pub failed_lost : (left : Left) (latest : Latest) (kind : ErrorKind) → latest ≡ Was.Failed kind
+    → IfLost left (λ gone. (gone ≡ Failed) × IsFailure kind) → IfLost left (λ gone. EndsBy gone latest)
+failed_lost Is.Open latest kind was is = tt
+failed_lost Is.Idle latest kind was is = tt
+failed_lost Is.Closed latest kind was is = tt
+failed_lost (Is.Lost gone) latest kind was is = subst (λ x. EndsBy x latest) (sym is.0) (kind, was, is.1)
+
+-- a turn lost it, or else the time
+pub still_lost : (left : Left) (I : Gone → Type 0) → IfLost left (λ gone. (left ≡ Is.Lost gone) ⊎ I gone)
+still_lost Is.Open I = tt
+still_lost Is.Idle I = tt
+still_lost Is.Closed I = tt
+still_lost (Is.Lost gone) I = inl refl
+
+pub lost_by : {S : Type 0} (mid new : Socket S) (left now : Left) (I : Gone → Type 0) → new ≡ mid
+    → IfLost left (λ gone. EndsBy gone (latest_of mid)) → IfLost now (λ gone. (left ≡ Is.Lost gone) ⊎ I gone)
+    → IfLost now (λ gone. EndsBy gone (latest_of new) ⊎ I gone)
+lost_by mid new left Is.Open I same ends is = tt
+lost_by mid new left Is.Idle I same ends is = tt
+lost_by mid new left Is.Closed I same ends is = tt
+lost_by {S} mid new left (Is.Lost gone) I same ends is = elim is [
+  | inl e ↦ inl (subst (λ (s : Socket S). EndsBy gone (latest_of s)) (sym same)
+      (subst (λ x. IfLost x (λ y. EndsBy y (latest_of mid))) e ends))
+  | inr idle ↦ inr idle
+]
+
+-- it ends for what the latest turn left
+pub ends_reasoned : {S : Type 0} (n : ℕ) (l : Link S) (left : Left) (ended ended' : List Seen)
+    → ended' ≡ with_place n (Open l) ended → left_of l ≡ left → IsReason left → AllReasoned ended
+    → AllReasoned ended'
+ends_reasoned n l left ended ended' with is reason all =
+    subst AllReasoned (sym with) (subst IsReason (sym is) reason, all)
+
+-- WHEN SERVING IS OVER
+one_ended : {S : Type 0} (before : List Seen) (n : ℕ) (p : Place S) (ended : List Seen) → EndedOnce before n ended
+    → EndedOnce before (n + 1) (with_place n p ended)
+one_ended before n Free ended is = free n ended is
+one_ended before n (Open l) ended is = one_more (seen n l.socket l.left) ended is
+
+pub ended_once : {S : Type 0} (before : List Seen) (n : ℕ) (p : Place S) (ended ended' : List Seen)
+    → ended' ≡ with_place n p ended → EndedOnce before n ended → EndedOnce before (n + 1) ended'
+ended_once before n p ended ended' with is =
+    subst (EndedOnce before (n + 1)) (sym with) (one_ended before n p ended is)
+
+pub none_more : (ended : List Seen) → AtMostOnce ended ended
+none_more ended = (0, none)
+
+pub ends_reasoned_once : (before ended : List Seen) → AllReasoned before → AtMostOnce before ended
+    → EndsReasoned ended
+ends_reasoned_once before ended all once = (before, all, once)
+
+pub left_reasoned : (before ended : List Seen) → EndsReasoned before → AtMostOnce before ended
+    → IsLeftReasoned ended
+left_reasoned before ended is once = (before, is, once)
+
+pub none_left_reasoned : (ended : List Seen) → ended ≡ [] → IsLeftReasoned ended
+none_left_reasoned ended e = subst IsLeftReasoned (sym e) ([], ([], tt {0}, none_more []), none_more [])
