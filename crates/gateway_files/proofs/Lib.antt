@@ -1,3 +1,5 @@
 mod Finding
 mod Files
 mod Writing
+mod Above
+mod InOrder

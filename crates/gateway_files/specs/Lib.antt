@@ -3,3 +3,4 @@ pub mod Failures
 pub mod IndexFiles
 pub mod Streams
 pub mod Said
+pub mod Lines
