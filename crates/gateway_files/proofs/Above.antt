@@ -75,7 +75,7 @@ some_above n (x ∷ xs) entry rising e =
     ]
 
 -- where none has number 0, all are above it
-pub all_above : (xs : List (ℕ × Upload)) → ((u : Upload) → find 0 xs ≡ Some u → ⊥) → after 0 xs ≡ xs
+all_above : (xs : List (ℕ × Upload)) → ((u : Upload) → find 0 xs ≡ Some u → ⊥) → after 0 xs ≡ xs
 all_above [] some = refl
 all_above (x ∷ xs) some =
     elim (true_or_false (nat_lt 0 x.0)) [
@@ -86,18 +86,24 @@ all_above (x ∷ xs) some =
           absurd (some x.1 there)
     ]
 
--- one more is told
-pub told_more : (f : ℕ × Upload → List ℕ) (out : List ℕ) (xs : List (ℕ × Upload)) (n : ℕ) (entry : ℕ × Upload)
-    → IsRising (numbers xs) → above n xs ≡ Some entry → out ++ flat_map f (after n xs) ≡ flat_map f xs
-    → (out ++ f entry) ++ flat_map f (after entry.0 xs) ≡ flat_map f xs
-told_more f out xs n entry rising e before =
+-- before the first all are to be told
+pub told_first : (f : ℕ × Upload → List ℕ) (out : List ℕ) (xs : List (ℕ × Upload))
+    → ((u : Upload) → find 0 xs ≡ Some u → ⊥) → out ≡ [] → out ++ flat_map f (after 0 xs) ≡ flat_map f xs
+told_first f out xs some e =
+    ap (λ l. l ++ flat_map f (after 0 xs)) e ∙ ap (λ ys. flat_map f ys) (all_above xs some)
+
+-- one more is told, of what is to be told in the end
+pub told_more : (f : ℕ × Upload → List ℕ) (whole out : List ℕ) (xs : List (ℕ × Upload)) (n : ℕ) (entry : ℕ × Upload)
+    → IsRising (numbers xs) → above n xs ≡ Some entry → out ++ flat_map f (after n xs) ≡ whole
+    → (out ++ f entry) ++ flat_map f (after entry.0 xs) ≡ whole
+told_more f whole out xs n entry rising e before =
     append_assoc out (f entry) (flat_map f (after entry.0 xs))
     ∙ (ap (λ ys. out ++ flat_map f ys) (sym (some_above n xs entry rising e)) ∙ before)
 
 -- all are told
-pub told_all : (f : ℕ × Upload → List ℕ) (out : List ℕ) (xs : List (ℕ × Upload)) (n : ℕ) → above n xs ≡ None
-    → out ++ flat_map f (after n xs) ≡ flat_map f xs → out ≡ flat_map f xs
-told_all f out xs n e before =
+pub told_all : (f : ℕ × Upload → List ℕ) (whole out : List ℕ) (xs : List (ℕ × Upload)) (n : ℕ) → above n xs ≡ None
+    → out ++ flat_map f (after n xs) ≡ whole → out ≡ whole
+told_all f whole out xs n e before =
     sym (append-nil out) ∙ (ap (λ ys. out ++ flat_map f ys) (sym (none_above n xs e)) ∙ before)
 
 -- a record says what the line of its upload says
@@ -110,27 +116,25 @@ untold x None r e t = refl
 untold x (Some y) None e t = absurd t
 untold x (Some y) (Some r) e t = absurd (cc)
 
-pub told_none : (x : IndexSet) (out : List ℕ) (xs : List (ℕ × Upload)) (n : ℕ) (r : Option (Bor Record)) → r ≡ None
-    → TellsOf x (above n xs) (option_copied r)
-    → out ++ flat_map (upload_line x) (after n xs) ≡ flat_map (upload_line x) xs → out ≡ flat_map (upload_line x) xs
-told_none x out xs n r e t before =
-    told_all (upload_line x) out xs n (untold x (above n xs) (option_copied r) (ap (λ o. option_copied o) e) t) before
+pub told_none : (x : IndexSet) (whole out : List ℕ) (xs : List (ℕ × Upload)) (n : ℕ) (r : Option (Bor Record))
+    → r ≡ None → TellsOf x (above n xs) (option_copied r)
+    → out ++ flat_map (upload_line x) (after n xs) ≡ whole → out ≡ whole
+told_none x whole out xs n r e t before =
+    told_all (upload_line x) whole out xs n
+    (untold x (above n xs) (option_copied r) (ap (λ o. option_copied o) e) t) before
 
 told : (x : IndexSet) (o : Option (ℕ × Upload)) (r : Record) → TellsOf x o (Some r)
     → (entry : ℕ × Upload) × (o ≡ Some entry) × Tells x entry.0 r entry.1
 told x None r t = absurd t
 told x (Some entry) r t = (entry, refl, t)
 
-pub told_next : (x : IndexSet) (out : List ℕ) (xs : List (ℕ × Upload)) (n : ℕ) (r : Option (Bor Record))
+pub told_next : (x : IndexSet) (whole out more : List ℕ) (xs : List (ℕ × Upload)) (n : ℕ) (r : Option (Bor Record))
     (now : Bor Record) → IsRising (numbers xs) → r ≡ Some now → TellsOf x (above n xs) (option_copied r)
-    → out ++ flat_map (upload_line x) (after n xs) ≡ flat_map (upload_line x) xs
-    → (more : List ℕ) × (more ≡ out ++ record_line now.now)
-    × (more ++ flat_map (upload_line x) (after now.now.number xs) ≡ flat_map (upload_line x) xs)
-told_next x out xs n r now rising e t before =
-    let it = told x (above n xs) now.now (subst (λ o. TellsOf x (above n xs) (option_copied o)) e t) in (
-      out ++ record_line now.now,
-      refl,
-      ap (λ l. (out ++ l) ++ flat_map (upload_line x) (after now.now.number xs)) (record_is x now.now it.0 it.2)
-          ∙ (ap (λ k. (out ++ upload_line x it.0) ++ flat_map (upload_line x) (after k xs)) it.2.number_is
-          ∙ told_more (upload_line x) out xs n it.0 rising it.1 before),
-    )
+    → out ++ flat_map (upload_line x) (after n xs) ≡ whole → more ≡ out ++ record_line now.now
+    → more ++ flat_map (upload_line x) (after now.now.number xs) ≡ whole
+told_next x whole out more xs n r now rising e t before pushed =
+    let it = told x (above n xs) now.now (subst (λ o. TellsOf x (above n xs) (option_copied o)) e t) in
+    ap (λ l. l ++ flat_map (upload_line x) (after now.now.number xs)) pushed
+    ∙ (ap (λ l. (out ++ l) ++ flat_map (upload_line x) (after now.now.number xs)) (record_is x now.now it.0 it.2)
+    ∙ (ap (λ k. (out ++ upload_line x it.0) ++ flat_map (upload_line x) (after k xs)) it.2.number_is
+    ∙ told_more (upload_line x) whole out xs n it.0 rising it.1 before))

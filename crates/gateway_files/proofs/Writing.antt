@@ -1,6 +1,6 @@
 -- What a writer holds while a list is written, item by item.
 use Rattle.std.proofs.Common.{◌≡◌, ◌∙◌, ap, sym, ℕ, ◌+◌, ◌<◌, List, ◌++◌, length, take, get_or, append_assoc}
-use Rattle.std.proofs.Common.{append-nil, [], flat_map, Option, Some, None}
+use Rattle.std.proofs.Common.{flat_map, Option, Some, None}
 use Rattle.std.proofs.lemmas.List.{flat_map_more, take_more}
 use Rattle.std.specs.Io.KnownBytes.{Appends}
 
@@ -8,10 +8,6 @@ pub appends_is : (a b : Option (List ℕ)) (x y : List ℕ) → x ≡ y → Appe
 appends_is None b x y e p = tt {0}
 appends_is (Some a) (Some b) x y e p = p ∙ ap (λ z. a ++ z) e
 appends_is (Some a) None x y e p = absurd p
-
-pub appends_nothing : (known : Option (List ℕ)) → Appends known known []
-appends_nothing None = tt {0}
-appends_nothing (Some x) = sym (append-nil x)
 
 pub appends_both : (a b c : Option (List ℕ)) (x y : List ℕ) → Appends a b x → Appends b c y → Appends a c (x ++ y)
 appends_both None b c x y p q = tt {0}

@@ -1,10 +1,11 @@
 //! The uploads of a spool, line by line.
-ghost use Rattle.std.specs.Prelude.{◌≡◌, ℕ, IsOk, OnOk, Some};
+ghost use Rattle.std.specs.Prelude.{◌≡◌, ◌⊎◌, ◌++◌, ℕ, Err, IfOk, IsOk, OnErr, OnOk, Some, string_bytes};
 ghost use Rattle.std.specs.Io.KnownBytes.{Appends};
 ghost use Rattle.spool_disk.specs.Views.{Lasts};
 ghost use Rattle.upload_rules.specs.Store.{Store};
 ghost use Rattle.upload_rules.specs.World.{World};
 ghost use Rattle.spool_image.specs.LeftOnly.{AllShow, IsSpool, LeftOrShows};
+ghost use Rattle.gateway_files.specs.declared.faults.Fault.{Fault};
 ghost use Rattle.gateway_files.specs.Lines.{IsInOrder, length_text, lines_of, mode_text, record_line};
 
 use crate::failures::Failure;
@@ -15,7 +16,7 @@ use enc_labels::name_of;
 use enc_model::Mode;
 use spool_disk::Disk;
 use spool_image::Spool;
-use std::alloc::Global;
+use std::alloc::{AllocError, Global};
 use std::fmt;
 use std::io::{self, Write};
 use upload_rules::{Record, Uploads};
@@ -48,40 +49,56 @@ pub fn list_on<D: Disk + Drop, W: Write>(
 {
     match Spool::open(alloc, disk) {
         Ok(spool) => {
-            let written = write_uploads(writer, &spool);
+            let written = write_uploads(alloc, writer, &spool);
             (spool.into_disk(), written)
         }
         Err((disk, fault)) => (disk, Err(Fault::from(fault))),
     }
 }
 
-// Writes a line for each upload, by number.
-fn write_uploads<W: Write, U: Uploads>(writer: &mut W, uploads: &U) -> Result<(), Fault>
-    ensures { (w : World) → U.stands uploads.now w → IsInOrder w.store
+// Writes a line for each upload, by number: all of them at once.
+fn write_uploads<W: Write, U: Uploads>(
+    alloc: Global,
+    writer: &mut W,
+    uploads: &U,
+) -> Result<(), Fault>
+    ensures lines { (w : World) → U.stands uploads.now w → IsInOrder w.store
         → OnOk result (Appends (W.contents writer.old) (W.contents writer.new) (lines_of w.store)) }
+    ensures refused { OnErr result (result ≡ Err Fault.NoMemory ⊎ result ≡ Err Fault.Io) }
 {
+    let lines = lines_of(alloc, uploads)?;
+    writer.write_all(lines.as_bytes())?;
+    Ok(())
+}
+
+// The lines of the uploads, by number.
+fn lines_of<U: Uploads>(alloc: Global, uploads: &U) -> Result<String, AllocError>
+    ensures lines { (w : World) → U.stands uploads.now w → IsInOrder w.store
+        → IfOk result (λ lines. string_bytes lines ≡ lines_of w.store) }
+{
+    let mut lines = String::new(alloc);
     let mut number = 0;
     for _ in 0..u64::MAX {
         let Some(record) = uploads.record_after(number) else {
-            return Ok(());
+            return Ok(lines);
         };
-        write_line(writer, record)?;
+        push_line(&mut lines, record)?;
         number = record.number;
     }
-    // No store has so many uploads.
-    Err(Fault::Io)
+    // No memory holds so many lines.
+    Err(AllocError)
 }
 
-// Writes the line of an upload.
-fn write_line<W: Write>(writer: &mut W, record: &Record) -> io::Result<()>
-    ensures { OnOk result (Appends (W.contents writer.old) (W.contents writer.new) (record_line record.now)) }
+// Adds the line of an upload.
+fn push_line(lines: &mut String, record: &Record) -> Result<(), AllocError>
+    ensures { OnOk result (string_bytes lines.new ≡ string_bytes lines.old ++ record_line record.now) }
 {
     let from = name_of(record.from);
     let to = name_of(record.to);
     let mode = mode_name(record.mode);
     let declared = Declared(record.declared);
     writeln!(
-        writer,
+        lines,
         "{} {}/{declared} {} {from} {to} {mode}",
         record.number, record.accepted, record.text_len
     )

@@ -7,7 +7,7 @@ use Rattle.gateway_files.proofs.listing.list_on.Goals as goal
 
 pub returns-in-Ok-clause-lines : goal.returns-in-Ok-clause-lines
 returns-in-Ok-clause-lines g c n m is =
-    c.write_uploads-written.ensures (at_rest m (Some n)) (c.in-Ok.ensures.stands n m is)
+    c.write_uploads-written.ensures.lines (at_rest m (Some n)) (c.in-Ok.ensures.stands n m is)
     (in_order g.D.Disk c.args.disk n m is)
 
 pub returns-in-Ok-clause-shows : goal.returns-in-Ok-clause-shows
