@@ -3,3 +3,4 @@ mod Files
 mod Writing
 mod Above
 mod InOrder
+mod Refusals

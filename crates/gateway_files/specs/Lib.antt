@@ -4,3 +4,4 @@ pub mod IndexFiles
 pub mod Streams
 pub mod Said
 pub mod Lines
+pub mod Listing

@@ -1,11 +1,14 @@
 //! The uploads of a spool, line by line.
-ghost use Rattle.std.specs.Prelude.{◌≡◌, ◌⊎◌, ◌++◌, ℕ, Err, IfOk, IsOk, OnErr, OnOk, Some, string_bytes};
+ghost use Rattle.std.specs.Prelude.{◌≡◌, ◌++◌, ℕ, Err, IfErr, IfOk, IsOk, OnOk, Some, string_bytes};
 ghost use Rattle.std.specs.Io.KnownBytes.{Appends};
+ghost use Rattle.spool_disk.specs.Disk.{Counts};
 ghost use Rattle.spool_disk.specs.Views.{Lasts};
+ghost use Rattle.spool_load.specs.Refusals.{HasOtherVersion, IsDamaged, IsNoSpool};
 ghost use Rattle.upload_rules.specs.Store.{Store};
 ghost use Rattle.upload_rules.specs.World.{World};
 ghost use Rattle.spool_image.specs.LeftOnly.{AllShow, IsSpool, LeftOrShows};
 ghost use Rattle.gateway_files.specs.declared.faults.Fault.{Fault};
+ghost use Rattle.gateway_files.specs.Listing.{IsUnwritten, ListRefusedFor, Lists, RefusesListAs};
 ghost use Rattle.gateway_files.specs.Lines.{IsInOrder, length_text, lines_of, mode_text, record_line};
 
 use crate::failures::Failure;
@@ -46,6 +49,18 @@ pub fn list_on<D: Disk + Drop, W: Write>(
     // A crash during it leaves what it might have left before, or what shows the same uploads.
     ensures lasts { (n : ℕ) (m : Store) → IsSpool D.Disk disk n m
         → Lasts D.Disk disk result.0 (LeftOrShows D.Disk disk n m) }
+
+    // A spool is listed, unless memory, the device or the writer refuses it.
+    ensures listed { (n : ℕ) (m : Store) → IsSpool D.Disk disk n m → Lists result.1 }
+
+    // Each refusal has its reason, and each reason is answered so, unless memory or the device refuses it.
+    ensures refused { D.honest disk → IfErr result.1 (ListRefusedFor (D.size disk) (D.seen disk)) }
+    ensures not_a_spool { D.honest disk → IsNoSpool (D.size disk) (D.seen disk)
+        → RefusesListAs result.1 Fault.NotASpool }
+    ensures version { D.honest disk → HasOtherVersion (D.size disk) (D.seen disk)
+        → RefusesListAs result.1 Fault.Version }
+    ensures damaged { D.honest disk → IsDamaged (D.size disk) (D.seen disk) → RefusesListAs result.1 Fault.Damaged }
+    ensures counts { Counts (result.1 ≡ Err Fault.Device) (D.failures disk) (D.failures result.0) }
 {
     match Spool::open(alloc, disk) {
         Ok(spool) => {
@@ -64,7 +79,7 @@ fn write_uploads<W: Write, U: Uploads>(
 ) -> Result<(), Fault>
     ensures lines { (w : World) → U.stands uploads.now w → IsInOrder w.store
         → OnOk result (Appends (W.contents writer.old) (W.contents writer.new) (lines_of w.store)) }
-    ensures refused { OnErr result (result ≡ Err Fault.NoMemory ⊎ result ≡ Err Fault.Io) }
+    ensures refused { IfErr result IsUnwritten }
 {
     let lines = lines_of(alloc, uploads)?;
     writer.write_all(lines.as_bytes())?;
