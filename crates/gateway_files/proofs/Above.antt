@@ -22,7 +22,7 @@ after n (x ∷ xs) = if nat_lt n x.0 then x ∷ xs else after n xs
 abbrev numbers : List (ℕ × Upload) → List ℕ
 numbers xs = map (λ e. e.0) xs
 
-pub none_above : (n : ℕ) (xs : List (ℕ × Upload)) → above n xs ≡ None → after n xs ≡ []
+none_above : (n : ℕ) (xs : List (ℕ × Upload)) → above n xs ≡ None → after n xs ≡ []
 none_above n [] e = refl
 none_above n (x ∷ xs) e =
     elim (true_or_false (nat_lt n x.0)) [
@@ -44,7 +44,7 @@ above_greater n (x ∷ xs) entry e =
 rising_rest : (x : ℕ × Upload) (xs : List (ℕ × Upload)) → IsRising (numbers (x ∷ xs)) → IsRising (numbers xs)
 rising_rest x xs rising i j less within = rising (suc i) (suc j) (omega (arith, less)) (omega (arith, within))
 
--- all behind the first are greater
+-- all after the first are greater
 after_first : (x : ℕ × Upload) (xs : List (ℕ × Upload)) → IsRising (numbers (x ∷ xs)) → after x.0 xs ≡ xs
 after_first x [] rising = refl
 after_first x (y ∷ xs) rising =
@@ -52,7 +52,7 @@ after_first x (y ∷ xs) rising =
     let yes : nat_lt x.0 y.0 ≡ true = grind (arith, less) in
     rw yes refl
 
-pub some_above : (n : ℕ) (xs : List (ℕ × Upload)) (entry : ℕ × Upload) → IsRising (numbers xs)
+some_above : (n : ℕ) (xs : List (ℕ × Upload)) (entry : ℕ × Upload) → IsRising (numbers xs)
     → above n xs ≡ Some entry → after n xs ≡ entry ∷ after entry.0 xs
 some_above n [] entry rising e = absurd (cc)
 some_above n (x ∷ xs) entry rising e =
@@ -93,7 +93,7 @@ told_first f out xs some e =
     ap (λ l. l ++ flat_map f (after 0 xs)) e ∙ ap (λ ys. flat_map f ys) (all_above xs some)
 
 -- one more is told, of what is to be told in the end
-pub told_more : (f : ℕ × Upload → List ℕ) (whole out : List ℕ) (xs : List (ℕ × Upload)) (n : ℕ) (entry : ℕ × Upload)
+told_more : (f : ℕ × Upload → List ℕ) (whole out : List ℕ) (xs : List (ℕ × Upload)) (n : ℕ) (entry : ℕ × Upload)
     → IsRising (numbers xs) → above n xs ≡ Some entry → out ++ flat_map f (after n xs) ≡ whole
     → (out ++ f entry) ++ flat_map f (after entry.0 xs) ≡ whole
 told_more f whole out xs n entry rising e before =
@@ -101,7 +101,7 @@ told_more f whole out xs n entry rising e before =
     ∙ (ap (λ ys. out ++ flat_map f ys) (sym (some_above n xs entry rising e)) ∙ before)
 
 -- all are told
-pub told_all : (f : ℕ × Upload → List ℕ) (whole out : List ℕ) (xs : List (ℕ × Upload)) (n : ℕ) → above n xs ≡ None
+told_all : (f : ℕ × Upload → List ℕ) (whole out : List ℕ) (xs : List (ℕ × Upload)) (n : ℕ) → above n xs ≡ None
     → out ++ flat_map f (after n xs) ≡ whole → out ≡ whole
 told_all f whole out xs n e before =
     sym (append-nil out) ∙ (ap (λ ys. out ++ flat_map f ys) (sym (none_above n xs e)) ∙ before)

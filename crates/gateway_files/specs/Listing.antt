@@ -19,11 +19,11 @@ abbrev pub RefusesListAs : {T : Type 0} → Result T Fault → Fault → Type 0
 RefusesListAs (Ok t) fault = ⊥
 RefusesListAs (Err f) fault = (f ≡ fault) ⊎ (f ≡ NoMemory) ⊎ (f ≡ Device)
 
--- not written: for memory or by the writer
-abbrev pub IsUnwritten : Fault → Type 0
-IsUnwritten f = (f ≡ NoMemory) ⊎ (f ≡ Io)
+-- why lines aren't written: for memory, or for the writer
+abbrev pub IsWriteFault : Fault → Type 0
+IsWriteFault f = (f ≡ NoMemory) ⊎ (f ≡ Io)
 
 -- listed, or refused for memory, by the device or by the writer
 abbrev pub Lists : {T : Type 0} → Result T Fault → Type 0
 Lists (Ok t) = Unit {0}
-Lists (Err f) = IsUnwritten f ⊎ (f ≡ Device)
+Lists (Err f) = IsWriteFault f ⊎ (f ≡ Device)

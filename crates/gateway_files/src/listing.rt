@@ -1,14 +1,15 @@
 //! The uploads of a spool, line by line.
 ghost use Rattle.std.specs.Prelude.{◌≡◌, ◌++◌, ℕ, Err, IfErr, IfOk, IsOk, OnOk, Some, string_bytes};
 ghost use Rattle.std.specs.Io.KnownBytes.{Appends};
-ghost use Rattle.spool_disk.specs.Disk.{Counts};
+ghost use Rattle.spool_disk.specs.Disk.{Counts, IsImage};
 ghost use Rattle.spool_disk.specs.Views.{Lasts};
+ghost use Rattle.spool_load.specs.Reads.{NeedsReplay};
 ghost use Rattle.spool_load.specs.Refusals.{HasOtherVersion, IsDamaged, IsNoSpool};
 ghost use Rattle.upload_rules.specs.Store.{Store};
 ghost use Rattle.upload_rules.specs.World.{World};
 ghost use Rattle.spool_image.specs.LeftOnly.{AllShow, IsSpool, LeftOrShows};
 ghost use Rattle.gateway_files.specs.declared.faults.Fault.{Fault};
-ghost use Rattle.gateway_files.specs.Listing.{IsUnwritten, ListRefusedFor, Lists, RefusesListAs};
+ghost use Rattle.gateway_files.specs.Listing.{IsWriteFault, ListRefusedFor, Lists, RefusesListAs};
 ghost use Rattle.gateway_files.specs.Lines.{IsInOrder, length_text, lines_of, mode_text, record_line};
 
 use crate::failures::Failure;
@@ -50,6 +51,10 @@ pub fn list_on<D: Disk + Drop, W: Write>(
     ensures lasts { (n : ℕ) (m : Store) → IsSpool D.Disk disk n m
         → Lasts D.Disk disk result.0 (LeftOrShows D.Disk disk n m) }
 
+    // Where no journal is to be replayed, nothing is written to the disk: a crash leaves what it might have left before.
+    ensures unwritten { D.honest disk → (NeedsReplay (D.size disk) (D.seen disk) → ⊥)
+        → Lasts D.Disk disk result.0 (IsImage (D.seen disk) (D.loose disk)) }
+
     // A spool is listed, unless memory, the device or the writer refuses it.
     ensures listed { (n : ℕ) (m : Store) → IsSpool D.Disk disk n m → Lists result.1 }
 
@@ -79,7 +84,7 @@ fn write_uploads<W: Write, U: Uploads>(
 ) -> Result<(), Fault>
     ensures lines { (w : World) → U.stands uploads.now w → IsInOrder w.store
         → OnOk result (Appends (W.contents writer.old) (W.contents writer.new) (lines_of w.store)) }
-    ensures refused { IfErr result IsUnwritten }
+    ensures refused { IfErr result IsWriteFault }
 {
     let lines = lines_of(alloc, uploads)?;
     writer.write_all(lines.as_bytes())?;

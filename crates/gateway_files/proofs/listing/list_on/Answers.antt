@@ -1,4 +1,5 @@
 use Rattle.std.proofs.Common.{Some, subst, sym}
+use Rattle.spool_disk.specs.Disk.{IsImage}
 use Rattle.spool_disk.specs.Views.{Lasts}
 use Rattle.spool_image.specs.LeftOnly.{AllShow, LeftOrShows}
 use Rattle.upload_rules.specs.World.{at_rest}
@@ -28,3 +29,8 @@ returns-in-Err-clause-version g c honest other =
 pub returns-in-Err-clause-damaged : goal.returns-in-Err-clause-damaged
 returns-in-Err-clause-damaged g c honest damaged =
     refused_as Damaged c.in-Err.fault c.from.result c.from.ensures (c.in-Err.ensures.damaged honest damaged)
+
+pub returns-in-Ok-clause-unwritten : goal.returns-in-Ok-clause-unwritten
+returns-in-Ok-clause-unwritten g c honest clean =
+    subst (λ d. Lasts g.D.Disk c.args.disk d (IsImage (g.D.Disk.seen c.args.disk) (g.D.Disk.loose c.args.disk)))
+    (sym c.into_disk.ensures.same) (c.in-Ok.ensures.unwritten honest clean)
