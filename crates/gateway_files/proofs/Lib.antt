@@ -1,3 +1,6 @@
 mod Finding
 mod Files
 mod Writing
+mod Above
+mod InOrder
+mod Refusals

@@ -3,3 +3,5 @@ pub mod Failures
 pub mod IndexFiles
 pub mod Streams
 pub mod Said
+pub mod Lines
+pub mod Listing

@@ -98,6 +98,11 @@ impl From<AllocError> for Fault {
 }
 
 impl From<io::Error> for Fault {
+    ghost use Rattle.std.specs.Prelude.{◌⊎◌};
+    ghost use Rattle.gateway_files.specs.declared.faults.Fault.{Fault};
+
+    ghost from_gives = { λ _ fault. (fault ≡ Fault.NoMemory) ⊎ (fault ≡ Fault.Io) };
+
     fn from(error: io::Error) -> Self {
         match error.kind() {
             io::ErrorKind::OutOfMemory => Fault::NoMemory,

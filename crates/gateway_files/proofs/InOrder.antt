@@ -1,0 +1,18 @@
+-- The uploads of a spool stand by ascending numbers, from 1 on.
+use Rattle.std.proofs.Common.{ℕ, arith}
+use Rattle.spool_disk.specs.declared.disk.Disk.{Ghosts}
+use Rattle.spool_image.specs.LeftOnly.{IsSpool}
+use Rattle.upload_rules.specs.Store.{Store}
+use Rattle.gateway_files.specs.Lines.{IsInOrder}
+
+pub in_order : {D : Type 0} (disk : Ghosts D) (d : D) (n : ℕ) (m : Store) → IsSpool disk d n m → IsInOrder m
+in_order disk d n m is =
+    let shows = is.shows.shows in
+    record {
+      rising = shows.rising;
+      some = λ u there.
+          let slot = shows.all 0 u there in
+          let least = (shows.sound.records slot.slot slot.used slot.there).some in
+          let number = slot.number in
+          absurd (omega (arith, least, number));
+    }

@@ -1,0 +1,44 @@
+-- The lines of `list`.
+use Rattle.std.specs.Prelude.{◌≡◌, ℕ, List, [], ◌∷◌, ◌++◌, codes, decimal, flat_map, length, map, Option, Some, None}
+use Rattle.enc_labels.specs.Labels.{name_of}
+use Rattle.enc_model.specs.Indexes.{IndexSet}
+use Rattle.enc_model.specs.declared.Encoding.{Encoding}
+use Rattle.enc_model.specs.declared.Mode.{Mode}
+use Rattle.enc_model.specs.declared.Mode.TheVariants.{Html, Fatal}
+use Rattle.upload_rules.specs.Slots.{IsRising}
+use Rattle.upload_rules.specs.Store.{Store, Upload, find, text_of}
+use Rattle.upload_rules.specs.declared.records.Record.{Record}
+
+abbrev pub mode_text : Mode → List ℕ
+mode_text Html = codes "html"
+mode_text Fatal = codes "fatal"
+
+-- a declared length, or `?`
+abbrev pub length_text : Option ℕ → List ℕ
+length_text None = codes "?"
+length_text (Some n) = decimal n
+
+-- the number, how many bytes were accepted and declared, the length of the text, both encodings, the mode, and LF
+abbrev pub line : ℕ → ℕ → Option ℕ → ℕ → Encoding → Encoding → Mode → List ℕ
+line number accepted declared text_len from to mode =
+    decimal number ++ (32 ∷ (decimal accepted ++ (47 ∷ (length_text declared ++ (32 ∷ (decimal text_len ++ (32 ∷ (name_of
+    from ++ (32 ∷ (name_of to ++ (32 ∷ (mode_text mode ++ (10 ∷ [])))))))))))))
+
+-- THE LINE of an upload
+abbrev pub upload_line : IndexSet → ℕ × Upload → List ℕ
+upload_line x entry =
+    line entry.0 (length entry.1.accepted) entry.1.declared (length (text_of x entry.1)) entry.1.from entry.1.to
+    entry.1.mode
+
+-- THE LINES of all uploads, by their numbers
+abbrev pub lines_of : Store → List ℕ
+lines_of m = flat_map (upload_line m.indexes) m.uploads
+
+-- what a record says in its line
+abbrev pub record_line : Record → List ℕ
+record_line r = line r.number r.accepted r.declared r.text_len r.from r.to r.mode
+
+-- the uploads stand by ascending numbers, from 1 on
+pub record IsInOrder (m : Store) : Type 0 where
+  pub rising : IsRising (map (λ e. e.0) m.uploads)
+  pub some : (u : Upload) → find 0 m.uploads ≡ Some u → ⊥

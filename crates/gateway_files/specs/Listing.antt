@@ -1,0 +1,29 @@
+-- What is answered where the uploads of a spool are to be listed, and what a refusal says of the disk.
+use Rattle.std.specs.Prelude.{◌≡◌, ◌⊎◌, ℕ, Result, Ok, Err}
+use Rattle.spool_load.specs.Refusals.{HasOtherVersion, IsDamaged, IsNoSpool}
+use Rattle.gateway_files.specs.declared.faults.Fault.{Fault}
+use Rattle.gateway_files.specs.declared.faults.Fault.TheVariants.{NoMemory, Device, Damaged, NotASpool, Version, Io}
+
+-- what a refusal says of the disk
+abbrev pub ListRefusedFor : ℕ → (ℕ → ℕ) → Fault → Type 0
+ListRefusedFor size seen NotASpool = IsNoSpool size seen
+ListRefusedFor size seen Version = HasOtherVersion size seen
+ListRefusedFor size seen Damaged = IsDamaged size seen
+ListRefusedFor size seen NoMemory = Unit {0}
+ListRefusedFor size seen Device = Unit {0}
+ListRefusedFor size seen Io = Unit {0}
+ListRefusedFor size seen fault = ⊥
+
+-- refused with this fault, or for memory or by the device
+abbrev pub RefusesListAs : {T : Type 0} → Result T Fault → Fault → Type 0
+RefusesListAs (Ok t) fault = ⊥
+RefusesListAs (Err f) fault = (f ≡ fault) ⊎ (f ≡ NoMemory) ⊎ (f ≡ Device)
+
+-- why lines aren't written: for memory, or for the writer
+abbrev pub IsWriteFault : Fault → Type 0
+IsWriteFault f = (f ≡ NoMemory) ⊎ (f ≡ Io)
+
+-- listed, or refused for memory, by the device or by the writer
+abbrev pub Lists : {T : Type 0} → Result T Fault → Type 0
+Lists (Ok t) = Unit {0}
+Lists (Err f) = IsWriteFault f ⊎ (f ≡ Device)
