@@ -15,17 +15,19 @@ const SPOOL: &str = "gateway_file_test/spool";
 
 const AGAIN: &str = "gateway_again_test";
 
-/// Three uploads: one in part, one of no bytes from UTF-16LE in the mode `fatal`, and one of no known length.
+/// Three uploads: one in part, one from UTF-16LE in the mode `fatal`, whose text has half its bytes, and one of no known
+/// length.
 const STEPS: &[Step] = &[
     Open(1),
     Made(1, 6, ""),
     Added(1, 0, b"hello", 5),
-    Made(2, 0, "from dXRmLTE2bGU=,mode ZmF0YWw="),
+    Made(2, 4, "from dXRmLTE2bGU=,mode ZmF0YWw="),
+    Added(2, 0, b"a\0b\0", 4),
     Deferred(3, ""),
 ];
 
 const LISTED: &[u8] =
-    b"1 5/6 5 UTF-8 UTF-8 html\n2 0/0 0 UTF-16LE UTF-8 fatal\n3 0/? 0 UTF-8 UTF-8 html\n";
+    b"1 5/6 5 UTF-8 UTF-8 html\n2 4/4 2 UTF-16LE UTF-8 fatal\n3 0/? 0 UTF-8 UTF-8 html\n";
 
 /// The uploads on a disk are listed as they are to be.
 fn lists(rt: &impl Abort, alloc: Global, disk: FileDisk) -> FileDisk {

@@ -10,6 +10,7 @@ use crate::talks::{Talk, fresh};
 use enc_index::Kind;
 use enc_model::Encoding;
 use gateway_engine::{RunFault, run};
+use gateway_files::list_on;
 use std::alloc::Global;
 use std::io;
 use std::io::{ErrorKind, Read, Write};
@@ -494,7 +495,13 @@ fn one_upload_too_many(rt: HostRuntime) {
     ];
     talk.go_on(&rt, &refused);
     let disk = fresh(&rt, rt.alloc(), 32, None);
-    drop(ends(&rt, rt.alloc(), "513 uploads", &talk, disk, None));
+    let disk = ends(&rt, rt.alloc(), "513 uploads", &talk, disk, None);
+    let mut lines = Vec::new(rt.alloc());
+    let (disk, listed) = list_on(rt.alloc(), &mut lines, disk);
+    drop(disk);
+    assert!(rt; listed.is_ok());
+    assert!(rt; lines.ends_with(b"\n512 0/0 0 UTF-8 UTF-8 html\n513 0/0 0 UTF-8 UTF-8 html\n"));
+    assert_eq!(rt; lines.iter().filter(|it| **it == b'\n').count(), 512);
 }
 
 /// Takes so many bytes at a call, and fails after so many calls.
