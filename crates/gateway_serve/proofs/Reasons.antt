@@ -5,8 +5,7 @@ use Rattle.gateway_serve.specs.Sockets.{Seen}
 use Rattle.gateway_serve.specs.Bytes.{latest_of, seen}
 use Rattle.gateway_serve.specs.Gone.{EndsBy, IfLost, IsFailure}
 use Rattle.gateway_serve.specs.Joined.{with_place}
-use Rattle.gateway_serve.specs.Reasons.{IsReason, AllReasoned, EndedOnce, none, free, one_more, AtMostOnce}
-use Rattle.gateway_serve.specs.Reasons.{EndsReasoned, IsLeftReasoned, left_of}
+use Rattle.gateway_serve.specs.Reasons.{EndedOnce, none, free, one_more, AtMostOnce, IsLeftReasoned}
 use Rattle.gateway_serve.specs.declared.sockets.Latest.{Latest}
 use Rattle.gateway_serve.specs.declared.sockets.Latest.TheVariants as Was
 use Rattle.gateway_serve.specs.declared.sockets.Socket.{Socket}
@@ -14,7 +13,6 @@ use Rattle.gateway_serve.specs.declared.links.Gone.{Gone}
 use Rattle.gateway_serve.specs.declared.links.Gone.TheVariants.{Failed}
 use Rattle.gateway_serve.specs.declared.links.Left.{Left}
 use Rattle.gateway_serve.specs.declared.links.Left.TheVariants as Is
-use Rattle.gateway_serve.specs.declared.links.Link.{Link}
 use Rattle.gateway_serve.specs.declared.places.Place.{Place}
 use Rattle.gateway_serve.specs.declared.places.Place.TheVariants.{Free, Open}
 
@@ -45,13 +43,6 @@ lost_by {S} mid new left (Is.Lost gone) I same ends is = elim is [
   | inr idle ↦ inr idle
 ]
 
--- it ends for what the latest turn left
-pub ends_reasoned : {S : Type 0} (n : ℕ) (l : Link S) (left : Left) (ended ended' : List Seen)
-    → ended' ≡ with_place n (Open l) ended → left_of l ≡ left → IsReason left → AllReasoned ended
-    → AllReasoned ended'
-ends_reasoned n l left ended ended' with is reason all =
-    subst AllReasoned (sym with) (subst IsReason (sym is) reason, all)
-
 -- WHEN SERVING IS OVER
 one_ended : {S : Type 0} (before : List Seen) (n : ℕ) (p : Place S) (ended : List Seen) → EndedOnce before n ended
     → EndedOnce before (n + 1) (with_place n p ended)
@@ -65,14 +56,6 @@ ended_once before n p ended ended' with is =
 
 pub none_more : (ended : List Seen) → AtMostOnce ended ended
 none_more ended = (0, none)
-
-pub ends_reasoned_once : (before ended : List Seen) → AllReasoned before → AtMostOnce before ended
-    → EndsReasoned ended
-ends_reasoned_once before ended all once = (before, all, once)
-
-pub left_reasoned : (before ended : List Seen) → EndsReasoned before → AtMostOnce before ended
-    → IsLeftReasoned ended
-left_reasoned before ended is once = (before, is, once)
 
 pub none_left_reasoned : (ended : List Seen) → ended ≡ [] → IsLeftReasoned ended
 none_left_reasoned ended e = subst IsLeftReasoned (sym e) ([], ([], tt {0}, none_more []), none_more [])
