@@ -40,7 +40,8 @@ class Proxy:
         self.folder = Path(folder)
         (self.folder / "snippets").mkdir()
         (self.folder / "snippets/wovelatsa-proxy.conf").write_text((PACKAGING / "wovelatsa-proxy.conf").read_text())
-        paths = "".join(f"{it}_temp_path {folder}/{it};\n" for it in ("client_body", "proxy", "fastcgi", "uwsgi", "scgi"))
+        kinds = ("client_body", "proxy", "fastcgi", "uwsgi", "scgi")
+        paths = "".join(f"{it}_temp_path {folder}/{it};\n" for it in kinds)
         (self.folder / "nginx.conf").write_text(
             f"pid {folder}/pid;\nerror_log {folder}/error.log;\nevents {{}}\n"
             f"http {{\naccess_log off;\n{paths}include {folder}/instances.conf;\n}}\n"

@@ -1,8 +1,11 @@
-//! Makes the byte strings of crates/enc_tests/src/strings.rt, decoded and encoded by encoding_rs (the implementation of
-//! the Encoding Standard in Firefox; Debian's librust-encoding-rs-dev, 0.8.31).
+//! Makes the byte strings of crates/enc_tests/src/strings.rt, decoded and encoded by encoding_rs (the implementation
+//! of the Encoding Standard in Firefox; Debian's librust-encoding-rs-dev, 0.8.31).
 //!
-//! usage: strings SEED     prints the table: for each encoding twelve strings that are decoded, four of which begin with
-//!                         a byte order mark, and for each that texts are stored in twelve that are encoded
+//! `cargo build --release --offline` builds it.
+//!
+//! usage: strings SEED     prints the table: for each encoding twelve strings that are decoded, four of which begin
+//!                         with a byte order mark or a part of one, and for each that texts are stored in twelve that
+//!                         are encoded
 //!        strings check    reads such lines from standard input, and fails where encoding_rs answers otherwise
 use encoding_rs::Encoding;
 use std::io::{self, BufRead};
@@ -15,8 +18,8 @@ const NAMES: [&str; 21] = [
 
 const MARKS: [&[u8]; 4] = [b"\xEF\xBB\xBF", b"\xFE\xFF", b"\xFF\xFE", b"\xEF\xBB"];
 
-/// Characters at which encoders differ: those that stand for one another, that two pointers have, that are private, that
-/// escape, and that few encodings have.
+/// Characters at which encoders differ: those that stand for one another, that two pointers have, that are private,
+/// that escape, and that few encodings have.
 const CHARACTERS: &str = "aZ \u{5C}\u{7E}\u{0E}\u{1B}\u{80}\u{A5}\u{E9}\u{203E}\u{20AC}\u{2212}\u{FF0D}\u{3000}\u{3042}\
     \u{30A2}\u{65E5}\u{672C}\u{4E9C}\u{4E02}\u{7E8A}\u{FF61}\u{FF71}\u{FF9F}\u{E000}\u{E757}\u{429}\u{44F}\u{3A9}\
     \u{5D0}\u{628}\u{105}\u{2116}\u{FFFD}\u{1F600}\u{10FFFF}";
@@ -44,8 +47,12 @@ fn parts_of(name: &str) -> &'static [&'static [u8]] {
             b"a", b"\x80", b"\xBF", b"\xC1", b"\xC2\xA2", b"\xE0\xA0\x80", b"\xE0\x80", b"\xE2\x82", b"\xED\xA0\x80",
             b"\xEF\xBF\xBD", b"\xF0\x9F\x98\x80", b"\xF0\x90", b"\xF4\x90\x80", b"\xF4\x8F\xBF\xBF", b"\xF5", b"\xFF",
         ],
-        "UTF-16BE" => &[b"\0a", b"\x30\x42", b"\xD8\x3D", b"\xDE\0", b"\xD8\x3D\xDE\0", b"\0", b"\x04\x16", b"\xFF\xFF"],
-        "UTF-16LE" => &[b"a\0", b"\x42\x30", b"\x3D\xD8", b"\0\xDE", b"\x3D\xD8\0\xDE", b"\0", b"\x16\x04", b"\xFF\xFF"],
+        "UTF-16BE" => &[
+            b"\0a", b"\x30\x42", b"\xD8\x3D", b"\xDE\0", b"\xD8\x3D\xDE\0", b"\0", b"\x04\x16", b"\xFF\xFF",
+        ],
+        "UTF-16LE" => &[
+            b"a\0", b"\x42\x30", b"\x3D\xD8", b"\0\xDE", b"\x3D\xD8\0\xDE", b"\0", b"\x16\x04", b"\xFF\xFF",
+        ],
         "Shift_JIS" => &[
             b"a", b"\x80", b"\xA0", b"\xA1", b"\xDF", b"\x82\xA0", b"\x93\xFA", b"\x81", b"\x82 ", b"\xEF\xFC",
             b"\xF0\x40", b"\xF9\xFC", b"\xFA\x40", b"\xFA\x5C", b"\xFC\xFC", b"\xFD", b"\x85\x40",
