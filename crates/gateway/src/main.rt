@@ -71,11 +71,14 @@ fn words(rt: &HostRuntime, alloc: Global) -> io::Result<Vec<String>> {
 
 // Why the command line has no words: one that isn't UTF-8 is a usage fault.
 fn no_words<'a>(rt: &HostRuntime, error: io::Error) -> Result<u8, Failure<'a>> {
-    if error.kind() != io::ErrorKind::InvalidData {
-        return Err(Failure::new(Fault::from(error), Task::ReadWords, error));
+    match error.kind() {
+        io::ErrorKind::InvalidData => {
+            eprintln!(rt; "error: invalid UTF-8 was detected in one or more arguments")?;
+            Ok(USAGE)
+        }
+        io::ErrorKind::OutOfMemory => Err(Failure::from(Fault::NoMemory)),
+        _ => Err(Failure::new(Fault::from(error), Task::ReadWords, error)),
     }
-    eprintln!(rt; "error: invalid UTF-8 was detected in one or more arguments")?;
-    Ok(USAGE)
 }
 
 // Prints help, or what is wrong with the command line. Want of memory is no fault of the command line.
