@@ -2,6 +2,7 @@
 
 import argparse
 import base64
+import fcntl
 import functools
 import http.client
 import os
@@ -266,6 +267,12 @@ def write_at(file, place, data):
     file.write(data)
 
 
+def wait_for_lock(spool):
+    """Waits until nobody has a spool open: the server of a proxy that was ended is gone a moment later."""
+    with open(spool, "rb") as file:
+        fcntl.flock(file, fcntl.LOCK_EX)
+
+
 class Server:
     """A gateway that serves a spool at a port of its own."""
 
@@ -295,6 +302,7 @@ class Server:
         process.kill()
         process.wait(60)
         process.stdout.close()
+        wait_for_lock(self.words[2])
         if status is not None:
             raise Wrong(f"the server ended by itself, with status {status}")
 

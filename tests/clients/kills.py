@@ -10,7 +10,7 @@ of some uploads comes with their last bytes or after them. Whole uploads are del
 whose deletion was acknowledged are still gone, no number comes twice, and the texts of the others are compared again
 before they are deleted, or at the end. For the first half of the ends the spool is of version 1; then it is upgraded,
 by runs that are ended hard too. A connection that breaks, a reply in part and a refused connection are failures unless
-the server was ended meanwhile; a hang always is one. The status is 0 where all was so, and where one end in ten at
+the server was ended meanwhile; a hang always is one. The status is 0 where all was so, and where one end in 25 at
 least met an open gate: a commit that stands and isn't at its places yet. (SIGKILL ends a process and leaves the
 kernel's cache: it tries recovery; power.py tries the disk.)
 """
@@ -288,7 +288,7 @@ def judge(load, given, clients):
     if any(client.is_alive() for client in clients):
         load.is_wrong("a client hangs")
     ask_for_deleted(load)
-    floors = {"uploads": given.kills // 2, "resumes": given.kills // 2, "open_gates": given.kills // 10}
+    floors = {"uploads": given.kills // 2, "resumes": given.kills // 2, "open_gates": given.kills // 25}
     for name, floor in floors.items():
         if getattr(load, name) < floor:
             load.is_wrong(f"{getattr(load, name)} {name}, at least {floor} expected")
