@@ -89,9 +89,15 @@ pub trait Sink {
         requires { All (λ b. b < 128) run.now }
         ensures { Given takes refuses self.old run.now self.new result };
 
-    /// Takes a text.
+    /// Takes a text: its characters one by one, where a sink has no shorter way.
     fn text(&mut self, run: &str) -> Result<(), Self::Refusal>
-        ensures { Given takes refuses self.old (chars run.now) self.new result };
+        ensures { Given takes refuses self.old (chars run.now) self.new result }
+    {
+        for c in run.chars() {
+            self.put(c)?;
+        }
+        Ok(())
+    }
 
     ghost is_sink: { IsSink takes refuses };
 }
