@@ -1,6 +1,6 @@
 -- What an upgrade leaves.
 use Rattle.std.proofs.Common.{◌≡◌, ◌⊎◌, ◌∙◌, inl, inr, ℕ, ◌*◌, ◌≤◌, Result, Ok, Err, IfErr, OnOk, refl, sym, ap, subst}
-use Rattle.std.proofs.Common.{⊎_elim}
+use Rattle.std.proofs.Common.{⊎_elim, length}
 use Rattle.std.specs.Result.{IsErrAnd, result_err}
 use Rattle.std.proofs.lemmas.Option.{same_Some}
 use Rattle.std.proofs.Common.{arith}
@@ -8,8 +8,9 @@ use Rattle.spool_disk.specs.Disk.{IsImage}
 use Rattle.spool_disk.specs.Views.{Lasts}
 use Rattle.spool_disk.specs.declared.disk.Disk.{Ghosts}
 use Rattle.spool_disk.proofs.Firm.{lasts_more}
-use Rattle.spool_journal.specs.Image.{all_pages, journal_pages, overlaid}
+use Rattle.spool_journal.specs.Image.{all_pages, journal_pages, overlaid, page_byte, page_number, Outside}
 use Rattle.spool_journal.specs.Phases.{Settled}
+use Rattle.spool_journal.proofs.Over.{over_same}
 use Rattle.upload_rules.specs.Store.{Store}
 use Rattle.spool_pages.specs.Changes.{upgraded}
 use Rattle.spool_pages.specs.Rests.{Rests}
@@ -29,7 +30,7 @@ use Rattle.spool_load.specs.Refusals.{HasJournal, NamesVersion, NotFoundFor, Ref
 use Rattle.spool_load.proofs.Opens.{settled_says}
 use Rattle.spool_load.proofs.Refused.{says_one, unfound_reason, version_one, version_stands}
 use Rattle.spool_image.specs.LeftOnly.{AllShow, IsSpool, LeftOrShows}
-use Rattle.spool_image.specs.Upgrade.{IsAlreadyNew, IsLateRefusal, UpgradeRefusedFor, UpgradesOf}
+use Rattle.spool_image.specs.Upgrade.{CommitOfUpgrade, IsAlreadyNew, IsLateRefusal, UpgradeRefusedFor, UpgradesOf}
 use Rattle.spool_image.specs.declared.error.UpgradeError.{UpgradeError}
 use Rattle.spool_image.specs.declared.error.UpgradeError.TheVariants.{Open}
 use Rattle.spool_image.proofs.Opens.{view_room}
@@ -62,6 +63,10 @@ refused_late size seen (Err e) (inr is) = subst (UpgradeRefusedFor size seen) (s
 pub on_ok_more : {T E A B : Type 0} (r : Result T E) → (A → B) → OnOk r A → OnOk r B
 on_ok_more (Ok t) more a = more a
 on_ok_more (Err e) more a = tt
+
+pub on_ok_both : {T E A B : Type 0} (r : Result T E) → OnOk r A → OnOk r B → OnOk r (A × B)
+on_ok_both (Ok t) a b = (a, b)
+on_ok_both (Err e) a b = tt
 
 -- what holds before a refusal that changes nothing holds behind it
 pub untouched_on : {D T E : Type 0} (P : D → Type 0) (fault : E) (mid new : D) (r : Result T E) → P mid
@@ -196,3 +201,22 @@ behind_shows disk d' n m v (Err e) same honest room fine done stays old new =
     (stays (λ is. fine (subst (λ (x : UpgradeError). ◌≡◌ {A = Result (Unit {0}) UpgradeError} (Err e) (Err x)) is
     refl)))
     old
+
+-- the same commit, over bytes that agree outside gate and journal
+pub commit_over : {seen : ℕ → ℕ} {loose : ℕ → Type 0} (v : View) (bytes bytes' : ℕ → ℕ)
+    → ((p : ℕ) → Outside (journal_pages v.blocks) p → bytes p ≡ bytes' p)
+    → CommitOfUpgrade v bytes seen loose → CommitOfUpgrade v bytes' seen loose
+commit_over v bytes bytes' same commit = record {
+  pages = commit.pages;
+  count = commit.count;
+  area = commit.area;
+  changes = commit.changes;
+  settled = record {
+    firm = commit.settled.firm;
+    closed = commit.settled.closed;
+    same = λ p outside. commit.settled.same p outside
+        ∙ over_same (page_number commit.pages) (page_number commit.pages) (page_byte commit.pages)
+        (page_byte commit.pages) bytes bytes' (length commit.pages) p (λ k lt. refl) (λ k x lt below. refl)
+        (λ none. same p outside);
+  };
+}

@@ -1,11 +1,12 @@
 -- What bringing a spool to version 2 asks for and leaves, and what it refuses.
-use Rattle.std.specs.Prelude.{◌≡◌, ◌⊎◌, ℕ, ◌*◌, ◌≤◌, Result, Ok, Err}
-use Rattle.spool_journal.specs.Image.{all_pages, overlaid}
+use Rattle.std.specs.Prelude.{◌≡◌, ◌⊎◌, ℕ, ◌*◌, ◌≤◌, List, length, Result, Ok, Err}
+use Rattle.spool_journal.specs.Image.{all_pages, journal_pages, laid, overlaid, InArea}
+use Rattle.spool_journal.specs.Phases.{Settled}
 use Rattle.spool_kept.specs.Shows.{IsSound}
 use Rattle.spool_kept.specs.declared.error.OpenFault.TheVariants.{DiskFault, Damaged, NoMemory}
 use Rattle.spool_load.specs.Reads.{SaysBlocks}
 use Rattle.spool_load.specs.Refusals.{HasJournal, IsDamaged, NamesVersion, RefusedFor}
-use Rattle.spool_pages.specs.Changes.{upgraded}
+use Rattle.spool_pages.specs.Changes.{Changes, upgraded}
 use Rattle.spool_pages.specs.Rests.{Rests}
 use Rattle.spool_pages.specs.View.{View, IsViewOf}
 use Rattle.spool_pages.specs.declared.version.Version.{Version}
@@ -13,7 +14,16 @@ use Rattle.spool_pages.specs.declared.version.Version.TheVariants.{One, Two}
 use Rattle.spool_image.specs.declared.error.UpgradeError.{UpgradeError}
 use Rattle.spool_image.specs.declared.error.UpgradeError.TheVariants.{Open, AlreadyNew}
 
--- a read gave a sound view of version 1, and now each image says the same in version 2
+-- ONE COMMIT of 257 pages, which say this view in version 2: laid over the bytes of before they are what a read gives now
+-- outside gate and journal, all of it synced
+pub record CommitOfUpgrade (view : View) (bytes seen : ℕ → ℕ) (loose : ℕ → Type 0) : Type 0 where
+  pub pages : List (ℕ × List ℕ)
+  pub count : length pages ≡ 257
+  pub area : InArea (journal_pages view.blocks) pages
+  pub changes : Changes pages view (upgraded view)
+  pub settled : Settled (journal_pages view.blocks) (laid pages bytes) seen loose
+
+-- a read gave a sound view of version 1, and now each image says the same in version 2, by one commit
 pub record UpgradedFrom (size : ℕ) (before seen : ℕ → ℕ) (loose : ℕ → Type 0) : Type 0 where
   pub view : View
   pub sound : IsSound view
@@ -21,6 +31,7 @@ pub record UpgradedFrom (size : ℕ) (before seen : ℕ → ℕ) (loose : ℕ �
   pub was : IsViewOf before view
   pub room : 4096 * all_pages view.blocks ≤ size
   pub rests : Rests (upgraded view) seen loose
+  pub commit : CommitOfUpgrade view (overlaid before) seen loose
 
 -- WHY NOT
 

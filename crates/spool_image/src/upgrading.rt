@@ -16,8 +16,8 @@ ghost use Rattle.spool_pages.specs.Rests.{Rests};
 ghost use Rattle.spool_pages.specs.View.{View, IsViewOf};
 ghost use Rattle.spool_pages.specs.declared.version.Version.{Version as Known};
 ghost use Rattle.spool_image.specs.LeftOnly.{AllShow, IsSpool, LeftOrShows};
-ghost use Rattle.spool_image.specs.Upgrade.{IsAlreadyNew, IsLateRefusal, IsOldDamaged, RefusesUpgradeAs};
-ghost use Rattle.spool_image.specs.Upgrade.{UpgradedFrom, UpgradeRefusedFor, UpgradesOf};
+ghost use Rattle.spool_image.specs.Upgrade.{CommitOfUpgrade, IsAlreadyNew, IsLateRefusal, IsOldDamaged};
+ghost use Rattle.spool_image.specs.Upgrade.{RefusesUpgradeAs, UpgradedFrom, UpgradeRefusedFor, UpgradesOf};
 
 use crate::UpgradeError;
 use spool_disk::Disk;
@@ -74,6 +74,9 @@ fn rewrite<D: Disk>(alloc: Global, disk: &mut D, kept: &Kept) -> Result<(), Upgr
     ensures done { D.honest disk.old → (v : View) → KeepsView kept.now v
         → Rests v (D.seen disk.old) (D.loose disk.old)
         → OnOk result (Rests (upgraded v) (D.seen disk.new) (D.loose disk.new)) }
+    ensures commit { D.honest disk.old → (v : View) → KeepsView kept.now v
+        → Rests v (D.seen disk.old) (D.loose disk.old)
+        → OnOk result (CommitOfUpgrade v (D.seen disk.old) (D.seen disk.new) (D.loose disk.new)) }
     ensures late { IfErr result IsLateRefusal }
     ensures lasts { D.honest disk.old → (v : View) → KeepsView kept.now v
         → Rests v (D.seen disk.old) (D.loose disk.old)
@@ -103,7 +106,8 @@ pub fn upgrade<D: Disk>(alloc: Global, disk: &mut D) -> Result<(), UpgradeError>
     ensures upgraded { D.honest disk.old → (v : View) → IsSound v → IsViewOf (D.seen disk.old) v
         → 4096 * all_pages v.blocks ≤ D.size disk.old → UpgradesOf v.version result }
 
-    // What was brought to version 2 was a sound spool of version 1, and each image now says the same in version 2.
+    // What was brought to version 2 was a sound spool of version 1, and each image now says the same in version 2: by
+    // one commit of 257 pages, which changed nothing else that a plain reading gives.
     ensures sound { D.honest disk.old
         → OnOk result (UpgradedFrom (D.size disk.old) (D.seen disk.old) (D.seen disk.new) (D.loose disk.new)) }
 

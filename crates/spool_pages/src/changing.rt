@@ -2,7 +2,8 @@
 ghost use Rattle.std.specs.Prelude.{◌≡◌, ◌⊎◌, ◌≤◌, ◌*◌, ◌↔◌, ℕ, length, IsErr, OnOk};
 ghost use Rattle.spool_disk.specs.Disk.{Counts};
 ghost use Rattle.spool_disk.specs.Views.{Lasts};
-ghost use Rattle.spool_journal.specs.Image.{journal_pages, all_pages, InArea};
+ghost use Rattle.spool_journal.specs.Image.{journal_pages, all_pages, laid, InArea};
+ghost use Rattle.spool_journal.specs.Phases.{Settled};
 ghost use Rattle.spool_pages.specs.Changes.{Changes};
 ghost use Rattle.spool_pages.specs.Rests.{Rests, HasTexts};
 ghost use Rattle.spool_pages.specs.View.{View, IsViewOf, text_page};
@@ -25,6 +26,11 @@ pub fn change<D: Disk>(disk: &mut D, layout: &Layout, pages: &Pages) -> Result<(
     ensures done { D.honest disk.old → (v v' : View) → v.blocks ≡ layout.now
         → Rests v (D.seen disk.old) (D.loose disk.old) → Changes pages.now v v' → HasTexts (D.seen disk.old) v'
         → OnOk result (Rests v' (D.seen disk.new) (D.loose disk.new)) }
+
+    // Outside gate and journal a read gives what it gave with these pages laid over it: one commit of just these.
+    ensures laid { D.honest disk.old → (v : View) → v.blocks ≡ layout.now
+        → Rests v (D.seen disk.old) (D.loose disk.old) → OnOk result (Settled (journal_pages layout.now)
+        (laid pages.now (D.seen disk.old)) (D.seen disk.new) (D.loose disk.new)) }
 
     // All is synced, and no text block's byte is another.
     ensures synced { D.honest disk.old → (v : View) → v.blocks ≡ layout.now

@@ -1,4 +1,6 @@
-use Rattle.std.proofs.Common.{◌≡◌, rules}
+use Rattle.std.proofs.Common.{◌≡◌, rules, subst, sym}
+use Rattle.spool_journal.specs.Image.{journal_pages, laid, InArea}
+use Rattle.spool_journal.specs.Phases.{Settled}
 use Rattle.spool_pages.specs.Changes.{upgraded}
 use Rattle.spool_pages.proofs.Resting.{rests_says}
 use Rattle.spool_image.proofs.upgrading.rewrite.Goals as goal
@@ -26,3 +28,18 @@ returns-in_err-change-clause-lasts g c honest v keeps rests =
     let same : v.blocks ≡ c.layout.result.now = search rules in
     c.change.ensures.lasts honest v (upgraded v) same rests (c.in_ok-pages.ensures.changes v keeps)
     said.texts
+
+pub returns-clause-commit : goal.returns-clause-commit
+returns-clause-commit g c honest v keeps rests =
+    let kept = keeps.blocks in
+    let same : v.blocks ≡ c.layout.result.now = search rules in
+    record {
+      pages = c.in_ok-pages.pages.now;
+      count = c.in_ok-pages.ensures.count;
+      area = subst (λ n. InArea (journal_pages n) c.in_ok-pages.pages.now) kept c.in_ok-pages.ensures.area;
+      changes = c.in_ok-pages.ensures.changes v keeps;
+      settled = subst
+          (λ n. Settled (journal_pages n) (laid c.in_ok-pages.pages.now (g.D.Disk.seen c.args.disk.now))
+          (g.D.Disk.seen c.change.new.disk) (g.D.Disk.loose c.change.new.disk)) (sym same)
+          (c.in_ok-change.ensures.laid honest v same rests);
+    }

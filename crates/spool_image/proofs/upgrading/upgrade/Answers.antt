@@ -2,7 +2,7 @@ use Rattle.std.proofs.Common.{◌≡◌, ◌∙◌, inl, inr, ℕ, ◌*◌, ◌�
 use Rattle.spool_disk.specs.Disk.{IsImage, Keeps}
 use Rattle.spool_disk.specs.Views.{Lasts}
 use Rattle.spool_disk.proofs.Firm.{lasts_on, lasts_more}
-use Rattle.spool_journal.specs.Image.{all_pages}
+use Rattle.spool_journal.specs.Image.{all_pages, journal_pages, overlaid, Outside}
 use Rattle.spool_kept.specs.declared.error.OpenFault.TheVariants.{DiskFault}
 use Rattle.spool_pages.specs.Rests.{Rests}
 use Rattle.spool_load.proofs.Looks.{ok_no_fault}
@@ -10,7 +10,8 @@ use Rattle.spool_image.specs.declared.error.UpgradeError.TheVariants.{Open}
 use Rattle.spool_image.proofs.Opens.{reads_shows, view_room}
 use Rattle.spool_image.proofs.Refused.{opened_is_known, opened_is_old, opened_is_spool, opened_is_whole}
 use Rattle.spool_image.proofs.Refused.{upgrade_damaged, upgrade_new, upgrade_no_spool, upgrade_version}
-use Rattle.spool_image.proofs.Upgraded.{behind_shows, crash_shown, if_err, on_ok_more, other_err, refused_late}
+use Rattle.spool_image.proofs.Upgraded.{behind_shows, commit_over, crash_shown, if_err, on_ok_both, on_ok_more}
+use Rattle.spool_image.proofs.Upgraded.{other_err, refused_late}
 use Rattle.spool_image.proofs.Upgraded.{rests_show, settled_rests, untouched_on, upgraded_view_shows}
 use Rattle.spool_image.proofs.Upgraded.{upgrades_late, view_shows}
 use Rattle.spool_image.proofs.upgrading.upgrade.Goals as goal
@@ -86,8 +87,13 @@ returns-clause-sound g c honest =
       old = sym keeps.version ∙ c.in_ok-kept.ensures.version;
       was = opened.is;
       room = opened.room;
-      rests = done;
-    }) (c.rewrite.ensures.done mid v keeps rests)
+      rests = done.0;
+      commit = commit_over v (g.D.Disk.seen c.load_old.new.disk) (overlaid (g.D.Disk.seen c.args.disk.now))
+          (subst (λ n. (p : ℕ) → Outside (journal_pages n) p
+          → g.D.Disk.seen c.load_old.new.disk p ≡ overlaid (g.D.Disk.seen c.args.disk.now) p) keeps.blocks
+          (c.in_ok-kept.ensures.settled honest).same) done.1;
+    }) (on_ok_both c.rewrite.result (c.rewrite.ensures.done mid v keeps rests)
+    (c.rewrite.ensures.commit mid v keeps rests))
 
 pub returns-clause-not_a_spool : goal.returns-clause-not_a_spool
 returns-clause-not_a_spool g c honest is =

@@ -12,6 +12,10 @@ returns-clause-done g c honest v v' size rests changes texts =
     (λ settled. settled_rests (changes.others.blocks ∙ size) settled
     (changed_says size c.requires.area rests c.commit.ensures.ascends changes texts))
 
+pub returns-clause-laid : goal.returns-clause-laid
+returns-clause-laid g c honest v size rests =
+    c.commit.ensures.done honest (rests_idle size rests) c.requires.some
+
 pub returns-clause-texts : goal.returns-clause-texts
 returns-clause-texts g c honest v size rests =
     on_more c.commit.result (c.commit.ensures.done honest (rests_idle size rests) c.requires.some) (λ settled p from.
