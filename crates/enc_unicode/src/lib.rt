@@ -2,6 +2,7 @@
 #![tactic(auto)]
 
 mod blocks;
+mod guesses;
 mod packing;
 mod packs;
 mod runs;

@@ -10,9 +10,7 @@ ghost use Rattle.enc_model.specs.Utf8.{Utf8, utf8, utf8_start, utf8_first, utf8_
 ghost use Rattle.enc_unicode.specs.Nowhere.{nowhere_sink};
 ghost use Rattle.enc_model.proofs.Calm.{utf8_calm};
 
-use crate::well_formed::{
-    FIRST_REACH, block_len, next_reach, reach_behind_text, text_before_fault, text_within,
-};
+use crate::well_formed::{Look, text_before_fault, text_found};
 use enc_model::{Answer, BLOCK, Batch, Decoder, ROOM, Restored, Sink, decode_each, finish};
 use std::convert::Infallible;
 use std::marker::Model;
@@ -103,6 +101,7 @@ impl Utf8State {
     }
 
     /// Takes a byte where none is needed.
+    #[inline(always)]
     fn first(&mut self, b: u8) -> Answer
         requires { self.old.needed ≡ 0 }
         ensures answer { result ≡ (utf8_first b).answer }
@@ -236,15 +235,15 @@ impl Utf8State {
         ensures state { IfOk result (λ n. self.now ≡ (steps utf8 false self.now (take n bytes.now)).state) }
     {
         let mut at = 0;
-        let mut reach = FIRST_REACH;
+        let mut look = Look::first();
         'by_windows: while at < bytes.len() {
-            let found = self.text_in_front(&bytes[at..], reach);
+            let found = self.text_in_front(&bytes[at..], look);
             if found.is_empty() {
                 break;
             }
             sink.text(found)?;
             at += found.len();
-            reach = reach_behind_text(reach, found.len());
+            look = look.after_text(found.len());
         }
         Ok(at)
     }
@@ -257,23 +256,27 @@ impl Utf8State {
     {
         let mut batch = Batch::new();
         let mut at = 0;
-        let mut reach = if self.needed == 0 { 0 } else { FIRST_REACH };
+        let mut look = if self.needed == 0 {
+            Look::AtFault
+        } else {
+            Look::first()
+        };
         while at < piece.len() {
-            let text = self.text_in_front(&piece[at..], reach);
+            let text = self.text_in_front(&piece[at..], look);
             let start = at;
-            at += self.advance(&piece[at..], text, &mut batch, sink)?;
-            reach = next_reach(reach, text.len(), at - start, batch.as_str().len());
+            at += self.advance(&piece[at..], text, look, &mut batch, sink)?;
+            look = look.after(text.len(), at - start, batch.as_str().len());
         }
         Ok(())
     }
 
     /// A well-formed text that bytes begin with, empty within a character.
-    fn text_in_front<'a>(&self, bytes: &'a [u8], reach: usize) -> &'a str
+    fn text_in_front<'a>(&self, bytes: &'a [u8], look: Look) -> &'a str
         ensures front { result.now ≡ take (length result.now) bytes.now }
         ensures start { 0 < length result.now → self.now ≡ utf8_start }
     {
-        if self.needed == 0 && 0 < reach {
-            text_within(bytes, reach)
+        if self.needed == 0 {
+            text_found(bytes, look)
         } else {
             ""
         }
@@ -285,6 +288,7 @@ impl Utf8State {
         &mut self,
         rest: &[u8],
         text: &str,
+        look: Look,
         batch: &mut Batch,
         sink: &mut S,
     ) -> Result<usize, S::Refusal>
@@ -301,7 +305,7 @@ impl Utf8State {
             sink.text(text)?;
             return Ok(text.len());
         }
-        let count = self.count(rest);
+        let count = self.count(rest, look);
         batch.clear();
         self.decode_block(&rest[..count], batch);
         sink.text(batch.as_str())?;
@@ -309,13 +313,13 @@ impl Utf8State {
     }
 
     /// How many bytes are read at once where no text begins: those that a character needs yet, or else a block.
-    fn count(&self, rest: &[u8]) -> usize
+    fn count(&self, rest: &[u8], look: Look) -> usize
         requires { 0 < length rest.now }
         ensures some { (0 < result) × (result ≤ length rest.now) }
         ensures few { result ≤ BLOCK }
     {
         match self.needed {
-            0 => block_len(rest),
+            0 => look.block_len(rest),
             needed => rest.len().min(needed as usize),
         }
     }

@@ -4,41 +4,90 @@ ghost use Rattle.std.specs.Prelude.{◌≡◌, ◌<◌, ◌≤◌, length, slice
 ghost use Rattle.std.specs.Str.{IsUtf8};
 ghost use Rattle.enc_model.specs.Index.{within};
 
+use crate::guesses::{FEWEST, seeming_end};
 use enc_model::BLOCK;
 use lane_kernels::ascii_front;
 use simdutf8::basic;
 use std::str::from_utf8_unchecked;
 
 /// How many bytes are looked at in one go at first.
-pub const FIRST_REACH: usize = 1024;
+const FIRST: usize = 512;
 
 /// How many bytes are looked at in one go at most.
 const WIDEST: usize = 4096;
 
-/// How many bytes longer the text of a block may be than the block for its faults to be few.
-const FEW: usize = 8;
+/// How many bytes are looked at for a fault: not so many that a wrong guess costs much.
+const GUESSED: usize = 1024;
 
-/// How far to look behind a text: further where it filled the reach, and else no further than a block.
-pub fn reach_behind_text(reach: usize, found: usize) -> usize
-    ensures { result ≤ WIDEST }
-{
-    if found < reach - reach.min(4) {
-        return BLOCK;
-    }
-    let reach = reach.min(WIDEST);
-    (reach + reach / 4).min(WIDEST)
+/// How many bytes a text has at least for faults to be rare.
+const LONG: usize = 48;
+
+/// How many bytes are read from a fault on where faults are rare.
+const FAULT: usize = 4;
+
+/// How many bytes longer the text of a block may be than the block for its faults to be few.
+const FEW: usize = 32;
+
+/// Where a text is looked for.
+#[derive(Clone, Copy)]
+pub enum Look {
+    /// In so many bytes, or else up to the first fault in them.
+    Within(usize),
+    /// Up to the next fault.
+    ToFault,
+    /// Not here, where a fault was found.
+    AtFault,
+    /// Nowhere, since faults are dense.
+    Nowhere,
 }
 
-/// How far to look behind what was found as a text, or else read and written as a block: no further than a block where
-/// it had few faults, and not at all where it had more. What is left of a character that was kept says nothing.
-pub fn next_reach(reach: usize, found: usize, read: usize, written: usize) -> usize {
-    if 0 < found {
-        return reach_behind_text(reach, found);
+impl Look {
+    /// Where a text is looked for before a fault was seen.
+    pub fn first() -> Self {
+        Look::Within(FIRST)
     }
-    match read {
-        0..4 => reach,
-        _ if written - written.min(read) <= FEW => BLOCK,
-        _ => 0,
+
+    /// Where to look after a text of so many bytes: further where it filled the reach, and else past the fault that
+    /// ended it if it was long.
+    pub fn after_text(self, found: usize) -> Self {
+        match self {
+            Look::Within(reach) if reach - reach.min(4) <= found => {
+                let reach = reach.min(WIDEST / 2);
+                Look::Within(reach + reach)
+            }
+            _ if found < LONG => Look::Nowhere,
+            _ => Look::AtFault,
+        }
+    }
+
+    /// Where to look after what was found as a text, or else read and written as a block.
+    pub fn after(self, found: usize, read: usize, written: usize) -> Self {
+        match found {
+            0 => self.after_block(read, written),
+            _ => self.after_text(found),
+        }
+    }
+
+    /// Where to look after a block, of whose bytes so many were read and written: nowhere if it had many faults. What is
+    /// left of a character that was kept says nothing.
+    fn after_block(self, read: usize, written: usize) -> Self {
+        match read {
+            0..4 => self,
+            _ if written - written.min(read) <= FEW => Look::ToFault,
+            _ => Look::Nowhere,
+        }
+    }
+
+    /// How many bytes are read as a block where no text is found.
+    pub fn block_len(self, bytes: &[u8]) -> usize
+        requires { 0 < length bytes.now }
+        ensures some { (0 < result) × (result ≤ length bytes.now) }
+        ensures few { result ≤ BLOCK }
+    {
+        match self {
+            Look::AtFault => bytes.len().min(FAULT),
+            _ => block_len(bytes),
+        }
     }
 }
 
@@ -70,7 +119,7 @@ fn whole(bytes: &[u8]) -> usize
 }
 
 /// How many bytes a block has at the front of these, so that it cuts no character.
-pub fn block_len(bytes: &[u8]) -> usize
+fn block_len(bytes: &[u8]) -> usize
     requires { 0 < length bytes.now }
     ensures some { (0 < result) × (result ≤ length bytes.now) }
     ensures few { result ≤ BLOCK }
@@ -83,7 +132,7 @@ pub fn block_len(bytes: &[u8]) -> usize
 }
 
 /// The bytes within reach as a text, but for a character that the reach cuts; empty where they are no text.
-pub fn text_within(bytes: &[u8], reach: usize) -> &str
+fn text_within(bytes: &[u8], reach: usize) -> &str
     ensures { result.now ≡ take (length result.now) bytes.now }
 {
     let window = if reach < bytes.len() {
@@ -94,6 +143,40 @@ pub fn text_within(bytes: &[u8], reach: usize) -> &str
     match basic::from_utf8(&window[..whole(window)]) {
         Ok(text) => text,
         Err(_) => "",
+    }
+}
+
+/// The text before the place among the first bytes where it seems to end; empty where the guess is wrong. Of a few bytes
+/// it is found by characters.
+fn text_before_guess(bytes: &[u8]) -> &str
+    ensures { result.now ≡ take (length result.now) bytes.now }
+{
+    if bytes.len() < FEWEST {
+        return text_before_fault(bytes);
+    }
+    let end = if GUESSED < bytes.len() {
+        seeming_end(&bytes[..GUESSED])
+    } else {
+        seeming_end(bytes)
+    };
+    text_within(bytes, end)
+}
+
+/// A text that bytes begin with, as far as is looked.
+pub fn text_found(bytes: &[u8], look: Look) -> &str
+    ensures { result.now ≡ take (length result.now) bytes.now }
+{
+    match look {
+        Look::Within(reach) => {
+            let text = text_within(bytes, reach);
+            if text.is_empty() {
+                text_before_guess(bytes)
+            } else {
+                text
+            }
+        }
+        Look::ToFault => text_before_guess(bytes),
+        Look::AtFault | Look::Nowhere => "",
     }
 }
 
@@ -178,6 +261,7 @@ fn text_len(bytes: &[u8]) -> usize
 }
 
 /// The text that bytes begin with, up to the first fault.
+#[inline(always)]
 pub fn text_before_fault(bytes: &[u8]) -> &str
     ensures { result.now ≡ take (length result.now) bytes.now }
 {
