@@ -4,7 +4,7 @@ use crate::stories::HELLO;
 use crate::talks::Step::{Open, Shown, Text};
 use crate::talks::{Talk, fresh};
 use gateway_engine::{Connections, Gateway, RunFault, run};
-use spool_disk::{Crash, Disk, HiccupDisk, MemoryDisk};
+use spool_disk::{Crash, Disk, FuseDisk, HiccupDisk, MemoryDisk};
 use spool_image::{OpenFault, Spool};
 use std::alloc::Global;
 use std::process::Abort;
@@ -44,6 +44,24 @@ pub(crate) fn opened<D: Disk>(rt: &impl Abort, alloc: Global, disk: D) -> Gatewa
         Ok(gateway) => gateway,
         Err((_, fault)) => panic!(rt; "{fault}"),
     }
+}
+
+/// How many calls an opening of the spool on a disk makes: one more than the most that aren't enough.
+pub(crate) fn calls_of_opening(rt: &impl Abort, alloc: Global, disk: MemoryDisk) -> u64 {
+    let mut few = 0u64;
+    let mut disk = disk;
+    for step in [2048, 1024, 512, 256, 128, 64, 32, 16, 8, 4, 2, 1u64] {
+        let calls = few.saturating_add(step);
+        match Spool::open(alloc, FuseDisk::new(disk, calls)) {
+            Ok(spool) => disk = spool.into_disk().into_inner(),
+            Err((left, fault)) => {
+                assert_eq!(rt; fault, OpenFault::DiskFault);
+                disk = left.into_inner();
+                few = calls;
+            }
+        }
+    }
+    few.saturating_add(1)
 }
 
 /// How many bytes of upload 1 a disk holds, if the upload is there.
@@ -129,11 +147,11 @@ fn down_at(rt: &impl Abort, alloc: Global, call: u64) -> bool {
 
 #[test]
 fn fault_brings_the_gateway_down(rt: HostRuntime) {
-    // opening makes 540 calls
+    let first = calls_of_opening(&rt, rt.alloc(), fresh(&rt, rt.alloc(), 16, None));
     let mut whole = false;
-    for call in 540..600u64 {
-        if !down_at(&rt, rt.alloc(), call) {
-            assert!(rt; call > 540);
+    for more in 0..60u64 {
+        if !down_at(&rt, rt.alloc(), first.saturating_add(more)) {
+            assert!(rt; more > 0);
             whole = true;
             break;
         }
