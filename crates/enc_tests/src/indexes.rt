@@ -51,24 +51,6 @@ fn first_bad_line(rt: HostRuntime) {
     }
 }
 
-fn excludes(rt: &impl Abort, set: &IndexSet) {
-    assert!(rt; set.offers(Encoding::ShiftJis) && !set.offers(Encoding::EucJp));
-    assert!(rt; set.pointer(Kind::Jis0208, '\u{7E8A}') == Some(8272));
-    assert!(rt; set.pointer_sjis('\u{7E8A}') == Some(10744));
-    assert!(rt; set.code(Kind::Jis0208, 10744) == Some('\u{7E8A}'));
-}
-
-#[test]
-fn excluded_pointers(rt: HostRuntime) {
-    let mut set = IndexSet::new(rt.alloc()).expect(&rt, "memory");
-    assert!(rt; set.pointer_sjis('\u{7E8A}').is_none() && !set.offers(Encoding::ShiftJis));
-    set.set(Index::read(rt.alloc(), b"8272\t7E8A\r\n10744\t7E8A\r\n", Kind::Jis0208).expect(
-        &rt,
-        "lines of an index file",
-    ));
-    excludes(&rt, &set);
-}
-
 fn area_of(rt: &impl Abort, alloc: Global, set: &IndexSet) -> Vec<u8> {
     let mut area = Vec::new(alloc);
     for page in 0..22usize {
@@ -157,42 +139,4 @@ fn areas_of_no_set(rt: HostRuntime) {
     assert!(rt; IndexSet::from_area(rt.alloc(), &area).is_ok());
     area.push(0).expect(&rt, "memory");
     is_damaged(&rt, rt.alloc(), &area, "a byte too many");
-}
-
-/// A code point of its own for each of the 11,280 pointers, scattered over U+4E00 to U+7A0F.
-fn scattered(pointer: u32) -> Option<char> {
-    if pointer < 11280 {
-        char::from_u32(0x4E00 + pointer * 7919 % 11280)
-    } else {
-        None
-    }
-}
-
-/// A file with a code point at each pointer that jis0208 can have.
-fn full_file(rt: &impl Abort, alloc: Global) -> Vec<u8> {
-    let mut file = Vec::new(alloc);
-    for pointer in 0..11280u32 {
-        let code = scattered(pointer).expect(rt, "a scalar value") as u32;
-        let line = format!(in alloc; "{pointer}\t{code:X}\n").expect(rt, "memory");
-        file.extend_from_slice(line.as_bytes()).expect(rt, "memory");
-    }
-    file
-}
-
-/// Looks each entry of a full index up, once by its pointer and twice by its code point.
-fn finds_all(rt: &impl Abort, index: &Index) {
-    for pointer in 0..11280u32 {
-        let c = scattered(pointer).expect(rt, "a scalar value");
-        let usable = pointer < 8272 || 8835 < pointer;
-        let wanted = if usable { Some(pointer) } else { None };
-        assert!(rt; index.code(pointer) == Some(c) && index.pointer(c) == Some(pointer));
-        assert!(rt; index.pointer_sjis(c) == wanted, "pointer {pointer}");
-    }
-}
-
-#[test]
-fn each_entry_of_a_full_file(rt: HostRuntime) {
-    let file = full_file(&rt, rt.alloc());
-    let index = Index::read(rt.alloc(), &file, Kind::Jis0208).expect(&rt, "lines of an index file");
-    finds_all(&rt, &index);
 }

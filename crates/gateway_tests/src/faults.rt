@@ -103,7 +103,17 @@ impl Story<'_> {
     }
 }
 
-/// What an opening leaves that stops behind so many calls.
+/// The story `HELLO`.
+pub(crate) fn hello(alloc: Global, talk: &Talk) -> Story<'_> {
+    Story {
+        alloc,
+        blocks: 16,
+        files: &[],
+        talk,
+    }
+}
+
+/// What an opening leaves that stops after so many calls.
 fn stopped(rt: &impl Abort, alloc: Global, disk: MemoryDisk, calls: u64) -> MemoryDisk {
     match Spool::open(alloc, FuseDisk::new(disk, calls)) {
         Ok(_spool) => panic!(rt; "opened with {calls} calls"),
@@ -231,18 +241,22 @@ fn reads_of_a_text_that_fail_once(rt: HostRuntime) {
     story.fails_once(&rt, None);
 }
 
-/// Each call of an opening fails once, or all do from it on and a crash comes: the run was refused, and wrote nothing.
+/// Each call of an opening fails once, and a write leaves zeros: the run is refused, and nothing is written.
 #[test]
-fn openings_of_which_each_call_fails(rt: HostRuntime) {
+fn calls_of_an_opening_that_fail_once(rt: HostRuntime) {
     let talk = Talk::new(&rt, rt.alloc(), HELLO);
-    let story = Story {
-        alloc: rt.alloc(),
-        blocks: 16,
-        files: &[],
-        talk: &talk,
-    };
+    let story = hello(rt.alloc(), &talk);
     for call in 0..story.first(&rt) {
         assert!(rt; story.fails_at(&rt, Some(0), call), "at {call}");
+    }
+}
+
+/// From each call of an opening on all fail, and a crash comes that tears bytes.
+#[test]
+fn disks_that_stop_in_an_opening(rt: HostRuntime) {
+    let talk = Talk::new(&rt, rt.alloc(), HELLO);
+    let story = hello(rt.alloc(), &talk);
+    for call in 0..story.first(&rt) {
         assert!(rt;
             story.stays_failed_at(&rt, Crash::Torn(165), call),
             "at {call}"

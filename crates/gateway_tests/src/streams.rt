@@ -1,6 +1,6 @@
 //! Readers and writers of scripts that are slow or fail, and the uploads after them.
 
-use crate::faults::{Story, told};
+use crate::faults::{Story, hello, told};
 use crate::stories::HELLO;
 use crate::talks::Talk;
 use gateway_engine::{RunFault, run};
@@ -68,16 +68,6 @@ fn ran<R: Read, W: Write>(
     }
 }
 
-/// The story `HELLO`.
-fn hello(alloc: Global, talk: &Talk) -> Story<'_> {
-    Story {
-        alloc,
-        blocks: 16,
-        files: &[],
-        talk,
-    }
-}
-
 /// A run writes into a writer that takes so many bytes at a call, and fails after so many calls. It is refused where
 /// these aren't enough; the uploads are those that were acknowledged, or one more. How many bytes were written.
 fn writes(rt: &impl Abort, story: &Story<'_>, step: usize, calls: usize) -> usize {
@@ -141,5 +131,5 @@ fn readers_that_fail(rt: HostRuntime) {
     for calls in 0..reads {
         assert!(rt; read_fails(&rt, &story, calls), "at {calls}");
     }
-    assert!(rt; !read_fails(&rt, &story, 2 * reads + 3));
+    assert!(rt; !read_fails(&rt, &story, talk.script.len()));
 }

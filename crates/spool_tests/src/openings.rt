@@ -95,7 +95,8 @@ fn stop_thrice(rt: &impl Abort, alloc: Global, bytes: &[u8], stops: [u64; 3], ki
 #[test]
 fn three_openings_stop(rt: HostRuntime) {
     let bytes = with_open_gate(&rt, rt.alloc());
-    let most = calls_of_recovery(&rt, rt.alloc(), &bytes).clamp(9, 60);
+    let most = calls_of_recovery(&rt, rt.alloc(), &bytes);
+    assert!(rt; 9 <= most && most < 60);
     for first in 0..most {
         for second in 0..most {
             let third = (3 * first + 5 * second) % most;
