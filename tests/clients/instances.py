@@ -79,7 +79,7 @@ def by_tuspy(rng, sent):
 
 
 def ends_and_comes_back(servers, sent):
-    """One gateway is ended hard: its uploads are answered 502 and the others' are there, and its own once it is back."""
+    """One gateway is ended hard: its uploads are answered 502, the others' are there, and its own once it is back."""
     servers["a"].kill()
     all_there(sent, but="a")
     path = next(it for it in sent if instance_of(it) == "a")

@@ -84,8 +84,8 @@ def served(machine, name, address, indexes):
 
 
 def hardened(machine):
-    """What the kernel says of the process: no capability, no new privileges, a filter of system calls, and a file system
-    of which it may write its own folder alone."""
+    """What the kernel says of the process: no capability, no new privileges, a filter of system calls, and no folder to
+    write but its own. Returns how exposed systemd-analyze says that it is."""
     main = property_of(machine, UNIT, "MainPID")
     status = dict(line.split(":\t", 1) for line in machine.says("cat", f"/proc/{main}/status").splitlines())
     same("capabilities", {int(status[it], 16) for it in ("CapEff", "CapPrm", "CapBnd")}, {0})
@@ -143,6 +143,8 @@ def gone(machine, how, spool, sums):
     machine.does("dpkg", how, "wovelatsa")
     same("processes of its user", machine.says("pgrep", "-u", "wovelatsa"), "")
     same("the program", machine.run("test", "-e", "/usr/bin/gateway")[0], 1)
+    if how == "--purge":
+        same("units that are enabled", machine.says("find", "/etc/systemd/system", "-name", "wovelatsa*"), "")
     if sums:
         same(f"the spools after {how}", sums_of(machine, spool), sums)
     return sums_of(machine, spool)
@@ -196,8 +198,8 @@ def main():
             raise
         finally:
             machine.stop()
-    print(f"installed, served by three units, upgraded from {OLD} to {NEW}, removed, purged, installed again: every text")
-    print(f"right, every spool there; systemd-analyze security says {exposed}")
+    print(f"installed, served by three units, upgraded from {OLD} to {NEW}, removed, purged, installed again: every")
+    print(f"text right, every spool there; systemd-analyze security says {exposed}")
 
 
 if __name__ == "__main__":
