@@ -1,4 +1,4 @@
-"""A headless chromium as a tus client: `fetch` from a page of the gateway's own origin, over the debugging pipe."""
+"""A headless chromium as a tus client: `fetch` from a page, over the debugging pipe."""
 
 import base64
 import json
@@ -8,18 +8,19 @@ import shutil
 import subprocess
 import time
 
-UPLOAD = """(async (data, cut, metadata) => {
+UPLOAD = """(async (front, data, cut, metadata) => {
     const bytes = Uint8Array.from(atob(data), c => c.charCodeAt(0));
     const tus = {"Tus-Resumable": "1.0.0"};
     const create = {...tus, "Upload-Length": String(bytes.length), "Upload-Metadata": metadata};
-    const path = (await fetch("/files", {method: "POST", headers: create})).headers.get("Location");
-    const patch = (offset, body) => fetch(path, {method: "PATCH", body, headers:
+    const made = await fetch(front + "/files", {method: "POST", headers: create});
+    const url = new URL(made.headers.get("Location"), front || location.href);
+    const patch = (offset, body) => fetch(url, {method: "PATCH", body, headers:
         {...tus, "Content-Type": "application/offset+octet-stream", "Upload-Offset": String(offset)}});
     await patch(0, bytes.slice(0, cut));
-    const head = await fetch(path, {method: "HEAD", headers: tus});
+    const head = await fetch(url, {method: "HEAD", headers: tus});
     const offset = Number(head.headers.get("Upload-Offset"));
     await patch(offset, bytes.slice(offset));
-    const text = new Uint8Array(await (await fetch(path)).arrayBuffer());
+    const text = new Uint8Array(await (await fetch(url)).arrayBuffer());
     return btoa(Array.from(text, byte => String.fromCharCode(byte)).join(""));
 })"""
 
@@ -30,7 +31,7 @@ def program():
 
 
 class Browser:
-    """A browser that shows a text of the gateway, and so is at its origin."""
+    """A browser that shows a page, and so is at its origin."""
 
     def __init__(self, folder, url):
         commands, self.commands = os.pipe()
@@ -87,9 +88,10 @@ class Browser:
         message, _, self.rest = self.rest.partition(b"\0")
         return message
 
-    def upload(self, data, cut, metadata):
-        """An upload in two pieces, whose second begins where HEAD says: its text."""
-        words = json.dumps([base64.b64encode(data).decode(), cut, metadata])
+    def upload(self, data, cut, metadata, front=""):
+        """An upload in two pieces, whose second begins where HEAD says: its text. The gateway is at the page's own
+        origin, or at another one."""
+        words = json.dumps([front, base64.b64encode(data).decode(), cut, metadata])
         return base64.b64decode(self.value(f"{UPLOAD}(...{words})"))
 
     def value(self, script):

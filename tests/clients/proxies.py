@@ -1,0 +1,102 @@
+"""Gateways at ports of their own, and the proxies before them, with the lines of packaging/."""
+
+import shutil
+import socket
+import subprocess
+import time
+from pathlib import Path
+
+from harness import EVER, ROOT, Server
+
+NGINX = ROOT / "packaging/nginx"
+CADDY = ROOT / "packaging/caddy/Caddyfile"
+FRONT = 8080
+PORTS = {"a": 8081, "b": 8082, "c": 8083, "d": 8084}
+
+
+class Instance(Server):
+    """A gateway at the port that the proxy's lines name."""
+
+    def __init__(self, program, spool, port):
+        self.env = None
+        self.words = [program, "serve", str(spool), "--port", str(port), "--connections", EVER, "--turns", EVER]
+        self.start()
+
+
+class Nginx:
+    """nginx in a folder of its own, over so many of the instances that packaging/nginx names."""
+
+    def __init__(self, folder, names):
+        self.folder = Path(folder)
+        (self.folder / "snippets").mkdir(parents=True)
+        for it in ("wovelatsa-proxy.conf", "wovelatsa-cors.conf"):
+            self.write(f"snippets/{it}", (NGINX / it).read_text())
+        kinds = ("client_body", "proxy", "fastcgi", "uwsgi", "scgi")
+        paths = "".join(f"{it}_temp_path {folder}/{it};\n" for it in kinds)
+        head = f"pid {folder}/pid;\nerror_log {folder}/error.log;\nevents {{}}\n"
+        self.write("nginx.conf", f"{head}http {{\naccess_log off;\n{paths}include {folder}/instances.conf;\n}}\n")
+        self.write("instances.conf", lines_for(names))
+        self.words = ["nginx", "-p", f"{folder}/", "-c", f"{folder}/nginx.conf"]
+        subprocess.run(self.words, check=True, stderr=subprocess.DEVNULL)
+        wait_for(FRONT)
+
+    def write(self, file, text):
+        (self.folder / file).write_text(text)
+
+    def change(self, file, old, new):
+        """Replaces lines, which stand there once, and makes nginx read them."""
+        text = (self.folder / file).read_text()
+        assert text.count(old) == 1, f"{file}: {old!r}"
+        self.write(file, text.replace(old, new))
+        subprocess.run([*self.words, "-s", "reload"], check=True, stderr=subprocess.DEVNULL)
+        time.sleep(1)
+
+    def stop(self):
+        subprocess.run([*self.words, "-s", "stop"], check=True, stderr=subprocess.DEVNULL)
+
+
+class Caddy:
+    """Caddy before the first instance, with the lines of packaging/caddy, at a port without TLS."""
+
+    def __init__(self, folder, user, password):
+        words = ["caddy", "hash-password", "--plaintext", password]
+        hashed = subprocess.run(words, check=True, capture_output=True, text=True).stdout.strip()
+        lines = CADDY.read_text().replace("127.0.0.1:8080", f"127.0.0.1:{PORTS['a']}")
+        lines = lines.replace("archive HASH", f"{user} {hashed}").replace("texts.example.org", f":{FRONT}")
+        Path(folder, "Caddyfile").write_text("{\n\tadmin off\n\tauto_https off\n}\n" + lines)
+        words = ["caddy", "run", "--adapter", "caddyfile", "--config", f"{folder}/Caddyfile"]
+        env = {"HOME": str(folder), "PATH": "/usr/bin:/bin"}
+        self.process = subprocess.Popen(words, stderr=subprocess.DEVNULL, env=env)
+        wait_for(FRONT)
+
+    def stop(self):
+        self.process.kill()
+        self.process.wait(60)
+
+
+def has(program):
+    return shutil.which(program) is not None
+
+
+def lines_for(names):
+    """The lines of packaging/nginx with the instances of these names alone."""
+    text = (NGINX / "wovelatsa-instances.conf").read_text()
+    for name, port in PORTS.items():
+        if name not in names:
+            text = text.replace(f"    {name} 127.0.0.1:{port};\n", "").replace(f"    25% {name};\n", "")
+    last = list(names)[-1]
+    return text.replace(f"    25% {last};\n", "").replace("    *   d;", f"    *   {last};")
+
+
+def wait_for(port):
+    """Waits until somebody listens."""
+    for _ in range(200):
+        with socket.socket() as probe:
+            if probe.connect_ex(("127.0.0.1", port)) == 0:
+                return
+        time.sleep(0.05)
+    raise TimeoutError(f"nobody listens at {port}")
+
+
+def instance_of(path):
+    return path.split("/")[1]
