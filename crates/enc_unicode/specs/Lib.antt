@@ -3,3 +3,4 @@ pub mod Utf8State
 pub mod Utf16State
 pub mod WroteUnits
 pub mod Packing
+pub mod Looks

@@ -3,6 +3,7 @@
 ghost use Rattle.std.specs.Prelude.{◌≡◌, ◌<◌, ◌≤◌, length, slice_index, take};
 ghost use Rattle.std.specs.Str.{IsUtf8};
 ghost use Rattle.enc_model.specs.Index.{within};
+ghost use Rattle.enc_unicode.specs.Looks.{IsNarrow};
 
 use crate::guesses::{FEWEST, seeming_end};
 use enc_model::BLOCK;
@@ -43,13 +44,17 @@ pub enum Look {
 
 impl Look {
     /// Where a text is looked for before a fault was seen.
-    pub fn first() -> Self {
+    pub fn first() -> Self
+        ensures { IsNarrow result }
+    {
         Look::Within(FIRST)
     }
 
     /// Where to look after a text of so many bytes: further where it filled the reach, and else past the fault that
     /// ended it if it was long.
-    pub fn after_text(self, found: usize) -> Self {
+    pub fn after_text(self, found: usize) -> Self
+        ensures { IsNarrow result }
+    {
         match self {
             Look::Within(reach) if reach - reach.min(4) <= found => {
                 let reach = reach.min(WIDEST / 2);
@@ -61,7 +66,9 @@ impl Look {
     }
 
     /// Where to look after what was found as a text, or else read and written as a block.
-    pub fn after(self, found: usize, read: usize, written: usize) -> Self {
+    pub fn after(self, found: usize, read: usize, written: usize) -> Self
+        ensures { IsNarrow self → IsNarrow result }
+    {
         match found {
             0 => self.after_block(read, written),
             _ => self.after_text(found),
@@ -70,7 +77,9 @@ impl Look {
 
     /// Where to look after a block, of whose bytes so many were read and written: nowhere if it had many faults. What is
     /// left of a character that was kept says nothing.
-    fn after_block(self, read: usize, written: usize) -> Self {
+    fn after_block(self, read: usize, written: usize) -> Self
+        ensures { IsNarrow self → IsNarrow result }
+    {
         match read {
             0..4 => self,
             _ if written - written.min(read) <= FEW => Look::ToFault,
