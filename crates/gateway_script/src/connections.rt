@@ -3,6 +3,7 @@ ghost use Rattle.std.specs.Prelude.{◌≡◌, ℕ, Bool, true, false, List, IsE
 ghost use Rattle.upload_rules.specs.Store.{Store};
 ghost use Rattle.upload_rules.specs.Answers.{Among, Limits, Quiet, Counts};
 ghost use Rattle.tus_session.specs.History.{State, Opened, Came, More, Ended};
+ghost use Rattle.tus_session.specs.Turns.{GivesFew};
 ghost use Rattle.gateway_script.specs.Connections.{Gives, Does, Falls, Unasked, mark_of};
 ghost use Rattle.gateway_script.specs.Images.{shown_by};
 
@@ -39,7 +40,7 @@ pub trait Connections {
             (left_only self.new) (failures self.old) (failures self.new) };
 
     /// Bytes came: those of at most one request are taken, and what they are answered is put behind `out`, which a
-    /// refusal leaves as it was.
+    /// refusal leaves as it was. That is at most 69,632 bytes.
     ///
     /// Refused with `Closed` exactly where the connection isn't open, and else with `NoMemory` or `DiskFault`.
     fn came(&mut self, conn: usize, bytes: &[u8], out: &mut Vec<u8>) -> Result<Answer, SessionError>
@@ -52,9 +53,11 @@ pub trait Connections {
         ensures falls { Falls (down self.old) (down self.new) result }
         ensures unasked { down self.old ≡ true → Unasked (moment self.old) (moment self.new) (left_only self.old)
             (left_only self.new) (failures self.old) (failures self.new) }
-        ensures unwritten { down self.old ≡ true → out.new.items ≡ out.old.items };
+        ensures unwritten { down self.old ≡ true → out.new.items ≡ out.old.items }
+        ensures few { GivesFew out.old.items out.new.items };
 
-    /// The next piece of a text is put behind `out`, which a refusal leaves as it was. Refused as `came` is.
+    /// The next piece of a text is put behind `out`, which a refusal leaves as it was: at most as many bytes as `came`
+    /// gives. Refused as `came` is.
     fn more(&mut self, conn: usize, out: &mut Vec<u8>) -> Result<Answer, SessionError>
         ensures gives { (st : State) → stands self.old st
             → Gives (stands self.new) result out.old.items out.new.items st (More conn) }
@@ -63,7 +66,8 @@ pub trait Connections {
         ensures falls { Falls (down self.old) (down self.new) result }
         ensures unasked { down self.old ≡ true → Unasked (moment self.old) (moment self.new) (left_only self.old)
             (left_only self.new) (failures self.old) (failures self.new) }
-        ensures unwritten { down self.old ≡ true → out.new.items ≡ out.old.items };
+        ensures unwritten { down self.old ≡ true → out.new.items ≡ out.old.items }
+        ensures few { GivesFew out.old.items out.new.items };
 
     /// The connection ended. Refused as `came` is.
     fn ended(&mut self, conn: usize) -> Result<(), SessionError>

@@ -4,7 +4,7 @@ use Rattle.enc_model.specs.Indexes.{IndexSet}
 use Rattle.enc_model.specs.Transcode.{Transcoder}
 use Rattle.enc_stream.specs.StateBytes.{IsSound, state_bytes}
 use Rattle.upload_rules.specs.declared.records.Record.{Record}
-use Rattle.upload_rules.specs.Records.{Keeps}
+use Rattle.upload_rules.specs.Records.{IsShort, Keeps}
 use Rattle.upload_rules.specs.Store.{Upload, Store, upload_of, text_of}
 use Rattle.spool_texts.specs.TextOn.{text_on}
 use Rattle.spool_pages.specs.Fits.{FitsSlotOf}
@@ -34,7 +34,7 @@ pub record IsUnpacked (r : Record) : Type 0 where
 -- and the metadata has room in a slot
 pub record FitsMemory (r : Record) : Type 0 where
   pub unpacked : IsUnpacked r
-  pub short : length r.metadata.bytes.items ≤ 1536
+  pub short : IsShort r
 
 -- a free slot, or a record that fits its bytes, with the state of a transcoder
 abbrev pub FitsKept : Option SlotRecord → Type 0

@@ -7,7 +7,7 @@ ghost use Rattle.spool_journal.specs.Image.{journal_pages, all_pages};
 ghost use Rattle.spool_texts.specs.TextOn.{AllBelow};
 ghost use Rattle.upload_rules.specs.Answers.{Answers};
 ghost use Rattle.upload_rules.specs.Reading.{no_such, text_at, IsRead};
-ghost use Rattle.upload_rules.specs.Records.{TellsOf, above, with_number};
+ghost use Rattle.upload_rules.specs.Records.{IsShort, TellsOf, above, with_number};
 ghost use Rattle.upload_rules.specs.Store.{Store, upload_of};
 ghost use Rattle.spool_kept.specs.Drafting.{IsKept, IsOwnedBy};
 ghost use Rattle.spool_kept.specs.Holding.{IsUsedBy};
@@ -47,6 +47,7 @@ impl Kept {
 
     /// The upload of a number.
     pub fn record(&self, number: u64) -> Option<&Record>
+        ensures short { IfSome (option_copied result) IsShort }
         ensures kept { (v : View) (m : Store) → KeepsView self.now v → Shows v m
             → KeepsOf m.indexes number (upload_of m number) (option_copied result) }
         ensures told { (v : View) (m : Store) → KeepsView self.now v → Shows v m

@@ -1,6 +1,7 @@
 // The record of an upload, kept in memory.
 ghost use Rattle.std.specs.Prelude.{◌≡◌, ◌≤◌, All, Err, None, Some, length, get_or, option_copied, IfOk, IfErr, IfSome};
 ghost use Rattle.std.specs.Prelude.{OnOk};
+ghost use Rattle.upload_rules.specs.Records.{IsShort};
 ghost use Rattle.upload_rules.specs.States.{SameEncodings};
 ghost use Rattle.spool_kept.specs.Extending.{longer_record};
 ghost use Rattle.spool_kept.specs.Loads.{LoadsAs, IsLate};
@@ -71,6 +72,7 @@ impl KeptRecord {
     pub fn record(&self) -> &Record
         ensures said { said_of result.now ≡ self.now }
         ensures unpacked { IsUnpacked result.now }
+        ensures short { IsShort result.now }
     {
         &self.record
     }

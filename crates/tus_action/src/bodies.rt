@@ -7,6 +7,7 @@ ghost use Rattle.upload_rules.specs.Answers.{Limits, Quiet, Counts};
 ghost use Rattle.tus_request.specs.Requests.{Request};
 ghost use Rattle.tus_action.specs.Acts.{fed, fed_patch, committed_as};
 ghost use Rattle.tus_action.specs.Serves.{Serves, Feeds, Ends};
+ghost use Rattle.tus_request.specs.Replies.{longest_reply, GrowsBy};
 
 use crate::acts::{Acted, Stop};
 use crate::refusals::refuse;
@@ -65,6 +66,7 @@ pub fn end_body<U: Uploads>(
         → Limits (U.moment store.old) (U.moment store.new) (U.left_only store.old)
         (U.left_only store.new) w.store w.store }
     ensures counts { Counts (IsErrOf result Stop.DiskFault) (U.failures store.old) (U.failures store.new) }
+    ensures few { GrowsBy longest_reply out.old.items out.new.items }
 {
     let before = out.as_slice().len();
     let Ok(()) = reply_patched(alloc, reached, bare, closes, out) else {

@@ -6,6 +6,8 @@ ghost use Rattle.upload_rules.specs.Answers.{Quiet, Counts};
 ghost use Rattle.tus_request.specs.Requests.{Request};
 ghost use Rattle.tus_action.specs.Acts.{head, get, Giving as Pending};
 ghost use Rattle.tus_action.specs.Serves.{Serves, Gives, GivesPiece, IsGiving};
+ghost use Rattle.tus_action.specs.Acts.{piece_size};
+ghost use Rattle.tus_request.specs.Replies.{longest_reply, GrowsBy};
 
 use crate::acts::{Acted, Given, Giving, Stop};
 use crate::refusals::refuse;
@@ -32,6 +34,7 @@ pub(crate) fn show<U: Uploads>(
         → Serves U.Uploads store.new result out.old.items out.new.items w (head w r (upload_of w.store number)) }
     ensures same { store.new ≡ store.old }
     ensures no_device { IsErrOf result Stop.DiskFault → ⊥ }
+    ensures few { GrowsBy longest_reply out.old.items out.new.items }
 {
     let Some(record) = store.record(number) else {
         return refuse(
@@ -70,6 +73,7 @@ fn next_piece<U: Uploads>(
         → GivesPiece U.Uploads store.new result out.old.items out.new.items w h }
     ensures crash { Quiet (U.moment store.old) (U.moment store.new) (U.left_only store.old) (U.left_only store.new) }
     ensures counts { Counts (IsErrOf result Stop.DiskFault) (U.failures store.old) (U.failures store.new) }
+    ensures few { GrowsBy piece_size out.old.items out.new.items }
 {
     let left = giving.length.saturating_sub(giving.given);
     let count = left.min(PIECE as u64) as usize;
@@ -96,6 +100,7 @@ pub fn give_more<U: Uploads>(
         → Gives U.Uploads store.new result out.old.items out.new.items w h }
     ensures crash { Quiet (U.moment store.old) (U.moment store.new) (U.left_only store.old) (U.left_only store.new) }
     ensures counts { Counts (IsErrOf result Stop.DiskFault) (U.failures store.old) (U.failures store.new) }
+    ensures few { GrowsBy piece_size out.old.items out.new.items }
 {
     let Some(_there) = store.record(giving.number) else {
         return Ok(Given::Gone);
@@ -121,6 +126,7 @@ pub(crate) fn give_text<U: Uploads>(
         → Serves U.Uploads store.new result out.old.items out.new.items w (get w r number (upload_of w.store number)) }
     ensures crash { Quiet (U.moment store.old) (U.moment store.new) (U.left_only store.old) (U.left_only store.new) }
     ensures counts { Counts (IsErrOf result Stop.DiskFault) (U.failures store.old) (U.failures store.new) }
+    ensures few { GrowsBy (longest_reply + piece_size) out.old.items out.new.items }
 {
     let Some(record) = store.record(number) else {
         let error = UploadError::Refused(UploadRefusal::NoSuch);

@@ -2,6 +2,7 @@
 ghost use Rattle.std.specs.Prelude.{◌≡◌, IsErrOf, ◌↔◌};
 ghost use Rattle.tus_action.specs.Faults.{fault_of as fault};
 ghost use Rattle.tus_action.specs.Serves.{RepliesTo};
+ghost use Rattle.tus_request.specs.Replies.{longest_reply, GrowsBy};
 
 use crate::acts::{Acted, Stop};
 use std::alloc::Global;
@@ -36,6 +37,7 @@ pub(crate) fn refuse<B>(
 ) -> Result<Acted<B>, Stop>
     ensures answer { RepliesTo result error on_files bare closes out.old.items out.new.items }
     ensures fault { IsErrOf result Stop.DiskFault ↔ (error ≡ UploadError.DiskFault) }
+    ensures few { GrowsBy longest_reply out.old.items out.new.items }
 {
     match error {
         UploadError::Refused(refusal) => {

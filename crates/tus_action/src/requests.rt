@@ -1,11 +1,13 @@
 //! A request at its head.
-ghost use Rattle.std.specs.Prelude.{IsErrOf};
+ghost use Rattle.std.specs.Prelude.{◌+◌, IsErrOf};
 ghost use Rattle.upload_rules.specs.World.{World};
 ghost use Rattle.upload_rules.specs.Answers.{Limits, Counts};
 ghost use Rattle.tus_request.specs.Requests.{Asks};
 ghost use Rattle.tus_request.specs.Shown.{request_shown};
 ghost use Rattle.tus_action.specs.Acts.{acted};
 ghost use Rattle.tus_action.specs.Serves.{Serves, CanBeMade, CanBeRead};
+ghost use Rattle.tus_action.specs.Acts.{piece_size};
+ghost use Rattle.tus_request.specs.Replies.{longest_reply, GrowsBy};
 
 use crate::acts::{Acted, Stop};
 use crate::reads::{PieceBuffer, give_text, show};
@@ -35,6 +37,7 @@ pub fn act<U: Uploads>(
         → Limits (U.moment store.old) (U.moment store.new) (U.left_only store.old)
         (U.left_only store.new) w.store w.store }
     ensures counts { Counts (IsErrOf result Stop.DiskFault) (U.failures store.old) (U.failures store.new) }
+    ensures few { GrowsBy (longest_reply + piece_size) out.old.items out.new.items }
 {
     let Request {
         action,

@@ -9,6 +9,7 @@ ghost use Rattle.tus_request.specs.Requests.{Request};
 ghost use Rattle.tus_request.specs.Replies.{reply_continue as continue_bytes};
 ghost use Rattle.tus_action.specs.Acts.{post, delete as deleted, patch};
 ghost use Rattle.tus_action.specs.Serves.{Serves};
+ghost use Rattle.tus_request.specs.Replies.{longest_reply, GrowsBy};
 
 use crate::acts::{Acted, Stop};
 use crate::refusals::refuse;
@@ -36,6 +37,7 @@ pub(crate) fn create<U: Uploads>(
         → Limits (U.moment store.old) (U.moment store.new) (U.left_only store.old)
         (U.left_only store.new) w.store w.store }
     ensures counts { Counts (IsErrOf result Stop.DiskFault) (U.failures store.old) (U.failures store.new) }
+    ensures few { GrowsBy longest_reply out.old.items out.new.items }
 {
     let before = out.as_slice().len();
     let number = store.next_number();
@@ -70,6 +72,7 @@ pub(crate) fn delete<U: Uploads>(
         → Limits (U.moment store.old) (U.moment store.new) (U.left_only store.old)
         (U.left_only store.new) w.store w.store }
     ensures counts { Counts (IsErrOf result Stop.DiskFault) (U.failures store.old) (U.failures store.new) }
+    ensures few { GrowsBy longest_reply out.old.items out.new.items }
 {
     let before = out.as_slice().len();
     let Ok(()) = reply_deleted(alloc, bare, closes, out) else {
@@ -88,6 +91,7 @@ pub(crate) fn delete<U: Uploads>(
 fn append_continue(expects: bool, out: &mut Vec<u8>) -> Result<(), AllocError>
     ensures ok { OnOk result (out.new.items ≡ out.old.items ++ (if expects then continue_bytes else [])) }
     ensures err { OnErr result (out.new.items ≡ out.old.items) }
+    ensures few { GrowsBy longest_reply out.old.items out.new.items }
 {
     if !expects {
         return Ok(());
@@ -114,6 +118,7 @@ pub(crate) fn begin<U: Uploads>(
         (patch w r number declare (begin_refusal w number offset length declare)) }
     ensures crash { Quiet (U.moment store.old) (U.moment store.new) (U.left_only store.old) (U.left_only store.new) }
     ensures counts { Counts (IsErrOf result Stop.DiskFault) (U.failures store.old) (U.failures store.new) }
+    ensures few { GrowsBy longest_reply out.old.items out.new.items }
 {
     let before = out.as_slice().len();
     let Ok(()) = append_continue(expects, out) else {

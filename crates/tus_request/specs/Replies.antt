@@ -1,5 +1,5 @@
 -- The bytes of the replies.
-use Rattle.std.specs.Prelude.{ℕ, Bool, List, [], ◌∷◌, ◌++◌, if◌then◌else◌, Option, Some, None, codes}
+use Rattle.std.specs.Prelude.{ℕ, ◌≤◌, ◌+◌, Bool, List, [], ◌∷◌, ◌++◌, length, if◌then◌else◌, Option, Some, None, codes}
 use Rattle.std.specs.Fmt.{decimal}
 use Rattle.enc_model.specs.declared.Encoding.{Encoding}
 use Rattle.enc_labels.specs.Labels.{name_of}
@@ -41,6 +41,14 @@ reply status lines body_length closes =
 -- a body's length, which a reply to a request line of HEAD leaves out
 abbrev pub unless_bare : Bool → ℕ → Option ℕ
 unless_bare bare n = if bare then None else Some n
+
+-- THE LONGEST: no reply has more bytes, without its body
+abbrev pub longest_reply : ℕ
+longest_reply = 2048
+
+-- so many bytes more at most
+abbrev pub GrowsBy : ℕ → List ℕ → List ℕ → Type 0
+GrowsBy most old new = length new ≤ length old + most
 
 abbrev pub options_lines : List ℕ
 options_lines =

@@ -2,10 +2,11 @@
 //!
 //! Each call appends to `out`; on an error `out` is as it was. `bare` says that the request line was HEAD, and `closes`
 //! that the connection closes.
-ghost use Rattle.std.specs.Prelude.{◌≡◌, ◌<◌, ◌+◌, ◌++◌, OnOk, OnErr};
+ghost use Rattle.std.specs.Prelude.{◌≡◌, ◌<◌, ◌≤◌, ◌+◌, ◌++◌, OnOk, OnErr, length};
 ghost use Rattle.std.specs.Vec.{vec_capacity, vec_len};
 ghost use Rattle.tus_request.specs.Replies.{reply_options, reply_created, reply_head, reply_patched, reply_deleted};
 ghost use Rattle.tus_request.specs.Replies.{reply_text, reply_refused, reply_continue, unless_bare};
+ghost use Rattle.tus_request.specs.Replies.{longest_reply, GrowsBy};
 ghost use Rattle.tus_request.specs.ReplyParts.{reply_shown};
 
 use crate::faults::Fault;
@@ -15,6 +16,9 @@ use parts::{Lines, Reply, Status};
 use std::alloc::{AllocError, Global};
 
 mod parts;
+
+/// The most bytes of a reply without its body.
+pub const LONGEST_REPLY: usize = 2048;
 
 /// Appends the reply to OPTIONS.
 ///
@@ -29,6 +33,7 @@ pub fn reply_options(
 ) -> Result<(), AllocError>
     ensures ok { OnOk result (out.new.items ≡ out.old.items ++ reply_options closes) }
     ensures err { OnErr result (out.new.items ≡ out.old.items) }
+    ensures short { GrowsBy longest_reply out.old.items out.new.items }
 {
     let reply = Reply {
         status: Status::NoContent,
@@ -53,6 +58,7 @@ pub fn reply_created(
 ) -> Result<(), AllocError>
     ensures ok { OnOk result (out.new.items ≡ out.old.items ++ reply_created number bare closes) }
     ensures err { OnErr result (out.new.items ≡ out.old.items) }
+    ensures short { GrowsBy longest_reply out.old.items out.new.items }
 {
     let reply = Reply {
         status: Status::Created,
@@ -78,8 +84,10 @@ pub fn reply_head(
     closes: bool,
     out: &mut Vec<u8>,
 ) -> Result<(), AllocError>
+    requires { length metadata.now ≤ 1536 }
     ensures ok { OnOk result (out.new.items ≡ out.old.items ++ reply_head offset declared metadata.now bare closes) }
     ensures err { OnErr result (out.new.items ≡ out.old.items) }
+    ensures short { GrowsBy longest_reply out.old.items out.new.items }
 {
     let reply = Reply {
         status: Status::Okay,
@@ -108,6 +116,7 @@ pub fn reply_patched(
 ) -> Result<(), AllocError>
     ensures ok { OnOk result (out.new.items ≡ out.old.items ++ reply_patched offset closes) }
     ensures err { OnErr result (out.new.items ≡ out.old.items) }
+    ensures short { GrowsBy longest_reply out.old.items out.new.items }
 {
     let reply = Reply {
         status: Status::NoContent,
@@ -131,6 +140,7 @@ pub fn reply_deleted(
 ) -> Result<(), AllocError>
     ensures ok { OnOk result (out.new.items ≡ out.old.items ++ reply_deleted closes) }
     ensures err { OnErr result (out.new.items ≡ out.old.items) }
+    ensures short { GrowsBy longest_reply out.old.items out.new.items }
 {
     let reply = Reply {
         status: Status::NoContent,
@@ -156,6 +166,7 @@ pub fn reply_text(
 ) -> Result<(), AllocError>
     ensures ok { OnOk result (out.new.items ≡ out.old.items ++ reply_text to length bare closes) }
     ensures err { OnErr result (out.new.items ≡ out.old.items) }
+    ensures short { GrowsBy longest_reply out.old.items out.new.items }
 {
     let reply = Reply {
         status: Status::Okay,
@@ -181,6 +192,7 @@ pub fn reply_refused(
 ) -> Result<(), AllocError>
     ensures ok { OnOk result (out.new.items ≡ out.old.items ++ reply_refused fault on_files bare closes) }
     ensures err { OnErr result (out.new.items ≡ out.old.items) }
+    ensures short { GrowsBy longest_reply out.old.items out.new.items }
 {
     let reply = Reply {
         status: Status::Refused(fault),

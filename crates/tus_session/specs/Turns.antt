@@ -1,12 +1,14 @@
 -- What an event makes of the world and of its connection.
-use Rattle.std.specs.Prelude.{ℕ, ◌-◌, Bool, true, false, List, [], ◌++◌, length, take, if◌then◌else◌, Option, Some}
+use Rattle.std.specs.Prelude.{ℕ, ◌+◌, ◌-◌, ◌*◌, Bool, true, false, List, [], ◌++◌, length, take, if◌then◌else◌, Option, Some}
 use Rattle.std.specs.Prelude.{None}
 use Rattle.tus_request.specs.Answers.{answer_of}
+use Rattle.tus_request.specs.Replies.{longest_reply, GrowsBy}
 use Rattle.enc_model.specs.Indexes.{offers}
 use Rattle.upload_rules.specs.Store.{Upload, find, upload_of}
 use Rattle.upload_rules.specs.World.{Patch, World}
 use Rattle.upload_rules.specs.Calls.{commit_refusal, spent, dropped}
-use Rattle.tus_action.specs.Acts.{Giving, Acted, acted, is_pending, pending_after, piece_of, fed, commit_with}
+use Rattle.tus_action.specs.Acts.{Giving, Acted, acted, is_pending, pending_after, piece_of, piece_size, fed}
+use Rattle.tus_action.specs.Acts.{commit_with}
 use Rattle.tus_session.specs.Streams.{Asked, Reader, Moments, moments, taken}
 
 -- an open connection: its stream, its open patch's draft number, and its pending text
@@ -117,3 +119,10 @@ ended_world w k = ended_on w k.draft
 abbrev pub left_world : World → Option ℕ → World
 left_world w None = w
 left_world w (Some d) = dropped w d
+
+-- NO CALL GIVES MORE: a reply, a piece of a text, and a reply to what came of a body right after it
+abbrev pub most_given : ℕ
+most_given = 2 * longest_reply + piece_size
+
+abbrev pub GivesFew : List ℕ → List ℕ → Type 0
+GivesFew old new = GrowsBy most_given old new

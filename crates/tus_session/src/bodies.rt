@@ -8,6 +8,7 @@ ghost use Rattle.upload_rules.specs.Answers.{Limits, Counts};
 ghost use Rattle.tus_request.specs.Requests.{Request};
 ghost use Rattle.tus_action.specs.Acts.{fed, fed_patch};
 ghost use Rattle.tus_session.specs.Bodies.{Parts, Replies, ended_by, took};
+ghost use Rattle.tus_request.specs.Replies.{longest_reply, GrowsBy};
 
 use crate::conns::{Link, Patching, Place, Task};
 use crate::turns::place_of;
@@ -125,6 +126,7 @@ fn finish<U: Uploads>(
         (U.left_only store.new) w.store w.store }
     ensures counts { Counts (IsErrOf result.1 SessionError.DiskFault) (U.failures store.old) (U.failures store.new) }
     ensures no_down { IsErrOf result.1 SessionError.Down → ⊥ }
+    ensures few { GrowsBy longest_reply out.old.items out.new.items }
 {
     let Patching {
         draft,
@@ -223,6 +225,7 @@ pub(crate) fn body_of<U: Uploads>(
         (U.left_only store.new) w.store w.store }
     ensures counts { Counts (IsErrOf result.1 SessionError.DiskFault) (U.failures store.old) (U.failures store.new) }
     ensures no_down { IsErrOf result.1 SessionError.Down → ⊥ }
+    ensures few { GrowsBy longest_reply out.old.items out.new.items }
 {
     if (bytes.len() as u64) < left {
         go_on(store, head, patch, left, before, bytes)

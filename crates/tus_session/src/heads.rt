@@ -12,6 +12,7 @@ ghost use Rattle.tus_session.specs.Turns.{Conn, came_turn};
 ghost use Rattle.tus_session.specs.Stands.{LinkIs};
 ghost use Rattle.tus_session.specs.Turned.{Turned};
 ghost use Rattle.tus_session.specs.Heads.{InsideHead, IsWhole, IsSmall, ReachedIs};
+ghost use Rattle.tus_session.specs.Turns.{GivesFew};
 
 use crate::bodies::{body_of, skip};
 use crate::conns::{Link, Patching, Place, Task};
@@ -96,6 +97,7 @@ fn request_of<U: Uploads>(
         (U.left_only store.new) w.store w.store }
     ensures counts { Counts (IsErrOf result.1 SessionError.DiskFault) (U.failures store.old) (U.failures store.new) }
     ensures no_down { IsErrOf result.1 SessionError.Down → ⊥ }
+    ensures few { GivesFew out.old.items out.new.items }
 {
     let length = request.length;
     let bare = request.bare;
@@ -158,6 +160,7 @@ fn head_of<U: Uploads>(
         (U.left_only store.new) w.store w.store }
     ensures counts { Counts (IsErrOf result.1 SessionError.DiskFault) (U.failures store.old) (U.failures store.new) }
     ensures no_down { IsErrOf result.1 SessionError.Down → ⊥ }
+    ensures few { GivesFew out.old.items out.new.items }
 {
     let mut head = head;
     let had = head.len();
@@ -212,6 +215,7 @@ pub(crate) fn came_of<U: Uploads>(
         (U.left_only store.new) w.store w.store }
     ensures counts { Counts (IsErrOf result.1 SessionError.DiskFault) (U.failures store.old) (U.failures store.new) }
     ensures no_down { IsErrOf result.1 SessionError.Down → ⊥ }
+    ensures few { GivesFew out.old.items out.new.items }
 {
     let Link { head, left, task } = link;
     match task {

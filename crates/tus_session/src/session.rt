@@ -7,6 +7,7 @@ ghost use Rattle.tus_session.specs.Told.{Opens, Told, Ends};
 ghost use Rattle.upload_rules.specs.Store.{Store};
 ghost use Rattle.upload_rules.specs.World.{at_rest};
 ghost use Rattle.upload_rules.specs.Answers.{Limits, Quiet, Counts};
+ghost use Rattle.tus_session.specs.Turns.{GivesFew};
 
 use crate::conns::{Link, Place, Task};
 use crate::heads::came_of;
@@ -99,6 +100,7 @@ impl<U: Uploads> Session<U> {
             (U.left_only store.new) st.world.store st.world.store }
         ensures counts { Counts (IsErrOf result SessionError.DiskFault) (U.failures store.old) (U.failures store.new) }
         ensures no_down { IsErrOf result SessionError.Down → ⊥ }
+        ensures few { GivesFew out.old.items out.new.items }
     {
         if conn >= self.places.len() {
             return Err(SessionError::Closed);
@@ -129,6 +131,7 @@ impl<U: Uploads> Session<U> {
             (U.left_only store.new) }
         ensures counts { Counts (IsErrOf result SessionError.DiskFault) (U.failures store.old) (U.failures store.new) }
         ensures no_down { IsErrOf result SessionError.Down → ⊥ }
+        ensures few { GivesFew out.old.items out.new.items }
     {
         if conn >= self.places.len() {
             return Err(SessionError::Closed);

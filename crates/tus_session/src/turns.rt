@@ -6,6 +6,7 @@ ghost use Rattle.tus_request.specs.Buffers.{bytes_of};
 ghost use Rattle.tus_session.specs.Turns.{Conn, more_turn, ended_world};
 ghost use Rattle.tus_session.specs.Stands.{LinkIs, dropped_by};
 ghost use Rattle.tus_session.specs.Turned.{Turned, Ended};
+ghost use Rattle.tus_session.specs.Turns.{GivesFew};
 
 use crate::conns::{Link, Patching, Place, Task};
 use crate::{Answer, SessionError};
@@ -46,6 +47,7 @@ pub(crate) fn more_of<U: Uploads>(
     ensures crash { Quiet (U.moment store.old) (U.moment store.new) (U.left_only store.old) (U.left_only store.new) }
     ensures counts { Counts (IsErrOf result.1 SessionError.DiskFault) (U.failures store.old) (U.failures store.new) }
     ensures no_down { IsErrOf result.1 SessionError.Down → ⊥ }
+    ensures few { GivesFew out.old.items out.new.items }
 {
     let Link { head, left, task } = link;
     let giving = match task {

@@ -2,7 +2,7 @@
 use Rattle.std.proofs.Common.{◌≡◌, ℕ, ◌<◌, ◌≤◌, length, get_or, Option, Some, None, sym, subst, arith}
 use Rattle.enc_model.specs.Indexes.{IndexSet}
 use Rattle.upload_rules.specs.declared.records.Record.{Record}
-use Rattle.upload_rules.specs.declared.slots.Slot.{Slot}
+use Rattle.upload_rules.specs.declared.slot.Slot.{Slot}
 use Rattle.upload_rules.specs.declared.table.Table.{Table}
 use Rattle.upload_rules.specs.Store.{Upload, upload_of}
 use Rattle.upload_rules.specs.World.{World}

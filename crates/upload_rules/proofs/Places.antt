@@ -5,7 +5,7 @@ use Rattle.std.specs.Bool.{then_some}
 use Rattle.std.proofs.lemmas.Bool.{leb-true, leb-false, eqb-true, eqb-false, cases_Bool, cases_order}
 use Rattle.std.proofs.lemmas.List.{get_or-map, length-map}
 use Rattle.std.specs.List.Sorted.{IsNonDecreasingBy, IsPartitionPoint}
-use Rattle.upload_rules.specs.declared.slots.Slot.{Slot}
+use Rattle.upload_rules.specs.declared.slot.Slot.{Slot}
 use Rattle.upload_rules.specs.Slots.{number_of, numbers, IsRising, IsDivided, IsFirstAt, IsNowhere}
 
 -- some slot, where there is a place

@@ -11,7 +11,7 @@ use Rattle.upload_rules.specs.declared.errors.UploadError.{UploadError}
 use Rattle.upload_rules.specs.declared.errors.UploadError.TheVariants.{NoMemory, DiskFault, Refused}
 use Rattle.upload_rules.specs.declared.errors.UploadRefusal.TheVariants as refusals
 use Rattle.upload_rules.specs.declared.appends.OpenAppend.{OpenAppend}
-use Rattle.upload_rules.specs.declared.slots.Slot.{Slot}
+use Rattle.upload_rules.specs.declared.slot.Slot.{Slot}
 use Rattle.upload_rules.specs.declared.table.Table.{Table}
 use Rattle.upload_rules.specs.Lengths.{is_length, known_or, is_new, longest}
 use Rattle.upload_rules.specs.Store.{Upload, Store, find, upload_of, with_length, patched, replaced, without}

@@ -5,7 +5,7 @@ use Rattle.std.proofs.lemmas.Bool.{cases_lt}
 use Rattle.std.proofs.lemmas.List.{map-append, length-append, get_or_append_left}
 use Rattle.std.proofs.Math.Seq.{map-set_same}
 use Rattle.upload_rules.specs.declared.appends.OpenAppend.{OpenAppend}
-use Rattle.upload_rules.specs.declared.slots.Slot.{Slot}
+use Rattle.upload_rules.specs.declared.slot.Slot.{Slot}
 use Rattle.upload_rules.specs.declared.table.Table.{Table}
 use Rattle.upload_rules.specs.Store.{New, Upload, find, upload_of, replaced, patched, new_upload}
 use Rattle.upload_rules.specs.World.{Patch, World, is_there, free_number}

@@ -9,7 +9,7 @@ use Rattle.upload_rules.specs.Store.{Upload, patched}
 use Rattle.upload_rules.specs.World.{Patch, is_there, reached, patch_text}
 use Rattle.upload_rules.specs.Slots.{SlotStands}
 use Rattle.upload_rules.specs.Texts.{HoldsText}
-use Rattle.upload_rules.specs.declared.slots.Slot.{Slot}
+use Rattle.upload_rules.specs.declared.slot.Slot.{Slot}
 use Rattle.upload_rules.specs.declared.appends.OpenAppend.{OpenAppend}
 
 pub record AppendStands (x : IndexSet) (next : ℕ) (p : Patch) (o : OpenAppend) : Type 0 where

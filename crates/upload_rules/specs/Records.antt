@@ -18,6 +18,10 @@ pub record Tells (x : IndexSet) (number : ℕ) (r : Record) (u : Upload) : Type 
   pub state : r.state ≡ state_of x u
   pub metadata : r.metadata.bytes.items ≡ u.metadata
 
+-- its metadata has room in the record of a spool
+abbrev pub IsShort : Record → Type 0
+IsShort r = length r.metadata.bytes.items ≤ 1536
+
 -- the record tells of the upload, its text has a value, and its state can be unpacked
 pub record Keeps (x : IndexSet) (number : ℕ) (r : Record) (u : Upload) : Type 0 where
   pub tells : Tells x number r u

@@ -5,7 +5,7 @@ use Rattle.enc_stream.specs.StateBytes.{IsSound}
 use Rattle.upload_rules.specs.Store.{Upload, text_of, text_with, is_complete}
 use Rattle.upload_rules.specs.Records.{Tells}
 use Rattle.upload_rules.specs.States.{transcoder_with}
-use Rattle.upload_rules.specs.declared.slots.Slot.{Slot}
+use Rattle.upload_rules.specs.declared.slot.Slot.{Slot}
 
 abbrev pub number_of : Slot → ℕ
 number_of s = s.record.number

@@ -11,7 +11,7 @@ ghost use Rattle.upload_rules.specs.Appends.{AppendStands, IsPut};
 use crate::UploadError;
 use crate::lengths::{is_length, is_new};
 use crate::new_text::NewText;
-use crate::slots::Slot;
+use crate::slot::Slot;
 use enc_index::IndexSet;
 use std::alloc::AllocError;
 use std::mem;

@@ -8,6 +8,7 @@ mod laws;
 mod lengths;
 mod new_text;
 mod records;
+mod slot;
 mod slots;
 mod table;
 mod uploads;

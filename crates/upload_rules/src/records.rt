@@ -65,7 +65,8 @@ impl Record {
     /// The record of a new upload, without bytes.
     pub fn first(number: u64, fields: New) -> Record
         requires { IsOutput fields.to }
-        ensures { (x : IndexSet) → Keeps x number result (new_upload fields) }
+        ensures kept { (x : IndexSet) → Keeps x number result (new_upload fields) }
+        ensures metadata { result.metadata.bytes.items ≡ fields.metadata }
     {
         let New {
             declared,

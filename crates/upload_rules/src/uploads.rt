@@ -1,12 +1,13 @@
 //! Uploads: each call is stated for every world that the store stands for.
-ghost use Rattle.std.specs.Prelude.{◌≡◌, ◌≤◌, ◌<◌, ◌+◌, ℕ, List, length, Option, Some, None, IsErrOf, option_copied};
+ghost use Rattle.std.specs.Prelude.{◌≡◌, ◌≤◌, ◌<◌, ◌+◌, ℕ, List, length, Option, Some, None, IfSome};
+ghost use Rattle.std.specs.Prelude.{IsErrOf, option_copied};
 ghost use Rattle.upload_rules.specs.Store.{Upload, Store, upload_of, find};
 ghost use Rattle.upload_rules.specs.World.{Patch, World, free_number, reached};
 ghost use Rattle.upload_rules.specs.Calls.{create_refusal, created, create_outcome, terminate_refusal, terminated};
 ghost use Rattle.upload_rules.specs.Calls.{terminate_outcome, begin_refusal, begun, appended, longer, commit_refusal};
 ghost use Rattle.upload_rules.specs.Calls.{committed, commit_outcome, dropped};
 ghost use Rattle.upload_rules.specs.Answers.{Answers, IsBegun, Among, Limits, Quiet, Counts};
-ghost use Rattle.upload_rules.specs.Records.{TellsOf, with_number, above, IsWellFormed, IsOffered};
+ghost use Rattle.upload_rules.specs.Records.{IsShort, TellsOf, with_number, above, IsWellFormed, IsOffered};
 ghost use Rattle.upload_rules.specs.Reading.{no_such, text_at, IsRead};
 
 use crate::{New, Record, UploadError};
@@ -38,7 +39,8 @@ pub trait Uploads {
 
     /// The upload of a number.
     fn record(&self, number: u64) -> Option<&Record>
-        ensures { (w : World) → stands self.now w → TellsOf w.store.indexes
+        ensures short { IfSome (option_copied result) IsShort }
+        ensures told { (w : World) → stands self.now w → TellsOf w.store.indexes
             (with_number number (upload_of w.store number)) (option_copied result) };
 
     /// The upload of the least number above this one.

@@ -6,11 +6,11 @@ use Rattle.spool_kept.proofs.kept.Kept.new_record.Goals as goal
 
 pub new-requires : goal.new-requires
 new-requires c = new_fits c.args.self.now.indexes c.self.inside.next c.first.result c.args.new
-    (c.first.ensures c.args.self.now.indexes) c.requires
+    (c.first.ensures.kept c.args.self.now.indexes) c.requires
 
 pub returns : goal.returns
 returns c =
-    let made = new_record c.args.self.now.indexes c.self.inside.next c.first.result c.args.new c.first.ensures
+    let made = new_record c.args.self.now.indexes c.self.inside.next c.first.result c.args.new c.first.ensures.kept
     c.requires in
     subst (λ (n : ℕ). IsNewRecord n c.args.new c.new.result) (ap (λ (k : Holding). k.next) c.self.view_is)
     (subst (IsNewRecord c.self.inside.next c.args.new) (sym c.new.ensures) made)

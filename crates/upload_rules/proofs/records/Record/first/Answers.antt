@@ -8,9 +8,9 @@ use Rattle.upload_rules.proofs.NewUploads.{new_text, new_encodable, new_open, ne
 use Rattle.upload_rules.proofs.records.Record.first.Goals as goal
 use Rattle.upload_rules.proofs.records.Record.first.Goals.{then-is_length, else-is_length}
 
-pub returns : goal.returns
+pub returns-clause-kept : goal.returns-clause-kept
 unfolding state_with
-returns c = λ x.
+returns-clause-kept c = λ x.
     let is = c.fields.view_is in
     let new = c.args.fields in
     let u = new_upload new in

@@ -1,5 +1,5 @@
 use Rattle.std.proofs.Common.{ap, subst, List, option_copied}
-use Rattle.upload_rules.specs.declared.slots.Slot.{Slot}
+use Rattle.upload_rules.specs.declared.slot.Slot.{Slot}
 use Rattle.upload_rules.specs.Slots.{numbers, IsRising, IsNowhere, IsFirstAt}
 use Rattle.upload_rules.proofs.Lookups.{no_slot, slot_at}
 use Rattle.upload_rules.proofs.table.Table.slot.Goals as goal

@@ -2,7 +2,7 @@ use Rattle.std.proofs.Common.{◌≡◌, ◌<◌, ℕ, zero, suc, List, [], ◌�
 use Rattle.std.proofs.Common.{arith}
 use Rattle.upload_rules.specs.declared.errors.UploadError.{UploadError}
 use Rattle.std.specs.Vec.{with_item}
-use Rattle.upload_rules.specs.declared.slots.Slot.{Slot}
+use Rattle.upload_rules.specs.declared.slot.Slot.{Slot}
 use Rattle.upload_rules.specs.Slots.{numbers, IsRising, IsNowhere, IsFirstAt, SlotStands}
 use Rattle.upload_rules.specs.Appends.{AppendStands, IsPut}
 use Rattle.upload_rules.specs.Lengths.{is_length}

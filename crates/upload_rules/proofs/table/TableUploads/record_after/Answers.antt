@@ -1,5 +1,5 @@
 use Rattle.std.proofs.Common.{◌≡◌, ◌≤◌, ◌<◌, List, length, get_or, ap, subst, option_copied}
-use Rattle.upload_rules.specs.declared.slots.Slot.{Slot}
+use Rattle.upload_rules.specs.declared.slot.Slot.{Slot}
 use Rattle.upload_rules.specs.Slots.{numbers, IsRising, IsDivided}
 use Rattle.upload_rules.proofs.Lookups.{following, none_following}
 use Rattle.upload_rules.proofs.table.TableUploads.record_after.Goals as goal

@@ -1,5 +1,5 @@
 use Rattle.std.proofs.Common.{List, subst}
-use Rattle.upload_rules.specs.declared.slots.Slot.{Slot}
+use Rattle.upload_rules.specs.declared.slot.Slot.{Slot}
 use Rattle.upload_rules.specs.Slots.{numbers, IsRising, IsNowhere, IsFirstAt}
 use Rattle.upload_rules.proofs.Deleted.{not_there, there, deletes}
 use Rattle.upload_rules.proofs.table.TableUploads.terminate.Goals as goal

@@ -1,10 +1,10 @@
 use Rattle.std.proofs.Common.{sym, ◌∙◌}
 use Rattle.upload_rules.proofs.NewUploads.{new_text}
-use Rattle.upload_rules.proofs.slots.Slot.new.Goals as goal
+use Rattle.upload_rules.proofs.slot.Slot.new.Goals as goal
 
 pub returns : goal.returns
 returns c = λ x.
-    let kept = c.first.ensures x in
+    let kept = c.first.ensures.kept x in
     record {
       tells = kept.tells;
       text = c.new.ensures.items ∙ sym (new_text x c.args.fields);
