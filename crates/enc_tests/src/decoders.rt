@@ -8,7 +8,7 @@ use enc_unicode::{Order, Utf8State, Utf16State};
 use std::alloc::{AllocError, Global};
 use std::process::Abort;
 
-/// The text so far.
+/// The text so far, by a sink that has no way of its own for a run of text.
 #[derive(Drop)]
 struct Collected {
     text: String,
@@ -31,10 +31,6 @@ impl Sink for Collected {
             self.text.push(*b as char)?;
         }
         Ok(())
-    }
-
-    fn text(&mut self, run: &str) -> Result<(), AllocError> {
-        self.text.push_str(run)
     }
 
     ghost is_sink = { record {
