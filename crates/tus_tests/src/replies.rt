@@ -1,5 +1,9 @@
 //! Replies whose bytes were worked out by hand.
 
+ghost use Rattle.std.specs.Prelude.{◌≤◌, length};
+
+use std::alloc::Global;
+use std::process::Abort;
 use tus_request::Fault;
 use tus_request::replies::{reply_head, reply_refused};
 
@@ -21,25 +25,27 @@ const BAD_METHOD_ON_AN_UPLOAD: &str =
     "HTTP/1.1 405 Method Not Allowed\r\nTus-Resumable: 1.0.0\r\nCache-Control: no-store\r\n\
       Allow: OPTIONS, HEAD, PATCH, GET, DELETE\r\nX-Refusal: 24\r\nContent-Length: 0\r\n\r\n";
 
+/// Compares the reply to a HEAD with its text.
+fn compare_shown(
+    rt: &impl Abort,
+    alloc: Global,
+    upload: (u64, Option<u64>),
+    metadata: &str,
+    bare: bool,
+    text: &str,
+)
+    requires { length metadata.now ≤ 1536 }
+{
+    let (offset, declared) = upload;
+    let mut out = Vec::new(alloc);
+    reply_head(alloc, offset, declared, metadata, bare, false, &mut out).expect(rt, "memory");
+    assert_eq!(rt; out.as_slice(), text.as_bytes());
+}
+
 #[test]
 fn a_length_is_shown_where_it_is_known(rt: HostRuntime) {
-    for (offset, declared, metadata, bare, text) in [
-        (0, None, "", true, DEFERRED_HEAD),
-        (4, Some(5), "note", false, DECLARED_HEAD),
-    ] {
-        let mut out = Vec::new(rt.alloc());
-        reply_head(
-            rt.alloc(),
-            offset,
-            declared,
-            metadata,
-            bare,
-            false,
-            &mut out,
-        )
-        .expect(&rt, "memory");
-        assert_eq!(rt; out.as_slice(), text.as_bytes());
-    }
+    compare_shown(&rt, rt.alloc(), (0, None), "", true, DEFERRED_HEAD);
+    compare_shown(&rt, rt.alloc(), (4, Some(5)), "note", false, DECLARED_HEAD);
     assert_eq!(rt; DEFERRED_HEAD.len(), 108);
 }
 
