@@ -47,11 +47,11 @@ fn codes(units: u16x4) -> u8x16
 
 /// A bit for each unit that is below a limit.
 #[inline(always)]
-fn below(units: u16x4, limit: u16) -> u64
+fn below(units: u16x4, limit: u32) -> u64
     ensures mask { result ≡ mask_l (map (λ u. ltb u limit) units) }
     ensures few { result < 16 }
 {
-    units.simd_lt(u16x4::splat(limit)).to_bitmask()
+    widened(units).simd_lt(u32x4::splat(limit)).to_bitmask()
 }
 
 /// The places of the bytes that the units' UTF-8 has of their words, and in the last byte how many they are.

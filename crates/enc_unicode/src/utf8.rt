@@ -101,6 +101,7 @@ impl Utf8State {
     }
 
     /// Takes a byte where none is needed.
+    #[inline(always)]
     fn first(&mut self, b: u8) -> Answer
         requires { self.old.needed ≡ 0 }
         ensures answer { result ≡ (utf8_first b).answer }

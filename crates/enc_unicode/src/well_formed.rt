@@ -26,7 +26,7 @@ const LONG: usize = 48;
 const FAULT: usize = 4;
 
 /// How many bytes longer the text of a block may be than the block for its faults to be few.
-const FEW: usize = 8;
+const FEW: usize = 32;
 
 /// Where a text is looked for.
 #[derive(Clone, Copy)]
