@@ -119,9 +119,21 @@ def ask(conn, method, number):
 Upload = namedtuple("Upload", "data codec deferred", defaults=[False])
 
 # A case: the script that makes its uploads, and how many bytes it leaves of each; the script that is tried, and what
-# its connections are told: the status and Location or Upload-Offset of each reply; the uploads by number. A connection
-# of the tried script sends to the upload of its own number alone.
-Case = namedtuple("Case", "before left tried told uploads")
+# its connections are told: the status and Location or Upload-Offset of each reply; the uploads by number; and a case for
+# each connection whose refusal changes what the others are told: they are told what they are in that case. A connection
+# of the tried script sends to the upload of its own number alone, or all send to the upload 1.
+Case = namedtuple("Case", "before left tried told uploads without", defaults=[{}])
+
+# The upload and the first connection of two that begin at one offset: the second ends first, and wins, or isn't there.
+RACE = ["open 0", *post(0, 5, "utf-8")]
+FIRST = ["open 1", "open 2", *patch(1, 1, 0, b"abc")[:-1], *came(1, b"ab")]
+FIRST_ALONE = Case(
+    RACE,
+    {1: 0},
+    [*FIRST, *came(1, b"c"), *ask(1, "GET", 1), "cut 2"],
+    {1: ["204 3", "200"]},
+    {1: Upload(b"abcde", "utf-8")},
+)
 
 CASES = {
     "stored run": Case(
@@ -147,6 +159,14 @@ CASES = {
         ["open 1", *post(1, 3, "windows-1252", "a" * 900), *patch(1, 1, 0, b"abc"), *ask(1, "HEAD", 1), "cut 1"],
         {1: ["201 /files/1", "204 3", "200 3"]},
         {1: Upload(b"abc", "cp1252")},
+    ),
+    "one winner": Case(
+        RACE,
+        {1: 0},
+        [*FIRST, *patch(2, 1, 0, b"xy"), *came(1, b"c"), *ask(1, "GET", 1), "cut 2"],
+        {1: ["409", "200"], 2: ["204 2"]},
+        {1: Upload(b"xyzzy", "utf-8")},
+        {2: FIRST_ALONE},
     ),
     "long GET": Case(
         ["open 0", *post(0, len(LONG), "utf-8"), *patch(0, 1, 0, LONG)],
@@ -219,16 +239,16 @@ class Run:
             found[int(conn)] = [f"{status} {value[1]}" if value else status for status, value in told]
         return found
 
-    def told(self, left):
-        """The offset that was told last of each upload, None where its deletion was. `left` is what was told before."""
-        found = dict(left)
+    def told(self, case):
+        """The offset that was told last of each upload, None where its deletion was; before the run, what was left."""
+        found = dict(case.left)
         for conn, replies in self.replies().items():
             for reply in replies:
                 status, _, value = reply.partition(" ")
                 if status == "201":
                     found[int(value.rpartition("/")[2])] = 0
                 elif status == "204":
-                    found[conn] = int(value) if value else None
+                    found[conn if conn in case.uploads else 1] = int(value) if value else None
         return found
 
 
@@ -260,7 +280,7 @@ def text_of(data, codec):
 def holds_what_was_told(program, spool, case, run, whole):
     """Each upload has at least what was told, and exactly that where the run went on; and exactly the text of what it
     has. There are no uploads that weren't told, but for what was under way when a run ended."""
-    listed, least, most = list_of(program, spool), run.told(case.left), whole.told(case.left)
+    listed, least, most = list_of(program, spool), run.told(case), whole.told(case)
     if run.status == 0:
         most = least
     for number, upload in case.uploads.items():
@@ -285,14 +305,16 @@ def declared_of(upload, accepted):
     return "?" if upload.deferred and accepted < len(upload.data) else str(len(upload.data))
 
 
-def ended_well(run, whole):
-    """A run ended for want of memory after a prefix of its output, or went on without one connection."""
+def ended_well(run, whole, others):
+    """A run ended for want of memory after a prefix of its output, or went on without one connection: the others are
+    told what they are in a run without it."""
     if run.status == 2:
         same("what is said", run.said, "refused: 0 NoMemory\n")
         holds(f"another output: {run.out}", whole.out.startswith(run.out))
     else:
         same("the status", run.status, 0)
-        holds(f"others are answered otherwise: {run.out}", is_refused_once(run.answers(), whole.answers()))
+        wanted = {**whole.answers(), **others.answers()}
+        holds(f"others are answered otherwise: {run.out}", is_refused_once(run.answers(), wanted))
 
 
 def each_refused(name, every, run_at, judge):
@@ -318,20 +340,33 @@ def try_case(program, folder, library, every, name):
     same("the status of the script before", Run(program, made, case.before).status, 0)
     listed = {number: accepted for number, (accepted, _) in list_of(program, made).items()}
     same("the uploads before", listed, case.left)
-    shutil.copyfile(made, spool)
-    whole = Run(program, spool, case.tried)
-    same("the replies", whole.replies(), case.told)
-    holds_what_was_told(program, spool, case, whole, whole)
+
+    def run_of(case, *refused):
+        shutil.copyfile(made, spool)
+        return Run(program, spool, case.tried, *refused)
+
+    def whole_of(case):
+        whole = run_of(case)
+        same("the replies", whole.replies(), case.told)
+        holds_what_was_told(program, spool, case, whole, whole)
+        return whole
+
+    whole = whole_of(case)
+    without = {conn: (other, whole_of(other)) for conn, other in case.without.items()}
+    seen = set()
 
     def run_at(number):
-        shutil.copyfile(made, spool)
-        return Run(program, spool, case.tried, library, number)
+        return run_of(case, library, number)
 
     def judge(run):
-        ended_well(run, whole)
-        holds_what_was_told(program, spool, case, run, whole)
+        gone = next((conn for conn in without if f"! {conn} 0" in run.answers().get(str(conn), [])), None)
+        other, others = without.get(gone, (case, whole))
+        seen.add(gone)
+        ended_well(run, whole, others)
+        holds_what_was_told(program, spool, other, run, others)
 
-    return each_refused(name, every, run_at, judge)
+    wrong = each_refused(name, every, run_at, judge)
+    return wrong + [f"{name}: connection {conn} was never refused" for conn in without if conn not in seen]
 
 
 def but_journal(spool):

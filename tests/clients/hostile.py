@@ -9,7 +9,8 @@ a transcoder's state are damaged it may be either. Where it is taken, the upload
 the texts those on its blocks; it is upgraded where it is of version 1, and refused so too where it isn't taken. A
 damaged index file is formatted with twice: it is refused with the line and the number that reading it in Python gives,
 or taken, and then bytes of Shift_JIS are decoded by exactly its pairs. A damaged head is given whole and in pieces,
-whose replies must be the same bytes. The status is 0 where all was so, nothing hung or was ended by a signal, no damage
+whose replies must be the same bytes. Beside a server each other call is told that the spool is in use, and leaves it
+as it is. The status is 0 where all was so, nothing hung or was ended by a signal, no damage
 was told as a fault of the device (3), and of each kind some were taken and some refused. What was wrong is printed with
 its seed.
 """
@@ -23,7 +24,7 @@ from pathlib import Path
 
 import spools
 from growths import LONG, SHIFT_JIS, Run, ask, came, patch, post
-from harness import Wrong, holds, indexes_in, make_old, parser_of, same, version_of
+from harness import Server, Wrong, holds, indexes_in, make_old, parser_of, same, version_of
 
 PAGE = 4096
 BLOCKS = 16
@@ -281,6 +282,26 @@ def sound_spool(program, folder):
     return spool.read_bytes()
 
 
+def try_in_use(program, folder):
+    """While a server has a spool open, each call of another process is told so, and leaves the spool as it is."""
+    spool = folder / "served"
+    shutil.copyfile(folder / "sound", spool)
+    before, server = spool.read_bytes(), Server(program.path, spool)
+    serve = ["--port", "0", "--connections", "1", "--turns", "1"]
+    formats = ["--blocks", str(BLOCKS), "--indexes", str(folder / "idx")]
+    try:
+        for word, *more in ["list"], ["script"], ["upgrade"], ["serve", *serve], ["format", *formats]:
+            words = [program.path, word, str(spool), *more]
+            ran = subprocess.run(words, input="open 1\n", capture_output=True, text=True, timeout=60)
+            opens = "make" if word == "format" else "open"
+            said = f"device fault\ncannot {opens} the spool {spool}: it is in use\n"
+            same(f"{word} beside a server", (ran.returncode, ran.stdout, ran.stderr), (3, "", said))
+    finally:
+        server.kill()
+    same("the bytes of a spool in use", spool.read_bytes(), before)
+    same("an opening after it", program.run("list", spool).returncode, 0)
+
+
 def try_each(name, count, seed, trying, program, folder, sound):
     """Tries so many of them, each by a seed of its own: the seeds that went wrong."""
     wrong = []
@@ -315,6 +336,7 @@ def main():
         folder = Path(name)
         shutil.copytree(indexes_in(folder, given.indexes), folder / "idx")
         spool, index = sound_spool(program, folder), (folder / "idx" / JIS0208).read_bytes()
+        try_in_use(program, folder)
         wrong = try_each("spools", given.spools, given.seed, try_spool, program, folder, spool)
         wrong += try_each("heads", given.heads, given.seed, try_head, program, folder, spool)
         wrong += try_each("index files", given.files, given.seed, try_index, program, folder, index)
