@@ -51,24 +51,6 @@ fn first_bad_line(rt: HostRuntime) {
     }
 }
 
-fn excludes(rt: &impl Abort, set: &IndexSet) {
-    assert!(rt; set.offers(Encoding::ShiftJis) && !set.offers(Encoding::EucJp));
-    assert!(rt; set.pointer(Kind::Jis0208, '\u{7E8A}') == Some(8272));
-    assert!(rt; set.pointer_sjis('\u{7E8A}') == Some(10744));
-    assert!(rt; set.code(Kind::Jis0208, 10744) == Some('\u{7E8A}'));
-}
-
-#[test]
-fn excluded_pointers(rt: HostRuntime) {
-    let mut set = IndexSet::new(rt.alloc()).expect(&rt, "memory");
-    assert!(rt; set.pointer_sjis('\u{7E8A}').is_none() && !set.offers(Encoding::ShiftJis));
-    set.set(Index::read(rt.alloc(), b"8272\t7E8A\r\n10744\t7E8A\r\n", Kind::Jis0208).expect(
-        &rt,
-        "lines of an index file",
-    ));
-    excludes(&rt, &set);
-}
-
 fn area_of(rt: &impl Abort, alloc: Global, set: &IndexSet) -> Vec<u8> {
     let mut area = Vec::new(alloc);
     for page in 0..22usize {
@@ -110,50 +92,51 @@ fn area_there_and_back(rt: HostRuntime) {
     is_small(&rt, rt.alloc(), &set, &area);
 }
 
+fn is_damaged(rt: &impl Abort, alloc: Global, area: &[u8], what: &str) {
+    let refused = IndexSet::from_area(alloc, area);
+    assert!(rt; matches!(&refused, Err(AreaError::Damaged)), "{what}");
+}
+
 #[test]
-fn area_with_a_surrogate(rt: HostRuntime) {
+fn areas_of_no_set(rt: HostRuntime) {
     let mut area = small_area(&rt, rt.alloc());
     assert!(rt; area.len() == 90112);
-    // the entry of pointer 5
-    area[52..56].copy_from_slice(&[0, 0, 0xD8, 0]);
-    let refused = IndexSet::from_area(rt.alloc(), &area);
-    assert!(rt; matches!(&refused, Err(AreaError::Damaged)));
-}
-
-/// A code point of its own for each of the 11,280 pointers, scattered over U+4E00 to U+7A0F.
-fn scattered(pointer: u32) -> Option<char> {
-    if pointer < 11280 {
-        char::from_u32(0x4E00 + pointer * 7919 % 11280)
-    } else {
-        None
+    // the 18 flags, 14 zeros, the entries of jis0208, jis0212, katakana and the single-byte encodings, 1,684 zeros
+    for (at, bytes, what) in [
+        (0, [2, 0, 0, 0], "the flag 2"),
+        (0, [1, 0, 0, 2], "the flag 2 of a file that isn't set"),
+        (18, [0, 0, 0, 1], "a byte after the flags"),
+        (52, [0, 0, 0xD8, 0], "a surrogate"),
+        (52, [0, 0x11, 0, 0], "no code point"),
+        (
+            45152,
+            [0, 0, 0x4E, 0x02],
+            "an entry of jis0212, which isn't set",
+        ),
+        (
+            80496,
+            [0, 0, 0x30, 0x02],
+            "an entry of katakana, which isn't set",
+        ),
+        (
+            80748,
+            [0, 0, 0x20, 0xAC],
+            "an entry of IBM866, which isn't set",
+        ),
+        (88428, [1, 0, 0, 0], "a byte after the entries"),
+        (90108, [0, 0, 0, 1], "the last byte"),
+    ] {
+        assert!(rt; area.len() == 90112 && at <= 90108);
+        let mut before = [0; 4];
+        before.copy_from_slice(&area[at..at + 4]);
+        area[at..at + 4].copy_from_slice(&bytes);
+        is_damaged(&rt, rt.alloc(), &area, what);
+        area[at..at + 4].copy_from_slice(&before);
     }
-}
-
-/// A file with a code point at each pointer that jis0208 can have.
-fn full_file(rt: &impl Abort, alloc: Global) -> Vec<u8> {
-    let mut file = Vec::new(alloc);
-    for pointer in 0..11280u32 {
-        let code = scattered(pointer).expect(rt, "a scalar value") as u32;
-        let line = format!(in alloc; "{pointer}\t{code:X}\n").expect(rt, "memory");
-        file.extend_from_slice(line.as_bytes()).expect(rt, "memory");
-    }
-    file
-}
-
-/// Looks each entry of a full index up, once by its pointer and twice by its code point.
-fn finds_all(rt: &impl Abort, index: &Index) {
-    for pointer in 0..11280u32 {
-        let c = scattered(pointer).expect(rt, "a scalar value");
-        let usable = pointer < 8272 || 8835 < pointer;
-        let wanted = if usable { Some(pointer) } else { None };
-        assert!(rt; index.code(pointer) == Some(c) && index.pointer(c) == Some(pointer));
-        assert!(rt; index.pointer_sjis(c) == wanted, "pointer {pointer}");
-    }
-}
-
-#[test]
-fn each_entry_of_a_full_file(rt: HostRuntime) {
-    let file = full_file(&rt, rt.alloc());
-    let index = Index::read(rt.alloc(), &file, Kind::Jis0208).expect(&rt, "lines of an index file");
-    finds_all(&rt, &index);
+    assert!(rt; area.len() == 90112);
+    is_damaged(&rt, rt.alloc(), &area[..90111], "a byte too few");
+    is_damaged(&rt, rt.alloc(), &[], "nothing");
+    assert!(rt; IndexSet::from_area(rt.alloc(), &area).is_ok());
+    area.push(0).expect(&rt, "memory");
+    is_damaged(&rt, rt.alloc(), &area, "a byte too many");
 }

@@ -120,25 +120,81 @@ fn narrowing(rt: HostRuntime) {
     }
 }
 
-#[test]
-fn lead_carried_into_a_block(rt: HostRuntime) {
-    let mut bytes = [0u8; 64];
+/// The byte that is left over of a block after a carried one.
+const LEFT: u8 = 0x7F;
+
+/// The bytes of 32 units, after the first one where that is carried.
+fn bytes_of_units(order: Order, units: &[u16; 32], is_carried: bool) -> (Option<u8>, [u8; 64]) {
+    let mut bytes = [LEFT; 65];
     for i in 0..32 {
-        bytes[2 * i] = 0x41;
+        let [high, low] = units[i].to_be_bytes();
+        let pair = match order {
+            Order::Big => (high, low),
+            Order::Little => (low, high),
+        };
+        bytes[2 * i] = pair.0;
+        bytes[2 * i + 1] = pair.1;
     }
-    bytes[0] = 0x00;
-    bytes[1] = 0xDE;
-    let mut units = [0u16; 32];
+    let mut block = [0; 64];
+    if is_carried {
+        block.copy_from_slice(&bytes[1..]);
+        (Some(bytes[0]), block)
+    } else {
+        block.copy_from_slice(&bytes[..64]);
+        (None, block)
+    }
+}
 
-    let mut pairing = Pairing::carrying(None, Some(0xD83D));
-    assert!(rt; pairing.block(Order::Little, &bytes, &mut units));
-    assert!(rt; units[0] == 0xDE00 && units[1] == 0x41 && units[31] == 0x41);
-    assert!(rt; pairing.odd().is_none() && pairing.lead().is_none());
+/// A block of these units, after a carried lead D83D or after none, is paired, and this lead is carried on, or it
+/// isn't, and what is carried stays. A byte is carried, or none.
+fn is_paired(rt: &impl Abort, units: &[u16; 32], carries: bool, paired: Option<Option<u16>>) {
+    for (order, is_carried) in [
+        (Order::Big, false),
+        (Order::Big, true),
+        (Order::Little, false),
+        (Order::Little, true),
+    ] {
+        let (odd, bytes) = bytes_of_units(order, units, is_carried);
+        let mut out = [0u16; 32];
+        let mut pairing = if carries {
+            Pairing::carrying(odd, Some(0xD83D))
+        } else {
+            Pairing::carrying(odd, None)
+        };
+        let lead = pairing.lead();
+        let answer = pairing.block(order, &bytes, &mut out);
+        assert!(rt; out == *units && answer == paired.is_some());
+        assert_eq!(rt; pairing.lead(), paired.unwrap_or(lead));
+        let left = if is_carried { Some(LEFT) } else { None };
+        assert_eq!(rt; pairing.odd(), if answer { left } else { odd });
+    }
+}
 
-    assert!(rt; !Pairing::new().block(Order::Little, &bytes, &mut units));
-    let mut held = Pairing::carrying(Some(0x3D), None);
-    assert!(rt; !held.block(Order::Big, &bytes, &mut units));
-    assert_eq!(rt; held.odd(), Some(0x3D));
+/// A lead at each place, a trail, and both, after a carried lead and after none, in both orders, with a byte that is
+/// carried and without: only a trail follows a lead, which may be the carried one, and a trail follows nothing else.
+#[test]
+fn surrogates_at_each_place_of_a_block(rt: HostRuntime) {
+    for place in 0..32usize {
+        let mut units = [0x41; 32];
+        units[place] = 0xD83D;
+        let last = if place == 31 {
+            Some(Some(0xD83D))
+        } else {
+            None
+        };
+        is_paired(&rt, &units, false, last);
+        is_paired(&rt, &units, true, None);
+        if place < 31 {
+            units[place + 1] = 0xDE00;
+            is_paired(&rt, &units, false, Some(None));
+            is_paired(&rt, &units, true, None);
+        }
+        units = [0x41; 32];
+        units[place] = 0xDE00;
+        let first = if place == 0 { Some(None) } else { None };
+        is_paired(&rt, &units, false, None);
+        is_paired(&rt, &units, true, first);
+    }
 }
 
 #[test]

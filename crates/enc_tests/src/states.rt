@@ -63,7 +63,7 @@ fn state_bytes_behind_a_piece(rt: HostRuntime) {
 
 #[test]
 fn state_bytes_of_no_state(rt: HostRuntime) {
-    let none: [&[u8]; 19] = [
+    let none: [&[u8]; 23] = [
         // numbers of nothing, and UTF-16 as the output
         &[21],
         &[0, 1],
@@ -87,11 +87,15 @@ fn state_bytes_of_no_state(rt: HostRuntime) {
         &[3, 0, 0, 1, 3, 0xA0],
         &[4, 0, 0, 1, 4, 0, 1],
         &[4, 0, 0, 1, 4, 0x8E, 1],
+        &[4, 0, 0, 1, 4, 0x8F, 1],
         // an output state that isn't the set, and a flag behind a lead
         &[5, 0, 0, 1, 5, 3, 0, 0, 0],
         &[5, 0, 0, 1, 5, 4, 3, 0x24, 1],
-        // an encoder's state that UTF-8 lacks
+        // an encoder's state that UTF-8 lacks, and one before and after decoding, and one that is none
         &[0, 0, 0, 1, 0, 0, 0, 0, 0, 0, 0, 0, 0, 0, 0, 0, 1],
+        &[0, 5, 0, 0, 0, 0, 0, 0, 0, 0, 0, 0, 0, 0, 0, 0, 2],
+        &[0, 5, 0, 2, 0, 0, 0, 0, 0, 0, 0, 0, 0, 0, 0, 0, 1],
+        &[0, 5, 0, 1, 0, 0, 0, 0, 0, 0, 0, 0, 0, 0, 0, 0, 3],
     ];
     for front in none {
         assert!(rt; Transcoder::unpack(&with_zeros(front)).is_none());

@@ -93,20 +93,19 @@ fn holds(rt: &impl Abort, alloc: Global, set: &IndexSet, line: &str) {
     in_any_cut(rt, alloc, &start, set, &bytes, &text);
 }
 
-/// Checks each line: how many there are.
-fn all_hold(rt: &impl Abort, alloc: Global, set: &IndexSet, lines: &str) -> usize {
-    let mut count = 0usize;
+/// Checks each line.
+fn all_hold(rt: &impl Abort, alloc: Global, set: &IndexSet, lines: &str) {
     for line in lines.lines() {
         holds(rt, alloc, set, line);
-        count = count.saturating_add(1);
     }
-    count
 }
 
+/// Twelve are decoded in each of 21 encodings, and twelve encoded in each of the 19 that texts are stored in.
 #[test]
 fn strings_of_another_implementation(rt: HostRuntime) {
+    assert_eq!(rt; STRINGS.lines().count(), 12 * 21 + 12 * 19);
     let set = all_files(&rt, rt.alloc());
-    assert_eq!(rt; all_hold(&rt, rt.alloc(), &set, STRINGS), 480);
+    all_hold(&rt, rt.alloc(), &set, STRINGS);
 }
 
 /// The bytes of hexadecimal digits, 80 times over.
@@ -145,41 +144,52 @@ fn long_texts_of_another_implementation(rt: HostRuntime) {
     all_hold_repeated(&rt, rt.alloc(), &set, TEXTS);
 }
 
-/// So many letters, bytes, and so many letters again.
+/// The letter a in the encoding of a label.
+fn letter_of(label: &str) -> &'static [u8] {
+    match label {
+        "UTF-16BE" => b"\0a",
+        "UTF-16LE" => b"a\0",
+        _ => b"a",
+    }
+}
+
+/// A letter so many times, bytes, and so many times again.
 fn among_letters(
     rt: &impl Abort,
     alloc: Global,
-    before: usize,
+    letter: &[u8],
     bytes: &[u8],
-    behind: usize,
+    times: (usize, usize),
 ) -> Vec<u8> {
     let mut all = Vec::new(alloc);
-    all.resize(before, b'a').expect(rt, "memory");
+    for _ in 0..times.0 {
+        all.extend_from_slice(letter).expect(rt, "memory");
+    }
     all.extend_from_slice(bytes).expect(rt, "memory");
-    all.resize(all.len().saturating_add(behind), b'a')
-        .expect(rt, "memory");
+    for _ in 0..times.1 {
+        all.extend_from_slice(letter).expect(rt, "memory");
+    }
     all
 }
 
 /// Checks a line whose bytes stand among so many letters, in two pieces, cut within the bytes and around them.
-fn holds_among(rt: &impl Abort, alloc: Global, set: &IndexSet, line: &str, letters: (usize, usize))
-    requires before { letters.0 ≤ 4096 }
-    requires behind { letters.1 ≤ 4096 }
-{
+fn holds_among(
+    rt: &impl Abort,
+    alloc: Global,
+    set: &IndexSet,
+    line: &str,
+    letters: (usize, usize),
+) {
     let (direction, rest) = word(rt, line);
     let (label, rest) = word(rt, rest);
     let (input, output) = word(rt, rest);
     let start = start_of(rt, direction, label);
-    let bytes = among_letters(rt, alloc, letters.0, &bytes_of(rt, alloc, input), letters.1);
-    let text = among_letters(
-        rt,
-        alloc,
-        letters.0,
-        &bytes_of(rt, alloc, output),
-        letters.1,
-    );
+    let letter = letter_of(label);
+    let bytes = among_letters(rt, alloc, letter, &bytes_of(rt, alloc, input), letters);
+    let text = among_letters(rt, alloc, b"a", &bytes_of(rt, alloc, output), letters);
+    let last = letters.0.saturating_mul(letter.len()).saturating_add(6);
     for back in 0..bytes.len().min(8) {
-        let cut = (letters.0 + 6).min(bytes.len()).saturating_sub(back);
+        let cut = last.min(bytes.len()).saturating_sub(back);
         let out = in_two(rt, alloc, &start, set, bytes.split_at(cut));
         assert!(rt;
             out == text,
@@ -209,28 +219,121 @@ decode windows-1252 8DE981 EFBFBDC3A9EFBFBD
 encode windows-1252 E38182 262331323335343B
 encode Shift_JIS F09F9880 26233132383531323B
 encode ISO-2022-JP F09F9880 26233132383531323B
+decode UTF-16LE 3DD800DE F09F9880
+decode UTF-16LE 3DD8 EFBFBD
+decode UTF-16LE 00DE EFBFBD
+decode UTF-16LE 3DD83DD800DE00DE EFBFBDF09F9880EFBFBD
+decode UTF-16LE 00DE3DD8 EFBFBDEFBFBD
+decode UTF-16BE D83DDE00 F09F9880
+decode UTF-16BE D83D EFBFBD
+decode UTF-16BE DE00 EFBFBD
+decode UTF-16BE D83DD83DDE00DE00 EFBFBDF09F9880EFBFBD
+decode UTF-16BE DE00D83D EFBFBDEFBFBD
+";
+
+/// What stands at the end: characters that it cuts. An odd byte, alone or after a lead surrogate, is one fault.
+const AT_THE_END: &str = "\
+decode UTF-8 F09F98 EFBFBD
+decode Shift_JIS 82 EFBFBD
+decode EUC-JP 8FB0 EFBFBD
+decode ISO-2022-JP 1B2442242224 E38182EFBFBD
+decode UTF-16LE 41 EFBFBD
+decode UTF-16LE 3DD800 EFBFBD
+decode UTF-16LE 00DE41 EFBFBDEFBFBD
+decode UTF-16BE D8 EFBFBD
+decode UTF-16BE D83DDE EFBFBD
+decode UTF-16BE DE0041 EFBFBDEFBFBD
 ";
 
 #[test]
-fn one_character_among_letters(rt: HostRuntime) {
+fn characters_and_faults_among_letters(rt: HostRuntime) {
     let set = few_pairs(&rt, rt.alloc());
     for before in 0..100usize {
         for line in AMONG.lines() {
             holds_among(&rt, rt.alloc(), &set, line, (before, 100 - before));
         }
+        for line in AT_THE_END.lines() {
+            holds_among(&rt, rt.alloc(), &set, line, (before, 0));
+        }
     }
 }
 
-/// Behind so many letters that blocks, fronts of 512 bytes and windows are crossed.
+/// After so many letters that blocks, prefixes of 512 bytes and windows are crossed.
 #[test]
-fn one_character_behind_many_letters(rt: HostRuntime) {
+fn characters_and_faults_after_many_letters(rt: HostRuntime) {
     let set = few_pairs(&rt, rt.alloc());
     for before in [
-        250, 253, 255, 256, 510, 511, 512, 1020, 1023, 1024, 2000, 4090usize,
+        250, 253, 255, 256, 510, 511, 512, 1020, 1023, 1024, 2000, 2047, 2048, 4090, 4095,
+        4096usize,
     ] {
         for line in AMONG.lines() {
             holds_among(&rt, rt.alloc(), &set, line, (before, 300));
         }
+        for line in AT_THE_END.lines() {
+            holds_among(&rt, rt.alloc(), &set, line, (before, 0));
+        }
+    }
+}
+
+/// On each line two encodings, bytes, the text before the first character that isn't encoded, and this character. It is
+/// refused in the mode `fatal`.
+const FATAL: &str = "\
+UTF-8 windows-1252 41C3A9E3818242 41E9 3042
+UTF-8 windows-1252 41E08041 41 FFFD
+UTF-8 windows-1252 41F09F98 41 FFFD
+UTF-8 Shift_JIS E38182F09F988041 82A0 1F600
+UTF-8 EUC-JP E38182E282AC A4A2 20AC
+UTF-8 ISO-2022-JP E38182F09F988041 1B244224221B2842 1F600
+UTF-16LE Shift_JIS 42303DD800DE4100 82A0 1F600
+UTF-16LE windows-1252 41003DD84100 41 FFFD
+UTF-16BE windows-1252 0041D83DDE 41 FFFD
+Shift_JIS windows-1252 4182A041 41 3042
+Shift_JIS EUC-JP 82A08220 A4A2 FFFD
+EUC-JP windows-1252 418FB0A141 41 4E02
+ISO-2022-JP windows-1252 411B244224221B284241 41 3042
+ISO-2022-JP EUC-JP 410E41 41 FFFD
+windows-1252 EUC-JP 418D 41 FFFD
+";
+
+/// How two pieces and their end are answered, by what `out` gets before a refusal.
+fn answer_of(
+    start: &Transcoder,
+    set: &IndexSet,
+    pieces: (&[u8], &[u8]),
+    out: &mut Vec<u8>,
+) -> Result<(), TranscodeError> {
+    let mut transcoder = start.copy();
+    transcoder.feed(set, pieces.0, out)?;
+    transcoder.feed(set, pieces.1, out)?;
+    transcoder.finish(set, out)
+}
+
+/// Checks a line: the bytes are refused in the same way in two pieces with the cut at each place.
+fn refuses_in_any_cut(rt: &impl Abort, alloc: Global, set: &IndexSet, line: &str) {
+    let (from, rest) = word(rt, line);
+    let (to, rest) = word(rt, rest);
+    let (input, rest) = word(rt, rest);
+    let (output, code) = word(rt, rest);
+    let start = between(rt, from, to, Mode::Fatal);
+    let refused = u32::from_str_radix(code, 16).ok().and_then(char::from_u32);
+    let bytes = bytes_of(rt, alloc, input);
+    let text = bytes_of(rt, alloc, output);
+    for cut in 0..bytes.len() + 1 {
+        let mut out = Vec::new(alloc);
+        let answer = answer_of(&start, set, bytes.split_at(cut), &mut out);
+        let Err(TranscodeError::Unencodable(c)) = answer else {
+            panic!(rt; "{line}, cut at {cut}: {answer:?}")
+        };
+        assert_eq!(rt; Some(c), refused, "{line}, cut at {cut}");
+        assert!(rt; text.starts_with(&out), "{line}, cut at {cut}");
+    }
+}
+
+#[test]
+fn refusals_in_any_cut(rt: HostRuntime) {
+    let set = few_pairs(&rt, rt.alloc());
+    for line in FATAL.lines() {
+        refuses_in_any_cut(&rt, rt.alloc(), &set, line);
     }
 }
 

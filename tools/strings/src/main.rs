@@ -8,7 +8,7 @@
 //!                         are encoded
 //!        strings check    reads such lines from standard input, and fails where encoding_rs answers otherwise
 use encoding_rs::Encoding;
-use std::io::{self, BufRead};
+use std::io;
 
 const NAMES: [&str; 21] = [
     "UTF-8", "UTF-16BE", "UTF-16LE", "Shift_JIS", "EUC-JP", "ISO-2022-JP", "IBM866", "ISO-8859-2", "ISO-8859-5",
@@ -107,8 +107,24 @@ fn bytes_of(digits: &str) -> Vec<u8> {
     (0..digits.len()).step_by(2).map(pair).collect()
 }
 
+/// What folds a line within a string of Rattle.
+const FOLD: &str = "\\\n    ";
+
+/// A line in parts of at most 120 columns. None begins with a space, which would be lost.
+fn folded(line: &str) -> String {
+    let (mut rest, mut all, mut room) = (line, String::new(), 119);
+    while rest.len() > room + 1 {
+        let at = rest[..=room].rfind(|it| it != ' ').expect("digits");
+        all = all + &rest[..at] + FOLD;
+        rest = &rest[at..];
+        room = 115;
+    }
+    all + rest
+}
+
 fn print(direction: &str, name: &str, bytes: &[u8]) {
-    println!("{direction} {name} {} {}", hex(bytes), hex(&answer(direction, name, bytes)));
+    let line = format!("{direction} {name} {} {}", hex(bytes), hex(&answer(direction, name, bytes)));
+    println!("{}", folded(&line));
 }
 
 fn make(seed: u64) {
@@ -133,7 +149,8 @@ fn make(seed: u64) {
 
 fn check() -> bool {
     let mut is_right = true;
-    for line in io::stdin().lock().lines().map(|it| it.expect("a line")) {
+    let text = io::read_to_string(io::stdin()).expect("UTF-8").replace(FOLD, "");
+    for line in text.lines() {
         let words: Vec<&str> = line.trim_end_matches('\\').split(' ').collect();
         if let [direction @ ("decode" | "encode"), name, input, output] = words[..] {
             let wanted = hex(&answer(direction, name, &bytes_of(input)));
