@@ -1,26 +1,7 @@
 //! Replies whose bytes were worked out by hand.
 
-use std::process::Abort;
 use tus_request::Fault;
-use tus_request::replies::{
-    reply_created, reply_deleted, reply_head, reply_options, reply_refused,
-};
-
-const DELETED: &str =
-    "HTTP/1.1 204 No Content\r\nTus-Resumable: 1.0.0\r\nCache-Control: no-store\r\n\r\n";
-
-const OPTIONS: &str =
-    "HTTP/1.1 204 No Content\r\nTus-Resumable: 1.0.0\r\nCache-Control: no-store\r\n\
-      Tus-Version: 1.0.0\r\nTus-Extension: creation,creation-defer-length,termination\r\n\
-      Tus-Max-Size: 1073741824\r\n\r\n";
-
-const CLOSING_OPTIONS: &str =
-    "HTTP/1.1 204 No Content\r\nTus-Resumable: 1.0.0\r\nCache-Control: no-store\r\n\
-      Tus-Version: 1.0.0\r\nTus-Extension: creation,creation-defer-length,termination\r\n\
-      Tus-Max-Size: 1073741824\r\nConnection: close\r\n\r\n";
-
-const CREATED: &str = "HTTP/1.1 201 Created\r\nTus-Resumable: 1.0.0\r\nCache-Control: no-store\r\n\
-      Location: /files/1\r\nContent-Length: 0\r\n\r\n";
+use tus_request::replies::{reply_head, reply_refused};
 
 const DEFERRED_HEAD: &str = "HTTP/1.1 200 OK\r\nTus-Resumable: 1.0.0\r\nCache-Control: no-store\r\n\
       Upload-Offset: 0\r\nUpload-Defer-Length: 1\r\n\r\n";
@@ -39,35 +20,6 @@ const BAD_METHOD_ON_FILES: &str =
 const BAD_METHOD_ON_AN_UPLOAD: &str =
     "HTTP/1.1 405 Method Not Allowed\r\nTus-Resumable: 1.0.0\r\nCache-Control: no-store\r\n\
       Allow: OPTIONS, HEAD, PATCH, GET, DELETE\r\nX-Refusal: 24\r\nContent-Length: 0\r\n\r\n";
-
-/// Whether the reply that was written is this text.
-fn assert_written(rt: &impl Abort, out: &[u8], text: &str, len: usize) {
-    assert_eq!(rt; out, text.as_bytes());
-    assert_eq!(rt; text.len(), len);
-}
-
-#[test]
-fn a_deletion_has_no_lines_of_its_own(rt: HostRuntime) {
-    let mut out = Vec::new(rt.alloc());
-    reply_deleted(rt.alloc(), false, false, &mut out).expect(&rt, "memory");
-    assert_written(&rt, &out, DELETED, 74);
-}
-
-#[test]
-fn options_name_the_extensions(rt: HostRuntime) {
-    for (closes, text, len) in [(false, OPTIONS, 179), (true, CLOSING_OPTIONS, 198)] {
-        let mut out = Vec::new(rt.alloc());
-        reply_options(rt.alloc(), false, closes, &mut out).expect(&rt, "memory");
-        assert_written(&rt, &out, text, len);
-    }
-}
-
-#[test]
-fn an_upload_is_made(rt: HostRuntime) {
-    let mut out = Vec::new(rt.alloc());
-    reply_created(rt.alloc(), 1, false, false, &mut out).expect(&rt, "memory");
-    assert_written(&rt, &out, CREATED, 110);
-}
 
 #[test]
 fn a_length_is_shown_where_it_is_known(rt: HostRuntime) {
