@@ -3,10 +3,10 @@
 usage: package.py [--program PATH] [--indexes DIR] [--seed N] [--root TAR]
 
 It needs root, dpkg-deb, Linux's namespaces, and mmdebstrap, which makes the Debian of its packages (or TAR, an archive
-of one that has systemd, systemd-sysv, curl, iproute2 and procps). The machine is booted in namespaces of its own (machine.py),
-so that no port and no file of this one is touched. Uploads are sent by curl in pieces, and their texts compared with
-Python's codecs: they stay over a gateway that is ended hard, an upgrade, a removal, a purge, and an installation after
-it. What the unit forbids is looked up in the process, and tried of the network.
+of one that has systemd, systemd-sysv, curl, iproute2 and procps). The machine is booted in namespaces of its own
+(machine.py), so that no port and no file of this one is touched. Uploads are sent by curl in pieces, and their texts
+compared with Python's codecs: they stay over a gateway that is ended hard, an upgrade, a removal, a purge, and an
+installation after it. What the unit forbids is looked up in the process, and tried of the network.
 """
 
 import hashlib
