@@ -69,7 +69,7 @@ def by_preflight():
     url = f"http://127.0.0.1:{FRONT}/files"
     status, lines = asks_before(url, NAMED)
     same("a preflight's status", status, 204)
-    same("the origin that may", lines[ORIGIN], NAMED)
+    same("the origin that may", lines.get(ORIGIN), NAMED)
     holds("PATCH is allowed", "PATCH" in lines["access-control-allow-methods"])
     allowed = lines["access-control-allow-headers"].lower().split(", ")
     holds("its headers are allowed", {"content-type", "tus-resumable", "upload-offset"} <= set(allowed))
@@ -77,7 +77,7 @@ def by_preflight():
     same("OPTIONS that is no preflight", reply_of("OPTIONS", url, {"Origin": NAMED})[1]["tus-version"], "1.0.0")
     for wanted, headers in ((201, {"Upload-Length": 0}), (400, {})):
         status, lines = reply_of("POST", url, {**TUS, **headers, "Origin": NAMED})
-        same("a POST's status and origin", (status, lines[ORIGIN]), (wanted, NAMED))
+        same("a POST's status and origin", (status, lines.get(ORIGIN)), (wanted, NAMED))
         shown = lines["access-control-expose-headers"].split(", ")
         holds("its headers are shown", {"Location", "Upload-Offset", "X-Refusal"} <= set(shown))
 

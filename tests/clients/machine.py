@@ -7,9 +7,20 @@ from pathlib import Path
 
 from harness import Wrong
 
-PACKAGES = "systemd,systemd-sysv,curl"
+PACKAGES = "systemd,systemd-sysv,curl,iproute2,procps"
 SUITE = "bookworm"
-# What `unshare` runs as the first process of the new namespaces: it makes the folder the root, and is systemd then.
+# How long something is waited for, in seconds.
+PATIENCE = 120
+# The mounts of what is run don't reach beyond it.
+PRIVATE = ["unshare", "--mount", "--propagation", "private", "bash", "-c"]
+# A control group of its own, so that machines side by side don't share those of their services.
+GROUP = """set -e
+mount -t cgroup2 cgroup2 /sys/fs/cgroup
+mkdir "/sys/fs/cgroup/$1"
+echo $$ > "/sys/fs/cgroup/$1/cgroup.procs"
+exec unshare --uts --ipc --pid --net --cgroup --mount --fork --kill-child bash -c "$3" boot "$2"
+"""
+# What is run as the first process of the new namespaces: it makes the folder the root, and is systemd then.
 BOOT = """set -e
 cd "$1"
 mount --bind . . && cd "$1"
@@ -29,6 +40,11 @@ umount -l /old
 rmdir /old
 exec chroot / /usr/bin/env -i container=unshare PATH=/usr/sbin:/usr/bin:/sbin:/bin /lib/systemd/systemd
 """
+# Removes the control groups that a machine left.
+LEFT = """set -e
+mount -t cgroup2 cgroup2 /sys/fs/cgroup
+find "/sys/fs/cgroup/$1" -depth -type d -exec rmdir {} +
+"""
 
 
 def make_root(folder, archive=None):
@@ -45,13 +61,16 @@ class Machine:
     """A root that was booted. It has a network of its own, with nobody else on it."""
 
     def __init__(self, root):
-        self.root = Path(root)
-        spaces = ["--mount", "--uts", "--ipc", "--pid", "--net", "--cgroup"]
-        words = ["unshare", *spaces, "--fork", "--kill-child", "--propagation", "private", "bash", "-c", BOOT, "boot"]
+        self.root, self.group = Path(root), f"machine-{os.getpid()}"
         quiet = subprocess.DEVNULL
-        self.process = subprocess.Popen([*words, str(root)], stdin=quiet, stdout=quiet, stderr=quiet)
-        self.first = self.first_process()
-        self.until("systemd is up", lambda: self.says("systemctl", "is-system-running") == "running")
+        words = [*PRIVATE, GROUP, "group", self.group, str(root), BOOT]
+        self.process = subprocess.Popen(words, stdin=quiet, stdout=quiet, stderr=quiet)
+        try:
+            self.first = self.first_process()
+            self.until("systemd is up", lambda: self.says("systemctl", "is-system-running") == "running")
+        except Exception:
+            self.stop()
+            raise
 
     def first_process(self):
         """The process id of its first process, as it is seen from here."""
@@ -83,11 +102,12 @@ class Machine:
 
     def until(self, what, holds):
         """Waits until something holds."""
-        for _ in range(150):
+        end = time.monotonic() + PATIENCE
+        while time.monotonic() < end:
             if holds():
                 return
             time.sleep(0.2)
-        raise Wrong(f"not so after half a minute: {what}")
+        raise Wrong(f"not so after {PATIENCE} seconds: {what}")
 
     def put(self, source, place):
         """Copies a file into it."""
@@ -99,3 +119,5 @@ class Machine:
     def stop(self):
         self.process.kill()
         self.process.wait(60)
+        time.sleep(1)
+        subprocess.run([*PRIVATE, LEFT, "left", self.group], check=True)

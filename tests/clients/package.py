@@ -3,9 +3,10 @@
 usage: package.py [--program PATH] [--indexes DIR] [--seed N] [--root TAR]
 
 It needs root, dpkg-deb, Linux's namespaces, and mmdebstrap, which makes the Debian of its packages (or TAR, an archive
-of one that has systemd, systemd-sysv and curl). The machine is booted in namespaces of its own (machine.py), so that no
-port and no file of this one is touched. Uploads are sent by curl in pieces, and their texts compared with Python's
-codecs: they stay over a gateway that is ended hard, an upgrade, a removal, a purge, and an installation after it.
+of one that has systemd, systemd-sysv, curl, iproute2 and procps). The machine is booted in namespaces of its own
+(machine.py), so that no port and no file of this one is touched. Uploads are sent by curl in pieces, and their texts
+compared with Python's codecs: they stay over a gateway that is ended hard, an upgrade, a removal, a purge, and an
+installation after it. What the unit forbids is looked up in the process, and tried of the network.
 """
 
 import hashlib
@@ -24,6 +25,8 @@ UNIT = "wovelatsa.service"
 # Each further instance, and where it listens.
 INSTANCES = {"a": "127.0.0.1:8081", "b": "127.0.0.1:8082"}
 MOVED = "127.0.0.1:8090"
+# An address that isn't of the machine alone, and its network.
+FAR, FAR_PORT, FAR_NET = "10.9.0.1", "10.9.0.1:8080", "10.9.0.0/24"
 PAGES = 64
 
 
@@ -49,7 +52,12 @@ def is_active(machine, unit):
 
 def answers(machine, address):
     """Whether a gateway serves at an address."""
-    return machine.run("curl", "-sf", "-X", "OPTIONS", f"http://{address}/files")[0] == 0
+    return machine.run("curl", "-sf", "--max-time", "3", "-X", "OPTIONS", f"http://{address}/files")[0] == 0
+
+
+def listens_at(machine, name, address):
+    """Writes the settings of an instance."""
+    machine.does("sh", "-c", f"echo LISTEN={address} > /etc/wovelatsa/{name}.env")
 
 
 def installed(machine, deb):
@@ -125,7 +133,7 @@ def ended_hard(machine, url, text):
 
 def upgraded(machine, deb, sent):
     """Each gateway that ran goes on with the new program, at the address that its settings have."""
-    machine.does("sh", "-c", f"echo LISTEN={MOVED} > /etc/wovelatsa/spool.env")
+    listens_at(machine, "spool", MOVED)
     before = {unit: property_of(machine, unit, "MainPID") for unit in sent}
     machine.put(deb, "/root/wovelatsa.deb")
     machine.does("dpkg", "--install", "/root/wovelatsa.deb")
@@ -154,6 +162,29 @@ def sums_of(machine, spools):
     return [hashlib.sha256(machine.does("cat", it)).hexdigest() for it in spools]
 
 
+def installed_again(machine, url, text):
+    """After a purge the package finds the spool that it left, and serves it by new settings."""
+    machine.does("dpkg", "--install", "/root/wovelatsa.deb")
+    machine.does("systemctl", "start", UNIT)
+    url = f"http://127.0.0.1:8080/files/{url.rpartition('/')[2]}"
+    machine.until("it serves again", lambda: machine.run("curl", "-sf", url)[0] == 0)
+    text_there(machine, url, text)
+
+
+def beyond(machine):
+    """At an address of a network a gateway is reached only once its unit lets the network in."""
+    machine.does("ip", "address", "add", f"{FAR}/32", "dev", "lo")
+    listens_at(machine, "spool", FAR_PORT)
+    machine.does("systemctl", "restart", UNIT)
+    machine.until("it listens", lambda: FAR_PORT in machine.says("ss", "--no-header", "--listening", "--tcp", "-n"))
+    same("whether it is reached", answers(machine, FAR_PORT), False)
+    lines = f"[Service]\nIPAddressAllow={FAR_NET}\n"
+    machine.does("install", "-D", "/dev/stdin", f"/etc/systemd/system/{UNIT}.d/override.conf", body=lines.encode())
+    machine.does("systemctl", "daemon-reload")
+    machine.does("systemctl", "restart", UNIT)
+    machine.until("it is reached", lambda: answers(machine, FAR_PORT))
+
+
 def try_package(machine, old, new, rng):
     """The package's life. Returns how exposed systemd-analyze says that the service is."""
     installed(machine, old)
@@ -162,25 +193,21 @@ def try_package(machine, old, new, rng):
     exposed = hardened(machine)
     ended_hard(machine, *sent[UNIT])
     for name, address in INSTANCES.items():
-        machine.does("sh", "-c", f"echo LISTEN={address} > /etc/wovelatsa/{name}.env")
+        listens_at(machine, name, address)
         unit = served(machine, name, address, "/root/indexes")
         sent[unit] = upload(machine, address, rng)
     upgraded(machine, new, sent)
     spools = [f"{HOME}/{it}" for it in ("spool", *INSTANCES)]
     sums = gone(machine, "--remove", spools, None)
     gone(machine, "--purge", spools, sums)
-    machine.does("dpkg", "--install", "/root/wovelatsa.deb")
-    machine.does("systemctl", "start", UNIT)
-    url, text = sent[UNIT]
-    url = f"http://127.0.0.1:8080/files/{url.rpartition('/')[2]}"
-    machine.until("it serves again", lambda: machine.run("curl", "-sf", url)[0] == 0)
-    text_there(machine, url, text)
+    installed_again(machine, *sent[UNIT])
+    beyond(machine)
     return exposed
 
 
 def main():
     words = parser_of(__doc__)
-    words.add_argument("--root", help="an archive of a Debian with systemd, systemd-sysv and curl")
+    words.add_argument("--root", help="an archive of a Debian with systemd, systemd-sysv, curl, iproute2 and procps")
     words = words.parse_args()
     with tempfile.TemporaryDirectory() as folder:
         old, new = packages(words.program, folder)
@@ -198,8 +225,8 @@ def main():
             raise
         finally:
             machine.stop()
-    print(f"installed, served by three units, upgraded from {OLD} to {NEW}, removed, purged, installed again: every")
-    print(f"text right, every spool there; systemd-analyze security says {exposed}")
+    print(f"installed, served by three units, upgraded from {OLD} to {NEW}, removed, purged, installed again,")
+    print(f"reached over a network: every text right, every spool there; systemd-analyze security says {exposed}")
 
 
 if __name__ == "__main__":

@@ -1,12 +1,14 @@
 """Gateways at ports of their own, and the proxies before them, with the lines of packaging/."""
 
+import os
 import shutil
+import signal
 import socket
 import subprocess
 import time
 from pathlib import Path
 
-from harness import EVER, ROOT, Server
+from harness import EVER, ROOT, Server, holds, same
 
 NGINX = ROOT / "packaging/nginx"
 CADDY = ROOT / "packaging/caddy/Caddyfile"
@@ -36,9 +38,14 @@ class Nginx:
         head = f"pid {folder}/pid;\nerror_log {folder}/error.log;\nevents {{}}\n"
         self.write("nginx.conf", f"{head}http {{\naccess_log off;\n{paths}include {folder}/instances.conf;\n}}\n")
         self.write("instances.conf", lines_for(names))
-        self.words = ["nginx", "-p", f"{folder}/", "-c", f"{folder}/nginx.conf"]
-        subprocess.run(self.words, check=True, stderr=subprocess.DEVNULL)
+        self.run()
         wait_for(FRONT)
+
+    def run(self, *words):
+        """Runs nginx over its lines, which have to read."""
+        words = ["nginx", "-p", f"{self.folder}/", "-c", f"{self.folder}/nginx.conf", *words]
+        done = subprocess.run(words, stdout=subprocess.DEVNULL, stderr=subprocess.PIPE, text=True)
+        holds(f"nginx: {done.stderr}", done.returncode == 0)
 
     def write(self, file, text):
         (self.folder / file).write_text(text)
@@ -46,13 +53,14 @@ class Nginx:
     def change(self, file, old, new):
         """Replaces lines, which stand there once, and makes nginx read them."""
         text = (self.folder / file).read_text()
-        assert text.count(old) == 1, f"{file}: {old!r}"
+        same(f"how often {file} has {old!r}", text.count(old), 1)
         self.write(file, text.replace(old, new))
-        subprocess.run([*self.words, "-s", "reload"], check=True, stderr=subprocess.DEVNULL)
+        self.run("-s", "reload")
         time.sleep(1)
 
     def stop(self):
-        subprocess.run([*self.words, "-s", "stop"], check=True, stderr=subprocess.DEVNULL)
+        """Ends it by its process id, also where its lines don't read any more."""
+        os.kill(int((self.folder / "pid").read_text()), signal.SIGTERM)
 
 
 class Caddy:
