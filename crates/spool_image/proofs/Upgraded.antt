@@ -64,9 +64,9 @@ pub on_ok_more : {T E A B : Type 0} (r : Result T E) → (A → B) → OnOk r A 
 on_ok_more (Ok t) more a = more a
 on_ok_more (Err e) more a = tt
 
-pub on_ok_both : {T E A B : Type 0} (r : Result T E) → OnOk r A → OnOk r B → OnOk r (A × B)
-on_ok_both (Ok t) a b = (a, b)
-on_ok_both (Err e) a b = tt
+pub on_ok_both : {T E : Type 0} (A B : Type 0) (r : Result T E) → OnOk r A → OnOk r B → OnOk r (A × B)
+on_ok_both A B (Ok t) a b = (a, b)
+on_ok_both A B (Err e) a b = tt
 
 -- what holds before a refusal that changes nothing holds behind it
 pub untouched_on : {D T E : Type 0} (P : D → Type 0) (fault : E) (mid new : D) (r : Result T E) → P mid

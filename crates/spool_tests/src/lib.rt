@@ -9,8 +9,6 @@ mod devices;
 #[cfg(test)]
 mod images;
 #[cfg(test)]
-mod openings;
-#[cfg(test)]
 mod pages;
 #[cfg(test)]
 mod resumes;

@@ -34,12 +34,12 @@ returns-clause-commit g c honest v keeps rests =
     let kept = keeps.blocks in
     let same : v.blocks ≡ c.layout.result.now = search rules in
     record {
-      pages = c.in_ok-pages.pages.now;
+      pages = c.in_ok-pages.pages;
       count = c.in_ok-pages.ensures.count;
-      area = subst (λ n. InArea (journal_pages n) c.in_ok-pages.pages.now) kept c.in_ok-pages.ensures.area;
+      area = subst (λ n. InArea (journal_pages n) c.in_ok-pages.pages) kept c.in_ok-pages.ensures.area;
       changes = c.in_ok-pages.ensures.changes v keeps;
       settled = subst
-          (λ n. Settled (journal_pages n) (laid c.in_ok-pages.pages.now (g.D.Disk.seen c.args.disk.now))
+          (λ n. Settled (journal_pages n) (laid c.in_ok-pages.pages (g.D.Disk.seen c.args.disk.now))
           (g.D.Disk.seen c.change.new.disk) (g.D.Disk.loose c.change.new.disk)) (sym same)
           (c.in_ok-change.ensures.laid honest v same rests);
     }

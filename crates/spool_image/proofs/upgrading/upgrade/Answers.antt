@@ -92,7 +92,7 @@ returns-clause-sound g c honest =
           (subst (λ n. (p : ℕ) → Outside (journal_pages n) p
           → g.D.Disk.seen c.load_old.new.disk p ≡ overlaid (g.D.Disk.seen c.args.disk.now) p) keeps.blocks
           (c.in_ok-kept.ensures.settled honest).same) done.1;
-    }) (on_ok_both c.rewrite.result (c.rewrite.ensures.done mid v keeps rests)
+    }) (on_ok_both _ _ c.rewrite.result (c.rewrite.ensures.done mid v keeps rests)
     (c.rewrite.ensures.commit mid v keeps rests))
 
 pub returns-clause-not_a_spool : goal.returns-clause-not_a_spool
