@@ -22,8 +22,12 @@ digits n small = length-decimal-le 20 n (omega arith) (omega (arith, small)) sma
 -- a header's length
 header_length : (name value : List ℕ) → length (header name value) ≡ length name + 4 + length value
 header_length name value =
-    omega (arith, length-append name (codes ": " ++ (value ++ crlf)), length-append (codes ": ") (value ++ crlf),
-    length-append value crlf)
+    omega (
+      arith,
+      length-append name (codes ": " ++ (value ++ crlf)),
+      length-append (codes ": ") (value ++ crlf),
+      length-append value crlf,
+    )
 
 length_short : (n : Option ℕ) → IfSome n (λ k. k < 2 ^ 64) → length (length_line n) ≤ 38
 length_short None small = omega arith
@@ -42,11 +46,21 @@ around status lines n closes most few own small =
     let close = close_line closes ++ crlf in
     let size = length_line n ++ close in
     let rest = lines ++ size in
-    omega (arith, few, own, length_short n small, close_short closes,
-    length-append (codes "HTTP/1.1 ") (status ++ (crlf ++ (tus ++ (cache ++ rest)))),
-    length-append status (crlf ++ (tus ++ (cache ++ rest))), length-append crlf (tus ++ (cache ++ rest)),
-    length-append tus (cache ++ rest), length-append cache rest, length-append lines size,
-    length-append (length_line n) close, length-append (close_line closes) crlf)
+    omega (
+      arith,
+      few,
+      own,
+      length_short n small,
+      close_short closes,
+      length-append (codes "HTTP/1.1 ") (status ++ (crlf ++ (tus ++ (cache ++ rest)))),
+      length-append status (crlf ++ (tus ++ (cache ++ rest))),
+      length-append crlf (tus ++ (cache ++ rest)),
+      length-append tus (cache ++ rest),
+      length-append cache rest,
+      length-append lines size,
+      length-append (length_line n) close,
+      length-append (close_line closes) crlf,
+    )
 
 unless_small : (bare : Bool) (n : ℕ) → n < 2 ^ 64 → IfSome (unless_bare bare n) (λ k. k < 2 ^ 64)
 unless_small true n small = tt
@@ -63,17 +77,27 @@ deleted_short false = omega arith
 pub created_short : (number : ℕ) (bare closes : Bool) → number < 2 ^ 64 → length (reply_created number bare closes) ≤ 2048
 created_short number bare closes small =
     let own : length (header (codes "Location") (codes "/files/" ++ decimal number)) ≤ 60 =
-    omega (arith, header_length (codes "Location") (codes "/files/" ++ decimal number),
-    length-append (codes "/files/") (decimal number), digits number small) in
-    omega (arith, around (codes "201 Created") (header (codes "Location") (codes "/files/" ++ decimal number))
-    (unless_bare bare 0) closes 60 (omega arith) own (unless_small bare 0 (omega arith)))
+    omega (
+      arith,
+      header_length (codes "Location") (codes "/files/" ++ decimal number),
+      length-append (codes "/files/") (decimal number),
+      digits number small,
+    ) in
+    omega (
+      arith,
+      around (codes "201 Created") (header (codes "Location") (codes "/files/" ++ decimal number))
+          (unless_bare bare 0) closes 60 (omega arith) own (unless_small bare 0 (omega arith)),
+    )
 
 pub patched_short : (offset : ℕ) (closes : Bool) → offset < 2 ^ 64 → length (reply_patched offset closes) ≤ 2048
 patched_short offset closes small =
     let own : length (header (codes "Upload-Offset") (decimal offset)) ≤ 60 =
     omega (arith, header_length (codes "Upload-Offset") (decimal offset), digits offset small) in
-    omega (arith, around (codes "204 No Content") (header (codes "Upload-Offset") (decimal offset)) None closes 60
-    (omega arith) own tt)
+    omega (
+      arith,
+      around (codes "204 No Content") (header (codes "Upload-Offset") (decimal offset)) None closes 60
+          (omega arith) own tt,
+    )
 
 declared_short : (declared : Option ℕ) → IfSome declared (λ k. k < 2 ^ 64) → length (declared_line declared) ≤ 60
 declared_short None small = omega arith
@@ -90,12 +114,20 @@ head_short offset declared metadata bare closes small known few =
     let first = header (codes "Upload-Offset") (decimal offset) in
     let lines = first ++ (declared_line declared ++ metadata_line metadata) in
     let own : length lines ≤ 1700 =
-    omega (arith, length-append first (declared_line declared ++ metadata_line metadata),
-    length-append (declared_line declared) (metadata_line metadata),
-    header_length (codes "Upload-Offset") (decimal offset), digits offset small, declared_short declared known,
-    metadata_short metadata few) in
-    omega (arith, around (codes "200 OK") lines (unless_bare bare 0) closes 1700 (omega arith) own
-    (unless_small bare 0 (omega arith)))
+    omega (
+      arith,
+      length-append first (declared_line declared ++ metadata_line metadata),
+      length-append (declared_line declared) (metadata_line metadata),
+      header_length (codes "Upload-Offset") (decimal offset),
+      digits offset small,
+      declared_short declared known,
+      metadata_short metadata few,
+    ) in
+    omega (
+      arith,
+      around (codes "200 OK") lines (unless_bare bare 0) closes 1700 (omega arith) own
+          (unless_small bare 0 (omega arith)),
+    )
 
 name_short : (to : Encoding) → length (name_of to) ≤ 20
 name_short e.Utf8 = omega arith
@@ -124,8 +156,12 @@ pub text_short : (to : Encoding) (n : ℕ) (bare closes : Bool) → n < 2 ^ 64 �
 text_short to n bare closes small =
     let line = header (codes "Content-Type") (codes "text/plain; charset=" ++ name_of to) in
     let own : length line ≤ 80 =
-    omega (arith, header_length (codes "Content-Type") (codes "text/plain; charset=" ++ name_of to),
-    length-append (codes "text/plain; charset=") (name_of to), name_short to) in
+    omega (
+      arith,
+      header_length (codes "Content-Type") (codes "text/plain; charset=" ++ name_of to),
+      length-append (codes "text/plain; charset=") (name_of to),
+      name_short to,
+    ) in
     omega (arith, around (codes "200 OK") line (unless_bare bare n) closes 80 (omega arith) own (unless_small bare n small))
 
 number_small : (fault : Fault) → fault_number fault < 2 ^ 64
@@ -196,10 +232,18 @@ pub refused_short : (fault : Fault) (on_files bare closes : Bool) → length (re
 refused_short fault on_files bare closes =
     let number = decimal (fault_number fault) in
     let own : length (refusal_lines fault on_files) ≤ 120 =
-    omega (arith, length-append (refusal_lead fault on_files) (refusal_line fault), lead_short fault on_files,
-    header_length (codes "X-Refusal") number, digits (fault_number fault) (number_small fault)) in
-    omega (arith, around (status_of fault) (refusal_lines fault on_files) (unless_bare bare 0) closes 120
-    (status_short fault) own (unless_small bare 0 (omega arith)))
+    omega (
+      arith,
+      length-append (refusal_lead fault on_files) (refusal_line fault),
+      lead_short fault on_files,
+      header_length (codes "X-Refusal") number,
+      digits (fault_number fault) (number_small fault),
+    ) in
+    omega (
+      arith,
+      around (status_of fault) (refusal_lines fault on_files) (unless_bare bare 0) closes 120
+          (status_short fault) own (unless_small bare 0 (omega arith)),
+    )
 
 -- one is appended, or nothing is
 pub appended : {X E : Type 0} (r : Result X E) (old text new : List ℕ) → length text ≤ 2048 → OnOk r (new ≡ old ++ text)
