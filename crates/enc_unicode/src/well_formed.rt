@@ -75,8 +75,8 @@ impl Look {
         }
     }
 
-    /// Where to look after a block, of whose bytes so many were read and written: nowhere if it had many faults. What is
-    /// left of a character that was kept says nothing.
+    /// Where to look after a block, of whose bytes so many were read and written: nowhere if it had many faults. What
+    /// is left of a character that was kept says nothing.
     fn after_block(self, read: usize, written: usize) -> Self
         ensures { IsNarrow self → IsNarrow result }
     {
@@ -155,8 +155,8 @@ fn text_within(bytes: &[u8], reach: usize) -> &str
     }
 }
 
-/// The text before the place among the first bytes where it seems to end; empty where the guess is wrong. Of a few bytes
-/// it is found by characters.
+/// The text before the place among the first bytes where it seems to end; empty where the guess is wrong. Of a few
+/// bytes it is found by characters.
 fn text_before_guess(bytes: &[u8]) -> &str
     ensures { result.now ≡ take (length result.now) bytes.now }
 {

@@ -14,8 +14,8 @@ use Rattle.spool_pages.specs.declared.version.Version.TheVariants.{One, Two}
 use Rattle.spool_image.specs.declared.error.UpgradeError.{UpgradeError}
 use Rattle.spool_image.specs.declared.error.UpgradeError.TheVariants.{Open, AlreadyNew}
 
--- ONE COMMIT of 257 pages, which say this view in version 2: laid over the bytes of before they are what a read gives now
--- outside gate and journal, all of it synced
+-- ONE COMMIT of 257 pages, which say this view in version 2: laid over the bytes of before they are what a read gives
+-- now outside gate and journal, all of it synced
 pub record CommitOfUpgrade (view : View) (bytes seen : ℕ → ℕ) (loose : ℕ → Type 0) : Type 0 where
   pub pages : List (ℕ × List ℕ)
   pub count : length pages ≡ 257

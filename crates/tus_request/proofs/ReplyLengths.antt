@@ -74,7 +74,8 @@ pub deleted_short : (closes : Bool) → length (reply_deleted closes) ≤ 2048
 deleted_short true = omega arith
 deleted_short false = omega arith
 
-pub created_short : (number : ℕ) (bare closes : Bool) → number < 2 ^ 64 → length (reply_created number bare closes) ≤ 2048
+pub created_short : (number : ℕ) (bare closes : Bool) → number < 2 ^ 64
+    → length (reply_created number bare closes) ≤ 2048
 created_short number bare closes small =
     let own : length (header (codes "Location") (codes "/files/" ++ decimal number)) ≤ 60 =
     omega (
@@ -162,7 +163,11 @@ text_short to n bare closes small =
       length-append (codes "text/plain; charset=") (name_of to),
       name_short to,
     ) in
-    omega (arith, around (codes "200 OK") line (unless_bare bare n) closes 80 (omega arith) own (unless_small bare n small))
+    omega (
+      arith,
+      around (codes "200 OK") line (unless_bare bare n) closes 80 (omega arith) own
+          (unless_small bare n small),
+    )
 
 number_small : (fault : Fault) → fault_number fault < 2 ^ 64
 number_small f.Unencodable = omega arith
@@ -228,7 +233,8 @@ lead_short f.BadMetadata on_files = omega arith
 lead_short f.BadLabel on_files = omega arith
 lead_short f.LengthSet on_files = omega arith
 
-pub refused_short : (fault : Fault) (on_files bare closes : Bool) → length (reply_refused fault on_files bare closes) ≤ 2048
+pub refused_short : (fault : Fault) (on_files bare closes : Bool)
+    → length (reply_refused fault on_files bare closes) ≤ 2048
 refused_short fault on_files bare closes =
     let number = decimal (fault_number fault) in
     let own : length (refusal_lines fault on_files) ≤ 120 =

@@ -1,6 +1,6 @@
 -- What an event makes of the world and of its connection.
-use Rattle.std.specs.Prelude.{ℕ, ◌+◌, ◌-◌, ◌*◌, Bool, true, false, List, [], ◌++◌, length, take, if◌then◌else◌, Option, Some}
-use Rattle.std.specs.Prelude.{None}
+use Rattle.std.specs.Prelude.{ℕ, ◌+◌, ◌-◌, ◌*◌, Bool, true, false, List, [], ◌++◌, length, take, if◌then◌else◌}
+use Rattle.std.specs.Prelude.{Option, Some, None}
 use Rattle.tus_request.specs.Answers.{answer_of}
 use Rattle.tus_request.specs.Replies.{longest_reply, GrowsBy}
 use Rattle.enc_model.specs.Indexes.{offers}

@@ -20,7 +20,8 @@ returns-in_err-put g c =
     let prefix = sym (map-id so_far) ∙ YieldsList-so_far given so_far _ c.loop-c.yielded_by in
     let one = subst (λ x. refuses c.loop-c.self (x ∷ []) why c.put.new.self) turn.1 c.in_err-put.ensures in
     let rest = is.more c.loop-c.self c.put.new.self (get_or all n c.in-Some.c ∷ []) (drop (suc n) all) why one in
-    let left = subst (λ x. refuses c.loop-c.self x why c.put.new.self) (sym (drop-cons all n c.in-Some.c turn.0)) rest in
+    let left = subst (λ x. refuses c.loop-c.self x why c.put.new.self) (sym (drop-cons all n c.in-Some.c turn.0))
+    rest in
     let whole = is.later c.args.self.now c.loop-c.self c.put.new.self so_far (drop n all) why c.loop-c.invariant left in
     given_err g.Self.Sink.takes refuses c.args.self.now c.put.new.self all c.from_residual.result why
     c.from_residual.ensures.1

@@ -5,6 +5,8 @@ use Rattle.tus_request.proofs.replies.reply_refused.Goals as goal
 
 pub returns-clause-short : goal.returns-clause-short
 returns-clause-short c =
-    appended c.append.result c.args.out.now.items (reply_refused c.args.fault c.args.on_files c.args.bare c.args.closes) c.append.new.out.items
+    appended c.append.result c.args.out.now.items
+    (reply_refused c.args.fault c.args.on_files c.args.bare c.args.closes)
+    c.append.new.out.items
     (refused_short c.args.fault c.args.on_files c.args.bare c.args.closes)
     (search rules) c.append.ensures.err
