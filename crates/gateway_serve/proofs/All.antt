@@ -17,6 +17,7 @@ use Rattle.gateway_serve.specs.Joined.{SamePlaces, IsNew, joint_of, nothing_yet,
 use Rattle.gateway_serve.specs.declared.places.Place.{Place}
 use Rattle.gateway_serve.specs.declared.places.Place.TheVariants.{Free, Open}
 use Rattle.gateway_serve.specs.declared.links.Link.{Link}
+use Rattle.gateway_serve.specs.declared.reasons.Reason.TheVariants.{Over}
 use Rattle.gateway_serve.proofs.Behind.{followed}
 use Rattle.gateway_serve.proofs.Steps.{opens_closed, unopened}
 use Rattle.gateway_serve.proofs.Talks.{talks_here, alone_step}
@@ -32,6 +33,7 @@ module _ {S : Type 0} (st : State) (past now : List Marked) (k : ℕ)
     latest = is.latest;
     others = is.others;
     talks = talks ∙ is.talks;
+    told = is.told;
     taken = is.taken;
     few = is.few;
     given = is.given;
@@ -117,7 +119,7 @@ all_left {S} i places ended st past most all = λ k. elim (cases_lt k i) [
 
 pub one_more_left : {S : Type 0} (i : ℕ) (places : List (Place S)) (d p' : Place S) (ended ended' : List Seen)
     (st : State) (past : List Marked) → i < length places
-    → ended' ≡ with_place i (get_or places i d) ended → HalfLeft i places ended st past
+    → ended' ≡ with_place i Over (get_or places i d) ended → HalfLeft i places ended st past
     → HalfLeft (i + 1) (set places i p') ended' st past
 one_more_left {S} i places d p' ended ended' st past inside with all = λ k. let p =
     get_or places i d in elim (cases_eq k i) [
@@ -133,7 +135,7 @@ one_more_left {S} i places d p' ended ended' st past inside with all = λ k. let
                 (omega (arith, le, e)),
           )
       | inr ne ↦
-          let others : seen_of k ended' ≡ seen_of k ended = ap (seen_of k) with ∙ others_stay i p ended k ne in (
+          let others : seen_of k ended' ≡ seen_of k ended = ap (seen_of k) with ∙ others_stay i Over p ended k ne in (
             λ lt. subst (λ x. Pairs sockets.Fits x (conversations st past k)) (sym others)
                 ((all k).0 (omega (arith, lt, ne))),
             λ le.
@@ -190,6 +192,7 @@ module _ {S : Type 0} (places : List (Place S)) (n : ℕ) (ended : List Seen) (s
         others = conversations st past n;
         talks = talks_here st past (Opened n) (mark_of answer) ∙ ap
             (λ o. goes_on (Opened n) o (conversations st past n)) done;
+        told = refl;
         taken = refl;
         few = omega arith;
         given = refl;

@@ -34,6 +34,7 @@ module _ (ended : List Seen) (st : State) (past : List Marked) (n : ℕ) where
     latest = is.latest;
     others = is.others;
     talks = is.talks;
+    told = is.told;
     taken = is.taken;
     few = is.few;
     given = append_assoc j.went (take k j.output) (drop k j.output)
@@ -52,6 +53,7 @@ module _ (ended : List Seen) (st : State) (past : List Marked) (n : ℕ) where
     latest = is.latest;
     others = is.others;
     talks = is.talks;
+    told = is.told;
     taken = ap (λ l. l ++ bytes) (is.taken ∙ (ap (λ l. is.latest.took ++ l) none ∙ append-nil is.latest.took));
     few = few;
     given = is.given;
@@ -93,6 +95,7 @@ module _ (ended : List Seen) (st : State) (past : List Marked) (n : ℕ) where
       latest = longer is.latest took gave;
       others = is.others;
       talks = talks;
+      told = is.told;
       taken = is.taken ∙ (ap (λ l. is.latest.took ++ l) taken ∙ sym (append_assoc is.latest.took took input));
       few = shorter took input j.input taken is.few;
       given = ap (λ l. j.went ++ l) given ∙ (sym (append_assoc j.went j.output gave) ∙ ap (λ l. l ++ gave) is.given);
@@ -110,6 +113,7 @@ module _ (ended : List Seen) (st : State) (past : List Marked) (n : ℕ) where
       latest = is.latest;
       others = is.others;
       talks = talks ∙ is.talks;
+      told = is.told;
       taken = is.taken ∙ ap (λ l. is.latest.took ++ l) (sym taken);
       few = subst (λ l. length l ≤ 4096) (sym taken) is.few;
       given = ap (λ l. j.went ++ l) given ∙ is.given;

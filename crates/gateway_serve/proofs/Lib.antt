@@ -4,5 +4,5 @@ mod Behind
 mod Joints
 mod Freed
 mod Carries
-mod Reasons
+mod Lost
 mod All

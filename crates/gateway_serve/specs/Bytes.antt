@@ -3,7 +3,7 @@ use Rattle.std.specs.Prelude.{ℕ, List}
 use Rattle.gateway_serve.specs.Sockets.{Seen}
 use Rattle.gateway_serve.specs.declared.sockets.Socket.{Socket}
 use Rattle.gateway_serve.specs.declared.sockets.Latest.{Latest}
-use Rattle.gateway_serve.specs.declared.links.Left.{Left}
+use Rattle.gateway_serve.specs.declared.reasons.Reason.{Reason}
 
 abbrev pub came_of : {S : Type 0} → Socket S → List ℕ
 came_of s = s.came.bytes
@@ -17,6 +17,6 @@ stream_of s = s.stream
 abbrev pub latest_of : {S : Type 0} → Socket S → Latest
 latest_of s = s.latest
 
--- what is seen of it, where it serves the connection with this number, of which a turn left this
-abbrev pub seen : {S : Type 0} → ℕ → Socket S → Left → Seen
-seen n s left = record { conn = n; came = came_of s; went = went_of s; left = left }
+-- what is seen of it, where it served the connection with this number and ended for this reason
+abbrev pub seen : {S : Type 0} → ℕ → Socket S → Reason → Seen
+seen n s reason = record { conn = n; came = came_of s; went = went_of s; latest = latest_of s; reason = reason }

@@ -6,8 +6,9 @@ use Rattle.std.specs.declared.io.ErrorKind.{ErrorKind}
 use Rattle.std.specs.declared.io.ErrorKind.TheVariants as Kind
 use Rattle.gateway_serve.specs.declared.sockets.Latest.{Latest}
 use Rattle.gateway_serve.specs.declared.sockets.Latest.TheVariants as Was
-use Rattle.gateway_serve.specs.declared.links.Gone.{Gone}
-use Rattle.gateway_serve.specs.declared.links.Gone.TheVariants.{Ended, Failed, Stuck, Idle}
+use Rattle.gateway_serve.specs.Idle.{HasIdled}
+use Rattle.gateway_serve.specs.declared.reasons.Gone.{Gone}
+use Rattle.gateway_serve.specs.declared.reasons.Gone.TheVariants.{Ended, Failed, Stuck, Late}
 use Rattle.gateway_serve.specs.declared.links.Left.{Left}
 use Rattle.gateway_serve.specs.declared.links.Left.TheVariants as Is
 
@@ -24,13 +25,20 @@ abbrev pub after_write : Result ℕ Error → Latest
 after_write (Ok n) = Was.Written n
 after_write (Err e) = Was.Failed (error_kind e)
 
--- THE REASONS: a read gave nothing, a read or write failed, or a write took nothing. That a connection was idle for too
--- long is none of the socket's
+-- THE REASONS by what the latest call of the stream answered: a read gave nothing, a read or write failed, or a write
+-- took nothing. That a connection's time is over is none of the stream's
 abbrev pub EndsBy : Gone → Latest → Type 0
 EndsBy Ended latest = latest ≡ Was.Read 0
-EndsBy Failed latest = (kind : ErrorKind) × (latest ≡ Was.Failed kind) × IsFailure kind
+EndsBy (Failed kind) latest = (latest ≡ Was.Failed kind) × IsFailure kind
 EndsBy Stuck latest = latest ≡ Was.Written 0
-EndsBy Idle latest = ⊥
+EndsBy (Late late) latest = ⊥
+
+-- and by the clock: nothing came or went for too long
+abbrev pub IsGoneSo : Gone → Latest → Type 0
+IsGoneSo Ended latest = latest ≡ Was.Read 0
+IsGoneSo (Failed kind) latest = (latest ≡ Was.Failed kind) × IsFailure kind
+IsGoneSo Stuck latest = latest ≡ Was.Written 0
+IsGoneSo (Late late) latest = HasIdled late
 
 abbrev pub IfLost : Left → (Gone → Type 0) → Type 0
 IfLost Is.Open P = Unit {0}

@@ -7,16 +7,16 @@ use Rattle.tus_session.specs.declared.answers.Answer.{Answer}
 use Rattle.tus_session.specs.declared.errors.SessionError.{SessionError}
 use Rattle.gateway_script.specs.declared.connections.Connections.{Ghosts}
 use Rattle.gateway_serve.specs.Conversations.{Conversation, conversations}
-use Rattle.gateway_serve.specs.Sockets.{Seen, seen_of, Served, Pairs}
+use Rattle.gateway_serve.specs.Sockets.{Seen, seen_of, IsQuietly, Served, Pairs}
 use Rattle.gateway_serve.specs.Bytes.{came_of, went_of, seen}
 use Rattle.gateway_serve.specs.Served.{IsBack, WentOn, Serves, AllServed, AllLeft}
 use Rattle.gateway_serve.specs.declared.links.Stage.{Stage}
 use Rattle.gateway_serve.specs.declared.links.Stage.TheVariants.{Taking, Giving, Closed}
 use Rattle.gateway_serve.specs.declared.links.Link.{Link}
-use Rattle.gateway_serve.specs.Idle.{longest_idle, seconds_from}
 use Rattle.gateway_serve.specs.declared.idle.At.{At}
 use Rattle.gateway_serve.specs.declared.idle.At.TheVariants.{Between, Request, Reply}
-use Rattle.gateway_serve.specs.declared.idle.Tick.{Tick}
+use Rattle.gateway_serve.specs.declared.reasons.Reason.{Reason}
+use Rattle.gateway_serve.specs.declared.reasons.Reason.TheVariants as Why
 use Rattle.gateway_serve.specs.declared.places.Place.{Place}
 use Rattle.gateway_serve.specs.declared.places.Place.TheVariants.{Free, Open}
 use Rattle.gateway_serve.specs.declared.serving.Server.{Server}
@@ -50,6 +50,7 @@ pub record Joins (j : Joint) (ended : List Seen) (st : State) (past : List Marke
   pub latest : Conversation
   pub others : List Conversation
   pub talks : conversations st past n ≡ latest ∷ others
+  pub told : latest.told ≡ false
   pub taken : j.came ≡ latest.took ++ j.input
   pub few : length j.input ≤ 4096
   pub given : j.went ++ j.output ≡ latest.gave
@@ -72,10 +73,6 @@ at_by Closed output replied = Reply
 
 abbrev pub at_of : {S : Type 0} → Link S → At
 at_of l = at_by l.stage l.output l.replied
-
--- nothing came or went for as long as it may be idle
-abbrev pub HasIdled : {S : Type 0} → Link S → Tick → Type 0
-HasIdled l tick = longest_idle (at_of l) tick.full ≤ seconds_from l.moved tick.now
 
 -- WHAT A TURN DOES: so many bytes are written
 abbrev pub wrote : ℕ → Joint → Joint
@@ -139,13 +136,20 @@ nothing_yet = record { came = []; went = []; input = []; output = []; closed = f
 abbrev pub IsNew : {S : Type 0} → Place S → Type 0
 IsNew {S} p = (l : Link S) × (p ≡ Open l) × (joint_of l ≡ nothing_yet)
 
--- the sockets, with that of a link that ends
-abbrev pub with_link : {S : Type 0} → ℕ → Link S → List Seen → List Seen
-with_link n l ended = seen n l.socket l.left ∷ ended
+-- the sockets, with that of a link that ends for this reason
+abbrev pub with_link : {S : Type 0} → ℕ → Reason → Link S → List Seen → List Seen
+with_link n reason l ended = seen n l.socket reason ∷ ended
 
-abbrev pub with_place : {S : Type 0} → ℕ → Place S → List Seen → List Seen
-with_place n Free ended = ended
-with_place n (Open l) ended = with_link n l ended
+abbrev pub with_place : {S : Type 0} → ℕ → Reason → Place S → List Seen → List Seen
+with_place n reason Free ended = ended
+with_place n reason (Open l) ended = with_link n reason l ended
+
+-- a connection may be ended for this reason, and the session told: it is lost, or serving is over
+abbrev pub MayEnd : {S : Type 0} → Reason → Place S → Type 0
+MayEnd Why.Closed p = ⊥
+MayEnd (Why.Lost gone) Free = Unit {0}
+MayEnd (Why.Lost gone) (Open l) = IsQuietly gone → (joint_of l).output ≡ []
+MayEnd Why.Over p = Unit {0}
 
 -- a place stays joined by events of its connection alone, with the sockets of that connection
 abbrev pub GoesAt : {C S T : Type 0} → Ghosts C → C → C → Result T DiskFault → Place S → Place S → List Seen → List Seen

@@ -2,54 +2,58 @@
 use Rattle.std.specs.Prelude.{◌≡◌, ◌⊎◌, ℕ, ◌+◌, List, [], ◌∷◌}
 use Rattle.gateway_serve.specs.Sockets.{Seen}
 use Rattle.gateway_serve.specs.Bytes.{latest_of}
-use Rattle.gateway_serve.specs.Gone.{EndsBy}
-use Rattle.gateway_serve.specs.Joined.{HasIdled}
+use Rattle.gateway_serve.specs.Gone.{EndsBy, IsGoneSo}
+use Rattle.gateway_serve.specs.Idle.{HasIdled}
+use Rattle.gateway_serve.specs.Joined.{at_of}
 use Rattle.gateway_serve.specs.Streams.{socket_of}
 use Rattle.gateway_serve.specs.declared.idle.Tick.{Tick}
-use Rattle.gateway_serve.specs.declared.links.Gone.{Gone}
-use Rattle.gateway_serve.specs.declared.links.Gone.TheVariants as Why
-use Rattle.gateway_serve.specs.declared.links.Left.{Left}
-use Rattle.gateway_serve.specs.declared.links.Left.TheVariants.{Open, Idle, Closed, Lost}
+use Rattle.gateway_serve.specs.declared.reasons.Gone.{Gone}
+use Rattle.gateway_serve.specs.declared.reasons.Gone.TheVariants as Why
+use Rattle.gateway_serve.specs.declared.reasons.Late.{Late}
+use Rattle.gateway_serve.specs.declared.reasons.Reason.{Reason}
+use Rattle.gateway_serve.specs.declared.reasons.Reason.TheVariants.{Closed, Lost, Over}
+use Rattle.gateway_serve.specs.declared.sockets.Latest.{Latest}
 use Rattle.gateway_serve.specs.declared.links.Link.{Link}
 
--- it was idle for as long as it may be
-abbrev pub IsIdleFor : {S : Type 0} → Link S → Tick → Gone → Type 0
-IsIdleFor l tick gone = (gone ≡ Why.Idle) × HasIdled l tick
+-- how a link is at the time of a turn
+abbrev pub late_of : {S : Type 0} → Link S → Tick → Late
+late_of l tick = record { at = at_of l; full = tick.full; since = l.moved; time = tick.now }
 
--- A CONNECTION IS LOST for this reason: so its socket answered, or it was idle for too long
+-- its time is over
+abbrev pub IsLate : {S : Type 0} → Link S → Tick → Gone → Type 0
+IsLate l tick gone = (gone ≡ Why.Late (late_of l tick)) × HasIdled (late_of l tick)
+
+-- A CONNECTION IS LOST for this reason: so its socket answered, or its time is over
 abbrev pub IsLostBy : {S : Type 0} → Link S → Tick → Gone → Type 0
-IsLostBy l tick gone = EndsBy gone (latest_of (socket_of l)) ⊎ IsIdleFor l tick gone
+IsLostBy l tick gone = EndsBy gone (latest_of (socket_of l)) ⊎ IsLate l tick gone
 
--- what the latest turn left of a connection
-abbrev pub left_of : {S : Type 0} → Link S → Left
-left_of l = l.left
+-- THE REASON for which a socket ended whose stream last answered this, while serving went on
+abbrev pub HasReason : Latest → Reason → Type 0
+HasReason latest Closed = Unit {0}
+HasReason latest (Lost gone) = IsGoneSo gone latest
+HasReason latest Over = ⊥
 
--- that is a reason to end it: the session closed it, or it is lost
-abbrev pub IsReason : Left → Type 0
-IsReason Open = ⊥
-IsReason Idle = ⊥
-IsReason Closed = Unit {0}
-IsReason (Lost gone) = Unit {0}
-
--- each of these sockets ended for a reason
+-- each of these sockets ended for its reason
 abbrev pub AllReasoned : List Seen → Type 0
 AllReasoned [] = Unit {0}
-AllReasoned (s ∷ ended) = IsReason s.left × AllReasoned ended
+AllReasoned (s ∷ ended) = HasReason s.latest s.reason × AllReasoned ended
 
 -- and so did those that ended since
 abbrev pub StayReasoned : List Seen → List Seen → Type 0
 StayReasoned ended ended' = AllReasoned ended → AllReasoned ended'
 
--- since then, of the connections below this number, at most one of each ended
+-- since then, of the connections below this number, at most one of each ended, and because serving was over
 pub data EndedOnce (before : List Seen) : ℕ → List Seen → Type 0 where
   none : EndedOnce before 0 before
   free : (n : ℕ) (ended : List Seen) → EndedOnce before n ended → EndedOnce before (n + 1) ended
-  one_more : (s : Seen) (ended : List Seen) → EndedOnce before s.conn ended → EndedOnce before (s.conn + 1) (s ∷ ended)
+  one_more : (s : Seen) (ended : List Seen) → s.reason ≡ Over → EndedOnce before s.conn ended
+      → EndedOnce before (s.conn + 1) (s ∷ ended)
 
 abbrev pub AtMostOnce : List Seen → List Seen → Type 0
 AtMostOnce before ended = (n : ℕ) × EndedOnce before n ended
 
--- WHEN SERVING IS OVER what is open is ended, at most one connection of each number. Each one before ended for a reason
+-- WHEN SERVING IS OVER what is open is ended, at most one connection of each number. Each one before ended for its own
+-- reason
 abbrev pub EndsReasoned : List Seen → Type 0
 EndsReasoned ended = (before : List Seen) × AllReasoned before × AtMostOnce before ended
 

@@ -1,15 +1,22 @@
 -- What is seen of sockets.
 use Rattle.std.specs.Prelude.{◌≡◌, ◌≤◌, ◌==◌, ℕ, length, false, List, [], ◌∷◌, ◌++◌, if◌then◌else◌}
 use Rattle.gateway_serve.specs.Conversations.{Conversation}
-use Rattle.gateway_serve.specs.declared.links.Left.{Left}
+use Rattle.gateway_serve.specs.declared.idle.At.{At}
+use Rattle.gateway_serve.specs.declared.idle.At.TheVariants.{Between, Request, Reply}
+use Rattle.gateway_serve.specs.declared.reasons.Gone.{Gone}
+use Rattle.gateway_serve.specs.declared.reasons.Gone.TheVariants as Why
+use Rattle.gateway_serve.specs.declared.reasons.Reason.{Reason}
+use Rattle.gateway_serve.specs.declared.reasons.Reason.TheVariants.{Closed, Lost, Over}
+use Rattle.gateway_serve.specs.declared.sockets.Latest.{Latest}
 
 -- a socket that served its connection: the connection's number, all bytes that came from the socket, all that went to
--- it, and what the latest turn left of the connection
+-- it, what the latest call of its stream answered, and why it ended
 pub record Seen : Type 0 where
   pub conn : ℕ
   pub came : List ℕ
   pub went : List ℕ
-  pub left : Left
+  pub latest : Latest
+  pub reason : Reason
 
 -- those of one connection
 abbrev pub seen_of : ℕ → List Seen → List Seen
@@ -22,11 +29,32 @@ IsFront front all = (rest : List ℕ) × (all ≡ front ++ rest)
 abbrev pub IsAllBut : ℕ → List ℕ → List ℕ → Type 0
 IsAllBut most front all = (rest : List ℕ) × (all ≡ front ++ rest) × (length rest ≤ most)
 
+-- THE REASONS for which a socket ends only once all is written: the session closed its connection, or that was late
+-- between requests or in one
+abbrev pub IsQuiet : At → Type 0
+IsQuiet Between = Unit {0}
+IsQuiet Request = Unit {0}
+IsQuiet Reply = ⊥
+
+abbrev pub IsQuietly : Gone → Type 0
+IsQuietly Why.Ended = ⊥
+IsQuietly (Why.Failed kind) = ⊥
+IsQuietly Why.Stuck = ⊥
+IsQuietly (Why.Late late) = IsQuiet late.at
+
+abbrev pub IsWhole : Reason → Type 0
+IsWhole Closed = Unit {0}
+IsWhole (Lost gone) = IsQuietly gone
+IsWhole Over = ⊥
+
 -- all bytes that came, but for at most 4,096 at the end, are those that the session took, and those that went are the
--- first that it gave
+-- first that it gave: all of them, where the reason says so. Where it says that the session closed the connection, the
+-- session wasn't told that the client is gone
 pub record Fits (s : Seen) (c : Conversation) : Type 0 where
   pub taken : IsAllBut 4096 c.took s.came
   pub written : IsFront s.went c.gave
+  pub emptied : IsWhole s.reason → s.went ≡ c.gave
+  pub untold : s.reason ≡ Closed → c.told ≡ false
 
 -- and all that it gave went, unless the session was told that the client is gone
 pub record Served (s : Seen) (c : Conversation) : Type 0 where

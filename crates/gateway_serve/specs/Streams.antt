@@ -1,35 +1,39 @@
 -- What was done with a stream since it was accepted.
-use Rattle.std.specs.Prelude.{◌≡◌, ℕ, List, [], ◌∷◌, ◌++◌, Option, get_or}
+use Rattle.std.specs.Prelude.{ℕ, List, [], ◌∷◌, ◌++◌, length, Option, get_or}
 use Rattle.std.specs.Io.KnownBytes.{Consumes, Appends, Keeps}
 use Rattle.gateway_serve.specs.Sockets.{Seen}
-use Rattle.gateway_serve.specs.Bytes.{came_of, went_of, stream_of}
+use Rattle.std.specs.declared.io.ErrorKind.{ErrorKind}
+use Rattle.gateway_serve.specs.Bytes.{came_of, went_of, stream_of, latest_of}
+use Rattle.gateway_serve.specs.declared.sockets.Latest.{Latest}
+use Rattle.gateway_serve.specs.declared.sockets.Latest.TheVariants as Was
 use Rattle.gateway_serve.specs.declared.sockets.Socket.{Socket}
 use Rattle.gateway_serve.specs.declared.links.Link.{Link}
 use Rattle.gateway_serve.specs.declared.places.Place.{Place}
 use Rattle.gateway_serve.specs.declared.places.Place.TheVariants.{Free, Open}
 
 -- THE STREAM was accepted so, and is so now. Since then it was read and written and nothing else: the reads gave all
--- these bytes, and the writes took all those, each in order. What it has left and what it holds are as it tells them
+-- these bytes, and the writes took all those, each in order. What it has left and what it holds are as it tells them.
+-- The latest of these calls answered so: it gave or took so many bytes, or failed
 pub data Carried {S : Type 0} (remaining contents : S → Option (List ℕ)) (accepted : S)
-    : S → List ℕ → List ℕ → Type 0 where
-  untouched : Carried remaining contents accepted accepted [] []
-  read : (s s' : S) (came went bytes : List ℕ) → Carried remaining contents accepted s came went
+    : S → List ℕ → List ℕ → Latest → Type 0 where
+  untouched : Carried remaining contents accepted accepted [] [] Was.None
+  read : (s s' : S) (came went bytes : List ℕ) (before : Latest) → Carried remaining contents accepted s came went before
       → Consumes (remaining s) (remaining s') bytes
-      → Carried remaining contents accepted s' (came ++ bytes) went
-  not_read : (s s' : S) (came went : List ℕ) → Carried remaining contents accepted s came went
-      → Keeps (remaining s) (remaining s')
-      → Carried remaining contents accepted s' came went
-  written : (s s' : S) (came went bytes : List ℕ) → Carried remaining contents accepted s came went
-      → Appends (contents s) (contents s') bytes
-      → Carried remaining contents accepted s' came (went ++ bytes)
-  not_written : (s s' : S) (came went : List ℕ) → Carried remaining contents accepted s came went
-      → Keeps (contents s) (contents s')
-      → Carried remaining contents accepted s' came went
+      → Carried remaining contents accepted s' (came ++ bytes) went (Was.Read (length bytes))
+  not_read : (s s' : S) (came went : List ℕ) (before : Latest) (kind : ErrorKind)
+      → Carried remaining contents accepted s came went before → Keeps (remaining s) (remaining s')
+      → Carried remaining contents accepted s' came went (Was.Failed kind)
+  written : (s s' : S) (came went bytes : List ℕ) (before : Latest)
+      → Carried remaining contents accepted s came went before → Appends (contents s) (contents s') bytes
+      → Carried remaining contents accepted s' came (went ++ bytes) (Was.Written (length bytes))
+  not_written : (s s' : S) (came went : List ℕ) (before : Latest) (kind : ErrorKind)
+      → Carried remaining contents accepted s came went before → Keeps (contents s) (contents s')
+      → Carried remaining contents accepted s' came went (Was.Failed kind)
 
 module _ {S : Type 0} (remaining contents : S → Option (List ℕ)) where
   -- a socket has the stream that was accepted, of which its bytes came, and to which its bytes went
   abbrev pub IsOf : S → Socket S → Type 0
-  IsOf accepted s = Carried remaining contents accepted (stream_of s) (came_of s) (went_of s)
+  IsOf accepted s = Carried remaining contents accepted (stream_of s) (came_of s) (went_of s) (latest_of s)
 
   -- and it still does
   abbrev pub StaysOf : Socket S → Socket S → Type 0
@@ -46,7 +50,7 @@ module _ {S : Type 0} (remaining contents : S → Option (List ℕ)) where
 
   -- A SOCKET THAT ENDED had a stream that was accepted
   abbrev pub Had : Seen → Type 0
-  Had s = (accepted : S) × (gone : S) × Carried remaining contents accepted gone s.came s.went
+  Had s = (accepted : S) × (gone : S) × Carried remaining contents accepted gone s.came s.went s.latest
 
   -- each of them had its own
   abbrev pub AllHad : List Seen → Type 0

@@ -143,6 +143,7 @@ impl Output {
 
     /// Writes a front part of what is left: how many bytes.
     pub(crate) fn write<S: Read + Write>(&mut self, socket: &mut Socket<S>) -> io::Result<usize>
+        ensures count { IfOk result (λ n. length (take n self.old) ≡ n) }
         ensures rest { IfOk result (λ n. self.new ≡ drop n self.old) }
         ensures went { IfOk result (λ n. went_of socket.new ≡ went_of socket.old ++ take n self.old) }
         ensures came { came_of socket.new ≡ came_of socket.old }

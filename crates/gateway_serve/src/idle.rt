@@ -1,6 +1,6 @@
 //! How long an idle connection is kept, how often a quiet socket is asked, and how long an idle server rests.
-ghost use Rattle.std.specs.Prelude.{◌≡◌, ◌↔◌, ◌≤◌, IsTrue, false};
-ghost use Rattle.gateway_serve.specs.Idle.{longest_idle, seconds_from};
+ghost use Rattle.std.specs.Prelude.{◌≡◌, IsTrue, false};
+ghost use Rattle.gateway_serve.specs.Idle.{longest_idle};
 
 use std::thread;
 use std::time::{Clock, Duration};
@@ -30,7 +30,7 @@ pub(crate) struct Tick {
 
 /// What a connection is at.
 #[derive(Clone, Copy, Debug, PartialEq, Eq, Drop)]
-pub(crate) enum At {
+pub enum At {
     /// Between requests: no reply is owed.
     Between,
     /// In a request: a reply is owed.
@@ -40,15 +40,8 @@ pub(crate) enum At {
 }
 
 impl At {
-    /// Whether a connection is over that is at this, and over which nothing came or went since then.
-    pub(crate) fn is_over(self, since: Duration, tick: Tick) -> bool
-        ensures { IsTrue result ↔ (longest_idle self tick.full ≤ seconds_from since tick.now) }
-    {
-        self.longest_idle(tick.full) <= tick.now.saturating_sub(since).as_secs()
-    }
-
-    // For so many seconds it may be idle, where all places are taken or not.
-    fn longest_idle(self, full: bool) -> u64
+    /// For so many seconds a connection may be idle that is at this, where all places are taken or not.
+    pub(crate) fn longest_idle(self, full: bool) -> u64
         ensures { result ≡ longest_idle self full }
     {
         match self {

@@ -5,8 +5,11 @@ mod buffers;
 mod idle;
 mod links;
 mod places;
+mod reasons;
 mod serving;
 mod sockets;
 
+pub use idle::At;
+pub use reasons::{Gone, Late, Reason};
 pub use serving::{Outcome, serve_on};
-pub use sockets::Ended;
+pub use sockets::{Ended, Latest};

@@ -7,11 +7,13 @@ ghost use Rattle.gateway_serve.specs.Waiting.{HasRoom};
 ghost use Rattle.gateway_serve.specs.Bytes.{stream_of, latest_of};
 ghost use Rattle.gateway_serve.specs.Streams.{StaysOf, socket_of};
 ghost use Rattle.gateway_serve.specs.Gone.{EndsBy, IfLost, IsFailure};
-ghost use Rattle.gateway_serve.specs.Reasons.{IsIdleFor, IsLostBy, left_of};
+ghost use Rattle.gateway_serve.specs.declared.sockets.Latest.{Latest};
+ghost use Rattle.gateway_serve.specs.Reasons.{IsLate, IsLostBy, late_of};
 ghost use Rattle.std.specs.IoError.{error_kind};
 
 use crate::buffers::{Input, Output, PIECE};
 use crate::idle::{At, Pace, Tick};
+use crate::reasons::{Gone, Late, Reason};
 use crate::sockets::{Ended, Socket};
 use gateway_script::Connections;
 use spool_disk::DiskFault;
@@ -31,21 +33,8 @@ enum Stage {
     Closed,
 }
 
-/// Why a connection is lost.
-#[derive(Clone, Copy, Debug, PartialEq, Eq, Drop)]
-pub(crate) enum Gone {
-    /// A read gave nothing: the socket is at its end.
-    Ended,
-    /// A read or write failed, and not because it would have waited or was interrupted.
-    Failed,
-    /// A write took nothing.
-    Stuck,
-    /// Nothing came or went for too long.
-    Idle,
-}
-
 /// What a turn left of a connection.
-#[derive(Clone, Copy, Debug, PartialEq, Eq, Drop)]
+#[derive(Clone, Copy, Drop)]
 pub(crate) enum Left {
     /// It is open.
     Open,
@@ -69,14 +58,13 @@ pub(crate) struct Link<S> {
     /// no reply is owed: nothing came, or the latest call for what came gave bytes
     replied: bool,
     pace: Pace,
-    /// what the latest turn left of it
-    left: Left,
 }
 
 impl<S: Read + Write> Link<S> {
     /// A connection of which nothing came, accepted now. The socket doesn't wait.
     pub(crate) fn new(alloc: Global, stream: S, now: Duration) -> Self
         ensures stream { stream_of (socket_of result) ≡ stream }
+        ensures latest { latest_of (socket_of result) ≡ Latest.None }
         ensures none { joint_of result ≡ nothing_yet }
     {
         Link {
@@ -87,15 +75,14 @@ impl<S: Read + Write> Link<S> {
             moved: now,
             replied: true,
             pace: Pace::new(),
-            left: Left::Open,
         }
     }
 
     /// Puts the socket to those that ended.
-    pub(crate) fn end(&self, conn: usize, ended: &mut Ended)
-        ensures { ended.new.sockets ≡ with_link conn self.now ended.old.sockets }
+    pub(crate) fn end(&self, conn: usize, reason: Reason, ended: &mut Ended)
+        ensures { ended.new.sockets ≡ with_link conn reason self.now ended.old.sockets }
     {
-        ended.add(conn, &self.socket, &self.left);
+        ended.add(conn, &self.socket, &reason);
     }
 
     /// A turn: what is left is written, else the next piece of a text is asked for, else bytes are read and given to
@@ -110,21 +97,16 @@ impl<S: Read + Write> Link<S> {
         tick: Tick,
     ) -> Result<Left, DiskFault>
         ensures lost { IfOk result (λ left. IfLost left (λ gone. IsLostBy self.new tick gone)) }
-        ensures left { IfOk result (λ left. left_of self.new ≡ left) }
         ensures stream { StaysOf S.remaining S.contents (socket_of self.old) (socket_of self.new) }
         ensures serves { Goes C.Connections gateway.old gateway.new result self.old self.new conn }
         ensures over { result ≡ Ok Left.Closed → IsOver (joint_of self.new) }
         ensures counts { Counts (IsErr result) (C.failures gateway.old) (C.failures gateway.new) }
     {
         if !self.pace.is_due(tick.busy) {
-            self.left = Left::Idle;
             return Ok(Left::Idle);
         }
         match self.go_on(gateway, conn) {
-            Ok(left) => {
-                self.left = self.left_at(left, tick);
-                Ok(self.left)
-            }
+            Ok(left) => Ok(self.left_at(left, tick)),
             Err(fault) => Err(fault),
         }
     }
@@ -134,17 +116,31 @@ impl<S: Read + Write> Link<S> {
         ensures socket { socket_of self.new ≡ socket_of self.old }
         ensures same { joint_of self.new ≡ joint_of self.old }
         ensures over { result ≡ Left.Closed → left ≡ Left.Closed }
-        ensures lost { IfLost result (λ gone. (left ≡ Left.Lost gone) ⊎ IsIdleFor self.new tick gone) }
+        ensures lost { IfLost result (λ gone. (left ≡ Left.Lost gone) ⊎ IsLate self.new tick gone) }
     {
-        let moved = left != Left::Idle;
+        let moved = !matches!(left, Left::Idle);
         self.pace.asked(moved);
         if moved {
             self.moved = tick.now;
-            left
-        } else if self.at().is_over(self.moved, tick) {
-            Left::Lost(Gone::Idle)
+            return left;
+        }
+        let late = self.late(tick);
+        if late.is_over() {
+            Left::Lost(Gone::Late(late))
         } else {
             Left::Idle
+        }
+    }
+
+    // How it is at the time of a turn.
+    fn late(&self, tick: Tick) -> Late
+        ensures { result ≡ late_of self.now tick }
+    {
+        Late {
+            at: self.at(),
+            full: tick.full,
+            since: self.moved,
+            time: tick.now,
         }
     }
 
@@ -338,11 +334,12 @@ fn stage_by(answer: Answer) -> Stage
 // What a failed read or write leaves of a connection: one that would have waited is tried again in the next turn.
 fn left_behind(error: &io::Error) -> Left
     ensures unclosed { result ≢ Left.Closed }
-    ensures lost { IfLost result (λ gone. (gone ≡ Gone.Failed) × IsFailure (error_kind error.now)) }
+    ensures lost { IfLost result (λ gone. (gone ≡ Gone.Failed (error_kind error.now)) × IsFailure
+        (error_kind error.now)) }
 {
     match error.kind() {
         ErrorKind::WouldBlock => Left::Idle,
         ErrorKind::Interrupted => Left::Open,
-        _ => Left::Lost(Gone::Failed),
+        kind => Left::Lost(Gone::Failed(kind)),
     }
 }

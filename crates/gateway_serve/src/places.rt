@@ -1,12 +1,13 @@
 //! A place for a connection.
 ghost use Rattle.std.specs.Prelude.{◌≡◌, ◌↔◌, IsTrue, IsErr, IsErrOf};
 ghost use Rattle.upload_rules.specs.Answers.{Counts};
-ghost use Rattle.gateway_serve.specs.Joined.{GoesAt, OthersStay, IsNew, with_place};
+ghost use Rattle.gateway_serve.specs.Joined.{GoesAt, OthersStay, IsNew, MayEnd, with_place};
 ghost use Rattle.gateway_serve.specs.Streams.{PlaceIsOf, PlaceKeeps};
 ghost use Rattle.gateway_serve.specs.Reasons.{StayReasoned};
 
 use crate::idle::Tick;
 use crate::links::{Left, Link};
+use crate::reasons::Reason;
 use crate::sockets::Ended;
 use gateway_script::Connections;
 use spool_disk::DiskFault;
@@ -75,10 +76,10 @@ impl<S: Read + Write + Drop> Place<S> {
             Ok(Left::Open) => Ok(Turned::Moved),
             Ok(Left::Idle) => Ok(Turned::Idle),
             Ok(Left::Closed) => {
-                self.free(conn, ended);
+                self.free(conn, Reason::Closed, ended);
                 Ok(Turned::Closed)
             }
-            Ok(Left::Lost(_)) => match self.end(gateway, conn, ended) {
+            Ok(Left::Lost(gone)) => match self.end(gateway, conn, Reason::Lost(gone), ended) {
                 Ok(()) => Ok(Turned::Closed),
                 Err(fault) => Err(fault),
             },
@@ -86,16 +87,18 @@ impl<S: Read + Write + Drop> Place<S> {
         }
     }
 
-    /// Ends the connection, if one is open: the session is told.
+    /// Ends the connection for this reason, if one is open: the session is told.
     ///
     /// Refused with `DiskFault` where the session was.
     pub(crate) fn end<C: Connections>(
         &mut self,
         gateway: &mut C,
         conn: usize,
+        reason: Reason,
         ended: &mut Ended,
     ) -> Result<(), DiskFault>
-        ensures ended { ended.new.sockets ≡ with_place conn self.old ended.old.sockets }
+        requires { MayEnd reason self.old }
+        ensures ended { ended.new.sockets ≡ with_place conn reason self.old ended.old.sockets }
         ensures streams { PlaceKeeps S.remaining S.contents self.old self.new ended.old.sockets ended.new.sockets }
         ensures serves { GoesAt C.Connections gateway.old gateway.new result self.old self.new
             ended.old.sockets ended.new.sockets conn }
@@ -106,18 +109,18 @@ impl<S: Read + Write + Drop> Place<S> {
         if self.is_free() {
             return Ok(());
         }
-        self.free(conn, ended);
+        self.free(conn, reason, ended);
         unless_failed(gateway.ended(conn))
     }
 
-    /// Lets the socket go, if one is there: the session isn't told.
-    pub(crate) fn free(&mut self, conn: usize, ended: &mut Ended)
+    /// Lets the socket go for this reason, if one is there: the session isn't told.
+    pub(crate) fn free(&mut self, conn: usize, reason: Reason, ended: &mut Ended)
         ensures streams { PlaceKeeps S.remaining S.contents self.old self.new ended.old.sockets ended.new.sockets }
         ensures free { self.new ≡ Place.Free }
-        ensures ended { ended.new.sockets ≡ with_place conn self.old ended.old.sockets }
+        ensures ended { ended.new.sockets ≡ with_place conn reason self.old ended.old.sockets }
     {
         if let Place::Open(link) = self {
-            link.end(conn, ended);
+            link.end(conn, reason, ended);
         }
         *self = Place::Free;
     }

@@ -10,6 +10,7 @@ ghost use Rattle.gateway_serve.specs.Reasons.{AllReasoned, StayReasoned, AtMostO
 
 use crate::idle::{Pace, Tick, Watch};
 use crate::places::{Place, Turned, unless_failed};
+use crate::reasons::Reason;
 use crate::sockets::Ended;
 use gateway_script::Connections;
 use spool_disk::DiskFault;
@@ -118,8 +119,8 @@ impl<S: Read + Write + OpenStream + Drop> Server<S> {
         end_each(&mut self.places, gateway, &mut self.ended)
     }
 
-    // A turn: a connection is accepted where fewer than 16 are open and the listener is asked, then each has its turn, in
-    // order.
+    // A turn: a connection is accepted where fewer than 16 are open and the listener is asked, then each has its turn,
+    // in order.
     fn turn<L: OpenListener<Stream = S>, C: Connections>(
         &mut self,
         listener: &L,
@@ -279,7 +280,7 @@ fn end_each<S: Read + Write + Drop, C: Connections>(
     ensures counts { Counts (IsErr result) (C.failures gateway.old) (C.failures gateway.new) }
 {
     for (conn, place) in places.iter_mut().enumerate() {
-        match place.end(gateway, conn, ended) {
+        match place.end(gateway, conn, Reason::Over, ended) {
             Ok(()) => {}
             Err(fault) => return Err(fault),
         }
@@ -295,7 +296,7 @@ fn free_each<S: Read + Write + Drop>(places: &mut [Place<S>], ended: &mut Ended)
         → AllLeft ended.new.sockets st past }
 {
     for (conn, place) in places.iter_mut().enumerate() {
-        place.free(conn, ended);
+        place.free(conn, Reason::Over, ended);
     }
 }
 
@@ -329,7 +330,8 @@ where
 /// once all is written. At the end the open connections are ended.
 ///
 /// While there is something to do, the listener and each connection that had nothing are passed over in more and more
-/// turns, in at most 31 one after the other. Where 65,536 bytes wait for a socket, nothing more is taken of it.
+/// turns, in at most 31 one after the other: so much later one is ended whose time is over. Where 65,536 bytes wait for
+/// a socket, nothing more is taken of it.
 ///
 /// The listener and its sockets are made not to wait; of a listener that can't be no connection is accepted. Behind
 /// turns in which no socket had anything to do it rests, at most 10 milliseconds.
@@ -350,19 +352,21 @@ where
     // Each connection's sockets are one for each time that these events opened it, in order. The session took what
     // came from the socket, but for at most 4,096 bytes at its end, and what went to it is the front of what the
     // session gave; all of that, unless the session was told that the client is gone. Each connection is closed
-    // again. Behind a fault of the device the last two are not promised.
+    // again. Behind a fault of the device the last two are not promised, but where the reason is that the session
+    // closed the connection, or that it was late between requests or in one, all of that went.
     ensures serves { (st : State) → C.stands gateway st
         → Serves C.Connections gateway result.gateway st result.served
         (AllServed result.ended.sockets st) (AllLeft result.ended.sockets st) }
     ensures counts { Counts (IsErr result.served) (C.failures gateway) (C.failures result.gateway) }
 
     // Each of these sockets had a stream of its own, as it was accepted. That was read and written and nothing else:
-    // what the reads gave is what came, and what the writes took is what went.
+    // what the reads gave is what came, what the writes took is what went, and the latest of these calls answered so.
     ensures streams { AllHad L.Stream.remaining L.Stream.contents result.ended.sockets }
 
-    // Each of them ended because the session closed its connection or the connection was lost, but for those that
-    // were open when serving was over: at most one for each number of a connection, and where the device failed at
-    // most one more.
+    // Each of them ended for the reason that it has: the session closed its connection; or the latest call of its
+    // stream was a read that gave nothing, one that failed and not because it would have waited or was interrupted, or
+    // a write that took nothing; or nothing came or went for as long as it may be idle at what it was at; or serving
+    // was over: at most one for each number of a connection, and where the device failed at most one more.
     ensures reasons { IsLeftReasoned result.ended.sockets }
 {
     let mut gateway = gateway;

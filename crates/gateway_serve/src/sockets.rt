@@ -6,7 +6,7 @@ ghost use Rattle.std.specs.Io.{ReadsAtMost, WritesAtMost};
 ghost use Rattle.std.specs.Io.KnownBytes.{ReadConsumes, WriteAppends};
 ghost use Rattle.gateway_serve.specs.Sockets.{Seen};
 
-use crate::links::Left;
+use crate::reasons::Reason;
 use std::io::{self, ErrorKind, Read, Write};
 use std::marker::{Model, PhantomData};
 
@@ -39,7 +39,7 @@ impl Log {
 
 /// What the latest call of a stream answered.
 #[derive(Clone, Copy, Drop)]
-pub(crate) enum Latest {
+pub enum Latest {
     /// There was none.
     None,
     /// A read gave so many bytes.
@@ -68,6 +68,7 @@ impl<S: Read + Write> Socket<S> {
         ensures stream { stream_of result ≡ stream }
         ensures came { came_of result ≡ [] }
         ensures went { went_of result ≡ [] }
+        ensures latest { latest_of result ≡ Latest.None }
     {
         Socket {
             stream,
@@ -147,20 +148,22 @@ impl Ended {
         }
     }
 
-    // A socket that served the connection with this number, of which these bytes came, and to which these went.
-    fn note(&mut self, _conn: usize, _came: &Log, _went: &Log, _left: &Left)
+    // A socket that served the connection with this number, of which these bytes came, and to which these went. The
+    // latest call of its stream answered this, and it ended for this reason.
+    fn note(&mut self, _conn: usize, _came: &Log, _went: &Log, _latest: &Latest, _reason: &Reason)
         ensures { self.new.sockets ≡ record {
           conn = _conn;
           came = _came.now.bytes;
           went = _went.now.bytes;
-          left = _left.now;
+          latest = _latest.now;
+          reason = _reason.now;
         } ∷ self.old.sockets }
     {}
 
-    /// A socket that served the connection with this number, of which the latest turn left this.
-    pub(crate) fn add<S>(&mut self, conn: usize, socket: &Socket<S>, left: &Left)
-        ensures { self.new.sockets ≡ seen conn socket.now left.now ∷ self.old.sockets }
+    /// A socket that served the connection with this number, and ended for this reason.
+    pub(crate) fn add<S>(&mut self, conn: usize, socket: &Socket<S>, reason: &Reason)
+        ensures { self.new.sockets ≡ seen conn socket.now reason.now ∷ self.old.sockets }
     {
-        self.note(conn, &socket.came, &socket.went, left);
+        self.note(conn, &socket.came, &socket.went, &socket.latest, reason);
     }
 }

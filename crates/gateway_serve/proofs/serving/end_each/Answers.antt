@@ -4,7 +4,7 @@ use Rattle.gateway_script.proofs.Counting.{uncounted}
 use Rattle.gateway_serve.specs.Reasons.{none}
 use Rattle.gateway_serve.proofs.All.{among_all, all_served, free_before}
 use Rattle.gateway_serve.proofs.Carries.{among_keep}
-use Rattle.gateway_serve.proofs.Reasons.{ended_once}
+use Rattle.gateway_serve.proofs.Lost.{ended_once}
 use Rattle.gateway_serve.proofs.serving.end_each.Goals as goal
 
 pub returns-in-Err-clause-serves : goal.returns-in-Err-clause-serves

@@ -2,7 +2,7 @@ use Rattle.std.proofs.Common.{◌<◌, ◌≤◌, get_or, length, arith}
 use Rattle.gateway_serve.proofs.All.{none_left, all_left, one_more_left}
 use Rattle.gateway_serve.specs.Reasons.{none}
 use Rattle.gateway_serve.proofs.Carries.{among_keep}
-use Rattle.gateway_serve.proofs.Reasons.{ended_once}
+use Rattle.gateway_serve.proofs.Lost.{ended_once}
 use Rattle.gateway_serve.proofs.serving.free_each.Goals as goal
 
 pub loop-conn-init : goal.loop-conn-init

@@ -1,7 +1,7 @@
 use Rattle.std.proofs.Common.{[], arith}
 use Rattle.gateway_serve.specs.Joined.{places_of, ended_of}
 use Rattle.gateway_serve.proofs.All.{new_joins, none_served}
-use Rattle.gateway_serve.proofs.Reasons.{none_left_reasoned}
+use Rattle.gateway_serve.proofs.Lost.{none_left_reasoned}
 use Rattle.gateway_serve.proofs.serving.serve_on.Goals as goal
 
 pub returns-then-is_err-clause-serves : goal.returns-then-is_err-clause-serves

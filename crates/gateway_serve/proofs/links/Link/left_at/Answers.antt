@@ -1,4 +1,4 @@
-use Rattle.gateway_serve.proofs.Reasons.{still_lost}
+use Rattle.gateway_serve.proofs.Lost.{still_lost}
 use Rattle.gateway_serve.proofs.links.Link.left_at.Goals as goal
 
 pub returns-then-moved-clause-lost : goal.returns-then-moved-clause-lost

@@ -23,11 +23,11 @@ returns-clause-serves g c = λ before st past went joins.
     (c.ended.ensures.crash _ went.stands) c.ended.ensures.falls
     (λ ok. (
       alone_step st past (Ended n) _,
-      told_place ended st past n c.args.self.now c.free.new.self ended'
-          c.ended.result c.free.ensures.free c.free.ensures.ended used ok joins,
+      told_place ended st past n c.args.reason c.args.self.now c.free.new.self ended'
+          c.ended.result c.free.ensures.free c.free.ensures.ended c.requires used ok joins,
     ))
     (λ fails. (
       alone_step st past (Ended n) _,
-      fallen_place ended st past n c.args.self.now c.free.new.self ended' _
-          c.free.ensures.free c.free.ensures.ended used joins,
+      fallen_place ended st past n c.args.reason c.args.self.now c.free.new.self ended' _
+          c.free.ensures.free c.free.ensures.ended c.requires used joins,
     ))

@@ -2,7 +2,7 @@ use Rattle.std.proofs.Common.{List, ◌∷◌, sym, subst}
 use Rattle.tus_session.specs.History.{Marked, Failed}
 use Rattle.gateway_serve.specs.Joined.{AllFell, ended_of}
 use Rattle.gateway_serve.specs.Streams.{AllHave}
-use Rattle.gateway_serve.proofs.Reasons.{none_more}
+use Rattle.gateway_serve.proofs.Lost.{none_more}
 use Rattle.gateway_serve.proofs.serving.Server.serve.Goals as goal
 
 pub returns-in-Ok-clause-reasons : goal.returns-in-Ok-clause-reasons

@@ -3,7 +3,7 @@ use Rattle.std.proofs.lemmas.List.{with_items_is}
 use Rattle.gateway_serve.specs.Joined.{AllJoin, AllFell, ended_of}
 use Rattle.gateway_serve.specs.Served.{Serves, AllServed}
 use Rattle.gateway_serve.specs.Streams.{AllHave}
-use Rattle.gateway_serve.proofs.Reasons.{none_more}
+use Rattle.gateway_serve.proofs.Lost.{none_more}
 use Rattle.gateway_serve.proofs.serving.Server.take_turns.Goals as goal
 
 pub returns-clause-streams : goal.returns-clause-streams

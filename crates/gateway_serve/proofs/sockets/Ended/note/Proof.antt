@@ -32,17 +32,19 @@ use denote.Triple.Walked.{says, Stays, stay_ref, stay_none_ref, stay_none, walk_
 use denote.Triple.Walked.{Goes-none, Walks, ends_at, walked, walk_Meets}
 use Rattle.gateway_serve.specs.declared.sockets.Ended.{Ended}
 use Rattle.gateway_serve.specs.declared.sockets.Log.{Log}
-use Rattle.gateway_serve.specs.declared.links.Left.{Left}
+use Rattle.gateway_serve.specs.declared.sockets.Latest.{Latest}
+use Rattle.gateway_serve.specs.declared.reasons.Reason.{Reason}
 use Rattle.gateway_serve.specs.contracts.sockets.Ended as T
 use Rattle.gateway_serve.specs.contracts.sockets.Log as L
-use Rattle.gateway_serve.specs.contracts.links.Left as F
+use Rattle.gateway_serve.specs.contracts.sockets.Latest as N
+use Rattle.gateway_serve.specs.contracts.reasons.Reason as F
 use Rattle.gateway_serve.specs.contracts.sockets.Ended.note.Key.{name as #it}
 use Rattle.gateway_serve.specs.contracts.sockets.Ended.note as it
 use Rattle.gateway_serve.proofs.sockets.Ended.note.Statement as stated
 use Rattle.gateway_serve.proofs.sockets.Ended.note.Code as code
 
 abbrev Arg : Type 0
-Arg = MutBor Ended × (ℕ × (Bor Log × (Bor Log × (Bor Left × Unit {0}))))
+Arg = MutBor Ended × (ℕ × (Bor Log × (Bor Log × (Bor Latest × (Bor Reason × Unit {0})))))
 
 abbrev stayed : Stays (it.ended).signature.params (it.ended).kept
 stayed = (
@@ -53,60 +55,65 @@ stayed = (
       stay_none_ref (1 ∷ []) tt (plain (λ _. L.the_row)) yes,
       (
         stay_none_ref (2 ∷ []) tt (plain (λ _. L.the_row)) yes,
-        (stay_none_ref (3 ∷ []) tt (plain (λ _. F.the_row)) yes, tt),
+        (
+          stay_none_ref (3 ∷ []) tt (plain (λ _. N.the_row)) yes,
+          (stay_none_ref (4 ∷ []) tt (plain (λ _. F.the_row)) yes, tt),
+        ),
       ),
     ),
   ),
 )
 
-module _ {M : Type 1} {𝓤 : Ura M} (𝓛 : Logic 𝓤) (at_mem : Memory → SProp 𝓤) (run : Routine → Fun 𝓤) (κ κ' κ'' κ''' : Lft)
-    (q q' q'' q''' : Share) (b o : ℕ) (γ : GName) (h : Ended) (n : ℕ) (s t : Bor Log) (u : Bor Left) where
+module _ {M : Type 1} {𝓤 : Ura M} (𝓛 : Logic 𝓤) (at_mem : Memory → SProp 𝓤) (run : Routine → Fun 𝓤) (κ κ' κ'' κ''' κ4 : Lft)
+    (q q' q'' q''' q4 : Share) (b o : ℕ) (γ : GName) (h : Ended) (n : ℕ) (s t : Bor Log) (v : Bor Latest)
+    (u : Bor Reason) where
   open 𝓛 use {H, A}
 
   abbrev x : Arg
-  x = (record { ref_ptr = (b, o); ghost_name = γ; now = h }, (n, (s, (t, (u, tt)))))
+  x = (record { ref_ptr = (b, o); ghost_name = γ; now = h }, (n, (s, (t, (v, (u, tt))))))
 
   abbrev h' : Ended
-  h' = record { marker = h.marker; sockets = record { conn = n; came = s.now.bytes; went = t.now.bytes; left = u.now } ∷ h.sockets }
+  h' = record { marker = h.marker; sockets = record { conn = n; came = s.now.bytes; went = t.now.bytes; latest = v.now; reason = u.now } ∷ h.sockets }
 
-  abbrev at : List Val × (List Val × (List Val × (List Val × (List Val × Unit {0}))))
-  at = (vptr b o ∷ [], (vint w64 n ∷ [], (shr_vals s, (shr_vals t, (shr_vals u, tt)))))
+  abbrev at : List Val × (List Val × (List Val × (List Val × (List Val × (List Val × Unit {0})))))
+  at = (vptr b o ∷ [], (vint w64 n ∷ [], (shr_vals s, (shr_vals t, (shr_vals v, (shr_vals u, tt))))))
 
   abbrev rest : Fml
   rest = owns (usize ∷ ShrRef (named 1) κ' L.the_row ∷ ShrRef (named 2) κ'' L.the_row
-      ∷ ShrRef (named 3) κ''' F.the_row ∷ []) x.1 at.1
+      ∷ ShrRef (named 3) κ''' N.the_row ∷ ShrRef (named 4) κ4 F.the_row ∷ []) x.1 at.1
 
   abbrev Post : Val → SProp 𝓤
   Post = (walk_of 𝓛 it.ended stayed (it.clauses 𝓛 at_mem run)).post
-      (((κ, (κ', (κ'', (κ''', tt)))), (q, (q', (q'', (q''', tt)))), tt, x, at), tt)
+      (((κ, (κ', (κ'', (κ''', (κ4, tt))))), (q, (q', (q'', (q''', (q4, tt))))), tt, x, at), tt)
 
   exits : ent 𝓤 (sep 𝓤 (A.obs γ ((T.the_row).coded.code h'))
       (sep 𝓤 (A.bor κ (Body (mem T.the_row) b o γ))
       (sep 𝓤 (A.lft κ q) (sep 𝓤 (types.Logic.sem 𝓛 rest)
-      (sep 𝓤 (A.lft κ' q') (sep 𝓤 (A.lft κ'' q'') (sep 𝓤 (A.lft κ''' q''') (emp 𝓤)))))))) (Post vunit)
+      (sep 𝓤 (A.lft κ' q') (sep 𝓤 (A.lft κ'' q'') (sep 𝓤 (A.lft κ''' q''') (sep 𝓤 (A.lft κ4 q4) (emp 𝓤)))))))))
+      (Post vunit)
   exits =
       qed 𝓛 (‵ (fobs γ ((T.the_row).coded.code h')) ∷ ‵ (fbor κ (Body (mem T.the_row) b o γ)) ∷ ‵ (flft κ q) ∷ ‵
-      rest ∷ (‵ (flft κ' q') ⊛ (‵ (flft κ'' q'') ⊛ (‵ (flft κ''' q''') ⊛ ‵ ftrue))) ∷ []) ∵
+      rest ∷ (‵ (flft κ' q') ⊛ (‵ (flft κ'' q'') ⊛ (‵ (flft κ''' q''') ⊛ (‵ (flft κ4 q4) ⊛ ‵ ftrue)))) ∷ []) ∵
       suffices ! _ (ends_at 𝓛 it.ended stayed (it.clauses 𝓛 at_mem run)
-      (((κ, (κ', (κ'', (κ''', tt)))), (q, (q', (q'', (q''', tt)))), tt, x, at), tt) vunit tt (h', (tt, (tt, (tt, (tt, tt)))))
-      (tt, (tt, (tt, (tt, (tt, tt)))))) $ says ! refl $ move ! (2 ∷ 4 ∷ []) $ join ! $
+      (((κ, (κ', (κ'', (κ''', (κ4, tt))))), (q, (q', (q'', (q''', (q4, tt))))), tt, x, at), tt) vunit tt (h', (tt, (tt, (tt, (tt, (tt, tt))))))
+      (tt, (tt, (tt, (tt, (tt, (tt, tt))))))) $ says ! refl $ move ! (2 ∷ 4 ∷ []) $ join ! $
       frame ! $ feq_i ! (List Val) (vptr b o ∷ []) (vptr b o ∷ []) refl $ fjoin3 ! $ fjoin ! $
       feq_i ! (List Val) (vunit ∷ []) (vunit ∷ []) refl $ move ! (1 ∷ 0 ∷ []) $ done !
 
   module _ (C : Calls 𝓤 H) (Λ : Loops 𝓤 H) where
-    walk : n < 2 ^ 64 → ent 𝓤 (on_entry 𝓛 it.signature (κ, (κ', (κ'', (κ''', tt)))) (q, (q', (q'', (q''', tt)))) x at)
+    walk : n < 2 ^ 64 → ent 𝓤 (on_entry 𝓛 it.signature (κ, (κ', (κ'', (κ''', (κ4, tt))))) (q, (q', (q'', (q''', (q4, tt))))) x at)
         (WpFn 𝓤 H C Λ code.function
-        (vptr b o ∷ vint w64 n ∷ vptr s.ref_ptr.0 s.ref_ptr.1 ∷ vptr t.ref_ptr.0 t.ref_ptr.1 ∷ vptr u.ref_ptr.0 u.ref_ptr.1
-        ∷ []) Post)
+        (vptr b o ∷ vint w64 n ∷ vptr s.ref_ptr.0 s.ref_ptr.1 ∷ vptr t.ref_ptr.0 t.ref_ptr.1 ∷ vptr v.ref_ptr.0 v.ref_ptr.1
+        ∷ vptr u.ref_ptr.0 u.ref_ptr.1 ∷ []) Post)
     walk fits =
-        qed 𝓛 ((‵ (flft κ q) ⊛ (‵ (flft κ' q') ⊛ (‵ (flft κ'' q'') ⊛ (‵ (flft κ''' q''') ⊛ ‵ ftrue)))) ∷ ‵
+        qed 𝓛 ((‵ (flft κ q) ⊛ (‵ (flft κ' q') ⊛ (‵ (flft κ'' q'') ⊛ (‵ (flft κ''' q''') ⊛ (‵ (flft κ4 q4) ⊛ ‵ ftrue))))) ∷ ‵
         (owns (MutRef (named 0) κ T.the_row ∷ usize ∷ ShrRef (named 1) κ' L.the_row ∷ ShrRef (named 2) κ''
-        L.the_row ∷ ShrRef (named 3) κ''' F.the_row ∷ []) x at) ∷ []) ∵ split ! $ move ! (2 ∷ []) $ fsplit ! $ fsplit3 ! $ drop ! $ move !
+        L.the_row ∷ ShrRef (named 3) κ''' N.the_row ∷ ShrRef (named 4) κ4 F.the_row ∷ []) x at) ∷ []) ∵ split ! $ move ! (2 ∷ []) $ fsplit ! $ fsplit3 ! $ drop ! $ move !
         (0 ∷ 1 ∷ 3 ∷ []) $
         enter ! C Λ code.function
-        (vptr b o ∷ vint w64 n ∷ vptr s.ref_ptr.0 s.ref_ptr.1 ∷ vptr t.ref_ptr.0 t.ref_ptr.1 ∷ vptr u.ref_ptr.0 u.ref_ptr.1
-        ∷ []) _ $
-        alloc_all ! (λ l. pass_all ! refl ((tt, tt), ((tt, record { fits = fits }), ((tt, tt), ((tt, tt), ((tt, tt), tt))))) $
+        (vptr b o ∷ vint w64 n ∷ vptr s.ref_ptr.0 s.ref_ptr.1 ∷ vptr t.ref_ptr.0 t.ref_ptr.1 ∷ vptr v.ref_ptr.0 v.ref_ptr.1
+        ∷ vptr u.ref_ptr.0 u.ref_ptr.1 ∷ []) _ $
+        alloc_all ! (λ l. pass_all ! refl ((tt, tt), ((tt, record { fits = fits }), ((tt, tt), ((tt, tt), ((tt, tt), ((tt, tt), tt)))))) $
         move ! (0 ∷ 1 ∷ 2 ∷ []) $ opens ! tt T.the_row {h = h} b o (λ vs.
         sets ! (of_opd ! (unit_lit !)) refl (tt, tt) $
         move ! (1 ∷ []) $ use1 𝓛 (‵ ((T.the_row).own_val h' vs)) (id⊢ 𝓤 _) $ move ! (1 ∷ 0 ∷ []) $ closes ! tt T.the_row
@@ -120,31 +127,37 @@ module _ {M : Type 1} {𝓤 : Ura M} (𝓛 : Logic 𝓤) (at_mem : Memory → SP
   walks : (C : Calls 𝓤 H) (Λ : Loops 𝓤 H) → Walks 𝓛 it.ended stayed (WpFn 𝓤 H C Λ code.function)
       (it.clauses 𝓛 at_mem run)
   walks C Λ = walked 𝓛 it.ended stayed (it.clauses 𝓛 at_mem run) (WpFn 𝓤 H C Λ code.function)
-      (λ κs. (mut_vals, (uint_vals w64, (shr_vals, (shr_vals, (shr_vals, tt))))))
+      (λ κs. (mut_vals, (uint_vals w64, (shr_vals, (shr_vals, (shr_vals, (shr_vals, tt)))))))
       (λ κs. (
         mut_Tells (named 0) κs.0 T.the_row,
         (
           uint_Tells w64,
           (
             shr_Tells (named 1) κs.1.0 L.the_row,
-            (shr_Tells (named 2) κs.1.1.0 L.the_row, (shr_Tells (named 3) κs.1.1.1.0 F.the_row, tt)),
+            (
+              shr_Tells (named 2) κs.1.1.0 L.the_row,
+              (shr_Tells (named 3) κs.1.1.1.0 N.the_row, (shr_Tells (named 4) κs.1.1.1.1.0 F.the_row, tt)),
+            ),
           ),
         ),
       ))
       (λ κs qs bounds a _ are. via 𝓤 _ (fst∗ 𝓤 _ (emp 𝓤))
-      (walk 𝓛 at_mem run κs.0 κs.1.0 κs.1.1.0 κs.1.1.1.0 qs.0 qs.1.0 qs.1.1.0 qs.1.1.1.0 a.0.ref_ptr.0 a.0.ref_ptr.1 a.0.ghost_name a.0.now
-      a.1.0 a.1.1.0 a.1.1.1.0 a.1.1.1.1.0 C Λ are.1.0.1))
+      (walk 𝓛 at_mem run κs.0 κs.1.0 κs.1.1.0 κs.1.1.1.0 κs.1.1.1.1.0 qs.0 qs.1.0 qs.1.1.0 qs.1.1.1.0 qs.1.1.1.1.0
+      a.0.ref_ptr.0 a.0.ref_ptr.1 a.0.ghost_name a.0.now a.1.0 a.1.1.0 a.1.1.1.0 a.1.1.1.1.0 a.1.1.1.1.1.0 C Λ are.1.0.1))
 
-  goes : AllGo 𝓛 4 (it.signature).params (it.ended).kept stayed
+  goes : AllGo 𝓛 5 (it.signature).params (it.ended).kept stayed
   goes = (
-    Goes-ref 𝓛 4 0 tt (plain (λ _. T.the_row)),
+    Goes-ref 𝓛 5 0 tt (plain (λ _. T.the_row)),
     (
-      Goes-none 𝓛 4 (λ _. usize) yes (λ κs x f. refl),
+      Goes-none 𝓛 5 (λ _. usize) yes (λ κs x f. refl),
       (
-        Goes-none_ref 𝓛 4 (1 ∷ []) tt (plain (λ _. L.the_row)) yes,
+        Goes-none_ref 𝓛 5 (1 ∷ []) tt (plain (λ _. L.the_row)) yes,
         (
-          Goes-none_ref 𝓛 4 (2 ∷ []) tt (plain (λ _. L.the_row)) yes,
-          (Goes-none_ref 𝓛 4 (3 ∷ []) tt (plain (λ _. F.the_row)) yes, tt),
+          Goes-none_ref 𝓛 5 (2 ∷ []) tt (plain (λ _. L.the_row)) yes,
+          (
+            Goes-none_ref 𝓛 5 (3 ∷ []) tt (plain (λ _. N.the_row)) yes,
+            (Goes-none_ref 𝓛 5 (4 ∷ []) tt (plain (λ _. F.the_row)) yes, tt),
+          ),
         ),
       ),
     ),

@@ -1,0 +1,103 @@
+-- Why connections ended.
+use Rattle.std.proofs.Common.{◌≡◌, ◌⊎◌, inl, inr, refl, sym, subst, Bool, ℕ, ◌+◌, List, [], ◌∷◌}
+use Rattle.std.specs.declared.io.ErrorKind.{ErrorKind}
+use Rattle.gateway_serve.specs.Sockets.{Seen, IsQuiet, IsQuietly}
+use Rattle.gateway_serve.specs.Bytes.{latest_of, seen}
+use Rattle.gateway_serve.specs.Gone.{EndsBy, IsGoneSo, IfLost, IsFailure}
+use Rattle.gateway_serve.specs.Joined.{joint_of, at_by, with_place}
+use Rattle.gateway_serve.specs.Reasons.{IsLostBy, EndedOnce, none, free, one_more, AtMostOnce}
+use Rattle.gateway_serve.specs.Reasons.{IsLeftReasoned}
+use Rattle.gateway_serve.specs.Streams.{socket_of}
+use Rattle.gateway_serve.specs.declared.sockets.Latest.{Latest}
+use Rattle.gateway_serve.specs.declared.sockets.Latest.TheVariants as Was
+use Rattle.gateway_serve.specs.declared.sockets.Socket.{Socket}
+use Rattle.gateway_serve.specs.declared.idle.Tick.{Tick}
+use Rattle.gateway_serve.specs.declared.links.Link.{Link}
+use Rattle.gateway_serve.specs.declared.reasons.Gone.{Gone}
+use Rattle.gateway_serve.specs.declared.reasons.Gone.TheVariants as Why
+use Rattle.gateway_serve.specs.declared.reasons.Gone.TheVariants.{Failed}
+use Rattle.gateway_serve.specs.declared.reasons.Reason.TheVariants.{Over}
+use Rattle.gateway_serve.specs.declared.links.Stage.{Stage}
+use Rattle.gateway_serve.specs.declared.links.Stage.TheVariants as Stages
+use Rattle.gateway_serve.specs.declared.links.Left.{Left}
+use Rattle.gateway_serve.specs.declared.links.Left.TheVariants as Is
+use Rattle.gateway_serve.specs.declared.places.Place.{Place}
+use Rattle.gateway_serve.specs.declared.places.Place.TheVariants.{Free, Open}
+
+-- a read or write failed, and that is the latest call
+pub failed_lost : (left : Left) (latest : Latest) (kind : ErrorKind) → latest ≡ Was.Failed kind
+    → IfLost left (λ gone. (gone ≡ Failed kind) × IsFailure kind) → IfLost left (λ gone. EndsBy gone latest)
+failed_lost Is.Open latest kind was is = tt
+failed_lost Is.Idle latest kind was is = tt
+failed_lost Is.Closed latest kind was is = tt
+failed_lost (Is.Lost gone) latest kind was is = subst (λ x. EndsBy x latest) (sym is.0) (was, is.1)
+
+-- a turn lost it, or else the time
+pub still_lost : (left : Left) (I : Gone → Type 0) → IfLost left (λ gone. (left ≡ Is.Lost gone) ⊎ I gone)
+still_lost Is.Open I = tt
+still_lost Is.Idle I = tt
+still_lost Is.Closed I = tt
+still_lost (Is.Lost gone) I = inl refl
+
+pub lost_by : {S : Type 0} (mid new : Socket S) (left now : Left) (I : Gone → Type 0) → new ≡ mid
+    → IfLost left (λ gone. EndsBy gone (latest_of mid)) → IfLost now (λ gone. (left ≡ Is.Lost gone) ⊎ I gone)
+    → IfLost now (λ gone. EndsBy gone (latest_of new) ⊎ I gone)
+lost_by mid new left Is.Open I same ends is = tt
+lost_by mid new left Is.Idle I same ends is = tt
+lost_by mid new left Is.Closed I same ends is = tt
+lost_by {S} mid new left (Is.Lost gone) I same ends is = elim is [
+  | inl e ↦ inl (subst (λ (s : Socket S). EndsBy gone (latest_of s)) (sym same)
+      (subst (λ x. IfLost x (λ y. EndsBy y (latest_of mid))) e ends))
+  | inr late ↦ inr late
+]
+
+answered_so : (gone : Gone) (latest : Latest) → EndsBy gone latest → IsGoneSo gone latest
+answered_so Why.Ended latest is = is
+answered_so (Failed kind) latest is = is
+answered_so Why.Stuck latest is = is
+answered_so (Why.Late late) latest is = absurd is
+
+-- one that is lost has its reason
+pub gone_so : {S : Type 0} (l : Link S) (tick : Tick) (gone : Gone) → IsLostBy l tick gone
+    → IsGoneSo gone (latest_of (socket_of l))
+gone_so l tick gone is = elim is [
+  | inl ends ↦ answered_so gone (latest_of (socket_of l)) ends
+  | inr late ↦ subst (λ x. IsGoneSo x (latest_of (socket_of l))) (sym late.0) late.1
+]
+
+-- and one that is quietly lost has written all
+quiet_at : (stage : Stage) (output : List ℕ) (replied : Bool) → IsQuiet (at_by stage output replied) → output ≡ []
+quiet_at Stages.Taking [] replied is = refl
+quiet_at Stages.Taking (b ∷ output) replied is = absurd is
+quiet_at Stages.Giving output replied is = absurd is
+quiet_at Stages.Closed output replied is = absurd is
+
+answered_loud : (gone : Gone) (latest : Latest) → EndsBy gone latest → IsQuietly gone → ⊥
+answered_loud Why.Ended latest is quiet = quiet
+answered_loud (Failed kind) latest is quiet = quiet
+answered_loud Why.Stuck latest is quiet = quiet
+answered_loud (Why.Late late) latest is quiet = is
+
+pub quietly_gone : {S : Type 0} (l : Link S) (tick : Tick) (gone : Gone) → IsLostBy l tick gone → IsQuietly gone
+    → (joint_of l).output ≡ []
+quietly_gone l tick gone is quiet = elim is [
+  | inl ends ↦ absurd (answered_loud gone (latest_of (socket_of l)) ends quiet)
+  | inr late ↦ quiet_at l.stage l.output l.replied (subst IsQuietly late.0 quiet)
+]
+
+-- WHEN SERVING IS OVER
+one_ended : {S : Type 0} (before : List Seen) (n : ℕ) (p : Place S) (ended : List Seen) → EndedOnce before n ended
+    → EndedOnce before (n + 1) (with_place n Over p ended)
+one_ended before n Free ended is = free n ended is
+one_ended before n (Open l) ended is = one_more (seen n l.socket Over) ended refl is
+
+pub ended_once : {S : Type 0} (before : List Seen) (n : ℕ) (p : Place S) (ended ended' : List Seen)
+    → ended' ≡ with_place n Over p ended → EndedOnce before n ended → EndedOnce before (n + 1) ended'
+ended_once before n p ended ended' with is =
+    subst (EndedOnce before (n + 1)) (sym with) (one_ended before n p ended is)
+
+pub none_more : (ended : List Seen) → AtMostOnce ended ended
+none_more ended = (0, none)
+
+pub none_left_reasoned : (ended : List Seen) → ended ≡ [] → IsLeftReasoned ended
+none_left_reasoned ended e = subst IsLeftReasoned (sym e) ([], ([], tt {0}, none_more []), none_more [])
