@@ -13,7 +13,7 @@ use Rattle.gateway_serve.specs.Sockets as sockets
 use Rattle.gateway_serve.specs.Sockets.{Seen, Pairs, seen_of}
 use Rattle.gateway_serve.specs.Served.{WentOn, Serves, AllServed, AllLeft}
 use Rattle.gateway_serve.specs.Joined.{Joins, Alone, PlaceJoins, PlaceFell, GoesAt, OthersStay, AllJoin, AllFell}
-use Rattle.gateway_serve.specs.Joined.{SamePlaces, IsNew, joint_of, nothing_yet, with_place}
+use Rattle.gateway_serve.specs.Joined.{PlaceWaits, SamePlaces, IsNew, joint_of, nothing_yet, with_place}
 use Rattle.gateway_serve.specs.declared.places.Place.{Place}
 use Rattle.gateway_serve.specs.declared.places.Place.TheVariants.{Free, Open}
 use Rattle.gateway_serve.specs.declared.links.Link.{Link}
@@ -119,9 +119,9 @@ all_left {S} i places ended st past most all = λ k. elim (cases_lt k i) [
 
 pub one_more_left : {S : Type 0} (i : ℕ) (places : List (Place S)) (d p' : Place S) (ended ended' : List Seen)
     (st : State) (past : List Marked) → i < length places
-    → ended' ≡ with_place i Over (get_or places i d) ended → HalfLeft i places ended st past
-    → HalfLeft (i + 1) (set places i p') ended' st past
-one_more_left {S} i places d p' ended ended' st past inside with all = λ k. let p =
+    → ended' ≡ with_place i Over (get_or places i d) ended → PlaceWaits (get_or places i d)
+    → HalfLeft i places ended st past → HalfLeft (i + 1) (set places i p') ended' st past
+one_more_left {S} i places d p' ended ended' st past inside with few all = λ k. let p =
     get_or places i d in elim (cases_eq k i) [
       | inl e ↦
           let here : PlaceFell p (seen_of i ended) st past i =
@@ -129,7 +129,7 @@ one_more_left {S} i places d p' ended ended' st past inside with all = λ k. let
           ((all i).1 (omega arith)) in
           let left : Pairs sockets.Fits (seen_of i ended') (conversations st past i) =
           subst (λ x. Pairs sockets.Fits (seen_of i x) (conversations st past i)) (sym with)
-          (untold_place ended st past i p here) in (
+          (untold_place ended st past i p few here) in (
             λ lt. subst (λ x. Pairs sockets.Fits (seen_of x ended') (conversations st past x)) (sym e) left,
             λ le. absurd
                 (omega (arith, le, e)),

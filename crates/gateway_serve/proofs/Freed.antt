@@ -10,7 +10,8 @@ use Rattle.gateway_serve.specs.Conversations.{latest as latest_by}
 use Rattle.gateway_serve.specs.Sockets as sockets
 use Rattle.gateway_serve.specs.Sockets.{Seen, IsQuietly, IsWhole, Pairs, seen_of}
 use Rattle.gateway_serve.specs.Joined.{Joint, Joins, IsOver, PlaceJoins, PlaceFell, OthersStay, MayEnd, joint_of}
-use Rattle.gateway_serve.specs.Joined.{with_place}
+use Rattle.gateway_serve.specs.Joined.{PlaceWaits, with_place}
+use Rattle.gateway_serve.specs.Waiting.{FewWait}
 use Rattle.gateway_serve.specs.Bytes.{seen}
 use Rattle.gateway_serve.specs.declared.reasons.Reason.{Reason}
 use Rattle.gateway_serve.specs.declared.reasons.Reason.TheVariants as Why
@@ -61,39 +62,39 @@ module _ (ended : List Seen) (st : State) (past : List Marked) (n : ℕ) where
   all_went j is none = sym (append-nil j.went) ∙ (ap (λ l. j.went ++ l) (sym none) ∙ is.given)
 
   fits : (latest : Latest) (reason : Reason) (j : Joint) (is : Joins j (seen_of n ended) st past n) → IfWhole reason j
-      → sockets.Fits (seen_at n j latest reason) is.latest
-  fits latest reason j is whole = record {
+      → FewWait j.output → sockets.Fits (seen_at n j latest reason) is.latest
+  fits latest reason j is whole few = record {
     taken = (j.input, is.taken, is.few);
-    written = (j.output, sym is.given);
+    written = (j.output, sym is.given, few);
     emptied = λ w. all_went j is (whole w);
     untold = λ e. is.told;
   }
 
   -- the session closed the connection, and all is written
-  over_pairs : (latest : Latest) (j : Joint) → IsOver j → Joins j (seen_of n ended) st past n
+  over_pairs : (latest : Latest) (j : Joint) → IsOver j → FewWait j.output → Joins j (seen_of n ended) st past n
       → Pairs sockets.Served (seen_of n (seen_at n j latest Why.Closed ∷ ended)) (conversations st past n)
-  over_pairs latest j over is =
+  over_pairs latest j over few is =
       let s = seen_at n j latest Why.Closed in
       let served : sockets.Served s is.latest =
-      record { fits = fits latest Why.Closed j is (λ w. over.1); whole = λ e. all_went j is over.1 } in
+      record { fits = fits latest Why.Closed j is (λ w. over.1) few; whole = λ e. all_went j is over.1 } in
       subst (λ seen. Pairs sockets.Served seen (conversations st past n)) (sym (first_seen n s ended refl))
       (subst (λ talks. Pairs sockets.Served (s ∷ seen_of n ended) talks) (sym is.talks) (served, is.pairs))
 
-  pub over_freed : {S : Type 0} (l : Link S) → IsOver (joint_of l) → Joins (joint_of l) (seen_of n ended) st past n
+  pub over_freed : {S : Type 0} (l : Link S) → IsOver (joint_of l) → FewWait l.output → Joins (joint_of l) (seen_of n ended) st past n
       → PlaceJoins {S = S} Free (seen_of n (with_place n Why.Closed (Open l) ended)) st past n
-  over_freed l over is = (over_pairs l.socket.latest (joint_of l) over is, is.shut over.0 ∙ sym is.apart)
+  over_freed l over few is = (over_pairs l.socket.latest (joint_of l) over few is, is.shut over.0 ∙ sym is.apart)
 
   -- the session was told that its client is gone
   told_pairs : (latest : Latest) (reason : Reason) (m : Mark) (j : Joint) → IfWhole reason j
-      → (reason ≡ Why.Closed → ⊥) → Joins j (seen_of n ended) st past n
+      → (reason ≡ Why.Closed → ⊥) → FewWait j.output → Joins j (seen_of n ended) st past n
       → Pairs sockets.Served (seen_of n (seen_at n j latest reason ∷ ended)) (conversations st ((Ended n, m) ∷ past) n)
-  told_pairs latest reason m j whole unclosed is =
+  told_pairs latest reason m j whole unclosed few is =
       let s = seen_at n j latest reason in
       let served : sockets.Served s (hung_up is.latest) =
       record {
         fits = record {
           taken = (j.input, is.taken, is.few);
-          written = (j.output, sym is.given);
+          written = (j.output, sym is.given, few);
           emptied = λ w. all_went j is (whole w);
           untold = λ e. absurd (unclosed e);
         };
@@ -114,62 +115,64 @@ module _ (ended : List Seen) (st : State) (past : List Marked) (n : ℕ) where
   told_none (Err DiskFault) ok = absurd (ok refl)
 
   pub told_freed : {S : Type 0} (reason : Reason) (p : Place S) (answer : Result (Unit {0}) SessionError)
-      → MayEnd reason p → (p ≡ Free → ⊥)
+      → MayEnd reason p → PlaceWaits p → (p ≡ Free → ⊥)
       → (answer ≡ Err DiskFault → ⊥) → PlaceJoins p (seen_of n ended) st past n
       → PlaceJoins {S = S} Free (seen_of n (with_place n reason p ended)) st ((Ended n, mark_of answer) ∷ past) n
-  told_freed reason Free answer may used ok is = absurd (used refl)
-  told_freed reason (Open l) answer may used ok is = (
+  told_freed reason Free answer may few used ok is = absurd (used refl)
+  told_freed reason (Open l) answer may few used ok is = (
     told_pairs l.socket.latest reason (mark_of answer) (joint_of l) (if_whole reason l may)
-        (not_closed reason (Open l) may) is,
+        (not_closed reason (Open l) may) few is,
     told_none answer ok
         ∙ sym is.apart,
   )
 
-  pub told_fell : {S : Type 0} (reason : Reason) (p : Place S) (m : Mark) → MayEnd reason p → (p ≡ Free → ⊥)
+  pub told_fell : {S : Type 0} (reason : Reason) (p : Place S) (m : Mark) → MayEnd reason p → PlaceWaits p
+      → (p ≡ Free → ⊥)
       → PlaceJoins p (seen_of n ended) st past n
       → PlaceFell {S = S} Free (seen_of n (with_place n reason p ended)) st ((Ended n, m) ∷ past) n
-  told_fell reason Free m may used is = absurd (used refl)
-  told_fell reason (Open l) m may used is =
-      told_pairs l.socket.latest reason m (joint_of l) (if_whole reason l may) (not_closed reason (Open l) may) is
+  told_fell reason Free m may few used is = absurd (used refl)
+  told_fell reason (Open l) m may few used is =
+      told_pairs l.socket.latest reason m (joint_of l) (if_whole reason l may) (not_closed reason (Open l) may)
+      few is
 
   -- THE PLACE BEHIND, as it is then
   pub told_place : {S : Type 0} (reason : Reason) (p p' : Place S) (ended' : List Seen)
       (answer : Result (Unit {0}) SessionError)
-      → p' ≡ Free → ended' ≡ with_place n reason p ended → MayEnd reason p → (p ≡ Free → ⊥)
+      → p' ≡ Free → ended' ≡ with_place n reason p ended → MayEnd reason p → PlaceWaits p → (p ≡ Free → ⊥)
       → (answer ≡ Err DiskFault → ⊥) → PlaceJoins p (seen_of n ended) st past n
       → PlaceJoins p' (seen_of n ended') st ((Ended n, mark_of answer) ∷ past) n
-  told_place {S} reason p p' ended' answer free with may used ok is =
+  told_place {S} reason p p' ended' answer free with may few used ok is =
       subst (λ (x : Place S). PlaceJoins x (seen_of n ended') st ((Ended n, mark_of answer) ∷ past) n) (sym free)
       (subst (λ x. PlaceJoins {S = S} Free (seen_of n x) st ((Ended n, mark_of answer) ∷ past) n) (sym with)
-      (told_freed reason p answer may used ok is))
+      (told_freed reason p answer may few used ok is))
 
   pub fallen_place : {S : Type 0} (reason : Reason) (p p' : Place S) (ended' : List Seen) (m : Mark) → p' ≡ Free
-      → ended' ≡ with_place n reason p ended → MayEnd reason p → (p ≡ Free → ⊥)
+      → ended' ≡ with_place n reason p ended → MayEnd reason p → PlaceWaits p → (p ≡ Free → ⊥)
       → PlaceJoins p (seen_of n ended) st past n → PlaceFell p' (seen_of n ended') st ((Ended n, m) ∷ past) n
-  fallen_place {S} reason p p' ended' m free with may used is =
+  fallen_place {S} reason p p' ended' m free with may few used is =
       subst (λ (x : Place S). PlaceFell x (seen_of n ended') st ((Ended n, m) ∷ past) n) (sym free)
       (subst (λ x. PlaceFell {S = S} Free (seen_of n x) st ((Ended n, m) ∷ past) n) (sym with)
-      (told_fell reason p m may used is))
+      (told_fell reason p m may few used is))
 
   pub over_place : {S : Type 0} (l : Link S) (p' : Place S) (ended' : List Seen) → p' ≡ Free
       → ended' ≡ with_place n Why.Closed (Open l) ended → IsOver (joint_of l)
-      → Joins (joint_of l) (seen_of n ended) st past n → PlaceJoins p' (seen_of n ended') st past n
-  over_place {S} l p' ended' free with over is =
+      → FewWait l.output → Joins (joint_of l) (seen_of n ended) st past n → PlaceJoins p' (seen_of n ended') st past n
+  over_place {S} l p' ended' free with over few is =
       subst (λ (x : Place S). PlaceJoins x (seen_of n ended') st past n) (sym free)
-      (subst (λ x. PlaceJoins {S = S} Free (seen_of n x) st past n) (sym with) (over_freed l over is))
+      (subst (λ x. PlaceJoins {S = S} Free (seen_of n x) st past n) (sym with) (over_freed l over few is))
 
   -- WITHOUT A WORD to the session
-  untold_pairs : (latest : Latest) (j : Joint) (is : Joins j (seen_of n ended) st past n)
+  untold_pairs : (latest : Latest) (j : Joint) (is : Joins j (seen_of n ended) st past n) → FewWait j.output
       → Pairs sockets.Fits (seen_of n ended) is.others
       → Pairs sockets.Fits (seen_of n (seen_at n j latest Why.Over ∷ ended)) (conversations st past n)
-  untold_pairs latest j is rest =
+  untold_pairs latest j is few rest =
       let s = seen_at n j latest Why.Over in
       subst (λ seen. Pairs sockets.Fits seen (conversations st past n)) (sym (first_seen n s ended refl))
       (subst (λ talks. Pairs sockets.Fits (s ∷ seen_of n ended) talks) (sym is.talks)
-      (fits latest Why.Over j is (λ w. absurd w), rest))
+      (fits latest Why.Over j is (λ w. absurd w) few, rest))
 
-  pub untold_place : {S : Type 0} (p : Place S) → PlaceFell p (seen_of n ended) st past n
+  pub untold_place : {S : Type 0} (p : Place S) → PlaceWaits p → PlaceFell p (seen_of n ended) st past n
       → Pairs sockets.Fits (seen_of n (with_place n Why.Over p ended)) (conversations st past n)
-  untold_place Free is = loosely (seen_of n ended) (conversations st past n) is
-  untold_place (Open l) is =
-      untold_pairs l.socket.latest (joint_of l) is (loosely (seen_of n ended) is.others is.pairs)
+  untold_place Free few is = loosely (seen_of n ended) (conversations st past n) is
+  untold_place (Open l) few is =
+      untold_pairs l.socket.latest (joint_of l) is few (loosely (seen_of n ended) is.others is.pairs)

@@ -9,6 +9,7 @@ use Rattle.gateway_script.specs.declared.connections.Connections.{Ghosts}
 use Rattle.gateway_serve.specs.Conversations.{Conversation, conversations}
 use Rattle.gateway_serve.specs.Sockets.{Seen, seen_of, IsQuietly, Served, Pairs}
 use Rattle.gateway_serve.specs.Bytes.{came_of, went_of, seen}
+use Rattle.gateway_serve.specs.Waiting.{FewWait}
 use Rattle.gateway_serve.specs.Served.{IsBack, WentOn, Serves, AllServed, AllLeft}
 use Rattle.gateway_serve.specs.declared.links.Stage.{Stage}
 use Rattle.gateway_serve.specs.declared.links.Stage.TheVariants.{Taking, Giving, Closed}
@@ -128,6 +129,11 @@ PlaceJoins (Open l) ended st past n = Joins (joint_of l) ended st past n
 abbrev pub PlaceFell : {S : Type 0} → Place S → List Seen → State → List Marked → ℕ → Type 0
 PlaceFell Free ended st past n = Pairs Served ended (conversations st past n)
 PlaceFell (Open l) ended st past n = Joins (joint_of l) ended st past n
+
+-- the bytes that wait at a place are few
+abbrev pub PlaceWaits : {S : Type 0} → Place S → Type 0
+PlaceWaits Free = Unit {0}
+PlaceWaits (Open l) = FewWait l.output
 
 -- nothing came, and nothing was given
 abbrev pub nothing_yet : Joint

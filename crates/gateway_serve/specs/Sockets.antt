@@ -1,6 +1,7 @@
 -- What is seen of sockets.
 use Rattle.std.specs.Prelude.{◌≡◌, ◌≤◌, ◌==◌, ℕ, length, false, List, [], ◌∷◌, ◌++◌, if◌then◌else◌}
 use Rattle.gateway_serve.specs.Conversations.{Conversation}
+use Rattle.gateway_serve.specs.Waiting.{most_waiting}
 use Rattle.gateway_serve.specs.declared.idle.At.{At}
 use Rattle.gateway_serve.specs.declared.idle.At.TheVariants.{Between, Request, Reply}
 use Rattle.gateway_serve.specs.declared.reasons.Gone.{Gone}
@@ -22,9 +23,6 @@ pub record Seen : Type 0 where
 abbrev pub seen_of : ℕ → List Seen → List Seen
 seen_of n [] = []
 seen_of n (s ∷ seen) = if n == s.conn then s ∷ seen_of n seen else seen_of n seen
-
-abbrev pub IsFront : List ℕ → List ℕ → Type 0
-IsFront front all = (rest : List ℕ) × (all ≡ front ++ rest)
 
 abbrev pub IsAllBut : ℕ → List ℕ → List ℕ → Type 0
 IsAllBut most front all = (rest : List ℕ) × (all ≡ front ++ rest) × (length rest ≤ most)
@@ -48,11 +46,11 @@ IsWhole (Lost gone) = IsQuietly gone
 IsWhole Over = ⊥
 
 -- all bytes that came, but for at most 4,096 at the end, are those that the session took, and those that went are the
--- first that it gave: all of them, where the reason says so. Where it says that the session closed the connection, the
+-- first that it gave, all but at most 135,167 at the end: all of them, where the reason says so. Where it says that the session closed the connection, the
 -- session wasn't told that the client is gone
 pub record Fits (s : Seen) (c : Conversation) : Type 0 where
   pub taken : IsAllBut 4096 c.took s.came
-  pub written : IsFront s.went c.gave
+  pub written : IsAllBut most_waiting s.went c.gave
   pub emptied : IsWhole s.reason → s.went ≡ c.gave
   pub untold : s.reason ≡ Closed → c.told ≡ false
 

@@ -8,7 +8,7 @@ ghost use Rattle.gateway_script.specs.Connections.{Gives, Falls, mark_of};
 ghost use Rattle.gateway_script.specs.Images.{shown_by};
 ghost use Rattle.gateway_serve.specs.Bytes.{came_of, went_of, stream_of, latest_of};
 ghost use Rattle.gateway_serve.specs.Gone.{after_read, after_write};
-ghost use Rattle.gateway_serve.specs.Waiting.{HasRoom};
+ghost use Rattle.gateway_serve.specs.Waiting.{FewWait, HasRoom};
 
 use crate::sockets::Socket;
 use gateway_script::Connections;
@@ -113,7 +113,7 @@ impl Model for Output {
 
     ghost view = { λ o. drop o.written o.bytes.items };
 
-    ghost invariant = { λ o. o.written ≤ length o.bytes.items };
+    ghost invariant = { λ o. (o.written ≤ length o.bytes.items) × FewWait (drop o.written o.bytes.items) };
 }
 
 impl Output {
@@ -129,7 +129,8 @@ impl Output {
 
     /// What isn't written.
     pub(crate) fn left(&self) -> &[u8]
-        ensures { result.now ≡ self.now }
+        ensures left { result.now ≡ self.now }
+        ensures few { FewWait self.now }
     {
         &self.bytes[self.written..]
     }

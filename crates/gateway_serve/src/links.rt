@@ -3,7 +3,7 @@ ghost use Rattle.std.specs.Prelude.{◌≡◌, ◌≢◌, ◌⊎◌, ◌↔◌, 
 ghost use Rattle.upload_rules.specs.Answers.{Counts};
 ghost use Rattle.gateway_serve.specs.Joined.{Goes, IsOver, Writes, Reads, joint_of, nothing_yet, with_link};
 ghost use Rattle.gateway_serve.specs.Joined.{stage_by, stage_behind, taken_behind, at_of};
-ghost use Rattle.gateway_serve.specs.Waiting.{HasRoom};
+ghost use Rattle.gateway_serve.specs.Waiting.{FewWait, HasRoom};
 ghost use Rattle.gateway_serve.specs.Bytes.{stream_of, latest_of};
 ghost use Rattle.gateway_serve.specs.Streams.{StaysOf, socket_of};
 ghost use Rattle.gateway_serve.specs.Gone.{EndsBy, IfLost, IsFailure};
@@ -80,8 +80,10 @@ impl<S: Read + Write> Link<S> {
 
     /// Puts the socket to those that ended.
     pub(crate) fn end(&self, conn: usize, reason: Reason, ended: &mut Ended)
-        ensures { ended.new.sockets ≡ with_link conn reason self.now ended.old.sockets }
+        ensures ended { ended.new.sockets ≡ with_link conn reason self.now ended.old.sockets }
+        ensures waiting { FewWait self.now.output }
     {
+        let _few = self.output.left();
         ended.add(conn, &self.socket, &reason);
     }
 

@@ -1,7 +1,7 @@
 //! A place for a connection.
 ghost use Rattle.std.specs.Prelude.{◌≡◌, ◌↔◌, IsTrue, IsErr, IsErrOf};
 ghost use Rattle.upload_rules.specs.Answers.{Counts};
-ghost use Rattle.gateway_serve.specs.Joined.{GoesAt, OthersStay, IsNew, MayEnd, with_place};
+ghost use Rattle.gateway_serve.specs.Joined.{GoesAt, OthersStay, IsNew, MayEnd, PlaceWaits, with_place};
 ghost use Rattle.gateway_serve.specs.Streams.{PlaceIsOf, PlaceKeeps};
 ghost use Rattle.gateway_serve.specs.Reasons.{StayReasoned};
 
@@ -115,6 +115,7 @@ impl<S: Read + Write + Drop> Place<S> {
 
     /// Lets the socket go for this reason, if one is there: the session isn't told.
     pub(crate) fn free(&mut self, conn: usize, reason: Reason, ended: &mut Ended)
+        ensures waiting { PlaceWaits self.old }
         ensures streams { PlaceKeeps S.remaining S.contents self.old self.new ended.old.sockets ended.new.sockets }
         ensures free { self.new ≡ Place.Free }
         ensures ended { ended.new.sockets ≡ with_place conn reason self.old ended.old.sockets }

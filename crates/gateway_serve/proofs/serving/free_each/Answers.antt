@@ -18,7 +18,7 @@ loop-conn-preserved g c =
     omega (arith, c.loop-conn-test.true, c.loop-conn.auto.places) in (
       λ st past all. one_more_left c.loop-conn.conn c.loop-conn.places c.index-places-conn.result c.free.new.self
           c.loop-conn.ended.sockets c.free.new.ended.sockets st past inside
-          c.free.ensures.ended (c.loop-conn.invariant.0 st past all),
+          c.free.ensures.ended c.free.ensures.waiting (c.loop-conn.invariant.0 st past all),
       λ have had.
           let s = c.loop-conn.invariant.1 have had in
           among_keep g.S.Read.remaining g.S.Write.contents c.loop-conn.places c.loop-conn.conn

@@ -24,10 +24,10 @@ returns-clause-serves g c = λ before st past went joins.
     (λ ok. (
       alone_step st past (Ended n) _,
       told_place ended st past n c.args.reason c.args.self.now c.free.new.self ended'
-          c.ended.result c.free.ensures.free c.free.ensures.ended c.requires used ok joins,
+          c.ended.result c.free.ensures.free c.free.ensures.ended c.requires c.free.ensures.waiting used ok joins,
     ))
     (λ fails. (
       alone_step st past (Ended n) _,
       fallen_place ended st past n c.args.reason c.args.self.now c.free.new.self ended' _
-          c.free.ensures.free c.free.ensures.ended c.requires used joins,
+          c.free.ensures.free c.free.ensures.ended c.requires c.free.ensures.waiting used joins,
     ))
