@@ -6,13 +6,16 @@ ghost use Rattle.gateway_files.specs.Failures.{fault_in};
 ghost use Rattle.gateway_files.specs.Faults.{status_of};
 
 use gateway_engine::Gateway;
-use gateway_files::{Failure, Fault, Task, open_spool, say_served};
+use gateway_files::{
+    Failure, Fault, Survey, Task, open_spool, open_surveyed, say_open, say_served, say_up,
+};
 use gateway_orders::Service;
 use gateway_serve::{Outcome, serve_on};
 use spool_disk::{DiskFault, FileDisk};
+use spool_image::Spool;
 use std::alloc::Global;
 use std::io;
-use std::net::{Ipv4Addr, SocketAddr, SocketAddrV4, TcpListener};
+use std::net::{Ipv4Addr, OpenListener, SocketAddr, SocketAddrV4, TcpListener};
 
 /// Serves the spool in a file, at a port of 127.0.0.1 that is printed. At the end the number of connections is told
 /// on standard error.
@@ -70,18 +73,24 @@ fn outcome<'a>(
 
 // Listens at a port of 127.0.0.1, and prints which one.
 fn listen<'a>(rt: &HostRuntime, port: u16) -> Result<TcpListener, Failure<'a>> {
-    match bind(rt, port) {
-        Ok((listener, address)) => {
-            println!(rt; "listening {address}")?;
-            Ok(listener)
-        }
-        Err(error) => Err(Failure::new(Fault::from(error), Task::Listen(port), error)),
+    let (listener, address) = listen_at(rt, SocketAddr::V4(address_of(port)))?;
+    println!(rt; "listening {address}")?;
+    Ok(listener)
+}
+
+// A listener at an address, and the address that it has: of any port where that was 0.
+fn listen_at<'a>(
+    rt: &HostRuntime,
+    address: SocketAddr,
+) -> Result<(TcpListener, SocketAddr), Failure<'a>> {
+    match bind(rt, address) {
+        Ok(bound) => Ok(bound),
+        Err(error) => Err(Failure::new(Fault::from(error), Task::Listen(address), error)),
     }
 }
 
-// A listener at a port of 127.0.0.1, and its address.
-fn bind(rt: &HostRuntime, port: u16) -> io::Result<(TcpListener, SocketAddr)> {
-    let listener = TcpListener::bind(rt, address_of(port))?;
+fn bind(rt: &HostRuntime, address: SocketAddr) -> io::Result<(TcpListener, SocketAddr)> {
+    let listener = TcpListener::bind(rt, address)?;
     let address = listener.local_addr()?;
     Ok((listener, address))
 }
@@ -92,4 +101,92 @@ fn address_of(port: u16) -> SocketAddrV4
     ensures port { v4_port result ≡ port }
 {
     SocketAddrV4::new(Ipv4Addr::LOCALHOST, port)
+}
+
+/// Serves the spool in a file until the program is ended, or the device fails. What is served and where is printed,
+/// unless it is to be quiet, and where other machines may reach it there is a warning on standard error.
+pub(crate) fn serve_up<'a>(
+    rt: &HostRuntime,
+    alloc: Global,
+    spool: &'a str,
+    listen: SocketAddr,
+    quiet: bool,
+) -> Result<(), Failure<'a>> {
+    let (gateway, survey) = match open_gateway(alloc, open_spool(rt, spool)?) {
+        Ok(opened) => opened,
+        Err((disk, fault)) => return Err(Failure::on_given(fault, spool, &disk)),
+    };
+    let told = if quiet { None } else { Some((spool, survey)) };
+    match listen_openly(rt, alloc, listen, told) {
+        Ok(listener) => {
+            let (disk, served) = serve_on_and_on(rt, alloc, &listener, gateway);
+            outcome(served, spool, &disk)
+        }
+        Err(failure) => {
+            drop(gateway.into_disk());
+            Err(failure)
+        }
+    }
+}
+
+// A gateway over the spool on a disk, and how much of the spool is in use. The disk comes back with each refusal.
+fn open_gateway(
+    alloc: Global,
+    disk: FileDisk,
+) -> Result<(Gateway<Spool<FileDisk>>, Survey), (FileDisk, Fault)> {
+    let (spool, survey) = match open_surveyed(alloc, disk) {
+        Ok(opened) => opened,
+        Err((disk, fault)) => return Err((disk, Fault::from(fault))),
+    };
+    match Gateway::new(alloc, spool) {
+        Ok(gateway) => Ok((gateway, survey)),
+        Err((spool, _)) => Err((spool.into_disk(), Fault::NoMemory)),
+    }
+}
+
+// Listens at an address, and says so: of which spool, where that is to be told, and whether others may reach it.
+fn listen_openly<'a>(
+    rt: &HostRuntime,
+    alloc: Global,
+    listen: SocketAddr,
+    told: Option<(&'a str, Survey)>,
+) -> Result<TcpListener, Failure<'a>> {
+    let (listener, address) = listen_at(rt, listen)?;
+    // A listener that waits would serve nobody.
+    if let Err(error) = listener.set_nonblocking(true) {
+        return Err(Failure::new(Fault::from(error), Task::Listen(listen), error));
+    }
+    let place = address.to_string(alloc)?;
+    if !address.ip().is_loopback() {
+        // Where standard error takes nothing, it isn't told.
+        let warned = say_open(&mut rt.stderr(), place.as_str());
+        drop(warned);
+    }
+    if let Some((spool, survey)) = told {
+        say_up(&mut io::writer(rt), spool, &survey, place.as_str())?;
+    }
+    Ok(listener)
+}
+
+// Serves until the device fails: serving that ended by itself goes on. The disk comes back.
+fn serve_on_and_on(
+    rt: &HostRuntime,
+    alloc: Global,
+    listener: &TcpListener,
+    gateway: Gateway<Spool<FileDisk>>,
+) -> (FileDisk, Result<(), DiskFault>) {
+    let mut gateway = gateway;
+    for _ in 0..u64::MAX {
+        let Outcome {
+            gateway: next,
+            connections: _,
+            ended: _,
+            served,
+        } = serve_on(alloc, rt, listener, gateway, u64::MAX, u64::MAX);
+        gateway = next;
+        if served.is_err() {
+            return (gateway.into_disk(), served);
+        }
+    }
+    (gateway.into_disk(), Ok(()))
 }

@@ -7,6 +7,7 @@ use crate::faults::Fault;
 use spool_disk::FileDisk;
 use std::alloc::AllocError;
 use std::io::Write;
+use std::net::SocketAddr;
 use std::{fmt, io};
 
 /// What the system failed at.
@@ -22,8 +23,8 @@ pub enum Task<'a> {
     FindFolder(&'a str),
     /// Reading the index file of this name in this folder.
     ReadIndex(&'a str, &'static str),
-    /// Listening at this port.
-    Listen(u16),
+    /// Listening at this address.
+    Listen(SocketAddr),
     /// Reading the command line.
     ReadWords,
     /// Reading standard input.
@@ -40,7 +41,7 @@ impl fmt::Display for Task<'_> {
             Task::UseSpool(path) => write!(f, "cannot read or write the spool {path}"),
             Task::FindFolder(path) => write!(f, "cannot look into the folder {path}"),
             Task::ReadIndex(folder, file) => write!(f, "cannot read {folder}/{file}"),
-            Task::Listen(port) => write!(f, "cannot listen at 127.0.0.1:{port}"),
+            Task::Listen(address) => write!(f, "cannot listen at {address}"),
             Task::ReadWords => f.write_str("cannot read the command line"),
             Task::ReadInput => f.write_str("cannot read standard input"),
             Task::Print => f.write_str("cannot write to standard output or standard error"),
@@ -48,12 +49,44 @@ impl fmt::Display for Task<'_> {
     }
 }
 
-/// Why the program ends before its work is done: one line, and a second one where the system failed.
+/// What is wrong with what a command was given, and what to do next.
+#[derive(Clone, Copy, Debug, PartialEq, Eq, Drop)]
+pub enum Advice<'a> {
+    /// The file at this path is no spool.
+    NoSpool(&'a str),
+    /// The file at this path holds what no gateway writes.
+    Damaged(&'a str),
+    /// The spool at this path is of a version that isn't known.
+    Version(&'a str),
+}
+
+impl fmt::Display for Advice<'_> {
+    fn fmt<W: fmt::Write>(&self, f: &mut fmt::Formatter<W>) -> fmt::Result {
+        match self {
+            Advice::NoSpool(path) => write!(f, "{path} is no spool: see whether the path is right"),
+            Advice::Damaged(path) => write!(f, "{path} is damaged: go back to a copy of it"),
+            Advice::Version(path) => write!(
+                f,
+                "{path} is of another version: take a newer program"
+            ),
+        }
+    }
+}
+
+// What the second line says.
+#[derive(Clone, Copy, Debug, Drop)]
+enum Cause<'a> {
+    // what the system failed at, and why
+    System(Task<'a>, io::Error),
+    Advice(Advice<'a>),
+}
+
+/// Why the program ends before its work is done: one line, and a second one where the system failed or where there is
+/// an advice.
 #[derive(Clone, Copy, Debug, Drop)]
 pub struct Failure<'a> {
     fault: Fault,
-    /// what the system failed at, and why
-    cause: Option<(Task<'a>, io::Error)>,
+    cause: Option<Cause<'a>>,
 }
 
 impl<'a> Failure<'a> {
@@ -63,7 +96,29 @@ impl<'a> Failure<'a> {
     {
         Failure {
             fault,
-            cause: Some((task, error)),
+            cause: Some(Cause::System(task, error)),
+        }
+    }
+
+    /// A refusal, with an advice.
+    pub fn advised(fault: Fault, advice: Advice<'a>) -> Self
+        ensures { fault_in result ≡ fault }
+    {
+        Failure {
+            fault,
+            cause: Some(Cause::Advice(advice)),
+        }
+    }
+
+    /// As `on_spool`, with an advice where the file can't be read as a spool.
+    pub fn on_given(fault: Fault, path: &'a str, disk: &FileDisk) -> Self
+        ensures { fault_in result ≡ fault }
+    {
+        match fault {
+            Fault::NotASpool => Failure::advised(fault, Advice::NoSpool(path)),
+            Fault::Damaged => Failure::advised(fault, Advice::Damaged(path)),
+            Fault::Version => Failure::advised(fault, Advice::Version(path)),
+            _ => Failure::on_spool(fault, path, disk),
         }
     }
 
@@ -114,7 +169,8 @@ pub fn ended<W: Write>(writer: &mut W, outcome: Result<u8, Failure>) -> u8
 impl fmt::Display for Failure<'_> {
     fn fmt<W: fmt::Write>(&self, f: &mut fmt::Formatter<W>) -> fmt::Result {
         match &self.cause {
-            Some((task, error)) => write!(f, "{}\n{task}: {error}", self.fault),
+            Some(Cause::System(task, error)) => write!(f, "{}\n{task}: {error}", self.fault),
+            Some(Cause::Advice(advice)) => write!(f, "{}\n{advice}", self.fault),
             None => write!(f, "{}", self.fault),
         }
     }

@@ -9,14 +9,16 @@ mod listing;
 mod said;
 mod spool_files;
 mod streams;
+mod surveying;
 mod upgrading;
 
-pub use failures::{Failure, Task, ended};
+pub use failures::{Advice, Failure, Task, ended};
 pub use faults::Fault;
 pub use formatting::{Formatted, format_file, format_on, is_spool_on};
 pub use index_files::kind_of;
 pub use listing::{list_file, list_on};
-pub use said::{say_formatted, say_read, say_served, say_upgraded};
+pub use said::{say_formatted, say_open, say_read, say_served, say_up, say_upgraded};
 pub use spool_files::open_spool;
 pub use streams::Noted;
+pub use surveying::{SLOTS, Survey, open_surveyed};
 pub use upgrading::upgrade_file;

@@ -1,8 +1,9 @@
 //! What the program prints of what it did.
 ghost use Rattle.std.specs.Prelude.{OnOk};
 ghost use Rattle.std.specs.Io.KnownBytes.{Appends};
-ghost use Rattle.gateway_files.specs.Said.{formatted_line, read_lines, served_line, upgraded_line};
+ghost use Rattle.gateway_files.specs.Said.{formatted_line, open_line, read_lines, served_line, up_line, upgraded_line};
 
+use crate::surveying::Survey;
 use std::io::{self, Write};
 
 /// Says what `format` made.
@@ -35,4 +36,31 @@ pub fn say_served<W: Write>(writer: &mut W, connections: u64) -> io::Result<()>
     ensures { OnOk result (Appends (W.contents writer.old) (W.contents writer.new) (served_line connections)) }
 {
     writeln!(writer, "served {connections} connections")
+}
+
+/// Says what is served, and where.
+pub fn say_up<W: Write>(
+    writer: &mut W,
+    spool: &str,
+    survey: &Survey,
+    address: &str,
+) -> io::Result<()>
+    ensures { OnOk result (Appends (W.contents writer.old) (W.contents writer.new)
+        (up_line spool.now survey.now address.now)) }
+{
+    writeln!(
+        writer,
+        "{spool}: version {}, {} of {} blocks free, {} of 512 slots free; listening {address}",
+        survey.version, survey.free_blocks, survey.blocks, survey.free_slots
+    )
+}
+
+/// Warns of an address that other machines may reach.
+pub fn say_open<W: Write>(writer: &mut W, address: &str) -> io::Result<()>
+    ensures { OnOk result (Appends (W.contents writer.old) (W.contents writer.new) (open_line address.now)) }
+{
+    writeln!(
+        writer,
+        "warning: {address} is open to other machines, and there are no passwords"
+    )
 }

@@ -3,17 +3,29 @@
 use clap::{Arg, ArgAction, Command, value_parser};
 use std::alloc::{AllocError, Global};
 
+/// What `--version` says behind the program's name.
+const VERSION: &str = "1.0.0, for spools of version 1 and 2";
+
+/// What `up` listens at where nothing else is said.
+const DOOR: &str = "127.0.0.1:8080";
+
 /// All commands.
 pub(crate) fn gateway<'a>(alloc: Global) -> Result<Command<'a>, AllocError> {
     let mut gateway = Command::new(alloc, "gateway")
+        .version(VERSION)
         .about("A gateway for resumable uploads (tus 1.0.0) of text in old and new encodings")
+        .after_help(
+            "`gateway help COMMAND` says more of a command. First steps:\n\n  \
+            gateway format spool --blocks 1024 --indexes idx\n  gateway up spool",
+        )
         .subcommand_required(true);
     for command in [
         format(alloc),
-        script(alloc),
-        serve(alloc),
+        up(alloc),
         list(alloc),
         upgrade(alloc),
+        serve(alloc),
+        script(alloc),
     ] {
         gateway = gateway.subcommand(command?)?;
     }
@@ -29,6 +41,9 @@ fn format<'a>(alloc: Global) -> Result<Command<'a>, AllocError> {
     );
     Command::new(alloc, "format")
         .about("Makes a spool without uploads")
+        .after_help(
+            "A spool for 4 MiB of text:\n\n  gateway format spool --blocks 1024 --indexes idx",
+        )
         .args(vec![in alloc;
             spool(
                 alloc,
@@ -42,6 +57,7 @@ fn format<'a>(alloc: Global) -> Result<Command<'a>, AllocError> {
 fn script<'a>(alloc: Global) -> Result<Command<'a>, AllocError> {
     Command::new(alloc, "script")
         .about("Runs standard input as a script of connections")
+        .after_help("Over a fresh spool, which is gone at the end:\n\n  gateway script - < story")
         .arg(spool(
             alloc,
             "The file with the spool; `-`: a fresh one in memory, gone when the script ends",
@@ -60,29 +76,54 @@ fn serve<'a>(alloc: Global) -> Result<Command<'a>, AllocError> {
         .help("It ends behind so many turns over the open connections");
     Command::new(alloc, "serve")
         .about("Serves connections over sockets")
+        .after_help(
+            "Ten connections and no more; `up` serves for ever:\n\n  \
+            gateway serve spool --port 8080 --connections 10 --turns 18446744073709551615",
+        )
+        .args(vec![in alloc; the_spool(alloc), port, connections, turns]?)
+}
+
+fn up<'a>(alloc: Global) -> Result<Command<'a>, AllocError> {
+    let listen = Arg::new(alloc, "listen")
+        .long("listen")
+        .action(ArgAction::Set)
+        .value_name("ADDRESS:PORT")
+        .default_value(DOOR)
+        .help("What to listen at; port 0: any, which is printed");
+    Command::new(alloc, "up")
+        .about("Serves a spool until the program is ended")
+        .after_help("At another port, and over IPv6:\n\n  gateway up spool --listen [::1]:8081")
         .args(vec![in alloc;
-            spool(alloc, "The file with the spool"),
-            port,
-            connections,
-            turns,
+            the_spool(alloc),
+            listen,
+            flag(alloc, "quiet", "Prints nothing but what is wrong"),
         ]?)
 }
 
 fn list<'a>(alloc: Global) -> Result<Command<'a>, AllocError> {
     Command::new(alloc, "list")
         .about("Prints the uploads of a spool, by number")
-        .arg(spool(alloc, "The file with the spool"))
+        .after_help(
+            "NUMBER ACCEPTED/DECLARED TEXTLENGTH FROM TO MODE of each:\n\n  gateway list spool",
+        )
+        .arg(the_spool(alloc))
 }
 
 fn upgrade<'a>(alloc: Global) -> Result<Command<'a>, AllocError> {
     Command::new(alloc, "upgrade")
         .about("Brings a spool of version 1 to version 2. There is no way back")
-        .arg(spool(alloc, "The file with the spool"))
+        .after_help("While no gateway serves it:\n\n  cp spool spool.old && gateway upgrade spool")
+        .arg(the_spool(alloc))
 }
 
 // The path of a spool.
 fn spool<'a>(alloc: Global, help: &'a str) -> Arg<'a> {
     Arg::new(alloc, "SPOOL").required(true).help(help)
+}
+
+// The path of a spool that is there.
+fn the_spool<'a>(alloc: Global) -> Arg<'a> {
+    spool(alloc, "The file with the spool")
 }
 
 // An option that has to be given, with a value.
@@ -92,4 +133,12 @@ fn option<'a>(alloc: Global, name: &'a str, value: &'a str) -> Arg<'a> {
         .required(true)
         .action(ArgAction::Set)
         .value_name(value)
+}
+
+// An option without a value.
+fn flag<'a>(alloc: Global, name: &'a str, help: &'a str) -> Arg<'a> {
+    Arg::new(alloc, name)
+        .long(name)
+        .action(ArgAction::SetTrue)
+        .help(help)
 }

@@ -1,8 +1,10 @@
 //! Orders.
 
 use crate::commands::gateway;
-use clap::{ArgMatches, Error};
+use clap::error::ErrorKind;
+use clap::{ArgMatches, Command, Error};
 use std::alloc::Global;
+use std::net::SocketAddr;
 
 /// What a command line asks for.
 #[derive(Clone, Copy, Debug, PartialEq, Eq, Drop)]
@@ -19,6 +21,12 @@ pub enum Order<'a> {
     },
     /// Connections over sockets to a spool.
     Serve(Service<'a>),
+    /// The same until the program is ended, at this address; where it is quiet nothing is printed of it.
+    Up {
+        spool: &'a str,
+        listen: SocketAddr,
+        quiet: bool,
+    },
     /// The uploads of the spool at this path.
     List {
         spool: &'a str,
@@ -43,18 +51,28 @@ pub struct Service<'a> {
 }
 
 /// Reads a command line, the program's own name first. A word that doesn't read, a word too many and one too few are
-/// usage faults, and so is a call for help. Which words ask for which order is only tested, and so is that `None` never
-/// comes: each command and each of its arguments are required.
+/// usage faults, and so are calls for help and for the version. Which words ask for which order is only tested, and so
+/// is that `None` never comes: each command and each of its arguments are required, or have a default.
 pub fn read_order<'a>(alloc: Global, words: &'a [String]) -> Result<Option<Order<'a>>, Error> {
-    let matches = gateway(alloc)?.try_get_matches_from(words)?;
-    Ok(match matches.subcommand() {
-        Some(("format", given)) => format_order(given),
-        Some(("script", given)) => script_order(given),
-        Some(("serve", given)) => serve_order(given),
-        Some(("list", given)) => list_order(given),
-        Some(("upgrade", given)) => upgrade_order(given),
+    let mut gateway = gateway(alloc)?;
+    let matches = gateway.try_get_matches_from_mut(words)?;
+    match matches.subcommand() {
+        Some(("up", given)) => up_order(&mut gateway, alloc, given),
+        Some((name, given)) => Ok(order_of(name, given)),
+        None => Ok(None),
+    }
+}
+
+// The order of a command whose words read whatever they are.
+fn order_of<'a>(name: &str, given: &ArgMatches<'a>) -> Option<Order<'a>> {
+    match name {
+        "format" => format_order(given),
+        "script" => script_order(given),
+        "serve" => serve_order(given),
+        "list" => list_order(given),
+        "upgrade" => upgrade_order(given),
         _ => None,
-    })
+    }
 }
 
 fn format_order<'a>(given: &ArgMatches<'a>) -> Option<Order<'a>> {
@@ -78,6 +96,33 @@ fn serve_order<'a>(given: &ArgMatches<'a>) -> Option<Order<'a>> {
         connections: given.get_one::<u64>("connections")?,
         turns: given.get_one::<u64>("turns")?,
     }))
+}
+
+// An address that doesn't read is a usage fault.
+fn up_order<'a>(
+    gateway: &mut Command<'a>,
+    alloc: Global,
+    given: &ArgMatches<'a>,
+) -> Result<Option<Order<'a>>, Error> {
+    let (Some(spool), Some(address)) = (given.get_str("SPOOL"), given.get_str("listen")) else {
+        return Ok(None);
+    };
+    match address.parse::<SocketAddr>() {
+        Ok(listen) => Ok(Some(Order::Up {
+            spool,
+            listen,
+            quiet: given.get_flag("quiet"),
+        })),
+        Err(_) => Err(no_address(gateway, alloc, address)?),
+    }
+}
+
+// What is said where an address doesn't read.
+fn no_address<'a>(gateway: &mut Command<'a>, alloc: Global, address: &str) -> Result<Error, Error> {
+    let message = format!(in alloc;
+        "invalid value '{address}' for '--listen <ADDRESS:PORT>': write it as 127.0.0.1:8080 or [::1]:8080"
+    )?;
+    Ok(gateway.error(ErrorKind::ValueValidation, message.as_str())?)
 }
 
 fn list_order<'a>(given: &ArgMatches<'a>) -> Option<Order<'a>> {
