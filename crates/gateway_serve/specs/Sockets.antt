@@ -46,8 +46,8 @@ IsWhole (Lost gone) = IsQuietly gone
 IsWhole Over = ⊥
 
 -- all bytes that came, but for at most 4,096 at the end, are those that the session took, and those that went are the
--- first that it gave, all but at most 135,167 at the end: all of them, where the reason says so. Where it says that the session closed the connection, the
--- session wasn't told that the client is gone
+-- first that it gave, all but at most 135,167 at the end: all of them, where the reason says so. Where it says that the
+-- session closed the connection, the session wasn't told that the client is gone
 pub record Fits (s : Seen) (c : Conversation) : Type 0 where
   pub taken : IsAllBut 4096 c.took s.came
   pub written : IsAllBut most_waiting s.went c.gave

@@ -2,11 +2,12 @@
 
 use gateway_orders::{Order, Service, read_order};
 use std::alloc::Global;
+use std::net::SocketAddr;
 use std::process::Abort;
 
 /// Command lines, and what they ask for. None is asked for by a line with a word too few, one too many or one that
 /// doesn't read, and by a call for help.
-static LINES: [(&str, Option<Order>); 16] = [
+static LINES: [(&str, Option<Order>); 17] = [
     (
         "gateway format new --blocks 16 --indexes idx",
         Some(Order::Format {
@@ -48,7 +49,23 @@ static LINES: [(&str, Option<Order>); 16] = [
     ),
     ("gateway help", None),
     ("gateway list --help", None),
+    ("gateway --version", None),
     ("gateway upgrade", None),
+];
+
+/// Command lines of `up`, the address that each is to listen at, and whether it is quiet.
+static UPS: [(&str, Option<(&str, bool)>); 5] = [
+    ("gateway up old", Some(("127.0.0.1:8080", false))),
+    (
+        "gateway up old --quiet --listen [::1]:0",
+        Some(("[::1]:0", true)),
+    ),
+    (
+        "gateway up --listen=0.0.0.0:80 old",
+        Some(("0.0.0.0:80", false)),
+    ),
+    ("gateway up old --listen localhost:80", None),
+    ("gateway up", None),
 ];
 
 /// The words of a line.
@@ -67,5 +84,22 @@ fn command_lines(rt: HostRuntime) {
         let words = words_of(&rt, rt.alloc(), line);
         let read = read_order(rt.alloc(), &words).ok();
         assert_eq!(rt; read, order.map(Some), "{line}");
+    }
+}
+
+#[test]
+fn addresses_to_listen_at(rt: HostRuntime) {
+    for (line, told) in UPS.iter() {
+        let words = words_of(&rt, rt.alloc(), line);
+        let read = read_order(rt.alloc(), &words).ok();
+        let order = match told {
+            Some((address, quiet)) => Some(Some(Order::Up {
+                spool: "old",
+                listen: address.parse::<SocketAddr>().expect(&rt, "an address"),
+                quiet: *quiet,
+            })),
+            None => None,
+        };
+        assert_eq!(rt; read, order, "{line}");
     }
 }
