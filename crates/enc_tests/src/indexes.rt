@@ -133,9 +133,10 @@ fn areas_of_no_set(rt: HostRuntime) {
         is_damaged(&rt, rt.alloc(), &area, what);
         area[at..at + 4].copy_from_slice(&before);
     }
-    assert!(rt; area.len() == 90112);
-    is_damaged(&rt, rt.alloc(), &area[..90111], "a byte too few");
+    let _last = area.pop();
+    is_damaged(&rt, rt.alloc(), &area, "a byte too few");
     is_damaged(&rt, rt.alloc(), &[], "nothing");
+    area.push(0).expect(&rt, "memory");
     assert!(rt; IndexSet::from_area(rt.alloc(), &area).is_ok());
     area.push(0).expect(&rt, "memory");
     is_damaged(&rt, rt.alloc(), &area, "a byte too many");

@@ -137,10 +137,14 @@ fn bytes_of_units(order: Order, units: &[u16; 32], is_carried: bool) -> (Option<
     }
     let mut block = [0; 64];
     if is_carried {
-        block.copy_from_slice(&bytes[1..]);
+        for i in 0..64 {
+            block[i] = bytes[i + 1];
+        }
         (Some(bytes[0]), block)
     } else {
-        block.copy_from_slice(&bytes[..64]);
+        for i in 0..64 {
+            block[i] = bytes[i];
+        }
         (None, block)
     }
 }
