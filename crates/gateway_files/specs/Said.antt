@@ -25,8 +25,8 @@ read_lines names =
 -- what is served, and where
 abbrev pub up_line : List ℕ → Survey → List ℕ → List ℕ
 up_line spool survey address =
-    spool ++ (codes ": version " ++ (decimal survey.version ++ (codes ", " ++ (decimal survey.free_blocks ++ (codes " of "
-    ++ (decimal survey.blocks ++ (codes " blocks free, " ++ (decimal survey.free_slots
+    spool ++ (codes ": version " ++ (decimal survey.version ++ (codes ", " ++ (decimal survey.free_blocks
+    ++ (codes " of " ++ (decimal survey.blocks ++ (codes " blocks free, " ++ (decimal survey.free_slots
     ++ (codes " of 512 slots free; listening " ++ (address ++ (10 ∷ [])))))))))))
 
 -- a warning of an address that other machines may reach

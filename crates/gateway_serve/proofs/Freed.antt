@@ -1,5 +1,6 @@
 -- Places that are freed, and sockets that are let go.
-use Rattle.std.proofs.Common.{◌≡◌, ℕ, ◌==◌, true, false, List, [], ◌∷◌, ◌++◌, None, Result, Ok, Err, refl, sym, ◌∙◌, ap, subst}
+use Rattle.std.proofs.Common.{◌≡◌, ℕ, ◌==◌, true, false, List, [], ◌∷◌, ◌++◌, None, Result, Ok, Err, refl, sym}
+use Rattle.std.proofs.Common.{◌∙◌, ap, subst}
 use Rattle.std.proofs.Common.{append-nil}
 use Rattle.tus_session.specs.History.{State, Ended, Mark, Marked, history}
 use Rattle.tus_session.specs.declared.errors.SessionError.{SessionError}
@@ -30,7 +31,8 @@ first_seen : (n : ℕ) (s : Seen) (ended : List Seen) → s.conn ≡ n → seen_
 first_seen n s ended e = by_true (n == s.conn) _ _ (subst (λ k. (n == k) ≡ true) (sym e) (same_number n))
 
 others_seen : (n : ℕ) (s : Seen) (ended : List Seen) → s.conn ≡ n → OthersStay n ended (s ∷ ended)
-others_seen n s ended e = λ k ne. by_false (k == s.conn) _ _ (subst (λ i. (k == i) ≡ false) (sym e) (other_number k n ne))
+others_seen n s ended e = λ k ne. by_false (k == s.conn) _ _
+    (subst (λ i. (k == i) ≡ false) (sym e) (other_number k n ne))
 
 pub others_stay : {S : Type 0} (n : ℕ) (reason : Reason) (p : Place S) (ended : List Seen)
     → OthersStay n ended (with_place n reason p ended)
@@ -80,7 +82,8 @@ module _ (ended : List Seen) (st : State) (past : List Marked) (n : ℕ) where
       subst (λ seen. Pairs sockets.Served seen (conversations st past n)) (sym (first_seen n s ended refl))
       (subst (λ talks. Pairs sockets.Served (s ∷ seen_of n ended) talks) (sym is.talks) (served, is.pairs))
 
-  pub over_freed : {S : Type 0} (l : Link S) → IsOver (joint_of l) → FewWait l.output → Joins (joint_of l) (seen_of n ended) st past n
+  pub over_freed : {S : Type 0} (l : Link S) → IsOver (joint_of l) → FewWait l.output
+      → Joins (joint_of l) (seen_of n ended) st past n
       → PlaceJoins {S = S} Free (seen_of n (with_place n Why.Closed (Open l) ended)) st past n
   over_freed l over few is = (over_pairs l.socket.latest (joint_of l) over few is, is.shut over.0 ∙ sym is.apart)
 
@@ -102,7 +105,8 @@ module _ (ended : List Seen) (st : State) (past : List Marked) (n : ℕ) where
       } in
       let talks : conversations st ((Ended n, m) ∷ past) n ≡ hung_up is.latest ∷ is.others = talks_here st past
       (Ended n) m ∙ ap (latest_by hung_up) is.talks in
-      subst (λ seen. Pairs sockets.Served seen (conversations st ((Ended n, m) ∷ past) n)) (sym (first_seen n s ended refl))
+      subst (λ seen. Pairs sockets.Served seen (conversations st ((Ended n, m) ∷ past) n))
+      (sym (first_seen n s ended refl))
       (subst (λ x. Pairs sockets.Served (s ∷ seen_of n ended) x) (sym talks) (served, is.pairs))
 
   told_none : (answer : Result (Unit {0}) SessionError) → (answer ≡ Err DiskFault → ⊥)

@@ -17,7 +17,8 @@ use Rattle.gateway_serve.specs.declared.places.Place.TheVariants.{Free, Open}
 pub data Carried {S : Type 0} (remaining contents : S → Option (List ℕ)) (accepted : S)
     : S → List ℕ → List ℕ → Latest → Type 0 where
   untouched : Carried remaining contents accepted accepted [] [] Was.None
-  read : (s s' : S) (came went bytes : List ℕ) (before : Latest) → Carried remaining contents accepted s came went before
+  read : (s s' : S) (came went bytes : List ℕ) (before : Latest)
+      → Carried remaining contents accepted s came went before
       → Consumes (remaining s) (remaining s') bytes
       → Carried remaining contents accepted s' (came ++ bytes) went (Was.Read (length bytes))
   not_read : (s s' : S) (came went : List ℕ) (before : Latest) (kind : ErrorKind)
