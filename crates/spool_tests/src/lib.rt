@@ -9,6 +9,8 @@ mod devices;
 #[cfg(test)]
 mod images;
 #[cfg(test)]
+mod openings;
+#[cfg(test)]
 mod pages;
 #[cfg(test)]
 mod resumes;

@@ -167,8 +167,9 @@ fn state_page_is_read_as_it_was_written(rt: HostRuntime) {
 
 #[test]
 fn count_of_blocks_is_read_as_it_was_written(rt: HostRuntime) {
-    let mut front = [0; 12];
-    front.copy_from_slice(&first_page(65536)[..12]);
+    let front = *b"TUSSPOOL\x00\x01\x00\x00";
+    assert!(rt; &first_page(65536)[..12] == front.as_slice());
     assert!(rt; blocks_said(&front) == Some(65536));
+    assert!(rt; blocks_said(b"TUSSPOOM\x00\x01\x00\x00").is_none());
     assert!(rt; blocks_said(&[0; 12]).is_none());
 }

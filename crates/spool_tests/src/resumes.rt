@@ -2,7 +2,7 @@
 //! comes, and what an opening finds goes on to the end as one uncut decoding does.
 
 use crate::deletions::has_text;
-use crate::uploads::{opened, patched};
+use crate::uploads::{calls_of_opening, opened, patched};
 use enc_index::{Index, IndexSet, Kind};
 use enc_model::{Encoding, Mode};
 use spool_disk::{Crash, FuseDisk, MemoryDisk};
@@ -99,11 +99,11 @@ const ROWS: [Row; 6] = [
     },
 ];
 
-/// An opening makes 540 calls of the disk, and the last of these read rows.
-const FIRST: u64 = 536;
+/// So many calls of an opening, the last ones, meet a stop: they read rows.
+const LAST_CALLS: u64 = 4;
 
-/// More calls than an opening and an append make.
-const LAST: u64 = 600;
+/// More calls than an append makes after these.
+const MOST: u64 = 64;
 
 /// A spool of 16 blocks without uploads, with the index files that the rows need.
 fn with_files(rt: &impl Abort, alloc: Global) -> MemoryDisk {
@@ -200,10 +200,12 @@ impl<'a> Row<'a> {
 
     /// The piece at a bar meets a stop at each call, until it is answered.
     fn resumes_at(&self, rt: &impl Abort, alloc: Global, bar: usize, kind: Crash) {
+        let opening = calls_of_opening(rt, alloc, with_files(rt, alloc));
+        let first = opening.saturating_sub(LAST_CALLS);
         let mut answered = false;
-        for calls in FIRST..LAST {
-            if self.resumes(rt, alloc, bar, calls, kind) {
-                answered = calls > FIRST;
+        for more in 0..MOST {
+            if self.resumes(rt, alloc, bar, first.saturating_add(more), kind) {
+                answered = more > LAST_CALLS;
                 break;
             }
         }
@@ -213,7 +215,7 @@ impl<'a> Row<'a> {
 
 /// Bytes come to the upload 1 from an offset on, on a disk that stops after so many calls: the disk, and whether they
 /// were answered.
-fn stops(
+pub(crate) fn stops(
     alloc: Global,
     disk: MemoryDisk,
     offset: u64,

@@ -2,7 +2,7 @@
 
 use crate::deletions::has_text;
 use crate::images::{byte_at, put, refused};
-use crate::uploads::{declared, deferred, fresh, opened, patched, plain};
+use crate::uploads::{POWERS, calls_of_opening, declared, deferred, fresh, opened, patched, plain};
 use spool_disk::{Crash, Disk, FuseDisk, MemoryDisk};
 use spool_image::{OpenFault, Spool, UpgradeError, upgrade};
 use std::alloc::Global;
@@ -123,29 +123,70 @@ fn upgraded_within(
     (looked_at(rt, alloc, fuse.into_inner().crash(kind)), answer)
 }
 
-/// Lets the disk stop at calls from all parts of the upgrade, and crash in this way.
-fn stop_within(rt: &impl Abort, alloc: Global, kind: Crash) {
+/// How many calls an upgrade makes: one more than the most that aren't enough.
+fn calls_of_upgrade(rt: &impl Abort, alloc: Global) -> u64 {
+    let mut few = 0u64;
+    for step in POWERS {
+        let calls = few.saturating_add(step);
+        let mut fuse = FuseDisk::new(old_spool(rt, alloc), calls);
+        if upgrade(alloc, &mut fuse).is_err() {
+            few = calls;
+        }
+    }
+    few.saturating_add(1)
+}
+
+/// After the write that opens the gate come a sync, 257 pages, a sync, the write that closes the gate and a sync.
+const AFTER_THE_GATE: u64 = 261;
+
+/// Whether the disk is of version 2 after a stop after so many calls of all, and a crash: where the gate was opened. A
+/// write of the gate that wasn't synced is lost, kept or torn to this byte.
+fn is_new(all: u64, calls: u64, kind: Crash) -> bool {
+    let written = all.saturating_sub(AFTER_THE_GATE);
+    match kind {
+        Crash::New | Crash::Torn(0xA5) => calls >= written,
+        Crash::Old | Crash::Torn(_) => calls > written,
+    }
+}
+
+/// Lets the disk stop at each call of the upgrade from this one on, and crash in this way.
+fn stop_within(rt: &impl Abort, alloc: Global, first: u64, kind: Crash) {
     let stopped = Err(UpgradeError::Open(OpenFault::DiskFault));
+    let all = calls_of_upgrade(rt, alloc);
     let mut disk = old_spool(rt, alloc);
-    // opening is some 540 calls, and the commit of 257 pages some 520, with the gate in its middle
-    for calls in [0, 538, 600, 797, 799, 800, 801, 803, 900, 1040] {
+    for calls in first..all {
         let (back, answer) = upgraded_within(rt, alloc, disk, calls, kind);
         disk = back;
         assert_eq!(rt; answer, stopped, "{calls}");
-        let form = form_of(rt, &mut disk);
-        assert!(rt; form == OLD || form == NEW, "{calls}");
+        let wanted = if is_new(all, calls, kind) { NEW } else { OLD };
+        assert_eq!(rt; form_of(rt, &mut disk), wanted, "{calls}");
         make_old(rt, &mut disk);
     }
-    let (mut left, answer) = upgraded_within(rt, alloc, disk, 100_000, kind);
+    let (mut left, answer) = upgraded_within(rt, alloc, disk, all, kind);
     assert_eq!(rt; (answer, form_of(rt, &mut left)), (Ok(()), NEW));
 }
 
+/// All calls but those of the opening, which writes nothing.
+fn stop_within_the_commit(rt: &impl Abort, alloc: Global, kind: Crash) {
+    let first = calls_of_opening(rt, alloc, old_spool(rt, alloc));
+    stop_within(rt, alloc, first, kind);
+}
+
 #[test]
-fn uploads_are_there_where_the_disk_stops_and_crashes(rt: HostRuntime) {
-    stop_within(&rt, rt.alloc(), Crash::Old);
-    stop_within(&rt, rt.alloc(), Crash::New);
-    // the byte of an open gate
-    stop_within(&rt, rt.alloc(), Crash::Torn(0xA5));
+fn upgrade_stops_and_bytes_are_lost(rt: HostRuntime) {
+    stop_within(&rt, rt.alloc(), 0, Crash::Old);
+}
+
+#[test]
+fn upgrade_stops_and_bytes_are_kept(rt: HostRuntime) {
+    stop_within_the_commit(&rt, rt.alloc(), Crash::New);
+}
+
+/// To zeros, and to the byte of an open gate.
+#[test]
+fn upgrade_stops_and_bytes_are_torn(rt: HostRuntime) {
+    stop_within_the_commit(&rt, rt.alloc(), Crash::Torn(0));
+    stop_within_the_commit(&rt, rt.alloc(), Crash::Torn(0xA5));
 }
 
 /// Changes a byte in each row, and looks how the spool is refused when it is opened, and what an upgrade answers then.

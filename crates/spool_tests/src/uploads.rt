@@ -5,11 +5,14 @@ ghost use Rattle.upload_rules.specs.Records.{IsWellFormed};
 
 use enc_index::IndexSet;
 use enc_model::{Encoding, Mode};
-use spool_disk::{Disk, MemoryDisk};
-use spool_image::{Spool, format};
+use spool_disk::{Disk, FuseDisk, MemoryDisk};
+use spool_image::{OpenFault, Spool, format};
 use std::alloc::Global;
 use std::process::Abort;
 use upload_rules::{New, UploadError, UploadRefusal, Uploads};
+
+/// The steps by which calls are counted, of which there are fewer than 4,096.
+pub(crate) const POWERS: [u64; 12] = [2048, 1024, 512, 256, 128, 64, 32, 16, 8, 4, 2, 1];
 
 /// The fields of an upload from UTF-8 to UTF-8 of this length.
 pub(crate) fn plain(alloc: Global, declared: u64) -> New
@@ -52,6 +55,24 @@ pub(crate) fn opened<D: Disk>(rt: &impl Abort, alloc: Global, disk: D) -> Spool<
         Ok(spool) => spool,
         Err((_, fault)) => panic!(rt; "{fault}"),
     }
+}
+
+/// How many calls an opening of the spool on a disk makes: one more than the most that aren't enough.
+pub(crate) fn calls_of_opening(rt: &impl Abort, alloc: Global, disk: MemoryDisk) -> u64 {
+    let mut few = 0u64;
+    let mut disk = disk;
+    for step in POWERS {
+        let calls = few.saturating_add(step);
+        match Spool::open(alloc, FuseDisk::new(disk, calls)) {
+            Ok(spool) => disk = spool.into_disk().into_inner(),
+            Err((left, fault)) => {
+                assert_eq!(rt; fault, OpenFault::DiskFault);
+                disk = left.into_inner();
+                few = calls;
+            }
+        }
+    }
+    few.saturating_add(1)
 }
 
 /// A spool of 16 blocks with an upload of this length, of which no byte came.
