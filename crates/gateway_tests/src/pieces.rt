@@ -25,7 +25,7 @@ fn gives(rt: &impl Abort, gateway: &mut Gateway<Spool<MemoryDisk>>, out: &mut Ve
 
 const GET: Call = (1, b"GET /files/1 HTTP/1.1\r\n\r\n", 65_666);
 
-/// The upload is deleted, and another one put on the same blocks: the text has 18, and so has the spool.
+/// The upload is deleted, and another one put on the same blocks: the text has 18, and the spool one more.
 const DELETED: [Call; 5] = [
     GET,
     (
@@ -85,7 +85,7 @@ fn rest_is(
     rest: &[u8],
 ) {
     let talk = Talk::new(rt, alloc, steps);
-    let disk = fresh(rt, alloc, 18, None);
+    let disk = fresh(rt, alloc, 19, None);
     let disk = ends(rt, alloc, "a long text", &talk, disk, None);
     let mut gateway = opened(rt, alloc, disk);
     let mut out = Vec::new(alloc);

@@ -1,10 +1,10 @@
-//! Openings of a spool whose gate is open: they stop or fail, are begun again, and at last bring the change home.
+//! Openings of a spool whose gate is open: they fail, are begun again, and bring the change home.
 
 use crate::deletions::has_text;
 use crate::images::{byte_at, put};
 use crate::resumes::stops;
 use crate::uploads::{calls_of_opening, fresh, opened, plain};
-use spool_disk::{Crash, Disk, FuseDisk, HiccupDisk, MemoryDisk};
+use spool_disk::{Crash, Disk, HiccupDisk, MemoryDisk};
 use spool_image::{OpenFault, Spool};
 use std::alloc::Global;
 use std::process::Abort;
@@ -79,32 +79,6 @@ fn is_home(rt: &impl Abort, alloc: Global, disk: MemoryDisk) {
     assert!(rt; has_text(&mut spool, 1, b"hello"));
     let mut disk = spool.into_disk();
     assert_eq!(rt; byte_at(rt, &mut disk, GATE), 0);
-}
-
-/// Three openings stop, each after so many calls, and after each comes a crash of this kind.
-fn stop_thrice(rt: &impl Abort, alloc: Global, bytes: &[u8], stops: [u64; 3], kind: Crash) {
-    let mut disk = disk_of(rt, alloc, bytes);
-    for calls in stops {
-        let fuse = refused(rt, alloc, FuseDisk::new(disk, calls));
-        disk = fuse.into_inner().crash(kind);
-    }
-    is_home(rt, alloc, disk);
-}
-
-/// The first two stop anywhere in the recovery, and the third at some place of it.
-#[test]
-fn three_openings_stop(rt: HostRuntime) {
-    let bytes = with_open_gate(&rt, rt.alloc());
-    let most = calls_of_recovery(&rt, rt.alloc(), &bytes);
-    assert!(rt; 9 <= most && most < 60);
-    for first in 0..most {
-        for second in 0..most {
-            let third = (3 * first + 5 * second) % most;
-            for kind in KINDS {
-                stop_thrice(&rt, rt.alloc(), &bytes, [first, second, third], kind);
-            }
-        }
-    }
 }
 
 /// A call of an opening fails once, and a write that fails leaves nothing, zeros or the byte of an open gate.
