@@ -1,11 +1,11 @@
 //! Scripts over disks of which a call fails, or all calls from one on.
 
-use crate::spools::ran;
+use crate::spools::{calls_of_opening, ran};
 use crate::stories::{
     CUT_CHARACTER, DECLARED_AND_CUT, DECLARED_LAST, DELETED, FULL_SPOOL, HELLO, LONG_TEXT,
     ONE_WINNER, PATCH_OF_A_DELETED,
 };
-use crate::talks::{Step, Talk, fresh, put_upload};
+use crate::talks::{Files, Step, Talk, put_upload, with_files};
 use enc_index::Kind;
 use gateway_engine::RunFault;
 use spool_disk::{Crash, FuseDisk, HiccupDisk, MemoryDisk};
@@ -14,29 +14,34 @@ use std::alloc::Global;
 use std::process::Abort;
 use upload_rules::Uploads;
 
-/// The first call of a run's disk that fails here: an opening makes 540, and the last of these read rows.
-const FIRST: u64 = 535;
+/// So many calls of an opening, the last ones, fail in each story: they read rows. Where all of them fail is one test.
+const LAST_CALLS: u64 = 5;
 
-/// More calls than a run makes.
-const LAST: u64 = 1200;
+/// More calls than a run makes after these.
+const MOST: u64 = 700;
 
-/// A talk over a spool of so many blocks, with this index file if there is one.
+/// A talk over a spool of so many blocks, with these index files.
 #[derive(Clone, Copy)]
-struct Story<'a> {
-    alloc: Global,
-    blocks: u32,
-    file: Option<(Kind, &'a [u8])>,
-    talk: &'a Talk,
+pub(crate) struct Story<'a> {
+    pub(crate) alloc: Global,
+    pub(crate) blocks: u32,
+    pub(crate) files: Files<'a>,
+    pub(crate) talk: &'a Talk,
 }
 
 impl Story<'_> {
-    fn disk(&self, rt: &impl Abort) -> MemoryDisk {
-        fresh(rt, self.alloc, self.blocks, self.file)
+    pub(crate) fn disk(&self, rt: &impl Abort) -> MemoryDisk {
+        with_files(rt, self.alloc, self.blocks, self.files)
     }
 
-    /// What was written is a front of the output, and the uploads are those of all changes that it acknowledged, or
+    /// The first call that fails here.
+    fn first(&self, rt: &impl Abort) -> u64 {
+        calls_of_opening(rt, self.alloc, self.disk(rt)).saturating_sub(LAST_CALLS)
+    }
+
+    /// What was written is a prefix of the output, and the uploads are those of all changes that it acknowledged, or
     /// one more.
-    fn check(&self, rt: &impl Abort, disk: MemoryDisk, written: &[u8]) {
+    pub(crate) fn check(&self, rt: &impl Abort, disk: MemoryDisk, written: &[u8]) {
         assert!(rt; self.talk.wanted.starts_with(written));
         let left = told(rt, self.alloc, disk);
         let mut fits = false;
@@ -63,9 +68,10 @@ impl Story<'_> {
 
     /// Each call fails once.
     fn fails_once(&self, rt: &impl Abort, fill: Option<u8>) {
+        let first = self.first(rt);
         let mut whole = false;
-        for call in FIRST..LAST {
-            if !self.fails_at(rt, fill, call) {
+        for more in 0..MOST {
+            if !self.fails_at(rt, fill, first.saturating_add(more)) {
                 whole = true;
                 break;
             }
@@ -85,9 +91,10 @@ impl Story<'_> {
 
     /// From each call on all fail.
     fn stays_failed(&self, rt: &impl Abort, kind: Crash) {
+        let first = self.first(rt);
         let mut whole = false;
-        for call in FIRST..LAST {
-            if !self.stays_failed_at(rt, kind, call) {
+        for more in 0..MOST {
+            if !self.stays_failed_at(rt, kind, first.saturating_add(more)) {
                 whole = true;
                 break;
             }
@@ -96,7 +103,17 @@ impl Story<'_> {
     }
 }
 
-/// What an opening leaves that stops behind so many calls.
+/// The story `HELLO`.
+pub(crate) fn hello(alloc: Global, talk: &Talk) -> Story<'_> {
+    Story {
+        alloc,
+        blocks: 16,
+        files: &[],
+        talk,
+    }
+}
+
+/// What an opening leaves that stops after so many calls.
 fn stopped(rt: &impl Abort, alloc: Global, disk: MemoryDisk, calls: u64) -> MemoryDisk {
     match Spool::open(alloc, FuseDisk::new(disk, calls)) {
         Ok(_spool) => panic!(rt; "opened with {calls} calls"),
@@ -132,12 +149,12 @@ fn put_upload_of(
         let (accepted, declared, count) = (record.accepted, record.declared, record.text_len);
         let mut text = vec![in alloc; 0; count as usize].expect(rt, "memory for a text");
         spool.read_text(number, 0, &mut text).expect(rt, "a text");
-        put_upload(rt, alloc, to, accepted, declared, &text);
+        put_upload(rt, alloc, to, number, accepted, declared, &text);
     }
 }
 
 /// The uploads on a disk by their numbers, of which the greatest is 2.
-fn told(rt: &impl Abort, alloc: Global, disk: MemoryDisk) -> Vec<u8> {
+pub(crate) fn told(rt: &impl Abort, alloc: Global, disk: MemoryDisk) -> Vec<u8> {
     match Spool::open(alloc, disk) {
         Ok(mut spool) => {
             let mut uploads = Vec::new(alloc);
@@ -151,28 +168,28 @@ fn told(rt: &impl Abort, alloc: Global, disk: MemoryDisk) -> Vec<u8> {
 }
 
 /// An index of one character.
-const JIS0208: Option<(Kind, &[u8])> = Some((Kind::Jis0208, b"283\t3042\n"));
+const JIS0208: Files = &[(Kind::Jis0208, b"283\t3042\n")];
 
 /// Index files and steps, for spools of 16 blocks.
-const STORIES: [(Option<(Kind, &[u8])>, &[Step]); 8] = [
-    (None, HELLO),
+const STORIES: [(Files, &[Step]); 8] = [
+    (&[], HELLO),
     (JIS0208, CUT_CHARACTER),
     (JIS0208, DECLARED_LAST),
-    (None, DECLARED_AND_CUT),
-    (None, ONE_WINNER),
-    (None, FULL_SPOOL),
-    (None, DELETED),
-    (None, PATCH_OF_A_DELETED),
+    (&[], DECLARED_AND_CUT),
+    (&[], ONE_WINNER),
+    (&[], FULL_SPOOL),
+    (&[], DELETED),
+    (&[], PATCH_OF_A_DELETED),
 ];
 
 /// In each story each call fails once, and leaves so many bytes of this value.
 fn fail_once(rt: &impl Abort, alloc: Global, fill: Option<u8>) {
-    for (file, steps) in STORIES {
+    for (files, steps) in STORIES {
         let talk = Talk::new(rt, alloc, steps);
         let story = Story {
             alloc,
             blocks: 16,
-            file,
+            files,
             talk: &talk,
         };
         story.fails_once(rt, fill);
@@ -181,12 +198,12 @@ fn fail_once(rt: &impl Abort, alloc: Global, fill: Option<u8>) {
 
 /// In each story all calls fail from each one on, and a crash of this kind comes.
 fn stay_failed(rt: &impl Abort, alloc: Global, kind: Crash) {
-    for (file, steps) in STORIES {
+    for (files, steps) in STORIES {
         let talk = Talk::new(rt, alloc, steps);
         let story = Story {
             alloc,
             blocks: 16,
-            file,
+            files,
             talk: &talk,
         };
         story.stays_failed(rt, kind);
@@ -218,8 +235,31 @@ fn reads_of_a_text_that_fail_once(rt: HostRuntime) {
     let story = Story {
         alloc: rt.alloc(),
         blocks: 32,
-        file: None,
+        files: &[],
         talk: &talk,
     };
     story.fails_once(&rt, None);
+}
+
+/// Each call of an opening fails once, and a write leaves zeros: the run is refused, and nothing is written.
+#[test]
+fn calls_of_an_opening_that_fail_once(rt: HostRuntime) {
+    let talk = Talk::new(&rt, rt.alloc(), HELLO);
+    let story = hello(rt.alloc(), &talk);
+    for call in 0..story.first(&rt) {
+        assert!(rt; story.fails_at(&rt, Some(0), call), "at {call}");
+    }
+}
+
+/// From each call of an opening on all fail, and a crash comes that tears bytes.
+#[test]
+fn disks_that_stop_in_an_opening(rt: HostRuntime) {
+    let talk = Talk::new(&rt, rt.alloc(), HELLO);
+    let story = hello(rt.alloc(), &talk);
+    for call in 0..story.first(&rt) {
+        assert!(rt;
+            story.stays_failed_at(&rt, Crash::Torn(165), call),
+            "at {call}"
+        );
+    }
 }

@@ -15,8 +15,8 @@ const SPOOL: &str = "gateway_file_test/spool";
 
 const AGAIN: &str = "gateway_again_test";
 
-/// Three uploads: one in part, one from UTF-16LE in the mode `fatal`, whose text has half its bytes, and one of no known
-/// length.
+/// Three uploads: one in part, one from UTF-16LE in the mode `fatal`, whose text has half its bytes, and one of no
+/// known length.
 const STEPS: &[Step] = &[
     Open(1),
     Made(1, 6, ""),
@@ -78,7 +78,6 @@ fn spool_is_made_used_listed_and_upgraded(rt: HostRuntime) {
     upgrade_file(&rt, alloc, SPOOL).expect(&rt, "an old spool");
     let disk = open_spool(&rt, SPOOL).expect(&rt, "an upgraded spool");
     drop(lists(&rt, alloc, disk));
-    list_file(&rt, alloc, SPOOL).expect(&rt, "its lines");
     let again = upgrade_file(&rt, alloc, SPOOL);
     fails(&rt, alloc, again, 2, "refused: 35 AlreadyNew");
     fs::remove_dir_all(&rt, FOLDER).expect(&rt, "a folder");
@@ -126,6 +125,10 @@ fn failure_says_what_the_system_said(rt: HostRuntime) {
     let twice = open_spool(&rt, "gateway_used_test").map(drop);
     let said = "device fault\ncannot open the spool gateway_used_test: it is in use";
     fails(&rt, alloc, twice, 3, said);
+    let listed = list_file(&rt, alloc, "gateway_used_test");
+    fails(&rt, alloc, listed, 3, said);
+    let upgraded = upgrade_file(&rt, alloc, "gateway_used_test");
+    fails(&rt, alloc, upgraded, 3, said);
     drop(used);
     fs::remove_file(&rt, "gateway_used_test").expect(&rt, "a file");
 }

@@ -2,13 +2,13 @@
 #![tactic(auto)]
 
 #[cfg(test)]
-mod deletions;
-#[cfg(test)]
 mod faults;
 #[cfg(test)]
 mod files;
 #[cfg(test)]
 mod orders;
+#[cfg(test)]
+mod pieces;
 #[cfg(test)]
 mod rounds;
 #[cfg(test)]
@@ -21,6 +21,8 @@ mod slow_readers;
 mod spools;
 #[cfg(test)]
 mod stories;
+#[cfg(test)]
+mod streams;
 #[cfg(test)]
 mod surface;
 #[cfg(test)]

@@ -1,8 +1,10 @@
-//! A life of two rounds, over disks that stop or fail at each call.
+//! Lives of rounds, over disks that stop at each call.
 
+use crate::spools::{POWERS, calls_of_opening};
+use crate::talks::fresh;
 use enc_index::IndexSet;
 use gateway_rounds::{End, Round, Run, Work, endure, live_through};
-use spool_disk::{Crash, CrashDisk, Disk, FuseDisk, HiccupDisk, MemoryDisk};
+use spool_disk::{Crash, Disk, FuseDisk, MemoryDisk};
 use spool_image::{UpgradeError, format};
 use std::alloc::Global;
 use std::process::Abort;
@@ -92,10 +94,12 @@ const FULL: &[u8] =
 /// More calls than a round makes.
 const NO_STOP: u64 = 100_000;
 
-/// After the first round's end the upload is as it was after all that was written, or after what was to be written next.
-fn check(rt: &impl Abort, deeds: &Deeds, written: &[u8], shown: &[u8]) {
+/// After the first round's end the upload is as it was after all that was written, or after what was to be written
+/// next. Whether all was written.
+fn check(rt: &impl Abort, deeds: &Deeds, written: &[u8], shown: &[u8]) -> bool {
     let mut left = written;
     let mut right = false;
+    let mut whole = true;
     for (reply, behind) in deeds.stages {
         match left.strip_prefix(reply) {
             Some(rest) => {
@@ -104,21 +108,23 @@ fn check(rt: &impl Abort, deeds: &Deeds, written: &[u8], shown: &[u8]) {
             }
             None => {
                 right |= shown == *behind;
+                whole = false;
                 break;
             }
         }
     }
     assert!(rt; left.is_empty());
     assert!(rt; right);
+    whole
 }
 
-/// The first round does its deeds, up to the call at which the disk stops or fails, and the second asks for the upload.
+/// The first round does its deeds, up to the call at which the disk stops, and the second asks for the upload.
 /// Whether the first one ran to its end.
-fn lives<D: CrashDisk<How = (Crash, u64)> + Drop>(
+fn lives(
     rt: &impl Abort,
     alloc: Global,
-    disk: D,
-    kind: Option<Crash>,
+    disk: FuseDisk<MemoryDisk>,
+    kind: Crash,
     deeds: &Deeds,
 ) -> bool {
     let indexes = IndexSet::new(alloc).expect(rt, "there is memory");
@@ -133,7 +139,8 @@ fn lives<D: CrashDisk<How = (Crash, u64)> + Drop>(
     let [first, later] = &rounds;
     match (&first.work, &later.work) {
         (Work::Run(first), Work::Run(later)) => {
-            check(rt, deeds, &first.written.bytes, &later.written.bytes);
+            let whole = check(rt, deeds, &first.written.bytes, &later.written.bytes);
+            assert!(rt; whole || first.fault.is_some());
             first.fault.is_none()
         }
         _ => panic!(rt; "a run became an upgrade"),
@@ -149,15 +156,10 @@ fn round_of(work: Work, kind: Option<Crash>) -> Round<(Crash, u64)> {
     Round { work, end }
 }
 
-/// A round that runs this script, and this kind of crash, if one comes.
-fn run_of(
-    rt: &impl Abort,
-    alloc: Global,
-    script: &[u8],
-    kind: Option<Crash>,
-) -> Round<(Crash, u64)> {
+/// A round that runs this script, and the kind of crash that comes.
+fn run_of(rt: &impl Abort, alloc: Global, script: &[u8], kind: Crash) -> Round<(Crash, u64)> {
     let script = script.to_vec(alloc).expect(rt, "there is memory");
-    round_of(Work::Run(Run::new(alloc, script)), kind)
+    round_of(Work::Run(Run::new(alloc, script)), Some(kind))
 }
 
 /// A disk for 16 text blocks.
@@ -165,12 +167,28 @@ fn blank(rt: &impl Abort, alloc: Global) -> MemoryDisk {
     MemoryDisk::new(alloc, 557 * 4096).expect(rt, "there is memory")
 }
 
+/// The last call but one of the first round's opening: so many calls come before it, of which those of the formatting
+/// are one more than the most that aren't enough.
+fn first_stop(rt: &impl Abort, alloc: Global) -> u64 {
+    let indexes = IndexSet::new(alloc).expect(rt, "there is memory");
+    let mut few = 0u64;
+    for step in POWERS {
+        let calls = few.saturating_add(step);
+        if format(&mut FuseDisk::new(blank(rt, alloc), calls), 16, &indexes).is_err() {
+            few = calls;
+        }
+    }
+    let opening = calls_of_opening(rt, alloc, fresh(rt, alloc, 16, None));
+    few.saturating_add(opening).saturating_sub(1)
+}
+
 /// The disk stops at each of its calls in turn, and a crash of this kind comes.
 fn stop_at_each_call(rt: &impl Abort, alloc: Global, kind: Crash, deeds: &Deeds) {
-    // formatting makes 560 calls, and an opening 540
-    for calls in 1098..1400u64 {
-        let disk = FuseDisk::new(blank(rt, alloc), calls);
-        if lives(rt, alloc, disk, Some(kind), deeds) {
+    let first = first_stop(rt, alloc);
+    for more in 0..300u64 {
+        let disk = FuseDisk::new(blank(rt, alloc), first.saturating_add(more));
+        if lives(rt, alloc, disk, kind, deeds) {
+            assert!(rt; more > 2);
             return;
         }
     }
@@ -184,23 +202,6 @@ fn stop_at_each_call_and_crash(rt: HostRuntime) {
         stop_at_each_call(&rt, rt.alloc(), kind, &FILLS);
         stop_at_each_call(&rt, rt.alloc(), kind, &DECLARES_AND_DELETES);
     }
-}
-
-/// Each call of the disk fails in turn, and leaves zeros, and then a crash of this kind comes.
-fn fail_at_each_call(rt: &impl Abort, alloc: Global, kind: Option<Crash>, deeds: &Deeds) {
-    for call in 1098..1400u64 {
-        let disk = HiccupDisk::new(blank(rt, alloc), call, Some(0));
-        if lives(rt, alloc, disk, kind, deeds) {
-            return;
-        }
-    }
-    panic!(rt; "the round makes too many calls")
-}
-
-#[test]
-fn each_call_fails_and_leaves_zeros(rt: HostRuntime) {
-    fail_at_each_call(&rt, rt.alloc(), Some(Crash::Torn(0)), &FILLS);
-    fail_at_each_call(&rt, rt.alloc(), Some(Crash::Torn(0)), &DECLARES_AND_DELETES);
 }
 
 /// An empty spool of version 1.
@@ -220,10 +221,10 @@ fn upgrade_is_a_round(rt: HostRuntime) {
     let alloc = rt.alloc();
     let disk = spool_of_version_1(&rt, alloc);
     let mut rounds = [
-        run_of(&rt, alloc, FILLS.script, Some(Crash::Old)),
+        run_of(&rt, alloc, FILLS.script, Crash::Old),
         round_of(Work::Upgrade(None), Some(Crash::Old)),
         round_of(Work::Upgrade(None), None),
-        run_of(&rt, alloc, LOOKS, Some(Crash::Old)),
+        run_of(&rt, alloc, LOOKS, Crash::Old),
     ];
     let _disk = live_through(alloc, FuseDisk::new(disk, NO_STOP), &mut rounds);
     match &rounds[3].work {

@@ -6,14 +6,12 @@ use crate::talks::Step::{
     self, Added, Bytes, Came, Declare, Deferred, Deleted, Gone, Line, Made, Open, Patch, Patched,
     Post, Refused, Reply, Say, Shown, Text, Told,
 };
-use crate::talks::{Talk, fresh};
+use crate::talks::{Files, Talk, fresh, with_files};
 use enc_index::Kind;
 use enc_model::Encoding;
-use gateway_engine::{RunFault, run};
+use gateway_engine::RunFault;
 use gateway_files::list_on;
 use std::alloc::Global;
-use std::io;
-use std::io::{ErrorKind, Read, Write};
 use std::process::Abort;
 
 const MAX: &str =
@@ -27,10 +25,14 @@ const MAX_AND_CLOSE: &str =
 const FATAL: &str = "to d2luZG93cy0xMjUy,mode ZmF0YWw=";
 
 /// An index of two characters.
-const WINDOWS_1252: Option<(Kind, &[u8])> = Some((
-    Kind::Single(Encoding::Windows1252),
-    b"0\t20AC\n105\t00E9\n",
-));
+const WINDOWS_1252: Files = &[(Kind::Single(Encoding::Windows1252), b"0\t20AC\n105\t00E9\n")];
+
+/// Index files of three characters.
+const JAPANESE: Files = &[
+    (Kind::Jis0208, b"283\t3042\n"),
+    (Kind::Jis0212, b"1410\t4E02\n"),
+    (Kind::Katakana, b"0\t3002\n"),
+];
 
 /// A PATCH that waits for 100.
 const WAITING: &str =
@@ -72,6 +74,41 @@ const CHARACTERS: &[Step] = &[
     Made(2, 3, ""),
     Added(2, 0, b"\xE0\x80A", 3),
     Text(2, "UTF-8", b"\xEF\xBF\xBD\xEF\xBF\xBDA"),
+];
+
+/// Characters in UTF-16LE, EUC-JP and ISO-2022-JP that are cut, and such in ISO-2022-JP as the output.
+const CUT_UNITS: &[Step] = &[
+    Open(1),
+    Made(1, 6, "from dXRmLTE2bGU="),
+    Added(1, 0, b"\x3D", 1),
+    Added(1, 1, b"\xD8\x00", 3),
+    Text(1, "UTF-8", b""),
+    Added(1, 3, b"\xDE\x3D", 5),
+    Text(1, "UTF-8", b"\xF0\x9F\x98\x80"),
+    Added(1, 5, b"\xD8", 6),
+    Text(1, "UTF-8", b"\xF0\x9F\x98\x80\xEF\xBF\xBD"),
+    Made(2, 5, "from ZXVjLWpw"),
+    Added(2, 0, b"\x8F", 1),
+    Added(2, 1, b"\xB0", 2),
+    Text(2, "UTF-8", b""),
+    Added(2, 2, b"\xA1\xA4", 4),
+    Text(2, "UTF-8", b"\xE4\xB8\x82"),
+    Added(2, 4, b"\xA2", 5),
+    Text(2, "UTF-8", b"\xE4\xB8\x82\xE3\x81\x82"),
+    Made(3, 8, "from aXNvLTIwMjItanA="),
+    Added(3, 0, b"\x1B$", 2),
+    Added(3, 2, b"B$", 4),
+    Text(3, "UTF-8", b""),
+    Added(3, 4, b"\"\x1B", 6),
+    Added(3, 6, b"(B", 8),
+    Text(3, "UTF-8", b"\xE3\x81\x82"),
+    Made(4, 6, "to aXNvLTIwMjItanA="),
+    Added(4, 0, b"\xE3\x81", 2),
+    Text(4, "ISO-2022-JP", b""),
+    Added(4, 2, b"\x82", 3),
+    Text(4, "ISO-2022-JP", b"\x1B$B$\""),
+    Added(4, 3, b"\xE3\x81\x82", 6),
+    Text(4, "ISO-2022-JP", b"\x1B$B$\"$\"\x1B(B"),
 ];
 
 /// Texts that cannot be encoded.
@@ -242,6 +279,21 @@ const OTHER_METHOD: &[Step] = &[
     Bytes(121),
 ];
 
+/// PATCH by another method.
+const OTHER_METHOD_OF_PATCH: &[Step] = &[
+    Open(1),
+    Made(1, 5, ""),
+    Say(
+        1,
+        "POST /files/1 HTTP/1.1\nTus-Resumable: 1.0.0\nContent-Type: application/offset+octet-stream\n\
+        Upload-Offset: 0\nContent-Length: 5\nX-HTTP-Method-Override: PATCH",
+    ),
+    Came(1, b"hello"),
+    Patched(1, 5),
+    Bytes(92),
+    Text(1, "UTF-8", b"hello"),
+];
+
 /// A first byte of three, which is U+FFFD at a declared end, cannot be encoded.
 const DECLARED_END: &[Step] = &[
     Open(1),
@@ -316,14 +368,8 @@ const FULL_SHOWN: &[Step] = &[
 // Of each script: what it shows, how many blocks its spool has, its index file, a story, and the steps behind that.
 
 /// Texts.
-const TEXTS: &[(&str, u32, Option<(Kind, &[u8])>, &[Step], &[Step])] = &[
-    (
-        "characters in UTF-8 that are cut",
-        32,
-        None,
-        &[],
-        CHARACTERS,
-    ),
+const TEXTS: &[(&str, u32, Files, &[Step], &[Step])] = &[
+    ("characters in UTF-8 that are cut", 32, &[], &[], CHARACTERS),
     (
         "texts that cannot be encoded",
         32,
@@ -338,93 +384,91 @@ const TEXTS: &[(&str, u32, Option<(Kind, &[u8])>, &[Step], &[Step])] = &[
         &[],
         DECLARED_END,
     ),
-    ("a text in two pieces", 32, None, &[], LONG_TEXT),
+    ("a text in two pieces", 32, &[], &[], LONG_TEXT),
+    (
+        "characters in other encodings that are cut",
+        32,
+        JAPANESE,
+        &[],
+        CUT_UNITS,
+    ),
 ];
 
 /// Bodies.
-const BODIES: &[(&str, u32, Option<(Kind, &[u8])>, &[Step], &[Step])] = &[
-    (
-        "one winner at an offset",
-        32,
-        None,
-        ONE_WINNER,
-        WINNER_SHOWN,
-    ),
-    ("a body that is cut is kept", 32, None, &[], CUT_BODY),
+const BODIES: &[(&str, u32, Files, &[Step], &[Step])] = &[
+    ("one winner at an offset", 32, &[], ONE_WINNER, WINNER_SHOWN),
+    ("a body that is cut is kept", 32, &[], &[], CUT_BODY),
     (
         "the body of a refused request is passed over",
         32,
-        None,
+        &[],
         &[],
         PASSED_OVER,
     ),
-    ("PATCHes that wait for 100", 32, None, &[], WAITERS),
+    ("PATCHes that wait for 100", 32, &[], &[], WAITERS),
 ];
 
 /// Heads and connections.
-const HEADS: &[(&str, u32, Option<(Kind, &[u8])>, &[Step], &[Step])] = &[
+const HEADS: &[(&str, u32, Files, &[Step], &[Step])] = &[
+    ("OPTIONS, and connections that close", 32, &[], &[], OPTIONS),
+    ("heads that are none", 32, &[], &[], NO_HEADS),
+    ("HEAD by another method", 32, &[], HELLO, OTHER_METHOD),
     (
-        "OPTIONS, and connections that close",
+        "PATCH by another method",
         32,
-        None,
         &[],
-        OPTIONS,
+        &[],
+        OTHER_METHOD_OF_PATCH,
     ),
-    ("heads that are none", 32, None, &[], NO_HEADS),
-    ("HEAD by another method", 32, None, HELLO, OTHER_METHOD),
     (
         "a connection that is open is not opened",
         32,
-        None,
+        &[],
         &[],
         OPENED_TWICE,
     ),
 ];
 
 /// Requests that are refused.
-const REFUSALS: &[(&str, u32, Option<(Kind, &[u8])>, &[Step], &[Step])] = &[
-    ("requests that are refused", 32, None, &[], REFUSED),
-    ("metadata", 32, None, &[], METADATA),
-    ("lengths", 32, None, &[], LENGTHS),
+const REFUSALS: &[(&str, u32, Files, &[Step], &[Step])] = &[
+    ("requests that are refused", 32, &[], &[], REFUSED),
+    ("metadata", 32, &[], &[], METADATA),
+    ("lengths", 32, &[], &[], LENGTHS),
     (
         "a length that another PATCH declares",
         32,
-        None,
+        &[],
         &[],
         OTHER_PATCH,
     ),
-    ("lengths that are refused", 32, None, &[], REFUSED_LENGTHS),
+    ("lengths that are refused", 32, &[], &[], REFUSED_LENGTHS),
 ];
 
 /// Blocks of spools that have 16.
-const BLOCKS: &[(&str, u32, Option<(Kind, &[u8])>, &[Step], &[Step])] = &[
+const BLOCKS: &[(&str, u32, Files, &[Step], &[Step])] = &[
     (
         "blocks of a deleted upload are used again",
         16,
-        None,
+        &[],
         &[],
         FREED,
     ),
     (
         "a PATCH of a deleted upload",
         16,
-        None,
+        &[],
         &[],
         DELETED_MEANWHILE,
     ),
-    ("all blocks are owned", 16, None, FULL_SPOOL, FULL_SHOWN),
+    ("all blocks are owned", 16, &[], FULL_SPOOL, FULL_SHOWN),
 ];
 
 /// Runs scripts: each writes what it is to write.
-fn run_all(
-    rt: &impl Abort,
-    alloc: Global,
-    rows: &[(&str, u32, Option<(Kind, &[u8])>, &[Step], &[Step])],
-) {
-    for &(what, blocks, file, story, steps) in rows {
+fn run_all(rt: &impl Abort, alloc: Global, rows: &[(&str, u32, Files, &[Step], &[Step])]) {
+    for &(what, blocks, files, story, steps) in rows {
         let mut talk = Talk::new(rt, alloc, story);
         talk.go_on(rt, steps);
-        let disk = fresh(rt, alloc, blocks, file);
+        let disk = with_files(rt, alloc, blocks, files);
         drop(ends(rt, alloc, what, &talk, disk, None));
     }
 }
@@ -502,136 +546,4 @@ fn one_upload_too_many(rt: HostRuntime) {
     assert!(rt; listed.is_ok());
     assert!(rt; lines.ends_with(b"\n512 0/0 0 UTF-8 UTF-8 html\n513 0/0 0 UTF-8 UTF-8 html\n"));
     assert_eq!(rt; lines.iter().filter(|it| **it == b'\n').count(), 512);
-}
-
-/// Takes so many bytes at a call, and fails after so many calls.
-#[derive(Drop)]
-struct SlowWriter {
-    bytes: Vec<u8>,
-    step: usize,
-    calls: usize,
-}
-
-impl Write for SlowWriter {
-    fn write(&mut self, buf: &[u8]) -> io::Result<usize> {
-        if self.calls == 0 {
-            return Err(io::Error::from(ErrorKind::TimedOut));
-        }
-        self.calls -= 1;
-        let count = buf.len().min(self.step);
-        self.bytes.extend_from_slice(&buf[..count])?;
-        Ok(count)
-    }
-
-    fn flush(&mut self) -> io::Result<()> {
-        Ok(())
-    }
-}
-
-/// Gives so many bytes at a call, and fails after so many calls.
-#[derive(Drop)]
-struct SlowReader<'a> {
-    rest: &'a [u8],
-    step: usize,
-    calls: usize,
-}
-
-impl Read for SlowReader<'_> {
-    fn read(&mut self, buf: &mut [u8]) -> io::Result<usize> {
-        if self.calls == 0 {
-            return Err(io::Error::from(ErrorKind::TimedOut));
-        }
-        self.calls -= 1;
-        let count = self.rest.len().min(buf.len()).min(self.step);
-        buf[..count].copy_from_slice(&self.rest[..count]);
-        self.rest = &self.rest[count..];
-        Ok(count)
-    }
-}
-
-/// How a run by this reader and this writer is refused.
-fn refusal<R: Read, W: Write>(
-    rt: &impl Abort,
-    alloc: Global,
-    reader: &mut R,
-    writer: &mut W,
-) -> Option<RunFault> {
-    match run(alloc, reader, writer, fresh(rt, alloc, 16, None)) {
-        Ok(_disk) => None,
-        Err((_disk, fault)) => Some(fault),
-    }
-}
-
-/// A run writes into a writer that takes so many bytes at a call, and fails after so many calls: it is refused so, or
-/// not at all, and at least so many bytes of the output are written.
-fn written(
-    rt: &impl Abort,
-    alloc: Global,
-    talk: &Talk,
-    limits: (usize, usize),
-    refused: Option<RunFault>,
-    least: usize,
-) {
-    let (step, calls) = limits;
-    let mut writer = SlowWriter {
-        bytes: Vec::new(alloc),
-        step,
-        calls,
-    };
-    let fault = refusal(rt, alloc, &mut talk.script.as_slice(), &mut writer);
-    assert_eq!(rt; fault, refused, "at {step}, {calls}");
-    assert!(rt;
-        talk.wanted.starts_with(&writer.bytes),
-        "at {step}, {calls}"
-    );
-    assert!(rt; writer.bytes.len() >= least, "at {step}, {calls}");
-}
-
-#[test]
-fn slow_writers(rt: HostRuntime) {
-    let talk = Talk::new(&rt, rt.alloc(), HELLO);
-    for limits in [(1, 1000), (7, 1000), (1000, 4)] {
-        written(&rt, rt.alloc(), &talk, limits, None, talk.wanted.len());
-    }
-    for (limits, least) in [
-        ((1000, 0), 0),
-        ((1000, 1), 1),
-        ((1000, 2), 2),
-        ((1000, 3), 3),
-        ((1, 200), 200),
-        ((0, 10), 0),
-    ] {
-        written(&rt, rt.alloc(), &talk, limits, Some(RunFault::Io), least);
-    }
-}
-
-/// A run reads at most 7 bytes at a call, and fails after so many calls. Whether it came so far.
-fn read_fails(rt: &impl Abort, alloc: Global, talk: &Talk, calls: usize) -> bool {
-    let mut reader = SlowReader {
-        rest: &talk.script,
-        step: 7,
-        calls,
-    };
-    let mut writer = Vec::new(alloc);
-    let fault = refusal(rt, alloc, &mut reader, &mut writer);
-    if fault.is_none() {
-        assert_eq!(rt; writer, talk.wanted);
-    } else {
-        assert_eq!(rt; fault, Some(RunFault::Io), "at {calls}");
-        assert!(rt; writer.is_empty(), "at {calls}");
-    }
-    fault.is_some()
-}
-
-#[test]
-fn readers_that_fail(rt: HostRuntime) {
-    let talk = Talk::new(&rt, rt.alloc(), HELLO);
-    let mut whole = false;
-    for calls in 0..200usize {
-        if !read_fails(&rt, rt.alloc(), &talk, calls) {
-            whole = true;
-            break;
-        }
-    }
-    assert!(rt; whole, "the script is read in too many calls");
 }

@@ -1,6 +1,6 @@
 //! Clients over sockets, in one thread: each writes all that it has to say before it is served.
 
-use crate::spools::opened;
+use crate::spools::{calls_of_opening, opened};
 use crate::talks::fresh;
 use gateway_engine::Gateway;
 use gateway_serve::{Outcome, serve_on};
@@ -161,7 +161,8 @@ fn nothing_is_told_behind_a_fault_of_the_device(rt: HostRuntime) {
     let alloc = rt.alloc();
     let listener = listen(&rt);
     let mut client = client(&rt, &listener, POST);
-    let disk = FuseDisk::new(fresh(&rt, alloc, 16, None), 540);
+    let calls = calls_of_opening(&rt, alloc, fresh(&rt, alloc, 16, None));
+    let disk = FuseDisk::new(fresh(&rt, alloc, 16, None), calls);
     let (_disk, well) = served(&rt, alloc, &rt, &listener, disk, 1, 1000);
     assert!(rt; !well);
     is_told(&rt, alloc, &mut client, b"");

@@ -104,23 +104,44 @@ impl<'a> OpenListener for Clients<'a> {
     }
 }
 
-/// A clock that goes on by a second at each reading.
+/// A clock that goes on by so many microseconds at each reading, and counts the rests and their time.
 #[derive(Drop)]
-struct Seconds {
-    read: Cell<u64>,
+struct Steps {
+    step: u64,
+    now: Cell<u64>,
+    rests: Cell<u32>,
+    rested: Cell<Duration>,
 }
 
-impl Clock for Seconds {
+impl Steps {
+    fn new(step: u64) -> Self {
+        Steps {
+            step,
+            now: Cell::new(0),
+            rests: Cell::new(0),
+            rested: Cell::new(Duration::ZERO),
+        }
+    }
+}
+
+impl Clock for Steps {
     fn monotonic(&self) -> io::Result<Duration> {
-        let read = self.read.get();
-        self.read.set(read.saturating_add(1));
-        Ok(Duration::from_secs(read))
+        let now = self.now.get();
+        self.now.set(now.saturating_add(self.step));
+        Ok(Duration::from_micros(now))
     }
 
     fn since_1970(&self) -> io::Result<Duration> {
         self.monotonic()
     }
+
+    fn sleep(&self, duration: Duration) {
+        self.rests.set(self.rests.get().saturating_add(1));
+        self.rested.set(self.rested.get().saturating_add(duration));
+    }
 }
+
+const SECOND: u64 = 1_000_000;
 
 /// How many bytes the first of 16 clients is told that pauses for so many writes, in at most 120 turns of a second.
 fn told(rt: &impl Abort, alloc: Global, pauses: u32) -> usize {
@@ -132,7 +153,7 @@ fn told(rt: &impl Abort, alloc: Global, pauses: u32) -> usize {
         told: &told,
         others: &others,
     };
-    let clock = Seconds { read: Cell::new(0) };
+    let clock = Steps::new(SECOND);
     let gateway = opened(rt, alloc, fresh(rt, alloc, 16, None));
     let Outcome {
         gateway,
@@ -151,4 +172,45 @@ fn replies_under_way_are_kept_for_a_minute_where_all_places_are_taken(rt: HostRu
     let alloc = rt.alloc();
     assert_eq!(rt; told(&rt, alloc, 5), TOLD.len());
     assert_eq!(rt; told(&rt, alloc, 100), 10);
+}
+
+/// How many clients come, how many microseconds a turn takes, how many turns are taken, how often the server rests and
+/// for how many nanoseconds in all. A client that comes is something to do.
+const IDLE: [(u32, u64, u64, u32, u64); 6] = [
+    (0, SECOND, 20, 20, 200_000_000),
+    (16, SECOND, 16, 0, 0),
+    (15, SECOND, 17, 2, 20_000_000),
+    (0, 199, 1, 0, 0),
+    (0, 200, 1, 1, 6250),
+    // a 32nd of 200, 300 .. 2,000 microseconds
+    (0, 100, 20, 19, 653_125),
+];
+
+#[test]
+fn idle_server_rests(rt: HostRuntime) {
+    for (left, step, turns, rests, nanos) in IDLE {
+        let told = Cell::new(0);
+        let clients = Clients {
+            left: Cell::new(left),
+            pauses: 0,
+            told: &told,
+            others: &told,
+        };
+        let clock = Steps::new(step);
+        let gateway = opened(&rt, rt.alloc(), fresh(&rt, rt.alloc(), 16, None));
+        let Outcome {
+            gateway,
+            served,
+            connections: _,
+            ended: _,
+        } = serve_on(rt.alloc(), &clock, &clients, gateway, 17, turns);
+        assert!(rt; served.is_ok());
+        let rested = (clock.rests.get(), clock.rested.get());
+        assert_eq!(rt;
+            rested,
+            (rests, Duration::from_nanos(nanos)),
+            "{left}, {step}"
+        );
+        drop(gateway.into_disk());
+    }
 }

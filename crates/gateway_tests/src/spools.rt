@@ -4,12 +4,15 @@ use crate::stories::HELLO;
 use crate::talks::Step::{Open, Shown, Text};
 use crate::talks::{Talk, fresh};
 use gateway_engine::{Connections, Gateway, RunFault, run};
-use spool_disk::{Crash, Disk, HiccupDisk, MemoryDisk};
+use spool_disk::{Crash, Disk, FuseDisk, HiccupDisk, MemoryDisk};
 use spool_image::{OpenFault, Spool};
 use std::alloc::Global;
 use std::process::Abort;
 use tus_session::SessionError;
 use upload_rules::Uploads;
+
+/// The steps by which calls are counted, of which there are fewer than 4,096.
+pub(crate) const POWERS: [u64; 12] = [2048, 1024, 512, 256, 128, 64, 32, 16, 8, 4, 2, 1];
 
 /// Makes an upload of five bytes.
 const POST: &[u8] = b"POST /files HTTP/1.1\r\nTus-Resumable: 1.0.0\r\nUpload-Length: 5\r\n\r\n";
@@ -46,6 +49,24 @@ pub(crate) fn opened<D: Disk>(rt: &impl Abort, alloc: Global, disk: D) -> Gatewa
     }
 }
 
+/// How many calls an opening of the spool on a disk makes: one more than the most that aren't enough.
+pub(crate) fn calls_of_opening(rt: &impl Abort, alloc: Global, disk: MemoryDisk) -> u64 {
+    let mut few = 0u64;
+    let mut disk = disk;
+    for step in POWERS {
+        let calls = few.saturating_add(step);
+        match Spool::open(alloc, FuseDisk::new(disk, calls)) {
+            Ok(spool) => disk = spool.into_disk().into_inner(),
+            Err((left, fault)) => {
+                assert_eq!(rt; fault, OpenFault::DiskFault);
+                disk = left.into_inner();
+                few = calls;
+            }
+        }
+    }
+    few.saturating_add(1)
+}
+
 /// How many bytes of upload 1 a disk holds, if the upload is there.
 fn accepted(rt: &impl Abort, alloc: Global, disk: MemoryDisk) -> Option<u64> {
     match Spool::open(alloc, disk) {
@@ -71,29 +92,6 @@ fn uploads_outlast_a_run(rt: HostRuntime) {
     let talk = Talk::new(&rt, rt.alloc(), &steps);
     let disk = disk.crash(Crash::Torn(165));
     drop(ends(&rt, rt.alloc(), "the second run", &talk, disk, None));
-}
-
-#[test]
-fn no_spool_is_not_opened(rt: HostRuntime) {
-    let talk = Talk::new(&rt, rt.alloc(), HELLO);
-    let disk = MemoryDisk::new(rt.alloc(), 557 * 4096).expect(&rt, "memory for a disk");
-    let (_disk, fault, written) = ran(rt.alloc(), &talk, disk);
-    assert_eq!(rt; fault, Some(RunFault::Open(OpenFault::NotASpool)));
-    assert!(rt; written.is_empty());
-}
-
-#[test]
-fn open_patch_is_given_up_with_the_session(rt: HostRuntime) {
-    let disk = fresh(&rt, rt.alloc(), 16, None);
-    let mut gateway = opened(&rt, rt.alloc(), disk);
-    let mut out = Vec::new(rt.alloc());
-    let patch =
-        b"PATCH /files/1 HTTP/1.1\r\nTus-Resumable: 1.0.0\r\nContent-Type: application/offset+octet-stream\r\n\
-        Upload-Offset: 0\r\nContent-Length: 5\r\n\r\nhel";
-    gateway.opened(1).expect(&rt, "a connection");
-    gateway.came(1, POST, &mut out).expect(&rt, "an answer");
-    gateway.came(1, patch, &mut out).expect(&rt, "an answer");
-    assert_eq!(rt; accepted(&rt, rt.alloc(), gateway.into_disk()), Some(0));
 }
 
 /// All calls of a gateway that is down are refused, on connections that are open and on others, and give nothing.
@@ -129,11 +127,11 @@ fn down_at(rt: &impl Abort, alloc: Global, call: u64) -> bool {
 
 #[test]
 fn fault_brings_the_gateway_down(rt: HostRuntime) {
-    // opening makes 540 calls
+    let first = calls_of_opening(&rt, rt.alloc(), fresh(&rt, rt.alloc(), 16, None));
     let mut whole = false;
-    for call in 540..600u64 {
-        if !down_at(&rt, rt.alloc(), call) {
-            assert!(rt; call > 540);
+    for more in 0..60u64 {
+        if !down_at(&rt, rt.alloc(), first.saturating_add(more)) {
+            assert!(rt; more > 0);
             whole = true;
             break;
         }

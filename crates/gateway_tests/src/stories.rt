@@ -14,15 +14,15 @@ pub(crate) const FIFTEEN_BLOCKS: &[u8] = &[b'a'; 61_440];
 /// A sixth of them.
 const PIECE: &[u8] = &[b'a'; 10_240];
 
-const TEN_THOUSAND: &[u8] = &[b'a'; 10_000];
+pub(crate) const TEN_THOUSAND: &[u8] = &[b'a'; 10_000];
 
 /// An upload of five bytes, filled and told of.
 pub(crate) const HELLO: &[Step] = &[
     Open(3),
     Made(1, 5, ""),
-    Changed(&[(0, Some(5), b"")]),
+    Changed(&[(1, 0, Some(5), b"")]),
     Added(1, 0, b"hello", 5),
-    Changed(&[(5, Some(5), b"hello")]),
+    Changed(&[(1, 5, Some(5), b"hello")]),
     Shown(1, 1, "Upload-Offset: 5\nUpload-Length: 5"),
     Text(1, "UTF-8", b"hello"),
 ];
@@ -31,26 +31,26 @@ pub(crate) const HELLO: &[Step] = &[
 pub(crate) const CUT_CHARACTER: &[Step] = &[
     Open(1),
     Made(1, 4, "from c2hpZnRfamlz"),
-    Changed(&[(0, Some(4), b"")]),
+    Changed(&[(1, 0, Some(4), b"")]),
     Added(1, 0, b"\x82", 1),
-    Changed(&[(1, Some(4), b"")]),
+    Changed(&[(1, 1, Some(4), b"")]),
     Added(1, 1, b"\xA0", 2),
-    Changed(&[(2, Some(4), b"\xE3\x81\x82")]),
+    Changed(&[(1, 2, Some(4), b"\xE3\x81\x82")]),
     Added(1, 2, b"\x82 ", 4),
-    Changed(&[(4, Some(4), b"\xE3\x81\x82\xEF\xBF\xBD ")]),
+    Changed(&[(1, 4, Some(4), b"\xE3\x81\x82\xEF\xBF\xBD ")]),
 ];
 
 /// A text in Shift_JIS whose length is declared behind its last byte.
 pub(crate) const DECLARED_LAST: &[Step] = &[
     Open(1),
     Deferred(1, "from c2hpZnRfamlz"),
-    Changed(&[(0, None, b"")]),
+    Changed(&[(1, 0, None, b"")]),
     Added(1, 0, b"\x82", 1),
-    Changed(&[(1, None, b"")]),
+    Changed(&[(1, 1, None, b"")]),
     Text(1, "UTF-8", b""),
     Declare(1, 1, 1, 1, 0),
     Patched(1, 1),
-    Changed(&[(1, Some(1), b"\xEF\xBF\xBD")]),
+    Changed(&[(1, 1, Some(1), b"\xEF\xBF\xBD")]),
     Text(1, "UTF-8", b"\xEF\xBF\xBD"),
 ];
 
@@ -59,28 +59,28 @@ pub(crate) const DECLARED_AND_CUT: &[Step] = &[
     Open(2),
     Deferred(1, ""),
     Bytes(110),
-    Changed(&[(0, None, b"")]),
+    Changed(&[(1, 0, None, b"")]),
     Shown(2, 1, "Upload-Offset: 0\nUpload-Defer-Length: 1"),
     Bytes(108),
     Declare(1, 1, 0, 5, 5),
     Came(1, b"abcd"),
     Line("cut 1"),
     Shown(2, 1, "Upload-Offset: 4\nUpload-Length: 5"),
-    Changed(&[(4, Some(5), b"abcd")]),
+    Changed(&[(1, 4, Some(5), b"abcd")]),
 ];
 
 /// Two connections that begin at one offset.
 pub(crate) const ONE_WINNER: &[Step] = &[
     Open(2),
     Made(1, 5, ""),
-    Changed(&[(0, Some(5), b"")]),
+    Changed(&[(1, 0, Some(5), b"")]),
     Patch(1, 1, 0, 3),
     Came(1, b"ab"),
     Patch(2, 1, 0, 2),
     Came(2, b"xy"),
     Patched(2, 2),
     Bytes(92),
-    Changed(&[(2, Some(5), b"xy")]),
+    Changed(&[(1, 2, Some(5), b"xy")]),
     Came(1, b"c"),
     Refused(1, "409 Conflict", 9),
     Bytes(105),
@@ -90,11 +90,11 @@ pub(crate) const ONE_WINNER: &[Step] = &[
 pub(crate) const FULL_SPOOL: &[Step] = &[
     Open(1),
     Made(1, 4096, ""),
-    Changed(&[(0, Some(4096), b"")]),
+    Changed(&[(1, 0, Some(4096), b"")]),
     Added(1, 0, BLOCK, 4096),
-    Changed(&[(4096, Some(4096), BLOCK)]),
+    Changed(&[(1, 4096, Some(4096), BLOCK)]),
     Made(2, 61_441, ""),
-    Changed(&[(4096, Some(4096), BLOCK), (0, Some(61_441), b"")]),
+    Changed(&[(1, 4096, Some(4096), BLOCK), (2, 0, Some(61_441), b"")]),
     Patch(1, 2, 0, 61_440),
     Came(1, PIECE),
     Came(1, PIECE),
@@ -104,8 +104,8 @@ pub(crate) const FULL_SPOOL: &[Step] = &[
     Came(1, PIECE),
     Patched(1, 61_440),
     Changed(&[
-        (4096, Some(4096), BLOCK),
-        (61_440, Some(61_441), FIFTEEN_BLOCKS),
+        (1, 4096, Some(4096), BLOCK),
+        (2, 61_440, Some(61_441), FIFTEEN_BLOCKS),
     ]),
     Patch(1, 2, 61_440, 1),
     Came(1, b"a"),
@@ -116,16 +116,16 @@ pub(crate) const FULL_SPOOL: &[Step] = &[
 pub(crate) const DELETED: &[Step] = &[
     Open(1),
     Made(1, 5, ""),
-    Changed(&[(0, Some(5), b"")]),
+    Changed(&[(1, 0, Some(5), b"")]),
     Added(1, 0, b"hello", 5),
-    Changed(&[(5, Some(5), b"hello")]),
+    Changed(&[(1, 5, Some(5), b"hello")]),
     Deleted(1, 1),
     Bytes(74),
     Changed(&[]),
     Gone(1, 1),
     Bytes(87),
     Made(2, 5, ""),
-    Changed(&[(0, Some(5), b"")]),
+    Changed(&[(2, 0, Some(5), b"")]),
 ];
 
 const SIXTEENTH: &[u8] = &[b'b'; 16_384];
@@ -134,21 +134,21 @@ const SIXTEENTH: &[u8] = &[b'b'; 16_384];
 pub(crate) const PATCH_OF_A_DELETED: &[Step] = &[
     Open(2),
     Made(1, 5001, ""),
-    Changed(&[(0, Some(5001), b"")]),
+    Changed(&[(1, 0, Some(5001), b"")]),
     Added(1, 0, &[b'a'; 5000], 5000),
-    Changed(&[(5000, Some(5001), &[b'a'; 5000])]),
+    Changed(&[(1, 5000, Some(5001), &[b'a'; 5000])]),
     Patch(2, 1, 5000, 1),
     Deleted(1, 1),
     Changed(&[]),
     Made(2, 65_536, ""),
-    Changed(&[(0, Some(65_536), b"")]),
+    Changed(&[(2, 0, Some(65_536), b"")]),
     Patch(1, 2, 0, 65_536),
     Came(1, SIXTEENTH),
     Came(1, SIXTEENTH),
     Came(1, SIXTEENTH),
     Came(1, SIXTEENTH),
     Patched(1, 65_536),
-    Changed(&[(65_536, Some(65_536), &[b'b'; 65_536])]),
+    Changed(&[(2, 65_536, Some(65_536), &[b'b'; 65_536])]),
     Came(2, b"c"),
     Refused(2, "404 Not Found", 8),
     Bytes(106),
@@ -177,7 +177,7 @@ pub(crate) const FREED: &[Step] = &[
 pub(crate) const LONG_TEXT: &[Step] = &[
     Open(1),
     Made(1, 70_000, ""),
-    Changed(&[(0, Some(70_000), b"")]),
+    Changed(&[(1, 0, Some(70_000), b"")]),
     Patch(1, 1, 0, 70_000),
     Came(1, TEN_THOUSAND),
     Came(1, TEN_THOUSAND),
@@ -187,7 +187,7 @@ pub(crate) const LONG_TEXT: &[Step] = &[
     Came(1, TEN_THOUSAND),
     Came(1, TEN_THOUSAND),
     Patched(1, 70_000),
-    Changed(&[(70_000, Some(70_000), &[b'a'; 70_000])]),
+    Changed(&[(1, 70_000, Some(70_000), &[b'a'; 70_000])]),
     Say(1, "GET /files/1 HTTP/1.1"),
     Reply(
         1,

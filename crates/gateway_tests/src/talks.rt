@@ -50,9 +50,9 @@ pub(crate) enum Step<'a> {
     Shown(u32, u64, &'a str),
     /// A GET of an upload on connection 1, and the character set and text that it is answered.
     Text(u64, &'a str, &'a [u8]),
-    /// The latest reply acknowledged a change. The uploads by it: how many bytes were accepted, how many were declared,
-    /// and the text.
-    Changed(&'a [(u64, Option<u64>, &'a [u8])]),
+    /// The latest reply acknowledged a change. The uploads by it: the number, how many bytes were accepted, how many
+    /// were declared, and the text.
+    Changed(&'a [(u64, u64, Option<u64>, &'a [u8])]),
 }
 
 /// The uploads behind a change, and how much was written when it was acknowledged.
@@ -81,17 +81,20 @@ fn put(rt: &impl Abort, to: &mut Vec<u8>, bytes: &[u8]) {
     to.extend_from_slice(bytes).expect(rt, MEMORY);
 }
 
-/// An upload comes behind others: how many bytes were accepted, how many were declared, and the text.
+/// An upload comes after others: its number, how many bytes were accepted, how many were declared, and the text.
 pub(crate) fn put_upload(
     rt: &impl Abort,
     alloc: Global,
     to: &mut Vec<u8>,
+    number: u64,
     accepted: u64,
     declared: Option<u64>,
     text: &[u8],
 ) {
     let count = text.len();
-    let line = format!(in alloc; "{accepted} of {declared:?}, {count}: ").expect(rt, MEMORY);
+    let line = format!(in alloc; "{number}: {accepted} of {declared:?}, {count}: ").expect(
+        rt, MEMORY,
+    );
     put(rt, to, line.as_bytes());
     put(rt, to, text);
 }
@@ -307,10 +310,12 @@ impl Talk {
         self.reply(rt, 1, "200 OK", &lines, text);
     }
 
-    fn changed(&mut self, rt: &impl Abort, uploads: &[(u64, Option<u64>, &[u8])]) {
+    fn changed(&mut self, rt: &impl Abort, uploads: &[(u64, u64, Option<u64>, &[u8])]) {
         let mut shown = Vec::new(self.alloc);
-        for (accepted, declared, text) in uploads {
-            put_upload(rt, self.alloc, &mut shown, *accepted, *declared, text);
+        for (number, accepted, declared, text) in uploads {
+            put_upload(
+                rt, self.alloc, &mut shown, *number, *accepted, *declared, text,
+            );
         }
         let stage = Stage {
             written: self.wanted.len(),
@@ -320,6 +325,9 @@ impl Talk {
     }
 }
 
+/// Index files: their kinds and lines.
+pub(crate) type Files<'a> = &'a [(Kind, &'a [u8])];
+
 /// A spool of so many blocks on a disk of its size, without uploads, with this index file if there is one.
 pub(crate) fn fresh(
     rt: &impl Abort,
@@ -327,9 +335,14 @@ pub(crate) fn fresh(
     blocks: u32,
     file: Option<(Kind, &[u8])>,
 ) -> MemoryDisk {
+    with_files(rt, alloc, blocks, file.as_slice())
+}
+
+/// A spool of so many blocks on a disk of its size, without uploads, with these index files.
+pub(crate) fn with_files(rt: &impl Abort, alloc: Global, blocks: u32, files: Files) -> MemoryDisk {
     let mut indexes = IndexSet::new(alloc).expect(rt, "memory for a set");
-    if let Some((kind, lines)) = file {
-        indexes.set(Index::read(alloc, lines, kind).expect(rt, "an index file"));
+    for (kind, lines) in files {
+        indexes.set(Index::read(alloc, *lines, *kind).expect(rt, "an index file"));
     }
     let size = (541 + blocks as usize) * 4096;
     let mut disk = MemoryDisk::new(alloc, size).expect(rt, "memory for a disk");

@@ -1,0 +1,135 @@
+//! Readers and writers of scripts that are slow or fail, and the uploads after them.
+
+use crate::faults::{Story, hello, told};
+use crate::stories::HELLO;
+use crate::talks::Talk;
+use gateway_engine::{RunFault, run};
+use spool_disk::MemoryDisk;
+use std::alloc::Global;
+use std::io;
+use std::io::{ErrorKind, Read, Write};
+use std::process::Abort;
+
+/// Takes so many bytes at a call, and fails after so many calls.
+#[derive(Drop)]
+struct SlowWriter {
+    bytes: Vec<u8>,
+    step: usize,
+    calls: usize,
+}
+
+impl Write for SlowWriter {
+    fn write(&mut self, buf: &[u8]) -> io::Result<usize> {
+        if self.calls == 0 {
+            return Err(io::Error::from(ErrorKind::TimedOut));
+        }
+        self.calls -= 1;
+        let count = buf.len().min(self.step);
+        self.bytes.extend_from_slice(&buf[..count])?;
+        Ok(count)
+    }
+
+    fn flush(&mut self) -> io::Result<()> {
+        Ok(())
+    }
+}
+
+/// Gives so many bytes at a call, and fails after so many calls.
+#[derive(Drop)]
+struct SlowReader<'a> {
+    rest: &'a [u8],
+    step: usize,
+    calls: usize,
+}
+
+impl Read for SlowReader<'_> {
+    fn read(&mut self, buf: &mut [u8]) -> io::Result<usize> {
+        if self.calls == 0 {
+            return Err(io::Error::from(ErrorKind::TimedOut));
+        }
+        self.calls -= 1;
+        let count = self.rest.len().min(buf.len()).min(self.step);
+        buf[..count].copy_from_slice(&self.rest[..count]);
+        self.rest = &self.rest[count..];
+        Ok(count)
+    }
+}
+
+/// A run by this reader and this writer: the disk after it, and how it was refused.
+fn ran<R: Read, W: Write>(
+    alloc: Global,
+    reader: &mut R,
+    writer: &mut W,
+    disk: MemoryDisk,
+) -> (MemoryDisk, Option<RunFault>) {
+    match run(alloc, reader, writer, disk) {
+        Ok(disk) => (disk, None),
+        Err((disk, fault)) => (disk, Some(fault)),
+    }
+}
+
+/// A run writes into a writer that takes so many bytes at a call, and fails after so many calls. It is refused where
+/// these aren't enough; the uploads are those that were acknowledged, or one more. How many bytes were written.
+fn writes(rt: &impl Abort, story: &Story<'_>, step: usize, calls: usize) -> usize {
+    let talk = story.talk;
+    let mut writer = SlowWriter {
+        bytes: Vec::new(story.alloc),
+        step,
+        calls,
+    };
+    let script = &mut talk.script.as_slice();
+    let (disk, fault) = ran(story.alloc, script, &mut writer, story.disk(rt));
+    story.check(rt, disk, &writer.bytes);
+    let whole = writer.bytes.len() == talk.wanted.len();
+    let refused = if whole { None } else { Some(RunFault::Io) };
+    assert_eq!(rt; fault, refused, "at {step}, {calls}");
+    writer.bytes.len()
+}
+
+#[test]
+fn writers_that_fail(rt: HostRuntime) {
+    let talk = Talk::new(&rt, rt.alloc(), HELLO);
+    let story = hello(rt.alloc(), &talk);
+    // a byte at a call, and each byte in turn isn't taken; then writers that take more, or none
+    let all = talk.wanted.len();
+    for count in 0..all {
+        assert_eq!(rt; writes(&rt, &story, 1, count), count);
+    }
+    for (step, calls) in [(1, all), (7, all), (1000, 4)] {
+        assert_eq!(rt; writes(&rt, &story, step, calls), all);
+    }
+    assert_eq!(rt; writes(&rt, &story, 0, 10), 0);
+    assert!(rt; writes(&rt, &story, 1000, 3) < all);
+}
+
+/// A run reads at most 7 bytes at a call, and fails after so many calls: then nothing was done. Whether it came so far.
+fn read_fails(rt: &impl Abort, story: &Story<'_>, calls: usize) -> bool {
+    let mut reader = SlowReader {
+        rest: &story.talk.script,
+        step: 7,
+        calls,
+    };
+    let mut written = Vec::new(story.alloc);
+    let (disk, fault) = ran(story.alloc, &mut reader, &mut written, story.disk(rt));
+    if fault.is_none() {
+        assert_eq!(rt; written, story.talk.wanted);
+        story.check(rt, disk, &written);
+        return false;
+    }
+    assert_eq!(rt; fault, Some(RunFault::Io), "at {calls}");
+    assert!(rt; written.is_empty(), "at {calls}");
+    assert!(rt; told(rt, story.alloc, disk).is_empty(), "at {calls}");
+    true
+}
+
+/// Each of the reads of 7 bytes fails in turn, and that of the end.
+#[test]
+fn readers_that_fail(rt: HostRuntime) {
+    let talk = Talk::new(&rt, rt.alloc(), HELLO);
+    let story = hello(rt.alloc(), &talk);
+    let reads = talk.script.len() / 7;
+    for calls in 0..reads {
+        assert!(rt; read_fails(&rt, &story, calls), "at {calls}");
+    }
+    assert!(rt; !read_fails(&rt, &story, talk.script.len()));
+}
