@@ -1,8 +1,9 @@
+mod All
+mod Behind
+mod Carries
+mod Freed
+mod Joints
+mod Lost
+mod Pauses
 mod Steps
 mod Talks
-mod Behind
-mod Joints
-mod Freed
-mod Carries
-mod Lost
-mod All

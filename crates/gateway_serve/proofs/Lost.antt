@@ -1,9 +1,9 @@
 -- Why connections ended.
-use Rattle.std.proofs.Common.{◌≡◌, ◌⊎◌, inl, inr, refl, sym, subst, Bool, ℕ, ◌+◌, List, [], ◌∷◌}
+use Rattle.std.proofs.Common.{◌≡◌, ◌⊎◌, inl, inr, refl, sym, subst, ℕ, ◌+◌, List, [], ◌∷◌, Option}
 use Rattle.std.specs.declared.io.ErrorKind.{ErrorKind}
 use Rattle.gateway_serve.specs.Sockets.{Seen, IsQuiet, IsQuietly}
 use Rattle.gateway_serve.specs.Bytes.{latest_of, seen}
-use Rattle.gateway_serve.specs.Gone.{EndsBy, IsGoneSo, IfLost, IsFailure}
+use Rattle.gateway_serve.specs.Gone.{EndsBy, EndsInTime, IsGoneSo, IfLost, IsFailure}
 use Rattle.gateway_serve.specs.Joined.{joint_of, at_by, with_place}
 use Rattle.gateway_serve.specs.Reasons.{IsLostBy, EndedOnce, none, free, one_more, AtMostOnce}
 use Rattle.gateway_serve.specs.Reasons.{IsLeftReasoned}
@@ -13,6 +13,7 @@ use Rattle.gateway_serve.specs.declared.sockets.Latest.TheVariants as Was
 use Rattle.gateway_serve.specs.declared.sockets.Socket.{Socket}
 use Rattle.gateway_serve.specs.declared.idle.Tick.{Tick}
 use Rattle.gateway_serve.specs.declared.links.Link.{Link}
+use Rattle.gateway_serve.specs.declared.requests.Request.{Request}
 use Rattle.gateway_serve.specs.declared.reasons.Gone.{Gone}
 use Rattle.gateway_serve.specs.declared.reasons.Gone.TheVariants as Why
 use Rattle.gateway_serve.specs.declared.reasons.Gone.TheVariants.{Failed}
@@ -51,26 +52,21 @@ lost_by {S} mid new left (Is.Lost gone) I same ends is = elim is [
   | inr late ↦ inr late
 ]
 
-answered_so : (gone : Gone) (latest : Latest) → EndsBy gone latest → IsGoneSo gone latest
-answered_so Why.Ended latest is = is
-answered_so (Failed kind) latest is = is
-answered_so Why.Stuck latest is = is
-answered_so (Why.Late late) latest is = absurd is
-
 -- one that is lost has its reason
 pub gone_so : {S : Type 0} (l : Link S) (tick : Tick) (gone : Gone) → IsLostBy l tick gone
     → IsGoneSo gone (latest_of (socket_of l))
 gone_so l tick gone is = elim is [
-  | inl ends ↦ answered_so gone (latest_of (socket_of l)) ends
-  | inr late ↦ subst (λ x. IsGoneSo x (latest_of (socket_of l))) (sym late.0) late.1
+  | inl ends ↦ inl ends
+  | inr late ↦ inr (subst EndsInTime (sym late.0) late.1)
 ]
 
 -- and one that is quietly lost has written all
-quiet_at : (stage : Stage) (output : List ℕ) (replied : Bool) → IsQuiet (at_by stage output replied) → output ≡ []
-quiet_at Stages.Taking [] replied is = refl
-quiet_at Stages.Taking (b ∷ output) replied is = absurd is
-quiet_at Stages.Giving output replied is = absurd is
-quiet_at Stages.Closed output replied is = absurd is
+quiet_at : (stage : Stage) (output : List ℕ) (request : Option Request) → IsQuiet (at_by stage output request)
+    → output ≡ []
+quiet_at Stages.Taking [] request is = refl
+quiet_at Stages.Taking (b ∷ output) request is = absurd is
+quiet_at Stages.Giving output request is = absurd is
+quiet_at Stages.Closed output request is = absurd is
 
 answered_loud : (gone : Gone) (latest : Latest) → EndsBy gone latest → IsQuietly gone → ⊥
 answered_loud Why.Ended latest is quiet = quiet
@@ -82,7 +78,7 @@ pub quietly_gone : {S : Type 0} (l : Link S) (tick : Tick) (gone : Gone) → IsL
     → (joint_of l).output ≡ []
 quietly_gone l tick gone is quiet = elim is [
   | inl ends ↦ absurd (answered_loud gone (latest_of (socket_of l)) ends quiet)
-  | inr late ↦ quiet_at l.stage l.output l.replied (subst IsQuietly late.0 quiet)
+  | inr late ↦ quiet_at l.stage l.output l.request (subst IsQuietly late.0 quiet)
 ]
 
 -- WHEN SERVING IS OVER

@@ -1,12 +1,12 @@
 -- Why a socket is given up.
-use Rattle.std.specs.Prelude.{◌≡◌, ◌≢◌, ℕ, Result, Ok, Err}
+use Rattle.std.specs.Prelude.{◌≡◌, ◌≢◌, ◌⊎◌, ℕ, Result, Ok, Err}
 use Rattle.std.specs.IoError.{error_kind}
 use Rattle.std.specs.declared.io.Error.{Error}
 use Rattle.std.specs.declared.io.ErrorKind.{ErrorKind}
 use Rattle.std.specs.declared.io.ErrorKind.TheVariants as Kind
 use Rattle.gateway_serve.specs.declared.sockets.Latest.{Latest}
 use Rattle.gateway_serve.specs.declared.sockets.Latest.TheVariants as Was
-use Rattle.gateway_serve.specs.Idle.{HasIdled}
+use Rattle.gateway_serve.specs.Stays.{IsOver}
 use Rattle.gateway_serve.specs.declared.reasons.Gone.{Gone}
 use Rattle.gateway_serve.specs.declared.reasons.Gone.TheVariants.{Ended, Failed, Stuck, Late}
 use Rattle.gateway_serve.specs.declared.links.Left.{Left}
@@ -31,14 +31,17 @@ abbrev pub EndsBy : Gone → Latest → Type 0
 EndsBy Ended latest = latest ≡ Was.Read 0
 EndsBy (Failed kind) latest = (latest ≡ Was.Failed kind) × IsFailure kind
 EndsBy Stuck latest = latest ≡ Was.Written 0
-EndsBy (Late late) latest = ⊥
+EndsBy (Late stay) latest = ⊥
 
--- and by the clock: nothing came or went for too long
+-- and by the clock
+abbrev pub EndsInTime : Gone → Type 0
+EndsInTime Ended = ⊥
+EndsInTime (Failed kind) = ⊥
+EndsInTime Stuck = ⊥
+EndsInTime (Late stay) = IsOver stay
+
 abbrev pub IsGoneSo : Gone → Latest → Type 0
-IsGoneSo Ended latest = latest ≡ Was.Read 0
-IsGoneSo (Failed kind) latest = (latest ≡ Was.Failed kind) × IsFailure kind
-IsGoneSo Stuck latest = latest ≡ Was.Written 0
-IsGoneSo (Late late) latest = HasIdled late
+IsGoneSo gone latest = EndsBy gone latest ⊎ EndsInTime gone
 
 abbrev pub IfLost : Left → (Gone → Type 0) → Type 0
 IfLost Is.Open P = Unit {0}

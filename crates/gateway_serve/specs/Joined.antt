@@ -1,6 +1,6 @@
 -- How sockets are joined to the conversations of their connections.
-use Rattle.std.specs.Prelude.{◌≡◌, ◌⊎◌, ◌<◌, ◌≤◌, ℕ, length, Bool, true, false, List, [], ◌∷◌, ◌++◌, take, drop, None}
-use Rattle.std.specs.Prelude.{get_or, if◌then◌else◌, Result, Ok, Err}
+use Rattle.std.specs.Prelude.{◌≡◌, ◌⊎◌, ◌<◌, ◌≤◌, ℕ, length, Bool, true, false, List, [], ◌∷◌, ◌++◌, take, drop}
+use Rattle.std.specs.Prelude.{Option, Some, None, get_or, if◌then◌else◌, Result, Ok, Err}
 use Rattle.spool_disk.specs.declared.disk.DiskFault.{DiskFault}
 use Rattle.tus_session.specs.History.{State, Marked, history}
 use Rattle.tus_session.specs.declared.answers.Answer.{Answer}
@@ -14,8 +14,10 @@ use Rattle.gateway_serve.specs.Served.{IsBack, WentOn, Serves, AllServed, AllLef
 use Rattle.gateway_serve.specs.declared.links.Stage.{Stage}
 use Rattle.gateway_serve.specs.declared.links.Stage.TheVariants.{Taking, Giving, Closed}
 use Rattle.gateway_serve.specs.declared.links.Link.{Link}
-use Rattle.gateway_serve.specs.declared.idle.At.{At}
-use Rattle.gateway_serve.specs.declared.idle.At.TheVariants.{Between, Request, Reply}
+use Rattle.gateway_serve.specs.Requests.{at_in}
+use Rattle.gateway_serve.specs.declared.requests.Request.{Request}
+use Rattle.gateway_serve.specs.declared.stays.At.{At}
+use Rattle.gateway_serve.specs.declared.stays.At.TheVariants.{Between, Reply}
 use Rattle.gateway_serve.specs.declared.reasons.Reason.{Reason}
 use Rattle.gateway_serve.specs.declared.reasons.Reason.TheVariants as Why
 use Rattle.gateway_serve.specs.declared.places.Place.{Place}
@@ -63,17 +65,17 @@ pub record Joins (j : Joint) (ended : List Seen) (st : State) (past : List Marke
 abbrev pub IsOver : Joint → Type 0
 IsOver j = (j.closed ≡ true) × (j.output ≡ [])
 
--- WHAT IT IS AT: in a reply while bytes wait for the socket or a text is still to be given, even where the latest call
--- for what came was answered
-abbrev pub at_by : Stage → List ℕ → Bool → At
-at_by Taking [] true = Between
-at_by Taking [] false = Request
-at_by Taking (b ∷ output) replied = Reply
-at_by Giving output replied = Reply
-at_by Closed output replied = Reply
+-- WHAT IT IS AT: in a reply while bytes wait for the socket or a text is still to be given, else in the request of
+-- which something came, or between requests
+abbrev pub at_by : Stage → List ℕ → Option Request → At
+at_by Taking [] None = Between
+at_by Taking [] (Some request) = at_in request.head
+at_by Taking (b ∷ output) request = Reply
+at_by Giving output request = Reply
+at_by Closed output request = Reply
 
 abbrev pub at_of : {S : Type 0} → Link S → At
-at_of l = at_by l.stage l.output l.replied
+at_of l = at_by l.stage l.output l.request
 
 -- WHAT A TURN DOES: so many bytes are written
 abbrev pub wrote : ℕ → Joint → Joint

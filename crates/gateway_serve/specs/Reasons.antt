@@ -1,27 +1,46 @@
 -- Why connections ended.
-use Rattle.std.specs.Prelude.{◌≡◌, ◌⊎◌, ℕ, ◌+◌, List, [], ◌∷◌}
+use Rattle.std.specs.Prelude.{◌≡◌, ◌⊎◌, ℕ, ◌+◌, List, [], ◌∷◌, Option, Some, None}
 use Rattle.gateway_serve.specs.Sockets.{Seen}
 use Rattle.gateway_serve.specs.Bytes.{latest_of}
 use Rattle.gateway_serve.specs.Gone.{EndsBy, IsGoneSo}
-use Rattle.gateway_serve.specs.Idle.{HasIdled}
+use Rattle.gateway_serve.specs.Stays.{IsOver}
 use Rattle.gateway_serve.specs.Joined.{at_of}
 use Rattle.gateway_serve.specs.Streams.{socket_of}
 use Rattle.gateway_serve.specs.declared.idle.Tick.{Tick}
 use Rattle.gateway_serve.specs.declared.reasons.Gone.{Gone}
 use Rattle.gateway_serve.specs.declared.reasons.Gone.TheVariants as Why
-use Rattle.gateway_serve.specs.declared.reasons.Late.{Late}
 use Rattle.gateway_serve.specs.declared.reasons.Reason.{Reason}
 use Rattle.gateway_serve.specs.declared.reasons.Reason.TheVariants.{Closed, Lost, Over}
 use Rattle.gateway_serve.specs.declared.sockets.Latest.{Latest}
 use Rattle.gateway_serve.specs.declared.links.Link.{Link}
+use Rattle.gateway_serve.specs.declared.requests.Request.{Request}
+use Rattle.gateway_serve.specs.declared.stays.Stay.{Stay}
+use Rattle.std.specs.declared.time.Duration.{Duration}
 
 -- how a link is at the time of a turn
-abbrev pub late_of : {S : Type 0} → Link S → Tick → Late
-late_of l tick = record { at = at_of l; full = tick.full; since = l.moved; time = tick.now }
+abbrev pub begun_by : Option Request → Duration → Duration
+begun_by None moved = moved
+begun_by (Some request) moved = request.begun
+
+abbrev pub brought_by : Option Request → ℕ
+brought_by None = 0
+brought_by (Some request) = request.brought
+
+abbrev pub stay_of : {S : Type 0} → Link S → Tick → Stay
+stay_of l tick = record {
+  at = at_of l;
+  wanted = tick.wanted;
+  longest = tick.longest;
+  opened = l.opened;
+  moved = l.moved;
+  begun = begun_by l.request l.moved;
+  brought = brought_by l.request;
+  time = tick.now;
+}
 
 -- its time is over
 abbrev pub IsLate : {S : Type 0} → Link S → Tick → Gone → Type 0
-IsLate l tick gone = (gone ≡ Why.Late (late_of l tick)) × HasIdled (late_of l tick)
+IsLate l tick gone = (gone ≡ Why.Late (stay_of l tick)) × IsOver (stay_of l tick)
 
 -- A CONNECTION IS LOST for this reason: so its socket answered, or its time is over
 abbrev pub IsLostBy : {S : Type 0} → Link S → Tick → Gone → Type 0

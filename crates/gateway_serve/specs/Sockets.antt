@@ -2,8 +2,8 @@
 use Rattle.std.specs.Prelude.{◌≡◌, ◌≤◌, ◌==◌, ℕ, length, false, List, [], ◌∷◌, ◌++◌, if◌then◌else◌}
 use Rattle.gateway_serve.specs.Conversations.{Conversation}
 use Rattle.gateway_serve.specs.Waiting.{most_waiting}
-use Rattle.gateway_serve.specs.declared.idle.At.{At}
-use Rattle.gateway_serve.specs.declared.idle.At.TheVariants.{Between, Request, Reply}
+use Rattle.gateway_serve.specs.declared.stays.At.{At}
+use Rattle.gateway_serve.specs.declared.stays.At.TheVariants.{Between, Head, Body, Reply}
 use Rattle.gateway_serve.specs.declared.reasons.Gone.{Gone}
 use Rattle.gateway_serve.specs.declared.reasons.Gone.TheVariants as Why
 use Rattle.gateway_serve.specs.declared.reasons.Reason.{Reason}
@@ -31,14 +31,15 @@ IsAllBut most front all = (rest : List ℕ) × (all ≡ front ++ rest) × (lengt
 -- between requests or in one
 abbrev pub IsQuiet : At → Type 0
 IsQuiet Between = Unit {0}
-IsQuiet Request = Unit {0}
+IsQuiet Head = Unit {0}
+IsQuiet Body = Unit {0}
 IsQuiet Reply = ⊥
 
 abbrev pub IsQuietly : Gone → Type 0
 IsQuietly Why.Ended = ⊥
 IsQuietly (Why.Failed kind) = ⊥
 IsQuietly Why.Stuck = ⊥
-IsQuietly (Why.Late late) = IsQuiet late.at
+IsQuietly (Why.Late stay) = IsQuiet stay.at
 
 abbrev pub IsWhole : Reason → Type 0
 IsWhole Closed = Unit {0}

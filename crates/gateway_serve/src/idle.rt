@@ -1,15 +1,8 @@
-//! How long an idle connection is kept, how often a quiet socket is asked, and how long an idle server rests.
+//! How often a quiet socket is asked, and how long an idle server rests.
 ghost use Rattle.std.specs.Prelude.{◌≡◌, IsTrue, false};
-ghost use Rattle.gateway_serve.specs.Idle.{longest_idle};
 
 use std::thread;
 use std::time::{Clock, Duration};
-
-/// A connection is ended once nothing came or went for so many seconds.
-const LONGEST_IDLE: u64 = 60;
-
-/// Where all places are taken, a connection between requests is ended after so many seconds.
-const IDLE_WHEN_FULL: u64 = 1;
 
 /// A quiet socket is passed over in at most so many turns, one after the other.
 const MOST_PASSED: u32 = 31;
@@ -20,35 +13,14 @@ const SHORTEST_IDLE: u64 = 200;
 /// The longest rest, in milliseconds.
 const LONGEST_REST: u64 = 10;
 
-/// A turn's time, whether all places for connections are taken, and whether the turn before did something.
+/// The turn of a connection: its time, whether a socket waits for a place, whether no other has been between requests
+/// longer, and whether the turn before did something.
 #[derive(Clone, Copy, Debug, PartialEq, Eq, Drop)]
 pub(crate) struct Tick {
     pub(crate) now: Duration,
-    pub(crate) full: bool,
+    pub(crate) wanted: bool,
+    pub(crate) longest: bool,
     pub(crate) busy: bool,
-}
-
-/// What a connection is at.
-#[derive(Clone, Copy, Debug, PartialEq, Eq, Drop)]
-pub enum At {
-    /// Between requests: no reply is owed.
-    Between,
-    /// In a request: a reply is owed.
-    Request,
-    /// In a reply: bytes wait for the socket, or a text is still to be given.
-    Reply,
-}
-
-impl At {
-    /// For so many seconds a connection may be idle that is at this, where all places are taken or not.
-    pub(crate) fn longest_idle(self, full: bool) -> u64
-        ensures { result ≡ longest_idle self full }
-    {
-        match self {
-            At::Between if full => IDLE_WHEN_FULL,
-            At::Between | At::Request | At::Reply => LONGEST_IDLE,
-        }
-    }
 }
 
 /// How often a socket is asked: in each turn while it has something to do. After each time that it had nothing it is

@@ -6,10 +6,12 @@ mod idle;
 mod links;
 mod places;
 mod reasons;
+mod requests;
 mod serving;
 mod sockets;
+mod stays;
 
-pub use idle::At;
-pub use reasons::{Gone, Late, Reason};
+pub use reasons::{Gone, Reason};
 pub use serving::{Outcome, serve_on};
 pub use sockets::{Ended, Latest};
+pub use stays::{At, Stay};

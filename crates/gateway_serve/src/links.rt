@@ -8,19 +8,25 @@ ghost use Rattle.gateway_serve.specs.Bytes.{stream_of, latest_of};
 ghost use Rattle.gateway_serve.specs.Streams.{StaysOf, socket_of};
 ghost use Rattle.gateway_serve.specs.Gone.{EndsBy, IfLost, IsFailure};
 ghost use Rattle.gateway_serve.specs.declared.sockets.Latest.{Latest};
-ghost use Rattle.gateway_serve.specs.Reasons.{IsLate, IsLostBy, late_of};
+ghost use Rattle.gateway_serve.specs.Longest.{link_between_since};
+ghost use Rattle.gateway_serve.specs.Reasons.{IsLate, IsLostBy, stay_of};
 ghost use Rattle.std.specs.IoError.{error_kind};
 
 use crate::buffers::{Input, Output, PIECE};
-use crate::idle::{At, Pace, Tick};
-use crate::reasons::{Gone, Late, Reason};
-use crate::sockets::{Ended, Socket};
+use crate::idle::{Pace, Tick};
+use crate::reasons::{Gone, Reason};
+use crate::requests::Request;
+use crate::sockets::{Ended, Socket, Untouched};
+use crate::stays::{At, Stay};
 use gateway_script::Connections;
 use spool_disk::DiskFault;
 use std::alloc::Global;
 use std::io::{self, ErrorKind, Read, Write};
 use std::time::Duration;
 use tus_session::{Answer, SessionError};
+
+/// What a client gets that waits with the body of its request. Each reply is longer.
+const CONTINUE: &[u8] = b"HTTP/1.1 100 Continue\r\n\r\n";
 
 /// What is done at a connection once all is written.
 #[derive(Clone, Copy, Debug, PartialEq, Eq, Drop)]
@@ -53,28 +59,41 @@ pub(crate) struct Link<S> {
     input: Input,
     output: Output,
     stage: Stage,
+    /// when it was opened
+    opened: Duration,
     /// when something last came or went
     moved: Duration,
-    /// no reply is owed: nothing came, or the latest call for what came gave bytes
-    replied: bool,
+    /// the request of which something came, while no reply was given
+    request: Option<Request>,
     pace: Pace,
 }
 
 impl<S: Read + Write> Link<S> {
-    /// A connection of which nothing came, accepted now. The socket doesn't wait.
-    pub(crate) fn new(alloc: Global, stream: S, now: Duration) -> Self
-        ensures stream { stream_of (socket_of result) ≡ stream }
+    /// A connection of which nothing came, opened now.
+    pub(crate) fn new(alloc: Global, accepted: Untouched<S>, now: Duration) -> Self
+        ensures stream { stream_of (socket_of result) ≡ accepted }
         ensures latest { latest_of (socket_of result) ≡ Latest.None }
         ensures none { joint_of result ≡ nothing_yet }
     {
         Link {
-            socket: Socket::new(stream),
+            socket: accepted.into_socket(),
             input: Input::new(),
             output: Output::new(alloc),
             stage: Stage::Taking,
+            opened: now,
             moved: now,
-            replied: true,
+            request: None,
             pace: Pace::new(),
+        }
+    }
+
+    /// Since when it has been between requests, if it is.
+    pub(crate) fn between_since(&self) -> Option<Duration>
+        ensures { result ≡ link_between_since self.now }
+    {
+        match self.at() {
+            At::Between => Some(self.moved),
+            At::Head | At::Body | At::Reply => None,
         }
     }
 
@@ -88,8 +107,8 @@ impl<S: Read + Write> Link<S> {
     }
 
     /// A turn: what is left is written, else the next piece of a text is asked for, else bytes are read and given to
-    /// the session. Where nothing of this could be done for too long, the connection is lost. One that had nothing to
-    /// do is passed over in some of the turns, unless the turn before did nothing at all.
+    /// the session. Where nothing of this could be done and its time is over, the connection is lost. One that had
+    /// nothing to do is passed over in some of the turns, unless the turn before did nothing at all.
     ///
     /// Refused with `DiskFault` where the session was.
     pub(crate) fn turn<C: Connections>(
@@ -107,13 +126,13 @@ impl<S: Read + Write> Link<S> {
         if !self.pace.is_due(tick.busy) {
             return Ok(Left::Idle);
         }
-        match self.go_on(gateway, conn) {
+        match self.go_on(gateway, conn, tick.now) {
             Ok(left) => Ok(self.left_at(left, tick)),
             Err(fault) => Err(fault),
         }
     }
 
-    // What a turn leaves at its time: a connection that was idle for too long is lost.
+    // What a turn leaves at its time: a connection whose socket had nothing to do is lost, if its time is over.
     fn left_at(&mut self, left: Left, tick: Tick) -> Left
         ensures socket { socket_of self.new ≡ socket_of self.old }
         ensures same { joint_of self.new ≡ joint_of self.old }
@@ -122,26 +141,39 @@ impl<S: Read + Write> Link<S> {
     {
         let moved = !matches!(left, Left::Idle);
         self.pace.asked(moved);
+        let stay = self.stay_after(moved, tick);
+        if !moved && stay.is_over() {
+            return Left::Lost(Gone::Late(stay));
+        }
+        self.measure(&stay);
+        left
+    }
+
+    // How it is at the time of a turn in which something came or went, or not.
+    fn stay_after(&mut self, moved: bool, tick: Tick) -> Stay
+        ensures stay { result ≡ stay_of self.new tick }
+        ensures socket { socket_of self.new ≡ socket_of self.old }
+        ensures same { joint_of self.new ≡ joint_of self.old }
+    {
         if moved {
             self.moved = tick.now;
-            return left;
         }
-        let late = self.late(tick);
-        if late.is_over() {
-            Left::Lost(Gone::Late(late))
-        } else {
-            Left::Idle
-        }
+        self.stay(tick)
     }
 
     // How it is at the time of a turn.
-    fn late(&self, tick: Tick) -> Late
-        ensures { result ≡ late_of self.now tick }
+    fn stay(&self, tick: Tick) -> Stay
+        ensures { result ≡ stay_of self.now tick }
     {
-        Late {
+        let request = self.request.unwrap_or(Request::new(self.moved));
+        Stay {
             at: self.at(),
-            full: tick.full,
-            since: self.moved,
+            wanted: tick.wanted,
+            longest: tick.longest,
+            opened: self.opened,
+            moved: self.moved,
+            begun: request.begun,
+            brought: request.brought,
             time: tick.now,
         }
     }
@@ -150,16 +182,32 @@ impl<S: Read + Write> Link<S> {
     fn at(&self) -> At
         ensures { result ≡ at_of self.now }
     {
-        let written = self.output.left().is_empty();
-        match self.stage {
-            Stage::Taking if written && self.replied => At::Between,
-            Stage::Taking if written => At::Request,
-            Stage::Taking | Stage::Giving | Stage::Closed => At::Reply,
+        if !self.output.left().is_empty() || self.stage != Stage::Taking {
+            return At::Reply;
+        }
+        match &self.request {
+            Some(request) => request.at(),
+            None => At::Between,
+        }
+    }
+
+    // Measures the speed of a body anew, where it was fast enough for long enough.
+    fn measure(&mut self, stay: &Stay)
+        ensures socket { socket_of self.new ≡ socket_of self.old }
+        ensures same { joint_of self.new ≡ joint_of self.old }
+    {
+        if let (Some(request), false) = (&mut self.request, stay.is_over()) {
+            request.measure(stay.time);
         }
     }
 
     // Writes, asks for the next piece of a text, or takes bytes.
-    fn go_on<C: Connections>(&mut self, gateway: &mut C, conn: usize) -> Result<Left, DiskFault>
+    fn go_on<C: Connections>(
+        &mut self,
+        gateway: &mut C,
+        conn: usize,
+        now: Duration,
+    ) -> Result<Left, DiskFault>
         ensures lost { IfOk result (λ left. IfLost left (λ gone. EndsBy gone (latest_of (socket_of self.new)))) }
         ensures stream { StaysOf S.remaining S.contents (socket_of self.old) (socket_of self.new) }
         ensures serves { Goes C.Connections gateway.old gateway.new result self.old self.new conn }
@@ -172,7 +220,7 @@ impl<S: Read + Write> Link<S> {
         match self.stage {
             Stage::Closed => Ok(Left::Closed),
             Stage::Giving => self.more(gateway, conn),
-            Stage::Taking => self.take(gateway, conn),
+            Stage::Taking => self.take(gateway, conn, now),
         }
     }
 
@@ -209,7 +257,12 @@ impl<S: Read + Write> Link<S> {
     }
 
     // Gives the session what was read, or else what the socket has now.
-    fn take<C: Connections>(&mut self, gateway: &mut C, conn: usize) -> Result<Left, DiskFault>
+    fn take<C: Connections>(
+        &mut self,
+        gateway: &mut C,
+        conn: usize,
+        now: Duration,
+    ) -> Result<Left, DiskFault>
         ensures lost { IfOk result (λ left. IfLost left (λ gone. EndsBy gone (latest_of (socket_of self.new)))) }
         ensures stream { StaysOf S.remaining S.contents (socket_of self.old) (socket_of self.new) }
         ensures serves { Goes C.Connections gateway.old gateway.new result self.old self.new conn }
@@ -219,7 +272,7 @@ impl<S: Read + Write> Link<S> {
         if let Some(left) = self.read() {
             return Ok(left);
         }
-        match self.give(gateway, conn) {
+        match self.give(gateway, conn, now) {
             Ok(()) => Ok(Left::Open),
             Err(fault) => Err(fault),
         }
@@ -245,14 +298,19 @@ impl<S: Read + Write> Link<S> {
 
     // Gives the session what was read, until all is taken, enough waits to be written, a text is to be given or the
     // connection is closed.
-    fn give<C: Connections>(&mut self, gateway: &mut C, conn: usize) -> Result<(), DiskFault>
+    fn give<C: Connections>(
+        &mut self,
+        gateway: &mut C,
+        conn: usize,
+        now: Duration,
+    ) -> Result<(), DiskFault>
         ensures socket { socket_of self.new ≡ socket_of self.old }
         ensures serves { Goes C.Connections gateway.old gateway.new result self.old self.new conn }
         ensures counts { Counts (IsErr result) (C.failures gateway.old) (C.failures gateway.new) }
     {
         let mut calls = PIECE;
         while calls > 0 && self.goes_on() {
-            match self.came(gateway, conn) {
+            match self.came(gateway, conn, now) {
                 Ok(()) => {}
                 Err(fault) => return Err(fault),
             }
@@ -269,7 +327,12 @@ impl<S: Read + Write> Link<S> {
     }
 
     // Gives the session what was read once: it takes the bytes of at most one request.
-    fn came<C: Connections>(&mut self, gateway: &mut C, conn: usize) -> Result<(), DiskFault>
+    fn came<C: Connections>(
+        &mut self,
+        gateway: &mut C,
+        conn: usize,
+        now: Duration,
+    ) -> Result<(), DiskFault>
         requires { HasRoom (joint_of self.old).output }
         ensures socket { socket_of self.new ≡ socket_of self.old }
         ensures serves { Goes C.Connections gateway.old gateway.new result self.old self.new conn }
@@ -277,15 +340,27 @@ impl<S: Read + Write> Link<S> {
     {
         let owed = self.output.left().len();
         let answer = self.output.came(gateway, conn, self.input.left());
-        self.replied = self.output.left().len() > owed;
         match next_behind(answer) {
             Ok(next) => {
+                self.request = self.request_after(next.taken, owed, now);
                 self.stage = next.stage;
                 self.input.take(next.taken);
                 Ok(())
             }
             Err(fault) => Err(fault),
         }
+    }
+
+    // The request that it is in, once the session took so many bytes of what was read, where so many waited to be
+    // written before: none, if a reply was given.
+    fn request_after(&self, taken: usize, owed: usize, now: Duration) -> Option<Request> {
+        if self.output.left().len().saturating_sub(owed) > CONTINUE.len() {
+            return None;
+        }
+        let bytes = self.input.left();
+        let mut request = self.request.unwrap_or(Request::new(now));
+        request.add(&bytes[..taken.min(bytes.len())], now);
+        Some(request)
     }
 }
 

@@ -4,11 +4,12 @@ ghost use Rattle.upload_rules.specs.Answers.{Counts};
 ghost use Rattle.gateway_serve.specs.Joined.{GoesAt, OthersStay, IsNew, MayEnd, PlaceWaits, with_place};
 ghost use Rattle.gateway_serve.specs.Streams.{PlaceIsOf, PlaceKeeps};
 ghost use Rattle.gateway_serve.specs.Reasons.{StayReasoned};
+ghost use Rattle.gateway_serve.specs.Longest.{between_since};
 
 use crate::idle::Tick;
 use crate::links::{Left, Link};
 use crate::reasons::Reason;
-use crate::sockets::Ended;
+use crate::sockets::{Ended, Untouched};
 use gateway_script::Connections;
 use spool_disk::DiskFault;
 use std::alloc::Global;
@@ -37,12 +38,22 @@ pub(crate) enum Turned {
 }
 
 impl<S: Read + Write + Drop> Place<S> {
-    /// A connection that was opened now for a socket, which doesn't wait.
-    pub(crate) fn open(alloc: Global, stream: S, now: Duration) -> Self
-        ensures stream { PlaceIsOf S.remaining S.contents stream result }
+    /// A connection that was opened now for a socket.
+    pub(crate) fn open(alloc: Global, accepted: Untouched<S>, now: Duration) -> Self
+        ensures stream { PlaceIsOf S.remaining S.contents accepted result }
         ensures none { IsNew result }
     {
-        Place::Open(Link::new(alloc, stream, now))
+        Place::Open(Link::new(alloc, accepted, now))
+    }
+
+    /// Since when its connection has been between requests, if one is open that is.
+    pub(crate) fn between_since(&self) -> Option<Duration>
+        ensures { result ≡ between_since self.now }
+    {
+        match self {
+            Place::Free => None,
+            Place::Open(link) => link.between_since(),
+        }
     }
 
     /// Whether no connection is open there.

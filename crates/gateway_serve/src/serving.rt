@@ -1,23 +1,24 @@
 //! Connections over sockets, turn by turn in one thread.
-ghost use Rattle.std.specs.Prelude.{◌≡◌, List, [], IsErr, IfSome};
+ghost use Rattle.std.specs.Prelude.{◌≡◌, ◌⊎◌, List, [], IsErr, IfSome, length};
 ghost use Rattle.upload_rules.specs.Answers.{Counts};
 ghost use Rattle.tus_session.specs.History.{State, Marked};
 ghost use Rattle.gateway_serve.specs.Served.{Serves, AllServed, AllLeft};
 ghost use Rattle.gateway_serve.specs.Joined.{AllFell, GoesOn, Ends, Finishes, IsFreeAt, SamePlaces, places_of};
 ghost use Rattle.gateway_serve.specs.Joined.{ended_of};
+ghost use Rattle.gateway_serve.specs.Longest.{BeganBy, IsLongest, pause_of, since_of};
 ghost use Rattle.gateway_serve.specs.Streams.{AllHave, AllHad, AllKeep};
 ghost use Rattle.gateway_serve.specs.Reasons.{AllReasoned, StayReasoned, AtMostOnce, EndsReasoned, IsLeftReasoned};
 
 use crate::idle::{Pace, Tick, Watch};
 use crate::places::{Place, Turned, unless_failed};
 use crate::reasons::Reason;
-use crate::sockets::Ended;
+use crate::sockets::{Ended, Untouched};
 use gateway_script::Connections;
 use spool_disk::DiskFault;
 use std::alloc::Global;
 use std::io::{Read, Write};
 use std::net::{OpenListener, OpenStream};
-use std::time::Clock;
+use std::time::{Clock, Duration};
 
 /// How many connections may be open at once.
 const MOST_OPEN: usize = 16;
@@ -48,6 +49,8 @@ struct Server<S> {
     watch: Watch,
     /// how often the listener is asked
     door: Pace,
+    /// the latest socket, while it waits for a place
+    waiting: Option<Untouched<S>>,
 }
 
 impl<S: Read + Write + OpenStream + Drop> Server<S> {
@@ -65,6 +68,7 @@ impl<S: Read + Write + OpenStream + Drop> Server<S> {
             busy: false,
             watch,
             door: Pace::new(),
+            waiting: None,
         }
     }
 
@@ -119,8 +123,8 @@ impl<S: Read + Write + OpenStream + Drop> Server<S> {
         end_each(&mut self.places, gateway, &mut self.ended)
     }
 
-    // A turn: a connection is accepted where fewer than 16 are open and the listener is asked, then each has its turn,
-    // in order.
+    // A turn: a socket is accepted where none waits and the listener is asked, and gets a place where fewer than 16 are
+    // open. Then each connection has its turn, in order.
     fn turn<L: OpenListener<Stream = S>, C: Connections>(
         &mut self,
         listener: &L,
@@ -136,11 +140,15 @@ impl<S: Read + Write + OpenStream + Drop> Server<S> {
     {
         let accepted = self.accepted;
         self.accept(listener, gateway)?;
+        let wanted = self.waiting.is_some();
         let mut round = Round {
-            tick: Tick {
-                now: self.watch.now,
-                full: self.free_place().is_none(),
-                busy: self.busy,
+            now: self.watch.now,
+            was_busy: self.busy,
+            wanted,
+            longest: if wanted {
+                longest_pause(&self.places)
+            } else {
+                None
             },
             busy: self.accepted > accepted,
             closed: self.closed,
@@ -152,7 +160,8 @@ impl<S: Read + Write + OpenStream + Drop> Server<S> {
         taken
     }
 
-    // Accepts a connection where fewer than 16 are open. Where the session refuses it, the socket is closed.
+    // Opens a connection for the socket that waits, where fewer than 16 are open. Where the session refuses it, the
+    // socket is closed.
     fn accept<L: OpenListener<Stream = S>, C: Connections>(
         &mut self,
         listener: &L,
@@ -165,20 +174,44 @@ impl<S: Read + Write + OpenStream + Drop> Server<S> {
             (ended_of self.old) (ended_of self.new) }
         ensures counts { Counts (IsErr result) (C.failures gateway.old) (C.failures gateway.new) }
     {
-        let Some(conn) = self.free_place() else {
-            return Ok(());
-        };
-        let Some(stream) = next_stream(listener, &mut self.door, self.busy) else {
+        let Some((conn, socket)) = self.next_place(listener) else {
             return Ok(());
         };
         match gateway.opened(conn) {
             Ok(()) => {
-                self.places[conn] = Place::open(self.alloc, stream, self.watch.now);
+                self.places[conn] = Place::open(self.alloc, socket, self.watch.now);
                 self.accepted = self.accepted.saturating_add(1);
                 Ok(())
             }
             Err(error) => unless_failed(Err(error)),
         }
+    }
+
+    // Asks the listener for a socket, where none waits.
+    fn ask<L: OpenListener<Stream = S>>(&mut self, listener: &L)
+        ensures places { places_of self.new ≡ places_of self.old }
+        ensures ended { ended_of self.new ≡ ended_of self.old }
+    {
+        if self.waiting.is_none() {
+            self.waiting = next_socket(listener, &mut self.door, self.busy);
+        }
+    }
+
+    // The number of a free place, and the socket that waits for it. Where none waits, the listener is asked.
+    fn next_place<L: OpenListener<Stream = S>>(
+        &mut self,
+        listener: &L,
+    ) -> Option<(usize, Untouched<S>)>
+        ensures free { IfSome result (λ next. IsFreeAt (places_of self.new) next.0) }
+        ensures same { SamePlaces (places_of self.old) (places_of self.new) }
+        ensures ended { ended_of self.new ≡ ended_of self.old }
+    {
+        self.ask(listener);
+        if self.waiting.is_none() {
+            return None;
+        }
+        let conn = self.free_place()?;
+        Some((conn, self.waiting.take()?))
     }
 
     // The number of the first place that is free.
@@ -211,7 +244,13 @@ impl<S: Read + Write + OpenStream + Drop> Server<S> {
 /// A turn of all places.
 #[derive(Drop)]
 struct Round {
-    tick: Tick,
+    now: Duration,
+    /// whether the turn before did something
+    was_busy: bool,
+    /// whether a socket waits for a place
+    wanted: bool,
+    /// the longest pause, where one is wanted
+    longest: Option<Pause>,
     /// whether anything was done
     busy: bool,
     /// how many connections were closed
@@ -221,12 +260,54 @@ struct Round {
 }
 
 impl Round {
-    // The turn of a place came to this.
+    // The turn of the connection with this number.
+    fn tick(&self, conn: usize) -> Tick {
+        Tick {
+            now: self.now,
+            wanted: self.wanted,
+            longest: self.longest.is_some_and(|pause| pause.conn == conn),
+            busy: self.was_busy,
+        }
+    }
+
+    // The turn of a place came to this. Where it is free now, no other is wanted.
     fn add(&mut self, turned: Turned) {
         let closed = turned == Turned::Closed;
         self.closed = self.closed.saturating_add(u64::from(closed));
-        self.tick.full = self.tick.full && !closed;
+        self.wanted = self.wanted && !closed;
         self.busy = self.busy || turned != Turned::Idle;
+    }
+}
+
+/// A connection that is between requests, and since when.
+#[derive(Clone, Copy, Drop)]
+struct Pause {
+    conn: usize,
+    since: Duration,
+}
+
+// The longest pause, if a connection is between requests.
+fn longest_pause<S: Read + Write + Drop>(places: &[Place<S>]) -> Option<Pause>
+    ensures { IsLongest places.now (length places.now) result }
+{
+    let mut longest = None;
+    for (conn, place) in places.iter().enumerate() {
+        longest = longer(longest, conn, place.between_since());
+    }
+    longest
+}
+
+// The longer one of two pauses: of one that is known, and of the connection with this number, since this time.
+fn longer(known: Option<Pause>, conn: usize, since: Option<Duration>) -> Option<Pause>
+    ensures one { (result ≡ known) ⊎ (result ≡ pause_of conn since) }
+    ensures known { BeganBy result (since_of known) }
+    ensures other { BeganBy result since }
+{
+    match (known, since) {
+        (known, None) => known,
+        (None, Some(since)) => Some(Pause { conn, since }),
+        (Some(pause), Some(since)) if pause.since.as_nanos() <= since.as_nanos() => Some(pause),
+        (Some(_), Some(since)) => Some(Pause { conn, since }),
     }
 }
 
@@ -259,7 +340,7 @@ fn turn_each<S: Read + Write + Drop, C: Connections>(
         if round.closed == round.connections {
             return Ok(());
         }
-        match place.turn(gateway, conn, round.tick, ended) {
+        match place.turn(gateway, conn, round.tick(conn), ended) {
             Ok(turned) => round.add(turned),
             Err(fault) => return Err(fault),
         }
@@ -300,11 +381,15 @@ fn free_each<S: Read + Write + Drop>(places: &mut [Place<S>], ended: &mut Ended)
     }
 }
 
-// The socket of the next connection, which doesn't wait, where the listener is asked in this turn. An accept that
-// fails gives none.
-fn next_stream<L: OpenListener>(listener: &L, door: &mut Pace, busy: bool) -> Option<L::Stream>
+// The next socket, which doesn't wait for bytes, where the listener is asked in this turn. An accept that fails gives
+// none.
+fn next_socket<L: OpenListener>(
+    listener: &L,
+    door: &mut Pace,
+    busy: bool,
+) -> Option<Untouched<L::Stream>>
 where
-    L::Stream: OpenStream,
+    L::Stream: Read + Write + OpenStream,
 {
     if !door.is_due(busy) {
         return None;
@@ -315,7 +400,7 @@ where
         return None;
     };
     if stream.set_nonblocking(true).is_ok() {
-        Some(stream)
+        Some(Untouched::of(stream))
     } else {
         None
     }
@@ -326,8 +411,14 @@ where
 /// Each turn accepts a connection, where fewer than 16 are open, and then goes on at each open one, in order: what is
 /// left to write is written, else the next piece of a text is asked for, else up to 4,096 bytes are read and given to
 /// the session. A socket that fails or is at its end ends its connection, and so does one over which nothing came or
-/// went for a minute; where 16 are open, a second is enough between requests. One that the session closed is closed
-/// once all is written. At the end the open connections are ended.
+/// went for a minute, or whose request's head isn't whole after one. One that the session closed is closed once all is
+/// written. At the end the open connections are ended.
+///
+/// Where 16 are open, one more socket is accepted and waits for a place. While it does, a connection gives way whose
+/// socket has nothing to do: the one that has been between requests longest, after 20 milliseconds; any between
+/// requests that has had its place for ten seconds; a head that isn't whole after ten seconds; a body that brought less
+/// than 4,096 bytes a second for ten seconds. A reply never does. A socket that still waits when serving ends is
+/// closed.
 ///
 /// While there is something to do, the listener and each connection that had nothing are passed over in more and more
 /// turns, in at most 31 one after the other: so much later one is ended whose time is over. Where 65,536 bytes wait for

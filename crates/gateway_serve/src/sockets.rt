@@ -125,6 +125,47 @@ impl<S: Read + Write> Socket<S> {
     }
 }
 
+/// A socket that was accepted and waits for a place: nothing was read of it, and nothing was written to it.
+#[derive(Drop)]
+pub(crate) struct Untouched<S> {
+    socket: Socket<S>,
+}
+
+impl<S> Model for Untouched<S> {
+    ghost use Rattle.std.specs.Prelude.{◌≡◌, []};
+    ghost use Rattle.gateway_serve.specs.Bytes.{came_of, went_of, stream_of, latest_of};
+    ghost use Rattle.gateway_serve.specs.declared.sockets.Latest.TheVariants.{None};
+
+    ghost Value = { S };
+
+    ghost view = { λ u. stream_of u.socket };
+
+    ghost invariant = { λ u. (came_of u.socket ≡ []) × (went_of u.socket ≡ []) × (latest_of u.socket ≡ None) };
+}
+
+impl<S: Read + Write> Untouched<S> {
+    ghost use Rattle.gateway_serve.specs.Bytes.{came_of, went_of, stream_of, latest_of};
+
+    /// A stream as it was accepted.
+    pub(crate) fn of(stream: S) -> Self
+        ensures { result ≡ stream }
+    {
+        Untouched {
+            socket: Socket::new(stream),
+        }
+    }
+
+    /// The socket, for a connection.
+    pub(crate) fn into_socket(self) -> Socket<S>
+        ensures stream { stream_of result ≡ self }
+        ensures came { came_of result ≡ [] }
+        ensures went { went_of result ≡ [] }
+        ensures latest { latest_of result ≡ Latest.None }
+    {
+        self.socket
+    }
+}
+
 /// The sockets that served connections, the latest first. Only clauses read them.
 #[derive(Drop)]
 pub struct Ended {

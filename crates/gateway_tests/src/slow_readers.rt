@@ -106,7 +106,7 @@ impl<'a> OpenListener for Clients<'a> {
 
 /// A clock that goes on by so many microseconds at each reading, and counts the rests and their time.
 #[derive(Drop)]
-struct Steps {
+pub(crate) struct Steps {
     step: u64,
     now: Cell<u64>,
     rests: Cell<u32>,
@@ -114,7 +114,7 @@ struct Steps {
 }
 
 impl Steps {
-    fn new(step: u64) -> Self {
+    pub(crate) fn new(step: u64) -> Self {
         Steps {
             step,
             now: Cell::new(0),

@@ -4,7 +4,7 @@ use crate::deletions::has_text;
 use crate::images::{byte_at, put};
 use crate::resumes::stops;
 use crate::uploads::{calls_of_opening, fresh, opened, plain};
-use spool_disk::{Crash, Disk, HiccupDisk, MemoryDisk};
+use spool_disk::{Crash, Disk, FuseDisk, HiccupDisk, MemoryDisk};
 use spool_image::{OpenFault, Spool};
 use std::alloc::Global;
 use std::process::Abort;
@@ -96,6 +96,39 @@ fn each_call_of_a_recovery_fails_once(rt: HostRuntime) {
     for call in 0..calls_of_recovery(&rt, rt.alloc(), &bytes) {
         for kind in KINDS {
             fail_once(&rt, rt.alloc(), &bytes, call, kind);
+        }
+    }
+}
+
+/// What an opening leaves that stops after so many calls, once the device crashed.
+fn stopped(
+    rt: &impl Abort,
+    alloc: Global,
+    disk: MemoryDisk,
+    calls: u64,
+    kind: Crash,
+) -> MemoryDisk {
+    refused(rt, alloc, FuseDisk::new(disk, calls))
+        .into_inner()
+        .crash(kind)
+}
+
+/// How many calls lie between two stops of a second opening.
+const STRIDE: u64 = 8;
+
+/// A recovery that stops anywhere and one after it that does, with a crash after each, in turn of each kind.
+#[test]
+fn three_openings_in_a_row(rt: HostRuntime) {
+    let bytes = with_open_gate(&rt, rt.alloc());
+    let calls = calls_of_recovery(&rt, rt.alloc(), &bytes);
+    for first in 0..calls {
+        for turn in 0..calls / STRIDE {
+            let second = turn * STRIDE + first % STRIDE;
+            let kind = KINDS[(first % 2 * 2 + second % 2) as usize];
+            let disk = disk_of(&rt, rt.alloc(), &bytes);
+            let once = stopped(&rt, rt.alloc(), disk, first, kind);
+            let twice = stopped(&rt, rt.alloc(), once, second, kind);
+            is_home(&rt, rt.alloc(), twice);
         }
     }
 }

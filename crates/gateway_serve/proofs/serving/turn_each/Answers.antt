@@ -1,10 +1,21 @@
-use Rattle.std.proofs.Common.{◌<◌, length, Result, Ok, Err, ◌∙◌, arith}
+use Rattle.std.proofs.Common.{◌<◌, length, Result, Ok, Err, ◌∙◌, sym, subst, arith}
+use Rattle.std.proofs.lemmas.List.{set-get_or}
 use Rattle.spool_disk.specs.declared.disk.DiskFault.{DiskFault}
 use Rattle.gateway_serve.specs.declared.places.Turned.{Turned}
 use Rattle.gateway_script.proofs.Counting.{uncounted}
+use Rattle.gateway_serve.specs.Joined.{AllJoin}
 use Rattle.gateway_serve.proofs.All.{among_all}
 use Rattle.gateway_serve.proofs.Carries.{among_keep}
 use Rattle.gateway_serve.proofs.serving.turn_each.Goals as goal
+
+pub returns-then-round-clause-serves : goal.returns-then-round-clause-serves
+returns-then-round-clause-serves g c = λ before st past went joins.
+    let s = c.loop-conn.invariant.1 before st past went joins in (
+      s.0,
+      s.1,
+      subst (λ places. AllJoin places c.loop-conn.ended.sockets st s.0)
+          (sym (set-get_or c.loop-conn.places c.loop-conn.conn c.index-places-conn.result)) s.2,
+    )
 
 pub returns-in-Err-clause-serves : goal.returns-in-Err-clause-serves
 returns-in-Err-clause-serves g c = λ before st past went joins.

@@ -3,5 +3,5 @@ use Rattle.gateway_serve.proofs.places.Place.open.Goals as goal
 
 pub returns-clause-stream : goal.returns-clause-stream
 returns-clause-stream g c =
-    new_is_of g.S.Read.remaining g.S.Write.contents c.args.stream c.new.result c.new.ensures.stream
+    new_is_of g.S.Read.remaining g.S.Write.contents c.args.accepted c.new.result c.new.ensures.stream
     c.new.ensures.latest c.new.ensures.none

@@ -1,33 +1,26 @@
 use Rattle.std.proofs.Common.{sym, subst, arith}
 use Rattle.std.proofs.lemmas.List.{with_items_is}
-use Rattle.gateway_serve.specs.Joined.{AllJoin, AllFell, places_of, ended_of}
+use Rattle.gateway_serve.specs.Joined.{AllJoin, AllFell, ended_of}
 use Rattle.gateway_serve.specs.Served.{Serves}
-use Rattle.gateway_serve.specs.Streams.{AllHad, AllHave}
-use Rattle.gateway_serve.proofs.All.{same_join}
-use Rattle.gateway_serve.proofs.Carries.{same_have}
+use Rattle.gateway_serve.specs.Streams.{AllHave}
 use Rattle.gateway_serve.proofs.serving.Server.turn.Goals as goal
 
 pub returns-clause-streams : goal.returns-clause-streams
 returns-clause-streams g c = λ have had.
     let a = c.accept.ensures.streams have had in
-    let all = subst (AllHave g.S.Read.remaining g.S.Write.contents) (sym c.deref_mut.ensures.value)
-    (same_have g.S.Read.remaining g.S.Write.contents (places_of c.accept.new.self)
-    (places_of c.free_place.new.self) c.free_place.ensures.same a.0) in
-    let same = with_items_is c.free_place.new.self.places c.turn_each-taken.new.places
+    let all = subst (AllHave g.S.Read.remaining g.S.Write.contents) (sym c.deref_mut.ensures.value) a.0 in
+    let same = with_items_is c.accept.new.self.places c.turn_each-taken.new.places
     (omega (arith, c.turn_each-taken.auto.places, c.deref_mut.ensures.len)) in
-    let b = c.turn_each-taken.ensures.streams all
-    (subst (AllHad g.S.Read.remaining g.S.Write.contents) (sym c.free_place.ensures.ended) a.1) in
+    let b = c.turn_each-taken.ensures.streams all a.1 in
     (subst (AllHave g.S.Read.remaining g.S.Write.contents) (sym same) b.0, b.1)
 
 pub returns-clause-serves : goal.returns-clause-serves
 returns-clause-serves g c = λ before st past went joins.
     let s = c.in_ok-accept.ensures.serves before st past went joins in
     let ended = c.turn_each-taken.new.ended.sockets in
-    let same = with_items_is c.free_place.new.self.places c.turn_each-taken.new.places
+    let same = with_items_is c.accept.new.self.places c.turn_each-taken.new.places
     (omega (arith, c.turn_each-taken.auto.places, c.deref_mut.ensures.len)) in
     subst (λ places. Serves g.C.Connections before c.turn_each-taken.new.gateway st c.turn_each-taken.result
     (AllJoin places ended st) (AllFell places ended st)) (sym same)
     (c.turn_each-taken.ensures.serves before st s.0 s.1
-    (subst (λ places. AllJoin places (ended_of c.free_place.new.self) st s.0) (sym c.deref_mut.ensures.value)
-    (same_join (places_of c.accept.new.self) (places_of c.free_place.new.self) (ended_of c.accept.new.self)
-    (ended_of c.free_place.new.self) st s.0 c.free_place.ensures.same c.free_place.ensures.ended s.2)))
+    (subst (λ places. AllJoin places (ended_of c.accept.new.self) st s.0) (sym c.deref_mut.ensures.value) s.2))

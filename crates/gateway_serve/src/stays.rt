@@ -1,0 +1,114 @@
+//! How long a connection keeps its place.
+ghost use Rattle.std.specs.Prelude.{◌≡◌, ◌↔◌, IsTrue};
+ghost use Rattle.gateway_serve.specs.Stays.{HasIdled, HasPaused, IsSlow, GivesWay, IsOver, seconds_from};
+
+use std::time::Duration;
+
+/// A connection is ended once nothing came or went for so many seconds, and once a head isn't whole after so many.
+const LONGEST_IDLE: u64 = 60;
+
+/// So many seconds a connection has its place at least, and a request may be slow, while a socket waits for a place.
+const SHORTEST_STAY: u64 = 10;
+
+/// So many bytes a second a body brings that isn't slow.
+const LEAST_SPEED: u64 = 4096;
+
+/// For so many milliseconds at least a connection may be between requests.
+const SHORTEST_PAUSE: u128 = 20;
+
+/// What a connection is at.
+#[derive(Clone, Copy, Debug, PartialEq, Eq, Drop)]
+pub enum At {
+    /// Between requests: no reply is owed, and nothing of a next request came.
+    Between,
+    /// In the head of a request.
+    Head,
+    /// In the body of a request.
+    Body,
+    /// In a reply: bytes wait for the socket, or a text is still to be given.
+    Reply,
+}
+
+/// A connection at some time.
+#[derive(Clone, Copy, Drop)]
+pub struct Stay {
+    /// What it is at.
+    pub at: At,
+    /// Whether a socket waits for a place.
+    pub wanted: bool,
+    /// Whether it is the one that has been between requests longest.
+    pub longest: bool,
+    /// When it got its place.
+    pub opened: Duration,
+    /// When something last came or went.
+    pub moved: Duration,
+    /// When its request's head began, or since when the speed of its body is measured.
+    pub begun: Duration,
+    /// How many bytes of the request came since then.
+    pub brought: u64,
+    /// The time.
+    pub time: Duration,
+}
+
+impl Stay {
+    /// Whether the connection is ended where its socket has nothing to do: its time is over whatever the others do, or
+    /// it gives its place to a socket that waits.
+    pub(crate) fn is_over(&self) -> bool
+        ensures { IsTrue result ↔ IsOver self.now }
+    {
+        self.has_idled() || (self.wanted && self.gives_way())
+    }
+
+    // Whether nothing came or went for too long, or the head of a request isn't whole.
+    fn has_idled(&self) -> bool
+        ensures { IsTrue result ↔ HasIdled self.now }
+    {
+        match self.at {
+            At::Head => self.measured() >= LONGEST_IDLE,
+            At::Between | At::Body | At::Reply => seconds_from(self.moved, self.time)
+                >= LONGEST_IDLE,
+        }
+    }
+
+    // Whether it gives way.
+    fn gives_way(&self) -> bool
+        ensures { IsTrue result ↔ GivesWay self.now }
+    {
+        match self.at {
+            At::Between => self.has_paused()
+                || seconds_from(self.opened, self.time) >= SHORTEST_STAY,
+            At::Head => self.measured() >= SHORTEST_STAY,
+            At::Body => self.is_slow(),
+            At::Reply => false,
+        }
+    }
+
+    // Whether no other connection has been between requests longer, and it has been so for long enough.
+    fn has_paused(&self) -> bool
+        ensures { IsTrue result ↔ HasPaused self.now }
+    {
+        self.longest && self.time.saturating_sub(self.moved).as_millis() >= SHORTEST_PAUSE
+    }
+
+    // Whether its request brought too little for too long.
+    fn is_slow(&self) -> bool
+        ensures { IsTrue result ↔ IsSlow self.now }
+    {
+        let seconds = self.measured();
+        seconds >= SHORTEST_STAY && self.brought / LEAST_SPEED < seconds
+    }
+
+    // For how many seconds its request has been measured.
+    fn measured(&self) -> u64
+        ensures { result ≡ seconds_from self.now.begun self.now.time }
+    {
+        seconds_from(self.begun, self.time)
+    }
+}
+
+// The whole seconds from one time to another.
+fn seconds_from(since: Duration, now: Duration) -> u64
+    ensures { result ≡ seconds_from since now }
+{
+    now.saturating_sub(since).as_secs()
+}

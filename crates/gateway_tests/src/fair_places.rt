@@ -1,0 +1,172 @@
+//! Sixteen clients that keep their places, and one more that waits for one.
+
+use crate::slow_readers::Steps;
+use crate::spools::opened;
+use crate::talks::fresh;
+use gateway_serve::{Outcome, serve_on};
+use spool_disk::MemoryDisk;
+use std::alloc::Global;
+use std::cell::Cell;
+use std::io::{self, ErrorKind, Read, Write};
+use std::net::{Ipv4Addr, OpenListener, OpenStream, SocketAddr};
+use std::process::Abort;
+
+const OPTIONS: &[u8] = b"OPTIONS /files HTTP/1.1\r\n\r\n";
+
+const HALF_A_HEAD: &[u8] = b"OPTIONS /files HTTP/1.1\r\n";
+
+/// Makes an upload, then begins to send it.
+const BODY: &[u8] = b"POST /files HTTP/1.1\r\nTus-Resumable: 1.0.0\r\nUpload-Length: 200000\r\n\r\n\
+PATCH /files/1 HTTP/1.1\r\nTus-Resumable: 1.0.0\r\nContent-Type: application/offset+octet-stream\r\n\
+Upload-Offset: 0\r\nContent-Length: 200000\r\n\r\n";
+
+/// The same, and waits until it is told to go on.
+const EXPECTS: &[u8] =
+    b"POST /files HTTP/1.1\r\nTus-Resumable: 1.0.0\r\nUpload-Length: 200000\r\n\r\n\
+PATCH /files/1 HTTP/1.1\r\nTus-Resumable: 1.0.0\r\nContent-Type: application/offset+octet-stream\r\n\
+Upload-Offset: 0\r\nContent-Length: 200000\r\nExpect: 100-continue\r\n\r\n";
+
+/// A client: what it says at first, then at each second reading, and whether it reads what it is told.
+#[derive(Drop)]
+struct Guest<'a> {
+    says: &'a [u8],
+    goes_on: &'a [u8],
+    pauses: bool,
+    reads: bool,
+    told: &'a Cell<usize>,
+}
+
+impl Read for Guest<'_> {
+    fn read(&mut self, buf: &mut [u8]) -> io::Result<usize> {
+        let count = self.says.len().min(buf.len());
+        if count == 0 {
+            self.pauses = !self.pauses;
+            if !self.pauses {
+                self.says = self.goes_on;
+            }
+            return Err(io::Error::from(ErrorKind::WouldBlock));
+        }
+        buf[..count].copy_from_slice(&self.says[..count]);
+        self.says = &self.says[count..];
+        Ok(count)
+    }
+}
+
+impl Write for Guest<'_> {
+    fn write(&mut self, buf: &[u8]) -> io::Result<usize> {
+        if !self.reads {
+            return Err(io::Error::from(ErrorKind::WouldBlock));
+        }
+        self.told.set(self.told.get().saturating_add(buf.len()));
+        Ok(buf.len())
+    }
+
+    fn flush(&mut self) -> io::Result<()> {
+        Ok(())
+    }
+}
+
+impl OpenStream for Guest<'_> {
+    fn set_nonblocking(&self, _nonblocking: bool) -> io::Result<()> {
+        Ok(())
+    }
+}
+
+/// The first of 17 clients says this; fifteen don't read their replies; the last one asks once, and counts what it is
+/// told.
+#[derive(Drop)]
+struct Guests<'a> {
+    left: Cell<u32>,
+    first: (&'a [u8], &'a [u8], bool),
+    others: &'a Cell<usize>,
+    told: &'a Cell<usize>,
+}
+
+impl<'a> OpenListener for Guests<'a> {
+    type Stream = Guest<'a>;
+
+    fn accept(&self) -> io::Result<(Guest<'a>, SocketAddr)> {
+        let left = self.left.get();
+        if left == 0 {
+            return Err(io::Error::from(ErrorKind::WouldBlock));
+        }
+        self.left.set(left - 1);
+        let (says, goes_on, reads) = match left {
+            17 => self.first,
+            1 => (OPTIONS, b"" as &[u8], true),
+            _ => (OPTIONS, b"" as &[u8], false),
+        };
+        let guest = Guest {
+            says,
+            goes_on,
+            pauses: false,
+            reads,
+            told: if left == 1 { self.told } else { self.others },
+        };
+        Ok((guest, SocketAddr::from((Ipv4Addr::LOCALHOST, 1))))
+    }
+
+    fn set_nonblocking(&self, _nonblocking: bool) -> io::Result<()> {
+        Ok(())
+    }
+}
+
+/// Whether the last client is told something in so many turns of ten milliseconds.
+fn is_told(rt: &impl Abort, alloc: Global, first: (&[u8], &[u8], bool), turns: u64) -> bool {
+    let told = Cell::new(0);
+    let others = Cell::new(0);
+    let guests = Guests {
+        left: Cell::new(17),
+        first,
+        others: &others,
+        told: &told,
+    };
+    let clock = Steps::new(10_000);
+    let gateway = opened(rt, alloc, fresh(rt, alloc, 64, None));
+    let Outcome {
+        gateway,
+        served,
+        connections: _,
+        ended: _,
+    } = serve_on(alloc, &clock, &guests, gateway, 18, turns);
+    assert!(rt; served.is_ok());
+    drop(gateway.into_disk());
+    told.get() > 0
+}
+
+/// What the first client says, goes on to say and whether it reads; after so many turns the last one has no place yet,
+/// and after so many more it is told.
+const KEEPERS: [(&[u8], &[u8], bool, u64, u64); 8] = [
+    // between requests
+    (OPTIONS, b"", true, 17, 3),
+    // it asks again and again: ten seconds
+    (OPTIONS, OPTIONS, true, 1000, 10),
+    // a head that isn't whole: ten seconds
+    (HALF_A_HEAD, b"", true, 1000, 10),
+    (HALF_A_HEAD, b"a", true, 1000, 10),
+    // a body that brings nothing, a byte at a time, or nothing after it was told to go on: ten seconds
+    (BODY, b"", true, 1000, 10),
+    (BODY, b"a", true, 1000, 10),
+    (EXPECTS, b"", true, 1000, 10),
+    // a reply that isn't read: a minute
+    (OPTIONS, b"", false, 6000, 20),
+];
+
+#[test]
+fn one_that_waits_gets_the_place_of_one_that_keeps_its_own(rt: HostRuntime) {
+    for (says, goes_on, reads, turns, more) in KEEPERS {
+        let first = (says, goes_on, reads);
+        assert!(rt; !is_told(&rt, rt.alloc(), first, turns), "{turns}");
+        assert!(rt;
+            is_told(&rt, rt.alloc(), first, turns.saturating_add(more)),
+            "{turns}"
+        );
+    }
+}
+
+/// A body of some 8 KB a second keeps its place as long as it lasts.
+#[test]
+fn fast_body_keeps_its_place(rt: HostRuntime) {
+    let first: (&[u8], &[u8], bool) = (BODY, &[b'a'; 256], true);
+    assert!(rt; !is_told(&rt, rt.alloc(), first, 2200));
+}
