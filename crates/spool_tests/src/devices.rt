@@ -2,9 +2,7 @@
 
 ghost use Rattle.std.specs.Prelude.{◌≡◌, ◌≤◌};
 
-use spool_disk::{
-    Crash, Disk, DiskFault, FileDisk, FuseDisk, HiccupDisk, MemoryDisk, read, write, write_synced,
-};
+use spool_disk::{Crash, Disk, DiskFault, FileDisk, FuseDisk, HiccupDisk, MemoryDisk};
 use std::{fs, io};
 
 const FOLDER: &str = "spool_disk_file_test";
@@ -21,7 +19,7 @@ fn front<D: Disk>(disk: &mut D) -> Result<[u8; 4], DiskFault>
     ensures { D.size disk.new ≡ D.size disk.old }
 {
     let mut bytes = [0; 4];
-    read(disk, 0, &mut bytes)?;
+    disk.read(0, &mut bytes)?;
     Ok(bytes)
 }
 
@@ -34,8 +32,9 @@ fn crash_leaves_old_new_or_torn_bytes(rt: HostRuntime) {
     ] {
         let mut disk = MemoryDisk::new(rt.alloc(), 4).expect(&rt, "memory");
         assert_eq!(rt; disk.len(), 4);
-        write_synced(&mut disk, 0, b"abc").expect(&rt, "no call fails");
-        write(&mut disk, 1, b"XY").expect(&rt, "no call fails");
+        disk.write_at(0, b"abc").expect(&rt, "no call fails");
+        disk.sync().expect(&rt, "no call fails");
+        disk.write_at(1, b"XY").expect(&rt, "no call fails");
         let mut left = disk.crash(kind);
         assert_eq!(rt; front(&mut left), Ok(want), "{kind:?}");
     }
