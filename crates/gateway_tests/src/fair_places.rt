@@ -31,7 +31,6 @@ Upload-Offset: 0\r\nContent-Length: 200000\r\nExpect: 100-continue\r\n\r\n";
 struct Guest<'a> {
     says: &'a [u8],
     goes_on: &'a [u8],
-    pauses: bool,
     reads: bool,
     told: &'a Cell<usize>,
 }
@@ -40,10 +39,7 @@ impl Read for Guest<'_> {
     fn read(&mut self, buf: &mut [u8]) -> io::Result<usize> {
         let count = self.says.len().min(buf.len());
         if count == 0 {
-            self.pauses = !self.pauses;
-            if !self.pauses {
-                self.says = self.goes_on;
-            }
+            self.says = self.goes_on;
             return Err(io::Error::from(ErrorKind::WouldBlock));
         }
         buf[..count].copy_from_slice(&self.says[..count]);
@@ -99,7 +95,6 @@ impl<'a> OpenListener for Guests<'a> {
         let guest = Guest {
             says,
             goes_on,
-            pauses: false,
             reads,
             told: if left == 1 { self.told } else { self.others },
         };
@@ -164,9 +159,9 @@ fn one_that_waits_gets_the_place_of_one_that_keeps_its_own(rt: HostRuntime) {
     }
 }
 
-/// A body of some 8 KB a second keeps its place as long as it lasts.
+/// A body of 6,400 bytes a second keeps its place as long as it lasts.
 #[test]
 fn fast_body_keeps_its_place(rt: HostRuntime) {
-    let first: (&[u8], &[u8], bool) = (BODY, &[b'a'; 256], true);
+    let first: (&[u8], &[u8], bool) = (BODY, &[b'a'; 128], true);
     assert!(rt; !is_told(&rt, rt.alloc(), first, 2200));
 }

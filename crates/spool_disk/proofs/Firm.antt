@@ -11,32 +11,6 @@ pub apart_at : (at n at' n' p : ℕ) → Apart at n at' n' → In at n p → In 
 apart_at at n at' n' p (inl before) here there = omega (arith, here.below, there.from)
 apart_at at n at' n' p (inr behind) here there = omega (arith, here.from, there.below)
 
-module _ {seen seen' : ℕ → ℕ} {loose loose' : ℕ → Type 0} where
-  pub firm_writes : {at at' : ℕ} {bytes xs : List ℕ} {done : Type 0} → Firm seen loose at xs
-      → Writes at' bytes done seen seen' loose loose' → Apart at (length xs) at' (length bytes)
-      → Firm seen' loose' at xs
-  firm_writes {at = at} {at' = at'} {bytes = bytes} {xs = xs} has writes apart = record {
-    reads = span_same seen' seen at (length xs)
-        (λ p here. writes.outside p (λ there. apart_at at (length xs) at' (length bytes) p apart here there))
-        ∙ has.reads;
-    firm = λ p here loose. ⊎_elim (has.firm p here)
-        (λ there. apart_at at (length xs) at' (length bytes) p apart here there) (writes.loosens p loose);
-  }
-
-  pub firm_syncs : {at : ℕ} {xs : List ℕ} {done : Type 0} → Firm seen loose at xs → Syncs done seen seen' loose loose'
-      → Firm seen' loose' at xs
-  firm_syncs {at = at} {xs = xs} has syncs = record {
-    reads = span_same seen' seen at (length xs) (λ p here. syncs.outside p (has.firm p here)) ∙ has.reads;
-    firm = λ p here loose. has.firm p here (syncs.loosens p loose);
-  }
-
-  pub firm_keeps : {at : ℕ} {xs : List ℕ} → Firm seen loose at xs → Keeps seen seen' loose loose'
-      → Firm seen' loose' at xs
-  firm_keeps {at = at} {xs = xs} has keeps = record {
-    reads = span_same seen' seen at (length xs) (λ p here. keeps.same p) ∙ has.reads;
-    firm = λ p here loose. has.firm p here (keeps.loosens p loose);
-  }
-
 -- what was written stands there once it is synced
 pub written_firm : {seen mid seen' : ℕ → ℕ} {loose between loose' : ℕ → Type 0} {at : ℕ} {bytes : List ℕ}
     {wrote synced : Type 0} → Writes at bytes wrote seen mid loose between → Syncs synced mid seen' between loose'

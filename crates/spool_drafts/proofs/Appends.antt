@@ -35,6 +35,7 @@ gone_on d growth fresh count = record {
   declare = d.declare;
   fresh = fresh;
   growth = growth;
+  spare = tt;
 }
 
 module _ (x : IndexSet) (p : Patch) (d : SpoolDraft) (held : Holds x p d) (piece : List ℕ)

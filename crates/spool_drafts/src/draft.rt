@@ -21,6 +21,7 @@ ghost use Rattle.spool_drafts.specs.Drafts.{declare_of, committed_len_of, fresh_
 
 use crate::fresh::{finished, read_on};
 use crate::growth::Growth;
+use crate::spare::Spare;
 use enc_index::IndexSet;
 use spool_blocks::{BlockNo, Blocks};
 use spool_disk::Disk;
@@ -40,6 +41,7 @@ pub struct SpoolDraft {
     // where transcoding stands, without text
     fresh: NewText,
     growth: Growth,
+    spare: Spare,
 }
 
 /// What the end of a draft's text comes to.
@@ -93,6 +95,7 @@ impl SpoolDraft {
             declare,
             fresh,
             growth: Growth::behind(upload.text_len, list),
+            spare: Spare::new(alloc),
         })
     }
 
@@ -193,7 +196,8 @@ impl SpoolDraft {
         if piece.is_empty() {
             return Ok(());
         }
-        let Ok((fresh, text)) = read_on(alloc, &self.fresh, indexes, piece) else {
+        let room = self.spare.take(alloc);
+        let Ok((fresh, text)) = read_on(alloc, room, &self.fresh, indexes, piece) else {
             return Err(UploadError::NoMemory);
         };
         if let NewText::Unencodable = fresh {
@@ -202,6 +206,7 @@ impl SpoolDraft {
             return Ok(());
         }
         self.growth.put(alloc, disk, layout, blocks, &text)?;
+        self.spare.give_back(text);
         self.go_on(fresh, piece.len());
         Ok(())
     }
@@ -336,6 +341,7 @@ impl SpoolDraft {
                 on,
                 short: _,
             },
+            spare: _,
         } = self;
         on
     }

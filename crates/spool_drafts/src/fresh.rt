@@ -1,5 +1,5 @@
 // Where transcoding stands.
-ghost use Rattle.std.specs.Prelude.{◌≡◌, ◌++◌, ℕ, false, List, IfOk, IsErrOf, IsOk};
+ghost use Rattle.std.specs.Prelude.{◌≡◌, ◌++◌, ℕ, false, List, [], IfOk, IsErrOf, IsOk};
 ghost use Rattle.upload_rules.specs.Store.{Upload, is_complete};
 ghost use Rattle.upload_rules.specs.States.{IsState, SameEncodings};
 ghost use Rattle.upload_rules.specs.Texts.{GoesOn, IsGrowing};
@@ -10,13 +10,15 @@ use enc_index::IndexSet;
 use std::alloc::{AllocError, Global};
 use upload_rules::{NewText, UploadError, UploadRefusal};
 
-/// Where transcoding stands behind a piece more, and what the piece adds to the text.
+/// Where transcoding stands behind a piece more, and what the piece adds to the text, in the memory that is given.
 pub(crate) fn read_on(
     alloc: Global,
+    room: Vec<u8>,
     fresh: &NewText,
     indexes: &IndexSet,
     piece: &[u8],
 ) -> Result<(NewText, Vec<u8>), AllocError>
+    requires { room.items ≡ [] }
     ensures stands { (u : Upload) (bytes : List ℕ) → is_complete u ≡ false → StandsAt indexes.now u bytes fresh.now
         → IfOk result (λ read. StandsAt indexes.now u (bytes ++ piece.now) read.0) }
     ensures adds { (u : Upload) (bytes : List ℕ) → is_complete u ≡ false → StandsAt indexes.now u bytes fresh.now
@@ -24,7 +26,7 @@ pub(crate) fn read_on(
     ensures goes_on { (state : List ℕ) → GoesOn state fresh.now → IfOk result (λ read. GoesOn state read.0) }
     ensures growing { IfOk result (λ read. IsGrowing read.0 → IsGrowing fresh.now) }
 {
-    let (next, outcome) = without_text(alloc, fresh).with(indexes, piece);
+    let (next, outcome) = without_text(room, fresh).with(indexes, piece);
     outcome?;
     Ok(split(alloc, next))
 }
@@ -44,11 +46,12 @@ pub(crate) fn finished(
     ensures no_device { IsErrOf result UploadError.DiskFault → ⊥ }
     ensures refusal { (e : Refusal) → IsErrOf result (UploadError.Refused e) → e ≡ UploadRefusal.Unencodable }
 {
-    without_text(alloc, fresh).ended(indexes, completes)
+    without_text(Vec::new(alloc), fresh).ended(indexes, completes)
 }
 
-// The same without text.
-fn without_text(alloc: Global, fresh: &NewText) -> NewText
+// The same without text, with memory for one.
+fn without_text(room: Vec<u8>, fresh: &NewText) -> NewText
+    requires { room.items ≡ [] }
     ensures { IsEmptied fresh.now result }
 {
     match fresh {
@@ -57,7 +60,7 @@ fn without_text(alloc: Global, fresh: &NewText) -> NewText
             text: _,
         } => NewText::Growing {
             transcoder: transcoder.copy(),
-            text: Vec::new(alloc),
+            text: room,
         },
         NewText::Unencodable => NewText::Unencodable,
         NewText::Complete => NewText::Complete,

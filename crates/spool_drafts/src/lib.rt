@@ -8,6 +8,7 @@ mod draft;
 mod fresh;
 mod growth;
 mod laws;
+mod spare;
 
 pub use draft::{DraftEnd, SpoolDraft};
 pub use laws::kept_drafts;
