@@ -102,6 +102,7 @@ module _ (x : IndexSet) (u : Upload) (n count : ℕ) (declare : Option ℕ) wher
         declare = declare;
         fresh = fresh;
         growth = growth;
+        spare = tt;
       })
   begins r offset growth fresh keeps room small held len none roomy =
       let committed : growth.text_len ≡ length (text_of x u) = len ∙ keeps.tells.text_len in

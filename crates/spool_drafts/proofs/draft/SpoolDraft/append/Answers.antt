@@ -1,4 +1,4 @@
-use Rattle.std.proofs.Common.{◌≡◌, ◌+◌, ◌*◌, ◌++◌, ℕ, List, [], false, length, inl, inr, refl, sym, ◌∙◌, ap, subst}
+use Rattle.std.proofs.Common.{rules, ◌≡◌, ◌+◌, ◌*◌, ◌++◌, ℕ, List, [], false, length, inl, inr, refl, sym, ◌∙◌, ap, subst}
 use Rattle.std.proofs.lemmas.Bool.{cases_Bool, both_ways}
 use Rattle.spool_journal.specs.Image.{journal_pages}
 use Rattle.spool_drafts.specs.Drafts.{IsBehind, IsLonger, with_piece, list_of, open_text}
@@ -62,6 +62,26 @@ returns-in-Unencodable-clause-content g c p honest held fits carries kept =
     let stands = subst (StandsAt x p.began (p.body ++ piece)) c.in-Unencodable.is
     (c.in-Ok.ensures.stands p.began p.body (incomplete x p d held piece fits some) held.stands) in
     absurd (no_value x p d held piece fits stands kept.encodable)
+
+pub returns-in_err-put : goal.returns-in_err-put
+returns-in_err-put g c = record {
+  size = search rules;
+  honest = search rules;
+  counts = search rules;
+  no_refusal = search rules;
+  nothing = search rules;
+  same = search rules;
+  behind = search rules;
+  placed = search rules;
+  rows = search rules;
+  reserved = search rules;
+  effect = search rules;
+  answer = search rules;
+  content = search rules;
+  memory = search rules;
+  holds_on = search rules;
+  content_on = search rules;
+}
 
 pub returns-clause-behind : goal.returns-clause-behind
 returns-clause-behind g c len state is =
