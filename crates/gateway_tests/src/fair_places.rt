@@ -73,7 +73,7 @@ impl OpenStream for Guest<'_> {
 #[derive(Drop)]
 struct Guests<'a> {
     left: Cell<u32>,
-    first: (&'a [u8], &'a [u8], bool),
+    first: First<'a>,
     others: &'a Cell<usize>,
     told: &'a Cell<usize>,
 }
@@ -106,8 +106,11 @@ impl<'a> OpenListener for Guests<'a> {
     }
 }
 
-/// Whether the last client is told something in so many turns of ten milliseconds.
-fn is_told(rt: &impl Abort, alloc: Global, first: (&[u8], &[u8], bool), turns: u64) -> bool {
+/// What the first client says, goes on to say and whether it reads.
+type First<'a> = (&'a [u8], &'a [u8], bool);
+
+/// Whether the last client is told something in so many turns of so many microseconds.
+fn is_told(rt: &impl Abort, alloc: Global, first: First, step: u64, turns: u64) -> bool {
     let told = Cell::new(0);
     let others = Cell::new(0);
     let guests = Guests {
@@ -116,7 +119,7 @@ fn is_told(rt: &impl Abort, alloc: Global, first: (&[u8], &[u8], bool), turns: u
         others: &others,
         told: &told,
     };
-    let clock = Steps::new(10_000);
+    let clock = Steps::new(step);
     let gateway = opened(rt, alloc, fresh(rt, alloc, 64, None));
     let Outcome {
         gateway,
@@ -129,39 +132,40 @@ fn is_told(rt: &impl Abort, alloc: Global, first: (&[u8], &[u8], bool), turns: u
     told.get() > 0
 }
 
-/// What the first client says, goes on to say and whether it reads; after so many turns the last one has no place yet,
-/// and after so many more it is told.
-const KEEPERS: [(&[u8], &[u8], bool, u64, u64); 8] = [
+const MILLIS: u64 = 1000;
+
+/// What the first client does, and how many microseconds a turn takes; after so many turns the last one has no place
+/// yet, and after so many more it is told.
+const KEEPERS: [(First, u64, u64, u64); 8] = [
     // between requests
-    (OPTIONS, b"", true, 17, 3),
+    ((OPTIONS, b"", true), 10 * MILLIS, 17, 3),
     // it asks again and again: ten seconds
-    (OPTIONS, OPTIONS, true, 1000, 10),
+    ((OPTIONS, OPTIONS, true), 10 * MILLIS, 1000, 10),
     // a head that isn't whole: ten seconds
-    (HALF_A_HEAD, b"", true, 1000, 10),
-    (HALF_A_HEAD, b"a", true, 1000, 10),
+    ((HALF_A_HEAD, b"", true), 100 * MILLIS, 100, 10),
+    ((HALF_A_HEAD, b"a", true), 100 * MILLIS, 100, 10),
     // a body that brings nothing, a byte at a time, or nothing after it was told to go on: ten seconds
-    (BODY, b"", true, 1000, 10),
-    (BODY, b"a", true, 1000, 10),
-    (EXPECTS, b"", true, 1000, 10),
+    ((BODY, b"", true), 100 * MILLIS, 100, 10),
+    ((BODY, b"a", true), 100 * MILLIS, 100, 10),
+    ((EXPECTS, b"", true), 100 * MILLIS, 100, 10),
     // a reply that isn't read: a minute
-    (OPTIONS, b"", false, 6000, 20),
+    ((OPTIONS, b"", false), 100 * MILLIS, 600, 20),
 ];
 
 #[test]
 fn one_that_waits_gets_the_place_of_one_that_keeps_its_own(rt: HostRuntime) {
-    for (says, goes_on, reads, turns, more) in KEEPERS {
-        let first = (says, goes_on, reads);
-        assert!(rt; !is_told(&rt, rt.alloc(), first, turns), "{turns}");
+    for (first, step, turns, more) in KEEPERS {
+        assert!(rt; !is_told(&rt, rt.alloc(), first, step, turns), "{turns}");
         assert!(rt;
-            is_told(&rt, rt.alloc(), first, turns.saturating_add(more)),
+            is_told(&rt, rt.alloc(), first, step, turns.saturating_add(more)),
             "{turns}"
         );
     }
 }
 
-/// A body of 6,400 bytes a second keeps its place as long as it lasts.
+/// A body of 5,120 bytes a second keeps its place as long as it lasts.
 #[test]
 fn fast_body_keeps_its_place(rt: HostRuntime) {
-    let first: (&[u8], &[u8], bool) = (BODY, &[b'a'; 128], true);
-    assert!(rt; !is_told(&rt, rt.alloc(), first, 2200));
+    let first: First = (BODY, &[b'a'; 1024], true);
+    assert!(rt; !is_told(&rt, rt.alloc(), first, 100 * MILLIS, 250));
 }
