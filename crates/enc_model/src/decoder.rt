@@ -15,7 +15,7 @@ use crate::{Answer, Restored, Sink};
 const LONG_FRONT: usize = 64;
 
 /// How much of one is given at once: so little that it is still in the nearest cache when the sink copies it.
-const FRONT_STEP: usize = 512;
+const FRONT_STEP: usize = 4096;
 
 /// A decoder's state, and its handler.
 pub trait Decoder {
