@@ -4,7 +4,7 @@ use Rattle.std.proofs.lemmas.List.Sums.{prefix_len-le-length}
 use Rattle.std.proofs.Common.{◌≡◌, drop}
 use Rattle.std.specs.Char.{is_ascii}
 use Rattle.std.specs.List.{prefix_len}
-use Rattle.lane_kernels.proofs.front.ascii_front.Goals as goal
+use Rattle.lane_kernels.proofs.front.short_ascii_front.Goals as goal
 
 pub overflow_add-result : goal.overflow_add-result
 overflow_add-result c =
