@@ -182,6 +182,7 @@ fn text_within(bytes: &[u8], reach: usize) -> &str
 
 /// The text before the place among the first bytes where it seems to end; empty where the guess is wrong. Of a few
 /// bytes it is found by characters.
+#[inline(always)]
 fn text_before_guess(bytes: &[u8]) -> &str
     ensures { result.now ≡ take (length result.now) bytes.now }
 {
