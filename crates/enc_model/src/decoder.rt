@@ -15,7 +15,7 @@ use crate::{Answer, Restored, Sink};
 const LONG_FRONT: usize = 64;
 
 /// How much of one is given at once: so little that it is still in the nearest cache when the sink copies it.
-const FRONT_STEP: usize = 512;
+const FRONT_STEP: usize = 4096;
 
 /// A decoder's state, and its handler.
 pub trait Decoder {
@@ -202,7 +202,8 @@ fn feed_blocks<D: BlockDecoder, S: Sink>(
     Ok(())
 }
 
-/// Gives the sink the long fronts of ASCII that a piece begins with, and says how long they are together.
+/// Gives the sink the long fronts of ASCII that a piece begins with, and one that is all of its rest, and says how long
+/// they are together.
 fn give_fronts<D: BlockDecoder, S: Sink>(
     state: &D,
     tables: &D::Tables,
@@ -221,7 +222,7 @@ fn give_fronts<D: BlockDecoder, S: Sink>(
     while at < piece.len() {
         let rest = &piece[at..];
         let front = next_front(state, tables, rest);
-        if front < LONG_FRONT {
+        if front < LONG_FRONT.min(rest.len()) {
             return Ok(at);
         }
         sink.ascii(&rest[..front])?;

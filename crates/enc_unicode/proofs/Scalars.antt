@@ -1,19 +1,13 @@
 -- The scalars of units in a batch, unit by unit.
-use Rattle.std.proofs.Common.{ℕ, suc, ◌+◌, ◌*◌, ◌<◌, ◌≤◌, ◌≡◌, Bool, true, false, cond, take, List, [], ◌∷◌, ◌++◌}
-use Rattle.std.proofs.Common.{Option, Some, None, All, refl, sym, ◌∙◌, ap, subst, arith, length, length-append, drop}
-use Rattle.std.proofs.Common.{get_or, append_assoc, append-nil, min}
-use Rattle.std.proofs.Math.Seq.{drop-cons, take-append_seam, take-length}
-use Rattle.std.proofs.lemmas.List.{take_all, length-take-le, get_or-take}
-use Rattle.std.proofs.lemmas.List.Sums.{prefix_len-le-length, prefix_len_passes}
+use Rattle.std.proofs.Common.{ℕ, suc, ◌+◌, ◌*◌, ◌<◌, ◌≤◌, ◌≡◌, Bool, true, false, cond, List, [], ◌∷◌, ◌++◌}
+use Rattle.std.proofs.Common.{Option, Some, None, refl, sym, ◌∙◌, ap, arith, length, length-append, drop}
+use Rattle.std.proofs.Common.{get_or, append_assoc, append-nil}
+use Rattle.std.proofs.Math.Seq.{drop-cons}
 use Rattle.std.specs.List.{prefix_len}
-use Rattle.std.specs.Char.{IsScalar, is_ascii}
 use Rattle.std.specs.Bool.{OnTrue}
-use Rattle.enc_model.proofs.Fronts.{front_all}
 use Rattle.std.proofs.lemmas.Bool.{true≢false}
 use Rattle.std.proofs.lemmas.Bool.Decides.{nat_tests}
-use Rattle.std.proofs.lemmas.List.Elements.{All-head, All-tail, All-from_get_or}
-use Rattle.std.specs.Str.{IsUtf8, chars}
-use Rattle.enc_model.proofs.Gathered.{ascii_chars, ascii_utf8}
+use Rattle.std.specs.Str.{chars}
 use Rattle.enc_model.specs.Batches.{BatchTook}
 use Rattle.lane_kernels.specs.Units.{is_lead, is_scalar_unit, is_trail, lead_of}
 use Rattle.lane_kernels.specs.Steps.{scalar_text, scalars_of, unit_scalar}

@@ -15,8 +15,12 @@ use enc_model::{Answer, BLOCK, Batch, Decoder, ROOM, Restored, Sink, decode_each
 use std::convert::Infallible;
 use std::marker::Model;
 
+/// How many bytes of a character may stand at a piece's end without its last.
+const CUT: usize = 3;
+
 /// A decoder of UTF-8 (Encoding Standard, section 8.1.1): how many bytes are still needed, the bounds of the next one,
-/// the code point as far as it is known, and the bytes that it came from.
+/// the code point as far as it is known, and the bytes that it came from. Whether the piece before had faults decides
+/// how a text is looked for at first, and nothing else.
 #[derive(Drop)]
 pub struct Utf8State {
     needed: u8,
@@ -25,6 +29,7 @@ pub struct Utf8State {
     point: u32,
     kept: [u8; 3],
     seen: u8,
+    faulty: bool,
 }
 
 impl Model for Utf8State {
@@ -56,6 +61,7 @@ impl Utf8State {
             point: self.point,
             kept: self.kept,
             seen: self.seen,
+            faulty: self.faulty,
         }
     }
 
@@ -97,6 +103,7 @@ impl Utf8State {
             point,
             kept: [lead, 0, 0],
             seen,
+            faulty: false,
         }
     }
 
@@ -226,7 +233,8 @@ impl Utf8State {
         self.feed_parts(&piece[front..], sink)
     }
 
-    /// Gives the sink the texts that bytes begin with, one window after the other, and says how far they go.
+    /// Gives the sink the texts that bytes begin with, one window after the other, and says how far they go: none where
+    /// faults are to be expected.
     fn give_texts<S: Sink>(&self, bytes: &[u8], sink: &mut S) -> Result<usize, S::Refusal>
         ensures within { IfOk result (λ n. n ≤ length bytes.now) }
         ensures taken { IfOk result
@@ -236,7 +244,7 @@ impl Utf8State {
     {
         let mut at = 0;
         let mut look = Look::first();
-        'by_windows: while at < bytes.len() {
+        'by_windows: while at < bytes.len() && !self.faulty {
             let found = self.text_in_front(&bytes[at..], look);
             if found.is_empty() {
                 break;
@@ -256,18 +264,34 @@ impl Utf8State {
     {
         let mut batch = Batch::new();
         let mut at = 0;
-        let mut look = if self.needed == 0 {
-            Look::AtFault
-        } else {
-            Look::first()
-        };
+        let mut look = self.first_look();
+        let mut faulty = false;
         while at < piece.len() {
             let text = self.text_in_front(&piece[at..], look);
+            faulty = faulty || self.is_fault(text, &piece[at..]);
             let start = at;
             at += self.advance(&piece[at..], text, look, &mut batch, sink)?;
             look = look.after(text.len(), at - start, batch.as_str().len());
         }
+        self.faulty = faulty;
         Ok(())
+    }
+
+    /// Where a text is looked for at first where no more texts were given.
+    fn first_look(&self) -> Look {
+        if self.faulty {
+            Look::Resumed
+        } else if self.needed == 0 {
+            Look::AtFault
+        } else {
+            Look::first()
+        }
+    }
+
+    /// Whether bytes where this text was found seem to begin with a fault: they are more than a character that the
+    /// piece's end cuts.
+    fn is_fault(&self, text: &str, bytes: &[u8]) -> bool {
+        text.is_empty() && self.needed == 0 && CUT < bytes.len()
     }
 
     /// A well-formed text that bytes begin with, empty within a character.

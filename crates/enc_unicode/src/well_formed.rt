@@ -12,7 +12,7 @@ use simdutf8::basic;
 use std::str::from_utf8_unchecked;
 
 /// How many bytes are looked at in one go at first.
-const FIRST: usize = 512;
+const FIRST: usize = 1024;
 
 /// How many bytes are looked at in one go at most.
 const WIDEST: usize = 4096;
@@ -23,8 +23,8 @@ const GUESSED: usize = 1024;
 /// How many bytes a text has at least for faults to be rare.
 const LONG: usize = 48;
 
-/// How many bytes are read from a fault on where faults are rare.
-const FAULT: usize = 4;
+/// How many bytes are read from a fault on at most where faults are rare.
+const FAULT: usize = 8;
 
 /// How many bytes longer the text of a block may be than the block for its faults to be few.
 const FEW: usize = 32;
@@ -34,6 +34,8 @@ const FEW: usize = 32;
 pub enum Look {
     /// In so many bytes, or else up to the first fault in them.
     Within(usize),
+    /// Up to the first fault of a piece, whose piece before had faults.
+    Resumed,
     /// Up to the next fault.
     ToFault,
     /// Not here, where a fault was found.
@@ -60,6 +62,8 @@ impl Look {
                 let reach = reach.min(WIDEST / 2);
                 Look::Within(reach + reach)
             }
+            Look::ToFault | Look::Resumed if GUESSED - 4 <= found => Look::first(),
+            Look::Resumed => Look::AtFault,
             _ if found < LONG => Look::Nowhere,
             _ => Look::AtFault,
         }
@@ -80,8 +84,9 @@ impl Look {
     fn after_block(self, read: usize, written: usize) -> Self
         ensures { IsNarrow self → IsNarrow result }
     {
-        match read {
-            0..4 => self,
+        match (self, read) {
+            (Look::AtFault, _) => Look::ToFault,
+            (_, 0..4) => self,
             _ if written - written.min(read) <= FEW => Look::ToFault,
             _ => Look::Nowhere,
         }
@@ -94,7 +99,7 @@ impl Look {
         ensures few { result ≤ BLOCK }
     {
         match self {
-            Look::AtFault => bytes.len().min(FAULT),
+            Look::AtFault => fault_len(bytes),
             _ => block_len(bytes),
         }
     }
@@ -127,6 +132,26 @@ fn whole(bytes: &[u8]) -> usize
     len
 }
 
+/// Whether a character may begin with a byte.
+#[inline(always)]
+fn begins(byte: u8) -> bool {
+    matches!(byte, 0x00..=0x7F | 0xC2..=0xF4)
+}
+
+/// How many bytes are read from a fault on: the first, and those after it with which no character begins.
+fn fault_len(bytes: &[u8]) -> usize
+    requires { 0 < length bytes.now }
+    ensures some { (0 < result) × (result ≤ length bytes.now) }
+    ensures few { result ≤ BLOCK }
+{
+    let most = FAULT.min(bytes.len());
+    let mut at = 1;
+    'by_bytes: while at < most && !begins(bytes[at]) {
+        at += 1;
+    }
+    at
+}
+
 /// How many bytes a block has at the front of these, so that it cuts no character.
 fn block_len(bytes: &[u8]) -> usize
     requires { 0 < length bytes.now }
@@ -157,6 +182,7 @@ fn text_within(bytes: &[u8], reach: usize) -> &str
 
 /// The text before the place among the first bytes where it seems to end; empty where the guess is wrong. Of a few
 /// bytes it is found by characters.
+#[inline(always)]
 fn text_before_guess(bytes: &[u8]) -> &str
     ensures { result.now ≡ take (length result.now) bytes.now }
 {
@@ -171,20 +197,59 @@ fn text_before_guess(bytes: &[u8]) -> &str
     text_within(bytes, end)
 }
 
+/// The bytes within reach.
+#[inline(always)]
+fn window(bytes: &[u8], reach: usize) -> &[u8]
+    ensures { result.now ≡ take (length result.now) bytes.now }
+{
+    if reach < bytes.len() {
+        &bytes[..reach]
+    } else {
+        bytes
+    }
+}
+
+/// The run of ASCII that bytes begin with.
+#[inline(always)]
+fn ascii_text(bytes: &[u8]) -> &str
+    ensures { result.now ≡ take (length result.now) bytes.now }
+{
+    let len = ascii_front(bytes);
+    unsafe { from_utf8_unchecked(&bytes[..len]) }
+}
+
+/// The text within reach, or that before its first fault.
+fn text_in_reach(bytes: &[u8], reach: usize) -> &str
+    ensures { result.now ≡ take (length result.now) bytes.now }
+{
+    let text = text_within(bytes, reach);
+    if text.is_empty() {
+        text_before_guess(bytes)
+    } else {
+        text
+    }
+}
+
+/// A text that bytes begin with where nothing is known of them: a long run of ASCII, or else the text within reach.
+fn text_at_first(bytes: &[u8]) -> &str
+    ensures { result.now ≡ take (length result.now) bytes.now }
+{
+    let run = ascii_text(window(bytes, WIDEST));
+    if FIRST.min(bytes.len()) <= run.len() {
+        run
+    } else {
+        text_in_reach(bytes, FIRST)
+    }
+}
+
 /// A text that bytes begin with, as far as is looked.
 pub fn text_found(bytes: &[u8], look: Look) -> &str
     ensures { result.now ≡ take (length result.now) bytes.now }
 {
     match look {
-        Look::Within(reach) => {
-            let text = text_within(bytes, reach);
-            if text.is_empty() {
-                text_before_guess(bytes)
-            } else {
-                text
-            }
-        }
-        Look::ToFault => text_before_guess(bytes),
+        Look::Within(FIRST) => text_at_first(bytes),
+        Look::Within(reach) => text_in_reach(bytes, reach),
+        Look::ToFault | Look::Resumed => text_before_guess(bytes),
         Look::AtFault | Look::Nowhere => "",
     }
 }

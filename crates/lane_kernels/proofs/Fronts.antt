@@ -1,12 +1,21 @@
 -- The length of the longest prefix that passes, piece by piece.
 use Rattle.std.proofs.Common.{◌≡◌, ℕ, ◌+◌, ◌-◌, ◌<◌, ◌≤◌, Bool, cond, List, [], ◌∷◌, true, false, inl, inr, length}
-use Rattle.std.proofs.Common.{get_or, drop, refl, ap, ap₂, sym, ◌∙◌, arith}
+use Rattle.std.proofs.Common.{get_or, drop, refl, ap, ap₂, sym, ◌∙◌, arith, leb, not, map}
+use Rattle.std.proofs.lemmas.Bool.Decides.{nat_tests}
 use Rattle.std.proofs.lemmas.Bool.{cases_eq, cases_lt, true≢false, eq-eqb, ne_eqb, cond-true, cond-false}
 use Rattle.std.proofs.lemmas.List.Folds.{prefix_len-append}
-use Rattle.std.proofs.lemmas.Simd.{length-chunk, chunk-drop, get_or-chunk}
+use Rattle.std.proofs.lemmas.Simd.{length-chunk, chunk-drop, get_or-chunk, leading_from_mask_l}
 use Rattle.std.proofs.lemmas.List.Sums.{prefix_len_passes, prefix_len_stops}
 use Rattle.std.specs.List.{prefix_len}
-use Rattle.std.specs.Simd.Lanes.{chunk}
+use Rattle.std.proofs.Common.{◌%◌, ◌^◌, bit_or, replicate, w8}
+use Rattle.std.proofs.lemmas.List.{length-map}
+use lib.Lanes.{zip2, top}
+use mir.Val.{hbits}
+use Rattle.lane_kernels.proofs.Hits.{hit, compared_with}
+use Rattle.lane_kernels.proofs.Hits.{hits_of, joined, joined_hits, joined_long, none_joined, none_hit}
+use Rattle.std.specs.Bool.{OnTrue}
+use Rattle.std.specs.Char.{is_ascii}
+use Rattle.std.specs.Simd.Lanes.{chunk, mask_l}
 
 -- tests that agree have one front
 pub same_front : (p q : ℕ → Bool) → ((x : ℕ) → p x ≡ q x) → (xs : List ℕ) → prefix_len p xs ≡ prefix_len q xs
@@ -62,3 +71,79 @@ chunk_goes_on p at n xs room front whole =
           absurd (true≢false (sym passes ∙ ap p same ∙ prefix_len_stops p xs 0 (omega (arith, short, room))))
       | inr long ↦ long
     ]
+
+-- four chunks after one another that pass whole
+pub chunks_pass : (p : ℕ → Bool) (i : ℕ) (xs : List ℕ) → i + 256 ≤ length xs → prefix_len p (chunk i 64 xs) ≡ 64
+    → prefix_len p (chunk (i + 64) 64 xs) ≡ 64 → prefix_len p (chunk (i + 128) 64 xs) ≡ 64
+    → prefix_len p (chunk (i + 192) 64 xs) ≡ 64 →
+    prefix_len p (drop i xs) ≡ 256 + prefix_len p (drop (i + 256) xs)
+chunks_pass p i xs room a b c d =
+    let on : (j k : ℕ) → j + 64 ≡ k → prefix_len p (drop (j + 64) xs) ≡ prefix_len p (drop k xs) =
+    λ j k e. ap (λ at. prefix_len p (drop at xs)) e in
+    let first = chunk_passes p i 64 xs (omega (arith, room)) a in
+    let second = chunk_passes p (i + 64) 64 xs (omega (arith, room)) b in
+    let third = chunk_passes p (i + 128) 64 xs (omega (arith, room)) c in
+    let fourth = chunk_passes p (i + 192) 64 xs (omega (arith, room)) d in
+    omega (
+      arith,
+      first,
+      second,
+      on (i + 64) (i + 128) (omega arith),
+      third,
+      on (i + 128) (i + 192) (omega arith),
+      fourth,
+      on (i + 192) (i + 256) (omega arith),
+    )
+
+pub none_high : (v : List ℕ) (n : ℕ) → length v ≡ n → mask_l (map (λ x. leb 128 x) v) ≡ 0 → prefix_len is_ascii v ≡ n
+none_high v n long none =
+    sym (same_front (λ x. not (leb 128 x)) is_ascii (λ x. grind (arith, nat_tests)) v)
+    ∙ leading_from_mask_l (λ x. leb 128 x) v none ∙ long
+
+pub on_true : (b : Bool) (P : Type 0) → (b ≡ true → P) → OnTrue b P
+on_true true P f = f refl
+on_true false P f = tt
+
+abbrev at_least : ℕ → ℕ → ℕ
+at_least x y = hit w8 (leb x y)
+
+-- four loads of which no lane is high
+pub four_low : (bytes : List ℕ) (at : ℕ) {a b c d : List ℕ} → at + 256 ≤ length bytes → a ≡ chunk at 64 bytes
+    → b ≡ chunk (at + 64) 64 bytes → c ≡ chunk (at + 128) 64 bytes → d ≡ chunk (at + 192) 64 bytes →
+    mask_l (map (top (hbits w8))
+    (zip2 bit_or (zip2 bit_or (zip2 at_least (replicate 64 128) a) (zip2 at_least (replicate 64 128) b))
+    (zip2 bit_or (zip2 at_least (replicate 64 128) c) (zip2 at_least (replicate 64 128) d)))) % 2 ^ 64 ≡ 0 →
+    prefix_len is_ascii (drop at bytes) ≡ 256 + prefix_len is_ascii (drop (at + 256) bytes)
+four_low bytes at {a = a} {b = b} {c = c} {d = d} room p q r s none =
+    let t : ℕ → Bool = λ x. leb 128 x in
+    let high : ℕ → List Bool = λ i. map t (chunk i 64 bytes) in
+    let long : (i : ℕ) → i + 64 ≤ length bytes → length (high i) ≡ 64 =
+    λ i inside. length-map (chunk i 64 bytes) t ∙ length-chunk i 64 bytes inside in
+    let hits : (i : ℕ) (v : List ℕ) → i + 64 ≤ length bytes → v ≡ chunk i 64 bytes
+    → zip2 at_least (replicate 64 128) v ≡ map (hit w8) (high i) =
+    λ i v inside e. ap (zip2 at_least (replicate 64 128)) e
+    ∙ compared_with w8 leb (chunk i 64 bytes) 64 128 (length-chunk i 64 bytes inside) ∙ hits_of t (chunk i 64 bytes) in
+    let ia : at + 64 ≤ length bytes = omega (arith, room) in
+    let ib : (at + 64) + 64 ≤ length bytes = omega (arith, room) in
+    let ic : (at + 128) + 64 ≤ length bytes = omega (arith, room) in
+    let id : (at + 192) + 64 ≤ length bytes = omega (arith, room) in
+    let lab = joined_long (high at) (high (at + 64)) 64 (long at ia) (long (at + 64) ib) in
+    let lcd = joined_long (high (at + 128)) (high (at + 192)) 64 (long (at + 128) ic) (long (at + 192) id) in
+    let ab = joined_hits (high at) (high (at + 64)) (hits at a ia p) (hits (at + 64) b ib q) in
+    let cd = joined_hits (high (at + 128)) (high (at + 192)) (hits (at + 128) c ic r) (hits (at + 192) d id s) in
+    let one = joined (high at) (high (at + 64)) in
+    let other = joined (high (at + 128)) (high (at + 192)) in
+    let few : length (joined one other) ≤ 64 = omega (arith, joined_long one other 64 lab lcd) in
+    let halves = none_joined one other (lab ∙ sym lcd)
+    (none_hit (joined one other) few (joined_hits one other ab cd) none) in
+    let first = none_joined (high at) (high (at + 64)) (long at ia ∙ sym (long (at + 64) ib)) halves.0 in
+    let same = long (at + 128) ic ∙ sym (long (at + 192) id) in
+    let second = none_joined (high (at + 128)) (high (at + 192)) same halves.1 in
+    let low : (i : ℕ) → i + 64 ≤ length bytes → mask_l (high i) ≡ 0 → prefix_len is_ascii (chunk i 64 bytes) ≡ 64 =
+    λ i inside e. none_high (chunk i 64 bytes) 64 (length-chunk i 64 bytes inside) e in
+    chunks_pass is_ascii at bytes room (low at ia first.0) (low (at + 64) ib first.1) (low (at + 128) ic second.0)
+    (low (at + 192) id second.1)
+
+pub on_true_at : (b : Bool) (P : Type 0) → b ≡ true → OnTrue b P → P
+on_true_at true P e p = p
+on_true_at false P e p = absurd (true≢false (sym e))

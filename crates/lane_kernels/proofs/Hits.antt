@@ -1,6 +1,6 @@
 -- What a bitmask says of the lanes that were tested.
 use Rattle.std.proofs.Common.{◌≡◌, ℕ, ◌-◌, ◌%◌, ◌^◌, ◌≤◌, Bool, true, false, not, ◌||◌, cond, List, [], ◌∷◌, map}
-use Rattle.std.proofs.Common.{length, replicate, refl, ap, ap₂, ◌∙◌, ◌&&◌, arith, bit_or, bit_and}
+use Rattle.std.proofs.Common.{length, replicate, refl, ap, ap₂, sym, ◌∙◌, ◌&&◌, arith, bit_or, bit_and}
 use Rattle.std.proofs.lemmas.Simd.{mask_l-mod, first_set_mask_l, zip2_splat, zip2_splat_left, zip2_of_maps}
 use Rattle.std.proofs.lemmas.List.{length-map}
 use Rattle.std.specs.List.{prefix_len}
@@ -86,3 +86,49 @@ pub both_hit : (t u : ℕ → Bool) (v : List ℕ) {a b : List ℕ} → a ≡ ma
     → b ≡ map (λ x. hit w16 (u x)) v →
     zip2 bit_and a b ≡ map (λ x. hit w16 (t x && u x)) v
 both_hit t u v p q = zip2_of_maps bit_and (λ x. hit w16 (t x)) (λ x. hit w16 (u x)) v p q ∙ and_hits t u v
+
+tops_of : (w : Width) (ms : List Bool) → map (top (hbits w)) (map (hit w) ms) ≡ ms
+tops_of w [] = refl
+tops_of w (m ∷ ms) = ap₂ (λ b bs. b ∷ bs) (top_hit w m) (tops_of w ms)
+
+pub hits_of : (t : ℕ → Bool) (v : List ℕ) → map (λ x. hit w8 (t x)) v ≡ map (hit w8) (map t v)
+hits_of t [] = refl
+hits_of t (x ∷ v) = ap (λ ys. hit w8 (t x) ∷ ys) (hits_of t v)
+
+-- lanes that were hit in the one or the other
+abbrev pub joined : List Bool → List Bool → List Bool
+joined ms ns = zip2 (λ a b. a || b) ms ns
+
+joined_each : (ms ns : List Bool) → zip2 bit_or (map (hit w8) ms) (map (hit w8) ns) ≡ map (hit w8) (joined ms ns)
+joined_each [] ns = refl
+joined_each (m ∷ ms) [] = refl
+joined_each (m ∷ ms) (n ∷ ns) = ap₂ (λ x xs. x ∷ xs) (or_hit m n) (joined_each ms ns)
+
+pub joined_hits : (ms ns : List Bool) {y z : List ℕ} → y ≡ map (hit w8) ms → z ≡ map (hit w8) ns
+    → zip2 bit_or y z ≡ map (hit w8) (joined ms ns)
+joined_hits ms ns p q = ap₂ (zip2 bit_or) p q ∙ joined_each ms ns
+
+pub joined_long : (ms ns : List Bool) (k : ℕ) → length ms ≡ k → length ns ≡ k → length (joined ms ns) ≡ k
+joined_long [] ns k p q = p
+joined_long (m ∷ ms) [] k p q = absurd (omega (arith, p, q))
+joined_long (m ∷ ms) (n ∷ ns) k p q =
+    let rest = joined_long ms ns (k - 1) (omega (arith, p)) (omega (arith, q)) in
+    omega (arith, rest, p)
+
+-- where none of both was hit, none of either was
+pub none_joined : (ms ns : List Bool) → length ms ≡ length ns → mask_l (joined ms ns) ≡ 0
+    → (mask_l ms ≡ 0) × (mask_l ns ≡ 0)
+none_joined [] [] same e = (refl, refl)
+none_joined [] (n ∷ ns) same e = absurd (omega (arith, same))
+none_joined (m ∷ ms) [] same e = absurd (omega (arith, same))
+none_joined (true ∷ ms) (n ∷ ns) same e = absurd (omega (arith, e))
+none_joined (false ∷ ms) (true ∷ ns) same e = absurd (omega (arith, e))
+none_joined (false ∷ ms) (false ∷ ns) same e =
+    let p = none_joined ms ns (omega (arith, same)) (omega (arith, e)) in
+    (omega (arith, p.0), omega (arith, p.1))
+
+-- an empty bitmask of lanes
+pub none_hit : (ms : List Bool) {z : List ℕ} → length ms ≤ 64 → z ≡ map (hit w8) ms
+    → mask_l (map (top (hbits w8)) z) % 2 ^ 64 ≡ 0 → mask_l ms ≡ 0
+none_hit ms few is e =
+    sym (mask_l-mod ms 64 few) ∙ sym (ap (λ l. mask_l l % 2 ^ 64) (ap (map (top (hbits w8))) is ∙ tops_of w8 ms)) ∙ e

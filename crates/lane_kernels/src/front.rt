@@ -6,7 +6,7 @@ ghost use Rattle.std.specs.Char.{is_ascii};
 ghost use Rattle.enc_model.specs.Index.{within};
 ghost use Rattle.lane_kernels.specs.Front.{is_plain_2022};
 
-use crate::lanes::{Ascii, Class, LANES, Plain2022, Range, WIDE, wide_ascii};
+use crate::lanes::{Ascii, Class, LANES, Plain2022, Range, WIDE, WIDEST, are_ascii, wide_ascii};
 
 /// The front of the bytes, one byte at a time.
 fn front_by_bytes<C: Class>(class: &C, bytes: &[u8]) -> usize
@@ -47,12 +47,34 @@ fn skip_ascii(bytes: &[u8]) -> usize
     at
 }
 
-/// How many bytes are below 80 before the first that isn't.
-pub fn ascii_front(bytes: &[u8]) -> usize
+/// The same as far as still more lanes at a time show it.
+#[inline(always)]
+fn skip_long_ascii(bytes: &[u8]) -> usize
+    ensures within { result ≤ length bytes.now }
+    ensures passed { prefix_len is_ascii bytes.now ≡ result + prefix_len is_ascii (drop result bytes.now) }
+{
+    let mut at = 0;
+    'by_runs: while bytes.len() - at >= WIDEST && are_ascii(bytes, at) {
+        at += WIDEST;
+    }
+    at
+}
+
+/// How many bytes are below 80 before the first that isn't, where no long run begins.
+#[inline(always)]
+fn short_ascii_front(bytes: &[u8]) -> usize
     ensures { result ≡ prefix_len is_ascii bytes.now }
 {
     let skipped = skip_ascii(bytes);
     skipped + front(&Ascii, &bytes[skipped..])
+}
+
+/// How many bytes are below 80 before the first that isn't.
+pub fn ascii_front(bytes: &[u8]) -> usize
+    ensures { result ≡ prefix_len is_ascii bytes.now }
+{
+    let skipped = skip_long_ascii(bytes);
+    skipped + short_ascii_front(&bytes[skipped..])
 }
 
 /// How many bytes are below 80 and none of 0E, 0F and 1B before the first that isn't so.

@@ -1,6 +1,7 @@
 //! How many lanes of one load, from the first, are of a class of bytes.
 
-ghost use Rattle.std.specs.Prelude.{◌≡◌, ℕ, Bool, ◌+◌, ◌≤◌, length};
+ghost use Rattle.std.specs.Prelude.{◌≡◌, ℕ, Bool, ◌+◌, ◌≤◌, length, drop};
+ghost use Rattle.std.specs.Bool.{OnTrue};
 ghost use Rattle.std.specs.Simd.Lanes.{chunk};
 ghost use Rattle.std.specs.List.{prefix_len};
 ghost use Rattle.std.specs.Char.{is_ascii};
@@ -14,6 +15,9 @@ pub(crate) const LANES: usize = 32;
 
 /// How many bytes are loaded at a time where ASCII is skipped.
 pub(crate) const WIDE: usize = 64;
+
+/// How many bytes are looked at in one go where a long run of ASCII is skipped.
+pub(crate) const WIDEST: usize = 4 * WIDE;
 
 /// The place of the lowest bit that is set, or that of the last lane's end where none is.
 #[inline(always)]
@@ -68,6 +72,30 @@ pub(crate) fn wide_ascii(bytes: &[u8], at: usize) -> usize
 {
     let lanes = u8x64::from_slice(&bytes[at..]);
     first_set(lanes.simd_ge(u8x64::splat(0x80)).to_bitmask(), WIDE)
+}
+
+/// The many lanes at a place.
+#[inline(always)]
+fn wide_lanes(bytes: &[u8], at: usize) -> u8x64
+    requires { at + WIDE ≤ length bytes.now }
+    ensures { result ≡ chunk at WIDE bytes.now }
+{
+    u8x64::from_slice(&bytes[at..])
+}
+
+/// Whether the lanes of four loads after one another, from a place on, are all below 80.
+#[inline(always)]
+pub(crate) fn are_ascii(bytes: &[u8], at: usize) -> bool
+    requires { at + WIDEST ≤ length bytes.now }
+    ensures { OnTrue result
+        (prefix_len is_ascii (drop at bytes.now) ≡ 256 + prefix_len is_ascii (drop (at + 256) bytes.now)) }
+{
+    let limit = u8x64::splat(0x80);
+    let first = wide_lanes(bytes, at).simd_ge(limit);
+    let second = wide_lanes(bytes, at + WIDE).simd_ge(limit);
+    let third = wide_lanes(bytes, at + 2 * WIDE).simd_ge(limit);
+    let fourth = wide_lanes(bytes, at + 3 * WIDE).simd_ge(limit);
+    ((first | second) | (third | fourth)).to_bitmask() == 0
 }
 
 /// The bytes below 80 but for 0E, 0F and 1B.
