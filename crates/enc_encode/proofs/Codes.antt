@@ -1,6 +1,7 @@
 -- What an encoder gives for one character is written in the end, since its state takes the reference's characters as
 -- they are.
-use Rattle.std.proofs.Common.{ℕ, ◌<◌, ◌≤◌, ◌≡◌, false, List, [], ◌∷◌, Option, Some, None, refl, sym, ◌∙◌, ap, arith}
+use Rattle.std.proofs.Common.{ℕ, ◌<◌, ◌≤◌, ◌≡◌, true, false, List, [], ◌∷◌, Option, Some, None, refl, sym, ◌∙◌, ap}
+use Rattle.std.proofs.Common.{arith}
 use Rattle.std.proofs.Common.{append_assoc, append-nil, ◌⊎◌, inl, inr}
 use Rattle.std.specs.Str.{IsUtf8, chars}
 use Rattle.std.proofs.lemmas.Str.{encodes-chars}
@@ -24,6 +25,7 @@ use Rattle.enc_encode.specs.declared.written.Bytes.{Bytes}
 use Rattle.enc_encode.specs.declared.written.Written.{Written as CodeWritten}
 use Rattle.enc_encode.specs.declared.written.Written.TheVariants as code
 use Rattle.enc_encode.specs.Code.{final, written_of}
+use Rattle.enc_encode.specs.Held.{own_byte}
 
 -- the encoder writes it as it is from here
 abbrev StandsFor : Encoder → Shift → ℕ → Type 0
@@ -176,12 +178,12 @@ ascii_stands t encodings.EucJp s x n l = grind (arith, nat_tests)
 ascii_stands t encodings.Iso2022Jp s x n l = absurd (n refl)
 ascii_stands t e s x n l = grind (arith, nat_tests)
 
-own_stands : (f : Encoder) (mode : Mode) (s : Shift) (x : ℕ) → StandsFor f s x → code_of f mode s x ≡ record {
+stands_code : (f : Encoder) (mode : Mode) (s : Shift) (x : ℕ) → StandsFor f s x → code_of f mode s x ≡ record {
   bytes = x ∷ [];
   state = s;
   fault = None;
 }
-own_stands f mode s x e = rw e refl
+stands_code f mode s x e = rw e refl
 
 ascii_run : (f : Encoder) (mode : Mode) (s : Shift) (xs : List ℕ) → ((x : ℕ) → x < 128 → StandsFor f s x)
     → All (λ b. b < 128) xs →
@@ -189,7 +191,7 @@ ascii_run : (f : Encoder) (mode : Mode) (s : Shift) (xs : List ℕ) → ((x : �
 ascii_run f mode s [] each a = refl
 ascii_run f mode s (x ∷ xs) each a =
     rw (
-      own_stands f mode s x (each x (All-head (λ b. b < 128) x xs a)),
+      stands_code f mode s x (each x (All-head (λ b. b < 128) x xs a)),
       ascii_run f mode s xs each
           (All-tail (λ b. b < 128) x xs a),
     ) refl
@@ -201,6 +203,36 @@ pub ascii_code : (t : Tables) (e : Encoding) (mode : Mode) (s : Shift) (xs : Lis
 ascii_code t e mode s xs n a =
     coded_is (encoder t e) (encoder_steady t e) mode s xs ∙ ascii_run (encoder t e) mode s xs
     (λ x l. ascii_stands t e s x n l) a
+
+-- A RUN OF ASCII THAT STANDS FOR ITSELF
+
+own_stands : (t : Tables) (e : Encoding) (s : Shift) (x : ℕ) → own_byte e s x ≡ true → StandsFor (encoder t e) s x
+unfolding shift_jis_encoder euc_jp_encoder single_encoder iso2022_encoder
+own_stands t encodings.Iso2022Jp InAscii x h = grind (arith, nat_tests, h)
+own_stands t encodings.Iso2022Jp InRoman x h = absurd cc
+own_stands t encodings.Iso2022Jp InJis x h = absurd cc
+own_stands t encodings.Utf8 s x h = grind (arith, nat_tests, h)
+own_stands t encodings.Utf16Be s x h = grind (arith, nat_tests, h)
+own_stands t encodings.Utf16Le s x h = grind (arith, nat_tests, h)
+own_stands t encodings.ShiftJis s x h = grind (arith, nat_tests, h)
+own_stands t encodings.EucJp s x h = grind (arith, nat_tests, h)
+own_stands t e s x h = grind (arith, nat_tests, h)
+
+own_run : (t : Tables) (e : Encoding) (mode : Mode) (s : Shift) (xs : List ℕ)
+    → All (λ x. own_byte e s x ≡ true) xs →
+    all_codes (code_of (encoder t e) mode) s xs ≡ record { bytes = xs; state = s; fault = None }
+own_run t e mode s [] a = refl
+own_run t e mode s (x ∷ xs) a =
+    let own = λ (x : ℕ). own_byte e s x ≡ true in
+    rw (
+      stands_code (encoder t e) mode s x (own_stands t e s x (All-head own x xs a)),
+      own_run t e mode s xs (All-tail own x xs a),
+    ) refl
+
+pub own_code : (t : Tables) (e : Encoding) (mode : Mode) (s : Shift) (xs : List ℕ)
+    → All (λ x. own_byte e s x ≡ true) xs →
+    coded (encoder t e) mode s xs ≡ record { bytes = xs; state = s; fault = None }
+own_code t e mode s xs a = coded_is (encoder t e) (encoder_steady t e) mode s xs ∙ own_run t e mode s xs a
 
 -- A TEXT IN UTF-8
 

@@ -1,62 +1,82 @@
 -- The code of a text, front by front.
 use Rattle.std.proofs.Common.{ℕ, zero, suc, ◌≡◌, ◌<◌, ◌≤◌, ◌==◌, true, None, List, [], ◌∷◌, ◌++◌, refl, sym, ◌∙◌, ap}
 use Rattle.std.proofs.Common.{subst, arith, take, drop, length, get_or, Vec, Result, Ok, Err, length-append}
-use Rattle.std.proofs.Common.{append_assoc, append-nil, take-append-drop}
+use Rattle.std.proofs.Common.{append_assoc, append-nil, take-append-drop, ◌⊎◌, inl, inr}
 use Rattle.std.proofs.lemmas.Bool.Decides.{nat_tests}
 use Rattle.std.proofs.lemmas.List.{length-take, get_or-take}
 use Rattle.std.proofs.Math.Seq.{take-append_seam, drop-append_seam}
 use Rattle.std.proofs.lemmas.List.Sums.{prefix_len-le-length, prefix_len_passes}
-use Rattle.std.proofs.lemmas.List.Elements.{All-from_get_or}
+use Rattle.std.proofs.lemmas.List.Elements.{All-from_get_or, All-weaker}
 use Rattle.std.proofs.lemmas.Str.{IsUtf8-nil, IsUtf8-append, IsUtf8-drop, IsCharBoundary-from_take, chars-nil}
 use Rattle.std.proofs.lemmas.Str.{chars-append}
 use Rattle.std.specs.List.{prefix_len}
+use Rattle.std.specs.Prelude.{All, false}
 use Rattle.std.specs.Char.{is_ascii}
 use Rattle.std.specs.Str.{IsUtf8, IsCharBoundary, chars}
 use Rattle.std.specs.Array.{IsFirstChunk}
 use lib.Utf8.{encode}
 use Rattle.enc_model.specs.declared.Encoding.{Encoding}
 use Rattle.enc_model.specs.declared.Encoding.TheVariants.{Iso2022Jp}
-use Rattle.enc_model.specs.Encode.{Tables, coded, encoder}
+use Rattle.enc_model.specs.Encode.{Tables, Shift, InAscii, InRoman, InJis, coded, encoder}
 use Rattle.enc_model.proofs.Gathered.{ascii_chars, ascii_utf8}
 use Rattle.enc_encode.specs.declared.error.EncodeError.{EncodeError}
 use Rattle.enc_encode.specs.declared.shift.ShiftState.{ShiftState}
-use Rattle.enc_encode.specs.Held.{Passed, Kept, HeldFront, IsOwnFront}
+use Rattle.enc_encode.specs.declared.shift.ShiftState.TheVariants.{Roman, Jis}
+use Rattle.enc_encode.specs.Held.{Passed, Kept, HeldFront, IsOwnFront, own_byte}
 use Rattle.enc_encode.specs.Reasons.{Gave}
 use Rattle.enc_encode.specs.State.{shift_of, shifted, EncoderState, code_from}
-use Rattle.enc_encode.proofs.Codes.{ascii_code}
-use Rattle.enc_encode.specs.Singles.{AreSingles, SingleFront}
+use Rattle.enc_encode.proofs.Codes.{own_code}
+use Rattle.enc_encode.specs.Runs.{RunFront, Stays}
 use Rattle.enc_encode.proofs.Helds.{all_held, held_more, kept_given, kept_then, kept_error, nothing_appended}
-use Rattle.enc_encode.proofs.Singles.{char_own, char_one, singles_code}
+use Rattle.enc_encode.proofs.RunFronts.{char_own, char_one, run_code}
 use Rattle.enc_encode.proofs.Runs.{gave_nothing, gave_stop}
 
 -- LANES
 
-some_ascii : (lanes : List ℕ) → 0 < length lanes → get_or lanes 0 0 < 128 → 0 < prefix_len is_ascii lanes
-some_ascii [] l a = absurd (omega (arith, l))
-some_ascii (b ∷ lanes) l a = let t : is_ascii b ≡ true = grind (arith, nat_tests, a) in rw t (omega arith)
+pub own_other : (to : Encoding) (s : Shift) → (to ≡ Iso2022Jp → ⊥) → own_byte to s ≡ is_ascii
+own_other Iso2022Jp s n = absurd (n refl)
+own_other to s n = refl
 
-pub own_lanes : (to : Encoding) (text lanes : List ℕ) (n : ℕ) → IsFirstChunk text lanes 32 → get_or lanes 0 0 < 128
-    → n ≡ prefix_len is_ascii lanes → (to ≡ Iso2022Jp → ⊥) →
-    IsOwnFront to text lanes n
-own_lanes to text lanes n chunk a e other =
+own_none : (lanes : List ℕ) → prefix_len (λ (b : ℕ). false) lanes ≡ 0
+own_none [] = refl
+own_none (b ∷ lanes) = refl
+
+pub own_switched : (to : Encoding) (s : ShiftState) (lanes : List ℕ) → to ≡ Iso2022Jp → (s ≡ Roman) ⊎ (s ≡ Jis)
+    → 0 ≡ prefix_len (own_byte to (shift_of s)) lanes
+own_switched to s lanes e (inl h) = rw (e, h) (sym (own_none lanes))
+own_switched to s lanes e (inr h) = rw (e, h) (sym (own_none lanes))
+
+own_ascii : (to : Encoding) (s : Shift) (b : ℕ) → own_byte to s b ≡ true → b < 128
+own_ascii Iso2022Jp InAscii b e = grind (arith, nat_tests, e)
+own_ascii Iso2022Jp InRoman b e = absurd cc
+own_ascii Iso2022Jp InJis b e = absurd cc
+own_ascii to s b e = grind (arith, nat_tests, e)
+
+pub own_chunk : (to : Encoding) (s : Shift) (text lanes : List ℕ) (n : ℕ) → IsFirstChunk text lanes 32
+    → n ≡ prefix_len (own_byte to s) lanes → 0 < n → IsOwnFront to s text lanes n
+own_chunk to s text lanes n chunk e some =
+    let own = own_byte to s in
     let enough = chunk.enough in
     let long : length lanes ≡ 32 = let t = length-take 32 text in let l : length lanes ≡ length (take 32 text) =
     ap length chunk.same in omega (arith, t, l, enough) in
-    let few : n ≤ 32 = let p = prefix_len-le-length is_ascii lanes in omega (arith, p, long, e) in
+    let few : n ≤ 32 = let p = prefix_len-le-length own lanes in omega (arith, p, long, e) in
     record {
       lanes_are = chunk.same;
-      some = subst (λ z. 0 < z) (sym e) (some_ascii lanes (omega (arith, long)) a);
+      some = some;
       few = few;
       long = enough;
-      ascii = All-from_get_or (λ b. b < 128) (take n text) 0 (λ k l.
+      own = All-from_get_or (λ b. own b ≡ true) (take n text) 0 (λ k l.
           let m : k < n = let t = length-take n text in omega (arith, l, t) in
-          let p = prefix_len_passes is_ascii lanes k 0 (subst (λ z. k < z) e m) in
-          let q : get_or lanes k 0 < 128 = grind (arith, nat_tests, p) in
+          let p = prefix_len_passes own lanes k 0 (subst (λ z. k < z) e m) in
           let same : get_or lanes k 0 ≡ get_or text k 0 =
           ap (λ z. get_or z k 0) chunk.same ∙ get_or-take 32 text k 0 (omega (arith, m, few)) in
-          subst (λ b. b < 128) (sym (get_or-take n text k 0 m)) (subst (λ b. b < 128) same q));
-      own = other;
+          subst (λ b. own b ≡ true) (sym (get_or-take n text k 0 m)) (subst (λ b. own b ≡ true) same p));
     }
+
+front_ascii : (to : Encoding) (s : Shift) (text lanes : List ℕ) (n : ℕ) → IsOwnFront to s text lanes n
+    → All (λ b. b < 128) (take n text)
+front_ascii to s text lanes n p =
+    All-weaker (λ b. own_byte to s b ≡ true) (λ b. b < 128) (λ b e. own_ascii to s b e) (take n text) p.own
 
 take_of_take : (n m : ℕ) (xs : List ℕ) → n ≤ m → take n (take m xs) ≡ take n xs
 take_of_take zero m xs l = refl
@@ -71,21 +91,23 @@ module _ (t : Tables) (e : EncoderState) {Z : Type 0} where
   -- ASCII that stands for itself
   pub ascii_held : (to : Encoding) (text lanes : List ℕ) (n : ℕ) (s : ShiftState) (old : Vec ℕ Z) (held : List ℕ)
       (new : Vec ℕ Z) (mid kept : List ℕ) → to ≡ e.to →
-      IsOwnFront to text lanes n → Passed old held [] new mid → kept ≡ mid ++ take n lanes →
+      IsOwnFront to (shift_of s) text lanes n → Passed old held [] new mid → kept ≡ mid ++ take n lanes →
       HeldFront (code_from t (shifted e (shift_of s))) text (drop n text) old held new kept (Ok s)
   ascii_held to text lanes n s old held new mid kept same own p k =
       let front = take n text in
+      let ascii = front_ascii to (shift_of s) text lanes n own in
       let code : code_from t (shifted e (shift_of s)) (chars front) ≡ record {
         bytes = front;
         state = shift_of s;
         fault = None;
       } =
-      ap (λ z. code_from t (shifted e (shift_of s)) z) (ascii_chars front own.ascii)
-      ∙ ascii_code t e.to e.mode (shift_of s) front (λ i. own.own (same ∙ i)) own.ascii in
+      ap (λ z. code_from t (shifted e (shift_of s)) z) (ascii_chars front ascii)
+      ∙ own_code t e.to e.mode (shift_of s) front (subst (λ z. All (λ b. own_byte z (shift_of s) b ≡ true) front) same
+      own.own) in
       record {
         front = front;
         parts = sym (take-append-drop n text);
-        own = ascii_utf8 front own.ascii;
+        own = ascii_utf8 front ascii;
         code = subst (λ z. Kept z old held new kept (Ok s)) (sym code) (
           refl,
           refl,
@@ -109,17 +131,17 @@ module _ (t : Tables) (e : EncoderState) {Z : Type 0} where
         code = subst (λ z. Kept (code_from t (shifted e (shift_of s)) z) old held new kept r) (sym (char_one c own)) k;
       }
 
-  -- characters that a single-byte encoding has
-  pub singles_held : (at text rest : List ℕ) (s : ShiftState) (out : Vec ℕ Z) (held kept : List ℕ)
-      → AreSingles (encoder t e.to) at → SingleFront at text rest held kept →
+  -- characters whose bytes are known
+  pub run_held : (text rest : List ℕ) (s : ShiftState) (out : Vec ℕ Z) (held kept : List ℕ)
+      → RunFront (Stays (encoder t e.to) (shift_of s)) text rest held kept →
       HeldFront (code_from t (shifted e (shift_of s))) text rest out held out kept (Ok s)
-  singles_held at text rest s out held kept each p =
+  run_held text rest s out held kept p =
       let code : code_from t (shifted e (shift_of s)) (chars p.front) ≡ record {
         bytes = p.bytes;
         state = shift_of s;
         fault = None;
       } =
-      singles_code t e.to e.mode (shift_of s) at (chars p.front) p.bytes each p.singles in
+      run_code t e.to e.mode (shift_of s) (chars p.front) p.bytes p.given in
       record {
         front = p.front;
         parts = p.parts;
@@ -173,11 +195,11 @@ module _ (t : Tables) (e : EncoderState) {Z : Type 0} where
   front_all text (b ∷ rest) old new kept s p l = absurd (grind (arith, nat_tests, l))
 
 -- a text may be cut behind ASCII
-pub own_cut : (to : Encoding) (text lanes : List ℕ) (n : ℕ) → IsUtf8 text → IsOwnFront to text lanes n
+pub own_cut : (to : Encoding) (s : Shift) (text lanes : List ℕ) (n : ℕ) → IsUtf8 text → IsOwnFront to s text lanes n
     → IsCharBoundary text n
-own_cut to text lanes n u own =
+own_cut to s text lanes n u own =
     IsCharBoundary-from_take text n u (let few = own.few in let long = own.long in omega (arith, few, long))
-    (ascii_utf8 (take n text) own.ascii)
+    (ascii_utf8 (take n text) (front_ascii to s text lanes n own))
 
 -- what is left behind a text's front is a text
 pub left_text : (text front left : List ℕ) → IsUtf8 text → IsUtf8 front → text ≡ front ++ left → IsUtf8 left

@@ -1,7 +1,12 @@
 -- Codes behind bytes that are held.
-use Rattle.std.proofs.Common.{ℕ, ◌≡◌, List, [], ◌++◌, Vec, Result, Ok, Err, sym, ◌∙◌, ap, subst, append_assoc}
-use Rattle.std.proofs.Common.{append-nil, arith}
+use Rattle.std.proofs.Common.{ℕ, ◌≡◌, List, [], ◌∷◌, ◌++◌, None, Vec, Result, Ok, Err, sym, ◌∙◌, ap, subst}
+use Rattle.std.proofs.Common.{append_assoc, append-nil, arith}
+use Rattle.enc_model.specs.declared.Encoding.{Encoding}
+use Rattle.enc_model.specs.Encode as encode
 use Rattle.enc_model.specs.Encode.{Tables, Coded, coded, encoder, behind}
+use Rattle.enc_encode.specs.declared.written.Bytes.{Bytes}
+use Rattle.enc_encode.specs.Code.{bytes_of}
+use Rattle.enc_encode.proofs.Codes.{coded_twice}
 use Rattle.enc_model.proofs.Steady.{encoder_steady}
 use Rattle.enc_model.proofs.Transcoding.{coded_both}
 use Rattle.enc_encode.specs.declared.error.EncodeError.{EncodeError}
@@ -91,6 +96,23 @@ module _ (t : Tables) (e : EncoderState) {Z : Type 0} where
       let a = code_from t e x in
       rw (coded_both (encoder t e.to) (encoder_steady t e.to) e.mode e.shift x y p.0, ← p.1)
       (kept_behind a (coded (encoder t e.to) e.mode (shift_of s) y) old [] mid kept new last r p.2 q)
+
+-- the bytes that switch to another set of characters, and then those of a character
+pub twice_kept : {Z : Type 0} (t : Tables) (e : EncoderState) (to : Encoding) (s : ShiftState) (c : ℕ) (b : Bytes)
+    (between : ShiftState) (more : Bytes) (next : ShiftState) → to ≡ e.to →
+    encode.Again (bytes_of b) (shift_of between) ≡ encoder t to (shift_of s) c →
+    encode.Wrote (bytes_of more) (shift_of next) ≡ encoder t to (shift_of between) c →
+    (old : Vec ℕ Z) (held : List ℕ) (mid : Vec ℕ Z) (kept : List ℕ) (new : Vec ℕ Z) (last : List ℕ)
+    (r : Result ShiftState EncodeError) → Passed old held (bytes_of b) mid kept →
+    Kept (record { bytes = bytes_of more; state = shift_of next; fault = None }) mid kept new last r →
+    Kept (coded (encoder t e.to) e.mode (shift_of s) (c ∷ [])) old held new last r
+twice_kept t e to s c b between more next same again wrote old held mid kept new last r p q =
+    let z = shift_of between in
+    let code : Coded = record { bytes = bytes_of more; state = shift_of next; fault = None } in
+    let first : Coded = record { bytes = bytes_of b; state = z; fault = None } in
+    let twice = coded_twice t e.to e.mode (shift_of s) c (bytes_of b) z (encode.Wrote (bytes_of more) (shift_of next))
+    (rw same at again) (rw same at wrote) in
+    subst (λ x. Kept x old held new last r) (sym twice) (kept_behind first code old held mid kept new last r p q)
 
 pub kept_error : {Z : Type 0} (code : Coded) (old new : Vec ℕ Z) (kept : List ℕ) (d : EncodeError)
     → Kept code old [] new kept (Err d) → Gave code old new (Err d)

@@ -7,3 +7,4 @@ mod Rows
 mod Fronts
 mod Singles
 mod Given
+mod RunFronts

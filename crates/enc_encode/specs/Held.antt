@@ -1,9 +1,12 @@
 -- Bytes that are held before they are appended to a vector.
-use Rattle.std.specs.Prelude.{ℕ, List, ◌++◌, ◌≡◌, ◌≢◌, ◌<◌, ◌≤◌, Some, None, Result, Ok, Err, Vec, All, length, take}
+use Rattle.std.specs.Prelude.{ℕ, Bool, true, false, List, ◌++◌, ◌≡◌, ◌<◌, ◌≤◌, Some, None, Result, Ok, Err, Vec, All}
+use Rattle.std.specs.Prelude.{length, take}
+use Rattle.std.specs.Char.{is_ascii}
 use Rattle.std.specs.Str.{IsUtf8, chars}
 use Rattle.enc_model.specs.declared.Encoding.{Encoding}
 use Rattle.enc_model.specs.declared.Encoding.TheVariants.{Iso2022Jp}
-use Rattle.enc_model.specs.Encode.{Coded}
+use Rattle.enc_model.specs.Encode.{Coded, Shift, InAscii}
+use Rattle.lane_kernels.specs.Front.{is_plain_2022}
 use Rattle.enc_encode.specs.Growth.{Appended, Stopped}
 use Rattle.enc_encode.specs.State.{shift_of}
 use Rattle.enc_encode.specs.declared.error.EncodeError.{EncodeError}
@@ -32,11 +35,16 @@ pub record HeldFront {Z : Type 0} (code_of : List ℕ → Coded) (text rest : Li
   pub own : IsUtf8 front
   pub code : Kept (code_of (chars front)) old held new kept r
 
+-- the bytes of ASCII that an encoder writes as they are
+abbrev pub own_byte : Encoding → Shift → ℕ → Bool
+own_byte Iso2022Jp InAscii = is_plain_2022
+own_byte Iso2022Jp _ = λ _. false
+own_byte _ _ = is_ascii
+
 -- lanes at the front of a text, so many bytes of which are ASCII that stands for itself in the encoding
-pub record IsOwnFront (to : Encoding) (text lanes : List ℕ) (n : ℕ) : Type 0 where
+pub record IsOwnFront (to : Encoding) (s : Shift) (text lanes : List ℕ) (n : ℕ) : Type 0 where
   pub lanes_are : lanes ≡ take 32 text
   pub some : 0 < n
   pub few : n ≤ 32
   pub long : 32 ≤ length text
-  pub ascii : All (λ b. b < 128) (take n text)
-  pub own : to ≢ Iso2022Jp
+  pub own : All (λ b. own_byte to s b ≡ true) (take n text)

@@ -6,3 +6,4 @@ pub mod Reasons
 pub mod Sinks
 pub mod SinkLaws
 pub mod Singles
+pub mod Runs

@@ -1,15 +1,22 @@
 //! Bytes that are gathered before they are appended.
 
-ghost use Rattle.std.specs.Prelude.{◌≡◌, ◌<◌, ◌≤◌, ◌+◌, ◌++◌, [], ℕ, OnOk, OnErr, IfSome, length};
+ghost use Rattle.std.specs.Prelude.{◌≡◌, ◌<◌, ◌≤◌, ◌+◌, ◌++◌, ◌∷◌, [], ℕ, OnOk, OnErr, IfSome, length};
 ghost use Rattle.std.specs.Prelude.{option_copied, take, unwrap_or};
 ghost use Rattle.enc_encode.specs.Code.{bytes_of};
 ghost use Rattle.enc_encode.specs.Growth.{Appended, Stopped};
 ghost use Rattle.enc_encode.specs.Held.{Passed};
-ghost use Rattle.enc_encode.specs.Singles.{FewPointers, FirstSingle, SingleFront};
+ghost use Rattle.enc_encode.specs.Runs.{FirstGiven, RunFront, Stays};
+ghost use Rattle.enc_encode.specs.Singles.{AreSingles, FewPointers, IsSingle};
+ghost use Rattle.enc_encode.specs.State.{shift_of};
+ghost use Rattle.enc_model.specs.Encode.{encoder};
+ghost use Rattle.enc_model.specs.Indexes.{tables};
 
 use crate::append::append;
+use crate::encoders::pair;
+use crate::shift::ShiftState;
 use crate::written::Bytes;
-use enc_index::Pointers;
+use enc_index::{IndexSet, Pointers};
+use enc_model::Encoding;
 use std::alloc::AllocError;
 use std::marker::Model;
 
@@ -41,7 +48,7 @@ impl Model for Buffer {
 #[inline(always)]
 fn first_single<'a>(pointers: &Pointers, text: &'a str) -> Option<(u8, &'a str)>
     requires { FewPointers pointers.now }
-    ensures { IfSome result (λ r. FirstSingle pointers.now text.now r.0 r.1.now) }
+    ensures { IfSome result (λ r. FirstGiven (IsSingle pointers.now) text.now (r.0 ∷ []) r.1.now) }
 {
     let mut chars = text.chars();
     let c = chars.next()?;
@@ -50,6 +57,23 @@ fn first_single<'a>(pointers: &Pointers, text: &'a str) -> Option<(u8, &'a str)>
     }
     let pointer = pointers.find(c)?;
     Some(((pointer + 0x80) as u8, chars.as_str()))
+}
+
+/// The two bytes of a text's first character, if it is one that `pair` has, and the rest of the text.
+#[inline(always)]
+fn first_pair<'a>(
+    set: &IndexSet,
+    to: Encoding,
+    shift: ShiftState,
+    text: &'a str,
+) -> Option<(u8, u8, &'a str)>
+    ensures { IfSome result
+        (λ r. FirstGiven (Stays (encoder (tables set.now) to) (shift_of shift)) text.now (r.0 ∷ r.1 ∷ []) r.2.now) }
+{
+    let mut chars = text.chars();
+    let c = chars.next()?;
+    let (lead, trail) = pair(set, to, shift, c)?;
+    Some((lead, trail, chars.as_str()))
 }
 
 impl Buffer {
@@ -77,7 +101,7 @@ impl Buffer {
 
     /// Puts the bytes of a character behind the others.
     #[inline(always)]
-    pub fn push(&mut self, bytes: Bytes)
+    fn push(&mut self, bytes: Bytes)
         requires { length self.old + 5 ≤ ROOM }
         ensures { self.new ≡ self.old ++ bytes_of bytes }
     {
@@ -118,13 +142,10 @@ impl Buffer {
     /// encoding has one after the other, and as there is room for. Gives the rest of the text. The length is a local of
     /// the loop, which a register can hold.
     #[inline(always)]
-    pub fn push_singles<'a>(&mut self, pointers: Option<&Pointers>, text: &'a str) -> &'a str
-        requires { FewPointers (unwrap_or (option_copied pointers) []) }
-        ensures { SingleFront (unwrap_or (option_copied pointers.entry) []) text.now result.now self.old self.new }
+    pub fn push_singles<'a>(&mut self, pointers: &Pointers, text: &'a str) -> &'a str
+        requires { FewPointers pointers.now }
+        ensures { RunFront (IsSingle pointers.now) text.now result.now self.old self.new }
     {
-        let Some(pointers) = pointers else {
-            return text;
-        };
         let mut len = self.len;
         let mut rest = text;
         while len < ROOM {
@@ -139,6 +160,56 @@ impl Buffer {
         rest
     }
 
+    /// Puts the bytes of characters at a text's front behind the others: as many as `pair` has one after the other, and
+    /// as there is room for. Gives the rest of the text.
+    #[inline(always)]
+    pub fn push_pairs<'a>(
+        &mut self,
+        set: &IndexSet,
+        to: Encoding,
+        shift: ShiftState,
+        text: &'a str,
+    ) -> &'a str
+        ensures { RunFront (Stays (encoder (tables set.now) to) (shift_of shift)) text.now result.now self.old
+            self.new }
+    {
+        let mut len = self.len;
+        let mut rest = text;
+        while len < ROOM - 1 {
+            let Some((lead, trail, behind)) = first_pair(set, to, shift, rest) else {
+                break;
+            };
+            self.bytes[len] = lead;
+            self.bytes[len + 1] = trail;
+            len += 2;
+            rest = behind;
+        }
+        self.len = len;
+        rest
+    }
+
+    /// Puts the bytes of characters at a text's front behind the others: those that a single-byte encoding has, by the
+    /// table of its pointers, or else pairs. Gives the rest of the text.
+    #[inline(always)]
+    pub fn push_run<'a>(
+        &mut self,
+        to: Encoding,
+        set: &IndexSet,
+        singles: Option<&Pointers>,
+        shift: ShiftState,
+        text: &'a str,
+    ) -> &'a str
+        requires singles { AreSingles (encoder (tables set.now) to) (unwrap_or (option_copied singles) []) }
+        requires few { FewPointers (unwrap_or (option_copied singles) []) }
+        ensures { RunFront (Stays (encoder (tables set.now) to) (shift_of shift)) text.now result.now self.old
+            self.new }
+    {
+        match singles {
+            Some(pointers) => self.push_singles(pointers, text),
+            None => self.push_pairs(set, to, shift, text),
+        }
+    }
+
     /// Sees to room for so many bytes as are put in at once.
     #[inline(always)]
     pub fn make_room(&mut self, out: &mut Vec<u8>) -> Result<(), AllocError>
@@ -149,6 +220,17 @@ impl Buffer {
         if ROOM - self.len < LANES {
             return self.flush(out);
         }
+        Ok(())
+    }
+
+    /// Puts the bytes of a character behind the others, after it has seen to room.
+    #[inline(always)]
+    pub fn hold(&mut self, bytes: Bytes, out: &mut Vec<u8>) -> Result<(), AllocError>
+        ensures ok { OnOk result (Passed out.old self.old (bytes_of bytes) out.new self.new) }
+        ensures err { OnErr result (Stopped out.old self.old out.new) }
+    {
+        self.make_room(out)?;
+        self.push(bytes);
         Ok(())
     }
 }

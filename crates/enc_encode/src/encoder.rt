@@ -2,11 +2,12 @@
 
 ghost use Rattle.std.specs.Prelude.{◌≡◌, ◌⊎◌, ◌<◌, ◌≤◌, ◌++◌, ◌∷◌, [], ℕ, List, Ok, Err, vec_capacity, length, OnOk};
 ghost use Rattle.std.specs.Prelude.{OnErr, IfOk, IfErr, IfSome, IsOk, All, option_copied, unwrap_or};
+ghost use Rattle.std.specs.List.{prefix_len};
 ghost use Rattle.std.specs.Str.{chars};
 ghost use Rattle.enc_encode.specs.State.{EncoderState, shift_of, code_of_shift, code_of_shift_of, shifted, coder};
 ghost use Rattle.enc_encode.specs.State.{code_from};
 ghost use Rattle.enc_encode.specs.Growth.{NoRoom};
-ghost use Rattle.enc_encode.specs.Held.{Kept, HeldFront, IsOwnFront};
+ghost use Rattle.enc_encode.specs.Held.{Kept, HeldFront, IsOwnFront, own_byte};
 ghost use Rattle.enc_encode.specs.Reasons.{Gave, Explains, reason_of};
 ghost use Rattle.enc_encode.specs.Singles.{AreSingles, FewPointers};
 ghost use Rattle.enc_model.specs.Encode.{Tables, coded, encoder, encoder_end, InAscii};
@@ -24,7 +25,7 @@ use crate::written::Written;
 use crate::written_out::write_out;
 use enc_index::{IndexSet, Kind, Pointers};
 use enc_model::{Encoding, Mode};
-use lane_kernels::ascii_front;
+use lane_kernels::{ascii_lanes, plain_lanes_2022};
 use std::alloc::AllocError;
 use std::marker::Model;
 
@@ -46,19 +47,31 @@ impl Model for Encoder {
     ghost inverse_ok = { λ e h. code_of_shift_of e.shift (λ s. record { to = e.to; mode = e.mode; shift = s }) };
 }
 
+/// How many of the lanes, from the first, are ASCII that an encoder writes as it is.
+#[inline(always)]
+fn own_lanes(to: Encoding, shift: ShiftState, lanes: &[u8; LANES]) -> usize
+    ensures { result ≡ prefix_len (own_byte to (shift_of shift)) lanes.now }
+{
+    match to {
+        Encoding::Iso2022Jp => match shift {
+            ShiftState::Ascii => plain_lanes_2022(lanes),
+            ShiftState::Roman | ShiftState::Jis => 0,
+        },
+        _ => ascii_lanes(lanes),
+    }
+}
+
 /// Whole lanes at the front of a text that begins with ASCII, and how much of it there is, where it stands for itself.
 #[inline(always)]
-fn own_front(to: Encoding, text: &str) -> Option<(&[u8; LANES], usize)>
-    ensures { IfSome result (λ r. IsOwnFront to text.now r.0.now r.1) }
+fn own_front(to: Encoding, shift: ShiftState, text: &str) -> Option<(&[u8; LANES], usize)>
+    ensures { IfSome result (λ r. IsOwnFront to (shift_of shift) text.now r.0.now r.1) }
 {
-    if let Encoding::Iso2022Jp = to {
-        return None;
-    }
     let lanes = text.as_bytes().first_chunk::<LANES>()?;
-    if lanes[0] >= 0x80 {
+    let count = own_lanes(to, shift, lanes);
+    if count == 0 {
         return None;
     }
-    Some((lanes, ascii_front(lanes)))
+    Some((lanes, count))
 }
 
 impl Encoder {
@@ -221,10 +234,17 @@ impl Encoder {
         ensures { Kept (coded (encoder (tables set.now) self.now.to) self.now.mode (shift_of shift) (c ∷ [])) out.old
             held.old out.new held.new result }
     {
-        if let Written::Wrote(bytes, next) = written(set, to, shift, c) {
-            held.make_room(out)?;
-            held.push(bytes);
+        let first = written(set, to, shift, c);
+        if let Written::Wrote(bytes, next) = first {
+            held.hold(bytes, out)?;
             return Ok(next);
+        }
+        if let Written::Again(bytes, between) = first {
+            if let Written::Wrote(more, next) = written(set, to, between, c) {
+                held.hold(bytes, out)?;
+                held.hold(more, out)?;
+                return Ok(next);
+            }
         }
         held.flush(out)?;
         self.encode(set, shift, c, out)
@@ -251,7 +271,7 @@ impl Encoder {
             (λ e. (rest : List ℕ) × HeldFront (code_from (tables set.now) (shifted self.now (shift_of shift)))
             text.now rest out.old held.old out.new held.new (Err e)) }
     {
-        if let Some((lanes, front)) = own_front(to, text) {
+        if let Some((lanes, front)) = own_front(to, shift, text) {
             held.make_room(out)?;
             held.push_front(*lanes, front);
             return Ok((shift, &text[front..]));
@@ -288,7 +308,7 @@ impl Encoder {
         while !rest.is_empty() {
             let (next, behind) = self.hold_front(to, set, shift, rest, &mut held, out)?;
             shift = next;
-            rest = held.push_singles(singles, behind);
+            rest = held.push_run(to, set, singles, shift, behind);
         }
         held.flush(out)?;
         Ok(shift)

@@ -1,10 +1,10 @@
 //! What each encoder gives for one character.
 
-ghost use Rattle.std.specs.Prelude.{◌≡◌, ◌<◌, IfSome};
+ghost use Rattle.std.specs.Prelude.{◌≡◌, ◌<◌, ◌≤◌, ◌+◌, ◌/◌, ◌%◌, ◌∷◌, [], IfSome};
 ghost use Rattle.enc_encode.specs.Code.{written_of, bytes_of};
 ghost use Rattle.enc_encode.specs.State.{shift_of};
 ghost use Rattle.enc_model.specs.Encode.{utf8_bytes, minus, shift_jis_pointer, below_8836, encoder, single_encoder};
-ghost use Rattle.enc_model.specs.Encode.{shift_jis_encoder, euc_jp_encoder};
+ghost use Rattle.enc_model.specs.Encode.{Wrote, InJis, shift_jis_encoder, euc_jp_encoder, iso2022_encoder};
 ghost use Rattle.enc_model.specs.Index.{pointer};
 ghost use Rattle.enc_model.specs.Indexes.{tables};
 
@@ -61,15 +61,15 @@ pub fn without_minus(c: char) -> char
 
 /// The two bytes of a pointer in Shift_JIS.
 #[inline(always)]
-fn shift_jis_pair(pointer: u32) -> Bytes
+fn shift_jis_pair(pointer: u32) -> (u8, u8)
     requires { pointer < 11280 }
-    ensures { bytes_of result ≡ shift_jis_pointer pointer }
+    ensures { result.0 ∷ result.1 ∷ [] ≡ shift_jis_pointer pointer }
 {
     let lead = pointer / 188;
     let trail = pointer % 188;
     let lead_offset = if lead < 0x1F { 0x81 } else { 0xC1 };
     let trail_offset = if trail < 0x3F { 0x40 } else { 0x41 };
-    Bytes::Two([(lead + lead_offset) as u8, (trail + trail_offset) as u8])
+    ((lead + lead_offset) as u8, (trail + trail_offset) as u8)
 }
 
 /// The Shift_JIS encoder.
@@ -88,7 +88,10 @@ fn shift_jis(set: &IndexSet, shift: ShiftState, c: char) -> Written
         _ => {
             let c = without_minus(c);
             match set.pointer_sjis(c) {
-                Some(pointer) => Written::Wrote(shift_jis_pair(pointer), shift),
+                Some(pointer) => {
+                    let (lead, trail) = shift_jis_pair(pointer);
+                    Written::Wrote(Bytes::Two([lead, trail]), shift)
+                }
                 None => Written::Lacks(Bytes::Zero, shift, c),
             }
         }
@@ -103,6 +106,17 @@ pub fn pointer_below_8836(set: &IndexSet, c: char) -> Option<u32>
 {
     let pointer = set.pointer(Kind::Jis0208, c)?;
     if pointer < 8836 { Some(pointer) } else { None }
+}
+
+/// The two bytes of a pointer where each counts 94 from a start.
+#[inline(always)]
+pub fn pair_of_94(start: u32, pointer: u32) -> (u8, u8)
+    requires start { start ≤ 0xA1 }
+    requires pointer { pointer < 8836 }
+    ensures lead { result.0 ≡ pointer / 94 + start }
+    ensures trail { result.1 ≡ pointer % 94 + start }
+{
+    ((pointer / 94 + start) as u8, (pointer % 94 + start) as u8)
 }
 
 /// The EUC-JP encoder.
@@ -122,13 +136,66 @@ fn euc_jp(set: &IndexSet, shift: ShiftState, c: char) -> Written
             let c = without_minus(c);
             match pointer_below_8836(set, c) {
                 Some(pointer) => {
-                    let lead = (pointer / 94 + 0xA1) as u8;
-                    let trail = (pointer % 94 + 0xA1) as u8;
+                    let (lead, trail) = pair_of_94(0xA1, pointer);
                     Written::Wrote(Bytes::Two([lead, trail]), shift)
                 }
                 None => Written::Lacks(Bytes::Zero, shift, c),
             }
         }
+    }
+}
+
+/// The two bytes of a kana, an ideograph or a full-width form in Shift_JIS.
+#[tactic(auto, unfolding(enc_model::specs::Encode::shift_jis_encoder))]
+#[inline(always)]
+fn shift_jis_wide(set: &IndexSet, shift: ShiftState, c: char) -> Option<(u8, u8)>
+    requires from { 0x3000 ≤ c }
+    requires to { c ≤ 0xFF60 }
+    ensures { IfSome result
+        (λ r. shift_jis_encoder (tables set.now).jis0208 (shift_of shift) c ≡ Wrote (r.0 ∷ r.1 ∷ []) (shift_of shift)) }
+{
+    Some(shift_jis_pair(set.pointer_sjis(c)?))
+}
+
+/// The two bytes of a kana, an ideograph or a full-width form in EUC-JP.
+#[tactic(auto, unfolding(enc_model::specs::Encode::euc_jp_encoder))]
+#[inline(always)]
+fn euc_jp_wide(set: &IndexSet, shift: ShiftState, c: char) -> Option<(u8, u8)>
+    requires from { 0x3000 ≤ c }
+    requires to { c ≤ 0xFF60 }
+    ensures { IfSome result
+        (λ r. euc_jp_encoder (tables set.now).jis0208 (shift_of shift) c ≡ Wrote (r.0 ∷ r.1 ∷ []) (shift_of shift)) }
+{
+    Some(pair_of_94(0xA1, pointer_below_8836(set, c)?))
+}
+
+/// The two bytes of a kana, an ideograph or a full-width form in ISO-2022-JP, where it has switched to jis0208.
+#[tactic(auto, unfolding(enc_model::specs::Encode::iso2022_encoder))]
+#[inline(always)]
+fn iso2022_wide(set: &IndexSet, c: char) -> Option<(u8, u8)>
+    requires from { 0x3000 ≤ c }
+    requires to { c ≤ 0xFF60 }
+    ensures { IfSome result (λ r. iso2022_encoder (tables set.now).jis0208 (tables set.now).katakana InJis c
+        ≡ Wrote (r.0 ∷ r.1 ∷ []) InJis) }
+{
+    Some(pair_of_94(0x21, pointer_below_8836(set, c)?))
+}
+
+/// The two bytes of a character from U+3000 to U+FF60, where an encoder gives two and stays in its state: of a kana, an
+/// ideograph or a full-width form.
+#[inline(always)]
+pub fn pair(set: &IndexSet, to: Encoding, shift: ShiftState, c: char) -> Option<(u8, u8)>
+    ensures { IfSome result
+        (λ r. encoder (tables set.now) to (shift_of shift) c ≡ Wrote (r.0 ∷ r.1 ∷ []) (shift_of shift)) }
+{
+    if c < '\u{3000}' || c > '\u{FF60}' {
+        return None;
+    }
+    match (to, shift) {
+        (Encoding::ShiftJis, _) => shift_jis_wide(set, shift, c),
+        (Encoding::EucJp, _) => euc_jp_wide(set, shift, c),
+        (Encoding::Iso2022Jp, ShiftState::Jis) => iso2022_wide(set, c),
+        _ => None,
     }
 }
 

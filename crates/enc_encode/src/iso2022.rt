@@ -7,7 +7,7 @@ ghost use Rattle.enc_model.specs.Encode.{minus, widened, iso2022_wide, iso2022_p
 ghost use Rattle.enc_model.specs.Index.{Index, pointer};
 ghost use Rattle.enc_model.specs.Indexes.{tables};
 
-use crate::encoders::{pointer_below_8836, without_minus};
+use crate::encoders::{pair_of_94, pointer_below_8836, without_minus};
 use crate::shift::ShiftState;
 use crate::written::{Bytes, Written};
 use enc_index::{IndexSet, Kind};
@@ -45,8 +45,7 @@ fn double_byte(set: &IndexSet, shift: ShiftState, c: char) -> Written
     let Some(pointer) = pointer_below_8836(set, c) else {
         return lacking(shift, c);
     };
-    let lead = (pointer / 94 + 0x21) as u8;
-    let trail = (pointer % 94 + 0x21) as u8;
+    let (lead, trail) = pair_of_94(0x21, pointer);
     let bytes = match shift {
         ShiftState::Jis => Bytes::Two([lead, trail]),
         _ => Bytes::Five([0x1B, 0x24, 0x42, lead, trail]),

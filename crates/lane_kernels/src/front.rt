@@ -90,3 +90,19 @@ pub fn range_front(bytes: &[u8], lo: u8, hi: u8) -> usize
 {
     front(&Range { lo, hi }, bytes)
 }
+
+/// How many of 32 bytes are below 80 before the first that isn't.
+#[inline(always)]
+pub fn ascii_lanes(lanes: &[u8; 32]) -> usize
+    ensures { result ≡ prefix_len is_ascii lanes.now }
+{
+    Ascii.run(lanes, 0)
+}
+
+/// How many of 32 bytes are below 80 and none of 0E, 0F and 1B before the first that isn't so.
+#[inline(always)]
+pub fn plain_lanes_2022(lanes: &[u8; 32]) -> usize
+    ensures { result ≡ prefix_len is_plain_2022 lanes.now }
+{
+    Plain2022.run(lanes, 0)
+}

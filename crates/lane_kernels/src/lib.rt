@@ -9,7 +9,7 @@ mod order;
 mod pairing;
 mod units;
 
-pub use front::{ascii_front, plain_front_2022, range_front};
+pub use front::{ascii_front, ascii_lanes, plain_front_2022, plain_lanes_2022, range_front};
 pub use laws::paired_units_decode;
 pub use narrowing::narrow;
 pub use order::Order;

@@ -3,7 +3,7 @@ use Rattle.std.proofs.lemmas.Result.{err_from_is_err_and}
 use Rattle.std.specs.Str.{chars}
 use Rattle.enc_model.specs.Indexes.{tables}
 use Rattle.enc_encode.specs.State.{EncoderState, code_from}
-use Rattle.enc_encode.proofs.Fronts.{front_none, front_then, front_error, front_all, left_text, singles_held}
+use Rattle.enc_encode.proofs.Fronts.{front_none, front_then, front_error, front_all, left_text, run_held}
 use Rattle.enc_encode.proofs.Helds.{flushed, unflushed}
 use Rattle.enc_encode.proofs.encoder.Encoder.encode_chars.Goals as goal
 
@@ -27,6 +27,9 @@ returns-in_err-next c =
     (front_then t e run c.loop-rest.rest.now stop.0 c.args.out.now c.loop-rest.out c.loop-rest.held new.out new.held
     c.loop-rest.shift (Err d) c.loop-rest.invariant.1 stop.1))
 
+pub push_run-rest-requires-clause-singles : goal.push_run-rest-requires-clause-singles
+push_run-rest-requires-clause-singles c = rw c.requires.same c.requires.singles
+
 pub loop-rest-preserved : goal.loop-rest-preserved
 loop-rest-preserved c =
     let t = tables c.args.set.now in
@@ -38,15 +41,15 @@ loop-rest-preserved c =
     let next = c.in_ok-next.next in
     let more = c.in_ok-next.ensures.ok in
     let new = c.hold_front.new in
-    let left = c.push_singles-rest.result.now in
-    let kept = c.push_singles-rest.new.self in
-    let singles = c.push_singles-rest.ensures in
+    let left = c.push_run-rest.result.now in
+    let kept = c.push_run-rest.new.self in
+    let runs = c.push_run-rest.ensures in
     let text = left_text rest more.front behind c.loop-rest.invariant.0 more.own more.parts in
     let by_front = front_then t e run rest behind old c.loop-rest.out c.loop-rest.held new.out new.held
     c.loop-rest.shift (Ok next) c.loop-rest.invariant.1 more in
-    let by_singles = singles_held t e _ behind left next new.out new.held kept c.requires.singles singles in (
-      left_text behind singles.front left text singles.own singles.parts,
-      front_then t e run behind left old new.out new.held new.out kept next (Ok next) by_front by_singles,
+    let by_run = run_held t e behind left next new.out new.held kept (rw c.requires.same at runs) in (
+      left_text behind runs.front left text runs.own runs.parts,
+      front_then t e run behind left old new.out new.held new.out kept next (Ok next) by_front by_run,
     )
 
 pub returns-in_err-flush : goal.returns-in_err-flush

@@ -1,21 +1,22 @@
-use Rattle.std.proofs.Common.{refl, sym, subst, [], ◌∷◌, Ok}
+use Rattle.std.proofs.Common.{refl, sym, subst, [], ◌∷◌, Ok, Err}
 use Rattle.std.proofs.lemmas.Result.{err_from_is_err_and}
 use Rattle.enc_model.specs.Indexes.{tables}
 use Rattle.enc_model.specs.Encode.{Wrote, coded, encoder}
 use Rattle.enc_encode.specs.Code.{bytes_of}
 use Rattle.enc_encode.specs.Held.{Kept}
 use Rattle.enc_encode.specs.State.{shift_of}
+use Rattle.enc_encode.specs.declared.error.EncodeError.TheVariants.{NoMemory}
 use Rattle.enc_encode.proofs.Codes.{coded_once}
 use Rattle.enc_encode.proofs.Growth.{front}
-use Rattle.enc_encode.proofs.Helds.{held_more, kept_given}
+use Rattle.enc_encode.proofs.Helds.{kept_given, twice_kept}
 use Rattle.enc_encode.proofs.encoder.Encoder.hold.Goals as goal
 
-pub returns-in_err-make_room : goal.returns-in_err-make_room
-returns-in_err-make_room c =
+pub returns-in_err-hold : goal.returns-in_err-hold
+returns-in_err-hold c =
     let p = err_from_is_err_and c.from_residual.result c.from_residual.ensures.1 in
     let code = coded (encoder (tables c.args.set.now) c.args.self.now.to) c.args.self.now.mode (shift_of c.args.shift)
     (c.args.c ∷ []) in
-    rw (p.1, p.2) (front code.bytes c.in_err-make_room.ensures.err)
+    rw (p.1, p.2) (front code.bytes c.in_err-hold.ensures.err)
 
 pub returns-in-Wrote : goal.returns-in-Wrote
 returns-in-Wrote c =
@@ -23,9 +24,38 @@ returns-in-Wrote c =
     let bytes = bytes_of c.in-Wrote.bytes in
     let once = coded_once (tables c.args.set.now) e.to e.mode (shift_of c.args.shift) c.args.c
     (Wrote bytes (shift_of c.in-Wrote.next)) (rw c.requires at c.in-Wrote.ensures) tt in
-    subst (λ code. Kept code c.args.out.now c.args.held.now c.make_room.new.out c.push.new.self (Ok c.in-Wrote.next))
+    subst (λ code. Kept code c.args.out.now c.args.held.now c.hold.new.out c.hold.new.self (Ok c.in-Wrote.next))
     (sym once)
-    (refl, refl, held_more bytes c.push.new.self c.push.ensures c.in_ok-make_room.ensures.ok)
+    (refl, refl, c.in_ok-hold.ensures.ok)
+
+pub returns-in_err-hold-2 : goal.returns-in_err-hold-2
+returns-in_err-hold-2 c =
+    let p = err_from_is_err_and c.from_residual-in_err-hold-2.result c.from_residual-in_err-hold-2.ensures.1 in
+    let code = coded (encoder (tables c.args.set.now) c.args.self.now.to) c.args.self.now.mode (shift_of c.args.shift)
+    (c.args.c ∷ []) in
+    rw (p.1, p.2) (front code.bytes c.in_err-hold-2.ensures.err)
+
+pub returns-in_err-hold-3 : goal.returns-in_err-hold-3
+returns-in_err-hold-3 c =
+    let p = err_from_is_err_and c.from_residual-in_err-hold-3.result c.from_residual-in_err-hold-3.ensures.1 in
+    let again = c.in-Again in
+    let wrote = c.in-Wrote-written in
+    let mid = c.hold-in-Wrote-written.new in
+    let new = c.hold-in-Wrote-written-2.new in
+    rw (p.1, p.2) (twice_kept (tables c.args.set.now) c.args.self.now c.args.to c.args.shift c.args.c again.bytes
+    again.between wrote.more wrote.next c.requires again.ensures wrote.ensures c.args.out.now c.args.held.now mid.out
+    mid.self new.out new.self (Err NoMemory) c.in_ok-hold-2.ensures.ok
+    (front (bytes_of wrote.more) c.in_err-hold-3.ensures.err))
+
+pub returns-in-Wrote-written : goal.returns-in-Wrote-written
+returns-in-Wrote-written c =
+    let again = c.in-Again in
+    let wrote = c.in-Wrote-written in
+    let mid = c.hold-in-Wrote-written.new in
+    let new = c.hold-in-Wrote-written-2.new in
+    twice_kept (tables c.args.set.now) c.args.self.now c.args.to c.args.shift c.args.c again.bytes again.between
+    wrote.more wrote.next c.requires again.ensures wrote.ensures c.args.out.now c.args.held.now mid.out mid.self new.out
+    new.self (Ok wrote.next) c.in_ok-hold-2.ensures.ok (refl, refl, c.in_ok-hold-3.ensures.ok)
 
 pub returns-in_err-flush : goal.returns-in_err-flush
 returns-in_err-flush c =

@@ -25,7 +25,8 @@ returns-in_err-make_room-clause-err c =
     )
 
 pub range_from-requires : goal.range_from-requires
-range_from-requires c = λ some. own_cut c.args.to c.args.text.now c.in-Some.lanes.now c.in-Some.front c.utf8.text
+range_from-requires c = λ some. own_cut c.args.to (shift_of c.args.shift) c.args.text.now c.in-Some.lanes.now
+    c.in-Some.front c.utf8.text
     c.in-Some.ensures
 
 pub returns-in-Some-clause-ok : goal.returns-in-Some-clause-ok

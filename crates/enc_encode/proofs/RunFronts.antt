@@ -1,0 +1,121 @@
+-- Characters at a text's front, whose bytes are known and leave the encoder's state as it is.
+use Rattle.std.proofs.Common.{ℕ, ◌≡◌, List, [], ◌∷◌, ◌++◌, None, refl, sym, ◌∙◌, ap, subst, append_assoc, append-nil}
+use Rattle.std.proofs.Common.{◌+◌, ◌<◌, length, take, set, arith}
+use Rattle.std.proofs.lemmas.List.{take_more_set, length-set}
+use Rattle.std.proofs.lemmas.Str.{IsUtf8-nil, IsUtf8-append, IsUtf8-take, IsUtf8-past_char, IsCharBoundary-at_seam}
+use Rattle.std.proofs.lemmas.Str.{chars-nil, chars-append, chars_past_char}
+use Rattle.std.proofs.Math.Seq.{take-append_seam}
+use Rattle.std.specs.Str.{IsUtf8, chars}
+use lib.Utf8.{encode}
+use Rattle.enc_model.specs.declared.Encoding.{Encoding}
+use Rattle.enc_model.specs.declared.Mode.{Mode}
+use Rattle.enc_model.specs.Encode.{Shift, Encoder, Tables, all_codes, code_of, coded, encoder}
+use Rattle.enc_model.proofs.Coding.{coded_is}
+use Rattle.enc_model.proofs.Steady.{encoder_steady}
+use Rattle.enc_encode.specs.Runs.{Stays, FirstGiven, AllGiven, RunFront}
+
+-- ONE CHARACTER
+
+pub char_own : (text rest : List ℕ) (c : ℕ) → IsUtf8 text → text ≡ encode c ++ rest → IsUtf8 (encode c)
+char_own text rest c u parts =
+    let front = encode c in
+    let cut = IsUtf8-take text (length front) u
+    (IsCharBoundary-at_seam text front rest parts (IsUtf8-past_char text rest c u parts)) in
+    let same : take (length front) text ≡ front = ap (take (length front)) parts ∙ take-append_seam front rest in
+    subst IsUtf8 same cut
+
+pub char_one : (c : ℕ) → IsUtf8 (encode c) → chars (encode c) ≡ c ∷ []
+char_one c own = chars_past_char (encode c) [] c own (sym (append-nil (encode c))) ∙ ap (λ z. c ∷ z) chars-nil
+
+-- THE CODE OF SEVERAL
+
+one_stays : (f : Encoder) (mode : Mode) (s : Shift) (c : ℕ) (b : List ℕ) → Stays f s c b → code_of f mode s c ≡ record {
+  bytes = b;
+  state = s;
+  fault = None;
+}
+one_stays f mode s c b e = rw e refl
+
+all_stay : (f : Encoder) (mode : Mode) (s : Shift) (cs bytes : List ℕ) → AllGiven (Stays f s) cs bytes →
+    all_codes (code_of f mode) s cs ≡ record { bytes = bytes; state = s; fault = None }
+all_stay f mode s [] bytes p = rw p refl
+all_stay f mode s (c ∷ cs) bytes p =
+    rw (one_stays f mode s c p.0 p.3, all_stay f mode s cs p.1 p.4, p.2) refl
+
+pub run_code : (t : Tables) (e : Encoding) (mode : Mode) (s : Shift) (cs bytes : List ℕ)
+    → AllGiven (Stays (encoder t e) s) cs bytes →
+    coded (encoder t e) mode s cs ≡ record { bytes = bytes; state = s; fault = None }
+run_code t e mode s cs bytes p =
+    coded_is (encoder t e) (encoder_steady t e) mode s cs ∙ all_stay (encoder t e) mode s cs bytes p
+
+-- A FRONT
+
+all_more : (gives : ℕ → List ℕ → Type 0) (cs bytes : List ℕ) (c : ℕ) (b : List ℕ) → AllGiven gives cs bytes
+    → gives c b → AllGiven gives (cs ++ c ∷ []) (bytes ++ b)
+all_more gives [] bytes c b p q = (b, [], rw p (sym (append-nil b)), q, refl)
+all_more gives (d ∷ cs) bytes c b p q = (
+  p.0,
+  p.1 ++ b,
+  ap (λ z. z ++ b) p.2 ∙ append_assoc p.0 p.1 b,
+  p.3,
+  all_more gives cs p.1 c b p.4 q,
+)
+
+all_weaker : (gives are : ℕ → List ℕ → Type 0) → ((c : ℕ) (b : List ℕ) → gives c b → are c b) → (cs bytes : List ℕ)
+    → AllGiven gives cs bytes → AllGiven are cs bytes
+all_weaker gives are h [] bytes p = p
+all_weaker gives are h (c ∷ cs) bytes p = (p.0, p.1, p.2, h c p.0 p.3, all_weaker gives are h cs p.1 p.4)
+
+-- what holds of each character's bytes
+pub run_weaker : (gives are : ℕ → List ℕ → Type 0) (text rest held new : List ℕ)
+    → ((c : ℕ) (b : List ℕ) → gives c b → are c b) → RunFront gives text rest held new →
+    RunFront are text rest held new
+run_weaker gives are text rest held new h p = record {
+  front = p.front;
+  bytes = p.bytes;
+  parts = p.parts;
+  own = p.own;
+  kept = p.kept;
+  given = all_weaker gives are h (chars p.front) p.bytes p.given;
+}
+
+module _ (gives : ℕ → List ℕ → Type 0) where
+  -- no character yet
+  pub run_none : (text held kept : List ℕ) → kept ≡ held → RunFront gives text text held kept
+  run_none text held kept e = record {
+    front = [];
+    bytes = [];
+    parts = refl;
+    own = IsUtf8-nil;
+    kept = e ∙ sym (append-nil held);
+    given = subst (λ z. AllGiven gives z []) (sym chars-nil) refl;
+  }
+
+  -- one character more
+  pub run_more : (text rest left held kept new b : List ℕ) → IsUtf8 rest → RunFront gives text rest held kept
+      → FirstGiven gives rest b left → new ≡ kept ++ b → RunFront gives text left held new
+  run_more text rest left held kept new b u p q e =
+      let one = encode q.c in
+      let own = char_own rest left q.c u q.parts in
+      let all : chars (p.front ++ one) ≡ chars p.front ++ q.c ∷ [] =
+      chars-append p.front one p.own ∙ ap (λ z. chars p.front ++ z) (char_one q.c own) in record {
+        front = p.front ++ one;
+        bytes = p.bytes ++ b;
+        parts = p.parts ∙ ap (λ z. p.front ++ z) q.parts ∙ sym (append_assoc p.front one left);
+        own = IsUtf8-append p.front one p.own own;
+        kept = e ∙ ap (λ z. z ++ b) p.kept ∙ append_assoc held p.bytes b;
+        given = subst (λ z. AllGiven gives z (p.bytes ++ b)) (sym all)
+            (all_more gives (chars p.front) p.bytes q.c b p.given q.given);
+      }
+
+-- two more items behind the first ones
+pub take_two_set : (xs : List ℕ) (n a b : ℕ) → n + 1 < length xs
+    → take (n + 2) (set (set xs n a) (n + 1) b) ≡ take n xs ++ a ∷ b ∷ []
+take_two_set xs n a b l =
+    let ys = set xs n a in
+    let long = length-set xs n a in
+    let more : n + 2 ≡ n + 1 + 1 = omega arith in
+    ap (λ k. take k (set ys (n + 1) b)) more
+    ∙ take_more_set ys (n + 1) b (omega (arith, long, l))
+    ∙ ap (λ z. z ++ b ∷ []) (take_more_set xs n a (omega (arith, l)))
+    ∙ append_assoc (take n xs) (a ∷ []) (b ∷ [])
