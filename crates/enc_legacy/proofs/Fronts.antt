@@ -53,21 +53,6 @@ pub single_front : (t : Tables) (e : Encoding) (bytes : List ℕ) (n : ℕ) → 
     → IsFront (single_in t) e bytes n
 single_front t e bytes n h = front_ascii (single_in t) (single_in_calm t) e bytes n h (single_own t e)
 
--- lanes that are ASCII throughout
-pub single_lanes : (t : Tables) (e : Encoding) (rest : List ℕ) (n : ℕ) → n ≡ prefix_len is_ascii (take n rest) →
-    All (λ b. b < 128) (take n rest) × (steps (single_in t) false e (take n rest) ≡ record {
-      text = take n rest;
-      state = e;
-    })
-single_lanes t e rest n h =
-    let front = single_front t e (take n rest) n h in
-    let same : take n (take n rest) ≡ take n rest =
-    take_all n (take n rest) (let l = length-take n rest in omega (arith, l)) in (
-      subst (λ z. All (λ b. b < 128) z) same front.ascii,
-      subst
-          (λ z. steps (single_in t) false e z ≡ record { text = z; state = e }) same front.own,
-    )
-
 pub euc_start : (lead : ℕ) (flag : Bool) → IsEucJpState lead flag → lead ≡ 0 → record {
   lead = lead;
   flag = flag;

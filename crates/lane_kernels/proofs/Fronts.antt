@@ -1,10 +1,13 @@
 -- The length of the longest prefix that passes, piece by piece.
 use Rattle.std.proofs.Common.{◌≡◌, ℕ, ◌+◌, ◌-◌, ◌<◌, ◌≤◌, Bool, cond, List, [], ◌∷◌, true, false, inl, inr, length}
-use Rattle.std.proofs.Common.{get_or, drop, refl, ap, ap₂, sym, ◌∙◌, arith}
+use Rattle.std.proofs.Common.{get_or, drop, refl, ap, ap₂, sym, ◌∙◌, arith, subst, take, All}
 use Rattle.std.proofs.lemmas.Bool.{cases_eq, cases_lt, true≢false, eq-eqb, ne_eqb, cond-true, cond-false}
 use Rattle.std.proofs.lemmas.List.Folds.{prefix_len-append}
 use Rattle.std.proofs.lemmas.Simd.{length-chunk, chunk-drop, get_or-chunk}
-use Rattle.std.proofs.lemmas.List.Sums.{prefix_len_passes, prefix_len_stops}
+use Rattle.std.proofs.lemmas.List.Sums.{prefix_len-le-length, prefix_len_passes, prefix_len_stops}
+use Rattle.std.proofs.lemmas.List.{length-take, take-take}
+use Rattle.std.specs.Char.{is_ascii}
+use Rattle.enc_model.proofs.Fronts.{front_all}
 use Rattle.std.specs.List.{prefix_len}
 use Rattle.std.specs.Simd.Lanes.{chunk}
 
@@ -62,3 +65,15 @@ chunk_goes_on p at n xs room front whole =
           absurd (true≢false (sym passes ∙ ap p same ∙ prefix_len_stops p xs 0 (omega (arith, short, room))))
       | inr long ↦ long
     ]
+
+-- the ASCII in front of the first lane that isn't
+pub lanes_front : (bytes : List ℕ) (n : ℕ) → n ≡ prefix_len is_ascii (take 32 bytes)
+    → (n ≤ 32) × All (λ b. b < 128) (take n bytes)
+lanes_front bytes n e =
+    let lanes = take 32 bytes in
+    let short : n ≤ 32 = let w = prefix_len-le-length is_ascii lanes in let l = length-take 32 bytes in
+    omega (arith, e, w, l) in (
+      short,
+      subst (λ z. All (λ b. b < 128) z) (take-take n 32 bytes short)
+          (subst (λ k. All (λ b. b < 128) (take k lanes)) (sym e) (front_all lanes)),
+    )
