@@ -1,7 +1,5 @@
 -- Where ASCII stands for itself.
-use Rattle.std.proofs.Common.{Bool, false, inl, inr, ℕ, ◌<◌, ◌≡◌, List, [], Some, All, refl, subst, arith, take}
-use Rattle.std.proofs.lemmas.List.{take_all, length-take}
-use Rattle.enc_model.specs.Stream.{steps}
+use Rattle.std.proofs.Common.{Bool, inl, inr, ℕ, ◌<◌, ◌≡◌, List, [], Some, refl, arith}
 use Rattle.std.proofs.lemmas.Bool.Decides.{nat_tests}
 use Rattle.std.specs.List.{prefix_len}
 use Rattle.std.specs.Char.{is_ascii}

@@ -2,7 +2,7 @@
 use Rattle.std.proofs.Common.{Bool, true, false, ap, IfSome, OnSome, Option, None, ℕ, sym, subst, ◌+◌}
 use Rattle.std.proofs.Common.{◌-◌, ◌*◌, ◌<◌, ◌≤◌, ◌≡◌, List, [], ◌∷◌, Some, refl, ◌∙◌, arith, take, get_or, length, All}
 use Rattle.std.proofs.lemmas.Bool.Decides.{nat_tests}
-use Rattle.std.proofs.lemmas.List.{length-take, get_or-take, get_or-drop, take_rest}
+use Rattle.std.proofs.lemmas.List.{length-take, get_or-take}
 use Rattle.std.proofs.lemmas.List.Elements.{All-head, All-tail, All-from_get_or}
 use Rattle.std.proofs.lemmas.List.Sums.{prefix_len-le-length, prefix_len_passes}
 use Rattle.std.specs.List.{prefix_len}
@@ -11,7 +11,7 @@ use Rattle.enc_model.specs.declared.Answer.TheVariants.{Point, Nothing}
 use Rattle.enc_model.specs.declared.Charset.{Charset}
 use Rattle.enc_model.specs.declared.Charset.TheVariants.{Ascii, Lead}
 use Rattle.enc_model.specs.declared.Place.TheVariants.{In, Trail}
-use Rattle.enc_model.specs.Index.{Index, code, within}
+use Rattle.enc_model.specs.Index.{Index, code}
 use Rattle.enc_model.specs.Stream.{Handler, IsCalm, steps}
 use Rattle.enc_model.specs.Japanese.{shift_jis, shift_jis_pair, EucJp, euc_jp, euc_jp_start, euc_jp_pair, iso2022}
 use Rattle.enc_model.specs.Japanese.{Iso2022}
@@ -21,7 +21,8 @@ use Rattle.enc_model.specs.BatchLaws.{batch_sink}
 use Rattle.enc_model.proofs.Steps.{steps_none, steps_one, steps_bytes, steps_run, steps_append}
 use Rattle.enc_legacy.specs.ShiftJis.{IsShiftJisLead}
 use Rattle.enc_legacy.specs.EucJpState.{IsRow}
-use Rattle.std.proofs.Common.{drop, slice_index, slice_index_or}
+use Rattle.enc_legacy.specs.Iso2022State.{IsIso2022Row}
+use Rattle.std.proofs.Common.{slice_index_or}
 
 take_one : (xs : List ℕ) → 0 < length xs → take 1 xs ≡ get_or xs 0 0 ∷ []
 take_one [] l = absurd (omega (arith, l))
@@ -103,6 +104,22 @@ after_nothing h s rest n old mid e t =
       omega (arith, size),
       λ given new more. (batch_sink {E = ℕ}).both old mid new [] given took more,
     )
+
+-- no pair was taken
+pub pairs_none : {S : Type 0} (h : Handler S) (s : S) (P : ℕ → ℕ → ℕ → Type 0) (rest old new : List ℕ) (n : ℕ) → n ≡ 0
+    → ((given : List ℕ) × ArePairs P (take n rest) given × BatchTook old given new)
+    → BatchTook old (steps h false s []).text new
+pairs_none h s P rest old new n e took =
+    go took.0 (subst (λ k. ArePairs P (take k rest) took.0) e took.1) took.2
+  where
+    go : (given : List ℕ) → ArePairs P [] given → BatchTook old given new → BatchTook old (steps h false s []).text new
+    go [] all t = subst (λ z. BatchTook old z new) (sym (ap (λ run. run.text) (steps_none h s))) t
+    go (c ∷ given) all t = absurd all
+
+-- the state after nothing
+pub state_none : {S : Type 0} (h : Handler S) (s next : S) (rest : List ℕ) (n : ℕ) → n ≡ 0
+    → next ≡ (steps h false s (take n rest)).state → next ≡ s
+state_none h s next rest n e is = is ∙ (rw e (ap (λ run. run.state) (steps_none h s)))
 
 -- SHIFT_JIS
 
@@ -202,17 +219,39 @@ iso_trail : (i : Index) (a b c : ℕ) (output : Charset) → 0x21 ≤ b → b �
 unfolding iso2022
 iso_trail i a b c output l h e = rw e (grind (arith, nat_tests))
 
-pub iso_two : (i : Index) (output : Charset) (flag : Bool) (rest : List ℕ) (c : ℕ) → 2 ≤ length rest
-    → (0x21 ≤ get_or rest 0 0) × (get_or rest 0 0 ≤ 0x7E) →
-    (0x21 ≤ get_or rest 1 0) × (get_or rest 1 0 ≤ 0x7E) → code i
-    ((get_or rest 0 0 - 0x21) * 94 + (get_or rest 1 0 - 0x21)) ≡ Some c →
-    steps (iso2022 i) false (record { place = In Lead; output = output; flag = flag }) (take 2 rest)
+-- what such a pair stands for by these codes
+abbrev pub IsIso2022Pair : List (Option ℕ) → ℕ → ℕ → ℕ → Type 0
+IsIso2022Pair r a b c =
+    IsIso2022Row a × IsIso2022Row b × (slice_index_or r ((a - 0x21) * 94 + (b - 0x21)) None ≡ Some c)
+
+iso_two : (i : Index) (output : Charset) (flag : Bool) (r : List (Option ℕ)) (a b c : ℕ)
+    → ((p : ℕ) → slice_index_or r p None ≡ code i p) → IsIso2022Pair r a b c →
+    steps (iso2022 i) false (record { place = In Lead; output = output; flag = flag }) (a ∷ b ∷ [])
     ≡ record { text = c ∷ []; state = record { place = In Lead; output = output; flag = false } }
-iso_two i output flag rest c l lead trail e =
-    let a = get_or rest 0 0 in
-    let b = get_or rest 1 0 in
-    two_read (iso2022 i) (iso2022_calm i) _ _ _ rest c l (iso_lead i a output flag lead.0 lead.1)
-    (iso_trail i a b c output trail.0 trail.1 e)
+iso_two i output flag r a b c codes p =
+    let lead = p.0 in
+    let trail = p.1 in
+    two_read (iso2022 i) (iso2022_calm i) _ _ _ (a ∷ b ∷ []) c (omega arith)
+    (iso_lead i a output flag lead.0 lead.1)
+    (iso_trail i a b c output trail.0 trail.1 (sym (codes ((a - 0x21) * 94 + (b - 0x21))) ∙ p.2))
+
+-- the state after pairs: the first of them clears the flag
+pub iso_pairs : (i : Index) (output : Charset) (flag : Bool) (r : List (Option ℕ)) (bytes given : List ℕ)
+    → ((p : ℕ) → slice_index_or r p None ≡ code i p) → 0 < length bytes → ArePairs (IsIso2022Pair r) bytes given →
+    steps (iso2022 i) false (record { place = In Lead; output = output; flag = flag }) bytes
+    ≡ record { text = given; state = record { place = In Lead; output = output; flag = false } }
+iso_pairs i output flag r [] given codes some all = absurd (omega (arith, some))
+iso_pairs i output flag r (a ∷ []) [] codes some all = absurd all
+iso_pairs i output flag r (a ∷ []) (c ∷ given) codes some all = absurd all
+iso_pairs i output flag r (a ∷ b ∷ bytes) [] codes some all = absurd all
+iso_pairs i output flag r (a ∷ b ∷ bytes) (c ∷ given) codes some all =
+    let h = iso2022 i in
+    let s : Iso2022 = record { place = In Lead; output = output; flag = flag } in
+    let next : Iso2022 = record { place = In Lead; output = output; flag = false } in
+    let first = iso_two i output flag r a b c codes all.0 in
+    let rest = pairs_run h (iso2022_calm i) next (IsIso2022Pair r)
+    (λ x y z p. iso_two i output false r x y z codes p) bytes given all.1 in
+    steps_append h (iso2022_calm i) false s (a ∷ b ∷ []) bytes ∙ (rw (first, rest) refl)
 
 iso_own : (i : Index) (output : Charset) (flag : Bool) (b : ℕ) → is_plain_2022 b ≡ true →
     iso2022 i (record { place = In Ascii; output = output; flag = flag }) (Some b)

@@ -124,7 +124,8 @@ fn row_char(ready: &[Option<Utf8Char>], lead: u8, b: u8) -> Option<&Utf8Char>
 }
 
 impl PairReader for EucJpState {
-    ghost stand_for = { λ r a b c. IsRow a × IsRow b × (slice_index_or r ((a - 0xA1) * 94 + (b - 0xA1)) None ≡ Some c) };
+    ghost stand_for = { λ r a b c. IsRow a × IsRow b
+        × (slice_index_or r ((a - 0xA1) * 94 + (b - 0xA1)) None ≡ Some c) };
 
     #[inline(always)]
     fn ready_pair<'a>(

@@ -1,7 +1,6 @@
 use Rattle.std.proofs.Common.{◌<◌, sym, subst, arith, take, false, All}
 use Rattle.std.proofs.lemmas.List.{length-take, get_or-take}
 use Rattle.std.proofs.lemmas.List.Elements.{All-from_get_or}
-use Rattle.enc_model.specs.Batches.{BatchTook}
 use Rattle.enc_model.specs.Indexes.{tables}
 use Rattle.enc_model.specs.Stream.{steps}
 use Rattle.enc_model.proofs.Feeding.{feed_refused}

@@ -1,4 +1,4 @@
-use Rattle.std.proofs.Common.{subst, ap, ◌∙◌, sym, false}
+use Rattle.std.proofs.Common.{subst, false}
 use Rattle.enc_model.specs.Sink.{Given}
 use Rattle.enc_model.specs.Indexes.{tables}
 use Rattle.enc_legacy.proofs.SinglesSteps.{single_in_steps, same_encoding}
