@@ -83,7 +83,8 @@ fn store_each(room: &mut [u8; ROOM], from: usize, chars: &[Utf8Char], bytes: &[u
     requires text { is_utf8 (take from room.old) ≡ true }
     requires long { length chars.now ≡ 256 }
     requires room { from + 4 * length bytes.now ≤ ROOM }
-    ensures took { BatchTook (take from room.old) (map (λ b. slice_index chars.now b) bytes.now) (take result room.new) }
+    ensures took { BatchTook (take from room.old) (map (λ b. slice_index chars.now b) bytes.now)
+        (take result room.new) }
     ensures text { is_utf8 (take result room.new) ≡ true }
     ensures few { result ≤ from + 4 * length bytes.now }
 {

@@ -1,4 +1,5 @@
-use Rattle.std.proofs.Common.{ℕ, ◌≡◌, ◌<◌, ◌+◌, refl, ◌++◌, ◌∷◌, [], ◌∙◌, ap, arith, length, take, map, get_or, slice_index}
+use Rattle.std.proofs.Common.{ℕ, ◌≡◌, ◌<◌, ◌+◌, refl, ◌++◌, ◌∷◌, [], ◌∙◌, ap, arith, length, take, map, get_or}
+use Rattle.std.proofs.Common.{slice_index}
 use Rattle.std.proofs.lemmas.List.{get_or_read_under}
 use Rattle.enc_model.specs.BatchLaws.{batch_sink}
 use Rattle.enc_model.proofs.Gathered.{still_text, took_char}

@@ -1,4 +1,4 @@
-use Rattle.std.proofs.Common.{◌≡◌, ◌≤◌, ◌+◌, ◌++◌, arith, length, take}
+use Rattle.std.proofs.Common.{◌≤◌, ◌+◌, arith, length, take}
 use Rattle.enc_model.proofs.Stored.{front_kept, took_front}
 use Rattle.enc_model.proofs.batch.store_front.Goals as goal
 

@@ -1,5 +1,5 @@
-use Rattle.std.proofs.Common.{ℕ, ◌≡◌, ◌<◌, ◌+◌, ◌++◌, ◌∷◌, [], refl, ◌∙◌, ap, ap₂, subst, arith, length, take, map, get_or}
-use Rattle.std.proofs.Common.{slice_index}
+use Rattle.std.proofs.Common.{ℕ, ◌≡◌, ◌<◌, ◌+◌, ◌++◌, ◌∷◌, [], refl, ◌∙◌, ap, ap₂, subst, arith, length, take, map}
+use Rattle.std.proofs.Common.{get_or, slice_index}
 use Rattle.std.proofs.lemmas.List.{get_or_read_under, length-take-le}
 use Rattle.enc_model.specs.Batches.{BatchTook}
 use Rattle.enc_model.proofs.Gathered.{still_text, took_char}
@@ -24,7 +24,8 @@ returns-then-front-eq-LANES-clause-took g c =
     let bytes = c.args.bytes.now in
     let char : ℕ → ℕ = λ b. slice_index c.args.chars.now b in
     let own = own_map char (take c.in-Some.front bytes) c.requires.own c.in-Some.ensures.ascii in
-    subst (λ z. BatchTook (take c.args.from c.args.room.now) z (take c.store_front-end.result c.store_front-end.new.room))
+    let new = take c.store_front-end.result c.store_front-end.new.room in
+    subst (λ z. BatchTook (take c.args.from c.args.room.now) z new)
     (own ∙ ap (λ n. map char (take n bytes)) c.if-front-eq-LANES.true) c.store_front-end.ensures.took
 
 pub returns-clause-took : goal.returns-clause-took
@@ -37,8 +38,8 @@ returns-clause-took g c =
     let long = c.requires.long in
     let below : b < length c.args.chars.now = omega (arith, fits, long) in
     let code = c.index-chars-bytes.result in
-    let is : code ≡ char b = get_or_read_under c.args.chars.now b (length c.args.chars.now) code 0 c.index-chars-bytes.is
-    below refl in
+    let is : code ≡ char b = get_or_read_under c.args.chars.now b (length c.args.chars.now) code 0
+    c.index-chars-bytes.is below refl in
     let inside : i < length bytes = let w = c.in-Some.ensures.within in let n = c.if-front-eq-LANES.false in let many =
     c.requires.many in omega (arith, w, n, many) in
     let own = own_map char (take i bytes) c.requires.own c.in-Some.ensures.ascii in
@@ -53,5 +54,6 @@ returns-clause-took g c =
 pub returns-clause-text : goal.returns-clause-text
 returns-clause-text g c =
     let e = c.store_code.ensures in
-    still_text (take c.store_front-end.result c.store_front-end.new.room) (take c.store_code.result c.store_code.new.bytes)
+    let old = take c.store_front-end.result c.store_front-end.new.room in
+    still_text old (take c.store_code.result c.store_code.new.bytes)
     c.index-chars-bytes.result c.store_front-end.ensures.text e.scalar e.code

@@ -1,4 +1,4 @@
-use Rattle.std.proofs.Common.{ℕ, ◌≤◌, ◌+◌, ◌++◌, ◌∷◌, [], refl, subst, arith, length, take, get_or}
+use Rattle.std.proofs.Common.{◌≤◌, ◌+◌, ◌++◌, ◌∷◌, [], refl, subst, arith, length, take, get_or}
 use Rattle.enc_model.specs.Batches.{ArePairs}
 use Rattle.enc_model.proofs.Gathered.{still_text, took_char}
 use Rattle.enc_model.proofs.Stored.{pairs_more, took_on, two_more}
