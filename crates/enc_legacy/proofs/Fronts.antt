@@ -1,5 +1,8 @@
 -- Where ASCII stands for itself.
-use Rattle.std.proofs.Common.{Bool, inl, inr, ℕ, ◌<◌, ◌≡◌, List, [], Some, refl, arith}
+use Rattle.std.proofs.Common.{Bool, inl, inr, ℕ, ◌<◌, ◌≤◌, ◌≡◌, List, [], Some, refl, arith, take, length}
+use Rattle.enc_model.specs.Stream.{Handler, IsCalm}
+use Rattle.enc_model.proofs.Steps.{steps_run}
+use Rattle.lane_kernels.proofs.Fronts.{lanes_front}
 use Rattle.std.proofs.lemmas.Bool.Decides.{nat_tests}
 use Rattle.std.specs.List.{prefix_len}
 use Rattle.std.specs.Char.{is_ascii}
@@ -38,6 +41,26 @@ euc_own i j b l = grind (arith, nat_tests)
 pub euc_front : (i j : Index) (s : EucJp) (bytes : List ℕ) (n : ℕ) → s ≡ euc_jp_start → n ≡ prefix_len is_ascii bytes
     → IsFront (euc_jp i j) s bytes n
 euc_front i j s bytes n e h = rw e (front_ascii (euc_jp i j) (euc_jp_calm i j) euc_jp_start bytes n h (euc_own i j))
+
+-- the same of lanes
+lanes_are : {S : Type 0} (h : Handler S) → IsCalm h → (s : S) (bytes : List ℕ) (n : ℕ)
+    → ((b : ℕ) → b < 128 → h s (Some b) ≡ record { state = s; answer = Point b; restored = [] }) → 32 ≤ length bytes
+    → n ≡ prefix_len is_ascii (take 32 bytes) → IsFront h s bytes n
+lanes_are h calm s bytes n plain many e =
+    let f = lanes_front bytes n e in record {
+      within = let few = f.0 in omega (arith, few, many);
+      ascii = f.1;
+      own = steps_run h calm (λ b. b < 128) s plain (take n bytes) f.1;
+    }
+
+pub sjis_lanes : (i : Index) (s : ℕ) (bytes : List ℕ) (n : ℕ) → s ≡ 0 → 32 ≤ length bytes
+    → n ≡ prefix_len is_ascii (take 32 bytes) → IsFront (shift_jis i) s bytes n
+sjis_lanes i s bytes n e many h = rw e (lanes_are (shift_jis i) (shift_jis_calm i) 0 bytes n (sjis_own i) many h)
+
+pub euc_lanes : (i j : Index) (s : EucJp) (bytes : List ℕ) (n : ℕ) → s ≡ euc_jp_start → 32 ≤ length bytes
+    → n ≡ prefix_len is_ascii (take 32 bytes) → IsFront (euc_jp i j) s bytes n
+euc_lanes i j s bytes n e many h =
+    rw e (lanes_are (euc_jp i j) (euc_jp_calm i j) euc_jp_start bytes n (euc_own i j) many h)
 
 single_own : (t : Tables) (e : Encoding) (b : ℕ) → b < 128 → single_in t e (Some b) ≡ record {
   state = e;

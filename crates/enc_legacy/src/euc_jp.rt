@@ -15,7 +15,7 @@ use enc_index::{IndexSet, Kind};
 use enc_model::{
     Answer, Batch, BlockDecoder, Decoder, PairReader, Restored, Sink, Utf8Char, feed, finish,
 };
-use lane_kernels::ascii_front;
+use lane_kernels::{ascii_front, ascii_lanes};
 use std::marker::Model;
 
 /// A decoder of EUC-JP (Encoding Standard, section 12.1.1): the lead that is kept, or 0, and whether it is one of
@@ -144,6 +144,16 @@ impl PairDecoder for EucJpState {
     fn ascii(&self, _indexes: &IndexSet, bytes: &[u8]) -> usize {
         if self.lead == 0 {
             ascii_front(bytes)
+        } else {
+            0
+        }
+    }
+
+    #[inline(always)]
+    #[tactic(auto, using(enc_model::proofs::Fronts::front_none, crate::proofs::Fronts::euc_front))]
+    fn ascii_lanes(&self, _indexes: &IndexSet, bytes: &[u8]) -> usize {
+        if self.lead == 0 {
+            ascii_lanes(bytes)
         } else {
             0
         }

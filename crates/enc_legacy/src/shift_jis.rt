@@ -16,7 +16,7 @@ use enc_index::{IndexSet, Kind};
 use enc_model::{
     Answer, Batch, BlockDecoder, Decoder, PairReader, Restored, Sink, Utf8Char, feed, finish,
 };
-use lane_kernels::ascii_front;
+use lane_kernels::{ascii_front, ascii_lanes};
 use std::marker::Model;
 
 /// A decoder of Shift_JIS (Encoding Standard, section 12.3.1): the lead that is kept, or 0.
@@ -144,6 +144,16 @@ impl PairDecoder for ShiftJisState {
     fn ascii(&self, _indexes: &IndexSet, bytes: &[u8]) -> usize {
         if self.lead == 0 {
             ascii_front(bytes)
+        } else {
+            0
+        }
+    }
+
+    #[inline(always)]
+    #[tactic(auto, using(enc_model::proofs::Fronts::front_none, crate::proofs::Fronts::sjis_front))]
+    fn ascii_lanes(&self, _indexes: &IndexSet, bytes: &[u8]) -> usize {
+        if self.lead == 0 {
+            ascii_lanes(bytes)
         } else {
             0
         }

@@ -7,7 +7,7 @@ ghost use Rattle.enc_model.specs.Batches.{BatchTook};
 ghost use Rattle.enc_model.specs.Front.{IsFront};
 ghost use Rattle.enc_model.specs.Stream.{steps};
 
-use enc_model::{Batch, Decoder, PairReader, ROOM, Utf8Char, decode_each};
+use enc_model::{Batch, Decoder, LANES, PairReader, ROOM, Utf8Char, decode_each};
 
 /// A decoder that reads some bytes at once: a run, the bytes of a character, or else one byte.
 pub trait Strider: Decoder {
@@ -27,6 +27,12 @@ pub trait PairDecoder: Decoder + PairReader {
     /// How many bytes at the front are ASCII and stand for themselves from here.
     fn ascii(&self, tables: &Self::Tables, bytes: &[u8]) -> usize
         ensures { IsFront (Self.handler tables.now) self.now bytes.now result };
+
+    /// How many of the first 32 bytes are ASCII and stand for themselves from here.
+    fn ascii_lanes(&self, tables: &Self::Tables, bytes: &[u8]) -> usize
+        requires { LANES ≤ length bytes.now }
+        ensures few { result ≤ LANES }
+        ensures front { IsFront (Self.handler tables.now) self.now bytes.now result };
 
     /// Characters by their pointers, where a table has them ready and pairs are read from here.
     fn ready<'a>(&self, tables: &'a Self::Tables) -> Option<&'a [Option<Utf8Char>]>
@@ -57,6 +63,30 @@ fn read_pairs<D: PairDecoder>(
     }
 }
 
+/// Reads some of the ASCII that these begin with, and says how many bytes.
+#[inline(always)]
+fn read_ascii<D: PairDecoder>(
+    state: &D,
+    tables: &D::Tables,
+    rest: &[u8],
+    batch: &mut Batch,
+) -> usize
+    requires { length batch.old + 12 * length rest.now ≤ ROOM }
+    ensures within { result ≤ length rest.now }
+    ensures text { BatchTook batch.old (steps (D.handler tables.now) false state.now (take result rest.now)).text
+        batch.new }
+    ensures state { state.now ≡ (steps (D.handler tables.now) false state.now (take result rest.now)).state }
+{
+    if rest.len() < LANES {
+        let run = state.ascii(tables, rest);
+        batch.push_ascii(&rest[..run]);
+        return run;
+    }
+    let run = state.ascii_lanes(tables, rest);
+    batch.push_front(rest, run);
+    run
+}
+
 /// Reads the ASCII that these begin with, or the pairs as long as they are ready, and says how many bytes they are.
 #[inline(always)]
 fn read_ready<D: PairDecoder>(
@@ -75,9 +105,7 @@ fn read_ready<D: PairDecoder>(
     if rest[0] >= 0x80 {
         return read_pairs(state, tables, rest, batch);
     }
-    let run = state.ascii(tables, rest);
-    batch.push_ascii(&rest[..run]);
-    run
+    read_ascii(state, tables, rest, batch)
 }
 
 /// Reads ASCII, or pairs that are ready, or else one byte, and says how many bytes.

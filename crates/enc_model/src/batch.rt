@@ -232,6 +232,20 @@ impl Room {
         at
     }
 
+    /// Stores the ASCII that these begin with, of so many bytes.
+    #[inline(always)]
+    fn store_front(&mut self, bytes: &[u8], front: usize)
+        requires text { is_utf8 self.old ≡ true }
+        requires many { LANES ≤ length bytes.now }
+        requires within { front ≤ LANES }
+        requires ascii { All (λ b. b < 128) (take front bytes.now) }
+        requires room { length self.old + LANES ≤ ROOM }
+        ensures took { BatchTook self.old (take front bytes.now) self.new }
+        ensures text { is_utf8 self.new ≡ true }
+    {
+        self.len = store_front(&mut self.bytes, self.len, bytes, front);
+    }
+
     fn append(&mut self, run: &[u8])
         requires { length self.old + length run.now ≤ ROOM }
         ensures { self.new ≡ self.old ++ run.now }
@@ -333,6 +347,18 @@ impl Batch {
         ensures { BatchTook self.old (map (λ b. slice_index chars.now b) bytes.now) self.new }
     {
         self.room.store_bytes(fronts, chars, bytes);
+    }
+
+    /// Takes the ASCII that these begin with, of so many bytes, 32 stored at once.
+    #[inline(always)]
+    pub fn push_front(&mut self, bytes: &[u8], front: usize)
+        requires many { LANES ≤ length bytes.now }
+        requires within { front ≤ LANES }
+        requires ascii { All (λ b. b < 128) (take front bytes.now) }
+        requires room { length self.old + LANES ≤ ROOM }
+        ensures { BatchTook self.old (take front bytes.now) self.new }
+    {
+        self.room.store_front(bytes, front);
     }
 
     /// Takes what the pairs that these begin with stand for as long as they are ready, and says how many bytes they

@@ -2,7 +2,8 @@
 
 ghost use Rattle.std.specs.Prelude.{◌≤◌, length};
 
-use crate::lanes::{Ascii, Class, LANES};
+use crate::front::ascii_lanes;
+use crate::lanes::LANES;
 use enc_model::AsciiFinder;
 use std::simd::prelude::*;
 
@@ -28,6 +29,6 @@ impl AsciiFinder for AsciiLanes {
         if are_dense(bytes) {
             return None;
         }
-        Some(Ascii.run(bytes, 0))
+        Some(ascii_lanes(bytes))
     }
 }

@@ -1,6 +1,6 @@
 //! The longest prefix of bytes of a class.
 
-ghost use Rattle.std.specs.Prelude.{◌≡◌, ◌≤◌, ◌+◌, length, drop};
+ghost use Rattle.std.specs.Prelude.{◌≡◌, ◌≤◌, ◌+◌, length, drop, take};
 ghost use Rattle.std.specs.List.{prefix_len};
 ghost use Rattle.std.specs.Char.{is_ascii};
 ghost use Rattle.enc_model.specs.Index.{within};
@@ -53,6 +53,15 @@ pub fn ascii_front(bytes: &[u8]) -> usize
 {
     let skipped = skip_ascii(bytes);
     skipped + front(&Ascii, &bytes[skipped..])
+}
+
+/// How many of the first 32 bytes are below 80 before the first that isn't.
+#[inline(always)]
+pub fn ascii_lanes(bytes: &[u8]) -> usize
+    requires { LANES ≤ length bytes.now }
+    ensures { result ≡ prefix_len is_ascii (take LANES bytes.now) }
+{
+    Ascii.run(bytes, 0)
 }
 
 /// How many bytes are below 80 and none of 0E, 0F and 1B before the first that isn't so.

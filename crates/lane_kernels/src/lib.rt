@@ -11,7 +11,7 @@ mod pairing;
 mod units;
 
 pub use finder::AsciiLanes;
-pub use front::{ascii_front, plain_front_2022, range_front};
+pub use front::{ascii_front, ascii_lanes, plain_front_2022, range_front};
 pub use laws::paired_units_decode;
 pub use narrowing::narrow;
 pub use order::Order;
