@@ -25,7 +25,7 @@ use crate::written::Written;
 use crate::written_out::write_out;
 use enc_index::{IndexSet, Kind, Pointers};
 use enc_model::{Encoding, Mode};
-use lane_kernels::{ascii_lanes, plain_lanes_2022};
+use lane_kernels::{ascii_chunk, plain_chunk_2022};
 use std::alloc::AllocError;
 use std::marker::Model;
 
@@ -54,10 +54,10 @@ fn own_lanes(to: Encoding, shift: ShiftState, lanes: &[u8; LANES]) -> usize
 {
     match to {
         Encoding::Iso2022Jp => match shift {
-            ShiftState::Ascii => plain_lanes_2022(lanes),
+            ShiftState::Ascii => plain_chunk_2022(lanes),
             ShiftState::Roman | ShiftState::Jis => 0,
         },
-        _ => ascii_lanes(lanes),
+        _ => ascii_chunk(lanes),
     }
 }
 

@@ -1,7 +1,8 @@
 -- Where ASCII stands for itself.
-use Rattle.std.proofs.Common.{Bool, false, inl, inr, ℕ, ◌<◌, ◌≡◌, List, [], Some, All, refl, subst, arith, take}
-use Rattle.std.proofs.lemmas.List.{take_all, length-take}
-use Rattle.enc_model.specs.Stream.{steps}
+use Rattle.std.proofs.Common.{Bool, inl, inr, ℕ, ◌<◌, ◌≤◌, ◌≡◌, List, [], Some, refl, arith, take, length}
+use Rattle.enc_model.specs.Stream.{Handler, IsCalm}
+use Rattle.enc_model.proofs.Steps.{steps_run}
+use Rattle.lane_kernels.proofs.Fronts.{lanes_front}
 use Rattle.std.proofs.lemmas.Bool.Decides.{nat_tests}
 use Rattle.std.specs.List.{prefix_len}
 use Rattle.std.specs.Char.{is_ascii}
@@ -41,6 +42,26 @@ pub euc_front : (i j : Index) (s : EucJp) (bytes : List ℕ) (n : ℕ) → s ≡
     → IsFront (euc_jp i j) s bytes n
 euc_front i j s bytes n e h = rw e (front_ascii (euc_jp i j) (euc_jp_calm i j) euc_jp_start bytes n h (euc_own i j))
 
+-- the same of lanes
+lanes_are : {S : Type 0} (h : Handler S) → IsCalm h → (s : S) (bytes : List ℕ) (n : ℕ)
+    → ((b : ℕ) → b < 128 → h s (Some b) ≡ record { state = s; answer = Point b; restored = [] }) → 32 ≤ length bytes
+    → n ≡ prefix_len is_ascii (take 32 bytes) → IsFront h s bytes n
+lanes_are h calm s bytes n plain many e =
+    let f = lanes_front bytes n e in record {
+      within = let few = f.0 in omega (arith, few, many);
+      ascii = f.1;
+      own = steps_run h calm (λ b. b < 128) s plain (take n bytes) f.1;
+    }
+
+pub sjis_lanes : (i : Index) (s : ℕ) (bytes : List ℕ) (n : ℕ) → s ≡ 0 → 32 ≤ length bytes
+    → n ≡ prefix_len is_ascii (take 32 bytes) → IsFront (shift_jis i) s bytes n
+sjis_lanes i s bytes n e many h = rw e (lanes_are (shift_jis i) (shift_jis_calm i) 0 bytes n (sjis_own i) many h)
+
+pub euc_lanes : (i j : Index) (s : EucJp) (bytes : List ℕ) (n : ℕ) → s ≡ euc_jp_start → 32 ≤ length bytes
+    → n ≡ prefix_len is_ascii (take 32 bytes) → IsFront (euc_jp i j) s bytes n
+euc_lanes i j s bytes n e many h =
+    rw e (lanes_are (euc_jp i j) (euc_jp_calm i j) euc_jp_start bytes n (euc_own i j) many h)
+
 single_own : (t : Tables) (e : Encoding) (b : ℕ) → b < 128 → single_in t e (Some b) ≡ record {
   state = e;
   answer = Point b;
@@ -52,21 +73,6 @@ single_own t e b l = grind (arith, nat_tests)
 pub single_front : (t : Tables) (e : Encoding) (bytes : List ℕ) (n : ℕ) → n ≡ prefix_len is_ascii bytes
     → IsFront (single_in t) e bytes n
 single_front t e bytes n h = front_ascii (single_in t) (single_in_calm t) e bytes n h (single_own t e)
-
--- lanes that are ASCII throughout
-pub single_lanes : (t : Tables) (e : Encoding) (rest : List ℕ) (n : ℕ) → n ≡ prefix_len is_ascii (take n rest) →
-    All (λ b. b < 128) (take n rest) × (steps (single_in t) false e (take n rest) ≡ record {
-      text = take n rest;
-      state = e;
-    })
-single_lanes t e rest n h =
-    let front = single_front t e (take n rest) n h in
-    let same : take n (take n rest) ≡ take n rest =
-    take_all n (take n rest) (let l = length-take n rest in omega (arith, l)) in (
-      subst (λ z. All (λ b. b < 128) z) same front.ascii,
-      subst
-          (λ z. steps (single_in t) false e z ≡ record { text = z; state = e }) same front.own,
-    )
 
 pub euc_start : (lead : ℕ) (flag : Bool) → IsEucJpState lead flag → lead ≡ 0 → record {
   lead = lead;

@@ -1,13 +1,15 @@
 -- The steps of the single-byte decoders in one handler are those of each encoding's own.
 use Rattle.std.proofs.Common.{◌++◌, ◌-◌, ◌<◌, None, Option, All, map, slice_index, sym, nat_lt, if◌then◌else◌, ℕ, zero}
 use Rattle.std.proofs.Common.{suc, ◌≡◌, ◌+◌, ◌*◌, List, [], ◌∷◌, Bool, true, false, Some, Result, Ok, Err, OnOk, length}
-use Rattle.std.proofs.Common.{refl, ap, ◌∙◌}
+use Rattle.std.proofs.Common.{refl, ap, ◌∙◌, arith, subst, take}
+use Rattle.std.proofs.lemmas.Bool.Decides.{nat_tests}
 use Rattle.enc_model.specs.declared.Encoding.{Encoding}
 use Rattle.enc_model.specs.Encode.{Tables}
 use Rattle.std.specs.Prelude.{unwrap_or}
 use Rattle.std.proofs.lemmas.List.Elements.{All-head, All-tail}
 use Rattle.enc_model.specs.declared.Answer.TheVariants.{Point}
-use Rattle.enc_model.specs.Index.{code}
+use Rattle.enc_model.specs.Batches.{BatchTook}
+use Rattle.enc_model.specs.Index.{Index, code}
 use Rattle.enc_model.specs.Stream.{Run, said, after, steps, steps_within, all_bytes, byte_of}
 use Rattle.enc_model.proofs.Steps.{steps_bytes}
 use Rattle.enc_index.specs.Bytes.{byte_char}
@@ -71,3 +73,23 @@ single_chars t e chars bytes table all =
         ap (λ (r : Run Encoding). r.text ++ (all_bytes f r.state bytes).text) (byte_given t e b)
         ∙ ap (λ z. byte_char (t.single e) b ∷ z) (go bytes (All-tail (λ x. x < 256) b bytes a))
         ∙ ap (λ z. z ∷ map (λ x. slice_index chars x) bytes) (sym (table b (All-head (λ x. x < 256) b bytes a)))
+
+-- the state stays
+pub single_state : (t : Tables) (e : Encoding) (bytes : List ℕ) → e ≡ (steps (single_in t) false e bytes).state
+single_state t e bytes = sym (ap (λ run. run.state) (single_in_steps t false e bytes))
+
+byte_own : (index : Index) (b : ℕ) → b < 128 → byte_char index b ≡ b
+byte_own index b l = grind (arith, nat_tests)
+
+-- ASCII stands for itself
+pub own_chars : (index : Index) (chars : List ℕ) → ((b : ℕ) → b < 256 → slice_index chars b ≡ byte_char index b)
+    → (b : ℕ) → b < 128 → slice_index chars b ≡ b
+own_chars index chars table b l = table b (omega (arith, l)) ∙ byte_own index b l
+
+-- what was gathered of the first bytes
+pub singles_gathered : (t : Tables) (e : Encoding) (chars rest old new : List ℕ) (n : ℕ)
+    → ((b : ℕ) → b < 256 → slice_index chars b ≡ byte_char (t.single e) b) → All (λ b. b < 256) (take n rest)
+    → BatchTook old (map (λ b. slice_index chars b) (take n rest)) new
+    → BatchTook old (steps (single_in t) false e (take n rest)).text new
+singles_gathered t e chars rest old new n table all took =
+    subst (λ z. BatchTook old z new) (single_chars t e chars (take n rest) table all) took

@@ -2,7 +2,7 @@
 use Rattle.std.proofs.Common.{Bool, true, false, ap, IfSome, OnSome, Option, None, ℕ, sym, subst, ◌+◌}
 use Rattle.std.proofs.Common.{◌-◌, ◌*◌, ◌<◌, ◌≤◌, ◌≡◌, List, [], ◌∷◌, Some, refl, ◌∙◌, arith, take, get_or, length, All}
 use Rattle.std.proofs.lemmas.Bool.Decides.{nat_tests}
-use Rattle.std.proofs.lemmas.List.{length-take, get_or-take, get_or-drop, take_rest}
+use Rattle.std.proofs.lemmas.List.{length-take, get_or-take}
 use Rattle.std.proofs.lemmas.List.Elements.{All-head, All-tail, All-from_get_or}
 use Rattle.std.proofs.lemmas.List.Sums.{prefix_len-le-length, prefix_len_passes}
 use Rattle.std.specs.List.{prefix_len}
@@ -11,18 +11,18 @@ use Rattle.enc_model.specs.declared.Answer.TheVariants.{Point, Nothing}
 use Rattle.enc_model.specs.declared.Charset.{Charset}
 use Rattle.enc_model.specs.declared.Charset.TheVariants.{Ascii, Lead}
 use Rattle.enc_model.specs.declared.Place.TheVariants.{In, Trail}
-use Rattle.enc_model.specs.Index.{Index, code, within}
+use Rattle.enc_model.specs.Index.{Index, code}
 use Rattle.enc_model.specs.Stream.{Handler, IsCalm, steps}
 use Rattle.enc_model.specs.Japanese.{shift_jis, shift_jis_pair, EucJp, euc_jp, euc_jp_start, euc_jp_pair, iso2022}
 use Rattle.enc_model.specs.Japanese.{Iso2022}
 use Rattle.enc_model.proofs.Calm.{shift_jis_calm, euc_jp_calm, iso2022_calm}
-use Rattle.enc_model.specs.Batches.{BatchTook}
+use Rattle.enc_model.specs.Batches.{ArePairs, BatchTook}
 use Rattle.enc_model.specs.BatchLaws.{batch_sink}
 use Rattle.enc_model.proofs.Steps.{steps_none, steps_one, steps_bytes, steps_run, steps_append}
 use Rattle.enc_legacy.specs.ShiftJis.{IsShiftJisLead}
 use Rattle.enc_legacy.specs.EucJpState.{IsRow}
-use Rattle.enc_legacy.specs.Ready.{IsReady}
-use Rattle.std.proofs.Common.{drop, slice_index, slice_index_or}
+use Rattle.enc_legacy.specs.Iso2022State.{IsIso2022Row}
+use Rattle.std.proofs.Common.{slice_index_or}
 
 take_one : (xs : List ℕ) → 0 < length xs → take 1 xs ≡ get_or xs 0 0 ∷ []
 take_one [] l = absurd (omega (arith, l))
@@ -54,14 +54,44 @@ module _ {S : Type 0} (h : Handler S) (calm : IsCalm h) where
   two_read s mid next rest c l e f =
       rw (take_two rest l) (steps_bytes h calm s (get_or rest 0 0 ∷ get_or rest 1 0 ∷ []) ∙ (rw (e, f) refl))
 
--- a byte of a part in which all are so
-pub part_byte : (P : ℕ → Type 0) (rest : List ℕ) (end at k : ℕ) → All P (take end rest) → at + k < end
-    → end ≤ length rest → P (slice_index (take (length rest - at) (drop at rest)) k)
-part_byte P rest end at k all inside few =
-    let long : at + k < length (take end rest) = let t = length-take end rest in omega (arith, t, inside, few) in
-    rw (take_rest rest at)
-    (subst P (sym (get_or-drop at rest k 0))
-    (subst P (get_or-take end rest (at + k) 0 inside) (all (at + k) 0 long)))
+  -- pairs that stand for characters from here and lead back here
+  pub pairs_run : (s : S) (P : ℕ → ℕ → ℕ → Type 0)
+      → ((a b c : ℕ) → P a b c → steps h false s (a ∷ b ∷ []) ≡ record { text = c ∷ []; state = s })
+      → (bytes given : List ℕ) → ArePairs P bytes given → steps h false s bytes ≡ record { text = given; state = s }
+  pairs_run s P two [] [] all = steps_none h s
+  pairs_run s P two [] (c ∷ given) all = absurd all
+  pairs_run s P two (a ∷ []) [] all = absurd all
+  pairs_run s P two (a ∷ []) (c ∷ given) all = absurd all
+  pairs_run s P two (a ∷ b ∷ bytes) [] all = absurd all
+  pairs_run s P two (a ∷ b ∷ bytes) (c ∷ given) all =
+      let first = two a b c all.0 in
+      let rest = pairs_run s P two bytes given all.1 in
+      steps_append h calm false s (a ∷ b ∷ []) bytes ∙ (rw (first, rest) refl)
+
+  pub pairs_read : (s : S) (P : ℕ → ℕ → ℕ → Type 0)
+      → ((a b c : ℕ) → P a b c → steps h false s (a ∷ b ∷ []) ≡ record { text = c ∷ []; state = s })
+      → (bytes old new : List ℕ) → ((given : List ℕ) × ArePairs P bytes given × BatchTook old given new)
+      → BatchTook old (steps h false s bytes).text new × (s ≡ (steps h false s bytes).state)
+  pairs_read s P two bytes old new took =
+      let is = pairs_run s P two bytes took.0 took.1 in
+      (subst (λ z. BatchTook old z new) (ap (λ run. run.text) (sym is)) took.2, ap (λ run. run.state) (sym is))
+
+-- what follows where there is one
+pub some_then : {A : Type 0} (o : Option A) (P Q : A → Type 0) → ((x : A) → P x → Q x) → IfSome o P → IfSome o Q
+some_then None P Q f p = tt
+some_then (Some x) P Q f p = f x p
+
+-- both of what is said where there is one
+pub some_both : {A : Type 0} (o : Option A) (P : Type 0) (Q : A → Type 0) → OnSome o P → IfSome o Q
+    → IfSome o (λ c. P × Q c)
+some_both None P Q p q = tt
+some_both (Some c) P Q p q = (p, q)
+
+-- and all of three
+pub some_three : {A : Type 0} (o : Option A) (P Q : Type 0) (R : A → Type 0) → OnSome o P → OnSome o Q → IfSome o R
+    → IfSome o (λ c. P × Q × R c)
+some_three None P Q R p q r = tt
+some_three (Some c) P Q R p q r = (p, q, r)
 
 -- what is taken after nothing
 pub after_nothing : {S : Type 0} (h : Handler S) (s : S) (rest : List ℕ) (n : ℕ) (old mid : List ℕ) → n ≡ 0
@@ -74,6 +104,22 @@ after_nothing h s rest n old mid e t =
       omega (arith, size),
       λ given new more. (batch_sink {E = ℕ}).both old mid new [] given took more,
     )
+
+-- no pair was taken
+pub pairs_none : {S : Type 0} (h : Handler S) (s : S) (P : ℕ → ℕ → ℕ → Type 0) (rest old new : List ℕ) (n : ℕ) → n ≡ 0
+    → ((given : List ℕ) × ArePairs P (take n rest) given × BatchTook old given new)
+    → BatchTook old (steps h false s []).text new
+pairs_none h s P rest old new n e took =
+    go took.0 (subst (λ k. ArePairs P (take k rest) took.0) e took.1) took.2
+  where
+    go : (given : List ℕ) → ArePairs P [] given → BatchTook old given new → BatchTook old (steps h false s []).text new
+    go [] all t = subst (λ z. BatchTook old z new) (sym (ap (λ run. run.text) (steps_none h s))) t
+    go (c ∷ given) all t = absurd all
+
+-- the state after nothing
+pub state_none : {S : Type 0} (h : Handler S) (s next : S) (rest : List ℕ) (n : ℕ) → n ≡ 0
+    → next ≡ (steps h false s (take n rest)).state → next ≡ s
+state_none h s next rest n e is = is ∙ (rw e (ap (λ run. run.state) (steps_none h s)))
 
 -- SHIFT_JIS
 
@@ -105,17 +151,15 @@ sjis_two i s rest c e l lead pair =
     rw e (two_read (shift_jis i) (shift_jis_calm i) 0 a 0 rest c l (sjis_lead i a lead)
     (sjis_trail i a (get_or rest 1 0) c lead pair))
 
-pub sjis_pairs : {A : Type 0} (now : A → ℕ) (i : Index) (s a b : ℕ) (ready : List (Option ℕ)) (o : Option A)
-    → IsReady 0 i s ready → OnSome o (IsShiftJisLead a) →
-    IfSome o
-    (λ c. (i : Index) → ((p : ℕ) → slice_index_or ready p None ≡ code i p) → shift_jis_pair i a b ≡ Some (now c)) →
-    IfSome o (λ c. steps (shift_jis i) false s (a ∷ b ∷ []) ≡ record { text = now c ∷ []; state = s })
-sjis_pairs now i s a b ready None is lead pair = tt
-sjis_pairs now i s a b ready (Some c) is lead pair =
-    sjis_two i s (a ∷ b ∷ []) (now c) is.nothing (omega arith) lead (pair i is.codes) ∙ ap (λ z. record {
-      text = now c ∷ [];
+pub sjis_pair_steps : (i : Index) (s : ℕ) (r : List (Option ℕ)) → s ≡ 0
+    → ((p : ℕ) → slice_index_or r p None ≡ code i p) → (a b c : ℕ) →
+    IsShiftJisLead a × ((i : Index) → ((p : ℕ) → slice_index_or r p None ≡ code i p) → shift_jis_pair i a b ≡ Some c)
+    → steps (shift_jis i) false s (a ∷ b ∷ []) ≡ record { text = c ∷ []; state = s }
+sjis_pair_steps i s r e codes a b c p =
+    sjis_two i s (a ∷ b ∷ []) c e (omega arith) p.0 (p.1 i codes) ∙ ap (λ z. record {
+      text = c ∷ [];
       state = z;
-    }) (sym is.nothing)
+    }) (sym e)
 
 -- EUC-JP
 
@@ -149,32 +193,16 @@ row_pair : (i j : Index) (a b : ℕ) → IsRow a → IsRow b → euc_jp_pair i j
     ((a - 0xA1) * 94 + (b - 0xA1))
 row_pair i j a b l m = grind (arith, nat_tests, l, m)
 
-pub euc_pairs : {A : Type 0} (now : A → ℕ) (i j : Index) (s : EucJp) (a b : ℕ) (ready : List (Option ℕ)) (o : Option A)
-    → IsReady euc_jp_start i s ready → IsRow a → IsRow b →
-    IfSome o (λ c. slice_index_or ready ((a - 0xA1) * 94 + (b - 0xA1)) None ≡ Some (now c))
-    → IfSome o (λ c. steps (euc_jp i j) false s (a ∷ b ∷ []) ≡ record { text = now c ∷ []; state = s })
-euc_pairs now i j s a b ready None is lead trail pair = tt
-euc_pairs now i j s a b ready (Some c) is lead trail pair =
-    let stands = row_pair i j a b lead trail ∙ sym (is.codes ((a - 0xA1) * 94 + (b - 0xA1))) ∙ pair in
-    euc_two i j s (a ∷ b ∷ []) (now c) is.nothing (omega arith) lead stands ∙ ap (λ (z : EucJp). record {
-      text = now c ∷ [];
+pub euc_pair_steps : (i j : Index) (s : EucJp) (r : List (Option ℕ)) → s ≡ euc_jp_start
+    → ((p : ℕ) → slice_index_or r p None ≡ code i p) → (a b c : ℕ) →
+    IsRow a × IsRow b × (slice_index_or r ((a - 0xA1) * 94 + (b - 0xA1)) None ≡ Some c)
+    → steps (euc_jp i j) false s (a ∷ b ∷ []) ≡ record { text = c ∷ []; state = s }
+euc_pair_steps i j s r e codes a b c p =
+    let stands = row_pair i j a b p.0 p.1 ∙ sym (codes ((a - 0xA1) * 94 + (b - 0xA1))) ∙ p.2 in
+    euc_two i j s (a ∷ b ∷ []) c e (omega arith) p.0 stands ∙ ap (λ (z : EucJp). record {
+      text = c ∷ [];
       state = z;
-    }) (sym is.nothing)
-
-within_row : (b : ℕ) → within 0xA1 0xFE b ≡ true → IsRow b
-within_row b t = grind (arith, nat_tests, t)
-
--- bytes of rows
-pub row_front : (bytes : List ℕ) (n : ℕ) → n ≡ prefix_len (within 0xA1 0xFE) bytes
-    → (n ≤ length bytes) × All IsRow (take n bytes)
-row_front bytes n e =
-    let few : n ≤ length bytes = let w = prefix_len-le-length (within 0xA1 0xFE) bytes in omega (arith, w, e) in (
-      few,
-      All-from_get_or IsRow (take n bytes) 0 (λ k l.
-          let m : k < n = let t = length-take n bytes in omega (arith, l, t) in
-          subst IsRow (sym (get_or-take n bytes k 0 m))
-          (within_row (get_or bytes k 0) (prefix_len_passes (within 0xA1 0xFE) bytes k 0 (subst (λ z. k < z) e m)))),
-    )
+    }) (sym e)
 
 -- ISO-2022-JP
 
@@ -191,17 +219,39 @@ iso_trail : (i : Index) (a b c : ℕ) (output : Charset) → 0x21 ≤ b → b �
 unfolding iso2022
 iso_trail i a b c output l h e = rw e (grind (arith, nat_tests))
 
-pub iso_two : (i : Index) (output : Charset) (flag : Bool) (rest : List ℕ) (c : ℕ) → 2 ≤ length rest
-    → (0x21 ≤ get_or rest 0 0) × (get_or rest 0 0 ≤ 0x7E) →
-    (0x21 ≤ get_or rest 1 0) × (get_or rest 1 0 ≤ 0x7E) → code i
-    ((get_or rest 0 0 - 0x21) * 94 + (get_or rest 1 0 - 0x21)) ≡ Some c →
-    steps (iso2022 i) false (record { place = In Lead; output = output; flag = flag }) (take 2 rest)
+-- what such a pair stands for by these codes
+abbrev pub IsIso2022Pair : List (Option ℕ) → ℕ → ℕ → ℕ → Type 0
+IsIso2022Pair r a b c =
+    IsIso2022Row a × IsIso2022Row b × (slice_index_or r ((a - 0x21) * 94 + (b - 0x21)) None ≡ Some c)
+
+iso_two : (i : Index) (output : Charset) (flag : Bool) (r : List (Option ℕ)) (a b c : ℕ)
+    → ((p : ℕ) → slice_index_or r p None ≡ code i p) → IsIso2022Pair r a b c →
+    steps (iso2022 i) false (record { place = In Lead; output = output; flag = flag }) (a ∷ b ∷ [])
     ≡ record { text = c ∷ []; state = record { place = In Lead; output = output; flag = false } }
-iso_two i output flag rest c l lead trail e =
-    let a = get_or rest 0 0 in
-    let b = get_or rest 1 0 in
-    two_read (iso2022 i) (iso2022_calm i) _ _ _ rest c l (iso_lead i a output flag lead.0 lead.1)
-    (iso_trail i a b c output trail.0 trail.1 e)
+iso_two i output flag r a b c codes p =
+    let lead = p.0 in
+    let trail = p.1 in
+    two_read (iso2022 i) (iso2022_calm i) _ _ _ (a ∷ b ∷ []) c (omega arith)
+    (iso_lead i a output flag lead.0 lead.1)
+    (iso_trail i a b c output trail.0 trail.1 (sym (codes ((a - 0x21) * 94 + (b - 0x21))) ∙ p.2))
+
+-- the state after pairs: the first of them clears the flag
+pub iso_pairs : (i : Index) (output : Charset) (flag : Bool) (r : List (Option ℕ)) (bytes given : List ℕ)
+    → ((p : ℕ) → slice_index_or r p None ≡ code i p) → 0 < length bytes → ArePairs (IsIso2022Pair r) bytes given →
+    steps (iso2022 i) false (record { place = In Lead; output = output; flag = flag }) bytes
+    ≡ record { text = given; state = record { place = In Lead; output = output; flag = false } }
+iso_pairs i output flag r [] given codes some all = absurd (omega (arith, some))
+iso_pairs i output flag r (a ∷ []) [] codes some all = absurd all
+iso_pairs i output flag r (a ∷ []) (c ∷ given) codes some all = absurd all
+iso_pairs i output flag r (a ∷ b ∷ bytes) [] codes some all = absurd all
+iso_pairs i output flag r (a ∷ b ∷ bytes) (c ∷ given) codes some all =
+    let h = iso2022 i in
+    let s : Iso2022 = record { place = In Lead; output = output; flag = flag } in
+    let next : Iso2022 = record { place = In Lead; output = output; flag = false } in
+    let first = iso_two i output flag r a b c codes all.0 in
+    let rest = pairs_run h (iso2022_calm i) next (IsIso2022Pair r)
+    (λ x y z p. iso_two i output false r x y z codes p) bytes given all.1 in
+    steps_append h (iso2022_calm i) false s (a ∷ b ∷ []) bytes ∙ (rw (first, rest) refl)
 
 iso_own : (i : Index) (output : Charset) (flag : Bool) (b : ℕ) → is_plain_2022 b ≡ true →
     iso2022 i (record { place = In Ascii; output = output; flag = flag }) (Some b)

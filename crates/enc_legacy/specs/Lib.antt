@@ -3,4 +3,3 @@ pub mod SinglesCalm
 pub mod ShiftJis
 pub mod EucJpState
 pub mod Iso2022State
-pub mod Ready

@@ -1,8 +1,8 @@
 //! The decoder of EUC-JP.
 
-ghost use Rattle.std.specs.Prelude.{◌≡◌, OnOk, IfSome, false, true, ◌+◌, ◌-◌, ◌*◌, [], Some, None, slice_index_or};
+ghost use Rattle.std.specs.Prelude.{◌≡◌, OnOk, OnSome, IfSome, false, true, ◌+◌, ◌-◌, ◌*◌, [], Some, None};
+ghost use Rattle.std.specs.Prelude.{slice_index_or};
 ghost use Rattle.enc_legacy.specs.EucJpState.{IsEucJpState, IsRow};
-ghost use Rattle.enc_legacy.specs.Ready.{IsReady};
 ghost use Rattle.enc_model.specs.Stream.{steps};
 ghost use Rattle.enc_model.specs.Sink.{Given};
 ghost use Rattle.enc_model.specs.Japanese.{EucJp, euc_jp, euc_jp_start, euc_jp_pair};
@@ -10,10 +10,12 @@ ghost use Rattle.enc_model.specs.Indexes.{tables};
 ghost use Rattle.enc_model.proofs.Calm.{euc_jp_calm};
 
 use crate::kana::{half_width, pair_answer};
-use crate::stride::{PairReader, Strider, decode_strides, read_run};
+use crate::stride::{PairDecoder, Strider, decode_strides, read_run};
 use enc_index::{IndexSet, Kind};
-use enc_model::{Answer, Batch, BlockDecoder, Decoder, Restored, Sink, Utf8Char, feed, finish};
-use lane_kernels::{ascii_front, range_front};
+use enc_model::{
+    Answer, Batch, BlockDecoder, Decoder, PairReader, Restored, Sink, Utf8Char, feed, finish,
+};
+use lane_kernels::{ascii_front, ascii_lanes};
 use std::marker::Model;
 
 /// A decoder of EUC-JP (Encoding Standard, section 12.1.1): the lead that is kept, or 0, and whether it is one of
@@ -95,22 +97,48 @@ impl Decoder for EucJpState {
     ghost calm = { λ t. euc_jp_calm (tables t).jis0208 (tables t).jis0212 };
 }
 
+/// The pointer in jis0208 of two bytes, where they are of its rows.
+#[inline(always)]
+fn row_pointer(lead: u8, b: u8) -> Option<usize>
+    ensures lead { OnSome result (IsRow lead) }
+    ensures trail { OnSome result (IsRow b) }
+    ensures pointer { IfSome result (λ p. p ≡ (lead - 0xA1) * 94 + (b - 0xA1)) }
+{
+    if lead < 0xA1 || 0xFE < lead || b < 0xA1 || 0xFE < b {
+        None
+    } else {
+        Some((lead as usize - 0xA1) * 94 + (b as usize - 0xA1))
+    }
+}
+
 /// The character of jis0208 that two bytes of its rows stand for.
 #[inline(always)]
 fn row_char(ready: &[Option<Utf8Char>], lead: u8, b: u8) -> Option<&Utf8Char>
-    requires lead { IsRow lead }
-    requires trail { IsRow b }
-    ensures { IfSome result (λ c. slice_index_or ready.now ((lead - 0xA1) * 94 + (b - 0xA1)) None ≡ Some c.now) }
+    ensures lead { OnSome result (IsRow lead) }
+    ensures trail { OnSome result (IsRow b) }
+    ensures char { IfSome result
+        (λ c. slice_index_or ready.now ((lead - 0xA1) * 94 + (b - 0xA1)) None ≡ Some c.now) }
 {
-    let pointer = (lead as usize - 0xA1) * 94 + (b as usize - 0xA1);
+    let pointer = row_pointer(lead, b)?;
     ready.get(pointer)?.as_ref()
 }
 
 impl PairReader for EucJpState {
-    ghost pairs = { IsRow };
+    ghost stand_for = { λ r a b c. IsRow a × IsRow b
+        × (slice_index_or r ((a - 0xA1) * 94 + (b - 0xA1)) None ≡ Some c) };
 
-    ghost is_ready = { λ t s r. IsReady euc_jp_start (tables t).jis0208 s r };
+    #[inline(always)]
+    fn ready_pair<'a>(
+        &self,
+        ready: &'a [Option<Utf8Char>],
+        first: u8,
+        second: u8,
+    ) -> Option<&'a Utf8Char> {
+        row_char(ready, first, second)
+    }
+}
 
+impl PairDecoder for EucJpState {
     #[inline(always)]
     #[tactic(auto, using(enc_model::proofs::Fronts::front_none, crate::proofs::Fronts::euc_front))]
     fn ascii(&self, _indexes: &IndexSet, bytes: &[u8]) -> usize {
@@ -122,27 +150,21 @@ impl PairReader for EucJpState {
     }
 
     #[inline(always)]
+    #[tactic(auto, using(enc_model::proofs::Fronts::front_none, crate::proofs::Fronts::euc_front))]
+    fn ascii_lanes(&self, _indexes: &IndexSet, bytes: &[u8]) -> usize {
+        if self.lead == 0 {
+            ascii_lanes(bytes)
+        } else {
+            0
+        }
+    }
+
+    #[inline(always)]
     fn ready<'a>(&self, indexes: &'a IndexSet) -> Option<&'a [Option<Utf8Char>]> {
         if self.lead != 0 {
             return None;
         }
         indexes.ready(Kind::Jis0208)
-    }
-
-    #[inline(always)]
-    fn pair_front(&self, bytes: &[u8]) -> usize {
-        range_front(bytes, 0xA1, 0xFE)
-    }
-
-    #[inline(always)]
-    fn ready_pair<'a>(
-        &self,
-        _indexes: &IndexSet,
-        ready: &'a [Option<Utf8Char>],
-        first: u8,
-        second: u8,
-    ) -> Option<&'a Utf8Char> {
-        row_char(ready, first, second)
     }
 }
 

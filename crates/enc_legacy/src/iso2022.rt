@@ -1,12 +1,15 @@
 //! The decoder of ISO-2022-JP.
 
 ghost use Rattle.std.specs.Prelude.{◌≡◌, OnOk, OnSome, IfSome, ◌+◌, ◌-◌, ◌*◌, true, ◌≤◌, false, [], Some, None};
-ghost use Rattle.enc_legacy.specs.Iso2022State.{IsStand};
+ghost use Rattle.std.specs.Prelude.{length, take, slice_index_or};
+ghost use Rattle.enc_legacy.specs.Iso2022State.{IsStand, IsIso2022Row};
+ghost use Rattle.enc_model.specs.Batches.{BatchTook};
+ghost use Rattle.enc_model.specs.declared.Charset.TheVariants.{Ascii, Lead};
+ghost use Rattle.enc_model.specs.declared.Place.TheVariants.{In};
 ghost use Rattle.enc_model.specs.Stream.{restored_bytes, steps};
 ghost use Rattle.enc_model.specs.Sink.{Given};
 ghost use Rattle.enc_model.specs.Japanese.{Iso2022, iso2022, iso2022_start, iso2022_answer, iso2022_byte, iso2022_end};
 ghost use Rattle.enc_model.specs.Japanese.{iso2022_plain, escape_of, introducer_byte};
-ghost use Rattle.enc_model.specs.Index.{code};
 ghost use Rattle.enc_model.proofs.Calm.{iso2022_calm};
 ghost use Rattle.enc_model.specs.Indexes.{tables};
 
@@ -14,8 +17,8 @@ use crate::kana::{answer_for, half_width};
 use crate::stride::{Strider, decode_strides};
 use enc_index::{IndexSet, Kind};
 use enc_model::{
-    Answer, Batch, BlockDecoder, Charset, Decoder, Introducer, Place, Restored, Sink, Utf8Char,
-    decode_each, feed, finish,
+    Answer, Batch, BlockDecoder, Charset, Decoder, Introducer, PairReader, Place, ROOM, Restored,
+    Sink, Utf8Char, decode_each, feed, finish,
 };
 use lane_kernels::plain_front_2022;
 use std::marker::Model;
@@ -231,41 +234,113 @@ impl Decoder for Iso2022State {
     ghost calm = { λ t. iso2022_calm (tables t).jis0208 };
 }
 
-/// The character of jis0208 that two bytes stand for.
+/// The pointer in jis0208 of two bytes, where they are of its rows.
 #[inline(always)]
-fn ready_pair(indexes: &IndexSet, lead: u8, b: u8) -> Option<&Utf8Char>
-    ensures lead { OnSome result ((0x21 ≤ lead) × (lead ≤ 0x7E)) }
-    ensures trail { OnSome result ((0x21 ≤ b) × (b ≤ 0x7E)) }
-    ensures char { IfSome result
-        (λ c. code (tables indexes.now).jis0208 ((lead - 0x21) * 94 + (b - 0x21)) ≡ Some c.now) }
+fn row_pointer(lead: u8, b: u8) -> Option<usize>
+    ensures lead { OnSome result (IsIso2022Row lead) }
+    ensures trail { OnSome result (IsIso2022Row b) }
+    ensures pointer { IfSome result (λ p. p ≡ (lead - 0x21) * 94 + (b - 0x21)) }
 {
     if lead < 0x21 || 0x7E < lead || b < 0x21 || 0x7E < b {
-        return None;
+        None
+    } else {
+        Some((lead as usize - 0x21) * 94 + (b as usize - 0x21))
     }
-    let pointer = (lead as usize - 0x21) * 94 + (b as usize - 0x21);
-    indexes.ready(Kind::Jis0208)?.get(pointer)?.as_ref()
+}
+
+/// The character of jis0208 that two bytes stand for.
+#[inline(always)]
+fn row_char(ready: &[Option<Utf8Char>], lead: u8, b: u8) -> Option<&Utf8Char>
+    ensures lead { OnSome result (IsIso2022Row lead) }
+    ensures trail { OnSome result (IsIso2022Row b) }
+    ensures char { IfSome result (λ c. slice_index_or ready.now ((lead - 0x21) * 94 + (b - 0x21)) None ≡ Some c.now) }
+{
+    let pointer = row_pointer(lead, b)?;
+    ready.get(pointer)?.as_ref()
+}
+
+impl PairReader for Iso2022State {
+    ghost stand_for = { λ r a b c. IsIso2022Row a × IsIso2022Row b
+        × (slice_index_or r ((a - 0x21) * 94 + (b - 0x21)) None ≡ Some c) };
+
+    #[inline(always)]
+    fn ready_pair<'a>(
+        &self,
+        ready: &'a [Option<Utf8Char>],
+        first: u8,
+        second: u8,
+    ) -> Option<&'a Utf8Char> {
+        row_char(ready, first, second)
+    }
+}
+
+impl Iso2022State {
+    /// Reads the ASCII that these begin with, and says how many bytes.
+    #[inline(always)]
+    fn read_ascii(&mut self, _indexes: &IndexSet, rest: &[u8], batch: &mut Batch) -> usize
+        requires place { self.old.place ≡ In Ascii }
+        requires room { length batch.old + 12 * length rest.now ≤ ROOM }
+        ensures within { result ≤ length rest.now }
+        ensures text { BatchTook batch.old
+            (steps (iso2022 (tables _indexes.now).jis0208) false self.old (take result rest.now)).text batch.new }
+        ensures state { self.new
+            ≡ (steps (iso2022 (tables _indexes.now).jis0208) false self.old (take result rest.now)).state }
+    {
+        let run = plain_front_2022(rest);
+        if run == 0 {
+            return 0;
+        }
+        batch.push_ascii(&rest[..run]);
+        self.flag = false;
+        run
+    }
+
+    /// Reads the pairs of jis0208 that these begin with as long as they are ready, and says how many bytes they are.
+    #[inline(always)]
+    fn read_pairs(&mut self, indexes: &IndexSet, rest: &[u8], batch: &mut Batch) -> usize
+        requires place { self.old.place ≡ In Lead }
+        requires room { length batch.old + 12 * length rest.now ≤ ROOM }
+        ensures within { result ≤ length rest.now }
+        ensures text { BatchTook batch.old
+            (steps (iso2022 (tables indexes.now).jis0208) false self.old (take result rest.now)).text batch.new }
+        ensures state { self.new
+            ≡ (steps (iso2022 (tables indexes.now).jis0208) false self.old (take result rest.now)).state }
+    {
+        let Some(ready) = indexes.ready(Kind::Jis0208) else {
+            return 0;
+        };
+        let run = batch.push_pairs(self, ready, rest);
+        if run == 0 {
+            return 0;
+        }
+        self.flag = false;
+        run
+    }
+
+    /// Reads a run of ASCII or of pairs, and says how many bytes it has.
+    #[inline(always)]
+    fn read_run(&mut self, indexes: &IndexSet, rest: &[u8], batch: &mut Batch) -> usize
+        requires room { length batch.old + 12 * length rest.now ≤ ROOM }
+        ensures within { result ≤ length rest.now }
+        ensures text { BatchTook batch.old
+            (steps (iso2022 (tables indexes.now).jis0208) false self.old (take result rest.now)).text batch.new }
+        ensures state { self.new
+            ≡ (steps (iso2022 (tables indexes.now).jis0208) false self.old (take result rest.now)).state }
+    {
+        match self.place {
+            Place::In(Charset::Ascii) => self.read_ascii(indexes, rest, batch),
+            Place::In(Charset::Lead) => self.read_pairs(indexes, rest, batch),
+            _ => 0,
+        }
+    }
 }
 
 impl Strider for Iso2022State {
     #[inline(always)]
     fn stride(&mut self, indexes: &IndexSet, rest: &[u8], batch: &mut Batch) -> usize {
-        match self.place {
-            Place::In(Charset::Ascii) => {
-                let run = plain_front_2022(rest);
-                if run > 0 {
-                    batch.push_ascii(&rest[..run]);
-                    self.flag = false;
-                    return run;
-                }
-            }
-            Place::In(Charset::Lead) if rest.len() >= 2 => {
-                if let Some(code) = ready_pair(indexes, rest[0], rest[1]) {
-                    batch.push_code(code);
-                    self.flag = false;
-                    return 2;
-                }
-            }
-            _ => {}
+        let run = self.read_run(indexes, rest, batch);
+        if run > 0 {
+            return run;
         }
         decode_each(self, indexes, &rest[..1], batch);
         1

@@ -1,8 +1,8 @@
 //! The decoder of Shift_JIS.
 
-ghost use Rattle.std.specs.Prelude.{◌≡◌, OnOk, OnSome, IfSome, true, false, ◌<◌, ◌≤◌, ◌+◌, ℕ, [], Some, None, slice_index_or};
+ghost use Rattle.std.specs.Prelude.{◌≡◌, OnOk, OnSome, IfSome, true, false, ◌<◌, ◌≤◌, ◌+◌, ℕ, [], Some, None};
+ghost use Rattle.std.specs.Prelude.{slice_index_or};
 ghost use Rattle.enc_legacy.specs.ShiftJis.{IsShiftJisLead, IsShiftJisState};
-ghost use Rattle.enc_legacy.specs.Ready.{IsReady};
 ghost use Rattle.enc_model.specs.Index.{Index, code};
 ghost use Rattle.enc_model.specs.Stream.{steps};
 ghost use Rattle.enc_model.specs.Sink.{Given};
@@ -11,10 +11,12 @@ ghost use Rattle.enc_model.specs.Indexes.{tables};
 ghost use Rattle.enc_model.proofs.Calm.{shift_jis_calm};
 
 use crate::kana::{half_width, pair_answer};
-use crate::stride::{PairReader, Strider, decode_strides, read_run};
+use crate::stride::{PairDecoder, Strider, decode_strides, read_run};
 use enc_index::{IndexSet, Kind};
-use enc_model::{Answer, Batch, BlockDecoder, Decoder, Restored, Sink, Utf8Char, feed, finish};
-use lane_kernels::ascii_front;
+use enc_model::{
+    Answer, Batch, BlockDecoder, Decoder, PairReader, Restored, Sink, Utf8Char, feed, finish,
+};
+use lane_kernels::{ascii_front, ascii_lanes};
 use std::marker::Model;
 
 /// A decoder of Shift_JIS (Encoding Standard, section 12.3.1): the lead that is kept, or 0.
@@ -97,17 +99,16 @@ fn pair_pointer(lead: u8, b: u8) -> Option<u32>
     ensures lead { OnSome result (IsShiftJisLead lead) }
     ensures pair { IfSome result (λ p. (i : Index) → shift_jis_pair i lead b ≡ code i p) }
 {
-    if !(0x81 <= lead && lead <= 0x9F || 0xE0 <= lead && lead <= 0xFC) {
-        return None;
-    }
+    let row: u32 = match lead {
+        0x81..=0x9F => lead as u32 - 0x81,
+        0xE0..=0xEF | 0xFA..=0xFC => lead as u32 - 0xC1,
+        _ => return None,
+    };
     if b < 0x40 || b == 0x7F || 0xFC < b {
         return None;
     }
-    let pointer = shift_jis_pointer(lead, b);
-    if 8836 <= pointer && pointer <= 10715 {
-        return None;
-    }
-    Some(pointer)
+    let offset: u32 = if b < 0x7F { 0x40 } else { 0x41 };
+    Some(row * 188 + b as u32 - offset)
 }
 
 /// The character of jis0208 that two bytes stand for.
@@ -123,10 +124,21 @@ fn row_char(ready: &[Option<Utf8Char>], lead: u8, b: u8) -> Option<&Utf8Char>
 }
 
 impl PairReader for ShiftJisState {
-    ghost pairs = { λ _. Unit {0} };
+    ghost stand_for = { λ r a b c. IsShiftJisLead a × ((i : Index) → ((p : ℕ) → slice_index_or r p None ≡ code i p)
+        → shift_jis_pair i a b ≡ Some c) };
 
-    ghost is_ready = { λ t s r. IsReady 0 (tables t).jis0208 s r };
+    #[inline(always)]
+    fn ready_pair<'a>(
+        &self,
+        ready: &'a [Option<Utf8Char>],
+        first: u8,
+        second: u8,
+    ) -> Option<&'a Utf8Char> {
+        row_char(ready, first, second)
+    }
+}
 
+impl PairDecoder for ShiftJisState {
     #[inline(always)]
     #[tactic(auto, using(enc_model::proofs::Fronts::front_none, crate::proofs::Fronts::sjis_front))]
     fn ascii(&self, _indexes: &IndexSet, bytes: &[u8]) -> usize {
@@ -138,27 +150,21 @@ impl PairReader for ShiftJisState {
     }
 
     #[inline(always)]
+    #[tactic(auto, using(enc_model::proofs::Fronts::front_none, crate::proofs::Fronts::sjis_front))]
+    fn ascii_lanes(&self, _indexes: &IndexSet, bytes: &[u8]) -> usize {
+        if self.lead == 0 {
+            ascii_lanes(bytes)
+        } else {
+            0
+        }
+    }
+
+    #[inline(always)]
     fn ready<'a>(&self, indexes: &'a IndexSet) -> Option<&'a [Option<Utf8Char>]> {
         if self.lead != 0 {
             return None;
         }
         indexes.ready(Kind::Jis0208)
-    }
-
-    #[inline(always)]
-    fn pair_front(&self, bytes: &[u8]) -> usize {
-        bytes.len()
-    }
-
-    #[inline(always)]
-    fn ready_pair<'a>(
-        &self,
-        _indexes: &IndexSet,
-        ready: &'a [Option<Utf8Char>],
-        first: u8,
-        second: u8,
-    ) -> Option<&'a Utf8Char> {
-        row_char(ready, first, second)
     }
 }
 

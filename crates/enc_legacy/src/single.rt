@@ -1,6 +1,8 @@
 //! The decoder of the single-byte encodings.
 
-ghost use Rattle.std.specs.Prelude.{◌≡◌, OnOk, true, false, ◌-◌, [], None, Some};
+ghost use Rattle.std.specs.Prelude.{◌≡◌, ◌<◌, ◌≤◌, ℕ, OnOk, IfOk, IfErr, true, false, ◌-◌, [], None, Some};
+ghost use Rattle.std.specs.Prelude.{length, take, slice_index};
+ghost use Rattle.enc_index.specs.Bytes.{byte_char};
 ghost use Rattle.enc_model.specs.Stream.{steps};
 ghost use Rattle.enc_model.specs.Sink.{Given};
 ghost use Rattle.enc_model.specs.Japanese.{single};
@@ -9,12 +11,11 @@ ghost use Rattle.enc_legacy.specs.Singles.{single_in, single_start};
 ghost use Rattle.enc_legacy.specs.SinglesCalm.{single_in_calm};
 
 use crate::kana::answer_for;
-use crate::stride::{Strider, decode_strides};
 use enc_index::{IndexSet, Kind};
 use enc_model::{
-    Answer, Batch, BlockDecoder, Decoder, Encoding, Restored, Sink, decode_each, feed, finish,
+    Answer, Batch, Decoder, Encoding, ROOM, Restored, Sink, Utf8Char, feed_each, finish,
 };
-use lane_kernels::ascii_front;
+use lane_kernels::{AsciiLanes, ascii_front};
 use std::marker::Model;
 
 /// A decoder of a single-byte encoding (Encoding Standard, section 9.1), which keeps nothing but which one it is.
@@ -50,33 +51,79 @@ impl Decoder for SingleState {
     ghost calm = { λ t. single_in_calm (tables t) };
 }
 
-/// How many bytes of ASCII are taken at once.
-const LANES: usize = 32;
+/// How many bytes are decoded at once: a batch has room for four bytes of each.
+const MANY: usize = ROOM / 4;
 
-impl Strider for SingleState {
+impl SingleState {
+    /// Goes on at the rest of a piece by what the bytes stand for, and says how far.
     #[inline(always)]
-    fn stride(&mut self, indexes: &IndexSet, rest: &[u8], batch: &mut Batch) -> usize {
-        if rest.len() >= LANES && ascii_front(&rest[..LANES]) == LANES {
-            batch.push_ascii(&rest[..LANES]);
-            return LANES;
-        }
-        let end = LANES.min(rest.len());
-        match indexes.ready_bytes(self.encoding) {
-            Some(chars) => batch.push_each(chars, &rest[..end]),
-            None => decode_each(self, indexes, &rest[..end], batch),
-        }
-        end
+    fn advance<S: Sink>(
+        &self,
+        indexes: &IndexSet,
+        chars: &[Utf8Char],
+        rest: &[u8],
+        batch: &mut Batch,
+        sink: &mut S,
+    ) -> Result<usize, S::Refusal>
+        requires some { 0 < length rest.now }
+        requires long { length chars.now ≡ 256 }
+        requires chars { (b : ℕ) → b < 256
+            → slice_index chars.now b ≡ byte_char ((tables indexes.now).single self.now) b }
+        ensures some { IfOk result (λ n. (0 < n) × (n ≤ length rest.now)) }
+        ensures taken { IfOk result (λ n. S.takes sink.old
+            (steps (single_in (tables indexes.now)) false self.now (take n rest.now)).text sink.new) }
+        ensures refused { IfErr result
+            (λ e. S.refuses sink.old (steps (single_in (tables indexes.now)) false self.now rest.now).text e sink.new) }
+    {
+        let end = MANY.min(rest.len());
+        batch.clear();
+        batch.push_bytes(&AsciiLanes, chars, &rest[..end]);
+        sink.text(batch.as_str())?;
+        Ok(end)
     }
-}
 
-impl BlockDecoder for SingleState {
-    #[tactic(auto, using(enc_model::proofs::Fronts::front_none, crate::proofs::Fronts::single_front))]
-    fn front(&self, _indexes: &IndexSet, bytes: &[u8]) -> usize {
-        ascii_front(bytes)
+    /// The steps over a piece by what the bytes stand for.
+    fn feed_blocks<S: Sink>(
+        &self,
+        indexes: &IndexSet,
+        chars: &[Utf8Char],
+        piece: &[u8],
+        sink: &mut S,
+    ) -> Result<(), S::Refusal>
+        requires long { length chars.now ≡ 256 }
+        requires chars { (b : ℕ) → b < 256
+            → slice_index chars.now b ≡ byte_char ((tables indexes.now).single self.now) b }
+        ensures { Given S.takes S.refuses sink.old
+            (steps (single_in (tables indexes.now)) false self.now piece.now).text sink.new result }
+    {
+        let mut batch = Batch::new();
+        let mut at = 0;
+        while at < piece.len() {
+            at += self.advance(indexes, chars, &piece[at..], &mut batch, sink)?;
+        }
+        Ok(())
     }
 
-    fn decode_block(&mut self, indexes: &IndexSet, block: &[u8], batch: &mut Batch) {
-        decode_strides(self, indexes, block, batch);
+    /// The steps over a piece by what the bytes stand for. The ASCII in front is given to the sink as it is.
+    fn feed_ready<S: Sink>(
+        &self,
+        indexes: &IndexSet,
+        chars: &[Utf8Char],
+        piece: &[u8],
+        sink: &mut S,
+    ) -> Result<(), S::Refusal>
+        requires long { length chars.now ≡ 256 }
+        requires chars { (b : ℕ) → b < 256
+            → slice_index chars.now b ≡ byte_char ((tables indexes.now).single self.now) b }
+        ensures { Given S.takes S.refuses sink.old
+            (steps (single_in (tables indexes.now)) false self.now piece.now).text sink.new result }
+    {
+        let front = ascii_front(piece);
+        sink.ascii(&piece[..front])?;
+        if front == piece.len() {
+            return Ok(());
+        }
+        self.feed_blocks(indexes, chars, &piece[front..], sink)
     }
 }
 
@@ -119,7 +166,10 @@ impl SingleState {
             (steps (single ((tables indexes.now).single self.old)) false single_start piece.now).text sink.new result }
         ensures state { OnOk result (self.new ≡ self.old) }
     {
-        feed(self, indexes, piece, sink)
+        match indexes.ready_bytes(self.encoding) {
+            Some(chars) => self.feed_ready(indexes, chars, piece, sink),
+            None => feed_each(self, indexes, piece, sink),
+        }
     }
 
     /// The steps of the end.

@@ -7,7 +7,7 @@ ghost use Rattle.enc_model.specs.Batches.{BatchTook};
 ghost use Rattle.enc_model.specs.Front.{IsFront};
 ghost use Rattle.enc_model.specs.Stream.{steps};
 
-use enc_model::{Batch, Decoder, ROOM, Utf8Char, decode_each};
+use enc_model::{Batch, Decoder, LANES, PairReader, ROOM, Utf8Char, decode_each};
 
 /// A decoder that reads some bytes at once: a run, the bytes of a character, or else one byte.
 pub trait Strider: Decoder {
@@ -23,93 +23,78 @@ pub trait Strider: Decoder {
 }
 
 /// A decoder that reads ASCII and two-byte characters at once where it keeps nothing.
-pub trait PairReader: Decoder {
-    // the bytes of which pairs are made
-    ghost pairs: { ℕ → Type 0 };
-
-    // what pairs stand for from this state, by their pointers
-    ghost is_ready: { Self.Tables → Self → List (Option ℕ) → Type 0 };
-
+pub trait PairDecoder: Decoder + PairReader {
     /// How many bytes at the front are ASCII and stand for themselves from here.
     fn ascii(&self, tables: &Self::Tables, bytes: &[u8]) -> usize
         ensures { IsFront (Self.handler tables.now) self.now bytes.now result };
 
-    /// What pairs stand for by their pointers, where a table has it ready and nothing is kept.
+    /// How many of the first 32 bytes are ASCII and stand for themselves from here.
+    fn ascii_lanes(&self, tables: &Self::Tables, bytes: &[u8]) -> usize
+        requires { LANES ≤ length bytes.now }
+        ensures few { result ≤ LANES }
+        ensures front { IsFront (Self.handler tables.now) self.now bytes.now result };
+
+    /// Characters by their pointers, where a table has them ready and pairs are read from here.
     fn ready<'a>(&self, tables: &'a Self::Tables) -> Option<&'a [Option<Utf8Char>]>
-        ensures { IfSome result (λ r. is_ready tables.now self.now r.now) };
-
-    /// How many bytes at the front are such as pairs are made of.
-    fn pair_front(&self, bytes: &[u8]) -> usize
-        ensures within { result ≤ length bytes.now }
-        ensures pairs { All pairs (take result bytes.now) };
-
-    /// The character that two bytes stand for, where it is ready.
-    fn ready_pair<'a>(
-        &self,
-        tables: &Self::Tables,
-        ready: &'a [Option<Utf8Char>],
-        first: u8,
-        second: u8,
-    ) -> Option<&'a Utf8Char>
-        requires ready { is_ready tables.now self.now ready.now }
-        requires first { pairs first }
-        requires second { pairs second }
-        ensures { IfSome result (λ c. steps (Self.handler tables.now) false self.now (first ∷ second ∷ []) ≡ record
-            { text = c.now ∷ []; state = self.now }) };
-}
-
-/// Reads the pair that these begin with, if it is ready, and says whether it is.
-#[inline(always)]
-fn read_pair<D: PairReader>(
-    state: &D,
-    tables: &D::Tables,
-    ready: &[Option<Utf8Char>],
-    rest: &[u8],
-    batch: &mut Batch,
-) -> bool
-    requires ready { D.is_ready tables.now state.now ready.now }
-    requires two { 2 ≤ length rest.now }
-    requires first { D.pairs (slice_index rest.now 0) }
-    requires second { D.pairs (slice_index rest.now 1) }
-    requires room { length batch.old + 4 ≤ ROOM }
-    ensures text { OnTrue result
-        (BatchTook batch.old (steps (D.handler tables.now) false state.now (take 2 rest.now)).text batch.new) }
-    ensures state { OnTrue result
-        (state.now ≡ (steps (D.handler tables.now) false state.now (take 2 rest.now)).state) }
-    ensures kept { OnFalse result (batch.new ≡ batch.old) }
-{
-    match state.ready_pair(tables, ready, rest[0], rest[1]) {
-        Some(code) => {
-            batch.push_code(code);
-            true
-        }
-        None => false,
-    }
+        ensures { IfSome result (λ r. (a b c : ℕ) → Self.stand_for r.now a b c
+            → steps (Self.handler tables.now) false self.now (a ∷ b ∷ []) ≡ record {
+              text = c ∷ [];
+              state = self.now;
+            }) };
 }
 
 /// Reads the pairs that these begin with as long as they are ready, and says how many bytes they are.
 #[inline(always)]
-fn read_pairs<D: PairReader>(state: &D, tables: &D::Tables, rest: &[u8], batch: &mut Batch) -> usize
+fn read_pairs<D: PairDecoder>(
+    state: &D,
+    tables: &D::Tables,
+    rest: &[u8],
+    batch: &mut Batch,
+) -> usize
     requires { length batch.old + 12 * length rest.now ≤ ROOM }
     ensures within { result ≤ length rest.now }
     ensures text { BatchTook batch.old (steps (D.handler tables.now) false state.now (take result rest.now)).text
         batch.new }
     ensures state { state.now ≡ (steps (D.handler tables.now) false state.now (take result rest.now)).state }
 {
-    let Some(ready) = state.ready(tables) else {
-        return 0;
-    };
-    let end = state.pair_front(rest);
-    let mut at = 0;
-    while end - at >= 2 && read_pair(state, tables, ready, &rest[at..], batch) {
-        at += 2;
+    match state.ready(tables) {
+        Some(ready) => batch.push_pairs(state, ready, rest),
+        None => 0,
     }
-    at
+}
+
+/// Reads some of the ASCII that these begin with, and says how many bytes.
+#[inline(always)]
+fn read_ascii<D: PairDecoder>(
+    state: &D,
+    tables: &D::Tables,
+    rest: &[u8],
+    batch: &mut Batch,
+) -> usize
+    requires { length batch.old + 12 * length rest.now ≤ ROOM }
+    ensures within { result ≤ length rest.now }
+    ensures text { BatchTook batch.old (steps (D.handler tables.now) false state.now (take result rest.now)).text
+        batch.new }
+    ensures state { state.now ≡ (steps (D.handler tables.now) false state.now (take result rest.now)).state }
+{
+    if rest.len() < LANES {
+        let run = state.ascii(tables, rest);
+        batch.push_ascii(&rest[..run]);
+        return run;
+    }
+    let run = state.ascii_lanes(tables, rest);
+    batch.push_front(rest, run);
+    run
 }
 
 /// Reads the ASCII that these begin with, or the pairs as long as they are ready, and says how many bytes they are.
 #[inline(always)]
-fn read_ready<D: PairReader>(state: &D, tables: &D::Tables, rest: &[u8], batch: &mut Batch) -> usize
+fn read_ready<D: PairDecoder>(
+    state: &D,
+    tables: &D::Tables,
+    rest: &[u8],
+    batch: &mut Batch,
+) -> usize
     requires some { 0 < length rest.now }
     requires room { length batch.old + 12 * length rest.now ≤ ROOM }
     ensures within { result ≤ length rest.now }
@@ -120,14 +105,12 @@ fn read_ready<D: PairReader>(state: &D, tables: &D::Tables, rest: &[u8], batch: 
     if rest[0] >= 0x80 {
         return read_pairs(state, tables, rest, batch);
     }
-    let run = state.ascii(tables, rest);
-    batch.push_ascii(&rest[..run]);
-    run
+    read_ascii(state, tables, rest, batch)
 }
 
 /// Reads ASCII, or pairs that are ready, or else one byte, and says how many bytes.
 #[inline(always)]
-pub fn read_run<D: PairReader>(
+pub fn read_run<D: PairDecoder>(
     state: &mut D,
     tables: &D::Tables,
     rest: &[u8],

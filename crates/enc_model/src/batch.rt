@@ -1,10 +1,10 @@
 //! Text that is gathered before it is given on.
 
 ghost use Rattle.std.specs.Prelude.{◌≡◌, ◌≤◌, ◌<◌, ◌+◌, ◌*◌, ◌++◌, ◌∷◌, [], ℕ, List, All, length, take, true, map};
-ghost use Rattle.std.specs.Prelude.{slice_index, encode_utf8};
+ghost use Rattle.std.specs.Prelude.{slice_index, encode_utf8, Option, IfSome};
 ghost use Rattle.std.specs.Char.{IsScalar};
 ghost use Rattle.std.specs.Str.{chars, is_utf8};
-ghost use Rattle.enc_model.specs.Batches.{BatchTook, BatchRefused};
+ghost use Rattle.enc_model.specs.Batches.{ArePairs, BatchTook, BatchRefused};
 ghost use Rattle.enc_model.specs.BatchLaws.{batch_sink};
 
 use crate::{Sink, Utf8Char};
@@ -17,6 +17,34 @@ pub const ROOM: usize = 3072;
 /// How many bytes of any encoding surely give no more: a byte gives at most three characters, itself one and each of
 /// the two that it may restore.
 pub const BLOCK: usize = 256;
+
+/// How many bytes are looked at and stored at once where they are ASCII.
+pub const LANES: usize = 32;
+
+/// Sees how much ASCII comes first.
+pub trait AsciiFinder {
+    /// How many of the first 32 bytes are ASCII before one that isn't, or None where so many aren't that each is better
+    /// looked up.
+    fn front(&self, bytes: &[u8]) -> Option<usize>
+        requires { LANES ≤ length bytes.now }
+        ensures within { IfSome result (λ n. n ≤ LANES) }
+        ensures ascii { IfSome result (λ n. All (λ b. b < 128) (take n bytes.now)) };
+}
+
+/// Knows what two bytes stand for.
+pub trait PairReader {
+    // over such characters by their pointers two bytes stand for this one
+    ghost stand_for: { List (Option ℕ) → ℕ → ℕ → ℕ → Type 0 };
+
+    /// The character that two bytes stand for, where it is ready.
+    fn ready_pair<'a>(
+        &self,
+        ready: &'a [Option<Utf8Char>],
+        first: u8,
+        second: u8,
+    ) -> Option<&'a Utf8Char>
+        ensures { IfSome result (λ c. stand_for ready.now first second c.now) };
+}
 
 /// Bytes, as many as there is room for.
 #[derive(Drop)]
@@ -49,6 +77,86 @@ fn store_code(bytes: &mut [u8; ROOM], len: usize, code: &Utf8Char) -> usize
     len + count as usize
 }
 
+/// Stores what bytes stand for behind the first so many bytes, and says how many they are then.
+#[inline(always)]
+fn store_each(room: &mut [u8; ROOM], from: usize, chars: &[Utf8Char], bytes: &[u8]) -> usize
+    requires text { is_utf8 (take from room.old) ≡ true }
+    requires long { length chars.now ≡ 256 }
+    requires room { from + 4 * length bytes.now ≤ ROOM }
+    ensures took { BatchTook (take from room.old) (map (λ b. slice_index chars.now b) bytes.now)
+        (take result room.new) }
+    ensures text { is_utf8 (take result room.new) ≡ true }
+    ensures few { result ≤ from + 4 * length bytes.now }
+{
+    let mut len = from;
+    for byte in bytes {
+        len = store_code(room, len, &chars[*byte as usize]);
+    }
+    len
+}
+
+/// Stores bytes behind the first so many.
+#[inline(always)]
+fn store_part(room: &mut [u8; ROOM], from: usize, part: &[u8])
+    requires { from + length part.now ≤ ROOM }
+    ensures { take (from + length part.now) room.new ≡ take from room.old ++ part.now }
+{
+    let end = from + part.len();
+    room[from..end].copy_from_slice(part);
+}
+
+/// Stores the ASCII that these begin with behind the first so many bytes, and says how many they are then: 32 bytes are
+/// stored, of which so many count.
+#[inline(always)]
+fn store_front(room: &mut [u8; ROOM], from: usize, bytes: &[u8], front: usize) -> usize
+    requires text { is_utf8 (take from room.old) ≡ true }
+    requires many { LANES ≤ length bytes.now }
+    requires within { front ≤ LANES }
+    requires ascii { All (λ b. b < 128) (take front bytes.now) }
+    requires room { from + LANES ≤ ROOM }
+    ensures took { BatchTook (take from room.old) (take front bytes.now) (take result room.new) }
+    ensures text { is_utf8 (take result room.new) ≡ true }
+    ensures end { result ≡ from + front }
+{
+    store_part(room, from, &bytes[..LANES]);
+    from + front
+}
+
+/// Stores what some of these stand for behind the first so many bytes: ASCII and the byte behind it, or else 32 bytes.
+/// Says how many of these they are, and how many are stored then.
+#[inline(always)]
+fn store_some<F: AsciiFinder>(
+    room: &mut [u8; ROOM],
+    from: usize,
+    fronts: &F,
+    chars: &[Utf8Char],
+    bytes: &[u8],
+) -> (usize, usize)
+    requires text { is_utf8 (take from room.old) ≡ true }
+    requires long { length chars.now ≡ 256 }
+    requires own { (b : ℕ) → b < 128 → slice_index chars.now b ≡ b }
+    requires many { LANES ≤ length bytes.now }
+    requires room { from + 4 * length bytes.now ≤ ROOM }
+    ensures some { 0 < result.0 }
+    ensures within { result.0 ≤ length bytes.now }
+    ensures took { BatchTook (take from room.old) (map (λ b. slice_index chars.now b) (take result.0 bytes.now))
+        (take result.1 room.new) }
+    ensures text { is_utf8 (take result.1 room.new) ≡ true }
+    ensures few { result.1 ≤ from + 4 * result.0 }
+{
+    let Some(front) = fronts.front(bytes) else {
+        return (LANES, store_each(room, from, chars, &bytes[..LANES]));
+    };
+    let end = store_front(room, from, bytes, front);
+    if front == LANES {
+        return (LANES, end);
+    }
+    (
+        front + 1,
+        store_code(room, end, &chars[bytes[front] as usize]),
+    )
+}
+
 impl Room {
     fn new() -> Self
         ensures { result ≡ [] }
@@ -75,29 +183,75 @@ impl Room {
         self.len = store_code(&mut self.bytes, self.len, code);
     }
 
-    /// Stores what bytes stand for. The length is a local of the loop, which a register can hold.
+    /// Stores what bytes stand for. Here and in the next the length is a local of the loop, which a register can hold.
     #[inline(always)]
-    fn store_each(&mut self, chars: &[Utf8Char], bytes: &[u8])
+    fn store_bytes<F: AsciiFinder>(&mut self, fronts: &F, chars: &[Utf8Char], bytes: &[u8])
         requires text { is_utf8 self.old ≡ true }
         requires long { length chars.now ≡ 256 }
+        requires own { (b : ℕ) → b < 128 → slice_index chars.now b ≡ b }
         requires room { length self.old + 4 * length bytes.now ≤ ROOM }
         ensures took { BatchTook self.old (map (λ b. slice_index chars.now b) bytes.now) self.new }
         ensures text { is_utf8 self.new ≡ true }
     {
         let mut len = self.len;
-        for byte in bytes {
-            len = store_code(&mut self.bytes, len, &chars[*byte as usize]);
+        let mut at = 0;
+        while bytes.len() - at >= LANES {
+            let (count, end) = store_some(&mut self.bytes, len, fronts, chars, &bytes[at..]);
+            len = end;
+            at += count;
+        }
+        self.len = store_each(&mut self.bytes, len, chars, &bytes[at..]);
+    }
+
+    /// Stores what the pairs that these begin with stand for as long as they are ready, and says how many bytes they
+    /// are.
+    #[inline(always)]
+    fn store_pairs<P: PairReader>(
+        &mut self,
+        reader: &P,
+        ready: &[Option<Utf8Char>],
+        bytes: &[u8],
+    ) -> usize
+        requires text { is_utf8 self.old ≡ true }
+        requires room { length self.old + 4 * length bytes.now ≤ ROOM }
+        ensures within { result ≤ length bytes.now }
+        ensures took { (given : List ℕ) × ArePairs (P.stand_for ready.now) (take result bytes.now) given
+            × BatchTook self.old given self.new }
+        ensures text { is_utf8 self.new ≡ true }
+    {
+        let mut len = self.len;
+        let mut at = 0;
+        while bytes.len() - at >= 2 {
+            let Some(code) = reader.ready_pair(ready, bytes[at], bytes[at + 1]) else {
+                break;
+            };
+            len = store_code(&mut self.bytes, len, code);
+            at += 2;
         }
         self.len = len;
+        at
+    }
+
+    /// Stores the ASCII that these begin with, of so many bytes.
+    #[inline(always)]
+    fn store_front(&mut self, bytes: &[u8], front: usize)
+        requires text { is_utf8 self.old ≡ true }
+        requires many { LANES ≤ length bytes.now }
+        requires within { front ≤ LANES }
+        requires ascii { All (λ b. b < 128) (take front bytes.now) }
+        requires room { length self.old + LANES ≤ ROOM }
+        ensures took { BatchTook self.old (take front bytes.now) self.new }
+        ensures text { is_utf8 self.new ≡ true }
+    {
+        self.len = store_front(&mut self.bytes, self.len, bytes, front);
     }
 
     fn append(&mut self, run: &[u8])
         requires { length self.old + length run.now ≤ ROOM }
         ensures { self.new ≡ self.old ++ run.now }
     {
-        let end = self.len + run.len();
-        self.bytes[self.len..end].copy_from_slice(run);
-        self.len = end;
+        store_part(&mut self.bytes, self.len, run);
+        self.len += run.len();
     }
 
     fn clear(&mut self)
@@ -184,14 +338,44 @@ impl Batch {
         self.push_code(&Utf8Char::of(c));
     }
 
-    /// Takes what bytes stand for.
+    /// Takes what bytes stand for, those below 80 for themselves.
     #[inline(always)]
-    pub fn push_each(&mut self, chars: &[Utf8Char], bytes: &[u8])
+    pub fn push_bytes<F: AsciiFinder>(&mut self, fronts: &F, chars: &[Utf8Char], bytes: &[u8])
         requires long { length chars.now ≡ 256 }
+        requires own { (b : ℕ) → b < 128 → slice_index chars.now b ≡ b }
         requires room { length self.old + 4 * length bytes.now ≤ ROOM }
         ensures { BatchTook self.old (map (λ b. slice_index chars.now b) bytes.now) self.new }
     {
-        self.room.store_each(chars, bytes);
+        self.room.store_bytes(fronts, chars, bytes);
+    }
+
+    /// Takes the ASCII that these begin with, of so many bytes, 32 stored at once.
+    #[inline(always)]
+    pub fn push_front(&mut self, bytes: &[u8], front: usize)
+        requires many { LANES ≤ length bytes.now }
+        requires within { front ≤ LANES }
+        requires ascii { All (λ b. b < 128) (take front bytes.now) }
+        requires room { length self.old + LANES ≤ ROOM }
+        ensures { BatchTook self.old (take front bytes.now) self.new }
+    {
+        self.room.store_front(bytes, front);
+    }
+
+    /// Takes what the pairs that these begin with stand for as long as they are ready, and says how many bytes they
+    /// are.
+    #[inline(always)]
+    pub fn push_pairs<P: PairReader>(
+        &mut self,
+        reader: &P,
+        ready: &[Option<Utf8Char>],
+        bytes: &[u8],
+    ) -> usize
+        requires room { length self.old + 4 * length bytes.now ≤ ROOM }
+        ensures within { result ≤ length bytes.now }
+        ensures took { (given : List ℕ) × ArePairs (P.stand_for ready.now) (take result bytes.now) given
+            × BatchTook self.old given self.new }
+    {
+        self.room.store_pairs(reader, ready, bytes)
     }
 
     /// Takes a text.

@@ -10,7 +10,7 @@ ghost use Rattle.std.specs.Prelude.{ℕ, ◌<◌, List, [], ◌∷◌, All};
 ghost use Rattle.std.specs.Str.{chars};
 ghost use Rattle.enc_model.specs.Sink.{Given, IsSink};
 
-pub use batch::{BLOCK, Batch, ROOM};
+pub use batch::{AsciiFinder, BLOCK, Batch, LANES, PairReader, ROOM};
 pub use decoder::{BlockDecoder, Decoder, decode_each, feed, feed_each, finish};
 pub use laws::{in_any_cut, restored_in_front, text_grows, with_a_bom};
 pub use utf8_char::Utf8Char;

@@ -1,11 +1,13 @@
 -- The length of the longest prefix that passes, piece by piece.
 use Rattle.std.proofs.Common.{◌≡◌, ℕ, ◌+◌, ◌-◌, ◌<◌, ◌≤◌, Bool, cond, List, [], ◌∷◌, true, false, inl, inr, length}
-use Rattle.std.proofs.Common.{get_or, drop, refl, ap, ap₂, sym, ◌∙◌, arith, leb, not, map}
+use Rattle.std.proofs.Common.{get_or, drop, refl, ap, ap₂, sym, ◌∙◌, arith, leb, not, map, subst, take, All}
 use Rattle.std.proofs.lemmas.Bool.Decides.{nat_tests}
 use Rattle.std.proofs.lemmas.Bool.{cases_eq, cases_lt, true≢false, eq-eqb, ne_eqb, cond-true, cond-false}
 use Rattle.std.proofs.lemmas.List.Folds.{prefix_len-append}
 use Rattle.std.proofs.lemmas.Simd.{length-chunk, chunk-drop, get_or-chunk, leading_from_mask_l}
-use Rattle.std.proofs.lemmas.List.Sums.{prefix_len_passes, prefix_len_stops}
+use Rattle.std.proofs.lemmas.List.Sums.{prefix_len-le-length, prefix_len_passes, prefix_len_stops}
+use Rattle.std.proofs.lemmas.List.{length-take, take-take}
+use Rattle.enc_model.proofs.Fronts.{front_all}
 use Rattle.std.specs.List.{prefix_len}
 use Rattle.std.proofs.Common.{◌%◌, ◌^◌, bit_or, replicate, w8}
 use Rattle.std.proofs.lemmas.List.{length-map}
@@ -147,3 +149,15 @@ four_low bytes at {a = a} {b = b} {c = c} {d = d} room p q r s none =
 pub on_true_at : (b : Bool) (P : Type 0) → b ≡ true → OnTrue b P → P
 on_true_at true P e p = p
 on_true_at false P e p = absurd (true≢false (sym e))
+
+-- the ASCII in front of the first lane that isn't
+pub lanes_front : (bytes : List ℕ) (n : ℕ) → n ≡ prefix_len is_ascii (take 32 bytes)
+    → (n ≤ 32) × All (λ b. b < 128) (take n bytes)
+lanes_front bytes n e =
+    let lanes = take 32 bytes in
+    let short : n ≤ 32 = let w = prefix_len-le-length is_ascii lanes in let l = length-take 32 bytes in
+    omega (arith, e, w, l) in (
+      short,
+      subst (λ z. All (λ b. b < 128) z) (take-take n 32 bytes short)
+          (subst (λ k. All (λ b. b < 128) (take k lanes)) (sym e) (front_all lanes)),
+    )

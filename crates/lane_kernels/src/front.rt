@@ -1,6 +1,6 @@
 //! The longest prefix of bytes of a class.
 
-ghost use Rattle.std.specs.Prelude.{◌≡◌, ◌≤◌, ◌+◌, length, drop};
+ghost use Rattle.std.specs.Prelude.{◌≡◌, ◌≤◌, ◌+◌, length, drop, take};
 ghost use Rattle.std.specs.List.{prefix_len};
 ghost use Rattle.std.specs.Char.{is_ascii};
 ghost use Rattle.enc_model.specs.Index.{within};
@@ -77,6 +77,15 @@ pub fn ascii_front(bytes: &[u8]) -> usize
     skipped + short_ascii_front(&bytes[skipped..])
 }
 
+/// How many of the first 32 bytes are below 80 before the first that isn't.
+#[inline(always)]
+pub fn ascii_lanes(bytes: &[u8]) -> usize
+    requires { LANES ≤ length bytes.now }
+    ensures { result ≡ prefix_len is_ascii (take LANES bytes.now) }
+{
+    Ascii.run(bytes, 0)
+}
+
 /// How many bytes are below 80 and none of 0E, 0F and 1B before the first that isn't so.
 pub fn plain_front_2022(bytes: &[u8]) -> usize
     ensures { result ≡ prefix_len is_plain_2022 bytes.now }
@@ -93,7 +102,7 @@ pub fn range_front(bytes: &[u8], lo: u8, hi: u8) -> usize
 
 /// How many of 32 bytes are below 80 before the first that isn't.
 #[inline(always)]
-pub fn ascii_lanes(lanes: &[u8; 32]) -> usize
+pub fn ascii_chunk(lanes: &[u8; 32]) -> usize
     ensures { result ≡ prefix_len is_ascii lanes.now }
 {
     Ascii.run(lanes, 0)
@@ -101,7 +110,7 @@ pub fn ascii_lanes(lanes: &[u8; 32]) -> usize
 
 /// How many of 32 bytes are below 80 and none of 0E, 0F and 1B before the first that isn't so.
 #[inline(always)]
-pub fn plain_lanes_2022(lanes: &[u8; 32]) -> usize
+pub fn plain_chunk_2022(lanes: &[u8; 32]) -> usize
     ensures { result ≡ prefix_len is_plain_2022 lanes.now }
 {
     Plain2022.run(lanes, 0)

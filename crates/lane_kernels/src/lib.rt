@@ -1,6 +1,7 @@
 //! Runs of bytes and UTF-16 units, found many at a time, each the same as a plain definition. No memory is taken.
 #![tactic(auto)]
 
+mod finder;
 mod front;
 mod lanes;
 mod laws;
@@ -9,7 +10,10 @@ mod order;
 mod pairing;
 mod units;
 
-pub use front::{ascii_front, ascii_lanes, plain_front_2022, plain_lanes_2022, range_front};
+pub use finder::AsciiLanes;
+pub use front::{
+    ascii_chunk, ascii_front, ascii_lanes, plain_chunk_2022, plain_front_2022, range_front,
+};
 pub use laws::paired_units_decode;
 pub use narrowing::narrow;
 pub use order::Order;

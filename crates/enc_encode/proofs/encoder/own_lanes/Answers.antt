@@ -10,6 +10,6 @@ returns-in-Roman c =
 
 pub returns-in_default : goal.returns-in_default
 returns-in_default c =
-    c.ascii_lanes.ensures
+    c.ascii_chunk.ensures
     ∙ ap (λ p. prefix_len p c.args.lanes.now)
     (sym (own_other c.args.to (shift_of c.args.shift) c.in_default.not-Iso2022Jp))

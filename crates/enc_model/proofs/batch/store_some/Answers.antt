@@ -1,0 +1,59 @@
+use Rattle.std.proofs.Common.{ℕ, ◌≡◌, ◌<◌, ◌+◌, ◌++◌, ◌∷◌, [], refl, ◌∙◌, ap, ap₂, subst, arith, length, take, map}
+use Rattle.std.proofs.Common.{get_or, slice_index}
+use Rattle.std.proofs.lemmas.List.{get_or_read_under, length-take-le}
+use Rattle.enc_model.specs.Batches.{BatchTook}
+use Rattle.enc_model.proofs.Gathered.{still_text, took_char}
+use Rattle.enc_model.proofs.Stored.{map_more, own_map, took_on}
+use Rattle.enc_model.proofs.batch.store_some.Goals as goal
+
+pub store_each-requires-clause-room : goal.store_each-requires-clause-room
+store_each-requires-clause-room g c =
+    let l = length-take-le 32 c.args.bytes.now c.requires.many in
+    let many = c.requires.many in
+    let room = c.requires.room in
+    omega (arith, l, many, room)
+
+pub returns-in_default-clause-few : goal.returns-in_default-clause-few
+returns-in_default-clause-few g c =
+    let l = length-take-le 32 c.args.bytes.now c.requires.many in
+    let few = c.store_each.ensures.few in
+    omega (arith, l, few)
+
+pub returns-then-front-eq-LANES-clause-took : goal.returns-then-front-eq-LANES-clause-took
+returns-then-front-eq-LANES-clause-took g c =
+    let bytes = c.args.bytes.now in
+    let char : ℕ → ℕ = λ b. slice_index c.args.chars.now b in
+    let own = own_map char (take c.in-Some.front bytes) c.requires.own c.in-Some.ensures.ascii in
+    let new = take c.store_front-end.result c.store_front-end.new.room in
+    subst (λ z. BatchTook (take c.args.from c.args.room.now) z new)
+    (own ∙ ap (λ n. map char (take n bytes)) c.if-front-eq-LANES.true) c.store_front-end.ensures.took
+
+pub returns-clause-took : goal.returns-clause-took
+returns-clause-took g c =
+    let bytes = c.args.bytes.now in
+    let i = c.in-Some.front in
+    let char : ℕ → ℕ = λ b. slice_index c.args.chars.now b in
+    let b = get_or bytes i 0 in
+    let fits = c.type_inv.bytes i in
+    let long = c.requires.long in
+    let below : b < length c.args.chars.now = omega (arith, fits, long) in
+    let code = c.index-chars-bytes.result in
+    let is : code ≡ char b = get_or_read_under c.args.chars.now b (length c.args.chars.now) code 0
+    c.index-chars-bytes.is below refl in
+    let inside : i < length bytes = let w = c.in-Some.ensures.within in let n = c.if-front-eq-LANES.false in let many =
+    c.requires.many in omega (arith, w, n, many) in
+    let own = own_map char (take i bytes) c.requires.own c.in-Some.ensures.ascii in
+    let mid = take c.store_front-end.result c.store_front-end.new.room in
+    let new = take c.store_code.result c.store_code.new.bytes in
+    let e = c.store_code.ensures in
+    let f = c.store_front-end.ensures in
+    took_on (take c.args.from c.args.room.now) mid new (take i bytes) (code ∷ []) (map char (take (i + 1) bytes)) f.took
+    (took_char mid new code f.text e.scalar e.code)
+    (ap₂ (λ front c. front ++ c ∷ []) own is ∙ map_more char bytes i inside)
+
+pub returns-clause-text : goal.returns-clause-text
+returns-clause-text g c =
+    let e = c.store_code.ensures in
+    let old = take c.store_front-end.result c.store_front-end.new.room in
+    still_text old (take c.store_code.result c.store_code.new.bytes)
+    c.index-chars-bytes.result c.store_front-end.ensures.text e.scalar e.code

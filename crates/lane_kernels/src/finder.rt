@@ -1,0 +1,34 @@
+//! Looks at lanes for decoders that store them whole.
+
+ghost use Rattle.std.specs.Prelude.{◌≤◌, length};
+
+use crate::front::ascii_lanes;
+use crate::lanes::LANES;
+use enc_model::AsciiFinder;
+use std::simd::prelude::*;
+
+/// From how many lanes of 80 or more on each is better looked up alone.
+const DENSE: u32 = 8;
+
+/// Finds ASCII by lanes.
+#[derive(Clone, Copy)]
+pub struct AsciiLanes;
+
+/// Whether many of the first lanes are 80 or more. Either answer is right: it chooses the quicker way.
+#[inline(always)]
+fn are_dense(bytes: &[u8]) -> bool
+    requires { LANES ≤ length bytes.now }
+{
+    let lanes = u8x32::from_slice(bytes);
+    lanes.simd_ge(u8x32::splat(0x80)).to_bitmask().count_ones() >= DENSE
+}
+
+impl AsciiFinder for AsciiLanes {
+    #[inline(always)]
+    fn front(&self, bytes: &[u8]) -> Option<usize> {
+        if are_dense(bytes) {
+            return None;
+        }
+        Some(ascii_lanes(bytes))
+    }
+}
