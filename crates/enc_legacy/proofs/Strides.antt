@@ -2,7 +2,7 @@
 use Rattle.std.proofs.Common.{Bool, true, false, ap, IfSome, OnSome, Option, None, ℕ, sym, subst, ◌+◌}
 use Rattle.std.proofs.Common.{◌-◌, ◌*◌, ◌<◌, ◌≤◌, ◌≡◌, List, [], ◌∷◌, Some, refl, ◌∙◌, arith, take, get_or, length, All}
 use Rattle.std.proofs.lemmas.Bool.Decides.{nat_tests}
-use Rattle.std.proofs.lemmas.List.{length-take, get_or-take}
+use Rattle.std.proofs.lemmas.List.{length-take, get_or-take, take-take}
 use Rattle.std.proofs.lemmas.List.Elements.{All-head, All-tail, All-from_get_or}
 use Rattle.std.proofs.lemmas.List.Sums.{prefix_len-le-length, prefix_len_passes}
 use Rattle.std.specs.List.{prefix_len}
@@ -298,3 +298,14 @@ iso_front i output flag rest n e some =
     let long : 0 < length (take n rest) = let t = length-take n rest in let w =
     prefix_len-le-length is_plain_2022 rest in omega (arith, t, w, some, e) in
     (λ k d l. plain_ascii (get_or (take n rest) k d) (all k d l), iso_run i output flag (take n rest) long all)
+
+-- pairs at the front of a front
+pub pairs_in_front : (P : ℕ → ℕ → ℕ → Type 0) (n : ℕ) (front rest : List ℕ) → front ≡ take (length front) rest
+    → n ≤ length front → (old new : List ℕ)
+    → (given : List ℕ) × ArePairs P (take n front) given × BatchTook old given new
+    → (given : List ℕ) × ArePairs P (take n rest) given × BatchTook old given new
+pairs_in_front P n front rest is within old new took = (
+  took.0,
+  subst (λ (bytes : List ℕ). ArePairs P bytes took.0) (ap (take n) is ∙ take-take n (length front) rest within) took.1,
+  took.2,
+)

@@ -15,7 +15,7 @@ use enc_index::{IndexSet, Kind};
 use enc_model::{
     Answer, Batch, BlockDecoder, Decoder, PairReader, Restored, Sink, Utf8Char, feed, finish,
 };
-use lane_kernels::{ascii_front, ascii_lanes};
+use lane_kernels::{ascii_front, ascii_lanes, range_front};
 use std::marker::Model;
 
 /// A decoder of EUC-JP (Encoding Standard, section 12.1.1): the lead that is kept, or 0, and whether it is one of
@@ -165,6 +165,11 @@ impl PairDecoder for EucJpState {
             return None;
         }
         indexes.ready(Kind::Jis0208)
+    }
+
+    #[inline(always)]
+    fn pair_front<'a>(&self, bytes: &'a [u8]) -> &'a [u8] {
+        &bytes[..range_front(bytes, 0xA1, 0xFE)]
     }
 }
 
