@@ -29,7 +29,7 @@ pub struct Log<'a, T: Clock, W: Write + Drop> {
     counts: Cell<Counts>,
     /// how many connections there were
     accepted: Cell<u64>,
-    /// when lines were written last
+    /// when lines were last written, or there were none to write
     written: Cell<Duration>,
     /// when counts were told last
     counted: Cell<Duration>,
@@ -98,6 +98,7 @@ impl<'a, T: Clock, W: Write + Drop> Log<'a, T, W> {
             self.counted.set(now);
             self.tell_counts();
         }
+        self.written.set(now);
         self.write();
     }
 
