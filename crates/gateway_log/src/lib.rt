@@ -1,0 +1,17 @@
+//! A log of what a server is asked and answers: a listener whose streams watch the bytes that pass.
+#![tactic(auto)]
+
+mod counts;
+mod heads;
+mod lines;
+mod listeners;
+mod messages;
+mod refusals;
+mod shown;
+mod streams;
+mod talks;
+mod writing;
+
+pub use listeners::Logged;
+pub use streams::LoggedStream;
+pub use writing::Log;

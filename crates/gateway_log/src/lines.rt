@@ -1,0 +1,49 @@
+//! Lines that pass in pieces.
+
+use std::alloc::Global;
+
+/// How many bytes of a line are kept.
+const MOST_KEPT: usize = 256;
+
+/// A line that passes in pieces: its first 256 bytes. Out of memory, fewer of them.
+#[derive(Drop)]
+pub(crate) struct Line {
+    kept: Vec<u8>,
+}
+
+impl Line {
+    /// Nothing of the line has passed.
+    pub(crate) fn new(alloc: Global) -> Self {
+        Line {
+            kept: Vec::new(alloc),
+        }
+    }
+
+    /// The next piece of the line passes.
+    pub(crate) fn add(&mut self, piece: &[u8]) {
+        let room = MOST_KEPT.saturating_sub(self.kept.len());
+        let front = &piece[..piece.len().min(room)];
+        // Out of memory, the piece isn't kept.
+        let kept = self.kept.extend_from_slice(front);
+        drop(kept);
+    }
+
+    /// What is kept, without a CR at its end.
+    pub(crate) fn text(&self) -> &[u8] {
+        match self.kept.as_slice() {
+            [text @ .., b'\r'] => text,
+            text => text,
+        }
+    }
+
+    /// Another line begins.
+    pub(crate) fn clear(&mut self) {
+        self.kept.clear();
+    }
+}
+
+/// The bytes before the first line feed, and those after it. `None` where there is none.
+pub(crate) fn cut_line(bytes: &[u8]) -> Option<(&[u8], &[u8])> {
+    let at = bytes.iter().position(|byte| *byte == b'\n')?;
+    Some((&bytes[..at], &bytes[at + 1..]))
+}

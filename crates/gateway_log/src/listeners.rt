@@ -1,0 +1,37 @@
+//! A listener whose streams are watched.
+
+use crate::streams::LoggedStream;
+use crate::writing::Log;
+use std::io::{self, Write};
+use std::net::{OpenListener, SocketAddr};
+use std::time::Clock;
+
+/// A listener that accepts what the one inside does, and tells a log what passes over each stream. When it is asked for
+/// a stream, the log is written.
+#[derive(Drop)]
+pub struct Logged<'a, L, T: Clock, W: Write + Drop> {
+    listener: &'a L,
+    log: &'a Log<'a, T, W>,
+}
+
+impl<'a, L, T: Clock, W: Write + Drop> Logged<'a, L, T, W> {
+    /// A listener and its log.
+    pub fn new(listener: &'a L, log: &'a Log<'a, T, W>) -> Self {
+        Logged { listener, log }
+    }
+}
+
+impl<'a, L: OpenListener, T: Clock, W: Write + Drop> OpenListener for Logged<'a, L, T, W> {
+    type Stream = LoggedStream<'a, L::Stream, T, W>;
+
+    fn accept(&self) -> io::Result<(LoggedStream<'a, L::Stream, T, W>, SocketAddr)> {
+        self.log.turn();
+        let (stream, address) = self.listener.accept()?;
+        let client = self.log.accept(address);
+        Ok((LoggedStream::new(stream, self.log, client), address))
+    }
+
+    fn set_nonblocking(&self, nonblocking: bool) -> io::Result<()> {
+        self.listener.set_nonblocking(nonblocking)
+    }
+}

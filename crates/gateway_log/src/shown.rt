@@ -1,0 +1,121 @@
+//! Lines of the log.
+
+use crate::counts::Counts;
+use crate::heads::Head;
+use crate::refusals::name_of;
+use crate::talks::{Asked, Exchange, Told};
+use jiff::Timestamp;
+use std::io::{self, Write};
+use std::net::SocketAddr;
+use std::time::Duration;
+
+/// How many bytes a word of a client takes in a line.
+const MOST_SHOWN: usize = 200;
+
+/// Who a connection is with.
+#[derive(Clone, Copy, Drop)]
+pub(crate) struct Client {
+    /// the connection's place in the order of accept, from 1
+    pub(crate) number: u64,
+    pub(crate) address: SocketAddr,
+}
+
+/// Writes the line of an exchange that ended at a time: `TIME NUMBER CLIENT METHOD PATH offset=.. length=.. body=..
+/// status=.. refusal=.. in=.. out=.. ms=..`.
+pub(crate) fn write_exchange(
+    out: &mut Vec<u8>,
+    time: Duration,
+    client: Client,
+    exchange: &Exchange,
+    millis: u128,
+) -> io::Result<()> {
+    let Exchange { asked, told } = exchange;
+    write_time(out, time)?;
+    write!(out, " {} {}", client.number, client.address)?;
+    write_request(out, &asked.head)?;
+    write_reply(out, told)?;
+    writeln!(out, " in={} out={} ms={millis}", asked.bytes, told.bytes)
+}
+
+/// Writes the line of the counts of a minute.
+pub(crate) fn write_counts(out: &mut Vec<u8>, time: Duration, counts: &Counts) -> io::Result<()> {
+    write_time(out, time)?;
+    writeln!(
+        out,
+        " minute connections={} requests={} 2xx={} 4xx={} 5xx={} in={} out={}",
+        counts.connections,
+        counts.requests,
+        counts.served,
+        counts.refused,
+        counts.failed,
+        counts.bytes_in,
+        counts.bytes_out
+    )
+}
+
+// Writes a time since 1970, in UTC: a dash where it is no time of the calendar.
+fn write_time(out: &mut Vec<u8>, time: Duration) -> io::Result<()> {
+    let millis = i64::try_from(time.as_millis()).unwrap_or(i64::MAX);
+    match Timestamp::from_millisecond(millis) {
+        Ok(time) => write!(out, "{time:.3}"),
+        Err(_) => write!(out, "-"),
+    }
+}
+
+// Writes what a request asked: its method and path, and its numbers where it has them.
+fn write_request(out: &mut Vec<u8>, head: &Head) -> io::Result<()> {
+    write_word(out, head.word(0))?;
+    write_word(out, head.word(1))?;
+    write_number(out, "offset", head.offset)?;
+    write_number(out, "length", head.length)?;
+    write_number(out, "body", head.body)
+}
+
+// Writes what was answered.
+fn write_reply(out: &mut Vec<u8>, told: &Told) -> io::Result<()> {
+    match told.status {
+        Some(status) => write!(out, " status={status}")?,
+        None => write!(out, " status=none")?,
+    }
+    if told.status.is_some() && !told.whole {
+        write!(out, " cut")?;
+    }
+    write_number(out, "refusal", told.refusal)?;
+    match told.refusal.and_then(|number| name_of(number)) {
+        Some(name) => write!(out, ":{name}"),
+        None => Ok(()),
+    }
+}
+
+// Writes a number and what it is of, where there is one.
+fn write_number(out: &mut Vec<u8>, name: &str, number: Option<u64>) -> io::Result<()> {
+    match number {
+        Some(number) => write!(out, " {name}={number}"),
+        None => Ok(()),
+    }
+}
+
+// Writes a blank and a client's word of at most 200 bytes: a dash where there is none. What isn't printable ASCII
+// stands there by its number, and so does a backslash.
+fn write_word(out: &mut Vec<u8>, word: Option<&[u8]>) -> io::Result<()> {
+    out.push(b' ')?;
+    let word = match word {
+        Some(word) if !word.is_empty() => word,
+        _ => b"-",
+    };
+    let mut room = MOST_SHOWN;
+    for byte in word {
+        let plain = byte.is_ascii_graphic() && *byte != b'\\';
+        let width = if plain { 1 } else { 4 };
+        if width > room {
+            break;
+        }
+        room -= width;
+        if plain {
+            out.push(*byte)?;
+        } else {
+            write!(out, "\\x{byte:02x}")?;
+        }
+    }
+    Ok(())
+}

@@ -1,0 +1,200 @@
+//! What is said over a connection: requests and their replies.
+
+use crate::heads::Head;
+use crate::messages::Messages;
+use std::alloc::Global;
+use std::collections::VecDeque;
+use std::time::{Clock, Duration};
+
+/// A request, as far as it came.
+#[derive(Drop)]
+pub(crate) struct Asked {
+    pub(crate) head: Head,
+    /// how many of its bytes came
+    pub(crate) bytes: u64,
+    /// when the first one did
+    pub(crate) since: Option<Duration>,
+}
+
+/// A reply, as far as it went.
+#[derive(Clone, Copy, Drop)]
+pub(crate) struct Told {
+    /// `None` where its head didn't go
+    pub(crate) status: Option<u16>,
+    pub(crate) refusal: Option<u64>,
+    /// how many of its bytes went
+    pub(crate) bytes: u64,
+    /// whether all of it did
+    pub(crate) whole: bool,
+}
+
+/// A request and its reply.
+#[derive(Drop)]
+pub(crate) struct Exchange {
+    pub(crate) asked: Asked,
+    pub(crate) told: Told,
+}
+
+/// The requests and replies of a connection.
+#[derive(Drop)]
+pub(crate) struct Talk {
+    alloc: Global,
+    asks: Messages,
+    tells: Messages,
+    /// of the head under way: how many bytes came, and since when
+    bytes: u64,
+    since: Option<Duration>,
+    /// requests whose heads came, without a reply so far
+    waiting: VecDeque<Asked>,
+    /// whether one was let go for want of memory: then no later one is kept
+    lost: bool,
+    /// the reply under way
+    told: Told,
+    /// how many replies went
+    replies: u64,
+}
+
+/// No byte of a reply went.
+const NOTHING: Told = Told {
+    status: None,
+    refusal: None,
+    bytes: 0,
+    whole: false,
+};
+
+impl Talk {
+    /// Nothing was said.
+    pub(crate) fn new(alloc: Global) -> Self {
+        Talk {
+            alloc,
+            asks: Messages::new(alloc),
+            tells: Messages::new(alloc),
+            bytes: 0,
+            since: None,
+            waiting: VecDeque::new(alloc),
+            lost: false,
+            told: NOTHING,
+            replies: 0,
+        }
+    }
+
+    /// Bytes came: how many requests have their whole head with them.
+    pub(crate) fn came<T: Clock>(&mut self, clock: &T, bytes: &[u8]) -> u64 {
+        let mut heads = 0u64;
+        let mut rest = bytes;
+        for _ in 0..bytes.len() {
+            if rest.is_empty() {
+                break;
+            }
+            let (after, head) = self.ask(clock, rest);
+            heads = heads.saturating_add(u64::from(head));
+            rest = after;
+        }
+        heads
+    }
+
+    // Bytes come, at most to the end of a line or of a body: those that don't, and whether a head ends with them.
+    fn ask<'b, T: Clock>(&mut self, clock: &T, bytes: &'b [u8]) -> (&'b [u8], bool) {
+        if self.asks.is_in_body() {
+            let (rest, _) = self.asks.pass(bytes);
+            self.add_body(bytes.len().saturating_sub(rest.len()));
+            return (rest, false);
+        }
+        if self.since.is_none() {
+            self.since = clock.monotonic().ok();
+        }
+        let (rest, head) = self.asks.pass(bytes);
+        self.bytes = plus(self.bytes, bytes.len().saturating_sub(rest.len()));
+        let Some(head) = head else {
+            return (rest, false);
+        };
+        self.add_request(head);
+        (rest, true)
+    }
+
+    // Bytes of a body came. Where its request has a reply already, they are no part of an exchange.
+    fn add_body(&mut self, count: usize) {
+        if let Some(asked) = self.waiting.back_mut() {
+            asked.bytes = plus(asked.bytes, count);
+        }
+    }
+
+    // A head is whole: its request waits for its reply.
+    fn add_request(&mut self, head: Head) {
+        let asked = self.under_way(head);
+        self.lost = self.lost || self.waiting.push_back(asked).is_err();
+    }
+
+    // The request under way, with its head. Another one begins.
+    fn under_way(&mut self, head: Head) -> Asked {
+        let asked = Asked {
+            head,
+            bytes: self.bytes,
+            since: self.since,
+        };
+        self.bytes = 0;
+        self.since = None;
+        asked
+    }
+
+    /// Bytes go, at most to the end of a line or of a body: those that don't, and the exchange that ends with them.
+    pub(crate) fn tell<'b>(&mut self, bytes: &'b [u8]) -> (&'b [u8], Option<Exchange>) {
+        let (rest, head) = self.tells.pass(bytes);
+        self.told.bytes = plus(self.told.bytes, bytes.len().saturating_sub(rest.len()));
+        if let Some(head) = head {
+            self.add_reply(&head);
+        }
+        if self.told.status.is_none() || self.tells.is_in_body() {
+            return (rest, None);
+        }
+        self.told.whole = true;
+        self.replies = self.replies.saturating_add(1);
+        (rest, Some(self.exchange()))
+    }
+
+    // The head of a reply went. An interim one is none.
+    fn add_reply(&mut self, head: &Head) {
+        let status = head.status();
+        if status.is_some_and(|status| status >= 200) {
+            self.told.status = status;
+            self.told.refusal = head.refusal;
+        }
+    }
+
+    // The oldest request that has no reply, and what went of its reply.
+    fn exchange(&mut self) -> Exchange {
+        let told = self.told;
+        self.told = NOTHING;
+        let asked = match self.waiting.pop_front() {
+            Some(asked) => asked,
+            None => self.unfinished(),
+        };
+        Exchange { asked, told }
+    }
+
+    // The request whose head is under way. Nothing is known of it where one was let go before.
+    fn unfinished(&mut self) -> Asked {
+        let head = if self.lost {
+            Head::new(self.alloc)
+        } else {
+            self.asks.take_head()
+        };
+        self.under_way(head)
+    }
+
+    /// The connection ended: what it left without a whole reply. `None` where it left nothing so, and something had a
+    /// reply.
+    pub(crate) fn end(&mut self) -> Option<Exchange> {
+        let owed = self.told.bytes > 0 || self.bytes > 0 || !self.waiting.is_empty();
+        if owed || self.replies == 0 {
+            Some(self.exchange())
+        } else {
+            None
+        }
+    }
+}
+
+// A sum of counts.
+fn plus(count: u64, more: usize) -> u64 {
+    count.saturating_add(more as u64)
+}
