@@ -1,0 +1,247 @@
+//! Lines of a log, of bytes that pass over streams of the tests' own.
+
+use gateway_log::{Log, Logged};
+use std::alloc::Global;
+use std::cell::Cell;
+use std::io::{self, Read, Write};
+use std::net::{Ipv4Addr, OpenListener, SocketAddr};
+use std::process::Abort;
+use std::time::{Clock, Duration};
+
+/// A stream that gives what lies in a cell, and takes everything.
+#[derive(Drop)]
+struct Wire<'a> {
+    says: &'a Cell<&'static [u8]>,
+}
+
+impl Read for Wire<'_> {
+    fn read(&mut self, buf: &mut [u8]) -> io::Result<usize> {
+        let says = self.says.get();
+        let count = says.len().min(buf.len());
+        buf[..count].copy_from_slice(&says[..count]);
+        Ok(count)
+    }
+}
+
+impl Write for Wire<'_> {
+    fn write(&mut self, buf: &[u8]) -> io::Result<usize> {
+        Ok(buf.len())
+    }
+
+    fn flush(&mut self) -> io::Result<()> {
+        Ok(())
+    }
+}
+
+/// A listener at which such streams come from port 7.
+#[derive(Drop)]
+struct Door<'a> {
+    says: &'a Cell<&'static [u8]>,
+}
+
+impl<'a> OpenListener for Door<'a> {
+    type Stream = Wire<'a>;
+
+    fn accept(&self) -> io::Result<(Wire<'a>, SocketAddr)> {
+        let wire = Wire { says: self.says };
+        Ok((wire, SocketAddr::from((Ipv4Addr::LOCALHOST, 7))))
+    }
+}
+
+/// A clock that goes on by a millisecond at each reading. The time of day stands.
+#[derive(Drop)]
+struct Millis {
+    now: Cell<u64>,
+}
+
+impl Clock for Millis {
+    fn monotonic(&self) -> io::Result<Duration> {
+        let now = self.now.get();
+        self.now.set(now.saturating_add(1));
+        Ok(Duration::from_millis(now))
+    }
+
+    fn since_1970(&self) -> io::Result<Duration> {
+        Ok(Duration::from_millis(1_700_000_000_123))
+    }
+}
+
+/// What is written on it lies in a cell.
+#[derive(Drop)]
+struct Paper<'a> {
+    alloc: Global,
+    written: &'a Cell<Vec<u8>>,
+}
+
+impl Write for Paper<'_> {
+    fn write(&mut self, buf: &[u8]) -> io::Result<usize> {
+        let mut written = self.written.replace(Vec::new(self.alloc));
+        let taken = written.extend_from_slice(buf);
+        self.written.set(written);
+        taken?;
+        Ok(buf.len())
+    }
+
+    fn flush(&mut self) -> io::Result<()> {
+        Ok(())
+    }
+}
+
+/// Bytes that pass over a connection.
+#[derive(Clone, Copy, Drop)]
+enum Passes {
+    In(&'static [u8]),
+    Out(&'static [u8]),
+}
+
+/// What passes until the connection ends, and what is logged of it, without the time at the front of each line. Where
+/// nothing else is said, a line's `ms` are the readings of the clock since the request's first byte.
+const TALKS: [(&[Passes], &str); 7] = [
+    // nothing
+    (
+        &[],
+        "1 127.0.0.1:7 - - status=none in=0 out=0 ms=1\n\
+        minute connections=1 requests=0 2xx=0 4xx=0 5xx=0 in=0 out=0\n",
+    ),
+    // a body, and fields in any case
+    (
+        &[
+            Passes::In(
+                b"\r\nPATCH /files/1 HTTP/1.1\r\nupload-offset: 5\r\nContent-Length: 3\r\n\r\nabc",
+            ),
+            Passes::Out(b"HTTP/1.1 204 No Content\r\nUpload-Offset: 8\r\n\r\n"),
+        ],
+        "1 127.0.0.1:7 PATCH /files/1 offset=5 body=3 status=204 in=69 out=45 ms=1\n\
+        minute connections=1 requests=1 2xx=1 4xx=0 5xx=0 in=69 out=45\n",
+    ),
+    // a reply before the body, which is no part of the next request; lines that end in LF alone
+    (
+        &[
+            Passes::In(b"PATCH /files/9 HTTP/1.1\r\nUpload-Offset: 0\r\nContent-Length: 3\r\n\r\n"),
+            Passes::Out(b"HTTP/1.1 404 Not Found\r\nX-Refusal: 8\r\nContent-Length: 0\r\n\r\n"),
+            Passes::In(b"G\n\nGET /files/1 HTTP/1.1\n\n"),
+            Passes::Out(b"HTTP/1.1 200 OK\r\nContent-Length: 5\r\n\r\n\r\n\r\nX"),
+        ],
+        "1 127.0.0.1:7 PATCH /files/9 offset=0 body=3 status=404 refusal=8:NoSuch in=64 out=59 ms=1\n\
+        1 127.0.0.1:7 GET /files/1 status=200 in=23 out=43 ms=1\n\
+        minute connections=1 requests=2 2xx=1 4xx=1 5xx=0 in=90 out=102\n",
+    ),
+    // two requests at once; an interim reply is none
+    (
+        &[
+            Passes::In(
+                b"POST /files HTTP/1.1\r\nUpload-Length: 10\r\n\r\n\
+            PATCH /files/1 HTTP/1.1\r\nUpload-Offset: 0\r\nContent-Length: 3\r\n\r\n",
+            ),
+            Passes::Out(
+                b"HTTP/1.1 201 Created\r\nContent-Length: 0\r\n\r\nHTTP/1.1 100 Continue\r\n\r\n",
+            ),
+        ],
+        "1 127.0.0.1:7 POST /files length=10 status=201 in=43 out=43 ms=2\n\
+        1 127.0.0.1:7 PATCH /files/1 offset=0 body=3 status=none in=64 out=25 ms=2\n\
+        minute connections=1 requests=2 2xx=1 4xx=0 5xx=0 in=107 out=68\n",
+    ),
+    // bytes that a terminal would obey
+    (
+        &[
+            Passes::In(b"G\x1bT /a\\b\x07\xff HTTP/1.1\r\n\r\n"),
+            Passes::Out(b"HTTP/1.1 400 Bad Request\r\nX-Refusal: 18\r\nContent-Length: 0\r\n\r\n"),
+        ],
+        "1 127.0.0.1:7 G\\x1bT /a\\x5cb\\x07\\xff status=400 refusal=18:Malformed in=23 out=62 ms=1\n\
+        minute connections=1 requests=1 2xx=0 4xx=1 5xx=0 in=23 out=62\n",
+    ),
+    // a text that is cut, and a head that is
+    (
+        &[
+            Passes::In(b"GET /files/1 HTTP/1.1\r\n\r\nHEAD "),
+            Passes::Out(b"HTTP/1.1 200 OK\r\nContent-Length: 5\r\n\r\nhe"),
+        ],
+        "1 127.0.0.1:7 GET /files/1 status=200 cut in=25 out=40 ms=2\n\
+        minute connections=1 requests=1 2xx=0 4xx=0 5xx=0 in=30 out=40\n",
+    ),
+    // a head without an end
+    (
+        &[
+            Passes::In(b"GET /files/1 HTTP/1.1\r\nX: "),
+            Passes::Out(
+                b"HTTP/1.1 431 Request Header Fields Too Large\r\nX-Refusal: 19\r\nContent-Length: 0\r\n\r\n",
+            ),
+        ],
+        "1 127.0.0.1:7 GET /files/1 status=431 refusal=19:HeadTooLong in=26 out=82 ms=1\n\
+        minute connections=1 requests=0 2xx=0 4xx=1 5xx=0 in=26 out=82\n",
+    ),
+];
+
+/// A client says this in pieces of so many bytes, and they are read.
+fn reads(
+    rt: &impl Abort,
+    says: &Cell<&'static [u8]>,
+    stream: &mut impl Read,
+    bytes: &'static [u8],
+    size: usize,
+) {
+    for piece in bytes.chunks(size.max(1)) {
+        says.set(piece);
+        let mut buf = [0; 512];
+        let count = stream.read(&mut buf).expect(rt, "bytes");
+        assert_eq!(rt; buf.get(..count), Some(piece));
+    }
+}
+
+/// A client is told this in pieces of so many bytes.
+fn writes(rt: &impl Abort, stream: &mut impl Write, bytes: &'static [u8], size: usize) {
+    for piece in bytes.chunks(size.max(1)) {
+        let count = stream.write(piece).expect(rt, "a stream that takes bytes");
+        assert_eq!(rt; count, piece.len());
+    }
+}
+
+/// What is logged of a connection over which this passes, in pieces of so many bytes.
+fn logged(rt: &impl Abort, alloc: Global, talk: &[Passes], size: usize) -> Vec<u8> {
+    let written = Cell::new(Vec::new(alloc));
+    let says: Cell<&'static [u8]> = Cell::new(b"");
+    let clock = Millis { now: Cell::new(0) };
+    let log = Log::new(
+        alloc,
+        &clock,
+        Paper {
+            alloc,
+            written: &written,
+        },
+    );
+    let door = Door { says: &says };
+    let listener = Logged::new(&door, &log);
+    let (mut stream, _) = listener.accept().expect(rt, "a stream");
+    for passes in talk {
+        match *passes {
+            Passes::In(bytes) => reads(rt, &says, &mut stream, bytes, size),
+            Passes::Out(bytes) => writes(rt, &mut stream, bytes, size),
+        }
+    }
+    drop(stream);
+    log.end();
+    written.replace(Vec::new(alloc))
+}
+
+/// These lines, each after the time.
+fn timed(rt: &impl Abort, alloc: Global, lines: &str) -> Vec<u8> {
+    let mut bytes = Vec::new(alloc);
+    for line in lines.lines() {
+        writeln!(&mut bytes, "2023-11-14T22:13:20.123Z {line}").expect(rt, "memory for a line");
+    }
+    bytes
+}
+
+#[test]
+fn lines_of_a_log(rt: HostRuntime) {
+    let alloc = rt.alloc();
+    for (talk, lines) in TALKS.iter() {
+        let wanted = timed(&rt, alloc, lines);
+        assert_eq!(rt; logged(&rt, alloc, talk, 512), wanted, "{lines}");
+        assert_eq!(rt;
+            logged(&rt, alloc, talk, 1),
+            wanted,
+            "in single bytes: {lines}"
+        );
+    }
+}
