@@ -173,11 +173,11 @@ const TALKS: [(&[Passes], &str); 7] = [
 ];
 
 /// A client says this in pieces of so many bytes, and they are read.
-fn reads(
+fn reads<'s, R: Read>(
     rt: &impl Abort,
-    says: &Cell<&'static [u8]>,
-    stream: &mut impl Read,
-    bytes: &'static [u8],
+    says: &Cell<&'s [u8]>,
+    stream: &mut R,
+    bytes: &'s [u8],
     size: usize,
 ) {
     for piece in bytes.chunks(size.max(1)) {
@@ -189,7 +189,7 @@ fn reads(
 }
 
 /// A client is told this in pieces of so many bytes.
-fn writes(rt: &impl Abort, stream: &mut impl Write, bytes: &'static [u8], size: usize) {
+fn writes<W: Write>(rt: &impl Abort, stream: &mut W, bytes: &[u8], size: usize) {
     for piece in bytes.chunks(size.max(1)) {
         let count = stream.write(piece).expect(rt, "a stream that takes bytes");
         assert_eq!(rt; count, piece.len());
