@@ -12,7 +12,7 @@ use gateway_files::{
 };
 use gateway_orders::{Order, USAGE, read_order, say_usage};
 use scripting::run_script;
-use serving::{serve_file, serve_up};
+use serving::{Telling, serve_file, serve_up};
 use std::alloc::Global;
 use std::process::ExitCode;
 use std::{env, io};
@@ -55,7 +55,8 @@ fn obey<'a>(rt: &HostRuntime, order: Order<'a>) -> Result<u8, Failure<'a>> {
             spool,
             listen,
             quiet,
-        } => serve_up(rt, alloc, spool, listen, quiet)?,
+            log,
+        } => serve_up(rt, alloc, spool, listen, Telling { quiet, log })?,
         Order::List { spool } => list_file(rt, alloc, spool)?,
         Order::Upgrade { spool } => {
             upgrade_file(rt, alloc, spool)?;

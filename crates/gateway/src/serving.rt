@@ -9,13 +9,14 @@ use gateway_engine::Gateway;
 use gateway_files::{
     Failure, Fault, Survey, Task, open_spool, open_surveyed, say_open, say_served, say_up,
 };
+use gateway_log::{Log, Logged};
 use gateway_orders::Service;
 use gateway_serve::{Outcome, serve_on};
 use spool_disk::{DiskFault, FileDisk};
 use spool_image::Spool;
 use std::alloc::Global;
-use std::io;
-use std::net::{Ipv4Addr, OpenListener, SocketAddr, SocketAddrV4, TcpListener};
+use std::io::{self, IsTerminal, Read, Write};
+use std::net::{Ipv4Addr, OpenListener, OpenStream, SocketAddr, SocketAddrV4, TcpListener};
 
 /// Serves the spool in a file, at a port of 127.0.0.1 that is printed. At the end the number of connections is told
 /// on standard error.
@@ -103,6 +104,22 @@ fn address_of(port: u16) -> SocketAddrV4
     SocketAddrV4::new(Ipv4Addr::LOCALHOST, port)
 }
 
+/// What a server is to tell while it serves.
+#[derive(Clone, Copy, Drop)]
+pub(crate) struct Telling {
+    /// nothing but what is wrong
+    pub(crate) quiet: bool,
+    /// what is asked and answered, on standard error
+    pub(crate) log: bool,
+}
+
+impl Telling {
+    // Whether there is a log: at a terminal it needn't be asked for.
+    fn has_log(self, rt: &HostRuntime) -> bool {
+        self.log || !self.quiet && rt.stderr().is_terminal()
+    }
+}
+
 /// Serves the spool in a file until the program is ended, or the device fails. What is served and where is printed,
 /// unless it is to be quiet, and where other machines may reach it there is a warning on standard error.
 pub(crate) fn serve_up<'a>(
@@ -110,16 +127,24 @@ pub(crate) fn serve_up<'a>(
     alloc: Global,
     spool: &'a str,
     listen: SocketAddr,
-    quiet: bool,
+    telling: Telling,
 ) -> Result<(), Failure<'a>> {
     let (gateway, survey) = match open_gateway(alloc, open_spool(rt, spool)?) {
         Ok(opened) => opened,
         Err((disk, fault)) => return Err(Failure::on_given(fault, spool, &disk)),
     };
-    let told = if quiet { None } else { Some((spool, survey)) };
+    let told = if telling.quiet {
+        None
+    } else {
+        Some((spool, survey))
+    };
     match listen_openly(rt, alloc, listen, told) {
         Ok(listener) => {
-            let (disk, served) = serve_on_and_on(rt, alloc, &listener, gateway);
+            let (disk, served) = if telling.has_log(rt) {
+                serve_logged(rt, alloc, &listener, gateway)
+            } else {
+                serve_on_and_on(rt, alloc, &listener, gateway)
+            };
             outcome(served, spool, &disk)
         }
         Err(failure) => {
@@ -168,13 +193,29 @@ fn listen_openly<'a>(
     Ok(listener)
 }
 
-// Serves until the device fails: serving that ended by itself goes on. The disk comes back.
-fn serve_on_and_on(
+// Serves as `serve_on_and_on` does, with a log on standard error.
+fn serve_logged(
     rt: &HostRuntime,
     alloc: Global,
     listener: &TcpListener,
     gateway: Gateway<Spool<FileDisk>>,
 ) -> (FileDisk, Result<(), DiskFault>) {
+    let log = Log::new(alloc, rt, rt.stderr());
+    let served = serve_on_and_on(rt, alloc, &Logged::new(listener, &log), gateway);
+    log.end();
+    served
+}
+
+// Serves until the device fails: serving that ended by itself goes on. The disk comes back.
+fn serve_on_and_on<L: OpenListener>(
+    rt: &HostRuntime,
+    alloc: Global,
+    listener: &L,
+    gateway: Gateway<Spool<FileDisk>>,
+) -> (FileDisk, Result<(), DiskFault>)
+where
+    L::Stream: Read + Write + OpenStream,
+{
     let mut gateway = gateway;
     for _ in 0..u64::MAX {
         let Outcome {

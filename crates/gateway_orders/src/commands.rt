@@ -97,6 +97,11 @@ fn up<'a>(alloc: Global) -> Result<Command<'a>, AllocError> {
             the_spool(alloc),
             listen,
             flag(alloc, "quiet", "Prints nothing but what is wrong"),
+            flag(
+                alloc,
+                "log",
+                "Logs each reply, also where no terminal shows it"
+            ),
         ]?)
 }
 

@@ -21,11 +21,13 @@ pub enum Order<'a> {
     },
     /// Connections over sockets to a spool.
     Serve(Service<'a>),
-    /// The same until the program is ended, at this address; where it is quiet nothing is printed of it.
+    /// The same until the program is ended, at this address; where it is quiet nothing is printed of it. There is a log
+    /// on standard error where one is asked for.
     Up {
         spool: &'a str,
         listen: SocketAddr,
         quiet: bool,
+        log: bool,
     },
     /// The uploads of the spool at this path.
     List {
@@ -112,6 +114,7 @@ fn up_order<'a>(
             spool,
             listen,
             quiet: given.get_flag("quiet"),
+            log: given.get_flag("log"),
         })),
         Err(_) => Err(no_address(gateway, alloc, address)?),
     }

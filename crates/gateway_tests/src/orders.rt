@@ -54,7 +54,7 @@ static LINES: [(&str, Option<Order>); 17] = [
 ];
 
 /// Command lines of `up`, the address that each is to listen at, and whether it is quiet.
-static UPS: [(&str, Option<(&str, bool)>); 5] = [
+static UPS: [(&str, Option<(&str, bool)>); 6] = [
     ("gateway up old", Some(("127.0.0.1:8080", false))),
     (
         "gateway up old --quiet --listen [::1]:0",
@@ -64,6 +64,7 @@ static UPS: [(&str, Option<(&str, bool)>); 5] = [
         "gateway up --listen=0.0.0.0:80 old",
         Some(("0.0.0.0:80", false)),
     ),
+    ("gateway up old --log", Some(("127.0.0.1:8080", false))),
     ("gateway up old --listen localhost:80", None),
     ("gateway up", None),
 ];
@@ -97,6 +98,7 @@ fn addresses_to_listen_at(rt: HostRuntime) {
                 spool: "old",
                 listen: address.parse::<SocketAddr>().expect(&rt, "an address"),
                 quiet: *quiet,
+                log: line.contains("--log"),
             })),
             None => None,
         };
