@@ -4,3 +4,6 @@ mod Writing
 mod Above
 mod InOrder
 mod Refusals
+mod Copying
+mod Deletions
+mod Lasting

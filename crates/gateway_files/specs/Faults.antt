@@ -20,13 +20,17 @@ refusal_of (faults.Index file (lines.Line line)) = Some (3, codes "Line")
 refusal_of (faults.Index file (lines.Range line)) = Some (4, codes "Range")
 refusal_of (faults.Index file (lines.Twice line)) = Some (5, codes "Twice")
 refusal_of (faults.Index file lines.NoMemory) = Some (0, codes "NoMemory")
+refusal_of faults.Unencodable = Some (6, codes "Unencodable")
+refusal_of faults.NoSuch = Some (8, codes "NoSuch")
 refusal_of faults.AlreadySpool = Some (13, codes "AlreadySpool")
 refusal_of faults.Size = Some (14, codes "Size")
 refusal_of faults.NotASpool = Some (15, codes "NotASpool")
 refusal_of faults.Version = Some (16, codes "Version")
+refusal_of faults.BadLabel = Some (28, codes "BadLabel")
 refusal_of (faults.Script line) = Some (32, codes "Script")
 refusal_of faults.Io = Some (33, codes "Io")
 refusal_of faults.AlreadyNew = Some (35, codes "AlreadyNew")
+refusal_of faults.FileThere = Some (36, codes "FileThere")
 
 -- a number and a name, as the code gives them
 abbrev pub row : ℕ × Bor (List ℕ) → ℕ × List ℕ

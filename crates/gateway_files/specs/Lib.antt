@@ -5,3 +5,7 @@ pub mod Streams
 pub mod Said
 pub mod Lines
 pub mod Listing
+pub mod Changing
+pub mod Leaving
+pub mod Deleting
+pub mod Transcoding

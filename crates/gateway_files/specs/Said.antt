@@ -27,7 +27,7 @@ abbrev pub up_line : List ℕ → Survey → List ℕ → List ℕ
 up_line spool survey address =
     spool ++ (codes ": version " ++ (decimal survey.version ++ (codes ", " ++ (decimal survey.free_blocks
     ++ (codes " of " ++ (decimal survey.blocks ++ (codes " blocks free, " ++ (decimal survey.free_slots
-    ++ (codes " of 512 slots free; listening " ++ (address ++ (10 ∷ [])))))))))))
+    ++ (codes " of " ++ (decimal 512 ++ (codes " slots free; listening " ++ (address ++ (10 ∷ [])))))))))))))
 
 -- a warning of an address that other machines may reach
 abbrev pub open_line : List ℕ → List ℕ

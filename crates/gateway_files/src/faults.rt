@@ -3,6 +3,7 @@ ghost use Rattle.std.specs.Prelude.{◌≡◌, Some, option_map};
 ghost use Rattle.gateway_files.specs.Faults.{line_of, refusal_of, row, status_of};
 
 use enc_index::ReadError;
+use enc_stream::TranscodeError;
 use spool_disk::DiskFault;
 use spool_image::{FormatError, OpenFault, UpgradeError};
 use std::alloc::AllocError;
@@ -33,6 +34,14 @@ pub enum Fault {
     Script(u64),
     /// A reader, a writer or a file failed.
     Io,
+    /// A number that no upload has.
+    NoSuch,
+    /// A label or a mode that isn't known, or an encoding whose index files aren't there.
+    BadLabel,
+    /// A character without a code in the encoding that is written, in the mode `fatal`.
+    Unencodable,
+    /// A file that was to be made is there.
+    FileThere,
 }
 
 impl fmt::Display for Fault {
@@ -66,13 +75,17 @@ impl Fault {
             Fault::Index(_, ReadError::Line(_)) => (3, "Line"),
             Fault::Index(_, ReadError::Range(_)) => (4, "Range"),
             Fault::Index(_, ReadError::Twice(_)) => (5, "Twice"),
+            Fault::Unencodable => (6, "Unencodable"),
+            Fault::NoSuch => (8, "NoSuch"),
             Fault::AlreadySpool => (13, "AlreadySpool"),
             Fault::Size => (14, "Size"),
             Fault::NotASpool => (15, "NotASpool"),
             Fault::Version => (16, "Version"),
+            Fault::BadLabel => (28, "BadLabel"),
             Fault::Script(_) => (32, "Script"),
             Fault::Io => (33, "Io"),
             Fault::AlreadyNew => (35, "AlreadyNew"),
+            Fault::FileThere => (36, "FileThere"),
         })
     }
 
@@ -160,6 +173,21 @@ impl From<UpgradeError> for Fault {
         match error {
             UpgradeError::Open(fault) => Fault::from(fault),
             UpgradeError::AlreadyNew => Fault::AlreadyNew,
+        }
+    }
+}
+
+impl From<TranscodeError> for Fault {
+    ghost use Rattle.std.specs.Prelude.{◌⊎◌};
+    ghost use Rattle.gateway_files.specs.declared.faults.Fault.{Fault};
+
+    ghost from_gives = { λ _ fault. (fault ≡ Fault.NoMemory) ⊎ (fault ≡ Fault.Unencodable) };
+
+    fn from(error: TranscodeError) -> Self {
+        match error {
+            TranscodeError::NoMemory => Fault::NoMemory,
+            // one is spent by a character that has no code
+            TranscodeError::Unencodable(_) | TranscodeError::Spent => Fault::Unencodable,
         }
     }
 }

@@ -1,6 +1,7 @@
 //! Spools in files: made, listed and upgraded; and what the program says, of what it did and where that fails.
 #![tactic(auto)]
 
+mod deleting;
 mod failures;
 mod faults;
 mod formatting;
@@ -10,8 +11,10 @@ mod said;
 mod spool_files;
 mod streams;
 mod surveying;
+mod transcoding;
 mod upgrading;
 
+pub use deleting::{delete_file, delete_on};
 pub use failures::{Advice, Failure, Task, ended};
 pub use faults::Fault;
 pub use formatting::{Formatted, format_file, format_on, is_spool_on};
@@ -20,5 +23,6 @@ pub use listing::{list_file, list_on};
 pub use said::{say_formatted, say_open, say_read, say_served, say_up, say_upgraded};
 pub use spool_files::open_spool;
 pub use streams::Noted;
-pub use surveying::{SLOTS, Survey, open_surveyed};
+pub use surveying::{Survey, open_surveyed};
+pub use transcoding::{Conversion, conversion_of, text_file, text_on};
 pub use upgrading::upgrade_file;

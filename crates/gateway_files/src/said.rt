@@ -4,6 +4,7 @@ ghost use Rattle.std.specs.Io.KnownBytes.{Appends};
 ghost use Rattle.gateway_files.specs.Said.{formatted_line, open_line, read_lines, served_line, up_line, upgraded_line};
 
 use crate::surveying::Survey;
+use spool_blocks::SLOTS;
 use std::io::{self, Write};
 
 /// Says what `format` made.
@@ -50,7 +51,7 @@ pub fn say_up<W: Write>(
 {
     writeln!(
         writer,
-        "{spool}: version {}, {} of {} blocks free, {} of 512 slots free; listening {address}",
+        "{spool}: version {}, {} of {} blocks free, {} of {SLOTS} slots free; listening {address}",
         survey.version, survey.free_blocks, survey.blocks, survey.free_slots
     )
 }

@@ -1,13 +1,11 @@
 //! How much of a spool is in use.
 
+use spool_blocks::SLOTS;
 use spool_disk::Disk;
 use spool_image::{OpenFault, Spool};
 use spool_load::find;
 use std::alloc::Global;
 use upload_rules::Uploads;
-
-/// How many uploads a spool may have.
-pub const SLOTS: u64 = 512;
 
 /// How many bytes of a text a block has.
 const BLOCK: u64 = 4096;
@@ -42,7 +40,7 @@ pub fn open_surveyed<D: Disk>(
         version: found.version.number(),
         blocks,
         free_blocks: blocks.saturating_sub(used),
-        free_slots: SLOTS.saturating_sub(uploads),
+        free_slots: u64::from(SLOTS).saturating_sub(uploads),
     };
     Ok((spool, survey))
 }

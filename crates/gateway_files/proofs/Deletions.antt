@@ -1,0 +1,165 @@
+-- Uploads deleted one after the other.
+use Rattle.std.proofs.Common.{◌≡◌, ◌∙◌, ◌⊎◌, inl, inr, ap, sym, subst, refl, arith, eq-eqb, ℕ}
+use Rattle.std.proofs.Common.{Bool, true, false, ◌&&◌, List, [], ◌∷◌, ◌++◌, Option, Some, None, Err}
+use Rattle.std.proofs.Common.{append_assoc, append-nil, if◌then◌else◌}
+use Rattle.std.specs.Prelude.{filter, not}
+use Rattle.std.proofs.KnownBytes.{Appends-nil, Appends-trans}
+use Rattle.std.proofs.lemmas.Bool.{cases_eq, cases_lt, ne_eqb}
+use Rattle.std.specs.Io.KnownBytes.{Appends}
+use Rattle.upload_rules.specs.Answers.{Among, Answers, Counts, Limits}
+use Rattle.upload_rules.specs.Calls.{terminated}
+use Rattle.upload_rules.specs.Reading.{no_such}
+use Rattle.upload_rules.specs.Store.{Store, Upload, deleted_store, find, others, upload_of}
+use Rattle.upload_rules.specs.World.{World, is_there}
+use Rattle.upload_rules.specs.declared.errors.UploadError.{UploadError}
+use Rattle.upload_rules.specs.declared.errors.UploadError.TheVariants.{NoMemory, DiskFault, Refused}
+use Rattle.upload_rules.specs.declared.errors.UploadRefusal.{UploadRefusal}
+use Rattle.upload_rules.specs.declared.uploads.Uploads.{Ghosts}
+use Rattle.gateway_files.specs.Changing.{AllAmong, LimitsTo}
+use Rattle.gateway_files.specs.Deleting.{all_there, deletion_line, deletion_lines, is_among, left, stages}
+
+-- WHERE NONE HAS THE NUMBER all stay
+others_all : (n : ℕ) (xs : List (ℕ × Upload)) → find n xs ≡ None → others n xs ≡ xs
+others_all n [] e = refl
+others_all n (x ∷ xs) e =
+    elim (cases_eq x.0 n) [
+      | inl same ↦ let there : find n (x ∷ xs) ≡ Some x.1 = rw (eq-eqb x.0 n same) refl in
+          let bad : ◌≡◌ {A = Option Upload} None (Some x.1) = sym e ∙ there in absurd (cc)
+      | inr other ↦
+          let less : find n xs ≡ None =
+          sym (ap (λ b. if b then Some x.1 else find n xs) (ne_eqb x.0 n other)) ∙ e in
+          rw (ne_eqb x.0 n other) (ap (λ ys. x ∷ ys) (others_all n xs less))
+    ]
+
+none_there : (o : Option Upload) (e : UploadRefusal) → no_such o ≡ Some e → o ≡ None
+none_there None e is = refl
+none_there (Some u) e is = absurd (cc)
+
+stays : (stands : World → Type 0) (w : World) (n : ℕ) (e : UploadRefusal) → no_such (upload_of w.store n) ≡ Some e
+    → stands w → stands (terminated w n)
+stays stands w n e is now =
+    subst (λ (us : List (ℕ × Upload)). stands (record w { store = record w.store { uploads = us } }))
+    (sym (others_all n w.store.uploads (none_there (upload_of w.store n) e is))) now
+
+pub refused_stays : {T : Type 0} (stands : World → Type 0) (w : World) (n : ℕ) (done : T → Type 0) (f : UploadError)
+    (e : UploadRefusal) → f ≡ Refused e → Answers {T = T} (no_such (upload_of w.store n)) (Err f) done (stands w)
+    → stands (terminated w n)
+refused_stays stands w n done NoMemory e is said = absurd (cc)
+refused_stays stands w n done DiskFault e is said = absurd (cc)
+refused_stays stands w n done (Refused f) e is said = stays stands w n f said.0 said.1
+
+-- no failure was counted
+pub unfailed : (P : Type 0) (a b : ℕ) → (P → ⊥) → Counts P a b → b ≡ a
+unfailed P a b sound c =
+    elim (cases_lt a b) [
+      | inl less ↦ absurd (sound (c.nothing_else less))
+      | inr most ↦ let later = c.later in omega (arith, most, later)
+    ]
+
+-- WHAT IS LEFT
+rest_all : (xs : List (ℕ × Upload)) → filter (λ e. not (is_among [] e.0)) xs ≡ xs
+rest_all [] = refl
+rest_all (x ∷ xs) = ap (λ ys. x ∷ ys) (rest_all xs)
+
+rest_others : (n : ℕ) (ns : List ℕ) (xs : List (ℕ × Upload))
+    → filter (λ e. not (is_among ns e.0)) (others n xs) ≡ filter (λ e. not (is_among (n ∷ ns) e.0)) xs
+rest_others n ns [] = refl
+rest_others n ns (x ∷ xs) =
+    elim (cases_eq x.0 n) [
+      | inl same ↦ rw (eq-eqb x.0 n same) (rest_others n ns xs)
+      | inr other ↦ rw (ne_eqb x.0 n other)
+          (ap (λ ys. if not (is_among ns x.0) then x ∷ ys else ys) (rest_others n ns xs))
+    ]
+
+left_all : (m : Store) → left m [] ≡ m
+left_all m = ap (λ us. record m { uploads = us }) (rest_all m.uploads)
+
+left_deleted : (m : Store) (n : ℕ) (ns : List ℕ) → left (deleted_store m n) ns ≡ left m (n ∷ ns)
+left_deleted m n ns = ap (λ us. record m { uploads = us }) (rest_others n ns m.uploads)
+
+pub first_stage : (m : Store) (ns : List ℕ) → Among m (stages m ns)
+first_stage m [] = inl refl
+first_stage m (n ∷ ns) = inl refl
+
+and_again : (a b c d : Bool) → b ≡ c → (a && b) && d ≡ a && (c && d)
+and_again true b c d e = ap (λ x. x && d) e
+and_again false b c d e = refl
+
+and_true : (a : Bool) → a && true ≡ a
+and_true true = refl
+and_true false = refl
+
+-- ON THE WAY: the store, what was written, and what is still to be deleted
+pub record Halfway {U B : Type 0} (u : Ghosts U B) (w : World) (before now : U) (numbers rest : List ℕ)
+    (front held : Option (List ℕ)) (all : Bool) : Type 0 where
+  pub store : Store
+  pub stands : u.stands now (record w { store = store })
+  pub remains : left store rest ≡ left w.store numbers
+  pub out : List ℕ
+  pub wrote : Appends front held out
+  pub lines : out ++ deletion_lines store rest ≡ deletion_lines w.store numbers
+  pub there : all && all_there store rest ≡ all_there w.store numbers
+  pub passed : AllAmong (stages store rest) (stages w.store numbers)
+  pub limits : LimitsTo (u.moment before) (u.moment now) (u.left_only before) (u.left_only now)
+      (stages w.store numbers)
+
+module _ {U B : Type 0} (u : Ghosts U B) (w : World) (numbers : List ℕ) where
+  pub begun : (now : U) (front : Option (List ℕ)) → u.stands now w
+      → Halfway u w now now numbers numbers front front true
+  begun now front stands = record {
+    store = w.store;
+    stands = stands;
+    remains = refl;
+    out = [];
+    wrote = Appends-nil front;
+    lines = refl;
+    there = refl;
+    passed = λ m among. among;
+    limits = record { later = omega arith; limits = λ blocks t ms le left among. left };
+  }
+
+  module _ (before now next : U) (n : ℕ) (rest : List ℕ) (front held : Option (List ℕ)) (all : Bool)
+      (is : Halfway u w before now numbers (n ∷ rest) front held all)
+      (crash : Limits (u.moment now) (u.moment next) (u.left_only now) (u.left_only next) is.store
+      (deleted_store is.store n)) where
+    pub limits_more : LimitsTo (u.moment before) (u.moment next) (u.left_only before) (u.left_only next)
+        (stages w.store numbers)
+    limits_more = record {
+      later = let a = is.limits.later in let b = crash.later in omega (arith, a, b);
+      limits = λ blocks t ms le left among.
+          let a = is.limits.later in
+          crash.limits blocks t ms (omega (arith, le, a)) (is.limits.limits blocks t ms le left among)
+          (among is.store (is.passed is.store (inl refl)))
+          (among (deleted_store is.store n) (is.passed (deleted_store is.store n)
+          (inr (first_stage (deleted_store is.store n) rest))));
+    }
+
+    pub further : (on : Option (List ℕ)) (there : Bool)
+        → u.stands next (terminated (record w { store = is.store }) n)
+        → there ≡ is_there (upload_of is.store n) → Appends held on (deletion_line there n)
+        → Halfway u w before next numbers rest front on (all && there)
+    further on there stands same line = record {
+      store = deleted_store is.store n;
+      stands = stands;
+      remains = left_deleted is.store n rest ∙ is.remains;
+      out = is.out ++ deletion_line there n;
+      wrote = Appends-trans front held on is.out (deletion_line there n) is.wrote line;
+      lines = append_assoc is.out (deletion_line there n) (deletion_lines (deleted_store is.store n) rest)
+          ∙ (ap (λ b. is.out ++ (deletion_line b n ++ deletion_lines (deleted_store is.store n) rest)) same
+          ∙ is.lines);
+      there = and_again all there (is_there (upload_of is.store n)) (all_there (deleted_store is.store n) rest) same
+          ∙ is.there;
+      passed = λ m among. is.passed m (inr among);
+      limits = limits_more;
+    }
+
+  module _ (before now : U) (front held : Option (List ℕ)) (all : Bool)
+      (is : Halfway u w before now numbers [] front held all) where
+    pub done_stands : u.stands now (record w { store = left w.store numbers })
+    done_stands = subst (λ s. u.stands now (record w { store = s })) (sym (left_all is.store) ∙ is.remains) is.stands
+
+    pub done_lines : Appends front held (deletion_lines w.store numbers)
+    done_lines = subst (λ (x : List ℕ). Appends front held x) (sym (append-nil is.out) ∙ is.lines) is.wrote
+
+    pub done_all : all ≡ all_there w.store numbers
+    done_all = sym (and_true all) ∙ is.there

@@ -1,0 +1,26 @@
+-- Uploads that are changed, one change after the other.
+use Rattle.std.specs.Prelude.{◌≡◌, ◌⊎◌, ◌≤◌, ℕ, List, Option, Result, Ok, Err}
+use Rattle.upload_rules.specs.Answers.{Among}
+use Rattle.upload_rules.specs.Store.{Store}
+use Rattle.gateway_files.specs.declared.faults.Fault.{Fault}
+use Rattle.gateway_files.specs.declared.faults.Fault.TheVariants.{NoMemory, Device, Io}
+
+-- each of the first stores is one of the second
+abbrev pub AllAmong : List Store → List Store → Type 0
+AllAmong stores ms = (m : Store) → Among m stores → Among m ms
+
+-- whatever stores all images since some moment were limited to, they still are, once these stores are among them
+pub record LimitsTo (moment moment' : ℕ) (left_only left_only' : Option ℕ → ℕ → List Store → Type 0)
+    (stores : List Store) : Type 0 where
+  pub later : moment ≤ moment'
+  pub limits : (blocks : Option ℕ) (t : ℕ) (ms : List Store) → t ≤ moment → left_only blocks t ms → AllAmong stores ms
+      → left_only' blocks t ms
+
+-- why uploads aren't changed: for memory, for the writer or for the device
+abbrev pub IsChangeFault : Fault → Type 0
+IsChangeFault f = (f ≡ NoMemory) ⊎ (f ≡ Io) ⊎ (f ≡ Device)
+
+-- done, or refused for one of these
+abbrev pub Changes : {T : Type 0} → Result T Fault → Type 0
+Changes (Ok t) = Unit {0}
+Changes (Err f) = IsChangeFault f

@@ -1,0 +1,165 @@
+//! Uploads of a spool, deleted by their numbers.
+ghost use Rattle.std.specs.Prelude.{◌≡◌, ℕ, Err, IfErr, IfOk, IsErrOf, IsOk, OnOk};
+ghost use Rattle.std.specs.Io.KnownBytes.{Appends};
+ghost use Rattle.spool_disk.specs.Disk.{Counts};
+ghost use Rattle.spool_load.specs.Refusals.{HasOtherVersion, IsDamaged, IsNoSpool};
+ghost use Rattle.upload_rules.specs.Answers.{Counts as Fails, Limits};
+ghost use Rattle.upload_rules.specs.Calls.{terminated};
+ghost use Rattle.upload_rules.specs.Store.{Store, deleted_store, upload_of};
+ghost use Rattle.upload_rules.specs.World.{World, is_there};
+ghost use Rattle.spool_image.specs.LeftOnly.{AllShow, IsSpool};
+ghost use Rattle.gateway_files.specs.declared.faults.Fault.{Fault};
+ghost use Rattle.gateway_files.specs.Changing.{Changes, IsChangeFault, LimitsTo};
+ghost use Rattle.gateway_files.specs.Deleting.{all_there, deletion_line, deletion_lines, left, stages};
+ghost use Rattle.gateway_files.specs.Leaving.{LeavesOne};
+ghost use Rattle.gateway_files.specs.Listing.{ListRefusedFor, RefusesListAs};
+
+use crate::failures::Failure;
+use crate::faults::Fault;
+use crate::spool_files::open_spool;
+use crate::streams::Noted;
+use spool_disk::Disk;
+use spool_image::Spool;
+use std::alloc::Global;
+use std::io::{self, Write};
+use upload_rules::{UploadError, Uploads};
+
+/// Deletes the uploads of these numbers from the spool in a file, and prints a line for each number. Where one has no
+/// upload, the others are deleted all the same, and it is refused at the end.
+pub fn delete_file<'a>(
+    rt: &HostRuntime,
+    alloc: Global,
+    spool: &'a str,
+    numbers: &[u64],
+) -> Result<(), Failure<'a>> {
+    let mut output = Noted::new(io::writer(rt));
+    let (disk, deleted) = delete_on(alloc, &mut output, open_spool(rt, spool)?, numbers);
+    match deleted {
+        Ok(true) => Ok(()),
+        Ok(false) => Err(Failure::from(Fault::NoSuch)),
+        Err(Fault::Io) => Err(Failure::on_streams(Fault::Io, None, output.error())),
+        Err(fault) => Err(Failure::on_given(fault, spool, &disk)),
+    }
+}
+
+/// Deletes the uploads of these numbers from the spool on a disk, one commit each, and writes a line for each number:
+/// whether each had an upload when it was its turn. The disk is handed back.
+pub fn delete_on<D: Disk + Drop, W: Write>(
+    alloc: Global,
+    writer: &mut W,
+    disk: D,
+    numbers: &[u64],
+) -> (D, Result<bool, Fault>)
+    // Each image then shows the uploads of all other numbers, and what was written tells which were there.
+    ensures shows { (n : ℕ) (m : Store) → IsSpool D.Disk disk n m → IsOk result.1
+        → AllShow D.Disk result.0 n (left m numbers.now) }
+    ensures lines { (n : ℕ) (m : Store) → IsSpool D.Disk disk n m
+        → OnOk result.1 (Appends (W.contents writer.old) (W.contents writer.new) (deletion_lines m numbers.now)) }
+    ensures all { (n : ℕ) (m : Store) → IsSpool D.Disk disk n m
+        → IfOk result.1 (λ all. all ≡ all_there m numbers.now) }
+
+    // A crash at any moment of it, refused or not, leaves the uploads without those of the first so many numbers.
+    ensures lasts { (n : ℕ) (m : Store) → IsSpool D.Disk disk n m
+        → LeavesOne D.Disk disk result.0 n m (stages m numbers.now) }
+
+    // A spool's uploads are deleted, unless memory, the device or the writer refuses it.
+    ensures deletes { (n : ℕ) (m : Store) → IsSpool D.Disk disk n m → Changes result.1 }
+
+    // Each refusal has its reason, and each reason is answered so, unless memory or the device refuses it.
+    ensures refused { D.honest disk → IfErr result.1 (ListRefusedFor (D.size disk) (D.seen disk)) }
+    ensures not_a_spool { D.honest disk → IsNoSpool (D.size disk) (D.seen disk)
+        → RefusesListAs result.1 Fault.NotASpool }
+    ensures version { D.honest disk → HasOtherVersion (D.size disk) (D.seen disk)
+        → RefusesListAs result.1 Fault.Version }
+    ensures damaged { D.honest disk → IsDamaged (D.size disk) (D.seen disk) → RefusesListAs result.1 Fault.Damaged }
+    ensures counts { Counts (result.1 ≡ Err Fault.Device) (D.failures disk) (D.failures result.0) }
+{
+    match Spool::open(alloc, disk) {
+        Ok(mut spool) => {
+            let deleted = delete_uploads(writer, &mut spool, numbers);
+            (spool.into_disk(), deleted)
+        }
+        Err((disk, fault)) => (disk, Err(Fault::from(fault))),
+    }
+}
+
+// Deletes the uploads of these numbers, and writes a line for each: whether each had one.
+fn delete_uploads<W: Write, U: Uploads>(
+    writer: &mut W,
+    uploads: &mut U,
+    numbers: &[u64],
+) -> Result<bool, Fault>
+    ensures stands { (w : World) → U.stands uploads.old w
+        → OnOk result (U.stands uploads.new (record w { store = left w.store numbers.now })) }
+    ensures lines { (w : World) → U.stands uploads.old w
+        → OnOk result (Appends (W.contents writer.old) (W.contents writer.new)
+        (deletion_lines w.store numbers.now)) }
+    ensures all { (w : World) → U.stands uploads.old w
+        → IfOk result (λ all. all ≡ all_there w.store numbers.now) }
+    ensures crash { (w : World) → U.stands uploads.old w
+        → LimitsTo (U.moment uploads.old) (U.moment uploads.new) (U.left_only uploads.old) (U.left_only uploads.new)
+        (stages w.store numbers.now) }
+    ensures refused { IfErr result IsChangeFault }
+    ensures counts { Fails (IsErrOf result Fault.Device) (U.failures uploads.old) (U.failures uploads.new) }
+{
+    let mut all = true;
+    for number in numbers {
+        let there = delete_one(writer, uploads, *number)?;
+        all = all && there;
+    }
+    Ok(all)
+}
+
+// Deletes the upload of a number, and writes a line: whether there was one.
+fn delete_one<W: Write, U: Uploads>(
+    writer: &mut W,
+    uploads: &mut U,
+    number: u64,
+) -> Result<bool, Fault>
+    ensures stands { (w : World) → U.stands uploads.old w
+        → OnOk result (U.stands uploads.new (terminated w number)) }
+    ensures there { (w : World) → U.stands uploads.old w
+        → IfOk result (λ there. there ≡ is_there (upload_of w.store number)) }
+    ensures line { IfOk result (λ there. Appends (W.contents writer.old) (W.contents writer.new)
+        (deletion_line there number)) }
+    ensures crash { (w : World) → U.stands uploads.old w
+        → Limits (U.moment uploads.old) (U.moment uploads.new) (U.left_only uploads.old) (U.left_only uploads.new)
+        w.store (deleted_store w.store number) }
+    ensures refused { IfErr result IsChangeFault }
+    ensures counts { Fails (IsErrOf result Fault.Device) (U.failures uploads.old) (U.failures uploads.new) }
+{
+    let there = terminate(uploads, number)?;
+    say_deleted(writer, number, there)?;
+    Ok(there)
+}
+
+// Deletes the upload of a number: whether there was one.
+fn terminate<U: Uploads>(uploads: &mut U, number: u64) -> Result<bool, Fault>
+    ensures stands { (w : World) → U.stands uploads.old w
+        → OnOk result (U.stands uploads.new (terminated w number)) }
+    ensures there { (w : World) → U.stands uploads.old w
+        → IfOk result (λ there. there ≡ is_there (upload_of w.store number)) }
+    ensures crash { (w : World) → U.stands uploads.old w
+        → Limits (U.moment uploads.old) (U.moment uploads.new) (U.left_only uploads.old) (U.left_only uploads.new)
+        w.store (deleted_store w.store number) }
+    ensures refused { IfErr result IsChangeFault }
+    ensures counts { Fails (IsErrOf result Fault.Device) (U.failures uploads.old) (U.failures uploads.new) }
+{
+    match uploads.terminate(number) {
+        Ok(()) => Ok(true),
+        Err(UploadError::Refused(_)) => Ok(false),
+        Err(UploadError::NoMemory) => Err(Fault::NoMemory),
+        Err(UploadError::DiskFault) => Err(Fault::Device),
+    }
+}
+
+// Says whether an upload was there, and so is deleted.
+fn say_deleted<W: Write>(writer: &mut W, number: u64, there: bool) -> io::Result<()>
+    ensures { OnOk result (Appends (W.contents writer.old) (W.contents writer.new) (deletion_line there number)) }
+{
+    if there {
+        writeln!(writer, "deleted {number}")
+    } else {
+        writeln!(writer, "no upload {number}")
+    }
+}
