@@ -6,6 +6,8 @@ mod faults;
 #[cfg(test)]
 mod files;
 #[cfg(test)]
+mod operators;
+#[cfg(test)]
 mod orders;
 #[cfg(test)]
 mod pieces;
