@@ -7,8 +7,8 @@ mod serving;
 use clap::Error;
 use clap::error::ErrorKind;
 use gateway_files::{
-    Failure, Fault, Formatted, Task, ended, format_file, list_file, say_formatted, say_read,
-    say_upgraded, upgrade_file,
+    Failure, Fault, Formatted, Task, delete_file, ended, format_file, list_file, say_formatted,
+    say_read, say_upgraded, text_file, upgrade_file,
 };
 use gateway_orders::{Order, USAGE, read_order, say_usage};
 use scripting::run_script;
@@ -58,6 +58,13 @@ fn obey<'a>(rt: &HostRuntime, order: Order<'a>) -> Result<u8, Failure<'a>> {
             log,
         } => serve_up(rt, alloc, spool, listen, Telling { quiet, log })?,
         Order::List { spool } => list_file(rt, alloc, spool)?,
+        Order::Delete { spool, numbers } => delete_file(rt, alloc, spool, &numbers)?,
+        Order::Text {
+            from,
+            to,
+            mode,
+            indexes,
+        } => text_file(rt, alloc, from, to, mode, indexes)?,
         Order::Upgrade { spool } => {
             upgrade_file(rt, alloc, spool)?;
             say_upgraded(&mut io::writer(rt))?;

@@ -40,8 +40,6 @@ pub enum Fault {
     BadLabel,
     /// A character without a code in the encoding that is written, in the mode `fatal`.
     Unencodable,
-    /// A file that was to be made is there.
-    FileThere,
 }
 
 impl fmt::Display for Fault {
@@ -85,7 +83,6 @@ impl Fault {
             Fault::Script(_) => (32, "Script"),
             Fault::Io => (33, "Io"),
             Fault::AlreadyNew => (35, "AlreadyNew"),
-            Fault::FileThere => (36, "FileThere"),
         })
     }
 

@@ -23,6 +23,8 @@ pub(crate) fn gateway<'a>(alloc: Global) -> Result<Command<'a>, AllocError> {
         format(alloc),
         up(alloc),
         list(alloc),
+        delete(alloc),
+        text(alloc),
         upgrade(alloc),
         serve(alloc),
         script(alloc),
@@ -112,6 +114,47 @@ fn list<'a>(alloc: Global) -> Result<Command<'a>, AllocError> {
             "NUMBER ACCEPTED/DECLARED TEXTLENGTH FROM TO MODE of each:\n\n  gateway list spool",
         )
         .arg(the_spool(alloc))
+}
+
+fn delete<'a>(alloc: Global) -> Result<Command<'a>, AllocError> {
+    let numbers = Arg::new(alloc, "NUMBER")
+        .required(true)
+        .num_args(1..)
+        .value_parser(value_parser!(u64))
+        .help("The numbers of the uploads, as `list` prints them");
+    Command::new(alloc, "delete")
+        .about("Deletes uploads of a spool. There is no way back")
+        .after_help(
+            "Uploads 3 and 7, while no gateway serves the spool:\n\n  gateway delete spool 3 7",
+        )
+        .args(vec![in alloc; the_spool(alloc), numbers]?)
+}
+
+fn text<'a>(alloc: Global) -> Result<Command<'a>, AllocError> {
+    let from = option(alloc, "from", "LABEL").help(
+        "The encoding of the bytes, by any of its labels",
+    );
+    let to = Arg::new(alloc, "to")
+        .long("to")
+        .action(ArgAction::Set)
+        .value_name("LABEL")
+        .default_value("utf-8")
+        .help("The encoding that the text is stored in");
+    let mode = Arg::new(alloc, "mode")
+        .long("mode")
+        .action(ArgAction::Set)
+        .value_name("MODE")
+        .default_value("html")
+        .help("For a character that `--to` lacks: `html` writes its number, `fatal` refuses");
+    let indexes = option(alloc, "indexes", "DIR").help(
+        "The folder with the index files: index-jis0208.txt and so on",
+    );
+    Command::new(alloc, "text")
+        .about("Writes standard input as an upload of it would be stored")
+        .after_help(
+            "What the label koi8-r makes of a letter:\n\n  gateway text --from koi8-r --indexes idx < letter",
+        )
+        .args(vec![in alloc; from, to, mode, indexes]?)
 }
 
 fn upgrade<'a>(alloc: Global) -> Result<Command<'a>, AllocError> {

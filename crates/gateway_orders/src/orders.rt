@@ -3,11 +3,11 @@
 use crate::commands::gateway;
 use clap::error::ErrorKind;
 use clap::{ArgMatches, Command, Error};
-use std::alloc::Global;
+use std::alloc::{AllocError, Global};
 use std::net::SocketAddr;
 
 /// What a command line asks for.
-#[derive(Clone, Copy, Debug, PartialEq, Eq, Drop)]
+#[derive(Debug, PartialEq, Eq, Drop)]
 pub enum Order<'a> {
     /// A new spool at this path, of so many text blocks, with the index files of this folder.
     Format {
@@ -32,6 +32,19 @@ pub enum Order<'a> {
     /// The uploads of the spool at this path.
     List {
         spool: &'a str,
+    },
+    /// The uploads of these numbers, deleted from the spool at this path.
+    Delete {
+        spool: &'a str,
+        numbers: Vec<u64>,
+    },
+    /// Standard input, written as an upload with these labels and this mode would be stored, with the index files of
+    /// this folder.
+    Text {
+        from: &'a str,
+        to: &'a str,
+        mode: &'a str,
+        indexes: &'a str,
     },
     /// The spool at this path, brought to version 2.
     Upgrade {
@@ -60,6 +73,7 @@ pub fn read_order<'a>(alloc: Global, words: &'a [String]) -> Result<Option<Order
     let matches = gateway.try_get_matches_from_mut(words)?;
     match matches.subcommand() {
         Some(("up", given)) => up_order(&mut gateway, alloc, given),
+        Some(("delete", given)) => Ok(delete_order(alloc, given)?),
         Some((name, given)) => Ok(order_of(name, given)),
         None => Ok(None),
     }
@@ -72,6 +86,7 @@ fn order_of<'a>(name: &str, given: &ArgMatches<'a>) -> Option<Order<'a>> {
         "script" => script_order(given),
         "serve" => serve_order(given),
         "list" => list_order(given),
+        "text" => text_order(given),
         "upgrade" => upgrade_order(given),
         _ => None,
     }
@@ -131,6 +146,33 @@ fn no_address<'a>(gateway: &mut Command<'a>, alloc: Global, address: &str) -> Re
 fn list_order<'a>(given: &ArgMatches<'a>) -> Option<Order<'a>> {
     Some(Order::List {
         spool: given.get_str("SPOOL")?,
+    })
+}
+
+// A number that doesn't read is refused before.
+fn delete_order<'a>(
+    alloc: Global,
+    given: &ArgMatches<'a>,
+) -> Result<Option<Order<'a>>, AllocError> {
+    let (Some(spool), Some(read)) = (given.get_str("SPOOL"), given.get_many::<u64>("NUMBER")) else {
+        return Ok(None);
+    };
+    let mut numbers = Vec::new(alloc);
+    for number in read {
+        let Ok(number) = number else {
+            return Ok(None);
+        };
+        numbers.push(number)?;
+    }
+    Ok(Some(Order::Delete { spool, numbers }))
+}
+
+fn text_order<'a>(given: &ArgMatches<'a>) -> Option<Order<'a>> {
+    Some(Order::Text {
+        from: given.get_str("from")?,
+        to: given.get_str("to")?,
+        mode: given.get_str("mode")?,
+        indexes: given.get_str("indexes")?,
     })
 }
 

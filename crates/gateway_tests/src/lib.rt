@@ -10,6 +10,8 @@ mod files;
 #[cfg(test)]
 mod log;
 #[cfg(test)]
+mod operators;
+#[cfg(test)]
 mod orders;
 #[cfg(test)]
 mod pieces;

@@ -7,7 +7,7 @@ use std::process::Abort;
 
 /// Command lines, and what they ask for. None is asked for by a line with a word too few, one too many or one that
 /// doesn't read, and by a call for help.
-static LINES: [(&str, Option<Order>); 17] = [
+const LINES: [(&str, Option<Order>); 20] = [
     (
         "gateway format new --blocks 16 --indexes idx",
         Some(Order::Format {
@@ -37,6 +37,25 @@ static LINES: [(&str, Option<Order>); 17] = [
     ),
     ("gateway list old", Some(Order::List { spool: "old" })),
     ("gateway upgrade old", Some(Order::Upgrade { spool: "old" })),
+    (
+        "gateway text --from koi8-r --indexes idx",
+        Some(Order::Text {
+            from: "koi8-r",
+            to: "utf-8",
+            mode: "html",
+            indexes: "idx",
+        }),
+    ),
+    (
+        "gateway text --indexes idx --mode fatal --to=latin1 --from utf-8",
+        Some(Order::Text {
+            from: "utf-8",
+            to: "latin1",
+            mode: "fatal",
+            indexes: "idx",
+        }),
+    ),
+    ("gateway text --from koi8-r", None),
     ("gateway", None),
     ("gateway list", None),
     ("gateway format new --blocks 16", None),
@@ -69,6 +88,15 @@ static UPS: [(&str, Option<(&str, bool)>); 6] = [
     ("gateway up", None),
 ];
 
+/// Command lines of `delete`, and the numbers that each is to delete.
+static DELETIONS: [(&str, Option<&[u64]>); 5] = [
+    ("gateway delete old 3", Some(&[3])),
+    ("gateway delete old 7 3 7", Some(&[7, 3, 7])),
+    ("gateway delete old", None),
+    ("gateway delete old three", None),
+    ("gateway delete old -3", None),
+];
+
 /// The words of a line.
 fn words_of(rt: &impl Abort, alloc: Global, line: &str) -> Vec<String> {
     let mut words = Vec::new(alloc);
@@ -83,8 +111,10 @@ fn words_of(rt: &impl Abort, alloc: Global, line: &str) -> Vec<String> {
 fn command_lines(rt: HostRuntime) {
     for (line, order) in LINES.iter() {
         let words = words_of(&rt, rt.alloc(), line);
-        let read = read_order(rt.alloc(), &words).ok();
-        assert_eq!(rt; read, order.map(Some), "{line}");
+        match (read_order(rt.alloc(), &words), order) {
+            (Ok(Some(read)), Some(order)) => assert_eq!(rt; &read, order, "{line}"),
+            (read, order) => assert!(rt; read.is_err() && order.is_none(), "{line}"),
+        }
     }
 }
 
@@ -103,5 +133,19 @@ fn addresses_to_listen_at(rt: HostRuntime) {
             None => None,
         };
         assert_eq!(rt; read, order, "{line}");
+    }
+}
+
+#[test]
+fn numbers_to_delete(rt: HostRuntime) {
+    for (line, told) in DELETIONS.iter() {
+        let words = words_of(&rt, rt.alloc(), line);
+        match (read_order(rt.alloc(), &words), told) {
+            (Ok(Some(Order::Delete { spool, numbers })), Some(told)) => {
+                assert_eq!(rt; spool, "old", "{line}");
+                assert_eq!(rt; numbers.as_slice(), *told, "{line}");
+            }
+            (read, told) => assert!(rt; read.is_err() && told.is_none(), "{line}"),
+        }
     }
 }
