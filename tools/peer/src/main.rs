@@ -1,6 +1,7 @@
 //! Throughput of encoding_rs, the browsers' decoder, in pieces of 4,096 bytes.
 //!
 //! peer FROM TO ROUNDS FILE    transcodes FILE so many times; one of the two labels is utf-8
+//! peer text FROM TO FILE       writes what FILE is transcoded to, with references for what TO lacks
 //! peer make LABEL             makes a corpus in LABEL, on standard output, of UTF-8 on standard input
 use encoding_rs::{Encoding, UTF_8};
 use std::io::{Read, Write};
@@ -12,13 +13,21 @@ fn main() {
     let words: Vec<String> = std::env::args().collect();
     match words.iter().map(String::as_str).collect::<Vec<_>>()[..] {
         [_, "make", label] => make(label),
+        [_, "text", from, to, file] => write(from, to, file),
         [_, from, to, rounds, file] => measure(from, to, rounds.parse().expect("a number of rounds"), file),
-        _ => panic!("usage: peer FROM TO ROUNDS FILE, or: peer make LABEL"),
+        _ => panic!("usage: peer FROM TO ROUNDS FILE, peer text FROM TO FILE, or: peer make LABEL"),
     }
 }
 
 fn encoding(label: &str) -> &'static Encoding {
     Encoding::for_label(label.as_bytes()).expect("a label")
+}
+
+fn write(from: &str, to: &str, file: &str) {
+    let bytes = std::fs::read(file).expect("a file");
+    let (text, _, _) = encoding(from).decode(&bytes);
+    let written = encoding(to).encode(&text).0;
+    std::io::stdout().write_all(&written).expect("an output");
 }
 
 fn make(label: &str) {
