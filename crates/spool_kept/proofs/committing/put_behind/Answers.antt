@@ -67,6 +67,19 @@ returns-in-Err-DiskFault-clause-fits g c drafts number fit here =
     (c.in-Ok.ensures.more may.used may.there) (c.extend.ensures.blocks (λ e. cc))
     (c.extend.ensures.longer (λ e. cc) may.used may.there)
 
+pub returns-in-Ok-extend-clause-counts : goal.returns-in-Ok-extend-clause-counts
+returns-in-Ok-extend-clause-counts g c =
+    let before = c.in-Ok.ensures.counts in
+    let after = c.in-Ok-extend.ensures.counts in
+    record {
+      later = omega (arith, before.later, after.later);
+      counted = λ failed. absurd (cc);
+      nothing_else = λ more. elim (cases_lt (g.D.Disk.failures c.args.disk.now) (g.D.Disk.failures c.ended.new.disk)) [
+        | inl less ↦ let fails = before.nothing_else less in absurd (cc)
+        | inr same ↦ let fails = after.nothing_else (omega (arith, more, same)) in absurd (cc)
+      ];
+    }
+
 pub returns-in-Err-DiskFault-clause-counts : goal.returns-in-Err-DiskFault-clause-counts
 returns-in-Err-DiskFault-clause-counts g c =
     let fault : c.extend.result ≡ Err ExtendError.DiskFault = c.in-Err-DiskFault.is

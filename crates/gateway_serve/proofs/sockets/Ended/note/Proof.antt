@@ -74,8 +74,17 @@ module _ {M : Type 1} {𝓤 : Ura M} (𝓛 : Logic 𝓤) (at_mem : Memory → SP
   x = (record { ref_ptr = (b, o); ghost_name = γ; now = h }, (n, (s, (t, (v, (u, tt))))))
 
   abbrev h' : Ended
-  h' = record { marker = h.marker; sockets = record { conn = n; came = s.now.bytes; went = t.now.bytes; latest =
-      v.now; reason = u.now } ∷ h.sockets }
+  h' = record {
+    marker = h.marker;
+    sockets = record {
+      conn = n;
+      came = s.now.bytes;
+      went = t.now.bytes;
+      latest =
+          v.now;
+      reason = u.now;
+    } ∷ h.sockets;
+  }
 
   abbrev at : List Val × (List Val × (List Val × (List Val × (List Val × (List Val × Unit {0})))))
   at = (vptr b o ∷ [], (vint w64 n ∷ [], (shr_vals s, (shr_vals t, (shr_vals v, (shr_vals u, tt))))))
@@ -97,32 +106,65 @@ module _ {M : Type 1} {𝓤 : Ura M} (𝓛 : Logic 𝓤) (at_mem : Memory → SP
       qed 𝓛 (‵ (fobs γ ((T.the_row).coded.code h')) ∷ ‵ (fbor κ (Body (mem T.the_row) b o γ)) ∷ ‵ (flft κ q) ∷ ‵
       rest ∷ (‵ (flft κ' q') ⊛ (‵ (flft κ'' q'') ⊛ (‵ (flft κ''' q''') ⊛ (‵ (flft κ4 q4) ⊛ ‵ ftrue)))) ∷ []) ∵
       suffices ! _ (ends_at 𝓛 it.ended stayed (it.clauses 𝓛 at_mem run)
-      (((κ, (κ', (κ'', (κ''', (κ4, tt))))), (q, (q', (q'', (q''', (q4, tt))))), tt, x, at), tt) vunit tt (h', (tt,
-          (tt, (tt, (tt, (tt, tt))))))
+      (((κ, (κ', (κ'', (κ''', (κ4, tt))))), (q, (q', (q'', (q''', (q4, tt))))), tt, x, at), tt) vunit tt (
+        h',
+        (
+          tt,
+          (tt, (tt, (tt, (tt, tt)))),
+        ),
+      )
       (tt, (tt, (tt, (tt, (tt, (tt, tt))))))) $ says ! refl $ move ! (2 ∷ 4 ∷ []) $ join ! $
       frame ! $ feq_i ! (List Val) (vptr b o ∷ []) (vptr b o ∷ []) refl $ fjoin3 ! $ fjoin ! $
       feq_i ! (List Val) (vunit ∷ []) (vunit ∷ []) refl $ move ! (1 ∷ 0 ∷ []) $ done !
 
   module _ (C : Calls 𝓤 H) (Λ : Loops 𝓤 H) where
-    walk : n < 2 ^ 64 → ent 𝓤 (on_entry 𝓛 it.signature (κ, (κ', (κ'', (κ''', (κ4, tt))))) (q, (q', (q'', (q''', (q4,
-        tt))))) x at)
+    walk : n < 2 ^ 64 → ent 𝓤 (on_entry 𝓛 it.signature (κ, (κ', (κ'', (κ''', (κ4, tt))))) (
+      q,
+      (
+        q',
+        (
+          q'',
+          (
+            q''',
+            (
+              q4,
+              tt,
+            ),
+          ),
+        ),
+      ),
+    ) x at)
         (WpFn 𝓤 H C Λ code.function
         (vptr b o ∷ vint w64 n ∷ vptr s.ref_ptr.0 s.ref_ptr.1 ∷ vptr t.ref_ptr.0 t.ref_ptr.1 ∷ vptr v.ref_ptr.0
-            v.ref_ptr.1
+        v.ref_ptr.1
         ∷ vptr u.ref_ptr.0 u.ref_ptr.1 ∷ []) Post)
     walk fits =
         qed 𝓛 ((‵ (flft κ q) ⊛ (‵ (flft κ' q') ⊛ (‵ (flft κ'' q'') ⊛ (‵ (flft κ''' q''') ⊛ (‵ (flft κ4 q4) ⊛ ‵
-            ftrue))))) ∷ ‵
+        ftrue))))) ∷ ‵
         (owns (MutRef (named 0) κ T.the_row ∷ usize ∷ ShrRef (named 1) κ' L.the_row ∷ ShrRef (named 2) κ''
         L.the_row ∷ ShrRef (named 3) κ''' N.the_row ∷ ShrRef (named 4) κ4 F.the_row ∷ []) x at) ∷ []) ∵ split ! $ move
-            ! (2 ∷ []) $ fsplit ! $ fsplit3 ! $ drop ! $ move !
+        ! (2 ∷ []) $ fsplit ! $ fsplit3 ! $ drop ! $ move !
         (0 ∷ 1 ∷ 3 ∷ []) $
         enter ! C Λ code.function
         (vptr b o ∷ vint w64 n ∷ vptr s.ref_ptr.0 s.ref_ptr.1 ∷ vptr t.ref_ptr.0 t.ref_ptr.1 ∷ vptr v.ref_ptr.0
-            v.ref_ptr.1
+        v.ref_ptr.1
         ∷ vptr u.ref_ptr.0 u.ref_ptr.1 ∷ []) _ $
-        alloc_all ! (λ l. pass_all ! refl ((tt, tt), ((tt, record { fits = fits }), ((tt, tt), ((tt, tt), ((tt, tt),
-            ((tt, tt), tt)))))) $
+        alloc_all ! (λ l. pass_all ! refl (
+          (tt, tt),
+          (
+            (tt, record { fits = fits }),
+            (
+              (tt, tt),
+              (
+                (tt, tt),
+                (
+                  (tt, tt),
+                  ((tt, tt), tt),
+                ),
+              ),
+            ),
+          ),
+        ) $
         move ! (0 ∷ 1 ∷ 2 ∷ []) $ opens ! tt T.the_row {h = h} b o (λ vs.
         sets ! (of_opd ! (unit_lit !)) refl (tt, tt) $
         move ! (1 ∷ []) $ use1 𝓛 (‵ ((T.the_row).own_val h' vs)) (id⊢ 𝓤 _) $ move ! (1 ∷ 0 ∷ []) $ closes ! tt T.the_row
@@ -153,7 +195,7 @@ module _ {M : Type 1} {𝓤 : Ura M} (𝓛 : Logic 𝓤) (at_mem : Memory → SP
       (λ κs qs bounds a _ are. via 𝓤 _ (fst∗ 𝓤 _ (emp 𝓤))
       (walk 𝓛 at_mem run κs.0 κs.1.0 κs.1.1.0 κs.1.1.1.0 κs.1.1.1.1.0 qs.0 qs.1.0 qs.1.1.0 qs.1.1.1.0 qs.1.1.1.1.0
       a.0.ref_ptr.0 a.0.ref_ptr.1 a.0.ghost_name a.0.now a.1.0 a.1.1.0 a.1.1.1.0 a.1.1.1.1.0 a.1.1.1.1.1.0 C Λ
-          are.1.0.1))
+      are.1.0.1))
 
   goes : AllGo 𝓛 5 (it.signature).params (it.ended).kept stayed
   goes = (
