@@ -6,8 +6,7 @@ TEXTS is a folder that tools/corpora or tools/hot-corpora made, and PEER tools/p
 text at most 1 MB is sent, whole, in pieces of 4,096 and of 977 bytes, and read back.
 """
 
-import importlib.machinery
-import importlib.util
+import re
 import subprocess
 import tempfile
 from pathlib import Path
@@ -20,11 +19,9 @@ CUTS = (MOST, 4096, 977)
 
 def rows():
     """The rows of tools/ratios: the text's language, its encoding and the one that it is stored in."""
-    path = str(Path(__file__).parents[2] / "tools" / "ratios")
-    spec = importlib.util.spec_from_loader("ratios", importlib.machinery.SourceFileLoader("ratios", path))
-    ratios = importlib.util.module_from_spec(spec)
-    spec.loader.exec_module(ratios)
-    for row in ratios.ROWS.replace("|", "\n").splitlines():
+    ratios = Path(__file__).parents[2] / "tools" / "ratios"
+    listed = re.search(r'ROWS = """(.*?)"""', ratios.read_text(), re.DOTALL)[1]
+    for row in listed.replace("|", "\n").splitlines():
         label, language, to = [*row.split(), "utf-8"][:3]
         yield language, label, to
 
