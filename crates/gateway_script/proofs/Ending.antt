@@ -5,6 +5,7 @@ use Rattle.std.proofs.Common.{◌≡◌, ◌==◌, ◌<◌, ◌≤◌, ◌⊎◌
 use Rattle.std.proofs.Common.{suc, List, [], ◌∷◌, ◌++◌, length, length-append, take, drop, Option, Some, None, Result}
 use Rattle.std.proofs.Common.{Ok, Err, refl, sym, subst, ap, ◌∙◌, if◌then◌else◌}
 use Rattle.tus_session.specs.History.{State, Ended, Served, OutOfMemory, Failed, Done, Refused, step, ended_at, lost_at}
+use Rattle.tus_session.specs.History.{most_open}
 use Rattle.tus_session.specs.History.{failed_at, is_closed}
 use Rattle.tus_session.specs.Turns.{Conn}
 use Rattle.tus_session.specs.declared.errors.SessionError.{SessionError}
@@ -221,7 +222,7 @@ line_bad v number start line lines r at bad =
 pub lines_down : (number start : ℕ) (lines : List (List ℕ)) (r : Run) → r.down ≡ true
     → run_lines number start lines r ≡ ended_as r Faulted
 unfolding run_lines
-lines_down number start [] r down = ap finished (cut_down 16 0 r down)
+lines_down number start [] r down = ap finished (cut_down most_open 0 r down)
     ∙ ap (λ d. ended_as r (if d then Faulted else Ran)) down
 lines_down number start (line ∷ lines) r down = line_step number start line lines r true
     (is_long start line || is_bad (order_in line)) down refl
@@ -363,7 +364,7 @@ line_some [] some = absurd (some refl)
 line_some (b ∷ bytes) some = some_case b bytes (b == 10)
 
 -- the end of the lines
-pub end_step : (number start : ℕ) (r : Run) → run_lines number start [] r ≡ finished (cut_from 16 0 r)
+pub end_step : (number start : ℕ) (r : Run) → run_lines number start [] r ≡ finished (cut_from most_open 0 r)
 unfolding run_lines
 end_step number start r = refl
 
@@ -372,7 +373,7 @@ unfolding cut_from
 cut_none n r = ([], λ rest. refl)
 
 -- the fault of the connections' cutting is the run's
-pub lines_end : {C : Type 0} (v : View C) (number start : ℕ) (r : Run) → Went v (Ok (tt {0})) (cut_from 16 0) r
+pub lines_end : {C : Type 0} (v : View C) (number start : ℕ) (r : Run) → Went v (Ok (tt {0})) (cut_from most_open 0) r
     → Ends v (Ok (tt {0})) (run_lines number start []) r
 lines_end v number start r p = (
   p.0,
@@ -385,17 +386,17 @@ lines_end v number start r p = (
 )
 
 end_breaks : {C : Type 0} (v : View C) (fault : CallFault) (number start : ℕ) (r : Run)
-    → Stops v fault run_past (cut_from 16 0) r → Stops v fault script_past (run_lines number start []) r
+    → Stops v fault run_past (cut_from most_open 0) r → Stops v fault script_past (run_lines number start []) r
 end_breaks v fault number start r p = (
   p.0,
-  passes_as script_past (run_lines number start []) (λ x. finished (cut_from 16 0 x)) r p.0
+  passes_as script_past (run_lines number start []) (λ x. finished (cut_from most_open 0 x)) r p.0
       (λ marks. end_step number start (with_marks r marks))
-      (passes_on run_past script_past finished (cut_from 16 0) r p.0 (λ x. first_same x.past) p.1),
+      (passes_on run_past script_past finished (cut_from most_open 0) r p.0 (λ x. first_same x.past) p.1),
   p.2,
 )
 
 pub lines_stop : {C : Type 0} (v : View C) (fault : CallFault) (number start : ℕ) (r : Run)
-    → Went v (Err fault) (cut_from 16 0) r
+    → Went v (Err fault) (cut_from most_open 0) r
     → Ends v (Err (script_fault fault)) (run_lines number start []) r
 lines_stop v faults.DiskFault number start r p = (
   p.0,

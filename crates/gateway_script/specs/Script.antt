@@ -10,6 +10,7 @@ use Rattle.tus_session.specs.declared.errors.SessionError.{SessionError}
 use Rattle.tus_session.specs.declared.errors.SessionError.TheVariants.{DiskFault}
 use Rattle.tus_session.specs.Faults.{error_number}
 use Rattle.tus_session.specs.History.{State, Event, Opened, Came, More, Ended, Mark, Served, Marked, Step, step}
+use Rattle.tus_session.specs.History.{most_open}
 use Rattle.tus_session.specs.History.{Outcome, Gave, Done, Refused, is_closed}
 
 -- THE LINES, each with the LF that ends it. The last one may lack it
@@ -213,7 +214,7 @@ is_long start line = nat_lt 65536 (length (before 10 line)) || nat_lt 1073741824
 
 -- the lines from this one on, of which the first is this number and begins at this byte
 unfoldable pub run_lines : ℕ → ℕ → List (List ℕ) → Run → Result
-run_lines number start [] r = finished (cut_from 16 0 r)
+run_lines number start [] r = finished (cut_from most_open 0 r)
 run_lines number start (line ∷ lines) r =
     let order = order_in line in
     elim r.down [

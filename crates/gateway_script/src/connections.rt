@@ -29,8 +29,8 @@ pub trait Connections {
     /// Whether the device failed at one of their calls.
     ghost down: { Self → Bool };
 
-    /// Opens a connection: refused with `TooMany` exactly where its number isn't below 16, or it is open. It needs
-    /// neither memory nor the device.
+    /// Opens a connection: refused with `TooMany` exactly where its number isn't below `MOST_OPEN`, or it is open. It
+    /// needs neither memory nor the device.
     fn opened(&mut self, conn: usize) -> Result<(), SessionError>
         ensures does { (st : State) → stands self.old st → Does (stands self.new) result st (Opened conn) }
         ensures crash { Quiet (moment self.old) (moment self.new) (left_only self.old) (left_only self.new) }

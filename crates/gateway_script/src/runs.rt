@@ -2,7 +2,7 @@
 ghost use Rattle.std.specs.Prelude.{◌≡◌, ◌≤◌, ℕ, Option, List, length, IsErrOf};
 ghost use Rattle.std.specs.Io.BufRead.{take_through};
 ghost use Rattle.upload_rules.specs.Answers.{Counts};
-ghost use Rattle.tus_session.specs.History.{State};
+ghost use Rattle.tus_session.specs.History.{State, most_open};
 ghost use Rattle.gateway_script.specs.Script.{Run, obeyed, cut_from, run_lines, script_lines, is_long, is_bad};
 ghost use Rattle.gateway_script.specs.Shown.{order_shown};
 ghost use Rattle.gateway_script.specs.Runs.{view, IsAt, Went, CutOne, LineRan, Ends};
@@ -15,7 +15,7 @@ use crate::orders::{Order, read_order};
 use crate::streams::CountedWrite;
 use std::alloc::Global;
 use tus_request::texts::{behind, front};
-use tus_session::SessionError;
+use tus_session::{MOST_OPEN, SessionError};
 
 /// The most bytes of a line: a CR counts, the LF doesn't.
 const MAX_LINE: usize = 65536;
@@ -125,13 +125,13 @@ fn cut_all<C: Connections, W: CountedWrite>(
 ) -> Result<(), CallFault>
     ensures does { (before : C) (st : State) (r : Run) (front : Option (List ℕ))
         → IsAt (view C.Connections before core.old st (W.contents writer.old) front) r
-        → Went (view C.Connections before core.new st (W.contents writer.new) front) result (cut_from 16 0) r }
+        → Went (view C.Connections before core.new st (W.contents writer.new) front) result (cut_from most_open 0) r }
     ensures counts { Counts (IsErrOf result CallFault.DiskFault) (C.failures core.old) (C.failures core.new) }
     ensures io { Counts (IsErrOf result CallFault.Io) (W.refusals writer.old) (W.refusals writer.new) }
 {
-    let mut left = 16;
+    let mut left = MOST_OPEN;
     while left > 0 {
-        cut_open(alloc, core, writer, 16 - left)?;
+        cut_open(alloc, core, writer, MOST_OPEN - left)?;
         left -= 1;
     }
     Ok(())

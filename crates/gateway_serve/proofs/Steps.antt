@@ -4,6 +4,7 @@ use Rattle.std.proofs.Common.{◌==◌, nat_lt}
 use Rattle.std.proofs.lemmas.Bool.Decides.{nat_tests}
 use Rattle.tus_session.specs.Turns.{Conn, fresh, came_turn, more_turn}
 use Rattle.tus_session.specs.History.{State, Event, Opened, Came, More, Ended, Mark, Served, OutOfMemory, Failed}
+use Rattle.tus_session.specs.History.{most_open}
 use Rattle.tus_session.specs.History.{Outcome, Gave, Done, Refused, put, kept, is_closed, opened_at, came_at, more_at}
 use Rattle.tus_session.specs.History.{ended_at, lost_at, failed_at, conn_in, step}
 use Rattle.tus_session.specs.declared.errors.SessionError.TheVariants.{TooMany}
@@ -34,7 +35,7 @@ module _ (st : State) (k : ℕ) where
   else_put c false ne = refl
 
   else_opened : (c : ℕ) (o : Option Conn) → (k ≡ c → ⊥) → (opened_at st c o).state.conns k ≡ st.conns k
-  else_opened c None ne = else_put c (nat_lt c 16) ne
+  else_opened c None ne = else_put c (nat_lt c most_open) ne
   else_opened c (Some x) ne = refl
 
   else_came : (c : ℕ) (piece : List ℕ) (o : Option Conn) → (k ≡ c → ⊥) → (came_at st c piece o).state.conns k ≡ st.conns
@@ -151,7 +152,7 @@ module _ (st : State) (c : ℕ) where
 
   opened_kept : (o : Option Conn) → ((opened_at st c o).outcome ≡ Done → ⊥)
       → (opened_at st c o).state.conns c ≡ st.conns c
-  opened_kept None undone = put_kept (nat_lt c 16) undone
+  opened_kept None undone = put_kept (nat_lt c most_open) undone
   opened_kept (Some x) undone = refl
 
   pub opens_closed : (m : Mark) → (step st (Opened c) m).outcome ≡ Done → st.conns c ≡ None

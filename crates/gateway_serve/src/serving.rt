@@ -19,9 +19,7 @@ use std::alloc::Global;
 use std::io::{Read, Write};
 use std::net::{OpenListener, OpenStream};
 use std::time::{Clock, Duration};
-
-/// How many connections may be open at once.
-const MOST_OPEN: usize = 16;
+use tus_session::MOST_OPEN;
 
 /// What serving came to.
 pub struct Outcome<C> {
@@ -39,7 +37,7 @@ pub struct Outcome<C> {
 #[derive(Drop)]
 struct Server<S> {
     alloc: Global,
-    /// By the connections' numbers. There are at most 16 places; another one is made when it is needed.
+    /// By the connections' numbers. There are at most `MOST_OPEN` places; another one is made when it is needed.
     places: Vec<Place<S>>,
     ended: Ended,
     accepted: u64,
@@ -123,8 +121,8 @@ impl<S: Read + Write + OpenStream + Drop> Server<S> {
         end_each(&mut self.places, gateway, &mut self.ended)
     }
 
-    // A turn: a socket is accepted where none waits and the listener is asked, and gets a place where fewer than 16 are
-    // open. Then each connection has its turn, in order.
+    // A turn: a socket is accepted where none waits and the listener is asked, and gets a place where fewer than
+    // `MOST_OPEN` are open. Then each connection has its turn, in order.
     fn turn<L: OpenListener<Stream = S>, C: Connections>(
         &mut self,
         listener: &L,
@@ -160,8 +158,8 @@ impl<S: Read + Write + OpenStream + Drop> Server<S> {
         taken
     }
 
-    // Opens a connection for the socket that waits, where fewer than 16 are open. Where the session refuses it, the
-    // socket is closed.
+    // Opens a connection for the socket that waits, where fewer than `MOST_OPEN` are open. Where the session refuses
+    // it, the socket is closed.
     fn accept<L: OpenListener<Stream = S>, C: Connections>(
         &mut self,
         listener: &L,
@@ -226,7 +224,7 @@ impl<S: Read + Write + OpenStream + Drop> Server<S> {
         }
     }
 
-    // The number of another place, where there are fewer than 16 and memory for it is there.
+    // The number of another place, where there are fewer than `MOST_OPEN` and memory for it is there.
     fn new_place(&mut self) -> Option<usize>
         ensures free { IfSome result (λ conn. IsFreeAt (places_of self.new) conn) }
         ensures same { SamePlaces (places_of self.old) (places_of self.new) }
@@ -408,13 +406,13 @@ where
 
 /// Serves the connections of a listener, until so many were closed or so many turns were taken.
 ///
-/// Each turn accepts a connection, where fewer than 16 are open, and then goes on at each open one, in order: what is
-/// left to write is written, else the next piece of a text is asked for, else up to 4,096 bytes are read and given to
-/// the session. A socket that fails or is at its end ends its connection, and so does one over which nothing came or
+/// Each turn accepts a connection, where fewer than `MOST_OPEN` are open, and then goes on at each open one, in order:
+/// what is left to write is written, else the next piece of a text is asked for, else up to 4,096 bytes are read and
+/// given to the session. A socket that fails or is at its end ends its connection, and so does one over which nothing came or
 /// went for a minute, or whose request's head isn't whole after one. One that the session closed is closed once all is
 /// written. At the end the open connections are ended.
 ///
-/// Where 16 are open, one more socket is accepted and waits for a place. While it does, a connection gives way whose
+/// Where all are open, one more socket is accepted and waits for a place. While it does, a connection gives way whose
 /// socket has nothing to do: the one that has been between requests longest, after 20 milliseconds; any between
 /// requests that has had its place for ten seconds; a head that isn't whole after ten seconds; a body that brought less
 /// than 4,096 bytes a second for ten seconds. A reply never does. A socket that still waits when serving ends is

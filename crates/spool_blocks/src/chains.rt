@@ -1,4 +1,4 @@
-// Each slot's blocks, linked from the highest down.
+//! Each slot's blocks, linked from the highest down.
 ghost use Rattle.std.specs.Prelude.{◌≡◌, ◌≤◌, ◌<◌, ◌+◌, ℕ, List, Option, None, Some, IsNone, length, get_or, slice_set};
 ghost use Rattle.std.specs.Prelude.{replicate, IfOk, IfSome};
 ghost use Rattle.spool_blocks.specs.Blocks.{Row, slot_count, IsWhole};

@@ -1,4 +1,4 @@
-// The list of a slot's blocks is filled along the links.
+//! The list of a slot's blocks is filled along the links.
 ghost use Rattle.std.specs.Prelude.{◌≡◌, ◌≤◌, ◌<◌, ℕ, Some, length, get_or};
 ghost use Rattle.spool_blocks.specs.Blocks.{IsWhole};
 ghost use Rattle.spool_blocks.specs.Chains.{Owns, Links, ListedFrom};

@@ -1,4 +1,4 @@
-// What a crash makes of bytes that were written and not synced, and disks that go on behind one.
+//! What a crash makes of bytes that were written and not synced, and disks that go on behind one.
 ghost use Rattle.std.specs.Prelude.{◌≡◌, ◌↔◌, ℕ};
 ghost use Rattle.spool_disk.specs.Disk.{IsImage};
 

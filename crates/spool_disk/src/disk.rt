@@ -1,4 +1,4 @@
-// A disk: what a read gives, and which places a crash may leave with any byte.
+//! A disk: what a read gives, and which places a crash may leave with any byte.
 ghost use Rattle.std.specs.Prelude.{◌≡◌, ◌≤◌, ◌+◌, ◌↔◌, ℕ, length, IsErr, IsOk};
 ghost use Rattle.spool_disk.specs.Disk.{span, IsImage, Elapses, Writes, Syncs, Keeps, Counts};
 

@@ -1,4 +1,4 @@
-// A disk of which one call fails.
+//! A disk of which one call fails.
 ghost use Rattle.std.specs.Prelude.{◌≡◌, ◌≤◌, ◌+◌, ◌↔◌, Some, None, IsErr, OnOk, OnErr, ℕ, length};
 ghost use Rattle.spool_disk.specs.Disk.{Counts, Elapses, Writes};
 

@@ -1,4 +1,4 @@
-// A disk in memory.
+//! A disk in memory.
 ghost use Rattle.std.specs.Prelude.{◌≡◌, ◌≤◌, ◌<◌, ◌+◌, ℕ, length, get_or, true, false, IfOk};
 ghost use Rattle.spool_disk.specs.Crash.{left_by};
 ghost use Rattle.spool_disk.specs.Disk.{In, IsImage};

@@ -12,6 +12,7 @@ use Rattle.spool_texts.proofs.Asides.{aside_blocks_else, image_aside}
 use Rattle.spool_texts.proofs.Fronts.{writes_none, writes_on, idle_in, image_in, but_more, but_on}
 use Rattle.spool_texts.proofs.Reserves.{takes_none}
 use Rattle.spool_drafts.specs.Effect.{Regrasps, OnlyWrites}
+use Rattle.spool_journal.specs.Image.{area_end}
 
 -- an image that is one from before with the blocks as they were is one but for them
 but_aside : {seen image : ℕ → ℕ} {loose : ℕ → Type 0} {first : ℕ} {own : List ℕ}
@@ -25,8 +26,8 @@ writes_keeps : {seen seen' : ℕ → ℕ} {loose loose' : ℕ → Type 0} (first
 writes_keeps first own keeps = record { outside = λ p away. keeps.same p; loosens = λ p l. inl (keeps.loosens p l) }
 
 module _ {D : Type 0} {disk : Ghosts D} {j : ℕ} where
-  pub only : {own : List ℕ} {old new : D} → WritesIn (25 + 2 * j) own (disk.seen old) (disk.seen new) (disk.loose old)
-      (disk.loose new) → Lasts disk old new (IsImageBut (25 + 2 * j) own (disk.seen old) (disk.loose old))
+  pub only : {own : List ℕ} {old new : D} → WritesIn (area_end j) own (disk.seen old) (disk.seen new) (disk.loose old)
+      (disk.loose new) → Lasts disk old new (IsImageBut (area_end j) own (disk.seen old) (disk.loose old))
       → OnlyWrites disk j own old new
   only writes lasts = record {
     writes = writes;

@@ -7,6 +7,7 @@ use Rattle.spool_disk.specs.declared.disk.Disk.{Ghosts}
 use Rattle.spool_journal.specs.Phases.{Idle}
 use Rattle.spool_texts.specs.Drafts.{IsReserved, Takes, GivesBack}
 use Rattle.spool_texts.specs.Written.{WritesIn, aside_blocks}
+use Rattle.spool_journal.specs.Image.{area_end}
 
 -- The draft reserved free blocks behind its list. It holds them all then, or gave them all back.
 pub record Regrasps (old new : Held) (list list' own : List ℕ) : Type 0 where
@@ -17,12 +18,12 @@ pub record Regrasps (old new : Held) (list list' own : List ℕ) : Type 0 where
 
 -- Nothing is written but these blocks, and every image is one from before but for them.
 pub record OnlyWrites {D : Type 0} (disk : Ghosts D) (pages : ℕ) (own : List ℕ) (old new : D) : Type 0 where
-  pub writes : WritesIn (25 + 2 * pages) own (disk.seen old) (disk.seen new) (disk.loose old) (disk.loose new)
+  pub writes : WritesIn (area_end pages) own (disk.seen old) (disk.seen new) (disk.loose old) (disk.loose new)
   pub idle : Idle pages (disk.seen old) (disk.loose old) → Idle pages (disk.seen new) (disk.loose new)
   pub image : (image : ℕ → ℕ) → IsImage (disk.seen new) (disk.loose new) image
-      → IsImage (disk.seen old) (disk.loose old) (aside_blocks (25 + 2 * pages) own (disk.seen old) image)
+      → IsImage (disk.seen old) (disk.loose old) (aside_blocks (area_end pages) own (disk.seen old) image)
   pub lasts : Lasts disk old new
-      (λ image. IsImage (disk.seen old) (disk.loose old) (aside_blocks (25 + 2 * pages) own (disk.seen old) image))
+      (λ image. IsImage (disk.seen old) (disk.loose old) (aside_blocks (area_end pages) own (disk.seen old) image))
 
 -- what a call does, whatever the disk: it writes only the draft's own blocks, those of its list and free ones that it
 -- reserved

@@ -1,10 +1,10 @@
-// An append under way on a disk.
+//! An append under way on a disk.
 ghost use Rattle.std.specs.Prelude.{◌≡◌, ◌⊎◌, get_or, ◌≤◌, ◌*◌, ◌+◌, ◌<◌, ◌/◌, ◌-◌, ◌↔◌, ◌^◌, ℕ, List, []};
 ghost use Rattle.std.specs.Prelude.{false, min, length, IsOk, IsErrOf, OnOk, IfOk};
 ghost use Rattle.enc_model.specs.Indexes.{IndexSet as Indexes};
 ghost use Rattle.spool_disk.specs.Disk.{Counts, IsImage, Keeps as OnlyRead};
 ghost use Rattle.spool_disk.specs.Views.{Lasts};
-ghost use Rattle.spool_journal.specs.Image.{journal_pages, all_pages};
+ghost use Rattle.spool_journal.specs.Image.{journal_pages, all_pages, text_page};
 ghost use Rattle.spool_texts.specs.Drafts.{IsReserved, GivesBack, bytes_with};
 ghost use Rattle.spool_texts.specs.TextOn.{AllBelow, text_on};
 ghost use Rattle.upload_rules.specs.Calls.{first_patch};
@@ -182,16 +182,16 @@ impl SpoolDraft {
             → OnOk result (IsLonger indexes.now (with_piece p piece.now) self.old self.new blocks.old blocks.new) }
         ensures content { (p : Patch) → D.honest disk.old → Holds indexes.now p self.old
             → length p.body + length piece.now ≤ p.count
-            → Carries indexes.now (D.seen disk.old) (25 + 2 * journal_pages layout.now) p self.old
-            → OnOk result (Carries indexes.now (D.seen disk.new) (25 + 2 * journal_pages layout.now)
+            → Carries indexes.now (D.seen disk.old) (text_page layout.now) p self.old
+            → OnOk result (Carries indexes.now (D.seen disk.new) (text_page layout.now)
             (with_piece p piece.now) self.new) }
         ensures memory { IsErrOf result UploadError.NoMemory
             → (list_of self.new ≡ list_of self.old) × (blocks.new ≡ blocks.old) }
         ensures holds_on { (p : Patch) → Holds indexes.now p self.old → IsErrOf result UploadError.NoMemory
             → Holds indexes.now p self.new }
         ensures content_on { (p : Patch) → D.honest disk.old → IsErrOf result UploadError.NoMemory
-            → Carries indexes.now (D.seen disk.old) (25 + 2 * journal_pages layout.now) p self.old
-            → Carries indexes.now (D.seen disk.new) (25 + 2 * journal_pages layout.now) p self.new }
+            → Carries indexes.now (D.seen disk.old) (text_page layout.now) p self.old
+            → Carries indexes.now (D.seen disk.new) (text_page layout.now) p self.new }
     {
         if piece.is_empty() {
             return Ok(());
@@ -262,9 +262,9 @@ impl SpoolDraft {
         ensures fits { IfOk result
             (λ end. 1 ≤ length (list_of self.new) → (length end.last.items + 4095) / 4096 ≤ length (list_of self.new)) }
         ensures content { (p : Patch) → D.honest disk.old → Holds indexes.now p self.old → is_complete p.began ≡ false
-            → Carries indexes.now (D.seen disk.old) (25 + 2 * journal_pages layout.now) p self.old
+            → Carries indexes.now (D.seen disk.old) (text_page layout.now) p self.old
             → IfOk result (λ end. 1 ≤ length (list_of self.new)
-            → bytes_with (D.seen disk.new) (25 + 2 * journal_pages layout.now) (list_of self.new) end.last.items
+            → bytes_with (D.seen disk.new) (text_page layout.now) (list_of self.new) end.last.items
             ≡ open_text indexes.now p completes) }
     {
         let (state, text) = finished(alloc, &self.fresh, indexes, completes)?;

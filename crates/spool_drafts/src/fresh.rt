@@ -1,4 +1,4 @@
-// Where transcoding stands.
+//! Where transcoding stands.
 ghost use Rattle.std.specs.Prelude.{◌≡◌, ◌++◌, ℕ, false, List, [], IfOk, IsErrOf, IsOk};
 ghost use Rattle.upload_rules.specs.Store.{Upload, is_complete};
 ghost use Rattle.upload_rules.specs.States.{IsState, SameEncodings};

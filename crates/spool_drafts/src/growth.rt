@@ -1,9 +1,9 @@
-// The new text of a draft, on reserved blocks.
+//! The new text of a draft, on reserved blocks.
 ghost use Rattle.std.specs.Prelude.{◌≡◌, get_or, ◌≤◌, ◌*◌, ◌+◌, ◌%◌, ◌/◌, ◌<◌, ◌++◌, ◌↔◌, ℕ, List, [], true};
 ghost use Rattle.std.specs.Prelude.{false, None, length, IsOk, IsErrOf, OnOk, IfOk};
 ghost use Rattle.spool_disk.specs.Disk.{Counts, IsImage, Keeps};
 ghost use Rattle.spool_disk.specs.Views.{Lasts};
-ghost use Rattle.spool_journal.specs.Image.{journal_pages, all_pages};
+ghost use Rattle.spool_journal.specs.Image.{journal_pages, all_pages, text_page};
 ghost use Rattle.spool_texts.specs.Drafts.{IsReserved, GivesBack, bytes_with, content_on};
 ghost use Rattle.spool_texts.specs.TextOn.{AllBelow, text_on};
 ghost use Rattle.spool_drafts.specs.Effect.{Effect, Regrasps};
@@ -126,8 +126,8 @@ impl Growth {
             → OnOk result (GrowsTo (n + length bytes.now) self.old self.new blocks.old blocks.new) }
         ensures content { D.honest disk.old
             → OnOk result (self.new.short ≡ false
-            → bytes_on (D.seen disk.new) (25 + 2 * journal_pages layout.now) self.new self.new.on
-            ≡ bytes_on (D.seen disk.old) (25 + 2 * journal_pages layout.now) self.old self.old.on ++ bytes.now) }
+            → bytes_on (D.seen disk.new) (text_page layout.now) self.new self.new.on
+            ≡ bytes_on (D.seen disk.old) (text_page layout.now) self.old self.old.on ++ bytes.now) }
 
         // Where memory is short, it holds what it held.
         ensures memory { IsErrOf result UploadError.NoMemory
@@ -135,8 +135,8 @@ impl Growth {
             × (self.new.short ≡ self.old.short) }
         ensures holds_on { (n : ℕ) → HoldsLen self.old n → IsErrOf result UploadError.NoMemory → HoldsLen self.new n }
         ensures content_on { D.honest disk.old → IsErrOf result UploadError.NoMemory
-            → bytes_on (D.seen disk.new) (25 + 2 * journal_pages layout.now) self.new self.new.on
-            ≡ bytes_on (D.seen disk.old) (25 + 2 * journal_pages layout.now) self.old self.old.on }
+            → bytes_on (D.seen disk.new) (text_page layout.now) self.new self.new.on
+            ≡ bytes_on (D.seen disk.old) (text_page layout.now) self.old self.old.on }
     {
         if self.short || bytes.is_empty() {
             return Ok(());
@@ -171,8 +171,8 @@ impl Growth {
         ensures len { (n : ℕ) → HoldsLen self.old n → IfOk result (λ last. 1 ≤ length (list_on self.new.on)
             → count_with (list_on self.new.on) last.items ≡ n + length bytes.now) }
         ensures content { D.honest disk.old → IfOk result (λ last. 1 ≤ length (list_on self.new.on)
-            → bytes_with (D.seen disk.new) (25 + 2 * journal_pages layout.now) (list_on self.new.on) last.items
-            ≡ bytes_on (D.seen disk.old) (25 + 2 * journal_pages layout.now) self.old self.old.on ++ bytes.now) }
+            → bytes_with (D.seen disk.new) (text_page layout.now) (list_on self.new.on) last.items
+            ≡ bytes_on (D.seen disk.old) (text_page layout.now) self.old self.old.on ++ bytes.now) }
 
         // Nothing is written, and nothing is read where the committed text has no unfinished block.
         ensures unread { tail_list self.old.tail ≡ [] → disk.new ≡ disk.old }
@@ -249,8 +249,8 @@ impl Growth {
         ensures some { OnOk result (self.new.on ≡ None → ⊥) }
         ensures holds { (n : ℕ) → HoldsLen self.old n → HoldsLen self.new n }
         ensures content { D.honest disk.old
-            → bytes_on (D.seen disk.new) (25 + 2 * journal_pages layout.now) self.new self.new.on
-            ≡ bytes_on (D.seen disk.old) (25 + 2 * journal_pages layout.now) self.old self.old.on }
+            → bytes_on (D.seen disk.new) (text_page layout.now) self.new self.new.on
+            ≡ bytes_on (D.seen disk.old) (text_page layout.now) self.old self.old.on }
         ensures keeps { D.honest disk.old
             → Keeps (D.seen disk.old) (D.seen disk.new) (D.loose disk.old) (D.loose disk.new) }
         ensures lasts { D.honest disk.old
@@ -288,8 +288,8 @@ impl Growth {
             → OnOk result (GrowsTo (n + length bytes.now) self.old self.new blocks.old blocks.new) }
         ensures content { D.honest disk.old
             → OnOk result (self.new.short ≡ false
-            → bytes_on (D.seen disk.new) (25 + 2 * journal_pages layout.now) self.new self.new.on
-            ≡ bytes_on (D.seen disk.old) (25 + 2 * journal_pages layout.now) self.old self.old.on ++ bytes.now) }
+            → bytes_on (D.seen disk.new) (text_page layout.now) self.new self.new.on
+            ≡ bytes_on (D.seen disk.old) (text_page layout.now) self.old self.old.on ++ bytes.now) }
         ensures memory { IsErrOf result UploadError.NoMemory
             → (self.new ≡ self.old) × (disk.new ≡ disk.old) × (blocks.new ≡ blocks.old) }
     {
@@ -327,7 +327,7 @@ fn begun<D: Disk>(
     ensures none { IfOk result (λ text. text.blocks ≡ []) }
     ensures tail { D.honest disk.old
         → IfOk result (λ text. text.unfinished
-        ≡ front_on (D.seen disk.old) (25 + 2 * journal_pages layout.now) tail (text_len % 4096)) }
+        ≡ front_on (D.seen disk.old) (text_page layout.now) tail (text_len % 4096)) }
     ensures tail_size { IfOk result (λ text. length text.unfinished ≡ text_len % 4096) }
     ensures keeps { D.honest disk.old
         → Keeps (D.seen disk.old) (D.seen disk.new) (D.loose disk.old) (D.loose disk.new) }

@@ -1,4 +1,4 @@
-// A law of open drafts, as the contract of a function that does nothing.
+//! A law of open drafts, as the contract of a function that does nothing.
 ghost use Rattle.std.specs.Prelude.{ℕ, List};
 ghost use Rattle.enc_model.specs.Indexes.{IndexSet};
 ghost use Rattle.spool_texts.specs.Written.{NoneOf, SameOutside};

@@ -12,10 +12,10 @@ use Rattle.spool_disk.specs.declared.disk.Disk.{Ghosts}
 use Rattle.spool_drafts.specs.Drafts.{tail_of}
 use Rattle.spool_drafts.specs.declared.draft.SpoolDraft.{SpoolDraft}
 use Rattle.spool_drafts.proofs.Stays.{bytes_same}
-use Rattle.spool_journal.specs.Image.{journal_pages, overlaid}
+use Rattle.spool_journal.specs.Image.{journal_pages, overlaid, text_page}
 use Rattle.spool_journal.specs.Phases.{Settled}
 use Rattle.spool_pages.proofs.Resting.{rests_keeps, settled_rests}
-use Rattle.spool_pages.specs.View.{SlotRecord, View, IsViewOf, text_page}
+use Rattle.spool_pages.specs.View.{SlotRecord, View, IsViewOf}
 use Rattle.upload_rules.proofs.Finds.{find_push_other}
 use Rattle.upload_rules.proofs.Growing.{grown_created}
 use Rattle.upload_rules.proofs.Patches.{draft_of, held_on}
@@ -53,7 +53,7 @@ module _ {D : Type 0} (disk : Ghosts D) (d d' : D) (h : Holding) (drafts : List 
       keeps = s.stored.keeps;
       shows = s.stored.shows;
     };
-    stands = subst (λ (seen : ℕ → ℕ). DraftsStand w.store.indexes seen (25 + 2 * journal_pages h.layout) h.slots
+    stands = subst (λ (seen : ℕ → ℕ). DraftsStand w.store.indexes seen (text_page h.layout) h.slots
         h.blocks w drafts) (sym (same_function _ _ keeps.same)) s.stands;
   }
 
@@ -91,9 +91,9 @@ stands_opened disk d' was h drafts m v none honest is keeps shows settled = reco
     keeps = keeps.0;
     shows = shows;
   };
-  stands = subst (DraftsStand m.indexes (disk.seen d') (25 + 2 * journal_pages h.layout) h.slots h.blocks
+  stands = subst (DraftsStand m.indexes (disk.seen d') (text_page h.layout) h.slots h.blocks
       (at_rest m (Some v.blocks))) (sym none)
-      (none_stands m.indexes (disk.seen d') (25 + 2 * journal_pages h.layout) h m v keeps shows);
+      (none_stands m.indexes (disk.seen d') (text_page h.layout) h m v keeps shows);
 }
 
 -- A NEW UPLOAD

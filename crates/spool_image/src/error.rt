@@ -1,4 +1,4 @@
-// Why a spool is not made, or not brought to version 2.
+//! Why a spool is not made, or not brought to version 2.
 ghost use Rattle.std.specs.Prelude.{◌≡◌};
 
 use spool_disk::DiskFault;

@@ -1,4 +1,4 @@
-// How many pages a spool has.
+//! How many pages a spool has.
 ghost use Rattle.std.specs.Prelude.{◌≡◌, ◌⊎◌, ◌<◌, ◌↔◌, IfSome, IsNone};
 ghost use Rattle.spool_journal.specs.Image.{all_pages};
 

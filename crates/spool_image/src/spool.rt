@@ -1,4 +1,4 @@
-// The uploads on a disk, and appends to them that are under way.
+//! The uploads on a disk, and appends to them that are under way.
 ghost use Rattle.std.specs.Prelude.{◌≡◌, ◌≤◌, ◌*◌, ◌↔◌, ℕ, Some, IfOk, IfErr};
 ghost use Rattle.spool_disk.specs.Disk.{Counts};
 ghost use Rattle.spool_disk.specs.Views.{Lasts};

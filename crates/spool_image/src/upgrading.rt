@@ -1,4 +1,4 @@
-// A spool is brought to version 2.
+//! A spool is brought to version 2.
 ghost use Rattle.std.specs.Prelude.{◌≡◌, ◌⊎◌, ◌≤◌, ◌*◌, ◌↔◌, ℕ, Err, IfOk, IfErr, OnOk};
 ghost use Rattle.spool_disk.specs.Disk.{Counts, IsImage, Keeps};
 ghost use Rattle.spool_disk.specs.Views.{Lasts};

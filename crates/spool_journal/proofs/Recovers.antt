@@ -3,7 +3,7 @@ use Rattle.std.proofs.Common.{◌≡◌, ◌⊎◌, inl, inr, ℕ, zero, suc, �
 use Rattle.std.proofs.Common.{sym, ◌∙◌, ap, subst, arith, ⊎_elim}
 use Rattle.spool_disk.specs.Disk.{span, IsImage, Keeps}
 use Rattle.spool_journal.specs.Image.{word, byte_of, journal_pages, all_pages, count, number, content, over, overlaid}
-use Rattle.spool_journal.specs.Image.{laid, InForm, InArea, Ascends, page_number}
+use Rattle.spool_journal.specs.Image.{text_page, laid, InForm, InArea, Ascends, page_number}
 use Rattle.spool_journal.specs.Phases.{IsBefore, ReadsAs, Placing, Upto, Settled, Still, HeadOf}
 use Rattle.spool_disk.specs.Views.{Lasts}
 use Rattle.spool_disk.specs.declared.disk.Disk.{Ghosts}
@@ -15,7 +15,7 @@ pub journal_few : (n : ℕ) → n ≤ 65536 → journal_pages n ≤ 385
 unfolding journal_pages
 journal_few n few = omega (arith, few)
 
-pub all_is : (n : ℕ) → all_pages n ≡ 25 + 2 * journal_pages n + n
+pub all_is : (n : ℕ) → all_pages n ≡ text_page n + n
 unfolding all_pages
 all_is n = refl
 

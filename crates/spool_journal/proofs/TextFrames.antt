@@ -8,6 +8,7 @@ use Rattle.spool_journal.specs.Phases.{Idle}
 use Rattle.spool_journal.specs.Texts.{owns, block_at, block_bytes, joined, aside, SameBut, Frame}
 use Rattle.spool_journal.proofs.Over.{yes, no}
 use Rattle.spool_journal.proofs.Gate.{open_view, shut_view, SameJournal, form_on, replay_on}
+use Rattle.spool_journal.specs.Image.{area_end}
 
 pub aside_there : (page : ℕ) (was image : ℕ → ℕ) (p : ℕ) → page ≡ p / 4096 → aside page was image p ≡ was p
 aside_there page was image p e = ap (λ (b : Bool). cond b (was p) (image p)) (yes page (p / 4096) e)
@@ -32,7 +33,7 @@ aside_image {seen = seen} {image = image} page at bytes from below writes is = r
     inside p here = omega (arith, here.from, here.below, from, below)
 
 pub idle_writes : {j : ℕ} {seen seen' : ℕ → ℕ} {loose loose' : ℕ → Type 0} {done : Type 0} (at : ℕ) (bytes : List ℕ)
-    → 4096 * (25 + 2 * j) ≤ at → Idle j seen loose → Writes at bytes done seen seen' loose loose' → Idle j seen' loose'
+    → 4096 * area_end j ≤ at → Idle j seen loose → Writes at bytes done seen seen' loose loose' → Idle j seen' loose'
 idle_writes at bytes from idle writes = record {
   gate = λ l. ⊎_elim idle.gate (λ here. omega (arith, here.from, from)) (writes.loosens 4096 l);
   closed = λ e. idle.closed (sym (writes.outside 4096 (λ here. omega (arith, here.from, from))) ∙ e);
@@ -79,10 +80,10 @@ same_joined image image' first x slot rows same none ordinal (suc n) =
     both e f = cc
 
 -- a page of text
-pub frame : (j block : ℕ) (a b : ℕ → ℕ) → j ≤ 385 → SameBut (25 + 2 * j + block) a b → Frame j (25 + 2 * j) block a b
+pub frame : (j block : ℕ) (a b : ℕ → ℕ) → j ≤ 385 → SameBut (area_end j + block) a b → Frame j (area_end j) block a b
 frame j block a b few same = record {
   texts = λ rows slot len none. ap (λ (l : List ℕ). take len l)
-      (same_joined a b (25 + 2 * j) block slot rows same none 0 ((len + 4095) / 4096));
+      (same_joined a b (area_end j) block slot rows same none 0 ((len + 4095) / 4096));
   form = λ formed gate. let f =
       formed (sym (same 4096 (λ e. omega (arith, e))) ∙ gate) in form_on few (omega (arith, f.some, f.few)) journal f;
   others = λ formed p away. ⊎_elim
@@ -96,8 +97,8 @@ frame j block a b few same = record {
     journal : SameJournal j a b
     journal = record { same = λ p within. same p (λ e. omega (arith, e, within.below)) }
 
-pub frame_aside : (j block : ℕ) (image was : ℕ → ℕ) → j ≤ 385 → Frame j (25 + 2 * j) block image
-    (aside (25 + 2 * j + block) was image)
+pub frame_aside : (j block : ℕ) (image was : ℕ → ℕ) → j ≤ 385 → Frame j (area_end j) block image
+    (aside (area_end j + block) was image)
 frame_aside j block image was few =
-    frame j block image (aside (25 + 2 * j + block) was image) few
-    (λ p away. sym (aside_else (25 + 2 * j + block) was image p away))
+    frame j block image (aside (area_end j + block) was image) few
+    (λ p away. sym (aside_else (area_end j + block) was image p away))

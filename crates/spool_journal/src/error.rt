@@ -1,4 +1,4 @@
-// Why a disk was not made whole.
+//! Why a disk was not made whole.
 ghost use Rattle.std.specs.Prelude.{◌≡◌};
 
 use spool_disk::DiskFault;

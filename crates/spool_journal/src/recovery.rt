@@ -1,12 +1,13 @@
-// What a crash left is made whole again. A recovery may crash too.
+//! What a crash left is made whole again. A recovery may crash too.
 ghost use Rattle.std.specs.Prelude.{◌≡◌, ◌⊎◌, ◌≤◌, ◌<◌, ◌*◌, ◌+◌, ◌↔◌, ℕ, IsErr, IfOk, OnOk, ◌==◌, true, false};
 ghost use Rattle.std.specs.Prelude.{Err};
 ghost use Rattle.spool_disk.specs.Disk.{IsImage, Counts};
 ghost use Rattle.spool_disk.specs.Views.{Lasts};
-ghost use Rattle.spool_journal.specs.Image.{journal_pages, all_pages, replayed, overlaid, word, byte_of};
+ghost use Rattle.spool_journal.specs.Image.{journal_pages, all_pages, replayed, overlaid, word, byte_of, area_end};
 ghost use Rattle.spool_journal.specs.Image.{count, number, InForm};
 ghost use Rattle.spool_journal.specs.Phases.{Idle, ReadsAs, Still, Placing, Upto, Settled, HeadOf};
 
+use crate::layout::{area_end, metadata_page};
 use crate::places::{close_gate, place};
 use crate::syncs::sync_places;
 use crate::{Layout, PAGE, RecoverError};
@@ -81,10 +82,10 @@ fn is_in_form(head: &[u8; PAGE], journal: u32) -> bool
     if count == 0 || count > journal {
         return false;
     }
-    let mut least = 25 + journal;
+    let mut least = metadata_page(journal);
     for k in 0..count as usize {
         let number = get_word(head, 4 + 4 * k);
-        if number < least || number >= 25 + 2 * journal {
+        if number < least || number >= area_end(journal) {
             return false;
         }
         least = number + 1;
@@ -118,7 +119,7 @@ fn copy_page<D: Disk>(disk: &mut D, from: u32, to: u32) -> Result<(), DiskFault>
 fn replay<D: Disk>(disk: &mut D, head: &[u8; PAGE], journal: u32) -> Result<(), DiskFault>
     requires few { journal ≤ 385 }
     requires form { InForm journal (word (byte_of head.now) 0) (λ k. word (byte_of head.now) (4 + 4 * k)) }
-    requires room { 4096 * (25 + 2 * journal) ≤ D.size disk.old }
+    requires room { 4096 * area_end journal ≤ D.size disk.old }
     ensures size { D.size disk.new ≡ D.size disk.old }
     ensures honest { D.honest disk.old ↔ D.honest disk.new }
     ensures counts { Counts (IsErr result) (D.failures disk.old) (D.failures disk.new) }
@@ -144,7 +145,7 @@ fn replay<D: Disk>(disk: &mut D, head: &[u8; PAGE], journal: u32) -> Result<(), 
 fn replay_all<D: Disk>(disk: &mut D, head: &[u8; PAGE], journal: u32) -> Result<(), DiskFault>
     requires few { journal ≤ 385 }
     requires form { InForm journal (word (byte_of head.now) 0) (λ k. word (byte_of head.now) (4 + 4 * k)) }
-    requires room { 4096 * (25 + 2 * journal) ≤ D.size disk.old }
+    requires room { 4096 * area_end journal ≤ D.size disk.old }
     ensures size { D.size disk.new ≡ D.size disk.old }
     ensures honest { D.honest disk.old ↔ D.honest disk.new }
     ensures counts { Counts (IsErr result) (D.failures disk.old) (D.failures disk.new) }
@@ -163,7 +164,7 @@ fn replay_all<D: Disk>(disk: &mut D, head: &[u8; PAGE], journal: u32) -> Result<
 // Replays the journal that an open gate shows.
 fn mend<D: Disk>(disk: &mut D, journal: u32) -> Result<(), RecoverError>
     requires few { journal ≤ 385 }
-    requires room { 4096 * (25 + 2 * journal) ≤ D.size disk.old }
+    requires room { 4096 * area_end journal ≤ D.size disk.old }
     requires page { 12288 ≤ D.size disk.old }
     ensures size { D.size disk.new ≡ D.size disk.old }
     ensures honest { D.honest disk.old ↔ D.honest disk.new }

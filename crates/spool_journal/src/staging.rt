@@ -1,4 +1,4 @@
-// The journal is written while the gate is closed.
+//! The journal is written while the gate is closed.
 ghost use Rattle.std.specs.Prelude.{◌≡◌, ◌≤◌, ◌<◌, ◌*◌, ◌+◌, ◌↔◌, ℕ, length, IsErr, OnOk};
 ghost use Rattle.spool_disk.specs.Disk.{Counts, Apart};
 ghost use Rattle.spool_disk.specs.Views.{Lasts};

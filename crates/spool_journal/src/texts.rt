@@ -1,8 +1,8 @@
-// A block's bytes are written.
+//! A block's bytes are written.
 ghost use Rattle.std.specs.Prelude.{◌≡◌, ◌≤◌, ◌*◌, ◌+◌, ◌↔◌, ℕ, length, IsErr, IsOk};
 ghost use Rattle.spool_disk.specs.Disk.{Counts, IsImage, Writes};
 ghost use Rattle.spool_disk.specs.Views.{Lasts};
-ghost use Rattle.spool_journal.specs.Image.{journal_pages, all_pages};
+ghost use Rattle.spool_journal.specs.Image.{journal_pages, all_pages, text_page};
 ghost use Rattle.spool_journal.specs.Phases.{Idle};
 ghost use Rattle.spool_journal.specs.Texts.{aside, Frame};
 
@@ -23,7 +23,7 @@ pub fn write_block<D: Disk>(
     ensures size { D.size disk.new ≡ D.size disk.old }
     ensures honest { D.honest disk.old ↔ D.honest disk.new }
     ensures counts { Counts (IsErr result) (D.failures disk.old) (D.failures disk.new) }
-    ensures writes { D.honest disk.old → Writes (4096 * (25 + 2 * journal_pages layout.now + block) + offset) bytes.now
+    ensures writes { D.honest disk.old → Writes (4096 * (text_page layout.now + block) + offset) bytes.now
         (IsOk result) (D.seen disk.old) (D.seen disk.new) (D.loose disk.old) (D.loose disk.new) }
     ensures idle { D.honest disk.old → Idle (journal_pages layout.now) (D.seen disk.old) (D.loose disk.old)
         → Idle (journal_pages layout.now) (D.seen disk.new) (D.loose disk.new) }
@@ -31,14 +31,14 @@ pub fn write_block<D: Disk>(
     // But for the block, every image is one from before.
     ensures image { D.honest disk.old → (image : ℕ → ℕ) → IsImage (D.seen disk.new) (D.loose disk.new) image
         → IsImage (D.seen disk.old) (D.loose disk.old)
-        (aside (25 + 2 * journal_pages layout.now + block) (D.seen disk.old) image) }
+        (aside (text_page layout.now + block) (D.seen disk.old) image) }
     ensures lasts { D.honest disk.old → Lasts D.Disk disk.old disk.new
         (λ image. IsImage (D.seen disk.old) (D.loose disk.old)
-        (aside (25 + 2 * journal_pages layout.now + block) (D.seen disk.old) image)) }
+        (aside (text_page layout.now + block) (D.seen disk.old) image)) }
 
     // And where no row owns the block, the two show the same.
-    ensures frame { (image was : ℕ → ℕ) → Frame (journal_pages layout.now) (25 + 2 * journal_pages layout.now) block
-        image (aside (25 + 2 * journal_pages layout.now + block) was image) }
+    ensures frame { (image was : ℕ → ℕ) → Frame (journal_pages layout.now) (text_page layout.now) block
+        image (aside (text_page layout.now + block) was image) }
 {
     let page = layout.block_page(block);
     disk.write_at(4096 * page as u64 + offset as u64, bytes)

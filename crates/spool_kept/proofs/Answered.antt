@@ -9,10 +9,10 @@ use Rattle.upload_rules.specs.Reading.{IsRead, no_such, text_at}
 use Rattle.upload_rules.specs.Records.{Keeps, TellsOf, above, with_number}
 use Rattle.upload_rules.specs.Store.{Upload, Store, find, upload_of, text_of}
 use Rattle.upload_rules.specs.declared.records.Record.{Record}
-use Rattle.spool_journal.specs.Image.{journal_pages}
+use Rattle.spool_journal.specs.Image.{text_page}
 use Rattle.spool_texts.specs.TextOn.{text_on}
 use Rattle.spool_texts.proofs.Shown.{shown}
-use Rattle.spool_pages.specs.View.{SlotRecord, View, Says, slot_at, text_page}
+use Rattle.spool_pages.specs.View.{SlotRecord, View, Says, slot_at}
 use Rattle.spool_kept.specs.declared.order.NumberedSlot.{NumberedSlot}
 use Rattle.spool_kept.specs.Holding.{Holding, FitsTogether, IsUsedBy, Lists, IsPlaceFor, numbered, number_at}
 use Rattle.spool_kept.specs.Kept.{KeepsView}
@@ -94,7 +94,7 @@ module _ (h : Holding) (v : View) (m : Store) (kept : KeepsView h v) (shows : Sh
   -- the text on a slot's blocks is its upload's
   pub text_told : (bytes : ℕ → ℕ) → Says bytes v → (s : ℕ) (q : SlotRecord) (n : ℕ) → get_or h.slots s None ≡ Some q
       → q.number ≡ n
-      → (u : Upload) → upload_of m n ≡ Some u → text_on bytes (25 + 2 * journal_pages h.layout) (get_or h.lists s [])
+      → (u : Upload) → upload_of m n ≡ Some u → text_on bytes (text_page h.layout) (get_or h.lists s [])
       q.text_len ≡ text_of m.indexes u
   text_told bytes says s q n e number u found_there =
       let there = slot_there s q e in
@@ -105,8 +105,8 @@ module _ (h : Holding) (v : View) (m : Store) (kept : KeepsView h v) (shows : Sh
       let same : text_on bytes (text_page v.blocks) list q.text_len ≡ text_of m.indexes told.upload =
       shown bytes (text_page v.blocks) v.rows s q.text_len list (kept.listed s q there) (kept.sizes s q there)
       ∙ sym (says.texts s q there) ∙ told.tells.text in
-      let here : text_on bytes (25 + 2 * journal_pages h.layout) list q.text_len ≡ text_of m.indexes told.upload =
-      subst (λ (b : ℕ). text_on bytes (25 + 2 * journal_pages b) list q.text_len ≡ text_of m.indexes told.upload)
+      let here : text_on bytes (text_page h.layout) list q.text_len ≡ text_of m.indexes told.upload =
+      subst (λ (b : ℕ). text_on bytes (text_page b) list q.text_len ≡ text_of m.indexes told.upload)
       (sym kept.blocks) same in
       here ∙ ap (text_of m.indexes) (same_Some told.upload u (sym upload ∙ found_there))
 

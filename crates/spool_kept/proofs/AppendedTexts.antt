@@ -8,9 +8,10 @@ use Rattle.upload_rules.specs.Room.{blocks_of}
 use Rattle.spool_blocks.specs.Blocks.{Row}
 use Rattle.spool_blocks.specs.Chains.{Owns, OwnsOneEach}
 use Rattle.spool_journal.specs.Texts.{block_at, block_bytes, joined, text_shown}
+use Rattle.spool_journal.specs.Image.{text_page}
 use Rattle.spool_texts.specs.TextOn.{blocks_on, text_on, IsListed}
 use Rattle.spool_texts.proofs.Shown.{found, shown, text_joined}
-use Rattle.spool_pages.specs.View.{SlotRecord, View, slot_at, text_page}
+use Rattle.spool_pages.specs.View.{SlotRecord, View, slot_at}
 use Rattle.spool_pages.specs.Rests.{Unowned, HasTexts}
 use Rattle.spool_kept.specs.Shows.{IsSoundRecord, IsRecordOf, Shows}
 use Rattle.spool_kept.specs.Changed.{appended_view, SameOthers, HandsOver}

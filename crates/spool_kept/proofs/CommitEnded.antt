@@ -9,7 +9,7 @@ use Rattle.spool_blocks.specs.Blocks.{Row, Held}
 use Rattle.spool_disk.specs.declared.disk.Disk.{Ghosts}
 use Rattle.spool_disk.specs.Views.{Lasts}
 use Rattle.spool_disk.proofs.Firm.{lasts_more}
-use Rattle.spool_journal.specs.Image.{journal_pages}
+use Rattle.spool_journal.specs.Image.{journal_pages, text_page}
 use Rattle.spool_drafts.specs.Drafts.{EndsAs, EndsBehind, Holds, Carries, IsPlaced, IsWhole, committed_len_of, list_of}
 use Rattle.spool_drafts.specs.Drafts.{tail_of, offset_of, came_of, declare_of, open_text}
 use Rattle.spool_drafts.specs.Effect.{Effect, RunsShort}
@@ -82,7 +82,7 @@ module _ {D : Type 0} (disk : Ghosts D) (d d' : D) (h h' : Holding) (only : Only
     (is : IsCommit disk d h drafts number o w p)
     (effect : Effect disk (journal_pages h.layout) (list_of o) (list_of o') d d' h.blocks h'.blocks) where
   abbrev first : ℕ
-  first = 25 + 2 * journal_pages h.layout
+  first = text_page h.layout
 
   abbrev s : Stored disk d h w.store
   s = is.stands.stored
@@ -110,10 +110,10 @@ module _ {D : Type 0} (disk : Ghosts D) (d d' : D) (h h' : Holding) (only : Only
 
   -- THE DRAFT
 
-  pub own_draft : DraftStands w.store.indexes (disk.seen d) (25 + 2 * journal_pages h.layout) h.slots h.blocks.rows
+  pub own_draft : DraftStands w.store.indexes (disk.seen d) (text_page h.layout) h.slots h.blocks.rows
       w.store p o
   own_draft =
-      let R = DraftStands w.store.indexes (disk.seen d) (25 + 2 * journal_pages h.layout) h.slots h.blocks.rows
+      let R = DraftStands w.store.indexes (disk.seen d) (text_page h.layout) h.slots h.blocks.rows
       w.store in
       let at = draft_of R p (find number w.patches) (draft_at drafts number) is.patch (is.stands.stands.each number) in
       subst (R p) (some_draft at.0 o (sym at.1 ∙ is.here)) at.2
@@ -182,18 +182,18 @@ module _ {D : Type 0} (disk : Ghosts D) (d d' : D) (h h' : Holding) (only : Only
 
         -- and the bytes on its blocks
         pub ends_on : ((q' : Patch) → disk.honest d → Holds h.indexes q' o → is_complete q'.began ≡ false
-            → Carries h.indexes (disk.seen d) (25 + 2 * journal_pages h.layout) q' o
-            → IfOk result (λ e. 1 ≤ length (list_of o') → bytes_with (disk.seen d') (25 + 2 * journal_pages h.layout)
+            → Carries h.indexes (disk.seen d) (text_page h.layout) q' o
+            → IfOk result (λ e. 1 ≤ length (list_of o') → bytes_with (disk.seen d') (text_page h.layout)
             (list_of o') e.last.items ≡ open_text h.indexes q' done))
-            → IfOk result (λ e. 1 ≤ length (list_of o') → bytes_with (disk.seen d') (25 + 2 * journal_pages h.layout)
+            → IfOk result (λ e. 1 ≤ length (list_of o') → bytes_with (disk.seen d') (text_page h.layout)
             (list_of o') e.last.items ≡ open_text w.store.indexes p (completes w.store p))
         ends_on content =
             let P : IndexSet → Bool → Type 0 =
             λ y b. IfOk result (λ e. 1 ≤ length (list_of o') → bytes_with (disk.seen d')
-            (25 + 2 * journal_pages h.layout) (list_of o') e.last.items ≡ open_text y p b) in
+            (text_page h.layout) (list_of o') e.last.items ≡ open_text y p b) in
             subst (P w.store.indexes) done_then (subst (λ (y : IndexSet). P y done) indexes_are
             (content p s.honest (subst (λ (y : IndexSet). Holds y p o) (sym indexes_are) held) open_began
-            (subst (λ (y : IndexSet). Carries y (disk.seen d) (25 + 2 * journal_pages h.layout) p o) (sym indexes_are)
+            (subst (λ (y : IndexSet). Carries y (disk.seen d) (text_page h.layout) p o) (sym indexes_are)
             (own_draft.carries is.still))))
 
   -- THE RULES
@@ -278,14 +278,14 @@ module _ {D : Type 0} (disk : Ghosts D) (d d' : D) (h h' : Holding) (only : Only
           → longer.accepted ≡ reached p
           → longer.text_len ≡ end.text_len → longer.state ≡ end.state → Stored disk d' h' w.store
           → (1 ≤ length (list_of o') → (length end.last.items + 4095) / 4096 ≤ length (list_of o'))
-          → (1 ≤ length (list_of o') → bytes_with (disk.seen d') (25 + 2 * journal_pages h.layout) (list_of o')
+          → (1 ≤ length (list_of o') → bytes_with (disk.seen d') (text_page h.layout) (list_of o')
           end.last.items ≡ open_text w.store.indexes p (completes w.store p))
           → IsPending disk d' h' w.store p.number p.declare p.body longer (list_of o') end.last.items
       pending longer at declared accepted len is_state stored fits content = record {
         stored = stored;
         text = open_text w.store.indexes p (completes w.store p);
         fits = fits;
-        held = subst (λ (n : ℕ). 1 ≤ length (list_of o') → bytes_with (disk.seen d') (25 + 2 * journal_pages n)
+        held = subst (λ (n : ℕ). 1 ≤ length (list_of o') → bytes_with (disk.seen d') (text_page n)
             (list_of o') end.last.items ≡ open_text w.store.indexes p (completes w.store p))
             (sym (ap (λ (k : Holding). k.layout) only.same)) content;
         append = λ e stored' written. record {
@@ -301,6 +301,6 @@ module _ {D : Type 0} (disk : Ghosts D) (d d' : D) (h h' : Holding) (only : Only
               (completes w.store p) (whole_is found finds) whole;
           extension = texts.extension w.store.indexes p is.still.0 o' end is.still.2 (within found finds) held.small
               (completes w.store p) (whole_is found finds) whole longer (disk.seen e)
-              (25 + 2 * journal_pages h'.layout) (declared ∙ declared_is found finds) accepted len is_state written;
+              (text_page h'.layout) (declared ∙ declared_is found finds) accepted len is_state written;
         };
       }

@@ -5,7 +5,7 @@ use Rattle.std.proofs.Common.{ap}
 use Rattle.std.proofs.Common.{subst, arith, eqb-true}
 use Rattle.std.proofs.lemmas.Bool.{ne_eqb}
 use Rattle.spool_disk.specs.declared.disk.Disk.{Ghosts}
-use Rattle.spool_journal.specs.Image.{journal_pages}
+use Rattle.spool_journal.specs.Image.{text_page}
 use Rattle.spool_drafts.specs.Drafts.{Holds, came_of, declare_of, number_of, offset_of}
 use Rattle.spool_drafts.specs.declared.draft.SpoolDraft.{SpoolDraft}
 use Rattle.spool_pages.specs.View.{SlotRecord}
@@ -120,7 +120,7 @@ module _ {D : Type 0} (disk : Ghosts D) (d : D) (h : Holding) (drafts : List (Op
   held : Holds w.store.indexes p o
   held =
       let R = DraftStands w.store.indexes (disk.seen d)
-      (25 + 2 * journal_pages h.layout) h.slots h.blocks.rows w.store in
+      (text_page h.layout) h.slots h.blocks.rows w.store in
       let at = draft_of R p (find number w.patches) (draft_at drafts number) patch (s.stands.each number) in
       (subst (R p) (some_draft at.0 o (sym at.1 ∙ here)) at.2).holds
 

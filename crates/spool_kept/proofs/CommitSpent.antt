@@ -7,12 +7,12 @@ use Rattle.spool_blocks.specs.Blocks.{Row, Held}
 use Rattle.spool_disk.specs.declared.disk.Disk.{Ghosts}
 use Rattle.spool_disk.specs.Views.{Lasts}
 use Rattle.spool_disk.proofs.Firm.{lasts_more, lasts_on}
-use Rattle.spool_journal.specs.Image.{journal_pages}
+use Rattle.spool_journal.specs.Image.{journal_pages, text_page}
 use Rattle.spool_drafts.specs.Drafts.{IsPlaced, list_of, tail_of}
 use Rattle.spool_drafts.specs.Effect.{Effect, OnlyWrites}
 use Rattle.spool_drafts.specs.declared.draft.SpoolDraft.{SpoolDraft}
 use Rattle.spool_drafts.proofs.Stays.{bytes_same}
-use Rattle.spool_pages.specs.View.{SlotRecord, text_page}
+use Rattle.spool_pages.specs.View.{SlotRecord}
 use Rattle.spool_room.specs.Holdings.{IsInSome}
 use Rattle.spool_texts.specs.Drafts.{GivesBack, IsReserved}
 use Rattle.upload_rules.specs.Answers.{Answers, IsLate}
@@ -101,7 +101,7 @@ module _ {D : Type 0} (disk : Ghosts D) (d d' : D) (h h' : Holding) (only : Only
     (effect : Effect disk (journal_pages h.layout) (list_of o) (list_of o') d d' h.blocks h'.blocks)
     (reserved : IsReserved h'.blocks (list_of o')) (placed : IsPlaced h.layout o') where
   abbrev first : ℕ
-  first = 25 + 2 * journal_pages h.layout
+  first = text_page h.layout
 
   abbrev x : IndexSet
   x = w.store.indexes
@@ -111,10 +111,10 @@ module _ {D : Type 0} (disk : Ghosts D) (d d' : D) (h h' : Holding) (only : Only
 
   -- the other drafts after the call
   others : (e : ℕ) → number ≢ e → (r : Patch) (a : SpoolDraft) → draft_at drafts e ≡ Some a
-      → DraftStands w.store.indexes (disk.seen d) (25 + 2 * journal_pages h.layout) h.slots h.blocks.rows w.store r a
-      → DraftStands w.store.indexes (disk.seen d') (25 + 2 * journal_pages h.layout) h.slots h'.blocks.rows w.store r a
+      → DraftStands w.store.indexes (disk.seen d) (text_page h.layout) h.slots h.blocks.rows w.store r a
+      → DraftStands w.store.indexes (disk.seen d') (text_page h.layout) h.slots h'.blocks.rows w.store r a
   others =
-      other_stands w.store.indexes (disk.seen d) (disk.seen d') (25 + 2 * journal_pages h.layout) h.layout h.slots
+      other_stands w.store.indexes (disk.seen d) (disk.seen d') (text_page h.layout) h.layout h.slots
       h.blocks h'.blocks w drafts (set drafts number (Some o')) is.stands.stands is.fits number o o' is.here
       effect.own effect.grasp changed_mid only.rows ((effect.writes is.stands.stored.honest).writes.outside)
 
@@ -124,7 +124,7 @@ module _ {D : Type 0} (disk : Ghosts D) (d d' : D) (h h' : Holding) (only : Only
   stands_dropped h'' only' gives stored = record {
     stored = stored_on disk d' h' h'' w.store only' stored;
     stands = subst (λ (k : ℕ × List (Option SlotRecord)). DraftsStand w.store.indexes (disk.seen d')
-        (25 + 2 * journal_pages k.0) k.1 h''.blocks (dropped w number) (set drafts number None)) (sym fields) here;
+        (text_page k.0) k.1 h''.blocks (dropped w number) (set drafts number None)) (sym fields) here;
   }
     where
       fields : ◌≡◌ {A = ℕ × List (Option SlotRecord)} (h''.layout, h''.slots) (h.layout, h.slots)
@@ -134,13 +134,13 @@ module _ {D : Type 0} (disk : Ghosts D) (d d' : D) (h h' : Holding) (only : Only
       rows : h''.blocks.rows ≡ h'.blocks.rows
       rows = gives.rows
 
-      here : DraftsStand w.store.indexes (disk.seen d') (25 + 2 * journal_pages h.layout) h.slots h''.blocks
+      here : DraftsStand w.store.indexes (disk.seen d') (text_page h.layout) h.slots h''.blocks
           (dropped w number) (set drafts number None)
       here =
-          stand_spent w.store.indexes (disk.seen d) (disk.seen d') (25 + 2 * journal_pages h.layout) h.slots h.slots
+          stand_spent w.store.indexes (disk.seen d) (disk.seen d') (text_page h.layout) h.slots h.slots
           h.blocks h''.blocks w w.store drafts number is.stands.stands
           (λ e other r a found there s. subst
-          (λ (z : List Row). DraftStands w.store.indexes (disk.seen d') (25 + 2 * journal_pages h.layout) h.slots z
+          (λ (z : List Row). DraftStands w.store.indexes (disk.seen d') (text_page h.layout) h.slots z
           w.store r a) (sym rows) (others e other r a there s))
           (grown_dropped w is.stands.stands.grown number is.stands.stands.apart)
           (omega (arith, ap length rows, ap length only.rows))
@@ -180,20 +180,20 @@ module _ {D : Type 0} (disk : Ghosts D) (d d' : D) (h h' : Holding) (only : Only
 
     put_stands : (e : ℕ) → number ≢ e → (r : Patch) (a : SpoolDraft) → find e w.patches ≡ Some r
         → draft_at drafts e ≡ Some a
-        → DraftStands w.store.indexes (disk.seen d) (25 + 2 * journal_pages h.layout) h.slots h.blocks.rows w.store r a
-        → DraftStands w.store.indexes (disk.seen d'') (25 + 2 * journal_pages h.layout) h''.slots h''.blocks.rows after
+        → DraftStands w.store.indexes (disk.seen d) (text_page h.layout) h.slots h.blocks.rows w.store r a
+        → DraftStands w.store.indexes (disk.seen d'') (text_page h.layout) h''.slots h''.blocks.rows after
         r a
     put_stands e other r a found there s =
         let mid = others e other r a there s in
         let other_number = other_upload w is.stands.stands.grown p.number (with_length p.began is.still.0) is.still.1
         p.declare p.body brings e r found in
-        let same : (q : ℕ) → 4096 * (25 + 2 * journal_pages h.layout) ≤ q → disk.seen d'' q ≡ disk.seen d' q =
-        λ q from. texts q (subst (λ (n : ℕ). 4096 * (25 + 2 * journal_pages n) ≤ q)
+        let same : (q : ℕ) → 4096 * text_page h.layout ≤ q → disk.seen d'' q ≡ disk.seen d' q =
+        λ q from. texts q (subst (λ (n : ℕ). 4096 * text_page n ≤ q)
         (sym (ap (λ (k : Holding). k.layout) only.same)) from) in
         record {
           holds = mid.holds;
           below = mid.below;
-          carries = λ still kept. bytes_same (disk.seen d') (disk.seen d'') (25 + 2 * journal_pages h.layout) a.growth
+          carries = λ still kept. bytes_same (disk.seen d') (disk.seen d'') (text_page h.layout) a.growth
               a.growth.on same
               ∙ mid.carries (other_number still).1 kept;
           tail = λ still.
@@ -204,10 +204,10 @@ module _ {D : Type 0} (disk : Ghosts D) (d d' : D) (h h' : Holding) (only : Only
               (sym slots_same) (mid.tail away.1));
         }
 
-    here : DraftsStand w.store.indexes (disk.seen d'') (25 + 2 * journal_pages h.layout) h''.slots h''.blocks
+    here : DraftsStand w.store.indexes (disk.seen d'') (text_page h.layout) h''.slots h''.blocks
         (record w { store = after; patches = without number w.patches }) (set drafts number None)
     here =
-        stand_spent w.store.indexes (disk.seen d) (disk.seen d'') (25 + 2 * journal_pages h.layout) h.slots h''.slots
+        stand_spent w.store.indexes (disk.seen d) (disk.seen d'') (text_page h.layout) h.slots h''.slots
         h.blocks h''.blocks w after drafts number is.stands.stands put_stands grown
         (omega (arith, (rows_handed h' h'' used longer (list_of o') is_longer).size, ap length only.rows))
         (all_handed h.layout h.blocks h'.blocks drafts is.fits number o o' is.here effect.own effect.grasp reserved
@@ -219,7 +219,7 @@ module _ {D : Type 0} (disk : Ghosts D) (d d' : D) (h h' : Holding) (only : Only
         (record w { store = m; patches = without number w.patches })) (sym
         (rules.store_changed w.store p is.changes ∙ after_is)) record {
           stored = subst (Stored disk d'' h'') after_is stored;
-          stands = subst (λ (n : ℕ). DraftsStand w.store.indexes (disk.seen d'') (25 + 2 * journal_pages n) h''.slots
+          stands = subst (λ (n : ℕ). DraftsStand w.store.indexes (disk.seen d'') (text_page n) h''.slots
               h''.blocks (record w { store = after; patches = without number w.patches }) (set drafts number None))
               (sym layout) here;
         }
@@ -241,20 +241,20 @@ module _ {D : Type 0} (disk : Ghosts D) (d d' d'' : D) (h h' : Holding) (drafts 
   named_is : patched_store w.store n declare [] ≡ named
   named_is = ap (patched_at w.store n declare []) append.there
 
-  seen_same : (q : ℕ) → 4096 * (25 + 2 * journal_pages h.layout) ≤ q → disk.seen d'' q ≡ disk.seen d q
+  seen_same : (q : ℕ) → 4096 * text_page h.layout ≤ q → disk.seen d'' q ≡ disk.seen d q
   seen_same q from = texts q from ∙ only.writes.outside q (λ i. absurd (omega arith))
 
-  each_named : (e : ℕ) → DraftOf (DraftStands w.store.indexes (disk.seen d'') (25 + 2 * journal_pages h.layout) h'.slots
+  each_named : (e : ℕ) → DraftOf (DraftStands w.store.indexes (disk.seen d'') (text_page h.layout) h'.slots
       h'.blocks.rows named) (find e w.patches) (draft_at drafts e)
   each_named e = held_both
-      (DraftStands w.store.indexes (disk.seen d) (25 + 2 * journal_pages h.layout) h.slots h.blocks.rows w.store)
-      (DraftStands w.store.indexes (disk.seen d'') (25 + 2 * journal_pages h.layout) h'.slots h'.blocks.rows named)
+      (DraftStands w.store.indexes (disk.seen d) (text_page h.layout) h.slots h.blocks.rows w.store)
+      (DraftStands w.store.indexes (disk.seen d'') (text_page h.layout) h'.slots h'.blocks.rows named)
       (find e w.patches) (draft_at drafts e) (λ r a found at s.
       let before = open_before w stands.stands.grown n append.upload append.there declare [] unknown refl e r found in
       record {
         holds = s.holds;
         below = s.below;
-        carries = λ still kept. bytes_same (disk.seen d) (disk.seen d'') (25 + 2 * journal_pages h.layout) a.growth
+        carries = λ still kept. bytes_same (disk.seen d) (disk.seen d'') (text_page h.layout) a.growth
             a.growth.on seen_same
             ∙ s.carries (before still) kept;
         tail = λ still. owned_declared h h' used longer r.number (tail_of a) there is_longer (s.tail (before still));
@@ -263,7 +263,7 @@ module _ {D : Type 0} (disk : Ghosts D) (d d' d'' : D) (h h' : Holding) (drafts 
   pub stands_declared : StandsFor disk d'' h' drafts (with_length_at w n declare)
   stands_declared = subst (λ (m : Store). StandsFor disk d'' h' drafts (record w { store = m })) (sym named_is) record {
     stored = subst (Stored disk d'' h') named_is stored;
-    stands = subst (λ (k : ℕ). DraftsStand w.store.indexes (disk.seen d'') (25 + 2 * journal_pages k) h'.slots h'.blocks
+    stands = subst (λ (k : ℕ). DraftsStand w.store.indexes (disk.seen d'') (text_page k) h'.slots h'.blocks
         (record w { store = named }) drafts) (sym is_longer.layout) record {
           each = each_named;
           apart = stands.stands.apart;

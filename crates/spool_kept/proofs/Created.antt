@@ -9,7 +9,8 @@ use Rattle.upload_rules.proofs.Finds.{find_push_other}
 use Rattle.upload_rules.proofs.NewUploads.{new_text}
 use Rattle.spool_blocks.specs.Chains.{Owns, OwnsOneEach}
 use Rattle.spool_journal.specs.Texts.{text_shown}
-use Rattle.spool_pages.specs.View.{SlotRecord, View, slot_at, text_page}
+use Rattle.spool_journal.specs.Image.{text_page}
+use Rattle.spool_pages.specs.View.{SlotRecord, View, slot_at}
 use Rattle.spool_pages.specs.Rests.{HasTexts}
 use Rattle.spool_kept.specs.Shows.{IsSoundRecord, IsSound, IsRecordOf, IsTold, Shows}
 use Rattle.spool_kept.specs.Changed.{texts_with, created_view}

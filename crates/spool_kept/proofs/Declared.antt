@@ -5,7 +5,8 @@ use Rattle.std.proofs.Common.{refl, sym, ap, subst, arith}
 use Rattle.std.proofs.lemmas.List.{append-nil}
 use Rattle.enc_stream.specs.StateBytes.{IsSound}
 use Rattle.spool_disk.specs.declared.disk.Disk.{Ghosts}
-use Rattle.spool_pages.specs.View.{SlotRecord, text_page}
+use Rattle.spool_journal.specs.Image.{text_page}
+use Rattle.spool_pages.specs.View.{SlotRecord}
 use Rattle.upload_rules.specs.Lengths.{is_length, is_too_large, known_or, longest}
 use Rattle.upload_rules.specs.States.{state_with, transcoder_with}
 use Rattle.upload_rules.specs.Store.{Store, Upload, find, is_complete, patched, text_of, text_with, upload_of}

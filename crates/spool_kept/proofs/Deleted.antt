@@ -7,7 +7,7 @@ use Rattle.upload_rules.specs.Store.{Store, find, others, deleted_store}
 use Rattle.upload_rules.proofs.Deleted.{find_in_others, none_in_others}
 use Rattle.spool_blocks.specs.Blocks.{Row}
 use Rattle.spool_pages.specs.Rests.{HasTexts}
-use Rattle.spool_pages.specs.View.{SlotRecord, View, slot_at, text_page}
+use Rattle.spool_pages.specs.View.{SlotRecord, View, slot_at}
 use Rattle.spool_kept.specs.Shows.{IsSound, Shows}
 use Rattle.spool_kept.specs.Terminating.{FreesRows, deleted_view}
 use Rattle.spool_kept.proofs.Appended.{others_listed}
@@ -16,6 +16,7 @@ use Rattle.spool_kept.proofs.ChangedSlots.{clash, in_use, one_value}
 use Rattle.spool_kept.proofs.Freed.{others_stay, was_owned}
 use Rattle.spool_kept.proofs.Others.{others_rise}
 use Rattle.spool_kept.proofs.TakenOut.{still_there, was_there}
+use Rattle.spool_journal.specs.Image.{text_page}
 
 module _ (v : View) (m : Store) (shows : Shows v m) (s : ℕ) (r : SlotRecord) (there : slot_at v s ≡ Some r)
     (rows : List Row) (frees : FreesRows s v.rows rows) where

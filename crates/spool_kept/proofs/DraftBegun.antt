@@ -4,7 +4,7 @@ use Rattle.std.proofs.Common.{refl, sym, ◌∙◌, ap, subst, arith, eq-eqb}
 use Rattle.std.proofs.lemmas.Bool.{ne_eqb}
 use Rattle.spool_blocks.specs.Blocks.{Held}
 use Rattle.spool_disk.specs.declared.disk.Disk.{Ghosts}
-use Rattle.spool_journal.specs.Image.{journal_pages}
+use Rattle.spool_journal.specs.Image.{text_page}
 use Rattle.spool_drafts.specs.Drafts.{IsPlaced as IsTailPlaced, list_of, tail_of}
 use Rattle.spool_drafts.specs.declared.draft.SpoolDraft.{SpoolDraft}
 use Rattle.spool_pages.specs.View.{View}
@@ -53,10 +53,10 @@ below_next v m n u shows there =
 module _ {D : Type 0} (disk : Ghosts D) (d : D) (h : Holding) (old : List (Option SpoolDraft)) (w : World)
     (s : StandsFor disk d h old w) (n offset count : ℕ) (declare : Option ℕ) where
   first : ℕ
-  first = 25 + 2 * journal_pages h.layout
+  first = text_page h.layout
 
   abbrev Opens : Option Upload → Result SpoolDraft UploadRefusal → Type 0
-  Opens u r = OpensFor w.store n offset count declare (disk.seen d) (25 + 2 * journal_pages h.layout) u r
+  Opens u r = OpensFor w.store n offset count declare (disk.seen d) (text_page h.layout) u r
 
   pub begin_refused : (u : Option Upload) (e : UploadRefusal) → upload_of w.store n ≡ u → Opens u (Err e)
       → begin_refusal w n offset count declare ≡ Some e
@@ -75,7 +75,7 @@ module _ {D : Type 0} (disk : Ghosts D) (d : D) (h : Holding) (old : List (Optio
   module _ (new : List (Option SpoolDraft)) (place : ℕ) (o : SpoolDraft) (placed : IsPlaced old o place new)
       (none : list_of o ≡ []) (owned : IsOwnedBy h.slots h.blocks.rows n (tail_of o)) where
     abbrev Stands : Patch → SpoolDraft → Type 0
-    Stands = DraftStands w.store.indexes (disk.seen d) (25 + 2 * journal_pages h.layout) h.slots h.blocks.rows w.store
+    Stands = DraftStands w.store.indexes (disk.seen d) (text_page h.layout) h.slots h.blocks.rows w.store
 
     number_free : place ≡ free_number w
     number_free = sym (is_free w place
@@ -96,7 +96,7 @@ module _ {D : Type 0} (disk : Ghosts D) (d : D) (h : Holding) (old : List (Optio
         go (Some p) (Some o) h e = absurd cc
 
     stand_begun : (u : Upload) → upload_of w.store n ≡ Some u → Opens (Some u) (Ok o)
-        → DraftsStand w.store.indexes (disk.seen d) (25 + 2 * journal_pages h.layout) h.slots h.blocks
+        → DraftsStand w.store.indexes (disk.seen d) (text_page h.layout) h.slots h.blocks
         (record w { patches = (place, first_patch n count declare u) ∷ w.patches }) new
     stand_begun u there opens = record {
       each = begun_stand Stands w.patches old new s.stands.each place (first_patch n count declare u) o placed record {

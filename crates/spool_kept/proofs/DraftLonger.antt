@@ -8,7 +8,7 @@ use Rattle.enc_model.specs.Indexes.{IndexSet}
 use Rattle.spool_blocks.specs.Blocks.{Row, Held}
 use Rattle.spool_blocks.specs.Chains.{Owns, OwnsOneEach}
 use Rattle.spool_disk.specs.declared.disk.Disk.{Ghosts}
-use Rattle.spool_journal.specs.Image.{journal_pages}
+use Rattle.spool_journal.specs.Image.{text_page}
 use Rattle.spool_texts.specs.Drafts.{IsReserved, Takes}
 use Rattle.spool_texts.specs.Written.{NoneOf, SameOutside}
 use Rattle.spool_room.specs.Holdings.{IsInSome, OwnsTexts, RuleHolds}
@@ -353,7 +353,7 @@ module _ (w : World) (seen seen' : ℕ → ℕ) (first n : ℕ) (records : List 
 
 pub moved : {D : Type 0} (disk : Ghosts D) (d d' : D) (old new : Holding) (m : Store) (n : ℕ) (s : Stored disk d old m)
     → OnlyReserves old new → disk.honest d' → (own : List ℕ) → Unowned s.view.rows own
-    → n ≡ old.layout → WritesIn (25 + 2 * journal_pages n) own (disk.seen d) (disk.seen d') (disk.loose d)
+    → n ≡ old.layout → WritesIn (text_page n) own (disk.seen d) (disk.seen d') (disk.loose d)
     (disk.loose d') → Stored disk d' new m
 moved disk d d' old new m n s same honest own unowned size writes = record {
   honest = honest;
@@ -376,7 +376,7 @@ answered X Y (Err (Refused e)) done same refused = absurd (refused e refl)
 
 pub longer_world : {D : Type 0} (disk : Ghosts D) (d : D) (h : Holding) (drafts : List (Option SpoolDraft)) (w : World)
     (number : ℕ) (piece : List ℕ) (p : Patch) (a : Option Patch) → a ≡ Some p → Stored disk d h w.store
-    → DraftsStand w.store.indexes (disk.seen d) (25 + 2 * journal_pages h.layout) h.slots h.blocks
+    → DraftsStand w.store.indexes (disk.seen d) (text_page h.layout) h.slots h.blocks
     (record w { patches = replaced number (longer w number p piece) w.patches }) drafts
     → StandsFor disk d h drafts (appended_at w number piece a)
 longer_world disk d h drafts w number piece p a e stored stands =

@@ -7,7 +7,7 @@ use Rattle.std.proofs.lemmas.List.{get_or_past, length-set}
 use Rattle.spool_blocks.specs.Blocks.{Row, Held}
 use Rattle.spool_blocks.specs.Chains.{Owns}
 use Rattle.spool_disk.specs.declared.disk.Disk.{Ghosts}
-use Rattle.spool_journal.specs.Image.{journal_pages}
+use Rattle.spool_journal.specs.Image.{text_page}
 use Rattle.spool_texts.specs.Drafts.{IsReserved, GivesBack}
 use Rattle.spool_texts.proofs.Reserves.{few_distinct}
 use Rattle.spool_texts.specs.Written.{NoneOf}
@@ -161,10 +161,10 @@ pub drops : {D : Type 0} (disk : Ghosts D) (d : D) (old new : Holding) (drafts d
     → StandsFor disk d old drafts w → StandsFor disk d new drafts' (dropped w number)
 drops disk d old new drafts drafts' number w same is gives s = record {
   stored = stored_on disk d old new w.store same s.stored;
-  stands = subst (λ (h : Holding). DraftsStand w.store.indexes (disk.seen d) (25 + 2 * journal_pages h.layout) h.slots
+  stands = subst (λ (h : Holding). DraftsStand w.store.indexes (disk.seen d) (text_page h.layout) h.slots
       new.blocks (dropped w number) drafts') (sym same.same)
       (stand_dropped old.layout old.blocks new.blocks drafts drafts' number is w.store.indexes (disk.seen d)
-      (25 + 2 * journal_pages old.layout) old.slots w gives s.stands);
+      (text_page old.layout) old.slots w gives s.stands);
 }
 
 -- A DRAFT MORE

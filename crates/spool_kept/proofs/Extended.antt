@@ -14,10 +14,11 @@ use Rattle.spool_blocks.specs.Blocks.{Row, Held}
 use Rattle.spool_disk.specs.declared.disk.Disk.{Ghosts}
 use Rattle.spool_disk.specs.Views.{Lasts}
 use Rattle.spool_disk.proofs.Firm.{lasts_more}
+use Rattle.spool_journal.specs.Image.{text_page}
 use Rattle.spool_pages.specs.Changes.{SameRowsBut, ChangesButRows, Changes, with_record}
 use Rattle.spool_pages.proofs.Resting.{rests_says}
 use Rattle.spool_pages.specs.Rests.{Rests, Unowned, HasTexts}
-use Rattle.spool_pages.specs.View.{SlotRecord, View, slot_at, text_page, IsViewOf}
+use Rattle.spool_pages.specs.View.{SlotRecord, View, slot_at, IsViewOf}
 use Rattle.spool_texts.specs.Drafts.{IsReserved}
 use Rattle.spool_texts.specs.TextOn.{text_on}
 use Rattle.spool_kept.specs.Changed.{HandsOver, appended_view}

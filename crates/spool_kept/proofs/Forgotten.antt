@@ -7,7 +7,7 @@ use Rattle.spool_blocks.specs.Blocks.{Held}
 use Rattle.spool_disk.specs.declared.disk.Disk.{Ghosts}
 use Rattle.spool_drafts.specs.Drafts.{number_of}
 use Rattle.spool_drafts.specs.declared.draft.SpoolDraft.{SpoolDraft}
-use Rattle.spool_journal.specs.Image.{journal_pages}
+use Rattle.spool_journal.specs.Image.{text_page}
 use Rattle.spool_pages.specs.View.{SlotRecord}
 use Rattle.spool_texts.specs.Drafts.{IsReserved}
 use Rattle.spool_texts.specs.Written.{NoneOf}
@@ -99,7 +99,7 @@ module _ (number : ℕ) (old new : List (Option SpoolDraft)) (forgets : EachForg
       → upload_of w.store number ≡ None → StandsFor disk d h old w → StandsFor disk d h new w
   stands_forgotten disk d h w gone stands = record {
     stored = stands.stored;
-    stands = stand_forgotten w.store.indexes (disk.seen d) (25 + 2 * journal_pages h.layout) h.slots h.blocks w gone
+    stands = stand_forgotten w.store.indexes (disk.seen d) (text_page h.layout) h.slots h.blocks w gone
         stands.stands;
   }
 

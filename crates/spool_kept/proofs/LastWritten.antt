@@ -4,7 +4,7 @@ use Rattle.spool_blocks.specs.Blocks.{Row}
 use Rattle.spool_disk.specs.declared.disk.Disk.{Ghosts}
 use Rattle.spool_disk.specs.Views.{Lasts}
 use Rattle.spool_disk.proofs.Firm.{lasts_more}
-use Rattle.spool_journal.specs.Image.{journal_pages}
+use Rattle.spool_journal.specs.Image.{journal_pages, text_page}
 use Rattle.spool_drafts.specs.Effect.{OnlyWrites}
 use Rattle.spool_pages.proofs.Resting.{rests_aside}
 use Rattle.spool_pages.specs.Rests.{Unowned}
@@ -38,9 +38,9 @@ module _ {D : Type 0} (disk : Ghosts D) (d mid : D) (h : Holding) (m : Store) (n
 
   pub appended : (disk.honest d → disk.honest mid)
       → ((length last + 4095) / 4096 ≤ length more
-      → text_on (disk.seen mid) (25 + 2 * journal_pages h.layout) more
-      (length (bytes_with (disk.seen d) (25 + 2 * journal_pages h.layout) more last)) ≡ bytes_with (disk.seen d)
-      (25 + 2 * journal_pages h.layout) more last)
+      → text_on (disk.seen mid) (text_page h.layout) more
+      (length (bytes_with (disk.seen d) (text_page h.layout) more last)) ≡ bytes_with (disk.seen d)
+      (text_page h.layout) more last)
       → IsAppend disk mid h m n declare bytes longer more
   appended honest written =
       pending.append mid
@@ -48,5 +48,5 @@ module _ {D : Type 0} (disk : Ghosts D) (d mid : D) (h : Holding) (m : Store) (n
         same = refl;
         rows = refl;
       } (honest s.honest) more unowned refl only.writes)
-      (λ some. subst (λ (text : List ℕ). text_on (disk.seen mid) (25 + 2 * journal_pages h.layout) more
+      (λ some. subst (λ (text : List ℕ). text_on (disk.seen mid) (text_page h.layout) more
       (length text) ≡ text) (pending.held some) (written (pending.fits some)))

@@ -7,7 +7,7 @@ use Rattle.spool_blocks.specs.Blocks.{Held}
 use Rattle.spool_disk.specs.declared.disk.Disk.{Ghosts}
 use Rattle.spool_drafts.specs.Drafts.{tail_of}
 use Rattle.spool_drafts.specs.declared.draft.SpoolDraft.{SpoolDraft}
-use Rattle.spool_journal.specs.Image.{journal_pages}
+use Rattle.spool_journal.specs.Image.{text_page}
 use Rattle.spool_pages.specs.View.{SlotRecord}
 use Rattle.spool_texts.specs.Drafts.{IsReserved}
 use Rattle.upload_rules.specs.Calls.{terminated}
@@ -128,11 +128,11 @@ module _ (h h' : Holding) (number slot : ℕ) (used : IsUsedBy h.slots slot numb
 
   pub stands_after : {D : Type 0} (disk : Ghosts D) (d d' : D) (drafts : List (Option SpoolDraft)) (w : World)
       → StandsFor disk d h drafts w → Stored disk d' h' (deleted_store w.store number)
-      → ((p : ℕ) → 4096 * (25 + 2 * journal_pages h.layout) ≤ p → disk.seen d' p ≡ disk.seen d p)
+      → ((p : ℕ) → 4096 * text_page h.layout ≤ p → disk.seen d' p ≡ disk.seen d p)
       → StandsFor disk d' h' drafts (terminated w number)
   stands_after disk d d' drafts w stands stored same = record {
     stored = stored;
-    stands = subst (λ (n : ℕ). DraftsStand w.store.indexes (disk.seen d') (25 + 2 * journal_pages n) h'.slots h'.blocks
+    stands = subst (λ (n : ℕ). DraftsStand w.store.indexes (disk.seen d') (text_page n) h'.slots h'.blocks
         (terminated w number) drafts) (sym out.layout)
-        (drafts_still w (disk.seen d) (disk.seen d') (25 + 2 * journal_pages h.layout) same drafts stands.stands);
+        (drafts_still w (disk.seen d) (disk.seen d') (text_page h.layout) same drafts stands.stands);
   }

@@ -10,11 +10,11 @@ use Rattle.spool_disk.specs.Views.{Lasts}
 use Rattle.spool_disk.specs.declared.disk.Disk.{Ghosts}
 use Rattle.spool_disk.proofs.Firm.{lasts_more}
 use Rattle.spool_drafts.specs.Effect.{OnlyWrites}
-use Rattle.spool_journal.specs.Image.{journal_pages, overlaid}
+use Rattle.spool_journal.specs.Image.{journal_pages, overlaid, text_page}
 use Rattle.spool_texts.specs.Written.{aside_blocks}
 use Rattle.spool_pages.specs.Fits.{FitsRow}
 use Rattle.spool_pages.specs.Rests.{Rests, Unowned}
-use Rattle.spool_pages.specs.View.{View, Says, Stands, magic, first_page, row_bytes, text_page, IsViewOf}
+use Rattle.spool_pages.specs.View.{View, Says, Stands, magic, first_page, row_bytes, IsViewOf}
 use Rattle.spool_pages.proofs.Numbers.{four_at}
 use Rattle.spool_pages.proofs.RecordBytes.{stands_behind}
 use Rattle.spool_pages.proofs.Resting.{rests_aside}

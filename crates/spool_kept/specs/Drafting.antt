@@ -5,7 +5,7 @@ use Rattle.enc_model.specs.Indexes.{IndexSet}
 use Rattle.spool_blocks.specs.Blocks.{Row, Held}
 use Rattle.spool_blocks.specs.Chains.{Owns}
 use Rattle.spool_disk.specs.declared.disk.Disk.{Ghosts}
-use Rattle.spool_journal.specs.Image.{journal_pages}
+use Rattle.spool_journal.specs.Image.{text_page}
 use Rattle.spool_texts.specs.Drafts.{IsReserved}
 use Rattle.spool_texts.specs.Written.{NoneOf}
 use Rattle.spool_room.specs.Holdings.{IsInSome}
@@ -110,7 +110,7 @@ pub record DraftsStand (x : IndexSet) (seen : ℕ → ℕ) (first : ℕ) (slots 
 pub record StandsFor {D : Type 0} (disk : Ghosts D) (d : D) (h : Holding) (drafts : List (Option SpoolDraft))
     (w : World) : Type 0 where
   pub stored : Stored disk d h w.store
-  pub stands : DraftsStand w.store.indexes (disk.seen d) (25 + 2 * journal_pages h.layout) h.slots h.blocks w drafts
+  pub stands : DraftsStand w.store.indexes (disk.seen d) (text_page h.layout) h.slots h.blocks w drafts
 
 -- WHAT A DRAFT BEGINS BEHIND
 

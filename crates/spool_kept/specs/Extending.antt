@@ -5,14 +5,14 @@ use Rattle.enc_model.specs.Indexes.{IndexSet}
 use Rattle.enc_stream.specs.StateBytes.{IsSound}
 use Rattle.spool_disk.specs.declared.disk.Disk.{Ghosts}
 use Rattle.spool_drafts.specs.Effect.{OnlyWrites}
-use Rattle.spool_journal.specs.Image.{journal_pages}
+use Rattle.spool_journal.specs.Image.{journal_pages, text_page}
 use Rattle.spool_texts.specs.Drafts.{bytes_with}
 use Rattle.spool_texts.specs.TextOn.{text_on}
 use Rattle.upload_rules.specs.Lengths.{is_length, is_too_large, known_or, longest}
 use Rattle.upload_rules.specs.Room.{blocks_of}
 use Rattle.upload_rules.specs.Store.{Upload, Store, upload_of, is_complete, text_of, text_with, patched}
 use Rattle.upload_rules.specs.States.{SameEncodings, state_of, transcoder_with}
-use Rattle.spool_pages.specs.View.{SlotRecord, text_page}
+use Rattle.spool_pages.specs.View.{SlotRecord}
 use Rattle.spool_kept.specs.Changed.{HandsOver}
 use Rattle.spool_kept.specs.Holding.{Holding, IsUsedBy}
 use Rattle.spool_kept.specs.Stored.{Stored}

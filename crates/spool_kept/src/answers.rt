@@ -1,9 +1,9 @@
-// What is told of the uploads.
+//! What is told of the uploads.
 ghost use Rattle.std.specs.Prelude.{◌≡◌, ◌<◌, ◌≤◌, ◌↔◌, ◌+◌, ◌*◌, ℕ, None, length};
 ghost use Rattle.std.specs.Prelude.{IsErrOf, MatchOption, IfSome, option_copied};
 ghost use Rattle.spool_disk.specs.Disk.{Counts, IsImage, Keeps};
 ghost use Rattle.spool_disk.specs.Views.{Lasts};
-ghost use Rattle.spool_journal.specs.Image.{journal_pages, all_pages};
+ghost use Rattle.spool_journal.specs.Image.{all_pages, text_page};
 ghost use Rattle.spool_texts.specs.TextOn.{AllBelow};
 ghost use Rattle.upload_rules.specs.Answers.{Answers};
 ghost use Rattle.upload_rules.specs.Reading.{no_such, text_at, IsRead};
@@ -68,7 +68,7 @@ impl Kept {
         ensures kept { IfSome result (λ u. IsKept self.now.slots u.upload.now) }
         ensures told { (v : View) (m : Store) (bytes : ℕ → ℕ) → KeepsView self.now v → Shows v m → Says bytes v
             → MatchOption result (upload_of m number ≡ None)
-            (λ u. IsUploadOn m number bytes (25 + 2 * journal_pages self.now.layout) u.upload.now u.list.now) }
+            (λ u. IsUploadOn m number bytes (text_page self.now.layout) u.upload.now u.list.now) }
     {
         let slot = self.slot_of(number)?;
         let used = record_at(&self.slots, slot as usize)?;

@@ -1,4 +1,4 @@
-// The text of a draft is put behind its upload's.
+//! The text of a draft is put behind its upload's.
 ghost use Rattle.std.specs.Prelude.{◌≡◌, ◌≤◌, ◌<◌, ◌*◌, ◌↔◌, ◌⊎◌, ℕ, false, List, [], Option, Some, None};
 ghost use Rattle.std.specs.Prelude.{get_or, slice_set, IsErrOf, IfOk};
 ghost use Rattle.spool_disk.specs.Disk.{Counts};

@@ -1,12 +1,12 @@
-// A new upload is made.
+//! A new upload is made.
 ghost use Rattle.std.specs.Prelude.{◌≡◌, ◌↔◌, ◌⊎◌, ◌≤◌, ◌<◌, ◌+◌, ◌*◌, ◌^◌, ℕ, List, Option, Some, None, length};
 ghost use Rattle.std.specs.Prelude.{get_or, IsErr, IsErrOf, IsSome, IfOk, OnOk, IfSome, MatchOption};
 ghost use Rattle.spool_disk.specs.Disk.{Counts};
 ghost use Rattle.spool_disk.specs.Views.{Lasts};
-ghost use Rattle.spool_journal.specs.Image.{journal_pages, all_pages, InArea};
+ghost use Rattle.spool_journal.specs.Image.{journal_pages, all_pages, InArea, text_page};
 ghost use Rattle.spool_pages.specs.Changes.{Changes, with_record};
 ghost use Rattle.spool_drafts.specs.declared.draft.SpoolDraft.{SpoolDraft as Draft};
-ghost use Rattle.spool_pages.specs.View.{SlotRecord as Said, View, text_page};
+ghost use Rattle.spool_pages.specs.View.{SlotRecord as Said, View};
 ghost use Rattle.upload_rules.specs.Answers.{Answers};
 ghost use Rattle.upload_rules.specs.Calls.{create_refusal, outcome};
 ghost use Rattle.upload_rules.specs.Records.{IsWellFormed};

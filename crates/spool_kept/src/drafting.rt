@@ -1,8 +1,8 @@
-// The open drafts of a spool by their numbers: begun, made longer and dropped.
+//! The open drafts of a spool by their numbers: begun, made longer and dropped.
 ghost use Rattle.std.specs.Prelude.{◌≡◌, ◌≤◌, ◌<◌, ◌*◌, ◌+◌, ◌↔◌, ℕ, [], Some, None, length, IsErrOf, IfOk};
 ghost use Rattle.spool_disk.specs.Disk.{Counts};
 ghost use Rattle.spool_disk.specs.Views.{Lasts};
-ghost use Rattle.spool_journal.specs.Image.{journal_pages, all_pages};
+ghost use Rattle.spool_journal.specs.Image.{all_pages, text_page};
 ghost use Rattle.upload_rules.specs.Answers.{Answers};
 ghost use Rattle.upload_rules.specs.Calls.{appended, begin_refusal, begun, dropped};
 ghost use Rattle.upload_rules.specs.Store.{Store, find};
@@ -34,7 +34,7 @@ fn opened(
     ensures below { IfOk result (λ o. number_of o < kept.now.next) }
     ensures of_upload { IfOk result (IsOfUpload kept.now.slots) }
     ensures opened { (v : View) (m : Store) (bytes : ℕ → ℕ) → KeepsView kept.now v → Shows v m → Says bytes v
-        → OpensAs m number offset count declare bytes (25 + 2 * journal_pages kept.now.layout) result }
+        → OpensAs m number offset count declare bytes (text_page kept.now.layout) result }
 {
     let Some(found) = kept.upload(number) else {
         return Err(UploadRefusal::NoSuch);

@@ -1,4 +1,4 @@
-// Why a spool is not opened.
+//! Why a spool is not opened.
 ghost use Rattle.std.specs.Prelude.{◌≡◌};
 
 use spool_disk::DiskFault;

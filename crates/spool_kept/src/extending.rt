@@ -1,4 +1,4 @@
-// An upload gets longer, or its length: its record and its blocks, in memory and on the disk.
+//! An upload gets longer, or its length: its record and its blocks, in memory and on the disk.
 ghost use Rattle.std.specs.Prelude.{◌≡◌, ◌↔◌, ◌≤◌, ◌<◌, ◌*◌, ◌/◌, ◌++◌, ℕ, List, [], Some, None, Ok, Err, length};
 ghost use Rattle.std.specs.Prelude.{Option, get_or, drop, slice_set, IfOk, OnOk, OnErr, IsSome};
 ghost use Rattle.spool_disk.specs.Disk.{Counts};

@@ -1,4 +1,4 @@
-// What is kept of a spool in memory.
+//! What is kept of a spool in memory.
 ghost use Rattle.std.specs.Prelude.{◌≡◌, ◌≤◌, ◌<◌, ℕ, Err, None, Some, false, IfOk, IfErr, OnOk, IfSome};
 ghost use Rattle.std.specs.Prelude.{replicate, length, get_or};
 ghost use Rattle.spool_blocks.specs.Chains.{OwnsOneEach};

@@ -1,4 +1,4 @@
-// The record of an upload, kept in memory.
+//! The record of an upload, kept in memory.
 ghost use Rattle.std.specs.Prelude.{◌≡◌, ◌≤◌, All, Err, None, Some, length, get_or, option_copied, IfOk, IfErr, IfSome};
 ghost use Rattle.std.specs.Prelude.{OnOk};
 ghost use Rattle.upload_rules.specs.Records.{IsShort};

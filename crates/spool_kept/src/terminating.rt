@@ -1,12 +1,12 @@
-// An upload is taken away: its record and its blocks, in memory and on the disk.
+//! An upload is taken away: its record and its blocks, in memory and on the disk.
 ghost use Rattle.std.specs.Prelude.{◌≡◌, ◌↔◌, ◌≤◌, ◌<◌, ◌*◌, ℕ, List, [], Option, None, length, get_or, IfOk, OnOk};
 ghost use Rattle.std.specs.Prelude.{IsErrOf};
 ghost use Rattle.spool_blocks.specs.Blocks.{Row as HeldRow};
 ghost use Rattle.spool_disk.specs.Disk.{Counts};
 ghost use Rattle.spool_disk.specs.Views.{Lasts};
-ghost use Rattle.spool_journal.specs.Image.{journal_pages, all_pages, InArea};
+ghost use Rattle.spool_journal.specs.Image.{journal_pages, all_pages, InArea, text_page};
 ghost use Rattle.spool_pages.specs.Changes.{ChangesButRows, with_slot, SameRowsBut};
-ghost use Rattle.spool_pages.specs.View.{View, text_page};
+ghost use Rattle.spool_pages.specs.View.{View};
 ghost use Rattle.upload_rules.specs.Answers.{Answers};
 ghost use Rattle.upload_rules.specs.Calls.{terminate_refusal, terminated, terminate_outcome};
 ghost use Rattle.upload_rules.specs.World.{World};

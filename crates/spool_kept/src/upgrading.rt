@@ -1,4 +1,4 @@
-// What is kept, brought to version 2.
+//! What is kept, brought to version 2.
 ghost use Rattle.std.specs.Prelude.{◌≡◌, ◌≤◌, ℕ, None, IfOk, IfSome, length, get_or};
 ghost use Rattle.spool_journal.specs.Image.{journal_pages, InArea};
 ghost use Rattle.spool_kept.specs.Kept.{KeepsView};

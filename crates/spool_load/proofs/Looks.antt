@@ -8,7 +8,7 @@ use Rattle.std.proofs.Math.Seq.{take-append_seam}
 use Rattle.spool_disk.specs.Disk.{span}
 use Rattle.spool_disk.specs.declared.disk.Disk.{Ghosts}
 use Rattle.spool_disk.proofs.Firm.{lasts_on}
-use Rattle.spool_journal.specs.Image.{all_pages, byte_of, journal_pages}
+use Rattle.spool_journal.specs.Image.{all_pages, byte_of, journal_pages, text_page}
 use Rattle.spool_journal.specs.Phases.{Still}
 use Rattle.spool_journal.proofs.Recovers.{get_span}
 use Rattle.spool_pages.specs.Bytes.{IsPadded}
@@ -34,7 +34,7 @@ reads_on first second = record {
 }
 
 -- what ends before the text blocks is on the disk
-pub before_texts : (n size end : ℕ) → 4096 * all_pages n ≤ size → end ≤ 4096 * (25 + 2 * journal_pages n) → end ≤ size
+pub before_texts : (n size end : ℕ) → 4096 * all_pages n ≤ size → end ≤ 4096 * text_page n → end ≤ size
 before_texts n size end room few = omega (arith, all_is n, room, few)
 
 pub read_bytes : (seen bytes : ℕ → ℕ) {loose : ℕ → Type 0} (place n : ℕ) (buf : List ℕ) → Still bytes seen loose

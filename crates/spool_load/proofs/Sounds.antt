@@ -6,11 +6,11 @@ use Rattle.enc_model.specs.Indexes.{IndexSet}
 use Rattle.enc_index.specs.Area.{area_byte}
 use Rattle.enc_index.specs.Sets.{IsIndexSet}
 use Rattle.spool_blocks.specs.Chains.{OwnsOneEach}
-use Rattle.spool_journal.specs.Image.{journal_pages}
+use Rattle.spool_journal.specs.Image.{journal_pages, text_page}
 use Rattle.spool_journal.specs.Texts.{text_shown}
 use Rattle.upload_rules.specs.Room.{blocks_of}
 use Rattle.spool_pages.specs.Fits.{FitsSlotOf, FitsRow}
-use Rattle.spool_pages.specs.View.{SlotRecord, View, Says, Stands, state_page, slot_bytes, row_bytes, text_page}
+use Rattle.spool_pages.specs.View.{SlotRecord, View, Says, Stands, state_page, slot_bytes, row_bytes}
 use Rattle.spool_pages.specs.View.{index_place, state_place, slot_place, row_place}
 use Rattle.spool_pages.specs.declared.version.Version.{Version}
 use Rattle.spool_kept.proofs.Sound.{said_area, said_slot, said_row, slots_fit, rows_fit}

@@ -1,4 +1,4 @@
-// What is read is checked: only what a spool may say passes.
+//! What is read is checked: only what a spool may say passes.
 ghost use Rattle.std.specs.Prelude.{◌≡◌, ◌<◌, ◌↔◌};
 ghost use Rattle.std.specs.Prelude.{ℕ, IsTrue, true, false, Some, None, length, get_or};
 ghost use Rattle.enc_model.specs.Transcode.{Phase};

@@ -1,4 +1,4 @@
-// A spool is found on a disk and made whole.
+//! A spool is found on a disk and made whole.
 ghost use Rattle.std.specs.Prelude.{◌≡◌, ◌⊎◌, ◌≤◌, ◌<◌, ◌*◌, ◌^◌, ◌↔◌};
 ghost use Rattle.std.specs.Prelude.{ℕ, Ok, Err, IsErr, IfOk, IfErr, IsTrue, get_or};
 ghost use Rattle.spool_disk.specs.Disk.{IsImage, Counts, Keeps};
@@ -18,7 +18,7 @@ use crate::reading::read_at;
 use spool_disk::{Disk, DiskFault};
 use spool_journal::{Layout, PAGE, recover};
 use spool_kept::OpenFault;
-use spool_pages::{Version, blocks_said, is_blank_behind_fields, version_and_next};
+use spool_pages::{Version, blocks_said, is_blank_behind_fields, state_place, version_and_next};
 
 /// A spool that was found on a disk and made whole.
 #[derive(Drop)]
@@ -116,7 +116,7 @@ fn load_state<D: Disk>(disk: &mut D, layout: Layout) -> Result<Found, OpenFault>
         → IfErr result (HidesVersion bytes (state_place layout)) }
 {
     let mut page = [0; PAGE];
-    read_at(disk, 4096 * layout.metadata_page() as u64, &mut page)?;
+    read_at(disk, state_place(&layout), &mut page)?;
     found_in(layout, &page)
 }
 

@@ -1,4 +1,4 @@
-// What is kept of a spool is read.
+//! What is kept of a spool is read.
 ghost use Rattle.std.specs.Prelude.{◌≡◌, ◌≤◌, ◌<◌, ◌*◌, ◌-◌};
 ghost use Rattle.std.specs.Prelude.{ℕ, Err, None, false, replicate, length, get_or, IfOk, IfErr};
 ghost use Rattle.spool_disk.specs.Disk.{Counts};

@@ -1,4 +1,4 @@
-// A spool is found on a disk, made whole and read.
+//! A spool is found on a disk, made whole and read.
 ghost use Rattle.std.specs.Prelude.{◌≡◌, ◌⊎◌, ◌≤◌, ◌*◌, ◌↔◌};
 ghost use Rattle.std.specs.Prelude.{Err, IfOk, IfErr};
 ghost use Rattle.spool_disk.specs.Disk.{IsImage, Counts, Keeps};

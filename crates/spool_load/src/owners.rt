@@ -1,4 +1,4 @@
-// The rows of the text blocks are read.
+//! The rows of the text blocks are read.
 ghost use Rattle.std.specs.Prelude.{◌≡◌, ◌≢◌, ◌≤◌, ◌<◌, ◌*◌, ◌+◌, ◌-◌};
 ghost use Rattle.std.specs.Prelude.{ℕ, List, Option, None, length, get_or, IsOkAnd, IfOk, IfErr, OnOk, OnErr, Ok, Err};
 ghost use Rattle.spool_disk.specs.Disk.{Counts};
@@ -14,11 +14,8 @@ use spool_blocks::Row;
 use spool_disk::Disk;
 use spool_journal::{Layout, PAGE};
 use spool_kept::OpenFault;
-use spool_pages::{Damaged, ROWS, row_at};
+use spool_pages::{Damaged, ROWS, row_at, row_pages, rows_place};
 use std::alloc::Global;
-
-/// The first page of rows, counted from the first of the metadata.
-const FIRST_ROW_PAGE: u32 = 257;
 
 // Puts a row into its place. `Damaged` where there is no such place, and the row isn't free.
 fn put_row(rows: &mut [Row], block: usize, row: Row) -> Result<(), Damaged>
@@ -76,8 +73,7 @@ fn load_page<D: Disk>(
         → OnOk result (StandRows bytes layout.now (512 * (page + 1)) rows.new) }
 {
     let mut bytes = [0; PAGE];
-    let place = 4096 * (layout.metadata_page() as u64 + FIRST_ROW_PAGE as u64 + page as u64);
-    read_at(disk, place, &mut bytes)?;
+    read_at(disk, rows_place(layout, page), &mut bytes)?;
     fill(rows, &bytes, ROWS * page as usize)?;
     Ok(())
 }
@@ -96,7 +92,7 @@ fn load_pages<D: Disk>(disk: &mut D, layout: &Layout, rows: &mut [Row]) -> Resul
     ensures sound { D.honest disk.old → (bytes : ℕ → ℕ) → Still bytes (D.seen disk.old) (D.loose disk.old)
         → OnOk result (StandRows bytes layout.now (512 * (journal_pages layout.now - 257)) rows.new) }
 {
-    for page in 0..layout.journal() - FIRST_ROW_PAGE {
+    for page in 0..row_pages(layout) {
         load_page(disk, layout, rows, page)?;
     }
     Ok(())

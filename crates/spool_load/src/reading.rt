@@ -1,4 +1,4 @@
-// A spool whose bytes are all synced is read.
+//! A spool whose bytes are all synced is read.
 ghost use Rattle.std.specs.Prelude.{◌≡◌, ◌≤◌, ◌<◌, ◌*◌, ◌+◌};
 ghost use Rattle.std.specs.Prelude.{ℕ, length, get_or, IsErr, OnOk, IfOk, IfErr, Err};
 ghost use Rattle.enc_model.specs.Indexes.{IndexSet as Indexes};
@@ -15,7 +15,7 @@ use enc_index::{AreaError, IndexSet};
 use spool_disk::{Disk, DiskFault};
 use spool_journal::{Layout, PAGE};
 use spool_kept::OpenFault;
-use spool_pages::is_blank_behind_fields;
+use spool_pages::{index_place, is_blank_behind_fields};
 use std::alloc::Global;
 
 /// Fills the buffer from a place on.
@@ -68,11 +68,7 @@ fn push_area_page<D: Disk>(
         → OnOk result (IsReadAt bytes (index_place layout.now) area.new.items) }
 {
     let mut bytes = [0; PAGE];
-    read_at(
-        disk,
-        4096 * (layout.index_page() as u64 + page as u64),
-        &mut bytes,
-    )?;
+    read_at(disk, index_place(layout, page), &mut bytes)?;
     area.extend_from_slice(&bytes)?;
     Ok(())
 }

@@ -1,4 +1,4 @@
-// The slots are read.
+//! The slots are read.
 ghost use Rattle.std.specs.Prelude.{◌≡◌, ◌≤◌, ◌<◌, ◌*◌, ◌+◌, ◌-◌};
 ghost use Rattle.std.specs.Prelude.{ℕ, List, Option, None, length, get_or, IfOk, IfErr, OnOk, Ok, Err};
 ghost use Rattle.spool_disk.specs.Disk.{Counts};
@@ -16,7 +16,7 @@ use spool_blocks::SLOTS;
 use spool_disk::Disk;
 use spool_journal::Layout;
 use spool_kept::{KeptRecord, OpenFault};
-use spool_pages::{RECORD, SlotRecord, Version};
+use spool_pages::{RECORD, SlotRecord, Version, slot_place};
 use std::alloc::Global;
 
 // The record in a slot's bytes, kept.
@@ -63,8 +63,7 @@ fn load_slot<D: Disk>(
     ensures late { IfErr result IsLate }
 {
     let mut bytes = [0; RECORD];
-    let place = 4096 * (layout.metadata_page() as u64 + 1) + 2048 * slot as u64;
-    read_at(disk, place, &mut bytes)?;
+    read_at(disk, slot_place(layout, slot), &mut bytes)?;
     kept_of(alloc, version, &bytes)
 }
 

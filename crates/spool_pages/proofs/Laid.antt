@@ -5,14 +5,14 @@ use Rattle.std.proofs.lemmas.Bool.{cases_eq, cases_lt}
 use Rattle.enc_model.specs.Indexes.{IndexSet}
 use Rattle.enc_index.specs.Area.{area_byte}
 use Rattle.spool_journal.specs.Image.{byte_of, journal_pages, InMeta, over, laid, page_number, page_byte, InArea}
-use Rattle.spool_journal.specs.Image.{Ascends}
+use Rattle.spool_journal.specs.Image.{text_page, Ascends}
 use Rattle.spool_journal.proofs.Over.{yes, no, over_hit, over_pass, over_none}
 use Rattle.spool_pages.specs.Changes.{page_in, Said, Changes, state_number, record_number, row_number}
 use Rattle.spool_pages.specs.Rests.{Rests, HasTexts}
 use Rattle.spool_pages.specs.View.{SlotRecord, View, Stands, Says, first_page, state_page, slot_bytes, row_bytes}
 use Rattle.spool_pages.specs.View.{slot_at}
 use Rattle.spool_pages.specs.declared.version.Version.{Version}
-use Rattle.spool_pages.specs.View.{index_place, state_place, slot_place, row_place, text_page}
+use Rattle.spool_pages.specs.View.{index_place, state_place, slot_place, row_place}
 use Rattle.spool_pages.proofs.Resting.{rests_says}
 use Rattle.spool_pages.proofs.Says.{shown_same}
 

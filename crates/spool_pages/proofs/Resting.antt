@@ -3,14 +3,14 @@ use Rattle.std.proofs.Common.{◌≡◌, inl, inr, ℕ, zero, suc, ◌+◌, ◌*
 use Rattle.std.proofs.Common.{◌∷◌, Option, None, Some, get_or, take, refl, sym, ◌∙◌, ap, subst, arith, ⊎_elim}
 use Rattle.spool_disk.specs.Disk.{IsImage, Keeps}
 use Rattle.spool_disk.proofs.Span.{span_same}
-use Rattle.spool_journal.specs.Image.{journal_pages, Outside, InForm, count, number, overlaid}
+use Rattle.spool_journal.specs.Image.{journal_pages, Outside, InForm, count, number, overlaid, text_page}
 use Rattle.spool_journal.specs.Phases.{Idle, Settled, IsBefore, ReadsAs}
 use Rattle.spool_journal.specs.Texts.{owns, block_at, block_bytes, joined, text_shown}
 use Rattle.spool_journal.proofs.Gate.{shut_view}
 use Rattle.spool_texts.specs.Written.{InBlocks, WritesIn, IsImageBut, aside_blocks}
 use Rattle.spool_texts.proofs.Asides.{aside_blocks_else}
 use Rattle.spool_pages.specs.Rests.{OnFree, Rests, Unowned}
-use Rattle.spool_pages.specs.View.{View, Says, IsViewOf, index_place, state_place, slot_place, row_place, text_page}
+use Rattle.spool_pages.specs.View.{View, Says, IsViewOf, index_place, state_place, slot_place, row_place}
 use Rattle.spool_pages.proofs.Says.{some_journal, stands_same, says_same}
 
 -- TEXTS

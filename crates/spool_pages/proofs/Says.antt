@@ -2,15 +2,15 @@
 use Rattle.std.proofs.Common.{◌≡◌, inl, inr, ℕ, zero, suc, ◌+◌, ◌*◌, ◌/◌, ◌<◌, ◌≤◌, ◌++◌, List, Option, None, Some}
 use Rattle.std.proofs.Common.{take, refl, sym, ◌∙◌, ap, arith}
 use Rattle.spool_disk.proofs.Span.{span_same}
-use Rattle.spool_journal.specs.Image.{journal_pages, all_pages, Outside}
+use Rattle.spool_journal.specs.Image.{journal_pages, all_pages, Outside, text_page}
 use Rattle.spool_journal.specs.Texts.{block_at, block_bytes, joined, text_shown}
-use Rattle.spool_pages.specs.View.{View, Stands, Says, index_place, state_place, slot_place, row_place, text_page}
+use Rattle.spool_pages.specs.View.{View, Stands, Says, index_place, state_place, slot_place, row_place}
 
 pub some_journal : (n : ℕ) → 257 ≤ journal_pages n
 unfolding journal_pages
 some_journal n = omega arith
 
-pub all_is : (n : ℕ) → all_pages n ≡ 25 + 2 * journal_pages n + n
+pub all_is : (n : ℕ) → all_pages n ≡ text_page n + n
 unfolding all_pages
 all_is n = refl
 

@@ -2,7 +2,8 @@
 use Rattle.std.specs.Prelude.{◌≡◌, ℕ, ◌+◌, ◌/◌, ◌<◌, List, None, Some, length, get_or}
 use Rattle.spool_blocks.specs.Blocks.{Row}
 use Rattle.spool_journal.specs.Texts.{text_shown}
-use Rattle.spool_pages.specs.View.{SlotRecord, View, slot_at, text_page, IsViewOf}
+use Rattle.spool_journal.specs.Image.{text_page}
+use Rattle.spool_pages.specs.View.{SlotRecord, View, slot_at, IsViewOf}
 
 -- the place is in a text block that no row owns
 pub record OnFree (v : View) (p : ℕ) : Type 0 where

@@ -4,7 +4,7 @@ use Rattle.std.specs.Prelude.{replicate}
 use Rattle.std.specs.Int.{to_be_bytes, w16, w32, w64}
 use Rattle.enc_model.specs.Indexes.{IndexSet}
 use Rattle.enc_index.specs.Area.{area_byte}
-use Rattle.spool_journal.specs.Image.{byte_of, journal_pages, InForm, count, number, overlaid}
+use Rattle.spool_journal.specs.Image.{byte_of, journal_pages, InForm, count, number, overlaid, text_page}
 use Rattle.spool_journal.specs.Texts.{text_shown}
 use Rattle.spool_pages.specs.declared.version.Version.{Version}
 use Rattle.spool_pages.specs.declared.version.Version.TheVariants.{One, Two}
@@ -91,10 +91,6 @@ slot_place n s = state_place n + 4096 + 2048 * s
 
 abbrev pub row_place : ℕ → ℕ → ℕ
 row_place n b = state_place n + 4096 * 257 + 8 * b
-
--- the page of the first text block
-abbrev pub text_page : ℕ → ℕ
-text_page n = 25 + 2 * journal_pages n
 
 -- from the place on these bytes stand, and zeros behind them up to the size
 pub record Stands (image : ℕ → ℕ) (place size : ℕ) (bytes : List ℕ) : Type 0 where

@@ -1,4 +1,4 @@
-// The pages that a change of the metadata writes.
+//! The pages that a change of the metadata writes.
 ghost use Rattle.std.specs.Prelude.{◌≡◌, ◌≢◌, ◌↔◌, ◌≤◌, ◌<◌, ℕ, IsTrue, IsSome, OnOk, IfOk, List, IfSome, None, length};
 ghost use Rattle.std.specs.Prelude.{get_or, option_copied};
 ghost use Rattle.spool_blocks.specs.Blocks.{Row as HeldRow};

@@ -1,12 +1,12 @@
-// A change of what a spool says.
+//! A change of what a spool says.
 ghost use Rattle.std.specs.Prelude.{◌≡◌, ◌⊎◌, ◌≤◌, ◌*◌, ◌↔◌, ℕ, length, IsErr, OnOk};
 ghost use Rattle.spool_disk.specs.Disk.{Counts};
 ghost use Rattle.spool_disk.specs.Views.{Lasts};
-ghost use Rattle.spool_journal.specs.Image.{journal_pages, all_pages, laid, InArea};
+ghost use Rattle.spool_journal.specs.Image.{journal_pages, all_pages, laid, InArea, text_page};
 ghost use Rattle.spool_journal.specs.Phases.{Settled};
 ghost use Rattle.spool_pages.specs.Changes.{Changes};
 ghost use Rattle.spool_pages.specs.Rests.{Rests, HasTexts};
-ghost use Rattle.spool_pages.specs.View.{View, IsViewOf, text_page};
+ghost use Rattle.spool_pages.specs.View.{View, IsViewOf};
 
 use spool_disk::{Disk, DiskFault};
 use spool_journal::{Layout, Pages, commit};

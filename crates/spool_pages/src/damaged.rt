@@ -1,4 +1,4 @@
-// Bytes that nothing writes.
+//! Bytes that nothing writes.
 use std::error::Error;
 use std::fmt;
 

@@ -1,4 +1,4 @@
-// Bytes and numbers in a page.
+//! Bytes and numbers in a page.
 ghost use Rattle.std.specs.Prelude.{◌≡◌, ◌≤◌, ◌<◌, ◌+◌, ◌^◌, ◌++◌, ℕ, List, length, get_or};
 ghost use Rattle.std.specs.Int.{to_be_bytes, w16, w32, w64};
 ghost use Rattle.spool_disk.specs.Disk.{In};

@@ -21,6 +21,7 @@ pub use pages::{
     MAGIC, blank_page, blocks_said, first_page, is_blank, is_blank_behind_fields, state_page,
     version_and_next,
 };
+pub use places::{index_place, row_pages, rows_place, slot_place, state_place};
 pub use records::{METADATA, RECORD, SlotRecord};
 pub use rests::{resting_images, resting_writes, settled_rests};
 pub use rows::{ROWS, row_at, row_page};

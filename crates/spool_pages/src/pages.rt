@@ -1,4 +1,4 @@
-// The pages of a spool that are neither records nor rows.
+//! The pages of a spool that are neither records nor rows.
 ghost use Rattle.std.specs.Prelude.{◌≡◌, ◌<◌, ◌^◌, ◌↔◌};
 ghost use Rattle.std.specs.Prelude.{ℕ, [], None, Some, IfSome, IsTrue, get_or};
 ghost use Rattle.std.specs.Int.{to_be_bytes, w32};

@@ -1,11 +1,55 @@
-// Which pages of the metadata have what: the state, 256 pages of two records each, and the rows.
+//! Where the parts of the metadata and of the index area lie: the state, 256 pages of two records each, and the rows.
 ghost use Rattle.std.specs.Prelude.{◌≡◌, ◌+◌, ◌≤◌, ◌<◌};
 ghost use Rattle.spool_journal.specs.Image.{journal_pages, InMeta};
 ghost use Rattle.spool_pages.specs.Changes.{state_number, record_number, row_number};
+ghost use Rattle.spool_pages.specs.View.{index_place, row_place, slot_place, state_place};
 
-use crate::ROWS;
+use crate::{RECORD, ROWS};
 use spool_blocks::{BlockNo, SLOTS};
-use spool_journal::Layout;
+use spool_journal::{Layout, PAGE};
+
+/// The first page of the rows, counted from the state page.
+const FIRST_ROW_PAGE: u32 = 1 + SLOTS / 2;
+
+/// The place of a page of the index area, in bytes.
+pub fn index_place(layout: &Layout, page: u32) -> u64
+    requires { page < 22 }
+    ensures place { result ≡ index_place layout.now + 4096 * page }
+{
+    PAGE as u64 * (layout.index_page() as u64 + page as u64)
+}
+
+/// The place of the state page, in bytes.
+pub fn state_place(layout: &Layout) -> u64
+    ensures place { result ≡ state_place layout.now }
+    ensures few { journal_pages layout.now ≤ 385 }
+{
+    PAGE as u64 * state_number(layout) as u64
+}
+
+/// The place of a slot's record, in bytes.
+pub fn slot_place(layout: &Layout, slot: u32) -> u64
+    requires { slot < 512 }
+    ensures place { result ≡ slot_place layout.now slot }
+{
+    state_place(layout) + PAGE as u64 + RECORD as u64 * slot as u64
+}
+
+/// The place of a page of rows, in bytes.
+pub fn rows_place(layout: &Layout, page: u32) -> u64
+    requires { page < 128 }
+    ensures place { result ≡ row_place layout.now (512 * page) }
+{
+    state_place(layout) + PAGE as u64 * (FIRST_ROW_PAGE as u64 + page as u64)
+}
+
+/// How many pages the rows of all blocks have.
+pub fn row_pages(layout: &Layout) -> u32
+    ensures pages { result + 257 ≡ journal_pages layout.now }
+    ensures few { result ≤ 128 }
+{
+    layout.journal() - FIRST_ROW_PAGE
+}
 
 /// The state page, the first one of the metadata.
 pub(crate) fn state_number(layout: &Layout) -> u32
@@ -14,7 +58,7 @@ pub(crate) fn state_number(layout: &Layout) -> u32
     ensures some { 258 ≤ journal_pages layout.now }
     ensures few { journal_pages layout.now ≤ 385 }
 {
-    25 + layout.journal()
+    layout.metadata_page()
 }
 
 /// The page of a slot's record.
@@ -31,7 +75,7 @@ pub(crate) fn first_row_number(layout: &Layout) -> u32
     ensures number { result ≡ 282 + journal_pages layout.now }
     ensures few { journal_pages layout.now ≤ 385 }
 {
-    state_number(layout) + 1 + SLOTS / 2
+    state_number(layout) + FIRST_ROW_PAGE
 }
 
 /// The page of a block's row.

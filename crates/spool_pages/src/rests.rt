@@ -1,11 +1,11 @@
-// Laws of a spool at rest, as contracts of functions that do nothing.
+//! Laws of a spool at rest, as contracts of functions that do nothing.
 ghost use Rattle.std.specs.Prelude.{◌≡◌, ℕ, List};
 ghost use Rattle.spool_disk.specs.Disk.{IsImage, Keeps};
-ghost use Rattle.spool_journal.specs.Image.{journal_pages};
+ghost use Rattle.spool_journal.specs.Image.{journal_pages, text_page};
 ghost use Rattle.spool_journal.specs.Phases.{Idle, Settled};
 ghost use Rattle.spool_texts.specs.Written.{WritesIn, IsImageBut, aside_blocks};
 ghost use Rattle.spool_pages.specs.Rests.{Rests, Unowned};
-ghost use Rattle.spool_pages.specs.View.{View, Says, IsViewOf, text_page};
+ghost use Rattle.spool_pages.specs.View.{View, Says, IsViewOf};
 
 use spool_disk::Disk;
 

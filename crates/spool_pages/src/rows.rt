@@ -1,4 +1,4 @@
-// The rows of the text blocks: who owns each.
+//! The rows of the text blocks: who owns each.
 ghost use Rattle.std.specs.Prelude.{◌≡◌, ◌≤◌, ◌<◌, ◌+◌, ◌*◌, ◌^◌};
 ghost use Rattle.std.specs.Prelude.{ℕ, Option, None, Some, Ok, IfOk, length, get_or};
 ghost use Rattle.spool_journal.specs.Image.{byte_of};

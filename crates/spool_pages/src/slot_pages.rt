@@ -1,4 +1,4 @@
-// The page of two slots.
+//! The page of two slots.
 ghost use Rattle.std.specs.Prelude.{◌≤◌, IfSome, length, option_copied};
 ghost use Rattle.spool_journal.specs.Image.{byte_of};
 ghost use Rattle.spool_pages.specs.Bytes.{IsPadded};

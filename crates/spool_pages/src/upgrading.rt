@@ -1,4 +1,4 @@
-// The pages that bring a spool to version 2.
+//! The pages that bring a spool to version 2.
 ghost use Rattle.std.specs.Prelude.{◌≡◌, ◌≤◌, ◌<◌, ◌+◌, ℕ, None, IfOk, IfSome, length, get_or};
 ghost use Rattle.spool_journal.specs.Image.{byte_of, journal_pages, InArea};
 ghost use Rattle.spool_pages.specs.Changes.{Changes, upgraded};

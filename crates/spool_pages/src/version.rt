@@ -1,4 +1,4 @@
-// The versions of a spool's layout.
+//! The versions of a spool's layout.
 ghost use Rattle.std.specs.Prelude.{◌≡◌, Some, IfSome};
 ghost use Rattle.spool_pages.specs.View.{version_number};
 ghost use Rattle.spool_pages.specs.declared.version.Version.{Version as Known};

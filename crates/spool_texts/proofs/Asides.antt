@@ -5,6 +5,7 @@ use Rattle.std.proofs.lemmas.Bool.{cases_eq}
 use Rattle.spool_disk.specs.Disk.{IsImage}
 use Rattle.spool_journal.proofs.TextFrames.{aside_there, aside_else, frame_aside}
 use Rattle.spool_texts.specs.Written.{InBlocks, IsImageBut, aside_blocks, FrameBlocks}
+use Rattle.spool_journal.specs.Image.{area_end}
 
 pub in_more : {first b p : ℕ} {blocks : List ℕ} → InBlocks first blocks p → InBlocks first (b ∷ blocks) p
 in_more within = record { at = suc within.at; below = omega (arith, within.below); here = within.here }
@@ -54,7 +55,7 @@ image_aside first blocks {seen = seen} {image = image} is = record {
 }
 
 pub frame_blocks : (j : ℕ) (blocks : List ℕ) (was image : ℕ → ℕ) → j ≤ 385
-    → FrameBlocks j (25 + 2 * j) blocks image (aside_blocks (25 + 2 * j) blocks was image)
+    → FrameBlocks j (area_end j) blocks image (aside_blocks (area_end j) blocks was image)
 unfolding aside_blocks
 frame_blocks j [] was image few = record {
   texts = λ rows slot len none. refl;
@@ -62,7 +63,7 @@ frame_blocks j [] was image few = record {
   others = λ formed p away. refl;
 }
 frame_blocks j (b ∷ blocks) was image few =
-    let front = frame_aside j b (aside_blocks (25 + 2 * j) blocks was image) was few in
+    let front = frame_aside j b (aside_blocks (area_end j) blocks was image) was few in
     let rest = frame_blocks j blocks was image few in
     record {
       texts = λ rows slot len none. rest.texts rows slot len (λ i lt. none (suc i) (omega (arith, lt)))

@@ -10,6 +10,7 @@ use Rattle.spool_journal.proofs.TextFrames.{aside_else}
 use Rattle.spool_texts.specs.TextOn.{blocks_on, text_on}
 use Rattle.spool_texts.specs.Written.{SameOutside, NoneOf, InBlocks, WritesIn, IsImageBut}
 use Rattle.spool_texts.proofs.Shown.{text_front, text_joined}
+use Rattle.spool_journal.specs.Image.{area_end}
 
 -- the first bytes of a span
 pub take-span : (f : ℕ → ℕ) (at n k : ℕ) → k ≤ n → take k (span f at n) ≡ span f at k
@@ -96,7 +97,7 @@ pub writes_none : {seen : ℕ → ℕ} {loose : ℕ → Type 0} (first : ℕ) (b
 writes_none first blocks = record { outside = λ p away. refl; loosens = λ p l. inl l }
 
 pub idle_in : {j : ℕ} {seen seen' : ℕ → ℕ} {loose loose' : ℕ → Type 0} {blocks : List ℕ} → Idle j seen loose
-    → WritesIn (25 + 2 * j) blocks seen seen' loose loose' → Idle j seen' loose'
+    → WritesIn (area_end j) blocks seen seen' loose loose' → Idle j seen' loose'
 idle_in {j = j} {blocks = blocks} idle writes = record {
   gate = λ l. ⊎_elim idle.gate (λ within. omega (arith, within.here)) (writes.loosens 4096 l);
   closed = λ e. idle.closed (sym (writes.outside 4096 (λ within. omega (arith, within.here))) ∙ e);

@@ -1,11 +1,11 @@
-// The new text of a draft.
+//! The new text of a draft.
 ghost use Rattle.std.specs.Prelude.{◌≡◌, ◌≤◌, ◌<◌, ◌≢◌, ◌*◌, ◌+◌, ◌-◌, ◌/◌, ◌%◌, ◌++◌, ◌^◌, ◌↔◌, ℕ, [], length};
 ghost use Rattle.std.specs.Prelude.{take, drop, replicate, min, get_or, IsOk, IsErr, IsErrOf, IfOk, OnOk, OnErr};
 ghost use Rattle.std.specs.Prelude.{vec_len, vec_capacity};
 ghost use Rattle.spool_blocks.specs.Blocks.{IsFree};
 ghost use Rattle.spool_disk.specs.Disk.{Counts, IsImage, Keeps};
 ghost use Rattle.spool_disk.specs.Views.{Lasts};
-ghost use Rattle.spool_journal.specs.Image.{journal_pages, all_pages};
+ghost use Rattle.spool_journal.specs.Image.{journal_pages, all_pages, text_page};
 ghost use Rattle.spool_journal.specs.Phases.{Idle};
 ghost use Rattle.spool_texts.specs.Drafts.{Draft, full_count, held_count, content_on, bytes_with, IsReserved, Takes};
 ghost use Rattle.spool_texts.specs.Drafts.{GivesBack};
@@ -58,7 +58,7 @@ impl DraftText {
         ensures none { IfOk result (λ draft. draft.blocks ≡ []) }
         ensures tail { D.honest disk.old → IfOk result
             (λ draft. draft.unfinished ≡ drop (len - len % 4096)
-            (text_on (D.seen disk.old) (25 + 2 * journal_pages layout.now) list.now len)) }
+            (text_on (D.seen disk.old) (text_page layout.now) list.now len)) }
         ensures tail_size { IfOk result (λ draft. length draft.unfinished ≡ len % 4096) }
         ensures keeps { D.honest disk.old → Keeps (D.seen disk.old) (D.seen disk.new) (D.loose disk.old)
             (D.loose disk.new) }
@@ -137,8 +137,8 @@ impl DraftText {
             → (self.new ≡ self.old) × (disk.new ≡ disk.old) × (blocks.new ≡ blocks.old) × IsOk result }
         ensures held { OnOk result (held_count self.new ≡ held_count self.old + length bytes.now) }
         ensures content { D.honest disk.old → OnOk result
-            (content_on (D.seen disk.new) (25 + 2 * journal_pages layout.now) self.new
-            ≡ content_on (D.seen disk.old) (25 + 2 * journal_pages layout.now) self.old ++ bytes.now) }
+            (content_on (D.seen disk.new) (text_page layout.now) self.new
+            ≡ content_on (D.seen disk.old) (text_page layout.now) self.old ++ bytes.now) }
 
         // Where memory is short, nothing is done.
         ensures memory { IsErrOf result DraftError.NoMemory
@@ -155,16 +155,16 @@ impl DraftText {
             self.new.blocks < (held_count self.old + length bytes.now + 4095) / 4096 }
 
         // But for its own blocks, nothing is written, and every image is one from before.
-        ensures writes { D.honest disk.old → WritesIn (25 + 2 * journal_pages layout.now) self.new.blocks
+        ensures writes { D.honest disk.old → WritesIn (text_page layout.now) self.new.blocks
             (D.seen disk.old) (D.seen disk.new) (D.loose disk.old) (D.loose disk.new) }
         ensures idle { D.honest disk.old → Idle (journal_pages layout.now) (D.seen disk.old) (D.loose disk.old)
             → Idle (journal_pages layout.now) (D.seen disk.new) (D.loose disk.new) }
         ensures image { D.honest disk.old → (image : ℕ → ℕ) → IsImage (D.seen disk.new) (D.loose disk.new) image
             → IsImage (D.seen disk.old) (D.loose disk.old)
-            (aside_blocks (25 + 2 * journal_pages layout.now) self.new.blocks (D.seen disk.old) image) }
+            (aside_blocks (text_page layout.now) self.new.blocks (D.seen disk.old) image) }
         ensures lasts { D.honest disk.old → Lasts D.Disk disk.old disk.new
             (λ image. IsImage (D.seen disk.old) (D.loose disk.old)
-            (aside_blocks (25 + 2 * journal_pages layout.now) self.new.blocks (D.seen disk.old) image)) }
+            (aside_blocks (text_page layout.now) self.new.blocks (D.seen disk.old) image)) }
     {
         if bytes.is_empty() {
             return Ok(());
@@ -213,18 +213,18 @@ impl DraftText {
         ensures few { length self.new.unfinished < 4096 }
         ensures held { IfOk result (λ n. held_count self.new ≡ held_count self.old + n) }
         ensures content { D.honest disk.old → IfOk result
-            (λ n. content_on (D.seen disk.new) (25 + 2 * journal_pages layout.now) self.new
-            ≡ content_on (D.seen disk.old) (25 + 2 * journal_pages layout.now) self.old ++ take n bytes.now) }
+            (λ n. content_on (D.seen disk.new) (text_page layout.now) self.new
+            ≡ content_on (D.seen disk.old) (text_page layout.now) self.old ++ take n bytes.now) }
         ensures takes { Takes blocks.old blocks.new self.old.blocks self.new.blocks }
         ensures reserved { IsReserved blocks.new self.new.blocks }
         ensures full { IsErrOf result DraftError.Full → (b : ℕ) → IsFree blocks.new b → ⊥ }
         ensures scarce { IsErrOf result DraftError.Full → 4096 * length self.new.blocks ≤ held_count self.old }
-        ensures writes { D.honest disk.old → WritesIn (25 + 2 * journal_pages layout.now) self.new.blocks
+        ensures writes { D.honest disk.old → WritesIn (text_page layout.now) self.new.blocks
             (D.seen disk.old) (D.seen disk.new) (D.loose disk.old) (D.loose disk.new) }
         ensures idle { D.honest disk.old → Idle (journal_pages layout.now) (D.seen disk.old) (D.loose disk.old)
             → Idle (journal_pages layout.now) (D.seen disk.new) (D.loose disk.new) }
         ensures lasts { D.honest disk.old → Lasts D.Disk disk.old disk.new
-            (IsImageBut (25 + 2 * journal_pages layout.now) self.new.blocks (D.seen disk.old) (D.loose disk.old)) }
+            (IsImageBut (text_page layout.now) self.new.blocks (D.seen disk.old) (D.loose disk.old)) }
     {
         self.open_block(blocks)?;
         let n = fill(&mut self.page, self.filled, bytes);
@@ -338,7 +338,7 @@ fn read_tail<D: Disk>(
     ensures count { IfOk result (λ n. n ≡ len % 4096) }
     ensures tail { D.honest disk.old → OnOk result
         (take (len % 4096) page.new ≡ drop (len - len % 4096)
-        (text_on (D.seen disk.old) (25 + 2 * journal_pages layout.now) list.now len)) }
+        (text_on (D.seen disk.old) (text_page layout.now) list.now len)) }
     ensures keeps { D.honest disk.old
         → Keeps (D.seen disk.old) (D.seen disk.new) (D.loose disk.old) (D.loose disk.new) }
     ensures lasts { D.honest disk.old → Lasts D.Disk disk.old disk.new (IsImage (D.seen disk.old) (D.loose disk.old)) }
@@ -371,15 +371,15 @@ fn write_front<D: Disk>(
     ensures honest { D.honest disk.old ↔ D.honest disk.new }
     ensures counts { Counts (IsErr result) (D.failures disk.old) (D.failures disk.new) }
     ensures text { D.honest disk.old → OnOk result
-        (text_on (D.seen disk.new) (25 + 2 * journal_pages layout.now) list.now
+        (text_on (D.seen disk.new) (text_page layout.now) list.now
         (4096 * (length list.now - 1) + length bytes.now) ≡ text_on (D.seen disk.old)
-        (25 + 2 * journal_pages layout.now) list.now (4096 * (length list.now - 1)) ++ bytes.now) }
-    ensures writes { D.honest disk.old → WritesIn (25 + 2 * journal_pages layout.now) list.now (D.seen disk.old)
+        (text_page layout.now) list.now (4096 * (length list.now - 1)) ++ bytes.now) }
+    ensures writes { D.honest disk.old → WritesIn (text_page layout.now) list.now (D.seen disk.old)
         (D.seen disk.new) (D.loose disk.old) (D.loose disk.new) }
     ensures idle { D.honest disk.old → Idle (journal_pages layout.now) (D.seen disk.old) (D.loose disk.old)
         → Idle (journal_pages layout.now) (D.seen disk.new) (D.loose disk.new) }
     ensures lasts { D.honest disk.old → Lasts D.Disk disk.old disk.new
-        (IsImageBut (25 + 2 * journal_pages layout.now) list.now (D.seen disk.old) (D.loose disk.old)) }
+        (IsImageBut (text_page layout.now) list.now (D.seen disk.old) (D.loose disk.old)) }
 {
     let last = list[list.len() - 1];
     write_block(disk, layout, last, 0, bytes)
@@ -399,13 +399,13 @@ pub fn write_last<D: Disk>(
     ensures honest { D.honest disk.old ↔ D.honest disk.new }
     ensures counts { Counts (IsErr result) (D.failures disk.old) (D.failures disk.new) }
     ensures written { D.honest disk.old → OnOk result ((length last.now + 4095) / 4096 ≤ length list.now
-        → text_on (D.seen disk.new) (25 + 2 * journal_pages layout.now) list.now
-        (length (bytes_with (D.seen disk.old) (25 + 2 * journal_pages layout.now) list.now last.now)) ≡ bytes_with
-        (D.seen disk.old) (25 + 2 * journal_pages layout.now) list.now last.now) }
-    ensures writes { D.honest disk.old → WritesIn (25 + 2 * journal_pages layout.now) list.now (D.seen disk.old)
+        → text_on (D.seen disk.new) (text_page layout.now) list.now
+        (length (bytes_with (D.seen disk.old) (text_page layout.now) list.now last.now)) ≡ bytes_with
+        (D.seen disk.old) (text_page layout.now) list.now last.now) }
+    ensures writes { D.honest disk.old → WritesIn (text_page layout.now) list.now (D.seen disk.old)
         (D.seen disk.new) (D.loose disk.old) (D.loose disk.new) }
     ensures lasts { D.honest disk.old → Lasts D.Disk disk.old disk.new
-        (IsImageBut (25 + 2 * journal_pages layout.now) list.now (D.seen disk.old) (D.loose disk.old)) }
+        (IsImageBut (text_page layout.now) list.now (D.seen disk.old) (D.loose disk.old)) }
 {
     let full = list.len().saturating_sub(last.len().div_ceil(PAGE));
     for at in full..list.len() {

@@ -1,4 +1,4 @@
-// Why a draft's text takes no more bytes.
+//! Why a draft's text takes no more bytes.
 ghost use Rattle.std.specs.Prelude.{◌≡◌};
 
 use spool_disk::DiskFault;

@@ -1,6 +1,6 @@
-// Laws of texts on blocks, as contracts of functions that do nothing.
+//! Laws of texts on blocks, as contracts of functions that do nothing.
 ghost use Rattle.std.specs.Prelude.{◌≡◌, ◌≤◌, ◌+◌, ◌*◌, ◌/◌, ◌++◌, ℕ, List, Option, length, take};
-ghost use Rattle.spool_journal.specs.Image.{journal_pages};
+ghost use Rattle.spool_journal.specs.Image.{journal_pages, text_page};
 ghost use Rattle.spool_journal.specs.Texts.{text_shown};
 ghost use Rattle.spool_texts.specs.Drafts.{Draft, content_on};
 ghost use Rattle.spool_texts.specs.TextOn.{text_on, IsListed};
@@ -32,8 +32,8 @@ pub fn kept_texts()
 /// them it is read the same.
 pub fn same_but_blocks(layout: &Layout)
     ensures { (blocks : List ℕ) (was image : ℕ → ℕ) → FrameBlocks (journal_pages layout.now)
-        (25 + 2 * journal_pages layout.now) blocks image
-        (aside_blocks (25 + 2 * journal_pages layout.now) blocks was image) }
+        (text_page layout.now) blocks image
+        (aside_blocks (text_page layout.now) blocks was image) }
 {
     let _pages = layout.journal();
 }

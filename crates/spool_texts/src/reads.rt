@@ -1,8 +1,8 @@
-// A piece of a text is read.
+//! A piece of a text is read.
 ghost use Rattle.std.specs.Prelude.{◌≡◌, ◌≢◌, ◌<◌, ◌≤◌, ◌*◌, ◌+◌, ◌↔◌, length, get_or, IsErr, IfOk};
 ghost use Rattle.spool_disk.specs.Disk.{Counts, IsImage, Keeps};
 ghost use Rattle.spool_disk.specs.Views.{Lasts};
-ghost use Rattle.spool_journal.specs.Image.{journal_pages, all_pages};
+ghost use Rattle.spool_journal.specs.Image.{all_pages, text_page};
 ghost use Rattle.spool_texts.specs.Reading.{IsRead, IsPiece, Follow};
 ghost use Rattle.spool_texts.specs.TextOn.{text_on, AllBelow};
 
@@ -28,7 +28,7 @@ pub fn read_text<D: Disk>(
     ensures counts { Counts (IsErr result) (D.failures disk.old) (D.failures disk.new) }
     ensures later { D.moment disk.old ≤ D.moment disk.new }
     ensures read { D.honest disk.old → IfOk result
-        (λ n. IsRead (text_on (D.seen disk.old) (25 + 2 * journal_pages layout.now) list.now len) at n buf.old
+        (λ n. IsRead (text_on (D.seen disk.old) (text_page layout.now) list.now len) at n buf.old
         buf.new) }
     ensures keeps { D.honest disk.old
         → Keeps (D.seen disk.old) (D.seen disk.new) (D.loose disk.old) (D.loose disk.new) }
@@ -61,7 +61,7 @@ fn read_piece<D: Disk>(
     ensures some { IfOk result (λ n. 1 ≤ n) }
     ensures within { IfOk result (λ n. n ≤ length buf.old) }
     ensures piece { D.honest disk.old → IfOk result
-        (λ n. IsPiece (D.seen disk.old) (25 + 2 * journal_pages layout.now) list.now at n buf.old buf.new) }
+        (λ n. IsPiece (D.seen disk.old) (text_page layout.now) list.now at n buf.old buf.new) }
     ensures keeps { D.honest disk.old
         → Keeps (D.seen disk.old) (D.seen disk.new) (D.loose disk.old) (D.loose disk.new) }
     ensures lasts { D.honest disk.old → Lasts D.Disk disk.old disk.new (IsImage (D.seen disk.old) (D.loose disk.old)) }

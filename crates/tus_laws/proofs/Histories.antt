@@ -16,6 +16,7 @@ use Rattle.tus_session.specs.Turns.{give_on, more_on, more_turn, ended_with, end
 use Rattle.tus_session.specs.Turns.{came_on as came_turn_on}
 use Rattle.tus_session.specs.Turns.{ended_on as ended_world_on}
 use Rattle.tus_session.specs.History.{State, Step, Event, Opened, Came, More, Ended, Marked, Served, Done, put, kept}
+use Rattle.tus_session.specs.History.{most_open}
 use Rattle.tus_session.specs.History.{turned, opened_at, came_at, more_at, ended_at, conn_in, step, history, beginning}
 use Rattle.tus_session.specs.declared.errors.SessionError.{SessionError}
 use Rattle.tus_session.specs.declared.errors.SessionError.TheVariants.{TooMany, Closed}
@@ -120,7 +121,7 @@ module _ (st : State) (sound : Sound st) (g : ℕ → List ℕ) (r : Rep) (sim :
   opened_case none false = refused_after TooMany
 
   opened_after : (o : Option Conn) → st.conns c ≡ o → After g c r (opened_at st c o)
-  opened_after None none = opened_case none (nat_lt c 16)
+  opened_after None none = opened_case none (nat_lt c most_open)
   opened_after (Some k) is = refused_after TooMany
 
   module _ (k : Conn) (here : st.conns c ≡ Some k) where

@@ -12,6 +12,7 @@ use Rattle.upload_rules.specs.declared.uploads.Uploads.{Ghosts}
 use Rattle.tus_session.specs.Streams.{InHead, cut}
 use Rattle.tus_session.specs.Turns.{Conn, fresh, reader}
 use Rattle.tus_session.specs.History.{State, Opened, Served, Done, Refused, put, kept, opened_at, beginning, step, Step}
+use Rattle.tus_session.specs.History.{most_open}
 use Rattle.tus_session.specs.Stands.{RestIs, TaskIs, PlaceIs, draft_at, SessionStands}
 use Rattle.tus_session.specs.Moves.{Longer, Grows, Moves}
 use Rattle.tus_session.specs.Told.{Follows}
@@ -75,7 +76,7 @@ module _ {U B : Type 0} (u : Ghosts U B) where
       → Follows u (slice_set places c (Open k)) store (opened_at st c o).state (opened_at st c o).outcome Done
   opened_step places store st c k stands lt (Some conn) is none e f g = absurd (cc)
   opened_step places store st c k stands lt None is none e f g =
-      let n : nat_lt c 16 ≡ true = lt-ltb c 16 (omega (arith, stands.count)) in
+      let n : nat_lt c most_open ≡ true = lt-ltb c most_open (omega (arith, stands.count)) in
       let d : None ≡ draft_at (st.conns c) = ap draft_at (sym is) in
       let moves : Moves st.world st.world (draft_at (st.conns c)) None =
       subst (λ o. Moves st.world st.world o None) d (still st.world None) in
@@ -104,7 +105,7 @@ module _ {U B : Type 0} (u : Ghosts U B) where
       → Follows u places store st (step st (Opened c) Served).outcome (Refused TooMany)
   unfolding step
   not_below places store st c stands le =
-      let n : nat_lt c 16 ≡ false = le-ltb c 16 (omega (arith, stands.count)) in
+      let n : nat_lt c most_open ≡ false = le-ltb c most_open (omega (arith, stands.count)) in
       let none = beyond u places store st c stands le in
       let P : Bool → Type 0 = λ b. let x : Step = (if b then record {
         state = put st st.world c (Some fresh);
@@ -129,7 +130,7 @@ module _ {U B : Type 0} (u : Ghosts U B) where
 
   -- so many closed places
   pub begun : (places : List (Place B)) (store : U) (m : Store) (blocks : Option ℕ) → u.stands store (at_rest m blocks)
-      → length places ≡ 16
+      → length places ≡ most_open
       → ((c : ℕ) → get_or places c Closed ≡ Closed) → SessionStands u places store (beginning m blocks)
   begun places store m blocks shown count all = record {
     count = count;

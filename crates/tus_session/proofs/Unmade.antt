@@ -3,6 +3,7 @@ use Rattle.std.proofs.Common.{◌≡◌, ℕ, Bool, true, false, Option, Some, N
 use Rattle.upload_rules.specs.World.{World}
 use Rattle.tus_session.specs.Turns.{Conn, left_world, fresh}
 use Rattle.tus_session.specs.History.{State, Event, Opened, Came, More, Ended, OutOfMemory, Failed, Done, put, kept}
+use Rattle.tus_session.specs.History.{most_open}
 use Rattle.tus_session.specs.History.{opened_at, lost_at, failed_at, step}
 use Rattle.tus_session.specs.declared.errors.SessionError.TheVariants.{TooMany}
 
@@ -15,7 +16,7 @@ put_uploads st c true = refl
 put_uploads st c false = refl
 
 pub opened_uploads : (st : State) (c : ℕ) (o : Option Conn) → (opened_at st c o).state.world.store ≡ st.world.store
-opened_uploads st c None = put_uploads st c (nat_lt c 16)
+opened_uploads st c None = put_uploads st c (nat_lt c most_open)
 opened_uploads st c (Some k) = refl
 
 left_uploads : (w : World) (own : Option ℕ) → (left_world w own).store ≡ w.store

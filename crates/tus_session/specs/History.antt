@@ -7,6 +7,10 @@ use Rattle.upload_rules.specs.World.{World, at_rest}
 use Rattle.tus_action.specs.Acts.{is_pending}
 use Rattle.tus_session.specs.Turns.{Conn, Turn, fresh, came_turn, more_turn, ended_world, left_world}
 
+-- how many connections may be open at once
+abbrev pub most_open : ℕ
+most_open = 16
+
 pub data Event : Type 0 where
   Opened : ℕ → Event
   Came : ℕ → List ℕ → Event
@@ -61,7 +65,7 @@ turned st c t = record {
 abbrev pub opened_at : State → ℕ → Option Conn → Step
 opened_at st c (Some k) = kept st TooMany
 opened_at st c None =
-    if nat_lt c 16 then record { state = put st st.world c (Some fresh); outcome = Done } else kept st TooMany
+    if nat_lt c most_open then record { state = put st st.world c (Some fresh); outcome = Done } else kept st TooMany
 
 abbrev pub came_at : State → ℕ → List ℕ → Option Conn → Step
 came_at st c piece None = kept st Closed

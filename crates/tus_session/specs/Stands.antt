@@ -13,7 +13,7 @@ use Rattle.tus_action.specs.Acts.{Giving}
 use Rattle.tus_action.specs.Serves.{IsGiving}
 use Rattle.tus_session.specs.Streams.{Asked, Rest, InHead, InBody, cut}
 use Rattle.tus_session.specs.Turns.{Conn, reader}
-use Rattle.tus_session.specs.History.{State}
+use Rattle.tus_session.specs.History.{State, most_open}
 use Rattle.tus_session.specs.declared.conns.Patching.{Patching}
 use Rattle.tus_session.specs.declared.conns.Task.{Task}
 use Rattle.tus_session.specs.declared.conns.Task.TheVariants as tasks
@@ -70,7 +70,7 @@ draft_at (Some conn) = conn.draft
 -- the store shows the history's world, each place is the history's, and no two connections have one draft
 pub record SessionStands {U B : Type 0} (u : Ghosts U B) (places : List (Place B)) (store : U) (st : State) : Type 0
   where
-    pub count : length places ≡ 16
+    pub count : length places ≡ most_open
     pub shown : u.stands store st.world
     pub each : (c : ℕ) → PlaceIs u st.world (get_or places c Closed) (st.conns c)
     pub apart : (c e d : ℕ) → draft_at (st.conns c) ≡ Some d → draft_at (st.conns e) ≡ Some d → c ≡ e

@@ -1,4 +1,4 @@
-// A body under way: what came of it, and its end.
+//! A body under way: what came of it, and its end.
 ghost use Rattle.std.specs.Prelude.{◌≡◌, ◌+◌, ◌-◌, ◌<◌, ◌≤◌, ◌^◌, false, length};
 ghost use Rattle.std.specs.Prelude.{take, min, None, Some, IsErrOf, if◌then◌else◌};
 ghost use Rattle.upload_rules.specs.Store.{find};

@@ -7,7 +7,7 @@ pub enum SessionError {
     NoMemory,
     /// The device failed: the store must be opened again.
     DiskFault,
-    /// The connection's number isn't below 16, or it is open.
+    /// The connection's number isn't below `MOST_OPEN`, or it is open.
     TooMany,
     /// The connection isn't open.
     Closed,

@@ -1,4 +1,4 @@
-// What came on a connection: the bytes of a head, or of a body.
+//! What came on a connection: the bytes of a head, or of a body.
 ghost use Rattle.std.specs.Prelude.{◌≡◌, ◌+◌, ◌-◌, ◌<◌, ◌≤◌, ◌^◌, ℕ, List, []};
 ghost use Rattle.std.specs.Prelude.{length, min, true, false, None, Some, IsErrOf, if◌then◌else◌};
 ghost use Rattle.tus_session.specs.Bodies.{took};

@@ -1,4 +1,4 @@
-//! Up to 16 connections over any store of uploads.
+//! Up to `MOST_OPEN` connections over any store of uploads.
 ghost use Rattle.std.specs.Prelude.{◌≡◌, ℕ, Option, IfOk, IsErrOf};
 ghost use Rattle.tus_session.specs.History.{State, Opened, Came, More, Ended, Served, step, beginning};
 ghost use Rattle.tus_session.specs.Places.{places_of};
@@ -19,8 +19,11 @@ use tus_action::{PIECE, PieceBuffer};
 use tus_request::HeadBuffer;
 use upload_rules::Uploads;
 
-/// Up to 16 connections: of each an unfinished head, or how many bytes of a body are to come, and what its last head
-/// left open.
+/// How many connections may be open at once.
+pub const MOST_OPEN: usize = 16;
+
+/// Up to `MOST_OPEN` connections: of each an unfinished head, or how many bytes of a body are to come, and what its
+/// last head left open.
 pub struct Session<U: Uploads> {
     alloc: Global,
     places: Vec<Place<U::Draft>>,
@@ -35,8 +38,8 @@ impl<U: Uploads> Session<U> {
             → IfOk result (λ s. SessionStands U.Uploads (places_of s) store (beginning m blocks)) }
     {
         let buffer = Box::new(alloc, [0; PIECE])?;
-        let mut places = Vec::with_capacity(alloc, 16)?;
-        for _ in 0..16usize {
+        let mut places = Vec::with_capacity(alloc, MOST_OPEN)?;
+        for _ in 0..MOST_OPEN {
             match places.push(Place::Closed) {
                 Ok(()) => {}
                 Err(_full) => unreachable!(),

@@ -1,4 +1,4 @@
-// A turn of one connection: the next piece of a text, and the connection's end.
+//! A turn of one connection: the next piece of a text, and the connection's end.
 ghost use Rattle.std.specs.Prelude.{◌≡◌, false, IsErrOf, if◌then◌else◌, Ok};
 ghost use Rattle.upload_rules.specs.World.{World};
 ghost use Rattle.upload_rules.specs.Answers.{Limits, Quiet, Counts};

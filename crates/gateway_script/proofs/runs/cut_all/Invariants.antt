@@ -1,16 +1,16 @@
 use Rattle.std.proofs.Common.{◌≡◌, ℕ, Option, List, ◌-◌, ◌≤◌}
-use Rattle.tus_session.specs.History.{State}
+use Rattle.tus_session.specs.History.{State, most_open}
 use Rattle.gateway_script.specs.Script.{Run, cut_from}
 use Rattle.gateway_script.specs.Runs.{view, IsAt, Reaches}
 use Rattle.gateway_script.proofs.runs.cut_all.Given as goal
 
 abbrev pub invariant-loop-left : goal.invariant-loop-left
 invariant-loop-left g l =
-    (l.left ≤ 16) × (g.C.Connections.failures l.core ≡ g.C.Connections.failures l.fn.core)
+    (l.left ≤ most_open) × (g.C.Connections.failures l.core ≡ g.C.Connections.failures l.fn.core)
     × (g.W.CountedWrite.refusals l.writer ≡ g.W.CountedWrite.refusals l.fn.writer)
     × ((before : g.row.C.Denot) (st : State) (r : Run) (front : Option (List ℕ))
     → IsAt (view g.C.Connections before l.fn.core st (g.W.CountedWrite.contents l.fn.writer) front) r
-    → (s : Run) × Reaches (cut_from 16 0) r (cut_from l.left (16 - l.left)) s
+    → (s : Run) × Reaches (cut_from most_open 0) r (cut_from l.left (most_open - l.left)) s
     × IsAt (view g.C.Connections before l.core st (g.W.CountedWrite.contents l.writer) front) s)
 
 abbrev pub decreases-loop-left : goal.decreases-loop-left

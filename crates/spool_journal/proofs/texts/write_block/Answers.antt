@@ -1,6 +1,6 @@
-use Rattle.std.proofs.Common.{◌+◌, ◌*◌, arith}
+use Rattle.std.proofs.Common.{◌+◌, arith}
 use Rattle.spool_disk.proofs.Firm.{lasts_call}
-use Rattle.spool_journal.specs.Image.{journal_pages}
+use Rattle.spool_journal.specs.Image.{journal_pages, text_page}
 use Rattle.spool_journal.proofs.Recovers.{all_is}
 use Rattle.spool_journal.proofs.TextFrames.{aside_image, idle_writes, frame_aside}
 use Rattle.spool_journal.proofs.texts.write_block.Goals as goal
@@ -21,7 +21,7 @@ returns-clause-idle g c honest idle =
 
 pub returns-clause-image : goal.returns-clause-image
 returns-clause-image g c honest image is =
-    aside_image (25 + 2 * journal_pages c.args.layout.now + c.args.block) _ _
+    aside_image (text_page c.args.layout.now + c.args.block) _ _
     (omega (arith, c.block_page-page.ensures.page))
     (omega (arith, c.block_page-page.ensures.page, c.requires.within)) (c.write_at.ensures.writes honest) is
 

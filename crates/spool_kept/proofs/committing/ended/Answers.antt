@@ -5,7 +5,7 @@ use Rattle.spool_drafts.specs.declared.draft.DraftEnd.{DraftEnd}
 use Rattle.spool_texts.specs.Drafts.{bytes_with}
 use Rattle.spool_drafts.specs.Drafts.{EndsAs, IsPlaced, IsWhole, came_of, list_of, offset_of, open_text}
 use Rattle.spool_disk.specs.Views.{Lasts}
-use Rattle.spool_journal.specs.Image.{journal_pages}
+use Rattle.spool_journal.specs.Image.{text_page}
 use Rattle.upload_rules.specs.declared.errors.UploadError.{UploadError}
 use Rattle.upload_rules.specs.World.{completes}
 use Rattle.spool_kept.specs.Committing.{IsCommit, IsFound}
@@ -99,7 +99,7 @@ returns-clause-answer g c drafts number w p is =
     let ends_on = lemmas.ends_on g.D.Disk c.args.disk.now c.end.new.disk _ _ only drafts number o o' w p is' effect
     c.args.found finds c.saturating_add-accepted.result sum c.is_length-completes.result c.is_length-completes.ensures
     c.end.result c.end.ensures.content in
-    let page = 25 + 2 * journal_pages c.kept.inside.layout in
+    let page = text_page c.kept.inside.layout in
     let text = open_text w.store.indexes p (completes w.store p) in
     let content = subst (λ (r : Result DraftEnd UploadError). IfOk r
     (λ e. 1 ≤ length (list_of o') → bytes_with (g.D.Disk.seen c.end.new.disk) page (list_of o')

@@ -1,7 +1,7 @@
 use Rattle.std.proofs.Common.{◌<◌, arith, ◌≡◌, ◌∙◌, ◌+◌, ◌*◌, ◌++◌, ap, get_or, refl, subst, sym, List, None, Some}
 use Rattle.std.proofs.lemmas.Option.{same_Some}
 use Rattle.enc_model.specs.Indexes.{IndexSet}
-use Rattle.spool_journal.specs.Image.{journal_pages}
+use Rattle.spool_journal.specs.Image.{text_page}
 use Rattle.upload_rules.specs.Calls.{longer}
 use Rattle.upload_rules.specs.Drafts.{draft_at}
 use Rattle.upload_rules.specs.Grown.{IsGrown}
@@ -84,7 +84,7 @@ returns-clause-answer g c w p s there fits =
     let records = c.kept.inside.slots.items in
     let h = c.kept.inside.blocks in
     let h' = c.append-answer.new.blocks in
-    let first = 25 + 2 * journal_pages c.kept.inside.layout in
+    let first = text_page c.kept.inside.layout in
     let seen = g.D.Disk.seen disk in
     let seen' = g.D.Disk.seen disk' in
     let ix : c.kept.inside.indexes ≡ w.store.indexes = s'.stored.keeps.indexes ∙ shows.indexes in

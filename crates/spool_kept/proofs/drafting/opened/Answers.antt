@@ -1,5 +1,5 @@
 use Rattle.std.proofs.Common.{subst, sym, ◌+◌, ◌*◌, Option}
-use Rattle.spool_journal.specs.Image.{journal_pages}
+use Rattle.spool_journal.specs.Image.{text_page}
 use Rattle.upload_rules.specs.Store.{Upload}
 use Rattle.spool_kept.specs.Drafting.{OpensFor}
 use Rattle.spool_kept.proofs.Drafted.{opens_for, tail_owned}
@@ -24,7 +24,7 @@ pub returns-clause-opened : goal.returns-clause-opened
 returns-clause-opened c v m bytes kept shows says =
     let told = c.in-Some.ensures.told v m bytes kept shows says in
     let n = c.args.number in
-    let first = 25 + 2 * journal_pages c.args.kept.now.layout in
+    let first = text_page c.args.kept.now.layout in
     subst (λ (o : Option Upload). OpensFor m n c.args.offset c.args.count c.args.declare bytes first o
     c.begin.result) (sym told.there)
     (opens_for m n c.args.offset c.args.count c.args.declare bytes first told.upload c.begin.result

@@ -2,8 +2,8 @@ use Rattle.std.proofs.Common.{◌≡◌, ◌∙◌, ◌≤◌, ◌+◌, ◌*◌,
 use Rattle.spool_disk.proofs.Firm.{lasts_on, lasts_more}
 use Rattle.spool_drafts.proofs.Effects.{only}
 use Rattle.spool_drafts.specs.Effect.{OnlyWrites}
-use Rattle.spool_journal.specs.Image.{all_pages, journal_pages, InArea}
-use Rattle.spool_pages.specs.View.{text_page}
+use Rattle.spool_journal.specs.Image.{all_pages, journal_pages, InArea, text_page}
+
 use Rattle.spool_texts.specs.Drafts.{bytes_with}
 use Rattle.spool_texts.specs.TextOn.{text_on}
 use Rattle.spool_kept.specs.Holding.{Holding, FitsTogether}
@@ -81,9 +81,9 @@ returns-clause-written g c m n declare bytes pending =
     subst (λ (n : ℕ). OnlyWrites g.D.Disk (journal_pages n) c.args.more.now c.args.disk.now c.write_last.new.disk)
     layout (only (c.write_last.ensures.writes stored.honest) (c.write_last.ensures.lasts stored.honest)) in
     let written = subst (λ (n : ℕ). (length c.args.last.now + 4095) / 4096 ≤ length c.args.more.now
-    → text_on (g.D.Disk.seen c.write_last.new.disk) (25 + 2 * journal_pages n) c.args.more.now
-    (length (bytes_with (g.D.Disk.seen c.args.disk.now) (25 + 2 * journal_pages n) c.args.more.now c.args.last.now)) ≡
-    bytes_with (g.D.Disk.seen c.args.disk.now) (25 + 2 * journal_pages n) c.args.more.now c.args.last.now) layout
+    → text_on (g.D.Disk.seen c.write_last.new.disk) (text_page n) c.args.more.now
+    (length (bytes_with (g.D.Disk.seen c.args.disk.now) (text_page n) c.args.more.now c.args.last.now)) ≡
+    bytes_with (g.D.Disk.seen c.args.disk.now) (text_page n) c.args.more.now c.args.last.now) layout
     (c.in_ok-write_last.ensures.written stored.honest) in
     let append = appended g.D.Disk c.args.disk.now c.write_last.new.disk c.args.kept.now m n declare bytes
     c.args.longer.now
@@ -116,9 +116,9 @@ returns-clause-answer g c m n declare bytes pending =
     subst (λ (n : ℕ). OnlyWrites g.D.Disk (journal_pages n) c.args.more.now c.args.disk.now c.write_last.new.disk)
     layout (only (c.write_last.ensures.writes stored.honest) (c.write_last.ensures.lasts stored.honest)) in
     let written = subst (λ (n : ℕ). (length c.args.last.now + 4095) / 4096 ≤ length c.args.more.now
-    → text_on (g.D.Disk.seen c.write_last.new.disk) (25 + 2 * journal_pages n) c.args.more.now
-    (length (bytes_with (g.D.Disk.seen c.args.disk.now) (25 + 2 * journal_pages n) c.args.more.now c.args.last.now)) ≡
-    bytes_with (g.D.Disk.seen c.args.disk.now) (25 + 2 * journal_pages n) c.args.more.now c.args.last.now) layout
+    → text_on (g.D.Disk.seen c.write_last.new.disk) (text_page n) c.args.more.now
+    (length (bytes_with (g.D.Disk.seen c.args.disk.now) (text_page n) c.args.more.now c.args.last.now)) ≡
+    bytes_with (g.D.Disk.seen c.args.disk.now) (text_page n) c.args.more.now c.args.last.now) layout
     (c.in_ok-write_last.ensures.written stored.honest) in
     let append = appended g.D.Disk c.args.disk.now c.write_last.new.disk c.args.kept.now m n declare bytes
     c.args.longer.now
@@ -159,9 +159,9 @@ returns-clause-crash g c m n declare bytes pending =
     subst (λ (n : ℕ). OnlyWrites g.D.Disk (journal_pages n) c.args.more.now c.args.disk.now c.write_last.new.disk)
     layout (only (c.write_last.ensures.writes stored.honest) (c.write_last.ensures.lasts stored.honest)) in
     let written = subst (λ (n : ℕ). (length c.args.last.now + 4095) / 4096 ≤ length c.args.more.now
-    → text_on (g.D.Disk.seen c.write_last.new.disk) (25 + 2 * journal_pages n) c.args.more.now
-    (length (bytes_with (g.D.Disk.seen c.args.disk.now) (25 + 2 * journal_pages n) c.args.more.now c.args.last.now)) ≡
-    bytes_with (g.D.Disk.seen c.args.disk.now) (25 + 2 * journal_pages n) c.args.more.now c.args.last.now) layout
+    → text_on (g.D.Disk.seen c.write_last.new.disk) (text_page n) c.args.more.now
+    (length (bytes_with (g.D.Disk.seen c.args.disk.now) (text_page n) c.args.more.now c.args.last.now)) ≡
+    bytes_with (g.D.Disk.seen c.args.disk.now) (text_page n) c.args.more.now c.args.last.now) layout
     (c.in_ok-write_last.ensures.written stored.honest) in
     let append = appended g.D.Disk c.args.disk.now c.write_last.new.disk c.args.kept.now m n declare bytes
     c.args.longer.now
@@ -205,9 +205,9 @@ returns-in_err-change-clause-crash g c m n declare bytes pending =
     subst (λ (n : ℕ). OnlyWrites g.D.Disk (journal_pages n) c.args.more.now c.args.disk.now c.write_last.new.disk)
     layout (only (c.write_last.ensures.writes stored.honest) (c.write_last.ensures.lasts stored.honest)) in
     let written = subst (λ (n : ℕ). (length c.args.last.now + 4095) / 4096 ≤ length c.args.more.now
-    → text_on (g.D.Disk.seen c.write_last.new.disk) (25 + 2 * journal_pages n) c.args.more.now
-    (length (bytes_with (g.D.Disk.seen c.args.disk.now) (25 + 2 * journal_pages n) c.args.more.now c.args.last.now)) ≡
-    bytes_with (g.D.Disk.seen c.args.disk.now) (25 + 2 * journal_pages n) c.args.more.now c.args.last.now) layout
+    → text_on (g.D.Disk.seen c.write_last.new.disk) (text_page n) c.args.more.now
+    (length (bytes_with (g.D.Disk.seen c.args.disk.now) (text_page n) c.args.more.now c.args.last.now)) ≡
+    bytes_with (g.D.Disk.seen c.args.disk.now) (text_page n) c.args.more.now c.args.last.now) layout
     (c.in_ok-write_last.ensures.written stored.honest) in
     let append = appended g.D.Disk c.args.disk.now c.write_last.new.disk c.args.kept.now m n declare bytes
     c.args.longer.now

@@ -7,11 +7,11 @@ use Rattle.spool_load.proofs.Refused.{found_read, hides_on}
 use Rattle.spool_load.proofs.finding.load_state.Goals as goal
 
 pub read_at-requires : goal.read_at-requires
-read_at-requires g c = omega (arith, all_is c.args.layout, some_journal c.args.layout)
+read_at-requires g c = omega (arith, all_is c.args.layout, some_journal c.args.layout, c.state_place.ensures)
 
 pub returns-clause-said : goal.returns-clause-said
 returns-clause-said g c honest bytes still version next fits stands =
-    let here : 4096 * c.metadata_page.result ≡ state_place c.args.layout = omega arith in
+    let here : c.state_place.result ≡ state_place c.args.layout = omega (arith, c.state_place.ensures) in
     let padded =
     read_padded bytes _ _ c.read_at.new.buf (state_page version next) 4096
     (c.in_ok-read_at.ensures.bytes honest bytes still) (search rules) here (omega (arith, length-state version next))
@@ -22,7 +22,7 @@ pub returns-clause-found : goal.returns-clause-found
 returns-clause-found g c honest bytes still =
     let read = c.in_ok-read_at.ensures.bytes honest bytes still in
     let wide : length c.read_at.new.buf ≡ 4096 = search rules in
-    let here : state_place c.args.layout ≡ 4096 * c.metadata_page.result + 0 = omega arith in
+    let here : state_place c.args.layout ≡ c.state_place.result + 0 = omega (arith, c.state_place.ensures) in
     if_ok_three c.found_in.result
     (λ found same fields rest. found_read bytes c.args.layout _ c.read_at.new.buf found read wide here same fields
     rest) c.found_in.ensures.layout c.found_in.ensures.fields c.found_in.ensures.rest
@@ -31,7 +31,7 @@ pub returns-clause-refused : goal.returns-clause-refused
 returns-clause-refused g c honest bytes still =
     let read = c.in_ok-read_at.ensures.bytes honest bytes still in
     let wide : length c.read_at.new.buf ≡ 4096 = search rules in
-    let here : state_place c.args.layout ≡ 4096 * c.metadata_page.result + 0 = omega arith in
+    let here : state_place c.args.layout ≡ c.state_place.result + 0 = omega (arith, c.state_place.ensures) in
     if_err_more c.found_in.result
     (λ e told. hides_on (byte_of c.read_at.new.buf) bytes 0 (state_place c.args.layout) e
     (λ known. record {

@@ -5,14 +5,14 @@ use Rattle.spool_load.proofs.owners.load_page.Goals as goal
 
 pub read_at-requires : goal.read_at-requires
 read_at-requires g c =
-    before_texts c.args.layout.now _ _ c.requires.room (omega (arith, c.requires.page, c.metadata_page.ensures))
+    before_texts c.args.layout.now _ _ c.requires.room (omega (arith, c.requires.page, c.rows_place.ensures))
 
 pub returns-in_err-fill-clause-said : goal.returns-in_err-fill-clause-said
 returns-in_err-fill-clause-said g c honest bytes still all long fits stands was =
     let wide : length c.read_at.new.buf ≡ 4096 = search rules in
     absurd (c.in_err-fill.ensures.said all long fits
     (rows_stand bytes c.args.layout.now _ c.args.page c.read_at.new.buf all
-    (c.in_ok-read_at.ensures.bytes honest bytes still) wide (omega (arith, c.metadata_page.ensures))
+    (c.in_ok-read_at.ensures.bytes honest bytes still) wide (omega (arith, c.rows_place.ensures))
     c.requires.page stands) was)
 
 pub returns-clause-said : goal.returns-clause-said
@@ -22,7 +22,7 @@ returns-clause-said g c honest bytes still all long fits stands was =
     let filled =
     c.in_ok-fill.ensures.said all long fits
     (rows_stand bytes c.args.layout.now _ page c.read_at.new.buf all
-    (c.in_ok-read_at.ensures.bytes honest bytes still) wide (omega (arith, c.metadata_page.ensures))
+    (c.in_ok-read_at.ensures.bytes honest bytes still) wide (omega (arith, c.rows_place.ensures))
     c.requires.page stands) was in
     let e : 512 * page + 512 ≡ 512 * (page + 1) = omega arith in
     subst (λ (m : ℕ). IsSameTo m all c.fill.new.rows) e filled
@@ -33,5 +33,5 @@ returns-clause-sound g c honest bytes still was =
     let page = c.args.page in
     let wide : length c.read_at.new.buf ≡ 4096 = search rules in
     rows_read bytes n _ page c.read_at.new.buf c.args.rows.now c.fill.new.rows
-    (c.in_ok-read_at.ensures.bytes honest bytes still) wide (omega (arith, c.metadata_page.ensures)) was
+    (c.in_ok-read_at.ensures.bytes honest bytes still) wide (omega (arith, c.rows_place.ensures)) was
     c.fill.ensures.before c.in_ok-fill.ensures.sound

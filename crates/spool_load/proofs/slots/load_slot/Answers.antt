@@ -9,12 +9,11 @@ use Rattle.spool_load.proofs.slots.load_slot.Goals as goal
 pub read_at-requires : goal.read_at-requires
 read_at-requires g c =
     before_texts c.args.layout.now _ _ c.requires.room
-    (omega (arith, some_journal c.args.layout.now, c.requires.slot, c.metadata_page.ensures))
+    (omega (arith, some_journal c.args.layout.now, c.requires.slot, c.slot_place.ensures))
 
 pub returns-clause-said : goal.returns-clause-said
 returns-clause-said g c honest bytes still said fits stands =
-    let here : 4096 * (c.metadata_page.result + 1) + 2048 * c.args.slot ≡ slot_place c.args.layout.now c.args.slot =
-    omega arith in
+    let here : c.slot_place.result ≡ slot_place c.args.layout.now c.args.slot = omega (arith, c.slot_place.ensures) in
     c.kept_of.ensures.said said fits
     (read_padded bytes _ _ c.read_at.new.buf (slot_bytes c.args.version said) 2048
     (c.in_ok-read_at.ensures.bytes honest bytes still)
@@ -22,8 +21,8 @@ returns-clause-said g c honest bytes still said fits stands =
 
 pub returns-clause-stands : goal.returns-clause-stands
 returns-clause-stands g c honest bytes still =
-    let here : slot_place c.args.layout.now c.args.slot ≡ 4096 * (c.metadata_page.result + 1) + 2048 * c.args.slot =
-    omega arith in
+    let here : slot_place c.args.layout.now c.args.slot ≡ c.slot_place.result + 0 =
+    omega (arith, c.slot_place.ensures) in
     if_ok_more c.kept_of.result
     (λ kept padded. padded_back bytes _ (slot_place c.args.layout.now c.args.slot) c.read_at.new.buf
     (slot_bytes c.args.version kept)

@@ -1,6 +1,6 @@
 use Rattle.std.proofs.Common.{arith, ◌+◌, ◌-◌, ◌*◌, inl, take, drop, refl, ◌∙◌}
 use Rattle.spool_disk.proofs.Firm.{lasts_on, lasts_more}
-use Rattle.spool_journal.specs.Image.{journal_pages}
+use Rattle.spool_journal.specs.Image.{text_page}
 use Rattle.spool_journal.proofs.Steps.{no_failure}
 use Rattle.spool_texts.proofs.Fronts.{writes_none}
 use Rattle.spool_texts.proofs.Lasts.{none_yet, one_more, writes_front, but_front}
@@ -12,7 +12,7 @@ loop-at-init g c = record {
   honest = λ honest. honest;
   back = λ honest. honest;
   counts = refl;
-  text = λ honest. none_yet (g.D.Disk.seen c.args.disk.now) (25 + 2 * journal_pages c.args.layout.now)
+  text = λ honest. none_yet (g.D.Disk.seen c.args.disk.now) (text_page c.args.layout.now)
       c.saturating_sub-full.result c.args.list.now c.args.last.now (omega (arith, c.saturating_sub-full.ensures));
   writes = λ honest. writes_none _ _;
   lasts = λ honest. record { later = omega arith; nothing_else = λ t image le left. inl left };
@@ -42,7 +42,7 @@ loop-at-preserved g c =
           ∙ inv.counts;
       text = λ honest.
           one_more (g.D.Disk.seen c.args.disk.now) (g.D.Disk.seen c.loop-at.disk) (g.D.Disk.seen c.write_front.new.disk)
-          (25 + 2 * journal_pages c.args.layout.now) full at c.min-to.result c.args.list.now c.args.last.now
+          (text_page c.args.layout.now) full at c.min-to.result c.args.list.now c.args.last.now
           (take (c.min-to.result - 4096 * (at - full)) (drop (4096 * (at - full)) c.args.last.now))
           (omega (arith, c.loop-at.auto)) (omega (arith, c.loop-at.auto, c.loop-at-test.true))
           (omega (arith, c.loop-at.auto, c.loop-at-test.true, c.saturating_sub-full.ensures, c.div_ceil.ensures))

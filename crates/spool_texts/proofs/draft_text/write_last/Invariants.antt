@@ -1,6 +1,6 @@
 use Rattle.std.proofs.Common.{◌≡◌, ◌*◌, ◌+◌, ◌-◌, ◌++◌, length, take, min}
 use Rattle.spool_disk.specs.Views.{Lasts}
-use Rattle.spool_journal.specs.Image.{journal_pages}
+use Rattle.spool_journal.specs.Image.{text_page}
 use Rattle.spool_texts.specs.TextOn.{text_on, blocks_on}
 use Rattle.spool_texts.specs.Written.{WritesIn, IsImageBut}
 use Rattle.spool_texts.proofs.draft_text.write_last.Given as goal
@@ -11,12 +11,12 @@ invariant-loop-at g l = record {
   honest : g.D.Disk.honest l.fn.disk → g.D.Disk.honest l.disk;
   back : g.D.Disk.honest l.disk → g.D.Disk.honest l.fn.disk;
   counts : g.D.Disk.failures l.disk ≡ g.D.Disk.failures l.fn.disk;
-  text : g.D.Disk.honest l.fn.disk → text_on (g.D.Disk.seen l.disk) (25 + 2 * journal_pages l.layout) l.list
+  text : g.D.Disk.honest l.fn.disk → text_on (g.D.Disk.seen l.disk) (text_page l.layout) l.list
       (4096 * l.full + min (length l.last) (4096 * (l.at - l.full)))
-      ≡ blocks_on (g.D.Disk.seen l.fn.disk) (25 + 2 * journal_pages l.layout) (take l.full l.list) ++ take
+      ≡ blocks_on (g.D.Disk.seen l.fn.disk) (text_page l.layout) (take l.full l.list) ++ take
       (4096 * (l.at - l.full)) l.last;
-  writes : g.D.Disk.honest l.fn.disk → WritesIn (25 + 2 * journal_pages l.layout) l.list (g.D.Disk.seen l.fn.disk)
+  writes : g.D.Disk.honest l.fn.disk → WritesIn (text_page l.layout) l.list (g.D.Disk.seen l.fn.disk)
       (g.D.Disk.seen l.disk) (g.D.Disk.loose l.fn.disk) (g.D.Disk.loose l.disk);
   lasts : g.D.Disk.honest l.fn.disk → Lasts g.D.Disk l.fn.disk l.disk
-      (IsImageBut (25 + 2 * journal_pages l.layout) l.list (g.D.Disk.seen l.fn.disk) (g.D.Disk.loose l.fn.disk));
+      (IsImageBut (text_page l.layout) l.list (g.D.Disk.seen l.fn.disk) (g.D.Disk.loose l.fn.disk));
 }

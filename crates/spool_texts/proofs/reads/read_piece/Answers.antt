@@ -1,6 +1,6 @@
 use Rattle.std.proofs.Common.{rules, ◌≡◌, ◌≤◌, ◌*◌, ◌+◌, length, ℕ, ◌/◌, ◌%◌, ap, arith, ◌∙◌, get_or, length-take, take}
 use Rattle.spool_disk.specs.Disk.{span}
-use Rattle.spool_journal.specs.Image.{journal_pages}
+use Rattle.spool_journal.specs.Image.{text_page}
 use Rattle.spool_journal.proofs.Recovers.{all_is}
 use Rattle.spool_texts.proofs.Pieces.{piece_is, run_below}
 use Rattle.spool_texts.proofs.reads.read_piece.Goals as goal
@@ -25,12 +25,10 @@ pub returns-clause-piece : goal.returns-clause-piece
 returns-clause-piece g c honest =
     let size : length (take c.min-n.result c.args.buf.now) ≡ c.min-n.result =
     omega (arith, length-take c.min-n.result c.args.buf.now, c.min-n.ensures) in
-    let place : 4096 * c.block_page-page.result + c.args.at % 4096 ≡ 4096 * (25 + 2 * journal_pages
-    c.args.layout.now + get_or c.args.list.now (c.args.at / 4096) 0) + c.args.at % 4096 = omega (
-      arith,
-      c.block_page-page.ensures.page,
-    ) in
-    piece_is (g.D.Disk.seen c.args.disk.now) (25 + 2 * journal_pages c.args.layout.now) c.args.list.now c.args.at
+    let place : 4096 * c.block_page-page.result + c.args.at % 4096
+        ≡ 4096 * (text_page c.args.layout.now + get_or c.args.list.now (c.args.at / 4096) 0) + c.args.at % 4096 =
+    omega (arith, c.block_page-page.ensures.page) in
+    piece_is (g.D.Disk.seen c.args.disk.now) (text_page c.args.layout.now) c.args.list.now c.args.at
     c.run-count.result c.min-n.result c.args.buf.now c.read.new.buf (omega (arith, c.min-n.ensures))
     c.run-count.ensures.follow (omega (arith, c.min-n.ensures, c.run-count.ensures.some))
     (c.in_ok-read.ensures.bytes honest (search rules) ∙ ap

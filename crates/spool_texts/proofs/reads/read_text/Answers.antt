@@ -1,6 +1,6 @@
 use Rattle.std.proofs.Common.{◌≤◌, ◌*◌, ◌+◌, length, ◌-◌, arith, ◌∙◌, take, drop, length-take}
 use Rattle.spool_disk.proofs.Firm.{lasts_on, lasts_more, not_err}
-use Rattle.spool_journal.specs.Image.{journal_pages}
+use Rattle.spool_journal.specs.Image.{text_page}
 use Rattle.spool_journal.proofs.Steps.{no_failure}
 use Rattle.spool_texts.proofs.Pieces.{bytes_on, rest_on, all_read, keeps_on, image_keeps}
 use Rattle.spool_texts.proofs.reads.read_text.Goals as goal
@@ -39,7 +39,7 @@ loop-done-preserved g c =
 pub returns-clause-read : goal.returns-clause-read
 returns-clause-read g c honest =
     let inv = c.loop-done.invariant in
-    all_read (g.D.Disk.seen c.args.disk.now) (25 + 2 * journal_pages c.args.layout.now) c.args.list.now c.args.len
+    all_read (g.D.Disk.seen c.args.disk.now) (text_page c.args.layout.now) c.args.list.now c.args.len
     c.args.at c.min-count.result c.args.buf.now c.loop-done.buf c.requires.long
     (omega (arith, c.min-count.ensures, c.saturating_sub.ensures)) c.loop-done.auto.buf
     (λ k lt. inv.bytes honest k (omega (arith, lt, c.loop-done-test.false)))

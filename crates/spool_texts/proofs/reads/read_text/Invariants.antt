@@ -1,7 +1,7 @@
 use Rattle.std.proofs.Common.{◌-◌, ◌≡◌, ◌≤◌, ◌*◌, ◌+◌, get_or, ℕ, ◌<◌}
 use Rattle.spool_disk.specs.Disk.{IsImage, Keeps}
 use Rattle.spool_disk.specs.Views.{Lasts}
-use Rattle.spool_journal.specs.Image.{journal_pages}
+use Rattle.spool_journal.specs.Image.{text_page}
 use Rattle.spool_texts.specs.Reading.{byte_on}
 use Rattle.spool_texts.proofs.reads.read_text.Given as goal
 
@@ -18,7 +18,7 @@ invariant-loop-done g l = record {
       (IsImage (g.D.Disk.seen l.fn.disk) (g.D.Disk.loose l.fn.disk));
   within : l.done ≤ l.count;
   bytes : g.D.Disk.honest l.fn.disk → (k : ℕ) → k < l.done → get_or l.buf k 0 ≡ byte_on (g.D.Disk.seen l.fn.disk)
-      (25 + 2 * journal_pages l.layout) l.list (l.at + k);
+      (text_page l.layout) l.list (l.at + k);
   rest : g.D.Disk.honest l.fn.disk → (k : ℕ) → l.done ≤ k → get_or l.buf k 0 ≡ get_or l.fn.buf k 0;
 }
 

@@ -1,7 +1,7 @@
 use Rattle.std.proofs.Common.{rules, ◌≡◌, ◌+◌, ◌*◌, ◌++◌, ℕ, List, [], false, length, inl, inr, refl, sym, ◌∙◌, ap}
 use Rattle.std.proofs.Common.{subst}
 use Rattle.std.proofs.lemmas.Bool.{cases_Bool, both_ways}
-use Rattle.spool_journal.specs.Image.{journal_pages}
+use Rattle.spool_journal.specs.Image.{text_page}
 use Rattle.spool_drafts.specs.Drafts.{IsBehind, IsLonger, with_piece, list_of, open_text}
 use Rattle.spool_drafts.specs.Fresh.{StandsAt}
 use Rattle.spool_drafts.specs.Growth.{bytes_on, GrowsTo}
@@ -124,7 +124,7 @@ returns-clause-content g c p honest held fits carries kept =
     let piece = c.args.piece.now in
     let seen = g.D.Disk.seen c.args.disk.now in
     let seen' = g.D.Disk.seen c.put.new.disk in
-    let first = 25 + 2 * journal_pages c.args.layout.now in
+    let first = text_page c.args.layout.now in
     let some = some_of piece c.is_empty.result c.is_empty.ensures c.if-is_empty.false in
     let still = incomplete x p d held piece fits some in
     let stands = c.in-Ok.ensures.stands p.began p.body still held.stands in

@@ -2,7 +2,7 @@ use Rattle.std.proofs.Common.{arith, ◌≡◌, ◌≤◌, ◌+◌, ◌*◌, ◌
 use Rattle.std.proofs.Common.{subst}
 use Rattle.std.proofs.lemmas.Result.{err_from_is_err_and}
 use Rattle.std.specs.declared.alloc.Global.{Global}
-use Rattle.spool_journal.specs.Image.{journal_pages}
+use Rattle.spool_journal.specs.Image.{text_page}
 use Rattle.spool_drafts.specs.Drafts.{EndsAs, list_of}
 use Rattle.spool_drafts.specs.Growth.{ClosesAs, HoldsLen, bytes_on, count_with, list_on}
 use Rattle.spool_drafts.proofs.Effects.{only_none, only_read, grasp_none}
@@ -78,7 +78,7 @@ returns-clause-content g c p honest held open_still carries there =
     let x = c.args.indexes.now in
     let d = c.args.self.now in
     let seen = g.D.Disk.seen c.args.disk.now in
-    let first = 25 + 2 * journal_pages c.args.layout.now in
+    let first = text_page c.args.layout.now in
     let text = c.in_ok-state.text.items in
     let finished = c.in_ok-state.ensures.finished p.began p.body open_still held.stands in
     c.in_ok-last.ensures.content honest there

@@ -1,5 +1,5 @@
 use Rattle.std.proofs.Common.{rules, ◌≡◌, ◌+◌, ◌*◌, None, Some, refl}
-use Rattle.spool_journal.specs.Image.{journal_pages}
+use Rattle.spool_journal.specs.Image.{text_page}
 use Rattle.spool_drafts.proofs.Contents.{begun_bytes}
 use Rattle.spool_drafts.proofs.growth.Growth.open.Goals as goal
 
@@ -7,6 +7,6 @@ pub returns-clause-content : goal.returns-clause-content
 returns-clause-content g c honest =
     let none : c.args.self.now.on ≡ None = search rules in
     begun_bytes (g.D.Disk.seen c.args.disk.now) (g.D.Disk.seen c.begun.new.disk)
-    (25 + 2 * journal_pages c.args.layout.now) c.args.self.now
+    (text_page c.args.layout.now) c.args.self.now
     record c.args.self.now { on = Some c.in_ok-text.text }
     c.in_ok-text.text none refl c.in_ok-text.ensures.none (c.in_ok-text.ensures.tail honest)

@@ -1,5 +1,5 @@
 use Rattle.std.proofs.Common.{◌≡◌, ◌+◌, ◌*◌, List, Option, ℕ, ap, subst, sym}
-use Rattle.spool_journal.specs.Image.{journal_pages}
+use Rattle.spool_journal.specs.Image.{text_page}
 use Rattle.spool_texts.specs.TextOn.{text_on}
 use Rattle.upload_rules.specs.Answers.{IsLate}
 use Rattle.upload_rules.specs.Reading.{IsRead}
@@ -19,7 +19,7 @@ returns-in-Ok-clause-answer g c honest m v kept shows says =
       there.0,
       subst (λ (text : List ℕ). IsRead text c.args.at c.in-Ok.count c.args.buf.now c.read_text.new.buf) (sym there.1)
           (subst (λ (n : ℕ). IsRead
-          (text_on seen (25 + 2 * journal_pages n) c.in-Some.found.list.now c.in-Some.found.upload.now.text_len)
+          (text_on seen (text_page n) c.in-Some.found.list.now c.in-Some.found.upload.now.text_len)
           c.args.at c.in-Ok.count c.args.buf.now c.read_text.new.buf) layout read),
     )
 

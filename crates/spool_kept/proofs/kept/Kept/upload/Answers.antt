@@ -2,7 +2,7 @@ use Rattle.std.proofs.Common.{rules, ◌≡◌, ◌∙◌, ◌<◌, ◌+◌, ◌
 use Rattle.std.proofs.Common.{subst, sym, arith}
 use Rattle.std.proofs.lemmas.List.{get_or_default}
 use Rattle.std.proofs.lemmas.Option.{same_Some}
-use Rattle.spool_journal.specs.Image.{journal_pages}
+use Rattle.spool_journal.specs.Image.{text_page}
 use Rattle.spool_texts.specs.TextOn.{text_on}
 use Rattle.upload_rules.specs.Store.{text_of}
 use Rattle.spool_pages.specs.View.{SlotRecord}
@@ -86,7 +86,7 @@ returns-clause-told c v m bytes kept shows says =
     let len : c.record.result.now.text_len ≡ q.text_len = ap (λ (r : SlotRecord). r.text_len) c.record.ensures.said in
     let list : c.blocks-list.result.now ≡ get_or h.lists s [] = list_is c
     ∙ ap (λ (k : Holding). get_or k.lists s []) c.self.view_is in
-    let first = 25 + 2 * journal_pages h.layout in
+    let first = text_page h.layout in
     record {
       upload = told.0;
       there = told.1;

@@ -1,6 +1,6 @@
 use Rattle.std.proofs.Common.{length, ◌-◌, ◌≡◌, ◌≤◌, ◌<◌, ◌*◌, ◌+◌, ◌++◌, take}
 use Rattle.spool_disk.specs.Views.{Lasts}
-use Rattle.spool_journal.specs.Image.{journal_pages}
+use Rattle.spool_journal.specs.Image.{text_page}
 use Rattle.spool_texts.specs.Drafts.{held_count, content_on, IsReserved, Takes}
 use Rattle.spool_texts.specs.Written.{WritesIn, IsImageBut}
 use Rattle.spool_texts.proofs.draft_text.DraftText.put.Given as goal
@@ -16,14 +16,14 @@ invariant-loop-done g l = record {
   few : 1 ≤ l.done → length l.self.unfinished < 4096;
   some : 1 ≤ l.done → 1 ≤ length l.self.blocks;
   held : held_count l.self ≡ held_count l.fn.self + l.done;
-  content : g.D.Disk.honest l.fn.disk → content_on (g.D.Disk.seen l.disk) (25 + 2 * journal_pages l.layout)
-      l.self ≡ content_on (g.D.Disk.seen l.fn.disk) (25 + 2 * journal_pages l.layout) l.fn.self ++ take l.done l.bytes;
+  content : g.D.Disk.honest l.fn.disk → content_on (g.D.Disk.seen l.disk) (text_page l.layout)
+      l.self ≡ content_on (g.D.Disk.seen l.fn.disk) (text_page l.layout) l.fn.self ++ take l.done l.bytes;
   takes : Takes l.fn.blocks l.blocks l.fn.self.blocks l.self.blocks;
   reserved : IsReserved l.blocks l.self.blocks;
-  writes : g.D.Disk.honest l.fn.disk → WritesIn (25 + 2 * journal_pages l.layout) l.self.blocks
+  writes : g.D.Disk.honest l.fn.disk → WritesIn (text_page l.layout) l.self.blocks
       (g.D.Disk.seen l.fn.disk) (g.D.Disk.seen l.disk) (g.D.Disk.loose l.fn.disk) (g.D.Disk.loose l.disk);
   lasts : g.D.Disk.honest l.fn.disk → Lasts g.D.Disk l.fn.disk l.disk
-      (IsImageBut (25 + 2 * journal_pages l.layout) l.self.blocks (g.D.Disk.seen l.fn.disk) (g.D.Disk.loose l.fn.disk));
+      (IsImageBut (text_page l.layout) l.self.blocks (g.D.Disk.seen l.fn.disk) (g.D.Disk.loose l.fn.disk));
 }
 
 abbrev pub decreases-loop-done : goal.decreases-loop-done

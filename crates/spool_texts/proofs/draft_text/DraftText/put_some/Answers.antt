@@ -1,5 +1,5 @@
 use Rattle.std.proofs.Common.{arith, rules, ℕ, List, ◌≡◌, ◌*◌, ◌+◌, ◌++◌, [], length, take, ap, refl, ◌∙◌}
-use Rattle.spool_journal.specs.Image.{journal_pages}
+use Rattle.spool_journal.specs.Image.{text_page}
 use Rattle.spool_texts.specs.Drafts.{Draft}
 use Rattle.spool_texts.proofs.Contents.{full_written, page_filled}
 use Rattle.spool_texts.proofs.draft_text.DraftText.put_some.Goals as goal
@@ -8,7 +8,7 @@ pub returns-clause-content : goal.returns-clause-content
 returns-clause-content g c honest =
     let seen = g.D.Disk.seen c.args.disk.now in
     let seen' = g.D.Disk.seen c.write_front.new.disk in
-    let first = 25 + 2 * journal_pages c.args.layout.now in
+    let first = text_page c.args.layout.now in
     let bytes = take c.fill-n.result c.args.bytes.now in
     let blocks_is : c.self.inside.blocks.items ≡ c.open_block.new.self.blocks =
     ap (λ (d : Draft). d.blocks) c.self.view_is in
