@@ -408,9 +408,9 @@ where
 ///
 /// Each turn accepts a connection, where fewer than `MOST_OPEN` are open, and then goes on at each open one, in order:
 /// what is left to write is written, else the next piece of a text is asked for, else up to 4,096 bytes are read and
-/// given to the session. A socket that fails or is at its end ends its connection, and so does one over which nothing came or
-/// went for a minute, or whose request's head isn't whole after one. One that the session closed is closed once all is
-/// written. At the end the open connections are ended.
+/// given to the session. A socket that fails or is at its end ends its connection, and so does one over which nothing
+/// came or went for a minute, or whose request's head isn't whole after one. One that the session closed is closed once
+/// all is written. At the end the open connections are ended.
 ///
 /// Where all are open, one more socket is accepted and waits for a place. While it does, a connection gives way whose
 /// socket has nothing to do: the one that has been between requests longest, after 20 milliseconds; any between

@@ -36,11 +36,11 @@ state_end version r = four_of version r ++ r.state
 abbrev pub head_of : Version → SlotRecord → List ℕ
 head_of version r = state_end version r ++ to_be_bytes w16 (length r.metadata)
 
-abbrev pub area_end : Version → SlotRecord → List ℕ
-area_end version r = head_of version r ++ r.metadata
+abbrev pub metadata_end : Version → SlotRecord → List ℕ
+metadata_end version r = head_of version r ++ r.metadata
 
 abbrev pub room_end : Version → SlotRecord → List ℕ
-room_end version r = area_end version r ++ replicate (1536 - length r.metadata) 0
+room_end version r = metadata_end version r ++ replicate (1536 - length r.metadata) 0
 
 module _ (version : Version) (r : SlotRecord) where
   pub length-two : length (two_of version r) ≡ 16
@@ -67,15 +67,15 @@ module _ (version : Version) (r : SlotRecord) where
       length-append (state_end version r) (to_be_bytes w16 (length r.metadata)),
     )
 
-    pub length-area_end : length (area_end version r) ≡ 66 + length r.metadata
-    length-area_end = omega (arith, length-head, length-append (head_of version r) r.metadata)
+    pub length-metadata_end : length (metadata_end version r) ≡ 66 + length r.metadata
+    length-metadata_end = omega (arith, length-head, length-append (head_of version r) r.metadata)
 
     pub length-room_end : length r.metadata ≤ 1536 → length (room_end version r) ≡ 1602
     length-room_end few = omega (
       arith,
       few,
-      length-area_end,
-      length-append (area_end version r) (replicate (1536 - length r.metadata) 0),
+      length-metadata_end,
+      length-append (metadata_end version r) (replicate (1536 - length r.metadata) 0),
       length-replicate {A = ℕ} (1536 - length r.metadata) 0,
     )
 
@@ -180,9 +180,9 @@ module _ (f : ℕ → ℕ) (version : Version) (r : SlotRecord) (size : length r
   parts_of whole =
       let all : Stands f 0 2048 (room_end version r ++ length_tag version r.declared ∷ []) =
       subst (λ (xs : List ℕ). Stands f 0 2048 xs) (sym (record_is version r)) whole in
-      let long = length-area_end version r size in
+      let long = length-metadata_end version r size in
       let room = stands_front (room_end version r) _ 1602 (length-room_end version r size few) (omega arith) all in
-      let metadata = stands_front (area_end version r) _ (66 + length r.metadata) long (omega (arith, few)) room in
+      let metadata = stands_front (metadata_end version r) _ (66 + length r.metadata) long (omega (arith, few)) room in
       let head = stands_front (head_of version r) _ 66 (length-head version r size) (omega arith) metadata in
       let state = stands_front (state_end version r) _ 64 (length-state_end version r size) (omega arith) head in
       let four = stands_front (four_of version r) _ 32 refl (omega arith) state in
@@ -199,7 +199,7 @@ module _ (f : ℕ → ℕ) (version : Version) (r : SlotRecord) (size : length r
         metadata = stands_behind (head_of version r) _ 66 (length r.metadata) (length-head version r size) (omega arith)
             metadata;
         room = subst (λ (place : ℕ). Stands f place (1536 - length r.metadata) []) at
-            (of_zeros (1536 - length r.metadata) (stands_behind (area_end version r) _ (66 + length r.metadata)
+            (of_zeros (1536 - length r.metadata) (stands_behind (metadata_end version r) _ (66 + length r.metadata)
             (1536 - length r.metadata) long (omega (arith, few)) room));
         tag = tag.each 0 (omega arith);
       }
@@ -214,8 +214,8 @@ module _ (f : ℕ → ℕ) (version : Version) (r : SlotRecord) (size : length r
       stands_both (state_end version r) _ 64 2 (length-state_end version r size) state parts.metadata_len in
       let metadata =
       stands_both (head_of version r) _ 66 (length r.metadata) (length-head version r size) head parts.metadata in
-      let room = stands_both (area_end version r) _ (66 + length r.metadata) (1536 - length r.metadata)
-      (length-area_end version r size) metadata (to_zeros (1536 - length r.metadata)
+      let room = stands_both (metadata_end version r) _ (66 + length r.metadata) (1536 - length r.metadata)
+      (length-metadata_end version r size) metadata (to_zeros (1536 - length r.metadata)
       (subst (λ (place : ℕ). Stands f place (1536 - length r.metadata) []) (sym at) parts.room)) in
       let full : 66 + length r.metadata + (1536 - length r.metadata) ≡ 1602 = omega (arith, few) in
       let room_there : Stands f 0 1602 (room_end version r) =

@@ -117,10 +117,10 @@ impl<'a> SlotRecord<'a> {
             return Ok(None);
         }
         let number = get_u64(bytes, 0);
-        let area_end = 66 + get_u16(bytes, 64) as usize;
+        let metadata_end = 66 + get_u16(bytes, 64) as usize;
         if number == 0
-            || area_end > TAG
-            || !is_blank(&bytes[area_end..TAG])
+            || metadata_end > TAG
+            || !is_blank(&bytes[metadata_end..TAG])
             || !is_blank(&bytes[TAG + 1..])
         {
             return Err(Damaged);
@@ -134,7 +134,7 @@ impl<'a> SlotRecord<'a> {
             accepted: get_u64(bytes, 16),
             text_len: get_u64(bytes, 24),
             state,
-            metadata: &bytes[66..area_end],
+            metadata: &bytes[66..metadata_end],
         }))
     }
 }

@@ -1,4 +1,4 @@
-//! Each law as the contract of a function that does nothing.
+// Each law as the contract of a function that does nothing.
 ghost use Rattle.std.specs.Prelude.{◌≡◌, ◌≤◌, ◌<◌, ◌+◌, ◌/◌, ◌%◌, ℕ, List, Bool, Some, None, length, map};
 ghost use Rattle.enc_model.specs.Indexes.{IndexSet};
 ghost use Rattle.spool_blocks.specs.Blocks.{Row, Held, CountLaw, IsWhole, owned_count, reserved_count, slot_count};

@@ -1,4 +1,4 @@
-//! Open drafts by their numbers.
+// Open drafts by their numbers.
 ghost use Rattle.std.specs.Prelude.{◌≡◌, ◌≤◌, ◌<◌, ℕ, true, length, IfOk, OnErr, Some, None, slice_set};
 ghost use Rattle.upload_rules.specs.Drafts.{IsPlaced, draft_at};
 ghost use Rattle.upload_rules.specs.World.{is_there};

@@ -13,12 +13,9 @@ use Rattle.spool_pages.proofs.RecordBytes.{PartsAt, parts_of, padded_stands, len
 use Rattle.spool_pages.proofs.RecordBytes.{range_stands, no_number, number_fits, record_eq, length-record}
 use Rattle.spool_pages.proofs.records.SlotRecord.from_bytes.Goals as goal
 use Rattle.spool_pages.proofs.records.SlotRecord.from_bytes.Goals.{then-number-eq0-via-then-number-eq0}
-use Rattle.spool_pages.proofs.records.SlotRecord.from_bytes.Goals.{}
-use Rattle.spool_pages.proofs.records.SlotRecord.from_bytes.Goals.{then-number-eq0-via-else-number-eq0+then-area_end-gt-TAG}
-use Rattle.spool_pages.proofs.records.SlotRecord.from_bytes.Goals.{}
-use Rattle.spool_pages.proofs.records.SlotRecord.from_bytes.Goals.{then-number-eq0-via-else-number-eq0+else-area_end-gt-TAG+then-not-is_blank}
-use Rattle.spool_pages.proofs.records.SlotRecord.from_bytes.Goals.{}
-use Rattle.spool_pages.proofs.records.SlotRecord.from_bytes.Goals.{then-number-eq0-via-else-number-eq0+else-area_end-gt-TAG+else-not-is_blank+then-not-is_blank-2}
+use Rattle.spool_pages.proofs.records.SlotRecord.from_bytes.Goals.{then-number-eq0-via-else-number-eq0+then-metadata_end-gt-TAG}
+use Rattle.spool_pages.proofs.records.SlotRecord.from_bytes.Goals.{then-number-eq0-via-else-number-eq0+else-metadata_end-gt-TAG+then-not-is_blank}
+use Rattle.spool_pages.proofs.records.SlotRecord.from_bytes.Goals.{then-number-eq0-via-else-number-eq0+else-metadata_end-gt-TAG+else-not-is_blank+then-not-is_blank-2}
 
 module _ (bytes : List ℕ) (version : Version) (r : SlotRecord) (fits : FitsSlot r)
     (padded : IsPadded bytes (record_bytes version r)) where
@@ -56,16 +53,16 @@ returns-then-number-eq0-clause-used c r fits padded =
     c.get_u16.ensures.is (length r.metadata) (omega (arith, fits.metadata)) at.metadata_len in
     elim c.then-number-eq0.branch [
       | then-number-eq0-via-then-number-eq0 w ↦ absurd (omega (arith, number_is, fits.some, w.if-number-eq0.true))
-      | then-number-eq0-via-else-number-eq0+then-area_end-gt-TAG w ↦
-          absurd (omega (arith, len_is, fits.metadata, w.if-area_end-gt-TAG.true))
-      | then-number-eq0-via-else-number-eq0+else-area_end-gt-TAG+then-not-is_blank w ↦
+      | then-number-eq0-via-else-number-eq0+then-metadata_end-gt-TAG w ↦
+          absurd (omega (arith, len_is, fits.metadata, w.if-metadata_end-gt-TAG.true))
+      | then-number-eq0-via-else-number-eq0+else-metadata_end-gt-TAG+then-not-is_blank w ↦
           let room = room_blank c.args.bytes.now c.args.version r fits padded (66 + c.get_u16.result)
           (omega (arith, len_is)) in
-          let yes : IsTrue w.is_blank-else-area_end-gt-TAG.result =
-          w.is_blank-else-area_end-gt-TAG.ensures.1 room in
+          let yes : IsTrue w.is_blank-else-metadata_end-gt-TAG.result =
+          w.is_blank-else-metadata_end-gt-TAG.ensures.1 room in
           let no = w.if-not-is_blank.true in
           absurd (cc)
-      | then-number-eq0-via-else-number-eq0+else-area_end-gt-TAG+else-not-is_blank+then-not-is_blank-2 w ↦
+      | then-number-eq0-via-else-number-eq0+else-metadata_end-gt-TAG+else-not-is_blank+then-not-is_blank-2 w ↦
           let rest = rest_blank c.args.bytes.now c.args.version r fits padded (search rules) in
           let yes : IsTrue w.is_blank-else-not-is_blank.result = w.is_blank-else-not-is_blank.ensures.1 rest in
           let no = w.if-not-is_blank-2.true in
@@ -111,7 +108,7 @@ returns-clause-sound c =
     let bytes = c.args.bytes.now in
     let len = c.get_u16.result in
     let long : length bytes ≡ 2048 = search rules in
-    let few : len ≤ 1536 = omega (arith, c.if-area_end-gt-TAG.false) in
+    let few : len ≤ 1536 = omega (arith, c.if-metadata_end-gt-TAG.false) in
     let state : c.copy_from_slice.new.self ≡ slice_range bytes 32 64 = c.copy_from_slice.ensures.after in
     let size : length c.copy_from_slice.new.self ≡ 32 =
     ap length state ∙ length-range bytes 32 64 (omega (arith, long)) in
@@ -121,7 +118,7 @@ returns-clause-sound c =
     omega (arith, metadata_size) in
     let room_at : 66 + len ≡ 66 + length (slice_range bytes 66 (66 + len)) = omega (arith, metadata_size) in
     let room : Stands (byte_of bytes) (66 + len) (1602 - (66 + len)) [] =
-    blank_range bytes (66 + len) 1602 (c.is_blank-else-area_end-gt-TAG.ensures.0 (search rules)) in
+    blank_range bytes (66 + len) 1602 (c.is_blank-else-metadata_end-gt-TAG.ensures.0 (search rules)) in
     let said = c.in_ok-declared.ensures in
     let front =
     of_parts (byte_of bytes) c.args.version _ size (omega (arith, metadata_size, few)) record {

@@ -3,7 +3,7 @@ use Rattle.std.specs.Int.{to_be_bytes, w64}
 use Rattle.spool_pages.specs.Bytes.{IsPadded}
 use Rattle.spool_pages.specs.View.{SlotRecord, length_number, length_tag, record_bytes}
 use Rattle.spool_pages.proofs.Bytes.{padded_zeros, padded_room}
-use Rattle.spool_pages.proofs.RecordBytes.{pad, two_of, three_of, four_of, state_end, head_of, area_end, room_end}
+use Rattle.spool_pages.proofs.RecordBytes.{pad, two_of, three_of, four_of, state_end, head_of, metadata_end, room_end}
 use Rattle.spool_pages.proofs.RecordBytes.{length-state_end, length-head, length-room_end, record_is}
 use Rattle.spool_pages.proofs.records.SlotRecord.to_bytes.Goals as goal
 
@@ -35,10 +35,10 @@ returns c =
     let six : IsPadded c.put-6.new.page (head_of v r) =
     pad (state_end v r) _ c.to_be_bytes-5.ensures
     (c.put-6.ensures.padded (state_end v r) (length-state_end v r size) five) in
-    let seven : IsPadded c.put-7.new.page (area_end v r) =
+    let seven : IsPadded c.put-7.new.page (metadata_end v r) =
     c.put-7.ensures.padded (head_of v r) (length-head v r size) six in
     let room : IsPadded c.put-7.new.page (room_end v r) =
-    padded_room c.put-7.new.page (area_end v r) (1536 - length r.metadata) seven in
+    padded_room c.put-7.new.page (metadata_end v r) (1536 - length r.metadata) seven in
     let eight : IsPadded c.put-8.new.page (room_end v r ++ length_tag v r.declared ∷ []) =
     pad (room_end v r) _ (ap (λ (fields : ℕ × ℕ). fields.1 ∷ []) c.length_fields-length.ensures)
     (c.put-8.ensures.padded (room_end v r) (length-room_end v r size few) room) in
