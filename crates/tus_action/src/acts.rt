@@ -3,6 +3,7 @@ ghost use Rattle.std.specs.Prelude.{◌≡◌};
 ghost use Rattle.tus_action.specs.Faults.{stop_of};
 ghost use Rattle.tus_action.specs.Serves.{replied_only, replied_giving, giving_behind};
 
+use std::alloc::AllocError;
 use upload_rules::UploadError;
 
 /// Why a call gives no answer.
@@ -12,6 +13,15 @@ pub enum Stop {
     NoMemory,
     /// The device failed: the store must be opened again.
     DiskFault,
+}
+
+impl From<AllocError> for Stop {
+    /// A growth was refused.
+    fn from(_error: AllocError) -> Self
+        ensures { result ≡ Stop.NoMemory }
+    {
+        Stop::NoMemory
+    }
 }
 
 impl From<UploadError> for Stop {

@@ -27,8 +27,8 @@ use Rattle.tus_session.specs.Moves.{Moves}
 use Rattle.tus_session.specs.Turned.{TurnedAs, Turned}
 use Rattle.tus_session.specs.Bodies.{took, GoesOn, Parts, Answered, Replies, ended_by}
 use Rattle.tus_session.specs.declared.answers.Answer.{Answer}
-use Rattle.tus_session.specs.declared.errors.SessionError.{SessionError}
-use Rattle.tus_session.specs.declared.errors.SessionError.TheVariants as errors
+use Rattle.tus_action.specs.declared.acts.Stop.{Stop}
+use Rattle.tus_action.specs.declared.acts.Stop.TheVariants as stops
 use Rattle.tus_session.specs.declared.conns.Patching.{Patching}
 use Rattle.tus_session.specs.declared.conns.Link.{Link}
 use Rattle.tus_session.specs.declared.conns.Task.TheVariants as tasks
@@ -204,7 +204,7 @@ module _ (w : World) (s : List ℕ) (d : ℕ) (asked : Asked) (inside : (cut (re
       ∙ (ap (λ v. with_acted q n (commit_with (fed w d q) d v (find d (fed w d q).patches))) asks
       ∙ ap (λ o. with_acted q n (commit_with (fed w d q) d (Asks r) o)) f))
 
-module _ {U B : Type 0} (u : Ghosts U B) (store' : U) (place : Place B) (old new : List ℕ) (w : World) (s : List ℕ)
+module _ {U B : Type 0} (u : Ghosts U B) (store' : U) (old new : List ℕ) (w : World) (s : List ℕ)
     (b : Patching B) (asked : Asked) (r : Request) (p : Patch)
     (is : PatchesAs u w b (u.number_of b.draft) asked r p) (inside : (cut (reader w) s).rest ≡ InBody asked)
     (k : Link B) (left : ℕ)
@@ -212,11 +212,11 @@ module _ {U B : Type 0} (u : Ghosts U B) (store' : U) (place : Place B) (old new
   abbrev own : ℕ
   own = u.number_of b.draft
 
-  part_told : (bytes : List ℕ) (a : Result Answer SessionError) → length bytes < left
-      → Parts u store' place a (record k { left = left - length bytes; task = tasks.Idle }) b (0 + length bytes)
+  part_told : (bytes : List ℕ) (a : Result (Place B × Answer) Stop) → length bytes < left
+      → Parts u store' a (record k { left = left - length bytes; task = tasks.Idle }) b (0 + length bytes)
       (fed w own bytes) (fed_patch w own p bytes) (dropped w own)
-      → new ≡ old → Turned u store' place a old new w (Some own) (part_turned w s own asked inside bytes)
-  part_told bytes (Ok a) few (b', goes) same =
+      → new ≡ old → Turned u store' a old new w (Some own) (part_turned w s own asked inside bytes)
+  part_told bytes (Ok (place, a)) few (b', goes) same =
       let l : length (asked.body ++ bytes) ≡ length asked.body + length bytes = length-append asked.body bytes in
       let wants = body_wants w s asked inside in
       let kept : RestIs (bytes_of k.head) (left - length bytes) (InBody (longer asked bytes)) = (
@@ -235,17 +235,14 @@ module _ {U B : Type 0} (u : Ghosts U B) (store' : U) (place : Place B) (old new
         more = ap (λ x. x.more) goes.answer_is;
         bytes = same ∙ sym (append-nil old);
       }
-  part_told bytes (Err errors.NoMemory) few (shown, closed) same = (shown, closed, same)
-  part_told bytes (Err errors.DiskFault) few x same = same
-  part_told bytes (Err errors.TooMany) few x same = absurd x
-  part_told bytes (Err errors.Closed) few x same = absurd x
-  part_told bytes (Err errors.Down) few x same = absurd x
+  part_told bytes (Err stops.NoMemory) few shown same = (shown, same)
+  part_told bytes (Err stops.DiskFault) few x same = same
 
-  rest_answered : (q : List ℕ) (a : Answer) → length p.body + length q ≤ p.count
+  rest_answered : (place : Place B) (q : List ℕ) (a : Answer) → length p.body + length q ≤ p.count
       → (cut (reader w) (s ++ q)).rest ≡ InHead []
       → Answered u store' place a old new (record k { left = 0; task = tasks.Idle }) (0 + left) (ended_by w own p q r)
       → TurnedAs u store' place a old new w (Some own) (rest_turned w s own asked inside p q r left)
-  rest_answered q a few ends answered =
+  rest_answered place q a few ends answered =
       let m = ended_by w own p q r in
       let moves = rest_moves u w b asked r p is q in
       let here : (cut (reader m.world) (s ++ q)).rest ≡ InHead [] = rest_same w m.world (s ++ q) moves.grows.indexes
@@ -275,30 +272,27 @@ module _ {U B : Type 0} (u : Ghosts U B) (store' : U) (place : Place B) (old new
       more_is s' true = refl
       more_is s' false = refl
 
-  rest_told : (q : List ℕ) (a : Result Answer SessionError) → length p.body + length q ≤ p.count
+  rest_told : (q : List ℕ) (a : Result (Place B × Answer) Stop) → length p.body + length q ≤ p.count
       → (cut (reader w) (s ++ q)).rest ≡ InHead []
-      → Replies u store' place a old new (record k { left = 0; task = tasks.Idle }) (0 + left) (ended_by w own p q r)
+      → Replies u store' a old new (record k { left = 0; task = tasks.Idle }) (0 + left) (ended_by w own p q r)
       (dropped w own)
-      → Turned u store' place a old new w (Some own) (rest_turned w s own asked inside p q r left)
-  rest_told q (Ok a) few ends x = rest_answered q a few ends x
-  rest_told q (Err errors.NoMemory) few ends x = x
-  rest_told q (Err errors.DiskFault) few ends x = x
-  rest_told q (Err errors.TooMany) few ends x = absurd x
-  rest_told q (Err errors.Closed) few ends x = absurd x
-  rest_told q (Err errors.Down) few ends x = absurd x
+      → Turned u store' a old new w (Some own) (rest_turned w s own asked inside p q r left)
+  rest_told q (Ok (place, a)) few ends x = rest_answered place q a few ends x
+  rest_told q (Err stops.NoMemory) few ends x = x
+  rest_told q (Err stops.DiskFault) few ends x = x
 
-  pub body_told : (bytes : List ℕ) (a : Result Answer SessionError)
-      → (length bytes < left → Parts u store' place a (record k { left = left - length bytes; task = tasks.Idle }) b
+  pub body_told : (bytes : List ℕ) (a : Result (Place B × Answer) Stop)
+      → (length bytes < left → Parts u store' a (record k { left = left - length bytes; task = tasks.Idle }) b
       (0 + length bytes) (fed w own bytes) (fed_patch w own p bytes) (dropped w own))
       → (length bytes < left → new ≡ old)
-      → (left ≤ length bytes → Replies u store' place a old new (record k { left = 0; task = tasks.Idle }) (0 + left)
+      → (left ≤ length bytes → Replies u store' a old new (record k { left = 0; task = tasks.Idle }) (0 + left)
       (ended_by w own p (take left bytes) r) (dropped w own))
-      → Turned u store' place a old new w (Some own) (came_turn w (plain s (Some own)) bytes)
+      → Turned u store' a old new w (Some own) (came_turn w (plain s (Some own)) bytes)
   body_told bytes a part same rest =
       let wants = body_wants w s asked inside in
       elim (cases_lt (length bytes) left) [
         | inl few ↦
-            subst (Turned u store' place a old new w (Some own))
+            subst (Turned u store' a old new w (Some own))
             (sym (part_is w s own asked inside bytes (omega arith))) (part_told bytes a few (part few) (same few))
         | inr enough ↦
             let l : length (take left bytes) ≡ left = length-take-le left bytes enough in
@@ -307,7 +301,7 @@ module _ {U B : Type 0} (u : Ghosts U B) (store' : U) (place : Place B) (old new
             let c = is.count in
             let ends = body_whole_rest (reader w) (steady (offers w.store.indexes)) s (take left bytes) asked inside
             (omega arith) in
-            subst (Turned u store' place a old new w (Some own))
+            subst (Turned u store' a old new w (Some own))
             (sym (rest_is w s own asked inside bytes p r left (sym left_is) (omega arith) is.found is.asks))
             (rest_told (take left bytes) a (omega arith) ends (rest enough))
       ]
@@ -351,17 +345,17 @@ module _ {U B : Type 0} (u : Ghosts U B) (w : World) (conn : Conn) (k : Link B) 
       let l = kept_body.1 in
       omega arith
 
-  pub patch_told : (store' : U) (place : Place B) (old new bytes : List ℕ) (a : Result Answer SessionError)
-      → (length bytes < k.left → Parts u store' place a (record k { left = k.left - length bytes; task = tasks.Idle }) b
+  pub patch_told : (store' : U) (old new bytes : List ℕ) (a : Result (Place B × Answer) Stop)
+      → (length bytes < k.left → Parts u store' a (record k { left = k.left - length bytes; task = tasks.Idle }) b
       (0 + length bytes) (fed w own_of bytes) (fed_patch w own_of is.p bytes) (dropped w own_of))
       → (length bytes < k.left → new ≡ old)
-      → (k.left ≤ length bytes → Replies u store' place a old new (record k { left = 0; task = tasks.Idle })
+      → (k.left ≤ length bytes → Replies u store' a old new (record k { left = 0; task = tasks.Idle })
       (0 + k.left) (ended_by w own_of is.p (take k.left bytes) is.r) (dropped w own_of))
-      → Turned u store' place a old new w conn.draft (came_turn w conn bytes)
-  patch_told store' place old new bytes a part same rest =
-      subst (λ x. Turned u store' place a old new w x.draft (came_turn w x bytes))
+      → Turned u store' a old new w conn.draft (came_turn w conn bytes)
+  patch_told store' old new bytes a part same rest =
+      subst (λ x. Turned u store' a old new w x.draft (came_turn w x bytes))
       (conn_is conn (Some own_of) draft_is_own is.idle)
-      (body_told u store' place old new w conn.stream b is.asked is.r is.p own_patches is.rest_is k k.left kept_body.0
+      (body_told u store' old new w conn.stream b is.asked is.r is.p own_patches is.rest_is k k.left kept_body.0
       kept_body.1 bytes a part same rest)
 
   pub rest_store : (bytes : List ℕ) → k.left ≤ length bytes

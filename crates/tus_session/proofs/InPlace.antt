@@ -12,6 +12,7 @@ use Rattle.tus_session.specs.Turns.{Conn}
 use Rattle.tus_session.specs.History.{State, with_conn, put}
 use Rattle.tus_session.specs.Stands.{PlaceIs, draft_at, SessionStands}
 use Rattle.tus_session.specs.Moves.{Moves}
+use Rattle.tus_session.specs.Places.{IsPut, IsOpen}
 use Rattle.tus_session.specs.declared.conns.Link.{Link}
 use Rattle.tus_session.specs.declared.conns.Place.{Place}
 use Rattle.tus_session.specs.declared.conns.Place.TheVariants.{Closed, Open}
@@ -22,12 +23,6 @@ conns_here conns k conn = grind (arith, nat_tests)
 
 pub conns_else : (conns : ℕ → Option Conn) (k j : ℕ) (conn : Option Conn) → j ≢ k → with_conn conns k conn j ≡ conns j
 conns_else conns k j conn ne = grind (arith, nat_tests)
-
--- the list with another place there
-pub record IsPut {B : Type 0} (places all : List (Place B)) (k : ℕ) (next : Place B) : Type 0 where
-  pub count : length all ≡ length places
-  pub here : get_or all k Closed ≡ next
-  pub others : (j : ℕ) → j ≢ k → get_or all j Closed ≡ get_or places j Closed
 
 module _ {U B : Type 0} (u : Ghosts U B) where
   module _ (places all : List (Place B)) (store store' : U) (st : State) (w' : World) (k : ℕ) (next : Place B)
@@ -110,15 +105,14 @@ module _ {U B : Type 0} (u : Ghosts U B) where
     others = λ j ne. get_or-set_other places k j next Closed ne;
   }
 
-  pub is_set_twice : (places : List (Place B)) (k : ℕ) (x next : Place B) → k < length places
-      → IsPut places (slice_set (slice_set places k x) k next) k next
-  is_set_twice places k x next lt =
-      let taken = slice_set places k x in
-      record {
-        count = length-set taken k next ∙ length-set places k x;
-        here = get_or-set_same taken k next Closed (omega (arith, length-set places k x));
-        others = λ j ne. get_or-set_other taken k j next Closed ne ∙ get_or-set_other places k j x Closed ne;
-      }
+  -- a place is taken, and gets this
+  pub is_put_back : (places taken : List (Place B)) (k : ℕ) (next : Place B) → IsPut places taken k Closed
+      → k < length taken → IsPut places (slice_set taken k next) k next
+  is_put_back places taken k next is lt = record {
+    count = length-set taken k next ∙ is.count;
+    here = get_or-set_same taken k next Closed lt;
+    others = λ j ne. get_or-set_other taken k j next Closed ne ∙ is.others j ne;
+  }
 
   -- what a connection's place tells
   pub place_at : (places : List (Place B)) (store : U) (st : State) (k : ℕ) (x : Place B)
@@ -157,8 +151,7 @@ module _ {U B : Type 0} (u : Ghosts U B) where
 
   pub open_at : (places : List (Place B)) (store : U) (st : State) (c : ℕ) (x : Place B) (k : Link B)
       → SessionStands u places store st → c < length places
-      → x ≡ get_or places c x → x ≡ Open k → (conn : Conn) × (st.conns c ≡ Some conn) × PlaceIs u st.world (Open k)
-      (Some conn)
+      → x ≡ get_or places c x → x ≡ Open k → IsOpen u st c k
   open_at places store st c x k stands lt e is =
       let at : PlaceIs u st.world (Open k) (st.conns c) =
       subst (λ y. PlaceIs u st.world y (st.conns c)) is (place_at places store st c x stands lt e) in

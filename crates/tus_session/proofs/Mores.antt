@@ -13,8 +13,7 @@ use Rattle.tus_session.specs.Streams.{Rest, cut}
 use Rattle.tus_session.specs.Turns.{Conn, Turn, reader, left_world, given_up, give_on, more_on, more_turn}
 use Rattle.tus_session.specs.Stands.{TaskIs, LinkIs}
 use Rattle.tus_session.specs.Moves.{Moves}
-use Rattle.tus_session.specs.Turned.{TurnedAs, Turned}
-use Rattle.tus_session.specs.declared.errors.SessionError.{SessionError}
+use Rattle.tus_session.specs.Turned.{TurnedAs}
 use Rattle.tus_session.specs.declared.answers.Answer.{Answer}
 use Rattle.tus_session.specs.declared.conns.Link.{Link}
 use Rattle.tus_session.specs.declared.conns.Place.{Place}
@@ -231,16 +230,6 @@ module _ {U B : Type 0} (u : Ghosts U B) where
     -- what `give_more` is asked for
     pub given_as : conn.pending ≡ Some is.h
     given_as = is.pending_is
-
-module _ {U B : Type 0} (u : Ghosts U B) where
-  -- under other names for the place and the answer
-  pub turned_ok : (store : U) (place place' : Place B) (r : Result Answer SessionError) (a : Answer) (old new : List ℕ)
-      (w : World) (own : Option ℕ) (t : Turn)
-      → place ≡ place' → r ≡ Ok a → TurnedAs u store place' a old new w own t → Turned u store place r old new w own t
-  turned_ok store place place' r a old new w own t e f is =
-      let x : Turned u store place (Ok a) old new w own t =
-      subst (λ p. TurnedAs u store p a old new w own t) (sym e) is in
-      subst (λ r. Turned u store place r old new w own t) (sym f) x
 
 -- WHAT WAS GIVEN TELLS OF THE UPLOAD
 

@@ -25,8 +25,8 @@ use Rattle.tus_session.specs.Moves.{Moves}
 use Rattle.tus_session.specs.Turned.{TurnedAs, Turned}
 use Rattle.tus_session.specs.Bodies.{Parts, Replies, ended_by}
 use Rattle.tus_session.specs.declared.answers.Answer as code
-use Rattle.tus_session.specs.declared.errors.SessionError.{SessionError}
-use Rattle.tus_session.specs.declared.errors.SessionError.TheVariants as errors
+use Rattle.tus_action.specs.declared.acts.Stop.{Stop}
+use Rattle.tus_action.specs.declared.acts.Stop.TheVariants as stops
 use Rattle.tus_session.specs.declared.conns.Patching.{Patching}
 use Rattle.tus_session.specs.declared.conns.Link.{Link}
 use Rattle.tus_session.specs.declared.conns.Task.TheVariants as tasks
@@ -45,7 +45,7 @@ use Rattle.tus_session.proofs.RequestLeaves.{Opened, Leaves, Nothing, Text, Patc
 use Rattle.tus_session.proofs.Unfinished.{judged_as}
 
 -- what was written stays, or none of it
-abbrev pub OutIs : Result code.Answer SessionError → List ℕ → List ℕ → List ℕ → Type 0
+abbrev pub OutIs : {B : Type 0} → Result (Place B × code.Answer) Stop → List ℕ → List ℕ → List ℕ → Type 0
 OutIs (Ok x) old mid new = new ≡ mid
 OutIs (Err e) old mid new = new ≡ old
 
@@ -226,13 +226,13 @@ module _ {U B : Type 0} (u : Ghosts U B) (w : World) (conn : Conn) (h bytes : Li
       gone : without own ((own, p0) ∷ w.patches) ≡ w.patches
       gone = grind (arith, nat_tests)
 
-  module _ (store' : U) (place : Place B) (old mid mid2 new : List ℕ) (k : Link B) (cleared : (bytes_of k.head) ≡ [])
+  module _ (store' : U) (old mid mid2 new : List ℕ) (k : Link B) (cleared : (bytes_of k.head) ≡ [])
       (written : mid ≡ old ++ (acted w (Asks r)).bytes) where
-    part_case : (a : Result code.Answer SessionError) → length q < r.length
-        → Parts u store' place a (record k { left = r.length - length q; task = tasks.Idle }) b (before + length q)
+    part_case : (a : Result (Place B × code.Answer) Stop) → length q < r.length
+        → Parts u store' a (record k { left = r.length - length q; task = tasks.Idle }) b (before + length q)
         (fed v own q) (fed_patch v own p0 q) (dropped v own)
-        → mid2 ≡ mid → OutIs a old mid2 new → Turned u store' place a old new w None (came_turn w conn bytes)
-    part_case (Ok a) few (b', goes) same out =
+        → mid2 ≡ mid → OutIs a old mid2 new → Turned u store' a old new w None (came_turn w conn bytes)
+    part_case (Ok (place, a)) few (b', goes) same out =
         let within = head_within w conn h is.inside bytes n before (Asks r) is.judged is.before_is in
         let l : length q ≡ length bytes - before = length-drop before bytes in
         let body : drop n (h ++ bytes) ≡ q = drop_behind h bytes before n within.0 in
@@ -254,18 +254,14 @@ module _ {U B : Type 0} (u : Ghosts U B) (w : World) (conn : Conn) (h bytes : Li
           bytes = out ∙ (same ∙ (written ∙ ap (λ z. old ++ z) (sym (append-nil (acted w (Asks r)).bytes))));
         } in
         subst (TurnedAs u store' place a old new w None) (sym (part_is w conn h bytes n before r is y few)) now
-    part_case (Err errors.NoMemory) few (shown, closed) same out =
-        (subst (u.stands store') dropped_first shown, closed, out)
-    part_case (Err errors.DiskFault) few z same out = out
-    part_case (Err errors.TooMany) few z same out = absurd z
-    part_case (Err errors.Closed) few z same out = absurd z
-    part_case (Err errors.Down) few z same out = absurd z
+    part_case (Err stops.NoMemory) few shown same out = (subst (u.stands store') dropped_first shown, out)
+    part_case (Err stops.DiskFault) few z same out = out
 
-    rest_case : (a : Result code.Answer SessionError) → r.length ≤ length q
-        → Replies u store' place a mid mid2 (record k { left = 0; task = tasks.Idle }) (before + r.length)
+    rest_case : (a : Result (Place B × code.Answer) Stop) → r.length ≤ length q
+        → Replies u store' a mid mid2 (record k { left = 0; task = tasks.Idle }) (before + r.length)
         (ended_by v own p0 (take r.length q) r) (dropped v own)
-        → OutIs a old mid2 new → Turned u store' place a old new w None (came_turn w conn bytes)
-    rest_case (Ok a) enough answered out =
+        → OutIs a old mid2 new → Turned u store' a old new w None (came_turn w conn bytes)
+    rest_case (Ok (place, a)) enough answered out =
         let m = ended_by v own p0 (take r.length q) r in
         let t : length (take r.length q) ≡ r.length = length-take-le r.length q enough in
         let s' = conn.stream ++ take (before + r.length) bytes in
@@ -302,50 +298,43 @@ module _ {U B : Type 0} (u : Ghosts U B) (w : World) (conn : Conn) (h bytes : Li
         more_is : (s' : List ℕ) (c : Bool) → false ≡ has_text (if c then None else Some (plain s' None))
         more_is s' true = refl
         more_is s' false = refl
-    rest_case (Err errors.NoMemory) enough (shown, closed, same) out =
-        (subst (u.stands store') dropped_first shown, closed, out)
-    rest_case (Err errors.DiskFault) enough z out = out
-    rest_case (Err errors.TooMany) enough z out = absurd z
-    rest_case (Err errors.Closed) enough z out = absurd z
-    rest_case (Err errors.Down) enough z out = absurd z
+    rest_case (Err stops.NoMemory) enough (shown, same) out = (subst (u.stands store') dropped_first shown, out)
+    rest_case (Err stops.DiskFault) enough z out = out
 
-    pub patch_opened : (a : Result code.Answer SessionError) (z : List ℕ) → z ≡ q
-        → (length z < r.length → Parts u store' place a (record k { left = r.length - length z; task = tasks.Idle }) b
+    pub patch_opened : (a : Result (Place B × code.Answer) Stop) (z : List ℕ) → z ≡ q
+        → (length z < r.length → Parts u store' a (record k { left = r.length - length z; task = tasks.Idle }) b
         (before + length z) (fed v own z) (fed_patch v own p0 z) (dropped v own))
         → (length z < r.length → mid2 ≡ mid)
-        → (r.length ≤ length z → Replies u store' place a mid mid2 (record k { left = 0; task = tasks.Idle })
+        → (r.length ≤ length z → Replies u store' a mid mid2 (record k { left = 0; task = tasks.Idle })
         (before + r.length) (ended_by v own p0 (take r.length z) r) (dropped v own))
-        → OutIs a old mid2 new → Turned u store' place a old new w conn.draft (came_turn w conn bytes)
+        → OutIs a old mid2 new → Turned u store' a old new w conn.draft (came_turn w conn bytes)
     patch_opened a z e part same rest out =
-        subst (λ d. Turned u store' place a old new w d (came_turn w conn bytes)) (sym is.inside.draft)
+        subst (λ d. Turned u store' a old new w d (came_turn w conn bytes)) (sym is.inside.draft)
         (elim (cases_lt (length z) r.length) [
           | inl few ↦
               part_case a (subst (λ y. length y < r.length) e few)
-              (subst (λ y. Parts u store' place a (record k { left = r.length - length y; task = tasks.Idle }) b
+              (subst (λ y. Parts u store' a (record k { left = r.length - length y; task = tasks.Idle }) b
               (before + length y) (fed v own y) (fed_patch v own p0 y) (dropped v own)) e (part few)) (same few) out
           | inr enough ↦
               rest_case a (subst (λ y. r.length ≤ length y) e enough)
-              (subst (λ y. Replies u store' place a mid mid2 (record k { left = 0; task = tasks.Idle })
+              (subst (λ y. Replies u store' a mid mid2 (record k { left = 0; task = tasks.Idle })
               (before + r.length) (ended_by v own p0 (take r.length y) r) (dropped v own)) e (rest enough)) out
         ])
 
-    replies_err : (place' : Place B) (e : SessionError) (taken : ℕ) (m : Acted) (k' : Link B) (gone : World)
-        → Replies u store' place' (Err e) mid mid2 k' taken m gone → mid2 ≡ mid
-    replies_err place' errors.NoMemory taken m k' gone (shown, closed, same) = same
-    replies_err place' errors.DiskFault taken m k' gone same = same
-    replies_err place' errors.TooMany taken m k' gone z = absurd z
-    replies_err place' errors.Closed taken m k' gone z = absurd z
-    replies_err place' errors.Down taken m k' gone z = absurd z
+    replies_err : (e : Stop) (taken : ℕ) (m : Acted) (k' : Link B) (gone : World)
+        → Replies u store' (Err e) mid mid2 k' taken m gone → mid2 ≡ mid
+    replies_err stops.NoMemory taken m k' gone (shown, same) = same
+    replies_err stops.DiskFault taken m k' gone same = same
 
     -- what was written is taken back
-    pub taken_back : (e : SessionError) (z : List ℕ) (start : ℕ) → (length z < r.length → mid2 ≡ mid)
-        → (r.length ≤ length z → Replies u store' place (Err e) mid mid2 (record k { left = 0; task = tasks.Idle })
+    pub taken_back : (e : Stop) (z : List ℕ) (start : ℕ) → (length z < r.length → mid2 ≡ mid)
+        → (r.length ≤ length z → Replies u store' (Err e) mid mid2 (record k { left = 0; task = tasks.Idle })
         (before + r.length) (ended_by v own p0 (take r.length z) r) (dropped v own))
         → start ≡ length old → new ≡ take start mid2 → new ≡ old
     taken_back e z start same rest start_is cut_is =
         let back : mid2 ≡ mid = elim (cases_lt (length z) r.length) [
           | inl few ↦ same few
-          | inr enough ↦ replies_err place e (before + r.length) (ended_by v own p0 (take r.length z) r)
+          | inr enough ↦ replies_err e (before + r.length) (ended_by v own p0 (take r.length z) r)
               (record k { left = 0; task = tasks.Idle }) (dropped v own) (rest enough)
         ] in
         cut_is ∙ (ap (take start) (back ∙ written) ∙ (ap (λ i. take i (old ++ (acted w (Asks r)).bytes)) start_is

@@ -8,8 +8,11 @@ use Rattle.tus_session.specs.History.{Done, Refused, step, put, turned, conn_in,
 use Rattle.tus_session.specs.History.{ended_at, is_closed, has_text}
 use Rattle.tus_session.specs.Stands.{PlaceIs, draft_at, SessionStands}
 use Rattle.tus_session.specs.Moves.{Moves}
-use Rattle.tus_session.specs.Turned.{Turned}
+use Rattle.tus_session.specs.Turned.{Turned, TurnedAs, EndedAs}
 use Rattle.tus_session.specs.Turned.{Ended as EndedBy}
+use Rattle.tus_session.specs.Faults.{error_of}
+use Rattle.tus_action.specs.declared.acts.Stop.{Stop}
+use Rattle.tus_action.specs.declared.acts.Stop.TheVariants as stops
 use Rattle.tus_session.specs.Told.{Follows, Told, Ends}
 use Rattle.tus_session.specs.declared.answers.Answer.{Answer}
 use Rattle.tus_session.specs.declared.conns.Place.{Place}
@@ -17,7 +20,8 @@ use Rattle.tus_session.specs.declared.conns.Place.TheVariants.{Closed}
 use Rattle.tus_session.specs.declared.errors.SessionError.{SessionError}
 use Rattle.tus_session.specs.declared.errors.SessionError.TheVariants as errors
 use Rattle.tus_session.proofs.Moved.{left_moves}
-use Rattle.tus_session.proofs.InPlace.{IsPut, in_place}
+use Rattle.tus_session.specs.Places.{IsPut}
+use Rattle.tus_session.proofs.InPlace.{in_place}
 
 -- the event's turn on an open connection
 pub record IsTurn (st : State) (e : Event) (conn : Conn) (t : Turn) : Type 0 where
@@ -67,65 +71,66 @@ module _ {U B : Type 0} (u : Ghosts U B) where
   gave out new a t e f g = sym (ap (λ n. Gave t.bytes n a.closes a.more) e ∙ (ap (λ b. Gave t.bytes t.taken b a.more) f
       ∙ ap (λ b. Gave t.bytes t.taken (is_closed t.conn) b) g))
 
-  module _ (places all : List (Place B)) (store store' : U) (st : State) (next : Place B) (e : Event) (conn : Conn)
-      (stands : SessionStands u places store st) (is_put : IsPut places all (conn_in e) next) (on : IsOnOpen e) where
-    moves_at : (w' : World) (own' : Option ℕ) → st.conns (conn_in e) ≡ Some conn → Moves st.world w' conn.draft own'
+  module _ (places all : List (Place B)) (store store' : U) (st : State) (e : Event) (conn : Conn)
+      (stands : SessionStands u places store st) (on : IsOnOpen e) (is : st.conns (conn_in e) ≡ Some conn) where
+    moves_at : (w' : World) (own' : Option ℕ) → Moves st.world w' conn.draft own'
         → Moves st.world w' (draft_at (st.conns (conn_in e))) own'
-    moves_at w' own' is moves = subst (λ o. Moves st.world w' (draft_at o) own') (sym is) moves
+    moves_at w' own' moves = subst (λ o. Moves st.world w' (draft_at o) own') (sym is) moves
 
     -- the connection is gone, with its draft
-    pub lost : st.conns (conn_in e) ≡ Some conn → next ≡ Closed → u.stands store' (left_world st.world conn.draft)
+    lost : IsPut places all (conn_in e) Closed → u.stands store' (left_world st.world conn.draft)
         → Follows u all store' (step st e OutOfMemory).state (step st e OutOfMemory).outcome (Refused errors.NoMemory)
-    lost is closed shown =
+    lost is_put shown =
         let w' = left_world st.world conn.draft in
-        let here : PlaceIs u w' next None = subst (λ p. PlaceIs u w' p None) (sym closed) tt in
         let s : SessionStands u all store' (put st w' (conn_in e) None) =
-        in_place u places all store store' st w' (conn_in e) next None stands is_put
-        (moves_at w' None is (left_moves st.world conn.draft)) shown here in
+        in_place u places all store store' st w' (conn_in e) Closed None stands is_put
+        (moves_at w' None (left_moves st.world conn.draft)) shown tt in
         let x : Step = record { state = put st w' (conn_in e) None; outcome = Refused errors.NoMemory } in
         let f : Follows u all store' x.state x.outcome (Refused errors.NoMemory) =
         record { stands = s; outcome = refl } in
         subst (λ y. Follows u all store' y.state y.outcome (Refused errors.NoMemory))
         (sym (memory_is st e conn on is)) f
 
-    pub told : (t : Turn) (r : Result Answer SessionError) (old new : List ℕ) → IsTurn st e conn t
-        → Turned u store' next r old new st.world conn.draft t
-        → Told u all store' r old new st e
-    told t (Ok a) old new is turn =
+    pub told : (next : Place B) (t : Turn) (a : Answer) (old new : List ℕ) → IsPut places all (conn_in e) next
+        → IsTurn st e conn t → TurnedAs u store' next a old new st.world conn.draft t
+        → Told u all store' (Ok a) old new st e
+    told next t a old new is_put is_turn turn =
         let s : SessionStands u all store' (put st t.world (conn_in e) t.conn) =
         in_place u places all store store' st t.world (conn_in e) next t.conn stands is_put
-        (moves_at t.world (draft_at t.conn) is.conn_is turn.moves) turn.shown turn.here in
+        (moves_at t.world (draft_at t.conn) turn.moves) turn.shown turn.here in
         let x = turned st (conn_in e) t in
         let f : Follows u all store' x.state x.outcome (Gave t.bytes a.taken a.closes a.more) =
         record { stands = s; outcome = gave old new a t turn.taken turn.closes turn.more } in (
           t.bytes,
           subst (λ y. Follows u all store' y.state y.outcome (Gave t.bytes a.taken a.closes a.more))
-              (sym is.step_is) f,
+              (sym is_turn.step_is) f,
           turn.bytes,
         )
-    told t (Err errors.NoMemory) old new is (shown, closed, same) = (lost is.conn_is closed shown, same)
-    told t (Err errors.DiskFault) old new is same = (failed_is st e conn on is.conn_is, same)
-    told t (Err errors.TooMany) old new is turn = absurd turn
-    told t (Err errors.Closed) old new is turn = absurd turn
-    told t (Err errors.Down) old new is turn = absurd turn
 
-    pub ends : (r : Result (Unit {0}) SessionError) → st.conns (conn_in e) ≡ Some conn → next ≡ Closed
+    -- an error closes the connection
+    pub stopped : (t : Turn) (stop : Stop) (old new : List ℕ) → IsPut places all (conn_in e) Closed
+        → Turned u store' (Err stop) old new st.world conn.draft t
+        → Told u all store' (Err (error_of stop)) old new st e
+    stopped t stops.NoMemory old new is_put (shown, same) = (lost is_put shown, same)
+    stopped t stops.DiskFault old new is_put same = (failed_is st e conn on is, same)
+
+    pub ends : IsPut places all (conn_in e) Closed
         → step st e Served ≡ record { state = put st (ended_world st.world conn) (conn_in e) None; outcome = Done }
-        → EndedBy u store' r st.world conn.draft (ended_world st.world conn) → Ends u all store' r st e
-    ends (Ok x) is closed done turn =
+        → EndedAs u store' st.world conn.draft (ended_world st.world conn) → Ends u all store' (Ok tt) st e
+    ends is_put done turn =
         let w' = ended_world st.world conn in
-        let here : PlaceIs u w' next None = subst (λ p. PlaceIs u w' p None) (sym closed) tt in
         let s : SessionStands u all store' (put st w' (conn_in e) None) =
-        in_place u places all store store' st w' (conn_in e) next None stands is_put
-        (moves_at w' None is turn.moves) turn.shown here in
+        in_place u places all store store' st w' (conn_in e) Closed None stands is_put
+        (moves_at w' None turn.moves) turn.shown tt in
         let x : Step = record { state = put st w' (conn_in e) None; outcome = Done } in
         let f : Follows u all store' x.state x.outcome Done = record { stands = s; outcome = refl } in
         subst (λ y. Follows u all store' y.state y.outcome Done) (sym done) f
-    ends (Err errors.NoMemory) is closed done shown = lost is closed shown
-    ends (Err errors.DiskFault) is closed done turn = failed_is st e conn on is
-    ends (Err errors.TooMany) is closed done turn = absurd turn
-    ends (Err errors.Closed) is closed done turn = absurd turn
-    ends (Err errors.Down) is closed done turn = absurd turn
+
+    pub ends_stopped : (stop : Stop) → IsPut places all (conn_in e) Closed
+        → EndedBy u store' (Err stop) st.world conn.draft (ended_world st.world conn)
+        → Ends u all store' (Err (error_of stop)) st e
+    ends_stopped stops.NoMemory is_put shown = lost is_put shown
+    ends_stopped stops.DiskFault is_put turn = failed_is st e conn on is
 
   -- no connection is open there
   pub none_came : (places : List (Place B)) (store : U) (st : State) (c : ℕ) (bytes : List ℕ)

@@ -12,8 +12,8 @@ use Rattle.tus_session.specs.declared.conns.Link.{Link}
 use Rattle.tus_session.specs.declared.conns.Task.TheVariants as tasks
 use Rattle.tus_session.specs.declared.conns.Place.{Place}
 use Rattle.tus_session.specs.declared.conns.Place.TheVariants.{Closed, Open}
-use Rattle.tus_session.specs.declared.errors.SessionError.{SessionError}
-use Rattle.tus_session.specs.declared.errors.SessionError.TheVariants.{NoMemory, DiskFault}
+use Rattle.tus_action.specs.declared.acts.Stop.{Stop}
+use Rattle.tus_action.specs.declared.acts.Stop.TheVariants.{NoMemory, DiskFault}
 
 -- the answer that gives nothing more
 abbrev pub took : ℕ → Bool → Answer
@@ -36,12 +36,11 @@ abbrev pub GoesOnSome : {U B : Type 0} → Ghosts U B → U → Place B → Answ
     → Type 0
 GoesOnSome {U} {B} u store place a k b taken w p = (b' : Patching B) × GoesOn u store place a k b b' taken w p
 
-abbrev pub Parts : {U B : Type 0} → Ghosts U B → U → Place B → Result Answer SessionError → Link B → Patching B → ℕ
-    → World → Patch → World → Type 0
-Parts u store place (Ok a) k b taken w p gone = GoesOnSome u store place a k b taken w p
-Parts u store place (Err NoMemory) k b taken w p gone = u.stands store gone × (place ≡ Closed)
-Parts u store place (Err DiskFault) k b taken w p gone = Unit {0}
-Parts u store place (Err f) k b taken w p gone = ⊥
+abbrev pub Parts : {U B : Type 0} → Ghosts U B → U → Result (Place B × Answer) Stop → Link B → Patching B → ℕ → World
+    → Patch → World → Type 0
+Parts u store (Ok (place, a)) k b taken w p gone = GoesOnSome u store place a k b taken w p
+Parts u store (Err NoMemory) k b taken w p gone = u.stands store gone
+Parts u store (Err DiskFault) k b taken w p gone = Unit {0}
 
 -- an answer was given, and nothing is open
 pub record Answered {U B : Type 0} (u : Ghosts U B) (store : U) (place : Place B) (a : Answer) (old new : List ℕ)
@@ -51,12 +50,11 @@ pub record Answered {U B : Type 0} (u : Ghosts U B) (store : U) (place : Place B
   pub answer_is : a ≡ took taken m.closes
   pub bytes : new ≡ old ++ m.bytes
 
-abbrev pub Replies : {U B : Type 0} → Ghosts U B → U → Place B → Result Answer SessionError → List ℕ → List ℕ → Link B
-    → ℕ → Acted → World → Type 0
-Replies u store place (Ok a) old new k taken m gone = Answered u store place a old new k taken m
-Replies u store place (Err NoMemory) old new k taken m gone = u.stands store gone × (place ≡ Closed) × (new ≡ old)
-Replies u store place (Err DiskFault) old new k taken m gone = new ≡ old
-Replies u store place (Err f) old new k taken m gone = ⊥
+abbrev pub Replies : {U B : Type 0} → Ghosts U B → U → Result (Place B × Answer) Stop → List ℕ → List ℕ → Link B → ℕ
+    → Acted → World → Type 0
+Replies u store (Ok (place, a)) old new k taken m gone = Answered u store place a old new k taken m
+Replies u store (Err NoMemory) old new k taken m gone = u.stands store gone × (new ≡ old)
+Replies u store (Err DiskFault) old new k taken m gone = new ≡ old
 
 -- the body's end, with the rest of the body
 abbrev pub ended_by : World → ℕ → Patch → List ℕ → Request → Acted

@@ -11,8 +11,8 @@ ghost use Rattle.tus_session.specs.Bodies.{Parts, Replies, ended_by, took};
 ghost use Rattle.tus_request.specs.Replies.{longest_reply, GrowsBy};
 
 use crate::conns::{Link, Patching, Place, Task};
-use crate::turns::place_of;
-use crate::{Answer, SessionError};
+use crate::Answer;
+use crate::turns::{place_of, waits};
 use std::alloc::Global;
 use tus_action::{Acted, Stop, end_body, feed_body};
 use tus_request::HeadBuffer;
@@ -48,13 +48,13 @@ fn go_on<U: Uploads>(
     left: u64,
     before: usize,
     bytes: &[u8],
-) -> (Place<U::Draft>, Result<Answer, SessionError>)
+) -> Result<(Place<U::Draft>, Answer), Stop>
     requires few { length bytes.now < left }
     requires fits { before + length bytes.now < 2 ^ 64 }
     ensures answer { (w : World) (p : Patch) → U.stands store.old w → find (U.number_of patch.draft) w.patches ≡ Some p
         → U.holds patch.draft p
         → length p.body + length bytes.now ≤ p.count
-        → Parts U.Uploads store.new result.0 result.1
+        → Parts U.Uploads store.new result
         (record { head = head; left = left - length bytes.now; task = Task.Idle }) patch (before + length bytes.now)
         (fed w (U.number_of patch.draft) bytes.now) (fed_patch w (U.number_of patch.draft) p bytes.now)
         (dropped w (U.number_of patch.draft)) }
@@ -62,8 +62,7 @@ fn go_on<U: Uploads>(
         → U.holds patch.draft p
         → Limits (U.moment store.old) (U.moment store.new) (U.left_only store.old)
         (U.left_only store.new) w.store w.store }
-    ensures counts { Counts (IsErrOf result.1 SessionError.DiskFault) (U.failures store.old) (U.failures store.new) }
-    ensures no_down { IsErrOf result.1 SessionError.Down → ⊥ }
+    ensures counts { Counts (IsErrOf result Stop.DiskFault) (U.failures store.old) (U.failures store.new) }
 {
     let Patching {
         draft,
@@ -71,29 +70,19 @@ fn go_on<U: Uploads>(
         bare,
         closes,
     } = patch;
-    match feed_body(store, draft, bytes) {
-        Ok(draft) => {
-            let patch = Patching {
-                draft,
-                reached,
-                bare,
-                closes,
-            };
-            let link = Link {
-                head,
-                left: left - bytes.len() as u64,
-                task: Task::Patch(patch),
-            };
-            let answer = Answer {
-                taken: before + bytes.len(),
-                closes: false,
-                more: false,
-            };
-            (Place::Open(link), Ok(answer))
-        }
-        Err(Stop::NoMemory) => (Place::Closed, Err(SessionError::NoMemory)),
-        Err(Stop::DiskFault) => (Place::Closed, Err(SessionError::DiskFault)),
-    }
+    let draft = feed_body(store, draft, bytes)?;
+    let patch = Patching {
+        draft,
+        reached,
+        bare,
+        closes,
+    };
+    let link = Link {
+        head,
+        left: left - bytes.len() as u64,
+        task: Task::Patch(patch),
+    };
+    Ok((Place::Open(link), waits(before + bytes.len(), false)))
 }
 
 // The rest of a patch's body came: it is committed, or refused, and answered.
@@ -105,13 +94,13 @@ fn finish<U: Uploads>(
     before: usize,
     bytes: &[u8],
     out: &mut Vec<u8>,
-) -> (Place<U::Draft>, Result<Answer, SessionError>)
+) -> Result<(Place<U::Draft>, Answer), Stop>
     requires { before + length bytes.now < 2 ^ 64 }
     ensures answer { (w : World) (p : Patch) (r : Request) → U.stands store.old w
         → find (U.number_of patch.draft) w.patches ≡ Some p → U.holds patch.draft p
         → length p.body + length bytes.now ≡ p.count → patch.reached ≡ length p.began.accepted + p.count
         → patch.bare ≡ r.bare → patch.closes ≡ r.closes
-        → Replies U.Uploads store.new result.0 result.1 out.old.items out.new.items
+        → Replies U.Uploads store.new result out.old.items out.new.items
         (record { head = head; left = 0; task = Task.Idle }) (before + length bytes.now)
         (ended_by w (U.number_of patch.draft) p bytes.now r) (dropped w (U.number_of patch.draft)) }
     ensures crash { (w : World) (p : Patch) (r : Request) → U.stands store.old w
@@ -121,11 +110,10 @@ fn finish<U: Uploads>(
         (ended_by w (U.number_of patch.draft) p bytes.now r).world.store }
     ensures unmade { (w : World) (p : Patch) → U.stands store.old w → find (U.number_of patch.draft) w.patches ≡ Some p
         → U.holds patch.draft p
-        → length p.body + length bytes.now ≤ p.count → IsErrOf result.1 SessionError.NoMemory
+        → length p.body + length bytes.now ≤ p.count → IsErrOf result Stop.NoMemory
         → Limits (U.moment store.old) (U.moment store.new) (U.left_only store.old)
         (U.left_only store.new) w.store w.store }
-    ensures counts { Counts (IsErrOf result.1 SessionError.DiskFault) (U.failures store.old) (U.failures store.new) }
-    ensures no_down { IsErrOf result.1 SessionError.Down → ⊥ }
+    ensures counts { Counts (IsErrOf result Stop.DiskFault) (U.failures store.old) (U.failures store.new) }
     ensures few { GrowsBy longest_reply out.old.items out.new.items }
 {
     let Patching {
@@ -134,23 +122,14 @@ fn finish<U: Uploads>(
         bare,
         closes,
     } = patch;
-    let draft = match feed_body(store, draft, bytes) {
-        Ok(draft) => draft,
-        Err(Stop::NoMemory) => return (Place::Closed, Err(SessionError::NoMemory)),
-        Err(Stop::DiskFault) => return (Place::Closed, Err(SessionError::DiskFault)),
+    let draft = feed_body(store, draft, bytes)?;
+    let acted = end_body(alloc, store, draft, reached, bare, closes, out)?;
+    let answer = Answer {
+        taken: before + bytes.len(),
+        closes: acted.closes,
+        more: false,
     };
-    match end_body(alloc, store, draft, reached, bare, closes, out) {
-        Ok(acted) => {
-            let answer = Answer {
-                taken: before + bytes.len(),
-                closes: acted.closes,
-                more: false,
-            };
-            (answered(head, reached, bare, acted), Ok(answer))
-        }
-        Err(Stop::NoMemory) => (Place::Closed, Err(SessionError::NoMemory)),
-        Err(Stop::DiskFault) => (Place::Closed, Err(SessionError::DiskFault)),
-    }
+    Ok((answered(head, reached, bare, acted), answer))
 }
 
 // A connection whose patch was answered.
@@ -192,12 +171,12 @@ pub(crate) fn body_of<U: Uploads>(
     before: usize,
     bytes: &[u8],
     out: &mut Vec<u8>,
-) -> (Place<U::Draft>, Result<Answer, SessionError>)
+) -> Result<(Place<U::Draft>, Answer), Stop>
     requires { before + length bytes.now < 2 ^ 64 }
     ensures part { length bytes.now < left → (w : World) (p : Patch) → U.stands store.old w
         → find (U.number_of patch.draft) w.patches ≡ Some p → U.holds patch.draft p
         → length p.body + length bytes.now ≤ p.count
-        → Parts U.Uploads store.new result.0 result.1
+        → Parts U.Uploads store.new result
         (record { head = head; left = left - length bytes.now; task = Task.Idle }) patch (before + length bytes.now)
         (fed w (U.number_of patch.draft) bytes.now) (fed_patch w (U.number_of patch.draft) p bytes.now)
         (dropped w (U.number_of patch.draft)) }
@@ -210,7 +189,7 @@ pub(crate) fn body_of<U: Uploads>(
         → find (U.number_of patch.draft) w.patches ≡ Some p → U.holds patch.draft p
         → length p.body + left ≡ p.count → patch.reached ≡ length p.began.accepted + p.count → patch.bare ≡ r.bare
         → patch.closes ≡ r.closes
-        → Replies U.Uploads store.new result.0 result.1 out.old.items out.new.items
+        → Replies U.Uploads store.new result out.old.items out.new.items
         (record { head = head; left = 0; task = Task.Idle }) (before + left)
         (ended_by w (U.number_of patch.draft) p (take left bytes.now) r) (dropped w (U.number_of patch.draft)) }
     ensures rest_crash { left ≤ length bytes.now → (w : World) (p : Patch) (r : Request) → U.stands store.old w
@@ -220,11 +199,10 @@ pub(crate) fn body_of<U: Uploads>(
         (ended_by w (U.number_of patch.draft) p (take left bytes.now) r).world.store }
     ensures unmade { (w : World) (p : Patch) → U.stands store.old w → find (U.number_of patch.draft) w.patches ≡ Some p
         → U.holds patch.draft p
-        → length p.body + left ≤ p.count → IsErrOf result.1 SessionError.NoMemory
+        → length p.body + left ≤ p.count → IsErrOf result Stop.NoMemory
         → Limits (U.moment store.old) (U.moment store.new) (U.left_only store.old)
         (U.left_only store.new) w.store w.store }
-    ensures counts { Counts (IsErrOf result.1 SessionError.DiskFault) (U.failures store.old) (U.failures store.new) }
-    ensures no_down { IsErrOf result.1 SessionError.Down → ⊥ }
+    ensures counts { Counts (IsErrOf result Stop.DiskFault) (U.failures store.old) (U.failures store.new) }
     ensures few { GrowsBy longest_reply out.old.items out.new.items }
 {
     if (bytes.len() as u64) < left {

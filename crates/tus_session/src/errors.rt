@@ -1,4 +1,8 @@
 //! Why a call of a session gives no answer.
+ghost use Rattle.std.specs.Prelude.{◌≡◌};
+ghost use Rattle.tus_session.specs.Faults.{error_of};
+
+use tus_action::Stop;
 
 /// Why a call of a session gives no answer.
 #[derive(Clone, Copy, Debug, PartialEq, Eq, Drop)]
@@ -13,4 +17,15 @@ pub enum SessionError {
     Closed,
     /// The device failed in an earlier call: the store must be opened again. A session alone never answers it.
     Down,
+}
+
+impl From<Stop> for SessionError {
+    fn from(stop: Stop) -> Self
+        ensures { result ≡ error_of stop }
+    {
+        match stop {
+            Stop::NoMemory => SessionError::NoMemory,
+            Stop::DiskFault => SessionError::DiskFault,
+        }
+    }
 }

@@ -16,8 +16,8 @@ ghost use Rattle.tus_session.specs.Turns.{GivesFew};
 
 use crate::bodies::{body_of, skip};
 use crate::conns::{Link, Patching, Place, Task};
-use crate::turns::{place_of, unmoved, waits};
-use crate::{Answer, SessionError};
+use crate::Answer;
+use crate::turns::{place_of, waits};
 use std::alloc::Global;
 use tus_action::{Acted, Giving, PieceBuffer, Stop, act};
 use tus_request::replies::reply_refused;
@@ -77,7 +77,7 @@ fn request_of<U: Uploads>(
     bytes: &[u8],
     buffer: &mut PieceBuffer,
     out: &mut Vec<u8>,
-) -> (Place<U::Draft>, Result<Answer, SessionError>)
+) -> Result<(Place<U::Draft>, Answer), Stop>
     requires makeable { CanBeMade (request_shown request).action }
     requires usable { (w : World) → U.stands store.old w → CanBeRead w (request_shown request).action }
     requires small { IsSmall (request_shown request) }
@@ -85,18 +85,17 @@ fn request_of<U: Uploads>(
     requires cleared { (bytes_of head) ≡ [] }
     ensures answer { (w : World) (conn : Conn) (h : List ℕ) (n : ℕ) → U.stands store.old w
         → IsWhole w conn h bytes.now n before (Asks (request_shown request))
-        → Turned U.Uploads store.new result.0 result.1 out.old.items out.new.items w conn.draft
+        → Turned U.Uploads store.new result out.old.items out.new.items w conn.draft
         (came_turn w conn bytes.now) }
     ensures crash { (w : World) (conn : Conn) (h : List ℕ) (n : ℕ) → U.stands store.old w
         → IsWhole w conn h bytes.now n before (Asks (request_shown request))
         → Limits (U.moment store.old) (U.moment store.new) (U.left_only store.old) (U.left_only store.new) w.store
         (came_turn w conn bytes.now).world.store }
     ensures unmade { (w : World) (conn : Conn) (h : List ℕ) (n : ℕ) → U.stands store.old w
-        → IsWhole w conn h bytes.now n before (Asks (request_shown request)) → IsErrOf result.1 SessionError.NoMemory
+        → IsWhole w conn h bytes.now n before (Asks (request_shown request)) → IsErrOf result Stop.NoMemory
         → Limits (U.moment store.old) (U.moment store.new) (U.left_only store.old)
         (U.left_only store.new) w.store w.store }
-    ensures counts { Counts (IsErrOf result.1 SessionError.DiskFault) (U.failures store.old) (U.failures store.new) }
-    ensures no_down { IsErrOf result.1 SessionError.Down → ⊥ }
+    ensures counts { Counts (IsErrOf result Stop.DiskFault) (U.failures store.old) (U.failures store.new) }
     ensures few { GivesFew out.old.items out.new.items }
 {
     let length = request.length;
@@ -105,16 +104,11 @@ fn request_of<U: Uploads>(
     let reached = reached_by(&request);
     let behind = &bytes[before..];
     let start = out.len();
-    let acted = match act(alloc, store, request, buffer, out) {
-        Ok(acted) => acted,
-        Err(Stop::NoMemory) => return (Place::Closed, Err(SessionError::NoMemory)),
-        Err(Stop::DiskFault) => return (Place::Closed, Err(SessionError::DiskFault)),
-    };
     let Acted {
         draft,
         giving,
         closes: over,
-    } = acted;
+    } = act(alloc, store, request, buffer, out)?;
     match draft {
         Some(draft) => {
             let patch = Patching {
@@ -123,19 +117,15 @@ fn request_of<U: Uploads>(
                 bare,
                 closes,
             };
-            let (place, answer) = body_of(alloc, store, head, patch, length, before, behind, out);
-            match answer {
-                Ok(answer) => (place, Ok(answer)),
-                Err(error) => {
+            match body_of(alloc, store, head, patch, length, before, behind, out) {
+                Ok(turned) => Ok(turned),
+                Err(stop) => {
                     out.truncate(start);
-                    (place, Err(error))
+                    Err(stop)
                 }
             }
         }
-        None => {
-            let (place, answer) = without_patch(head, giving, length, before, behind.len(), over);
-            (place, Ok(answer))
-        }
+        None => Ok(without_patch(head, giving, length, before, behind.len(), over)),
     }
 }
 
@@ -147,28 +137,24 @@ fn head_of<U: Uploads>(
     bytes: &[u8],
     buffer: &mut PieceBuffer,
     out: &mut Vec<u8>,
-) -> (Place<U::Draft>, Result<Answer, SessionError>)
+) -> Result<(Place<U::Draft>, Answer), Stop>
     ensures answer { (w : World) (conn : Conn) → U.stands store.old w → InsideHead w conn (bytes_of head)
-        → Turned U.Uploads store.new result.0 result.1 out.old.items out.new.items w conn.draft
+        → Turned U.Uploads store.new result out.old.items out.new.items w conn.draft
         (came_turn w conn bytes.now) }
     ensures crash { (w : World) (conn : Conn) → U.stands store.old w → InsideHead w conn (bytes_of head)
         → Limits (U.moment store.old) (U.moment store.new) (U.left_only store.old) (U.left_only store.new) w.store
         (came_turn w conn bytes.now).world.store }
     ensures unmade { (w : World) (conn : Conn) → U.stands store.old w → InsideHead w conn (bytes_of head)
-        → IsErrOf result.1 SessionError.NoMemory
+        → IsErrOf result Stop.NoMemory
         → Limits (U.moment store.old) (U.moment store.new) (U.left_only store.old)
         (U.left_only store.new) w.store w.store }
-    ensures counts { Counts (IsErrOf result.1 SessionError.DiskFault) (U.failures store.old) (U.failures store.new) }
-    ensures no_down { IsErrOf result.1 SessionError.Down → ⊥ }
+    ensures counts { Counts (IsErrOf result Stop.DiskFault) (U.failures store.old) (U.failures store.new) }
     ensures few { GivesFew out.old.items out.new.items }
 {
     let mut head = head;
     let had = head.len();
-    let Ok(parsed) = head.read(alloc, bytes, store.indexes()) else {
-        return (Place::Closed, Err(SessionError::NoMemory));
-    };
-    match parsed {
-        Parsed::More => (place_of(head, 0, false), Ok(waits(bytes.len(), false))),
+    match head.read(alloc, bytes, store.indexes())? {
+        Parsed::More => Ok((place_of(head, 0, false), waits(bytes.len(), false))),
         Parsed::Refused {
             taken,
             length,
@@ -179,11 +165,8 @@ fn head_of<U: Uploads>(
         } => {
             let before = taken.saturating_sub(had);
             let behind = &bytes[before..];
-            let Ok(()) = reply_refused(alloc, fault, on_files, bare, closes, out) else {
-                return (Place::Closed, Err(SessionError::NoMemory));
-            };
-            let (place, answer) = skip(head, length, before, behind.len(), closes);
-            (place, Ok(answer))
+            reply_refused(alloc, fault, on_files, bare, closes, out)?;
+            Ok(skip(head, length, before, behind.len(), closes))
         }
         Parsed::Head { taken, request } => {
             let before = taken.saturating_sub(had);
@@ -200,21 +183,20 @@ pub(crate) fn came_of<U: Uploads>(
     bytes: &[u8],
     buffer: &mut PieceBuffer,
     out: &mut Vec<u8>,
-) -> (Place<U::Draft>, Result<Answer, SessionError>)
+) -> Result<(Place<U::Draft>, Answer), Stop>
     ensures answer { (w : World) (conn : Conn) → U.stands store.old w
         → LinkIs U.Uploads w (bytes_of link.head) link.left link.task conn
-        → Turned U.Uploads store.new result.0 result.1 out.old.items out.new.items w conn.draft
+        → Turned U.Uploads store.new result out.old.items out.new.items w conn.draft
         (came_turn w conn bytes.now) }
     ensures crash { (w : World) (conn : Conn) → U.stands store.old w
         → LinkIs U.Uploads w (bytes_of link.head) link.left link.task conn
         → Limits (U.moment store.old) (U.moment store.new) (U.left_only store.old) (U.left_only store.new) w.store
         (came_turn w conn bytes.now).world.store }
     ensures unmade { (w : World) (conn : Conn) → U.stands store.old w
-        → LinkIs U.Uploads w (bytes_of link.head) link.left link.task conn → IsErrOf result.1 SessionError.NoMemory
+        → LinkIs U.Uploads w (bytes_of link.head) link.left link.task conn → IsErrOf result Stop.NoMemory
         → Limits (U.moment store.old) (U.moment store.new) (U.left_only store.old)
         (U.left_only store.new) w.store w.store }
-    ensures counts { Counts (IsErrOf result.1 SessionError.DiskFault) (U.failures store.old) (U.failures store.new) }
-    ensures no_down { IsErrOf result.1 SessionError.Down → ⊥ }
+    ensures counts { Counts (IsErrOf result Stop.DiskFault) (U.failures store.old) (U.failures store.new) }
     ensures few { GivesFew out.old.items out.new.items }
 {
     let Link { head, left, task } = link;
@@ -225,13 +207,10 @@ pub(crate) fn came_of<U: Uploads>(
                 left,
                 task: Task::Text(giving),
             };
-            unmoved(link, true)
+            Ok((Place::Open(link), waits(0, true)))
         }
         Task::Patch(patch) => body_of(alloc, store, head, patch, left, 0, bytes, out),
-        Task::Idle if left > 0 => {
-            let (place, answer) = skip(head, left, 0, bytes.len(), false);
-            (place, Ok(answer))
-        }
+        Task::Idle if left > 0 => Ok(skip(head, left, 0, bytes.len(), false)),
         Task::Idle => head_of(alloc, store, head, bytes, buffer, out),
     }
 }

@@ -1,7 +1,7 @@
 //! Up to `MOST_OPEN` connections over any store of uploads.
-ghost use Rattle.std.specs.Prelude.{◌≡◌, ℕ, Option, IfOk, IsErrOf};
+ghost use Rattle.std.specs.Prelude.{◌≡◌, ◌<◌, ℕ, length, Option, None, IfOk, IfErr, OnOk, OnErr, IsErrOf};
 ghost use Rattle.tus_session.specs.History.{State, Opened, Came, More, Ended, Served, step, beginning};
-ghost use Rattle.tus_session.specs.Places.{places_of};
+ghost use Rattle.tus_session.specs.Places.{places_of, IsPut, IsOpen};
 ghost use Rattle.tus_session.specs.Stands.{SessionStands};
 ghost use Rattle.tus_session.specs.Told.{Opens, Told, Ends};
 ghost use Rattle.upload_rules.specs.Store.{Store};
@@ -105,15 +105,10 @@ impl<U: Uploads> Session<U> {
         ensures no_down { IsErrOf result SessionError.Down → ⊥ }
         ensures few { GivesFew out.old.items out.new.items }
     {
-        if conn >= self.places.len() {
-            return Err(SessionError::Closed);
-        }
-        let (next, answer) = match mem::replace(&mut self.places[conn], Place::Closed) {
-            Place::Closed => return Err(SessionError::Closed),
-            Place::Open(link) => came_of(self.alloc, store, link, bytes, &mut self.buffer, out),
-        };
+        let link = self.take(conn)?;
+        let (next, answer) = came_of(self.alloc, store, link, bytes, &mut self.buffer, out)?;
         put_back(&mut self.places[conn], next);
-        answer
+        Ok(answer)
     }
 
     /// Gives the next piece of a text that is still to be given: 65,536 bytes, or all that are left where they are
@@ -136,15 +131,10 @@ impl<U: Uploads> Session<U> {
         ensures no_down { IsErrOf result SessionError.Down → ⊥ }
         ensures few { GivesFew out.old.items out.new.items }
     {
-        if conn >= self.places.len() {
-            return Err(SessionError::Closed);
-        }
-        let (next, answer) = match mem::replace(&mut self.places[conn], Place::Closed) {
-            Place::Closed => return Err(SessionError::Closed),
-            Place::Open(link) => more_of(store, link, &mut self.buffer, out),
-        };
+        let link = self.take(conn)?;
+        let (next, answer) = more_of(store, link, &mut self.buffer, out)?;
         put_back(&mut self.places[conn], next);
-        answer
+        Ok(answer)
     }
 
     /// The connection ended. What came of a PATCH body is committed, without a reply.
@@ -165,12 +155,27 @@ impl<U: Uploads> Session<U> {
         ensures counts { Counts (IsErrOf result SessionError.DiskFault) (U.failures store.old) (U.failures store.new) }
         ensures no_down { IsErrOf result SessionError.Down → ⊥ }
     {
+        let link = self.take(conn)?;
+        end_of(store, link)?;
+        Ok(())
+    }
+
+    // Takes an open connection out of its place, which is closed then. Refused with `Closed` where none is open.
+    fn take(&mut self, conn: usize) -> Result<Link<U::Draft>, SessionError>
+        ensures open { (store : U) (st : State) → SessionStands U.Uploads (places_of self.old) store st
+            → IfOk result (IsOpen U.Uploads st conn) }
+        ensures taken { OnOk result (IsPut (places_of self.old) (places_of self.new) conn Place.Closed) }
+        ensures within { OnOk result (conn < length (places_of self.new)) }
+        ensures closed { (store : U) (st : State) → SessionStands U.Uploads (places_of self.old) store st
+            → OnErr result ((st.conns conn ≡ None) × SessionStands U.Uploads (places_of self.new) store st) }
+        ensures refusal { IfErr result (λ e. e ≡ SessionError.Closed) }
+    {
         if conn >= self.places.len() {
             return Err(SessionError::Closed);
         }
         match mem::replace(&mut self.places[conn], Place::Closed) {
             Place::Closed => Err(SessionError::Closed),
-            Place::Open(link) => end_of(store, link),
+            Place::Open(link) => Ok(link),
         }
     }
 

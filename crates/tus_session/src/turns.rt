@@ -9,18 +9,10 @@ ghost use Rattle.tus_session.specs.Turned.{Turned, Ended};
 ghost use Rattle.tus_session.specs.Turns.{GivesFew};
 
 use crate::conns::{Link, Patching, Place, Task};
-use crate::{Answer, SessionError};
+use crate::Answer;
 use tus_action::{Given, PieceBuffer, Stop, cut_body, give_more};
 use tus_request::HeadBuffer;
 use upload_rules::Uploads;
-
-// Nothing was given: the connection is as it was.
-pub(crate) fn unmoved<B>(link: Link<B>, more: bool) -> (Place<B>, Result<Answer, SessionError>)
-    ensures place { result.0 ≡ Place.Open link }
-    ensures answer { result.1 ≡ Ok (record { taken = 0; closes = false; more = more }) }
-{
-    (Place::Open(link), Ok(waits(0, more)))
-}
 
 // What is answered where the connection stays open and nothing was given.
 pub(crate) fn waits(taken: usize, more: bool) -> Answer
@@ -40,57 +32,46 @@ pub(crate) fn more_of<U: Uploads>(
     link: Link<U::Draft>,
     buffer: &mut PieceBuffer,
     out: &mut Vec<u8>,
-) -> (Place<U::Draft>, Result<Answer, SessionError>)
+) -> Result<(Place<U::Draft>, Answer), Stop>
     ensures answer { (w : World) (conn : Conn) → U.stands store.old w
         → LinkIs U.Uploads w (bytes_of link.head) link.left link.task conn
-        → Turned U.Uploads store.new result.0 result.1 out.old.items out.new.items w conn.draft (more_turn w conn) }
+        → Turned U.Uploads store.new result out.old.items out.new.items w conn.draft (more_turn w conn) }
     ensures crash { Quiet (U.moment store.old) (U.moment store.new) (U.left_only store.old) (U.left_only store.new) }
-    ensures counts { Counts (IsErrOf result.1 SessionError.DiskFault) (U.failures store.old) (U.failures store.new) }
-    ensures no_down { IsErrOf result.1 SessionError.Down → ⊥ }
+    ensures counts { Counts (IsErrOf result Stop.DiskFault) (U.failures store.old) (U.failures store.new) }
     ensures few { GivesFew out.old.items out.new.items }
 {
     let Link { head, left, task } = link;
     let giving = match task {
         Task::Text(giving) => giving,
-        task => return unmoved(Link { head, left, task }, false),
+        task => return Ok((Place::Open(Link { head, left, task }), waits(0, false))),
     };
-    match give_more(store, giving, buffer, out) {
-        Ok(Given::Piece(rest)) => {
-            let answer = Answer {
-                taken: 0,
-                closes: false,
-                more: true,
-            };
+    match give_more(store, giving, buffer, out)? {
+        Given::Piece(rest) => {
             let link = Link {
                 head,
                 left,
                 task: Task::Text(rest),
             };
-            (Place::Open(link), Ok(answer))
+            Ok((Place::Open(link), waits(0, true)))
         }
-        Ok(Given::Last) => {
-            let answer = Answer {
-                taken: 0,
-                closes: giving.closes,
-                more: false,
-            };
-            (place_of(head, left, giving.closes), Ok(answer))
-        }
-        Ok(Given::Gone) => {
-            let answer = Answer {
-                taken: 0,
-                closes: true,
-                more: false,
-            };
-            (Place::Closed, Ok(answer))
-        }
-        Err(Stop::NoMemory) => (Place::Closed, Err(SessionError::NoMemory)),
-        Err(Stop::DiskFault) => (Place::Closed, Err(SessionError::DiskFault)),
+        Given::Last => Ok((place_of(head, left, giving.closes), gave(giving.closes))),
+        Given::Gone => Ok((Place::Closed, gave(true))),
+    }
+}
+
+// What is answered behind the last piece of a text.
+fn gave(closes: bool) -> Answer
+    ensures { result ≡ record { taken = 0; closes = closes; more = false } }
+{
+    Answer {
+        taken: 0,
+        closes,
+        more: false,
     }
 }
 
 // The connection ended: what came of an open patch is committed.
-pub(crate) fn end_of<U: Uploads>(store: &mut U, link: Link<U::Draft>) -> Result<(), SessionError>
+pub(crate) fn end_of<U: Uploads>(store: &mut U, link: Link<U::Draft>) -> Result<(), Stop>
     ensures answer { (w : World) (conn : Conn) → U.stands store.old w
         → LinkIs U.Uploads w (bytes_of link.head) link.left link.task conn
         → Ended U.Uploads store.new result w conn.draft (ended_world w conn) }
@@ -99,11 +80,10 @@ pub(crate) fn end_of<U: Uploads>(store: &mut U, link: Link<U::Draft>) -> Result<
         → Limits (U.moment store.old) (U.moment store.new) (U.left_only store.old) (U.left_only store.new) w.store
         (ended_world w conn).store }
     ensures unmade { (w : World) (conn : Conn) → U.stands store.old w
-        → LinkIs U.Uploads w (bytes_of link.head) link.left link.task conn → IsErrOf result SessionError.NoMemory
+        → LinkIs U.Uploads w (bytes_of link.head) link.left link.task conn → IsErrOf result Stop.NoMemory
         → Limits (U.moment store.old) (U.moment store.new) (U.left_only store.old)
         (U.left_only store.new) w.store w.store }
-    ensures counts { Counts (IsErrOf result SessionError.DiskFault) (U.failures store.old) (U.failures store.new) }
-    ensures no_down { IsErrOf result SessionError.Down → ⊥ }
+    ensures counts { Counts (IsErrOf result Stop.DiskFault) (U.failures store.old) (U.failures store.new) }
 {
     let Link {
         head: _,
@@ -119,11 +99,7 @@ pub(crate) fn end_of<U: Uploads>(store: &mut U, link: Link<U::Draft>) -> Result<
                 bare: _,
                 closes: _,
             },
-        ) => match cut_body(store, draft) {
-            Ok(()) => Ok(()),
-            Err(Stop::NoMemory) => Err(SessionError::NoMemory),
-            Err(Stop::DiskFault) => Err(SessionError::DiskFault),
-        },
+        ) => cut_body(store, draft),
     }
 }
 
