@@ -16,19 +16,21 @@ pub enum Stop {
 }
 
 impl From<AllocError> for Stop {
+    ghost use Rattle.tus_action.specs.declared.acts.Stop.{Stop};
+
+    ghost from_gives = { λ _ stop. stop ≡ Stop.NoMemory };
+
     /// A growth was refused.
-    fn from(_error: AllocError) -> Self
-        ensures { result ≡ Stop.NoMemory }
-    {
+    fn from(_error: AllocError) -> Self {
         Stop::NoMemory
     }
 }
 
 impl From<UploadError> for Stop {
+    ghost from_gives = { λ error stop. stop ≡ stop_of error };
+
     /// Of a call that the rules can't refuse.
-    fn from(error: UploadError) -> Self
-        ensures { result ≡ stop_of error }
-    {
+    fn from(error: UploadError) -> Self {
         match error {
             UploadError::DiskFault => Stop::DiskFault,
             UploadError::NoMemory | UploadError::Refused(_) => Stop::NoMemory,

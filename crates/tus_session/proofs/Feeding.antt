@@ -1,5 +1,5 @@
 -- A patch whose body goes on.
-use Rattle.std.proofs.Common.{◌≡◌, ℕ, ◌+◌, ◌==◌, Bool, true, false, List, [], ◌∷◌, ◌++◌, length, Option, Some, None}
+use Rattle.std.proofs.Common.{◌≡◌, ℕ, ◌+◌, ◌==◌, Bool, true, false, List, [], ◌∷◌, ◌++◌, length, Option, Some, None, Err}
 use Rattle.std.proofs.Common.{refl, sym, ◌∙◌, ap, subst, arith, append-nil, if◌then◌else◌}
 use Rattle.std.proofs.lemmas.Bool.Decides.{nat_tests}
 use Rattle.std.proofs.lemmas.List.{length-append}
@@ -9,13 +9,17 @@ use Rattle.upload_rules.specs.Calls.{longer, appended_at, dropped, commit_refusa
 use Rattle.upload_rules.specs.declared.uploads.Uploads.{Ghosts}
 use Rattle.tus_request.specs.Requests.{Request}
 use Rattle.tus_action.specs.Acts.{Acted, fed, fed_patch}
-use Rattle.tus_action.specs.Serves.{ActedAs, DraftIs}
+use Rattle.tus_action.specs.Serves.{ActedAs, DraftIs, Serves}
+use Rattle.tus_action.specs.declared.acts.Stop.{Stop}
+use Rattle.tus_action.specs.declared.acts.Stop.TheVariants as stops
 use Rattle.tus_action.specs.declared.acts.Acted as code
-use Rattle.tus_session.specs.Bodies.{ended_by, took, Answered}
+use Rattle.tus_session.specs.Bodies.{ended_by, took, Answered, Replies}
 use Rattle.tus_session.specs.declared.conns.Link.{Link}
 use Rattle.tus_session.specs.declared.conns.Task.TheVariants as tasks
 use Rattle.tus_session.specs.declared.conns.Place.{Place}
 use Rattle.tus_session.specs.declared.conns.Place.TheVariants.{Closed, Open}
+use Rattle.tus_session.specs.Turned.{Turned}
+use Rattle.tus_session.specs.Turns.{Conn, Turn, left_world}
 use Rattle.tus_session.proofs.Tasks.{spent_store}
 
 pub fed_body : (w : World) (d : ℕ) (p : Patch) (piece : List ℕ) → (fed_patch w d p piece).body ≡ p.body ++ piece
@@ -103,3 +107,24 @@ module _ {U B : Type 0} (u : Ghosts U B) where
         answer_is = ap (took taken) is.closes;
         bytes = is.bytes;
       }
+
+module _ {U B : Type 0} (u : Ghosts U B) where
+  -- the draft's patch, behind more of its body
+  pub fed_found_as : (w : World) (d : ℕ) (p : Patch) (q : List ℕ) (b : B) → u.number_of b ≡ d
+      → find d (fed w d q).patches ≡ Some (fed_patch w d p q)
+      → find (u.number_of b) (fed w d q).patches ≡ Some (fed_patch w d p q)
+  fed_found_as w d p q b is found = ap (λ n. find n (fed w d q).patches) is ∙ found
+
+  -- a call that stopped closes the connection
+  pub stopped_as : (store : U) (e : Stop) (old new : List ℕ) (k : Link B) (taken : ℕ) (gone gone' : World)
+      (m m' : Acted) → gone ≡ gone' → Serves u store (Err e) old new gone m
+      → Replies u store (Err e) old new k taken m' gone'
+  stopped_as store stops.NoMemory old new k taken gone gone' m m' is (shown, same) =
+      (subst (u.stands store) is shown, same)
+  stopped_as store stops.DiskFault old new k taken gone gone' m m' is same = same
+
+  pub head_stopped : (store : U) (e : Stop) (old new : List ℕ) (w : World) (conn : Conn) (m : Acted) (t : Turn)
+      → conn.draft ≡ None → Serves u store (Err e) old new w m → Turned u store (Err e) old new w conn.draft t
+  head_stopped store stops.NoMemory old new w conn m t none (shown, same) =
+      (subst (λ o. u.stands store (left_world w o)) (sym none) shown, same)
+  head_stopped store stops.DiskFault old new w conn m t none same = same

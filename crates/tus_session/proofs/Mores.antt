@@ -1,19 +1,21 @@
 -- The next piece of a text.
-use Rattle.std.proofs.Common.{◌≡◌, ℕ, Bool, true, false, List, [], ◌++◌, Option, Some, None, Result, Ok, refl, sym, ◌∙◌}
+use Rattle.std.proofs.Common.{◌≡◌, ℕ, Bool, true, false, List, [], ◌++◌, Option, Some, None, Err, refl, sym, ◌∙◌}
 use Rattle.std.proofs.Common.{ap, subst, append-nil, if◌then◌else◌}
 use Rattle.tus_request.specs.Buffers.{bytes_of}
 use Rattle.upload_rules.specs.Store.{Store, Upload, upload_of}
 use Rattle.upload_rules.specs.World.{World}
 use Rattle.upload_rules.specs.declared.uploads.Uploads.{Ghosts}
 use Rattle.tus_action.specs.Acts.{Giving, is_pending, pending_after, piece_of}
-use Rattle.tus_action.specs.Serves.{GivingIs, IsGiven}
+use Rattle.tus_action.specs.Serves.{GivingIs, IsGiven, Gives}
 use Rattle.tus_action.specs.declared.acts.Giving as given
 use Rattle.tus_action.specs.declared.acts.Given.TheVariants.{Piece, Last, Gone}
 use Rattle.tus_session.specs.Streams.{Rest, cut}
 use Rattle.tus_session.specs.Turns.{Conn, Turn, reader, left_world, given_up, give_on, more_on, more_turn}
 use Rattle.tus_session.specs.Stands.{TaskIs, LinkIs}
 use Rattle.tus_session.specs.Moves.{Moves}
-use Rattle.tus_session.specs.Turned.{TurnedAs}
+use Rattle.tus_session.specs.Turned.{TurnedAs, Turned}
+use Rattle.tus_action.specs.declared.acts.Stop.{Stop}
+use Rattle.tus_action.specs.declared.acts.Stop.TheVariants as stops
 use Rattle.tus_session.specs.declared.answers.Answer.{Answer}
 use Rattle.tus_session.specs.declared.conns.Link.{Link}
 use Rattle.tus_session.specs.declared.conns.Place.{Place}
@@ -223,13 +225,14 @@ module _ {U B : Type 0} (u : Ghosts U B) where
           bytes = e ∙ sym (append-nil old);
         })
 
-    -- memory was wanting
-    pub more_left : u.stands store (left_world w conn.draft)
-    more_left = subst (λ o. u.stands store (left_world w o)) (sym is.draft_is) stands
-
-    -- what `give_more` is asked for
-    pub given_as : conn.pending ≡ Some is.h
-    given_as = is.pending_is
+module _ {U B : Type 0} (u : Ghosts U B) where
+  -- nothing was given, and the connection closes
+  pub more_stopped : (store : U) (w : World) (conn : Conn) (g : given.Giving)
+      (is : IsGivingText w g conn.draft conn.pending) (e : Stop) (old new : List ℕ) (t : Turn)
+      → Gives u store (Err e) old new w is.h → Turned u store (Err e) old new w conn.draft t
+  more_stopped store w conn g is stops.NoMemory old new t (there, shown, same) =
+      (subst (λ o. u.stands store (left_world w o)) (sym is.draft_is) shown, same)
+  more_stopped store w conn g is stops.DiskFault old new t (there, same) = same
 
 -- WHAT WAS GIVEN TELLS OF THE UPLOAD
 

@@ -1,6 +1,6 @@
 -- What a connection's task tells of its draft and its text.
 use Rattle.std.proofs.Common.{◌≡◌, ◌⊎◌, inl, inr, ℕ, ◌<◌, List, length, Option, Some, None, refl, sym, ◌∙◌, ap, subst}
-use Rattle.std.proofs.Common.{arith}
+use Rattle.std.proofs.Common.{arith, Result, Ok, Err}
 use Rattle.enc_model.specs.Indexes.{offers}
 use Rattle.tus_request.specs.Requests.{Request, body_length}
 use Rattle.tus_request.proofs.Fronts.{steady}
@@ -11,12 +11,14 @@ use Rattle.upload_rules.specs.declared.uploads.Uploads.{Ghosts}
 use Rattle.upload_rules.specs.Answers.{Limits}
 use Rattle.upload_rules.specs.Calls.{dropped, committed_store, spent, commit_refusal, commit_outcome, outcome}
 use Rattle.tus_action.specs.Acts.{Giving}
-use Rattle.tus_action.specs.Serves.{IsGiving}
+use Rattle.tus_action.specs.Serves.{IsGiving, Ends}
 use Rattle.tus_action.specs.declared.acts.Giving as given
 use Rattle.tus_session.specs.Streams.{Asked, Rest, InHead, InBody, cut}
 use Rattle.tus_session.specs.Turns.{Conn, reader, left_world, ended_on, ended_with, ended_world}
 use Rattle.tus_session.specs.Stands.{PatchesAs, TaskIs}
-use Rattle.tus_session.specs.Turned.{EndedAs}
+use Rattle.tus_session.specs.Turned.{EndedAs, Ended}
+use Rattle.tus_action.specs.declared.acts.Stop.{Stop}
+use Rattle.tus_action.specs.declared.acts.Stop.TheVariants as stops
 use Rattle.tus_session.specs.declared.conns.Patching.{Patching}
 use Rattle.tus_session.specs.declared.conns.Task.{Task}
 use Rattle.tus_session.specs.declared.conns.Task.TheVariants as tasks
@@ -144,6 +146,15 @@ module _ {U B : Type 0} (u : Ghosts U B) where
         let now : u.stands store (left_world w (Some is.d)) =
         subst (λ n. u.stands store (dropped w n)) is.patches.number stands in
         subst (λ o. u.stands store (left_world w o)) (sym is.draft_is) now
+
+    -- a cut body
+    pub ends_cut : (r : Result (Unit {0}) Stop)
+        → Ends u store r (dropped w (u.number_of b.draft))
+        (spent w (u.number_of b.draft) is.p (commit_refusal w (u.number_of b.draft) is.p))
+        → Ended u store r w conn.draft (ended_world w conn)
+    ends_cut (Ok x) stands = ends_patch stands
+    ends_cut (Err stops.NoMemory) stands = ends_left stands
+    ends_cut (Err stops.DiskFault) x = tt
 
     -- the draft's patch under the draft's own number
     pub found_as : find (u.number_of b.draft) w.patches ≡ Some is.p

@@ -20,9 +20,9 @@ pub enum SessionError {
 }
 
 impl From<Stop> for SessionError {
-    fn from(stop: Stop) -> Self
-        ensures { result ≡ error_of stop }
-    {
+    ghost from_gives = { λ stop error. error ≡ error_of stop };
+
+    fn from(stop: Stop) -> Self {
         match stop {
             Stop::NoMemory => SessionError::NoMemory,
             Stop::DiskFault => SessionError::DiskFault,

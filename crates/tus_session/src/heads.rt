@@ -104,11 +104,12 @@ fn request_of<U: Uploads>(
     let reached = reached_by(&request);
     let behind = &bytes[before..];
     let start = out.len();
+    let acted = act(alloc, store, request, buffer, out)?;
     let Acted {
         draft,
         giving,
         closes: over,
-    } = act(alloc, store, request, buffer, out)?;
+    } = acted;
     match draft {
         Some(draft) => {
             let patch = Patching {
@@ -153,7 +154,8 @@ fn head_of<U: Uploads>(
 {
     let mut head = head;
     let had = head.len();
-    match head.read(alloc, bytes, store.indexes())? {
+    let parsed = head.read(alloc, bytes, store.indexes())?;
+    match parsed {
         Parsed::More => Ok((place_of(head, 0, false), waits(bytes.len(), false))),
         Parsed::Refused {
             taken,

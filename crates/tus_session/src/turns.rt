@@ -45,7 +45,8 @@ pub(crate) fn more_of<U: Uploads>(
         Task::Text(giving) => giving,
         task => return Ok((Place::Open(Link { head, left, task }), waits(0, false))),
     };
-    match give_more(store, giving, buffer, out)? {
+    let given = give_more(store, giving, buffer, out)?;
+    match given {
         Given::Piece(rest) => {
             let link = Link {
                 head,

@@ -3,9 +3,9 @@ use Rattle.tus_session.proofs.bodies.go_on.Goals as goal
 
 pub returns-clause-answer : goal.returns-clause-answer
 returns-clause-answer g c w p stands found holds few =
-    let a = c.in_ok-feed_body-draft.ensures.answer w p stands found holds few in (
+    let a = c.in_ok-draft.ensures.answer w p stands found holds few in (
       record {
-        draft = c.in_ok-feed_body-draft.value;
+        draft = c.in_ok-draft.draft;
         reached = c.args.patch.reached;
         bare = c.args.patch.bare;
         closes = c.args.patch.closes;

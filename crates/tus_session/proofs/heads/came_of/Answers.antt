@@ -8,7 +8,7 @@ use Rattle.tus_session.specs.declared.conns.Task.TheVariants.{Text}
 use Rattle.tus_session.specs.declared.conns.Place.TheVariants.{Open}
 use Rattle.tus_action.specs.Acts.{is_pending}
 use Rattle.tus_session.proofs.Limiting.{still_limits}
-use Rattle.tus_session.proofs.Mores.{stays, turned_ok}
+use Rattle.tus_session.proofs.Mores.{stays}
 use Rattle.tus_session.proofs.Tasks.{patching, giving, idling, limits_to}
 use Rattle.tus_session.proofs.BodyTold.{patch_told, left_wanted, rest_store, skip_told, text_turn_is, inside_at}
 use Rattle.tus_session.proofs.heads.came_of.Goals as goal
@@ -20,7 +20,7 @@ returns-in-Text-clause-answer g c w conn stands link =
     let now = subst (λ t. LinkIs g.U.Uploads w (bytes_of c.args.link.head) c.args.link.left t conn) c.in-Text.is link in
     let turn = stays g.U.Uploads c.args.store.now w k conn true c.args.out.now.items stands now
     (sym (ap is_pending is.pending_is)) in
-    turned_ok g.U.Uploads _ _ _ _ _ _ _ w conn.draft _ c.unmoved.ensures.place c.unmoved.ensures.answer
+    rw c.waits.ensures
     (subst (TurnedAs g.U.Uploads c.args.store.now (Open k) (record { taken = 0; closes = false; more = true })
     c.args.out.now.items c.args.out.now.items w conn.draft)
     (text_turn_is w conn c.args.bytes.now is.h is.pending_is) turn)
@@ -31,7 +31,7 @@ returns-in-Patch-clause-answer g c w conn stands link =
     let is = patching g.U.Uploads w _ _ b conn.draft conn.pending link.does c.in-Patch.is in
     let found = ap (λ n. find n w.patches) is.patches.number ∙ is.patches.found in
     let all = left_wanted g.U.Uploads w conn c.args.link b is link.kept in
-    patch_told g.U.Uploads w conn c.args.link b is link.kept _ _ _ _ c.args.bytes.now c.body_of.result.1
+    patch_told g.U.Uploads w conn c.args.link b is link.kept _ _ _ c.args.bytes.now c.body_of.result
     (λ few. c.body_of.ensures.part few w is.p stands found is.patches.holds (omega arith))
     (λ few. c.body_of.ensures.part_out few)
     (λ enough. c.body_of.ensures.rest enough w is.p is.r stands found is.patches.holds all is.patches.reached
@@ -55,7 +55,7 @@ returns-in-Idle-clause-answer g c w conn stands link =
     let is = idling g.U.Uploads w _ _ conn.draft conn.pending link.does c.in-Idle.is in
     let some : 0 < c.args.link.left = omega arith in
     skip_told g.U.Uploads _ w conn c.args.link stands is.0 is.1 link.kept some _ _ _ c.args.bytes.now
-    c.skip-place.ensures.place c.skip-place.ensures.answer
+    c.skip.ensures.place c.skip.ensures.answer
 
 pub returns-in-Idle-2-clause-answer : goal.returns-in-Idle-2-clause-answer
 returns-in-Idle-2-clause-answer g c w conn stands link =
