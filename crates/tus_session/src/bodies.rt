@@ -122,8 +122,8 @@ fn finish<U: Uploads>(
         bare,
         closes,
     } = patch;
-    let draft = feed_body(store, draft, bytes)?;
-    let acted = end_body(alloc, store, draft, reached, bare, closes, out)?;
+    let fed = feed_body(store, draft, bytes)?;
+    let acted = end_body(alloc, store, fed, reached, bare, closes, out)?;
     let answer = Answer {
         taken: before + bytes.len(),
         closes: acted.closes,

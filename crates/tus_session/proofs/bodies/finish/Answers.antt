@@ -12,10 +12,10 @@ pub returns-in_err-acted-clause-answer : goal.returns-in_err-acted-clause-answer
 returns-in_err-acted-clause-answer g c w p r stands found holds all reached bare closes =
     let few : length p.body + length c.args.bytes.now ≤ p.count = omega arith in
     let d = g.U.Uploads.number_of c.args.patch.draft in
-    let fed_is = c.in_ok-draft.ensures.answer w p stands found holds few in
+    let fed_is = c.in_ok-fed.ensures.answer w p stands found holds few in
     let w1 = fed w d c.args.bytes.now in
     let p1 = fed_patch w d p c.args.bytes.now in
-    let found1 = fed_found_as g.U.Uploads w d p c.args.bytes.now c.in_ok-draft.draft fed_is.0 fed_is.2 in
+    let found1 = fed_found_as g.U.Uploads w d p c.args.bytes.now c.in_ok-fed.fed fed_is.0 fed_is.2 in
     let behind = reached_fed w d p c.args.bytes.now c.args.patch.reached all reached in
     let stopped = err_from_is_err_and c.from_residual-in_err-acted.result c.from_residual-in_err-acted.ensures.1 in
     let a = rw fed_is.0 at (c.in_err-acted.ensures.answer w1 p1 r fed_is.3 found1 fed_is.1 behind bare closes) in
@@ -26,10 +26,10 @@ pub returns-clause-answer : goal.returns-clause-answer
 returns-clause-answer g c w p r stands found holds all reached bare closes =
     let few : length p.body + length c.args.bytes.now ≤ p.count = omega arith in
     let d = g.U.Uploads.number_of c.args.patch.draft in
-    let fed_is = c.in_ok-draft.ensures.answer w p stands found holds few in
+    let fed_is = c.in_ok-fed.ensures.answer w p stands found holds few in
     let w1 = fed w d c.args.bytes.now in
     let p1 = fed_patch w d p c.args.bytes.now in
-    let found1 = fed_found_as g.U.Uploads w d p c.args.bytes.now c.in_ok-draft.draft fed_is.0 fed_is.2 in
+    let found1 = fed_found_as g.U.Uploads w d p c.args.bytes.now c.in_ok-fed.fed fed_is.0 fed_is.2 in
     let behind = reached_fed w d p c.args.bytes.now c.args.patch.reached all reached in
     let a = rw fed_is.0 at (c.in_ok-acted.ensures.answer w1 p1 r fed_is.3 found1 fed_is.1 behind bare closes) in
     answered_as g.U.Uploads _ _ c.in_ok-acted.acted _ _ (record {
@@ -41,8 +41,8 @@ returns-clause-answer g c w p r stands found holds all reached bare closes =
 pub returns-in_err-acted-clause-crash : goal.returns-in_err-acted-clause-crash
 returns-in_err-acted-clause-crash g c w p r stands found holds few =
     let d = g.U.Uploads.number_of c.args.patch.draft in
-    let fed_is = c.in_ok-draft.ensures.answer w p stands found holds few in
-    let found1 = fed_found_as g.U.Uploads w d p c.args.bytes.now c.in_ok-draft.draft fed_is.0 fed_is.2 in
+    let fed_is = c.in_ok-fed.ensures.answer w p stands found holds few in
+    let found1 = fed_found_as g.U.Uploads w d p c.args.bytes.now c.in_ok-fed.fed fed_is.0 fed_is.2 in
     let l = limits_from (fed_store w d c.args.bytes.now)
     (rw fed_is.0 at (c.end_body.ensures.crash _ _ fed_is.3 found1 fed_is.1)) in
     limits_to (ended_store w d p c.args.bytes.now r) (quiet_then (c.feed_body.ensures.crash w p stands found holds) l)
@@ -50,8 +50,8 @@ returns-in_err-acted-clause-crash g c w p r stands found holds few =
 pub returns-clause-crash : goal.returns-clause-crash
 returns-clause-crash g c w p r stands found holds few =
     let d = g.U.Uploads.number_of c.args.patch.draft in
-    let fed_is = c.in_ok-draft.ensures.answer w p stands found holds few in
-    let found1 = fed_found_as g.U.Uploads w d p c.args.bytes.now c.in_ok-draft.draft fed_is.0 fed_is.2 in
+    let fed_is = c.in_ok-fed.ensures.answer w p stands found holds few in
+    let found1 = fed_found_as g.U.Uploads w d p c.args.bytes.now c.in_ok-fed.fed fed_is.0 fed_is.2 in
     let l = limits_from (fed_store w d c.args.bytes.now)
     (rw fed_is.0 at (c.end_body.ensures.crash _ _ fed_is.3 found1 fed_is.1)) in
     limits_to (ended_store w d p c.args.bytes.now r) (quiet_then (c.feed_body.ensures.crash w p stands found holds) l)
@@ -59,8 +59,8 @@ returns-clause-crash g c w p r stands found holds few =
 pub returns-in_err-acted-clause-unmade : goal.returns-in_err-acted-clause-unmade
 returns-in_err-acted-clause-unmade g c w p stands found holds few none_left =
     let d = g.U.Uploads.number_of c.args.patch.draft in
-    let fed_is = c.in_ok-draft.ensures.answer w p stands found holds few in
-    let found1 = fed_found_as g.U.Uploads w d p c.args.bytes.now c.in_ok-draft.draft fed_is.0 fed_is.2 in
+    let fed_is = c.in_ok-fed.ensures.answer w p stands found holds few in
+    let found1 = fed_found_as g.U.Uploads w d p c.args.bytes.now c.in_ok-fed.fed fed_is.0 fed_is.2 in
     let stopped = err_from_is_err_and c.from_residual-in_err-acted.result c.from_residual-in_err-acted.ensures.1 in
     let l = limits_both (fed_store w d c.args.bytes.now)
     (c.in_err-acted.ensures.unmade _ _ fed_is.3 found1 fed_is.1 (same_stop c.from_residual-in_err-acted.result
