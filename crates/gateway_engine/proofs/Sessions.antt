@@ -8,7 +8,7 @@ use Rattle.upload_rules.specs.Store.{Store}
 use Rattle.upload_rules.specs.Answers.{Limits}
 use Rattle.tus_session.specs.Turns.{Conn, fresh}
 use Rattle.tus_session.specs.History.{State, Event, Opened, Came, More, Ended, Served, Done, Refused, Step, step, put}
-use Rattle.tus_session.specs.History.{most_open}
+use Rattle.tus_session.specs.History.{most_open, opened_if}
 use Rattle.tus_session.specs.History.{kept, opened_at, came_at, more_at, ended_at}
 use Rattle.tus_session.specs.Places.{places_of}
 use Rattle.tus_session.specs.Stands.{SessionStands}
@@ -60,7 +60,7 @@ refusal_is : (f g : SessionError) → Refused f ≡ Refused g → g ≡ f
 refusal_is f g e = sym (ap (λ o. elim o as (λ _. SessionError) [ Refused x ↦ x | _ ↦ f ]) e)
 
 many_case : (st : State) (c : ℕ) (b : Bool)
-    → ManyStays st (if b then record { state = put st st.world c (Some fresh); outcome = Done } else kept st TooMany)
+    → ManyStays st (opened_if st c b)
 many_case st c true f e = absurd (cc)
 many_case st c false f e = (refusal_is TooMany f e, refl)
 

@@ -4,7 +4,7 @@ use Rattle.std.proofs.Common.{◌==◌, nat_lt}
 use Rattle.std.proofs.lemmas.Bool.Decides.{nat_tests}
 use Rattle.tus_session.specs.Turns.{Conn, fresh, came_turn, more_turn}
 use Rattle.tus_session.specs.History.{State, Event, Opened, Came, More, Ended, Mark, Served, OutOfMemory, Failed}
-use Rattle.tus_session.specs.History.{most_open}
+use Rattle.tus_session.specs.History.{most_open, opened_if}
 use Rattle.tus_session.specs.History.{Outcome, Gave, Done, Refused, put, kept, is_closed, opened_at, came_at, more_at}
 use Rattle.tus_session.specs.History.{ended_at, lost_at, failed_at, conn_in, step}
 use Rattle.tus_session.specs.declared.errors.SessionError.TheVariants.{TooMany}
@@ -27,10 +27,7 @@ other_number k n ne = grind (arith, nat_tests)
 -- THE OTHER CONNECTIONS are as they were
 module _ (st : State) (k : ℕ) where
   else_put : (c : ℕ) (b : Bool) → (k ≡ c → ⊥)
-      → (if b then record {
-        state = put st st.world c (Some fresh);
-        outcome = Done;
-      } else kept st TooMany).state.conns k ≡ st.conns k
+      → (opened_if st c b).state.conns k ≡ st.conns k
   else_put c true ne = conns_else st.conns c k (Some fresh) ne
   else_put c false ne = refl
 
@@ -141,12 +138,8 @@ module _ (st : State) (c : ℕ) where
   opened_from None e done = e
   opened_from (Some x) e done = absurd (cc)
 
-  put_kept : (b : Bool) → ((if b then record { state = put st st.world c (Some fresh); outcome = Done } else kept st
-      TooMany).outcome ≡ Done → ⊥)
-      → (if b then record {
-        state = put st st.world c (Some fresh);
-        outcome = Done;
-      } else kept st TooMany).state.conns c ≡ st.conns c
+  put_kept : (b : Bool) → ((opened_if st c b).outcome ≡ Done → ⊥)
+      → (opened_if st c b).state.conns c ≡ st.conns c
   put_kept true undone = absurd (undone refl)
   put_kept false undone = refl
 

@@ -16,7 +16,7 @@ use Rattle.tus_session.specs.Turns.{give_on, more_on, more_turn, ended_with, end
 use Rattle.tus_session.specs.Turns.{came_on as came_turn_on}
 use Rattle.tus_session.specs.Turns.{ended_on as ended_world_on}
 use Rattle.tus_session.specs.History.{State, Step, Event, Opened, Came, More, Ended, Marked, Served, Done, put, kept}
-use Rattle.tus_session.specs.History.{most_open}
+use Rattle.tus_session.specs.History.{most_open, opened_if}
 use Rattle.tus_session.specs.History.{turned, opened_at, came_at, more_at, ended_at, conn_in, step, history, beginning}
 use Rattle.tus_session.specs.declared.errors.SessionError.{SessionError}
 use Rattle.tus_session.specs.declared.errors.SessionError.TheVariants.{TooMany, Closed}
@@ -116,7 +116,7 @@ module _ (st : State) (sound : Sound st) (g : ℕ → List ℕ) (r : Rep) (sim :
 
   -- OPENED
   opened_case : st.conns c ≡ None → (b : Bool)
-      → After g c r (if b then record { state = put st st.world c (Some fresh); outcome = Done } else kept st TooMany)
+      → After g c r (opened_if st c b)
   opened_case none true = patchless_after fresh [] refl (ap draft_at none) (ap still_to_give none)
   opened_case none false = refused_after TooMany
 

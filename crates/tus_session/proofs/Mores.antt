@@ -16,7 +16,6 @@ use Rattle.tus_session.specs.Moves.{Moves}
 use Rattle.tus_session.specs.Turned.{TurnedAs, Turned}
 use Rattle.tus_action.specs.declared.acts.Stop.{Stop}
 use Rattle.tus_action.specs.declared.acts.Stop.TheVariants as stops
-use Rattle.tus_session.specs.declared.answers.Answer.{Answer}
 use Rattle.tus_session.specs.declared.conns.Link.{Link}
 use Rattle.tus_session.specs.declared.conns.Place.{Place}
 use Rattle.tus_session.specs.declared.conns.Place.TheVariants.{Closed, Open}

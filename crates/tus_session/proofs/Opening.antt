@@ -1,6 +1,6 @@
 -- A connection is opened; a session begins.
 use Rattle.std.proofs.Common.{◌≡◌, ◌⊎◌, inl, inr, ℕ, zero, suc, ◌<◌, ◌≤◌, Bool, true, false, List, [], ◌∷◌, ◌++◌}
-use Rattle.std.proofs.Common.{length, get_or, slice_set, if◌then◌else◌, Option, Some, None, refl, sym, ◌∙◌, ap, subst}
+use Rattle.std.proofs.Common.{length, get_or, slice_set, Option, Some, None, refl, sym, ◌∙◌, ap, subst}
 use Rattle.std.proofs.Common.{arith, nat_lt, append-nil}
 use Rattle.std.proofs.lemmas.Bool.{lt-ltb, le-ltb, cases_eq}
 use Rattle.tus_request.specs.Buffers.{bytes_of}
@@ -11,8 +11,8 @@ use Rattle.upload_rules.specs.World.{Patch, World, at_rest}
 use Rattle.upload_rules.specs.declared.uploads.Uploads.{Ghosts}
 use Rattle.tus_session.specs.Streams.{InHead, cut}
 use Rattle.tus_session.specs.Turns.{Conn, fresh, reader}
-use Rattle.tus_session.specs.History.{State, Opened, Served, Done, Refused, put, kept, opened_at, beginning, step, Step}
-use Rattle.tus_session.specs.History.{most_open}
+use Rattle.tus_session.specs.History.{State, Opened, Served, Done, Refused, put, opened_at, beginning, step, Step}
+use Rattle.tus_session.specs.History.{most_open, opened_if}
 use Rattle.tus_session.specs.Stands.{RestIs, TaskIs, PlaceIs, draft_at, SessionStands}
 use Rattle.tus_session.specs.Moves.{Longer, Grows, Moves}
 use Rattle.tus_session.specs.Told.{Follows}
@@ -83,10 +83,7 @@ module _ {U B : Type 0} (u : Ghosts U B) where
       let s : SessionStands u (slice_set places c (Open k)) store (put st st.world c (Some fresh)) =
       in_place u places (slice_set places c (Open k)) store store st st.world c (Open k) (Some fresh) stands
       (is_set u places c (Open k) lt) moves stands.shown (new_place st.world k e f g) in
-      let P : Bool → Type 0 = λ b. let x : Step = (if b then record {
-        state = put st st.world c (Some fresh);
-        outcome = Done;
-      } else kept st TooMany) in
+      let P : Bool → Type 0 = λ b. let x : Step = opened_if st c b in
       Follows u (slice_set places c (Open k)) store x.state x.outcome Done in
       let now : P true = record { stands = s; outcome = refl } in
       subst P (sym n) now
@@ -107,10 +104,7 @@ module _ {U B : Type 0} (u : Ghosts U B) where
   not_below places store st c stands le =
       let n : nat_lt c most_open ≡ false = le-ltb c most_open (omega (arith, stands.count)) in
       let none = beyond u places store st c stands le in
-      let P : Bool → Type 0 = λ b. let x : Step = (if b then record {
-        state = put st st.world c (Some fresh);
-        outcome = Done;
-      } else kept st TooMany) in
+      let P : Bool → Type 0 = λ b. let x : Step = opened_if st c b in
       Follows u places store st x.outcome (Refused TooMany) in
       let Q : Option Conn → Type 0 = λ o. Follows u places store st (opened_at st c o).outcome (Refused TooMany) in
       let now : P false = record { stands = stands; outcome = refl } in

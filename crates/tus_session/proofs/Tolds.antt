@@ -1,12 +1,12 @@
 -- From a turn to the session's answer.
-use Rattle.std.proofs.Common.{◌≡◌, ℕ, List, Option, Some, None, Result, Ok, Err, refl, sym, ◌∙◌, ap, subst}
+use Rattle.std.proofs.Common.{◌≡◌, ℕ, List, Option, Some, None, Ok, Err, refl, sym, ◌∙◌, ap, subst}
 use Rattle.upload_rules.specs.World.{World}
 use Rattle.upload_rules.specs.declared.uploads.Uploads.{Ghosts}
 use Rattle.tus_session.specs.Turns.{Conn, Turn, left_world, more_turn, came_turn, ended_world}
 use Rattle.tus_session.specs.History.{State, Step, Event, Opened, Came, More, Ended, Served, OutOfMemory, Failed, Gave}
 use Rattle.tus_session.specs.History.{Done, Refused, step, put, turned, conn_in, lost_at, failed_at, came_at, more_at}
 use Rattle.tus_session.specs.History.{ended_at, is_closed, has_text}
-use Rattle.tus_session.specs.Stands.{PlaceIs, draft_at, SessionStands}
+use Rattle.tus_session.specs.Stands.{draft_at, SessionStands}
 use Rattle.tus_session.specs.Moves.{Moves}
 use Rattle.tus_session.specs.Turned.{Turned, TurnedAs, EndedAs}
 use Rattle.tus_session.specs.Turned.{Ended as EndedBy}
@@ -17,7 +17,6 @@ use Rattle.tus_session.specs.Told.{Follows, Told, Ends}
 use Rattle.tus_session.specs.declared.answers.Answer.{Answer}
 use Rattle.tus_session.specs.declared.conns.Place.{Place}
 use Rattle.tus_session.specs.declared.conns.Place.TheVariants.{Closed}
-use Rattle.tus_session.specs.declared.errors.SessionError.{SessionError}
 use Rattle.tus_session.specs.declared.errors.SessionError.TheVariants as errors
 use Rattle.tus_session.proofs.Moved.{left_moves}
 use Rattle.tus_session.specs.Places.{IsPut}

@@ -1,17 +1,13 @@
 -- What an event that isn't served makes of the uploads: nothing.
-use Rattle.std.proofs.Common.{◌≡◌, ℕ, Bool, true, false, Option, Some, None, refl, if◌then◌else◌, nat_lt}
+use Rattle.std.proofs.Common.{◌≡◌, ℕ, Bool, true, false, Option, Some, None, refl, nat_lt}
 use Rattle.upload_rules.specs.World.{World}
-use Rattle.tus_session.specs.Turns.{Conn, left_world, fresh}
-use Rattle.tus_session.specs.History.{State, Event, Opened, Came, More, Ended, OutOfMemory, Failed, Done, put, kept}
-use Rattle.tus_session.specs.History.{most_open}
+use Rattle.tus_session.specs.Turns.{Conn, left_world}
+use Rattle.tus_session.specs.History.{State, Event, Opened, Came, More, Ended, OutOfMemory, Failed}
+use Rattle.tus_session.specs.History.{most_open, opened_if}
 use Rattle.tus_session.specs.History.{opened_at, lost_at, failed_at, step}
-use Rattle.tus_session.specs.declared.errors.SessionError.TheVariants.{TooMany}
 
 put_uploads : (st : State) (c : ℕ) (b : Bool)
-    → (if b then record {
-      state = put st st.world c (Some fresh);
-      outcome = Done;
-    } else kept st TooMany).state.world.store ≡ st.world.store
+    → (opened_if st c b).state.world.store ≡ st.world.store
 put_uploads st c true = refl
 put_uploads st c false = refl
 

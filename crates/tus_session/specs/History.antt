@@ -62,10 +62,14 @@ turned st c t = record {
   outcome = Gave t.bytes t.taken (is_closed t.conn) (has_text t.conn);
 }
 
+-- a connection is opened where its number is below the most
+abbrev pub opened_if : State → ℕ → Bool → Step
+opened_if st c true = record { state = put st st.world c (Some fresh); outcome = Done }
+opened_if st c false = kept st TooMany
+
 abbrev pub opened_at : State → ℕ → Option Conn → Step
 opened_at st c (Some k) = kept st TooMany
-opened_at st c None =
-    if nat_lt c most_open then record { state = put st st.world c (Some fresh); outcome = Done } else kept st TooMany
+opened_at st c None = opened_if st c (nat_lt c most_open)
 
 abbrev pub came_at : State → ℕ → List ℕ → Option Conn → Step
 came_at st c piece None = kept st Closed
