@@ -1,5 +1,5 @@
 //! Where the parts of the metadata and of the index area lie: the state, 256 pages of two records each, and the rows.
-ghost use Rattle.std.specs.Prelude.{◌≡◌, ◌+◌, ◌≤◌, ◌<◌};
+ghost use Rattle.std.specs.Prelude.{◌≡◌, ◌+◌, ◌*◌, ◌≤◌, ◌<◌};
 ghost use Rattle.spool_journal.specs.Image.{journal_pages, InMeta};
 ghost use Rattle.spool_pages.specs.Changes.{state_number, record_number, row_number};
 ghost use Rattle.spool_pages.specs.View.{index_place, row_place, slot_place, state_place};
@@ -58,6 +58,7 @@ pub(crate) fn state_number(layout: &Layout) -> u32
     ensures some { 258 ≤ journal_pages layout.now }
     ensures few { journal_pages layout.now ≤ 385 }
 {
+    let _few = layout.journal();
     layout.metadata_page()
 }
 
