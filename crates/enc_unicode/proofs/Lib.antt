@@ -6,3 +6,5 @@ pub mod Scans
 pub mod Spans
 pub mod Words
 pub mod Places
+pub mod NarrowWords
+pub mod NarrowPlaces

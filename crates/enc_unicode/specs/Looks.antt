@@ -1,5 +1,5 @@
 -- How far is looked for a well-formed text.
-use Rattle.std.specs.Prelude.{ℕ, ◌≤◌}
+use Rattle.std.specs.Prelude.{◌≤◌}
 use Rattle.enc_unicode.specs.declared.well_formed.Look.{Look}
 use Rattle.enc_unicode.specs.declared.well_formed.Look.TheVariants.{Within}
 

@@ -3,6 +3,8 @@
 
 mod blocks;
 mod guesses;
+mod narrow;
+mod narrow_packs;
 mod packing;
 mod packs;
 mod runs;
