@@ -8,3 +8,4 @@ pub mod Words
 pub mod Places
 pub mod NarrowWords
 pub mod NarrowPlaces
+pub mod FaultRuns

@@ -28,7 +28,6 @@ kept i row = take (16 - count_ones i) row
 abbrev wanted : ℕ → List ℕ
 wanted i = narrow_places 0 (sizes_in 8 i)
 
-
 rows : zip2 kept (range_with_len 0 256) NARROW_PACKS ≡ map wanted (range_with_len 0 256)
 unfolding lib.Count.ones
 rows = refl

@@ -2,6 +2,7 @@
 #![tactic(auto)]
 
 mod blocks;
+mod faults;
 mod guesses;
 mod narrow;
 mod narrow_packs;
