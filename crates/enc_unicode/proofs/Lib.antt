@@ -6,3 +6,6 @@ pub mod Scans
 pub mod Spans
 pub mod Words
 pub mod Places
+pub mod NarrowWords
+pub mod NarrowPlaces
+pub mod FaultRuns

@@ -52,7 +52,7 @@ both : (a b : Bool) → a && b ≡ true → (a ≡ true) × (b ≡ true)
 both true b e = (refl, e)
 both false b e = absurd (true≢false (sym e))
 
-each_below : (n : ℕ) (ks : List ℕ) → all_below n ks ≡ true → Each1 (λ k. k < n) ks
+pub each_below : (n : ℕ) (ks : List ℕ) → all_below n ks ≡ true → Each1 (λ k. k < n) ks
 each_below n [] e = tt
 each_below n (k ∷ ks) e =
     let p = both (ltb k n) (all_below n ks) e in
@@ -169,24 +169,28 @@ swz_picks xs i (j ∷ js) room small =
     (ap₂ (λ high k. cond high zero (get_or xs k zero)) (not_high j small.0) place)
     (swz_picks xs (suc i) js (omega (arith, room)) small.1)
 
+-- the picked bytes that count, after the first so many
+pub picks_written : (text row bytes code : List ℕ) (from n : ℕ) → length row ≡ 16 → Each1 (λ j. j < 16) row → n ≤ 16
+    → from + 16 ≤ length code → map (λ j. get_or bytes j 0) (take n row) ≡ text →
+    take (from + n) (put_chunk from code (swz_l w8 16 bytes 0 row)) ≡ take from code ++ text
+picks_written text row bytes code from n wide below few room is =
+    let out = swz_l w8 16 bytes 0 row in
+    let whole = put_chunk from code out in
+    let front = take from code in
+    let out_long : length out ≡ 16 = length-swz_l w8 16 bytes 0 row ∙ wide in
+    let front_long : length front ≡ from = length-take-le from code (omega (arith, room)) in
+    let picked : take n out ≡ text =
+    ap (take n) (swz_picks bytes 0 row (omega (arith, wide)) below) ∙ take-map (λ j. get_or bytes j 0) n row ∙ is in
+    sym (take-take (from + n) (from + 16) whole (omega (arith, few)))
+    ∙ ap (take (from + n)) (take_more_put_chunk from code out (from + 16) (omega (arith, out_long)) room)
+    ∙ subst (λ k. take (k + n) (front ++ out) ≡ front ++ take n out) front_long (take-append-add front out n)
+    ∙ ap (λ z. front ++ z) picked
+
 -- four units after the first so many bytes
 pub four_written : (units row bytes code : List ℕ) (from : ℕ) → length units ≡ 4 → Each1 (λ u. u < 65536) units →
     length row ≡ 16 → Each1 (λ j. j < 16) row → bytes ≡ word_bytes (map word units) → kept row ≡ row_of units
     → get_or row 15 0 ≤ 12 → from + 16 ≤ length code →
     take (from + get_or row 15 0) (put_chunk from code (swz_l w8 16 bytes 0 row)) ≡ take from code ++ encodes units
 four_written units row bytes code from long small wide below are is few room =
-    let n = get_or row 15 0 in
-    let out = swz_l w8 16 bytes 0 row in
-    let whole = put_chunk from code out in
-    let front = take from code in
-    let out_long : length out ≡ 16 = length-swz_l w8 16 bytes 0 row ∙ wide in
-    let front_long : length front ≡ from = length-take-le from code (omega (arith, room)) in
-    let text : take n out ≡ encodes units =
-    ap (take n) (swz_picks bytes 0 row (omega (arith, wide)) below)
-    ∙ take-map (λ j. get_or bytes j 0) n row
-    ∙ ap₂ (λ bs js. map (λ j. get_or bs j 0) js) are is
-    ∙ picked units long small in
-    sym (take-take (from + n) (from + 16) whole (omega (arith, few)))
-    ∙ ap (take (from + n)) (take_more_put_chunk from code out (from + 16) (omega (arith, out_long)) room)
-    ∙ subst (λ k. take (k + n) (front ++ out) ≡ front ++ take n out) front_long (take-append-add front out n)
-    ∙ ap (λ z. front ++ z) text
+    picks_written (encodes units) row bytes code from (get_or row 15 0) wide below (omega (arith, few)) room
+    (ap₂ (λ bs js. map (λ j. get_or bs j 0) js) are is ∙ picked units long small)

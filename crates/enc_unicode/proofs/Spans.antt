@@ -3,7 +3,7 @@ use Rattle.std.proofs.Common.{ℕ, ◌+◌, ◌-◌, ◌<◌, ◌≤◌, ◌≡�
 use Rattle.std.proofs.Common.{All, length, take, drop, get_or, refl, ap, ap₂, sym, ◌∙◌, arith}
 use Rattle.std.proofs.lemmas.Bool.Decides.{nat_tests}
 use Rattle.std.proofs.lemmas.List.{length-take-le, length-drop}
-use Rattle.std.proofs.lemmas.List.Elements.{All-head, All-tail, All-from_get_or}
+use Rattle.std.proofs.lemmas.List.Elements.{All-head, All-tail, All-from_get_or, All-weaker}
 use Rattle.std.proofs.lemmas.List.Sums.{prefix_len_passes}
 use Rattle.std.proofs.lemmas.Simd.{Each1-get_or}
 use Rattle.std.proofs.lemmas.Str.{IsUtf8-append, chars-append, chars-encodes}
@@ -27,25 +27,29 @@ use Rattle.enc_unicode.specs.WroteUnits.{WroteUnits}
 use Rattle.lane_kernels.specs.Steps.{scalars_of}
 use Rattle.enc_unicode.proofs.Scalars.{whole_front, whole_scalars}
 
-low : (u : ℕ) → u < 65536 → not (within 0x80 0xFFFF u) ≡ true → u < 128
-low u small e = grind (arith, nat_tests, small, e)
+low : (limit u : ℕ) → u < 65536 → not (within limit 0xFFFF u) ≡ true → u < limit
+low limit u small e = grind (arith, nat_tests, small, e)
 
--- units none of which is from 80 on
-pub all_low : (units : List ℕ) → Each1 (λ u. u < 65536) units → length units ≡ 32
-    → prefix_len (λ u. not (within 0x80 0xFFFF u)) units ≡ 32 → All (λ u. u < 128) units
-all_low units small long none = All-from_get_or (λ u. u < 128) units 0 (λ k inside.
-    low (get_or units k 0) (Each1-get_or (λ u. u < 65536) units k 0 inside small)
-    (prefix_len_passes (λ u. not (within 0x80 0xFFFF u)) units k 0 (omega (arith, inside, long, none))))
+-- units none of which is from a limit on
+pub all_low : (limit : ℕ) (units : List ℕ) → Each1 (λ u. u < 65536) units → length units ≡ 32
+    → prefix_len (λ u. not (within limit 0xFFFF u)) units ≡ 32 → All (λ u. u < limit) units
+all_low limit units small long none = All-from_get_or (λ u. u < limit) units 0 (λ k inside.
+    low limit (get_or units k 0) (Each1-get_or (λ u. u < 65536) units k 0 inside small)
+    (prefix_len_passes (λ u. not (within limit 0xFFFF u)) units k 0 (omega (arith, inside, long, none))))
 
-low_scalar : (u : ℕ) → u < 128 → is_scalar_unit u ≡ true
-low_scalar u l = grind (arith, nat_tests)
+narrow_scalar : (u : ℕ) → u < 2048 → is_scalar_unit u ≡ true
+narrow_scalar u l = grind (arith, nat_tests)
+
+pub narrow_scalars : (units : List ℕ) → All (λ u. u < 2048) units → prefix_len is_scalar_unit units ≡ length units
+narrow_scalars [] a = refl
+narrow_scalars (u ∷ units) a =
+    let e = narrow_scalar u (All-head (λ u. u < 2048) u units a) in
+    let i = narrow_scalars units (All-tail (λ u. u < 2048) u units a) in
+    rw e (omega (arith, i))
 
 pub low_scalars : (units : List ℕ) → All (λ u. u < 128) units → prefix_len is_scalar_unit units ≡ length units
-low_scalars [] a = refl
-low_scalars (u ∷ units) a =
-    let e = low_scalar u (All-head (λ u. u < 128) u units a) in
-    let i = low_scalars units (All-tail (λ u. u < 128) u units a) in
-    rw e (omega (arith, i))
+low_scalars units a = narrow_scalars units
+    (All-weaker (λ u. u < 128) (λ u. u < 2048) (λ u l. omega (arith, l)) units a)
 
 -- they are their own text
 pub wrote_low : (units old new : List ℕ) → length units ≡ 32 → All (λ u. u < 128) units → IsUtf8 old

@@ -5,6 +5,7 @@ use Rattle.std.proofs.lemmas.Bool.Decides.{nat_tests}
 use Rattle.std.proofs.lemmas.Nat.{and_mask}
 use Rattle.std.proofs.lemmas.Simd.{zip2_splat, zip2_of_maps, splat_is_map, tops_compared}
 use lib.Lanes.{Each1, zip2, sel_l, top, number_l, digits_l}
+use mir.Syntax.{Width}
 use mir.Val.{bits, hbits}
 use Rattle.enc_unicode.specs.Packing.{word, word_bytes}
 
@@ -37,7 +38,7 @@ lanes : (v : List ℕ) → Each1 (λ x. x < 65536) v
 lanes [] small = refl
 lanes (x ∷ v) small = ap₂ (λ y ys. y ∷ ys) (lane x small.0) (lanes v small.1)
 
-same : (v : List ℕ) → map (λ x. x) v ≡ v
+pub same : (v : List ℕ) → map (λ x. x) v ≡ v
 same [] = refl
 same (x ∷ v) = ap (λ ys. x ∷ ys) (same v)
 
@@ -47,11 +48,12 @@ selected t f g [] = refl
 selected t f g (x ∷ v) = ap (λ ys. cond (t x) (f x) (g x) ∷ ys) (selected t f g v)
 
 -- lanes chosen by a comparison with one number
-pub chosen : (v : List ℕ) (y : ℕ) (f g : ℕ → ℕ) {xs ys : List ℕ} → length v ≡ 4 → xs ≡ map f v → ys ≡ map g v →
-    sel_l (map (top (hbits w32)) (zip2 (λ a b. cond (ltb a b) (2 ^ bits w32 - 1) 0) v (replicate 4 y))) xs ys ≡ map
+pub chosen : (w : Width) (n : ℕ) (v : List ℕ) (y : ℕ) (f g : ℕ → ℕ) {xs ys : List ℕ} → length v ≡ n → xs ≡ map f v
+    → ys ≡ map g v →
+    sel_l (map (top (hbits w)) (zip2 (λ a b. cond (ltb a b) (2 ^ bits w - 1) 0) v (replicate n y))) xs ys ≡ map
     (λ x. cond (ltb x y) (f x) (g x)) v
-chosen v y f g {xs = xs} {ys = ys} long p q =
-    ap (λ ms. sel_l ms xs ys) (tops_compared w32 ltb v (replicate 4 y) ∙ zip2_splat ltb v 4 y long)
+chosen w n v y f g {xs = xs} {ys = ys} long p q =
+    ap (λ ms. sel_l ms xs ys) (tops_compared w ltb v (replicate n y) ∙ zip2_splat ltb v n y long)
     ∙ ap₂ (sel_l (map (λ x. ltb x y) v)) p q
     ∙ selected (λ x. ltb x y) f g v
 
@@ -94,8 +96,8 @@ module _ (v : List ℕ) (long : length v ≡ 4) where
       (sel_l (map (top (hbits w32)) (zip2 (λ a b. cond (ltb a b) (2 ^ bits w32 - 1) 0) v (replicate 4 2048))) a b)
       ≡ map word v
   words_are p q small =
-      chosen v 128 (λ x. x) (λ x. cond (ltb x 2048) (two x) (three x)) long (sym (same v))
-      (chosen v 2048 two three long p q)
+      chosen w32 4 v 128 (λ x. x) (λ x. cond (ltb x 2048) (two x) (three x)) long (sym (same v))
+      (chosen w32 4 v 2048 two three long p q)
       ∙ lanes v small
 
 -- their bytes

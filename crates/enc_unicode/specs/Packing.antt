@@ -29,3 +29,20 @@ sizes (u ∷ us) = size u ∷ sizes us
 
 abbrev pub row_of : List ℕ → List ℕ
 row_of units = places 0 (sizes units)
+
+-- a number whose lowest bytes are the UTF-8 of a unit below 800
+abbrev pub narrow_word : ℕ → ℕ
+narrow_word u = if ltb u 0x80 then u else 0x80C0 + u / 64 + 256 * (u % 64)
+
+-- numbers of two bytes, the lowest first
+abbrev pub narrow_word_bytes : List ℕ → List ℕ
+narrow_word_bytes [] = []
+narrow_word_bytes (w ∷ ws) = w % 256 ∷ w / 256 % 256 ∷ narrow_word_bytes ws
+
+-- the places of the first bytes of numbers of two bytes, from a place on
+abbrev pub narrow_places : ℕ → List ℕ → List ℕ
+narrow_places at [] = []
+narrow_places at (n ∷ ns) = range_with_len at n ++ narrow_places (at + 2) ns
+
+abbrev pub narrow_row_of : List ℕ → List ℕ
+narrow_row_of units = narrow_places 0 (sizes units)

@@ -2,7 +2,10 @@
 #![tactic(auto)]
 
 mod blocks;
+mod faults;
 mod guesses;
+mod narrow;
+mod narrow_packs;
 mod packing;
 mod packs;
 mod runs;

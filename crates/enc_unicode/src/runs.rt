@@ -13,6 +13,7 @@ ghost use Rattle.lane_kernels.specs.Orders.{is_big};
 ghost use Rattle.lane_kernels.specs.Units.{units_of};
 ghost use Rattle.enc_unicode.specs.WroteUnits.{WroteUnits};
 
+use crate::narrow::write_narrow;
 use crate::packing::{BLOCK_CODE, write_units};
 use lane_kernels::Order;
 use std::simd::prelude::*;
@@ -75,6 +76,14 @@ fn is_ascii(units: u16x32) -> bool
     has_none(units, 0x80, 0xFFFF)
 }
 
+/// Whether all units are below 800.
+#[inline(always)]
+fn is_narrow(units: u16x32) -> bool
+    ensures { OnTrue result (All (λ unit. unit < 2048) units) }
+{
+    has_none(units, 0x800, 0xFFFF)
+}
+
 /// Writes units below 80 after the first so many bytes, which are a text.
 #[inline(always)]
 fn write_ascii(units: u16x32, code: &mut [u8], from: usize)
@@ -104,6 +113,9 @@ fn write_block(
     if is_ascii(units) {
         write_ascii(units, code, from);
         return Some(from + 32);
+    }
+    if is_narrow(units) {
+        return Some(write_narrow(units, code, from));
     }
     if has_none(units, 0xD800, 0xDFFF) {
         return Some(write_units(units, code, from));

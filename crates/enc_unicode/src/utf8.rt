@@ -10,6 +10,7 @@ ghost use Rattle.enc_model.specs.Utf8.{Utf8, utf8, utf8_start, utf8_first, utf8_
 ghost use Rattle.enc_unicode.specs.Nowhere.{nowhere_sink};
 ghost use Rattle.enc_model.proofs.Calm.{utf8_calm};
 
+use crate::faults::push_few;
 use crate::well_formed::{Look, text_before_fault, text_found};
 use enc_model::{Answer, BLOCK, Batch, Decoder, ROOM, Restored, Sink, decode_each, finish};
 use std::convert::Infallible;
@@ -369,6 +370,10 @@ impl Utf8State {
         ensures state { self.new ≡ (steps utf8 false self.old (take result rest.now)).state }
     {
         if self.needed == 0 {
+            let few = push_few(rest, batch);
+            if 0 < few {
+                return few;
+            }
             let text = text_before_fault(rest);
             if !text.is_empty() {
                 batch.push_str(text);

@@ -6,7 +6,7 @@ use Rattle.std.proofs.lemmas.Bool.{cases_eq, cases_lt, true≢false, eq-eqb, ne_
 use Rattle.std.proofs.lemmas.List.Folds.{prefix_len-append}
 use Rattle.std.proofs.lemmas.Simd.{length-chunk, chunk-drop, get_or-chunk, leading_from_mask_l}
 use Rattle.std.proofs.lemmas.List.Sums.{prefix_len-le-length, prefix_len_passes, prefix_len_stops}
-use Rattle.std.proofs.lemmas.List.{length-take, take-take}
+use Rattle.std.proofs.lemmas.List.{drop-drop, length-take, take-take}
 use Rattle.enc_model.proofs.Fronts.{front_all}
 use Rattle.std.specs.List.{prefix_len}
 use Rattle.std.proofs.Common.{◌%◌, ◌^◌, bit_or, replicate, w8}
@@ -161,3 +161,13 @@ lanes_front bytes n e =
       subst (λ z. All (λ b. b < 128) z) (take-take n 32 bytes short)
           (subst (λ k. All (λ b. b < 128) (take k lanes)) (sym e) (front_all lanes)),
     )
+
+-- a front that goes on in the rest
+pub front_goes_on : (p : ℕ → Bool) (xs rest : List ℕ) (i n : ℕ) → rest ≡ drop i xs
+    → prefix_len p xs ≡ i + prefix_len p (drop i xs) → prefix_len p rest ≡ n + prefix_len p (drop n rest) →
+    prefix_len p xs ≡ i + n + prefix_len p (drop (i + n) xs)
+front_goes_on p xs rest i n is first next =
+    let same : prefix_len p rest ≡ prefix_len p (drop i xs) = ap (prefix_len p) is in
+    let far : prefix_len p (drop n rest) ≡ prefix_len p (drop (i + n) xs) =
+    ap (λ l. prefix_len p (drop n l)) is ∙ ap (prefix_len p) (drop-drop n i xs) in
+    omega (arith, first, next, same, far)

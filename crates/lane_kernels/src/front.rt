@@ -6,7 +6,10 @@ ghost use Rattle.std.specs.Char.{is_ascii};
 ghost use Rattle.enc_model.specs.Index.{within};
 ghost use Rattle.lane_kernels.specs.Front.{is_plain_2022};
 
-use crate::lanes::{Ascii, Class, LANES, Plain2022, Range, WIDE, WIDEST, are_ascii, wide_ascii};
+use crate::lanes::{
+    Ascii, Class, LANES, LONGEST, Plain2022, Range, WIDE, WIDEST, are_ascii, are_long_ascii,
+    wide_ascii,
+};
 
 /// The front of the bytes, one byte at a time.
 fn front_by_bytes<C: Class>(class: &C, bytes: &[u8]) -> usize
@@ -49,7 +52,7 @@ fn skip_ascii(bytes: &[u8]) -> usize
 
 /// The same as far as still more lanes at a time show it.
 #[inline(always)]
-fn skip_long_ascii(bytes: &[u8]) -> usize
+fn skip_runs(bytes: &[u8]) -> usize
     ensures within { result ≤ length bytes.now }
     ensures passed { prefix_len is_ascii bytes.now ≡ result + prefix_len is_ascii (drop result bytes.now) }
 {
@@ -58,6 +61,32 @@ fn skip_long_ascii(bytes: &[u8]) -> usize
         at += WIDEST;
     }
     at
+}
+
+/// The same by two runs at a time.
+#[inline(always)]
+fn skip_pairs_of_runs(bytes: &[u8]) -> usize
+    ensures within { result ≤ length bytes.now }
+    ensures passed { prefix_len is_ascii bytes.now ≡ result + prefix_len is_ascii (drop result bytes.now) }
+{
+    let mut at = 0;
+    'by_pairs: while bytes.len() - at >= LONGEST && are_long_ascii(bytes, at) {
+        at += LONGEST;
+    }
+    at
+}
+
+/// The same where a run is in front, and else nothing: two runs are looked at together only past a first.
+#[inline(always)]
+fn skip_long_ascii(bytes: &[u8]) -> usize
+    ensures within { result ≤ length bytes.now }
+    ensures passed { prefix_len is_ascii bytes.now ≡ result + prefix_len is_ascii (drop result bytes.now) }
+{
+    if bytes.len() < WIDEST || !are_ascii(bytes, 0) {
+        return 0;
+    }
+    let skipped = WIDEST + skip_pairs_of_runs(&bytes[WIDEST..]);
+    skipped + skip_runs(&bytes[skipped..])
 }
 
 /// How many bytes are below 80 before the first that isn't, where no long run begins.

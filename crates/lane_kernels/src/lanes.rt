@@ -8,16 +8,17 @@ ghost use Rattle.std.specs.Char.{is_ascii};
 ghost use Rattle.enc_model.specs.Index.{within};
 ghost use Rattle.lane_kernels.specs.Front.{is_plain_2022, first_set};
 
+pub(crate) use enc_model::LANES;
 use std::simd::prelude::*;
-
-/// How many bytes are loaded at a time.
-pub(crate) const LANES: usize = 32;
 
 /// How many bytes are loaded at a time where ASCII is skipped.
 pub(crate) const WIDE: usize = 64;
 
 /// How many bytes are looked at in one go where a long run of ASCII is skipped.
 pub(crate) const WIDEST: usize = 4 * WIDE;
+
+/// How many are looked at in one go past such a run.
+pub(crate) const LONGEST: usize = 2 * WIDEST;
 
 /// The place of the lowest bit that is set, or that of the last lane's end where none is.
 #[inline(always)]
@@ -96,6 +97,16 @@ pub(crate) fn are_ascii(bytes: &[u8], at: usize) -> bool
     let third = wide_lanes(bytes, at + 2 * WIDE).simd_ge(limit);
     let fourth = wide_lanes(bytes, at + 3 * WIDE).simd_ge(limit);
     ((first | second) | (third | fourth)).to_bitmask() == 0
+}
+
+/// Whether the lanes of twice as many loads are all below 80.
+#[inline(always)]
+pub(crate) fn are_long_ascii(bytes: &[u8], at: usize) -> bool
+    requires { at + LONGEST ≤ length bytes.now }
+    ensures { OnTrue result
+        (prefix_len is_ascii (drop at bytes.now) ≡ 512 + prefix_len is_ascii (drop (at + 512) bytes.now)) }
+{
+    are_ascii(bytes, at) & are_ascii(bytes, at + WIDEST)
 }
 
 /// The bytes below 80 but for 0E, 0F and 1B.

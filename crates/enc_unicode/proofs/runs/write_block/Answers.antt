@@ -9,6 +9,13 @@ returns-then-is_ascii-clause-wrote c = (
       c.units_in-units.ensures c.write_ascii.ensures,
 )
 
+pub returns-then-is_narrow-clause-wrote : goal.returns-then-is_narrow-clause-wrote
+returns-then-is_narrow-clause-wrote c = (
+  omega (arith, c.write_narrow.ensures.few),
+  subst (λ z. WroteUnits z (take c.args.from c.args.code.now) (take c.write_narrow.result c.write_narrow.new.code))
+      c.units_in-units.ensures c.write_narrow.ensures.wrote,
+)
+
 pub returns-then-has_none-clause-wrote : goal.returns-then-has_none-clause-wrote
 returns-then-has_none-clause-wrote c = (
   c.write_units.ensures.few,
