@@ -1,13 +1,16 @@
--- Characters outside ASCII that a single-byte encoding has.
-use Rattle.std.proofs.Common.{ℕ, ◌≡◌, false, List, [], Option, Some, None, refl, arith, nat_lt, Bor, IfSome}
-use Rattle.std.proofs.Common.{MatchOption, true, inl, inr}
+-- Characters that a single-byte encoding has.
+use Rattle.std.proofs.Common.{ℕ, ◌≡◌, false, List, Option, Some, None, refl, arith, nat_lt, Bor, IfSome}
+use Rattle.std.proofs.Common.{MatchOption, ◌<◌, ◌∷◌, [], true, inl, inr}
 use Rattle.std.proofs.lemmas.Bool.Decides.{nat_tests}
 use Rattle.enc_model.specs.declared.Encoding.{Encoding}
 use Rattle.enc_model.specs.declared.Encoding.TheVariants as encodings
 use Rattle.enc_model.specs.Index.{pointer}
 use Rattle.enc_model.specs.Encode.{Encoder, Tables, encoder, single_encoder}
 use Rattle.enc_index.specs.Entries.{found}
-use Rattle.enc_encode.specs.Singles.{FewPointers, AreSingles}
+use Rattle.enc_encode.specs.Singles.{FewPointers, AreSingles, IsSingle}
+
+pub ascii_single : (at : List ℕ) (c : ℕ) → c < 128 → IsSingle at c (c ∷ [])
+ascii_single at c l = inl (l, refl)
 
 -- the encodings that have a single-byte index
 pub single_is : (t : Tables) (e : Encoding) → (e ≡ encodings.Utf8 → ⊥) → (e ≡ encodings.Utf16Be → ⊥)

@@ -1,5 +1,5 @@
 use Rattle.std.proofs.Common.{◌+◌, ◌*◌, ◌<◌, ◌≤◌, ◌≡◌, ◌∷◌, [], refl, sym, ◌∙◌, ap, subst, arith, length, take, drop}
-use Rattle.std.proofs.Common.{get_or}
+use Rattle.std.proofs.Common.{get_or, set}
 use Rattle.std.specs.Str.{IsUtf8}
 use Rattle.std.proofs.lemmas.List.{length-set, take_more_set}
 use Rattle.std.proofs.lemmas.Str.{IsUtf8-past_char, IsCharBoundary-from_drop}
@@ -16,7 +16,8 @@ loop-count-init c =
       omega (arith, room),
       c.told-held,
       c.utf8.text,
-      run_none _ c.args.text.now (take c.args.from c.args.held.now) (take (c.args.from + 0) c.args.held.now) refl,
+      run_none _ c.args.text.now (take c.args.from c.args.held.now) (take (c.args.from + 0) c.args.held.now)
+          (let same : c.args.from + 0 ≡ c.args.from = omega arith in ap (λ k. take k c.args.held.now) same),
     )
 
 pub loop-count-preserved : goal.loop-count-preserved
@@ -40,6 +41,7 @@ loop-count-preserved c =
     subst (λ z. FirstGiven (IsSingle c.args.pointers.now) z (byte ∷ []) left) (sym parts)
     ((rw value at c.in-Some.ensures) left (subst IsUtf8 parts v.3)) in
     let long = v.2 in
+    let next : c.args.from + (n + 1) ≡ c.args.from + n + 1 = omega arith in
     let room : c.args.from + n < length held = omega (arith, test, most, long) in (
       omega (arith, inside),
       omega (arith, test, most),
@@ -47,7 +49,7 @@ loop-count-preserved c =
       IsUtf8-past_char rest left first.c v.3 first.parts,
       run_more _ text rest left (take c.args.from c.args.held.now) (take (c.args.from + n) held) _ (byte ∷ []) v.3 v.4
           first
-          (take_more_set held (c.args.from + n) byte room),
+          (ap (λ k. take k (set held (c.args.from + n) byte)) next ∙ take_more_set held (c.args.from + n) byte room),
     )
 
 pub range_from-requires : goal.range_from-requires
