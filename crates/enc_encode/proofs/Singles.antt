@@ -5,9 +5,9 @@ use Rattle.std.proofs.lemmas.Bool.Decides.{nat_tests}
 use Rattle.enc_model.specs.declared.Encoding.{Encoding}
 use Rattle.enc_model.specs.declared.Encoding.TheVariants as encodings
 use Rattle.enc_model.specs.Index.{pointer}
-use Rattle.enc_model.specs.Encode.{Encoder, Tables, encoder, single_encoder}
+use Rattle.enc_model.specs.Encode.{Tables, encoder, single_encoder}
 use Rattle.enc_index.specs.Entries.{found}
-use Rattle.enc_encode.specs.Singles.{FewPointers, AreSingles, IsSingle}
+use Rattle.enc_encode.specs.Singles.{AreSingles, IsSingle}
 
 pub ascii_single : (at : List ℕ) (c : ℕ) → c < 128 → IsSingle at c (c ∷ [])
 ascii_single at c l = inl (l, refl)

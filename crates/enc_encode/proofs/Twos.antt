@@ -1,5 +1,5 @@
 -- Characters of two bytes at a text's front.
-use Rattle.std.proofs.Common.{ℕ, ◌≡◌, ◌<◌, ◌≤◌, ◌+◌, ◌*◌, ◌/◌, ◌%◌, List, [], ◌∷◌, ◌++◌, refl, sym, ◌∙◌, ap, arith}
+use Rattle.std.proofs.Common.{ℕ, ◌≡◌, ◌<◌, ◌≤◌, ◌+◌, ◌*◌, ◌/◌, ◌%◌, List, [], ◌∷◌, ◌++◌, sym, ◌∙◌, ap, arith}
 use Rattle.std.proofs.Common.{get_or, drop, inl, inr}
 use Rattle.std.proofs.lemmas.Bool.{cases_lt}
 use Rattle.std.specs.Str.{IsUtf8}
@@ -21,23 +21,23 @@ two_first lead trail more c rest e small low high =
           let h : lead ≡ c = ap (λ z. get_or z 0 0) (e ∙ ap (λ z. z ++ rest) (one_byte c l)) in
           absurd (omega (arith, h, l, small, low))
       | inr m ↦ elim (cases_lt c 2048) [
+        | inl l ↦
+            let f : lead ∷ trail ∷ more ≡ ((192 + c / 64) ∷ (128 + c % 64) ∷ []) ++ rest =
+            e ∙ ap (λ z. z ++ rest) (two_bytes c m l) in
+            let h : lead ≡ 192 + c / 64 = ap (λ z. get_or z 0 0) f in
+            let k : trail ≡ 128 + c % 64 = ap (λ z. get_or z 1 0) f in
+            (omega (arith, h, k), m, ap (drop 2) f)
+        | inr n ↦ elim (cases_lt c 65536) [
           | inl l ↦
-              let f : lead ∷ trail ∷ more ≡ ((192 + c / 64) ∷ (128 + c % 64) ∷ []) ++ rest =
-              e ∙ ap (λ z. z ++ rest) (two_bytes c m l) in
-              let h : lead ≡ 192 + c / 64 = ap (λ z. get_or z 0 0) f in
-              let k : trail ≡ 128 + c % 64 = ap (λ z. get_or z 1 0) f in
-              (omega (arith, h, k), m, ap (drop 2) f)
-          | inr n ↦ elim (cases_lt c 65536) [
-              | inl l ↦
-                  let h : lead ≡ 224 + c / 4096 = ap (λ z. get_or z 0 0) (e ∙ ap (λ z. z ++ rest) (three_bytes c n l)) in
-                  let k : trail ≡ 128 + c / 64 % 64 =
-                  ap (λ z. get_or z 1 0) (e ∙ ap (λ z. z ++ rest) (three_bytes c n l)) in
-                  absurd (omega (arith, h, k, high))
-              | inr l ↦
-                  let h : lead ≡ 240 + c / 262144 = ap (λ z. get_or z 0 0) (e ∙ ap (λ z. z ++ rest) (four_bytes c l)) in
-                  absurd (omega (arith, h, high))
-            ]
+              let h : lead ≡ 224 + c / 4096 = ap (λ z. get_or z 0 0) (e ∙ ap (λ z. z ++ rest) (three_bytes c n l)) in
+              let k : trail ≡ 128 + c / 64 % 64 =
+              ap (λ z. get_or z 1 0) (e ∙ ap (λ z. z ++ rest) (three_bytes c n l)) in
+              absurd (omega (arith, h, k, high))
+          | inr l ↦
+              let h : lead ≡ 240 + c / 262144 = ap (λ z. get_or z 0 0) (e ∙ ap (λ z. z ++ rest) (four_bytes c l)) in
+              absurd (omega (arith, h, high))
         ]
+      ]
     ]
 
 pub two_begin : (lead trail : ℕ) (more : List ℕ) → IsUtf8 (lead ∷ trail ∷ more) → trail < 256

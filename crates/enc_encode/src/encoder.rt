@@ -2,6 +2,7 @@
 
 ghost use Rattle.std.specs.Prelude.{◌≡◌, ◌⊎◌, ◌<◌, ◌≤◌, ◌++◌, ◌∷◌, [], ℕ, List, Ok, Err, vec_capacity, length, OnOk};
 ghost use Rattle.std.specs.Prelude.{OnErr, IfOk, IfErr, IfSome, IsOk, All};
+ghost use Rattle.std.specs.Bool.{OnTrue};
 ghost use Rattle.std.specs.List.{prefix_len};
 ghost use Rattle.std.specs.Str.{chars};
 ghost use Rattle.enc_encode.specs.State.{EncoderState, shift_of, code_of_shift, code_of_shift_of, shifted, coder};
@@ -59,6 +60,14 @@ fn own_lanes(to: Encoding, shift: ShiftState, lanes: &[u8; LANES]) -> usize
         },
         _ => ascii_chunk(lanes),
     }
+}
+
+/// Whether all bytes are ASCII, looked at many at a time.
+#[inline(always)]
+fn are_ascii(bytes: &[u8]) -> bool
+    ensures { OnTrue result (All (λ b. b < 128) bytes.now) }
+{
+    ascii_front(bytes) == bytes.len()
 }
 
 /// Whole lanes at the front of a text that begins with ASCII, and how much of it there is, where it stands for itself.
@@ -357,7 +366,7 @@ impl Encoder {
         match self.to {
             Encoding::Utf8 | Encoding::Utf16Be | Encoding::Utf16Le => self.encode_utf8(run, out),
             _ => {
-                if ascii_front(run.as_bytes()) == run.len() {
+                if are_ascii(run.as_bytes()) {
                     return self.encode_ascii(run.as_bytes(), out);
                 }
                 self.encode_each_char(set, run, out)

@@ -1,4 +1,4 @@
-use Rattle.std.proofs.Common.{◌<◌, ◌≤◌, All, take, sym, subst, arith}
+use Rattle.std.proofs.Common.{◌<◌, All, take, sym, subst, arith}
 use Rattle.std.proofs.lemmas.List.Sums.{prefix_len-le-length}
 use Rattle.std.specs.Char.{is_ascii}
 use Rattle.enc_model.proofs.Fronts.{front_all}

@@ -1,4 +1,4 @@
-use Rattle.std.proofs.Common.{◌≡◌, ◌<◌, ◌≤◌, ◌+◌, ◌*◌, ◌∷◌, [], refl, sym, ◌∙◌, ap, subst, arith, inr, Some}
+use Rattle.std.proofs.Common.{◌≡◌, refl, sym, subst, arith, inr, Some}
 use Rattle.enc_index.specs.Entries.{found}
 use Rattle.enc_encode.proofs.Twos.{two_begin}
 use Rattle.enc_encode.proofs.single_runs.first_single.Goals as goal

@@ -1,4 +1,4 @@
-use Rattle.std.proofs.Common.{◌≤◌, ◌+◌, ◌-◌, ◌∙◌, arith, length, drop}
+use Rattle.std.proofs.Common.{◌-◌, ◌∙◌, arith, length, drop}
 use Rattle.std.proofs.lemmas.List.{take-take}
 use Rattle.enc_encode.proofs.single_runs.lanes_at.Goals as goal
 

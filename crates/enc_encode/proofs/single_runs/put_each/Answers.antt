@@ -1,4 +1,4 @@
-use Rattle.std.proofs.Common.{◌+◌, ◌<◌, ◌∙◌, arith, length}
+use Rattle.std.proofs.Common.{◌<◌, ◌∙◌, arith, length}
 use Rattle.std.proofs.lemmas.List.{length-set}
 use Rattle.enc_encode.proofs.Puts.{ascii_byte, put_byte}
 use Rattle.enc_encode.proofs.single_runs.put_each.Goals as goal

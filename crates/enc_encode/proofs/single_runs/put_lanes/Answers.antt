@@ -1,4 +1,4 @@
-use Rattle.std.proofs.Common.{◌≡◌, ◌<◌, ◌≤◌, ◌+◌, ◌++◌, ◌∙◌, All, arith, length, take, subst}
+use Rattle.std.proofs.Common.{◌≡◌, ◌<◌, ◌+◌, ◌++◌, All, arith, take, subst}
 use Rattle.enc_encode.proofs.Puts.{ascii_more, put_more}
 use Rattle.enc_encode.proofs.single_runs.put_lanes.Goals as goal
 

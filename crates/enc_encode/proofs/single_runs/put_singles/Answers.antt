@@ -1,4 +1,4 @@
-use Rattle.std.proofs.Common.{◌+◌, ◌*◌, ◌<◌, ◌≤◌, ◌≡◌, ◌∷◌, [], refl, sym, ◌∙◌, ap, subst, arith, length, take, drop}
+use Rattle.std.proofs.Common.{◌+◌, ◌*◌, ◌<◌, ◌≡◌, ◌∷◌, [], sym, ◌∙◌, ap, subst, arith, length, take, drop}
 use Rattle.std.proofs.Common.{get_or, set}
 use Rattle.std.specs.Str.{IsUtf8}
 use Rattle.std.proofs.lemmas.List.{length-set, take_more_set}

@@ -1,4 +1,4 @@
-use Rattle.std.proofs.Common.{arith, take}
+use Rattle.std.proofs.Common.{take}
 use Rattle.enc_encode.specs.Runs.{RunFront}
 use Rattle.enc_encode.specs.Singles.{IsSingle}
 use Rattle.enc_encode.proofs.Fronts.{left_text}
