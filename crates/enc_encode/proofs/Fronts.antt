@@ -1,9 +1,9 @@
 -- The code of a text, front by front.
-use Rattle.std.proofs.Common.{ℕ, zero, suc, ◌≡◌, ◌<◌, ◌≤◌, ◌==◌, true, None, List, [], ◌∷◌, ◌++◌, refl, sym, ◌∙◌, ap}
+use Rattle.std.proofs.Common.{ℕ, ◌≡◌, ◌<◌, ◌≤◌, ◌==◌, true, None, List, [], ◌∷◌, ◌++◌, refl, sym, ◌∙◌, ap}
 use Rattle.std.proofs.Common.{subst, arith, take, drop, length, get_or, Vec, Result, Ok, Err, length-append}
 use Rattle.std.proofs.Common.{append_assoc, append-nil, take-append-drop, ◌⊎◌, inl, inr}
 use Rattle.std.proofs.lemmas.Bool.Decides.{nat_tests}
-use Rattle.std.proofs.lemmas.List.{length-take, get_or-take}
+use Rattle.std.proofs.lemmas.List.{length-take, get_or-take, take-take}
 use Rattle.std.proofs.Math.Seq.{take-append_seam, drop-append_seam}
 use Rattle.std.proofs.lemmas.List.Sums.{prefix_len-le-length, prefix_len_passes}
 use Rattle.std.proofs.lemmas.List.Elements.{All-from_get_or, All-weaker}
@@ -78,14 +78,8 @@ front_ascii : (to : Encoding) (s : Shift) (text lanes : List ℕ) (n : ℕ) → 
 front_ascii to s text lanes n p =
     All-weaker (λ b. own_byte to s b ≡ true) (λ b. b < 128) (λ b e. own_ascii to s b e) (take n text) p.own
 
-take_of_take : (n m : ℕ) (xs : List ℕ) → n ≤ m → take n (take m xs) ≡ take n xs
-take_of_take zero m xs l = refl
-take_of_take (suc n) zero xs l = absurd (omega (arith, l))
-take_of_take (suc n) (suc m) [] l = refl
-take_of_take (suc n) (suc m) (x ∷ xs) l = ap (λ z. x ∷ z) (take_of_take n m xs (omega (arith, l)))
-
 front_of_front : (text lanes : List ℕ) (n : ℕ) → lanes ≡ take 32 text → n ≤ 32 → take n lanes ≡ take n text
-front_of_front text lanes n e few = ap (take n) e ∙ take_of_take n 32 text few
+front_of_front text lanes n e few = ap (take n) e ∙ take-take n 32 text few
 
 module _ (t : Tables) (e : EncoderState) {Z : Type 0} where
   -- ASCII that stands for itself

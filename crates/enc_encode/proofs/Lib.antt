@@ -8,3 +8,5 @@ mod Fronts
 mod Singles
 mod Given
 mod RunFronts
+mod Twos
+mod Puts

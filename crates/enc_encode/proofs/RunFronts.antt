@@ -1,11 +1,14 @@
 -- Characters at a text's front, whose bytes are known and leave the encoder's state as it is.
 use Rattle.std.proofs.Common.{ℕ, ◌≡◌, List, [], ◌∷◌, ◌++◌, None, refl, sym, ◌∙◌, ap, subst, append_assoc, append-nil}
-use Rattle.std.proofs.Common.{◌+◌, ◌<◌, length, take, set, arith}
+use Rattle.std.proofs.Common.{◌+◌, ◌<◌, ◌≤◌, All, length, take, drop, set, arith, take-append-drop}
 use Rattle.std.proofs.lemmas.List.{take_more_set, length-set}
 use Rattle.std.proofs.lemmas.Str.{IsUtf8-nil, IsUtf8-append, IsUtf8-take, IsUtf8-past_char, IsCharBoundary-at_seam}
+use Rattle.std.proofs.lemmas.Str.{IsCharBoundary-from_take}
+use Rattle.std.proofs.lemmas.List.Elements.{All-head, All-tail}
 use Rattle.std.proofs.lemmas.Str.{chars-nil, chars-append, chars_past_char}
 use Rattle.std.proofs.Math.Seq.{take-append_seam}
-use Rattle.std.specs.Str.{IsUtf8, chars}
+use Rattle.std.specs.Str.{IsUtf8, IsCharBoundary, chars}
+use Rattle.enc_model.proofs.Gathered.{ascii_chars, ascii_utf8}
 use lib.Utf8.{encode}
 use Rattle.enc_model.specs.declared.Encoding.{Encoding}
 use Rattle.enc_model.specs.declared.Mode.{Mode}
@@ -119,3 +122,59 @@ take_two_set xs n a b l =
     ∙ take_more_set ys (n + 1) b (omega (arith, long, l))
     ∙ ap (λ z. z ++ b ∷ []) (take_more_set xs n a (omega (arith, l)))
     ∙ append_assoc (take n xs) (a ∷ []) (b ∷ [])
+
+-- SEVERAL AT ONCE
+
+all_both : (gives : ℕ → List ℕ → Type 0) (xs ys a b : List ℕ) → AllGiven gives xs a → AllGiven gives ys b
+    → AllGiven gives (xs ++ ys) (a ++ b)
+all_both gives [] ys a b p q = subst (λ z. AllGiven gives ys (z ++ b)) (sym p) q
+all_both gives (x ∷ xs) ys a b p q = (
+  p.0,
+  p.1 ++ b,
+  ap (λ z. z ++ b) p.2 ∙ append_assoc p.0 p.1 b,
+  p.3,
+  all_both gives xs ys p.1 b p.4 q,
+)
+
+all_ascii : (gives : ℕ → List ℕ → Type 0) → ((c : ℕ) → c < 128 → gives c (c ∷ [])) → (cs : List ℕ)
+    → All (λ c. c < 128) cs → AllGiven gives cs cs
+all_ascii gives stands [] a = refl
+all_ascii gives stands (c ∷ cs) a = (
+  c ∷ [],
+  cs,
+  refl,
+  stands c (All-head (λ c. c < 128) c cs a),
+  all_ascii gives stands cs (All-tail (λ c. c < 128) c cs a),
+)
+
+-- one front after another
+pub run_both : (gives : ℕ → List ℕ → Type 0) (text rest left held kept new : List ℕ) → RunFront gives text rest held kept
+    → RunFront gives rest left kept new → RunFront gives text left held new
+run_both gives text rest left held kept new p q = record {
+  front = p.front ++ q.front;
+  bytes = p.bytes ++ q.bytes;
+  parts = p.parts ∙ ap (λ z. p.front ++ z) q.parts ∙ sym (append_assoc p.front q.front left);
+  own = IsUtf8-append p.front q.front p.own q.own;
+  kept = q.kept ∙ ap (λ z. z ++ q.bytes) p.kept ∙ append_assoc held p.bytes q.bytes;
+  given = subst (λ z. AllGiven gives z (p.bytes ++ q.bytes)) (sym (chars-append p.front q.front p.own))
+      (all_both gives (chars p.front) (chars q.front) p.bytes q.bytes p.given q.given);
+}
+
+-- ASCII that stands for itself
+pub run_ascii : (gives : ℕ → List ℕ → Type 0) → ((c : ℕ) → c < 128 → gives c (c ∷ [])) → (text : List ℕ) (n : ℕ)
+    (held new : List ℕ) → All (λ b. b < 128) (take n text) → new ≡ held ++ take n text
+    → RunFront gives text (drop n text) held new
+run_ascii gives stands text n held new a e = record {
+  front = take n text;
+  bytes = take n text;
+  parts = sym (take-append-drop n text);
+  own = ascii_utf8 (take n text) a;
+  kept = e;
+  given = subst (λ z. AllGiven gives z (take n text)) (sym (ascii_chars (take n text) a))
+      (all_ascii gives stands (take n text) a);
+}
+
+-- a text may be cut after ASCII
+pub ascii_cut : (text : List ℕ) (n : ℕ) → IsUtf8 text → n ≤ length text → All (λ b. b < 128) (take n text)
+    → IsCharBoundary text n
+ascii_cut text n u l a = IsCharBoundary-from_take text n u l (ascii_utf8 (take n text) a)

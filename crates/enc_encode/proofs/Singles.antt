@@ -1,17 +1,16 @@
--- Characters outside ASCII that a single-byte encoding has.
-use Rattle.std.proofs.Common.{ℕ, ◌≡◌, false, List, [], Option, Some, None, refl, arith, nat_lt, Bor, IfSome}
-use Rattle.std.proofs.Common.{MatchOption, option_copied, unwrap_or}
+-- Characters that a single-byte encoding has.
+use Rattle.std.proofs.Common.{ℕ, ◌≡◌, false, List, Option, Some, None, refl, arith, nat_lt, Bor, IfSome}
+use Rattle.std.proofs.Common.{MatchOption, ◌<◌, ◌∷◌, [], true, inl, inr}
 use Rattle.std.proofs.lemmas.Bool.Decides.{nat_tests}
 use Rattle.enc_model.specs.declared.Encoding.{Encoding}
 use Rattle.enc_model.specs.declared.Encoding.TheVariants as encodings
 use Rattle.enc_model.specs.Index.{pointer}
-use Rattle.enc_model.specs.Encode.{Encoder, Tables, encoder, single_encoder}
+use Rattle.enc_model.specs.Encode.{Tables, encoder, single_encoder}
 use Rattle.enc_index.specs.Entries.{found}
-use Rattle.enc_encode.specs.Singles.{FewPointers, AreSingles}
+use Rattle.enc_encode.specs.Singles.{AreSingles, IsSingle}
 
--- a table without a pointer
-pub no_singles : (f : Encoder) → AreSingles f []
-no_singles f s c bytes h = absurd (let e = h.2 in cc)
+pub ascii_single : (at : List ℕ) (c : ℕ) → c < 128 → IsSingle at c (c ∷ [])
+ascii_single at c l = inl (l, refl)
 
 -- the encodings that have a single-byte index
 pub single_is : (t : Tables) (e : Encoding) → (e ≡ encodings.Utf8 → ⊥) → (e ≡ encodings.Utf16Be → ⊥)
@@ -30,7 +29,10 @@ pub singles_are : (t : Tables) (e : Encoding) (at : List ℕ) → encoder t e �
     → ((c : ℕ) → found at c ≡ pointer (t.single e) c) →
     AreSingles (encoder t e) at
 unfolding single_encoder
-singles_are t e at is same s c bytes h =
+singles_are t e at is same s c bytes (inl h) =
+    let ascii : nat_lt c 0x80 ≡ true = let l = h.0 in grind (arith, nat_tests, l) in
+    rw (is, ascii, h.1) refl
+singles_are t e at is same s c bytes (inr h) =
     let outside : nat_lt c 0x80 ≡ false = let l = h.0 in grind (arith, nat_tests, l) in
     rw (is, outside, ← same c, h.2, h.3) refl
 
@@ -38,11 +40,6 @@ singles_are t e at is same s c bytes h =
 pub singles_found : (t : Tables) (e : Encoding) (r : Option (Bor (List ℕ))) → encoder t e ≡ single_encoder (t.single e)
     →
     MatchOption r ((c : ℕ) → pointer (t.single e) c ≡ None) (λ p. (c : ℕ) → found p.now c ≡ pointer (t.single e) c) →
-    AreSingles (encoder t e) (unwrap_or (option_copied r) [])
-singles_found t e None is m = no_singles (encoder t e)
+    IfSome r (λ p. AreSingles (encoder t e) p.now)
+singles_found t e None is m = tt
 singles_found t e (Some p) is m = singles_are t e p.now is m
-
-pub few_found : (r : Option (Bor (List ℕ))) → IfSome r (λ p. FewPointers p.now)
-    → FewPointers (unwrap_or (option_copied r) [])
-few_found None h c = tt
-few_found (Some p) h c = h c

@@ -1,5 +1,5 @@
--- Characters outside ASCII that a single-byte encoding has, by a table of their pointers.
-use Rattle.std.specs.Prelude.{ℕ, List, [], ◌∷◌, ◌≡◌, ◌<◌, ◌≤◌, ◌+◌, Some, IfSome}
+-- Characters that a single-byte encoding has, by a table of the pointers of those outside ASCII.
+use Rattle.std.specs.Prelude.{ℕ, List, [], ◌∷◌, ◌≡◌, ◌<◌, ◌≤◌, ◌+◌, ◌⊎◌, Some, IfSome}
 use Rattle.enc_index.specs.Entries.{found}
 use Rattle.enc_model.specs.Encode.{Encoder, Shift}
 use Rattle.enc_encode.specs.Runs.{Stays}
@@ -8,9 +8,10 @@ use Rattle.enc_encode.specs.Runs.{Stays}
 abbrev pub FewPointers : List ℕ → Type 0
 FewPointers at = (c : ℕ) → IfSome (found at c) (λ p. p < 128)
 
--- the byte of a character outside ASCII
+-- the byte of a character: ASCII stands for itself, and others have a pointer
 abbrev pub IsSingle : List ℕ → ℕ → List ℕ → Type 0
-IsSingle at c bytes = (0x80 ≤ c) × (p : ℕ) × (found at c ≡ Some p) × (bytes ≡ (p + 0x80) ∷ [])
+IsSingle at c bytes = ((c < 0x80) × (bytes ≡ c ∷ []))
+    ⊎ ((0x80 ≤ c) × (p : ℕ) × (found at c ≡ Some p) × (bytes ≡ (p + 0x80) ∷ []))
 
 -- an encoder gives these bytes
 abbrev pub AreSingles : Encoder → List ℕ → Type 0

@@ -1,7 +1,7 @@
 //! Bytes that are gathered before they are appended.
 
 ghost use Rattle.std.specs.Prelude.{◌≡◌, ◌<◌, ◌≤◌, ◌+◌, ◌++◌, ◌∷◌, [], ℕ, OnOk, OnErr, IfSome, length};
-ghost use Rattle.std.specs.Prelude.{option_copied, take, unwrap_or};
+ghost use Rattle.std.specs.Prelude.{take};
 ghost use Rattle.enc_encode.specs.Code.{bytes_of};
 ghost use Rattle.enc_encode.specs.Growth.{Appended, Stopped};
 ghost use Rattle.enc_encode.specs.Held.{Passed};
@@ -14,6 +14,7 @@ ghost use Rattle.enc_model.specs.Indexes.{tables};
 use crate::append::append;
 use crate::encoders::pair;
 use crate::shift::ShiftState;
+use crate::single_runs::{put_last_ascii, put_run};
 use crate::written::Bytes;
 use enc_index::{IndexSet, Pointers};
 use enc_model::Encoding;
@@ -21,7 +22,7 @@ use std::alloc::AllocError;
 use std::marker::Model;
 
 /// How many bytes a buffer has room for.
-const ROOM: usize = 512;
+pub const ROOM: usize = 2048;
 
 /// How many bytes are put in at once at most.
 pub const LANES: usize = 32;
@@ -40,23 +41,7 @@ impl Model for Buffer {
 
     ghost view = { λ b. take b.len b.bytes };
 
-    ghost invariant = { λ b. b.len ≤ 512 };
-}
-
-/// The byte of a text's first character, if it is outside ASCII and a single-byte encoding has it, and the rest of the
-/// text.
-#[inline(always)]
-fn first_single<'a>(pointers: &Pointers, text: &'a str) -> Option<(u8, &'a str)>
-    requires { FewPointers pointers.now }
-    ensures { IfSome result (λ r. FirstGiven (IsSingle pointers.now) text.now (r.0 ∷ []) r.1.now) }
-{
-    let mut chars = text.chars();
-    let c = chars.next()?;
-    if c < '\u{80}' {
-        return None;
-    }
-    let pointer = pointers.find(c)?;
-    Some(((pointer + 0x80) as u8, chars.as_str()))
+    ghost invariant = { λ b. b.len ≤ 2048 };
 }
 
 /// The two bytes of a text's first character, if it is one that `pair` has, and the rest of the text.
@@ -138,9 +123,9 @@ impl Buffer {
         self.len += count;
     }
 
-    /// Puts the bytes of characters outside ASCII at a text's front behind the others: as many as a single-byte
-    /// encoding has one after the other, and as there is room for. Gives the rest of the text. The length is a local of
-    /// the loop, which a register can hold.
+    /// Puts the bytes of a text's front behind the others: of ASCII, and of characters of two bytes that a single-byte
+    /// encoding has, as far as there is room. Gives the rest of the text. The length is a local of the loop, which a
+    /// register can hold.
     #[inline(always)]
     pub fn push_singles<'a>(&mut self, pointers: &Pointers, text: &'a str) -> &'a str
         requires { FewPointers pointers.now }
@@ -149,15 +134,17 @@ impl Buffer {
         let mut len = self.len;
         let mut rest = text;
         while len < ROOM {
-            let Some((byte, behind)) = first_single(pointers, rest) else {
-                break;
-            };
-            self.bytes[len] = byte;
-            len += 1;
+            let (behind, end) = put_run(&mut self.bytes, len, pointers, rest);
+            let stops = end == len;
+            len = end;
             rest = behind;
+            if stops {
+                break;
+            }
         }
-        self.len = len;
-        rest
+        let (left, end) = put_last_ascii(&mut self.bytes, len, rest);
+        self.len = end;
+        left
     }
 
     /// Puts the bytes of characters at a text's front behind the others: as many as `pair` has one after the other, and
@@ -199,8 +186,8 @@ impl Buffer {
         shift: ShiftState,
         text: &'a str,
     ) -> &'a str
-        requires singles { AreSingles (encoder (tables set.now) to) (unwrap_or (option_copied singles) []) }
-        requires few { FewPointers (unwrap_or (option_copied singles) []) }
+        requires singles { IfSome singles (λ p. AreSingles (encoder (tables set.now) to) p.now) }
+        requires few { IfSome singles (λ p. FewPointers p.now) }
         ensures { RunFront (Stays (encoder (tables set.now) to) (shift_of shift)) text.now result.now self.old
             self.new }
     {

@@ -1,7 +1,8 @@
 //! The encoder.
 
 ghost use Rattle.std.specs.Prelude.{◌≡◌, ◌⊎◌, ◌<◌, ◌≤◌, ◌++◌, ◌∷◌, [], ℕ, List, Ok, Err, vec_capacity, length, OnOk};
-ghost use Rattle.std.specs.Prelude.{OnErr, IfOk, IfErr, IfSome, IsOk, All, option_copied, unwrap_or};
+ghost use Rattle.std.specs.Prelude.{OnErr, IfOk, IfErr, IfSome, IsOk, All};
+ghost use Rattle.std.specs.Bool.{OnTrue};
 ghost use Rattle.std.specs.List.{prefix_len};
 ghost use Rattle.std.specs.Str.{chars};
 ghost use Rattle.enc_encode.specs.State.{EncoderState, shift_of, code_of_shift, code_of_shift_of, shifted, coder};
@@ -25,7 +26,7 @@ use crate::written::Written;
 use crate::written_out::write_out;
 use enc_index::{IndexSet, Kind, Pointers};
 use enc_model::{Encoding, Mode};
-use lane_kernels::{ascii_chunk, plain_chunk_2022};
+use lane_kernels::{ascii_chunk, ascii_front, plain_chunk_2022};
 use std::alloc::AllocError;
 use std::marker::Model;
 
@@ -59,6 +60,14 @@ fn own_lanes(to: Encoding, shift: ShiftState, lanes: &[u8; LANES]) -> usize
         },
         _ => ascii_chunk(lanes),
     }
+}
+
+/// Whether all bytes are ASCII, looked at many at a time.
+#[inline(always)]
+fn are_ascii(bytes: &[u8]) -> bool
+    ensures { OnTrue result (All (λ b. b < 128) bytes.now) }
+{
+    ascii_front(bytes) == bytes.len()
 }
 
 /// Whole lanes at the front of a text that begins with ASCII, and how much of it there is, where it stands for itself.
@@ -298,8 +307,8 @@ impl Encoder {
         out: &mut Vec<u8>,
     ) -> Result<ShiftState, EncodeError>
         requires same { to ≡ self.now.to }
-        requires singles { AreSingles (encoder (tables set.now) self.now.to) (unwrap_or (option_copied singles) []) }
-        requires few { FewPointers (unwrap_or (option_copied singles) []) }
+        requires singles { IfSome singles (λ p. AreSingles (encoder (tables set.now) self.now.to) p.now) }
+        requires few { IfSome singles (λ p. FewPointers p.now) }
         ensures { Gave (code_from (tables set.now) self.now (chars run.now)) out.old out.new result }
     {
         let mut held = Buffer::new();
@@ -357,7 +366,7 @@ impl Encoder {
         match self.to {
             Encoding::Utf8 | Encoding::Utf16Be | Encoding::Utf16Le => self.encode_utf8(run, out),
             _ => {
-                if run.is_ascii() {
+                if are_ascii(run.as_bytes()) {
                     return self.encode_ascii(run.as_bytes(), out);
                 }
                 self.encode_each_char(set, run, out)

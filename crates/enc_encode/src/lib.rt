@@ -11,6 +11,7 @@ mod encoders;
 mod error;
 mod iso2022;
 mod shift;
+mod single_runs;
 mod sink;
 mod written;
 mod written_out;

@@ -8,9 +8,9 @@ use Rattle.enc_encode.specs.State.{shift_of}
 use Rattle.enc_encode.proofs.buffer.Buffer.push_pairs.Given as goal
 
 abbrev pub invariant-loop-len : goal.invariant-loop-len
-invariant-loop-len l = shadow (Utf8 l.rest) × (l.len ≤ 512) × (length l.self-inside.bytes ≡ 512)
+invariant-loop-len l = shadow (Utf8 l.rest) × (l.len ≤ 2048) × (length l.self-inside.bytes ≡ 2048)
     × RunFront (Stays (encoder (tables l.set) l.to) (shift_of l.shift)) l.text l.rest l.fn.self
     (take l.len l.self-inside.bytes)
 
 abbrev pub decreases-loop-len : goal.decreases-loop-len
-decreases-loop-len l = 512 - l.len
+decreases-loop-len l = 2048 - l.len

@@ -1,4 +1,4 @@
-use Rattle.std.proofs.Common.{[], subst, option_copied, unwrap_or}
+use Rattle.std.proofs.Common.{IfSome, subst}
 use Rattle.enc_model.specs.Encode.{encoder}
 use Rattle.enc_model.specs.Indexes.{tables}
 use Rattle.enc_encode.specs.Runs.{Stays}
@@ -11,6 +11,6 @@ pub returns-in-Some : goal.returns-in-Some
 returns-in-Some c =
     let f = encoder (tables c.args.set.now) c.args.to in
     let s = shift_of c.args.shift in
-    let singles = subst (λ z. AreSingles f (unwrap_or (option_copied z) [])) c.in-Some.is c.requires.singles in
+    let singles = subst (λ z. IfSome z (λ p. AreSingles f p.now)) c.in-Some.is c.requires.singles in
     run_weaker (IsSingle c.in-Some.pointers.now) (Stays f s) _ _ _ _ (λ x b h. singles s x b h)
     c.push_singles.ensures

@@ -1,8 +1,10 @@
-use Rattle.std.proofs.Common.{◌∷◌, [], ◌∙◌, arith, take}
-use Rattle.std.proofs.lemmas.List.{take_more_set, length-set}
-use Rattle.std.proofs.lemmas.Str.{IsUtf8-past_char}
-use Rattle.enc_encode.proofs.RunFronts.{run_none, run_more}
+use Rattle.std.proofs.Common.{take}
+use Rattle.enc_encode.specs.Runs.{RunFront}
+use Rattle.enc_encode.specs.Singles.{IsSingle}
+use Rattle.enc_encode.proofs.Fronts.{left_text}
+use Rattle.enc_encode.proofs.RunFronts.{run_none, run_both}
 use Rattle.enc_encode.proofs.buffer.Buffer.push_singles.Goals as goal
+use Rattle.enc_encode.proofs.buffer.Buffer.push_singles.Goals.{else-loop-len-test, then-loop-len-test+then-stops}
 
 pub loop-len-init : goal.loop-len-init
 loop-len-init c = (
@@ -15,16 +17,34 @@ loop-len-init c = (
 pub loop-len-preserved : goal.loop-len-preserved
 loop-len-preserved c =
     let rest = c.loop-len.rest.now in
-    let left = c.in-Some.behind.now in
-    let first = c.in-Some.ensures in
+    let left = c.put_run-end.result.0.now in
     let v = c.loop-len.invariant in
-    let test = c.loop-len-test.true in
-    let bytes = c.loop-len.self-inside.bytes in
-    let n = c.loop-len.len in
-    let byte = c.in-Some.byte in (
-      IsUtf8-past_char rest left first.c v.0 first.parts,
-      omega (arith, test),
-      length-set bytes n byte ∙ v.2,
-      run_more _ c.args.text.now rest left c.args.self.now _ _ (byte ∷ []) v.0 v.3 first
-          (take_more_set bytes n byte (omega (arith, test, v.2))),
+    let p = c.put_run-end.ensures.run in (
+      left_text rest p.front left v.0 p.own p.parts,
+      c.put_run-end.ensures.more.1,
+      c.put_run-end.array_long,
+      run_both (IsSingle c.args.pointers.now) c.args.text.now rest left c.args.self.now
+          (take c.loop-len.len c.loop-len.self-inside.bytes)
+          (take c.put_run-end.result.1 c.put_run-end.new.held) v.3
+          p,
     )
+
+pub returns : goal.returns
+returns c =
+    let gives = IsSingle c.args.pointers.now in
+    let text = c.args.text.now in
+    let held = c.args.self.now in
+    let rest = c.loop-len-test.rest.now in
+    let mid = take c.loop-len-test.len c.loop-len-test.self-inside.bytes in
+    let run : RunFront gives text rest held mid =
+    elim c.loop-len-test.branch [
+      | else-loop-len-test w ↦ rw (w.len-is, w.rest-is, w.self-inside-is) c.loop-len.invariant.3
+      | then-loop-len-test+then-stops w ↦ rw (w.len-is, w.rest-is, w.self-inside-is)
+          (run_both gives text c.loop-len.rest.now w.put_run-end.result.0.now held
+          (take c.loop-len.len c.loop-len.self-inside.bytes)
+          (take w.put_run-end.result.1 w.put_run-end.new.held) c.loop-len.invariant.3
+          w.put_run-end.ensures.run)
+    ] in
+    run_both gives text rest c.put_last_ascii-end.result.0.now held mid
+    (take c.put_last_ascii-end.result.1 c.put_last_ascii-end.new.held) run
+    (c.put_last_ascii-end.ensures.run c.args.pointers.now)

@@ -1,9 +1,9 @@
-use Rattle.std.proofs.Common.{[], ap, subst, option_copied, unwrap_or}
+use Rattle.std.proofs.Common.{IfSome, ap, subst}
 use Rattle.enc_model.specs.Encode.{encoder}
 use Rattle.enc_model.specs.Indexes.{tables}
 use Rattle.enc_encode.specs.Singles.{AreSingles}
 use Rattle.enc_encode.specs.State.{EncoderState}
-use Rattle.enc_encode.proofs.Singles.{single_is, singles_found, few_found}
+use Rattle.enc_encode.proofs.Singles.{single_is, singles_found}
 use Rattle.enc_encode.proofs.encoder.Encoder.encode_each_char.Goals as goal
 
 pub returns-in-Utf8 : goal.returns-in-Utf8
@@ -17,10 +17,9 @@ encode_chars-requires-in_default c =
     let is = single_is t to other.not-Utf8 other.not-Utf16Be other.not-Utf16Le other.not-ShiftJis other.not-EucJp
     other.not-Iso2022Jp in
     let found = c.pointers-singles.ensures in
-    let at = unwrap_or (option_copied c.pointers-singles.result) [] in
     let same = ap (λ (e : EncoderState). e.to) c.self.view_is in record {
       same = same;
-      singles = subst (λ z. AreSingles (encoder t z) at) same
+      singles = subst (λ z. IfSome c.pointers-singles.result (λ p. AreSingles (encoder t z) p.now)) same
           (singles_found t to c.pointers-singles.result is found.value);
-      few = few_found c.pointers-singles.result found.bounded;
+      few = found.bounded;
     }

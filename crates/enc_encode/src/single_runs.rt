@@ -1,0 +1,165 @@
+//! The bytes of a text's front in a single-byte encoding.
+
+ghost use Rattle.std.specs.Prelude.{◌≡◌, ◌<◌, ◌≤◌, ◌+◌, ◌++◌, ◌∷◌, [], ℕ, List, All, IfSome, length, take, drop};
+ghost use Rattle.std.specs.Str.{IsUtf8};
+ghost use Rattle.enc_encode.specs.Runs.{FirstGiven, RunFront};
+ghost use Rattle.enc_encode.specs.Singles.{FewPointers, IsSingle};
+
+use crate::buffer::{LANES, ROOM};
+use enc_index::Pointers;
+use lane_kernels::ascii_chunk;
+
+/// What a lead and a trail of two bytes count, beside the code point, where the lead counts 64.
+const TWO_BYTES: u32 = 0xC0 * 64 + 0x80;
+
+/// The byte that a single-byte encoding has for a text's first character, whose first two bytes these are, where it has
+/// two bytes.
+#[inline(always)]
+fn first_single(pointers: &Pointers, lead: u8, trail: u8) -> Option<u8>
+    requires { FewPointers pointers.now }
+    ensures { IfSome result
+        (λ byte. (more : List ℕ) → IsUtf8 (lead ∷ trail ∷ more) → FirstGiven (IsSingle pointers.now)
+        (lead ∷ trail ∷ more) (byte ∷ []) more) }
+{
+    let c = (lead as u32 * 64 + trail as u32).wrapping_sub(TWO_BYTES);
+    if 0x800 <= c {
+        return None;
+    }
+    let pointer = pointers.find(char::from_u32(c)?)?;
+    Some((pointer + 0x80) as u8)
+}
+
+/// Puts the bytes of characters of two bytes at a text's front after the first so many: as many as a single-byte
+/// encoding has one after the other, and as there is room for. Gives the rest of the text, and how many bytes there are
+/// then.
+#[inline(always)]
+fn put_singles<'a>(
+    held: &mut [u8; ROOM],
+    from: usize,
+    pointers: &Pointers,
+    text: &'a str,
+) -> (&'a str, usize)
+    requires few { FewPointers pointers.now }
+    requires room { from ≤ ROOM }
+    ensures more { (from ≤ result.1) × (result.1 ≤ ROOM) }
+    ensures run { RunFront (IsSingle pointers.now) text.now result.0.now (take from held.old)
+        (take result.1 held.new) }
+{
+    let bytes = text.as_bytes();
+    let most = (bytes.len() / 2).min(ROOM - from);
+    let mut count = 0;
+    while count < most {
+        let Some(byte) = first_single(pointers, bytes[2 * count], bytes[2 * count + 1]) else {
+            break;
+        };
+        held[from + count] = byte;
+        count += 1;
+    }
+    (&text[2 * count..], from + count)
+}
+
+/// Puts the first so many bytes of lanes after the first so many. All lanes are stored, so that nothing depends on how
+/// many.
+#[inline(always)]
+fn store_front(held: &mut [u8; ROOM], from: usize, lanes: [u8; LANES], count: usize)
+    requires few { count ≤ LANES }
+    requires room { from + LANES ≤ ROOM }
+    ensures { take (from + count) held.new ≡ take from held.old ++ take count lanes }
+{
+    held[from..from + LANES].copy_from_slice(&lanes);
+}
+
+/// How many of the lanes are ASCII before the first that isn't.
+#[inline(always)]
+fn ascii_in(lanes: &[u8; LANES]) -> usize
+    ensures within { result ≤ LANES }
+    ensures ascii { All (λ b. b < 128) (take result lanes.now) }
+{
+    ascii_chunk(lanes)
+}
+
+/// The lanes at a place.
+#[inline(always)]
+fn lanes_at(bytes: &[u8], at: usize) -> [u8; LANES]
+    requires { at + LANES ≤ length bytes.now }
+    ensures { result ≡ take LANES (drop at bytes.now) }
+{
+    match bytes[at..].first_chunk::<LANES>() {
+        Some(lanes) => *lanes,
+        None => unreachable!(),
+    }
+}
+
+/// Puts ASCII that bytes begin with after the first so many, in lanes as long as there is room for them, and counts it.
+/// A step over whole lanes doesn't wait for their count.
+#[inline(always)]
+fn put_lanes(held: &mut [u8; ROOM], from: usize, bytes: &[u8]) -> usize
+    requires { from ≤ ROOM }
+    ensures room { from + result ≤ ROOM }
+    ensures within { result ≤ length bytes.now }
+    ensures ascii { All (λ b. b < 128) (take result bytes.now) }
+    ensures put { take (from + result) held.new ≡ take from held.old ++ take result bytes.now }
+{
+    let most = bytes.len().min(ROOM - from);
+    let mut at = 0;
+    while at + LANES <= most {
+        let lanes = lanes_at(bytes, at);
+        let count = ascii_in(&lanes);
+        store_front(held, from + at, lanes, count);
+        if count < LANES {
+            return at + count;
+        }
+        at += LANES;
+    }
+    at
+}
+
+/// Puts ASCII that bytes begin with after the first so many, byte by byte as far as there is room, and counts it.
+#[inline(always)]
+fn put_each(held: &mut [u8; ROOM], from: usize, bytes: &[u8]) -> usize
+    requires { from ≤ ROOM }
+    ensures room { from + result ≤ ROOM }
+    ensures within { result ≤ length bytes.now }
+    ensures ascii { All (λ b. b < 128) (take result bytes.now) }
+    ensures put { take (from + result) held.new ≡ take from held.old ++ take result bytes.now }
+{
+    let most = bytes.len().min(ROOM - from);
+    let mut at = 0;
+    while at < most && bytes[at] < 0x80 {
+        held[from + at] = bytes[at];
+        at += 1;
+    }
+    at
+}
+
+/// Puts the bytes of a text's front after the first so many: of ASCII in lanes, and then of characters of two bytes that
+/// a single-byte encoding has. Gives the rest of the text, and how many bytes there are then.
+#[inline(always)]
+pub fn put_run<'a>(
+    held: &mut [u8; ROOM],
+    from: usize,
+    pointers: &Pointers,
+    text: &'a str,
+) -> (&'a str, usize)
+    requires few { FewPointers pointers.now }
+    requires room { from ≤ ROOM }
+    ensures more { (from ≤ result.1) × (result.1 ≤ ROOM) }
+    ensures run { RunFront (IsSingle pointers.now) text.now result.0.now (take from held.old)
+        (take result.1 held.new) }
+{
+    let count = put_lanes(held, from, text.as_bytes());
+    put_singles(held, from + count, pointers, &text[count..])
+}
+
+/// Puts the ASCII of a text's front after the first so many bytes, where it is short. Gives the rest of the text, and
+/// how many bytes there are then.
+#[inline(always)]
+pub fn put_last_ascii<'a>(held: &mut [u8; ROOM], from: usize, text: &'a str) -> (&'a str, usize)
+    requires { from ≤ ROOM }
+    ensures more { result.1 ≤ ROOM }
+    ensures run { (at : List ℕ) → RunFront (IsSingle at) text.now result.0.now (take from held.old)
+        (take result.1 held.new) }
+{
+    let count = put_each(held, from, text.as_bytes());
+    (&text[count..], from + count)
+}
