@@ -7,3 +7,4 @@ mod Refusals
 mod Copying
 mod Deletions
 mod Lasting
+mod Utf8

@@ -38,6 +38,12 @@ pub enum Order<'a> {
         spool: &'a str,
         numbers: Vec<u64>,
     },
+    /// The texts of the spool at this path, written into files of this folder: of the complete uploads, or of all.
+    Export {
+        spool: &'a str,
+        folder: &'a str,
+        all: bool,
+    },
     /// Standard input, written as an upload with these labels and this mode would be stored, with the index files of
     /// this folder.
     Text {
@@ -86,6 +92,7 @@ fn order_of<'a>(name: &str, given: &ArgMatches<'a>) -> Option<Order<'a>> {
         "script" => script_order(given),
         "serve" => serve_order(given),
         "list" => list_order(given),
+        "export" => export_order(given),
         "text" => text_order(given),
         "upgrade" => upgrade_order(given),
         _ => None,
@@ -165,6 +172,14 @@ fn delete_order<'a>(
         numbers.push(number)?;
     }
     Ok(Some(Order::Delete { spool, numbers }))
+}
+
+fn export_order<'a>(given: &ArgMatches<'a>) -> Option<Order<'a>> {
+    Some(Order::Export {
+        spool: given.get_str("SPOOL")?,
+        folder: given.get_str("DIR")?,
+        all: given.get_flag("all"),
+    })
 }
 
 fn text_order<'a>(given: &ArgMatches<'a>) -> Option<Order<'a>> {

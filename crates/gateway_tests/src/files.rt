@@ -3,7 +3,9 @@
 use crate::spools::ran;
 use crate::talks::Step::{Added, Deferred, Made, Open};
 use crate::talks::{Step, Talk};
-use gateway_files::{Failure, format_file, list_file, list_on, open_spool, upgrade_file};
+use gateway_files::{
+    Failure, export_file, format_file, list_file, list_on, open_spool, upgrade_file,
+};
 use spool_disk::{Disk, FileDisk};
 use std::alloc::Global;
 use std::fs;
@@ -129,6 +131,8 @@ fn failure_says_what_the_system_said(rt: HostRuntime) {
     fails(&rt, alloc, listed, 3, said);
     let upgraded = upgrade_file(&rt, alloc, "gateway_used_test");
     fails(&rt, alloc, upgraded, 3, said);
+    let exported = export_file(&rt, alloc, "gateway_used_test", ".", false);
+    fails(&rt, alloc, exported, 3, said);
     drop(used);
     fs::remove_file(&rt, "gateway_used_test").expect(&rt, "a file");
 }
