@@ -22,7 +22,7 @@ after n (x ∷ xs) = if nat_lt n x.0 then x ∷ xs else after n xs
 abbrev numbers : List (ℕ × Upload) → List ℕ
 numbers xs = map (λ e. e.0) xs
 
-none_above : (n : ℕ) (xs : List (ℕ × Upload)) → above n xs ≡ None → after n xs ≡ []
+pub none_above : (n : ℕ) (xs : List (ℕ × Upload)) → above n xs ≡ None → after n xs ≡ []
 none_above n [] e = refl
 none_above n (x ∷ xs) e =
     elim (true_or_false (nat_lt n x.0)) [
@@ -52,7 +52,7 @@ after_first x (y ∷ xs) rising =
     let yes : nat_lt x.0 y.0 ≡ true = grind (arith, less) in
     rw yes refl
 
-some_above : (n : ℕ) (xs : List (ℕ × Upload)) (entry : ℕ × Upload) → IsRising (numbers xs)
+pub some_above : (n : ℕ) (xs : List (ℕ × Upload)) (entry : ℕ × Upload) → IsRising (numbers xs)
     → above n xs ≡ Some entry → after n xs ≡ entry ∷ after entry.0 xs
 some_above n [] entry rising e = absurd (cc)
 some_above n (x ∷ xs) entry rising e =
@@ -75,7 +75,7 @@ some_above n (x ∷ xs) entry rising e =
     ]
 
 -- where none has number 0, all are above it
-all_above : (xs : List (ℕ × Upload)) → ((u : Upload) → find 0 xs ≡ Some u → ⊥) → after 0 xs ≡ xs
+pub all_above : (xs : List (ℕ × Upload)) → ((u : Upload) → find 0 xs ≡ Some u → ⊥) → after 0 xs ≡ xs
 all_above [] some = refl
 all_above (x ∷ xs) some =
     elim (true_or_false (nat_lt 0 x.0)) [
@@ -111,7 +111,7 @@ record_is : (x : IndexSet) (r : Record) (entry : ℕ × Upload) → Tells x entr
     → record_line r ≡ upload_line x entry
 record_is x r entry t = rw (t.number_is, t.accepted, t.declared, t.text_len, t.from, t.to, t.mode) refl
 
-untold : (x : IndexSet) (o : Option (ℕ × Upload)) (r : Option Record) → r ≡ None → TellsOf x o r → o ≡ None
+pub untold : (x : IndexSet) (o : Option (ℕ × Upload)) (r : Option Record) → r ≡ None → TellsOf x o r → o ≡ None
 untold x None r e t = refl
 untold x (Some y) None e t = absurd t
 untold x (Some y) (Some r) e t = absurd (cc)
@@ -123,7 +123,7 @@ told_none x whole out xs n r e t before =
     told_all (upload_line x) whole out xs n
     (untold x (above n xs) (option_copied r) (ap (λ o. option_copied o) e) t) before
 
-told : (x : IndexSet) (o : Option (ℕ × Upload)) (r : Record) → TellsOf x o (Some r)
+pub told : (x : IndexSet) (o : Option (ℕ × Upload)) (r : Record) → TellsOf x o (Some r)
     → (entry : ℕ × Upload) × (o ≡ Some entry) × Tells x entry.0 r entry.1
 told x None r t = absurd t
 told x (Some entry) r t = (entry, refl, t)

@@ -8,3 +8,5 @@ mod Copying
 mod Deletions
 mod Lasting
 mod Utf8
+mod Pieces
+mod Planned

@@ -90,12 +90,7 @@ fn copy_piece<W: Write, U: Uploads>(
 }
 
 // Reads as many bytes of a text as the piece has, where there are so many.
-fn read_at<U: Uploads>(
-    uploads: &mut U,
-    number: u64,
-    at: u64,
-    piece: &mut [u8],
-) -> Result<(), Fault>
+fn read_at<U: Uploads>(uploads: &mut U, number: u64, at: u64, piece: &mut [u8]) -> Result<(), Fault>
     ensures read { (w : World) → U.stands uploads.old w
         → at + length piece.old ≤ length (text_at w.store (upload_of w.store number))
         → OnOk result (piece.new ≡ take (length piece.old) (drop at (text_at w.store (upload_of w.store number)))) }

@@ -38,13 +38,7 @@ pub fn export_file<'a>(
 ) -> Result<(), Failure<'a>> {
     let mut output = Noted::new(io::writer(rt));
     let mut files = FileFolder::find(rt, alloc, folder)?;
-    let (disk, exported) = export_on(
-        alloc,
-        &mut output,
-        &mut files,
-        open_spool(rt, spool)?,
-        all,
-    );
+    let (disk, exported) = export_on(alloc, &mut output, &mut files, open_spool(rt, spool)?, all);
     match (exported, files.error()) {
         (Ok(true), _) => Ok(()),
         (Ok(false), _) => Err(Failure::from(Fault::FileThere)),
@@ -219,7 +213,7 @@ fn write_text<F: Folder, U: Uploads>(
 
 // Says what became of an upload.
 fn say_outcome<W: Write>(writer: &mut W, number: u64, outcome: Outcome) -> io::Result<()>
-    ensures { OnOk result (Appends (W.contents writer.old) (W.contents writer.new) (outcome_line number outcome)) }
+    ensures { OnOk result (Appends (W.contents writer.old) (W.contents writer.new) (outcome_line number outcome.entry)) }
 {
     match outcome {
         Outcome::Exported(name) => writeln!(writer, "exported {number} {name}"),

@@ -114,9 +114,5 @@ fn is_clean(name: &[u8]) -> bool
 fn is_barred(last: u8, byte: u8) -> bool
     ensures { result ≡ is_barred last byte }
 {
-    byte < 0x20
-        || byte == 0x7F
-        || byte == b'/'
-        || byte == b'\\'
-        || last == 0xC2 && byte < 0xA0
+    byte < 0x20 || byte == 0x7F || byte == b'/' || byte == b'\\' || last == 0xC2 && byte < 0xA0
 }

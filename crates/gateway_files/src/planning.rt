@@ -70,12 +70,7 @@ fn push_job(
 }
 
 // The name of an upload's file, after those of other uploads.
-fn file_name(
-    alloc: Global,
-    jobs: &[Job],
-    number: u64,
-    metadata: &str,
-) -> Result<String, AllocError>
+fn file_name(alloc: Global, jobs: &[Job], number: u64, metadata: &str) -> Result<String, AllocError>
     ensures { IfOk result (λ name. string_bytes name ≡ file_name (map job_shown jobs.now) number metadata.now) }
 {
     if let Some(name) = given_name(alloc, metadata.as_bytes())? {

@@ -144,7 +144,11 @@ fn export<'a>(alloc: Global) -> Result<Command<'a>, AllocError> {
         .args(vec![in alloc;
             the_spool(alloc),
             folder,
-            flag(alloc, "all", "Of the other uploads too, what there is so far"),
+            flag(
+                alloc,
+                "all",
+                "Of the other uploads too, what there is so far"
+            ),
         ]?)
 }
 
