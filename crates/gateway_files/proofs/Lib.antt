@@ -10,3 +10,4 @@ mod Lasting
 mod Utf8
 mod Pieces
 mod Planned
+mod Surveyed

@@ -11,4 +11,5 @@ pub mod Deleting
 pub mod Naming
 pub mod Planning
 pub mod Exporting
+pub mod Surveying
 pub mod Transcoding
