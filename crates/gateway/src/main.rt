@@ -57,7 +57,7 @@ fn obey<'a>(rt: &'a HostRuntime, order: Order<'a>) -> Result<u8, Failure<'a>> {
             quiet,
             log,
         } => serve_up(rt, alloc, spool, listen, Telling { quiet, log })?,
-        Order::List { spool } => list_file(rt, alloc, spool)?,
+        Order::List { spool, long } => list_file(rt, alloc, spool, long)?,
         Order::Delete { spool, numbers } => delete_file(rt, alloc, spool, &numbers)?,
         Order::Export { spool, folder, all } => export_file(rt, alloc, spool, folder, all)?,
         Order::Text {

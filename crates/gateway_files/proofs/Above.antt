@@ -107,20 +107,20 @@ told_all f whole out xs n e before =
     sym (append-nil out) ∙ (ap (λ ys. out ++ flat_map f ys) (sym (none_above n xs e)) ∙ before)
 
 -- a record says what the line of its upload says
-record_is : (x : IndexSet) (r : Record) (entry : ℕ × Upload) → Tells x entry.0 r entry.1
-    → record_line r ≡ upload_line x entry
-record_is x r entry t = rw (t.number_is, t.accepted, t.declared, t.text_len, t.from, t.to, t.mode) refl
+record_is : (long : Bool) (x : IndexSet) (r : Record) (entry : ℕ × Upload) → Tells x entry.0 r entry.1
+    → record_line long r ≡ upload_line long x entry
+record_is long x r entry t = rw (t.number_is, t.accepted, t.declared, t.text_len, t.from, t.to, t.mode, t.metadata) refl
 
 pub untold : (x : IndexSet) (o : Option (ℕ × Upload)) (r : Option Record) → r ≡ None → TellsOf x o r → o ≡ None
 untold x None r e t = refl
 untold x (Some y) None e t = absurd t
 untold x (Some y) (Some r) e t = absurd (cc)
 
-pub told_none : (x : IndexSet) (whole out : List ℕ) (xs : List (ℕ × Upload)) (n : ℕ) (r : Option (Bor Record))
+pub told_none : (long : Bool) (x : IndexSet) (whole out : List ℕ) (xs : List (ℕ × Upload)) (n : ℕ) (r : Option (Bor Record))
     → r ≡ None → TellsOf x (above n xs) (option_copied r)
-    → out ++ flat_map (upload_line x) (after n xs) ≡ whole → out ≡ whole
-told_none x whole out xs n r e t before =
-    told_all (upload_line x) whole out xs n
+    → out ++ flat_map (upload_line long x) (after n xs) ≡ whole → out ≡ whole
+told_none long x whole out xs n r e t before =
+    told_all (upload_line long x) whole out xs n
     (untold x (above n xs) (option_copied r) (ap (λ o. option_copied o) e) t) before
 
 pub told : (x : IndexSet) (o : Option (ℕ × Upload)) (r : Record) → TellsOf x o (Some r)
@@ -128,13 +128,13 @@ pub told : (x : IndexSet) (o : Option (ℕ × Upload)) (r : Record) → TellsOf 
 told x None r t = absurd t
 told x (Some entry) r t = (entry, refl, t)
 
-pub told_next : (x : IndexSet) (whole out more : List ℕ) (xs : List (ℕ × Upload)) (n : ℕ) (r : Option (Bor Record))
+pub told_next : (long : Bool) (x : IndexSet) (whole out more : List ℕ) (xs : List (ℕ × Upload)) (n : ℕ) (r : Option (Bor Record))
     (now : Bor Record) → IsRising (numbers xs) → r ≡ Some now → TellsOf x (above n xs) (option_copied r)
-    → out ++ flat_map (upload_line x) (after n xs) ≡ whole → more ≡ out ++ record_line now.now
-    → more ++ flat_map (upload_line x) (after now.now.number xs) ≡ whole
-told_next x whole out more xs n r now rising e t before pushed =
+    → out ++ flat_map (upload_line long x) (after n xs) ≡ whole → more ≡ out ++ record_line long now.now
+    → more ++ flat_map (upload_line long x) (after now.now.number xs) ≡ whole
+told_next long x whole out more xs n r now rising e t before pushed =
     let it = told x (above n xs) now.now (subst (λ o. TellsOf x (above n xs) (option_copied o)) e t) in
-    ap (λ l. l ++ flat_map (upload_line x) (after now.now.number xs)) pushed
-    ∙ (ap (λ l. (out ++ l) ++ flat_map (upload_line x) (after now.now.number xs)) (record_is x now.now it.0 it.2)
-    ∙ (ap (λ k. (out ++ upload_line x it.0) ++ flat_map (upload_line x) (after k xs)) it.2.number_is
-    ∙ told_more (upload_line x) whole out xs n it.0 rising it.1 before))
+    ap (λ l. l ++ flat_map (upload_line long x) (after now.now.number xs)) pushed
+    ∙ (ap (λ l. (out ++ l) ++ flat_map (upload_line long x) (after now.now.number xs)) (record_is long x now.now it.0 it.2)
+    ∙ (ap (λ k. (out ++ upload_line long x it.0) ++ flat_map (upload_line long x) (after k xs)) it.2.number_is
+    ∙ told_more (upload_line long x) whole out xs n it.0 rising it.1 before))

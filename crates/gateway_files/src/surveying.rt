@@ -33,10 +33,7 @@ pub struct Survey {
 }
 
 /// Opens the spool on a disk, and surveys it. The disk comes back with each refusal.
-pub fn open_surveyed<D: Disk>(
-    alloc: Global,
-    disk: D,
-) -> Result<(Spool<D>, Survey), (D, OpenFault)>
+pub fn open_surveyed<D: Disk>(alloc: Global, disk: D) -> Result<(Spool<D>, Survey), (D, OpenFault)>
     ensures size { D.size (disk_left result) ≡ D.size disk }
     ensures honest { D.honest disk ↔ D.honest (disk_left result) }
     ensures counts { Counts (IsFault result) (D.failures disk) (D.failures (disk_left result)) }

@@ -114,7 +114,14 @@ fn list<'a>(alloc: Global) -> Result<Command<'a>, AllocError> {
         .after_help(
             "NUMBER ACCEPTED/DECLARED TEXTLENGTH FROM TO MODE of each:\n\n  gateway list spool",
         )
-        .arg(the_spool(alloc))
+        .args(vec![in alloc;
+            the_spool(alloc),
+            flag(
+                alloc,
+                "long",
+                "Prints what each upload has as `Upload-Metadata` too"
+            ),
+        ]?)
 }
 
 fn delete<'a>(alloc: Global) -> Result<Command<'a>, AllocError> {

@@ -29,9 +29,10 @@ pub enum Order<'a> {
         quiet: bool,
         log: bool,
     },
-    /// The uploads of the spool at this path.
+    /// The uploads of the spool at this path, with their metadata or without.
     List {
         spool: &'a str,
+        long: bool,
     },
     /// The uploads of these numbers, deleted from the spool at this path.
     Delete {
@@ -153,6 +154,7 @@ fn no_address<'a>(gateway: &mut Command<'a>, alloc: Global, address: &str) -> Re
 fn list_order<'a>(given: &ArgMatches<'a>) -> Option<Order<'a>> {
     Some(Order::List {
         spool: given.get_str("SPOOL")?,
+        long: given.get_flag("long"),
     })
 }
 
