@@ -1,5 +1,5 @@
 -- A spool that is found and made whole before it is opened.
-use Rattle.std.proofs.Common.{◌≡◌, ◌≤◌, ◌*◌, ⊎_elim, ℕ, inl, inr, arith, refl, subst, sym, Err}
+use Rattle.std.proofs.Common.{◌≡◌, ◌≤◌, ◌*◌, ⊎_elim, ℕ, inr, arith, refl, subst, sym, Err}
 use Rattle.spool_disk.specs.Views.{Lasts}
 use Rattle.spool_disk.specs.declared.disk.Disk.{Ghosts}
 use Rattle.spool_journal.specs.Image.{all_pages, journal_pages, overlaid}
