@@ -7,8 +7,8 @@ mod serving;
 use clap::Error;
 use clap::error::ErrorKind;
 use gateway_files::{
-    Failure, Fault, Formatted, Task, delete_file, ended, format_file, list_file, say_formatted,
-    say_read, say_upgraded, text_file, upgrade_file,
+    Failure, Fault, Formatted, Task, delete_file, ended, export_file, format_file, list_file,
+    say_formatted, say_read, say_upgraded, text_file, upgrade_file,
 };
 use gateway_orders::{Order, USAGE, read_order, say_usage};
 use scripting::run_script;
@@ -35,7 +35,7 @@ fn run(rt: &HostRuntime, words: &[String]) -> u8 {
 }
 
 // Does what there is to do.
-fn obey<'a>(rt: &HostRuntime, order: Order<'a>) -> Result<u8, Failure<'a>> {
+fn obey<'a>(rt: &'a HostRuntime, order: Order<'a>) -> Result<u8, Failure<'a>> {
     let alloc = rt.alloc();
     match order {
         Order::Format {
@@ -57,8 +57,9 @@ fn obey<'a>(rt: &HostRuntime, order: Order<'a>) -> Result<u8, Failure<'a>> {
             quiet,
             log,
         } => serve_up(rt, alloc, spool, listen, Telling { quiet, log })?,
-        Order::List { spool } => list_file(rt, alloc, spool)?,
+        Order::List { spool, long } => list_file(rt, alloc, spool, long)?,
         Order::Delete { spool, numbers } => delete_file(rt, alloc, spool, &numbers)?,
+        Order::Export { spool, folder, all } => export_file(rt, alloc, spool, folder, all)?,
         Order::Text {
             from,
             to,

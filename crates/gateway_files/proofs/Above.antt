@@ -22,7 +22,7 @@ after n (x ∷ xs) = if nat_lt n x.0 then x ∷ xs else after n xs
 abbrev numbers : List (ℕ × Upload) → List ℕ
 numbers xs = map (λ e. e.0) xs
 
-none_above : (n : ℕ) (xs : List (ℕ × Upload)) → above n xs ≡ None → after n xs ≡ []
+pub none_above : (n : ℕ) (xs : List (ℕ × Upload)) → above n xs ≡ None → after n xs ≡ []
 none_above n [] e = refl
 none_above n (x ∷ xs) e =
     elim (true_or_false (nat_lt n x.0)) [
@@ -52,7 +52,7 @@ after_first x (y ∷ xs) rising =
     let yes : nat_lt x.0 y.0 ≡ true = grind (arith, less) in
     rw yes refl
 
-some_above : (n : ℕ) (xs : List (ℕ × Upload)) (entry : ℕ × Upload) → IsRising (numbers xs)
+pub some_above : (n : ℕ) (xs : List (ℕ × Upload)) (entry : ℕ × Upload) → IsRising (numbers xs)
     → above n xs ≡ Some entry → after n xs ≡ entry ∷ after entry.0 xs
 some_above n [] entry rising e = absurd (cc)
 some_above n (x ∷ xs) entry rising e =
@@ -75,7 +75,7 @@ some_above n (x ∷ xs) entry rising e =
     ]
 
 -- where none has number 0, all are above it
-all_above : (xs : List (ℕ × Upload)) → ((u : Upload) → find 0 xs ≡ Some u → ⊥) → after 0 xs ≡ xs
+pub all_above : (xs : List (ℕ × Upload)) → ((u : Upload) → find 0 xs ≡ Some u → ⊥) → after 0 xs ≡ xs
 all_above [] some = refl
 all_above (x ∷ xs) some =
     elim (true_or_false (nat_lt 0 x.0)) [
@@ -107,34 +107,34 @@ told_all f whole out xs n e before =
     sym (append-nil out) ∙ (ap (λ ys. out ++ flat_map f ys) (sym (none_above n xs e)) ∙ before)
 
 -- a record says what the line of its upload says
-record_is : (x : IndexSet) (r : Record) (entry : ℕ × Upload) → Tells x entry.0 r entry.1
-    → record_line r ≡ upload_line x entry
-record_is x r entry t = rw (t.number_is, t.accepted, t.declared, t.text_len, t.from, t.to, t.mode) refl
+record_is : (long : Bool) (x : IndexSet) (r : Record) (entry : ℕ × Upload) → Tells x entry.0 r entry.1
+    → record_line long r ≡ upload_line long x entry
+record_is long x r entry t = rw (t.number_is, t.accepted, t.declared, t.text_len, t.from, t.to, t.mode, t.metadata) refl
 
-untold : (x : IndexSet) (o : Option (ℕ × Upload)) (r : Option Record) → r ≡ None → TellsOf x o r → o ≡ None
+pub untold : (x : IndexSet) (o : Option (ℕ × Upload)) (r : Option Record) → r ≡ None → TellsOf x o r → o ≡ None
 untold x None r e t = refl
 untold x (Some y) None e t = absurd t
 untold x (Some y) (Some r) e t = absurd (cc)
 
-pub told_none : (x : IndexSet) (whole out : List ℕ) (xs : List (ℕ × Upload)) (n : ℕ) (r : Option (Bor Record))
+pub told_none : (long : Bool) (x : IndexSet) (whole out : List ℕ) (xs : List (ℕ × Upload)) (n : ℕ) (r : Option (Bor Record))
     → r ≡ None → TellsOf x (above n xs) (option_copied r)
-    → out ++ flat_map (upload_line x) (after n xs) ≡ whole → out ≡ whole
-told_none x whole out xs n r e t before =
-    told_all (upload_line x) whole out xs n
+    → out ++ flat_map (upload_line long x) (after n xs) ≡ whole → out ≡ whole
+told_none long x whole out xs n r e t before =
+    told_all (upload_line long x) whole out xs n
     (untold x (above n xs) (option_copied r) (ap (λ o. option_copied o) e) t) before
 
-told : (x : IndexSet) (o : Option (ℕ × Upload)) (r : Record) → TellsOf x o (Some r)
+pub told : (x : IndexSet) (o : Option (ℕ × Upload)) (r : Record) → TellsOf x o (Some r)
     → (entry : ℕ × Upload) × (o ≡ Some entry) × Tells x entry.0 r entry.1
 told x None r t = absurd t
 told x (Some entry) r t = (entry, refl, t)
 
-pub told_next : (x : IndexSet) (whole out more : List ℕ) (xs : List (ℕ × Upload)) (n : ℕ) (r : Option (Bor Record))
+pub told_next : (long : Bool) (x : IndexSet) (whole out more : List ℕ) (xs : List (ℕ × Upload)) (n : ℕ) (r : Option (Bor Record))
     (now : Bor Record) → IsRising (numbers xs) → r ≡ Some now → TellsOf x (above n xs) (option_copied r)
-    → out ++ flat_map (upload_line x) (after n xs) ≡ whole → more ≡ out ++ record_line now.now
-    → more ++ flat_map (upload_line x) (after now.now.number xs) ≡ whole
-told_next x whole out more xs n r now rising e t before pushed =
+    → out ++ flat_map (upload_line long x) (after n xs) ≡ whole → more ≡ out ++ record_line long now.now
+    → more ++ flat_map (upload_line long x) (after now.now.number xs) ≡ whole
+told_next long x whole out more xs n r now rising e t before pushed =
     let it = told x (above n xs) now.now (subst (λ o. TellsOf x (above n xs) (option_copied o)) e t) in
-    ap (λ l. l ++ flat_map (upload_line x) (after now.now.number xs)) pushed
-    ∙ (ap (λ l. (out ++ l) ++ flat_map (upload_line x) (after now.now.number xs)) (record_is x now.now it.0 it.2)
-    ∙ (ap (λ k. (out ++ upload_line x it.0) ++ flat_map (upload_line x) (after k xs)) it.2.number_is
-    ∙ told_more (upload_line x) whole out xs n it.0 rising it.1 before))
+    ap (λ l. l ++ flat_map (upload_line long x) (after now.now.number xs)) pushed
+    ∙ (ap (λ l. (out ++ l) ++ flat_map (upload_line long x) (after now.now.number xs)) (record_is long x now.now it.0 it.2)
+    ∙ (ap (λ k. (out ++ upload_line long x it.0) ++ flat_map (upload_line long x) (after k xs)) it.2.number_is
+    ∙ told_more (upload_line long x) whole out xs n it.0 rising it.1 before))

@@ -4,15 +4,15 @@ use Rattle.std.proofs.Common.{Result, Ok, Err, OnOk}
 use Rattle.std.proofs.KnownBytes.{Appends-nil, Appends-trans, Consumes-nil, Consumes-trans}
 use Rattle.std.specs.Io.KnownBytes.{Appends, Consumes, IsAtEnd}
 use Rattle.std.proofs.Common.{append-nil}
-use Rattle.enc_model.specs.Decode.{decoded_text, decoded}
+use Rattle.enc_model.specs.Decode.{decoded_text}
 use Rattle.enc_model.specs.Encode.{Encoder, InAscii, Shift, Tables, coded, coded_within, encoder}
 use Rattle.enc_model.specs.Transcode.{IsAt, added, added_end, so_far, stepped}
 use Rattle.enc_model.specs.declared.Mode.{Mode}
 use Rattle.enc_model.proofs.Pieces.{decoded_none}
-use Rattle.enc_stream.specs.Standing.{Standing, start, stepped_on}
+use Rattle.enc_stream.specs.Standing.{Standing, start}
 use Rattle.enc_stream.proofs.Begins.{start_at}
 use Rattle.enc_stream.proofs.Grows.{grows, grows_end}
-use Rattle.gateway_files.specs.Transcoding.{CopiesOn, EndsOn, IsStored, stored_as}
+use Rattle.gateway_files.specs.Transcoding.{CopiesOn, EndsOn, IsStored}
 use Rattle.gateway_files.specs.declared.transcoding.Conversion.{Conversion}
 
 -- so many bytes were read, and their text so far was written

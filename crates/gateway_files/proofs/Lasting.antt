@@ -8,7 +8,7 @@ use Rattle.spool_kept.specs.Shows.{ImageShows}
 use Rattle.spool_image.specs.LeftOnly.{AllShow, LeftOnly, LeftOrShows, ShowsOne, SpoolLeft}
 use Rattle.upload_rules.specs.Answers.{Among}
 use Rattle.upload_rules.specs.Store.{Store}
-use Rattle.gateway_files.specs.Changing.{AllAmong, LimitsTo}
+use Rattle.gateway_files.specs.Changing.{LimitsTo}
 use Rattle.gateway_files.specs.Leaving.{LastsOver}
 
 pub when_ok : {T E : Type 0} (result : Result T E) (P : Type 0) → IsOk result → OnOk result P → P

@@ -7,3 +7,7 @@ mod Refusals
 mod Copying
 mod Deletions
 mod Lasting
+mod Utf8
+mod Pieces
+mod Planned
+mod Surveyed

@@ -30,6 +30,7 @@ refusal_of faults.BadLabel = Some (28, codes "BadLabel")
 refusal_of (faults.Script line) = Some (32, codes "Script")
 refusal_of faults.Io = Some (33, codes "Io")
 refusal_of faults.AlreadyNew = Some (35, codes "AlreadyNew")
+refusal_of faults.FileThere = Some (36, codes "FileThere")
 
 -- a number and a name, as the code gives them
 abbrev pub row : ℕ × Bor (List ℕ) → ℕ × List ℕ

@@ -8,4 +8,8 @@ pub mod Listing
 pub mod Changing
 pub mod Leaving
 pub mod Deleting
+pub mod Naming
+pub mod Planning
+pub mod Exporting
+pub mod Surveying
 pub mod Transcoding

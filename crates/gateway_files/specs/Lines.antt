@@ -1,5 +1,6 @@
 -- The lines of `list`.
-use Rattle.std.specs.Prelude.{◌≡◌, ℕ, List, [], ◌∷◌, ◌++◌, codes, decimal, flat_map, length, map, Option, Some, None}
+use Rattle.std.specs.Prelude.{◌≡◌, ℕ, Bool, List, [], ◌∷◌, ◌++◌, codes, decimal, flat_map, length, map}
+use Rattle.std.specs.Prelude.{if◌then◌else◌, Option, Some, None}
 use Rattle.enc_labels.specs.Labels.{name_of}
 use Rattle.enc_model.specs.Indexes.{IndexSet}
 use Rattle.enc_model.specs.declared.Encoding.{Encoding}
@@ -18,25 +19,36 @@ abbrev pub length_text : Option ℕ → List ℕ
 length_text None = codes "?"
 length_text (Some n) = decimal n
 
--- the number, how many bytes were accepted and declared, the length of the text, both encodings, the mode, and LF
-abbrev pub line : ℕ → ℕ → Option ℕ → ℕ → Encoding → Encoding → Mode → List ℕ
-line number accepted declared text_len from to mode =
-    decimal number ++ (32 ∷ (decimal accepted ++ (47 ∷ (length_text declared ++ (32 ∷ (decimal text_len ++ (32 ∷ (name_of
-    from ++ (32 ∷ (name_of to ++ (32 ∷ (mode_text mode ++ (10 ∷ [])))))))))))))
+-- some text after a space, or nothing
+abbrev pub spaced : List ℕ → List ℕ
+spaced [] = []
+spaced (b ∷ text) = 32 ∷ b ∷ text
 
--- THE LINE of an upload
-abbrev pub upload_line : IndexSet → ℕ × Upload → List ℕ
-upload_line x entry =
+-- the metadata, where it is to be told
+abbrev pub told_of : Bool → List ℕ → List ℕ
+told_of long metadata = if long then metadata else []
+
+-- the number, how many bytes were accepted and declared, the length of the text, both encodings, the mode, what is told
+-- of the metadata, and LF
+abbrev pub line : ℕ → ℕ → Option ℕ → ℕ → Encoding → Encoding → Mode → List ℕ → List ℕ
+line number accepted declared text_len from to mode metadata =
+    decimal number ++ (32 ∷ (decimal accepted ++ (47 ∷ (length_text declared ++ (32 ∷ (decimal text_len ++ (32 ∷ (name_of
+    from ++ (32 ∷ (name_of to ++ (32 ∷ (mode_text mode ++ (spaced metadata ++ (10 ∷ []))))))))))))))
+
+-- THE LINE of an upload, with its metadata or without
+abbrev pub upload_line : Bool → IndexSet → ℕ × Upload → List ℕ
+upload_line long x entry =
     line entry.0 (length entry.1.accepted) entry.1.declared (length (text_of x entry.1)) entry.1.from entry.1.to
-    entry.1.mode
+    entry.1.mode (told_of long entry.1.metadata)
 
 -- THE LINES of all uploads, by their numbers
-abbrev pub lines_of : Store → List ℕ
-lines_of m = flat_map (upload_line m.indexes) m.uploads
+abbrev pub lines_of : Bool → Store → List ℕ
+lines_of long m = flat_map (upload_line long m.indexes) m.uploads
 
 -- what a record says in its line
-abbrev pub record_line : Record → List ℕ
-record_line r = line r.number r.accepted r.declared r.text_len r.from r.to r.mode
+abbrev pub record_line : Bool → Record → List ℕ
+record_line long r =
+    line r.number r.accepted r.declared r.text_len r.from r.to r.mode (told_of long r.metadata.bytes.items)
 
 -- the uploads stand by ascending numbers, from 1 on
 pub record IsInOrder (m : Store) : Type 0 where

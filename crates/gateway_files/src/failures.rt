@@ -21,6 +21,8 @@ pub enum Task<'a> {
     UseSpool(&'a str),
     /// Looking into this folder for index files.
     FindFolder(&'a str),
+    /// Making or writing a file in this folder.
+    WriteInto(&'a str),
     /// Reading the index file of this name in this folder.
     ReadIndex(&'a str, &'static str),
     /// Listening at this address.
@@ -40,6 +42,7 @@ impl fmt::Display for Task<'_> {
             Task::OpenSpool(path) => write!(f, "cannot open the spool {path}"),
             Task::UseSpool(path) => write!(f, "cannot read or write the spool {path}"),
             Task::FindFolder(path) => write!(f, "cannot look into the folder {path}"),
+            Task::WriteInto(path) => write!(f, "cannot write into the folder {path}"),
             Task::ReadIndex(folder, file) => write!(f, "cannot read {folder}/{file}"),
             Task::Listen(address) => write!(f, "cannot listen at {address}"),
             Task::ReadWords => f.write_str("cannot read the command line"),

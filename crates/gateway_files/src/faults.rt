@@ -34,6 +34,8 @@ pub enum Fault {
     Script(u64),
     /// A reader, a writer or a file failed.
     Io,
+    /// A file that is to be made is there already.
+    FileThere,
     /// A number that no upload has.
     NoSuch,
     /// A label or a mode that isn't known, or an encoding whose index files aren't there.
@@ -83,6 +85,7 @@ impl Fault {
             Fault::Script(_) => (32, "Script"),
             Fault::Io => (33, "Io"),
             Fault::AlreadyNew => (35, "AlreadyNew"),
+            Fault::FileThere => (36, "FileThere"),
         })
     }
 

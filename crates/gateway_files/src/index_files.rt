@@ -4,10 +4,11 @@ ghost use Rattle.gateway_files.specs.IndexFiles.{found, kind_of, named};
 
 use crate::failures::{Failure, Task};
 use crate::faults::Fault;
+use crate::folders::find_folder;
 use enc_index::{Index, IndexSet, Kind};
 use enc_model::Encoding;
 use std::alloc::Global;
-use std::fs::{self, File};
+use std::fs::File;
 use std::io::{self, ErrorKind, Read};
 
 // The most bytes of an index file.
@@ -96,9 +97,7 @@ pub(crate) fn read_indexes<'a>(
     alloc: Global,
     folder: &'a str,
 ) -> Result<IndexFiles, Failure<'a>> {
-    if let Err(error) = find_folder(rt, folder) {
-        return Err(Failure::new(Fault::from(error), Task::FindFolder(folder), error));
-    }
+    find_folder(rt, folder)?;
     let mut set = IndexSet::new(alloc)?;
     let mut read = Vec::new(alloc);
     for (name, kind) in FILES.iter() {
@@ -120,15 +119,6 @@ pub(crate) fn read_indexes<'a>(
         }
     }
     Ok(IndexFiles { set, read })
-}
-
-// The folder is there.
-fn find_folder(rt: &HostRuntime, folder: &str) -> io::Result<()> {
-    if fs::metadata(rt, folder)?.is_dir() {
-        Ok(())
-    } else {
-        Err(io::Error::from(ErrorKind::NotADirectory))
-    }
 }
 
 // The bytes of a file, where it is there. One that is too long is a fault, as one that can't be read.

@@ -1,12 +1,17 @@
-//! Spools in files: made, listed and upgraded; and what the program says, of what it did and where that fails.
+//! Spools in files: made, listed, exported and upgraded; and what the program says, of what it did and where that fails.
 #![tactic(auto)]
 
+mod copies;
 mod deleting;
+mod exporting;
 mod failures;
 mod faults;
+mod folders;
 mod formatting;
 mod index_files;
 mod listing;
+mod naming;
+mod planning;
 mod said;
 mod spool_files;
 mod streams;
@@ -14,12 +19,17 @@ mod surveying;
 mod transcoding;
 mod upgrading;
 
+pub use copies::copy_text;
 pub use deleting::{delete_file, delete_on};
+pub use exporting::{export_file, export_on};
 pub use failures::{Advice, Failure, Task, ended};
 pub use faults::Fault;
+pub use folders::{FileFolder, Folder};
 pub use formatting::{Formatted, format_file, format_on, is_spool_on};
 pub use index_files::kind_of;
 pub use listing::{list_file, list_on};
+pub use naming::{given_name, is_safe_name};
+pub use planning::{Job, plan};
 pub use said::{say_formatted, say_open, say_read, say_served, say_up, say_upgraded};
 pub use spool_files::open_spool;
 pub use streams::Noted;

@@ -10,7 +10,8 @@ ghost use Rattle.upload_rules.specs.World.{World};
 ghost use Rattle.spool_image.specs.LeftOnly.{AllShow, IsSpool, LeftOrShows};
 ghost use Rattle.gateway_files.specs.declared.faults.Fault.{Fault};
 ghost use Rattle.gateway_files.specs.Listing.{IsWriteFault, ListRefusedFor, Lists, RefusesListAs};
-ghost use Rattle.gateway_files.specs.Lines.{IsInOrder, length_text, lines_of, mode_text, record_line};
+ghost use Rattle.gateway_files.specs.Lines.{IsInOrder, length_text, lines_of, mode_text, record_line, spaced};
+ghost use Rattle.gateway_files.specs.Lines.{told_of};
 
 use crate::failures::Failure;
 use crate::faults::Fault;
@@ -25,10 +26,15 @@ use std::fmt;
 use std::io::{self, Write};
 use upload_rules::{Record, Uploads};
 
-/// Prints the uploads of the spool in a file, by number.
-pub fn list_file<'a>(rt: &HostRuntime, alloc: Global, spool: &'a str) -> Result<(), Failure<'a>> {
+/// Prints the uploads of the spool in a file, by number, with their metadata or without.
+pub fn list_file<'a>(
+    rt: &HostRuntime,
+    alloc: Global,
+    spool: &'a str,
+    long: bool,
+) -> Result<(), Failure<'a>> {
     let mut output = Noted::new(io::writer(rt));
-    let (disk, listed) = list_on(alloc, &mut output, open_spool(rt, spool)?);
+    let (disk, listed) = list_on(alloc, &mut output, open_spool(rt, spool)?, long);
     match listed {
         Ok(()) => Ok(()),
         Err(Fault::Io) => Err(Failure::on_streams(Fault::Io, None, output.error())),
@@ -36,15 +42,17 @@ pub fn list_file<'a>(rt: &HostRuntime, alloc: Global, spool: &'a str) -> Result<
     }
 }
 
-/// Writes a line for each upload of the spool on a disk, by number. The disk is handed back.
+/// Writes a line for each upload of the spool on a disk, by number, with its metadata or without. The disk is handed
+/// back.
 pub fn list_on<D: Disk + Drop, W: Write>(
     alloc: Global,
     writer: &mut W,
     disk: D,
+    long: bool,
 ) -> (D, Result<(), Fault>)
     // What was written is the lines of the uploads that the disk shows, and it shows them still.
     ensures lines { (n : ℕ) (m : Store) → IsSpool D.Disk disk n m
-        → OnOk result.1 (Appends (W.contents writer.old) (W.contents writer.new) (lines_of m)) }
+        → OnOk result.1 (Appends (W.contents writer.old) (W.contents writer.new) (lines_of long m)) }
     ensures shows { (n : ℕ) (m : Store) → IsSpool D.Disk disk n m → IsOk result.1 → AllShow D.Disk result.0 n m }
 
     // A crash during it leaves what it might have left before, or what shows the same uploads.
@@ -69,7 +77,7 @@ pub fn list_on<D: Disk + Drop, W: Write>(
 {
     match Spool::open(alloc, disk) {
         Ok(spool) => {
-            let written = write_uploads(alloc, writer, &spool);
+            let written = write_uploads(alloc, writer, &spool, long);
             (spool.into_disk(), written)
         }
         Err((disk, fault)) => (disk, Err(Fault::from(fault))),
@@ -81,20 +89,21 @@ fn write_uploads<W: Write, U: Uploads>(
     alloc: Global,
     writer: &mut W,
     uploads: &U,
+    long: bool,
 ) -> Result<(), Fault>
     ensures lines { (w : World) → U.stands uploads.now w → IsInOrder w.store
-        → OnOk result (Appends (W.contents writer.old) (W.contents writer.new) (lines_of w.store)) }
+        → OnOk result (Appends (W.contents writer.old) (W.contents writer.new) (lines_of long w.store)) }
     ensures refused { IfErr result IsWriteFault }
 {
-    let lines = lines_of(alloc, uploads)?;
+    let lines = lines_of(alloc, uploads, long)?;
     writer.write_all(lines.as_bytes())?;
     Ok(())
 }
 
 // The lines of the uploads, by number.
-fn lines_of<U: Uploads>(alloc: Global, uploads: &U) -> Result<String, AllocError>
+fn lines_of<U: Uploads>(alloc: Global, uploads: &U, long: bool) -> Result<String, AllocError>
     ensures lines { (w : World) → U.stands uploads.now w → IsInOrder w.store
-        → IfOk result (λ lines. string_bytes lines ≡ lines_of w.store) }
+        → IfOk result (λ lines. string_bytes lines ≡ lines_of long w.store) }
 {
     let mut lines = String::new(alloc);
     let mut number = 0;
@@ -102,7 +111,7 @@ fn lines_of<U: Uploads>(alloc: Global, uploads: &U) -> Result<String, AllocError
         let Some(record) = uploads.record_after(number) else {
             return Ok(lines);
         };
-        push_line(&mut lines, record)?;
+        push_line(&mut lines, record, long)?;
         number = record.number;
     }
     // No memory holds so many lines.
@@ -110,16 +119,17 @@ fn lines_of<U: Uploads>(alloc: Global, uploads: &U) -> Result<String, AllocError
 }
 
 // Adds the line of an upload.
-fn push_line(lines: &mut String, record: &Record) -> Result<(), AllocError>
-    ensures { OnOk result (string_bytes lines.new ≡ string_bytes lines.old ++ record_line record.now) }
+fn push_line(lines: &mut String, record: &Record, long: bool) -> Result<(), AllocError>
+    ensures { OnOk result (string_bytes lines.new ≡ string_bytes lines.old ++ record_line long record.now) }
 {
     let from = name_of(record.from);
     let to = name_of(record.to);
     let mode = mode_name(record.mode);
     let declared = Declared(record.declared);
+    let metadata = Spaced(told_of(record, long));
     writeln!(
         lines,
-        "{} {}/{declared} {} {from} {to} {mode}",
+        "{} {}/{declared} {} {from} {to} {mode}{metadata}",
         record.number, record.accepted, record.text_len
     )
 }
@@ -135,6 +145,29 @@ impl fmt::Display for Declared {
         match self.0 {
             Some(length) => write!(f, "{length}"),
             None => f.write_str("?"),
+        }
+    }
+}
+
+// What is told of an upload's metadata: all or nothing.
+fn told_of(record: &Record, long: bool) -> &str
+    ensures { result.now ≡ told_of long record.now.metadata.bytes.items }
+{
+    if long { record.metadata.as_str() } else { "" }
+}
+
+/// Some text after a space, or nothing.
+#[derive(Drop)]
+struct Spaced<'t>(&'t str);
+
+impl fmt::Display for Spaced<'_> {
+    ghost output = { λ text. Some (spaced text.0.now) };
+
+    fn fmt<W: fmt::Write>(&self, f: &mut fmt::Formatter<W>) -> fmt::Result {
+        if self.0.is_empty() {
+            Ok(())
+        } else {
+            write!(f, " {}", self.0)
         }
     }
 }

@@ -24,6 +24,13 @@ impl<S> Noted<S> {
         }
     }
 
+    /// What it stands over.
+    pub fn into_stream(self) -> S
+        ensures { result ≡ stream_of self }
+    {
+        self.stream
+    }
+
     /// Why the latest call failed. `None` where it didn't, or there was none.
     pub fn error(&self) -> Option<io::Error>
         ensures { result ≡ error_of self.now }

@@ -1,9 +1,18 @@
 //! How much of a spool is in use.
+ghost use Rattle.std.specs.Prelude.{◌≡◌, ◌↔◌, ℕ, Err, IfOk, OnOk, Some};
+ghost use Rattle.spool_disk.specs.Disk.{Counts};
+ghost use Rattle.spool_disk.specs.Views.{Lasts};
+ghost use Rattle.spool_kept.specs.Loads.{LoadsAs};
+ghost use Rattle.upload_rules.specs.Store.{Store};
+ghost use Rattle.upload_rules.specs.World.{at_rest};
+ghost use Rattle.spool_image.specs.LeftOnly.{AllShow, IsSpool, LeftOrShows};
+ghost use Rattle.spool_image.specs.Spool.{IsFault, OpensAs, SpoolStands, disk_of};
+ghost use Rattle.gateway_files.specs.Surveying.{disk_left};
 
 use spool_blocks::SLOTS;
 use spool_disk::Disk;
 use spool_image::{OpenFault, Spool};
-use spool_load::find;
+use spool_load::{Found, find};
 use std::alloc::Global;
 use upload_rules::Uploads;
 
@@ -24,25 +33,63 @@ pub struct Survey {
 }
 
 /// Opens the spool on a disk, and surveys it. The disk comes back with each refusal.
-pub fn open_surveyed<D: Disk>(
-    alloc: Global,
-    disk: D,
-) -> Result<(Spool<D>, Survey), (D, OpenFault)> {
+pub fn open_surveyed<D: Disk>(alloc: Global, disk: D) -> Result<(Spool<D>, Survey), (D, OpenFault)>
+    ensures size { D.size (disk_left result) ≡ D.size disk }
+    ensures honest { D.honest disk ↔ D.honest (disk_left result) }
+    ensures counts { Counts (IsFault result) (D.failures disk) (D.failures (disk_left result)) }
+
+    // A spool is opened, unless memory or the device refuses it, and stands for its uploads. So many blocks are told.
+    ensures stands { (n : ℕ) (m : Store) → IsSpool D.Disk disk n m
+        → OpensAs result (λ opened. SpoolStands opened.0 (at_rest m (Some n))) }
+    ensures blocks { (n : ℕ) (m : Store) → IsSpool D.Disk disk n m → IfOk result (λ opened. opened.1.blocks ≡ n) }
+
+    // Every image shows these then, and a crash during it leaves what it might have left before, or what shows them.
+    ensures shows { (n : ℕ) (m : Store) → IsSpool D.Disk disk n m
+        → IfOk result (λ opened. AllShow D.Disk (disk_of opened.0) n m) }
+    ensures lasts { (n : ℕ) (m : Store) → IsSpool D.Disk disk n m
+        → Lasts D.Disk disk (disk_left result) (LeftOrShows D.Disk disk n m) }
+{
     let mut disk = disk;
-    let found = match find(&mut disk) {
-        Ok(found) => found,
-        Err(fault) => return Err((disk, fault)),
-    };
-    let spool = Spool::open(alloc, disk)?;
+    match find_whole(&mut disk) {
+        Ok(found) => match Spool::open(alloc, disk) {
+            Ok(spool) => {
+                let survey = survey_of(&found, &spool);
+                Ok((spool, survey))
+            }
+            Err(refused) => Err(refused),
+        },
+        Err(fault) => Err((disk, fault)),
+    }
+}
+
+// Finds the spool on a disk and makes it whole.
+fn find_whole<D: Disk>(disk: &mut D) -> Result<Found, OpenFault>
+    ensures size { D.size disk.new ≡ D.size disk.old }
+    ensures honest { D.honest disk.old ↔ D.honest disk.new }
+    ensures counts { Counts (result ≡ Err OpenFault.DiskFault) (D.failures disk.old) (D.failures disk.new) }
+    ensures found { (n : ℕ) (m : Store) → IsSpool D.Disk disk.old n m → LoadsAs result (λ found. found.layout ≡ n) }
+    ensures shows { (n : ℕ) (m : Store) → IsSpool D.Disk disk.old n m → OnOk result (AllShow D.Disk disk.new n m) }
+    ensures lasts { (n : ℕ) (m : Store) → IsSpool D.Disk disk.old n m
+        → Lasts D.Disk disk.old disk.new (LeftOrShows D.Disk disk.old n m) }
+{
+    match find(disk) {
+        Ok(found) => Ok(found),
+        Err(fault) => Err(fault),
+    }
+}
+
+// How much of a spool that was found is in use.
+fn survey_of<U: Uploads>(found: &Found, uploads: &U) -> Survey
+    ensures { result.blocks ≡ found.now.layout }
+{
     let blocks = u64::from(found.layout.blocks());
-    let (uploads, used) = used_of(&spool);
-    let survey = Survey {
+    let (count, used) = used_of(uploads);
+    Survey {
         version: found.version.number(),
         blocks,
         free_blocks: blocks.saturating_sub(used),
-        free_slots: u64::from(SLOTS).saturating_sub(uploads),
-    };
-    Ok((spool, survey))
+        free_slots: u64::from(SLOTS).saturating_sub(count),
+    }
 }
 
 // How many uploads there are, and how many blocks their texts have.

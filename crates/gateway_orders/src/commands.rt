@@ -24,6 +24,7 @@ pub(crate) fn gateway<'a>(alloc: Global) -> Result<Command<'a>, AllocError> {
         up(alloc),
         list(alloc),
         delete(alloc),
+        export(alloc),
         text(alloc),
         upgrade(alloc),
         serve(alloc),
@@ -113,7 +114,14 @@ fn list<'a>(alloc: Global) -> Result<Command<'a>, AllocError> {
         .after_help(
             "NUMBER ACCEPTED/DECLARED TEXTLENGTH FROM TO MODE of each:\n\n  gateway list spool",
         )
-        .arg(the_spool(alloc))
+        .args(vec![in alloc;
+            the_spool(alloc),
+            flag(
+                alloc,
+                "long",
+                "Prints what each upload has as `Upload-Metadata` too"
+            ),
+        ]?)
 }
 
 fn delete<'a>(alloc: Global) -> Result<Command<'a>, AllocError> {
@@ -128,6 +136,27 @@ fn delete<'a>(alloc: Global) -> Result<Command<'a>, AllocError> {
             "Uploads 3 and 7, while no gateway serves the spool:\n\n  gateway delete spool 3 7",
         )
         .args(vec![in alloc; the_spool(alloc), numbers]?)
+}
+
+fn export<'a>(alloc: Global) -> Result<Command<'a>, AllocError> {
+    let folder = Arg::new(alloc, "DIR").required(true).help(
+        "The folder, which is there. A file that is there stays as it is",
+    );
+    Command::new(alloc, "export")
+        .about("Writes the text of each complete upload into a file of its own")
+        .after_help(
+            "Into files as 3.txt, or as an upload's metadata names it, while no gateway serves the spool:\n\n  \
+            mkdir texts && gateway export spool texts",
+        )
+        .args(vec![in alloc;
+            the_spool(alloc),
+            folder,
+            flag(
+                alloc,
+                "all",
+                "Of the other uploads too, what there is so far"
+            ),
+        ]?)
 }
 
 fn text<'a>(alloc: Global) -> Result<Command<'a>, AllocError> {

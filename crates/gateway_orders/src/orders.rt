@@ -29,14 +29,21 @@ pub enum Order<'a> {
         quiet: bool,
         log: bool,
     },
-    /// The uploads of the spool at this path.
+    /// The uploads of the spool at this path, with their metadata or without.
     List {
         spool: &'a str,
+        long: bool,
     },
     /// The uploads of these numbers, deleted from the spool at this path.
     Delete {
         spool: &'a str,
         numbers: Vec<u64>,
+    },
+    /// The texts of the spool at this path, written into files of this folder: of the complete uploads, or of all.
+    Export {
+        spool: &'a str,
+        folder: &'a str,
+        all: bool,
     },
     /// Standard input, written as an upload with these labels and this mode would be stored, with the index files of
     /// this folder.
@@ -86,6 +93,7 @@ fn order_of<'a>(name: &str, given: &ArgMatches<'a>) -> Option<Order<'a>> {
         "script" => script_order(given),
         "serve" => serve_order(given),
         "list" => list_order(given),
+        "export" => export_order(given),
         "text" => text_order(given),
         "upgrade" => upgrade_order(given),
         _ => None,
@@ -146,6 +154,7 @@ fn no_address<'a>(gateway: &mut Command<'a>, alloc: Global, address: &str) -> Re
 fn list_order<'a>(given: &ArgMatches<'a>) -> Option<Order<'a>> {
     Some(Order::List {
         spool: given.get_str("SPOOL")?,
+        long: given.get_flag("long"),
     })
 }
 
@@ -165,6 +174,14 @@ fn delete_order<'a>(
         numbers.push(number)?;
     }
     Ok(Some(Order::Delete { spool, numbers }))
+}
+
+fn export_order<'a>(given: &ArgMatches<'a>) -> Option<Order<'a>> {
+    Some(Order::Export {
+        spool: given.get_str("SPOOL")?,
+        folder: given.get_str("DIR")?,
+        all: given.get_flag("all"),
+    })
 }
 
 fn text_order<'a>(given: &ArgMatches<'a>) -> Option<Order<'a>> {

@@ -3,7 +3,9 @@
 use crate::spools::ran;
 use crate::talks::Step::{Added, Deferred, Made, Open};
 use crate::talks::{Step, Talk};
-use gateway_files::{Failure, format_file, list_file, list_on, open_spool, upgrade_file};
+use gateway_files::{
+    Failure, export_file, format_file, list_file, list_on, open_spool, upgrade_file,
+};
 use spool_disk::{Disk, FileDisk};
 use std::alloc::Global;
 use std::fs;
@@ -26,13 +28,14 @@ const STEPS: &[Step] = &[
     Deferred(3, ""),
 ];
 
-const LISTED: &[u8] =
-    b"1 5/6 5 UTF-8 UTF-8 html\n2 4/4 2 UTF-16LE UTF-8 fatal\n3 0/? 0 UTF-8 UTF-8 html\n";
+const LISTED: &[u8] = b"1 5/6 5 UTF-8 UTF-8 html\n\
+    2 4/4 2 UTF-16LE UTF-8 fatal from dXRmLTE2bGU=,mode ZmF0YWw=\n\
+    3 0/? 0 UTF-8 UTF-8 html\n";
 
-/// The uploads on a disk are listed as they are to be.
+/// The uploads on a disk are listed as they are to be, with their metadata.
 fn lists(rt: &impl Abort, alloc: Global, disk: FileDisk) -> FileDisk {
     let mut lines = Vec::new(alloc);
-    let (disk, listed) = list_on(alloc, &mut lines, disk);
+    let (disk, listed) = list_on(alloc, &mut lines, disk, true);
     assert!(rt; listed.is_ok());
     assert_eq!(rt; lines.as_slice(), LISTED);
     disk
@@ -125,10 +128,12 @@ fn failure_says_what_the_system_said(rt: HostRuntime) {
     let twice = open_spool(&rt, "gateway_used_test").map(drop);
     let said = "device fault\ncannot open the spool gateway_used_test: it is in use";
     fails(&rt, alloc, twice, 3, said);
-    let listed = list_file(&rt, alloc, "gateway_used_test");
+    let listed = list_file(&rt, alloc, "gateway_used_test", false);
     fails(&rt, alloc, listed, 3, said);
     let upgraded = upgrade_file(&rt, alloc, "gateway_used_test");
     fails(&rt, alloc, upgraded, 3, said);
+    let exported = export_file(&rt, alloc, "gateway_used_test", ".", false);
+    fails(&rt, alloc, exported, 3, said);
     drop(used);
     fs::remove_file(&rt, "gateway_used_test").expect(&rt, "a file");
 }

@@ -57,7 +57,7 @@ fn uploads_are_deleted_by_their_numbers(rt: HostRuntime) {
         assert!(rt; deleted == Ok(*all));
         assert_eq!(rt; lines.as_slice(), *said);
         let mut lines = Vec::new(alloc);
-        let (after, listed) = list_on(alloc, &mut lines, after);
+        let (after, listed) = list_on(alloc, &mut lines, after, false);
         assert!(rt; listed.is_ok());
         assert_eq!(rt; lines.as_slice(), *left);
         disk = after;

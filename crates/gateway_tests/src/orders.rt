@@ -7,7 +7,7 @@ use std::process::Abort;
 
 /// Command lines, and what they ask for. None is asked for by a line with a word too few, one too many or one that
 /// doesn't read, and by a call for help.
-const LINES: [(&str, Option<Order>); 20] = [
+const LINES: [(&str, Option<Order>); 24] = [
     (
         "gateway format new --blocks 16 --indexes idx",
         Some(Order::Format {
@@ -35,7 +35,20 @@ const LINES: [(&str, Option<Order>); 20] = [
             turns: 0,
         })),
     ),
-    ("gateway list old", Some(Order::List { spool: "old" })),
+    (
+        "gateway list old",
+        Some(Order::List {
+            spool: "old",
+            long: false,
+        }),
+    ),
+    (
+        "gateway list old --long",
+        Some(Order::List {
+            spool: "old",
+            long: true,
+        }),
+    ),
     ("gateway upgrade old", Some(Order::Upgrade { spool: "old" })),
     (
         "gateway text --from koi8-r --indexes idx",
@@ -55,6 +68,23 @@ const LINES: [(&str, Option<Order>); 20] = [
             indexes: "idx",
         }),
     ),
+    (
+        "gateway export old texts",
+        Some(Order::Export {
+            spool: "old",
+            folder: "texts",
+            all: false,
+        }),
+    ),
+    (
+        "gateway export --all old texts",
+        Some(Order::Export {
+            spool: "old",
+            folder: "texts",
+            all: true,
+        }),
+    ),
+    ("gateway export old", None),
     ("gateway text --from koi8-r", None),
     ("gateway", None),
     ("gateway list", None),

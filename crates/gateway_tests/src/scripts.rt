@@ -541,7 +541,7 @@ fn one_upload_too_many(rt: HostRuntime) {
     let disk = fresh(&rt, rt.alloc(), 32, None);
     let disk = ends(&rt, rt.alloc(), "513 uploads", &talk, disk, None);
     let mut lines = Vec::new(rt.alloc());
-    let (disk, listed) = list_on(rt.alloc(), &mut lines, disk);
+    let (disk, listed) = list_on(rt.alloc(), &mut lines, disk, false);
     drop(disk);
     assert!(rt; listed.is_ok());
     assert!(rt; lines.ends_with(b"\n512 0/0 0 UTF-8 UTF-8 html\n513 0/0 0 UTF-8 UTF-8 html\n"));

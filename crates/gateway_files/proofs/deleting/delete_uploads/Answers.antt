@@ -1,4 +1,4 @@
-use Rattle.std.proofs.Common.{◌≡◌, ◌&&◌, Bool, ℕ, List, [], drop, get_or, ◌∙◌, ◌+◌, refl, subst, sym}
+use Rattle.std.proofs.Common.{◌≡◌, ◌&&◌, Bool, ℕ, List, drop, get_or, ◌∙◌, ◌+◌, refl, subst, sym}
 use Rattle.std.proofs.lemmas.List.{drop_all, drop_more}
 use Rattle.upload_rules.specs.World.{World}
 use Rattle.gateway_files.proofs.Deletions.{Halfway, begun, done_all, done_lines, done_stands, further, limits_more}

@@ -1,4 +1,3 @@
-use Rattle.upload_rules.specs.World.{World}
 use Rattle.gateway_files.proofs.Deletions.{refused_stays}
 use Rattle.gateway_files.proofs.deleting.terminate.Goals as goal
 

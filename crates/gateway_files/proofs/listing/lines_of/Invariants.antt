@@ -8,5 +8,5 @@ use Rattle.gateway_files.proofs.listing.lines_of.Given as goal
 abbrev pub invariant-loop : goal.invariant-loop
 invariant-loop g l =
     (w : World) → g.U.Uploads.stands l.fn.uploads w → IsInOrder w.store
-    → string_bytes l.lines ++ flat_map (upload_line w.store.indexes) (after l.number w.store.uploads)
-    ≡ lines_of w.store
+    → string_bytes l.lines ++ flat_map (upload_line l.long w.store.indexes) (after l.number w.store.uploads)
+    ≡ lines_of l.long w.store

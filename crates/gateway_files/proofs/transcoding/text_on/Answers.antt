@@ -1,5 +1,4 @@
-use Rattle.std.proofs.Common.{rules, ◌≡◌, Option, List, ℕ, OnOk, Result, Ok, Err, IfOk, true, false, sym, subst, ap}
-use Rattle.std.proofs.KnownBytes.{Consumes-trans}
+use Rattle.std.proofs.Common.{rules}
 use Rattle.enc_model.specs.Indexes.{tables}
 use Rattle.gateway_files.proofs.Copying.{copied_all, copied_more, copied_none, copied_still}
 use Rattle.gateway_files.proofs.transcoding.text_on.Goals as goal

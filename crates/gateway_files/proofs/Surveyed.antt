@@ -1,0 +1,54 @@
+-- A spool that is found and made whole before it is opened.
+use Rattle.std.proofs.Common.{◌≡◌, ◌≤◌, ◌*◌, ⊎_elim, ℕ, inr, arith, refl, subst, sym, Err}
+use Rattle.spool_disk.specs.Views.{Lasts}
+use Rattle.spool_disk.specs.declared.disk.Disk.{Ghosts}
+use Rattle.spool_journal.specs.Image.{all_pages, journal_pages, overlaid}
+use Rattle.spool_journal.specs.Phases.{ReadsAs, Settled}
+use Rattle.spool_kept.specs.Loads.{LoadsAs}
+use Rattle.spool_kept.specs.declared.error.OpenFault.{OpenFault}
+use Rattle.spool_kept.specs.declared.error.OpenFault.TheVariants.{NotASpool, DiskFault, Damaged, Version, NoMemory}
+use Rattle.spool_load.proofs.Opens.{settled_reads}
+use Rattle.spool_image.proofs.Opens.{image_shows}
+use Rattle.spool_image.specs.LeftOnly.{AllShow, IsSpool, LeftOrShows}
+use Rattle.upload_rules.specs.Store.{Store}
+
+module _ {D : Type 0} (disk : Ghosts D) (n : ℕ) (m : Store) where
+  -- what each image shows, a read does
+  pub read_shows : (d : D) → AllShow disk d n m → IsSpool disk d n m
+  read_shows d shown = record {
+    honest = shown.honest;
+    room = shown.room;
+    shows = shown.each (disk.seen d) (record { same = λ p firm. refl });
+  }
+
+  -- each image of a spool that was made whole shows what a read showed before
+  pub whole_shows : (d d' : D) (k : ℕ) (is : IsSpool disk d n m) → disk.honest d' → disk.size d' ≡ disk.size d
+      → k ≡ is.shows.view.blocks
+      → Settled (journal_pages k) (overlaid (disk.seen d)) (disk.seen d') (disk.loose d')
+      → AllShow disk d' n m
+  whole_shows d d' k is honest size blocks settled = record {
+    honest = honest;
+    room = subst (λ (s : ℕ). 4096 * all_pages n ≤ s) (sym size) is.room;
+    each = λ image here. image_shows n m image (disk.seen d) is.shows
+        (subst (λ (b : ℕ). ReadsAs (journal_pages b) image (overlaid (disk.seen d))) blocks
+        (settled_reads image settled (λ p. here.same p (settled.firm p))));
+  }
+
+  -- one after the other
+  pub lasts_both : (d d' d'' : D) → Lasts disk d d' (LeftOrShows disk d n m) → AllShow disk d' n m
+      → Lasts disk d' d'' (LeftOrShows disk d' n m) → Lasts disk d d'' (LeftOrShows disk d n m)
+  lasts_both d d' d'' first shown last = record {
+    later = let a = first.later in let b = last.later in omega (arith, a, b);
+    nothing_else = λ t image le since. ⊎_elim (λ before. first.nothing_else t image le before)
+        (λ left. ⊎_elim (λ here. inr (inr (shown.each image here))) (λ shows. inr (inr shows)) left)
+        (last.nothing_else t image (let a = first.later in omega (arith, le, a)) since);
+  }
+
+-- refused for memory or by the device, whatever was to be answered
+pub loads_err : {T U : Type 0} (e : OpenFault) (P : T → Type 0) (Q : U → Type 0) → LoadsAs {T = T} (Err e) P
+    → LoadsAs {T = U} (Err e) Q
+loads_err NotASpool P Q is = is
+loads_err DiskFault P Q is = is
+loads_err Damaged P Q is = is
+loads_err Version P Q is = is
+loads_err NoMemory P Q is = is

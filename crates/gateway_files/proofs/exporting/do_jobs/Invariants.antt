@@ -1,0 +1,11 @@
+use Rattle.std.proofs.Common.{◌≡◌}
+use Rattle.upload_rules.specs.Answers.{Quiet}
+use Rattle.upload_rules.specs.World.{World}
+use Rattle.gateway_files.proofs.exporting.do_jobs.Given as goal
+
+abbrev pub invariant-loop-job : goal.invariant-loop-job
+invariant-loop-job g l =
+    (g.U.Uploads.failures l.uploads ≡ g.U.Uploads.failures l.fn.uploads)
+    × Quiet (g.U.Uploads.moment l.fn.uploads) (g.U.Uploads.moment l.uploads) (g.U.Uploads.left_only l.fn.uploads)
+    (g.U.Uploads.left_only l.uploads)
+    × ((w : World) → g.U.Uploads.stands l.fn.uploads w → g.U.Uploads.stands l.uploads w)

@@ -1,0 +1,109 @@
+//! Texts of uploads, copied to writers.
+ghost use Rattle.std.specs.Prelude.{◌≡◌, ◌<◌, ◌≤◌, ◌+◌, ◌-◌, IfErr, IfOk, IsErrOf, OnOk, drop, length, min, take};
+ghost use Rattle.std.specs.Io.KnownBytes.{Appends};
+ghost use Rattle.upload_rules.specs.Answers.{Counts as Fails, Quiet};
+ghost use Rattle.upload_rules.specs.Reading.{text_at};
+ghost use Rattle.upload_rules.specs.Store.{upload_of};
+ghost use Rattle.upload_rules.specs.World.{World};
+ghost use Rattle.gateway_files.specs.declared.faults.Fault.{Fault};
+ghost use Rattle.gateway_files.specs.Changing.{IsChangeFault};
+
+use crate::faults::Fault;
+use std::io::Write;
+use upload_rules::{UploadError, Uploads};
+
+// How many bytes are read at once.
+const PIECE: usize = 4096;
+
+/// Writes the text of an upload, all that there is of it so far: nothing where no upload has the number.
+pub fn copy_text<W: Write, U: Uploads>(
+    writer: &mut W,
+    uploads: &mut U,
+    number: u64,
+) -> Result<(), Fault>
+    // What was written is exactly the text.
+    ensures copied { (w : World) → U.stands uploads.old w → OnOk result (Appends (W.contents writer.old)
+        (W.contents writer.new) (text_at w.store (upload_of w.store number))) }
+
+    // The uploads stay as they are, and whatever a crash may leave.
+    ensures stands { (w : World) → U.stands uploads.old w → OnOk result (U.stands uploads.new w) }
+    ensures crash { Quiet (U.moment uploads.old) (U.moment uploads.new) (U.left_only uploads.old)
+        (U.left_only uploads.new) }
+    ensures refused { IfErr result IsChangeFault }
+    ensures counts { Fails (IsErrOf result Fault.Device) (U.failures uploads.old) (U.failures uploads.new) }
+{
+    let Some(record) = uploads.record(number) else {
+        return Ok(());
+    };
+    let len = record.text_len;
+    copy_bytes(writer, uploads, number, len)
+}
+
+// Writes the text of an upload that is so long.
+fn copy_bytes<W: Write, U: Uploads>(
+    writer: &mut W,
+    uploads: &mut U,
+    number: u64,
+    len: u64,
+) -> Result<(), Fault>
+    ensures copied { (w : World) → U.stands uploads.old w → len ≡ length (text_at w.store (upload_of w.store number))
+        → OnOk result (Appends (W.contents writer.old) (W.contents writer.new)
+        (text_at w.store (upload_of w.store number))) }
+    ensures stands { (w : World) → U.stands uploads.old w → OnOk result (U.stands uploads.new w) }
+    ensures crash { Quiet (U.moment uploads.old) (U.moment uploads.new) (U.left_only uploads.old)
+        (U.left_only uploads.new) }
+    ensures refused { IfErr result IsChangeFault }
+    ensures counts { Fails (IsErrOf result Fault.Device) (U.failures uploads.old) (U.failures uploads.new) }
+{
+    let mut at = 0;
+    while at < len {
+        at = copy_piece(writer, uploads, number, at, len)?;
+    }
+    Ok(())
+}
+
+// Writes the next piece of a text that is so long: where it ends.
+fn copy_piece<W: Write, U: Uploads>(
+    writer: &mut W,
+    uploads: &mut U,
+    number: u64,
+    at: u64,
+    len: u64,
+) -> Result<u64, Fault>
+    requires { at < len }
+    ensures next { IfOk result (λ next. next ≡ at + min (len - at) 4096) }
+    ensures copied { (w : World) → U.stands uploads.old w → len ≡ length (text_at w.store (upload_of w.store number))
+        → IfOk result (λ next. Appends (W.contents writer.old) (W.contents writer.new)
+        (take (next - at) (drop at (text_at w.store (upload_of w.store number))))) }
+    ensures stands { (w : World) → U.stands uploads.old w → OnOk result (U.stands uploads.new w) }
+    ensures crash { Quiet (U.moment uploads.old) (U.moment uploads.new) (U.left_only uploads.old)
+        (U.left_only uploads.new) }
+    ensures refused { IfErr result IsChangeFault }
+    ensures counts { Fails (IsErrOf result Fault.Device) (U.failures uploads.old) (U.failures uploads.new) }
+{
+    let count = (len - at).min(PIECE as u64);
+    let mut buffer = [0; PIECE];
+    let piece = &mut buffer[..count as usize];
+    read_at(uploads, number, at, piece)?;
+    writer.write_all(piece)?;
+    Ok(at + count)
+}
+
+// Reads as many bytes of a text as the piece has, where there are so many.
+fn read_at<U: Uploads>(uploads: &mut U, number: u64, at: u64, piece: &mut [u8]) -> Result<(), Fault>
+    ensures read { (w : World) → U.stands uploads.old w
+        → at + length piece.old ≤ length (text_at w.store (upload_of w.store number))
+        → OnOk result (piece.new ≡ take (length piece.old) (drop at (text_at w.store (upload_of w.store number)))) }
+    ensures stands { (w : World) → U.stands uploads.old w → OnOk result (U.stands uploads.new w) }
+    ensures crash { Quiet (U.moment uploads.old) (U.moment uploads.new) (U.left_only uploads.old)
+        (U.left_only uploads.new) }
+    ensures refused { IfErr result IsChangeFault }
+    ensures counts { Fails (IsErrOf result Fault.Device) (U.failures uploads.old) (U.failures uploads.new) }
+{
+    match uploads.read_text(number, at, piece) {
+        // What no upload has is no text.
+        Ok(_) | Err(UploadError::Refused(_)) => Ok(()),
+        Err(UploadError::NoMemory) => Err(Fault::NoMemory),
+        Err(UploadError::DiskFault) => Err(Fault::Device),
+    }
+}

@@ -1,0 +1,230 @@
+//! The texts of a spool's uploads, written into files.
+ghost use Rattle.std.specs.Prelude.{◌≡◌, [], ◌∷◌, ℕ, Err, IfErr, IsErrOf, IsOk, OnOk};
+ghost use Rattle.std.specs.Io.KnownBytes.{Appends};
+ghost use Rattle.spool_disk.specs.Disk.{Counts};
+ghost use Rattle.spool_load.specs.Refusals.{HasOtherVersion, IsDamaged, IsNoSpool};
+ghost use Rattle.upload_rules.specs.Answers.{Counts as Fails, Quiet};
+ghost use Rattle.upload_rules.specs.Store.{Store};
+ghost use Rattle.upload_rules.specs.World.{World};
+ghost use Rattle.spool_image.specs.LeftOnly.{AllShow, IsSpool};
+ghost use Rattle.gateway_files.specs.declared.faults.Fault.{Fault};
+ghost use Rattle.gateway_files.specs.Changing.{Changes, IsChangeFault};
+ghost use Rattle.gateway_files.specs.Exporting.{outcome_line, summary_line};
+ghost use Rattle.gateway_files.specs.Leaving.{LeavesOne};
+ghost use Rattle.gateway_files.specs.Listing.{ListRefusedFor, RefusesListAs};
+
+use crate::copies::copy_text;
+use crate::failures::{Failure, Task};
+use crate::faults::Fault;
+use crate::folders::{FileFolder, Folder};
+use crate::planning::{Job, plan};
+use crate::spool_files::open_spool;
+use crate::streams::Noted;
+use spool_disk::Disk;
+use spool_image::Spool;
+use std::alloc::Global;
+use std::io::{self, Write};
+use upload_rules::Uploads;
+
+/// Writes the text of each complete upload of the spool in a file, or of all, into a file of a folder of its own, and
+/// prints a line for each upload. A file that is there stays as it is: the others are written all the same, and it is
+/// refused at the end.
+pub fn export_file<'a>(
+    rt: &'a HostRuntime,
+    alloc: Global,
+    spool: &'a str,
+    folder: &'a str,
+    all: bool,
+) -> Result<(), Failure<'a>> {
+    let mut output = Noted::new(io::writer(rt));
+    let mut files = FileFolder::find(rt, alloc, folder)?;
+    let (disk, exported) = export_on(alloc, &mut output, &mut files, open_spool(rt, spool)?, all);
+    match (exported, files.error()) {
+        (Ok(true), _) => Ok(()),
+        (Ok(false), _) => Err(Failure::from(Fault::FileThere)),
+        (Err(Fault::Io), Some(error)) => {
+            Err(Failure::new(Fault::Io, Task::WriteInto(folder), error))
+        }
+        (Err(Fault::Io), None) => Err(Failure::on_streams(Fault::Io, None, output.error())),
+        (Err(fault), _) => Err(Failure::on_given(fault, spool, &disk)),
+    }
+}
+
+/// Writes the text of each complete upload of the spool on a disk, or of all, into a file of a folder, and a line for
+/// each upload: whether no file was there. The disk is handed back.
+pub fn export_on<D: Disk + Drop, F: Folder, W: Write>(
+    alloc: Global,
+    writer: &mut W,
+    folder: &mut F,
+    disk: D,
+    all: bool,
+) -> (D, Result<bool, Fault>)
+    // The disk shows the same uploads still, and a crash at any moment of it leaves them.
+    ensures shows { (n : ℕ) (m : Store) → IsSpool D.Disk disk n m → IsOk result.1 → AllShow D.Disk result.0 n m }
+    ensures lasts { (n : ℕ) (m : Store) → IsSpool D.Disk disk n m → LeavesOne D.Disk disk result.0 n m (m ∷ []) }
+
+    // A spool's texts are written, unless memory, the device, the folder or the writer refuses it.
+    ensures exports { (n : ℕ) (m : Store) → IsSpool D.Disk disk n m → Changes result.1 }
+
+    // Each refusal has its reason, and each reason is answered so, unless memory or the device refuses it.
+    ensures refused { D.honest disk → IfErr result.1 (ListRefusedFor (D.size disk) (D.seen disk)) }
+    ensures not_a_spool { D.honest disk → IsNoSpool (D.size disk) (D.seen disk)
+        → RefusesListAs result.1 Fault.NotASpool }
+    ensures version { D.honest disk → HasOtherVersion (D.size disk) (D.seen disk)
+        → RefusesListAs result.1 Fault.Version }
+    ensures damaged { D.honest disk → IsDamaged (D.size disk) (D.seen disk) → RefusesListAs result.1 Fault.Damaged }
+    ensures counts { Counts (result.1 ≡ Err Fault.Device) (D.failures disk) (D.failures result.0) }
+{
+    match Spool::open(alloc, disk) {
+        Ok(mut spool) => {
+            let exported = export_uploads(alloc, writer, folder, &mut spool, all);
+            (spool.into_disk(), exported)
+        }
+        Err((disk, fault)) => (disk, Err(Fault::from(fault))),
+    }
+}
+
+// Writes the texts of the uploads into files, and a line for each upload: whether no file was there. The names are made
+// before the first file.
+fn export_uploads<W: Write, F: Folder, U: Uploads>(
+    alloc: Global,
+    writer: &mut W,
+    folder: &mut F,
+    uploads: &mut U,
+    all: bool,
+) -> Result<bool, Fault>
+    ensures stands { (w : World) → U.stands uploads.old w → OnOk result (U.stands uploads.new w) }
+    ensures crash { Quiet (U.moment uploads.old) (U.moment uploads.new) (U.left_only uploads.old)
+        (U.left_only uploads.new) }
+    ensures refused { IfErr result IsChangeFault }
+    ensures counts { Fails (IsErrOf result Fault.Device) (U.failures uploads.old) (U.failures uploads.new) }
+{
+    let jobs = plan(alloc, uploads, all)?;
+    let done = do_jobs(writer, folder, uploads, &jobs)?;
+    say_done(writer, done.exported, jobs.len())?;
+    Ok(!done.there)
+}
+
+// How many texts were written, and whether a file was there.
+#[derive(Clone, Copy, Drop)]
+struct Done {
+    exported: u64,
+    there: bool,
+}
+
+// Writes texts into files, and a line for each upload.
+fn do_jobs<W: Write, F: Folder, U: Uploads>(
+    writer: &mut W,
+    folder: &mut F,
+    uploads: &mut U,
+    jobs: &[Job],
+) -> Result<Done, Fault>
+    ensures stands { (w : World) → U.stands uploads.old w → OnOk result (U.stands uploads.new w) }
+    ensures crash { Quiet (U.moment uploads.old) (U.moment uploads.new) (U.left_only uploads.old)
+        (U.left_only uploads.new) }
+    ensures refused { IfErr result IsChangeFault }
+    ensures counts { Fails (IsErrOf result Fault.Device) (U.failures uploads.old) (U.failures uploads.new) }
+{
+    let mut done = Done {
+        exported: 0,
+        there: false,
+    };
+    for job in jobs {
+        match do_job(writer, folder, uploads, job)? {
+            Outcome::Exported(_) => done.exported = done.exported.saturating_add(1),
+            Outcome::There(_) => done.there = true,
+            Outcome::Incomplete => {}
+        }
+    }
+    Ok(done)
+}
+
+// What became of an upload.
+#[derive(Clone, Copy, Drop)]
+enum Outcome<'j> {
+    // its text was written into this file
+    Exported(&'j str),
+    // there is such a file
+    There(&'j str),
+    // only a complete one was to be written
+    Incomplete,
+}
+
+// Writes a text into a file, where that is to be done, and a line.
+fn do_job<'j, W: Write, F: Folder, U: Uploads>(
+    writer: &mut W,
+    folder: &mut F,
+    uploads: &mut U,
+    job: &'j Job,
+) -> Result<Outcome<'j>, Fault>
+    ensures stands { (w : World) → U.stands uploads.old w → OnOk result (U.stands uploads.new w) }
+    ensures crash { Quiet (U.moment uploads.old) (U.moment uploads.new) (U.left_only uploads.old)
+        (U.left_only uploads.new) }
+    ensures refused { IfErr result IsChangeFault }
+    ensures counts { Fails (IsErrOf result Fault.Device) (U.failures uploads.old) (U.failures uploads.new) }
+{
+    let outcome = export_job(folder, uploads, job)?;
+    say_outcome(writer, job.number, outcome)?;
+    Ok(outcome)
+}
+
+// Writes a text into a file, where that is to be done.
+fn export_job<'j, F: Folder, U: Uploads>(
+    folder: &mut F,
+    uploads: &mut U,
+    job: &'j Job,
+) -> Result<Outcome<'j>, Fault>
+    ensures stands { (w : World) → U.stands uploads.old w → OnOk result (U.stands uploads.new w) }
+    ensures crash { Quiet (U.moment uploads.old) (U.moment uploads.new) (U.left_only uploads.old)
+        (U.left_only uploads.new) }
+    ensures refused { IfErr result IsChangeFault }
+    ensures counts { Fails (IsErrOf result Fault.Device) (U.failures uploads.old) (U.failures uploads.new) }
+{
+    let Some(name) = &job.name else {
+        return Ok(Outcome::Incomplete);
+    };
+    let Some(file) = folder.make(name.as_str())? else {
+        return Ok(Outcome::There(name.as_str()));
+    };
+    write_text(folder, file, uploads, job.number)?;
+    Ok(Outcome::Exported(name.as_str()))
+}
+
+// Writes a text into a new file, and ends that.
+fn write_text<F: Folder, U: Uploads>(
+    folder: &mut F,
+    file: F::File,
+    uploads: &mut U,
+    number: u64,
+) -> Result<(), Fault>
+    ensures stands { (w : World) → U.stands uploads.old w → OnOk result (U.stands uploads.new w) }
+    ensures crash { Quiet (U.moment uploads.old) (U.moment uploads.new) (U.left_only uploads.old)
+        (U.left_only uploads.new) }
+    ensures refused { IfErr result IsChangeFault }
+    ensures counts { Fails (IsErrOf result Fault.Device) (U.failures uploads.old) (U.failures uploads.new) }
+{
+    let mut file = file;
+    let copied = copy_text(&mut file, uploads, number);
+    let ended = folder.end(file);
+    copied?;
+    ended?;
+    Ok(())
+}
+
+// Says what became of an upload.
+fn say_outcome<W: Write>(writer: &mut W, number: u64, outcome: Outcome) -> io::Result<()>
+    ensures { OnOk result (Appends (W.contents writer.old) (W.contents writer.new) (outcome_line number outcome.entry)) }
+{
+    match outcome {
+        Outcome::Exported(name) => writeln!(writer, "exported {number} {name}"),
+        Outcome::There(name) => writeln!(writer, "there {number} {name}"),
+        Outcome::Incomplete => writeln!(writer, "incomplete {number}"),
+    }
+}
+
+// Says how many texts were written, of how many uploads.
+fn say_done<W: Write>(writer: &mut W, exported: u64, uploads: usize) -> io::Result<()>
+    ensures { OnOk result (Appends (W.contents writer.old) (W.contents writer.new) (summary_line exported uploads)) }
+{
+    writeln!(writer, "exported {exported} of {uploads} uploads")
+}

@@ -1,0 +1,68 @@
+//! Texts of uploads, written into files.
+
+use crate::spools::ran;
+use crate::talks::Step::{Added, Deferred, Made, Open};
+use crate::talks::{Step, Talk, fresh};
+use gateway_files::{FileFolder, export_on};
+use std::fs;
+
+/// Five uploads: one in part, three complete ones, of which two give the same name and one gives a name with a slash,
+/// and one of no known length.
+const STEPS: &[Step] = &[
+    Open(1),
+    Made(1, 6, ""),
+    Added(1, 0, b"hello", 5),
+    Made(2, 2, "filename bGV0dGVyLnR4dA=="),
+    Added(2, 0, b"ab", 2),
+    Made(3, 2, "filename YS9i"),
+    Added(3, 0, b"cd", 2),
+    Made(4, 2, "filename bGV0dGVyLnR4dA=="),
+    Added(4, 0, b"ef", 2),
+    Deferred(5, "from dXRmLTg=, filename bGF0ZXI="),
+];
+
+/// A folder with a file `4.txt`, whether all uploads are exported or only the complete ones, what is said of them, and
+/// files of the folder then.
+static EXPORTS: [(&str, bool, &[u8], &[(&str, &str)]); 2] = [
+    (
+        "gateway_export_test",
+        false,
+        b"incomplete 1\nexported 2 letter.txt\nexported 3 3.txt\nthere 4 4.txt\nincomplete 5\n\
+        exported 2 of 5 uploads\n",
+        &[("letter.txt", "ab"), ("3.txt", "cd"), ("4.txt", "mine")],
+    ),
+    (
+        "gateway_export_all_test",
+        true,
+        b"exported 1 1.txt\nexported 2 letter.txt\nexported 3 3.txt\nthere 4 4.txt\nexported 5 later\n\
+        exported 4 of 5 uploads\n",
+        &[("1.txt", "hello"), ("4.txt", "mine"), ("later", "")],
+    ),
+];
+
+#[test]
+fn texts_are_written_into_files(rt: HostRuntime) {
+    let alloc = rt.alloc();
+    let talk = Talk::new(&rt, alloc, STEPS);
+    let (mut disk, fault, written) = ran(alloc, &talk, fresh(&rt, alloc, 16, None));
+    assert_eq!(rt; fault, None);
+    assert_eq!(rt; written, talk.wanted);
+    for (folder, all, said, files) in EXPORTS.iter() {
+        let _ = fs::remove_dir_all(&rt, *folder);
+        fs::create_dir(&rt, *folder).expect(&rt, "a folder");
+        let there = format!(in alloc; "{folder}/4.txt").expect(&rt, "memory for a path");
+        fs::write(&rt, there.as_str(), "mine").expect(&rt, "a file");
+        let mut into = FileFolder::find(&rt, alloc, *folder).expect(&rt, "a folder");
+        let mut lines = Vec::new(alloc);
+        let (after, exported) = export_on(alloc, &mut lines, &mut into, disk, *all);
+        assert!(rt; exported == Ok(false));
+        assert_eq!(rt; lines.as_slice(), *said);
+        for (name, text) in files.iter() {
+            let path = format!(in alloc; "{folder}/{name}").expect(&rt, "memory for a path");
+            let found = fs::read(&rt, path.as_str()).expect(&rt, name);
+            assert_eq!(rt; found.as_slice(), text.as_bytes(), "{path}");
+        }
+        fs::remove_dir_all(&rt, *folder).expect(&rt, "a folder");
+        disk = after;
+    }
+}
