@@ -44,7 +44,8 @@ put_byte old held bytes from at l m p =
     let b = get_or bytes at 0 in
     let places : from + (at + 1) ≡ from + at + 1 = omega arith in
     ap (λ k. take k (set held (from + at) b)) places ∙ take_more_set held (from + at) b m ∙ ap (λ z. z ++ b ∷ []) p
-    ∙ append_assoc (take from old) (take at bytes) (b ∷ []) ∙ ap (λ z. take from old ++ z) (sym (take_more bytes at 0 l))
+    ∙ append_assoc (take from old) (take at bytes) (b ∷ []) ∙ ap (λ z. take from old ++ z) (sym (take_more bytes at 0
+    l))
 
 -- the two bytes at a place
 pub two_at : (xs : List ℕ) (i : ℕ) → i + 1 < length xs

@@ -148,7 +148,8 @@ all_ascii gives stands (c ∷ cs) a = (
 )
 
 -- one front after another
-pub run_both : (gives : ℕ → List ℕ → Type 0) (text rest left held kept new : List ℕ) → RunFront gives text rest held kept
+pub run_both : (gives : ℕ → List ℕ → Type 0) (text rest left held kept new : List ℕ) → RunFront gives text rest held
+    kept
     → RunFront gives rest left kept new → RunFront gives text left held new
 run_both gives text rest left held kept new p q = record {
   front = p.front ++ q.front;

@@ -132,8 +132,8 @@ fn put_each(held: &mut [u8; ROOM], from: usize, bytes: &[u8]) -> usize
     at
 }
 
-/// Puts the bytes of a text's front after the first so many: of ASCII in lanes, and then of characters of two bytes that
-/// a single-byte encoding has. Gives the rest of the text, and how many bytes there are then.
+/// Puts the bytes of a text's front after the first so many: of ASCII in lanes, and then of characters of two bytes
+/// that a single-byte encoding has. Gives the rest of the text, and how many bytes there are then.
 #[inline(always)]
 pub fn put_run<'a>(
     held: &mut [u8; ROOM],

@@ -62,7 +62,8 @@ ascii_steps bytes n a =
     utf8_text (take n bytes) (ascii_utf8 (take n bytes) a)
     ∙ ap (λ text. record { text = text; state = utf8_start }) (ascii_chars (take n bytes) a)
 
-pub ascii_taken : (bytes old new : List ℕ) (n : ℕ) → All (λ b. b < 128) (take n bytes) → BatchTook old (take n bytes) new
+pub ascii_taken : (bytes old new : List ℕ) (n : ℕ) → All (λ b. b < 128) (take n bytes) → BatchTook old (take n bytes)
+    new
     → BatchTook old (steps utf8 false utf8_start (take n bytes)).text new
 ascii_taken bytes old new n a took = subst (λ run. BatchTook old run.text new) (sym (ascii_steps bytes n a)) took
 

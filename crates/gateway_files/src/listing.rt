@@ -59,7 +59,8 @@ pub fn list_on<D: Disk + Drop, W: Write>(
     ensures lasts { (n : ℕ) (m : Store) → IsSpool D.Disk disk n m
         → Lasts D.Disk disk result.0 (LeftOrShows D.Disk disk n m) }
 
-    // Where no journal is to be replayed, nothing is written to the disk: a crash leaves what it might have left before.
+    // Where no journal is to be replayed, nothing is written to the disk: a crash leaves what it might have left
+    // before.
     ensures unwritten { D.honest disk → (NeedsReplay (D.size disk) (D.seen disk) → ⊥)
         → Lasts D.Disk disk result.0 (IsImage (D.seen disk) (D.loose disk)) }
 

@@ -10,8 +10,8 @@ ghost use Rattle.tus_action.specs.Acts.{fed, fed_patch};
 ghost use Rattle.tus_session.specs.Bodies.{Parts, Replies, ended_by, took};
 ghost use Rattle.tus_request.specs.Replies.{longest_reply, GrowsBy};
 
-use crate::conns::{Link, Patching, Place, Task};
 use crate::Answer;
+use crate::conns::{Link, Patching, Place, Task};
 use crate::turns::{place_of, waits};
 use std::alloc::Global;
 use tus_action::{Acted, Stop, end_body, feed_body};

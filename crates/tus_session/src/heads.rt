@@ -14,9 +14,9 @@ ghost use Rattle.tus_session.specs.Turned.{Turned};
 ghost use Rattle.tus_session.specs.Heads.{InsideHead, IsWhole, IsSmall, ReachedIs};
 ghost use Rattle.tus_session.specs.Turns.{GivesFew};
 
+use crate::Answer;
 use crate::bodies::{body_of, skip};
 use crate::conns::{Link, Patching, Place, Task};
-use crate::Answer;
 use crate::turns::{place_of, waits};
 use std::alloc::Global;
 use tus_action::{Acted, Giving, PieceBuffer, Stop, act};

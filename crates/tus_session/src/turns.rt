@@ -8,8 +8,8 @@ ghost use Rattle.tus_session.specs.Stands.{LinkIs, dropped_by};
 ghost use Rattle.tus_session.specs.Turned.{Turned, Ended};
 ghost use Rattle.tus_session.specs.Turns.{GivesFew};
 
-use crate::conns::{Link, Patching, Place, Task};
 use crate::Answer;
+use crate::conns::{Link, Patching, Place, Task};
 use tus_action::{Given, PieceBuffer, Stop, cut_body, give_more};
 use tus_request::HeadBuffer;
 use upload_rules::Uploads;

@@ -27,6 +27,7 @@ loop-at-preserved c =
     let bytes = c.args.bytes.now in
     let at = c.loop-at.at in
     let inside : at < length bytes = grind (arith, common_steps) in
-    let more = fault_more bytes at c.args.batch.now c.loop-at.batch c.push.new.self inside (sym c.if-begins_none.ensures)
+    let more = fault_more bytes at c.args.batch.now c.loop-at.batch c.push.new.self inside (sym
+    c.if-begins_none.ensures)
     c.loop-at.invariant.1 c.loop-at.invariant.0 c.push.ensures in
     (more.0, more.1, omega (arith, inside), λ none. absurd (omega (arith, none)))

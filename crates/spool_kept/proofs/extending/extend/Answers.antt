@@ -3,7 +3,6 @@ use Rattle.spool_disk.proofs.Firm.{lasts_on, lasts_more}
 use Rattle.spool_drafts.proofs.Effects.{only}
 use Rattle.spool_drafts.specs.Effect.{OnlyWrites}
 use Rattle.spool_journal.specs.Image.{all_pages, journal_pages, InArea, text_page}
-
 use Rattle.spool_texts.specs.Drafts.{bytes_with}
 use Rattle.spool_texts.specs.TextOn.{text_on}
 use Rattle.spool_kept.specs.Holding.{Holding, FitsTogether}

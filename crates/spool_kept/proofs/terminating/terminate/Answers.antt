@@ -1,7 +1,6 @@
 use Rattle.std.proofs.Common.{◌≡◌, ◌∙◌, ◌≤◌, ◌*◌, ℕ, None, ap, subst, sym}
 use Rattle.spool_disk.specs.Views.{Lasts}
 use Rattle.spool_journal.specs.Image.{text_page}
-
 use Rattle.upload_rules.specs.Answers.{IsLate}
 use Rattle.upload_rules.specs.Calls.{terminate_outcome, terminate_refusal, terminated}
 use Rattle.upload_rules.specs.World.{World}

@@ -26,7 +26,7 @@ returns-clause-piece g c honest =
     let size : length (take c.min-n.result c.args.buf.now) ≡ c.min-n.result =
     omega (arith, length-take c.min-n.result c.args.buf.now, c.min-n.ensures) in
     let place : 4096 * c.block_page-page.result + c.args.at % 4096
-        ≡ 4096 * (text_page c.args.layout.now + get_or c.args.list.now (c.args.at / 4096) 0) + c.args.at % 4096 =
+    ≡ 4096 * (text_page c.args.layout.now + get_or c.args.list.now (c.args.at / 4096) 0) + c.args.at % 4096 =
     omega (arith, c.block_page-page.ensures.page) in
     piece_is (g.D.Disk.seen c.args.disk.now) (text_page c.args.layout.now) c.args.list.now c.args.at
     c.run-count.result c.min-n.result c.args.buf.now c.read.new.buf (omega (arith, c.min-n.ensures))

@@ -1,7 +1,8 @@
 use Rattle.std.proofs.Common.{◌≤◌, ◌+◌, length, refl, arith}
 use Rattle.std.proofs.lemmas.Result.{err_from_is_err_and}
 use Rattle.tus_action.specs.Acts.{fed, fed_patch}
-use Rattle.tus_session.proofs.Feeding.{drop_fed, reached_fed, answered_as, ended_store, fed_store, fed_found_as, stopped_as}
+use Rattle.tus_session.proofs.Feeding.{drop_fed, reached_fed, answered_as, ended_store, fed_store, fed_found_as}
+use Rattle.tus_session.proofs.Feeding.{stopped_as}
 use Rattle.tus_session.proofs.Stops.{same_stop}
 use Rattle.tus_session.proofs.Tasks.{limits_to}
 use Rattle.tus_session.proofs.Limiting.{quiet_then, limits_from, limits_both}

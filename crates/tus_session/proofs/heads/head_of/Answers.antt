@@ -9,40 +9,46 @@ use Rattle.tus_session.proofs.heads.head_of.Goals as goal
 
 pub slice_bounds-behind-count : goal.slice_bounds-behind-count
 slice_bounds-behind-count g c =
-    let j = judged_by c.indexes.result.now (bytes_of c.args.head ++ c.args.bytes.now) _ _ c.in_ok-parsed.ensures.function
+    let j = judged_by c.indexes.result.now (bytes_of c.args.head ++ c.args.bytes.now) _ _
+    c.in_ok-parsed.ensures.function
     c.in-Refused.is in
     let w = within_bytes c.indexes.result.now (bytes_of c.args.head) c.args.bytes.now c.in-Refused.taken _ j in
     omega (arith, w, c.len-had.ensures, c.saturating_sub-before.ensures)
 
 pub slice_bounds-behind-start : goal.slice_bounds-behind-start
 slice_bounds-behind-start g c =
-    let j = judged_by c.indexes.result.now (bytes_of c.args.head ++ c.args.bytes.now) _ _ c.in_ok-parsed.ensures.function
+    let j = judged_by c.indexes.result.now (bytes_of c.args.head ++ c.args.bytes.now) _ _
+    c.in_ok-parsed.ensures.function
     c.in-Refused.is in
     let w = within_bytes c.indexes.result.now (bytes_of c.args.head) c.args.bytes.now c.in-Refused.taken _ j in
     omega (arith, w, c.len-had.ensures, c.saturating_sub-before.ensures)
 
 pub request_of-requires-clause-usable : goal.request_of-requires-clause-usable
 request_of-requires-clause-usable g c w stands =
-    let j = judged_by c.indexes.result.now (bytes_of c.args.head ++ c.args.bytes.now) _ _ c.in_ok-parsed.ensures.function
+    let j = judged_by c.indexes.result.now (bytes_of c.args.head ++ c.args.bytes.now) _ _
+    c.in_ok-parsed.ensures.function
     c.in-Head.is in
     usable w (bytes_of c.args.head ++ c.args.bytes.now) c.in-Head.taken _ (in_world w c.indexes.result.now _ _
     (c.indexes.ensures w stands) j)
 
 pub request_of-requires-clause-makeable : goal.request_of-requires-clause-makeable
 request_of-requires-clause-makeable g c =
-    let j = judged_by c.indexes.result.now (bytes_of c.args.head ++ c.args.bytes.now) _ _ c.in_ok-parsed.ensures.function
+    let j = judged_by c.indexes.result.now (bytes_of c.args.head ++ c.args.bytes.now) _ _
+    c.in_ok-parsed.ensures.function
     c.in-Head.is in
     makeable c.indexes.result.now (bytes_of c.args.head ++ c.args.bytes.now) c.in-Head.taken _ j
 
 pub request_of-requires-clause-small : goal.request_of-requires-clause-small
 request_of-requires-clause-small g c =
-    let j = judged_by c.indexes.result.now (bytes_of c.args.head ++ c.args.bytes.now) _ _ c.in_ok-parsed.ensures.function
+    let j = judged_by c.indexes.result.now (bytes_of c.args.head ++ c.args.bytes.now) _ _
+    c.in_ok-parsed.ensures.function
     c.in-Head.is in
     small c.indexes.result.now (bytes_of c.args.head ++ c.args.bytes.now) c.in-Head.taken _ j
 
 pub request_of-requires-clause-within : goal.request_of-requires-clause-within
 request_of-requires-clause-within g c =
-    let j = judged_by c.indexes.result.now (bytes_of c.args.head ++ c.args.bytes.now) _ _ c.in_ok-parsed.ensures.function
+    let j = judged_by c.indexes.result.now (bytes_of c.args.head ++ c.args.bytes.now) _ _
+    c.in_ok-parsed.ensures.function
     c.in-Head.is in
     let w = within_bytes c.indexes.result.now (bytes_of c.args.head) c.args.bytes.now c.in-Head.taken _ j in
     omega (arith, w, c.len-had.ensures, c.saturating_sub-before-in-Head.ensures)
@@ -52,7 +58,8 @@ request_of-requires-clause-cleared g c = rw c.in-Head.is at c.in_ok-parsed.ensur
 
 pub returns-in-More-clause-answer : goal.returns-in-More-clause-answer
 returns-in-More-clause-answer g c w conn stands inside =
-    let j = judged_by c.indexes.result.now (bytes_of c.args.head ++ c.args.bytes.now) _ _ c.in_ok-parsed.ensures.function
+    let j = judged_by c.indexes.result.now (bytes_of c.args.head ++ c.args.bytes.now) _ _
+    c.in_ok-parsed.ensures.function
     c.in-More.is in
     more_told g.U.Uploads _ _ _ _ w conn (bytes_of c.args.head) c.args.bytes.now
     (record { head = c.read.new.self; left = 0; task = Idle }) stands inside
@@ -61,7 +68,8 @@ returns-in-More-clause-answer g c w conn stands inside =
 
 pub returns-in_ok-reply_refused-in-Refused-clause-answer : goal.returns-in_ok-reply_refused-in-Refused-clause-answer
 returns-in_ok-reply_refused-in-Refused-clause-answer g c w conn stands inside =
-    let j = judged_by c.indexes.result.now (bytes_of c.args.head ++ c.args.bytes.now) _ _ c.in_ok-parsed.ensures.function
+    let j = judged_by c.indexes.result.now (bytes_of c.args.head ++ c.args.bytes.now) _ _
+    c.in_ok-parsed.ensures.function
     c.in-Refused.is in
     let r : Refusal = record {
       fault = c.in-Refused.fault;
@@ -85,7 +93,8 @@ returns-in_ok-reply_refused-in-Refused-clause-answer g c w conn stands inside =
 
 pub returns-in-Head-clause-answer : goal.returns-in-Head-clause-answer
 returns-in-Head-clause-answer g c w conn stands inside =
-    let j = judged_by c.indexes.result.now (bytes_of c.args.head ++ c.args.bytes.now) _ _ c.in_ok-parsed.ensures.function
+    let j = judged_by c.indexes.result.now (bytes_of c.args.head ++ c.args.bytes.now) _ _
+    c.in_ok-parsed.ensures.function
     c.in-Head.is in
     c.request_of.ensures.answer w conn (bytes_of c.args.head) c.in-Head.taken stands (record {
       inside = inside;
@@ -95,7 +104,8 @@ returns-in-Head-clause-answer g c w conn stands inside =
 
 pub returns-in-Head-clause-crash : goal.returns-in-Head-clause-crash
 returns-in-Head-clause-crash g c w conn stands inside =
-    let j = judged_by c.indexes.result.now (bytes_of c.args.head ++ c.args.bytes.now) _ _ c.in_ok-parsed.ensures.function
+    let j = judged_by c.indexes.result.now (bytes_of c.args.head ++ c.args.bytes.now) _ _
+    c.in_ok-parsed.ensures.function
     c.in-Head.is in
     c.request_of.ensures.crash w conn (bytes_of c.args.head) c.in-Head.taken stands (record {
       inside = inside;
@@ -105,7 +115,8 @@ returns-in-Head-clause-crash g c w conn stands inside =
 
 pub returns-in-Head-clause-unmade : goal.returns-in-Head-clause-unmade
 returns-in-Head-clause-unmade g c w conn stands inside none_left =
-    let j = judged_by c.indexes.result.now (bytes_of c.args.head ++ c.args.bytes.now) _ _ c.in_ok-parsed.ensures.function
+    let j = judged_by c.indexes.result.now (bytes_of c.args.head ++ c.args.bytes.now) _ _
+    c.in_ok-parsed.ensures.function
     c.in-Head.is in
     c.request_of.ensures.unmade w conn (bytes_of c.args.head) c.in-Head.taken stands (record {
       inside = inside;

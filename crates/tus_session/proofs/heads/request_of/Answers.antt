@@ -41,7 +41,8 @@ returns-in-None-clause-answer g c w conn h n stands is =
           c.requires.cleared left.1
       | inr some ↦
           let left = c.without_patch.ensures.text some.0 some.1 in
-          let turn = text_told w conn h c.args.bytes.now n c.args.before _ is g.U.Uploads _ c.in_ok-acted.acted some.0 _ _
+          let turn = text_told w conn h c.args.bytes.now n c.args.before _ is g.U.Uploads _ c.in_ok-acted.acted some.0
+          _ _
           (record {
             head = c.args.head;
             left = 0;
@@ -82,7 +83,8 @@ returns-in-Ok-clause-answer g c w conn h n stands is =
     let k : Link g.row.U-Draft.Denot = record { head = c.args.head; left = 0; task = Idle } in
     let all : 0 + r.length ≡ r.length = omega arith in
     rw c.in-Ok.is at
-    (patch_opened U w conn h bytes n c.args.before r is x b f.0 f.1 reached refl refl below c.body_of.new.store c.args.out.now.items c.act.new.out.items c.body_of.new.out.items
+    (patch_opened U w conn h bytes n c.args.before r is x b f.0 f.1 reached refl refl below c.body_of.new.store
+    c.args.out.now.items c.act.new.out.items c.body_of.new.out.items
     c.body_of.new.out.items k c.requires.cleared done.bytes c.body_of.result _
     (slice_is c.args.before bytes)
     (λ few. c.body_of.ensures.part few v0 p shown found f.1 (omega arith))
@@ -149,13 +151,15 @@ returns-in-Err-clause-answer g c w conn h n stands is =
     let k : Link g.row.U-Draft.Denot = record { head = c.args.head; left = 0; task = Idle } in
     let all : 0 + r.length ≡ r.length = omega arith in
     rw c.in-Err.is at
-    (patch_opened U w conn h bytes n c.args.before r is x b f.0 f.1 reached refl refl below c.body_of.new.store c.args.out.now.items c.act.new.out.items c.body_of.new.out.items
+    (patch_opened U w conn h bytes n c.args.before r is x b f.0 f.1 reached refl refl below c.body_of.new.store
+    c.args.out.now.items c.act.new.out.items c.body_of.new.out.items
     c.truncate.new.self.items k c.requires.cleared done.bytes c.body_of.result _ (slice_is c.args.before bytes)
     (λ few. c.body_of.ensures.part few v0 p shown found f.1 (omega arith))
     (λ few. c.body_of.ensures.part_out few)
     (λ enough. c.body_of.ensures.rest enough v0 p r shown found f.1 all whole refl refl)
     (subst (λ a. OutIs a c.args.out.now.items c.body_of.new.out.items c.truncate.new.self.items) (sym c.in-Err.is)
-    (taken_back U w conn h bytes n c.args.before r is x b f.0 f.1 reached refl refl below c.body_of.new.store c.args.out.now.items c.act.new.out.items c.body_of.new.out.items
+    (taken_back U w conn h bytes n c.args.before r is x b f.0 f.1 reached refl refl below c.body_of.new.store
+    c.args.out.now.items c.act.new.out.items c.body_of.new.out.items
     c.truncate.new.self.items k c.requires.cleared done.bytes c.in-Err.stop _ c.len-start.result
     (λ few. c.body_of.ensures.part_out few)
     (λ enough. rw c.in-Err.is at (c.body_of.ensures.rest enough v0 p r shown found f.1 all whole refl refl))

@@ -20,7 +20,8 @@ returns-in_err-next-clause-answer g c st stands =
     let stop = err_from_is_err_and c.from_residual-in_err-next.result c.from_residual-in_err-next.ensures.1 in
     let o = c.in_ok-link.ensures.open c.args.store.now st stands in
     rw (stop.1, stop.2)
-    (stopped g.U.Uploads _ _ _ _ st (Came c.args.conn c.args.bytes.now) o.0 stands tt o.1 (came_turn st.world o.0 c.args.bytes.now)
+    (stopped g.U.Uploads _ _ _ _ st (Came c.args.conn c.args.bytes.now) o.0 stands tt o.1 (came_turn st.world o.0
+    c.args.bytes.now)
     c.in_err-next.field-0.0 _ _ c.in_ok-link.ensures.taken
     (c.in_err-next.ensures.answer st.world o.0 stands.shown o.2))
 
