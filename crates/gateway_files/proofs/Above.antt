@@ -116,9 +116,8 @@ untold x None r e t = refl
 untold x (Some y) None e t = absurd t
 untold x (Some y) (Some r) e t = absurd (cc)
 
-pub told_none : (long : Bool) (x : IndexSet) (whole out : List ℕ) (xs : List (ℕ × Upload)) (n : ℕ) (r : Option (Bor
-    Record))
-    → r ≡ None → TellsOf x (above n xs) (option_copied r)
+pub told_none : (long : Bool) (x : IndexSet) (whole out : List ℕ) (xs : List (ℕ × Upload)) (n : ℕ)
+    (r : Option (Bor Record)) → r ≡ None → TellsOf x (above n xs) (option_copied r)
     → out ++ flat_map (upload_line long x) (after n xs) ≡ whole → out ≡ whole
 told_none long x whole out xs n r e t before =
     told_all (upload_line long x) whole out xs n
@@ -129,15 +128,14 @@ pub told : (x : IndexSet) (o : Option (ℕ × Upload)) (r : Record) → TellsOf 
 told x None r t = absurd t
 told x (Some entry) r t = (entry, refl, t)
 
-pub told_next : (long : Bool) (x : IndexSet) (whole out more : List ℕ) (xs : List (ℕ × Upload)) (n : ℕ) (r : Option
-    (Bor Record))
-    (now : Bor Record) → IsRising (numbers xs) → r ≡ Some now → TellsOf x (above n xs) (option_copied r)
+pub told_next : (long : Bool) (x : IndexSet) (whole out more : List ℕ) (xs : List (ℕ × Upload)) (n : ℕ)
+    (r : Option (Bor Record)) (now : Bor Record) → IsRising (numbers xs) → r ≡ Some now → TellsOf x (above n xs) (option_copied r)
     → out ++ flat_map (upload_line long x) (after n xs) ≡ whole → more ≡ out ++ record_line long now.now
     → more ++ flat_map (upload_line long x) (after now.now.number xs) ≡ whole
 told_next long x whole out more xs n r now rising e t before pushed =
     let it = told x (above n xs) now.now (subst (λ o. TellsOf x (above n xs) (option_copied o)) e t) in
     ap (λ l. l ++ flat_map (upload_line long x) (after now.now.number xs)) pushed
-    ∙ (ap (λ l. (out ++ l) ++ flat_map (upload_line long x) (after now.now.number xs)) (record_is long x now.now it.0
-    it.2)
+    ∙ (ap (λ l. (out ++ l) ++ flat_map (upload_line long x) (after now.now.number xs))
+    (record_is long x now.now it.0 it.2)
     ∙ (ap (λ k. (out ++ upload_line long x it.0) ++ flat_map (upload_line long x) (after k xs)) it.2.number_is
     ∙ told_more (upload_line long x) whole out xs n it.0 rising it.1 before))

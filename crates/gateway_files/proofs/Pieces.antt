@@ -33,8 +33,8 @@ pub quiet_both : (m0 m1 m2 : ℕ) (l0 l1 l2 : Option ℕ → ℕ → List Store 
     → Quiet m1 m2 l1 l2 → Quiet m0 m2 l0 l2
 quiet_both m0 m1 m2 l0 l1 l2 a b = record {
   later = let x = a.later in let y = b.later in omega (arith, x, y);
-  keeps = λ blocks t ms le left. let x = a.later in b.keeps blocks t ms (omega (arith, le, x)) (a.keeps blocks t ms le
-      left);
+  keeps = λ blocks t ms le left.
+      let x = a.later in b.keeps blocks t ms (omega (arith, le, x)) (a.keeps blocks t ms le left);
 }
 
 -- a call that writes nothing that a text owns leaves the uploads that it found

@@ -1,7 +1,6 @@
 -- Which texts are to be written, and the names of their files.
 use Rattle.std.specs.Prelude.{ℕ, Bool, false, not, ◌&&◌, ◌||◌, List, [], ◌∷◌, ◌++◌, codes, decimal, bytes_eq}
-use Rattle.std.specs.Prelude.{option_map}
-use Rattle.std.specs.Prelude.{if◌then◌else◌, Option, Some, None, string_bytes}
+use Rattle.std.specs.Prelude.{if◌then◌else◌, Option, Some, None, option_map, string_bytes}
 use Rattle.std.specs.List.{list_any}
 use Rattle.upload_rules.specs.Store.{Store, Upload, is_complete}
 use Rattle.gateway_files.specs.Naming.{given_name, is_safe_name}

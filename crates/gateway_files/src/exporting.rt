@@ -213,8 +213,8 @@ fn write_text<F: Folder, U: Uploads>(
 
 // Says what became of an upload.
 fn say_outcome<W: Write>(writer: &mut W, number: u64, outcome: Outcome) -> io::Result<()>
-    ensures { OnOk result
-        (Appends (W.contents writer.old) (W.contents writer.new) (outcome_line number outcome.entry)) }
+    ensures { OnOk result (Appends (W.contents writer.old) (W.contents writer.new)
+        (outcome_line number outcome.entry)) }
 {
     match outcome {
         Outcome::Exported(name) => writeln!(writer, "exported {number} {name}"),

@@ -1,5 +1,4 @@
-//! Spools in files: made, listed, exported and upgraded; and what the program says, of what it did and where that
-//! fails.
+//! Spools in files: made, listed, exported and upgraded; and what is said of what was done, and where that fails.
 #![tactic(auto)]
 
 mod copies;

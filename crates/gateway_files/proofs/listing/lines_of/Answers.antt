@@ -11,14 +11,14 @@ loop-init g c w stands order =
 pub returns-in_default : goal.returns-in_default
 returns-in_default g c = record {
   lines = λ w stands order.
-      told_none c.args.long w.store.indexes (lines_of c.args.long w.store) (string_bytes c.loop.lines) w.store.uploads
-      c.loop.number _
+      told_none c.args.long w.store.indexes (lines_of c.args.long w.store) (string_bytes c.loop.lines)
+      w.store.uploads c.loop.number _
       c.in_default.is (c.record_after.ensures w stands) (c.loop.invariant w stands order);
 }
 
 pub loop-preserved : goal.loop-preserved
 loop-preserved g c w stands order =
-    told_next c.args.long w.store.indexes (lines_of c.args.long w.store) (string_bytes c.loop.lines) (string_bytes
-    c.push_line.new.lines)
+    told_next c.args.long w.store.indexes (lines_of c.args.long w.store) (string_bytes c.loop.lines)
+    (string_bytes c.push_line.new.lines)
     w.store.uploads c.loop.number _ c.in-Some.record order.rising c.in-Some.is (c.record_after.ensures w stands)
     (c.loop.invariant w stands order) c.in_ok-push_line.ensures
