@@ -33,8 +33,7 @@ told_of long metadata = if long then metadata else []
 abbrev pub line : ℕ → ℕ → Option ℕ → ℕ → Encoding → Encoding → Mode → List ℕ → List ℕ
 line number accepted declared text_len from to mode metadata =
     decimal number ++ (32 ∷ (decimal accepted ++ (47 ∷ (length_text declared ++ (32 ∷ (decimal text_len ++ (32 ∷
-    (name_of
-    from ++ (32 ∷ (name_of to ++ (32 ∷ (mode_text mode ++ (spaced metadata ++ (10 ∷ []))))))))))))))
+    (name_of from ++ (32 ∷ (name_of to ++ (32 ∷ (mode_text mode ++ (spaced metadata ++ (10 ∷ []))))))))))))))
 
 -- THE LINE of an upload, with its metadata or without
 abbrev pub upload_line : Bool → IndexSet → ℕ × Upload → List ℕ

@@ -32,7 +32,8 @@ returns-in-None-clause-answer g c w conn h n stands is =
     elim (none_or c.in_ok-acted.acted.giving) [
       | inl none ↦
           let left = c.without_patch.ensures.nothing none in
-          nothing_told w conn h c.args.bytes.now n c.args.before _ is g.U.Uploads _ _ _ c.in_ok-acted.acted _ _ (record {
+          nothing_told w conn h c.args.bytes.now n c.args.before _ is g.U.Uploads _ _ _ c.in_ok-acted.acted _ _
+          (record {
             head = c.args.head;
             left = 0;
             task = Idle;
