@@ -6,10 +6,11 @@ use Rattle.upload_rules.specs.declared.errors.UploadError.{UploadError}
 use Rattle.upload_rules.specs.declared.errors.UploadError.TheVariants.{NoMemory, DiskFault, Refused}
 use Rattle.upload_rules.specs.declared.uploads.Uploads.{Ghosts}
 use Rattle.tus_action.specs.Faults.{stop_of, fault_of}
-use Rattle.tus_action.specs.Serves.{Feeds, Serves, RepliesTo}
+use Rattle.tus_action.specs.Serves.{FeedsDraft, Finishes, Serves, RepliesOnly, RepliesTo}
 use Rattle.tus_action.specs.declared.acts.Stop.{Stop}
 use Rattle.tus_action.specs.declared.acts.Stop.TheVariants as Stops
-use Rattle.tus_action.specs.declared.acts.Acted as code
+use Rattle.tus_action.specs.declared.acts.Done as code
+use Rattle.tus_action.specs.declared.acts.Done.TheVariants as done
 use Rattle.tus_request.specs.Replies.{reply_refused}
 use Rattle.std.proofs.Math.Seq.{take-append_seam}
 use Rattle.std.specs.Prelude.{IsErrOf}
@@ -77,7 +78,7 @@ some_items b list is not_empty none = let e : true ≡ false =
 pub fed_gone : {U B : Type 0} (u : Ghosts U B) (store next : U) (w : World) (e : UploadError) (d d' : ℕ) (w' : World)
     (p : Patch) (done : Unit {0} → Type 0)
     → Answers {T = Unit {0}} None (Err e) done (u.stands store w)
-    → (u.stands store w → u.stands next (dropped w d')) → d' ≡ d → Feeds u next (Err (stop_of e)) (dropped w d) w' d p
+    → (u.stands store w → u.stands next (dropped w d')) → d' ≡ d → FeedsDraft u next (Err (stop_of e)) (dropped w d) w' d p
 fed_gone u store next w NoMemory d d' w' p done a drops same = subst (λ x. u.stands next (dropped w x)) same (drops a.1)
 fed_gone u store next w DiskFault d d' w' p done a drops same = tt {0}
 fed_gone u store next w (Refused f) d d' w' p done a drops same = let e : None ≡ Some f = a.0 in absurd (cc)
@@ -87,40 +88,75 @@ pub taken_back : {A : Type 0} (old more new : List A) (n : ℕ) → n ≡ length
 taken_back old more new n is e = e ∙ (ap (λ k. take k (old ++ more)) is ∙ take-append_seam old more)
 
 -- a call on the uploads that gave no answer, where its refusal changes nothing but what is gone
-pub refused_serves : {U B : Type 0} (u : Ghosts U B) (store : U) (gone : World) (m : Option UploadRefusal → Acted)
+pub refused_finishes : {U B : Type 0} (u : Ghosts U B) (store : U) (gone : World) (m : Option UploadRefusal → Acted)
     (refusal : Option UploadRefusal) (e : UploadError)
-    (result : Result (code.Acted B) Stop) (on_files bare closes : Bool) (old new : List ℕ) {T : Type 0}
+    (result : Result (Unit {0}) Stop) (on_files bare closes : Bool) (old new : List ℕ) {T : Type 0}
     (done : T → Type 0)
     → ((f : UploadRefusal) → m (Some f) ≡ replied gone (reply_refused (fault_of f) on_files bare closes) closes)
     → Answers {T = T} refusal (Err e) done (u.stands store gone) → RepliesTo result e on_files bare closes old new
+    → Finishes u store result old new gone (m refusal)
+refused_finishes u store gone m refusal (Refused f) (Ok a) on_files bare closes old new done replies_to answered replies
+    =
+    subst (λ x. Finishes u store (Ok a) old new gone (m x)) (sym answered.0)
+    (subst (λ x. Finishes u store (Ok a) old new gone x) (sym (replies_to f)) (answered.1, replies))
+refused_finishes u store gone m refusal (Refused f) (Err Stops.NoMemory) on_files bare closes old new done replies_to
+    answered replies = (answered.1, replies)
+refused_finishes u store gone m refusal (Refused f) (Err Stops.DiskFault) on_files bare closes old new done replies_to
+    answered replies = absurd replies
+refused_finishes u store gone m refusal NoMemory (Err Stops.NoMemory) on_files bare closes old new done replies_to
+    answered replies = (answered.1, replies)
+refused_finishes u store gone m refusal NoMemory (Err Stops.DiskFault) on_files bare closes old new done replies_to
+    answered replies = absurd replies
+refused_finishes u store gone m refusal NoMemory (Ok a) on_files bare closes old new done replies_to answered replies =
+    absurd replies
+refused_finishes u store gone m refusal DiskFault (Err Stops.NoMemory) on_files bare closes old new done replies_to
+    answered replies = absurd replies
+refused_finishes u store gone m refusal DiskFault (Err Stops.DiskFault) on_files bare closes old new done replies_to
+    answered replies = replies
+refused_finishes u store gone m refusal DiskFault (Ok a) on_files bare closes old new done replies_to answered replies =
+    absurd replies
+
+-- the same at a request's head
+pub refused_serves : {U B : Type 0} (u : Ghosts U B) (store : U) (gone : World) (m : Option UploadRefusal → Acted)
+    (refusal : Option UploadRefusal) (e : UploadError)
+    (result : Result (code.Done B) Stop) (on_files bare closes : Bool) (old new : List ℕ) {T : Type 0}
+    (done : T → Type 0)
+    → ((f : UploadRefusal) → m (Some f) ≡ replied gone (reply_refused (fault_of f) on_files bare closes) closes)
+    → Answers {T = T} refusal (Err e) done (u.stands store gone) → RepliesOnly result e on_files bare closes old new
     → Serves u store result old new gone (m refusal)
-refused_serves u store gone m refusal (Refused f) (Ok a) on_files bare closes old new done replies_to answered replies =
+refused_serves u store gone m refusal (Refused f) (Ok a) on_files bare closes old new done replies_to answered refuses =
     subst (λ x. Serves u store (Ok a) old new gone (m x)) (sym answered.0)
     (subst (λ x. Serves u store (Ok a) old new gone x) (sym (replies_to f))
     (subst (λ x. Serves u store (Ok x) old new gone
-    (replied gone (reply_refused (fault_of f) on_files bare closes) closes)) (sym replies.0)
-    (record { stands = answered.1; draft = tt {0}; giving = tt {0}; closes = refl; bytes = replies.1 })))
-refused_serves u store gone m refusal (Refused f) (Err Stops.NoMemory) on_files bare closes old new done replies_to
-    answered replies = (answered.1, replies)
-refused_serves u store gone m refusal (Refused f) (Err Stops.DiskFault) on_files bare closes old new done replies_to
-    answered replies = absurd replies
-refused_serves u store gone m refusal NoMemory (Err Stops.NoMemory) on_files bare closes old new done replies_to
-    answered replies = (answered.1, replies)
-refused_serves u store gone m refusal NoMemory (Err Stops.DiskFault) on_files bare closes old new done replies_to
-    answered replies = absurd replies
-refused_serves u store gone m refusal NoMemory (Ok a) on_files bare closes old new done replies_to answered replies =
-    absurd replies
-refused_serves u store gone m refusal DiskFault (Err Stops.NoMemory) on_files bare closes old new done replies_to
-    answered replies = absurd replies
-refused_serves u store gone m refusal DiskFault (Err Stops.DiskFault) on_files bare closes old new done replies_to
-    answered replies = replies
-refused_serves u store gone m refusal DiskFault (Ok a) on_files bare closes old new done replies_to answered replies =
-    absurd replies
+    (replied gone (reply_refused (fault_of f) on_files bare closes) closes)) (sym refuses.nothing)
+    (record { stands = answered.1; draft = tt {0}; giving = tt {0}; closes = refl; bytes = refuses.replies })))
+refused_serves u store gone m refusal NoMemory (Ok a) on_files bare closes old new done replies_to answered refuses =
+    absurd refuses.replies
+refused_serves u store gone m refusal DiskFault (Ok a) on_files bare closes old new done replies_to answered refuses =
+    absurd refuses.replies
+refused_serves {B = B} u store gone m refusal e (Err stop) on_files bare closes old new done replies_to answered refuses
+    =
+    stops_as stop (refused_finishes u store gone m refusal e (Err stop) on_files bare closes old new done replies_to
+    answered (replies_as e stop refuses.replies))
+  where
+    stops_as : (s : Stop) → Finishes u store (Err s) old new gone (m refusal)
+        → Serves u store (Err s) old new gone (m refusal)
+    stops_as Stops.NoMemory is = is
+    stops_as Stops.DiskFault is = is
+
+    replies_as : (x : UploadError) (s : Stop) → RepliesTo {T = code.Done B} (Err s) x on_files bare closes old new
+        → RepliesTo {T = Unit {0}} (Err s) x on_files bare closes old new
+    replies_as (Refused f) Stops.NoMemory is = is
+    replies_as (Refused f) Stops.DiskFault is = is
+    replies_as NoMemory Stops.NoMemory is = is
+    replies_as NoMemory Stops.DiskFault is = is
+    replies_as DiskFault Stops.NoMemory is = is
+    replies_as DiskFault Stops.DiskFault is = is
 
 -- refused for memory, by the call itself or behind its refusal: nothing was made
 pub nothing_made : {m0 m1 : ℕ} {l0 l1 : Option ℕ → ℕ → List Store → Type 0} {B T : Type 0} (before after : Store)
     (refusal : Option UploadRefusal) (e : UploadError)
-    (result : Result (code.Acted B) Stop) (on_files bare closes : Bool) (old new : List ℕ) (done : T → Type 0)
+    (result : Result B Stop) (on_files bare closes : Bool) (old new : List ℕ) (done : T → Type 0)
     (same : Type 0)
     → Answers {T = T} refusal (Err e) done same → RepliesTo result e on_files bare closes old new
     → IsErrOf result Stops.NoMemory

@@ -12,6 +12,7 @@ use Rattle.tus_request.specs.Requests.{Request}
 use Rattle.tus_request.specs.Replies.{reply_text}
 use Rattle.tus_action.specs.Acts.{Acted, Giving, piece_size, pending_of, pending_after, is_pending, get}
 use Rattle.tus_action.specs.Serves.{GivesAs, IsGiving, GivingIs, DraftIs, ActedAs, Serves, GivesPiece, replied_giving}
+use Rattle.tus_action.specs.Serves.{draft_in, giving_in, closes_in}
 use Rattle.tus_action.specs.declared.acts.Giving as given
 use Rattle.tus_action.specs.declared.acts.Stop.{Stop}
 use Rattle.tus_action.specs.declared.acts.Stop.TheVariants as Stops
@@ -47,21 +48,21 @@ starts m n rec up closes below found tells = record {
 
 given_closes : (B : Type 0) (m : Store) (left : Option given.Giving) (p : Option Giving) (closes : Bool)
     → GivingIs m left p
-    → (replied_giving {B = B} left closes).closes ≡ (if is_pending p then false else closes)
+    → closes_in (replied_giving {B = B} left closes) ≡ (if is_pending p then false else closes)
 given_closes B m None None closes is = refl
 given_closes B m (Some g) (Some h) closes is = refl
 given_closes B m None (Some h) closes is = absurd is
 given_closes B m (Some g) None closes is = absurd is
 
 given_is : (B : Type 0) (m : Store) (left : Option given.Giving) (p : Option Giving) (closes : Bool) → GivingIs m left p
-    → GivingIs m (replied_giving {B = B} left closes).giving p
+    → GivingIs m (giving_in (replied_giving {B = B} left closes)) p
 given_is B m None None closes is = is
 given_is B m (Some g) (Some h) closes is = is
 given_is B m None (Some h) closes is = absurd is
 given_is B m (Some g) None closes is = absurd is
 
 no_draft : {U B : Type 0} (u : Ghosts U B) (w : World) (left : Option given.Giving) (closes : Bool)
-    → DraftIs u w (replied_giving {B = B} left closes).draft None
+    → DraftIs u w (draft_in (replied_giving {B = B} left closes)) None
 no_draft u w None closes = tt {0}
 no_draft u w (Some g) closes = tt {0}
 

@@ -1,6 +1,6 @@
 -- How a call that acts on the uploads stands to the rules.
 use Rattle.std.specs.Prelude.{◌≡◌, ◌≤◌, ◌<◌, ◌+◌, nat_le, if◌then◌else◌, ℕ, Bool, true, false, List, ◌++◌, length, take}
-use Rattle.std.specs.Prelude.{drop, Option, Some, None, Result, Ok, Err}
+use Rattle.std.specs.Prelude.{drop, Option, Some, None, Result, Ok, Err, IfOk}
 use Rattle.upload_rules.specs.Store.{Store, Upload, upload_of, text_of, find}
 use Rattle.upload_rules.specs.World.{Patch, World, is_there}
 use Rattle.upload_rules.specs.declared.uploads.Uploads.{Ghosts}
@@ -11,7 +11,9 @@ use Rattle.upload_rules.specs.declared.errors.UploadError.TheVariants as errors
 use Rattle.tus_request.specs.Replies.{reply_refused}
 use Rattle.tus_action.specs.Faults.{fault_of}
 use Rattle.tus_action.specs.Acts.{Acted, Giving, new_of, piece_of, pending_after}
-use Rattle.tus_action.specs.declared.acts.Acted as code
+use Rattle.tus_action.specs.declared.acts.Done as code
+use Rattle.tus_action.specs.declared.acts.Done.TheVariants as done
+use Rattle.tus_action.specs.declared.bodies.OpenPatch.{OpenPatch}
 use Rattle.tus_action.specs.declared.acts.Giving as given
 use Rattle.tus_action.specs.declared.acts.Given.{Given}
 use Rattle.tus_action.specs.declared.acts.Given.TheVariants.{Piece, Last, Gone}
@@ -45,29 +47,70 @@ GivingIs m None None = Unit {0}
 GivingIs m (Some g) (Some h) = IsGiving m g h
 GivingIs m _ _ = ⊥
 
+-- what is open now, and whether the connection closes
+abbrev pub draft_in : {B : Type 0} → code.Done B → Option B
+draft_in (done.Replied closes) = None
+draft_in (done.Opened b) = Some b
+draft_in (done.Giving g) = None
+
+abbrev pub giving_in : {B : Type 0} → code.Done B → Option given.Giving
+giving_in (done.Replied closes) = None
+giving_in (done.Opened b) = None
+giving_in (done.Giving g) = Some g
+
+abbrev pub closes_in : {B : Type 0} → code.Done B → Bool
+closes_in (done.Replied closes) = closes
+closes_in (done.Opened b) = false
+closes_in (done.Giving g) = false
+
 -- what was done is what the rules say
-pub record ActedAs {U B : Type 0} (u : Ghosts U B) (store : U) (a : code.Acted B) (old new : List ℕ) (m : Acted) : Type
-    0 where
-  pub stands : u.stands store m.world
-  pub draft : DraftIs u m.world a.draft m.draft
-  pub giving : GivingIs m.world.store a.giving m.pending
-  pub closes : a.closes ≡ m.closes
-  pub bytes : new ≡ old ++ m.bytes
+pub record ActedAs {U B : Type 0} (u : Ghosts U B) (store : U) (a : code.Done B) (old new : List ℕ) (m : Acted) : Type 0
+  where
+    pub stands : u.stands store m.world
+    pub draft : DraftIs u m.world (draft_in a) m.draft
+    pub giving : GivingIs m.world.store (giving_in a) m.pending
+    pub closes : closes_in a ≡ m.closes
+    pub bytes : new ≡ old ++ m.bytes
 
 -- It is done as the rules say. Or memory was wanting, and the store stands for the world without what was begun, and
 -- nothing was written.
 -- Or the device failed, and nothing was written.
-abbrev pub Serves : {U B : Type 0} → Ghosts U B → U → Result (code.Acted B) Stop → List ℕ → List ℕ → World → Acted
-    → Type 0
+abbrev pub Serves : {U B : Type 0} → Ghosts U B → U → Result (code.Done B) Stop → List ℕ → List ℕ → World → Acted → Type 0
 Serves u store (Ok a) old new gone m = ActedAs u store a old new m
 Serves u store (Err NoMemory) old new gone m = u.stands store gone × (new ≡ old)
 Serves u store (Err DiskFault) old new gone m = new ≡ old
 
 -- a body's bytes are taken: the draft goes on, or memory was wanting and it is gone, or the device failed
-abbrev pub Feeds : {U B : Type 0} → Ghosts U B → U → Result B Stop → World → World → ℕ → Patch → Type 0
-Feeds u store (Ok b) gone w d p = (u.number_of b ≡ d) × u.holds b p × (find d w.patches ≡ Some p) × u.stands store w
-Feeds u store (Err NoMemory) gone w d p = u.stands store gone
-Feeds u store (Err DiskFault) gone w d p = Unit {0}
+abbrev pub FeedsDraft : {U B : Type 0} → Ghosts U B → U → Result B Stop → World → World → ℕ → Patch → Type 0
+FeedsDraft u store (Ok b) gone w d p =
+    (u.number_of b ≡ d) × u.holds b p × (find d w.patches ≡ Some p) × u.stands store w
+FeedsDraft u store (Err NoMemory) gone w d p = u.stands store gone
+FeedsDraft u store (Err DiskFault) gone w d p = Unit {0}
+
+-- the patch goes on: the same but for its draft, which has the number that it had
+pub record Fed {U B : Type 0} (u : Ghosts U B) (store : U) (b b' : OpenPatch B) (w : World) (p : Patch) : Type 0
+  where
+    pub number : u.number_of b'.draft ≡ u.number_of b.draft
+    pub holds : u.holds b'.draft p
+    pub found : find (u.number_of b.draft) w.patches ≡ Some p
+    pub shown : u.stands store w
+    pub reached : b'.reached ≡ b.reached
+    pub bare : b'.bare ≡ b.bare
+    pub closes : b'.closes ≡ b.closes
+
+-- or memory was wanting and the draft is gone, or the device failed
+abbrev pub Feeds : {U B : Type 0} → Ghosts U B → U → Result (OpenPatch B) Stop → World → World → OpenPatch B → Patch
+    → Type 0
+Feeds u store (Ok b') gone w b p = Fed u store b b' w p
+Feeds u store (Err NoMemory) gone w b p = u.stands store gone
+Feeds u store (Err DiskFault) gone w b p = Unit {0}
+
+-- a body's end is answered: committed or refused; or memory was wanting, and the patch is gone; or the device failed
+abbrev pub Finishes : {U : Type 0} {B : Type 0} → Ghosts U B → U → Result (Unit {0}) Stop → List ℕ → List ℕ → World
+    → Acted → Type 0
+Finishes u store (Ok x) old new gone m = u.stands store m.world × (new ≡ old ++ m.bytes)
+Finishes u store (Err NoMemory) old new gone m = u.stands store gone × (new ≡ old)
+Finishes u store (Err DiskFault) old new gone m = new ≡ old
 
 -- a cut body is committed as far as it came
 abbrev pub Ends : {U B : Type 0} → Ghosts U B → U → Result (Unit {0}) Stop → World → World → Type 0
@@ -108,20 +151,21 @@ abbrev pub CanBeRead : World → Action → Type 0
 CanBeRead w (Create c) = IsOffered w.store.indexes (new_of c)
 CanBeRead w _ = Unit {0}
 
--- only a reply: nothing is open
-abbrev pub replied_only : {B : Type 0} → Bool → code.Acted B
-replied_only closes = record { draft = None; giving = None; closes = closes }
-
 -- A call on the uploads gave no answer: its refusal is replied to, unless memory is wanting; and what isn't refused
 -- stops here.
-abbrev pub RepliesTo : {B : Type 0} → Result (code.Acted B) Stop → UploadError → Bool → Bool → Bool → List ℕ → List ℕ
-    → Type 0
+abbrev pub RepliesTo : {T : Type 0} → Result T Stop → UploadError → Bool → Bool → Bool → List ℕ → List ℕ → Type 0
 RepliesTo (Ok a) (errors.Refused f) on_files bare closes old new =
-    (a ≡ replied_only closes) × (new ≡ old ++ reply_refused (fault_of f) on_files bare closes)
+    new ≡ old ++ reply_refused (fault_of f) on_files bare closes
 RepliesTo (Err NoMemory) (errors.Refused f) on_files bare closes old new = new ≡ old
 RepliesTo (Err NoMemory) errors.NoMemory on_files bare closes old new = new ≡ old
 RepliesTo (Err DiskFault) errors.DiskFault on_files bare closes old new = new ≡ old
 RepliesTo _ _ on_files bare closes old new = ⊥
+
+-- the same, and nothing is open after it
+pub record RepliesOnly {B : Type 0} (result : Result (code.Done B) Stop) (e : UploadError) (on_files bare closes : Bool)
+    (old new : List ℕ) : Type 0 where
+  pub replies : RepliesTo result e on_files bare closes old new
+  pub nothing : IfOk result (λ a. a ≡ done.Replied closes)
 
 -- what is left of a text behind so many bytes more
 abbrev pub giving_behind : given.Giving → ℕ → Option given.Giving
@@ -130,6 +174,6 @@ giving_behind g n =
     else Some (record { number = g.number; length = g.length; given = g.given + n; closes = g.closes })
 
 -- a reply whose text goes on, or one that is whole
-abbrev pub replied_giving : {B : Type 0} → Option given.Giving → Bool → code.Acted B
-replied_giving None closes = replied_only closes
-replied_giving (Some g) closes = record { draft = None; giving = Some g; closes = false }
+abbrev pub replied_giving : {B : Type 0} → Option given.Giving → Bool → code.Done B
+replied_giving None closes = done.Replied closes
+replied_giving (Some g) closes = done.Giving g

@@ -1,7 +1,7 @@
 //! What a request does at its head, and what stays open behind it.
 ghost use Rattle.std.specs.Prelude.{◌≡◌};
 ghost use Rattle.tus_action.specs.Faults.{stop_of};
-ghost use Rattle.tus_action.specs.Serves.{replied_only, replied_giving, giving_behind};
+ghost use Rattle.tus_action.specs.Serves.{replied_giving, giving_behind};
 
 use std::alloc::AllocError;
 use upload_rules::UploadError;
@@ -62,36 +62,27 @@ pub enum Given {
     Gone,
 }
 
-/// What a request did: what is open now, and whether the connection closes.
-pub struct Acted<B> {
-    /// The draft of an append whose body is to come.
-    pub draft: Option<B>,
-    /// The rest of a text.
-    pub giving: Option<Giving>,
-    /// Whether the connection closes.
-    pub closes: bool,
+/// What a request did, and what it left open.
+pub enum Done<B> {
+    /// It was answered, and nothing is open.
+    Replied {
+        /// Whether the connection closes.
+        closes: bool,
+    },
+    /// An append was begun: its body is to come.
+    Opened(B),
+    /// It was answered with a text of which more is to be given.
+    Giving(Giving),
 }
 
-impl<B> Acted<B> {
-    /// Only a reply: nothing is open.
-    pub(crate) fn replied(closes: bool) -> Self
-        ensures { result ≡ replied_only closes }
-    {
-        Acted {
-            draft: None,
-            giving: None,
-            closes,
-        }
-    }
-
+impl<B> Done<B> {
     /// A reply whose text goes on, or one that is whole.
     pub(crate) fn giving(giving: Option<Giving>, closes: bool) -> Self
         ensures { result ≡ replied_giving giving closes }
     {
-        Acted {
-            closes: closes && giving.is_none(),
-            draft: None,
-            giving,
+        match giving {
+            Some(giving) => Done::Giving(giving),
+            None => Done::Replied { closes },
         }
     }
 }

@@ -8,8 +8,8 @@ pub mod refusals;
 pub mod requests;
 mod writes;
 
-pub use acts::{Acted, Given, Giving, Stop};
-pub use bodies::{cut_body, end_body, feed_body};
+pub use acts::{Done, Given, Giving, Stop};
+pub use bodies::{OpenPatch, cut, feed, finish};
 pub use reads::{PIECE, PieceBuffer, give_more};
 pub use refusals::fault_of;
 pub use requests::act;

@@ -9,8 +9,8 @@ ghost use Rattle.tus_action.specs.Serves.{Serves, Gives, GivesPiece, IsGiving};
 ghost use Rattle.tus_action.specs.Acts.{piece_size};
 ghost use Rattle.tus_request.specs.Replies.{longest_reply, GrowsBy};
 
-use crate::acts::{Acted, Given, Giving, Stop};
-use crate::refusals::refuse;
+use crate::acts::{Done, Given, Giving, Stop};
+use crate::refusals::refused;
 use std::alloc::Global;
 use tus_request::replies::{reply_head, reply_text};
 use upload_rules::{UploadError, UploadRefusal, Uploads};
@@ -29,7 +29,7 @@ pub(crate) fn show<U: Uploads>(
     bare: bool,
     closes: bool,
     out: &mut Vec<u8>,
-) -> Result<Acted<U::Draft>, Stop>
+) -> Result<Done<U::Draft>, Stop>
     ensures answer { (w : World) (r : Request) → U.stands store.old w → bare ≡ r.bare → closes ≡ r.closes
         → Serves U.Uploads store.new result out.old.items out.new.items w (head w r (upload_of w.store number)) }
     ensures same { store.new ≡ store.old }
@@ -37,7 +37,7 @@ pub(crate) fn show<U: Uploads>(
     ensures few { GrowsBy longest_reply out.old.items out.new.items }
 {
     let Some(record) = store.record(number) else {
-        return refuse(
+        return refused(
             alloc,
             UploadError::Refused(UploadRefusal::NoSuch),
             false,
@@ -55,7 +55,7 @@ pub(crate) fn show<U: Uploads>(
         closes,
         out,
     ) {
-        Ok(()) => Ok(Acted::replied(closes)),
+        Ok(()) => Ok(Done::Replied { closes }),
         Err(_) => Err(Stop::NoMemory),
     }
 }
@@ -121,7 +121,7 @@ pub(crate) fn give_text<U: Uploads>(
     closes: bool,
     buffer: &mut PieceBuffer,
     out: &mut Vec<u8>,
-) -> Result<Acted<U::Draft>, Stop>
+) -> Result<Done<U::Draft>, Stop>
     ensures answer { (w : World) (r : Request) → U.stands store.old w → bare ≡ r.bare → closes ≡ r.closes
         → Serves U.Uploads store.new result out.old.items out.new.items w (get w r number (upload_of w.store number)) }
     ensures crash { Quiet (U.moment store.old) (U.moment store.new) (U.left_only store.old) (U.left_only store.new) }
@@ -130,7 +130,7 @@ pub(crate) fn give_text<U: Uploads>(
 {
     let Some(record) = store.record(number) else {
         let error = UploadError::Refused(UploadRefusal::NoSuch);
-        return refuse(alloc, error, false, bare, closes, out);
+        return refused(alloc, error, false, bare, closes, out);
     };
     let length = record.text_len;
     let before = out.as_slice().len();
@@ -138,7 +138,7 @@ pub(crate) fn give_text<U: Uploads>(
         return Err(Stop::NoMemory);
     };
     if bare {
-        return Ok(Acted::replied(closes));
+        return Ok(Done::Replied { closes });
     }
     let giving = Giving {
         number,
@@ -147,7 +147,7 @@ pub(crate) fn give_text<U: Uploads>(
         closes,
     };
     match next_piece(store, giving, buffer, out) {
-        Ok(left) => Ok(Acted::giving(left, closes)),
+        Ok(left) => Ok(Done::giving(left, closes)),
         Err(stop) => {
             out.truncate(before);
             Err(stop)

@@ -1,10 +1,10 @@
 //! The refusals of the uploads, as replies.
 ghost use Rattle.std.specs.Prelude.{◌≡◌, IsErrOf, ◌↔◌};
 ghost use Rattle.tus_action.specs.Faults.{fault_of as fault};
-ghost use Rattle.tus_action.specs.Serves.{RepliesTo};
+ghost use Rattle.tus_action.specs.Serves.{RepliesOnly, RepliesTo};
 ghost use Rattle.tus_request.specs.Replies.{longest_reply, GrowsBy};
 
-use crate::acts::{Acted, Stop};
+use crate::acts::{Done, Stop};
 use std::alloc::Global;
 use tus_request::Fault;
 use tus_request::replies::reply_refused;
@@ -27,14 +27,14 @@ pub fn fault_of(refusal: UploadRefusal) -> Fault
 }
 
 /// A call on the uploads gave no answer: where the rules refused it, their reply is appended to `out`.
-pub(crate) fn refuse<B>(
+pub(crate) fn refuse(
     alloc: Global,
     error: UploadError,
     on_files: bool,
     bare: bool,
     closes: bool,
     out: &mut Vec<u8>,
-) -> Result<Acted<B>, Stop>
+) -> Result<(), Stop>
     ensures answer { RepliesTo result error on_files bare closes out.old.items out.new.items }
     ensures fault { IsErrOf result Stop.DiskFault ↔ (error ≡ UploadError.DiskFault) }
     ensures few { GrowsBy longest_reply out.old.items out.new.items }
@@ -42,11 +42,30 @@ pub(crate) fn refuse<B>(
     match error {
         UploadError::Refused(refusal) => {
             match reply_refused(alloc, fault_of(refusal), on_files, bare, closes, out) {
-                Ok(()) => Ok(Acted::replied(closes)),
+                Ok(()) => Ok(()),
                 Err(_) => Err(Stop::NoMemory),
             }
         }
         UploadError::NoMemory => Err(Stop::NoMemory),
         UploadError::DiskFault => Err(Stop::DiskFault),
+    }
+}
+
+/// The same, of a call that a request made at its head: nothing is open after it.
+pub(crate) fn refused<B>(
+    alloc: Global,
+    error: UploadError,
+    on_files: bool,
+    bare: bool,
+    closes: bool,
+    out: &mut Vec<u8>,
+) -> Result<Done<B>, Stop>
+    ensures answer { RepliesOnly result error on_files bare closes out.old.items out.new.items }
+    ensures fault { IsErrOf result Stop.DiskFault ↔ (error ≡ UploadError.DiskFault) }
+    ensures few { GrowsBy longest_reply out.old.items out.new.items }
+{
+    match refuse(alloc, error, on_files, bare, closes, out) {
+        Ok(()) => Ok(Done::Replied { closes }),
+        Err(stop) => Err(stop),
     }
 }

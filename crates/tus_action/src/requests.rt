@@ -9,7 +9,7 @@ ghost use Rattle.tus_action.specs.Serves.{Serves, CanBeMade, CanBeRead};
 ghost use Rattle.tus_action.specs.Acts.{piece_size};
 ghost use Rattle.tus_request.specs.Replies.{longest_reply, GrowsBy};
 
-use crate::acts::{Acted, Stop};
+use crate::acts::{Done, Stop};
 use crate::reads::{PieceBuffer, give_text, show};
 use crate::writes::{begin, create, delete};
 use std::alloc::Global;
@@ -25,7 +25,7 @@ pub fn act<U: Uploads>(
     request: Request,
     buffer: &mut PieceBuffer,
     out: &mut Vec<u8>,
-) -> Result<Acted<U::Draft>, Stop>
+) -> Result<Done<U::Draft>, Stop>
     requires well_formed { CanBeMade (request_shown request).action }
     requires offered { (w : World) → U.stands store.old w → CanBeRead w (request_shown request).action }
     ensures answer { (w : World) → U.stands store.old w
@@ -47,10 +47,10 @@ pub fn act<U: Uploads>(
         closes,
     } = request;
     match action {
-        Action::Options => match reply_options(alloc, bare, closes, out) {
-            Ok(()) => Ok(Acted::replied(closes)),
-            Err(_) => Err(Stop::NoMemory),
-        },
+        Action::Options => {
+            reply_options(alloc, bare, closes, out)?;
+            Ok(Done::Replied { closes })
+        }
         Action::Create {
             declared,
             from,

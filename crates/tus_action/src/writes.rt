@@ -11,8 +11,8 @@ ghost use Rattle.tus_action.specs.Acts.{post, delete as deleted, patch};
 ghost use Rattle.tus_action.specs.Serves.{Serves};
 ghost use Rattle.tus_request.specs.Replies.{longest_reply, GrowsBy};
 
-use crate::acts::{Acted, Stop};
-use crate::refusals::refuse;
+use crate::acts::{Done, Stop};
+use crate::refusals::refused;
 use std::alloc::{AllocError, Global};
 use tus_request::replies::{reply_continue, reply_created, reply_deleted};
 use upload_rules::{New, Uploads};
@@ -25,7 +25,7 @@ pub(crate) fn create<U: Uploads>(
     bare: bool,
     closes: bool,
     out: &mut Vec<u8>,
-) -> Result<Acted<U::Draft>, Stop>
+) -> Result<Done<U::Draft>, Stop>
     requires well_formed { IsWellFormed new }
     requires offered { (w : World) → U.stands store.old w → IsOffered w.store.indexes new }
     ensures answer { (w : World) (r : Request) → U.stands store.old w → bare ≡ r.bare → closes ≡ r.closes
@@ -45,10 +45,10 @@ pub(crate) fn create<U: Uploads>(
         return Err(Stop::NoMemory);
     };
     match store.create(new) {
-        Ok(_number) => Ok(Acted::replied(closes)),
+        Ok(_number) => Ok(Done::Replied { closes }),
         Err(error) => {
             out.truncate(before);
-            refuse(alloc, error, true, bare, closes, out)
+            refused(alloc, error, true, bare, closes, out)
         }
     }
 }
@@ -61,7 +61,7 @@ pub(crate) fn delete<U: Uploads>(
     bare: bool,
     closes: bool,
     out: &mut Vec<u8>,
-) -> Result<Acted<U::Draft>, Stop>
+) -> Result<Done<U::Draft>, Stop>
     ensures answer { (w : World) (r : Request) → U.stands store.old w → bare ≡ r.bare → closes ≡ r.closes
         → Serves U.Uploads store.new result out.old.items out.new.items w
         (deleted w r number (terminate_refusal w number)) }
@@ -79,10 +79,10 @@ pub(crate) fn delete<U: Uploads>(
         return Err(Stop::NoMemory);
     };
     match store.terminate(number) {
-        Ok(()) => Ok(Acted::replied(closes)),
+        Ok(()) => Ok(Done::Replied { closes }),
         Err(error) => {
             out.truncate(before);
-            refuse(alloc, error, false, bare, closes, out)
+            refused(alloc, error, false, bare, closes, out)
         }
     }
 }
@@ -111,7 +111,7 @@ pub(crate) fn begin<U: Uploads>(
     expects: bool,
     closes: bool,
     out: &mut Vec<u8>,
-) -> Result<Acted<U::Draft>, Stop>
+) -> Result<Done<U::Draft>, Stop>
     ensures answer { (w : World) (r : Request) → U.stands store.old w → length ≡ r.length → bare ≡ r.bare
         → expects ≡ r.expects → closes ≡ r.closes
         → Serves U.Uploads store.new result out.old.items out.new.items w
@@ -125,14 +125,10 @@ pub(crate) fn begin<U: Uploads>(
         return Err(Stop::NoMemory);
     };
     match store.begin(number, offset, length, declare) {
-        Ok(draft) => Ok(Acted {
-            draft: Some(draft),
-            giving: None,
-            closes: false,
-        }),
+        Ok(draft) => Ok(Done::Opened(draft)),
         Err(error) => {
             out.truncate(before);
-            refuse(alloc, error, false, bare, closes || expects, out)
+            refused(alloc, error, false, bare, closes || expects, out)
         }
     }
 }

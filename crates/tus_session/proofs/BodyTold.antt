@@ -29,7 +29,7 @@ use Rattle.tus_session.specs.Bodies.{took, GoesOn, Parts, Answered, Replies, end
 use Rattle.tus_session.specs.declared.answers.Answer.{Answer}
 use Rattle.tus_action.specs.declared.acts.Stop.{Stop}
 use Rattle.tus_action.specs.declared.acts.Stop.TheVariants as stops
-use Rattle.tus_session.specs.declared.conns.Patching.{Patching}
+use Rattle.tus_action.specs.declared.bodies.OpenPatch.{OpenPatch}
 use Rattle.tus_session.specs.declared.conns.Link.{Link}
 use Rattle.tus_session.specs.declared.conns.Task.TheVariants as tasks
 use Rattle.tus_session.specs.declared.conns.Place.{Place}
@@ -73,7 +73,7 @@ module _ {U B : Type 0} (u : Ghosts U B) where
   grew_as p q (Some up) same (declare, more, is) =
       (declare, more, is ∙ ap (λ x. patched x declare more) (sym same))
 
-  module _ (w : World) (b : Patching B) (asked : Asked) (r : Request) (p : Patch)
+  module _ (w : World) (b : OpenPatch B) (asked : Asked) (r : Request) (p : Patch)
       (is : PatchesAs u w b (u.number_of b.draft) asked r p) where
     abbrev d : ℕ
     d = u.number_of b.draft
@@ -96,7 +96,7 @@ module _ {U B : Type 0} (u : Ghosts U B) where
     began_length q = length (fed_patch w d p q).began.accepted ≡ length p.began.accepted
 
     -- the patch with the bytes that came
-    patches_fed : (b' : Patching B) (q : List ℕ) → u.number_of b'.draft ≡ d → u.holds b'.draft (fed_patch w d p q)
+    patches_fed : (b' : OpenPatch B) (q : List ℕ) → u.number_of b'.draft ≡ d → u.holds b'.draft (fed_patch w d p q)
         → find d (fed w d q).patches ≡ Some (fed_patch w d p q)
         → b'.reached ≡ b.reached → b'.bare ≡ b.bare → b'.closes ≡ b.closes
         → PatchesAs u (fed w d q) b' d (longer asked q) r (fed_patch w d p q)
@@ -125,7 +125,7 @@ module _ {U B : Type 0} (u : Ghosts U B) where
         }
 
     -- the body goes on: the place, and what moved
-    pub part_here : (store : U) (place : Place B) (a : Answer) (k : Link B) (b' : Patching B) (taken : ℕ)
+    pub part_here : (store : U) (place : Place B) (a : Answer) (k : Link B) (b' : OpenPatch B) (taken : ℕ)
         (q s' : List ℕ)
         → GoesOn u store place a k b b' taken (fed w d q) (fed_patch w d p q)
         → RestIs (bytes_of k.head) k.left (InBody (longer asked q))
@@ -205,7 +205,7 @@ module _ (w : World) (s : List ℕ) (d : ℕ) (asked : Asked) (inside : (cut (re
       ∙ ap (λ o. with_acted q n (commit_with (fed w d q) d (Asks r) o)) f))
 
 module _ {U B : Type 0} (u : Ghosts U B) (store' : U) (old new : List ℕ) (w : World) (s : List ℕ)
-    (b : Patching B) (asked : Asked) (r : Request) (p : Patch)
+    (b : OpenPatch B) (asked : Asked) (r : Request) (p : Patch)
     (is : PatchesAs u w b (u.number_of b.draft) asked r p) (inside : (cut (reader w) s).rest ≡ InBody asked)
     (k : Link B) (left : ℕ)
     (none : (bytes_of k.head) ≡ []) (left_is : left ≡ body_length asked.verdict - length asked.body) where
@@ -306,7 +306,7 @@ module _ {U B : Type 0} (u : Ghosts U B) (store' : U) (old new : List ℕ) (w : 
             (rest_told (take left bytes) a (omega arith) ends (rest enough))
       ]
 
-module _ {U B : Type 0} (u : Ghosts U B) (w : World) (conn : Conn) (k : Link B) (b : Patching B)
+module _ {U B : Type 0} (u : Ghosts U B) (w : World) (conn : Conn) (k : Link B) (b : OpenPatch B)
     (is : IsPatching u w (cut (reader w) conn.stream).rest b conn.draft conn.pending)
     (kept : RestIs (bytes_of k.head) k.left (cut (reader w) conn.stream).rest) where
   abbrev pub own_of : ℕ

@@ -10,10 +10,9 @@ use Rattle.upload_rules.specs.Calls.{longer, appended_at, dropped, commit_refusa
 use Rattle.upload_rules.specs.declared.uploads.Uploads.{Ghosts}
 use Rattle.tus_request.specs.Requests.{Request}
 use Rattle.tus_action.specs.Acts.{Acted, fed, fed_patch}
-use Rattle.tus_action.specs.Serves.{ActedAs, DraftIs, Serves}
+use Rattle.tus_action.specs.Serves.{Finishes, Serves}
 use Rattle.tus_action.specs.declared.acts.Stop.{Stop}
 use Rattle.tus_action.specs.declared.acts.Stop.TheVariants as stops
-use Rattle.tus_action.specs.declared.acts.Acted as code
 use Rattle.tus_session.specs.Bodies.{ended_by, took, Answered, Replies}
 use Rattle.tus_session.specs.declared.conns.Link.{Link}
 use Rattle.tus_session.specs.declared.conns.Task.TheVariants as tasks
@@ -90,24 +89,17 @@ ended_store w d p piece r =
     (commit_refusal (fed w d piece) d (fed_patch w d p piece)))
 
 module _ {U B : Type 0} (u : Ghosts U B) where
-  none_draft : (w : World) (o : Option B) → DraftIs u w o None → o ≡ None
-  none_draft w None is = refl
-  none_draft w (Some b) is = absurd is
-
-  -- a reply was given, and no draft is open
-  pub answered_as : (store : U) (place : Place B) (acted : code.Acted B) (old new : List ℕ) (k : Link B) (taken : ℕ)
-      (m : Acted) → ActedAs u store acted old new m → m.draft ≡ None
-      → (acted.draft ≡ None → place ≡ (if acted.closes then Closed else Open (record k { task = tasks.Idle })))
-      → Answered u store place (took taken acted.closes) old new k taken m
-  answered_as store place acted old new k taken m is none at =
-      let d : DraftIs u m.world acted.draft None = subst (DraftIs u m.world acted.draft) none is.draft in
-      record {
-        shown = is.stands;
-        place_is = at (none_draft m.world acted.draft d) ∙ ap
-            (λ b. if b then Closed else Open (record k { task = tasks.Idle })) is.closes;
-        answer_is = ap (took taken) is.closes;
-        bytes = is.bytes;
-      }
+  -- a reply was given, and nothing is open
+  pub answered_as : (store : U) (place : Place B) (old new : List ℕ) (k : Link B) (taken : ℕ) (m : Acted)
+      (closes : Bool) → u.stands store m.world → closes ≡ m.closes
+      → place ≡ (if closes then Closed else Open (record k { task = tasks.Idle })) → new ≡ old ++ m.bytes
+      → Answered u store place (took taken closes) old new k taken m
+  answered_as store place old new k taken m closes stands same at bytes = record {
+    shown = stands;
+    place_is = at ∙ ap (λ b. if b then Closed else Open (record k { task = tasks.Idle })) same;
+    answer_is = ap (took taken) same;
+    bytes = bytes;
+  }
 
 module _ {U B : Type 0} (u : Ghosts U B) where
   -- the draft's patch, behind more of its body
@@ -118,7 +110,7 @@ module _ {U B : Type 0} (u : Ghosts U B) where
 
   -- a call that stopped closes the connection
   pub stopped_as : (store : U) (e : Stop) (old new : List ℕ) (k : Link B) (taken : ℕ) (gone gone' : World)
-      (m m' : Acted) → gone ≡ gone' → Serves u store (Err e) old new gone m
+      (m m' : Acted) → gone ≡ gone' → Finishes u store (Err e) old new gone m
       → Replies u store (Err e) old new k taken m' gone'
   stopped_as store stops.NoMemory old new k taken gone gone' m m' is (shown, same) =
       (subst (u.stands store) is shown, same)

@@ -17,7 +17,7 @@ use Rattle.tus_session.specs.Streams.{Rest, InHead, InBody, cut}
 use Rattle.tus_session.specs.Turns.{Conn, reader}
 use Rattle.tus_session.specs.Stands.{PatchIs, TaskIs, RestIs, LinkIs, PlaceIs, draft_at}
 use Rattle.tus_session.specs.Moves.{Longer, Grows, Moves}
-use Rattle.tus_session.specs.declared.conns.Patching.{Patching}
+use Rattle.tus_action.specs.declared.bodies.OpenPatch.{OpenPatch}
 use Rattle.tus_session.specs.declared.conns.Task.{Task}
 use Rattle.tus_session.specs.declared.conns.Task.TheVariants as tasks
 use Rattle.tus_session.specs.declared.conns.Place.{Place}
@@ -71,7 +71,7 @@ gives_more w w' g h grows is = record {
 }
 
 module _ {U B : Type 0} (u : Ghosts U B) where
-  patch_moved : (w w' : World) (own : Option ℕ) (b : Patching B) (d : ℕ) (rest : Rest) → Grows w.store w'.store
+  patch_moved : (w w' : World) (own : Option ℕ) (b : OpenPatch B) (d : ℕ) (rest : Rest) → Grows w.store w'.store
       → ((e : ℕ) (p : Patch) → (own ≡ Some e → ⊥) → find e w.patches ≡ Some p → find e w'.patches ≡ Some p)
       → (own ≡ Some d → ⊥) → PatchIs u w rest b d → PatchIs u w' rest b d
   patch_moved w w' own b d (InHead h) grows others ne is = absurd is

@@ -27,7 +27,7 @@ use Rattle.tus_session.specs.Bodies.{Parts, Replies, ended_by}
 use Rattle.tus_session.specs.declared.answers.Answer as code
 use Rattle.tus_action.specs.declared.acts.Stop.{Stop}
 use Rattle.tus_action.specs.declared.acts.Stop.TheVariants as stops
-use Rattle.tus_session.specs.declared.conns.Patching.{Patching}
+use Rattle.tus_action.specs.declared.bodies.OpenPatch.{OpenPatch}
 use Rattle.tus_session.specs.declared.conns.Link.{Link}
 use Rattle.tus_session.specs.declared.conns.Task.TheVariants as tasks
 use Rattle.tus_session.specs.declared.conns.Place.{Place}
@@ -169,7 +169,7 @@ own_opened w r a x own e = record {
 
 module _ {U B : Type 0} (u : Ghosts U B) (w : World) (conn : Conn) (h bytes : List ℕ) (n before : ℕ) (r : Request)
     (is : IsWhole w conn h bytes n before (Asks r))
-    (x : Opened w r (acted w (Asks r))) (b : Patching B) (number : u.number_of b.draft ≡ x.d)
+    (x : Opened w r (acted w (Asks r))) (b : OpenPatch B) (number : u.number_of b.draft ≡ x.d)
     (holds : u.holds b.draft (first_patch x.number r.length x.declare x.up))
     (reached : ReachedIs r.action r.length b.reached) (bare : b.bare ≡ r.bare) (closes : b.closes ≡ r.closes)
     (below : x.number < w.store.next) where

@@ -10,9 +10,9 @@ use Rattle.upload_rules.specs.World.{World}
 use Rattle.upload_rules.specs.Answers.{Limits}
 use Rattle.upload_rules.specs.declared.uploads.Uploads.{Ghosts}
 use Rattle.tus_action.specs.Acts.{Acted, Giving, acted, is_pending}
-use Rattle.tus_action.specs.Serves.{ActedAs, DraftIs, GivingIs}
+use Rattle.tus_action.specs.Serves.{ActedAs, DraftIs, GivingIs, draft_in, giving_in, closes_in}
 use Rattle.tus_action.specs.declared.acts.Giving as given
-use Rattle.tus_action.specs.declared.acts.Acted as code_acted
+use Rattle.tus_action.specs.declared.acts.Done.{Done}
 use Rattle.enc_model.specs.Indexes.{offers}
 use Rattle.tus_request.proofs.Fronts.{steady}
 use Rattle.tus_request.specs.Answers.{Judged}
@@ -96,13 +96,13 @@ module _ (w : World) (conn : Conn) (h bytes : List ℕ) (n before : ℕ) (r : Re
     no_giving v g None e is = absurd (cc)
     no_giving v g (Some x) e is = is
 
-    nothing_case : (store' : U) (place : Place B) (x : code.Answer) (c : code_acted.Acted B) (old new : List ℕ)
+    nothing_case : (store' : U) (place : Place B) (x : code.Answer) (c : Done B) (old new : List ℕ)
         (k : Link B) (len : ℕ) → Leaves w r (acted w (Asks r))
-        → ActedAs u store' c old new (acted w (Asks r)) → c.draft ≡ None → c.giving ≡ None
+        → ActedAs u store' c old new (acted w (Asks r)) → draft_in c ≡ None → giving_in c ≡ None
         → len ≡ length (drop before bytes)
-        → place ≡ (if c.closes then Closed else Open
+        → place ≡ (if closes_in c then Closed else Open
         (record k { left = r.length - min r.length len; task = tasks.Idle })) → (bytes_of k.head) ≡ []
-        → x ≡ took (before + min r.length len) c.closes
+        → x ≡ took (before + min r.length len) (closes_in c)
         → TurnedAs u store' place x old new w conn.draft (came_turn w conn bytes)
     nothing_case store' place x c old new k len (Nothing moves none idle) as_is no_draft no_text len_is place_is head_is
         answer_is =
@@ -120,13 +120,13 @@ module _ (w : World) (conn : Conn) (h bytes : List ℕ) (n before : ℕ) (r : Re
         absurd (absurd_draft (acted w (Asks r)).world y.d (acted w (Asks r)).draft y.draft_is
         (subst (λ o. DraftIs u (acted w (Asks r)).world o (acted w (Asks r)).draft) no_draft as_is.draft))
 
-    pub nothing_told : (store' : U) (place : Place B) (x : code.Answer) (c : code_acted.Acted B) (old new : List ℕ)
+    pub nothing_told : (store' : U) (place : Place B) (x : code.Answer) (c : Done B) (old new : List ℕ)
         (k : Link B) (len : ℕ)
-        → ActedAs u store' c old new (acted w (Asks r)) → c.draft ≡ None → c.giving ≡ None
+        → ActedAs u store' c old new (acted w (Asks r)) → draft_in c ≡ None → giving_in c ≡ None
         → len ≡ length (drop before bytes)
-        → place ≡ (if c.closes then Closed else Open
+        → place ≡ (if closes_in c then Closed else Open
         (record k { left = r.length - min r.length len; task = tasks.Idle })) → (bytes_of k.head) ≡ []
-        → x ≡ took (before + min r.length len) c.closes
+        → x ≡ took (before + min r.length len) (closes_in c)
         → TurnedAs u store' place x old new w conn.draft (came_turn w conn bytes)
     nothing_told store' place x c old new k len as_is no_draft no_text len_is place_is head_is answer_is =
         nothing_case store' place x c old new k len (leaves w r) as_is no_draft no_text len_is place_is head_is
@@ -224,9 +224,9 @@ module _ (w : World) (conn : Conn) (h bytes : List ℕ) (n before : ℕ) (r : Re
       ]
 
   module _ {U B : Type 0} (u : Ghosts U B) where
-    text_case : (store' : U) (c : code_acted.Acted B) (g : given.Giving) (old new : List ℕ) (k : Link B)
+    text_case : (store' : U) (c : Done B) (g : given.Giving) (old new : List ℕ) (k : Link B)
         → Leaves w r (acted w (Asks r))
-        → ActedAs u store' c old new (acted w (Asks r)) → c.draft ≡ None → c.giving ≡ Some g → (bytes_of k.head) ≡ []
+        → ActedAs u store' c old new (acted w (Asks r)) → draft_in c ≡ None → giving_in c ≡ Some g → (bytes_of k.head) ≡ []
         → TurnedAs u store' (Open (record k { left = r.length; task = tasks.Text g })) (record {
           taken = before;
           closes = false;
@@ -234,10 +234,10 @@ module _ (w : World) (conn : Conn) (h bytes : List ℕ) (n before : ℕ) (r : Re
         }) old new w conn.draft (came_turn w conn bytes)
     text_case store' c g old new k (Nothing moves none idle) as_is no_draft text cleared =
         absurd (subst (λ o. GivingIs (acted w (Asks r)).world.store o None) text
-        (subst (GivingIs (acted w (Asks r)).world.store c.giving) idle as_is.giving))
+        (subst (GivingIs (acted w (Asks r)).world.store (giving_in c)) idle as_is.giving))
     text_case store' c g old new k (Patching y) as_is no_draft text cleared =
         absurd (subst (λ o. GivingIs (acted w (Asks r)).world.store o None) text
-        (subst (GivingIs (acted w (Asks r)).world.store c.giving) y.idle as_is.giving))
+        (subst (GivingIs (acted w (Asks r)).world.store (giving_in c)) y.idle as_is.giving))
     text_case store' c g old new k (Text h' same none some stays) as_is no_draft text cleared =
         let a = acted w (Asks r) in
         let s' = conn.stream ++ take before bytes in
@@ -246,7 +246,7 @@ module _ (w : World) (conn : Conn) (h bytes : List ℕ) (n before : ℕ) (r : Re
         let rest_is : (cut (reader a.world) s').rest ≡ ends.0 = rest_same w a.world s' indexes ∙ ends.1 in
         let gives : GivingIs a.world.store (Some g) (Some h') =
         subst (λ o. GivingIs a.world.store o (Some h')) text
-        (subst (GivingIs a.world.store c.giving) some as_is.giving) in
+        (subst (GivingIs a.world.store (giving_in c)) some as_is.giving) in
         let link : LinkIs u a.world (bytes_of k.head) r.length (tasks.Text g)
         (record { stream = s'; draft = None; pending = Some h' }) = record {
           kept = subst (RestIs (bytes_of k.head) r.length) (sym rest_is) ends.2;
@@ -275,8 +275,8 @@ module _ (w : World) (conn : Conn) (h bytes : List ℕ) (n before : ℕ) (r : Re
         (subst (TurnedAs u store' (Open (record k { left = r.length; task = tasks.Text g }))
         (record { taken = before; closes = false; more = true }) old new w None) (sym (text_is h' some none stays)) now)
 
-    pub text_told : (store' : U) (c : code_acted.Acted B) (g : given.Giving) (old new : List ℕ) (k : Link B)
-        → ActedAs u store' c old new (acted w (Asks r)) → c.draft ≡ None → c.giving ≡ Some g → (bytes_of k.head) ≡ []
+    pub text_told : (store' : U) (c : Done B) (g : given.Giving) (old new : List ℕ) (k : Link B)
+        → ActedAs u store' c old new (acted w (Asks r)) → draft_in c ≡ None → giving_in c ≡ Some g → (bytes_of k.head) ≡ []
         → TurnedAs u store' (Open (record k { left = r.length; task = tasks.Text g })) (record {
           taken = before;
           closes = false;

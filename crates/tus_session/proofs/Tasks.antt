@@ -19,7 +19,7 @@ use Rattle.tus_session.specs.Stands.{PatchesAs, TaskIs}
 use Rattle.tus_session.specs.Turned.{EndedAs, Ended}
 use Rattle.tus_action.specs.declared.acts.Stop.{Stop}
 use Rattle.tus_action.specs.declared.acts.Stop.TheVariants as stops
-use Rattle.tus_session.specs.declared.conns.Patching.{Patching}
+use Rattle.tus_action.specs.declared.bodies.OpenPatch.{OpenPatch}
 use Rattle.tus_session.specs.declared.conns.Task.{Task}
 use Rattle.tus_session.specs.declared.conns.Task.TheVariants as tasks
 use Rattle.tus_session.proofs.Unfinished.{left_body}
@@ -27,7 +27,7 @@ use Rattle.tus_session.proofs.Opening.{still}
 use Rattle.tus_session.proofs.Moved.{spend_moves}
 
 -- an open patch, with its request and its body
-pub record IsPatching {U B : Type 0} (u : Ghosts U B) (w : World) (rest : Rest) (b : Patching B) (draft : Option ℕ)
+pub record IsPatching {U B : Type 0} (u : Ghosts U B) (w : World) (rest : Rest) (b : OpenPatch B) (draft : Option ℕ)
     (pending : Option Giving) : Type 0 where
   pub d : ℕ
   pub asked : Asked
@@ -52,7 +52,7 @@ module _ {U B : Type 0} (u : Ghosts U B) where
   idle_at w rest None (Some h) is = absurd is
   idle_at w rest (Some d) pending is = absurd is
 
-  pub patch_at : (w : World) (rest : Rest) (b : Patching B) (draft : Option ℕ) (pending : Option Giving)
+  pub patch_at : (w : World) (rest : Rest) (b : OpenPatch B) (draft : Option ℕ) (pending : Option Giving)
       → TaskIs u w rest (tasks.Patch b) draft pending
       → IsPatching u w rest b draft pending
   patch_at w rest b None pending is = absurd is
@@ -122,7 +122,7 @@ module _ {U B : Type 0} (u : Ghosts U B) where
       subst (EndedAs u store w None) (sym (ended_none w conn none)) now in
       subst (λ o. EndedAs u store w o (ended_world w conn)) (sym none) then
 
-  module _ (store : U) (w : World) (conn : Conn) (b : Patching B)
+  module _ (store : U) (w : World) (conn : Conn) (b : OpenPatch B)
       (is : IsPatching u w (cut (reader w) conn.stream).rest b conn.draft conn.pending) where
     -- the patch is spent
     pub ends_patch : u.stands store (spent w (u.number_of b.draft) is.p (commit_refusal w (u.number_of b.draft) is.p))
@@ -169,7 +169,7 @@ module _ {U B : Type 0} (u : Ghosts U B) where
         ∙ ap (λ x. x.store) (sym (ended_is w conn d p is.draft_is is.patches.found)))
 
 module _ {U B : Type 0} (u : Ghosts U B) where
-  pub patching : (w : World) (rest : Rest) (task : Task B) (b : Patching B) (draft : Option ℕ) (pending : Option Giving)
+  pub patching : (w : World) (rest : Rest) (task : Task B) (b : OpenPatch B) (draft : Option ℕ) (pending : Option Giving)
       → TaskIs u w rest task draft pending
       → task ≡ tasks.Patch b → IsPatching u w rest b draft pending
   patching w rest task b draft pending is e =

@@ -7,7 +7,7 @@ use Rattle.upload_rules.specs.declared.uploads.Uploads.{Ghosts}
 use Rattle.tus_request.specs.Requests.{Request}
 use Rattle.tus_action.specs.Acts.{Acted, fed, fed_patch, committed_as}
 use Rattle.tus_session.specs.declared.answers.Answer.{Answer}
-use Rattle.tus_session.specs.declared.conns.Patching.{Patching}
+use Rattle.tus_action.specs.declared.bodies.OpenPatch.{OpenPatch}
 use Rattle.tus_session.specs.declared.conns.Link.{Link}
 use Rattle.tus_session.specs.declared.conns.Task.TheVariants as tasks
 use Rattle.tus_session.specs.declared.conns.Place.{Place}
@@ -21,7 +21,7 @@ took n closes = record { taken = n; closes = closes; more = false }
 
 -- the patch goes on: the same but for its draft
 pub record GoesOn {U B : Type 0} (u : Ghosts U B) (store : U) (place : Place B) (a : Answer) (k : Link B)
-    (b b' : Patching B) (taken : ℕ) (w : World) (p : Patch) : Type 0 where
+    (b b' : OpenPatch B) (taken : ℕ) (w : World) (p : Patch) : Type 0 where
   pub place_is : place ≡ Open (record k { task = tasks.Patch b' })
   pub answer_is : a ≡ took taken false
   pub number : u.number_of b'.draft ≡ u.number_of b.draft
@@ -32,11 +32,11 @@ pub record GoesOn {U B : Type 0} (u : Ghosts U B) (store : U) (place : Place B) 
   pub bare : b'.bare ≡ b.bare
   pub closes : b'.closes ≡ b.closes
 
-abbrev pub GoesOnSome : {U B : Type 0} → Ghosts U B → U → Place B → Answer → Link B → Patching B → ℕ → World → Patch
+abbrev pub GoesOnSome : {U B : Type 0} → Ghosts U B → U → Place B → Answer → Link B → OpenPatch B → ℕ → World → Patch
     → Type 0
-GoesOnSome {U} {B} u store place a k b taken w p = (b' : Patching B) × GoesOn u store place a k b b' taken w p
+GoesOnSome {U} {B} u store place a k b taken w p = (b' : OpenPatch B) × GoesOn u store place a k b b' taken w p
 
-abbrev pub Parts : {U B : Type 0} → Ghosts U B → U → Result (Place B × Answer) Stop → Link B → Patching B → ℕ → World
+abbrev pub Parts : {U B : Type 0} → Ghosts U B → U → Result (Place B × Answer) Stop → Link B → OpenPatch B → ℕ → World
     → Patch → World → Type 0
 Parts u store (Ok (place, a)) k b taken w p gone = GoesOnSome u store place a k b taken w p
 Parts u store (Err NoMemory) k b taken w p gone = u.stands store gone

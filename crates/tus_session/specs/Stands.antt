@@ -14,7 +14,7 @@ use Rattle.tus_action.specs.Serves.{IsGiving}
 use Rattle.tus_session.specs.Streams.{Asked, Rest, InHead, InBody, cut}
 use Rattle.tus_session.specs.Turns.{Conn, reader}
 use Rattle.tus_session.specs.History.{State, most_open}
-use Rattle.tus_session.specs.declared.conns.Patching.{Patching}
+use Rattle.tus_action.specs.declared.bodies.OpenPatch.{OpenPatch}
 use Rattle.tus_session.specs.declared.conns.Task.{Task}
 use Rattle.tus_session.specs.declared.conns.Task.TheVariants as tasks
 use Rattle.tus_session.specs.declared.conns.Place.{Place}
@@ -26,7 +26,7 @@ RestIs head left (InHead h) = (head ≡ h) × (left ≡ 0)
 RestIs head left (InBody r) = (head ≡ []) × (left ≡ body_length r.verdict - length r.body)
 
 -- the request that a body belongs to, and the open patch that it is
-pub record PatchesAs {U B : Type 0} (u : Ghosts U B) (w : World) (b : Patching B) (d : ℕ) (asked : Asked) (r : Request)
+pub record PatchesAs {U B : Type 0} (u : Ghosts U B) (w : World) (b : OpenPatch B) (d : ℕ) (asked : Asked) (r : Request)
     (p : Patch) : Type 0 where
   pub number : u.number_of b.draft ≡ d
   pub found : find d w.patches ≡ Some p
@@ -41,7 +41,7 @@ pub record PatchesAs {U B : Type 0} (u : Ghosts U B) (w : World) (b : Patching B
   pub bare : b.bare ≡ r.bare
   pub closes : b.closes ≡ r.closes
 
-abbrev pub PatchIs : {U B : Type 0} → Ghosts U B → World → Rest → Patching B → ℕ → Type 0
+abbrev pub PatchIs : {U B : Type 0} → Ghosts U B → World → Rest → OpenPatch B → ℕ → Type 0
 PatchIs u w (InHead h) b d = ⊥
 PatchIs u w (InBody asked) b d = (r : Request) × (p : Patch) × PatchesAs u w b d asked r p
 

@@ -11,10 +11,10 @@ ghost use Rattle.tus_session.specs.Bodies.{Parts, Replies, ended_by, took};
 ghost use Rattle.tus_request.specs.Replies.{longest_reply, GrowsBy};
 
 use crate::Answer;
-use crate::conns::{Link, Patching, Place, Task};
+use crate::conns::{Link, Place, Task};
 use crate::turns::{place_of, waits};
 use std::alloc::Global;
-use tus_action::{Acted, Stop, end_body, feed_body};
+use tus_action::{OpenPatch, Stop, feed, finish};
 use tus_request::HeadBuffer;
 use upload_rules::Uploads;
 
@@ -44,7 +44,7 @@ pub(crate) fn skip<B>(
 fn go_on<U: Uploads>(
     store: &mut U,
     head: HeadBuffer,
-    patch: Patching<U::Draft>,
+    patch: OpenPatch<U::Draft>,
     left: u64,
     before: usize,
     bytes: &[u8],
@@ -64,19 +64,7 @@ fn go_on<U: Uploads>(
         (U.left_only store.new) w.store w.store }
     ensures counts { Counts (IsErrOf result Stop.DiskFault) (U.failures store.old) (U.failures store.new) }
 {
-    let Patching {
-        draft,
-        reached,
-        bare,
-        closes,
-    } = patch;
-    let draft = feed_body(store, draft, bytes)?;
-    let patch = Patching {
-        draft,
-        reached,
-        bare,
-        closes,
-    };
+    let patch = feed(store, patch, bytes)?;
     let link = Link {
         head,
         left: left - bytes.len() as u64,
@@ -86,11 +74,11 @@ fn go_on<U: Uploads>(
 }
 
 // The rest of a patch's body came: it is committed, or refused, and answered.
-fn finish<U: Uploads>(
+fn last_of<U: Uploads>(
     alloc: Global,
     store: &mut U,
     head: HeadBuffer,
-    patch: Patching<U::Draft>,
+    patch: OpenPatch<U::Draft>,
     before: usize,
     bytes: &[u8],
     out: &mut Vec<u8>,
@@ -116,49 +104,15 @@ fn finish<U: Uploads>(
     ensures counts { Counts (IsErrOf result Stop.DiskFault) (U.failures store.old) (U.failures store.new) }
     ensures few { GrowsBy longest_reply out.old.items out.new.items }
 {
-    let Patching {
-        draft,
-        reached,
-        bare,
-        closes,
-    } = patch;
-    let fed = feed_body(store, draft, bytes)?;
-    let acted = end_body(alloc, store, fed, reached, bare, closes, out)?;
+    let closes = patch.closes;
+    let fed = feed(store, patch, bytes)?;
+    finish(alloc, store, fed, out)?;
     let answer = Answer {
         taken: before + bytes.len(),
-        closes: acted.closes,
+        closes,
         more: false,
     };
-    Ok((answered(head, reached, bare, acted), answer))
-}
-
-// A connection whose patch was answered.
-fn answered<B>(head: HeadBuffer, reached: u64, bare: bool, acted: Acted<B>) -> Place<B>
-    ensures { acted.draft ≡ None
-        → result ≡ (if acted.closes then Place.Closed else Place.Open
-        (record { head = head; left = 0; task = Task.Idle })) }
-{
-    let Acted {
-        draft,
-        giving: _,
-        closes,
-    } = acted;
-    match draft {
-        None => place_of(head, 0, closes),
-        Some(draft) => {
-            let patch = Patching {
-                draft,
-                reached,
-                bare,
-                closes,
-            };
-            Place::Open(Link {
-                head,
-                left: 0,
-                task: Task::Patch(patch),
-            })
-        }
-    }
+    Ok((place_of(head, 0, closes), answer))
 }
 
 // What came of a patch's body: it goes on, or it is answered.
@@ -166,7 +120,7 @@ pub(crate) fn body_of<U: Uploads>(
     alloc: Global,
     store: &mut U,
     head: HeadBuffer,
-    patch: Patching<U::Draft>,
+    patch: OpenPatch<U::Draft>,
     left: u64,
     before: usize,
     bytes: &[u8],
@@ -208,7 +162,7 @@ pub(crate) fn body_of<U: Uploads>(
     if (bytes.len() as u64) < left {
         go_on(store, head, patch, left, before, bytes)
     } else {
-        finish(
+        last_of(
             alloc,
             store,
             head,

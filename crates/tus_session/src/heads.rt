@@ -1,7 +1,6 @@
 //! What came on a connection: the bytes of a head, or of a body.
 ghost use Rattle.std.specs.Prelude.{◌≡◌, ◌+◌, ◌-◌, ◌<◌, ◌≤◌, ◌^◌, ℕ, List, []};
 ghost use Rattle.std.specs.Prelude.{length, min, true, false, None, Some, IsErrOf, if◌then◌else◌};
-ghost use Rattle.tus_session.specs.Bodies.{took};
 ghost use Rattle.tus_request.specs.Requests.{Asks};
 ghost use Rattle.upload_rules.specs.World.{World};
 ghost use Rattle.upload_rules.specs.Answers.{Limits, Counts};
@@ -16,10 +15,10 @@ ghost use Rattle.tus_session.specs.Turns.{GivesFew};
 
 use crate::Answer;
 use crate::bodies::{body_of, skip};
-use crate::conns::{Link, Patching, Place, Task};
+use crate::conns::{Link, Place, Task};
 use crate::turns::{place_of, waits};
 use std::alloc::Global;
-use tus_action::{Acted, Giving, PieceBuffer, Stop, act};
+use tus_action::{Done, OpenPatch, PieceBuffer, Stop, act};
 use tus_request::replies::reply_refused;
 use tus_request::{Action, HeadBuffer, Parsed, Request};
 use upload_rules::Uploads;
@@ -32,38 +31,6 @@ fn reached_by(request: &Request) -> u64
     match request.action {
         Action::Patch { offset, .. } => offset.saturating_add(request.length),
         _ => 0,
-    }
-}
-
-// A request that opened no patch: a text is still to be given, behind which its body is dropped, or what came of the
-// body is dropped at once.
-fn without_patch<B>(
-    head: HeadBuffer,
-    giving: Option<Giving>,
-    length: u64,
-    before: usize,
-    behind: usize,
-    closes: bool,
-) -> (Place<B>, Answer)
-    requires { before + behind < 2 ^ 64 }
-    ensures text { (g : Giving) → giving ≡ Some g
-        → (result.0 ≡ Place.Open (record { head = head; left = length; task = Task.Text g }))
-        × (result.1 ≡ record { taken = before; closes = false; more = true }) }
-    ensures nothing { giving ≡ None
-        → (result.0 ≡ (if closes then Place.Closed else Place.Open
-        (record { head = head; left = length - min length behind; task = Task.Idle })))
-        × (result.1 ≡ took (before + min length behind) closes) }
-{
-    match giving {
-        Some(giving) => {
-            let link = Link {
-                head,
-                left: length,
-                task: Task::Text(giving),
-            };
-            (Place::Open(link), waits(before, true))
-        }
-        None => skip(head, length, before, behind, closes),
     }
 }
 
@@ -104,15 +71,10 @@ fn request_of<U: Uploads>(
     let reached = reached_by(&request);
     let behind = &bytes[before..];
     let start = out.len();
-    let acted = act(alloc, store, request, buffer, out)?;
-    let Acted {
-        draft,
-        giving,
-        closes: over,
-    } = acted;
-    match draft {
-        Some(draft) => {
-            let patch = Patching {
+    let done = act(alloc, store, request, buffer, out)?;
+    match done {
+        Done::Opened(draft) => {
+            let patch = OpenPatch {
                 draft,
                 reached,
                 bare,
@@ -126,7 +88,15 @@ fn request_of<U: Uploads>(
                 }
             }
         }
-        None => Ok(without_patch(head, giving, length, before, behind.len(), over)),
+        Done::Giving(giving) => {
+            let link = Link {
+                head,
+                left: length,
+                task: Task::Text(giving),
+            };
+            Ok((Place::Open(link), waits(before, true)))
+        }
+        Done::Replied { closes } => Ok(skip(head, length, before, behind.len(), closes)),
     }
 }
 

@@ -9,8 +9,8 @@ ghost use Rattle.tus_session.specs.Turned.{Turned, Ended};
 ghost use Rattle.tus_session.specs.Turns.{GivesFew};
 
 use crate::Answer;
-use crate::conns::{Link, Patching, Place, Task};
-use tus_action::{Given, PieceBuffer, Stop, cut_body, give_more};
+use crate::conns::{Link, Place, Task};
+use tus_action::{Given, OpenPatch, PieceBuffer, Stop, cut, give_more};
 use tus_request::HeadBuffer;
 use upload_rules::Uploads;
 
@@ -93,14 +93,7 @@ pub(crate) fn end_of<U: Uploads>(store: &mut U, link: Link<U::Draft>) -> Result<
     } = link;
     match task {
         Task::Idle | Task::Text(_) => Ok(()),
-        Task::Patch(
-            Patching {
-                draft,
-                reached: _,
-                bare: _,
-                closes: _,
-            },
-        ) => cut_body(store, draft),
+        Task::Patch(patch) => cut(store, patch),
     }
 }
 
@@ -118,7 +111,7 @@ pub(crate) fn drop_link<U: Uploads>(store: &mut U, link: Link<U::Draft>)
     match task {
         Task::Idle | Task::Text(_) => {}
         Task::Patch(
-            Patching {
+            OpenPatch {
                 draft,
                 reached: _,
                 bare: _,

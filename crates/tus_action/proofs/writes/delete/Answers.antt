@@ -3,7 +3,7 @@ use Rattle.upload_rules.specs.Calls.{terminate_refusal}
 use Rattle.tus_action.specs.Acts.{delete, replied}
 use Rattle.tus_action.specs.Faults.{fault_of}
 use Rattle.tus_request.specs.Replies.{reply_refused}
-use Rattle.tus_action.specs.Serves.{RepliesTo}
+use Rattle.tus_action.specs.Serves.{RepliesOnly}
 use Rattle.tus_action.proofs.Answered.{refused_serves, taken_back}
 use Rattle.tus_action.proofs.writes.delete.Goals as goal
 
@@ -15,10 +15,10 @@ returns-in-Err-clause-answer g c = λ w r stands bare closes.
     taken_back old _ c.truncate.new.self.items before (ap length c.as_slice-before.ensures.value)
     (c.truncate.ensures.items ∙ ap (λ l. take before l) c.in-Ok.ensures.ok) in
     refused_serves g.U.Uploads c.terminate.new.self w (delete w r c.args.number) (terminate_refusal w c.args.number)
-    c.in-Err.error c.refuse.result false c.args.bare c.args.closes
-    old c.refuse.new.out.items _
+    c.in-Err.error c.refused.result false c.args.bare c.args.closes
+    old c.refused.new.out.items _
     (λ f. sym (ap (λ b. replied w (reply_refused (fault_of f) false c.args.bare b) b) closes
     ∙ ap (λ b. replied w (reply_refused (fault_of f) false b r.closes) r.closes) bare))
     (c.in-Err.ensures.answer w stands)
-    (subst (λ l. RepliesTo c.refuse.result c.in-Err.error false c.args.bare c.args.closes l c.refuse.new.out.items) back
-    c.refuse.ensures.answer)
+    (subst (λ l. RepliesOnly c.refused.result c.in-Err.error false c.args.bare c.args.closes l c.refused.new.out.items) back
+    c.refused.ensures.answer)

@@ -7,4 +7,4 @@ returns-else-bytes-left-clause-rest_crash g c enough w p r stands found holds fe
     let l : length (take c.args.left c.args.bytes.now) ≡ c.args.left =
     length-take-le c.args.left c.args.bytes.now enough in
     let short : length p.body + length (take c.args.left c.args.bytes.now) ≤ p.count = omega arith in
-    c.finish.ensures.crash w p r stands found holds short
+    c.last_of.ensures.crash w p r stands found holds short

@@ -1,5 +1,5 @@
 use Rattle.tus_action.proofs.Answered.{spent_refused, refused_answer, memory_answer}
-use Rattle.tus_action.proofs.bodies.cut_body.Goals as goal
+use Rattle.tus_action.proofs.bodies.cut.Goals as goal
 
 pub returns-in-Err-Refused-clause-answer : goal.returns-in-Err-Refused-clause-answer
 returns-in-Err-Refused-clause-answer g c = λ w p stands found holds.

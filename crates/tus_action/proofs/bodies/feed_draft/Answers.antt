@@ -2,9 +2,9 @@ use Rattle.std.proofs.Common.{◌≡◌, [], Some, Err, subst, ap, sym, ◌∙�
 use Rattle.upload_rules.specs.Store.{find}
 use Rattle.upload_rules.specs.Calls.{dropped}
 use Rattle.tus_action.specs.Acts.{fed, fed_patch}
-use Rattle.tus_action.specs.Serves.{Feeds}
+use Rattle.tus_action.specs.Serves.{FeedsDraft}
 use Rattle.tus_action.proofs.Answered.{fed_some, fed_patch_some, find_appended, some_items, fed_gone}
-use Rattle.tus_action.proofs.bodies.feed_body.Goals as goal
+use Rattle.tus_action.proofs.bodies.feed_draft.Goals as goal
 
 pub returns-in-Ok-clause-answer : goal.returns-in-Ok-clause-answer
 returns-in-Ok-clause-answer g c = λ w p stands found holds fits.
@@ -23,7 +23,7 @@ returns-in-Ok-clause-answer g c = λ w p stands found holds fits.
 pub returns-in-Err-clause-answer : goal.returns-in-Err-clause-answer
 returns-in-Err-clause-answer g c = λ w p stands found holds fits.
     let d = g.U.Uploads.number_of c.args.draft in
-    subst (λ s. Feeds g.U.Uploads c.drop_open.new.self (Err s) (dropped w d) (fed w d c.args.piece.now) d
+    subst (λ s. FeedsDraft g.U.Uploads c.drop_open.new.self (Err s) (dropped w d) (fed w d c.args.piece.now) d
     (fed_patch w d p c.args.piece.now)) (sym c.from.ensures)
     (fed_gone g.U.Uploads c.append.new.self c.drop_open.new.self w c.in-Err.error d _ _ _ _
     (c.in-Err.ensures.answer w p stands found holds fits) (c.drop_open.ensures.stands w) c.append.ensures.same)

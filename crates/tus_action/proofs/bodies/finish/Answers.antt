@@ -4,31 +4,31 @@ use Rattle.tus_action.specs.Acts.{committed_as, replied}
 use Rattle.tus_action.specs.Faults.{fault_of}
 use Rattle.tus_request.specs.Replies.{reply_refused}
 use Rattle.tus_action.specs.Serves.{RepliesTo}
-use Rattle.tus_action.proofs.Answered.{refused_serves, taken_back, nothing_made}
-use Rattle.tus_action.proofs.bodies.end_body.Goals as goal
+use Rattle.tus_action.proofs.Answered.{refused_finishes, taken_back, nothing_made}
+use Rattle.tus_action.proofs.bodies.finish.Goals as goal
 
 pub returns-in-Err-clause-answer : goal.returns-in-Err-clause-answer
 returns-in-Err-clause-answer g c = λ w p r stands found holds at_end bare closes.
     let old : List ℕ = c.args.out.now.items in
     let before : ℕ = length c.as_slice-before.result.now in
-    let d : ℕ = g.U.Uploads.number_of c.args.draft in
+    let d : ℕ = g.U.Uploads.number_of c.args.patch.draft in
     let back : c.truncate.new.self.items ≡ old =
     taken_back old _ c.truncate.new.self.items before (ap length c.as_slice-before.ensures.value)
     (c.truncate.ensures.items ∙ ap (λ l. take before l) c.in-Ok.ensures.ok) in
-    refused_serves g.U.Uploads c.commit.new.self (dropped w d) (committed_as w d p r) (commit_refusal w d p)
-    c.in-Err.error c.refuse.result false c.args.bare c.args.closes
+    refused_finishes g.U.Uploads c.commit.new.self (dropped w d) (committed_as w d p r) (commit_refusal w d p)
+    c.in-Err.error c.refuse.result false c.args.patch.bare c.args.patch.closes
     old c.refuse.new.out.items _
-    (λ f. sym (ap (λ b. replied (dropped w d) (reply_refused (fault_of f) false c.args.bare b) b) closes
+    (λ f. sym (ap (λ b. replied (dropped w d) (reply_refused (fault_of f) false c.args.patch.bare b) b) closes
     ∙ ap (λ b. replied (dropped w d) (reply_refused (fault_of f) false b r.closes) r.closes) bare))
     (c.in-Err.ensures.answer w p stands found holds)
-    (subst (λ l. RepliesTo c.refuse.result c.in-Err.error false c.args.bare c.args.closes l c.refuse.new.out.items) back
+    (subst (λ l. RepliesTo c.refuse.result c.in-Err.error false c.args.patch.bare c.args.patch.closes l c.refuse.new.out.items) back
     c.refuse.ensures.answer)
 
 pub returns-in-Err-clause-unmade : goal.returns-in-Err-clause-unmade
 returns-in-Err-clause-unmade g c = λ w p stands found holds is.
-    let d : ℕ = g.U.Uploads.number_of c.args.draft in
+    let d : ℕ = g.U.Uploads.number_of c.args.patch.draft in
     nothing_made w.store (committed_store w.store p) (commit_refusal w d p) c.in-Err.error c.refuse.result false
-    c.args.bare c.args.closes _ _ _ _
+    c.args.patch.bare c.args.patch.closes _ _ _ _
     (c.in-Err.ensures.answer w p stands found holds) c.refuse.ensures.answer is
     (c.in-Err.ensures.crash w p stands found holds)
     (λ none. c.in-Err.ensures.unmade w p stands found holds (ap Err none))
