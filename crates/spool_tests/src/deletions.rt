@@ -1,6 +1,6 @@
 //! Deletions of uploads on a spool.
 
-use crate::uploads::{declared, deferred, fresh, opened, patched, plain};
+use crate::uploads::{fresh, opened, patched, plain};
 use spool_disk::MemoryDisk;
 use spool_image::Spool;
 use std::alloc::Global;
@@ -52,47 +52,4 @@ fn deleted_upload_is_gone_and_its_number_is_used(rt: HostRuntime) {
     assert!(rt; is_gone(&mut again));
     assert_eq!(rt; again.create(plain(rt.alloc(), 5)), Ok(2));
     drop(again.into_disk());
-}
-
-#[test]
-fn blocks_of_a_deleted_upload_come_back(rt: HostRuntime) {
-    let text = vec![in rt.alloc(); b'a'; 65536].expect(&rt, "memory for a text");
-    let mut spool = opened(&rt, rt.alloc(), fresh(&rt, rt.alloc()));
-    assert_eq!(rt; spool.create(plain(rt.alloc(), 65536)), Ok(1));
-    assert_eq!(rt; spool.create(deferred(rt.alloc())), Ok(2));
-    assert_eq!(rt; patched(&mut spool, 1, 0, &text), Ok(65536));
-    assert_eq!(rt;
-        declared(&mut spool, 2, 0, Some(1), b"b"),
-        Err(UploadError::Refused(UploadRefusal::Full))
-    );
-    assert_eq!(rt; spool.record(2).map(|r| r.declared), Some(None));
-    assert_eq!(rt; spool.terminate(1), Ok(()));
-    assert_eq!(rt; declared(&mut spool, 2, 0, Some(1), b"b"), Ok(1));
-    assert_eq!(rt; spool.record(2).map(|r| r.declared), Some(Some(1)));
-    assert!(rt; has_text(&mut spool, 2, b"b"));
-    drop(spool.into_disk());
-}
-
-/// Deletes the upload 1 with an append of its last byte open, lets the upload 2 have a text, and ends the open append.
-fn outlive(rt: &impl Abort, spool: &mut Spool<MemoryDisk>, text: &[u8]) {
-    let mut draft = spool.begin(1, 5000, 1, None).expect(rt, "it may begin");
-    assert_eq!(rt; spool.terminate(1), Ok(()));
-    assert_eq!(rt; patched(spool, 2, 0, text), Ok(text.len() as u64));
-    assert_eq!(rt; spool.append(&mut draft, b"a"), Ok(()));
-    assert_eq!(rt; spool.commit(draft), Err(NO_SUCH));
-}
-
-#[test]
-fn open_append_of_a_deleted_upload_takes_no_other_text(rt: HostRuntime) {
-    // a block is left for the open append's byte, or none
-    for len in [61440, 65536] {
-        let text = vec![in rt.alloc(); b'b'; len].expect(&rt, "memory for a text");
-        let mut spool = opened(&rt, rt.alloc(), fresh(&rt, rt.alloc()));
-        assert_eq!(rt; spool.create(plain(rt.alloc(), 5001)), Ok(1));
-        assert_eq!(rt; spool.create(plain(rt.alloc(), 65536)), Ok(2));
-        assert_eq!(rt; patched(&mut spool, 1, 0, &[b'a'; 5000]), Ok(5000));
-        outlive(&rt, &mut spool, &text);
-        assert!(rt; has_text(&mut spool, 2, &text), "{len}");
-        drop(spool.into_disk());
-    }
 }

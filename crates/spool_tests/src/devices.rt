@@ -2,7 +2,7 @@
 
 ghost use Rattle.std.specs.Prelude.{◌≡◌, ◌≤◌};
 
-use spool_disk::{Crash, Disk, DiskFault, FileDisk, FuseDisk, HiccupDisk, MemoryDisk};
+use spool_disk::{Crash, Disk, DiskFault, FileDisk, MemoryDisk};
 use std::{fs, io};
 
 const FOLDER: &str = "spool_disk_file_test";
@@ -37,37 +37,6 @@ fn crash_leaves_old_new_or_torn_bytes(rt: HostRuntime) {
         disk.write_at(1, b"XY").expect(&rt, "no call fails");
         let mut left = disk.crash(kind);
         assert_eq!(rt; front(&mut left), Ok(want), "{kind:?}");
-    }
-}
-
-#[test]
-fn fuse_passes_calls_and_then_none(rt: HostRuntime) {
-    let mut disk = FuseDisk::new(MemoryDisk::new(rt.alloc(), 4).expect(&rt, "memory"), 2);
-    assert_eq!(rt; disk.len(), 4);
-    assert_eq!(rt; disk.write_at(1, b"a"), Ok(()));
-    assert_eq!(rt; disk.sync(), Ok(()));
-    assert_eq!(rt; disk.write_at(2, b"b"), Err(DiskFault));
-    assert_eq!(rt; disk.sync(), Err(DiskFault));
-    assert_eq!(rt; front(&mut disk), Err(DiskFault));
-    let mut inner = disk.into_inner();
-    assert_eq!(rt; front(&mut inner), Ok(*b"\0a\0\0"));
-}
-
-#[test]
-fn hiccup_fails_one_call_and_fills_its_range(rt: HostRuntime) {
-    for (fill, want) in [(None, *b"abcd"), (Some(9), *b"a\x09\x09d")] {
-        let mut disk = HiccupDisk::new(
-            MemoryDisk::new(rt.alloc(), 4).expect(&rt, "memory"),
-            1,
-            fill,
-        );
-        assert_eq!(rt; disk.len(), 4);
-        assert_eq!(rt; disk.write_at(0, b"abcd"), Ok(()));
-        assert_eq!(rt; disk.write_at(1, b"XY"), Err(DiskFault));
-        assert_eq!(rt; disk.sync(), Ok(()));
-        assert_eq!(rt; front(&mut disk), Ok(want));
-        let mut inner = disk.into_inner();
-        assert_eq!(rt; front(&mut inner), Ok(want));
     }
 }
 

@@ -110,22 +110,6 @@ fn spool_is_not_formatted_again(rt: HostRuntime) {
 }
 
 #[test]
-fn size_out_of_range_or_disk_too_short_is_refused(rt: HostRuntime) {
-    let indexes = IndexSet::new(rt.alloc()).expect(&rt, "memory for a set");
-    let mut disk = small_disk(&rt, rt.alloc());
-    for blocks in [0, 15, 17, 65536, 65537] {
-        assert_eq!(rt;
-            format(&mut disk, blocks, &indexes),
-            Err(FormatError::Size),
-            "{blocks}"
-        );
-    }
-    let mut short = MemoryDisk::new(rt.alloc(), 7).expect(&rt, "memory for a disk");
-    assert_eq!(rt; format(&mut short, 16, &indexes), Err(FormatError::Size));
-    assert_eq!(rt; format(&mut disk, 16, &indexes), Ok(()));
-}
-
-#[test]
 fn fault_of_the_disk_leaves_no_spool(rt: HostRuntime) {
     let indexes = IndexSet::new(rt.alloc()).expect(&rt, "memory for a set");
     let mut passed = 0u64;
