@@ -78,7 +78,8 @@ some_items b list is not_empty none = let e : true ≡ false =
 pub fed_gone : {U B : Type 0} (u : Ghosts U B) (store next : U) (w : World) (e : UploadError) (d d' : ℕ) (w' : World)
     (p : Patch) (done : Unit {0} → Type 0)
     → Answers {T = Unit {0}} None (Err e) done (u.stands store w)
-    → (u.stands store w → u.stands next (dropped w d')) → d' ≡ d → FeedsDraft u next (Err (stop_of e)) (dropped w d) w' d p
+    → (u.stands store w → u.stands next (dropped w d')) → d' ≡ d → FeedsDraft u next (Err (stop_of e)) (dropped w d) w'
+    d p
 fed_gone u store next w NoMemory d d' w' p done a drops same = subst (λ x. u.stands next (dropped w x)) same (drops a.1)
 fed_gone u store next w DiskFault d d' w' p done a drops same = tt {0}
 fed_gone u store next w (Refused f) d d' w' p done a drops same = let e : None ≡ Some f = a.0 in absurd (cc)

@@ -75,7 +75,8 @@ pub record ActedAs {U B : Type 0} (u : Ghosts U B) (store : U) (a : code.Done B)
 -- It is done as the rules say. Or memory was wanting, and the store stands for the world without what was begun, and
 -- nothing was written.
 -- Or the device failed, and nothing was written.
-abbrev pub Serves : {U B : Type 0} → Ghosts U B → U → Result (code.Done B) Stop → List ℕ → List ℕ → World → Acted → Type 0
+abbrev pub Serves : {U B : Type 0} → Ghosts U B → U → Result (code.Done B) Stop → List ℕ → List ℕ → World → Acted
+    → Type 0
 Serves u store (Ok a) old new gone m = ActedAs u store a old new m
 Serves u store (Err NoMemory) old new gone m = u.stands store gone × (new ≡ old)
 Serves u store (Err DiskFault) old new gone m = new ≡ old

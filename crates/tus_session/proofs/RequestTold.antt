@@ -226,7 +226,8 @@ module _ (w : World) (conn : Conn) (h bytes : List ℕ) (n before : ℕ) (r : Re
   module _ {U B : Type 0} (u : Ghosts U B) where
     text_case : (store' : U) (c : Done B) (g : given.Giving) (old new : List ℕ) (k : Link B)
         → Leaves w r (acted w (Asks r))
-        → ActedAs u store' c old new (acted w (Asks r)) → draft_in c ≡ None → giving_in c ≡ Some g → (bytes_of k.head) ≡ []
+        → ActedAs u store' c old new (acted w (Asks r)) → draft_in c ≡ None → giving_in c ≡ Some g
+        → (bytes_of k.head) ≡ []
         → TurnedAs u store' (Open (record k { left = r.length; task = tasks.Text g })) (record {
           taken = before;
           closes = false;
@@ -276,7 +277,8 @@ module _ (w : World) (conn : Conn) (h bytes : List ℕ) (n before : ℕ) (r : Re
         (record { taken = before; closes = false; more = true }) old new w None) (sym (text_is h' some none stays)) now)
 
     pub text_told : (store' : U) (c : Done B) (g : given.Giving) (old new : List ℕ) (k : Link B)
-        → ActedAs u store' c old new (acted w (Asks r)) → draft_in c ≡ None → giving_in c ≡ Some g → (bytes_of k.head) ≡ []
+        → ActedAs u store' c old new (acted w (Asks r)) → draft_in c ≡ None → giving_in c ≡ Some g
+        → (bytes_of k.head) ≡ []
         → TurnedAs u store' (Open (record k { left = r.length; task = tasks.Text g })) (record {
           taken = before;
           closes = false;

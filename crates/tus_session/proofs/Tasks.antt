@@ -169,7 +169,8 @@ module _ {U B : Type 0} (u : Ghosts U B) where
         ∙ ap (λ x. x.store) (sym (ended_is w conn d p is.draft_is is.patches.found)))
 
 module _ {U B : Type 0} (u : Ghosts U B) where
-  pub patching : (w : World) (rest : Rest) (task : Task B) (b : OpenPatch B) (draft : Option ℕ) (pending : Option Giving)
+  pub patching : (w : World) (rest : Rest) (task : Task B) (b : OpenPatch B) (draft : Option ℕ)
+      (pending : Option Giving)
       → TaskIs u w rest task draft pending
       → task ≡ tasks.Patch b → IsPatching u w rest b draft pending
   patching w rest task b draft pending is e =

@@ -21,7 +21,8 @@ returns-in-Err-clause-answer g c = λ w p r stands found holds at_end bare close
     (λ f. sym (ap (λ b. replied (dropped w d) (reply_refused (fault_of f) false c.args.patch.bare b) b) closes
     ∙ ap (λ b. replied (dropped w d) (reply_refused (fault_of f) false b r.closes) r.closes) bare))
     (c.in-Err.ensures.answer w p stands found holds)
-    (subst (λ l. RepliesTo c.refuse.result c.in-Err.error false c.args.patch.bare c.args.patch.closes l c.refuse.new.out.items) back
+    (subst (λ l. RepliesTo c.refuse.result c.in-Err.error false c.args.patch.bare c.args.patch.closes l
+    c.refuse.new.out.items) back
     c.refuse.ensures.answer)
 
 pub returns-in-Err-clause-unmade : goal.returns-in-Err-clause-unmade

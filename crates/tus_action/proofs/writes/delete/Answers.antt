@@ -20,5 +20,6 @@ returns-in-Err-clause-answer g c = λ w r stands bare closes.
     (λ f. sym (ap (λ b. replied w (reply_refused (fault_of f) false c.args.bare b) b) closes
     ∙ ap (λ b. replied w (reply_refused (fault_of f) false b r.closes) r.closes) bare))
     (c.in-Err.ensures.answer w stands)
-    (subst (λ l. RepliesOnly c.refused.result c.in-Err.error false c.args.bare c.args.closes l c.refused.new.out.items) back
+    (subst (λ l. RepliesOnly c.refused.result c.in-Err.error false c.args.bare c.args.closes l c.refused.new.out.items)
+    back
     c.refused.ensures.answer)
