@@ -113,79 +113,94 @@ fn labels_ask_for_a_conversion(rt: HostRuntime) {
     }
 }
 
-/// Encodings, bytes, and what an upload of them is stored as: UTF-16LE behind its mark, a fault of UTF-8, and a
-/// character that the encoding written lacks, in both modes.
-static TEXTS: [(Encoding, Encoding, Mode, &[u8], Result<&[u8], Fault>); 4] = [
-    (
-        Encoding::Utf8,
-        Encoding::Utf8,
-        Mode::Fatal,
-        b"\xFF\xFEa\0b\0\x53\x30",
-        Ok(b"ab\xE3\x81\x93"),
-    ),
-    (
-        Encoding::Utf8,
-        Encoding::Utf8,
-        Mode::Fatal,
-        b"a\xFFb\xE3\x81",
-        Ok(b"a\xEF\xBF\xBDb\xEF\xBF\xBD"),
-    ),
-    (
-        Encoding::Utf8,
-        Encoding::Windows1252,
-        Mode::Html,
-        b"a\xE3\x81\x93",
-        Ok(b"a&#12371;"),
-    ),
-    (
-        Encoding::Utf8,
-        Encoding::Windows1252,
-        Mode::Fatal,
-        b"a\xE3\x81\x93",
-        Err(Fault::Unencodable),
-    ),
+/// A conversion, bytes so many times, and what an upload of them is stored as.
+struct Input {
+    conversion: Conversion,
+    bytes: &'static [u8],
+    times: usize,
+    text: Result<&'static [u8], Fault>,
+}
+
+/// UTF-16LE after its mark, a fault of UTF-8, a character that the encoding written lacks in both modes, and characters
+/// of which one lies over the first 4,096 bytes.
+static INPUTS: [Input; 5] = [
+    Input {
+        conversion: Conversion {
+            from: Encoding::Utf8,
+            to: Encoding::Utf8,
+            mode: Mode::Fatal,
+        },
+        bytes: b"\xFF\xFEa\0b\0\x53\x30",
+        times: 1,
+        text: Ok(b"ab\xE3\x81\x93"),
+    },
+    Input {
+        conversion: Conversion {
+            from: Encoding::Utf8,
+            to: Encoding::Utf8,
+            mode: Mode::Fatal,
+        },
+        bytes: b"a\xFFb\xE3\x81",
+        times: 1,
+        text: Ok(b"a\xEF\xBF\xBDb\xEF\xBF\xBD"),
+    },
+    Input {
+        conversion: Conversion {
+            from: Encoding::Utf8,
+            to: Encoding::Windows1252,
+            mode: Mode::Html,
+        },
+        bytes: b"a\xE3\x81\x93",
+        times: 1,
+        text: Ok(b"a&#12371;"),
+    },
+    Input {
+        conversion: Conversion {
+            from: Encoding::Utf8,
+            to: Encoding::Windows1252,
+            mode: Mode::Fatal,
+        },
+        bytes: b"a\xE3\x81\x93",
+        times: 1,
+        text: Err(Fault::Unencodable),
+    },
+    Input {
+        conversion: Conversion {
+            from: Encoding::Utf8,
+            to: Encoding::Utf8,
+            mode: Mode::Fatal,
+        },
+        bytes: b"\xE3\x81\x82",
+        times: 1400,
+        text: Ok(b"\xE3\x81\x82"),
+    },
 ];
+
+/// Bytes so many times.
+fn repeated(rt: &impl Abort, alloc: Global, bytes: &[u8], times: usize) -> Vec<u8> {
+    let mut all = Vec::new(alloc);
+    for _ in 0..times {
+        all.extend_from_slice(bytes).expect(rt, "memory for bytes");
+    }
+    all
+}
 
 #[test]
 fn input_is_written_as_it_would_be_stored(rt: HostRuntime) {
     let alloc = rt.alloc();
     let set = IndexSet::new(alloc).expect(&rt, "memory for a set");
-    for (from, to, mode, bytes, text) in TEXTS.iter() {
-        let conversion = Conversion {
-            from: *from,
-            to: *to,
-            mode: *mode,
-        };
+    for input in INPUTS.iter() {
+        let bytes = repeated(&rt, alloc, input.bytes, input.times);
         let mut written = Vec::new(alloc);
-        let mut reader = *bytes;
+        let mut reader = bytes.as_slice();
         match (
-            text_on(alloc, &set, conversion, &mut reader, &mut written),
-            text,
+            text_on(alloc, &set, input.conversion, &mut reader, &mut written),
+            input.text,
         ) {
-            (Ok(()), Ok(text)) => assert_eq!(rt; written.as_slice(), *text),
+            (Ok(()), Ok(text)) => {
+                assert!(rt; written == repeated(&rt, alloc, text, input.times));
+            }
             (ended, text) => assert!(rt; ended.err() == text.err()),
         }
     }
-}
-
-#[test]
-fn character_over_two_pieces_stays_whole(rt: HostRuntime) {
-    let alloc = rt.alloc();
-    let set = IndexSet::new(alloc).expect(&rt, "memory for a set");
-    // 4,096 bytes are 1,365 characters of three bytes and the first byte of one more
-    let mut bytes = Vec::new(alloc);
-    for _ in 0..1400 {
-        bytes
-            .extend_from_slice(b"\xE3\x81\x82")
-            .expect(&rt, "memory for bytes");
-    }
-    let conversion = Conversion {
-        from: Encoding::Utf8,
-        to: Encoding::Utf8,
-        mode: Mode::Fatal,
-    };
-    let mut written = Vec::new(alloc);
-    let ended = text_on(alloc, &set, conversion, &mut bytes.as_slice(), &mut written);
-    assert!(rt; ended.is_ok());
-    assert!(rt; written == bytes);
 }
