@@ -10,4 +10,5 @@ mod Lasting
 mod Utf8
 mod Pieces
 mod Planned
+mod Exported
 mod Surveyed
