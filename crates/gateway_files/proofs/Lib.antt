@@ -12,3 +12,4 @@ mod Pieces
 mod Planned
 mod Exported
 mod Surveyed
+mod Reopened
