@@ -1,9 +1,9 @@
 -- What `export` makes of a folder's files, and what it says of the uploads.
-use Rattle.std.specs.Prelude.{ℕ, List, [], ◌∷◌, ◌++◌, codes, decimal, Option, Some, None}
+use Rattle.std.specs.Prelude.{◌≡◌, ℕ, false, List, [], ◌∷◌, ◌++◌, codes, decimal, Option, Some, None}
 use Rattle.upload_rules.specs.Reading.{text_at}
 use Rattle.upload_rules.specs.Store.{Store, upload_of}
-use Rattle.gateway_files.specs.Folders.{Files, with_file}
-use Rattle.gateway_files.specs.Planning.{Job}
+use Rattle.gateway_files.specs.Folders.{Files, Keeps, with_file}
+use Rattle.gateway_files.specs.Planning.{Job, is_used}
 use Rattle.gateway_files.specs.declared.exporting.Outcome.{Outcome}
 use Rattle.gateway_files.specs.declared.exporting.Outcome.TheVariants.{Exported, There, Incomplete}
 
@@ -24,6 +24,20 @@ exported_one m files job = exported_as files job.1 (text_at m (upload_of m job.0
 abbrev pub exported : Store → Files → List Job → Files
 exported m files [] = files
 exported m files (job ∷ jobs) = exported m (exported_one m files job) jobs
+
+-- each upload that has a file, where there was none of its name and no upload before it has that name: the file holds
+-- exactly its text
+abbrev pub HoldsTexts : Store → List Job → Files → Files → Type 0
+HoldsTexts m jobs before now =
+    (front back : List Job) (number : ℕ) (name : List ℕ) → jobs ≡ front ++ (number, Some name) ∷ back
+    → is_used front name ≡ false → before name ≡ None → now name ≡ Some (text_at m (upload_of m number))
+
+-- some files are held, all that were there among them, and these texts
+pub record Exports (holds : Files → Type 0) (m : Store) (jobs : List Job) (before : Files) : Type 0 where
+  pub now : Files
+  pub held : holds now
+  pub keeps : Keeps before now
+  pub texts : HoldsTexts m jobs before now
 
 -- of each: its text was written into this file, or there is such a file already, or it isn't complete
 abbrev pub outcome_line : ℕ → Outcome → List ℕ

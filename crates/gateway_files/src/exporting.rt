@@ -10,7 +10,7 @@ ghost use Rattle.upload_rules.specs.World.{World};
 ghost use Rattle.spool_image.specs.LeftOnly.{AllShow, IsSpool};
 ghost use Rattle.gateway_files.specs.declared.faults.Fault.{Fault};
 ghost use Rattle.gateway_files.specs.Changing.{Changes, IsChangeFault};
-ghost use Rattle.gateway_files.specs.Exporting.{exported, exported_one, outcome_line, summary_line};
+ghost use Rattle.gateway_files.specs.Exporting.{Exports, exported, exported_one, outcome_line, summary_line};
 ghost use Rattle.gateway_files.specs.Folders.{Files, HoldsAll, with_file};
 ghost use Rattle.gateway_files.specs.Leaving.{LeavesOne};
 ghost use Rattle.gateway_files.specs.Lines.{IsInOrder};
@@ -67,6 +67,8 @@ pub fn export_on<D: Disk + Drop, F: Folder, W: Write>(
     // where it is refused.
     ensures files { (n : ℕ) (m : Store) → IsSpool D.Disk disk n m → (files : Files) → F.holds folder.old files
         → OnOk result.1 (F.holds folder.new (exported m files (jobs_of all m))) }
+    ensures texts { (n : ℕ) (m : Store) → IsSpool D.Disk disk n m → (files : Files) → F.holds folder.old files
+        → OnOk result.1 (Exports (F.holds folder.new) m (jobs_of all m) files) }
     ensures keeps { (files : Files) → F.holds folder.old files → HoldsAll (F.holds folder.new) files }
 
     // The disk shows the same uploads still, and a crash at any moment of it leaves them.
