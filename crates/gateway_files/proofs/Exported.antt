@@ -1,5 +1,5 @@
 -- Texts written into the files of a folder, one after the other.
-use Rattle.std.proofs.Common.{◌≡◌, ◌∙◌, ap, inl, inr, refl, sym, ℕ, ◌+◌, ◌<◌, Bool, true, false, ◌||◌}
+use Rattle.std.proofs.Common.{◌≡◌, ◌∙◌, ◌⊎◌, ap, arith, inl, inr, refl, subst, sym, ℕ, ◌+◌, ◌<◌, Bool, true, false, ◌||◌}
 use Rattle.std.proofs.Common.{List, [], ◌∷◌, ◌++◌, get_or, length, map, take, if◌then◌else◌}
 use Rattle.std.proofs.Common.{Option, Some, None, Result, Ok, Err, OnOk}
 use Rattle.std.specs.Prelude.{bytes_eq}
@@ -7,10 +7,12 @@ use Rattle.std.proofs.lemmas.List.{map-append, take_more}
 use Rattle.std.proofs.lemmas.Slice.Eq.{bytes_eq-Decides}
 use Rattle.tus_request.proofs.LineLemmas.{true_or_false}
 use Rattle.upload_rules.specs.Reading.{text_at}
-use Rattle.upload_rules.specs.Store.{Store, upload_of}
-use Rattle.gateway_files.specs.Exporting.{Exports, HoldsTexts, exported, exported_as, exported_one, new_file}
+use Rattle.upload_rules.specs.Store.{Store, Upload, is_complete, upload_of}
+use Rattle.gateway_files.specs.Exporting.{Exports, HoldsTexts, IsJob, exported, exported_as, exported_one, new_file}
 use Rattle.gateway_files.specs.Folders.{Files, HoldsAll, Keeps}
-use Rattle.gateway_files.specs.Planning.{Job, is_name, is_used, job_shown}
+use Rattle.gateway_files.specs.Naming.{given_name}
+use Rattle.gateway_files.specs.Planning.{Job, file_name, is_name, is_used, job_shown, jobs_from, jobs_of}
+use Rattle.gateway_files.proofs.Named.{AllFit, FitsName, Rises, all_last, all_more, new_name}
 use Rattle.gateway_files.specs.declared.planning.Job as code
 
 exported_last : (m : Store) (files : Files) (jobs : List Job) (job : Job)
@@ -85,29 +87,67 @@ exported_other m files (job ∷ jobs) name differs =
     exported_other m (exported_one m files job) jobs name both.1
     ∙ as_other files job.1 name (text_at m (upload_of m job.0)) both.0
 
-exported_both : (m : Store) (files : Files) (front back : List Job)
-    → exported m files (front ++ back) ≡ exported m (exported m files front) back
-exported_both m files [] back = refl
-exported_both m files (job ∷ front) back = exported_both m (exported_one m files job) front back
+job_of : (jobs : List Job) (job it : Job) → IsJob it (jobs ++ job ∷ []) → IsJob it jobs ⊎ (it ≡ job)
+job_of [] job it (inl same) = inr same
+job_of [] job it (inr never) = absurd never
+job_of (first ∷ jobs) job it (inl same) = inl (inl same)
+job_of (first ∷ jobs) job it (inr later) = elim (job_of jobs job it later) [
+  | inl among ↦ inl (inr among)
+  | inr same ↦ inr same
+]
 
-exported_text : (m : Store) (files : Files) (jobs : List Job) → HoldsTexts m jobs files (exported m files jobs)
-exported_text m files jobs = λ front back number name is unused none.
+-- one job more, of a name that is new
+texts_more : (m : Store) (files : Files) (jobs : List Job) (job : Job)
+    → ((name : List ℕ) → job.1 ≡ Some name → is_used jobs name ≡ false)
+    → HoldsTexts m jobs files (exported m files jobs)
+    → HoldsTexts m (jobs ++ job ∷ []) files (exported m files (jobs ++ job ∷ []))
+texts_more m files jobs job new texts number name is none =
     let text = text_at m (upload_of m number) in
-    let mid : Files = exported m files front in
-    let job : Job = (number, Some name) in
-    ap (λ js. exported m files js name) is
-    ∙ (ap (λ (now : Files). now name) (exported_both m files front (job ∷ back))
-    ∙ exported_keeps m (exported_one m mid job) back name text
-    (new_here (mid name) mid name text (exported_other m files front name unused ∙ none)))
+    let mid : Files = exported m files jobs in
+    ap (λ (now : Files). now name) (exported_last m files jobs job)
+    ∙ elim (job_of jobs job (number, Some name) is) [
+      | inl among ↦ as_keeps mid job.1 (text_at m (upload_of m job.0)) name text (texts number name among none)
+      | inr same ↦
+          let unused = new name (ap (λ (j : Job). j.1) (sym same)) in
+          subst (λ (j : Job). exported_one m mid j name ≡ Some text) same
+          (new_here (mid name) mid name text (exported_other m files jobs name unused ∙ none))
+    ]
 
-pub exports : {T E : Type 0} (result : Result T E) (holds : Files → Type 0) (m : Store) (files : Files)
-    (jobs : List Job) → OnOk result (holds (exported m files jobs)) → OnOk result (Exports holds m jobs files)
-exports (Err e) holds m files jobs held = tt
-exports (Ok t) holds m files jobs held = record {
-  now = exported m files jobs;
+if_fits : (write : Bool) (n k : ℕ) (name : List ℕ) → FitsName n k (Some name)
+    → FitsName n k (if write then Some name else None)
+if_fits true n k name fits = fits
+if_fits false n k name fits = tt
+
+if_unused : (write : Bool) (jobs : List Job) (name other : List ℕ) → is_used jobs name ≡ false
+    → (if write then Some name else None) ≡ Some other → is_used jobs other ≡ false
+if_unused true jobs name other unused same =
+    let one : name ≡ other = cc in subst (λ x. is_used jobs x ≡ false) one unused
+if_unused false jobs name other unused same = absurd (cc)
+
+texts_from : (all : Bool) (m : Store) (files : Files) (jobs : List Job) (n : ℕ) (xs : List (ℕ × Upload)) → Rises n xs
+    → AllFit n jobs → HoldsTexts m jobs files (exported m files jobs)
+    → HoldsTexts m (jobs_from all jobs xs) files (exported m files (jobs_from all jobs xs))
+texts_from all m files jobs n [] rises fits texts = texts
+texts_from all m files jobs n (x ∷ xs) rises fits texts =
+    let write = all || is_complete x.1 in
+    let name = file_name jobs x.0 x.1.metadata in
+    let job : Job = (x.0, if write then Some name else None) in
+    let fit = all_more n x.0 jobs rises.0 fits in
+    let new = new_name jobs x.0 (given_name x.1.metadata) rises.1 fit in
+    texts_from all m files (jobs ++ job ∷ []) (x.0 + 1) xs rises.2
+    (all_last (x.0 + 1) jobs job (all_more x.0 (x.0 + 1) jobs (omega arith) fit)
+    (if_fits write (x.0 + 1) x.0 name new.1))
+    (texts_more m files jobs job (λ other same. if_unused write jobs name other new.0 same) texts)
+
+pub exports : {T E : Type 0} (result : Result T E) (holds : Files → Type 0) (all : Bool) (m : Store) (files : Files)
+    → Rises 0 m.uploads → OnOk result (holds (exported m files (jobs_of all m)))
+    → OnOk result (Exports holds m (jobs_of all m) files)
+exports (Err e) holds all m files rises held = tt
+exports (Ok t) holds all m files rises held = record {
+  now = exported m files (jobs_of all m);
   held = held;
-  keeps = exported_keeps m files jobs;
-  texts = exported_text m files jobs;
+  keeps = exported_keeps m files (jobs_of all m);
+  texts = texts_from all m files [] 0 m.uploads rises tt (λ number name never none. absurd never);
 }
 
 -- each file is there still after both

@@ -1,9 +1,9 @@
 -- What `export` makes of a folder's files, and what it says of the uploads.
-use Rattle.std.specs.Prelude.{◌≡◌, ℕ, false, List, [], ◌∷◌, ◌++◌, codes, decimal, Option, Some, None}
+use Rattle.std.specs.Prelude.{◌≡◌, ◌⊎◌, ℕ, List, [], ◌∷◌, ◌++◌, codes, decimal, Option, Some, None}
 use Rattle.upload_rules.specs.Reading.{text_at}
 use Rattle.upload_rules.specs.Store.{Store, upload_of}
 use Rattle.gateway_files.specs.Folders.{Files, Keeps, with_file}
-use Rattle.gateway_files.specs.Planning.{Job, is_used}
+use Rattle.gateway_files.specs.Planning.{Job}
 use Rattle.gateway_files.specs.declared.exporting.Outcome.{Outcome}
 use Rattle.gateway_files.specs.declared.exporting.Outcome.TheVariants.{Exported, There, Incomplete}
 
@@ -25,12 +25,16 @@ abbrev pub exported : Store → Files → List Job → Files
 exported m files [] = files
 exported m files (job ∷ jobs) = exported m (exported_one m files job) jobs
 
--- each upload that has a file, where there was none of its name and no upload before it has that name: the file holds
--- exactly its text
+-- one of the jobs
+abbrev pub IsJob : Job → List Job → Type 0
+IsJob job [] = ⊥
+IsJob job (first ∷ jobs) = (job ≡ first) ⊎ IsJob job jobs
+
+-- each upload whose text is to be written, where there was no file of its name: the file holds exactly the text
 abbrev pub HoldsTexts : Store → List Job → Files → Files → Type 0
 HoldsTexts m jobs before now =
-    (front back : List Job) (number : ℕ) (name : List ℕ) → jobs ≡ front ++ (number, Some name) ∷ back
-    → is_used front name ≡ false → before name ≡ None → now name ≡ Some (text_at m (upload_of m number))
+    (number : ℕ) (name : List ℕ) → IsJob (number, Some name) jobs → before name ≡ None
+    → now name ≡ Some (text_at m (upload_of m number))
 
 -- some files are held, all that were there among them, and these texts
 pub record Exports (holds : Files → Type 0) (m : Store) (jobs : List Job) (before : Files) : Type 0 where
