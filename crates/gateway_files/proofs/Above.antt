@@ -129,7 +129,8 @@ told x None r t = absurd t
 told x (Some entry) r t = (entry, refl, t)
 
 pub told_next : (long : Bool) (x : IndexSet) (whole out more : List ℕ) (xs : List (ℕ × Upload)) (n : ℕ)
-    (r : Option (Bor Record)) (now : Bor Record) → IsRising (numbers xs) → r ≡ Some now → TellsOf x (above n xs) (option_copied r)
+    (r : Option (Bor Record)) (now : Bor Record) → IsRising (numbers xs) → r ≡ Some now
+    → TellsOf x (above n xs) (option_copied r)
     → out ++ flat_map (upload_line long x) (after n xs) ≡ whole → more ≡ out ++ record_line long now.now
     → more ++ flat_map (upload_line long x) (after now.now.number xs) ≡ whole
 told_next long x whole out more xs n r now rising e t before pushed =

@@ -63,8 +63,8 @@ pub fn export_on<D: Disk + Drop, F: Folder, W: Write>(
     disk: D,
     all: bool,
 ) -> (D, Result<bool, Fault>)
-    // In the folder each upload's text stands in a file of its name, where none was there. What was there stays, also
-    // where it is refused.
+    // The folder holds each text that is to be written, exactly, in a file of its name, where there was none. What it
+    // held before stays, also where it is refused.
     ensures files { (n : ℕ) (m : Store) → IsSpool D.Disk disk n m → (files : Files) → F.holds folder.old files
         → OnOk result.1 (F.holds folder.new (exported m files (jobs_of all m))) }
     ensures texts { (n : ℕ) (m : Store) → IsSpool D.Disk disk n m → (files : Files) → F.holds folder.old files
