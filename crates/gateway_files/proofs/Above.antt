@@ -19,7 +19,7 @@ abbrev pub after : ℕ → List (ℕ × Upload) → List (ℕ × Upload)
 after n [] = []
 after n (x ∷ xs) = if nat_lt n x.0 then x ∷ xs else after n xs
 
-abbrev numbers : List (ℕ × Upload) → List ℕ
+abbrev pub numbers : List (ℕ × Upload) → List ℕ
 numbers xs = map (λ e. e.0) xs
 
 pub none_above : (n : ℕ) (xs : List (ℕ × Upload)) → above n xs ≡ None → after n xs ≡ []
@@ -41,7 +41,7 @@ above_greater n (x ∷ xs) entry e =
       | inr f ↦ above_greater n xs entry (subst (λ b. (if b then Some x else above n xs) ≡ Some entry) f e)
     ]
 
-rising_rest : (x : ℕ × Upload) (xs : List (ℕ × Upload)) → IsRising (numbers (x ∷ xs)) → IsRising (numbers xs)
+pub rising_rest : (x : ℕ × Upload) (xs : List (ℕ × Upload)) → IsRising (numbers (x ∷ xs)) → IsRising (numbers xs)
 rising_rest x xs rising i j less within = rising (suc i) (suc j) (omega (arith, less)) (omega (arith, within))
 
 -- all after the first are greater

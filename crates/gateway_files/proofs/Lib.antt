@@ -10,4 +10,7 @@ mod Lasting
 mod Utf8
 mod Pieces
 mod Planned
+mod Named
+mod Exported
 mod Surveyed
+mod Reopened

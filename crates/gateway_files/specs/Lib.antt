@@ -10,6 +10,7 @@ pub mod Leaving
 pub mod Deleting
 pub mod Naming
 pub mod Planning
+pub mod Folders
 pub mod Exporting
 pub mod Surveying
 pub mod Transcoding

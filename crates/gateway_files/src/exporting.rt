@@ -1,17 +1,21 @@
 //! The texts of a spool's uploads, written into files.
-ghost use Rattle.std.specs.Prelude.{◌≡◌, [], ◌∷◌, ℕ, Err, IfErr, IsErrOf, IsOk, OnOk};
+ghost use Rattle.std.specs.Prelude.{◌≡◌, [], ◌∷◌, ℕ, List, Err, IfErr, IsErrOf, IsOk, OnOk, Some, map};
 ghost use Rattle.std.specs.Io.KnownBytes.{Appends};
 ghost use Rattle.spool_disk.specs.Disk.{Counts};
 ghost use Rattle.spool_load.specs.Refusals.{HasOtherVersion, IsDamaged, IsNoSpool};
 ghost use Rattle.upload_rules.specs.Answers.{Counts as Fails, Quiet};
-ghost use Rattle.upload_rules.specs.Store.{Store};
+ghost use Rattle.upload_rules.specs.Reading.{text_at};
+ghost use Rattle.upload_rules.specs.Store.{Store, upload_of};
 ghost use Rattle.upload_rules.specs.World.{World};
 ghost use Rattle.spool_image.specs.LeftOnly.{AllShow, IsSpool};
 ghost use Rattle.gateway_files.specs.declared.faults.Fault.{Fault};
 ghost use Rattle.gateway_files.specs.Changing.{Changes, IsChangeFault};
-ghost use Rattle.gateway_files.specs.Exporting.{outcome_line, summary_line};
+ghost use Rattle.gateway_files.specs.Exporting.{Exports, exported, exported_one, outcome_line, summary_line};
+ghost use Rattle.gateway_files.specs.Folders.{Files, HoldsAll, with_file};
 ghost use Rattle.gateway_files.specs.Leaving.{LeavesOne};
+ghost use Rattle.gateway_files.specs.Lines.{IsInOrder};
 ghost use Rattle.gateway_files.specs.Listing.{ListRefusedFor, RefusesListAs};
+ghost use Rattle.gateway_files.specs.Planning.{job_shown, jobs_of};
 
 use crate::copies::copy_text;
 use crate::failures::{Failure, Task};
@@ -59,6 +63,14 @@ pub fn export_on<D: Disk + Drop, F: Folder, W: Write>(
     disk: D,
     all: bool,
 ) -> (D, Result<bool, Fault>)
+    // The folder holds each text that is to be written, exactly, in a file of its name, where there was none. What it
+    // held before stays, also where it is refused.
+    ensures files { (n : ℕ) (m : Store) → IsSpool D.Disk disk n m → (files : Files) → F.holds folder.old files
+        → OnOk result.1 (F.holds folder.new (exported m files (jobs_of all m))) }
+    ensures texts { (n : ℕ) (m : Store) → IsSpool D.Disk disk n m → (files : Files) → F.holds folder.old files
+        → OnOk result.1 (Exports (F.holds folder.new) m (jobs_of all m) files) }
+    ensures keeps { (files : Files) → F.holds folder.old files → HoldsAll (F.holds folder.new) files }
+
     // The disk shows the same uploads still, and a crash at any moment of it leaves them.
     ensures shows { (n : ℕ) (m : Store) → IsSpool D.Disk disk n m → IsOk result.1 → AllShow D.Disk result.0 n m }
     ensures lasts { (n : ℕ) (m : Store) → IsSpool D.Disk disk n m → LeavesOne D.Disk disk result.0 n m (m ∷ []) }
@@ -93,6 +105,9 @@ fn export_uploads<W: Write, F: Folder, U: Uploads>(
     uploads: &mut U,
     all: bool,
 ) -> Result<bool, Fault>
+    ensures files { (w : World) → U.stands uploads.old w → IsInOrder w.store → (files : Files)
+        → F.holds folder.old files → OnOk result (F.holds folder.new (exported w.store files (jobs_of all w.store))) }
+    ensures keeps { (files : Files) → F.holds folder.old files → HoldsAll (F.holds folder.new) files }
     ensures stands { (w : World) → U.stands uploads.old w → OnOk result (U.stands uploads.new w) }
     ensures crash { Quiet (U.moment uploads.old) (U.moment uploads.new) (U.left_only uploads.old)
         (U.left_only uploads.new) }
@@ -119,6 +134,9 @@ fn do_jobs<W: Write, F: Folder, U: Uploads>(
     uploads: &mut U,
     jobs: &[Job],
 ) -> Result<Done, Fault>
+    ensures files { (w : World) → U.stands uploads.old w → (files : Files) → F.holds folder.old files
+        → OnOk result (F.holds folder.new (exported w.store files (map job_shown jobs.now))) }
+    ensures keeps { (files : Files) → F.holds folder.old files → HoldsAll (F.holds folder.new) files }
     ensures stands { (w : World) → U.stands uploads.old w → OnOk result (U.stands uploads.new w) }
     ensures crash { Quiet (U.moment uploads.old) (U.moment uploads.new) (U.left_only uploads.old)
         (U.left_only uploads.new) }
@@ -157,6 +175,9 @@ fn do_job<'j, W: Write, F: Folder, U: Uploads>(
     uploads: &mut U,
     job: &'j Job,
 ) -> Result<Outcome<'j>, Fault>
+    ensures files { (w : World) → U.stands uploads.old w → (files : Files) → F.holds folder.old files
+        → OnOk result (F.holds folder.new (exported_one w.store files (job_shown job.now))) }
+    ensures keeps { (files : Files) → F.holds folder.old files → HoldsAll (F.holds folder.new) files }
     ensures stands { (w : World) → U.stands uploads.old w → OnOk result (U.stands uploads.new w) }
     ensures crash { Quiet (U.moment uploads.old) (U.moment uploads.new) (U.left_only uploads.old)
         (U.left_only uploads.new) }
@@ -174,6 +195,9 @@ fn export_job<'j, F: Folder, U: Uploads>(
     uploads: &mut U,
     job: &'j Job,
 ) -> Result<Outcome<'j>, Fault>
+    ensures files { (w : World) → U.stands uploads.old w → (files : Files) → F.holds folder.old files
+        → OnOk result (F.holds folder.new (exported_one w.store files (job_shown job.now))) }
+    ensures keeps { (files : Files) → F.holds folder.old files → HoldsAll (F.holds folder.new) files }
     ensures stands { (w : World) → U.stands uploads.old w → OnOk result (U.stands uploads.new w) }
     ensures crash { Quiet (U.moment uploads.old) (U.moment uploads.new) (U.left_only uploads.old)
         (U.left_only uploads.new) }
@@ -197,6 +221,11 @@ fn write_text<F: Folder, U: Uploads>(
     uploads: &mut U,
     number: u64,
 ) -> Result<(), Fault>
+    ensures files { (w : World) → U.stands uploads.old w → (files : Files) (name : List ℕ)
+        → F.makes folder.old files name → F.File.contents file ≡ Some []
+        → OnOk result (F.holds folder.new (with_file files name (text_at w.store (upload_of w.store number)))) }
+    ensures keeps { (files : Files) (name : List ℕ) → F.makes folder.old files name
+        → HoldsAll (F.holds folder.new) files }
     ensures stands { (w : World) → U.stands uploads.old w → OnOk result (U.stands uploads.new w) }
     ensures crash { Quiet (U.moment uploads.old) (U.moment uploads.new) (U.left_only uploads.old)
         (U.left_only uploads.new) }

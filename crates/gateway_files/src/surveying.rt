@@ -1,12 +1,18 @@
 //! How much of a spool is in use.
-ghost use Rattle.std.specs.Prelude.{◌≡◌, ◌↔◌, ℕ, Err, IfOk, OnOk, Some};
-ghost use Rattle.spool_disk.specs.Disk.{Counts};
+ghost use Rattle.std.specs.Prelude.{◌≡◌, ◌↔◌, ℕ, Err, IfErr, IfOk, OnOk, Some};
+ghost use Rattle.spool_disk.specs.Disk.{Counts, IsImage, Keeps};
 ghost use Rattle.spool_disk.specs.Views.{Lasts};
+ghost use Rattle.spool_journal.specs.Image.{journal_pages, overlaid};
+ghost use Rattle.spool_journal.specs.Phases.{Settled};
 ghost use Rattle.spool_kept.specs.Loads.{LoadsAs};
+ghost use Rattle.spool_load.specs.Loaded.{FoundOn};
+ghost use Rattle.spool_load.specs.Reads.{NeedsReplay};
+ghost use Rattle.spool_load.specs.Refusals.{HasOtherVersion, IsDamaged, IsNoSpool, NotFoundFor, RefusedFor};
 ghost use Rattle.upload_rules.specs.Store.{Store};
 ghost use Rattle.upload_rules.specs.World.{at_rest};
 ghost use Rattle.spool_image.specs.LeftOnly.{AllShow, IsSpool, LeftOrShows};
-ghost use Rattle.spool_image.specs.Spool.{IsFault, OpensAs, SpoolStands, disk_of};
+ghost use Rattle.spool_image.specs.Opening.{ReadsSame, Unwritten};
+ghost use Rattle.spool_image.specs.Spool.{IsFault, OpensAs, OpensFrom, RefusesAs, SpoolStands, disk_of};
 ghost use Rattle.gateway_files.specs.Surveying.{disk_left};
 
 use spool_blocks::SLOTS;
@@ -43,6 +49,21 @@ pub fn open_surveyed<D: Disk>(alloc: Global, disk: D) -> Result<(Spool<D>, Surve
         → OpensAs result (λ opened. SpoolStands opened.0 (at_rest m (Some n))) }
     ensures blocks { (n : ℕ) (m : Store) → IsSpool D.Disk disk n m → IfOk result (λ opened. opened.1.blocks ≡ n) }
 
+    // What is opened is a sound spool, and it is what a read shows. Each refusal has its reason, and each reason is
+    // answered so, unless memory or the device refuses it.
+    ensures sound { D.honest disk → IfOk result (λ opened. OpensFrom (D.size disk) (D.seen disk) opened.0) }
+    ensures refused { D.honest disk → IfErr result (λ e. RefusedFor (D.size disk) (D.seen disk) e.1) }
+    ensures not_a_spool { D.honest disk → IsNoSpool (D.size disk) (D.seen disk)
+        → RefusesAs result OpenFault.NotASpool }
+    ensures version { D.honest disk → HasOtherVersion (D.size disk) (D.seen disk)
+        → RefusesAs result OpenFault.Version }
+    ensures damaged { D.honest disk → IsDamaged (D.size disk) (D.seen disk) → RefusesAs result OpenFault.Damaged }
+
+    // Where no journal is to be replayed it writes nothing: every image is one from before, and so is what a read
+    // gives.
+    ensures unwritten { D.honest disk → Unwritten D.Disk disk (disk_left result) }
+    ensures same { D.honest disk → ReadsSame D.Disk disk (disk_left result) (IsFault result) }
+
     // Every image shows these then, and a crash during it leaves what it might have left before, or what shows them.
     ensures shows { (n : ℕ) (m : Store) → IsSpool D.Disk disk n m
         → IfOk result (λ opened. AllShow D.Disk (disk_of opened.0) n m) }
@@ -67,6 +88,15 @@ fn find_whole<D: Disk>(disk: &mut D) -> Result<Found, OpenFault>
     ensures size { D.size disk.new ≡ D.size disk.old }
     ensures honest { D.honest disk.old ↔ D.honest disk.new }
     ensures counts { Counts (result ≡ Err OpenFault.DiskFault) (D.failures disk.old) (D.failures disk.new) }
+    ensures on { D.honest disk.old → IfOk result (FoundOn (D.size disk.old) (D.seen disk.old)) }
+    ensures refused { D.honest disk.old → IfErr result (NotFoundFor (D.size disk.old) (D.seen disk.old)) }
+    ensures settled { D.honest disk.old → IfOk result (λ found.
+        Settled (journal_pages found.layout) (overlaid (D.seen disk.old)) (D.seen disk.new) (D.loose disk.new)) }
+    ensures unwritten { D.honest disk.old → (NeedsReplay (D.size disk.old) (D.seen disk.old) → ⊥)
+        → Lasts D.Disk disk.old disk.new (IsImage (D.seen disk.old) (D.loose disk.old)) }
+    ensures same { D.honest disk.old → (NeedsReplay (D.size disk.old) (D.seen disk.old) → ⊥)
+        → (result ≡ Err OpenFault.DiskFault → ⊥)
+        → Keeps (D.seen disk.old) (D.seen disk.new) (D.loose disk.old) (D.loose disk.new) }
     ensures found { (n : ℕ) (m : Store) → IsSpool D.Disk disk.old n m → LoadsAs result (λ found. found.layout ≡ n) }
     ensures shows { (n : ℕ) (m : Store) → IsSpool D.Disk disk.old n m → OnOk result (AllShow D.Disk disk.new n m) }
     ensures lasts { (n : ℕ) (m : Store) → IsSpool D.Disk disk.old n m

@@ -21,11 +21,12 @@ const STEPS: &[Step] = &[
     Deferred(5, "from dXRmLTg=, filename bGF0ZXI="),
 ];
 
-/// A folder with a file `4.txt`, whether all uploads are exported or only the complete ones, what is said of them, and
-/// files of the folder then.
-static EXPORTS: [(&str, bool, &[u8], &[(&str, &str)]); 2] = [
+/// A folder, whether it has a file `4.txt`, whether all uploads are exported or only the complete ones, what is said of
+/// them, and files of the folder then.
+static EXPORTS: [(&str, bool, bool, &[u8], &[(&str, &str)]); 3] = [
     (
         "gateway_export_test",
+        true,
         false,
         b"incomplete 1\nexported 2 letter.txt\nexported 3 3.txt\nthere 4 4.txt\nincomplete 5\n\
         exported 2 of 5 uploads\n",
@@ -34,9 +35,18 @@ static EXPORTS: [(&str, bool, &[u8], &[(&str, &str)]); 2] = [
     (
         "gateway_export_all_test",
         true,
+        true,
         b"exported 1 1.txt\nexported 2 letter.txt\nexported 3 3.txt\nthere 4 4.txt\nexported 5 later\n\
         exported 4 of 5 uploads\n",
         &[("1.txt", "hello"), ("4.txt", "mine"), ("later", "")],
+    ),
+    (
+        "gateway_export_empty_test",
+        false,
+        false,
+        b"incomplete 1\nexported 2 letter.txt\nexported 3 3.txt\nexported 4 4.txt\nincomplete 5\n\
+        exported 3 of 5 uploads\n",
+        &[("letter.txt", "ab"), ("3.txt", "cd"), ("4.txt", "ef")],
     ),
 ];
 
@@ -47,15 +57,17 @@ fn texts_are_written_into_files(rt: HostRuntime) {
     let (mut disk, fault, written) = ran(alloc, &talk, fresh(&rt, alloc, 16, None));
     assert_eq!(rt; fault, None);
     assert_eq!(rt; written, talk.wanted);
-    for (folder, all, said, files) in EXPORTS.iter() {
+    for (folder, there, all, said, files) in EXPORTS.iter() {
         let _ = fs::remove_dir_all(&rt, *folder);
         fs::create_dir(&rt, *folder).expect(&rt, "a folder");
-        let there = format!(in alloc; "{folder}/4.txt").expect(&rt, "memory for a path");
-        fs::write(&rt, there.as_str(), "mine").expect(&rt, "a file");
+        if *there {
+            let path = format!(in alloc; "{folder}/4.txt").expect(&rt, "memory for a path");
+            fs::write(&rt, path.as_str(), "mine").expect(&rt, "a file");
+        }
         let mut into = FileFolder::find(&rt, alloc, *folder).expect(&rt, "a folder");
         let mut lines = Vec::new(alloc);
         let (after, exported) = export_on(alloc, &mut lines, &mut into, disk, *all);
-        assert!(rt; exported == Ok(false));
+        assert!(rt; exported == Ok(!*there));
         assert_eq!(rt; lines.as_slice(), *said);
         for (name, text) in files.iter() {
             let path = format!(in alloc; "{folder}/{name}").expect(&rt, "memory for a path");

@@ -1,6 +1,9 @@
-use Rattle.std.proofs.Common.{◌≡◌}
+use Rattle.std.proofs.Common.{◌≡◌, map, take}
 use Rattle.upload_rules.specs.Answers.{Quiet}
 use Rattle.upload_rules.specs.World.{World}
+use Rattle.gateway_files.specs.Exporting.{exported}
+use Rattle.gateway_files.specs.Folders.{Files, HoldsAll}
+use Rattle.gateway_files.specs.Planning.{job_shown}
 use Rattle.gateway_files.proofs.exporting.do_jobs.Given as goal
 
 abbrev pub invariant-loop-job : goal.invariant-loop-job
@@ -9,3 +12,6 @@ invariant-loop-job g l =
     × Quiet (g.U.Uploads.moment l.fn.uploads) (g.U.Uploads.moment l.uploads) (g.U.Uploads.left_only l.fn.uploads)
     (g.U.Uploads.left_only l.uploads)
     × ((w : World) → g.U.Uploads.stands l.fn.uploads w → g.U.Uploads.stands l.uploads w)
+    × ((w : World) → g.U.Uploads.stands l.fn.uploads w → (files : Files) → g.F.Folder.holds l.fn.folder files
+    → g.F.Folder.holds l.folder (exported w.store files (map job_shown (take l.job-index l.jobs))))
+    × ((files : Files) → g.F.Folder.holds l.fn.folder files → HoldsAll (g.F.Folder.holds l.folder) files)

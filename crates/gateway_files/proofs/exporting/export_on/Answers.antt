@@ -5,10 +5,23 @@ use Rattle.spool_image.specs.contracts.spool.SpoolUploads.TheImpl.Laws.{durable-
 use Rattle.spool_kept.specs.declared.error.OpenFault.TheVariants.{Damaged, Version}
 use Rattle.upload_rules.specs.World.{at_rest}
 use Rattle.gateway_files.specs.Leaving.{LastsOver}
+use Rattle.gateway_files.proofs.Exported.{exports}
+use Rattle.gateway_files.proofs.InOrder.{in_order}
+use Rattle.gateway_files.proofs.Named.{spool_rises}
 use Rattle.gateway_files.proofs.Lasting.{all_show, lasts_over, when_ok}
 use Rattle.gateway_files.proofs.Pieces.{quiet_limits}
 use Rattle.gateway_files.proofs.Refusals.{refused_as}
 use Rattle.gateway_files.proofs.exporting.export_on.Goals as goal
+
+pub returns-in-Ok-clause-files : goal.returns-in-Ok-clause-files
+returns-in-Ok-clause-files g c n m is =
+    c.export_uploads-exported.ensures.files (at_rest m (Some n)) (c.in-Ok.ensures.stands n m is)
+    (in_order g.D.Disk c.args.disk n m is)
+
+pub returns-in-Ok-clause-texts : goal.returns-in-Ok-clause-texts
+returns-in-Ok-clause-texts g c n m is files held =
+    exports c.export_uploads-exported.result (g.F.Folder.holds c.export_uploads-exported.new.folder) c.args.all m files
+    (spool_rises g.D.Disk c.args.disk n m is) (returns-in-Ok-clause-files g c n m is files held)
 
 pub returns-in-Ok-clause-shows : goal.returns-in-Ok-clause-shows
 returns-in-Ok-clause-shows g c n m is ok =

@@ -1,0 +1,20 @@
+-- The files of a folder.
+use Rattle.std.specs.Prelude.{◌≡◌, List, Option, Some, ℕ, bytes_eq, if◌then◌else◌}
+
+-- the content of the file of each name, where there is one
+abbrev pub Files : Type 0
+Files = List ℕ → Option (List ℕ)
+
+-- with these bytes under this name, and all else as it was
+abbrev pub with_file : Files → List ℕ → List ℕ → Files
+with_file files name bytes = λ other. if bytes_eq other name then Some bytes else files other
+
+-- each file that was there is there still, with the same content
+abbrev pub Keeps : Files → Files → Type 0
+Keeps files files' = (name bytes : List ℕ) → files name ≡ Some bytes → files' name ≡ Some bytes
+
+-- some files are held, and among them all of these
+pub record HoldsAll (holds : Files → Type 0) (files : Files) : Type 0 where
+  pub now : Files
+  pub held : holds now
+  pub keeps : Keeps files now
