@@ -21,8 +21,7 @@ returns-clause-said g c honest bytes still said fits stands =
 
 pub returns-clause-stands : goal.returns-clause-stands
 returns-clause-stands g c honest bytes still =
-    let here : slot_place c.args.layout.now c.args.slot ≡ c.slot_place.result + 0 =
-    omega (arith, c.slot_place.ensures) in
+    let here : slot_place c.args.layout.now c.args.slot ≡ c.slot_place.result = omega (arith, c.slot_place.ensures) in
     if_ok_more c.kept_of.result
     (λ kept padded. padded_back bytes _ (slot_place c.args.layout.now c.args.slot) c.read_at.new.buf
     (slot_bytes c.args.version kept)
