@@ -4,7 +4,8 @@ use crate::spools::ran;
 use crate::talks::Step::{Added, Deferred, Made, Open};
 use crate::talks::{Step, Talk};
 use gateway_files::{
-    Failure, export_file, format_file, list_file, list_on, open_spool, upgrade_file,
+    Failure, export_file, format_file, list_file, list_on, open_spool, say_formatted, say_read,
+    upgrade_file,
 };
 use spool_disk::{Disk, FileDisk};
 use std::alloc::Global;
@@ -14,6 +15,14 @@ use std::process::Abort;
 const FOLDER: &str = "gateway_file_test";
 
 const SPOOL: &str = "gateway_file_test/spool";
+
+const JIS0208: &str = "gateway_file_test/index-jis0208.txt";
+
+const JIS0212: &str = "gateway_file_test/index-jis0212.txt";
+
+/// What is printed, and said on standard error.
+const FORMATTED: &[u8] = b"formatted 16 blocks, 557 pages\n\
+    index files read: 2\nindex-jis0208.txt\nindex-jis0212.txt\n";
 
 const AGAIN: &str = "gateway_again_test";
 
@@ -67,9 +76,13 @@ fn spool_is_made_used_listed_and_upgraded(rt: HostRuntime) {
     let alloc = rt.alloc();
     let _ = fs::remove_dir_all(&rt, FOLDER);
     fs::create_dir(&rt, FOLDER).expect(&rt, "a folder");
+    fs::write(&rt, JIS0208, "0\t3000\n").expect(&rt, "a file");
+    fs::write(&rt, JIS0212, "# two\n108\t02D8\n").expect(&rt, "a file");
     let made = format_file(&rt, alloc, SPOOL, 16, FOLDER).expect(&rt, "a spool");
-    assert_eq!(rt; made.pages, 557);
-    assert!(rt; made.read.is_empty());
+    let mut lines = Vec::new(alloc);
+    say_formatted(&mut lines, 16, made.pages).expect(&rt, "a line");
+    say_read(&mut lines, made.read.as_slice()).expect(&rt, "lines");
+    assert_eq!(rt; lines.as_slice(), FORMATTED);
     let talk = Talk::new(&rt, alloc, STEPS);
     let disk = open_spool(&rt, SPOOL).expect(&rt, "a new spool");
     let (disk, fault, written) = ran(alloc, &talk, disk);
@@ -106,6 +119,16 @@ fn spool_stays_as_it_is(rt: HostRuntime) {
     let before = fs::read(&rt, "gateway_again_test/spool").expect(&rt, "its bytes");
     let again = format_file(&rt, alloc, "gateway_again_test/spool", 32, AGAIN).map(drop);
     fails(&rt, alloc, again, 2, "refused: 13 AlreadySpool");
+    let index = "gateway_again_test/index-jis0212.txt";
+    fs::write(&rt, index, "0\t3000\n8836\t3000\n").expect(&rt, "a file");
+    let unread = format_file(&rt, alloc, "gateway_again_test/other", 16, AGAIN).map(drop);
+    fails(
+        &rt,
+        alloc,
+        unread,
+        2,
+        "refused: 4 Range index-jis0212.txt 2",
+    );
     let after = fs::read(&rt, "gateway_again_test/spool").expect(&rt, "its bytes");
     assert_eq!(rt; before.len(), 557 * 4096);
     assert!(rt; before == after);

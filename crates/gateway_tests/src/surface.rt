@@ -1,16 +1,11 @@
 //! What the program says, and the statuses that it ends with.
 
 use enc_index::ReadError;
-use gateway_files::{Failure, Fault, Noted, ended, format_file, say_formatted, say_read};
+use gateway_files::{Failure, Fault, Noted, ended};
 use gateway_orders::{USAGE, read_order, say_usage};
 use std::alloc::Global;
-use std::fs;
 use std::io::{self, ErrorKind, Read, Write};
 use std::process::Abort;
-
-const FOLDER: &str = "gateway_surface_test";
-
-const SPOOL: &str = "gateway_surface_test/spool";
 
 /// Command lines that are none, and whether it is help that they ask for.
 static LINES: [(&[&str], bool); 5] = [
@@ -57,49 +52,6 @@ impl Write for Lost {
     fn flush(&mut self) -> io::Result<()> {
         Ok(())
     }
-}
-
-#[test]
-fn format_says_what_it_did(rt: HostRuntime) {
-    let alloc = rt.alloc();
-    let _ = fs::remove_dir_all(&rt, FOLDER);
-    fs::create_dir(&rt, FOLDER).expect(&rt, "a folder");
-    fs::write(&rt, "gateway_surface_test/index-jis0208.txt", "0\t3000\n").expect(&rt, "a file");
-    fs::write(
-        &rt,
-        "gateway_surface_test/index-jis0212.txt",
-        "# two\n108\t02D8\n",
-    )
-    .expect(&rt, "a file");
-    let made = format_file(&rt, alloc, SPOOL, 16, FOLDER).expect(&rt, "a spool");
-    let mut out = Vec::new(alloc);
-    say_formatted(&mut out, 16, made.pages).expect(&rt, "a line");
-    assert_eq!(rt;
-        out.as_slice(),
-        "formatted 16 blocks, 557 pages\n".as_bytes()
-    );
-    let mut err = Vec::new(alloc);
-    say_read(&mut err, made.read.as_slice()).expect(&rt, "lines");
-    assert_eq!(rt;
-        err.as_slice(),
-        "index files read: 2\nindex-jis0208.txt\nindex-jis0212.txt\n".as_bytes()
-    );
-    fs::write(
-        &rt,
-        "gateway_surface_test/index-jis0212.txt",
-        "0\t3000\n8836\t3000\n",
-    )
-    .expect(&rt, "a file");
-    let unread = format_file(&rt, alloc, "gateway_surface_test/other", 16, FOLDER).map(drop);
-    let failure = unread.expect_err(&rt, "a line out of range");
-    tells(
-        &rt,
-        alloc,
-        failure,
-        2,
-        "refused: 4 Range index-jis0212.txt 2\n",
-    );
-    fs::remove_dir_all(&rt, FOLDER).expect(&rt, "a folder");
 }
 
 #[test]
