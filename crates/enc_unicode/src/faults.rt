@@ -59,9 +59,7 @@ fn push_little_ascii(bytes: &[u8], batch: &mut Batch) -> usize
 
 /// Takes faults or a little ASCII in front, and says how many bytes they are. Where they are none, the batch is
 /// unchanged.
-///
-/// Never inlined: the loop over a block would else hold less in registers, also where faults are rare.
-#[inline(never)]
+#[inline(always)]
 pub fn push_few(bytes: &[u8], batch: &mut Batch) -> usize
     requires some { 0 < length bytes.now }
     requires room { length batch.old + 12 * length bytes.now ≤ ROOM }
