@@ -134,38 +134,41 @@ fn is_told(rt: &impl Abort, alloc: Global, first: First, step: u64, turns: u64) 
 
 const MILLIS: u64 = 1000;
 
-/// What the first client does, and how many microseconds a turn takes; after so many turns the last one has no place
-/// yet, and after so many more it is told.
-const KEEPERS: [(First, u64, u64, u64); 8] = [
+/// What the first client does, how many microseconds a turn takes, how many turns there are, and whether the last client
+/// is told something in them.
+static KEEPERS: [(First, u64, u64, bool); 17] = [
     // between requests
-    ((OPTIONS, b"", true), 10 * MILLIS, 17, 3),
+    ((OPTIONS, b"", true), 10 * MILLIS, 17, false),
+    ((OPTIONS, b"", true), 10 * MILLIS, 20, true),
     // it asks again and again: ten seconds
-    ((OPTIONS, OPTIONS, true), 10 * MILLIS, 1000, 10),
+    ((OPTIONS, OPTIONS, true), 10 * MILLIS, 1000, false),
+    ((OPTIONS, OPTIONS, true), 10 * MILLIS, 1010, true),
     // a head that isn't whole: ten seconds
-    ((HALF_A_HEAD, b"", true), 100 * MILLIS, 100, 10),
-    ((HALF_A_HEAD, b"a", true), 100 * MILLIS, 100, 10),
+    ((HALF_A_HEAD, b"", true), 100 * MILLIS, 100, false),
+    ((HALF_A_HEAD, b"", true), 100 * MILLIS, 110, true),
+    ((HALF_A_HEAD, b"a", true), 100 * MILLIS, 100, false),
+    ((HALF_A_HEAD, b"a", true), 100 * MILLIS, 110, true),
     // a body that brings nothing, a byte at a time, or nothing after it was told to go on: ten seconds
-    ((BODY, b"", true), 100 * MILLIS, 100, 10),
-    ((BODY, b"a", true), 100 * MILLIS, 100, 10),
-    ((EXPECTS, b"", true), 100 * MILLIS, 100, 10),
+    ((BODY, b"", true), 100 * MILLIS, 100, false),
+    ((BODY, b"", true), 100 * MILLIS, 110, true),
+    ((BODY, b"a", true), 100 * MILLIS, 100, false),
+    ((BODY, b"a", true), 100 * MILLIS, 110, true),
+    ((EXPECTS, b"", true), 100 * MILLIS, 100, false),
+    ((EXPECTS, b"", true), 100 * MILLIS, 110, true),
+    // a body of 5,120 bytes a second: as long as it lasts
+    ((BODY, &[b'a'; 1024], true), 100 * MILLIS, 250, false),
     // a reply that isn't read: a minute
-    ((OPTIONS, b"", false), 100 * MILLIS, 600, 20),
+    ((OPTIONS, b"", false), 100 * MILLIS, 600, false),
+    ((OPTIONS, b"", false), 100 * MILLIS, 620, true),
 ];
 
 #[test]
 fn one_that_waits_gets_the_place_of_one_that_keeps_its_own(rt: HostRuntime) {
-    for (first, step, turns, more) in KEEPERS {
-        assert!(rt; !is_told(&rt, rt.alloc(), first, step, turns), "{turns}");
-        assert!(rt;
-            is_told(&rt, rt.alloc(), first, step, turns.saturating_add(more)),
+    for (first, step, turns, told) in KEEPERS.iter() {
+        assert_eq!(rt;
+            is_told(&rt, rt.alloc(), *first, *step, *turns),
+            *told,
             "{turns}"
         );
     }
-}
-
-/// A body of 5,120 bytes a second keeps its place as long as it lasts.
-#[test]
-fn fast_body_keeps_its_place(rt: HostRuntime) {
-    let first: First = (BODY, &[b'a'; 1024], true);
-    assert!(rt; !is_told(&rt, rt.alloc(), first, 100 * MILLIS, 250));
 }

@@ -212,21 +212,16 @@ fn stay_failed(rt: &impl Abort, alloc: Global, kind: Crash) {
 
 #[test]
 fn calls_that_fail_once(rt: HostRuntime) {
-    fail_once(&rt, rt.alloc(), None);
-    fail_once(&rt, rt.alloc(), Some(0));
-    fail_once(&rt, rt.alloc(), Some(165));
+    for fill in [None, Some(0), Some(165)] {
+        fail_once(&rt, rt.alloc(), fill);
+    }
 }
 
 #[test]
-fn disks_that_stop_and_lose_or_keep_bytes(rt: HostRuntime) {
-    stay_failed(&rt, rt.alloc(), Crash::Old);
-    stay_failed(&rt, rt.alloc(), Crash::New);
-}
-
-#[test]
-fn disks_that_stop_and_tear_bytes(rt: HostRuntime) {
-    stay_failed(&rt, rt.alloc(), Crash::Torn(0));
-    stay_failed(&rt, rt.alloc(), Crash::Torn(165));
+fn disks_that_stop_and_lose_keep_or_tear_bytes(rt: HostRuntime) {
+    for kind in [Crash::Old, Crash::New, Crash::Torn(0), Crash::Torn(165)] {
+        stay_failed(&rt, rt.alloc(), kind);
+    }
 }
 
 #[test]

@@ -237,11 +237,9 @@ fn lines_of_a_log(rt: HostRuntime) {
     let alloc = rt.alloc();
     for (talk, lines) in TALKS.iter() {
         let wanted = timed(&rt, alloc, lines);
-        assert_eq!(rt; logged(&rt, alloc, talk, 512), wanted, "{lines}");
-        assert_eq!(rt;
-            logged(&rt, alloc, talk, 1),
-            wanted,
-            "in single bytes: {lines}"
-        );
+        for size in [1, 512] {
+            let written = logged(&rt, alloc, talk, size);
+            assert_eq!(rt; written, wanted, "{lines} in pieces of {size}");
+        }
     }
 }

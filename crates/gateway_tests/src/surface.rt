@@ -2,30 +2,9 @@
 
 use enc_index::ReadError;
 use gateway_files::{Failure, Fault, Noted, ended};
-use gateway_orders::{USAGE, read_order, say_usage};
 use std::alloc::Global;
 use std::io::{self, ErrorKind, Read, Write};
 use std::process::Abort;
-
-/// Command lines that are none, and whether it is help that they ask for.
-static LINES: [(&[&str], bool); 5] = [
-    (&["gateway"], false),
-    (&["gateway", "list"], false),
-    (
-        &[
-            "gateway",
-            "format",
-            "new",
-            "--blocks",
-            "-1",
-            "--indexes",
-            "idx",
-        ],
-        false,
-    ),
-    (&["gateway", "help"], true),
-    (&["gateway", "list", "--help"], true),
-];
 
 /// A failure is told so, and the program ends with this status.
 fn tells(rt: &impl Abort, alloc: Global, failure: Failure, status: u8, said: &str) {
@@ -85,25 +64,4 @@ fn failures_are_told(rt: HostRuntime) {
         output.error().map(|error| error.kind()),
         Some(ErrorKind::WriteZero)
     );
-}
-
-#[test]
-fn usage_is_told(rt: HostRuntime) {
-    let alloc = rt.alloc();
-    for (line, helps) in LINES.iter() {
-        let mut words = Vec::new(alloc);
-        for word in line.iter() {
-            let word = String::from_str(alloc, word).expect(&rt, "memory for a word");
-            words.push(word).expect(&rt, "memory for words");
-        }
-        let error = read_order(alloc, &words).expect_err(&rt, "no order");
-        let mut out = Vec::new(alloc);
-        let mut err = Vec::new(alloc);
-        let status = say_usage(&error, &mut out, &mut err).expect(&rt, "lines");
-        let wanted = if *helps { 0 } else { USAGE };
-        assert_eq!(rt;
-            (status, out.is_empty(), err.is_empty()),
-            (wanted, !*helps, *helps)
-        );
-    }
 }

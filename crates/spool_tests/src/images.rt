@@ -153,23 +153,17 @@ fn refuse_all(rt: &impl Abort, alloc: Global, disk: MemoryDisk, rows: &[(u64, u8
     assert_eq!(rt; fault, None);
 }
 
-#[test]
-fn damaged_disks_are_refused(rt: HostRuntime) {
-    let (_, fault) = refused(rt.alloc(), small_disk(&rt, rt.alloc()));
-    assert_eq!(rt; fault, Some(OpenFault::NotASpool));
-    // an open gate with a count of 0, another version, a next number of 0, a flag of the index area, a record without a
-    // number below the next, and a block of a free slot
-    let rows = [
-        (4096, 0xA5, OpenFault::Damaged),
-        (283 * 4096 + 3, 9, OpenFault::Version),
-        (283 * 4096 + 11, 0, OpenFault::Damaged),
-        (261 * 4096, 2, OpenFault::Damaged),
-        (284 * 4096 + 7, 1, OpenFault::Damaged),
-        (540 * 4096 + 3, 1, OpenFault::Damaged),
-        (0, 0, OpenFault::NotASpool),
-    ];
-    refuse_all(&rt, rt.alloc(), fresh(&rt, rt.alloc()), &rows);
-}
+/// Bytes that damage a spool without uploads: an open gate with a count of 0, another version, a next number of 0, a flag
+/// of the index area, a record without a number below the next, a block of a free slot, and no spool.
+const DAMAGED_EMPTY: [(u64, u8, OpenFault); 7] = [
+    (4096, 0xA5, OpenFault::Damaged),
+    (283 * 4096 + 3, 9, OpenFault::Version),
+    (283 * 4096 + 11, 0, OpenFault::Damaged),
+    (261 * 4096, 2, OpenFault::Damaged),
+    (284 * 4096 + 7, 1, OpenFault::Damaged),
+    (540 * 4096 + 3, 1, OpenFault::Damaged),
+    (0, 0, OpenFault::NotASpool),
+];
 
 /// A disk with the three uploads.
 fn with_uploads(rt: &impl Abort, alloc: Global) -> MemoryDisk {
@@ -243,9 +237,12 @@ const DAMAGED: [(u64, u8, OpenFault); 25] = [
 ];
 
 #[test]
-fn damaged_uploads_are_refused(rt: HostRuntime) {
+fn damaged_spools_are_refused(rt: HostRuntime) {
+    let (_, fault) = refused(rt.alloc(), small_disk(&rt, rt.alloc()));
+    assert_eq!(rt; fault, Some(OpenFault::NotASpool));
+    refuse_all(&rt, rt.alloc(), fresh(&rt, rt.alloc()), &DAMAGED_EMPTY);
     let mut disk = with_uploads(&rt, rt.alloc());
-    // behind the closed gate a head with a page more than the journal has
+    // after the closed gate a head with a page more than the journal has
     put(&rt, &mut disk, 8192, &[0, 0, 1, 3]);
     refuse_all(&rt, rt.alloc(), disk, &DAMAGED);
 }

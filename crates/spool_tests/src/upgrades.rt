@@ -166,27 +166,19 @@ fn stop_within(rt: &impl Abort, alloc: Global, first: u64, kind: Crash) {
     assert_eq!(rt; (answer, form_of(rt, &mut left)), (Ok(()), NEW));
 }
 
-/// All calls but those of the opening, which writes nothing.
-fn stop_within_the_commit(rt: &impl Abort, alloc: Global, kind: Crash) {
-    let first = calls_of_opening(rt, alloc, old_spool(rt, alloc));
-    stop_within(rt, alloc, first, kind);
-}
-
+/// At each call where bytes are lost, and else at those after the opening, which writes nothing. Torn bytes are zeros, or
+/// that of an open gate.
 #[test]
-fn upgrade_stops_and_bytes_are_lost(rt: HostRuntime) {
-    stop_within(&rt, rt.alloc(), 0, Crash::Old);
-}
-
-#[test]
-fn upgrade_stops_and_bytes_are_kept(rt: HostRuntime) {
-    stop_within_the_commit(&rt, rt.alloc(), Crash::New);
-}
-
-/// To zeros, and to the byte of an open gate.
-#[test]
-fn upgrade_stops_and_bytes_are_torn(rt: HostRuntime) {
-    stop_within_the_commit(&rt, rt.alloc(), Crash::Torn(0));
-    stop_within_the_commit(&rt, rt.alloc(), Crash::Torn(0xA5));
+fn upgrade_stops_and_bytes_are_lost_kept_or_torn(rt: HostRuntime) {
+    let first = calls_of_opening(&rt, rt.alloc(), old_spool(&rt, rt.alloc()));
+    for (from, kind) in [
+        (0, Crash::Old),
+        (first, Crash::New),
+        (first, Crash::Torn(0)),
+        (first, Crash::Torn(0xA5)),
+    ] {
+        stop_within(&rt, rt.alloc(), from, kind);
+    }
 }
 
 /// Changes a byte in each row, and looks how the spool is refused when it is opened, and what an upgrade answers then.

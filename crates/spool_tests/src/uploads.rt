@@ -143,28 +143,25 @@ fn blocks_of_a_dropped_append_come_back(rt: HostRuntime) {
     drop(spool.into_disk());
 }
 
-#[test]
-fn append_wants_no_block_for_what_is_stored(rt: HostRuntime) {
-    let text = vec![in rt.alloc(); b'a'; 40960].expect(&rt, "memory for a text");
-    let mut spool = with_one(&rt, rt.alloc(), 40961);
-    assert_eq!(rt; patched(&mut spool, 1, 0, &text), Ok(40960));
-    assert_eq!(rt; patched(&mut spool, 1, 40960, b"a"), Ok(40961));
-    drop(spool.into_disk());
-}
+/// An upload's length but for its last byte, whether another upload takes a block before that byte comes, and what its
+/// append answers.
+const LAST_BYTES: [(u64, bool, Result<u64, UploadError>); 3] = [
+    (40960, false, Ok(40961)),
+    (61000, false, Ok(61001)),
+    (61000, true, Err(UploadError::Refused(UploadRefusal::Full))),
+];
 
 #[test]
-fn append_wants_a_block_for_the_unfinished_one(rt: HostRuntime) {
-    let text = vec![in rt.alloc(); b'a'; 61000].expect(&rt, "memory for a text");
-    let full = Err(UploadError::Refused(UploadRefusal::Full));
-    // nothing between, or a byte of the other upload
-    for (between, want) in [(false, Ok(61001)), (true, full)] {
-        let mut spool = with_one(&rt, rt.alloc(), 61001);
+fn append_wants_a_block_for_the_unfinished_one_alone(rt: HostRuntime) {
+    for (stored, between, want) in LAST_BYTES {
+        let text = vec![in rt.alloc(); b'a'; stored as usize].expect(&rt, "memory for a text");
+        let mut spool = with_one(&rt, rt.alloc(), stored + 1);
         assert_eq!(rt; spool.create(plain(rt.alloc(), 1)), Ok(2));
-        assert_eq!(rt; patched(&mut spool, 1, 0, &text), Ok(61000));
+        assert_eq!(rt; patched(&mut spool, 1, 0, &text), Ok(stored));
         if between {
             assert_eq!(rt; patched(&mut spool, 2, 0, b"b"), Ok(1));
         }
-        assert_eq!(rt; patched(&mut spool, 1, 61000, b"a"), want);
+        assert_eq!(rt; patched(&mut spool, 1, stored, b"a"), want);
         drop(spool.into_disk());
     }
 }
