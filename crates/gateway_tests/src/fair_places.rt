@@ -1,4 +1,4 @@
-//! Sixteen clients that keep their places, and one more that waits for one.
+//! Clients that keep all places, and one more that waits for one.
 
 use crate::slow_readers::Steps;
 use crate::spools::opened;
@@ -10,6 +10,7 @@ use std::cell::Cell;
 use std::io::{self, ErrorKind, Read, Write};
 use std::net::{Ipv4Addr, OpenListener, OpenStream, SocketAddr};
 use std::process::Abort;
+use tus_session::MOST_OPEN;
 
 const OPTIONS: &[u8] = b"OPTIONS /files HTTP/1.1\r\n\r\n";
 
@@ -68,11 +69,11 @@ impl OpenStream for Guest<'_> {
     }
 }
 
-/// The first of 17 clients says this; fifteen don't read their replies; the last one asks once, and counts what it is
-/// told.
+/// The first client says this; others, who don't read their replies, take all other places; the last one asks once, and
+/// counts what it is told.
 #[derive(Drop)]
 struct Guests<'a> {
-    left: Cell<u32>,
+    left: Cell<usize>,
     first: First<'a>,
     others: &'a Cell<usize>,
     told: &'a Cell<usize>,
@@ -88,7 +89,7 @@ impl<'a> OpenListener for Guests<'a> {
         }
         self.left.set(left - 1);
         let (says, goes_on, reads) = match left {
-            17 => self.first,
+            _ if left == MOST_OPEN + 1 => self.first,
             1 => (OPTIONS, b"" as &[u8], true),
             _ => (OPTIONS, b"" as &[u8], false),
         };
@@ -114,7 +115,7 @@ fn is_told(rt: &impl Abort, alloc: Global, first: First, step: u64, turns: u64) 
     let told = Cell::new(0);
     let others = Cell::new(0);
     let guests = Guests {
-        left: Cell::new(17),
+        left: Cell::new(MOST_OPEN + 1),
         first,
         others: &others,
         told: &told,
@@ -126,7 +127,7 @@ fn is_told(rt: &impl Abort, alloc: Global, first: First, step: u64, turns: u64) 
         served,
         connections: _,
         ended: _,
-    } = serve_on(alloc, &clock, &guests, gateway, 18, turns);
+    } = serve_on(alloc, &clock, &guests, gateway, COMERS + 1, turns);
     assert!(rt; served.is_ok());
     drop(gateway.into_disk());
     told.get() > 0
@@ -134,12 +135,15 @@ fn is_told(rt: &impl Abort, alloc: Global, first: First, step: u64, turns: u64) 
 
 const MILLIS: u64 = 1000;
 
+/// How many clients come, one a turn.
+const COMERS: u64 = MOST_OPEN as u64 + 1;
+
 /// What the first client does, how many microseconds a turn takes, how many turns there are, and whether the last client
 /// is told something in them.
 static KEEPERS: [(First, u64, u64, bool); 17] = [
     // between requests
-    ((OPTIONS, b"", true), 10 * MILLIS, 17, false),
-    ((OPTIONS, b"", true), 10 * MILLIS, 20, true),
+    ((OPTIONS, b"", true), 10 * MILLIS, COMERS, false),
+    ((OPTIONS, b"", true), 10 * MILLIS, COMERS + 3, true),
     // it asks again and again: ten seconds
     ((OPTIONS, OPTIONS, true), 10 * MILLIS, 1000, false),
     ((OPTIONS, OPTIONS, true), 10 * MILLIS, 1010, true),

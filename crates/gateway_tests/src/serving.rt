@@ -11,6 +11,7 @@ use std::io::{self, Read, Write};
 use std::net::{Ipv4Addr, Net, Shutdown, TcpListener, TcpStream};
 use std::process::Abort;
 use std::time::{Clock, Duration};
+use tus_session::MOST_OPEN;
 
 const POST: &[u8] = b"POST /files HTTP/1.1\r\nTus-Resumable: 1.0.0\r\nUpload-Length: 5\r\n\r\n";
 
@@ -191,14 +192,22 @@ fn clients_that_stay_are_served_and_ended_after_a_minute(rt: HostRuntime) {
     let alloc = rt.alloc();
     let listener = listen(&rt);
     let mut clients = Vec::new(alloc);
-    for _ in 0..17 {
+    for _ in 0..MOST_OPEN + 1 {
         clients
             .push(stays(&rt, &listener, OPTIONS))
             .expect(&rt, "memory for a client");
     }
     let clock = Seconds { read: Cell::new(0) };
     let disk = fresh(&rt, alloc, 16, None);
-    let (disk, well) = served(&rt, alloc, &clock, &listener, disk, 17, 30);
+    let (disk, well) = served(
+        &rt,
+        alloc,
+        &clock,
+        &listener,
+        disk,
+        MOST_OPEN as u64 + 1,
+        30,
+    );
     assert!(rt; well);
     for client in clients.iter_mut() {
         is_told(&rt, alloc, client, OPTIONS_REPLY);

@@ -10,6 +10,7 @@ use std::io::{self, ErrorKind, Read, Write};
 use std::net::{Ipv4Addr, OpenListener, OpenStream, SocketAddr};
 use std::process::Abort;
 use std::time::{Clock, Duration};
+use tus_session::MOST_OPEN;
 
 /// Makes an upload of five bytes, then asks for its text.
 const SAYS: &[u8] = b"POST /files HTTP/1.1\r\nTus-Resumable: 1.0.0\r\nUpload-Length: 5\r\n\r\n\
@@ -74,7 +75,7 @@ impl OpenStream for Client<'_> {
 /// Clients that come one after the other: the first one says and takes so much, the others nothing.
 #[derive(Drop)]
 struct Clients<'a> {
-    left: Cell<u32>,
+    left: Cell<usize>,
     pauses: u32,
     told: &'a Cell<usize>,
     others: &'a Cell<usize>,
@@ -89,7 +90,7 @@ impl<'a> OpenListener for Clients<'a> {
             return Err(io::Error::from(ErrorKind::WouldBlock));
         }
         self.left.set(left - 1);
-        let first = left == 16;
+        let first = left == MOST_OPEN;
         let client = Client {
             says: if first { SAYS } else { b"" },
             takes: 10,
@@ -143,12 +144,13 @@ impl Clock for Steps {
 
 const SECOND: u64 = 1_000_000;
 
-/// How many bytes the first of 16 clients is told that pauses for so many writes, in at most 120 turns of a second.
+/// How many bytes the first client is told that pauses for so many writes, in at most 120 turns of a second, while others
+/// have all other places.
 fn told(rt: &impl Abort, alloc: Global, pauses: u32) -> usize {
     let told = Cell::new(0);
     let others = Cell::new(0);
     let clients = Clients {
-        left: Cell::new(16),
+        left: Cell::new(MOST_OPEN),
         pauses,
         told: &told,
         others: &others,
@@ -160,8 +162,8 @@ fn told(rt: &impl Abort, alloc: Global, pauses: u32) -> usize {
         served,
         connections,
         ended: _,
-    } = serve_on(alloc, &clock, &clients, gateway, 17, 120);
-    assert!(rt; served.is_ok() && connections == 16);
+    } = serve_on(alloc, &clock, &clients, gateway, MOST_OPEN as u64 + 1, 120);
+    assert!(rt; served.is_ok() && connections == MOST_OPEN as u64);
     assert_eq!(rt; others.get(), 0);
     drop(gateway.into_disk());
     told.get()
@@ -176,10 +178,10 @@ fn replies_under_way_are_kept_for_a_minute_where_all_places_are_taken(rt: HostRu
 
 /// How many clients come, how many microseconds a turn takes, how many turns are taken, how often the server rests and
 /// for how many nanoseconds in all. A client that comes is something to do.
-const IDLE: [(u32, u64, u64, u32, u64); 6] = [
+const IDLE: [(usize, u64, u64, u32, u64); 6] = [
     (0, SECOND, 20, 20, 200_000_000),
-    (16, SECOND, 16, 0, 0),
-    (15, SECOND, 17, 2, 20_000_000),
+    (MOST_OPEN, SECOND, MOST_OPEN as u64, 0, 0),
+    (MOST_OPEN - 1, SECOND, MOST_OPEN as u64 + 1, 2, 20_000_000),
     (0, 199, 1, 0, 0),
     (0, 200, 1, 1, 6250),
     // a 32nd of 200, 300 .. 2,000 microseconds
@@ -203,7 +205,14 @@ fn idle_server_rests(rt: HostRuntime) {
             served,
             connections: _,
             ended: _,
-        } = serve_on(rt.alloc(), &clock, &clients, gateway, 17, turns);
+        } = serve_on(
+            rt.alloc(),
+            &clock,
+            &clients,
+            gateway,
+            MOST_OPEN as u64 + 1,
+            turns,
+        );
         assert!(rt; served.is_ok());
         let rested = (clock.rests.get(), clock.rested.get());
         assert_eq!(rt;

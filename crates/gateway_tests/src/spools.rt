@@ -8,7 +8,7 @@ use spool_disk::{Crash, Disk, FuseDisk, HiccupDisk, MemoryDisk};
 use spool_image::{OpenFault, Spool};
 use std::alloc::Global;
 use std::process::Abort;
-use tus_session::SessionError;
+use tus_session::{MOST_OPEN, SessionError};
 use upload_rules::Uploads;
 
 /// The steps by which calls are counted, of which there are fewer than 4,096.
@@ -100,7 +100,7 @@ fn all_refused(
     gateway: &mut Gateway<Spool<HiccupDisk<MemoryDisk>>>,
     out: &mut Vec<u8>,
 ) {
-    for conn in 0..17 {
+    for conn in 0..MOST_OPEN + 1 {
         assert!(rt; gateway.opened(conn) == Err(SessionError::Down));
         assert!(rt; gateway.came(conn, POST, out) == Err(SessionError::Down));
         assert!(rt; gateway.more(conn, out) == Err(SessionError::Down));
