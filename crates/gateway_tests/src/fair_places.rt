@@ -138,8 +138,8 @@ const MILLIS: u64 = 1000;
 /// How many clients come, one a turn.
 const COMERS: u64 = MOST_OPEN as u64 + 1;
 
-/// What the first client does, how many microseconds a turn takes, how many turns there are, and whether the last client
-/// is told something in them.
+/// What the first client does, how many microseconds a turn takes, how many turns there are, and whether the last
+/// client is told something in them.
 static KEEPERS: [(First, u64, u64, bool); 17] = [
     // between requests
     ((OPTIONS, b"", true), 10 * MILLIS, COMERS, false),

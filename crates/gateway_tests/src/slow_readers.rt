@@ -144,8 +144,8 @@ impl Clock for Steps {
 
 const SECOND: u64 = 1_000_000;
 
-/// How many bytes the first client is told that pauses for so many writes, in at most 120 turns of a second, while others
-/// have all other places.
+/// How many bytes the first client is told that pauses for so many writes, in at most 120 turns of a second, while
+/// others have all other places.
 fn told(rt: &impl Abort, alloc: Global, pauses: u32) -> usize {
     let told = Cell::new(0);
     let others = Cell::new(0);

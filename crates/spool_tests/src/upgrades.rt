@@ -166,8 +166,8 @@ fn stop_within(rt: &impl Abort, alloc: Global, first: u64, kind: Crash) {
     assert_eq!(rt; (answer, form_of(rt, &mut left)), (Ok(()), NEW));
 }
 
-/// At each call where bytes are lost, and else at those after the opening, which writes nothing. Torn bytes are zeros, or
-/// that of an open gate.
+/// At each call where bytes are lost, and else at those after the opening, which writes nothing. Torn bytes are zeros,
+/// or that of an open gate.
 #[test]
 fn upgrade_stops_and_bytes_are_lost_kept_or_torn(rt: HostRuntime) {
     let first = calls_of_opening(&rt, rt.alloc(), old_spool(&rt, rt.alloc()));
