@@ -1,4 +1,4 @@
--- What the decoder of Shift_JIS keeps.
+-- What the decoder of Shift_JIS keeps, and the pairs that it reads at once.
 use Rattle.std.specs.Prelude.{ℕ, ◌≤◌, ◌≡◌, ◌⊎◌, List, Option, Some, None, length, slice_index_or}
 use Rattle.enc_model.specs.Index.{Index, code}
 use Rattle.enc_model.specs.Japanese.{shift_jis_pair}

@@ -93,7 +93,7 @@ impl Decoder for ShiftJisState {
     ghost calm = { λ t. shift_jis_calm (tables t).jis0208 };
 }
 
-/// The pointer that two bytes stand for in jis0208, or one from `NO_PAIR` on where they aren't a pair.
+/// The pointer that two bytes stand for in jis0208, or a number from `NO_PAIR` on where they stand for none.
 #[inline(always)]
 fn pair_pointer(lead: u8, b: u8) -> u32
     ensures lead { result < 0x8000 → IsShiftJisLead lead }
