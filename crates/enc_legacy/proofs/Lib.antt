@@ -1,3 +1,4 @@
 pub mod SinglesSteps
 pub mod Fronts
 pub mod Strides
+pub mod SjisBytes

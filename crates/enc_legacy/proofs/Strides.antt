@@ -19,7 +19,7 @@ use Rattle.enc_model.proofs.Calm.{shift_jis_calm, euc_jp_calm, iso2022_calm}
 use Rattle.enc_model.specs.Batches.{ArePairs, BatchTook}
 use Rattle.enc_model.specs.BatchLaws.{batch_sink}
 use Rattle.enc_model.proofs.Steps.{steps_none, steps_one, steps_bytes, steps_run, steps_append}
-use Rattle.enc_legacy.specs.ShiftJis.{IsShiftJisLead}
+use Rattle.enc_legacy.specs.ShiftJis.{IsShiftJisLead, IsShiftJisPair}
 use Rattle.enc_legacy.specs.EucJpState.{IsRow}
 use Rattle.enc_legacy.specs.Iso2022State.{IsIso2022Row}
 use Rattle.std.proofs.Common.{slice_index_or}
@@ -81,13 +81,7 @@ pub some_then : {A : Type 0} (o : Option A) (P Q : A → Type 0) → ((x : A) �
 some_then None P Q f p = tt
 some_then (Some x) P Q f p = f x p
 
--- both of what is said where there is one
-pub some_both : {A : Type 0} (o : Option A) (P : Type 0) (Q : A → Type 0) → OnSome o P → IfSome o Q
-    → IfSome o (λ c. P × Q c)
-some_both None P Q p q = tt
-some_both (Some c) P Q p q = (p, q)
-
--- and all of three
+-- all three that are said where there is one
 pub some_three : {A : Type 0} (o : Option A) (P Q : Type 0) (R : A → Type 0) → OnSome o P → OnSome o Q → IfSome o R
     → IfSome o (λ c. P × Q × R c)
 some_three None P Q R p q r = tt
@@ -151,11 +145,11 @@ sjis_two i s rest c e l lead pair =
     rw e (two_read (shift_jis i) (shift_jis_calm i) 0 a 0 rest c l (sjis_lead i a lead)
     (sjis_trail i a (get_or rest 1 0) c lead pair))
 
-pub sjis_pair_steps : (i : Index) (s : ℕ) (r : List (Option ℕ)) → s ≡ 0
-    → ((p : ℕ) → slice_index_or r p None ≡ code i p) → (a b c : ℕ) →
-    IsShiftJisLead a × ((i : Index) → ((p : ℕ) → slice_index_or r p None ≡ code i p) → shift_jis_pair i a b ≡ Some c)
+pub sjis_pair_steps : (i : Index) (s : ℕ) (r : List (Option ℕ)) → s ≡ 0 → length r ≤ 0x8000
+    → ((p : ℕ) → slice_index_or r p None ≡ code i p) → (a b c : ℕ) → IsShiftJisPair r a b c
     → steps (shift_jis i) false s (a ∷ b ∷ []) ≡ record { text = c ∷ []; state = s }
-sjis_pair_steps i s r e codes a b c p =
+sjis_pair_steps i s r e few codes a b c stands =
+    let p = stands few in
     sjis_two i s (a ∷ b ∷ []) c e (omega arith) p.0 (p.1 i codes) ∙ ap (λ z. record {
       text = c ∷ [];
       state = z;

@@ -6,6 +6,7 @@ mod iso2022;
 mod kana;
 mod shift_jis;
 mod single;
+mod sjis_bytes;
 mod stride;
 
 pub use euc_jp::EucJpState;

@@ -1,8 +1,7 @@
 //! The decoder of Shift_JIS.
 
-ghost use Rattle.std.specs.Prelude.{◌≡◌, OnOk, OnSome, IfSome, true, false, ◌<◌, ◌≤◌, ◌+◌, ℕ, [], Some, None};
-ghost use Rattle.std.specs.Prelude.{slice_index_or};
-ghost use Rattle.enc_legacy.specs.ShiftJis.{IsShiftJisLead, IsShiftJisState};
+ghost use Rattle.std.specs.Prelude.{◌≡◌, OnOk, IfSome, true, false, ◌<◌, ◌≤◌, ◌+◌, ℕ, [], Some, None};
+ghost use Rattle.enc_legacy.specs.ShiftJis.{IsShiftJisLead, IsShiftJisPair, IsShiftJisState};
 ghost use Rattle.enc_model.specs.Index.{Index, code};
 ghost use Rattle.enc_model.specs.Stream.{steps};
 ghost use Rattle.enc_model.specs.Sink.{Given};
@@ -11,6 +10,7 @@ ghost use Rattle.enc_model.specs.Indexes.{tables};
 ghost use Rattle.enc_model.proofs.Calm.{shift_jis_calm};
 
 use crate::kana::{half_width, pair_answer};
+use crate::sjis_bytes::{LEADS, NO_PAIR, TRAILS};
 use crate::stride::{PairDecoder, Strider, decode_strides, read_run};
 use enc_index::{IndexSet, Kind};
 use enc_model::{
@@ -93,39 +93,26 @@ impl Decoder for ShiftJisState {
     ghost calm = { λ t. shift_jis_calm (tables t).jis0208 };
 }
 
-/// The pointer that two bytes stand for in jis0208, where they are a pair.
+/// The pointer that two bytes stand for in jis0208, or a number from `NO_PAIR` on where they stand for none.
 #[inline(always)]
-fn pair_pointer(lead: u8, b: u8) -> Option<u32>
-    ensures lead { OnSome result (IsShiftJisLead lead) }
-    ensures pair { IfSome result (λ p. (i : Index) → shift_jis_pair i lead b ≡ code i p) }
+fn pair_pointer(lead: u8, b: u8) -> u32
+    ensures lead { result < 0x8000 → IsShiftJisLead lead }
+    ensures pair { result < 0x8000 → (i : Index) → shift_jis_pair i lead b ≡ code i result }
 {
-    let row: u32 = match lead {
-        0x81..=0x9F => lead as u32 - 0x81,
-        0xE0..=0xEF | 0xFA..=0xFC => lead as u32 - 0xC1,
-        _ => return None,
-    };
-    if b < 0x40 || b == 0x7F || 0xFC < b {
-        return None;
-    }
-    let offset: u32 = if b < 0x7F { 0x40 } else { 0x41 };
-    Some(row * 188 + b as u32 - offset)
+    LEADS[lead as usize] as u32 + TRAILS[b as usize] as u32
 }
 
 /// The character of jis0208 that two bytes stand for.
 #[inline(always)]
 fn row_char(ready: &[Option<Utf8Char>], lead: u8, b: u8) -> Option<&Utf8Char>
-    ensures lead { OnSome result (IsShiftJisLead lead) }
-    ensures char { IfSome result
-        (λ c. (i : Index) → ((p : ℕ) → slice_index_or ready.now p None ≡ code i p)
-        → shift_jis_pair i lead b ≡ Some c.now) }
+    ensures { IfSome result (λ c. IsShiftJisPair ready.now lead b c.now) }
 {
-    let pointer = pair_pointer(lead, b)?;
+    let pointer = pair_pointer(lead, b);
     ready.get(pointer as usize)?.as_ref()
 }
 
 impl PairReader for ShiftJisState {
-    ghost stand_for = { λ r a b c. IsShiftJisLead a × ((i : Index) → ((p : ℕ) → slice_index_or r p None ≡ code i p)
-        → shift_jis_pair i a b ≡ Some c) };
+    ghost stand_for = { IsShiftJisPair };
 
     #[inline(always)]
     fn ready_pair<'a>(
@@ -164,7 +151,12 @@ impl PairDecoder for ShiftJisState {
         if self.lead != 0 {
             return None;
         }
-        indexes.ready(Kind::Jis0208)
+        let ready = indexes.ready(Kind::Jis0208)?;
+        if ready.len() <= NO_PAIR {
+            Some(ready)
+        } else {
+            None
+        }
     }
 }
 

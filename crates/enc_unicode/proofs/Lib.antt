@@ -9,3 +9,4 @@ pub mod Places
 pub mod NarrowWords
 pub mod NarrowPlaces
 pub mod FaultRuns
+pub mod CutChars

@@ -4,3 +4,4 @@ pub mod Utf16State
 pub mod WroteUnits
 pub mod Packing
 pub mod Looks
+pub mod Cuts

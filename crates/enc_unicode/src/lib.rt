@@ -2,6 +2,7 @@
 #![tactic(auto)]
 
 mod blocks;
+mod cuts;
 mod faults;
 mod guesses;
 mod narrow;

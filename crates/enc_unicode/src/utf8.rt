@@ -6,10 +6,12 @@ ghost use Rattle.enc_unicode.specs.Utf8State.{IsUtf8State, IsBehind, utf8_behind
 ghost use Rattle.enc_model.specs.Stream.{steps};
 ghost use Rattle.enc_model.specs.Sink.{Given};
 ghost use Rattle.enc_model.specs.Batches.{BatchTook};
+ghost use Rattle.enc_model.specs.Index.{within};
 ghost use Rattle.enc_model.specs.Utf8.{Utf8, utf8, utf8_start, utf8_first, utf8_next};
 ghost use Rattle.enc_unicode.specs.Nowhere.{nowhere_sink};
 ghost use Rattle.enc_model.proofs.Calm.{utf8_calm};
 
+use crate::cuts::{push_cuts, trail_len};
 use crate::faults::push_few;
 use crate::well_formed::{Look, text_before_fault, text_found};
 use enc_model::{Answer, BLOCK, Batch, Decoder, ROOM, Restored, Sink, decode_each, finish};
@@ -337,15 +339,15 @@ impl Utf8State {
         Ok(count)
     }
 
-    /// How many bytes are read at once where no text begins: those that a character needs yet, or else a block.
+    /// How many bytes are read at once where no text begins: those that go on with a character, or else a block.
     fn count(&self, rest: &[u8], look: Look) -> usize
         requires { 0 < length rest.now }
         ensures some { (0 < result) × (result ≤ length rest.now) }
         ensures few { result ≤ BLOCK }
     {
-        match self.needed {
+        match trail_len(rest, self.needed as usize) {
             0 => look.block_len(rest),
-            needed => rest.len().min(needed as usize),
+            len => len,
         }
     }
 
@@ -361,7 +363,8 @@ impl Utf8State {
         }
     }
 
-    /// Goes on in a block, and says how far: over the well-formed text at its front, or else over a byte.
+    /// Goes on in a block, and says how far: over the well-formed text at its front, or else over characters that are
+    /// cut and a byte.
     fn decode_some(&mut self, rest: &[u8], batch: &mut Batch) -> usize
         requires some { 0 < length rest.now }
         requires room { length batch.old + 12 * length rest.now ≤ ROOM }
@@ -369,19 +372,60 @@ impl Utf8State {
         ensures text { BatchTook batch.old (steps utf8 false self.old (take result rest.now)).text batch.new }
         ensures state { self.new ≡ (steps utf8 false self.old (take result rest.now)).state }
     {
-        if self.needed == 0 {
-            let few = push_few(rest, batch);
-            if 0 < few {
-                return few;
-            }
-            let text = text_before_fault(rest);
-            if !text.is_empty() {
-                batch.push_str(text);
-                return text.len();
-            }
+        if self.needed != 0 {
+            return self.decode_kept(rest, batch);
         }
-        decode_each(self, &(), &rest[..1], batch);
-        1
+        let few = push_few(rest, batch);
+        if 0 < few {
+            return few;
+        }
+        let text = text_before_fault(rest);
+        if !text.is_empty() {
+            batch.push_str(text);
+            return text.len();
+        }
+        self.decode_cuts(rest, batch)
+    }
+
+    /// Goes on within a character, over a byte, or over those that follow where the first of several cuts it.
+    fn decode_kept(&mut self, rest: &[u8], batch: &mut Batch) -> usize
+        requires needed { 0 < self.old.needed }
+        requires some { 0 < length rest.now }
+        requires room { length batch.old + 12 * length rest.now ≤ ROOM }
+        ensures some { (0 < result) × (result ≤ length rest.now) }
+        ensures text { BatchTook batch.old (steps utf8 false self.old (take result rest.now)).text batch.new }
+        ensures state { self.new ≡ (steps utf8 false self.old (take result rest.now)).state }
+    {
+        if rest.len() < 2 || self.goes_on(rest[0]) {
+            decode_each(self, &(), &rest[..1], batch);
+            return 1;
+        }
+        *self = Self::new();
+        batch.push('\u{FFFD}');
+        self.decode_cuts(rest, batch)
+    }
+
+    /// Whether a character goes on with this byte.
+    #[inline(always)]
+    fn goes_on(&self, b: u8) -> bool
+        ensures { result ≡ within self.now.lower self.now.upper b }
+    {
+        self.lower <= b && b <= self.upper
+    }
+
+    /// Goes on from the start, over characters that are cut and the byte after them.
+    #[inline(always)]
+    fn decode_cuts(&mut self, rest: &[u8], batch: &mut Batch) -> usize
+        requires start { self.old ≡ utf8_start }
+        requires some { 0 < length rest.now }
+        requires room { length batch.old + 4 * length rest.now + 8 ≤ ROOM }
+        ensures some { (0 < result) × (result ≤ length rest.now) }
+        ensures text { BatchTook batch.old (steps utf8 false utf8_start (take result rest.now)).text batch.new }
+        ensures state { self.new ≡ (steps utf8 false utf8_start (take result rest.now)).state }
+    {
+        let cut = push_cuts(rest, batch);
+        decode_each(self, &(), &rest[cut..cut + 1], batch);
+        cut + 1
     }
 
     /// The steps of the end.

@@ -256,7 +256,7 @@ pub fn text_found(bytes: &[u8], look: Look) -> &str
 
 /// Whether a byte may go on with a character.
 #[inline(always)]
-fn follows(byte: u8) -> bool
+pub fn follows(byte: u8) -> bool
     ensures { result ≡ within 0x80 0xBF byte }
 {
     matches!(byte, 0x80..=0xBF)
