@@ -11,11 +11,3 @@ LoadsAs (Err DiskFault) done = Unit {0}
 LoadsAs (Err NotASpool) done = ⊥
 LoadsAs (Err Damaged) done = ⊥
 LoadsAs (Err Version) done = ⊥
-
--- a refusal behind the look at the first page and at the version
-abbrev pub IsLate : OpenFault → Type 0
-IsLate NotASpool = ⊥
-IsLate Version = ⊥
-IsLate Damaged = Unit {0}
-IsLate NoMemory = Unit {0}
-IsLate DiskFault = Unit {0}

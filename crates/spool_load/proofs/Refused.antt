@@ -12,11 +12,15 @@ use Rattle.spool_pages.specs.declared.version.Version.TheVariants.{One, Two}
 use Rattle.spool_pages.proofs.Numbers.{four_at}
 use Rattle.spool_pages.proofs.RecordBytes.{stands_front, stands_behind}
 use Rattle.spool_pages.proofs.Says.{says_same, some_journal}
+use Rattle.spool_kept.specs.declared.error.CheckError.TheVariants as checks
 use Rattle.spool_kept.specs.declared.error.OpenFault.{OpenFault}
 use Rattle.spool_kept.specs.declared.error.OpenFault.TheVariants.{NotASpool, DiskFault, Damaged, Version, NoMemory}
 use Rattle.spool_kept.specs.Holding.{Holding}
-use Rattle.spool_kept.specs.Loads.{LoadsAs, IsLate}
+use Rattle.spool_kept.specs.Loads.{LoadsAs}
 use Rattle.spool_kept.specs.Shows.{IsSound}
+use Rattle.spool_load.specs.Faults.{TellsNothing, load_fault}
+use Rattle.spool_load.specs.declared.error.LoadError.{LoadError}
+use Rattle.spool_load.specs.declared.error.LoadError.TheVariants as loads
 use Rattle.spool_load.specs.Loaded.{FoundOn, LoadedFrom, OpenedFrom, StandsFound}
 use Rattle.spool_load.specs.declared.finding.Found.{Found}
 use Rattle.spool_load.specs.Reads.{IsReadAt, SaysBlocks}
@@ -221,19 +225,17 @@ unfound_reason size seen NoMemory why = absurd why
 unfound_reason size seen DiskFault why = tt
 
 -- and so is why what was found isn't read
-pub read_reason : {T : Type 0} (size : ℕ) (seen : ℕ → ℕ) (found : Found) (r : Result T OpenFault)
-    (P : View → T → Type 0) → FoundOn size seen found
-    → ((v : View) → IsSound v → IsViewOf seen v → 4096 * all_pages v.blocks ≤ size → LoadsAs r (P v))
-    → IfErr r IsLate → IfErr r (RefusedFor size seen)
-read_reason size seen found (Ok t) P is said late = tt
-read_reason size seen found (Err NotASpool) P is said late = absurd late
-read_reason size seen found (Err Version) P is said late = absurd late
-read_reason size seen found (Err Damaged) P is said late = record {
+pub read_reason : (size : ℕ) (seen : ℕ → ℕ) (found : Found) (e : LoadError) → FoundOn size seen found
+    → ((v : View) → IsSound v → IsViewOf seen v → 4096 * all_pages v.blocks ≤ size → TellsNothing e)
+    → RefusedFor size seen (load_fault e)
+read_reason size seen found loads.DiskFault is said = tt
+read_reason size seen found (loads.Check checks.NoMemory) is said = tt
+read_reason size seen found (loads.Check checks.Damaged) is said = record {
   blocks = found.layout;
   says = is.says;
   version = λ form. known_stands (overlaid seen) (state_place found.layout) 12 found.version found.next (omega arith)
       is.state.fields;
-  no_view = λ v sound view e. said v sound view (subst (λ (k : ℕ). 4096 * all_pages k ≤ size) (sym e) is.says.room);
+  no_view = λ v sound view e.
+      let nothing = said v sound view (subst (λ (k : ℕ). 4096 * all_pages k ≤ size) (sym e) is.says.room) in
+      absurd (cc);
 }
-read_reason size seen found (Err NoMemory) P is said late = tt
-read_reason size seen found (Err DiskFault) P is said late = tt
