@@ -96,7 +96,12 @@ fn owns(rows: &[Row], block: BlockNo, slot: u32, ordinal: usize) -> bool
 }
 
 // The slot's blocks. `Damaged` where its ordinals are not those of a text of this length, each once.
-fn checked_list(alloc: Global, blocks: &Blocks, slot: u32, len: u64) -> Result<BlockList, CheckError>
+fn checked_list(
+    alloc: Global,
+    blocks: &Blocks,
+    slot: u32,
+    len: u64,
+) -> Result<BlockList, CheckError>
     requires { slot < 512 }
     ensures blocks { IfOk result (λ list. HasBlocks blocks.now.rows slot len list) }
     ensures whole { OnOk result (OwnsOneEach blocks.now.rows slot (blocks_of len)) }

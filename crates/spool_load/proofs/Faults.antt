@@ -33,3 +33,12 @@ pub tells_nothing : {T : Type 0} (e : LoadError) (P : T → Type 0) → TellsNot
 tells_nothing DiskFault P nothing = tt
 tells_nothing (Check NoMemory) P nothing = tt
 tells_nothing (Check Damaged) P nothing = absurd (cc)
+
+-- a refusal to open that tells nothing of it, handed on
+pub loads_err : {T U : Type 0} (P : T → Type 0) (Q : U → Type 0) (e : OpenFault) → LoadsAs {T = T} (Err e) P
+    → LoadsAs {T = U} (Err e) Q
+loads_err P Q opens.NoMemory h = tt
+loads_err P Q opens.DiskFault h = tt
+loads_err P Q opens.NotASpool h = absurd h
+loads_err P Q opens.Damaged h = absurd h
+loads_err P Q opens.Version h = absurd h
