@@ -13,11 +13,11 @@ ghost use Rattle.spool_kept.specs.Shows.{IsSound};
 ghost use Rattle.spool_pages.specs.Fits.{FitsRow};
 ghost use Rattle.spool_pages.specs.View.{View, Says, first_page};
 
-use crate::{Found, LoadError};
 use crate::checks::{are_rows_sound, are_sound};
 use crate::owners::load_rows;
 use crate::reading::{check_front, load_indexes};
 use crate::slots::load_slots;
+use crate::{Found, LoadError};
 use enc_index::IndexSet;
 use spool_blocks::Blocks;
 use spool_disk::Disk;

@@ -69,8 +69,8 @@ pub returns-in_err-kept-clause-counts : goal.returns-in_err-kept-clause-counts
 returns-in_err-kept-clause-counts g c =
     let e = err_from_is_err_and c.from_residual-in_err-kept.result c.from_residual-in_err-kept.ensures.1 in
     counts_on c.find.ensures.counts (ok_no_fault _ _ c.in_ok-found.was)
-    (counts_told c.in_err-kept.field-0.0 (λ failed. let is = e.1.0 in let fault = e.1.1 in cc)
-    (λ device. e.1.0 ∙ ap Err (e.1.1 ∙ ap Open device)) c.in_err-kept.ensures.counts)
+    (counts_told c.in_err-kept.field-0.0 (λ failed. let is = e.1 in let fault = e.2 in cc)
+    (λ device. e.1 ∙ ap Err (e.2 ∙ ap Open device)) c.in_err-kept.ensures.counts)
 
 pub returns-in_err-kept-clause-stays : goal.returns-in_err-kept-clause-stays
 returns-in_err-kept-clause-stays g c honest v sound is room =

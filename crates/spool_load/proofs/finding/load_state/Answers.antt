@@ -1,4 +1,4 @@
-use Rattle.std.proofs.Common.{◌≡◌, rules, ◌+◌, ◌*◌, length, arith}
+use Rattle.std.proofs.Common.{◌≡◌, rules, ◌+◌, length, arith}
 use Rattle.spool_pages.specs.View.{state_place, state_page}
 use Rattle.spool_pages.proofs.Says.{all_is, some_journal}
 use Rattle.spool_load.proofs.Looks.{read_padded, length-state}

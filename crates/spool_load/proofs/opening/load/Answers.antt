@@ -1,4 +1,4 @@
-use Rattle.std.proofs.Common.{◌≡◌, ◌∙◌, ℕ, ◌*◌, ◌≤◌, Err, ap, sym, subst, rules}
+use Rattle.std.proofs.Common.{◌∙◌, ℕ, ◌*◌, ◌≤◌, Err, ap, sym, subst, rules}
 use Rattle.std.proofs.lemmas.Result.{err_from_is_err_and}
 use Rattle.spool_disk.proofs.Firm.{counts_on}
 use Rattle.spool_journal.specs.Image.{all_pages, journal_pages, overlaid}
@@ -82,8 +82,8 @@ pub returns-in_err-kept-clause-counts : goal.returns-in_err-kept-clause-counts
 returns-in_err-kept-clause-counts g c =
     let e = err_from_is_err_and c.from_residual-in_err-kept.result c.from_residual-in_err-kept.ensures.1 in
     counts_on c.find.ensures.counts (ok_no_fault _ _ c.in_ok-found.was)
-    (counts_told c.in_err-kept.field-0.0 (λ failed. let is = e.1.0 in let fault = e.1.1 in cc)
-    (λ device. e.1.0 ∙ ap Err (e.1.1 ∙ device)) c.in_err-kept.ensures.counts)
+    (counts_told c.in_err-kept.field-0.0 (λ failed. let is = e.1 in let fault = e.2 in cc)
+    (λ device. e.1 ∙ ap Err (e.2 ∙ device)) c.in_err-kept.ensures.counts)
 
 pub returns-in_err-kept-clause-said : goal.returns-in_err-kept-clause-said
 returns-in_err-kept-clause-said g c honest v sound is room =

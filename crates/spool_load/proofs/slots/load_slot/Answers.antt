@@ -1,4 +1,4 @@
-use Rattle.std.proofs.Common.{◌≡◌, ◌+◌, ◌*◌, rules, arith}
+use Rattle.std.proofs.Common.{◌≡◌, rules, arith}
 use Rattle.spool_pages.specs.View.{slot_place, slot_bytes}
 use Rattle.spool_pages.proofs.Says.{some_journal}
 use Rattle.spool_load.proofs.Looks.{before_texts, read_padded, padded_back}
