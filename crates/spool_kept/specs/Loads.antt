@@ -1,4 +1,4 @@
--- What a call that reads a spool answers.
+-- What a call that opens a spool answers.
 use Rattle.std.specs.Prelude.{Result, Ok, Err}
 use Rattle.spool_kept.specs.declared.error.OpenFault.{OpenFault}
 use Rattle.spool_kept.specs.declared.error.OpenFault.TheVariants.{NotASpool, DiskFault, Damaged, Version, NoMemory}

@@ -64,7 +64,7 @@ impl Error for OpenFault {}
 /// Why what was read of a spool is not kept.
 #[derive(Clone, Copy, Debug, PartialEq, Eq)]
 pub enum CheckError {
-    /// It is none that is ever written to a spool.
+    /// It is not what a spool may say.
     Damaged,
     /// A growth was refused.
     NoMemory,

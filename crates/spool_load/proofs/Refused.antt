@@ -123,7 +123,7 @@ module _ (n : ℕ) (old seen : ℕ → ℕ) (loose : ℕ → Type 0) (settled : 
       → Stands seen (state_place n) size xs
   state_back size xs stands = record { each = λ i lt. state_same i ∙ stands.each i lt }
 
-  -- what the state page says no version of is refused
+  -- a state page that says no version that is known is refused
   pub unrestored : (said : Option Found) → MatchOption said (SaysKnownVersion seen (state_place n) → ⊥)
       (StandsFound seen) → IfErr (ok_or said Version) (RefusedAt n old)
   unrestored (Some found) told = tt
@@ -183,17 +183,6 @@ module _ (n : ℕ) (old seen : ℕ → ℕ) (loose : ℕ → Type 0) (settled : 
         keeps = loaded.keeps;
       }
 
-pub restored_layout : (n : ℕ) (said : Option Found) → IfSome said (λ found. found.layout ≡ n)
-    → IfOk (ok_or said Version) (λ found. found.layout ≡ n)
-restored_layout n (Some found) same = same
-restored_layout n None same = tt
-
-pub restored_view : (v : View) (n : ℕ) (said : Option Found) → n ≡ v.blocks
-    → IsSomeAnd said (SaysState v.version v.next) → IfSome said (λ found. found.layout ≡ n)
-    → LoadsAs (ok_or said Version) (IsFoundOf v)
-restored_view v n (Some found) blocks says same = record { blocks = same ∙ blocks; state = says }
-restored_view v n None blocks says same = absurd says
-
 -- and of what was found
 pub found_back : (size : ℕ) (found : Found) (old seen : ℕ → ℕ) (loose : ℕ → Type 0)
     → Settled (journal_pages found.layout) (overlaid old) seen loose → FoundOn size old found → StandsFound seen found
@@ -206,6 +195,18 @@ found_back size found old seen loose settled is =
       fields = back 12 is.state.fields;
       rest = (λ blank. back 4096 (is.state.rest.0 blank), λ there. is.state.rest.1 (on 4096 there));
     }
+
+-- what the state page said, where a version that isn't known is refused
+pub restored_layout : (n : ℕ) (said : Option Found) → IfSome said (λ found. found.layout ≡ n)
+    → IfOk (ok_or said Version) (λ found. found.layout ≡ n)
+restored_layout n (Some found) same = same
+restored_layout n None same = tt
+
+pub restored_view : (v : View) (n : ℕ) (said : Option Found) → n ≡ v.blocks
+    → IsSomeAnd said (SaysState v.version v.next) → IfSome said (λ found. found.layout ≡ n)
+    → LoadsAs (ok_or said Version) (IsFoundOf v)
+restored_view v n (Some found) blocks says same = record { blocks = same ∙ blocks; state = says }
+restored_view v n None blocks says same = absurd says
 
 -- THE REASON OF A REFUSAL
 

@@ -76,8 +76,8 @@ fn load_blocks<D: Disk>(
 ///
 /// # Errors
 ///
-/// `Damaged` where what is read is not what a spool may say; `NoMemory` where a growth was refused, and `DiskFault`
-/// where the device failed.
+/// `Check(Damaged)` where what is read is not what a spool may say; `Check(NoMemory)` where a growth was refused, and
+/// `DiskFault` where the device failed.
 pub fn read<D: Disk>(alloc: Global, disk: &mut D, found: Found) -> Result<Kept, LoadError>
     requires { 4096 * all_pages found.layout ≤ D.size disk.old }
     ensures reads { OnlyReads D.Disk disk.old disk.new }
