@@ -3,6 +3,7 @@ ghost use Rattle.std.specs.Prelude.{◌≡◌};
 
 use spool_disk::DiskFault;
 use spool_kept::OpenFault;
+use spool_load::LoadError;
 use std::alloc::AllocError;
 use std::error::Error;
 use std::fmt;
@@ -56,6 +57,17 @@ impl From<OpenFault> for UpgradeError {
 
     fn from(fault: OpenFault) -> UpgradeError {
         UpgradeError::Open(fault)
+    }
+}
+
+impl From<LoadError> for UpgradeError {
+    ghost use Rattle.spool_image.specs.declared.error.UpgradeError.{UpgradeError};
+    ghost use Rattle.spool_load.specs.Faults.{load_fault};
+
+    ghost from_gives = { λ load error. error ≡ UpgradeError.Open (load_fault load) };
+
+    fn from(load: LoadError) -> UpgradeError {
+        UpgradeError::Open(OpenFault::from(load))
     }
 }
 

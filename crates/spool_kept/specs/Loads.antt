@@ -1,4 +1,4 @@
--- What a call that reads a spool answers.
+-- What a call that opens a spool answers.
 use Rattle.std.specs.Prelude.{Result, Ok, Err}
 use Rattle.spool_kept.specs.declared.error.OpenFault.{OpenFault}
 use Rattle.spool_kept.specs.declared.error.OpenFault.TheVariants.{NotASpool, DiskFault, Damaged, Version, NoMemory}
@@ -11,11 +11,3 @@ LoadsAs (Err DiskFault) done = Unit {0}
 LoadsAs (Err NotASpool) done = ⊥
 LoadsAs (Err Damaged) done = ⊥
 LoadsAs (Err Version) done = ⊥
-
--- a refusal behind the look at the first page and at the version
-abbrev pub IsLate : OpenFault → Type 0
-IsLate NotASpool = ⊥
-IsLate Version = ⊥
-IsLate Damaged = Unit {0}
-IsLate NoMemory = Unit {0}
-IsLate DiskFault = Unit {0}

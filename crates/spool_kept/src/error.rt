@@ -1,4 +1,4 @@
-//! Why a spool is not opened.
+//! Why a spool is not opened, and why what was read is not kept.
 ghost use Rattle.std.specs.Prelude.{◌≡◌};
 
 use spool_disk::DiskFault;
@@ -34,16 +34,6 @@ impl From<DiskFault> for OpenFault {
     }
 }
 
-impl From<AllocError> for OpenFault {
-    ghost use Rattle.spool_kept.specs.declared.error.OpenFault.{OpenFault};
-
-    ghost from_gives = { λ _ fault. fault ≡ OpenFault.NoMemory };
-
-    fn from(_error: AllocError) -> OpenFault {
-        OpenFault::NoMemory
-    }
-}
-
 impl From<RecoverError> for OpenFault {
     ghost use Rattle.spool_kept.specs.Faults.{fault_of};
 
@@ -54,16 +44,6 @@ impl From<RecoverError> for OpenFault {
             RecoverError::DiskFault => OpenFault::DiskFault,
             RecoverError::Damaged => OpenFault::Damaged,
         }
-    }
-}
-
-impl From<Damaged> for OpenFault {
-    ghost use Rattle.spool_kept.specs.declared.error.OpenFault.{OpenFault};
-
-    ghost from_gives = { λ _ fault. fault ≡ OpenFault.Damaged };
-
-    fn from(_damaged: Damaged) -> OpenFault {
-        OpenFault::Damaged
     }
 }
 
@@ -80,3 +60,43 @@ impl fmt::Display for OpenFault {
 }
 
 impl Error for OpenFault {}
+
+/// Why what was read of a spool is not kept.
+#[derive(Clone, Copy, Debug, PartialEq, Eq)]
+pub enum CheckError {
+    /// It is not what a spool may say.
+    Damaged,
+    /// A growth was refused.
+    NoMemory,
+}
+
+impl From<Damaged> for CheckError {
+    ghost use Rattle.spool_kept.specs.declared.error.CheckError.{CheckError};
+
+    ghost from_gives = { λ _ error. error ≡ CheckError.Damaged };
+
+    fn from(_damaged: Damaged) -> CheckError {
+        CheckError::Damaged
+    }
+}
+
+impl From<AllocError> for CheckError {
+    ghost use Rattle.spool_kept.specs.declared.error.CheckError.{CheckError};
+
+    ghost from_gives = { λ _ error. error ≡ CheckError.NoMemory };
+
+    fn from(_error: AllocError) -> CheckError {
+        CheckError::NoMemory
+    }
+}
+
+impl fmt::Display for CheckError {
+    fn fmt<W: fmt::Write>(&self, f: &mut fmt::Formatter<W>) -> fmt::Result {
+        f.write_str(match self {
+            CheckError::Damaged => "the spool is damaged",
+            CheckError::NoMemory => "no memory is left",
+        })
+    }
+}
+
+impl Error for CheckError {}

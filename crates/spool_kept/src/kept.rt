@@ -1,17 +1,16 @@
 //! What is kept of a spool in memory.
-ghost use Rattle.std.specs.Prelude.{◌≡◌, ◌≤◌, ◌<◌, ℕ, Err, None, Some, false, IfOk, IfErr, OnOk, IfSome};
+ghost use Rattle.std.specs.Prelude.{◌≡◌, ◌≤◌, ◌<◌, ℕ, None, Some, false, IfOk, OnOk, IfSome, MatchResult};
 ghost use Rattle.std.specs.Prelude.{replicate, length, get_or};
 ghost use Rattle.spool_blocks.specs.Chains.{OwnsOneEach};
 ghost use Rattle.upload_rules.specs.Room.{blocks_of};
 ghost use Rattle.spool_kept.specs.Holding.{AreBelow, AreDistinct};
 ghost use Rattle.spool_kept.specs.Kept.{KeepsAlone};
-ghost use Rattle.spool_kept.specs.Loads.{LoadsAs, IsLate};
 ghost use Rattle.spool_kept.specs.Shows.{IsSound};
 ghost use Rattle.spool_pages.specs.Changes.{neighbour};
 ghost use Rattle.spool_pages.specs.Fits.{FitsRow};
 ghost use Rattle.spool_pages.specs.View.{SlotRecord as Said, View};
 
-use crate::OpenFault;
+use crate::CheckError;
 use crate::lists::{BlockList, lists_of};
 use crate::order::{NumberedSlot, order_of};
 use crate::records::{KeptRecord, slot_record_at};
@@ -68,7 +67,7 @@ impl Kept {
         indexes: IndexSet,
         slots: Vec<Option<KeptRecord>>,
         blocks: Blocks,
-    ) -> Result<Kept, OpenFault>
+    ) -> Result<Kept, CheckError>
         requires slots { length slots.items ≡ 512 }
         requires rows { length blocks.rows ≡ layout }
         requires fits { (b : ℕ) → FitsRow (get_or blocks.rows b None) }
@@ -82,11 +81,10 @@ impl Kept {
         ensures distinct { OnOk result (AreDistinct slots.items) }
         ensures whole { OnOk result ((s : ℕ) (r : Said) → get_or slots.items s None ≡ Some r
             → OwnsOneEach blocks.rows s (blocks_of r.text_len)) }
-        ensures no_device { result ≡ Err OpenFault.DiskFault → ⊥ }
-        ensures late { IfErr result IsLate }
         ensures said { (v : View) → IsSound v → v.blocks ≡ layout → version ≡ v.version → next ≡ v.next
             → indexes ≡ v.indexes → slots.items ≡ v.slots → blocks.rows ≡ v.rows
-            → blocks.reserved ≡ replicate v.blocks false → LoadsAs result (λ kept. KeepsAlone kept v) }
+            → blocks.reserved ≡ replicate v.blocks false
+            → MatchResult result (λ kept. KeepsAlone kept v) (λ e. e ≡ CheckError.NoMemory) }
     {
         let order = order_of(alloc, &slots)?;
         let lists = lists_of(alloc, &blocks, &slots)?;

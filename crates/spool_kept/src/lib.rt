@@ -17,7 +17,7 @@ mod upgrading;
 pub use committing::commit;
 pub use creating::create;
 pub use drafting::{append, begin, drop_open};
-pub use error::OpenFault;
+pub use error::{CheckError, OpenFault};
 pub use kept::Kept;
 pub use lists::blocks_of;
 pub use records::{KeptRecord, record_at};

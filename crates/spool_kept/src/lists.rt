@@ -1,16 +1,14 @@
 //! Each slot's blocks by ordinal.
-ghost use Rattle.std.specs.Prelude.{◌≡◌, ◌≤◌, ◌<◌, ◌+◌, ◌++◌, ℕ, List, [], Some, None, true, Err, IfOk, IfErr, OnOk};
-ghost use Rattle.std.specs.Prelude.{OnErr};
-ghost use Rattle.std.specs.Prelude.{length, get_or, take, drop};
+ghost use Rattle.std.specs.Prelude.{◌≡◌, ◌≤◌, ◌<◌, ◌+◌, ◌++◌, ℕ, List, [], Some, None, true, IfOk, OnOk, OnErr};
+ghost use Rattle.std.specs.Prelude.{IsOkUnless, length, get_or, take, drop};
 ghost use Rattle.spool_blocks.specs.Blocks.{Row, slot_count, IsWhole};
 ghost use Rattle.spool_blocks.specs.Chains.{OwnsOneEach};
 ghost use Rattle.upload_rules.specs.Room.{blocks_of};
 ghost use Rattle.spool_kept.specs.Holding.{HasBlocks, AreListsTo, OwnsText};
-ghost use Rattle.spool_kept.specs.Loads.{LoadsAs, IsLate};
 ghost use Rattle.spool_kept.specs.Shows.{IsSound};
 ghost use Rattle.spool_pages.specs.View.{View};
 
-use crate::OpenFault;
+use crate::CheckError;
 use crate::records::{KeptRecord, record_at};
 use spool_blocks::{BlockNo, Blocks, Row, SLOTS};
 use std::alloc::{AllocError, Global};
@@ -98,18 +96,21 @@ fn owns(rows: &[Row], block: BlockNo, slot: u32, ordinal: usize) -> bool
 }
 
 // The slot's blocks. `Damaged` where its ordinals are not those of a text of this length, each once.
-fn checked_list(alloc: Global, blocks: &Blocks, slot: u32, len: u64) -> Result<BlockList, OpenFault>
+fn checked_list(
+    alloc: Global,
+    blocks: &Blocks,
+    slot: u32,
+    len: u64,
+) -> Result<BlockList, CheckError>
     requires { slot < 512 }
     ensures blocks { IfOk result (λ list. HasBlocks blocks.now.rows slot len list) }
     ensures whole { OnOk result (OwnsOneEach blocks.now.rows slot (blocks_of len)) }
     ensures passes { slot_count slot blocks.now.rows ≡ blocks_of len → IsWhole slot blocks.now.rows
-        → LoadsAs result (λ list. Unit {0}) }
-    ensures no_device { result ≡ Err OpenFault.DiskFault → ⊥ }
-    ensures late { IfErr result IsLate }
+        → IsOkUnless result CheckError.NoMemory }
 {
     let list = blocks.list_of(alloc, slot)?;
     if list.len() as u64 != blocks_of(len) || !are_owned(blocks.rows(), slot, &list) {
-        return Err(OpenFault::Damaged);
+        return Err(CheckError::Damaged);
     }
     Ok(BlockList { blocks: list })
 }
@@ -121,16 +122,14 @@ fn push_list(
     blocks: &Blocks,
     slots: &[Option<KeptRecord>],
     slot: u32,
-) -> Result<(), OpenFault>
+) -> Result<(), CheckError>
     requires { slot < 512 }
     ensures long { OnOk result (length lists.new.items ≡ length lists.old.items + 1) }
     ensures lists { length lists.old.items ≡ slot → AreListsTo blocks.now.rows slots.now lists.old.items slot
         → OnOk result (AreListsTo blocks.now.rows slots.now lists.new.items (slot + 1)) }
     ensures whole { OnOk result (OwnsText blocks.now.rows slot (get_or slots.now slot None)) }
     ensures passes { (v : View) → IsSound v → slots.now ≡ v.slots → blocks.now.rows ≡ v.rows
-        → LoadsAs result (λ done. Unit {0}) }
-    ensures no_device { result ≡ Err OpenFault.DiskFault → ⊥ }
-    ensures late { IfErr result IsLate }
+        → IsOkUnless result CheckError.NoMemory }
 {
     let list = match record_at(slots, slot as usize) {
         Some(kept) => checked_list(alloc, blocks, slot, kept.record().text_len)?,
@@ -140,7 +139,7 @@ fn push_list(
     };
     match lists.push(list) {
         Ok(()) => Ok(()),
-        Err(_) => Err(OpenFault::NoMemory),
+        Err(_) => Err(CheckError::NoMemory),
     }
 }
 
@@ -149,14 +148,12 @@ pub(crate) fn lists_of(
     alloc: Global,
     blocks: &Blocks,
     slots: &[Option<KeptRecord>],
-) -> Result<Vec<BlockList>, OpenFault>
+) -> Result<Vec<BlockList>, CheckError>
     ensures long { IfOk result (λ lists. length lists.items ≡ 512) }
     ensures lists { IfOk result (λ lists. AreListsTo blocks.now.rows slots.now lists.items 512) }
     ensures whole { OnOk result ((s : ℕ) → s < 512 → OwnsText blocks.now.rows s (get_or slots.now s None)) }
     ensures passes { (v : View) → IsSound v → slots.now ≡ v.slots → blocks.now.rows ≡ v.rows
-        → LoadsAs result (λ lists. Unit {0}) }
-    ensures no_device { result ≡ Err OpenFault.DiskFault → ⊥ }
-    ensures late { IfErr result IsLate }
+        → IsOkUnless result CheckError.NoMemory }
 {
     let mut lists = Vec::new(alloc);
     for slot in 0..SLOTS {

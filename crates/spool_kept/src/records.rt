@@ -1,14 +1,13 @@
 //! The record of an upload, kept in memory.
-ghost use Rattle.std.specs.Prelude.{◌≡◌, ◌≤◌, All, Err, None, Some, length, get_or, option_copied, IfOk, IfErr, IfSome};
-ghost use Rattle.std.specs.Prelude.{OnOk};
+ghost use Rattle.std.specs.Prelude.{◌≡◌, ◌≤◌, All, None, Some, length, get_or, option_copied, IfOk, OnOk, IfSome};
+ghost use Rattle.std.specs.Prelude.{IsOkUnless};
 ghost use Rattle.upload_rules.specs.Records.{IsShort};
 ghost use Rattle.upload_rules.specs.States.{SameEncodings};
 ghost use Rattle.spool_kept.specs.Extending.{longer_record};
-ghost use Rattle.spool_kept.specs.Loads.{LoadsAs, IsLate};
 ghost use Rattle.spool_kept.specs.Records.{FitsKept, FitsMemory, IsReadable, IsUnpacked, said_of};
 ghost use Rattle.spool_pages.specs.View.{SlotRecord as Said};
 
-use crate::OpenFault;
+use crate::CheckError;
 use crate::extending::Longer;
 use enc_stream::Transcoder;
 use spool_pages::SlotRecord;
@@ -41,16 +40,14 @@ impl KeptRecord {
     ///
     /// `Damaged` where the state is none of a transcoder, or the metadata isn't printable ASCII; `NoMemory` where a
     /// growth was refused.
-    pub fn of(alloc: Global, record: &SlotRecord<'_>) -> Result<KeptRecord, OpenFault>
+    pub fn of(alloc: Global, record: &SlotRecord<'_>) -> Result<KeptRecord, CheckError>
         requires { length «record».now.metadata ≤ 1536 }
-        ensures said { FitsKept (Some «record».now) → LoadsAs result (λ kept. kept ≡ «record».now) }
+        ensures passes { FitsKept (Some «record».now) → IsOkUnless result CheckError.NoMemory }
         ensures same { IfOk result (λ kept. kept ≡ «record».now) }
         ensures sound { OnOk result (IsReadable «record».now) }
-        ensures no_device { result ≡ Err OpenFault.DiskFault → ⊥ }
-        ensures late { IfErr result IsLate }
     {
         let Some(transcoder) = Transcoder::unpack(&record.state) else {
-            return Err(OpenFault::Damaged);
+            return Err(CheckError::Damaged);
         };
         let metadata = text_of(alloc, record.metadata)?;
         Ok(KeptRecord {
@@ -131,18 +128,15 @@ pub(crate) fn slot_record_at(slots: &[Option<KeptRecord>], slot: usize) -> Optio
 }
 
 // The bytes as text. `Damaged` where one isn't printable ASCII.
-fn text_of(alloc: Global, bytes: &[u8]) -> Result<String, OpenFault>
-    ensures said { All (λ b. (0x20 ≤ b) × (b ≤ 0x7E)) bytes.now
-        → LoadsAs result (λ text. text.bytes.items ≡ bytes.now) }
+fn text_of(alloc: Global, bytes: &[u8]) -> Result<String, CheckError>
+    ensures passes { All (λ b. (0x20 ≤ b) × (b ≤ 0x7E)) bytes.now → IsOkUnless result CheckError.NoMemory }
     ensures same { IfOk result (λ text. text.bytes.items ≡ bytes.now) }
     ensures printable { OnOk result (All (λ b. (0x20 ≤ b) × (b ≤ 0x7E)) bytes.now) }
-    ensures no_device { result ≡ Err OpenFault.DiskFault → ⊥ }
-    ensures late { IfErr result IsLate }
 {
     let mut text = String::with_capacity(alloc, bytes.len())?;
     for byte in bytes {
         if *byte < b' ' || *byte > b'~' {
-            return Err(OpenFault::Damaged);
+            return Err(CheckError::Damaged);
         }
         text.push(char::from(*byte))?;
     }

@@ -1,3 +1,4 @@
+pub mod Faults
 pub mod Looks
 pub mod Opens
 pub mod Refused

@@ -1,5 +1,5 @@
 -- Calls that only read.
-use Rattle.std.proofs.Common.{◌≡◌, inl, inr, ℕ, ◌≢◌, take, ◌++◌, below_more, Option, None, Result, Ok, Err, IfOk, IfErr}
+use Rattle.std.proofs.Common.{◌≡◌, inl, inr, ℕ, ◌≢◌, take, ◌++◌, below_more, Option, None, Result, Ok, Err, IfOk}
 use Rattle.std.proofs.Common.{◌+◌, ◌-◌, ◌*◌, ◌<◌, ◌≤◌, List, [], ◌∷◌, length, length-append, get_or, refl, sym, ◌∙◌, ap}
 use Rattle.std.proofs.Common.{subst, arith}
 use Rattle.std.proofs.Math.ListN.{get_or-append, get_or-eq_default}
@@ -17,9 +17,6 @@ use Rattle.spool_pages.specs.Fits.{FitsSlotOf}
 use Rattle.spool_pages.specs.declared.version.Version.{Version as Known}
 use Rattle.spool_pages.proofs.Says.{all_is}
 use Rattle.spool_load.specs.Reads.{OnlyReads, IsReadAt, IsFrontOf, IsSameTo, StandSlots, StandRows}
-use Rattle.spool_kept.specs.Loads.{LoadsAs}
-use Rattle.spool_kept.specs.declared.error.OpenFault.{OpenFault}
-use Rattle.spool_kept.specs.declared.error.OpenFault.TheVariants.{NotASpool, DiskFault, Damaged, Version, NoMemory}
 use Rattle.std.proofs.lemmas.List.{ext_get_or, get_or-append-add}
 
 pub reads_on : {D : Type 0} {disk : Ghosts D} {a b c : D} → OnlyReads disk a b → OnlyReads disk b c → OnlyReads disk a c
@@ -60,15 +57,6 @@ pub length-state : (version : Known) (next : ℕ) → length (state_page version
 unfolding state_page
 length-state version next = refl
 
--- a refusal for memory or by the device, handed on
-pub loads_err : {T U : Type 0} (P : T → Type 0) (Q : U → Type 0) (e : OpenFault) → LoadsAs {T = T} (Err e) P
-    → LoadsAs {T = U} (Err e) Q
-loads_err P Q NoMemory h = tt
-loads_err P Q DiskFault h = tt
-loads_err P Q NotASpool h = absurd h
-loads_err P Q Damaged h = absurd h
-loads_err P Q Version h = absurd h
-
 pub front_all : {A : Type 0} (whole front : List (Option A)) → IsFrontOf whole front → length front ≡ length whole
     → front ≡ whole
 front_all whole front is long = ext_get_or None front whole long (λ i lt. is.each i lt)
@@ -107,31 +95,14 @@ stands_part f at size part xs few stands = record { each = λ i lt. stands.each 
 
 -- ANSWERS
 
-pub loads_is : {T : Type 0} (P : T → Type 0) (r : Result T OpenFault) (t : T) → r ≡ Ok t → P t → LoadsAs r P
-loads_is P r t e p = subst (λ q. LoadsAs q P) (sym e) p
-
 pub if_ok_more : {T E : Type 0} (r : Result T E) {P Q : T → Type 0} → ((t : T) → P t → Q t) → IfOk r P → IfOk r Q
 if_ok_more (Ok t) more p = more t p
 if_ok_more (Err e) more p = tt
-
-pub loads_both : {T : Type 0} (r : Result T OpenFault) {P Q R : T → Type 0} → ((t : T) → P t → Q t → R t)
-    → LoadsAs r P → IfOk r Q → LoadsAs r R
-loads_both (Ok t) more p q = more t p q
-loads_both (Err e) more p q = loads_err _ _ e p
 
 pub if_ok_both : {T E : Type 0} (r : Result T E) {P Q R : T → Type 0} → ((t : T) → P t → Q t → R t) → IfOk r P
     → IfOk r Q → IfOk r R
 if_ok_both (Ok t) more p q = more t p q
 if_ok_both (Err e) more p q = tt
-
-pub if_ok_three : {T E : Type 0} (r : Result T E) {P Q R S : T → Type 0} → ((t : T) → P t → Q t → R t → S t)
-    → IfOk r P → IfOk r Q → IfOk r R → IfOk r S
-if_ok_three (Ok t) more p q s = more t p q s
-if_ok_three (Err e) more p q s = tt
-
-pub if_err_more : {T E : Type 0} (r : Result T E) {P Q : E → Type 0} → ((e : E) → P e → Q e) → IfErr r P → IfErr r Q
-if_err_more (Ok t) more p = tt
-if_err_more (Err e) more p = more e p
 
 -- SLOTS AND ROWS
 

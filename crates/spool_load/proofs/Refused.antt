@@ -1,6 +1,7 @@
 -- Why a disk is refused.
-use Rattle.std.proofs.Common.{◌≡◌, ◌⊎◌, inl, inr, ℕ, ◌+◌, ◌*◌, ◌^◌, ◌<◌, ◌≤◌, ◌++◌, List, length, get_or, IsTrue, ◌↔◌}
-use Rattle.std.proofs.Common.{Result, Ok, Err, IfErr}
+use Rattle.std.proofs.Common.{◌≡◌, inl, inr, ℕ, ◌+◌, ◌*◌, ◌^◌, ◌<◌, ◌≤◌, ◌++◌, List, length, get_or, IsTrue, ◌↔◌}
+use Rattle.std.proofs.Common.{Result, Ok, Err, IfOk, IfErr, Option, Some, None, IfSome, IsNone, IsSomeAnd, MatchOption}
+use Rattle.std.specs.Option.{ok_or}
 use Rattle.std.proofs.Common.{refl, sym, ◌∙◌, ap, subst, arith}
 use Rattle.std.specs.Int.{to_be_bytes, from_be_bytes, w32}
 use Rattle.std.proofs.lemmas.Nat.{from_be_bytes-to_be_bytes_4}
@@ -12,16 +13,20 @@ use Rattle.spool_pages.specs.declared.version.Version.TheVariants.{One, Two}
 use Rattle.spool_pages.proofs.Numbers.{four_at}
 use Rattle.spool_pages.proofs.RecordBytes.{stands_front, stands_behind}
 use Rattle.spool_pages.proofs.Says.{says_same, some_journal}
+use Rattle.spool_kept.specs.declared.error.CheckError.TheVariants as checks
 use Rattle.spool_kept.specs.declared.error.OpenFault.{OpenFault}
 use Rattle.spool_kept.specs.declared.error.OpenFault.TheVariants.{NotASpool, DiskFault, Damaged, Version, NoMemory}
 use Rattle.spool_kept.specs.Holding.{Holding}
-use Rattle.spool_kept.specs.Loads.{LoadsAs, IsLate}
+use Rattle.spool_kept.specs.Loads.{LoadsAs}
 use Rattle.spool_kept.specs.Shows.{IsSound}
-use Rattle.spool_load.specs.Loaded.{FoundOn, LoadedFrom, OpenedFrom, StandsFound}
+use Rattle.spool_load.specs.Faults.{TellsNothing, load_fault}
+use Rattle.spool_load.specs.declared.error.LoadError.{LoadError}
+use Rattle.spool_load.specs.declared.error.LoadError.TheVariants as loads
+use Rattle.spool_load.specs.Loaded.{FoundOn, IsFoundOf, LoadedFrom, OpenedFrom, SaysState, StandsFound}
 use Rattle.spool_load.specs.declared.finding.Found.{Found}
 use Rattle.spool_load.specs.Reads.{IsReadAt, SaysBlocks}
 use Rattle.spool_load.proofs.Looks.{read_back, read_stands}
-use Rattle.spool_load.specs.Refusals.{HasJournal, HidesVersion, NotFoundFor, RefusedAt, RefusedFor}
+use Rattle.spool_load.specs.Refusals.{HasJournal, NotFoundFor, RefusedAt, RefusedFor}
 use Rattle.spool_load.specs.Refusals.{SaysKnownVersion, SaysVersion}
 use Rattle.spool_load.proofs.Opens.{front_plain}
 
@@ -69,17 +74,8 @@ version_one f at a b = number_one f at (version_number a) (version_number b) (sm
     small One = omega arith
     small Two = omega arith
 
--- what is hidden at one place is hidden at another that says as much
-pub hides_on : (f g : ℕ → ℕ) (at there : ℕ) (e : OpenFault) → (SaysKnownVersion g there → SaysKnownVersion f at)
-    → HidesVersion f at e → HidesVersion g there e
-hides_on f g at there NotASpool back told = told
-hides_on f g at there Version back told = λ known. told (back known)
-hides_on f g at there Damaged back told = told
-hides_on f g at there NoMemory back told = told
-hides_on f g at there DiskFault back told = tt
-
 -- what was found in a page that was read
-pub found_read : (bytes : ℕ → ℕ) (n place : ℕ) (buf : List ℕ) (found : Found) → IsReadAt bytes place buf
+found_read : (bytes : ℕ → ℕ) (n place : ℕ) (buf : List ℕ) (found : Found) → IsReadAt bytes place buf
     → length buf ≡ 4096 → state_place n ≡ place + 0 → found.layout ≡ n
     → Stands (byte_of buf) 0 12 (state_page found.version found.next)
     → (IsTrue found.is_rest_blank ↔ Stands (byte_of buf) 0 4096 (state_page found.version found.next))
@@ -98,6 +94,20 @@ found_read bytes n place buf found read long here same fields rest =
       );
     }
 
+pub state_read : (bytes : ℕ → ℕ) (n place : ℕ) (buf : List ℕ) (said : Option Found) → IsReadAt bytes place buf
+    → length buf ≡ 4096 → state_place n ≡ place + 0 → IfSome said (λ found. found.layout ≡ n)
+    → IfSome said (λ found. Stands (byte_of buf) 0 12 (state_page found.version found.next))
+    → IfSome said (λ found. IsTrue found.is_rest_blank
+    ↔ Stands (byte_of buf) 0 4096 (state_page found.version found.next))
+    → (IsNone said → SaysKnownVersion (byte_of buf) 0 → ⊥)
+    → MatchOption said (SaysKnownVersion bytes (state_place n) → ⊥) (StandsFound bytes)
+state_read bytes n place buf (Some found) read long here same fields rest unknown =
+    found_read bytes n place buf found read long here same fields rest
+state_read bytes n place buf None read long here same fields rest unknown = λ known. unknown refl (record {
+  version = known.version;
+  said = read_stands bytes place (state_place n) 0 4 buf _ read (omega (arith, long)) here known.said;
+})
+
 -- BEHIND A RECOVERY
 
 module _ (n : ℕ) (old seen : ℕ → ℕ) (loose : ℕ → Type 0) (settled : Settled (journal_pages n) (overlaid old) seen loose)
@@ -113,17 +123,14 @@ module _ (n : ℕ) (old seen : ℕ → ℕ) (loose : ℕ → Type 0) (settled : 
       → Stands seen (state_place n) size xs
   state_back size xs stands = record { each = λ i lt. state_same i ∙ stands.each i lt }
 
-  pub refused_on : (e : OpenFault) → HidesVersion seen (state_place n) e → RefusedAt n old e
-  refused_on NotASpool told = told
-  refused_on Version told = (
-    journal,
-    λ known. told (record { version = known.version; said = state_back 4 _ known.said }),
-  )
-  refused_on Damaged told = absurd told
-  refused_on NoMemory told = told
-  refused_on DiskFault told = tt
+  -- a state page that says no version that is known is refused
+  pub unrestored : (said : Option Found) → MatchOption said (SaysKnownVersion seen (state_place n) → ⊥)
+      (StandsFound seen) → IfErr (ok_or said Version) (RefusedAt n old)
+  unrestored (Some found) told = tt
+  unrestored None told =
+      (journal, λ known. told (record { version = known.version; said = state_back 4 _ known.said }))
 
-  pub found_on : (size : ℕ) (found : Found) → found.layout ≡ n → SaysBlocks size old n → StandsFound seen found
+  found_on : (size : ℕ) (found : Found) → found.layout ≡ n → SaysBlocks size old n → StandsFound seen found
       → FoundOn size old found
   found_on size found same says stands =
       let said = state_page found.version found.next in
@@ -141,6 +148,12 @@ module _ (n : ℕ) (old seen : ℕ → ℕ) (loose : ℕ → Type 0) (settled : 
           );
         };
       }
+
+  pub restored : (size : ℕ) (said : Option Found) → IfSome said (λ found. found.layout ≡ n) → SaysBlocks size old n
+      → MatchOption said (SaysKnownVersion seen (state_place n) → ⊥) (StandsFound seen)
+      → IfOk (ok_or said Version) (FoundOn size old)
+  restored size (Some found) same says stands = found_on size found same says stands
+  restored size None same says told = tt
 
   pub says_on : (size size' : ℕ) → size' ≡ size → SaysBlocks size old n → SaysBlocks size' seen n
   says_on size size' same says = record {
@@ -183,6 +196,18 @@ found_back size found old seen loose settled is =
       rest = (λ blank. back 4096 (is.state.rest.0 blank), λ there. is.state.rest.1 (on 4096 there));
     }
 
+-- what the state page said, where a version that isn't known is refused
+pub restored_layout : (n : ℕ) (said : Option Found) → IfSome said (λ found. found.layout ≡ n)
+    → IfOk (ok_or said Version) (λ found. found.layout ≡ n)
+restored_layout n (Some found) same = same
+restored_layout n None same = tt
+
+pub restored_view : (v : View) (n : ℕ) (said : Option Found) → n ≡ v.blocks
+    → IsSomeAnd said (SaysState v.version v.next) → IfSome said (λ found. found.layout ≡ n)
+    → LoadsAs (ok_or said Version) (IsFoundOf v)
+restored_view v n (Some found) blocks says same = record { blocks = same ∙ blocks; state = says }
+restored_view v n None blocks says same = absurd says
+
 -- THE REASON OF A REFUSAL
 
 pub found_reason : {T : Type 0} (size : ℕ) (seen : ℕ → ℕ) (n : ℕ) (r : Result T OpenFault) → SaysBlocks size seen n
@@ -194,18 +219,6 @@ found_reason size seen n (Err Version) says refused =
 found_reason size seen n (Err Damaged) says refused = record { blocks = n; says = says; bad = refused }
 found_reason size seen n (Err NoMemory) says refused = absurd refused
 found_reason size seen n (Err DiskFault) says refused = tt
-
-pub front_reason : {T : Type 0} (size : ℕ) (seen : ℕ → ℕ) (e : OpenFault) (P : ℕ → T → Type 0)
-    → (e ≡ NotASpool) ⊎ (e ≡ DiskFault)
-    → ((n : ℕ) → SaysBlocks size seen n → LoadsAs {T = T} (Err e) (P n)) → NotFoundFor size seen e
-front_reason size seen NotASpool P one said = said
-front_reason size seen DiskFault P one said = tt
-front_reason size seen NoMemory P (inl e) said = absurd (cc)
-front_reason size seen NoMemory P (inr e) said = absurd (cc)
-front_reason size seen Version P (inl e) said = absurd (cc)
-front_reason size seen Version P (inr e) said = absurd (cc)
-front_reason size seen Damaged P (inl e) said = absurd (cc)
-front_reason size seen Damaged P (inr e) said = absurd (cc)
 
 -- why it isn't found is why it isn't opened
 pub unfound_reason : (size : ℕ) (seen : ℕ → ℕ) (e : OpenFault) → NotFoundFor size seen e → RefusedFor size seen e
@@ -221,19 +234,17 @@ unfound_reason size seen NoMemory why = absurd why
 unfound_reason size seen DiskFault why = tt
 
 -- and so is why what was found isn't read
-pub read_reason : {T : Type 0} (size : ℕ) (seen : ℕ → ℕ) (found : Found) (r : Result T OpenFault)
-    (P : View → T → Type 0) → FoundOn size seen found
-    → ((v : View) → IsSound v → IsViewOf seen v → 4096 * all_pages v.blocks ≤ size → LoadsAs r (P v))
-    → IfErr r IsLate → IfErr r (RefusedFor size seen)
-read_reason size seen found (Ok t) P is said late = tt
-read_reason size seen found (Err NotASpool) P is said late = absurd late
-read_reason size seen found (Err Version) P is said late = absurd late
-read_reason size seen found (Err Damaged) P is said late = record {
+pub read_reason : (size : ℕ) (seen : ℕ → ℕ) (found : Found) (e : LoadError) → FoundOn size seen found
+    → ((v : View) → IsSound v → IsViewOf seen v → 4096 * all_pages v.blocks ≤ size → TellsNothing e)
+    → RefusedFor size seen (load_fault e)
+read_reason size seen found loads.DiskFault is said = tt
+read_reason size seen found (loads.Check checks.NoMemory) is said = tt
+read_reason size seen found (loads.Check checks.Damaged) is said = record {
   blocks = found.layout;
   says = is.says;
   version = λ form. known_stands (overlaid seen) (state_place found.layout) 12 found.version found.next (omega arith)
       is.state.fields;
-  no_view = λ v sound view e. said v sound view (subst (λ (k : ℕ). 4096 * all_pages k ≤ size) (sym e) is.says.room);
+  no_view = λ v sound view e.
+      let nothing = said v sound view (subst (λ (k : ℕ). 4096 * all_pages k ≤ size) (sym e) is.says.room) in
+      absurd (cc);
 }
-read_reason size seen found (Err NoMemory) P is said late = tt
-read_reason size seen found (Err DiskFault) P is said late = tt

@@ -1,6 +1,5 @@
 -- A sound view, of what was read and what was checked of it.
-use Rattle.std.proofs.Common.{◌≡◌, ℕ, Bool, ◌+◌, ◌-◌, ◌*◌, ◌<◌, ◌≤◌, List, [], Option, None, Some, Result, Ok, Err}
-use Rattle.std.proofs.Common.{IfOk, OnOk}
+use Rattle.std.proofs.Common.{◌≡◌, ℕ, Bool, ◌+◌, ◌-◌, ◌*◌, ◌<◌, ◌≤◌, List, [], Option, None, Some}
 use Rattle.std.proofs.Common.{false, replicate, length, get_or, refl, sym, subst, ap, ◌∙◌, arith}
 use Rattle.enc_model.specs.Indexes.{IndexSet}
 use Rattle.enc_index.specs.Area.{area_byte}
@@ -20,8 +19,6 @@ use Rattle.spool_kept.specs.Shows.{IsSound, IsSoundRecord, IsOwned}
 use Rattle.spool_load.specs.Checks.{RecordsPass, RowPasses, RowsPass}
 use Rattle.spool_kept.specs.Holding.{Holding}
 use Rattle.spool_kept.specs.Kept.{KeepsAlone}
-use Rattle.spool_kept.specs.Loads.{LoadsAs}
-use Rattle.spool_kept.specs.declared.error.OpenFault.{OpenFault}
 use Rattle.spool_load.specs.Loaded.{LoadedFrom}
 use Rattle.spool_load.specs.Reads.{StandFields, StandSlots, StandRows}
 
@@ -143,19 +140,18 @@ module _ (bytes : ℕ → ℕ) (n : ℕ) (version : Version) (next : ℕ) (x : I
   }
 
   -- and so it is kept
-  pub read_loaded : (reserved : List Bool) (r : Result Holding OpenFault) → 16 ≤ n → n ≤ 65536
+  pub read_loaded : (reserved : List Bool) (h : Holding) → 16 ≤ n → n ≤ 65536
       → StandFields bytes n x → Stands bytes (state_place n) 4096 (state_page version next)
       → StandSlots bytes n version slots → length slots ≡ 512
       → length rows ≡ n → StandRows bytes n (512 * (journal_pages n - 257)) rows → RecordsPass next slots
       → RowsPass slots rows → ((b : ℕ) → FitsRow (get_or rows b None))
-      → reserved ≡ replicate n false → OnOk r (AreDistinct slots)
-      → OnOk r ((s : ℕ) (q : SlotRecord) → get_or slots s None ≡ Some q → OwnsOneEach rows s (blocks_of q.text_len))
+      → reserved ≡ replicate n false → AreDistinct slots
+      → ((s : ℕ) (q : SlotRecord) → get_or slots s None ≡ Some q → OwnsOneEach rows s (blocks_of q.text_len))
       → ((v : View) → IsSound v → v.blocks ≡ n → version ≡ v.version → next ≡ v.next → x ≡ v.indexes → slots ≡ v.slots
       → rows ≡ v.rows
-      → reserved ≡ replicate v.blocks false → LoadsAs r (λ kept. KeepsAlone kept v))
-      → IfOk r (LoadedFrom bytes n)
-  read_loaded reserved (Err e) least most fields state stand long wide there are owned fit none distinct lists kept = tt
-  read_loaded reserved (Ok h) least most fields state stand long wide there are owned fit none distinct lists kept =
+      → reserved ≡ replicate v.blocks false → KeepsAlone h v)
+      → LoadedFrom bytes n h
+  read_loaded reserved h least most fields state stand long wide there are owned fit none distinct lists kept =
       let sound = read_sound least most fields stand long wide are owned fit distinct lists in
       record {
         view = view_read;

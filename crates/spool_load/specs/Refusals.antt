@@ -55,14 +55,6 @@ pub record HasBadJournal (size : ℕ) (seen : ℕ → ℕ) : Type 0 where
   pub says : SaysBlocks size seen blocks
   pub bad : HasJournal blocks seen → ⊥
 
--- what a refusal behind a look at the version says of what stands from the place on
-abbrev pub HidesVersion : (ℕ → ℕ) → ℕ → OpenFault → Type 0
-HidesVersion bytes place NotASpool = ⊥
-HidesVersion bytes place Version = SaysKnownVersion bytes place → ⊥
-HidesVersion bytes place Damaged = ⊥
-HidesVersion bytes place NoMemory = ⊥
-HidesVersion bytes place DiskFault = Unit {0}
-
 -- what a refusal to find it says of a disk that begins as a spool of n blocks
 abbrev pub RefusedAt : ℕ → (ℕ → ℕ) → OpenFault → Type 0
 RefusedAt n seen NotASpool = ⊥

@@ -1,6 +1,6 @@
 //! A spool is found on a disk and made whole.
 ghost use Rattle.std.specs.Prelude.{◌≡◌, ◌⊎◌, ◌≤◌, ◌<◌, ◌*◌, ◌^◌, ◌↔◌};
-ghost use Rattle.std.specs.Prelude.{ℕ, Ok, Err, IsErr, IfOk, IfErr, IsTrue, get_or};
+ghost use Rattle.std.specs.Prelude.{ℕ, Err, IsErr, IfOk, IfErr, IfSome, IsNone, IsSomeAnd, IsTrue, MatchOption, get_or};
 ghost use Rattle.spool_disk.specs.Disk.{IsImage, Counts, Keeps};
 ghost use Rattle.spool_disk.specs.Views.{Lasts};
 ghost use Rattle.spool_journal.specs.Image.{journal_pages, all_pages, byte_of, overlaid};
@@ -9,7 +9,7 @@ ghost use Rattle.spool_kept.specs.Loads.{LoadsAs};
 ghost use Rattle.spool_kept.specs.Shows.{IsSound};
 ghost use Rattle.spool_load.specs.Loaded.{FoundOn, IsFoundOf, SaysState, StandsFound};
 ghost use Rattle.spool_load.specs.Reads.{NeedsReplay, OnlyReads, SaysBlocks};
-ghost use Rattle.spool_load.specs.Refusals.{HidesVersion, NotFoundFor, RefusedAt};
+ghost use Rattle.spool_load.specs.Refusals.{IsNoSpool, NotFoundFor, RefusedAt, SaysKnownVersion};
 ghost use Rattle.spool_pages.specs.Bytes.{IsPadded};
 ghost use Rattle.spool_pages.specs.View.{View, IsViewOf, Stands, state_page, state_place};
 ghost use Rattle.spool_pages.specs.declared.version.Version.{Version as Known};
@@ -49,51 +49,46 @@ fn read_front<D: Disk>(disk: &mut D) -> Result<[u8; 12], DiskFault>
     Ok(front)
 }
 
-// The layout that page 0 says.
-fn find_layout<D: Disk>(disk: &mut D) -> Result<Layout, OpenFault>
+// The layout that page 0 says, none where the disk is no spool.
+fn find_layout<D: Disk>(disk: &mut D) -> Result<Option<Layout>, DiskFault>
     ensures size { D.size disk.new ≡ D.size disk.old }
     ensures honest { D.honest disk.old ↔ D.honest disk.new }
-    ensures counts { Counts (result ≡ Err OpenFault.DiskFault) (D.failures disk.old) (D.failures disk.new) }
+    ensures counts { Counts (IsErr result) (D.failures disk.old) (D.failures disk.new) }
     ensures keeps { D.honest disk.old
         → Keeps (D.seen disk.old) (D.seen disk.new) (D.loose disk.old) (D.loose disk.new) }
     ensures lasts { D.honest disk.old → Lasts D.Disk disk.old disk.new (IsImage (D.seen disk.old) (D.loose disk.old)) }
-    ensures room { IfOk result (λ layout. 4096 * all_pages layout ≤ D.size disk.old) }
-    ensures found { D.honest disk.old → IfOk result (SaysBlocks (D.size disk.old) (D.seen disk.old)) }
-    ensures said { D.honest disk.old → (n : ℕ) → SaysBlocks (D.size disk.old) (D.seen disk.old) n
-        → LoadsAs result (λ layout. layout ≡ n) }
-    ensures no_other { IfErr result (λ fault. (fault ≡ OpenFault.NotASpool) ⊎ (fault ≡ OpenFault.DiskFault)) }
+    ensures room { IfOk result (λ found. IfSome found (λ layout. 4096 * all_pages layout ≤ D.size disk.old)) }
+    ensures found { D.honest disk.old → IfOk result (λ found. MatchOption found
+        (IsNoSpool (D.size disk.old) (D.seen disk.old)) (SaysBlocks (D.size disk.old) (D.seen disk.old))) }
 {
     if disk.len() < 12 {
-        return Err(OpenFault::NotASpool);
+        return Ok(None);
     }
     let front = read_front(disk)?;
     let Some(blocks) = blocks_said(&front) else {
-        return Err(OpenFault::NotASpool);
+        return Ok(None);
     };
     let Some(layout) = Layout::of(blocks) else {
-        return Err(OpenFault::NotASpool);
+        return Ok(None);
     };
     if disk.len() < 4096 * layout.pages() as u64 {
-        return Err(OpenFault::NotASpool);
+        return Ok(None);
     }
-    Ok(layout)
+    Ok(Some(layout))
 }
 
-// What the state page says.
-fn found_in(layout: Layout, page: &[u8; PAGE]) -> Result<Found, OpenFault>
-    ensures layout { IfOk result (λ found. found.layout ≡ layout) }
+// What the state page says, none where it says no version that is known.
+fn found_in(layout: Layout, page: &[u8; PAGE]) -> Option<Found>
+    ensures layout { IfSome result (λ found. found.layout ≡ layout) }
     ensures said { (version : Known) (next : ℕ) → next < 2 ^ 64 → IsPadded page.now (state_page version next)
-        → LoadsAs result (SaysState version next) }
-    ensures fields { IfOk result (λ found. Stands (byte_of page.now) 0 12 (state_page found.version found.next)) }
-    ensures rest { IfOk result (λ found. IsTrue found.is_rest_blank
+        → IsSomeAnd result (SaysState version next) }
+    ensures fields { IfSome result (λ found. Stands (byte_of page.now) 0 12 (state_page found.version found.next)) }
+    ensures rest { IfSome result (λ found. IsTrue found.is_rest_blank
         ↔ Stands (byte_of page.now) 0 4096 (state_page found.version found.next)) }
-    ensures unknown { IfErr result (HidesVersion (byte_of page.now) 0) }
-    ensures no_device { result ≡ Err OpenFault.DiskFault → ⊥ }
+    ensures unknown { IsNone result → SaysKnownVersion (byte_of page.now) 0 → ⊥ }
 {
-    let Some((version, next)) = version_and_next(page) else {
-        return Err(OpenFault::Version);
-    };
-    Ok(Found {
+    let (version, next) = version_and_next(page)?;
+    Some(Found {
         layout,
         version,
         next,
@@ -101,23 +96,22 @@ fn found_in(layout: Layout, page: &[u8; PAGE]) -> Result<Found, OpenFault>
     })
 }
 
-// Reads the state page.
-fn load_state<D: Disk>(disk: &mut D, layout: Layout) -> Result<Found, OpenFault>
+// Reads the state page. None where it says no version that is known.
+fn load_state<D: Disk>(disk: &mut D, layout: Layout) -> Result<Option<Found>, DiskFault>
     requires { 4096 * all_pages layout ≤ D.size disk.old }
     ensures reads { OnlyReads D.Disk disk.old disk.new }
-    ensures counts { Counts (result ≡ Err OpenFault.DiskFault) (D.failures disk.old) (D.failures disk.new) }
-    ensures layout { IfOk result (λ found. found.layout ≡ layout) }
+    ensures counts { Counts (IsErr result) (D.failures disk.old) (D.failures disk.new) }
+    ensures layout { IfOk result (λ said. IfSome said (λ found. found.layout ≡ layout)) }
     ensures said { D.honest disk.old → (bytes : ℕ → ℕ) → Still bytes (D.seen disk.old) (D.loose disk.old)
         → (version : Known) (next : ℕ) → next < 2 ^ 64
-        → Stands bytes (state_place layout) 4096 (state_page version next) → LoadsAs result (SaysState version next) }
+        → Stands bytes (state_place layout) 4096 (state_page version next)
+        → IfOk result (λ said. IsSomeAnd said (SaysState version next)) }
     ensures found { D.honest disk.old → (bytes : ℕ → ℕ) → Still bytes (D.seen disk.old) (D.loose disk.old)
-        → IfOk result (StandsFound bytes) }
-    ensures refused { D.honest disk.old → (bytes : ℕ → ℕ) → Still bytes (D.seen disk.old) (D.loose disk.old)
-        → IfErr result (HidesVersion bytes (state_place layout)) }
+        → IfOk result (λ said. MatchOption said (SaysKnownVersion bytes (state_place layout) → ⊥) (StandsFound bytes)) }
 {
     let mut page = [0; PAGE];
     read_at(disk, state_place(&layout), &mut page)?;
-    found_in(layout, &page)
+    Ok(found_in(layout, &page))
 }
 
 // Makes a spool whole, and looks at its version.
@@ -143,7 +137,7 @@ fn restore<D: Disk>(disk: &mut D, layout: Layout) -> Result<Found, OpenFault>
         → Keeps (D.seen disk.old) (D.seen disk.new) (D.loose disk.old) (D.loose disk.new) }
 {
     recover(disk, &layout)?;
-    load_state(disk, layout)
+    load_state(disk, layout)?.ok_or(OpenFault::Version)
 }
 
 /// Finds a spool and makes it whole. It may crash too, and be called again. It takes no memory.
@@ -184,6 +178,8 @@ pub fn find<D: Disk>(disk: &mut D) -> Result<Found, OpenFault>
         → (result ≡ Err OpenFault.DiskFault → ⊥)
         → Keeps (D.seen disk.old) (D.seen disk.new) (D.loose disk.old) (D.loose disk.new) }
 {
-    let layout = find_layout(disk)?;
-    restore(disk, layout)
+    match find_layout(disk)? {
+        Some(layout) => restore(disk, layout),
+        None => Err(OpenFault::NotASpool),
+    }
 }

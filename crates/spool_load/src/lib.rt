@@ -2,6 +2,7 @@
 #![tactic(auto)]
 
 mod checks;
+mod error;
 mod finding;
 mod loading;
 mod opening;
@@ -9,6 +10,7 @@ mod owners;
 mod reading;
 mod slots;
 
+pub use error::LoadError;
 pub use finding::{Found, find};
 pub use loading::read;
 pub use opening::load;

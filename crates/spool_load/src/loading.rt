@@ -1,42 +1,42 @@
 //! What is kept of a spool is read.
 ghost use Rattle.std.specs.Prelude.{◌≡◌, ◌≤◌, ◌<◌, ◌*◌, ◌-◌};
-ghost use Rattle.std.specs.Prelude.{ℕ, Err, None, false, replicate, length, get_or, IfOk, IfErr};
+ghost use Rattle.std.specs.Prelude.{ℕ, None, false, replicate, length, get_or, IfOk, IsErrOf};
 ghost use Rattle.spool_disk.specs.Disk.{Counts};
 ghost use Rattle.spool_journal.specs.Image.{all_pages, journal_pages};
 ghost use Rattle.spool_journal.specs.Phases.{Still};
 ghost use Rattle.spool_load.specs.Checks.{RowsPass};
+ghost use Rattle.spool_load.specs.Faults.{Loads};
 ghost use Rattle.spool_load.specs.Loaded.{IsFoundOf, LoadedFrom, StandsFound};
 ghost use Rattle.spool_load.specs.Reads.{OnlyReads, SaysBlocks, StandFields, StandRows};
 ghost use Rattle.spool_kept.specs.Kept.{KeepsAlone};
-ghost use Rattle.spool_kept.specs.Loads.{LoadsAs, IsLate};
 ghost use Rattle.spool_kept.specs.Shows.{IsSound};
 ghost use Rattle.spool_pages.specs.Fits.{FitsRow};
 ghost use Rattle.spool_pages.specs.View.{View, Says, first_page};
 
-use crate::Found;
 use crate::checks::{are_rows_sound, are_sound};
 use crate::owners::load_rows;
 use crate::reading::{check_front, load_indexes};
 use crate::slots::load_slots;
+use crate::{Found, LoadError};
 use enc_index::IndexSet;
 use spool_blocks::Blocks;
 use spool_disk::Disk;
 use spool_journal::Layout;
-use spool_kept::{Kept, KeptRecord, OpenFault};
+use spool_kept::{Kept, KeptRecord};
+use spool_pages::Damaged;
 use std::alloc::Global;
 
 // The rest of page 0, and the index files.
-fn load_fields<D: Disk>(alloc: Global, disk: &mut D, layout: &Layout) -> Result<IndexSet, OpenFault>
+fn load_fields<D: Disk>(alloc: Global, disk: &mut D, layout: &Layout) -> Result<IndexSet, LoadError>
     requires { 4096 * all_pages layout.now ≤ D.size disk.old }
     ensures reads { OnlyReads D.Disk disk.old disk.new }
-    ensures counts { Counts (result ≡ Err OpenFault.DiskFault) (D.failures disk.old) (D.failures disk.new) }
+    ensures counts { Counts (IsErrOf result LoadError.DiskFault) (D.failures disk.old) (D.failures disk.new) }
     ensures said { D.honest disk.old → (bytes : ℕ → ℕ) → Still bytes (D.seen disk.old) (D.loose disk.old)
         → (v : View) → IsSound v → v.blocks ≡ layout.now → Says bytes v
-        → LoadsAs result (λ indexes. indexes ≡ v.indexes) }
+        → Loads result (λ indexes. indexes ≡ v.indexes) }
     ensures sound { D.honest disk.old → (bytes : ℕ → ℕ) → Still bytes (D.seen disk.old) (D.loose disk.old)
         → ((i : ℕ) → i < 12 → bytes i ≡ get_or (first_page layout.now) i 0)
         → IfOk result (StandFields bytes layout.now) }
-    ensures late { IfErr result IsLate }
 {
     check_front(disk, layout)?;
     load_indexes(alloc, disk, layout)
@@ -48,25 +48,24 @@ fn load_blocks<D: Disk>(
     disk: &mut D,
     layout: &Layout,
     slots: &[Option<KeptRecord>],
-) -> Result<Blocks, OpenFault>
+) -> Result<Blocks, LoadError>
     requires room { 4096 * all_pages layout.now ≤ D.size disk.old }
     requires slots { length slots.now ≡ 512 }
     ensures long { IfOk result (λ blocks. length blocks.rows ≡ layout.now) }
     ensures fits { IfOk result (λ blocks. (b : ℕ) → FitsRow (get_or blocks.rows b None)) }
     ensures reads { OnlyReads D.Disk disk.old disk.new }
-    ensures counts { Counts (result ≡ Err OpenFault.DiskFault) (D.failures disk.old) (D.failures disk.new) }
+    ensures counts { Counts (IsErrOf result LoadError.DiskFault) (D.failures disk.old) (D.failures disk.new) }
     ensures said { D.honest disk.old → (bytes : ℕ → ℕ) → Still bytes (D.seen disk.old) (D.loose disk.old)
         → (v : View) → IsSound v → v.blocks ≡ layout.now → Says bytes v → slots.now ≡ v.slots
-        → LoadsAs result (λ blocks. (blocks.rows ≡ v.rows) × (blocks.reserved ≡ replicate v.blocks false)) }
+        → Loads result (λ blocks. (blocks.rows ≡ v.rows) × (blocks.reserved ≡ replicate v.blocks false)) }
     ensures sound { D.honest disk.old → (bytes : ℕ → ℕ) → Still bytes (D.seen disk.old) (D.loose disk.old)
         → IfOk result (λ blocks. StandRows bytes layout.now (512 * (journal_pages layout.now - 257)) blocks.rows) }
     ensures owners { IfOk result (λ blocks. RowsPass slots.now blocks.rows) }
     ensures reserved { IfOk result (λ blocks. blocks.reserved ≡ replicate layout.now false) }
-    ensures late { IfErr result IsLate }
 {
     let rows = load_rows(alloc, disk, layout)?;
     if !are_rows_sound(slots, &rows) {
-        return Err(OpenFault::Damaged);
+        return Err(LoadError::from(Damaged));
     }
     let _few = layout.blocks();
     let blocks = Blocks::of(alloc, rows)?;
@@ -77,36 +76,35 @@ fn load_blocks<D: Disk>(
 ///
 /// # Errors
 ///
-/// `Damaged` where what is read is not what a spool may say; `NoMemory` where a growth was refused, and `DiskFault`
-/// where the device failed.
-pub fn read<D: Disk>(alloc: Global, disk: &mut D, found: Found) -> Result<Kept, OpenFault>
+/// `Check(Damaged)` where what is read is not what a spool may say; `Check(NoMemory)` where a growth was refused, and
+/// `DiskFault` where the device failed.
+pub fn read<D: Disk>(alloc: Global, disk: &mut D, found: Found) -> Result<Kept, LoadError>
     requires { 4096 * all_pages found.layout ≤ D.size disk.old }
     ensures reads { OnlyReads D.Disk disk.old disk.new }
-    ensures counts { Counts (result ≡ Err OpenFault.DiskFault) (D.failures disk.old) (D.failures disk.new) }
+    ensures counts { Counts (IsErrOf result LoadError.DiskFault) (D.failures disk.old) (D.failures disk.new) }
     ensures layout { IfOk result (λ kept. kept.layout ≡ found.layout) }
     ensures version { IfOk result (λ kept. kept.version ≡ found.version) }
 
     // A sound spool is read, or memory or the device refuses it.
     ensures said { D.honest disk.old → (bytes : ℕ → ℕ) → Still bytes (D.seen disk.old) (D.loose disk.old)
-        → (v : View) → IsSound v → IsFoundOf v found → Says bytes v → LoadsAs result (λ kept. KeepsAlone kept v) }
+        → (v : View) → IsSound v → IsFoundOf v found → Says bytes v → Loads result (λ kept. KeepsAlone kept v) }
 
     // What is read is sound, and stands there.
     ensures sound { D.honest disk.old → (bytes : ℕ → ℕ) → Still bytes (D.seen disk.old) (D.loose disk.old)
         → SaysBlocks (D.size disk.old) bytes found.layout
         → StandsFound bytes found
         → IfOk result (LoadedFrom bytes found.layout) }
-    ensures late { IfErr result IsLate }
 {
     if !found.is_rest_blank {
-        return Err(OpenFault::Damaged);
+        return Err(LoadError::from(Damaged));
     }
     let indexes = load_fields(alloc, disk, &found.layout)?;
     let slots = load_slots(alloc, disk, &found.layout, found.version)?;
     if !are_sound(&slots, found.next) {
-        return Err(OpenFault::Damaged);
+        return Err(LoadError::from(Damaged));
     }
     let blocks = load_blocks(alloc, disk, &found.layout, &slots)?;
-    Kept::of(
+    let kept = Kept::of(
         alloc,
         found.layout,
         found.version,
@@ -114,5 +112,6 @@ pub fn read<D: Disk>(alloc: Global, disk: &mut D, found: Found) -> Result<Kept, 
         indexes,
         slots,
         blocks,
-    )
+    )?;
+    Ok(kept)
 }

@@ -59,5 +59,6 @@ pub fn load<D: Disk>(alloc: Global, disk: &mut D) -> Result<Kept, OpenFault>
         → Keeps (D.seen disk.old) (D.seen disk.new) (D.loose disk.old) (D.loose disk.new) }
 {
     let found = find(disk)?;
-    read(alloc, disk, found)
+    let kept = read(alloc, disk, found)?;
+    Ok(kept)
 }

@@ -1,19 +1,19 @@
 //! The rows of the text blocks are read.
 ghost use Rattle.std.specs.Prelude.{◌≡◌, ◌≢◌, ◌≤◌, ◌<◌, ◌*◌, ◌+◌, ◌-◌};
-ghost use Rattle.std.specs.Prelude.{ℕ, List, Option, None, length, get_or, IsOkAnd, IfOk, IfErr, OnOk, OnErr, Ok, Err};
+ghost use Rattle.std.specs.Prelude.{ℕ, List, Option, None, length, get_or, IsErrOf, IsOkAnd, IfOk, OnOk, OnErr};
 ghost use Rattle.spool_disk.specs.Disk.{Counts};
 ghost use Rattle.spool_journal.specs.Image.{journal_pages, all_pages, byte_of};
 ghost use Rattle.spool_journal.specs.Phases.{Still};
 ghost use Rattle.spool_pages.specs.Fits.{FitsRow};
+ghost use Rattle.spool_load.specs.Faults.{Loads};
 ghost use Rattle.spool_load.specs.Reads.{OnlyReads, IsSameTo, StandRows};
-ghost use Rattle.spool_kept.specs.Loads.{LoadsAs, IsLate};
 ghost use Rattle.spool_pages.specs.View.{Stands, row_bytes, row_place};
 
+use crate::LoadError;
 use crate::reading::read_at;
 use spool_blocks::Row;
 use spool_disk::Disk;
 use spool_journal::{Layout, PAGE};
-use spool_kept::OpenFault;
 use spool_pages::{Damaged, ROWS, row_at, row_pages, rows_place};
 use std::alloc::Global;
 
@@ -56,18 +56,17 @@ fn load_page<D: Disk>(
     layout: &Layout,
     rows: &mut [Row],
     page: u32,
-) -> Result<(), OpenFault>
+) -> Result<(), LoadError>
     requires room { 4096 * all_pages layout.now ≤ D.size disk.old }
     requires page { 257 + page < journal_pages layout.now }
     requires few { page < 128 }
     ensures reads { OnlyReads D.Disk disk.old disk.new }
-    ensures counts { Counts (result ≡ Err OpenFault.DiskFault) (D.failures disk.old) (D.failures disk.new) }
-    ensures late { IfErr result IsLate }
+    ensures counts { Counts (IsErrOf result LoadError.DiskFault) (D.failures disk.old) (D.failures disk.new) }
     ensures said { D.honest disk.old → (bytes : ℕ → ℕ) → Still bytes (D.seen disk.old) (D.loose disk.old)
         → (all : List (Option (ℕ × ℕ))) → length all ≡ length rows.old → ((b : ℕ) → FitsRow (get_or all b None))
         → ((b : ℕ) → b < 512 * (journal_pages layout.now - 257)
         → Stands bytes (row_place layout.now b) 8 (row_bytes (get_or all b None)))
-        → IsSameTo (512 * page) all rows.old → LoadsAs result (λ done. IsSameTo (512 * (page + 1)) all rows.new) }
+        → IsSameTo (512 * page) all rows.old → Loads result (λ done. IsSameTo (512 * (page + 1)) all rows.new) }
     ensures sound { D.honest disk.old → (bytes : ℕ → ℕ) → Still bytes (D.seen disk.old) (D.loose disk.old)
         → StandRows bytes layout.now (512 * page) rows.old
         → OnOk result (StandRows bytes layout.now (512 * (page + 1)) rows.new) }
@@ -79,16 +78,15 @@ fn load_page<D: Disk>(
 }
 
 // Reads all pages of rows.
-fn load_pages<D: Disk>(disk: &mut D, layout: &Layout, rows: &mut [Row]) -> Result<(), OpenFault>
+fn load_pages<D: Disk>(disk: &mut D, layout: &Layout, rows: &mut [Row]) -> Result<(), LoadError>
     requires room { 4096 * all_pages layout.now ≤ D.size disk.old }
     ensures reads { OnlyReads D.Disk disk.old disk.new }
-    ensures counts { Counts (result ≡ Err OpenFault.DiskFault) (D.failures disk.old) (D.failures disk.new) }
-    ensures late { IfErr result IsLate }
+    ensures counts { Counts (IsErrOf result LoadError.DiskFault) (D.failures disk.old) (D.failures disk.new) }
     ensures said { D.honest disk.old → (bytes : ℕ → ℕ) → Still bytes (D.seen disk.old) (D.loose disk.old)
         → (all : List (Option (ℕ × ℕ))) → length all ≡ length rows.old → ((b : ℕ) → FitsRow (get_or all b None))
         → ((b : ℕ) → b < 512 * (journal_pages layout.now - 257)
         → Stands bytes (row_place layout.now b) 8 (row_bytes (get_or all b None)))
-        → LoadsAs result (λ done. IsSameTo (512 * (journal_pages layout.now - 257)) all rows.new) }
+        → Loads result (λ done. IsSameTo (512 * (journal_pages layout.now - 257)) all rows.new) }
     ensures sound { D.honest disk.old → (bytes : ℕ → ℕ) → Still bytes (D.seen disk.old) (D.loose disk.old)
         → OnOk result (StandRows bytes layout.now (512 * (journal_pages layout.now - 257)) rows.new) }
 {
@@ -103,19 +101,18 @@ pub(crate) fn load_rows<D: Disk>(
     alloc: Global,
     disk: &mut D,
     layout: &Layout,
-) -> Result<Vec<Row>, OpenFault>
+) -> Result<Vec<Row>, LoadError>
     requires { 4096 * all_pages layout.now ≤ D.size disk.old }
     ensures reads { OnlyReads D.Disk disk.old disk.new }
-    ensures counts { Counts (result ≡ Err OpenFault.DiskFault) (D.failures disk.old) (D.failures disk.new) }
+    ensures counts { Counts (IsErrOf result LoadError.DiskFault) (D.failures disk.old) (D.failures disk.new) }
     ensures long { IfOk result (λ rows. length rows.items ≡ layout.now) }
     ensures said { D.honest disk.old → (bytes : ℕ → ℕ) → Still bytes (D.seen disk.old) (D.loose disk.old)
         → (all : List (Option (ℕ × ℕ))) → length all ≡ layout.now → ((b : ℕ) → FitsRow (get_or all b None))
         → ((b : ℕ) → b < 512 * (journal_pages layout.now - 257)
         → Stands bytes (row_place layout.now b) 8 (row_bytes (get_or all b None)))
-        → LoadsAs result (λ rows. rows.items ≡ all) }
+        → Loads result (λ rows. rows.items ≡ all) }
     ensures sound { D.honest disk.old → (bytes : ℕ → ℕ) → Still bytes (D.seen disk.old) (D.loose disk.old)
         → IfOk result (λ rows. StandRows bytes layout.now (512 * (journal_pages layout.now - 257)) rows.items) }
-    ensures late { IfErr result IsLate }
 {
     let mut rows = vec![in alloc; None; layout.blocks() as usize]?;
     load_pages(disk, layout, &mut rows)?;

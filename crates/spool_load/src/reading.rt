@@ -1,21 +1,22 @@
 //! A spool whose bytes are all synced is read.
 ghost use Rattle.std.specs.Prelude.{◌≡◌, ◌≤◌, ◌<◌, ◌*◌, ◌+◌};
-ghost use Rattle.std.specs.Prelude.{ℕ, length, get_or, IsErr, OnOk, IfOk, IfErr, Err};
+ghost use Rattle.std.specs.Prelude.{ℕ, length, get_or, IsErr, IsErrOf, OnOk, IfOk};
 ghost use Rattle.enc_model.specs.Indexes.{IndexSet as Indexes};
 ghost use Rattle.enc_index.specs.Area.{area_byte};
 ghost use Rattle.enc_index.specs.Sets.{IsIndexSet};
 ghost use Rattle.spool_disk.specs.Disk.{Counts};
 ghost use Rattle.spool_journal.specs.Image.{all_pages};
 ghost use Rattle.spool_journal.specs.Phases.{Still};
+ghost use Rattle.spool_load.specs.Faults.{Loads};
 ghost use Rattle.spool_load.specs.Reads.{OnlyReads, IsReadAt, StandsArea};
-ghost use Rattle.spool_kept.specs.Loads.{LoadsAs, IsLate};
 ghost use Rattle.spool_pages.specs.View.{Stands, first_page, index_place};
 
+use crate::LoadError;
 use enc_index::{AreaError, IndexSet};
 use spool_disk::{Disk, DiskFault};
 use spool_journal::{Layout, PAGE};
-use spool_kept::OpenFault;
-use spool_pages::{index_place, is_blank_behind_fields};
+use spool_kept::CheckError;
+use spool_pages::{Damaged, index_place, is_blank_behind_fields};
 use std::alloc::Global;
 
 /// Fills the buffer from a place on.
@@ -30,13 +31,12 @@ pub(crate) fn read_at<D: Disk>(disk: &mut D, place: u64, buf: &mut [u8]) -> Resu
 }
 
 /// Looks at what stands behind the fields of page 0.
-pub(crate) fn check_front<D: Disk>(disk: &mut D, layout: &Layout) -> Result<(), OpenFault>
+pub(crate) fn check_front<D: Disk>(disk: &mut D, layout: &Layout) -> Result<(), LoadError>
     requires { 4096 * all_pages layout.now ≤ D.size disk.old }
     ensures reads { OnlyReads D.Disk disk.old disk.new }
-    ensures counts { Counts (result ≡ Err OpenFault.DiskFault) (D.failures disk.old) (D.failures disk.new) }
-    ensures late { IfErr result IsLate }
+    ensures counts { Counts (IsErrOf result LoadError.DiskFault) (D.failures disk.old) (D.failures disk.new) }
     ensures said { D.honest disk.old → (bytes : ℕ → ℕ) → Still bytes (D.seen disk.old) (D.loose disk.old)
-        → (n : ℕ) → Stands bytes 0 4096 (first_page n) → LoadsAs result (λ done. Unit {0}) }
+        → (n : ℕ) → Stands bytes 0 4096 (first_page n) → Loads result (λ done. Unit {0}) }
     ensures sound { D.honest disk.old → (bytes : ℕ → ℕ) → Still bytes (D.seen disk.old) (D.loose disk.old)
         → (n : ℕ) → ((i : ℕ) → i < 12 → bytes i ≡ get_or (first_page n) i 0)
         → OnOk result (Stands bytes 0 4096 (first_page n)) }
@@ -46,7 +46,7 @@ pub(crate) fn check_front<D: Disk>(disk: &mut D, layout: &Layout) -> Result<(), 
     if is_blank_behind_fields(&page) {
         Ok(())
     } else {
-        Err(OpenFault::Damaged)
+        Err(LoadError::from(Damaged))
     }
 }
 
@@ -56,13 +56,12 @@ fn push_area_page<D: Disk>(
     layout: &Layout,
     area: &mut Vec<u8>,
     page: u32,
-) -> Result<(), OpenFault>
+) -> Result<(), LoadError>
     requires room { 4096 * all_pages layout.now ≤ D.size disk.old }
     requires page { page < 22 }
     ensures reads { OnlyReads D.Disk disk.old disk.new }
-    ensures counts { Counts (result ≡ Err OpenFault.DiskFault) (D.failures disk.old) (D.failures disk.new) }
-    ensures late { IfErr result IsLate }
-    ensures others { LoadsAs result (λ done. length area.new.items ≡ length area.old.items + 4096) }
+    ensures counts { Counts (IsErrOf result LoadError.DiskFault) (D.failures disk.old) (D.failures disk.new) }
+    ensures others { Loads result (λ done. length area.new.items ≡ length area.old.items + 4096) }
     ensures pushed { D.honest disk.old → (bytes : ℕ → ℕ) → Still bytes (D.seen disk.old) (D.loose disk.old)
         → IsReadAt bytes (index_place layout.now) area.old.items → length area.old.items ≡ 4096 * page
         → OnOk result (IsReadAt bytes (index_place layout.now) area.new.items) }
@@ -74,12 +73,11 @@ fn push_area_page<D: Disk>(
 }
 
 // The index area.
-fn load_area<D: Disk>(alloc: Global, disk: &mut D, layout: &Layout) -> Result<Vec<u8>, OpenFault>
+fn load_area<D: Disk>(alloc: Global, disk: &mut D, layout: &Layout) -> Result<Vec<u8>, LoadError>
     requires { 4096 * all_pages layout.now ≤ D.size disk.old }
     ensures reads { OnlyReads D.Disk disk.old disk.new }
-    ensures counts { Counts (result ≡ Err OpenFault.DiskFault) (D.failures disk.old) (D.failures disk.new) }
-    ensures late { IfErr result IsLate }
-    ensures long { LoadsAs result (λ area. length area.items ≡ 90112) }
+    ensures counts { Counts (IsErrOf result LoadError.DiskFault) (D.failures disk.old) (D.failures disk.new) }
+    ensures long { Loads result (λ area. length area.items ≡ 90112) }
     ensures read { D.honest disk.old → (bytes : ℕ → ℕ) → Still bytes (D.seen disk.old) (D.loose disk.old)
         → IfOk result (λ area. IsReadAt bytes (index_place layout.now) area.items) }
 {
@@ -95,22 +93,21 @@ pub(crate) fn load_indexes<D: Disk>(
     alloc: Global,
     disk: &mut D,
     layout: &Layout,
-) -> Result<IndexSet, OpenFault>
+) -> Result<IndexSet, LoadError>
     requires { 4096 * all_pages layout.now ≤ D.size disk.old }
     ensures reads { OnlyReads D.Disk disk.old disk.new }
-    ensures counts { Counts (result ≡ Err OpenFault.DiskFault) (D.failures disk.old) (D.failures disk.new) }
+    ensures counts { Counts (IsErrOf result LoadError.DiskFault) (D.failures disk.old) (D.failures disk.new) }
     ensures said { D.honest disk.old → (bytes : ℕ → ℕ) → Still bytes (D.seen disk.old) (D.loose disk.old)
         → (x : Indexes) → IsIndexSet x
         → ((i : ℕ) → i < 90112 → bytes (index_place layout.now + i) ≡ area_byte x i)
-        → LoadsAs result (λ set. set ≡ x) }
+        → Loads result (λ set. set ≡ x) }
     ensures sound { D.honest disk.old → (bytes : ℕ → ℕ) → Still bytes (D.seen disk.old) (D.loose disk.old)
         → IfOk result (StandsArea bytes layout.now) }
-    ensures late { IfErr result IsLate }
 {
     let area = load_area(alloc, disk, layout)?;
     match IndexSet::from_area(alloc, &area) {
         Ok(set) => Ok(set),
-        Err(AreaError::NoMemory) => Err(OpenFault::NoMemory),
-        Err(AreaError::Damaged) => Err(OpenFault::Damaged),
+        Err(AreaError::NoMemory) => Err(LoadError::Check(CheckError::NoMemory)),
+        Err(AreaError::Damaged) => Err(LoadError::Check(CheckError::Damaged)),
     }
 }

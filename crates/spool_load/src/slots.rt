@@ -1,21 +1,22 @@
 //! The slots are read.
 ghost use Rattle.std.specs.Prelude.{◌≡◌, ◌≤◌, ◌<◌, ◌*◌, ◌+◌, ◌-◌};
-ghost use Rattle.std.specs.Prelude.{ℕ, List, Option, None, length, get_or, IfOk, IfErr, OnOk, Ok, Err};
+ghost use Rattle.std.specs.Prelude.{ℕ, List, Option, None, length, get_or, IfOk, IsErrOf, MatchResult, OnOk};
 ghost use Rattle.spool_disk.specs.Disk.{Counts};
 ghost use Rattle.spool_journal.specs.Image.{all_pages};
 ghost use Rattle.spool_journal.specs.Phases.{Still};
 ghost use Rattle.spool_pages.specs.Bytes.{IsPadded};
 ghost use Rattle.spool_pages.specs.Fits.{FitsSlotOf};
 ghost use Rattle.spool_kept.specs.Records.{FitsKept};
+ghost use Rattle.spool_load.specs.Faults.{Loads};
 ghost use Rattle.spool_load.specs.Reads.{OnlyReads, IsFrontOf, StandSlots};
-ghost use Rattle.spool_kept.specs.Loads.{LoadsAs, IsLate};
 ghost use Rattle.spool_pages.specs.View.{SlotRecord as Said, Stands, slot_bytes, slot_place};
 
+use crate::LoadError;
 use crate::reading::read_at;
 use spool_blocks::SLOTS;
 use spool_disk::Disk;
 use spool_journal::Layout;
-use spool_kept::{KeptRecord, OpenFault};
+use spool_kept::{CheckError, KeptRecord};
 use spool_pages::{RECORD, SlotRecord, Version, slot_place};
 use std::alloc::Global;
 
@@ -24,13 +25,11 @@ fn kept_of(
     alloc: Global,
     version: Version,
     bytes: &[u8; RECORD],
-) -> Result<Option<KeptRecord>, OpenFault>
+) -> Result<Option<KeptRecord>, CheckError>
     ensures said { (slot : Option Said) → FitsKept slot → IsPadded bytes.now (slot_bytes version slot)
-        → LoadsAs result (λ kept. kept ≡ slot) }
+        → MatchResult result (λ kept. kept ≡ slot) (λ e. e ≡ CheckError.NoMemory) }
     ensures stands { IfOk result (λ kept. IsPadded bytes.now (slot_bytes version kept)) }
     ensures fits { IfOk result FitsSlotOf }
-    ensures late { IfErr result IsLate }
-    ensures no_device { result ≡ Err OpenFault.DiskFault → ⊥ }
 {
     match SlotRecord::from_bytes(version, bytes)? {
         Some(record) => {
@@ -48,23 +47,22 @@ fn load_slot<D: Disk>(
     layout: &Layout,
     version: Version,
     slot: u32,
-) -> Result<Option<KeptRecord>, OpenFault>
+) -> Result<Option<KeptRecord>, LoadError>
     requires room { 4096 * all_pages layout.now ≤ D.size disk.old }
     requires slot { slot < 512 }
     ensures reads { OnlyReads D.Disk disk.old disk.new }
-    ensures counts { Counts (result ≡ Err OpenFault.DiskFault) (D.failures disk.old) (D.failures disk.new) }
+    ensures counts { Counts (IsErrOf result LoadError.DiskFault) (D.failures disk.old) (D.failures disk.new) }
     ensures said { D.honest disk.old → (bytes : ℕ → ℕ) → Still bytes (D.seen disk.old) (D.loose disk.old)
         → (said : Option Said) → FitsKept said
         → Stands bytes (slot_place layout.now slot) 2048 (slot_bytes version said)
-        → LoadsAs result (λ kept. kept ≡ said) }
+        → Loads result (λ kept. kept ≡ said) }
     ensures stands { D.honest disk.old → (bytes : ℕ → ℕ) → Still bytes (D.seen disk.old) (D.loose disk.old)
         → IfOk result (λ kept. Stands bytes (slot_place layout.now slot) 2048 (slot_bytes version kept)) }
     ensures fits { IfOk result FitsSlotOf }
-    ensures late { IfErr result IsLate }
 {
     let mut bytes = [0; RECORD];
     read_at(disk, slot_place(layout, slot), &mut bytes)?;
-    kept_of(alloc, version, &bytes)
+    Ok(kept_of(alloc, version, &bytes)?)
 }
 
 // The record of the next slot, behind those before it.
@@ -75,26 +73,25 @@ fn push_slot<D: Disk>(
     version: Version,
     slots: &mut Vec<Option<KeptRecord>>,
     slot: u32,
-) -> Result<(), OpenFault>
+) -> Result<(), LoadError>
     requires room { 4096 * all_pages layout.now ≤ D.size disk.old }
     requires slot { slot < 512 }
     ensures reads { OnlyReads D.Disk disk.old disk.new }
-    ensures counts { Counts (result ≡ Err OpenFault.DiskFault) (D.failures disk.old) (D.failures disk.new) }
+    ensures counts { Counts (IsErrOf result LoadError.DiskFault) (D.failures disk.old) (D.failures disk.new) }
     ensures long { OnOk result (length slots.new.items ≡ length slots.old.items + 1) }
     ensures said { D.honest disk.old → (bytes : ℕ → ℕ) → Still bytes (D.seen disk.old) (D.loose disk.old)
         → (said : List (Option Said)) → length said ≡ 512 → FitsKept (get_or said slot None)
         → Stands bytes (slot_place layout.now slot) 2048 (slot_bytes version (get_or said slot None))
         → length slots.old.items ≡ slot → IsFrontOf said slots.old.items
-        → LoadsAs result (λ done. IsFrontOf said slots.new.items) }
+        → Loads result (λ done. IsFrontOf said slots.new.items) }
     ensures sound { D.honest disk.old → (bytes : ℕ → ℕ) → Still bytes (D.seen disk.old) (D.loose disk.old)
         → length slots.old.items ≡ slot → StandSlots bytes layout.now version slots.old.items
         → OnOk result (StandSlots bytes layout.now version slots.new.items) }
-    ensures late { IfErr result IsLate }
 {
     let kept = load_slot(alloc, disk, layout, version, slot)?;
     match slots.push(kept) {
         Ok(()) => Ok(()),
-        Err(_) => Err(OpenFault::NoMemory),
+        Err(_) => Err(LoadError::Check(CheckError::NoMemory)),
     }
 }
 
@@ -104,18 +101,17 @@ pub(crate) fn load_slots<D: Disk>(
     disk: &mut D,
     layout: &Layout,
     version: Version,
-) -> Result<Vec<Option<KeptRecord>>, OpenFault>
+) -> Result<Vec<Option<KeptRecord>>, LoadError>
     requires { 4096 * all_pages layout.now ≤ D.size disk.old }
     ensures reads { OnlyReads D.Disk disk.old disk.new }
-    ensures counts { Counts (result ≡ Err OpenFault.DiskFault) (D.failures disk.old) (D.failures disk.new) }
+    ensures counts { Counts (IsErrOf result LoadError.DiskFault) (D.failures disk.old) (D.failures disk.new) }
     ensures long { IfOk result (λ slots. length slots.items ≡ 512) }
     ensures said { D.honest disk.old → (bytes : ℕ → ℕ) → Still bytes (D.seen disk.old) (D.loose disk.old)
         → (said : List (Option Said)) → length said ≡ 512 → ((s : ℕ) → FitsKept (get_or said s None))
         → ((s : ℕ) → s < 512 → Stands bytes (slot_place layout.now s) 2048 (slot_bytes version (get_or said s None)))
-        → LoadsAs result (λ slots. slots.items ≡ said) }
+        → Loads result (λ slots. slots.items ≡ said) }
     ensures sound { D.honest disk.old → (bytes : ℕ → ℕ) → Still bytes (D.seen disk.old) (D.loose disk.old)
         → IfOk result (λ slots. StandSlots bytes layout.now version slots.items) }
-    ensures late { IfErr result IsLate }
 {
     let mut slots = Vec::new(alloc);
     for slot in 0..SLOTS {

@@ -1,17 +1,20 @@
-use Rattle.std.proofs.Common.{◌≡◌, ℕ, ◌*◌, ◌≤◌, Err, sym, subst, rules}
-use Rattle.spool_journal.specs.Image.{all_pages, journal_pages, overlaid}
+use Rattle.std.proofs.Common.{◌≡◌, ◌∙◌, ℕ, Err, ap, sym, subst, rules}
+use Rattle.std.proofs.lemmas.Result.{err_from_is_err_and}
+use Rattle.spool_disk.proofs.Firm.{counts_on}
+use Rattle.spool_journal.specs.Image.{journal_pages, overlaid}
 use Rattle.spool_journal.specs.Phases.{Settled}
 use Rattle.spool_kept.specs.Kept.{KeepsAlone}
 use Rattle.spool_kept.specs.declared.kept.Kept.{Kept}
-use Rattle.spool_kept.specs.Shows.{IsSound}
-use Rattle.spool_pages.specs.View.{View, IsViewOf}
 use Rattle.spool_pages.specs.declared.version.Version.TheVariants.{Two}
+use Rattle.spool_load.specs.Faults.{load_fault}
 use Rattle.spool_load.specs.Loaded.{IsFoundOf}
+use Rattle.spool_load.proofs.Faults.{counts_told, tells_nothing}
 use Rattle.spool_load.proofs.Looks.{ok_no_fault}
 use Rattle.spool_load.proofs.Opens.{read_lasts, read_same, read_settled, read_unwritten, recovered_says, settled_still}
 use Rattle.spool_load.proofs.Refused.{found_back, opened_on, read_reason, says_on}
 use Rattle.spool_image.proofs.Upgraded.{found_new, found_old, loads_upgrades, old_reason, settled_rests}
 use Rattle.spool_image.proofs.Upgraded.{unfound_device, unfound_upgrade}
+use Rattle.spool_image.specs.declared.error.UpgradeError.TheVariants.{Open}
 use Rattle.spool_image.proofs.upgrading.load_old.Goals as goal
 
 pub returns-in_err-found-clause-said : goal.returns-in_err-found-clause-said
@@ -38,9 +41,11 @@ returns-in_err-kept-clause-said g c honest v sound is room =
     let settled = c.in_ok-found.ensures.settled honest in
     let found = c.in_ok-found.ensures.said honest v sound is room in
     let loads =
-    c.in_err-kept.ensures.said (c.find.ensures.honest.0 honest) _ (settled_still settled) v sound found
-    (recovered_says c.in_ok-found.found.layout v found.blocks settled is) in
-    let up = loads_upgrades Kept v.version c.in_err-kept.field-0.0 (λ (kept : Kept). KeepsAlone kept v) loads in
+    tells_nothing c.in_err-kept.field-0.0 (λ (kept : Kept). KeepsAlone kept v)
+    (c.in_err-kept.ensures.said (c.find.ensures.honest.0 honest) _ (settled_still settled) v sound found
+    (recovered_says c.in_ok-found.found.layout v found.blocks settled is)) in
+    let up =
+    loads_upgrades Kept v.version (load_fault c.in_err-kept.field-0.0) (λ (kept : Kept). KeepsAlone kept v) loads in
     search rules
 
 pub returns-in_err-kept-clause-refused : goal.returns-in_err-kept-clause-refused
@@ -48,20 +53,24 @@ returns-in_err-kept-clause-refused g c honest =
     let settled = c.in_ok-found.ensures.settled honest in
     let on = c.in_ok-found.ensures.found honest in
     let mid = c.find.ensures.honest.0 honest in
-    let said =
-    λ (v : View) (sound : IsSound v) (is : IsViewOf (g.D.Disk.seen c.args.disk.now) v)
-    (room : 4096 * all_pages v.blocks ≤ g.D.Disk.size c.args.disk.now).
-    (let found = c.in_ok-found.ensures.said honest v sound is room in
+    let reason =
+    read_reason (g.D.Disk.size c.args.disk.now) (g.D.Disk.seen c.args.disk.now) c.in_ok-found.found
+    c.in_err-kept.field-0.0 on
+    (λ v sound is room. let found = c.in_ok-found.ensures.said honest v sound is room in
     c.in_err-kept.ensures.said mid _ (settled_still settled) v sound found
     (recovered_says c.in_ok-found.found.layout v found.blocks settled is)) in
-    let reason =
-    read_reason {T = Kept} (g.D.Disk.size c.args.disk.now) (g.D.Disk.seen c.args.disk.now) c.in_ok-found.found
-    (Err c.in_err-kept.field-0.0) (λ v kept. KeepsAlone kept v) on said c.in_err-kept.ensures.late in
     let old =
-    old_reason (g.D.Disk.size c.args.disk.now) (g.D.Disk.seen c.args.disk.now) c.in_err-kept.field-0.0
+    old_reason (g.D.Disk.size c.args.disk.now) (g.D.Disk.seen c.args.disk.now) (load_fault c.in_err-kept.field-0.0)
     (λ e. found_old (g.D.Disk.size c.args.disk.now) (g.D.Disk.seen c.args.disk.now) c.in_ok-found.found on
     (search rules)) reason in
     search rules
+
+pub returns-in_err-kept-clause-counts : goal.returns-in_err-kept-clause-counts
+returns-in_err-kept-clause-counts g c =
+    let e = err_from_is_err_and c.from_residual-in_err-kept.result c.from_residual-in_err-kept.ensures.1 in
+    counts_on c.find.ensures.counts (ok_no_fault _ _ c.in_ok-found.was)
+    (counts_told c.in_err-kept.field-0.0 (λ failed. let is = e.1 in let fault = e.2 in cc)
+    (λ device. e.1 ∙ ap Err (e.2 ∙ ap Open device)) c.in_err-kept.ensures.counts)
 
 pub returns-in_err-kept-clause-stays : goal.returns-in_err-kept-clause-stays
 returns-in_err-kept-clause-stays g c honest v sound is room =

@@ -1,87 +1,93 @@
-use Rattle.std.proofs.Common.{◌≡◌, inl, inr, ℕ, IfOk, IfErr, sym, subst, rules, ⊎_elim}
+use Rattle.std.proofs.Common.{◌≡◌, inl, inr, ℕ, IfOk, IfErr, MatchOption, None, Option, Some, sym, subst, ⊎_elim}
 use Rattle.spool_disk.proofs.Firm.{lasts_on, lasts_more}
 use Rattle.spool_journal.specs.Image.{journal_pages, overlaid}
 use Rattle.spool_journal.specs.Phases.{ReadsAs, Settled}
 use Rattle.spool_pages.specs.View.{IsViewOf}
-use Rattle.spool_load.proofs.Looks.{loads_err, if_ok_both}
-use Rattle.spool_load.proofs.Refused.{front_reason, found_reason}
-use Rattle.spool_load.specs.Loaded.{FoundOn, IsFoundOf}
+use Rattle.spool_load.proofs.Looks.{if_ok_both}
+use Rattle.spool_load.proofs.Refused.{found_reason, says_one}
+use Rattle.spool_load.specs.Loaded.{FoundOn}
 use Rattle.spool_load.specs.Reads.{SaysBlocks}
-use Rattle.spool_load.specs.Refusals.{RefusedAt}
+use Rattle.spool_load.specs.Refusals.{IsNoSpool, RefusedAt}
 use Rattle.spool_load.proofs.Opens.{gate_shut, same_function, view_says_blocks, keeps_image, keeps_on}
 use Rattle.spool_load.proofs.finding.find.Goals as goal
 
-pub returns-in_err-layout-clause-said : goal.returns-in_err-layout-clause-said
-returns-in_err-layout-clause-said g c honest v sound is room =
-    let found = c.in_err-layout.ensures.said honest v.blocks (view_says_blocks _ _ v sound is room) in
-    let handed = loads_err _ (IsFoundOf v) _ found in
-    search rules
+says_there : (size : ℕ) (seen : ℕ → ℕ) (said : Option ℕ) (n : ℕ) → said ≡ Some n
+    → MatchOption said (IsNoSpool size seen) (SaysBlocks size seen) → SaysBlocks size seen n
+says_there size seen said n is told = subst (λ o. MatchOption o (IsNoSpool size seen) (SaysBlocks size seen)) is told
 
-pub returns-clause-said : goal.returns-clause-said
-returns-clause-said g c honest v sound is room =
+none_there : (size : ℕ) (seen : ℕ → ℕ) (said : Option ℕ) → said ≡ None
+    → MatchOption said (IsNoSpool size seen) (SaysBlocks size seen) → IsNoSpool size seen
+none_there size seen said is told = subst (λ o. MatchOption o (IsNoSpool size seen) (SaysBlocks size seen)) is told
+
+pub returns-in-None-clause-said : goal.returns-in-None-clause-said
+returns-in-None-clause-said g c honest v sound is room =
+    none_there _ _ _ c.in-None.is (c.in_ok-layout.ensures.found honest) v.blocks (view_says_blocks _ _ v sound is room)
+
+pub returns-in-None-clause-refused : goal.returns-in-None-clause-refused
+returns-in-None-clause-refused g c honest =
+    none_there _ _ _ c.in-None.is (c.in_ok-layout.ensures.found honest)
+
+pub returns-in-Some-clause-said : goal.returns-in-Some-clause-said
+returns-in-Some-clause-said g c honest v sound is room =
     let keeps = c.find_layout.ensures.keeps honest in
     let seen : g.D.Disk.seen c.find_layout.new.disk ≡ g.D.Disk.seen c.args.disk.now = same_function _ _ keeps.same in
-    let layout : c.in_ok-layout.layout ≡ v.blocks =
-    c.in_ok-layout.ensures.said honest v.blocks (view_says_blocks _ _ v sound is room) in
+    let layout : c.in-Some.layout ≡ v.blocks =
+    says_one _ _ _ _ (says_there _ _ _ _ c.in-Some.is (c.in_ok-layout.ensures.found honest))
+    (view_says_blocks _ _ v sound is room) in
     c.restore.ensures.said (c.find_layout.ensures.honest.0 honest) v sound (sym layout)
     (subst (λ (image : ℕ → ℕ). IsViewOf image v) (sym seen) is)
 
-pub returns-clause-lasts : goal.returns-clause-lasts
-returns-clause-lasts g c honest v sound is room =
+pub returns-in-Some-clause-lasts : goal.returns-in-Some-clause-lasts
+returns-in-Some-clause-lasts g c honest v sound is room =
     let keeps = c.find_layout.ensures.keeps honest in
     let was = g.D.Disk.seen c.args.disk.now in
     let seen : g.D.Disk.seen c.find_layout.new.disk ≡ was = same_function _ _ keeps.same in
-    let layout : c.in_ok-layout.layout ≡ v.blocks =
-    c.in_ok-layout.ensures.said honest v.blocks (view_says_blocks _ _ v sound is room) in
+    let layout : c.in-Some.layout ≡ v.blocks =
+    says_one _ _ _ _ (says_there _ _ _ _ c.in-Some.is (c.in_ok-layout.ensures.found honest))
+    (view_says_blocks _ _ v sound is room) in
     let first = lasts_more (c.find_layout.ensures.lasts honest) (λ image here. inl here) in
     let then = lasts_more (c.restore.ensures.lasts (c.find_layout.ensures.honest.0 honest)) (λ image one. ⊎_elim
     (λ here. inl (keeps_image keeps here))
     (λ reads. inr (subst (λ (n : ℕ). ReadsAs (journal_pages n) image (overlaid was)) layout
-    (subst (λ (f : ℕ → ℕ). ReadsAs (journal_pages c.in_ok-layout.layout) image (overlaid f)) seen reads)))
+    (subst (λ (f : ℕ → ℕ). ReadsAs (journal_pages c.in-Some.layout) image (overlaid f)) seen reads)))
     one) in
     lasts_on first then
 
-pub returns-clause-unwritten : goal.returns-clause-unwritten
-returns-clause-unwritten g c honest none =
+pub returns-in-Some-clause-unwritten : goal.returns-in-Some-clause-unwritten
+returns-in-Some-clause-unwritten g c honest none =
     let keeps = c.find_layout.ensures.keeps honest in
-    let shut = gate_shut keeps (c.in_ok-layout.ensures.found honest) none in
+    let shut = gate_shut keeps (says_there _ _ _ _ c.in-Some.is (c.in_ok-layout.ensures.found honest)) none in
     lasts_on (c.find_layout.ensures.lasts honest)
     (lasts_more (c.restore.ensures.unwritten (c.find_layout.ensures.honest.0 honest) shut)
     (λ image here. keeps_image keeps here))
 
-pub returns-clause-same : goal.returns-clause-same
-returns-clause-same g c honest none fine =
+pub returns-in-Some-clause-same : goal.returns-in-Some-clause-same
+returns-in-Some-clause-same g c honest none fine =
     let keeps = c.find_layout.ensures.keeps honest in
-    let shut = gate_shut keeps (c.in_ok-layout.ensures.found honest) none in
+    let shut = gate_shut keeps (says_there _ _ _ _ c.in-Some.is (c.in_ok-layout.ensures.found honest)) none in
     keeps_on keeps (c.restore.ensures.same (c.find_layout.ensures.honest.0 honest) shut fine)
 
-pub returns-in_err-layout-clause-refused : goal.returns-in_err-layout-clause-refused
-returns-in_err-layout-clause-refused g c honest =
-    let reason =
-    front_reason (g.D.Disk.size c.args.disk.now) (g.D.Disk.seen c.args.disk.now) c.in_err-layout.field-0.0 _
-    c.in_err-layout.ensures.no_other (c.in_err-layout.ensures.said honest) in
-    search rules
-
-pub returns-clause-refused : goal.returns-clause-refused
-returns-clause-refused g c honest =
+pub returns-in-Some-clause-refused : goal.returns-in-Some-clause-refused
+returns-in-Some-clause-refused g c honest =
     let keeps = c.find_layout.ensures.keeps honest in
     let mid = c.find_layout.ensures.honest.0 honest in
-    let layout = c.in_ok-layout.layout in
+    let layout = c.in-Some.layout in
     let was = g.D.Disk.seen c.args.disk.now in
     let seen : g.D.Disk.seen c.find_layout.new.disk ≡ was = same_function _ _ keeps.same in
-    found_reason (g.D.Disk.size c.args.disk.now) was layout c.restore.result (c.in_ok-layout.ensures.found honest)
+    found_reason (g.D.Disk.size c.args.disk.now) was layout c.restore.result
+    (says_there _ _ _ _ c.in-Some.is (c.in_ok-layout.ensures.found honest))
     (subst (λ (f : ℕ → ℕ). IfErr c.restore.result (RefusedAt layout f)) seen (c.restore.ensures.refused mid))
 
-pub returns-clause-found : goal.returns-clause-found
-returns-clause-found g c honest =
+pub returns-in-Some-clause-found : goal.returns-in-Some-clause-found
+returns-in-Some-clause-found g c honest =
     let keeps = c.find_layout.ensures.keeps honest in
     let mid = c.find_layout.ensures.honest.0 honest in
-    let layout = c.in_ok-layout.layout in
+    let layout = c.in-Some.layout in
     let seen : g.D.Disk.seen c.find_layout.new.disk ≡ g.D.Disk.seen c.args.disk.now = same_function _ _ keeps.same in
     let size = c.find_layout.ensures.size in
     let found =
     subst (λ (k : ℕ). SaysBlocks k (g.D.Disk.seen c.args.disk.now) layout) (sym size)
-    (c.in_ok-layout.ensures.found honest) in
+    (says_there _ _ _ _ c.in-Some.is (c.in_ok-layout.ensures.found honest)) in
     let there =
     c.restore.ensures.found mid
     (subst (λ (f : ℕ → ℕ). SaysBlocks (g.D.Disk.size c.find_layout.new.disk) f layout) (sym seen) found) in
@@ -89,15 +95,15 @@ returns-clause-found g c honest =
     subst (λ (k : ℕ). IfOk c.restore.result (FoundOn k (g.D.Disk.seen c.find_layout.new.disk))) size there in
     subst (λ (f : ℕ → ℕ). IfOk c.restore.result (FoundOn (g.D.Disk.size c.args.disk.now) f)) seen sized
 
-pub returns-clause-settled : goal.returns-clause-settled
-returns-clause-settled g c honest =
+pub returns-in-Some-clause-settled : goal.returns-in-Some-clause-settled
+returns-in-Some-clause-settled g c honest =
     let keeps = c.find_layout.ensures.keeps honest in
     let seen : g.D.Disk.seen c.find_layout.new.disk ≡ g.D.Disk.seen c.args.disk.now = same_function _ _ keeps.same in
     let now = g.D.Disk.seen c.restore.new.disk in
     let loose = g.D.Disk.loose c.restore.new.disk in
     let there =
     subst (λ (f : ℕ → ℕ). IfOk c.restore.result
-    (λ kept. Settled (journal_pages c.in_ok-layout.layout) (overlaid f) now loose)) seen
+    (λ kept. Settled (journal_pages c.in-Some.layout) (overlaid f) now loose)) seen
     (c.restore.ensures.settled (c.find_layout.ensures.honest.0 honest)) in
     if_ok_both c.restore.result
     (λ kept same settled. subst

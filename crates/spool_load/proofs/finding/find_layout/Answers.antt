@@ -11,26 +11,26 @@ none_from : {A : Type 0} (o : Option A) → ((x : A) → o ≡ Some x → ⊥) �
 none_from None never = refl
 none_from (Some x) never = absurd (never x refl)
 
-pub returns-then-len-lt12-clause-said : goal.returns-then-len-lt12-clause-said
-returns-then-len-lt12-clause-said g c honest blocks says =
+pub returns-then-len-lt12-clause-found : goal.returns-then-len-lt12-clause-found
+returns-then-len-lt12-clause-found g c honest blocks says =
     omega (arith, some_pages blocks, c.len.ensures, c.if-len-lt12.true, says.room)
 
-pub returns-in_default-clause-said : goal.returns-in_default-clause-said
-returns-in_default-clause-said g c honest blocks says =
+pub returns-in_default-clause-found : goal.returns-in_default-clause-found
+returns-in_default-clause-found g c honest blocks says =
     c.in_default.not-Some blocks
     (c.blocks_said.ensures.said blocks (omega (arith, says.most))
     (λ i lt. c.in_ok-front.ensures.bytes honest i lt ∙ says.front i lt))
 
-pub returns-in_default-of-clause-said : goal.returns-in_default-of-clause-said
-returns-in_default-of-clause-said g c honest blocks says =
+pub returns-in_default-of-clause-found : goal.returns-in_default-of-clause-found
+returns-in_default-of-clause-found g c honest blocks says =
     let e : c.in-Some.blocks ≡ blocks =
     same_Some _ _ (c.in-Some.ensures.said blocks (omega (arith, says.most))
     (λ i lt. c.in_ok-front.ensures.bytes honest i lt ∙ says.front i lt)) in
     ⊎_elim (λ below. omega (arith, below, e, says.least)) (λ above. omega (arith, above, e, says.most))
     (c.of.ensures.none.0 (none_from c.of.result c.in_default-of.not-Some))
 
-pub returns-then-len-pages-clause-said : goal.returns-then-len-pages-clause-said
-returns-then-len-pages-clause-said g c honest blocks says =
+pub returns-then-len-pages-clause-found : goal.returns-then-len-pages-clause-found
+returns-then-len-pages-clause-found g c honest blocks says =
     let e : c.in-Some.blocks ≡ blocks =
     same_Some _ _ (c.in-Some.ensures.said blocks (omega (arith, says.most))
     (λ i lt. c.in_ok-front.ensures.bytes honest i lt ∙ says.front i lt)) in
@@ -60,9 +60,3 @@ returns-clause-found g c honest =
           λ i lt. sym (c.in_ok-front.ensures.bytes honest i lt) ∙ c.in-Some.ensures.only i lt ∙ ap
           (λ (n : ℕ). get_or (first_page n) i 0) (sym same);
     }
-
-pub returns-clause-said : goal.returns-clause-said
-returns-clause-said g c honest blocks says =
-    c.in-Some-of.ensures.some ∙ same_Some _ _
-    (c.in-Some.ensures.said blocks (omega (arith, says.most))
-    (λ i lt. c.in_ok-front.ensures.bytes honest i lt ∙ says.front i lt))

@@ -1,9 +1,8 @@
-use Rattle.std.proofs.Common.{◌≡◌, rules, ◌+◌, ◌*◌, length, arith}
-use Rattle.spool_journal.specs.Image.{byte_of}
+use Rattle.std.proofs.Common.{◌≡◌, rules, ◌+◌, length, arith}
 use Rattle.spool_pages.specs.View.{state_place, state_page}
 use Rattle.spool_pages.proofs.Says.{all_is, some_journal}
-use Rattle.spool_load.proofs.Looks.{read_padded, read_stands, length-state, if_err_more, if_ok_three}
-use Rattle.spool_load.proofs.Refused.{found_read, hides_on}
+use Rattle.spool_load.proofs.Looks.{read_padded, length-state}
+use Rattle.spool_load.proofs.Refused.{state_read}
 use Rattle.spool_load.proofs.finding.load_state.Goals as goal
 
 pub read_at-requires : goal.read_at-requires
@@ -20,22 +19,7 @@ returns-clause-said g c honest bytes still version next fits stands =
 
 pub returns-clause-found : goal.returns-clause-found
 returns-clause-found g c honest bytes still =
-    let read = c.in_ok-read_at.ensures.bytes honest bytes still in
     let wide : length c.read_at.new.buf ≡ 4096 = search rules in
     let here : state_place c.args.layout ≡ c.state_place.result + 0 = omega (arith, c.state_place.ensures) in
-    if_ok_three c.found_in.result
-    (λ found same fields rest. found_read bytes c.args.layout _ c.read_at.new.buf found read wide here same fields
-    rest) c.found_in.ensures.layout c.found_in.ensures.fields c.found_in.ensures.rest
-
-pub returns-clause-refused : goal.returns-clause-refused
-returns-clause-refused g c honest bytes still =
-    let read = c.in_ok-read_at.ensures.bytes honest bytes still in
-    let wide : length c.read_at.new.buf ≡ 4096 = search rules in
-    let here : state_place c.args.layout ≡ c.state_place.result + 0 = omega (arith, c.state_place.ensures) in
-    if_err_more c.found_in.result
-    (λ e told. hides_on (byte_of c.read_at.new.buf) bytes 0 (state_place c.args.layout) e
-    (λ known. record {
-      version = known.version;
-      said = read_stands bytes _ (state_place c.args.layout) 0 4 c.read_at.new.buf _ read (omega (arith, wide)) here
-          known.said;
-    }) told) c.found_in.ensures.unknown
+    state_read bytes c.args.layout _ c.read_at.new.buf c.found_in.result (c.in_ok-read_at.ensures.bytes honest bytes still)
+    wide here c.found_in.ensures.layout c.found_in.ensures.fields c.found_in.ensures.rest c.found_in.ensures.unknown

@@ -1,19 +1,18 @@
-use Rattle.std.proofs.Common.{◌≡◌, ◌⊎◌, ◌∙◌, inr, ℕ, Result, Err, refl, sym, subst, rules, arith}
-use Rattle.spool_disk.specs.Disk.{IsImage}
-use Rattle.spool_disk.proofs.Firm.{lasts_on, lasts_more}
+use Rattle.std.proofs.Common.{◌≡◌, ◌∙◌, ℕ, Result, Err, IfErr, IfOk, refl, sym, subst, rules, arith}
 use Rattle.spool_journal.specs.Image.{journal_pages, overlaid, InForm, count, number}
-use Rattle.spool_journal.specs.Phases.{ReadsAs, Settled}
+use Rattle.spool_journal.specs.Phases.{Settled}
 use Rattle.spool_journal.specs.declared.error.RecoverError.{RecoverError}
 use Rattle.spool_journal.specs.declared.error.RecoverError.TheVariants as recover
 use Rattle.spool_kept.specs.Faults.{fault_of}
 use Rattle.spool_kept.specs.Loads.{LoadsAs}
-use Rattle.spool_load.proofs.Opens.{still_as, still_as_image, settled_still, settled_says, settled_reads, settled_on}
-use Rattle.spool_load.proofs.Opens.{if_ok}
+use Rattle.spool_kept.specs.declared.error.OpenFault.{OpenFault}
+use Rattle.spool_load.proofs.Opens.{if_ok, read_lasts, read_same, read_settled, read_unwritten, settled_still, settled_says}
+use Rattle.spool_load.proofs.Opens.{still_as}
 use Rattle.spool_load.specs.Refusals.{RefusedAt}
-use Rattle.spool_load.proofs.Looks.{if_ok_both, if_err_more, loads_both}
-use Rattle.spool_load.specs.Loaded.{IsFoundOf}
+use Rattle.spool_load.specs.Loaded.{FoundOn, IsFoundOf}
+use Rattle.spool_load.specs.declared.finding.Found.{Found}
 use Rattle.spool_pages.specs.View.{Stands, state_page, state_place}
-use Rattle.spool_load.proofs.Refused.{found_on, refused_on}
+use Rattle.spool_load.proofs.Refused.{restored, restored_layout, restored_view, unrestored}
 use Rattle.spool_load.proofs.finding.restore.Goals as goal
 
 recover_handed : {T : Type 0} (P : T → Type 0) (e : RecoverError) → (e ≡ recover.Damaged → ⊥)
@@ -41,55 +40,6 @@ returns-in_err-recover-clause-said g c honest v sound blocks is =
     let handed = recover_handed (IsFoundOf v) c.in_err-recover.field-0.0 sound_head in
     search rules
 
-pub returns-clause-said : goal.returns-clause-said
-returns-clause-said g c honest v sound blocks is =
-    let settled = c.in_ok-recover.ensures.settled honest in
-    let mid = c.recover.ensures.honest.0 honest in
-    let J : ℕ → Type 0 =
-    λ n. Settled (journal_pages n) (overlaid (g.D.Disk.seen c.args.disk.now)) (g.D.Disk.seen c.recover.new.disk)
-    (g.D.Disk.loose c.recover.new.disk) in
-    let settled_v = subst J (sym blocks) settled in
-    let there = (settled_says v settled_v is.says).state in
-    let state : Stands (g.D.Disk.seen c.recover.new.disk) (state_place c.args.layout) 4096
-    (state_page v.version v.next) =
-    subst (λ (n : ℕ). Stands (g.D.Disk.seen c.recover.new.disk) (state_place n) 4096 (state_page v.version v.next))
-    blocks there in
-    loads_both c.load_state.result (λ found says same. record { blocks = same ∙ sym blocks; state = says })
-    (c.load_state.ensures.said mid _ (settled_still settled) v.version v.next (omega (arith, sound.next_most)) state)
-    c.load_state.ensures.layout
-
-pub returns-clause-settled : goal.returns-clause-settled
-returns-clause-settled g c honest =
-    let settled = c.in_ok-recover.ensures.settled honest in
-    let mid = c.recover.ensures.honest.0 honest in
-    if_ok c.load_state.result (settled_on settled (c.load_state.ensures.reads.still mid _ (settled_still settled)))
-
-pub returns-clause-lasts : goal.returns-clause-lasts
-returns-clause-lasts g c honest =
-    let settled = c.in_ok-recover.ensures.settled honest in
-    let mid = c.recover.ensures.honest.0 honest in
-    let was = g.D.Disk.seen c.args.disk.now in
-    let loose = g.D.Disk.loose c.args.disk.now in
-    let P : (ℕ → ℕ) → Type 0 =
-    λ image. IsImage was loose image ⊎ ReadsAs (journal_pages c.args.layout) image (overlaid was) in
-    lasts_on {P = P} (c.recover.ensures.lasts honest)
-    (lasts_more (c.load_state.ensures.reads.lasts mid _ (settled_still settled))
-    (λ image same. inr (settled_reads image settled same)))
-
-pub returns-clause-unwritten : goal.returns-clause-unwritten
-returns-clause-unwritten g c honest shut =
-    let mid = c.recover.ensures.honest.0 honest in
-    let still = c.recover.ensures.same honest shut (λ e. absurd (let was = c.in_ok-recover.was in cc)) in
-    lasts_on (c.recover.ensures.unwritten honest shut)
-    (lasts_more (c.load_state.ensures.reads.lasts mid (g.D.Disk.seen c.args.disk.now) still)
-    (λ image same. still_as_image image same))
-
-pub returns-clause-same : goal.returns-clause-same
-returns-clause-same g c honest shut fine =
-    let mid = c.recover.ensures.honest.0 honest in
-    let still = c.recover.ensures.same honest shut (λ e. absurd (let was = c.in_ok-recover.was in cc)) in
-    still_as (c.load_state.ensures.reads.still mid (g.D.Disk.seen c.args.disk.now) still)
-
 pub returns-in_err-recover-clause-refused : goal.returns-in_err-recover-clause-refused
 returns-in_err-recover-clause-refused g c honest =
     let told =
@@ -98,24 +48,84 @@ returns-in_err-recover-clause-refused g c honest =
     (λ e. (c.recover.ensures.damaged honest (c.in_err-recover.was ∙ err_of _ _ e)).0) in
     search rules
 
-pub returns-clause-refused : goal.returns-clause-refused
-returns-clause-refused g c honest =
+pub returns-clause-layout : goal.returns-clause-layout
+returns-clause-layout g c =
+    subst (λ (r : Result Found OpenFault). IfOk r (λ found. found.layout ≡ c.args.layout)) (sym c.ok_or.ensures.value)
+    (restored_layout c.args.layout c.in_ok-load_state.field-0 c.in_ok-load_state.ensures.layout)
+
+pub returns-clause-said : goal.returns-clause-said
+returns-clause-said g c honest v sound blocks is =
     let settled = c.in_ok-recover.ensures.settled honest in
-    let mid = c.recover.ensures.honest.0 honest in
-    if_err_more c.load_state.result
-    (refused_on c.args.layout (g.D.Disk.seen c.args.disk.now) (g.D.Disk.seen c.recover.new.disk)
-    (g.D.Disk.loose c.recover.new.disk) settled (c.in_ok-recover.ensures.form honest))
-    (c.load_state.ensures.refused mid _ (settled_still settled))
+    let J : ℕ → Type 0 =
+    λ n. Settled (journal_pages n) (overlaid (g.D.Disk.seen c.args.disk.now)) (g.D.Disk.seen c.recover.new.disk)
+    (g.D.Disk.loose c.recover.new.disk) in
+    let there = (settled_says v (subst J (sym blocks) settled) is.says).state in
+    let state : Stands (g.D.Disk.seen c.recover.new.disk) (state_place c.args.layout) 4096
+    (state_page v.version v.next) =
+    subst (λ (n : ℕ). Stands (g.D.Disk.seen c.recover.new.disk) (state_place n) 4096 (state_page v.version v.next))
+    blocks there in
+    subst (λ (r : Result Found OpenFault). LoadsAs r (IsFoundOf v)) (sym c.ok_or.ensures.value)
+    (restored_view v c.args.layout c.in_ok-load_state.field-0 (sym blocks)
+    (c.in_ok-load_state.ensures.said (c.recover.ensures.honest.0 honest) _ (settled_still settled) v.version v.next
+    (omega (arith, sound.next_most)) state)
+    c.in_ok-load_state.ensures.layout)
 
 pub returns-clause-found : goal.returns-clause-found
 returns-clause-found g c honest says =
     let settled = c.in_ok-recover.ensures.settled honest in
-    let form = c.in_ok-recover.ensures.form honest in
-    let mid = c.recover.ensures.honest.0 honest in
     let was = g.D.Disk.seen c.args.disk.now in
     let now = g.D.Disk.seen c.recover.new.disk in
-    let loose = g.D.Disk.loose c.recover.new.disk in
-    if_ok_both c.load_state.result
-    (λ found same stands. found_on c.args.layout was now loose settled form (g.D.Disk.size c.args.disk.now) found same
-    says stands)
-    c.load_state.ensures.layout (c.load_state.ensures.found mid now (settled_still settled))
+    let size = g.D.Disk.size c.args.disk.now in
+    subst (λ (r : Result Found OpenFault). IfOk r (FoundOn size was)) (sym c.ok_or.ensures.value)
+    (restored c.args.layout was now (g.D.Disk.loose c.recover.new.disk) settled (c.in_ok-recover.ensures.form honest) size
+    c.in_ok-load_state.field-0 c.in_ok-load_state.ensures.layout says
+    (c.in_ok-load_state.ensures.found (c.recover.ensures.honest.0 honest) now (settled_still settled)))
+
+pub returns-clause-refused : goal.returns-clause-refused
+returns-clause-refused g c honest =
+    let settled = c.in_ok-recover.ensures.settled honest in
+    let was = g.D.Disk.seen c.args.disk.now in
+    let now = g.D.Disk.seen c.recover.new.disk in
+    subst (λ (r : Result Found OpenFault). IfErr r (RefusedAt c.args.layout was)) (sym c.ok_or.ensures.value)
+    (unrestored c.args.layout was now (g.D.Disk.loose c.recover.new.disk) settled (c.in_ok-recover.ensures.form honest)
+    c.in_ok-load_state.field-0
+    (c.in_ok-load_state.ensures.found (c.recover.ensures.honest.0 honest) now (settled_still settled)))
+
+pub returns-clause-settled : goal.returns-clause-settled
+returns-clause-settled g c honest =
+    if_ok c.ok_or.result
+    (read_settled g.D.Disk c.args.disk.now c.recover.new.disk c.load_state.new.disk c.args.layout
+    (c.recover.ensures.honest.0 honest) (c.in_ok-recover.ensures.settled honest) c.load_state.ensures.reads)
+
+pub returns-clause-lasts : goal.returns-clause-lasts
+returns-clause-lasts g c honest =
+    read_lasts g.D.Disk c.args.disk.now c.recover.new.disk c.load_state.new.disk c.args.layout
+    (c.recover.ensures.honest.0 honest) (c.in_ok-recover.ensures.settled honest) c.load_state.ensures.reads
+    c.args.layout refl (c.recover.ensures.lasts honest)
+
+pub returns-clause-unwritten : goal.returns-clause-unwritten
+returns-clause-unwritten g c honest shut =
+    let still = c.recover.ensures.same honest shut (λ e. absurd (let was = c.in_ok-recover.was in cc)) in
+    read_unwritten g.D.Disk c.args.disk.now c.recover.new.disk c.load_state.new.disk c.args.layout
+    (c.recover.ensures.honest.0 honest) (c.in_ok-recover.ensures.settled honest) c.load_state.ensures.reads
+    (still_as still) (c.recover.ensures.unwritten honest shut)
+
+pub returns-clause-same : goal.returns-clause-same
+returns-clause-same g c honest shut fine =
+    let still = c.recover.ensures.same honest shut (λ e. absurd (let was = c.in_ok-recover.was in cc)) in
+    read_same g.D.Disk c.args.disk.now c.recover.new.disk c.load_state.new.disk c.args.layout
+    (c.recover.ensures.honest.0 honest) (c.in_ok-recover.ensures.settled honest) c.load_state.ensures.reads
+    (still_as still)
+
+pub returns-in_err-load_state-clause-lasts : goal.returns-in_err-load_state-clause-lasts
+returns-in_err-load_state-clause-lasts g c honest =
+    read_lasts g.D.Disk c.args.disk.now c.recover.new.disk c.load_state.new.disk c.args.layout
+    (c.recover.ensures.honest.0 honest) (c.in_ok-recover.ensures.settled honest) c.load_state.ensures.reads
+    c.args.layout refl (c.recover.ensures.lasts honest)
+
+pub returns-in_err-load_state-clause-unwritten : goal.returns-in_err-load_state-clause-unwritten
+returns-in_err-load_state-clause-unwritten g c honest shut =
+    let still = c.recover.ensures.same honest shut (λ e. absurd (let was = c.in_ok-recover.was in cc)) in
+    read_unwritten g.D.Disk c.args.disk.now c.recover.new.disk c.load_state.new.disk c.args.layout
+    (c.recover.ensures.honest.0 honest) (c.in_ok-recover.ensures.settled honest) c.load_state.ensures.reads
+    (still_as still) (c.recover.ensures.unwritten honest shut)

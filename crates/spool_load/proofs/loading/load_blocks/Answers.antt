@@ -1,9 +1,7 @@
 use Rattle.std.proofs.Common.{◌≡◌, ◌∙◌, ℕ, List, Option, length, replicate, false, rules, sym, ap, subst}
 use Rattle.std.proofs.lemmas.Bool.{false≢true}
-use Rattle.spool_blocks.specs.Blocks.{Held}
 use Rattle.spool_pages.specs.View.{SlotRecord}
 use Rattle.spool_load.specs.Checks.{RowsPass}
-use Rattle.spool_load.proofs.Looks.{loads_err}
 use Rattle.spool_load.proofs.Sounds.{rows_said, sound_rows}
 use Rattle.spool_load.proofs.loading.load_blocks.Goals as goal
 
@@ -11,7 +9,6 @@ pub returns-in_err-rows-clause-said : goal.returns-in_err-rows-clause-said
 returns-in_err-rows-clause-said g c honest bytes still v sound blocks says same =
     let loaded =
     rows_said bytes c.args.layout.now v sound blocks says (c.in_err-rows.ensures.said honest bytes still) in
-    let handed = loads_err _ (λ (b : Held). (b.rows ≡ v.rows) × (b.reserved ≡ replicate v.blocks false)) _ loaded in
     search rules
 
 pub returns-then-not-are_rows_sound-clause-said : goal.returns-then-not-are_rows_sound-clause-said
@@ -24,7 +21,7 @@ returns-then-not-are_rows_sound-clause-said g c honest bytes still v sound block
     let passes =
     c.are_rows_sound.ensures.sound.1
     (subst (λ (rs : List (Option (ℕ × ℕ))). RowsPass c.args.slots.now rs) (sym looked) owned) in
-    false≢true (sym c.if-not-are_rows_sound.true ∙ passes)
+    absurd (false≢true (sym c.if-not-are_rows_sound.true ∙ passes))
 
 pub returns-clause-said : goal.returns-clause-said
 returns-clause-said g c honest bytes still v sound blocks says same =

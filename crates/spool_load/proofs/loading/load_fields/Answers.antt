@@ -1,14 +1,12 @@
-use Rattle.std.proofs.Common.{◌≡◌, rules}
-use Rattle.enc_model.specs.Indexes.{IndexSet}
+use Rattle.std.proofs.Common.{rules}
 use Rattle.spool_disk.proofs.Firm.{counts_on}
-use Rattle.spool_load.proofs.Looks.{if_ok_more, loads_err, ok_no_fault, reads_on}
+use Rattle.spool_load.proofs.Looks.{if_ok_more, ok_no_fault, reads_on}
 use Rattle.spool_load.proofs.Sounds.{area_said}
 use Rattle.spool_load.proofs.loading.load_fields.Goals as goal
 
 pub returns-in_err-check_front-clause-said : goal.returns-in_err-check_front-clause-said
 returns-in_err-check_front-clause-said g c honest bytes still v sound blocks says =
     let loaded = c.in_err-check_front.ensures.said honest bytes still v.blocks says.first in
-    let handed = loads_err _ (λ (indexes : IndexSet). indexes ≡ v.indexes) _ loaded in
     search rules
 
 pub returns-clause-reads : goal.returns-clause-reads

@@ -1,12 +1,10 @@
 use Rattle.std.proofs.Common.{◌≡◌, ◌∙◌, ℕ, List, Option, rules, sym, subst}
 use Rattle.std.proofs.lemmas.Bool.{false≢true}
-use Rattle.spool_kept.specs.Kept.{KeepsAlone}
-use Rattle.spool_kept.specs.Holding.{Holding}
 use Rattle.spool_disk.proofs.Firm.{counts_on}
 use Rattle.spool_pages.specs.View.{SlotRecord}
 use Rattle.spool_load.specs.Checks.{RecordsPass}
 use Rattle.spool_load.proofs.Sounds.{slots_said, sound_passes, read_loaded}
-use Rattle.spool_load.proofs.Looks.{reads_on, loads_err, ok_no_fault}
+use Rattle.spool_load.proofs.Looks.{reads_on, ok_no_fault}
 use Rattle.spool_journal.proofs.Steps.{no_failure}
 use Rattle.spool_load.proofs.loading.read.Goals as goal
 
@@ -27,7 +25,6 @@ returns-in_err-slots-clause-said g c honest bytes still v sound is says =
     let loaded =
     slots_said bytes c.args.found.layout v sound (sym is.blocks) says c.args.found.version is.state.version
     (c.in_err-slots.ensures.said (first.honest honest) bytes (first.still honest bytes still)) in
-    let handed = loads_err _ (λ (kept : Holding). KeepsAlone kept v) _ loaded in
     search rules
 
 pub returns-then-not-are_sound-clause-reads : goal.returns-then-not-are_sound-clause-reads
@@ -44,7 +41,7 @@ returns-then-not-are_sound-clause-said g c honest bytes still v sound is says =
     let passes =
     c.are_sound.ensures.1
     (subst (λ (xs : List (Option SlotRecord)). RecordsPass c.args.found.next xs) (sym looked) are) in
-    false≢true (sym c.if-not-are_sound.true ∙ passes)
+    absurd (false≢true (sym c.if-not-are_sound.true ∙ passes))
 
 pub returns-in_err-blocks-clause-reads : goal.returns-in_err-blocks-clause-reads
 returns-in_err-blocks-clause-reads g c =
@@ -61,11 +58,14 @@ returns-in_err-blocks-clause-said g c honest bytes still v sound is says =
     c.in_err-blocks.ensures.said (second.honest honest) bytes (second.still honest bytes still) v sound
     (sym is.blocks) says
     (search rules) in
-    let handed = loads_err _ (λ (kept : Holding). KeepsAlone kept v) _ loaded in
     search rules
 
 pub returns-clause-reads : goal.returns-clause-reads
 returns-clause-reads g c =
+    reads_on (reads_on c.load_fields.ensures.reads c.load_slots.ensures.reads) c.load_blocks.ensures.reads
+
+pub returns-in_err-kept-clause-reads : goal.returns-in_err-kept-clause-reads
+returns-in_err-kept-clause-reads g c =
     reads_on (reads_on c.load_fields.ensures.reads c.load_slots.ensures.reads) c.load_blocks.ensures.reads
 
 pub returns-clause-said : goal.returns-clause-said
@@ -80,7 +80,23 @@ returns-clause-said g c honest bytes still v sound is says =
     c.in_ok-blocks.ensures.said (second.honest honest) bytes (second.still honest bytes still) v sound (sym is.blocks)
     says
     (search rules) in
-    c.of.ensures.said v sound (sym is.blocks) is.state.version is.state.next indexes slots held.0 held.1
+    c.in_ok-kept.ensures.said v sound (sym is.blocks) is.state.version is.state.next indexes slots held.0 held.1
+
+pub returns-in_err-kept-clause-said : goal.returns-in_err-kept-clause-said
+returns-in_err-kept-clause-said g c honest bytes still v sound is says =
+    let first = c.load_fields.ensures.reads in
+    let second = reads_on first c.load_slots.ensures.reads in
+    let indexes = c.in_ok-indexes.ensures.said honest bytes still v sound (sym is.blocks) says in
+    let slots : c.in_ok-slots.slots.items ≡ v.slots =
+    slots_said bytes c.args.found.layout v sound (sym is.blocks) says c.args.found.version is.state.version
+    (c.in_ok-slots.ensures.said (first.honest honest) bytes (first.still honest bytes still)) in
+    let held =
+    c.in_ok-blocks.ensures.said (second.honest honest) bytes (second.still honest bytes still) v sound (sym is.blocks)
+    says
+    (search rules) in
+    let told =
+    c.in_err-kept.ensures.said v sound (sym is.blocks) is.state.version is.state.next indexes slots held.0 held.1 in
+    search rules
 
 pub returns-in_err-slots-clause-counts : goal.returns-in_err-slots-clause-counts
 returns-in_err-slots-clause-counts g c =
@@ -115,8 +131,15 @@ returns-clause-sound g c honest bytes still says found =
     (c.are_sound.ensures.0 (search rules)) in
     read_loaded bytes c.args.found.layout c.args.found.version c.args.found.next c.in_ok-indexes.indexes
     c.in_ok-slots.slots.items
-    c.in_ok-blocks.blocks.rows c.in_ok-blocks.blocks.reserved c.of.result
+    c.in_ok-blocks.blocks.rows c.in_ok-blocks.blocks.reserved c.in_ok-kept.kept
     says.least says.most fields state slots c.in_ok-slots.ensures.long c.in_ok-blocks.ensures.long rows are
     (search rules)
     c.in_ok-blocks.ensures.fits c.in_ok-blocks.ensures.reserved
-    c.of.ensures.distinct c.of.ensures.whole c.of.ensures.said
+    c.in_ok-kept.ensures.distinct c.in_ok-kept.ensures.whole c.in_ok-kept.ensures.said
+
+pub returns-in_err-kept-clause-counts : goal.returns-in_err-kept-clause-counts
+returns-in_err-kept-clause-counts g c =
+    let first = no_failure c.load_fields.ensures.counts (ok_no_fault _ _ c.in_ok-indexes.was) in
+    let second = no_failure c.load_slots.ensures.counts (ok_no_fault _ _ c.in_ok-slots.was) in
+    let third = no_failure c.load_blocks.ensures.counts (ok_no_fault _ _ c.in_ok-blocks.was) in
+    search rules

@@ -1,9 +1,12 @@
-use Rattle.std.proofs.Common.{ℕ, ◌*◌, ◌≤◌, sym, subst, rules}
+use Rattle.std.proofs.Common.{◌∙◌, ℕ, ◌*◌, ◌≤◌, Err, ap, sym, subst, rules}
+use Rattle.std.proofs.lemmas.Result.{err_from_is_err_and}
+use Rattle.spool_disk.proofs.Firm.{counts_on}
 use Rattle.spool_journal.specs.Image.{all_pages, journal_pages, overlaid}
 use Rattle.spool_journal.specs.Phases.{Settled}
 use Rattle.spool_kept.specs.Kept.{KeepsAlone}
 use Rattle.spool_kept.specs.declared.kept.Kept.{Kept}
-use Rattle.spool_load.proofs.Looks.{loads_err, if_ok_more, ok_no_fault}
+use Rattle.spool_load.proofs.Faults.{counts_told, loads_err, tells_nothing}
+use Rattle.spool_load.proofs.Looks.{ok_no_fault}
 use Rattle.spool_load.proofs.Opens.{read_lasts, read_same, read_settled, read_unwritten, recovered_says, settled_still}
 use Rattle.spool_load.proofs.Refused.{found_back, opened_on, read_reason, says_on, unfound_reason}
 use Rattle.spool_load.proofs.opening.load.Goals as goal
@@ -21,15 +24,14 @@ returns-in_err-found-clause-refused g c honest =
 
 pub returns-clause-room : goal.returns-clause-room
 returns-clause-room g c =
-    if_ok_more c.read.result
-    (λ kept same. subst (λ (n : ℕ). 4096 * all_pages n ≤ g.D.Disk.size c.args.disk.now) (sym same)
-    c.in_ok-found.ensures.room) c.read.ensures.layout
+    subst (λ (n : ℕ). 4096 * all_pages n ≤ g.D.Disk.size c.args.disk.now) (sym c.in_ok-kept.ensures.layout)
+    c.in_ok-found.ensures.room
 
 pub returns-clause-said : goal.returns-clause-said
 returns-clause-said g c honest v sound is room =
     let settled = c.in_ok-found.ensures.settled honest in
     let found = c.in_ok-found.ensures.said honest v sound is room in
-    c.read.ensures.said (c.find.ensures.honest.0 honest) _ (settled_still settled) v sound found
+    c.in_ok-kept.ensures.said (c.find.ensures.honest.0 honest) _ (settled_still settled) v sound found
     (recovered_says c.in_ok-found.found.layout v found.blocks settled is)
 
 pub returns-clause-sound : goal.returns-clause-sound
@@ -43,27 +45,19 @@ returns-clause-sound g c honest =
     let size = g.D.Disk.size c.args.disk.now in
     let says =
     says_on n was now loose settled found.journal size (g.D.Disk.size c.find.new.disk) c.find.ensures.size found.says in
-    if_ok_more c.read.result
-    (λ kept loaded. opened_on n was now loose settled found.journal size kept found.says loaded)
-    (c.read.ensures.sound (c.find.ensures.honest.0 honest) now (settled_still settled) says
+    opened_on n was now loose settled found.journal size c.in_ok-kept.kept found.says
+    (c.in_ok-kept.ensures.sound (c.find.ensures.honest.0 honest) now (settled_still settled) says
     (found_back size c.in_ok-found.found was now loose settled found))
-
-pub returns-clause-refused : goal.returns-clause-refused
-returns-clause-refused g c honest =
-    read_reason (g.D.Disk.size c.args.disk.now) (g.D.Disk.seen c.args.disk.now) c.in_ok-found.found c.read.result
-    (λ v kept. KeepsAlone kept v) (c.in_ok-found.ensures.found honest) (returns-clause-said g c honest)
-    c.read.ensures.late
 
 pub returns-clause-settled : goal.returns-clause-settled
 returns-clause-settled g c honest =
-    let settled = c.in_ok-found.ensures.settled honest in
     let there =
     read_settled g.D.Disk c.args.disk.now c.find.new.disk c.read.new.disk c.in_ok-found.found.layout
-    (c.find.ensures.honest.0 honest) settled c.read.ensures.reads in
+    (c.find.ensures.honest.0 honest) (c.in_ok-found.ensures.settled honest) c.read.ensures.reads in
     let J : ℕ → Type 0 =
     λ n. Settled (journal_pages n) (overlaid (g.D.Disk.seen c.args.disk.now)) (g.D.Disk.seen c.read.new.disk)
     (g.D.Disk.loose c.read.new.disk) in
-    if_ok_more c.read.result (λ kept same. subst J (sym same) there) c.read.ensures.layout
+    subst J (sym c.in_ok-kept.ensures.layout) there
 
 pub returns-clause-lasts : goal.returns-clause-lasts
 returns-clause-lasts g c honest v sound is room =
@@ -80,6 +74,54 @@ returns-clause-unwritten g c honest none =
 
 pub returns-clause-same : goal.returns-clause-same
 returns-clause-same g c honest none fine =
+    read_same g.D.Disk c.args.disk.now c.find.new.disk c.read.new.disk c.in_ok-found.found.layout
+    (c.find.ensures.honest.0 honest) (c.in_ok-found.ensures.settled honest) c.read.ensures.reads
+    (c.find.ensures.same honest none (ok_no_fault _ _ c.in_ok-found.was))
+
+pub returns-in_err-kept-clause-counts : goal.returns-in_err-kept-clause-counts
+returns-in_err-kept-clause-counts g c =
+    let e = err_from_is_err_and c.from_residual-in_err-kept.result c.from_residual-in_err-kept.ensures.1 in
+    counts_on c.find.ensures.counts (ok_no_fault _ _ c.in_ok-found.was)
+    (counts_told c.in_err-kept.field-0.0 (λ failed. let is = e.1 in let fault = e.2 in cc)
+    (λ device. e.1 ∙ ap Err (e.2 ∙ device)) c.in_err-kept.ensures.counts)
+
+pub returns-in_err-kept-clause-said : goal.returns-in_err-kept-clause-said
+returns-in_err-kept-clause-said g c honest v sound is room =
+    let settled = c.in_ok-found.ensures.settled honest in
+    let found = c.in_ok-found.ensures.said honest v sound is room in
+    let read =
+    tells_nothing c.in_err-kept.field-0.0 (λ (kept : Kept). KeepsAlone kept v)
+    (c.in_err-kept.ensures.said (c.find.ensures.honest.0 honest) _ (settled_still settled) v sound found
+    (recovered_says c.in_ok-found.found.layout v found.blocks settled is)) in
+    search rules
+
+pub returns-in_err-kept-clause-refused : goal.returns-in_err-kept-clause-refused
+returns-in_err-kept-clause-refused g c honest =
+    let settled = c.in_ok-found.ensures.settled honest in
+    let mid = c.find.ensures.honest.0 honest in
+    let reason =
+    read_reason (g.D.Disk.size c.args.disk.now) (g.D.Disk.seen c.args.disk.now) c.in_ok-found.found
+    c.in_err-kept.field-0.0 (c.in_ok-found.ensures.found honest)
+    (λ v sound is room. let found = c.in_ok-found.ensures.said honest v sound is room in
+    c.in_err-kept.ensures.said mid _ (settled_still settled) v sound found
+    (recovered_says c.in_ok-found.found.layout v found.blocks settled is)) in
+    search rules
+
+pub returns-in_err-kept-clause-lasts : goal.returns-in_err-kept-clause-lasts
+returns-in_err-kept-clause-lasts g c honest v sound is room =
+    let found = c.in_ok-found.ensures.said honest v sound is room in
+    read_lasts g.D.Disk c.args.disk.now c.find.new.disk c.read.new.disk c.in_ok-found.found.layout
+    (c.find.ensures.honest.0 honest) (c.in_ok-found.ensures.settled honest) c.read.ensures.reads v.blocks found.blocks
+    (c.find.ensures.lasts honest v sound is room)
+
+pub returns-in_err-kept-clause-unwritten : goal.returns-in_err-kept-clause-unwritten
+returns-in_err-kept-clause-unwritten g c honest none =
+    read_unwritten g.D.Disk c.args.disk.now c.find.new.disk c.read.new.disk c.in_ok-found.found.layout
+    (c.find.ensures.honest.0 honest) (c.in_ok-found.ensures.settled honest) c.read.ensures.reads
+    (c.find.ensures.same honest none (ok_no_fault _ _ c.in_ok-found.was)) (c.find.ensures.unwritten honest none)
+
+pub returns-in_err-kept-clause-same : goal.returns-in_err-kept-clause-same
+returns-in_err-kept-clause-same g c honest none fine =
     read_same g.D.Disk c.args.disk.now c.find.new.disk c.read.new.disk c.in_ok-found.found.layout
     (c.find.ensures.honest.0 honest) (c.in_ok-found.ensures.settled honest) c.read.ensures.reads
     (c.find.ensures.same honest none (ok_no_fault _ _ c.in_ok-found.was))

@@ -1,7 +1,6 @@
 use Rattle.std.proofs.Common.{◌≡◌, ◌-◌, ◌*◌, ℕ, rules, subst, arith}
 use Rattle.spool_journal.specs.Image.{journal_pages}
 use Rattle.spool_load.specs.Reads.{IsSameTo, StandRows}
-use Rattle.spool_load.proofs.Looks.{loads_err}
 use Rattle.spool_load.proofs.owners.load_pages.Goals as goal
 
 pub returns-in_err-load_page-clause-said : goal.returns-in_err-load_page-clause-said
@@ -10,9 +9,6 @@ returns-in_err-load_page-clause-said g c honest bytes still all long fits stands
     let read =
     c.in_err-load_page.ensures.said (inv.reads.honest honest) bytes (inv.reads.still honest bytes still) all
     (search rules) fits stands (inv.said honest bytes still all long fits stands) in
-    let handed =
-    loads_err _ (λ (done : Unit {0}). IsSameTo (512 * (journal_pages c.args.layout.now - 257)) all
-    c.load_page.new.rows) _ read in
     search rules
 
 pub returns-clause-said : goal.returns-clause-said

@@ -1,7 +1,7 @@
 use Rattle.std.proofs.Common.{◌≡◌, ◌∙◌, ◌-◌, ◌*◌, ℕ, List, Option, length, rules, sym, subst, arith}
 use Rattle.spool_journal.specs.Image.{journal_pages}
 use Rattle.spool_load.specs.Reads.{StandRows}
-use Rattle.spool_load.proofs.Looks.{loads_err, same_all, take_new}
+use Rattle.spool_load.proofs.Looks.{same_all, take_new}
 use Rattle.spool_kept.proofs.SameView.{rows_cover}
 use Rattle.spool_load.proofs.owners.load_rows.Goals as goal
 
@@ -9,7 +9,6 @@ pub returns-in_err-load_pages-clause-said : goal.returns-in_err-load_pages-claus
 returns-in_err-load_pages-clause-said g c honest bytes still all long fits stands =
     let size : length c.in_ok-rows.rows.items ≡ c.args.layout.now = search rules in
     let read = c.in_err-load_pages.ensures.said honest bytes still all (omega (arith, size, long)) fits stands in
-    let handed = loads_err _ (λ (rows : List (Option (ℕ × ℕ))). rows ≡ all) _ read in
     search rules
 
 pub returns-clause-sound : goal.returns-clause-sound

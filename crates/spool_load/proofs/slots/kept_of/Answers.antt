@@ -10,7 +10,7 @@ returns-in_err-kept-in-Some-clause-said c None fits padded = search rules
 returns-in_err-kept-in-Some-clause-said c (Some r) fits padded =
     let used = c.from_bytes.ensures.used r fits.0.0 padded in
     let same : c.in-Some.record ≡ r = search rules in
-    let told = c.of.ensures.said (subst (λ (q : SlotRecord). FitsKept (Some q)) (sym same) fits) in
+    let told = c.of.ensures.passes (subst (λ (q : SlotRecord). FitsKept (Some q)) (sym same) fits) in
     search rules
 
 pub returns-in_ok-kept-in-Some-clause-said : goal.returns-in_ok-kept-in-Some-clause-said
@@ -18,7 +18,7 @@ returns-in_ok-kept-in-Some-clause-said c None fits padded = search rules
 returns-in_ok-kept-in-Some-clause-said c (Some r) fits padded =
     let used = c.from_bytes.ensures.used r fits.0.0 padded in
     let same : c.in-Some.record ≡ r = search rules in
-    let told = c.of.ensures.said (subst (λ (q : SlotRecord). FitsKept (Some q)) (sym same) fits) in
+    let kept = c.in_ok-kept-in-Some.ensures.same in
     search rules
 
 pub returns-in_ok-kept-in-Some-clause-stands : goal.returns-in_ok-kept-in-Some-clause-stands

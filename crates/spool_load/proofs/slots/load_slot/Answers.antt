@@ -1,7 +1,7 @@
-use Rattle.std.proofs.Common.{◌≡◌, ◌+◌, ◌*◌, rules, arith}
+use Rattle.std.proofs.Common.{◌≡◌, rules, arith}
 use Rattle.spool_pages.specs.View.{slot_place, slot_bytes}
 use Rattle.spool_pages.proofs.Says.{some_journal}
-use Rattle.spool_load.proofs.Looks.{before_texts, read_padded, padded_back, if_ok_more}
+use Rattle.spool_load.proofs.Looks.{before_texts, read_padded, padded_back}
 use Rattle.spool_kept.proofs.Sound.{fits_slot}
 use Rattle.spool_pages.proofs.RecordBytes.{slot_few}
 use Rattle.spool_load.proofs.slots.load_slot.Goals as goal
@@ -11,10 +11,20 @@ read_at-requires g c =
     before_texts c.args.layout.now _ _ c.requires.room
     (omega (arith, some_journal c.args.layout.now, c.requires.slot, c.slot_place.ensures))
 
+pub returns-in_err-kept_of-clause-said : goal.returns-in_err-kept_of-clause-said
+returns-in_err-kept_of-clause-said g c honest bytes still said fits stands =
+    let here : c.slot_place.result ≡ slot_place c.args.layout.now c.args.slot = omega (arith, c.slot_place.ensures) in
+    let told =
+    c.in_err-kept_of.ensures.said said fits
+    (read_padded bytes _ _ c.read_at.new.buf (slot_bytes c.args.version said) 2048
+    (c.in_ok-read_at.ensures.bytes honest bytes still)
+    (search rules) here (slot_few c.args.version said (fits_slot said fits)) stands) in
+    search rules
+
 pub returns-clause-said : goal.returns-clause-said
 returns-clause-said g c honest bytes still said fits stands =
     let here : c.slot_place.result ≡ slot_place c.args.layout.now c.args.slot = omega (arith, c.slot_place.ensures) in
-    c.kept_of.ensures.said said fits
+    c.in_ok-kept_of.ensures.said said fits
     (read_padded bytes _ _ c.read_at.new.buf (slot_bytes c.args.version said) 2048
     (c.in_ok-read_at.ensures.bytes honest bytes still)
     (search rules) here (slot_few c.args.version said (fits_slot said fits)) stands)
@@ -22,7 +32,6 @@ returns-clause-said g c honest bytes still said fits stands =
 pub returns-clause-stands : goal.returns-clause-stands
 returns-clause-stands g c honest bytes still =
     let here : slot_place c.args.layout.now c.args.slot ≡ c.slot_place.result = omega (arith, c.slot_place.ensures) in
-    if_ok_more c.kept_of.result
-    (λ kept padded. padded_back bytes _ (slot_place c.args.layout.now c.args.slot) c.read_at.new.buf
-    (slot_bytes c.args.version kept)
-    2048 (c.in_ok-read_at.ensures.bytes honest bytes still) (search rules) here padded) c.kept_of.ensures.stands
+    padded_back bytes _ (slot_place c.args.layout.now c.args.slot) c.read_at.new.buf
+    (slot_bytes c.args.version c.in_ok-kept_of.field-0) 2048 (c.in_ok-read_at.ensures.bytes honest bytes still)
+    (search rules) here c.in_ok-kept_of.ensures.stands

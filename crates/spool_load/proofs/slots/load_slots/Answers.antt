@@ -1,7 +1,6 @@
-use Rattle.std.proofs.Common.{◌≡◌, ◌+◌, ◌∙◌, ℕ, List, Option, rules, ap, arith}
+use Rattle.std.proofs.Common.{◌+◌, ◌∙◌, ℕ, rules, ap, arith}
 use Rattle.spool_journal.proofs.Steps.{no_failure}
-use Rattle.spool_pages.specs.View.{SlotRecord}
-use Rattle.spool_load.proofs.Looks.{reads_on, loads_err, ok_no_fault, front_all}
+use Rattle.spool_load.proofs.Looks.{reads_on, ok_no_fault, front_all}
 use Rattle.spool_load.proofs.slots.load_slots.Goals as goal
 
 pub returns-in_err-push_slot-clause-said : goal.returns-in_err-push_slot-clause-said
@@ -11,7 +10,6 @@ returns-in_err-push_slot-clause-said g c honest bytes still said long fits stand
     let pushed =
     c.in_err-push_slot.ensures.said (inv.reads.honest honest) bytes (inv.reads.still honest bytes still) said long
     (fits s) (stands s (omega arith)) inv.long (inv.said honest bytes still said long fits stands) in
-    let handed = loads_err _ (λ (slots : List (Option SlotRecord)). slots ≡ said) _ pushed in
     search rules
 
 pub loop-slot-preserved : goal.loop-slot-preserved

@@ -1,7 +1,7 @@
 use Rattle.std.proofs.Common.{◌≡◌, ◌∷◌, [], ◌++◌, ℕ, OnOk, Result, rules, sym, subst}
-use Rattle.spool_kept.specs.declared.error.OpenFault.{OpenFault}
 use Rattle.spool_pages.specs.View.{Stands, slot_bytes, slot_place}
 use Rattle.spool_load.specs.Reads.{StandSlots}
+use Rattle.spool_load.specs.declared.error.LoadError.{LoadError}
 use Rattle.spool_load.proofs.Looks.{stand_push}
 use Rattle.spool_load.proofs.slots.push_slot.Goals as goal
 use Rattle.spool_load.proofs.slots.push_slot.Goals.{in-Ok, in-Err}
@@ -10,7 +10,7 @@ pub returns-clause-sound : goal.returns-clause-sound
 returns-clause-sound g c honest bytes still long was =
     let n = c.args.layout.now in
     let kept = c.in_ok-kept.kept in
-    let P : Result (Unit {0}) OpenFault
+    let P : Result (Unit {0}) LoadError
     → Type 0 = λ r. OnOk r (StandSlots bytes n c.args.version c.push.new.self.items) in
     let S : ℕ → Type 0 = λ s. Stands bytes (slot_place n s) 2048 (slot_bytes c.args.version kept) in
     elim c.match-push.branch [

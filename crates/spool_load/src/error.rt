@@ -1,0 +1,85 @@
+//! Why a spool that was found is not read.
+ghost use Rattle.std.specs.Prelude.{◌≡◌};
+
+use spool_disk::DiskFault;
+use spool_kept::{CheckError, OpenFault};
+use spool_pages::Damaged;
+use std::alloc::AllocError;
+use std::error::Error;
+use std::fmt;
+
+/// Why a spool that was found is not read.
+#[derive(Clone, Copy, Debug, PartialEq, Eq)]
+pub enum LoadError {
+    /// The disk failed in this call.
+    DiskFault,
+    /// What was read is not kept.
+    Check(CheckError),
+}
+
+impl From<DiskFault> for LoadError {
+    ghost use Rattle.spool_load.specs.declared.error.LoadError.{LoadError};
+
+    ghost from_gives = { λ _ error. error ≡ LoadError.DiskFault };
+
+    fn from(_fault: DiskFault) -> LoadError {
+        LoadError::DiskFault
+    }
+}
+
+impl From<CheckError> for LoadError {
+    ghost use Rattle.spool_load.specs.declared.error.LoadError.{LoadError};
+
+    ghost from_gives = { λ check error. error ≡ LoadError.Check check };
+
+    fn from(check: CheckError) -> LoadError {
+        LoadError::Check(check)
+    }
+}
+
+impl From<Damaged> for LoadError {
+    ghost use Rattle.spool_kept.specs.declared.error.CheckError.{CheckError};
+    ghost use Rattle.spool_load.specs.declared.error.LoadError.{LoadError};
+
+    ghost from_gives = { λ _ error. error ≡ LoadError.Check CheckError.Damaged };
+
+    fn from(_damaged: Damaged) -> LoadError {
+        LoadError::Check(CheckError::Damaged)
+    }
+}
+
+impl From<AllocError> for LoadError {
+    ghost use Rattle.spool_kept.specs.declared.error.CheckError.{CheckError};
+    ghost use Rattle.spool_load.specs.declared.error.LoadError.{LoadError};
+
+    ghost from_gives = { λ _ error. error ≡ LoadError.Check CheckError.NoMemory };
+
+    fn from(_error: AllocError) -> LoadError {
+        LoadError::Check(CheckError::NoMemory)
+    }
+}
+
+impl From<LoadError> for OpenFault {
+    ghost use Rattle.spool_load.specs.Faults.{load_fault};
+
+    ghost from_gives = { λ error fault. fault ≡ load_fault error };
+
+    fn from(error: LoadError) -> OpenFault {
+        match error {
+            LoadError::DiskFault => OpenFault::DiskFault,
+            LoadError::Check(CheckError::Damaged) => OpenFault::Damaged,
+            LoadError::Check(CheckError::NoMemory) => OpenFault::NoMemory,
+        }
+    }
+}
+
+impl fmt::Display for LoadError {
+    fn fmt<W: fmt::Write>(&self, f: &mut fmt::Formatter<W>) -> fmt::Result {
+        match self {
+            LoadError::DiskFault => f.write_str("the disk failed"),
+            LoadError::Check(check) => check.fmt(f),
+        }
+    }
+}
+
+impl Error for LoadError {}
