@@ -1,7 +1,5 @@
-use Rattle.std.proofs.Common.{◌≡◌, ◌+◌, ◌⊎◌, inl, inr, Option, None, Some, refl, sym, subst, arith}
+use Rattle.std.proofs.Common.{◌≡◌, ◌+◌, refl, sym, subst, arith}
 use Rattle.tus_action.specs.declared.bodies.OpenPatch.{OpenPatch}
-use Rattle.tus_session.specs.declared.conns.Link.{Link}
-use Rattle.tus_session.specs.declared.conns.Task.TheVariants.{Idle}
 use Rattle.tus_session.proofs.RequestTold.{head_limits, nothing_told, text_told}
 use Rattle.tus_session.proofs.HeadTold.{slice_rest}
 use Rattle.tus_session.proofs.Feeding.{head_stopped}
@@ -37,11 +35,7 @@ pub returns-in-Replied-clause-answer : goal.returns-in-Replied-clause-answer
 returns-in-Replied-clause-answer g c w conn h n stands is =
     let done = rw c.in-Replied.is at (c.in_ok-done.ensures.answer w stands) in
     nothing_told w conn h c.args.bytes.now n c.args.before _ is g.U.Uploads _ _ _ (Replied c.in-Replied.closes) _ _
-    (record {
-      head = c.args.head;
-      left = 0;
-      task = Idle;
-    }) _ done refl refl (slice_rest c.args.before c.args.bytes.now) c.skip.ensures.place
+    c.args.head _ done refl refl (slice_rest c.args.before c.args.bytes.now) c.skip.ensures.link
     c.requires.cleared c.skip.ensures.answer
 
 pub returns-in-Giving-clause-answer : goal.returns-in-Giving-clause-answer
@@ -50,11 +44,7 @@ returns-in-Giving-clause-answer g c w conn h n stands is =
     rw c.waits.ensures
     (text_told w conn h c.args.bytes.now n c.args.before _ is g.U.Uploads _ (Giving c.in-Giving.giving)
     c.in-Giving.giving _ _
-    (record {
-      head = c.args.head;
-      left = 0;
-      task = Idle;
-    }) done refl refl c.requires.cleared)
+    c.args.head done refl refl c.requires.cleared)
 
 pub returns-in-Ok-clause-answer : goal.returns-in-Ok-clause-answer
 returns-in-Ok-clause-answer g c w conn h n stands is =
@@ -81,12 +71,11 @@ returns-in-Ok-clause-answer g c w conn h n stands is =
     (own_opened w r (acted w (Asks r)) x (U.number_of c.in-Opened.draft) f.0).world_is done.stands in
     let found = first_as U w conn h bytes n c.args.before r is x b f.0 f.1 reached refl refl below in
     let whole = reached_whole U w conn h bytes n c.args.before r is x b f.0 f.1 reached refl refl below in
-    let k : Link g.row.U-Draft.Denot = record { head = c.args.head; left = 0; task = Idle } in
     let all : 0 + r.length ≡ r.length = omega arith in
     rw c.in-Ok.is at
     (patch_opened U w conn h bytes n c.args.before r is x b f.0 f.1 reached refl refl below c.body_of.new.store
     c.args.out.now.items c.act.new.out.items c.body_of.new.out.items
-    c.body_of.new.out.items k c.requires.cleared done.bytes c.body_of.result _
+    c.body_of.new.out.items c.args.head c.requires.cleared done.bytes c.body_of.result _
     (slice_is c.args.before bytes)
     (λ few. c.body_of.ensures.part few v0 p shown found f.1 (omega arith))
     (λ few. c.body_of.ensures.part_out few)
@@ -119,7 +108,6 @@ returns-in-Ok-clause-crash g c w conn h n stands is =
     (own_opened w r (acted w (Asks r)) x (U.number_of c.in-Opened.draft) f.0).world_is done.stands in
     let found = first_as U w conn h bytes n c.args.before r is x b f.0 f.1 reached refl refl below in
     let whole = reached_whole U w conn h bytes n c.args.before r is x b f.0 f.1 reached refl refl below in
-    let k : Link g.row.U-Draft.Denot = record { head = c.args.head; left = 0; task = Idle } in
     let all : 0 + r.length ≡ r.length = omega arith in
     patch_limits U w conn h bytes n c.args.before r is x b f.0 f.1 reached refl refl below _
     (slice_is c.args.before bytes) (c.act.ensures.crash w stands)
@@ -151,19 +139,18 @@ returns-in-Err-clause-answer g c w conn h n stands is =
     (own_opened w r (acted w (Asks r)) x (U.number_of c.in-Opened.draft) f.0).world_is done.stands in
     let found = first_as U w conn h bytes n c.args.before r is x b f.0 f.1 reached refl refl below in
     let whole = reached_whole U w conn h bytes n c.args.before r is x b f.0 f.1 reached refl refl below in
-    let k : Link g.row.U-Draft.Denot = record { head = c.args.head; left = 0; task = Idle } in
     let all : 0 + r.length ≡ r.length = omega arith in
     rw c.in-Err.is at
     (patch_opened U w conn h bytes n c.args.before r is x b f.0 f.1 reached refl refl below c.body_of.new.store
     c.args.out.now.items c.act.new.out.items c.body_of.new.out.items
-    c.truncate.new.self.items k c.requires.cleared done.bytes c.body_of.result _ (slice_is c.args.before bytes)
+    c.truncate.new.self.items c.args.head c.requires.cleared done.bytes c.body_of.result _ (slice_is c.args.before bytes)
     (λ few. c.body_of.ensures.part few v0 p shown found f.1 (omega arith))
     (λ few. c.body_of.ensures.part_out few)
     (λ enough. c.body_of.ensures.rest enough v0 p r shown found f.1 all whole refl refl)
     (subst (λ a. OutIs a c.args.out.now.items c.body_of.new.out.items c.truncate.new.self.items) (sym c.in-Err.is)
     (taken_back U w conn h bytes n c.args.before r is x b f.0 f.1 reached refl refl below c.body_of.new.store
     c.args.out.now.items c.act.new.out.items c.body_of.new.out.items
-    c.truncate.new.self.items k c.requires.cleared done.bytes c.in-Err.stop _ c.len-start.result
+    c.truncate.new.self.items c.args.head c.requires.cleared done.bytes c.in-Err.stop _ c.len-start.result
     (λ few. c.body_of.ensures.part_out few)
     (λ enough. rw c.in-Err.is at (c.body_of.ensures.rest enough v0 p r shown found f.1 all whole refl refl))
     (omega (arith, c.len-start.ensures, c.args.out.now.ok.0)) c.truncate.ensures.items)))
@@ -193,7 +180,6 @@ returns-in-Err-clause-crash g c w conn h n stands is =
     (own_opened w r (acted w (Asks r)) x (U.number_of c.in-Opened.draft) f.0).world_is done.stands in
     let found = first_as U w conn h bytes n c.args.before r is x b f.0 f.1 reached refl refl below in
     let whole = reached_whole U w conn h bytes n c.args.before r is x b f.0 f.1 reached refl refl below in
-    let k : Link g.row.U-Draft.Denot = record { head = c.args.head; left = 0; task = Idle } in
     let all : 0 + r.length ≡ r.length = omega arith in
     patch_limits U w conn h bytes n c.args.before r is x b f.0 f.1 reached refl refl below _
     (slice_is c.args.before bytes) (c.act.ensures.crash w stands)
