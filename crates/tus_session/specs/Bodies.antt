@@ -1,5 +1,5 @@
 -- What becomes of a body: a patch goes on or ends, or the body is dropped.
-use Rattle.std.specs.Prelude.{◌≡◌, ◌++◌, ℕ, zero, suc, Bool, false, List, Option, None, Some, Result, Ok, Err}
+use Rattle.std.specs.Prelude.{◌≡◌, ◌++◌, ℕ, zero, suc, Bool, false, List, take, Option, None, Some, Result, Ok, Err}
 use Rattle.std.specs.Prelude.{if◌then◌else◌}
 use Rattle.upload_rules.specs.Store.{find}
 use Rattle.upload_rules.specs.World.{World, Patch}
@@ -71,3 +71,8 @@ Replies u store (Err DiskFault) old new head taken m gone = new ≡ old
 abbrev pub ended_by : World → ℕ → Patch → List ℕ → Request → Acted
 ended_by w d p piece r = committed_as (fed w d piece) d (fed_patch w d p piece) r
     (commit_refusal (fed w d piece) d (fed_patch w d p piece))
+
+-- where a call stopped, what was written after so many bytes is taken back
+abbrev pub BackTo : {T : Type 0} → Result T Stop → ℕ → List ℕ → List ℕ → Type 0
+BackTo (Ok x) start old new = new ≡ old
+BackTo (Err e) start old new = new ≡ take start old

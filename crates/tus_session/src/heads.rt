@@ -8,6 +8,7 @@ ghost use Rattle.tus_request.specs.Shown.{request_shown};
 ghost use Rattle.tus_request.specs.Buffers.{bytes_of};
 ghost use Rattle.tus_action.specs.Serves.{CanBeMade, CanBeRead};
 ghost use Rattle.tus_session.specs.Turns.{Conn, came_turn};
+ghost use Rattle.tus_session.specs.Bodies.{BackTo};
 ghost use Rattle.tus_session.specs.Stands.{LinkIs};
 ghost use Rattle.tus_session.specs.Turned.{Turned};
 ghost use Rattle.tus_session.specs.Heads.{InsideHead, IsWhole, IsSmall, ReachedIs};
@@ -80,13 +81,8 @@ fn request_of<U: Uploads>(
                 bare,
                 closes,
             };
-            match body_of(alloc, store, head, patch, length, before, behind, out) {
-                Ok(turned) => Ok(turned),
-                Err(stop) => {
-                    out.truncate(start);
-                    Err(stop)
-                }
-            }
+            let turned = body_of(alloc, store, head, patch, length, before, behind, out);
+            back_to(start, turned, out)
         }
         Done::Giving(giving) => {
             let awaiting = Awaiting::Text {
@@ -97,6 +93,18 @@ fn request_of<U: Uploads>(
         }
         Done::Replied { closes } => Ok(skip(head, length, before, behind.len(), closes)),
     }
+}
+
+// Where a call stopped, what was written after so many bytes is taken back.
+fn back_to<T>(start: usize, done: Result<T, Stop>, out: &mut Vec<u8>) -> Result<T, Stop>
+    ensures same { result ≡ done }
+    ensures back { BackTo done start out.old.items out.new.items }
+    ensures few { length out.new.items ≤ length out.old.items }
+{
+    if done.is_err() {
+        out.truncate(start);
+    }
+    done
 }
 
 // Bytes of a head came.
