@@ -60,7 +60,7 @@ module _ {U B : Type 0} (u : Ghosts U B) where
   dropping_is w conn head (suc n) (InHead h) e (same, none) draft pending = absurd (omega arith)
   dropping_is w conn head (suc n) (InBody asked) e (cleared, wanted) draft pending = record {
     asked = asked;
-    inside = record { rest = e; cleared = cleared; wanted = wanted };
+    inside = record { rest = e; cleared = cleared; some = omega arith; wanted = wanted };
     draft = draft;
     pending = pending;
   }
@@ -161,9 +161,9 @@ module _ {U B : Type 0} (u : Ghosts U B) where
     pub part_here : (store : U) (link : Option (Link B)) (a : Answer) (head : HeadBuffer) (b' : OpenPatch B)
         (left taken : ℕ) (q s' : List ℕ)
         → GoesOn u store link a head b b' left taken (fed w d q) (fed_patch w d p q)
-        → (bytes_of head) ≡ [] → left ≡ body_length asked.verdict - length (asked.body ++ q)
+        → (bytes_of head) ≡ [] → 0 < left → left ≡ body_length asked.verdict - length (asked.body ++ q)
         → (cut (reader w) s').rest ≡ InBody (longer asked q) → PlaceIs u (fed w d q) link (Some (plain s' (Some d)))
-    part_here store link a head b' left taken q s' goes cleared wanted here =
+    part_here store link a head b' left taken q s' goes cleared some wanted here =
         let w' = fed w d q in
         let same = (feed_moves w d p q is.found).grows.indexes in
         let now : IsPatching u w' (plain s' (Some d)) (bytes_of head) b' left = record {
@@ -171,7 +171,7 @@ module _ {U B : Type 0} (u : Ghosts U B) where
           asked = longer asked q;
           r = r;
           p = fed_patch w d p q;
-          inside = record { rest = rest_same w w' s' same ∙ here; cleared = cleared; wanted = wanted };
+          inside = record { rest = rest_same w w' s' same ∙ here; cleared = cleared; some = some; wanted = wanted };
           draft = refl;
           pending = refl;
           patches = patches_fed b' q goes.number goes.holds goes.found goes.reached goes.bare goes.closes;
@@ -258,7 +258,7 @@ module _ {U B : Type 0} (u : Ghosts U B) (store' : U) (old new : List ℕ) (w : 
       record {
         shown = goes.shown;
         here = part_here u w b asked r p is store' link a head b' (left - length bytes) (0 + length bytes) bytes
-            (s ++ bytes) goes none (omega arith) here;
+            (s ++ bytes) goes none (omega arith) (omega arith) here;
         moves = feed_moves w own p bytes is.found;
         taken = ap (λ x. x.taken) goes.answer_is ∙ (let x : 0 + length bytes ≡ length bytes = omega arith in x);
         closes = ap (λ x. x.closes) goes.answer_is;

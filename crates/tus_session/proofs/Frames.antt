@@ -99,6 +99,7 @@ module _ {U B : Type 0} (u : Ghosts U B) where
   inside_moved w w' conn head left asked same is = record {
     rest = rest_same w w' conn.stream same ∙ is.rest;
     cleared = is.cleared;
+    some = is.some;
     wanted = is.wanted;
   }
 

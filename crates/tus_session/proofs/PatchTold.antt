@@ -283,7 +283,7 @@ module _ {U B : Type 0} (u : Ghosts U B) (w : World) (conn : Conn) (h bytes : Li
         let now : TurnedAs u store' link a old new w None (part_opened w conn h bytes n before r is x) = record {
           shown = goes.shown;
           here = part_here u v b asked r p0 patches store' link a head b' (r.length - length q) (before + length q) q
-              (conn.stream ++ bytes) goes cleared refl here;
+              (conn.stream ++ bytes) goes cleared (omega arith) refl here;
           moves = both_moves w v (fed v own q) None (Some own) (Some own) (open_moves w own p0 x.free)
               (feed_moves v own p0 q first_as);
           taken = ap (λ z. z.taken) goes.answer_is ∙ count;

@@ -37,10 +37,11 @@ pub record PatchesAs {U B : Type 0} (u : Ghosts U B) (w : World) (b : OpenPatch 
   pub bare : b.bare ≡ r.bare
   pub closes : b.closes ≡ r.closes
 
--- the connection's bytes end in a body that wants so many more, and no head is kept
+-- the connection's bytes end in a body that wants so many more, at least one, and no head is kept
 pub record InsideBody (w : World) (conn : Conn) (head : List ℕ) (left : ℕ) (asked : Asked) : Type 0 where
   pub rest : (cut (reader w) conn.stream).rest ≡ InBody asked
   pub cleared : head ≡ []
+  pub some : 0 < left
   pub wanted : left ≡ body_length asked.verdict - length asked.body
 
 -- a patch is open for it
