@@ -318,7 +318,7 @@ module _ {U B : Type 0} (u : Ghosts U B) (w : World) (conn : Conn) (head : HeadB
   -- what the body still wants
   pub left_wanted : length is.p.body + left ≡ is.p.count
   left_wanted =
-      let wants = body_wants w conn.stream is.asked is.inside.rest in
+      let some = is.inside.some in
       let v : body_length is.asked.verdict ≡ is.r.length = ap body_length is.patches.asks in
       let n : length is.p.body ≡ length is.asked.body = ap length is.patches.body in
       let c = is.patches.count in
@@ -341,7 +341,7 @@ module _ {U B : Type 0} (u : Ghosts U B) (w : World) (conn : Conn) (head : HeadB
   pub rest_store : (bytes : List ℕ) → left ≤ length bytes
       → (ended_by w own_of is.p (take left bytes) is.r).world.store ≡ (came_turn w conn bytes).world.store
   rest_store bytes enough =
-      let wants = body_wants w conn.stream is.asked is.inside.rest in
+      let some = is.inside.some in
       let l = is.inside.wanted in
       ap (λ t. t.world.store) (sym (rest_is w conn.stream own_of is.asked is.inside.rest bytes is.p is.r left
       (sym is.inside.wanted) (omega arith) own_patches.found is.patches.asks))

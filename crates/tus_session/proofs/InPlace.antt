@@ -1,5 +1,5 @@
 -- A connection in its place again, behind an event.
-use Rattle.std.proofs.Common.{◌≡◌, ◌≢◌, inl, inr, ℕ, zero, suc, ◌<◌, ◌≤◌, List, [], ◌∷◌, length, get_or, slice_set}
+use Rattle.std.proofs.Common.{◌≡◌, ◌≢◌, inl, inr, ℕ, ◌<◌, ◌≤◌, List, length, get_or, slice_set}
 use Rattle.std.proofs.Common.{Option, Some, None, refl, sym, ◌∙◌, ap, subst, arith, get_or-set_same, get_or-set_other}
 use Rattle.std.proofs.Common.{length-set}
 use Rattle.std.proofs.lemmas.Bool.Decides.{nat_tests}
@@ -155,18 +155,3 @@ module _ {U B : Type 0} (u : Ghosts U B) where
       subst (λ y. PlaceIs u st.world y (st.conns c)) is (place_at places store st c x stands lt e) in
       let some = some_conn st.world k (st.conns c) at in
       (some.0, some.1, subst (λ o. PlaceIs u st.world (Some k) o) some.1 at)
-
-set_same : {A : Type 0} (xs : List A) (c : ℕ) (x : A) → get_or xs c x ≡ x → slice_set xs c x ≡ xs
-set_same [] c x e = refl
-set_same (y ∷ xs) zero x e = ap (λ z. z ∷ xs) (sym e)
-set_same (y ∷ xs) (suc c) x e = ap (λ zs. y ∷ zs) (set_same xs c x e)
-
-module _ {U B : Type 0} (u : Ghosts U B) where
-  -- a closed place is closed again
-  pub closed_again : (places : List (Option (Link B))) (store : U) (st : State) (c : ℕ) (x y : Option (Link B))
-      → SessionStands u places store st → c < length places
-      → x ≡ get_or places c x → x ≡ None → y ≡ None → SessionStands u (slice_set places c y) store st
-  closed_again places store st c x y stands lt e is again =
-      let here : get_or places c None ≡ None = subst (λ z. get_or places c z ≡ z) is (sym e) in
-      subst (λ z. SessionStands u (slice_set places c z) store st) (sym again)
-      (subst (λ ps. SessionStands u ps store st) (sym (set_same places c None here)) stands)
