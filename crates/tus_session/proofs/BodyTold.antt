@@ -31,7 +31,8 @@ use Rattle.tus_request.specs.declared.buffer.HeadBuffer.{HeadBuffer}
 use Rattle.tus_session.specs.declared.conns.Link.{Link}
 use Rattle.tus_session.proofs.BodyTurns.{part_turn, rest_turn}
 use Rattle.tus_session.proofs.Feeding.{fed_body, fed_began, fed_number, fed_count, fed_declare}
-use Rattle.tus_session.proofs.Frames.{grown_more, rest_same}
+use Rattle.tus_session.proofs.Frames.{grown_more}
+pub use Rattle.tus_session.proofs.Frames.{rest_same}
 use Rattle.tus_session.proofs.Opening.{still}
 use Rattle.tus_session.proofs.Moved.{feed_moves, spend_moves, both_moves}
 use Rattle.tus_session.proofs.NewRests.{body_part_rest, body_whole_rest}

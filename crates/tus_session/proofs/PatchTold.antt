@@ -18,7 +18,6 @@ use Rattle.tus_action.specs.Serves.{DraftIs, ActedAs}
 use Rattle.tus_action.specs.declared.acts.Done.TheVariants as Done
 use Rattle.tus_session.specs.Streams.{Asked, Moments, InHead, InBody}
 use Rattle.tus_session.specs.Stands.{PatchesAs}
-use Rattle.tus_session.proofs.Feeding.{fed_store}
 use Rattle.tus_session.specs.Turns.{Conn, Turn, reader, came_with, came_turn}
 use Rattle.tus_session.specs.Heads.{IsWhole, ReachedIs}
 use Rattle.tus_session.specs.Turned.{TurnedAs, Turned}
@@ -132,9 +131,6 @@ module _ (w : World) (conn : Conn) (h bytes : List ℕ) (n before : ℕ) (r : Re
       whole_turn_is w conn h is.inside bytes n before (Asks r) is.judged is.before_is enough
       ∙ (ap (came_with conn bytes (before + r.length) m) opened_is
       ∙ ap (λ o. with_acted (commit_with (fed w1 x.d q) x.d (Asks r) o)) (fed_found w1 x.d first q first_found))
-
-  pub part_store : length (drop before bytes) < r.length → (came_turn w conn bytes).world.store ≡ w.store
-  part_store few = ap (λ t. t.world.store) (part_is few) ∙ fed_store w1 x.d (drop before bytes)
 
   pub rest_store : r.length ≤ length (drop before bytes) → ended.world.store ≡ (came_turn w conn bytes).world.store
   rest_store enough = ap (λ t. t.world.store) (sym (rest_is enough))
