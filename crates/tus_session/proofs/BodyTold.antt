@@ -1,5 +1,5 @@
 -- From what a body comes to, to the turn's answer.
-use Rattle.std.proofs.Common.{ℕ, ◌+◌, ◌-◌, ◌<◌, ◌≤◌, ◌≡◌, inl, inr, Bool, true, false, List, [], ◌∷◌, ◌++◌, Option}
+use Rattle.std.proofs.Common.{ℕ, zero, suc, ◌+◌, ◌-◌, ◌<◌, ◌≤◌, ◌≡◌, inl, inr, Bool, true, false, List, [], ◌∷◌, ◌++◌, Option}
 use Rattle.std.proofs.Common.{Some, None, Result, Ok, Err, length, take, refl, sym, ◌∙◌, ap, subst, arith, append-nil}
 use Rattle.std.proofs.Common.{min, if◌then◌else◌}
 use Rattle.std.proofs.lemmas.Bool.{cases_lt}
@@ -7,7 +7,6 @@ use Rattle.std.proofs.lemmas.List.{length-take-le, take_all, length-append}
 use Rattle.tus_request.specs.Buffers.{bytes_of}
 use Rattle.enc_model.specs.Indexes.{offers}
 use Rattle.tus_request.proofs.Fronts.{steady}
-use Rattle.tus_request.specs.Answers.{answer_of}
 use Rattle.tus_request.specs.Requests.{Request, Asks, body_length}
 use Rattle.upload_rules.specs.Lengths.{known_or, longest}
 use Rattle.upload_rules.specs.Store.{Upload, upload_of, patched, find}
@@ -20,27 +19,24 @@ use Rattle.upload_rules.specs.declared.uploads.Uploads.{Ghosts}
 use Rattle.tus_action.specs.Acts.{Giving, Acted, fed, fed_patch, commit_with}
 use Rattle.tus_session.specs.Streams.{Asked, InHead, InBody, Rest, cut}
 use Rattle.tus_session.specs.Turns.{Conn, Turn, reader, came_on, came_turn}
-use Rattle.tus_session.specs.History.{is_closed, has_text}
-use Rattle.tus_session.specs.Stands.{PatchesAs, RestIs, TaskIs, LinkIs, PlaceIs, draft_at}
-use Rattle.tus_session.specs.Heads.{InsideHead}
+use Rattle.tus_session.specs.Stands.{PatchesAs, IsPatching, IsSkipping, RestIs, LinkIs, PlaceIs}
 use Rattle.tus_session.specs.Moves.{Moves}
 use Rattle.tus_session.specs.Turned.{TurnedAs, Turned}
-use Rattle.tus_session.specs.Bodies.{took, GoesOn, Parts, Answered, Replies, ended_by}
+use Rattle.tus_session.specs.Bodies.{took, dropping, link_after, GoesOn, Parts, Replies, ended_by}
 use Rattle.tus_session.specs.declared.answers.Answer.{Answer}
 use Rattle.tus_action.specs.declared.acts.Stop.{Stop}
 use Rattle.tus_action.specs.declared.acts.Stop.TheVariants as stops
 use Rattle.tus_action.specs.declared.bodies.OpenPatch.{OpenPatch}
+use Rattle.tus_request.specs.declared.buffer.HeadBuffer.{HeadBuffer}
 use Rattle.tus_session.specs.declared.conns.Link.{Link}
-use Rattle.tus_session.specs.declared.conns.Task.TheVariants as tasks
-use Rattle.tus_session.specs.declared.conns.Place.{Place}
-use Rattle.tus_session.specs.declared.conns.Place.TheVariants.{Closed, Open}
 use Rattle.tus_session.proofs.BodyTurns.{part_turn, rest_turn}
 use Rattle.tus_session.proofs.Feeding.{fed_body, fed_began, fed_number, fed_count, fed_declare}
 use Rattle.tus_session.proofs.Frames.{grown_more}
+pub use Rattle.tus_session.proofs.Frames.{rest_same}
 use Rattle.tus_session.proofs.Opening.{still}
 use Rattle.tus_session.proofs.Moved.{feed_moves, spend_moves, both_moves}
 use Rattle.tus_session.proofs.NewRests.{body_part_rest, body_whole_rest}
-use Rattle.tus_session.proofs.Tasks.{IsPatching, body_wants}
+use Rattle.tus_session.proofs.Tasks.{body_wants}
 use Rattle.tus_session.proofs.Unfinished.{longer}
 
 abbrev pub plain : List ℕ → Option ℕ → Conn
@@ -50,22 +46,60 @@ pub conn_is : (conn : Conn) (d : Option ℕ) → conn.draft ≡ d → conn.pendi
 conn_is conn d e f = ap (plain conn.stream) (sym e)
     ∙ ap (λ x. record { stream = conn.stream; draft = conn.draft; pending = x }) (sym f)
 
--- the same index set reads the same
-pub rest_same : (w w' : World) (s : List ℕ) → w'.store.indexes ≡ w.store.indexes
-    → (cut (reader w') s).rest ≡ (cut (reader w) s).rest
-rest_same w w' s e = ap (λ x. (cut (answer_of (offers x)) s).rest) e
-
 module _ {U B : Type 0} (u : Ghosts U B) where
-  -- nothing is open behind an answer
-  pub idle_here : (w' : World) (place : Place B) (k : Link B) (closes : Bool) (s' : List ℕ) (rest : Rest)
-      → place ≡ (if closes then Closed else Open (record k { task = tasks.Idle }))
-      → RestIs (bytes_of k.head) k.left rest → (cut (reader w') s').rest ≡ rest
-      → PlaceIs u w' place (if closes then None else Some (plain s' None))
-  idle_here w' place k true s' rest e kept here = subst (λ p. PlaceIs u w' p None) (sym e) tt
-  idle_here w' place k false s' rest e kept here =
-      let link : LinkIs u w' (bytes_of k.head) k.left tasks.Idle (plain s' None) =
-      record { kept = subst (RestIs (bytes_of k.head) k.left) (sym here) kept; does = tt } in
-      subst (λ p. PlaceIs u w' p (Some (plain s' None))) (sym e) link
+  -- a body of which so many bytes are to come is dropped
+  dropping_is : (w : World) (conn : Conn) (head : List ℕ) (left : ℕ) (rest : Rest)
+      → (cut (reader w) conn.stream).rest ≡ rest → RestIs head left rest → conn.draft ≡ None → conn.pending ≡ None
+      → LinkIs u w head (dropping left) conn
+  dropping_is w conn head zero (InHead h) e (same, none) draft pending = record {
+    rest = e ∙ ap InHead (sym same);
+    draft = draft;
+    pending = pending;
+  }
+  dropping_is w conn head zero (InBody asked) e (cleared, wanted) draft pending =
+      let wants = body_wants w conn.stream asked e in absurd (omega arith)
+  dropping_is w conn head (suc n) (InHead h) e (same, none) draft pending = absurd (omega arith)
+  dropping_is w conn head (suc n) (InBody asked) e (cleared, wanted) draft pending = record {
+    asked = asked;
+    inside = record { rest = e; cleared = cleared; some = omega arith; wanted = wanted };
+    draft = draft;
+    pending = pending;
+  }
+
+  -- a reply was given, and nothing is open
+  pub answered_here : (store : U) (link : Option (Link B)) (a : Answer) (old new bytes : List ℕ) (w w' : World)
+      (own : Option ℕ) (head : HeadBuffer) (left taken : ℕ) (closes : Bool) (s' : List ℕ) (rest : Rest)
+      → u.stands store w' → Moves w w' own None → link ≡ link_after head left closes
+      → RestIs (bytes_of head) left rest → (cut (reader w) s').rest ≡ rest → a ≡ took taken closes
+      → new ≡ old ++ bytes
+      → TurnedAs u store link a old new w own (record {
+        world = w';
+        conn = if closes then None else Some (plain s' None);
+        bytes = bytes;
+        taken = taken;
+      })
+  answered_here store link a old new bytes w w' own head left taken true s' rest shown moves e kept here is given =
+      record {
+        shown = shown;
+        here = subst (λ k. PlaceIs u w' k None) (sym e) tt;
+        moves = moves;
+        taken = ap (λ x. x.taken) is;
+        closes = ap (λ x. x.closes) is;
+        more = ap (λ x. x.more) is;
+        bytes = given;
+      }
+  answered_here store link a old new bytes w w' own head left taken false s' rest shown moves e kept here is given =
+      record {
+        shown = shown;
+        here = subst (λ k. PlaceIs u w' k (Some (plain s' None))) (sym e)
+            (dropping_is w' (plain s' None) (bytes_of head) left rest
+            (rest_same w w' s' moves.grows.indexes ∙ here) kept refl refl);
+        moves = moves;
+        taken = ap (λ x. x.taken) is;
+        closes = ap (λ x. x.closes) is;
+        more = ap (λ x. x.more) is;
+        bytes = given;
+      }
 
   -- of another patch that began at the same upload
   grew_as : (p q : Patch) (o : Option Upload) → q.began ≡ p.began → GrewFrom p o → GrewFrom q o
@@ -124,24 +158,26 @@ module _ {U B : Type 0} (u : Ghosts U B) where
           closes = closes ∙ is.closes;
         }
 
-    -- the body goes on: the place, and what moved
-    pub part_here : (store : U) (place : Place B) (a : Answer) (k : Link B) (b' : OpenPatch B) (taken : ℕ)
-        (q s' : List ℕ)
-        → GoesOn u store place a k b b' taken (fed w d q) (fed_patch w d p q)
-        → RestIs (bytes_of k.head) k.left (InBody (longer asked q))
-        → (cut (reader w) s').rest ≡ InBody (longer asked q) → PlaceIs u (fed w d q) place (Some (plain s' (Some d)))
-    part_here store place a k b' taken q s' goes kept here =
+    -- the body goes on
+    pub part_here : (store : U) (link : Option (Link B)) (a : Answer) (head : HeadBuffer) (b' : OpenPatch B)
+        (left taken : ℕ) (q s' : List ℕ)
+        → GoesOn u store link a head b b' left taken (fed w d q) (fed_patch w d p q)
+        → (bytes_of head) ≡ [] → 0 < left → left ≡ body_length asked.verdict - length (asked.body ++ q)
+        → (cut (reader w) s').rest ≡ InBody (longer asked q) → PlaceIs u (fed w d q) link (Some (plain s' (Some d)))
+    part_here store link a head b' left taken q s' goes cleared some wanted here =
         let w' = fed w d q in
-        let moves = feed_moves w d p q is.found in
-        let e : (cut (reader w') s').rest ≡ InBody (longer asked q) = rest_same w w' s' moves.grows.indexes ∙ here in
-        let patches = patches_fed b' q goes.number goes.holds goes.found goes.reached goes.bare goes.closes in
-        let does : TaskIs u w' (InBody (longer asked q)) (tasks.Patch b') (Some d) None =
-        (r, fed_patch w d p q, patches) in
-        let link : LinkIs u w' (bytes_of k.head) k.left (tasks.Patch b') (plain s' (Some d)) = record {
-          kept = subst (RestIs (bytes_of k.head) k.left) (sym e) kept;
-          does = subst (λ x. TaskIs u w' x (tasks.Patch b') (Some d) None) (sym e) does;
+        let same = (feed_moves w d p q is.found).grows.indexes in
+        let now : IsPatching u w' (plain s' (Some d)) (bytes_of head) b' left = record {
+          d = d;
+          asked = longer asked q;
+          r = r;
+          p = fed_patch w d p q;
+          inside = record { rest = rest_same w w' s' same ∙ here; cleared = cleared; some = some; wanted = wanted };
+          draft = refl;
+          pending = refl;
+          patches = patches_fed b' q goes.number goes.holds goes.found goes.reached goes.bare goes.closes;
         } in
-        subst (λ x. PlaceIs u w' x (Some (plain s' (Some d)))) (sym goes.place_is) link
+        subst (λ x. PlaceIs u w' x (Some (plain s' (Some d)))) (sym goes.link_is) now
 
     -- the body's end: what moved
     pub rest_moves : (q : List ℕ) → Moves w (ended_by w d p q r).world (Some d) None
@@ -207,28 +243,23 @@ module _ (w : World) (s : List ℕ) (d : ℕ) (asked : Asked) (inside : (cut (re
 module _ {U B : Type 0} (u : Ghosts U B) (store' : U) (old new : List ℕ) (w : World) (s : List ℕ)
     (b : OpenPatch B) (asked : Asked) (r : Request) (p : Patch)
     (is : PatchesAs u w b (u.number_of b.draft) asked r p) (inside : (cut (reader w) s).rest ≡ InBody asked)
-    (k : Link B) (left : ℕ)
-    (none : (bytes_of k.head) ≡ []) (left_is : left ≡ body_length asked.verdict - length asked.body) where
+    (head : HeadBuffer) (left : ℕ)
+    (none : (bytes_of head) ≡ []) (left_is : left ≡ body_length asked.verdict - length asked.body) where
   abbrev own : ℕ
   own = u.number_of b.draft
 
-  part_told : (bytes : List ℕ) (a : Result (Place B × Answer) Stop) → length bytes < left
-      → Parts u store' a (record k { left = left - length bytes; task = tasks.Idle }) b (0 + length bytes)
+  part_told : (bytes : List ℕ) (a : Result (Option (Link B) × Answer) Stop) → length bytes < left
+      → Parts u store' a head b (left - length bytes) (0 + length bytes)
       (fed w own bytes) (fed_patch w own p bytes) (dropped w own)
       → new ≡ old → Turned u store' a old new w (Some own) (part_turned w s own asked inside bytes)
-  part_told bytes (Ok (place, a)) few (b', goes) same =
+  part_told bytes (Ok (link, a)) few (b', goes) same =
       let l : length (asked.body ++ bytes) ≡ length asked.body + length bytes = length-append asked.body bytes in
       let wants = body_wants w s asked inside in
-      let kept : RestIs (bytes_of k.head) (left - length bytes) (InBody (longer asked bytes)) = (
-        none,
-        (let x : left - length bytes ≡ body_length asked.verdict - length (asked.body ++ bytes) =
-            omega arith in x),
-      ) in
       let here = body_part_rest (reader w) (steady (offers w.store.indexes)) s bytes asked inside (omega arith) in
       record {
         shown = goes.shown;
-        here = part_here u w b asked r p is store' place a (record k { left = left - length bytes; task = tasks.Idle })
-            b' (0 + length bytes) bytes (s ++ bytes) goes kept here;
+        here = part_here u w b asked r p is store' link a head b' (left - length bytes) (0 + length bytes) bytes
+            (s ++ bytes) goes none (omega arith) (omega arith) here;
         moves = feed_moves w own p bytes is.found;
         taken = ap (λ x. x.taken) goes.answer_is ∙ (let x : 0 + length bytes ≡ length bytes = omega arith in x);
         closes = ap (λ x. x.closes) goes.answer_is;
@@ -238,54 +269,24 @@ module _ {U B : Type 0} (u : Ghosts U B) (store' : U) (old new : List ℕ) (w : 
   part_told bytes (Err stops.NoMemory) few shown same = (shown, same)
   part_told bytes (Err stops.DiskFault) few x same = same
 
-  rest_answered : (place : Place B) (q : List ℕ) (a : Answer) → length p.body + length q ≤ p.count
+  rest_told : (q : List ℕ) (a : Result (Option (Link B) × Answer) Stop)
       → (cut (reader w) (s ++ q)).rest ≡ InHead []
-      → Answered u store' place a old new (record k { left = 0; task = tasks.Idle }) (0 + left) (ended_by w own p q r)
-      → TurnedAs u store' place a old new w (Some own) (rest_turned w s own asked inside p q r left)
-  rest_answered place q a few ends answered =
-      let m = ended_by w own p q r in
-      let moves = rest_moves u w b asked r p is q in
-      let here : (cut (reader m.world) (s ++ q)).rest ≡ InHead [] = rest_same w m.world (s ++ q) moves.grows.indexes
-      ∙ ends in
-      let t : 0 + left ≡ left = omega arith in
-      record {
-        shown = answered.shown;
-        here = idle_here u m.world place (record k { left = 0; task = tasks.Idle }) m.closes (s ++ q)
-            (InHead []) answered.place_is (none, refl) here;
-        moves = closed_moves w m.world (s ++ q) m.closes moves;
-        taken = ap (λ x. x.taken) answered.answer_is ∙ t;
-        closes = ap (λ x. x.closes) answered.answer_is ∙ closes_is (s ++ q) m.closes;
-        more = ap (λ x. x.more) answered.answer_is ∙ more_is (s ++ q) m.closes;
-        bytes = answered.bytes;
-      }
-    where
-      closed_moves : (w w' : World) (s' : List ℕ) (c : Bool) → Moves w w' (Some own) None
-          → Moves w w' (Some own) (draft_at (if c then None else Some (plain s' None)))
-      closed_moves w w' s' true moves = moves
-      closed_moves w w' s' false moves = moves
-
-      closes_is : (s' : List ℕ) (c : Bool) → c ≡ is_closed (if c then None else Some (plain s' None))
-      closes_is s' true = refl
-      closes_is s' false = refl
-
-      more_is : (s' : List ℕ) (c : Bool) → false ≡ has_text (if c then None else Some (plain s' None))
-      more_is s' true = refl
-      more_is s' false = refl
-
-  rest_told : (q : List ℕ) (a : Result (Place B × Answer) Stop) → length p.body + length q ≤ p.count
-      → (cut (reader w) (s ++ q)).rest ≡ InHead []
-      → Replies u store' a old new (record k { left = 0; task = tasks.Idle }) (0 + left) (ended_by w own p q r)
-      (dropped w own)
+      → Replies u store' a old new head (0 + left) (ended_by w own p q r) (dropped w own)
       → Turned u store' a old new w (Some own) (rest_turned w s own asked inside p q r left)
-  rest_told q (Ok (place, a)) few ends x = rest_answered place q a few ends x
-  rest_told q (Err stops.NoMemory) few ends x = x
-  rest_told q (Err stops.DiskFault) few ends x = x
+  rest_told q (Ok (link, a)) ends x =
+      let m = ended_by w own p q r in
+      let t : 0 + left ≡ left = omega arith in
+      answered_here u store' link a old new m.bytes w m.world (Some own) head 0 left m.closes (s ++ q) (InHead [])
+      x.shown (rest_moves u w b asked r p is q) x.link_is (none, refl) ends
+      (x.answer_is ∙ ap (λ i. took i m.closes) t) x.bytes
+  rest_told q (Err stops.NoMemory) ends x = x
+  rest_told q (Err stops.DiskFault) ends x = x
 
-  pub body_told : (bytes : List ℕ) (a : Result (Place B × Answer) Stop)
-      → (length bytes < left → Parts u store' a (record k { left = left - length bytes; task = tasks.Idle }) b
+  pub body_told : (bytes : List ℕ) (a : Result (Option (Link B) × Answer) Stop)
+      → (length bytes < left → Parts u store' a head b (left - length bytes)
       (0 + length bytes) (fed w own bytes) (fed_patch w own p bytes) (dropped w own))
       → (length bytes < left → new ≡ old)
-      → (left ≤ length bytes → Replies u store' a old new (record k { left = 0; task = tasks.Idle }) (0 + left)
+      → (left ≤ length bytes → Replies u store' a old new head (0 + left)
       (ended_by w own p (take left bytes) r) (dropped w own))
       → Turned u store' a old new w (Some own) (came_turn w (plain s (Some own)) bytes)
   body_told bytes a part same rest =
@@ -296,163 +297,109 @@ module _ {U B : Type 0} (u : Ghosts U B) (store' : U) (old new : List ℕ) (w : 
             (sym (part_is w s own asked inside bytes (omega arith))) (part_told bytes a few (part few) (same few))
         | inr enough ↦
             let l : length (take left bytes) ≡ left = length-take-le left bytes enough in
-            let v : body_length asked.verdict ≡ r.length = ap body_length is.asks in
-            let n : length p.body ≡ length asked.body = ap length is.body in
-            let c = is.count in
             let ends = body_whole_rest (reader w) (steady (offers w.store.indexes)) s (take left bytes) asked inside
             (omega arith) in
             subst (Turned u store' a old new w (Some own))
             (sym (rest_is w s own asked inside bytes p r left (sym left_is) (omega arith) is.found is.asks))
-            (rest_told (take left bytes) a (omega arith) ends (rest enough))
+            (rest_told (take left bytes) a ends (rest enough))
       ]
 
-module _ {U B : Type 0} (u : Ghosts U B) (w : World) (conn : Conn) (k : Link B) (b : OpenPatch B)
-    (is : IsPatching u w (cut (reader w) conn.stream).rest b conn.draft conn.pending)
-    (kept : RestIs (bytes_of k.head) k.left (cut (reader w) conn.stream).rest) where
+module _ {U B : Type 0} (u : Ghosts U B) (w : World) (conn : Conn) (head : HeadBuffer) (b : OpenPatch B) (left : ℕ)
+    (is : IsPatching u w conn (bytes_of head) b left) where
   abbrev pub own_of : ℕ
   own_of = u.number_of b.draft
 
-  kept_body : RestIs (bytes_of k.head) k.left (InBody is.asked)
-  kept_body = subst (RestIs (bytes_of k.head) k.left) is.rest_is kept
-
   -- the patch under the draft's own number
   own_patches : PatchesAs u w b own_of is.asked is.r is.p
-  own_patches = record {
-    number = refl;
-    found = ap (λ n. find n w.patches) is.patches.number ∙ is.patches.found;
-    holds = is.patches.holds;
-    asks = is.patches.asks;
-    count = is.patches.count;
-    body = is.patches.body;
-    reached = is.patches.reached;
-    fits = is.patches.fits;
-    below = is.patches.below;
-    grown = is.patches.grown;
-    bare = is.patches.bare;
-    closes = is.patches.closes;
-  }
+  own_patches = subst (λ n. PatchesAs u w b n is.asked is.r is.p) (sym is.patches.number) is.patches
 
   draft_is_own : conn.draft ≡ Some own_of
-  draft_is_own = is.draft_is ∙ ap Some (sym is.patches.number)
+  draft_is_own = is.draft ∙ ap Some (sym is.patches.number)
 
   -- what the body still wants
-  pub left_wanted : length is.p.body + k.left ≡ is.p.count
+  pub left_wanted : length is.p.body + left ≡ is.p.count
   left_wanted =
-      let wants = body_wants w conn.stream is.asked is.rest_is in
+      let some = is.inside.some in
       let v : body_length is.asked.verdict ≡ is.r.length = ap body_length is.patches.asks in
       let n : length is.p.body ≡ length is.asked.body = ap length is.patches.body in
       let c = is.patches.count in
-      let l = kept_body.1 in
+      let l = is.inside.wanted in
       omega arith
 
-  pub patch_told : (store' : U) (old new bytes : List ℕ) (a : Result (Place B × Answer) Stop)
-      → (length bytes < k.left → Parts u store' a (record k { left = k.left - length bytes; task = tasks.Idle }) b
+  pub patch_told : (store' : U) (old new bytes : List ℕ) (a : Result (Option (Link B) × Answer) Stop)
+      → (length bytes < left → Parts u store' a head b (left - length bytes)
       (0 + length bytes) (fed w own_of bytes) (fed_patch w own_of is.p bytes) (dropped w own_of))
-      → (length bytes < k.left → new ≡ old)
-      → (k.left ≤ length bytes → Replies u store' a old new (record k { left = 0; task = tasks.Idle })
-      (0 + k.left) (ended_by w own_of is.p (take k.left bytes) is.r) (dropped w own_of))
+      → (length bytes < left → new ≡ old)
+      → (left ≤ length bytes → Replies u store' a old new head (0 + left)
+      (ended_by w own_of is.p (take left bytes) is.r) (dropped w own_of))
       → Turned u store' a old new w conn.draft (came_turn w conn bytes)
   patch_told store' old new bytes a part same rest =
       subst (λ x. Turned u store' a old new w x.draft (came_turn w x bytes))
-      (conn_is conn (Some own_of) draft_is_own is.idle)
-      (body_told u store' old new w conn.stream b is.asked is.r is.p own_patches is.rest_is k k.left kept_body.0
-      kept_body.1 bytes a part same rest)
+      (conn_is conn (Some own_of) draft_is_own is.pending)
+      (body_told u store' old new w conn.stream b is.asked is.r is.p own_patches is.inside.rest head left
+      is.inside.cleared is.inside.wanted bytes a part same rest)
 
-  pub rest_store : (bytes : List ℕ) → k.left ≤ length bytes
-      → (ended_by w own_of is.p (take k.left bytes) is.r).world.store ≡ (came_turn w conn bytes).world.store
+  pub rest_store : (bytes : List ℕ) → left ≤ length bytes
+      → (ended_by w own_of is.p (take left bytes) is.r).world.store ≡ (came_turn w conn bytes).world.store
   rest_store bytes enough =
-      let wants = body_wants w conn.stream is.asked is.rest_is in
-      let l = kept_body.1 in
-      ap (λ t. t.world.store) (sym (rest_is w conn.stream own_of is.asked is.rest_is bytes is.p is.r k.left
-      (sym kept_body.1) (omega arith) own_patches.found is.patches.asks))
-      ∙ ap (λ x. (came_turn w x bytes).world.store) (conn_is conn (Some own_of) draft_is_own is.idle)
+      let some = is.inside.some in
+      let l = is.inside.wanted in
+      ap (λ t. t.world.store) (sym (rest_is w conn.stream own_of is.asked is.inside.rest bytes is.p is.r left
+      (sym is.inside.wanted) (omega arith) own_patches.found is.patches.asks))
+      ∙ ap (λ x. (came_turn w x bytes).world.store) (conn_is conn (Some own_of) draft_is_own is.pending)
+
+abbrev dropped_turn : World → List ℕ → ℕ → Turn
+dropped_turn w s n = record { world = w; conn = Some (plain s None); bytes = []; taken = n }
 
 -- a body that is dropped
-module _ {U B : Type 0} (u : Ghosts U B) (store : U) (w : World) (conn : Conn) (k : Link B) (stands : u.stands store w)
-    (draft : conn.draft ≡ None) (idle : conn.pending ≡ None)
-    (kept : RestIs (bytes_of k.head) k.left (cut (reader w) conn.stream).rest) (some : 0 < k.left) where
-  abbrev dropped_turn : List ℕ → List ℕ → ℕ → Turn
-  dropped_turn s q n = record { world = w; conn = Some (plain (s ++ q) None); bytes = []; taken = n }
-
-  skipped : (s : List ℕ) (place : Place B) (a : Answer) (out bytes : List ℕ) (rest : Rest)
-      → (cut (reader w) s).rest ≡ rest → RestIs (bytes_of k.head) k.left rest
-      → place ≡ Open (record k { left = k.left - min k.left (length bytes); task = tasks.Idle })
-      → a ≡ took (0 + min k.left (length bytes)) false
-      → TurnedAs u store place a out out w None (came_turn w (plain s None) bytes)
-  skipped s place a out bytes (InHead h) inside (e, zero) place_is answer_is = absurd (omega arith)
-  skipped s place a out bytes (InBody asked) inside (e, left_is) place_is answer_is =
+module _ {U B : Type 0} (u : Ghosts U B) (store : U) (w : World) (conn : Conn) (head : HeadBuffer) (left : ℕ)
+    (stands : u.stands store w) (is : IsSkipping w conn (bytes_of head) left) where
+  dropped_told : (link : Option (Link B)) (a : Answer) (out bytes : List ℕ)
+      → link ≡ link_after head (left - min left (length bytes)) false
+      → a ≡ took (0 + min left (length bytes)) false
+      → TurnedAs u store link a out out w None (came_turn w (plain conn.stream None) bytes)
+  dropped_told link a out bytes link_is answer_is =
+      let s = conn.stream in
+      let asked = is.asked in
+      let wanted = is.inside.wanted in
+      let inside = is.inside.rest in
       let wants = body_wants w s asked inside in
-      elim (cases_lt (length bytes) k.left) [
+      let still_left = left - min left (length bytes) in
+      elim (cases_lt (length bytes) left)
+      as (λ _. TurnedAs u store link a out out w None (came_turn w (plain s None) bytes)) [
         | inl few ↦
-            let n : min k.left (length bytes) ≡ length bytes = omega arith in
             let t : take (length bytes) bytes ≡ bytes = take_all (length bytes) bytes (omega arith) in
-            let turn : came_turn w (plain s None) bytes ≡ dropped_turn s bytes (length bytes) =
-            part_turn w (plain s None) asked inside bytes refl (omega arith)
-            ∙ ap (λ q. dropped_turn s q (length bytes)) t in
             let l : length (asked.body ++ bytes) ≡ length asked.body + length bytes = length-append asked.body bytes in
-            let here = body_part_rest (reader w) (steady (offers w.store.indexes)) s bytes asked inside (omega arith) in
-            let left' : k.left - min k.left (length bytes) ≡ body_length asked.verdict - length (asked.body ++ bytes) =
-            omega arith in
-            let now : TurnedAs u store place a out out w None (dropped_turn s bytes (length bytes)) = record {
-              shown = stands;
-              here = idle_here u w place (record k { left = k.left - min k.left (length bytes); task = tasks.Idle })
-                  false (s ++ bytes) (InBody (longer asked bytes)) place_is (e, left') here;
-              moves = still w None;
-              taken = ap (λ x. x.taken) answer_is ∙ (let x : 0 + min k.left (length bytes) ≡ length bytes =
-                  omega arith in x);
-              closes = ap (λ x. x.closes) answer_is;
-              more = ap (λ x. x.more) answer_is;
-              bytes = sym (append-nil out);
-            } in
-            subst (TurnedAs u store place a out out w None) (sym turn) now
+            let count : 0 + min left (length bytes) ≡ length bytes = omega arith in
+            subst (TurnedAs u store link a out out w None)
+            (sym (part_turn w (plain s None) asked inside bytes refl (omega arith)
+            ∙ ap (λ q. dropped_turn w (s ++ q) (length bytes)) t))
+            (answered_here u store link a out out [] w w None head still_left (length bytes) false (s ++ bytes)
+            (InBody (longer asked bytes)) stands (still w None) link_is (is.inside.cleared, omega arith)
+            (body_part_rest (reader w) (steady (offers w.store.indexes)) s bytes asked inside (omega arith))
+            (answer_is ∙ ap (λ i. took i false) count) (sym (append-nil out)))
         | inr enough ↦
-            let n : min k.left (length bytes) ≡ k.left = omega arith in
-            let q = take k.left bytes in
-            let turn : came_turn w (plain s None) bytes ≡ dropped_turn s q k.left =
-            rest_turn w (plain s None) asked inside bytes refl (omega arith) wants
-            ∙ ap (λ m. dropped_turn s (take m bytes) m) (sym left_is) in
-            let l : length q ≡ k.left = length-take-le k.left bytes enough in
-            let here = body_whole_rest (reader w) (steady (offers w.store.indexes)) s q asked inside (omega arith) in
-            let left' : k.left - min k.left (length bytes) ≡ 0 = omega arith in
-            let now : TurnedAs u store place a out out w None (dropped_turn s q k.left) = record {
-              shown = stands;
-              here = idle_here u w place (record k { left = k.left - min k.left (length bytes); task = tasks.Idle })
-                  false (s ++ q) (InHead []) place_is (e, left') here;
-              moves = still w None;
-              taken = ap (λ x. x.taken) answer_is ∙ (let x : 0 + min k.left (length bytes) ≡ k.left = omega arith in x);
-              closes = ap (λ x. x.closes) answer_is;
-              more = ap (λ x. x.more) answer_is;
-              bytes = sym (append-nil out);
-            } in
-            subst (TurnedAs u store place a out out w None) (sym turn) now
+            let q = take left bytes in
+            let l : length q ≡ left = length-take-le left bytes enough in
+            let count : 0 + min left (length bytes) ≡ left = omega arith in
+            subst (TurnedAs u store link a out out w None)
+            (sym (rest_turn w (plain s None) asked inside bytes refl (omega arith) wants
+            ∙ ap (λ m. dropped_turn w (s ++ take m bytes) m) (sym wanted)))
+            (answered_here u store link a out out [] w w None head still_left left false (s ++ q)
+            (InHead []) stands (still w None) link_is (is.inside.cleared, omega arith)
+            (body_whole_rest (reader w) (steady (offers w.store.indexes)) s q asked inside (omega arith))
+            (answer_is ∙ ap (λ i. took i false) count) (sym (append-nil out)))
       ]
 
-  pub skip_told : (place : Place B) (a : Answer) (out bytes : List ℕ)
-      → place ≡ Open (record k { left = k.left - min k.left (length bytes); task = tasks.Idle })
-      → a ≡ took (0 + min k.left (length bytes)) false
-      → TurnedAs u store place a out out w conn.draft (came_turn w conn bytes)
-  skip_told place a out bytes e f =
-      subst (λ x. TurnedAs u store place a out out w x.draft (came_turn w x bytes)) (conn_is conn None draft idle)
-      (skipped conn.stream place a out bytes (cut (reader w) conn.stream).rest refl kept e f)
+  pub skip_told : (link : Option (Link B)) (a : Answer) (out bytes : List ℕ)
+      → link ≡ link_after head (left - min left (length bytes)) false
+      → a ≡ took (0 + min left (length bytes)) false
+      → TurnedAs u store link a out out w conn.draft (came_turn w conn bytes)
+  skip_told link a out bytes e f =
+      subst (λ x. TurnedAs u store link a out out w x.draft (came_turn w x bytes)) (conn_is conn None is.draft is.pending)
+      (dropped_told link a out bytes e f)
 
 pub text_turn_is : (w : World) (conn : Conn) (bytes : List ℕ) (h : Giving) → conn.pending ≡ Some h
     → record { world = w; conn = Some conn; bytes = []; taken = 0 } ≡ came_turn w conn bytes
 unfolding came_turn
 text_turn_is w conn bytes h e = sym (ap (came_on w conn bytes) e)
-
--- no body is under way
-inside_case : (w : World) (conn : Conn) (head : List ℕ) (left : ℕ) (rest : Rest)
-    → (cut (reader w) conn.stream).rest ≡ rest → RestIs head left rest → left ≡ 0
-    → (cut (reader w) conn.stream).rest ≡ InHead head
-inside_case w conn head left (InHead h) e (same, x) none = e ∙ ap InHead (sym same)
-inside_case w conn head left (InBody asked) e (x, left_is) none = let wants = body_wants w conn.stream asked e in
-    absurd (omega arith)
-
-pub inside_at : (w : World) (conn : Conn) (head : List ℕ) (left : ℕ)
-    → RestIs head left (cut (reader w) conn.stream).rest → left ≡ 0 → conn.draft ≡ None → conn.pending ≡ None
-    → InsideHead w conn head
-inside_at w conn head left kept none draft pending = record {
-  rest = inside_case w conn head left (cut (reader w) conn.stream).rest refl kept none;
-  draft = draft;
-  pending = pending;
-}

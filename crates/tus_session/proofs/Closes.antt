@@ -11,18 +11,15 @@ use Rattle.upload_rules.specs.Apart.{IsApart}
 use Rattle.upload_rules.specs.Calls.{dropped}
 use Rattle.upload_rules.specs.declared.uploads.Uploads.{Ghosts}
 use Rattle.upload_rules.proofs.Finds.{find_without_same, find_without_other}
-use Rattle.tus_session.specs.Streams.{cut}
-use Rattle.tus_session.specs.Turns.{Conn, reader}
+use Rattle.tus_request.specs.Buffers.{bytes_of}
+use Rattle.tus_session.specs.Turns.{Conn}
 use Rattle.tus_session.specs.History.{State}
-use Rattle.tus_session.specs.Stands.{TaskIs, PlaceIs, draft_at, SessionStands, dropped_by}
+use Rattle.tus_session.specs.Stands.{LinkIs, PlaceIs, draft_at, SessionStands, dropped_by}
 use Rattle.tus_session.specs.declared.conns.Link.{Link}
-use Rattle.tus_session.specs.declared.conns.Task.{Task}
-use Rattle.tus_session.specs.declared.conns.Task.TheVariants as tasks
-use Rattle.tus_session.specs.declared.conns.Place.{Place}
-use Rattle.tus_session.specs.declared.conns.Place.TheVariants.{Closed, Open}
+use Rattle.tus_session.specs.declared.conns.Awaiting.{Awaiting}
+use Rattle.tus_session.specs.declared.conns.Awaiting.TheVariants as awaits
 use Rattle.tus_session.proofs.InPlace.{beyond}
 use Rattle.tus_session.proofs.Moved.{apart_without}
-use Rattle.tus_session.proofs.Tasks.{idling, patching, giving}
 
 -- a world with the uploads of the history, in which only the drafts of the first places are open
 pub record IsClosing {U B : Type 0} (u : Ghosts U B) (st : State) (left : ℕ) (store : U) (v : World) : Type 0 where
@@ -33,14 +30,14 @@ pub record IsClosing {U B : Type 0} (u : Ghosts U B) (st : State) (left : ℕ) (
   pub owned : (d : ℕ) (p : Patch) → find d v.patches ≡ Some p → (c : ℕ) × (c < left) × (draft_at (st.conns c) ≡ Some d)
 
 module _ {U B : Type 0} (u : Ghosts U B) where
-  conn_below : (places : List (Place B)) (store : U) (st : State) (c d : ℕ) → SessionStands u places store st
+  conn_below : (places : List (Option (Link B))) (store : U) (st : State) (c d : ℕ) → SessionStands u places store st
       → draft_at (st.conns c) ≡ Some d → c < length places
   conn_below places store st c d stands e = elim (cases_lt c (length places)) [
     | inl lt ↦ lt
     | inr le ↦ let x : Some d ≡ None = sym e ∙ ap draft_at (beyond u places store st c stands le) in absurd (cc)
   ]
 
-  pub begins_closing : (places : List (Place B)) (store : U) (st : State) → SessionStands u places store st
+  pub begins_closing : (places : List (Option (Link B))) (store : U) (st : State) → SessionStands u places store st
       → IsClosing u st (length places) store st.world
   begins_closing places store st stands = record {
     shown = stands.shown;
@@ -88,13 +85,11 @@ module _ {U B : Type 0} (u : Ghosts U B) where
     ];
   }
 
-  task_closing : (st : State) (left : ℕ) (store store' : U) (v : World) (task : Task B) (conn : Conn)
-      → IsClosing u st (suc left) store v → st.conns left ≡ Some conn
-      → TaskIs u st.world (cut (reader st.world) conn.stream).rest task conn.draft conn.pending
-      → u.stands store' (dropped_by u v task) → (v' : World) × IsClosing u st left store' v'
-  task_closing st left store store' v tasks.Idle conn is e does shown =
-      let none = (idling u st.world (cut (reader st.world) conn.stream).rest tasks.Idle conn.draft conn.pending does
-      refl).0 in
+  -- a connection without a patch
+  idle_closing : (st : State) (left : ℕ) (store store' : U) (v : World) (conn : Conn)
+      → IsClosing u st (suc left) store v → st.conns left ≡ Some conn → conn.draft ≡ None → u.stands store' v
+      → (v' : World) × IsClosing u st left store' v'
+  idle_closing st left store store' v conn is e none shown =
       let now : IsClosing u st (suc left) store' v = record {
         shown = shown;
         uploads = is.uploads;
@@ -103,35 +98,33 @@ module _ {U B : Type 0} (u : Ghosts U B) where
         owned = is.owned;
       } in
       (v, none_closing st left store' v now (ap draft_at e ∙ none))
-  task_closing st left store store' v (tasks.Text g) conn is e does shown =
-      let none = (giving u st.world (cut (reader st.world) conn.stream).rest (tasks.Text g) g conn.draft conn.pending
-      does refl).draft_is in
-      let now : IsClosing u st (suc left) store' v = record {
-        shown = shown;
-        uploads = is.uploads;
-        blocks = is.blocks;
-        unique = is.unique;
-        owned = is.owned;
-      } in
-      (v, none_closing st left store' v now (ap draft_at e ∙ none))
-  task_closing st left store store' v (tasks.Patch b) conn is e does shown =
-      let open_is = patching u st.world (cut (reader st.world) conn.stream).rest (tasks.Patch b) b conn.draft
-      conn.pending does refl in
-      let stands : u.stands store' (dropped v open_is.d) =
-      subst (λ n. u.stands store' (dropped v n)) open_is.patches.number shown in
-      (dropped v open_is.d, draft_closing st left store store' v open_is.d is (ap draft_at e ∙ open_is.draft_is) stands)
+
+  awaiting_closing : (st : State) (left : ℕ) (store store' : U) (v : World) (head : List ℕ) (awaiting : Awaiting B)
+      (conn : Conn) → IsClosing u st (suc left) store v → st.conns left ≡ Some conn
+      → LinkIs u st.world head awaiting conn → u.stands store' (dropped_by u v awaiting)
+      → (v' : World) × IsClosing u st left store' v'
+  awaiting_closing st left store store' v head awaits.Head conn is e link shown =
+      idle_closing st left store store' v conn is e link.draft shown
+  awaiting_closing st left store store' v head (awaits.Skip wanted) conn is e link shown =
+      idle_closing st left store store' v conn is e link.draft shown
+  awaiting_closing st left store store' v head (awaits.Text g wanted) conn is e link shown =
+      idle_closing st left store store' v conn is e link.draft shown
+  awaiting_closing st left store store' v head (awaits.Patch b wanted) conn is e link shown =
+      let stands : u.stands store' (dropped v link.d) =
+      subst (λ n. u.stands store' (dropped v n)) link.patches.number shown in
+      (dropped v link.d, draft_closing st left store store' v link.d is (ap draft_at e ∙ link.draft) stands)
 
   pub link_closing : (st : State) (left : ℕ) (store store' : U) (v : World) (k : Link B) (o : Option Conn)
       → IsClosing u st (suc left) store v → st.conns left ≡ o
-      → PlaceIs u st.world (Open k) o → u.stands store' (dropped_by u v k.task)
+      → PlaceIs u st.world (Some k) o → u.stands store' (dropped_by u v k.awaiting)
       → (v' : World) × IsClosing u st left store' v'
   link_closing st left store store' v k None is e place shown = absurd place
   link_closing st left store store' v k (Some conn) is e place shown =
-      task_closing st left store store' v k.task conn is e place.does shown
+      awaiting_closing st left store store' v (bytes_of k.head) k.awaiting conn is e place shown
 
   pub closed_closing : (st : State) (left : ℕ) (store : U) (v : World) (o : Option Conn)
       → IsClosing u st (suc left) store v → st.conns left ≡ o
-      → PlaceIs u st.world Closed o → (v' : World) × IsClosing u st left store v'
+      → PlaceIs u st.world None o → (v' : World) × IsClosing u st left store v'
   closed_closing st left store v None is e place = (v, none_closing st left store v is (ap draft_at e))
   closed_closing st left store v (Some conn) is e place = absurd place
 
@@ -163,12 +156,12 @@ get_seam [] behind x other = refl
 get_seam (y ∷ front) behind x other = get_seam front behind x other
 
 -- the last of the first places is taken off
-pub record Popped {B : Type 0} (all old new : List (Place B)) (x : Place B) : Type 0 where
+pub record Popped {B : Type 0} (all old new : List (Option (Link B))) (x : Option (Link B)) : Type 0 where
   pub front : new ≡ take (length new) all
-  pub here : get_or all (length new) Closed ≡ x
+  pub here : get_or all (length new) None ≡ x
   pub count : length old ≡ suc (length new)
 
-pub popped : {B : Type 0} (all old new : List (Place B)) (x : Place B) → old ≡ take (length old) all
+pub popped : {B : Type 0} (all old new : List (Option (Link B))) (x : Option (Link B)) → old ≡ take (length old) all
     → old ≡ new ++ x ∷ [] → Popped all old new x
 popped all old new x front items =
     let rest = drop (length old) all in
@@ -179,29 +172,29 @@ popped all old new x front items =
     let m : length old ≡ length (new ++ x ∷ []) = ap length items in
     record {
       front = sym (ap (take (length new)) whole ∙ take-append_seam new (x ∷ rest));
-      here = ap (λ ys. get_or ys (length new) Closed) whole ∙ get_seam new rest x Closed;
+      here = ap (λ ys. get_or ys (length new) None) whole ∙ get_seam new rest x None;
       count = omega arith;
     }
 
-module _ {U B : Type 0} (u : Ghosts U B) (all old new : List (Place B)) (first : U) (st : State)
+module _ {U B : Type 0} (u : Ghosts U B) (all old new : List (Option (Link B))) (first : U) (st : State)
     (stands : SessionStands u all first st) where
-  place_there : (x : Place B) → Popped all old new x → PlaceIs u st.world x (st.conns (length new))
+  place_there : (x : Option (Link B)) → Popped all old new x → PlaceIs u st.world x (st.conns (length new))
   place_there x is = subst (λ p. PlaceIs u st.world p (st.conns (length new))) is.here (stands.each (length new))
 
-  one_less : (store : U) (v : World) (x : Place B) → Popped all old new x → IsClosing u st (length old) store v
+  one_less : (store : U) (v : World) (x : Option (Link B)) → Popped all old new x → IsClosing u st (length old) store v
       → IsClosing u st (suc (length new)) store v
   one_less store v x is closing = subst (λ n. IsClosing u st n store v) is.count closing
 
-  pub after_closed : (store : U) (v : World) (x : Place B) → x ≡ Closed → Popped all old new x
+  pub after_closed : (store : U) (v : World) (x : Option (Link B)) → x ≡ None → Popped all old new x
       → IsClosing u st (length old) store v
       → (v' : World) × IsClosing u st (length new) store v'
   after_closed store v x e is closing =
       closed_closing u st (length new) store v (st.conns (length new)) (one_less store v x is closing) refl
       (subst (λ p. PlaceIs u st.world p (st.conns (length new))) e (place_there x is))
 
-  pub after_open : (store store' : U) (v : World) (x : Place B) (k : Link B) → x ≡ Open k → Popped all old new x
+  pub after_open : (store store' : U) (v : World) (x : Option (Link B)) (k : Link B) → x ≡ Some k → Popped all old new x
       → IsClosing u st (length old) store v
-      → u.stands store' (dropped_by u v k.task) → (v' : World) × IsClosing u st (length new) store' v'
+      → u.stands store' (dropped_by u v k.awaiting) → (v' : World) × IsClosing u st (length new) store' v'
   after_open store store' v x k e is closing shown =
       link_closing u st (length new) store store' v k (st.conns (length new)) (one_less store v x is closing) refl
       (subst (λ p. PlaceIs u st.world p (st.conns (length new))) e (place_there x is)) shown

@@ -13,11 +13,9 @@ use Rattle.tus_action.specs.Acts.{Acted, fed, fed_patch}
 use Rattle.tus_action.specs.Serves.{Finishes, Serves}
 use Rattle.tus_action.specs.declared.acts.Stop.{Stop}
 use Rattle.tus_action.specs.declared.acts.Stop.TheVariants as stops
-use Rattle.tus_session.specs.Bodies.{ended_by, took, Answered, Replies}
+use Rattle.tus_request.specs.declared.buffer.HeadBuffer.{HeadBuffer}
+use Rattle.tus_session.specs.Bodies.{ended_by, took, link_after, Answered, Replies}
 use Rattle.tus_session.specs.declared.conns.Link.{Link}
-use Rattle.tus_session.specs.declared.conns.Task.TheVariants as tasks
-use Rattle.tus_session.specs.declared.conns.Place.{Place}
-use Rattle.tus_session.specs.declared.conns.Place.TheVariants.{Closed, Open}
 use Rattle.tus_session.specs.Turned.{Turned}
 use Rattle.tus_session.specs.Turns.{Conn, Turn, left_world}
 use Rattle.tus_session.proofs.Tasks.{spent_store}
@@ -90,18 +88,17 @@ ended_store w d p piece r =
 
 module _ {U B : Type 0} (u : Ghosts U B) where
   -- a reply was given, and nothing is open
-  pub answered_as : (store : U) (place : Place B) (old new : List ℕ) (k : Link B) (taken : ℕ) (m : Acted)
+  pub answered_as : (store : U) (link : Option (Link B)) (old new : List ℕ) (head : HeadBuffer) (taken : ℕ) (m : Acted)
       (closes : Bool) → u.stands store m.world → closes ≡ m.closes
-      → place ≡ (if closes then Closed else Open (record k { task = tasks.Idle })) → new ≡ old ++ m.bytes
-      → Answered u store place (took taken closes) old new k taken m
-  answered_as store place old new k taken m closes stands same at bytes = record {
+      → link ≡ link_after head 0 closes → new ≡ old ++ m.bytes
+      → Answered u store link (took taken closes) old new head taken m
+  answered_as store link old new head taken m closes stands same at bytes = record {
     shown = stands;
-    place_is = at ∙ ap (λ b. if b then Closed else Open (record k { task = tasks.Idle })) same;
+    link_is = at ∙ ap (link_after head 0) same;
     answer_is = ap (took taken) same;
     bytes = bytes;
   }
 
-module _ {U B : Type 0} (u : Ghosts U B) where
   -- the draft's patch, behind more of its body
   pub fed_found_as : (w : World) (d : ℕ) (p : Patch) (q : List ℕ) (b : B) → u.number_of b ≡ d
       → find d (fed w d q).patches ≡ Some (fed_patch w d p q)
@@ -109,12 +106,12 @@ module _ {U B : Type 0} (u : Ghosts U B) where
   fed_found_as w d p q b is found = ap (λ n. find n (fed w d q).patches) is ∙ found
 
   -- a call that stopped closes the connection
-  pub stopped_as : (store : U) (e : Stop) (old new : List ℕ) (k : Link B) (taken : ℕ) (gone gone' : World)
+  pub stopped_as : (store : U) (e : Stop) (old new : List ℕ) (head : HeadBuffer) (taken : ℕ) (gone gone' : World)
       (m m' : Acted) → gone ≡ gone' → Finishes u store (Err e) old new gone m
-      → Replies u store (Err e) old new k taken m' gone'
-  stopped_as store stops.NoMemory old new k taken gone gone' m m' is (shown, same) =
+      → Replies u store (Err e) old new head taken m' gone'
+  stopped_as store stops.NoMemory old new head taken gone gone' m m' is (shown, same) =
       (subst (u.stands store) is shown, same)
-  stopped_as store stops.DiskFault old new k taken gone gone' m m' is same = same
+  stopped_as store stops.DiskFault old new head taken gone gone' m m' is same = same
 
   pub head_stopped : (store : U) (e : Stop) (old new : List ℕ) (w : World) (conn : Conn) (m : Acted) (t : Turn)
       → conn.draft ≡ None → Serves u store (Err e) old new w m → Turned u store (Err e) old new w conn.draft t

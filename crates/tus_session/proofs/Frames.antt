@@ -13,15 +13,15 @@ use Rattle.upload_rules.specs.declared.uploads.Uploads.{Ghosts}
 use Rattle.tus_action.specs.Acts.{Giving}
 use Rattle.tus_action.specs.Serves.{GivesAs, IsGiving}
 use Rattle.tus_action.specs.declared.acts.Giving as given
-use Rattle.tus_session.specs.Streams.{Rest, InHead, InBody, cut}
+use Rattle.tus_request.specs.Requests.{Request}
+use Rattle.tus_session.specs.Streams.{Asked, cut}
 use Rattle.tus_session.specs.Turns.{Conn, reader}
-use Rattle.tus_session.specs.Stands.{PatchIs, TaskIs, RestIs, LinkIs, PlaceIs, draft_at}
+use Rattle.tus_session.specs.Stands.{PatchesAs, InsideBody, RestIs, LinkIs, PlaceIs, draft_at}
 use Rattle.tus_session.specs.Moves.{Longer, Grows, Moves}
 use Rattle.tus_action.specs.declared.bodies.OpenPatch.{OpenPatch}
-use Rattle.tus_session.specs.declared.conns.Task.{Task}
-use Rattle.tus_session.specs.declared.conns.Task.TheVariants as tasks
-use Rattle.tus_session.specs.declared.conns.Place.{Place}
-use Rattle.tus_session.specs.declared.conns.Place.TheVariants.{Closed, Open}
+use Rattle.tus_session.specs.declared.conns.Awaiting.{Awaiting}
+use Rattle.tus_session.specs.declared.conns.Awaiting.TheVariants as awaits
+use Rattle.tus_session.specs.declared.conns.Link.{Link}
 use Rattle.tus_session.proofs.Growth.{patched_twice}
 
 -- the upload that a patch began at has what other patches brought, or is gone
@@ -70,86 +70,95 @@ gives_more w w' g h grows is = record {
       (is.there m.0 m.1));
 }
 
+-- the same index set reads the same
+pub rest_same : (w w' : World) (s : List ℕ) → w'.store.indexes ≡ w.store.indexes
+    → (cut (reader w') s).rest ≡ (cut (reader w) s).rest
+rest_same w w' s e = ap (λ x. (cut (answer_of (offers x)) s).rest) e
+
 module _ {U B : Type 0} (u : Ghosts U B) where
-  patch_moved : (w w' : World) (own : Option ℕ) (b : OpenPatch B) (d : ℕ) (rest : Rest) → Grows w.store w'.store
-      → ((e : ℕ) (p : Patch) → (own ≡ Some e → ⊥) → find e w.patches ≡ Some p → find e w'.patches ≡ Some p)
-      → (own ≡ Some d → ⊥) → PatchIs u w rest b d → PatchIs u w' rest b d
-  patch_moved w w' own b d (InHead h) grows others ne is = absurd is
-  patch_moved w w' own b d (InBody asked) grows others ne (r, p, is) = (
-    r,
-    p,
-    record {
-      number = is.number;
-      found = others d p ne is.found;
-      holds = is.holds;
-      asks = is.asks;
-      count = is.count;
-      body = is.body;
-      reached = is.reached;
-      fits = is.fits;
-      below = (let b = is.below in let n = grows.next in omega (arith, b, n));
-      grown = grown_more w w' p grows is.below is.grown;
-      bare = is.bare;
-      closes = is.closes;
-    },
-  )
+  patch_moved : (w w' : World) (own : Option ℕ) (b : OpenPatch B) (d : ℕ) (asked : Asked) (r : Request) (p : Patch)
+      (own' : Option ℕ) → Moves w w' own own' → (own ≡ Some d → ⊥) → PatchesAs u w b d asked r p
+      → PatchesAs u w' b d asked r p
+  patch_moved w w' own b d asked r p own' moves ne is = record {
+    number = is.number;
+    found = moves.others d p ne is.found;
+    holds = is.holds;
+    asks = is.asks;
+    count = is.count;
+    body = is.body;
+    reached = is.reached;
+    fits = is.fits;
+    below = (let b = is.below in let n = moves.grows.next in omega (arith, b, n));
+    grown = grown_more w w' p moves.grows is.below is.grown;
+    bare = is.bare;
+    closes = is.closes;
+  }
 
-  task_moved : (w w' : World) (own own' : Option ℕ) (rest : Rest) (task : Task B) (draft : Option ℕ)
-      (pending : Option Giving) → Moves w w' own own'
-      → ((e : ℕ) → draft ≡ Some e → own ≡ Some e → ⊥) → TaskIs u w rest task draft pending
-      → TaskIs u w' rest task draft pending
-  task_moved w w' own own' rest tasks.Idle None None moves ne is = tt
-  task_moved w w' own own' rest tasks.Idle None (Some h) moves ne is = absurd is
-  task_moved w w' own own' rest tasks.Idle (Some d) pending moves ne is = absurd is
-  task_moved w w' own own' rest (tasks.Patch b) None pending moves ne is = absurd is
-  task_moved w w' own own' rest (tasks.Patch b) (Some d) None moves ne is =
-      patch_moved w w' own b d rest moves.grows moves.others (ne d refl) is
-  task_moved w w' own own' rest (tasks.Patch b) (Some d) (Some h) moves ne is = absurd is
-  task_moved w w' own own' rest (tasks.Text g) None None moves ne is = absurd is
-  task_moved w w' own own' rest (tasks.Text g) None (Some h) moves ne is = gives_more w w' g h moves.grows is
-  task_moved w w' own own' rest (tasks.Text g) (Some d) pending moves ne is = absurd is
+  inside_moved : (w w' : World) (conn : Conn) (head : List ℕ) (left : ℕ) (asked : Asked)
+      → w'.store.indexes ≡ w.store.indexes → InsideBody w conn head left asked → InsideBody w' conn head left asked
+  inside_moved w w' conn head left asked same is = record {
+    rest = rest_same w w' conn.stream same ∙ is.rest;
+    cleared = is.cleared;
+    some = is.some;
+    wanted = is.wanted;
+  }
 
-  link_moved : (w w' : World) (own own' : Option ℕ) (head : List ℕ) (left : ℕ) (task : Task B) (conn : Conn)
-      → Moves w w' own own'
-      → ((e : ℕ) → conn.draft ≡ Some e → own ≡ Some e → ⊥) → LinkIs u w head left task conn
-      → LinkIs u w' head left task conn
-  link_moved w w' own own' head left task conn moves ne is =
-      let e : (cut (reader w) conn.stream).rest ≡ (cut (reader w') conn.stream).rest =
-      ap (λ x. (cut (answer_of (offers x)) conn.stream).rest) (sym moves.grows.indexes) in
-      record {
-        kept = subst (RestIs head left) e is.kept;
-        does = subst (λ r. TaskIs u w' r task conn.draft conn.pending) e
-            (task_moved w w' own own' (cut (reader w) conn.stream).rest task conn.draft conn.pending moves ne is.does);
-      }
+  link_moved : (w w' : World) (own own' : Option ℕ) (head : List ℕ) (awaiting : Awaiting B) (conn : Conn)
+      → Moves w w' own own' → ((e : ℕ) → conn.draft ≡ Some e → own ≡ Some e → ⊥) → LinkIs u w head awaiting conn
+      → LinkIs u w' head awaiting conn
+  link_moved w w' own own' head awaits.Head conn moves ne is = record {
+    rest = rest_same w w' conn.stream moves.grows.indexes ∙ is.rest;
+    draft = is.draft;
+    pending = is.pending;
+  }
+  link_moved w w' own own' head (awaits.Patch b left) conn moves ne is = record {
+    d = is.d;
+    asked = is.asked;
+    r = is.r;
+    p = is.p;
+    inside = inside_moved w w' conn head left is.asked moves.grows.indexes is.inside;
+    draft = is.draft;
+    pending = is.pending;
+    patches = patch_moved w w' own b is.d is.asked is.r is.p own' moves (ne is.d is.draft) is.patches;
+  }
+  link_moved w w' own own' head (awaits.Skip left) conn moves ne is = record {
+    asked = is.asked;
+    inside = inside_moved w w' conn head left is.asked moves.grows.indexes is.inside;
+    draft = is.draft;
+    pending = is.pending;
+  }
+  link_moved w w' own own' head (awaits.Text g left) conn moves ne is = record {
+    h = is.h;
+    rest = subst (RestIs head left) (sym (rest_same w w' conn.stream moves.grows.indexes)) is.rest;
+    draft = is.draft;
+    pending = is.pending;
+    gives = gives_more w w' g is.h moves.grows is.gives;
+  }
 
-  pub place_moved : (w w' : World) (own own' : Option ℕ) (place : Place B) (conn : Option Conn) → Moves w w' own own'
-      → ((e : ℕ) → draft_at conn ≡ Some e → own ≡ Some e → ⊥) → PlaceIs u w place conn → PlaceIs u w' place conn
-  place_moved w w' own own' Closed None moves ne is = tt
-  place_moved w w' own own' Closed (Some conn) moves ne is = absurd is
-  place_moved w w' own own' (Open k) None moves ne is = absurd is
-  place_moved w w' own own' (Open k) (Some conn) moves ne is =
-      link_moved w w' own own' (bytes_of k.head) k.left k.task conn moves ne is
+  pub place_moved : (w w' : World) (own own' : Option ℕ) (place : Option (Link B)) (conn : Option Conn)
+      → Moves w w' own own' → ((e : ℕ) → draft_at conn ≡ Some e → own ≡ Some e → ⊥) → PlaceIs u w place conn
+      → PlaceIs u w' place conn
+  place_moved w w' own own' None None moves ne is = tt
+  place_moved w w' own own' None (Some conn) moves ne is = absurd is
+  place_moved w w' own own' (Some k) None moves ne is = absurd is
+  place_moved w w' own own' (Some k) (Some conn) moves ne is =
+      link_moved w w' own own' (bytes_of k.head) k.awaiting conn moves ne is
 
-  task_draft : (w : World) (rest : Rest) (task : Task B) (draft : Option ℕ) (pending : Option Giving) (d : ℕ)
-      → TaskIs u w rest task draft pending → draft ≡ Some d
-      → (p : Patch) × (find d w.patches ≡ Some p)
-  task_draft w rest tasks.Idle None None d is e = absurd (cc)
-  task_draft w rest tasks.Idle None (Some h) d is e = absurd is
-  task_draft w rest tasks.Idle (Some x) pending d is e = absurd is
-  task_draft w rest (tasks.Patch b) None pending d is e = absurd is
-  task_draft w (InHead h) (tasks.Patch b) (Some x) None d is e = absurd is
-  task_draft w (InBody asked) (tasks.Patch b) (Some x) None d (r, p, is) e =
-      let f : x ≡ d = cc in (p, subst (λ n. find n w.patches ≡ Some p) f is.found)
-  task_draft w rest (tasks.Patch b) (Some x) (Some h) d is e = absurd is
-  task_draft w rest (tasks.Text g) None pending d is e = absurd (cc)
-  task_draft w rest (tasks.Text g) (Some x) pending d is e = absurd is
+  link_draft : (w : World) (head : List ℕ) (awaiting : Awaiting B) (conn : Conn) (d : ℕ) → LinkIs u w head awaiting conn
+      → conn.draft ≡ Some d → (p : Patch) × (find d w.patches ≡ Some p)
+  link_draft w head awaits.Head conn d is e = let x : None ≡ Some d = sym is.draft ∙ e in absurd (cc)
+  link_draft w head (awaits.Patch b left) conn d is e =
+      let x : Some is.d ≡ Some d = sym is.draft ∙ e in
+      let f : is.d ≡ d = cc in
+      (is.p, subst (λ n. find n w.patches ≡ Some is.p) f is.patches.found)
+  link_draft w head (awaits.Skip left) conn d is e = let x : None ≡ Some d = sym is.draft ∙ e in absurd (cc)
+  link_draft w head (awaits.Text g left) conn d is e = let x : None ≡ Some d = sym is.draft ∙ e in absurd (cc)
 
   -- a draft's patch is open
-  pub draft_found : (w : World) (place : Place B) (conn : Option Conn) (d : ℕ) → PlaceIs u w place conn
+  pub draft_found : (w : World) (place : Option (Link B)) (conn : Option Conn) (d : ℕ) → PlaceIs u w place conn
       → draft_at conn ≡ Some d
       → (p : Patch) × (find d w.patches ≡ Some p)
-  draft_found w Closed None d is e = absurd (cc)
-  draft_found w Closed (Some conn) d is e = absurd is
-  draft_found w (Open k) None d is e = absurd is
-  draft_found w (Open k) (Some conn) d is e =
-      task_draft w (cut (reader w) conn.stream).rest k.task conn.draft conn.pending d is.does e
+  draft_found w None None d is e = absurd (cc)
+  draft_found w None (Some conn) d is e = absurd is
+  draft_found w (Some k) None d is e = absurd is
+  draft_found w (Some k) (Some conn) d is e = link_draft w (bytes_of k.head) k.awaiting conn d is e

@@ -1,5 +1,5 @@
 -- From what a head comes to, to the turn's answer.
-use Rattle.std.proofs.Common.{ℕ, ◌+◌, ◌-◌, ◌≤◌, ◌≡◌, inl, inr, Bool, true, false, List, [], ◌++◌, Option, Some, None}
+use Rattle.std.proofs.Common.{ℕ, ◌+◌, ◌-◌, ◌≤◌, ◌≡◌, inl, inr, true, false, List, [], ◌++◌, Option, Some, None}
 use Rattle.std.proofs.Common.{length, take, drop, min, refl, sym, ◌∙◌, ap, subst, arith, append-nil, if◌then◌else◌}
 use Rattle.std.proofs.lemmas.Bool.{cases_lt}
 use Rattle.std.proofs.lemmas.List.{length-take-le, take_all, length-append, length-drop}
@@ -14,20 +14,16 @@ use Rattle.tus_request.specs.Steady.{IsSteady}
 use Rattle.upload_rules.specs.World.{World}
 use Rattle.upload_rules.specs.declared.uploads.Uploads.{Ghosts}
 use Rattle.tus_action.specs.Acts.{Acted, Giving, acted, is_pending}
-use Rattle.tus_session.specs.Streams.{InHead, InBody, Rest, Moments, cut}
+use Rattle.tus_session.specs.Streams.{InHead, InBody, Moments}
 use Rattle.tus_session.specs.Turns.{Conn, Turn, reader, turn_of, came_with, body_step, came_turn}
-use Rattle.tus_session.specs.History.{is_closed, has_text}
-use Rattle.tus_session.specs.Stands.{RestIs, draft_at}
 use Rattle.tus_session.specs.Heads.{InsideHead, IsWhole}
 use Rattle.tus_session.specs.Moves.{Moves}
 use Rattle.tus_session.specs.Turned.{TurnedAs}
-use Rattle.tus_session.specs.Bodies.{took}
+use Rattle.tus_session.specs.Bodies.{took, link_after}
 use Rattle.tus_session.specs.declared.answers.Answer as code
+use Rattle.tus_request.specs.declared.buffer.HeadBuffer.{HeadBuffer}
 use Rattle.tus_session.specs.declared.conns.Link.{Link}
-use Rattle.tus_session.specs.declared.conns.Task.TheVariants as tasks
-use Rattle.tus_session.specs.declared.conns.Place.{Place}
-use Rattle.tus_session.specs.declared.conns.Place.TheVariants.{Closed, Open}
-use Rattle.tus_session.proofs.BodyTold.{plain, idle_here, rest_same}
+use Rattle.tus_session.proofs.BodyTold.{plain, answered_here}
 use Rattle.tus_session.proofs.HeadTurns.{more_turn_is, head_within, front_judged, front_body, part_turn_is}
 use Rattle.tus_session.proofs.HeadTurns.{whole_turn_is}
 use Rattle.tus_session.proofs.NewRests.{head_more_rest, head_part_rest, head_whole_rest, drop_behind}
@@ -68,52 +64,22 @@ turn_plain k piece n a idle none =
     ap (λ d. T d a.pending) none ∙ ap (T None) idle
 
 module _ {U B : Type 0} (u : Ghosts U B) where
-  answered_as_turn : (store' : U) (place : Place B) (x : code.Answer) (old new : List ℕ) (w : World) (k : Link B)
-      (a : Acted) (s' : List ℕ) (rest : Rest) (n : ℕ)
-      → u.stands store' a.world → Moves w a.world None None
-      → place ≡ (if a.closes then Closed else Open (record k { task = tasks.Idle }))
-      → RestIs (bytes_of k.head) k.left rest
-      → (cut (reader w) s').rest ≡ rest → x ≡ took n a.closes → new ≡ old ++ a.bytes
-      → TurnedAs u store' place x old new w None (answered_turn a s' n)
-  answered_as_turn store' place x old new w k a s' rest n shown moves place_is kept here answer_is bytes = record {
-    shown = shown;
-    here = idle_here u a.world place k a.closes s' rest place_is kept
-        (rest_same w a.world s' moves.grows.indexes ∙ here);
-    moves = moves_as a.closes;
-    taken = ap (λ y. y.taken) answer_is;
-    closes = ap (λ y. y.closes) answer_is ∙ closes_is a.closes;
-    more = ap (λ y. y.more) answer_is ∙ more_is a.closes;
-    bytes = bytes;
-  }
-    where
-      moves_as : (c : Bool) → Moves w a.world None (draft_at (if c then None else Some (plain s' None)))
-      moves_as true = moves
-      moves_as false = moves
-
-      closes_is : (c : Bool) → c ≡ is_closed (if c then None else Some (plain s' None))
-      closes_is true = refl
-      closes_is false = refl
-
-      more_is : (c : Bool) → false ≡ has_text (if c then None else Some (plain s' None))
-      more_is true = refl
-      more_is false = refl
-
   -- the head isn't whole yet
-  pub more_told : (store : U) (place : Place B) (x : code.Answer) (out : List ℕ) (w : World) (conn : Conn)
-      (h bytes : List ℕ) (k : Link B) → u.stands store w → InsideHead w conn h
-      → reader w (h ++ bytes) ≡ More → place ≡ Open (record k { task = tasks.Idle }) → (bytes_of k.head) ≡ h ++ bytes
-      → k.left ≡ 0 → x ≡ took (length bytes) false
-      → TurnedAs u store place x out out w conn.draft (came_turn w conn bytes)
-  more_told store place x out w conn h bytes k stands inside more place_is head_is left_is answer_is =
+  pub more_told : (store : U) (x : code.Answer) (out : List ℕ) (w : World) (conn : Conn)
+      (h bytes : List ℕ) (head : HeadBuffer) → u.stands store w → InsideHead w conn h
+      → reader w (h ++ bytes) ≡ More → (bytes_of head) ≡ h ++ bytes → x ≡ took (length bytes) false
+      → TurnedAs u store (link_after head 0 false) x out out w conn.draft (came_turn w conn bytes)
+  more_told store x out w conn h bytes head stands inside more head_is answer_is =
       let a : Acted = record { world = w; draft = None; bytes = []; pending = None; closes = false } in
       let t : take (length bytes) bytes ≡ bytes = take_all (length bytes) bytes (omega arith) in
       let turn : came_turn w conn bytes ≡ answered_turn a (conn.stream ++ bytes) (length bytes) =
       more_turn_is w conn h inside bytes more ∙ ap (λ q. answered_turn a (conn.stream ++ q) (length bytes)) t in
       let here = head_more_rest (reader w) (is_steady w) conn.stream h inside.rest bytes more in
-      let now = answered_as_turn store place x out out w k a (conn.stream ++ bytes) (InHead (h ++ bytes)) (length bytes)
-      stands (still w None) place_is (head_is, left_is) here answer_is (sym (append-nil out)) in
-      subst (λ d. TurnedAs u store place x out out w d (came_turn w conn bytes)) (sym inside.draft)
-      (subst (TurnedAs u store place x out out w None) (sym turn) now)
+      let now = answered_here u store (link_after head 0 false) x out out [] w w None head 0 (length bytes) false
+      (conn.stream ++ bytes) (InHead (h ++ bytes)) stands (still w None) refl (head_is, refl) here answer_is
+      (sym (append-nil out)) in
+      subst (λ d. TurnedAs u store (link_after head 0 false) x out out w d (came_turn w conn bytes)) (sym inside.draft)
+      (subst (TurnedAs u store (link_after head 0 false) x out out w None) (sym turn) now)
 
   module _ (store' : U) (w : World) (conn : Conn) (h bytes : List ℕ) (n before : ℕ) (v : Verdict)
       (is : IsWhole w conn h bytes n before v) where
@@ -121,22 +87,21 @@ module _ {U B : Type 0} (u : Ghosts U B) where
     behind = drop before bytes
 
     -- what the head did is all: the rest of the body is dropped
-    pub no_patch_told : (place : Place B) (x : code.Answer) (old new : List ℕ) (k : Link B)
+    pub no_patch_told : (link : Option (Link B)) (x : code.Answer) (old new : List ℕ) (head : HeadBuffer)
         → u.stands store' (acted w v).world → Moves w (acted w v).world None None
         → (acted w v).draft ≡ None → (acted w v).pending ≡ None
-        → place ≡ (if (acted w v).closes then Closed else Open
-        (record k { left = body_length v - min (body_length v) (length behind); task = tasks.Idle })) → (bytes_of
-        k.head) ≡ []
+        → link ≡ link_after head (body_length v - min (body_length v) (length behind)) (acted w v).closes
+        → (bytes_of head) ≡ []
         → x ≡ took (before + min (body_length v) (length behind)) (acted w v).closes → new ≡ old ++ (acted w v).bytes
-        → TurnedAs u store' place x old new w conn.draft (came_turn w conn bytes)
-    no_patch_told place x old new k shown moves none idle place_is head_is answer_is bytes_are =
+        → TurnedAs u store' link x old new w conn.draft (came_turn w conn bytes)
+    no_patch_told link x old new head shown moves none idle link_is head_is answer_is bytes_are =
         let a = acted w v in
         let m = body_length v in
+        let left = m - min m (length behind) in
         let within = head_within w conn h is.inside bytes n before v is.judged is.before_is in
         let l : length behind ≡ length bytes - before = length-drop before bytes in
-        let k' : Link B = record k { left = m - min m (length behind) } in
-        subst (λ d. TurnedAs u store' place x old new w d (came_turn w conn bytes)) (sym is.inside.draft)
-        (elim (cases_lt (length behind) m) as (λ _. TurnedAs u store' place x old new w None (came_turn w conn bytes)) [
+        subst (λ d. TurnedAs u store' link x old new w d (came_turn w conn bytes)) (sym is.inside.draft)
+        (elim (cases_lt (length behind) m) as (λ _. TurnedAs u store' link x old new w None (came_turn w conn bytes)) [
           | inl few ↦
               let t : take (length bytes) bytes ≡ bytes = take_all (length bytes) bytes (omega arith) in
               let turn : came_turn w conn bytes ≡ answered_turn a (conn.stream ++ bytes) (length bytes) =
@@ -149,12 +114,12 @@ module _ {U B : Type 0} (u : Ghosts U B) where
               let lb : length (drop n (h ++ bytes)) ≡ length behind = ap length b in
               let here = head_part_rest (reader w) (is_steady w) conn.stream h is.inside.rest bytes n v is.judged
               (omega arith) in
-              let left_is : m - min m (length behind) ≡ m - length (drop n (h ++ bytes)) = omega arith in
+              let left_is : left ≡ m - length (drop n (h ++ bytes)) = omega arith in
               let count : before + min m (length behind) ≡ length bytes = omega arith in
-              let now = answered_as_turn store' place x old new w k' a (conn.stream ++ bytes)
-              (InBody (judged_as (h ++ bytes) n v)) (length bytes) shown moves place_is (head_is, left_is) here
+              let now = answered_here u store' link x old new a.bytes w a.world None head left (length bytes) a.closes
+              (conn.stream ++ bytes) (InBody (judged_as (h ++ bytes) n v)) shown moves link_is (head_is, left_is) here
               (answer_is ∙ ap (λ i. took i a.closes) count) bytes_are in
-              subst (TurnedAs u store' place x old new w None) (sym turn) now
+              subst (TurnedAs u store' link x old new w None) (sym turn) now
           | inr enough ↦
               let q = take (before + m) bytes in
               let turn : came_turn w conn bytes ≡ answered_turn a (conn.stream ++ q) (before + m) =
@@ -170,12 +135,12 @@ module _ {U B : Type 0} (u : Ghosts U B) where
               let all : length (drop n (h ++ q)) ≡ m = ap length b ∙ length-take-le m behind enough in
               let here = head_whole_rest (reader w) (is_steady w) conn.stream h is.inside.rest q n v
               (front_judged w conn h is.inside bytes n before v is.judged is.before_is m) all in
-              let left_is : m - min m (length behind) ≡ 0 = omega arith in
+              let left_is : left ≡ 0 = omega arith in
               let count : before + min m (length behind) ≡ before + m = omega arith in
-              let now = answered_as_turn store' place x old new w k' a (conn.stream ++ q) (InHead []) (before + m) shown
-              moves place_is (head_is, left_is) here
+              let now = answered_here u store' link x old new a.bytes w a.world None head left (before + m) a.closes
+              (conn.stream ++ q) (InHead []) shown moves link_is (head_is, left_is) here
               (answer_is ∙ ap (λ i. took i a.closes) count) bytes_are in
-              subst (TurnedAs u store' place x old new w None) (sym turn) now
+              subst (TurnedAs u store' link x old new w None) (sym turn) now
         ])
 
 -- WHAT READING TELLS
@@ -203,16 +168,15 @@ slice_rest before bytes =
 
 module _ {U B : Type 0} (u : Ghosts U B) (store' : U) (w : World) (conn : Conn) (h bytes : List ℕ) (n before : ℕ)
     (v : Verdict) (is : IsWhole w conn h bytes n before v) where
-  pub no_patch_len : (place : Place B) (x : code.Answer) (old new : List ℕ) (k : Link B) (len : ℕ)
+  pub no_patch_len : (link : Option (Link B)) (x : code.Answer) (old new : List ℕ) (head : HeadBuffer) (len : ℕ)
       → len ≡ length (drop before bytes)
       → u.stands store' (acted w v).world → Moves w (acted w v).world None None → (acted w v).draft ≡ None
       → (acted w v).pending ≡ None
-      → place ≡ (if (acted w v).closes then Closed else Open
-      (record k { left = body_length v - min (body_length v) len; task = tasks.Idle })) → (bytes_of k.head) ≡ []
+      → link ≡ link_after head (body_length v - min (body_length v) len) (acted w v).closes
+      → (bytes_of head) ≡ []
       → x ≡ took (before + min (body_length v) len) (acted w v).closes → new ≡ old ++ (acted w v).bytes
-      → TurnedAs u store' place x old new w conn.draft (came_turn w conn bytes)
-  no_patch_len place x old new k len len_is shown moves none idle place_is head_is answer_is bytes_are =
-      no_patch_told u store' w conn h bytes n before v is place x old new k shown moves none idle
-      (place_is ∙ ap (λ i. if (acted w v).closes then Closed else Open
-      (record k { left = body_length v - min (body_length v) i; task = tasks.Idle })) len_is)
+      → TurnedAs u store' link x old new w conn.draft (came_turn w conn bytes)
+  no_patch_len link x old new head len len_is shown moves none idle link_is head_is answer_is bytes_are =
+      no_patch_told u store' w conn h bytes n before v is link x old new head shown moves none idle
+      (link_is ∙ ap (λ i. link_after head (body_length v - min (body_length v) i) (acted w v).closes) len_is)
       head_is (answer_is ∙ ap (λ i. took (before + min (body_length v) i) (acted w v).closes) len_is) bytes_are

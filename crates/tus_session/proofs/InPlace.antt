@@ -1,5 +1,5 @@
 -- A connection in its place again, behind an event.
-use Rattle.std.proofs.Common.{◌≡◌, ◌≢◌, inl, inr, ℕ, zero, suc, ◌<◌, ◌≤◌, List, [], ◌∷◌, length, get_or, slice_set}
+use Rattle.std.proofs.Common.{◌≡◌, ◌≢◌, inl, inr, ℕ, ◌<◌, ◌≤◌, List, length, get_or, slice_set}
 use Rattle.std.proofs.Common.{Option, Some, None, refl, sym, ◌∙◌, ap, subst, arith, get_or-set_same, get_or-set_other}
 use Rattle.std.proofs.Common.{length-set}
 use Rattle.std.proofs.lemmas.Bool.Decides.{nat_tests}
@@ -14,8 +14,6 @@ use Rattle.tus_session.specs.Stands.{PlaceIs, draft_at, SessionStands}
 use Rattle.tus_session.specs.Moves.{Moves}
 use Rattle.tus_session.specs.Places.{IsPut, IsOpen}
 use Rattle.tus_session.specs.declared.conns.Link.{Link}
-use Rattle.tus_session.specs.declared.conns.Place.{Place}
-use Rattle.tus_session.specs.declared.conns.Place.TheVariants.{Closed, Open}
 use Rattle.tus_session.proofs.Frames.{place_moved, draft_found}
 
 pub conns_here : (conns : ℕ → Option Conn) (k : ℕ) (conn : Option Conn) → with_conn conns k conn k ≡ conn
@@ -25,32 +23,32 @@ pub conns_else : (conns : ℕ → Option Conn) (k j : ℕ) (conn : Option Conn) 
 conns_else conns k j conn ne = grind (arith, nat_tests)
 
 module _ {U B : Type 0} (u : Ghosts U B) where
-  module _ (places all : List (Place B)) (store store' : U) (st : State) (w' : World) (k : ℕ) (next : Place B)
+  module _ (places all : List (Option (Link B))) (store store' : U) (st : State) (w' : World) (k : ℕ) (next : Option (Link B))
       (conn' : Option Conn)
       (stands : SessionStands u places store st) (is_put : IsPut places all k next)
       (moves : Moves st.world w' (draft_at (st.conns k)) (draft_at conn')) (shown : u.stands store' w')
       (here : PlaceIs u w' next conn') where
-    each_there : (c : ℕ) → PlaceIs u w' (get_or all c Closed) (with_conn st.conns k conn' c)
+    each_there : (c : ℕ) → PlaceIs u w' (get_or all c None) (with_conn st.conns k conn' c)
     each_there c = elim (cases_eq c k) [
       | inl is ↦
-          let P : ℕ → Type 0 = λ i. PlaceIs u w' (get_or all i Closed) (with_conn st.conns k conn' i) in
-          let a : PlaceIs u w' (get_or all k Closed) conn' = subst (λ x. PlaceIs u w' x conn') (sym is_put.here) here in
-          let b : P k = subst (λ x. PlaceIs u w' (get_or all k Closed) x) (sym (conns_here st.conns k conn')) a in
+          let P : ℕ → Type 0 = λ i. PlaceIs u w' (get_or all i None) (with_conn st.conns k conn' i) in
+          let a : PlaceIs u w' (get_or all k None) conn' = subst (λ x. PlaceIs u w' x conn') (sym is_put.here) here in
+          let b : P k = subst (λ x. PlaceIs u w' (get_or all k None) x) (sym (conns_here st.conns k conn')) a in
           subst P (sym is) b
       | inr ne ↦
-          let a : PlaceIs u w' (get_or places c Closed) (st.conns c) =
-          place_moved u st.world w' (draft_at (st.conns k)) (draft_at conn') (get_or places c Closed) (st.conns c) moves
+          let a : PlaceIs u w' (get_or places c None) (st.conns c) =
+          place_moved u st.world w' (draft_at (st.conns k)) (draft_at conn') (get_or places c None) (st.conns c) moves
           (λ e f g. ne (stands.apart c k e f g)) (stands.each c) in
-          let b : PlaceIs u w' (get_or all c Closed) (st.conns c) =
+          let b : PlaceIs u w' (get_or all c None) (st.conns c) =
           subst (λ x. PlaceIs u w' x (st.conns c)) (sym (is_put.others c ne)) a in
-          subst (λ x. PlaceIs u w' (get_or all c Closed) x) (sym (conns_else st.conns k c conn' ne)) b
+          subst (λ x. PlaceIs u w' (get_or all c None) x) (sym (conns_else st.conns k c conn' ne)) b
     ]
 
     -- another connection's draft isn't the one that is here now
     not_both : (e d : ℕ) → e ≢ k → draft_at conn' ≡ Some d → draft_at (st.conns e) ≡ Some d → ⊥
     not_both e d ne f g = elim (moves.fresh d f) [
       | inl own ↦ ne (stands.apart e k d g own)
-      | inr none ↦ let p = draft_found u st.world (get_or places e Closed) (st.conns e) d (stands.each e)
+      | inr none ↦ let p = draft_found u st.world (get_or places e None) (st.conns e) d (stands.each e)
           g in let x : Some p.0 ≡ None = sym p.1 ∙ none in absurd (cc)
     ]
 
@@ -97,78 +95,63 @@ module _ {U B : Type 0} (u : Ghosts U B) where
       owned = owned_there;
     }
 
-  pub is_set : (places : List (Place B)) (k : ℕ) (next : Place B) → k < length places
+  pub is_set : (places : List (Option (Link B))) (k : ℕ) (next : Option (Link B)) → k < length places
       → IsPut places (slice_set places k next) k next
   is_set places k next lt = record {
     count = length-set places k next;
-    here = get_or-set_same places k next Closed lt;
-    others = λ j ne. get_or-set_other places k j next Closed ne;
+    here = get_or-set_same places k next None lt;
+    others = λ j ne. get_or-set_other places k j next None ne;
   }
 
   -- a place is taken, and gets this
-  pub is_put_back : (places taken : List (Place B)) (k : ℕ) (next : Place B) → IsPut places taken k Closed
+  pub is_put_back : (places taken : List (Option (Link B))) (k : ℕ) (next : Option (Link B)) → IsPut places taken k None
       → k < length taken → IsPut places (slice_set taken k next) k next
   is_put_back places taken k next is lt = record {
     count = length-set taken k next ∙ is.count;
-    here = get_or-set_same taken k next Closed lt;
-    others = λ j ne. get_or-set_other taken k j next Closed ne ∙ is.others j ne;
+    here = get_or-set_same taken k next None lt;
+    others = λ j ne. get_or-set_other taken k j next None ne ∙ is.others j ne;
   }
 
   -- what a connection's place tells
-  pub place_at : (places : List (Place B)) (store : U) (st : State) (k : ℕ) (x : Place B)
+  pub place_at : (places : List (Option (Link B))) (store : U) (st : State) (k : ℕ) (x : Option (Link B))
       → SessionStands u places store st → k < length places
       → x ≡ get_or places k x → PlaceIs u st.world x (st.conns k)
   place_at places store st k x stands lt e =
-      subst (λ y. PlaceIs u st.world y (st.conns k)) (sym (e ∙ get_or-any places k x Closed lt)) (stands.each k)
+      subst (λ y. PlaceIs u st.world y (st.conns k)) (sym (e ∙ get_or-any places k x None lt)) (stands.each k)
     where
-      get_or-any : (xs : List (Place B)) (i : ℕ) (a b : Place B) → i < length xs → get_or xs i a ≡ get_or xs i b
+      get_or-any : (xs : List (Option (Link B))) (i : ℕ) (a b : Option (Link B)) → i < length xs → get_or xs i a ≡ get_or xs i b
       get_or-any xs i a b lt = grind (arith, common_steps)
 
-  closed_none : (w : World) (conn : Option Conn) → PlaceIs u w Closed conn → conn ≡ None
+  closed_none : (w : World) (conn : Option Conn) → PlaceIs u w None conn → conn ≡ None
   closed_none w None is = refl
   closed_none w (Some k) is = absurd is
 
-  past : (places : List (Place B)) (k : ℕ) → length places ≤ k → get_or places k Closed ≡ Closed
+  past : (places : List (Option (Link B))) (k : ℕ) → length places ≤ k → get_or places k None ≡ None
   past places k le = grind (arith, common_steps)
 
   -- no connection is open beyond the places
-  pub beyond : (places : List (Place B)) (store : U) (st : State) (k : ℕ) → SessionStands u places store st
+  pub beyond : (places : List (Option (Link B))) (store : U) (st : State) (k : ℕ) → SessionStands u places store st
       → length places ≤ k → st.conns k ≡ None
   beyond places store st k stands le =
       closed_none st.world (st.conns k)
       (subst (λ y. PlaceIs u st.world y (st.conns k)) (past places k le) (stands.each k))
 
-  pub closed_at : (places : List (Place B)) (store : U) (st : State) (k : ℕ) (x : Place B)
+  pub closed_at : (places : List (Option (Link B))) (store : U) (st : State) (k : ℕ) (x : Option (Link B))
       → SessionStands u places store st → k < length places
-      → x ≡ get_or places k x → x ≡ Closed → st.conns k ≡ None
+      → x ≡ get_or places k x → x ≡ None → st.conns k ≡ None
   closed_at places store st k x stands lt e is =
       closed_none st.world (st.conns k)
       (subst (λ y. PlaceIs u st.world y (st.conns k)) is (place_at places store st k x stands lt e))
 
-  some_conn : (w : World) (k : Link B) (conn : Option Conn) → PlaceIs u w (Open k) conn → (c : Conn) × (conn ≡ Some c)
+  some_conn : (w : World) (k : Link B) (conn : Option Conn) → PlaceIs u w (Some k) conn → (c : Conn) × (conn ≡ Some c)
   some_conn w k None is = absurd is
   some_conn w k (Some c) is = (c, refl)
 
-  pub open_at : (places : List (Place B)) (store : U) (st : State) (c : ℕ) (x : Place B) (k : Link B)
+  pub open_at : (places : List (Option (Link B))) (store : U) (st : State) (c : ℕ) (x : Option (Link B)) (k : Link B)
       → SessionStands u places store st → c < length places
-      → x ≡ get_or places c x → x ≡ Open k → IsOpen u st c k
+      → x ≡ get_or places c x → x ≡ Some k → IsOpen u st c k
   open_at places store st c x k stands lt e is =
-      let at : PlaceIs u st.world (Open k) (st.conns c) =
+      let at : PlaceIs u st.world (Some k) (st.conns c) =
       subst (λ y. PlaceIs u st.world y (st.conns c)) is (place_at places store st c x stands lt e) in
       let some = some_conn st.world k (st.conns c) at in
-      (some.0, some.1, subst (λ o. PlaceIs u st.world (Open k) o) some.1 at)
-
-set_same : {A : Type 0} (xs : List A) (c : ℕ) (x : A) → get_or xs c x ≡ x → slice_set xs c x ≡ xs
-set_same [] c x e = refl
-set_same (y ∷ xs) zero x e = ap (λ z. z ∷ xs) (sym e)
-set_same (y ∷ xs) (suc c) x e = ap (λ zs. y ∷ zs) (set_same xs c x e)
-
-module _ {U B : Type 0} (u : Ghosts U B) where
-  -- a closed place is closed again
-  pub closed_again : (places : List (Place B)) (store : U) (st : State) (c : ℕ) (x y : Place B)
-      → SessionStands u places store st → c < length places
-      → x ≡ get_or places c x → x ≡ Closed → y ≡ Closed → SessionStands u (slice_set places c y) store st
-  closed_again places store st c x y stands lt e is again =
-      let here : get_or places c Closed ≡ Closed = subst (λ z. get_or places c z ≡ z) is (sym e) in
-      subst (λ z. SessionStands u (slice_set places c z) store st) (sym again)
-      (subst (λ ps. SessionStands u ps store st) (sym (set_same places c Closed here)) stands)
+      (some.0, some.1, subst (λ o. PlaceIs u st.world (Some k) o) some.1 at)

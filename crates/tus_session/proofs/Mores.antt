@@ -1,6 +1,6 @@
 -- The next piece of a text.
 use Rattle.std.proofs.Common.{◌≡◌, ℕ, Bool, true, false, List, [], ◌++◌, Option, Some, None, Err, refl, sym, ◌∙◌}
-use Rattle.std.proofs.Common.{ap, subst, append-nil, if◌then◌else◌}
+use Rattle.std.proofs.Common.{ap, subst, append-nil}
 use Rattle.tus_request.specs.Buffers.{bytes_of}
 use Rattle.upload_rules.specs.Store.{Store, Upload, upload_of}
 use Rattle.upload_rules.specs.World.{World}
@@ -9,20 +9,21 @@ use Rattle.tus_action.specs.Acts.{Giving, is_pending, pending_after, piece_of}
 use Rattle.tus_action.specs.Serves.{GivingIs, IsGiven, Gives}
 use Rattle.tus_action.specs.declared.acts.Giving as given
 use Rattle.tus_action.specs.declared.acts.Given.TheVariants.{Piece, Last, Gone}
-use Rattle.tus_session.specs.Streams.{Rest, cut}
+use Rattle.tus_session.specs.Streams.{cut}
 use Rattle.tus_session.specs.Turns.{Conn, Turn, reader, left_world, given_up, give_on, more_on, more_turn}
-use Rattle.tus_session.specs.Stands.{TaskIs, LinkIs}
+use Rattle.tus_session.specs.Stands.{IsGivingText, LinkIs}
 use Rattle.tus_session.specs.Moves.{Moves}
 use Rattle.tus_session.specs.Turned.{TurnedAs, Turned}
 use Rattle.tus_action.specs.declared.acts.Stop.{Stop}
 use Rattle.tus_action.specs.declared.acts.Stop.TheVariants as stops
+use Rattle.tus_request.specs.declared.buffer.HeadBuffer.{HeadBuffer}
+use Rattle.tus_session.specs.Bodies.{link_after}
+use Rattle.tus_session.specs.declared.answers.Answer.{Answer}
+use Rattle.tus_session.specs.declared.conns.Awaiting.{Awaiting}
+use Rattle.tus_session.specs.declared.conns.Awaiting.TheVariants as awaits
 use Rattle.tus_session.specs.declared.conns.Link.{Link}
-use Rattle.tus_session.specs.declared.conns.Place.{Place}
-use Rattle.tus_session.specs.declared.conns.Place.TheVariants.{Closed, Open}
-use Rattle.tus_session.specs.declared.conns.Task.{Task}
-use Rattle.tus_session.specs.declared.conns.Task.TheVariants as tasks
+use Rattle.tus_session.proofs.BodyTold.{answered_here}
 use Rattle.tus_session.proofs.Opening.{still}
-use Rattle.tus_session.proofs.Tasks.{IsGivingText}
 
 abbrev unmoved_turn : World → Conn → Turn
 unmoved_turn w conn = record { world = w; conn = Some conn; bytes = []; taken = 0 }
@@ -55,8 +56,8 @@ more_gone_is w conn h e none = sym (ap (more_on w conn) e ∙ ap (give_on w conn
 module _ {U B : Type 0} (u : Ghosts U B) where
   -- a connection stays as it is, and nothing is given
   pub stays : (store : U) (w : World) (k : Link B) (conn : Conn) (more : Bool) (out : List ℕ) → u.stands store w
-      → LinkIs u w (bytes_of k.head) k.left k.task conn
-      → more ≡ is_pending conn.pending → TurnedAs u store (Open k) (record {
+      → LinkIs u w (bytes_of k.head) k.awaiting conn
+      → more ≡ is_pending conn.pending → TurnedAs u store (Some k) (record {
         taken = 0;
         closes = false;
         more = more;
@@ -71,57 +72,44 @@ module _ {U B : Type 0} (u : Ghosts U B) where
     bytes = sym (append-nil out);
   }
 
-  no_text : (w : World) (rest : Rest) (task : Task B) (draft : Option ℕ) (pending : Option Giving)
-      → TaskIs u w rest task draft pending
-      → ((g : given.Giving) → task ≡ tasks.Text g → ⊥) → pending ≡ None
-  no_text w rest tasks.Idle None None is not = refl
-  no_text w rest tasks.Idle None (Some h) is not = absurd is
-  no_text w rest tasks.Idle (Some d) pending is not = absurd is
-  no_text w rest (tasks.Patch b) None pending is not = absurd is
-  no_text w rest (tasks.Patch b) (Some d) None is not = refl
-  no_text w rest (tasks.Patch b) (Some d) (Some h) is not = absurd is
-  no_text w rest (tasks.Text g) draft pending is not = absurd (not g refl)
+  no_text : (w : World) (head : List ℕ) (awaiting : Awaiting B) (conn : Conn) → LinkIs u w head awaiting conn
+      → ((g : given.Giving) (left : ℕ) → awaiting ≡ awaits.Text g left → ⊥) → conn.pending ≡ None
+  no_text w head awaits.Head conn is not = is.pending
+  no_text w head (awaits.Patch b left) conn is not = is.pending
+  no_text w head (awaits.Skip left) conn is not = is.pending
+  no_text w head (awaits.Text g left) conn is not = absurd (not g left refl)
 
   -- no text is to be given
   pub more_nothing : (store : U) (w : World) (k : Link B) (conn : Conn) (out : List ℕ) → u.stands store w
-      → LinkIs u w (bytes_of k.head) k.left k.task conn
-      → ((g : given.Giving) → k.task ≡ tasks.Text g → ⊥)
-      → TurnedAs u store (Open k) (record {
+      → LinkIs u w (bytes_of k.head) k.awaiting conn
+      → ((g : given.Giving) (left : ℕ) → k.awaiting ≡ awaits.Text g left → ⊥)
+      → TurnedAs u store (Some k) (record {
         taken = 0;
         closes = false;
         more = false;
       }) out out w conn.draft (more_turn w conn)
   more_nothing store w k conn out stands link not =
-      let none = no_text w (cut (reader w) conn.stream).rest k.task conn.draft conn.pending link.does not in
-      subst (TurnedAs u store (Open k) (record { taken = 0; closes = false; more = false }) out out w conn.draft)
+      let none = no_text w (bytes_of k.head) k.awaiting conn link not in
+      subst (TurnedAs u store (Some k) (record { taken = 0; closes = false; more = false }) out out w conn.draft)
       (more_none_is w conn none)
       (stays store w k conn false out stands link (sym (ap is_pending none)))
 
-  text_stays : (w : World) (rest : Rest) (g : given.Giving) (h : Giving) (draft : Option ℕ) → draft ≡ None
-      → GivingIs w.store (Some g) (Some h) → TaskIs u w rest (tasks.Text g) draft (Some h)
-  text_stays w rest g h draft e is = subst (λ d. TaskIs u w rest (tasks.Text g) d (Some h)) (sym e) is
+  module _ (store : U) (w : World) (head : HeadBuffer) (conn : Conn) (g : given.Giving) (left : ℕ)
+      (stands : u.stands store w) (is : IsGivingText w conn (bytes_of head) g left) where
+    abbrev gave : Bool → Bool → Answer
+    gave closes more = record { taken = 0; closes = closes; more = more }
 
-  idle_stays : (w : World) (rest : Rest) (draft : Option ℕ) → draft ≡ None → TaskIs u w rest tasks.Idle draft None
-  idle_stays w rest draft e = subst (λ d. TaskIs u w rest tasks.Idle d None) (sym e) tt
+    abbrev text_link : given.Giving → Option (Link B)
+    text_link rest = Some (record { head = head; awaiting = awaits.Text rest left })
 
-  module _ (store : U) (w : World) (k : Link B) (conn : Conn) (g : given.Giving) (stands : u.stands store w)
-      (link : LinkIs u w (bytes_of k.head) k.left k.task conn)
-      (is : IsGivingText w g conn.draft conn.pending) where
     some_turned : (old new : List ℕ) (rest : given.Giving) (pending : Option Giving)
         → GivingIs w.store (Some rest) pending → new ≡ old ++ piece_of is.h
-        → TurnedAs u store (Open (record k { task = tasks.Text rest })) (record {
-          taken = 0;
-          closes = false;
-          more = true;
-        }) old new w conn.draft
+        → TurnedAs u store (text_link rest) (gave false true) old new w conn.draft
         (record { world = w; conn = given_up conn is.h.closes pending; bytes = piece_of is.h; taken = 0 })
     some_turned old new rest None given e = absurd given
     some_turned old new rest (Some h) given e = record {
       shown = stands;
-      here = record {
-        kept = link.kept;
-        does = text_stays w (cut (reader w) conn.stream).rest rest h conn.draft is.draft_is given;
-      };
+      here = record { h = h; rest = is.rest; draft = is.draft; pending = refl; gives = given };
       moves = still w conn.draft;
       taken = refl;
       closes = refl;
@@ -132,92 +120,42 @@ module _ {U B : Type 0} (u : Ghosts U B) where
     -- more of the text is left
     pub more_some : (old new : List ℕ) (rest : given.Giving) (up : Upload) → upload_of w.store is.h.number ≡ Some up
         → GivingIs w.store (Some rest) (pending_after is.h) → new ≡ old ++ piece_of is.h
-        → TurnedAs u store (Open (record k { task = tasks.Text rest })) (record {
-          taken = 0;
-          closes = false;
-          more = true;
-        }) old new w conn.draft (more_turn w conn)
+        → TurnedAs u store (text_link rest) (gave false true) old new w conn.draft (more_turn w conn)
     more_some old new rest up there given e =
-        subst (TurnedAs u store (Open (record k { task = tasks.Text rest }))
-        (record { taken = 0; closes = false; more = true }) old new w conn.draft)
-        (more_some_is w conn is.h up is.pending_is there) (some_turned old new rest (pending_after is.h) given e)
-
-    abbrev pub idle_place : Bool → Place B
-    idle_place closes = if closes then Closed else Open (record k { task = tasks.Idle })
-
-    none_closes : (old new : List ℕ) (closes : Bool) → new ≡ old ++ piece_of is.h
-        → TurnedAs u store (idle_place closes) (record {
-          taken = 0;
-          closes = closes;
-          more = false;
-        }) old new w conn.draft
-        (record { world = w; conn = given_up conn closes None; bytes = piece_of is.h; taken = 0 })
-    none_closes old new true e = record {
-      shown = stands;
-      here = tt;
-      moves = subst (λ o. Moves w w o None) (sym is.draft_is) (still w None);
-      taken = refl;
-      closes = refl;
-      more = refl;
-      bytes = e;
-    }
-    none_closes old new false e = record {
-      shown = stands;
-      here = record { kept = link.kept; does = idle_stays w (cut (reader w) conn.stream).rest conn.draft is.draft_is };
-      moves = still w conn.draft;
-      taken = refl;
-      closes = refl;
-      more = refl;
-      bytes = e;
-    }
+        subst (TurnedAs u store (text_link rest) (gave false true) old new w conn.draft)
+        (more_some_is w conn is.h up is.pending there) (some_turned old new rest (pending_after is.h) given e)
 
     none_turned : (old new : List ℕ) (closes : Bool) (pending : Option Giving) → GivingIs w.store None pending
-        → closes ≡ is.h.closes → new ≡ old ++ piece_of is.h
-        → TurnedAs u store (idle_place closes) (record {
-          taken = 0;
-          closes = closes;
-          more = false;
-        }) old new w conn.draft
-        (record { world = w; conn = given_up conn is.h.closes pending; bytes = piece_of is.h; taken = 0 })
-    none_turned old new closes (Some h) given same e = absurd given
-    none_turned old new closes None given same e =
-        subst (λ b. TurnedAs u store (idle_place closes) (record { taken = 0; closes = closes; more = false }) old new w
-        conn.draft
-        (record {
-          world = w;
-          conn = given_up conn b None;
-          bytes = piece_of is.h;
-          taken = 0;
-        })) same (none_closes old new closes e)
+        → new ≡ old ++ piece_of is.h
+        → TurnedAs u store (link_after head left closes) (gave closes false) old new w conn.draft
+        (record { world = w; conn = given_up conn closes pending; bytes = piece_of is.h; taken = 0 })
+    none_turned old new closes (Some h) given e = absurd given
+    none_turned old new closes None given e =
+        subst (λ d. TurnedAs u store (link_after head left closes) (gave closes false) old new w d
+        (record { world = w; conn = given_up (record conn { draft = d }) closes None; bytes = piece_of is.h; taken = 0 }))
+        (sym is.draft)
+        (answered_here u store (link_after head left closes) (gave closes false) old new (piece_of is.h) w w None head
+        left 0 closes conn.stream (cut (reader w) conn.stream).rest stands (still w None) refl is.rest refl refl e)
 
     -- the text is given
     pub more_done : (old new : List ℕ) (up : Upload) → upload_of w.store is.h.number ≡ Some up
         → pending_after is.h ≡ None → new ≡ old ++ piece_of is.h
-        → TurnedAs u store (idle_place g.closes) (record {
-          taken = 0;
-          closes = g.closes;
-          more = false;
-        }) old new w conn.draft (more_turn w conn)
+        → TurnedAs u store (link_after head left g.closes) (gave g.closes false) old new w conn.draft (more_turn w conn)
     more_done old new up there last e =
-        subst (TurnedAs u store (idle_place g.closes) (record { taken = 0; closes = g.closes; more = false }) old new w
-        conn.draft)
-        (more_some_is w conn is.h up is.pending_is there)
-        (none_turned old new g.closes (pending_after is.h) (subst (GivingIs w.store None) (sym last) tt) is.gives.closes
-        e)
+        subst (TurnedAs u store (link_after head left g.closes) (gave g.closes false) old new w conn.draft)
+        (ap (λ c. record { world = w; conn = given_up conn c (pending_after is.h); bytes = piece_of is.h; taken = 0 })
+        is.gives.closes ∙ more_some_is w conn is.h up is.pending there)
+        (none_turned old new g.closes (pending_after is.h) (subst (GivingIs w.store None) (sym last) tt) e)
 
     -- the upload was deleted
     pub more_gone : (old new : List ℕ) → upload_of w.store is.h.number ≡ None → new ≡ old
-        → TurnedAs u store Closed (record {
-          taken = 0;
-          closes = true;
-          more = false;
-        }) old new w conn.draft (more_turn w conn)
+        → TurnedAs u store None (gave true false) old new w conn.draft (more_turn w conn)
     more_gone old new none e =
-        subst (TurnedAs u store Closed (record { taken = 0; closes = true; more = false }) old new w conn.draft)
-        (more_gone_is w conn is.h is.pending_is none) (record {
+        subst (TurnedAs u store None (gave true false) old new w conn.draft)
+        (more_gone_is w conn is.h is.pending none) (record {
           shown = stands;
           here = tt;
-          moves = subst (λ o. Moves w w o None) (sym is.draft_is) (still w None);
+          moves = subst (λ o. Moves w w o None) (sym is.draft) (still w None);
           taken = refl;
           closes = refl;
           more = refl;
@@ -226,12 +164,12 @@ module _ {U B : Type 0} (u : Ghosts U B) where
 
 module _ {U B : Type 0} (u : Ghosts U B) where
   -- nothing was given, and the connection closes
-  pub more_stopped : (store : U) (w : World) (conn : Conn) (g : given.Giving)
-      (is : IsGivingText w g conn.draft conn.pending) (e : Stop) (old new : List ℕ) (t : Turn)
+  pub more_stopped : (store : U) (w : World) (conn : Conn) (head : List ℕ) (g : given.Giving) (left : ℕ)
+      (is : IsGivingText w conn head g left) (e : Stop) (old new : List ℕ) (t : Turn)
       → Gives u store (Err e) old new w is.h → Turned u store (Err e) old new w conn.draft t
-  more_stopped store w conn g is stops.NoMemory old new t (there, shown, same) =
-      (subst (λ o. u.stands store (left_world w o)) (sym is.draft_is) shown, same)
-  more_stopped store w conn g is stops.DiskFault old new t (there, same) = same
+  more_stopped store w conn head g left is stops.NoMemory old new t (there, shown, same) =
+      (subst (λ o. u.stands store (left_world w o)) (sym is.draft) shown, same)
+  more_stopped store w conn head g left is stops.DiskFault old new t (there, same) = same
 
 -- WHAT WAS GIVEN TELLS OF THE UPLOAD
 

@@ -1,7 +1,7 @@
 -- A connection is opened; a session begins.
 use Rattle.std.proofs.Common.{◌≡◌, ◌⊎◌, inl, inr, ℕ, zero, suc, ◌<◌, ◌≤◌, Bool, true, false, List, [], ◌∷◌, ◌++◌}
 use Rattle.std.proofs.Common.{length, get_or, slice_set, Option, Some, None, refl, sym, ◌∙◌, ap, subst}
-use Rattle.std.proofs.Common.{arith, nat_lt, append-nil}
+use Rattle.std.proofs.Common.{arith, nat_lt, append-nil, is_some}
 use Rattle.std.proofs.lemmas.Bool.{lt-ltb, le-ltb, cases_eq}
 use Rattle.tus_request.specs.Buffers.{bytes_of}
 use Rattle.enc_model.specs.Indexes.{offers}
@@ -9,21 +9,20 @@ use Rattle.tus_request.proofs.Fronts.{steady}
 use Rattle.upload_rules.specs.Store.{Upload, Store, find, text_of}
 use Rattle.upload_rules.specs.World.{Patch, World, at_rest}
 use Rattle.upload_rules.specs.declared.uploads.Uploads.{Ghosts}
-use Rattle.tus_session.specs.Streams.{InHead, cut}
+use Rattle.tus_session.specs.Streams.{InHead}
 use Rattle.tus_session.specs.Turns.{Conn, fresh, reader}
 use Rattle.tus_session.specs.History.{State, Opened, Served, Done, Refused, put, opened_at, beginning, step, Step}
 use Rattle.tus_session.specs.History.{most_open, opened_if}
-use Rattle.tus_session.specs.Stands.{RestIs, TaskIs, PlaceIs, draft_at, SessionStands}
+use Rattle.tus_session.specs.Stands.{PlaceIs, draft_at, SessionStands}
 use Rattle.tus_session.specs.Moves.{Longer, Grows, Moves}
 use Rattle.tus_session.specs.Told.{Follows}
-use Rattle.tus_session.specs.declared.conns.Task.TheVariants as tasks
+use Rattle.tus_request.specs.declared.buffer.HeadBuffer.{HeadBuffer}
+use Rattle.tus_session.specs.declared.conns.Awaiting.TheVariants as awaits
 use Rattle.tus_session.specs.declared.conns.Link.{Link}
-use Rattle.tus_session.specs.declared.conns.Place.{Place}
-use Rattle.tus_session.specs.declared.conns.Place.TheVariants.{Closed, Open}
 use Rattle.tus_session.specs.declared.errors.SessionError.TheVariants.{TooMany}
 use Rattle.tus_session.proofs.Unfinished.{empty_cut}
 use Rattle.tus_session.proofs.Growth.{patched_nothing}
-use Rattle.tus_session.proofs.InPlace.{in_place, is_set, beyond, open_at}
+use Rattle.tus_session.proofs.InPlace.{in_place, is_set, beyond, open_at, closed_at}
 
 -- the same upload
 pub same_longer : (m m' : Store) (up : Upload) → m'.indexes ≡ m.indexes → Longer m m' up up
@@ -58,46 +57,43 @@ still w own = record {
 }
 
 module _ {U B : Type 0} (u : Ghosts U B) where
-  new_place : (w : World) (k : Link B) → (bytes_of k.head) ≡ [] → k.left ≡ 0 → k.task ≡ tasks.Idle
-      → PlaceIs u w (Open k) (Some fresh)
-  new_place w k e f g =
-      let c : InHead [] ≡ (cut (reader w) []).rest =
-      sym (ap (λ x. x.rest) (empty_cut (reader w) (steady (offers w.store.indexes)))) in
-      let a : RestIs (bytes_of k.head) k.left (InHead []) = (e, f) in
-      let t : TaskIs u w (InHead []) k.task None None = subst (λ x. TaskIs u w (InHead []) x None None) (sym g) tt in
-      record {
-        kept = subst (RestIs (bytes_of k.head) k.left) c a;
-        does = subst (λ r. TaskIs u w r k.task None None) c t;
-      }
+  new_place : (w : World) (head : HeadBuffer) → (bytes_of head) ≡ []
+      → PlaceIs u w (Some (record { head = head; awaiting = awaits.Head })) (Some fresh)
+  new_place w head e = record {
+    rest = ap (λ x. x.rest) (empty_cut (reader w) (steady (offers w.store.indexes))) ∙ ap InHead (sym e);
+    draft = refl;
+    pending = refl;
+  }
 
-  opened_step : (places : List (Place B)) (store : U) (st : State) (c : ℕ) (k : Link B)
+  opened_step : (places : List (Option (Link B))) (store : U) (st : State) (c : ℕ) (head : HeadBuffer)
       → SessionStands u places store st → c < length places → (o : Option Conn)
-      → st.conns c ≡ o → o ≡ None → (bytes_of k.head) ≡ [] → k.left ≡ 0 → k.task ≡ tasks.Idle
-      → Follows u (slice_set places c (Open k)) store (opened_at st c o).state (opened_at st c o).outcome Done
-  opened_step places store st c k stands lt (Some conn) is none e f g = absurd (cc)
-  opened_step places store st c k stands lt None is none e f g =
+      → st.conns c ≡ o → o ≡ None → (bytes_of head) ≡ []
+      → Follows u (slice_set places c (Some (record { head = head; awaiting = awaits.Head }))) store
+      (opened_at st c o).state (opened_at st c o).outcome Done
+  opened_step places store st c head stands lt (Some conn) is none e = absurd (cc)
+  opened_step places store st c head stands lt None is none e =
+      let k : Link B = record { head = head; awaiting = awaits.Head } in
       let n : nat_lt c most_open ≡ true = lt-ltb c most_open (omega (arith, stands.count)) in
       let d : None ≡ draft_at (st.conns c) = ap draft_at (sym is) in
       let moves : Moves st.world st.world (draft_at (st.conns c)) None =
       subst (λ o. Moves st.world st.world o None) d (still st.world None) in
-      let s : SessionStands u (slice_set places c (Open k)) store (put st st.world c (Some fresh)) =
-      in_place u places (slice_set places c (Open k)) store store st st.world c (Open k) (Some fresh) stands
-      (is_set u places c (Open k) lt) moves stands.shown (new_place st.world k e f g) in
+      let s : SessionStands u (slice_set places c (Some k)) store (put st st.world c (Some fresh)) =
+      in_place u places (slice_set places c (Some k)) store store st st.world c (Some k) (Some fresh) stands
+      (is_set u places c (Some k) lt) moves stands.shown (new_place st.world head e) in
       let P : Bool → Type 0 = λ b. let x : Step = opened_if st c b in
-      Follows u (slice_set places c (Open k)) store x.state x.outcome Done in
+      Follows u (slice_set places c (Some k)) store x.state x.outcome Done in
       let now : P true = record { stands = s; outcome = refl } in
       subst P (sym n) now
 
-  pub opened : (places : List (Place B)) (store : U) (st : State) (c : ℕ) (k : Link B) → SessionStands u places store st
-      → c < length places → st.conns c ≡ None
-      → (bytes_of k.head) ≡ [] → k.left ≡ 0 → k.task ≡ tasks.Idle
-      → Follows u (slice_set places c (Open k)) store (step st (Opened c) Served).state
-      (step st (Opened c) Served).outcome Done
+  pub opened : (places : List (Option (Link B))) (store : U) (st : State) (c : ℕ) (head : HeadBuffer)
+      → SessionStands u places store st → c < length places → st.conns c ≡ None → (bytes_of head) ≡ []
+      → Follows u (slice_set places c (Some (record { head = head; awaiting = awaits.Head }))) store
+      (step st (Opened c) Served).state (step st (Opened c) Served).outcome Done
   unfolding step
-  opened places store st c k stands lt none e f g =
-      opened_step places store st c k stands lt (st.conns c) refl none e f g
+  opened places store st c head stands lt none e =
+      opened_step places store st c head stands lt (st.conns c) refl none e
 
-  pub not_below : (places : List (Place B)) (store : U) (st : State) (c : ℕ) → SessionStands u places store st
+  pub not_below : (places : List (Option (Link B))) (store : U) (st : State) (c : ℕ) → SessionStands u places store st
       → length places ≤ c
       → Follows u places store st (step st (Opened c) Served).outcome (Refused TooMany)
   unfolding step
@@ -111,21 +107,28 @@ module _ {U B : Type 0} (u : Ghosts U B) where
       let later : Q None = subst P (sym n) now in
       subst Q (sym none) later
 
-  pub is_open : (places : List (Place B)) (store : U) (st : State) (c : ℕ) (x : Place B) (k : Link B)
+  pub is_open : (places : List (Option (Link B))) (store : U) (st : State) (c : ℕ) (x : Option (Link B))
       → SessionStands u places store st → c < length places
-      → x ≡ get_or places c x → x ≡ Open k → Follows u places store st (step st (Opened c) Served).outcome
+      → x ≡ get_or places c x → is_some x ≡ true → Follows u places store st (step st (Opened c) Served).outcome
       (Refused TooMany)
   unfolding step
-  is_open places store st c x k stands lt e is =
-      let o = open_at u places store st c x k stands lt e is in
+  is_open places store st c None stands lt e is = absurd (cc)
+  is_open places store st c (Some k) stands lt e is =
+      let o = open_at u places store st c (Some k) k stands lt e refl in
       let Q : Option Conn → Type 0 = λ o. Follows u places store st (opened_at st c o).outcome (Refused TooMany) in
       let now : Q (Some o.0) = record { stands = stands; outcome = refl } in
       subst Q (sym o.1) now
 
-  -- so many closed places
-  pub begun : (places : List (Place B)) (store : U) (m : Store) (blocks : Option ℕ) → u.stands store (at_rest m blocks)
-      → length places ≡ most_open
-      → ((c : ℕ) → get_or places c Closed ≡ Closed) → SessionStands u places store (beginning m blocks)
+  pub not_open : (places : List (Option (Link B))) (store : U) (st : State) (c : ℕ) (x : Option (Link B))
+      → SessionStands u places store st → c < length places
+      → x ≡ get_or places c x → is_some x ≡ false → st.conns c ≡ None
+  not_open places store st c None stands lt e is = closed_at u places store st c None stands lt e refl
+  not_open places store st c (Some k) stands lt e is = absurd (cc)
+
+  -- no connection in any place
+  pub begun : (places : List (Option (Link B))) (store : U) (m : Store) (blocks : Option ℕ)
+      → u.stands store (at_rest m blocks) → length places ≡ most_open
+      → ((c : ℕ) → get_or places c None ≡ None) → SessionStands u places store (beginning m blocks)
   begun places store m blocks shown count all = record {
     count = count;
     shown = shown;
@@ -136,8 +139,8 @@ module _ {U B : Type 0} (u : Ghosts U B) where
   }
 
 -- one closed place more
-pub closed_push : {B : Type 0} (xs : List (Place B)) → ((c : ℕ) → get_or xs c Closed ≡ Closed) → (c : ℕ)
-    → get_or (xs ++ Closed ∷ []) c Closed ≡ Closed
+pub closed_push : {B : Type 0} (xs : List (Option (Link B))) → ((c : ℕ) → get_or xs c None ≡ None) → (c : ℕ)
+    → get_or (xs ++ None ∷ []) c None ≡ None
 closed_push [] h zero = refl
 closed_push [] h (suc c) = refl
 closed_push (x ∷ xs) h zero = h zero

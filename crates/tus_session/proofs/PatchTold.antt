@@ -1,5 +1,5 @@
 -- From a patch that a head opened, to the turn's answer.
-use Rattle.std.proofs.Common.{ℕ, ◌+◌, ◌-◌, ◌<◌, ◌≤◌, ◌≡◌, inl, inr, Bool, true, false, List, [], ◌∷◌, ◌++◌, Option}
+use Rattle.std.proofs.Common.{ℕ, ◌+◌, ◌-◌, ◌<◌, ◌≤◌, ◌≡◌, inl, inr, false, List, [], ◌∷◌, ◌++◌, Option}
 use Rattle.std.proofs.Common.{Some, None, Result, Ok, Err, length, take, drop, refl, sym, ◌∙◌, ap, subst, arith}
 use Rattle.std.proofs.Common.{append-nil, append_assoc, if◌then◌else◌}
 use Rattle.std.proofs.lemmas.Bool.{cases_lt}
@@ -8,30 +8,27 @@ use Rattle.std.proofs.lemmas.List.{length-drop, length-take-le, take_all}
 use Rattle.enc_model.specs.Indexes.{offers}
 use Rattle.tus_request.proofs.Fronts.{steady}
 use Rattle.tus_request.specs.Requests.{Request, Asks}
-use Rattle.upload_rules.specs.Store.{Store, find, without}
+use Rattle.upload_rules.specs.Store.{Upload, Store, upload_of, find, without}
 use Rattle.upload_rules.specs.World.{Patch, World}
 use Rattle.upload_rules.specs.Grown.{GrewFrom}
 use Rattle.upload_rules.specs.Calls.{first_patch, dropped}
 use Rattle.upload_rules.specs.declared.uploads.Uploads.{Ghosts}
 use Rattle.tus_action.specs.Acts.{Acted, acted, fed, fed_patch, commit_with}
-use Rattle.tus_action.specs.Serves.{DraftIs}
-use Rattle.tus_session.specs.Streams.{Asked, Moments, InHead, InBody, cut}
-use Rattle.tus_session.specs.Stands.{PatchesAs, draft_at}
-use Rattle.tus_session.specs.History.{is_closed, has_text}
-use Rattle.tus_session.proofs.Feeding.{fed_store}
+use Rattle.tus_action.specs.Serves.{DraftIs, ActedAs}
+use Rattle.tus_action.specs.declared.acts.Done.TheVariants as Done
+use Rattle.tus_session.specs.Streams.{Asked, Moments, InHead, InBody}
+use Rattle.tus_session.specs.Stands.{PatchesAs}
 use Rattle.tus_session.specs.Turns.{Conn, Turn, reader, came_with, came_turn}
 use Rattle.tus_session.specs.Heads.{IsWhole, ReachedIs}
-use Rattle.tus_session.specs.Moves.{Moves}
 use Rattle.tus_session.specs.Turned.{TurnedAs, Turned}
-use Rattle.tus_session.specs.Bodies.{Parts, Replies, ended_by}
+use Rattle.tus_session.specs.Bodies.{Parts, Replies, ended_by, BackTo}
 use Rattle.tus_session.specs.declared.answers.Answer as code
 use Rattle.tus_action.specs.declared.acts.Stop.{Stop}
 use Rattle.tus_action.specs.declared.acts.Stop.TheVariants as stops
 use Rattle.tus_action.specs.declared.bodies.OpenPatch.{OpenPatch}
+use Rattle.tus_request.specs.declared.buffer.HeadBuffer.{HeadBuffer}
 use Rattle.tus_session.specs.declared.conns.Link.{Link}
-use Rattle.tus_session.specs.declared.conns.Task.TheVariants as tasks
-use Rattle.tus_session.specs.declared.conns.Place.{Place}
-use Rattle.tus_session.proofs.BodyTold.{plain, idle_here, rest_same, part_here, rest_moves, fed_found}
+use Rattle.tus_session.proofs.BodyTold.{plain, answered_here, part_here, rest_moves, fed_found}
 use Rattle.tus_session.proofs.Growth.{patched_nothing}
 use Rattle.tus_session.proofs.HeadTurns.{part_turn_is, whole_turn_is, head_within, front_judged, front_body}
 use Rattle.tus_session.proofs.Moved.{open_moves, feed_moves, both_moves}
@@ -44,10 +41,15 @@ use Rattle.tus_session.proofs.Tasks.{limits_to}
 use Rattle.tus_session.proofs.RequestLeaves.{Opened, Leaves, Nothing, Text, Patching as AsPatch, leaves}
 use Rattle.tus_session.proofs.Unfinished.{judged_as}
 
--- what was written stays, or none of it
-abbrev pub OutIs : {B : Type 0} → Result (Place B × code.Answer) Stop → List ℕ → List ℕ → List ℕ → Type 0
-OutIs (Ok x) old mid new = new ≡ mid
-OutIs (Err e) old mid new = new ≡ old
+-- a patch that a head opened: the history's, and the code's
+pub record Begun {U B : Type 0} (u : Ghosts U B) (w : World) (r : Request) (b : OpenPatch B) : Type 0 where
+  pub x : Opened w r (acted w (Asks r))
+  pub number : u.number_of b.draft ≡ x.d
+  pub holds : u.holds b.draft (first_patch x.number r.length x.declare x.up)
+  pub reached : ReachedIs r.action r.length b.reached
+  pub bare : b.bare ≡ r.bare
+  pub closes : b.closes ≡ r.closes
+  pub below : x.number < w.store.next
 
 module _ (w : World) (conn : Conn) (h bytes : List ℕ) (n before : ℕ) (r : Request) (is : IsWhole w conn h bytes n before
     (Asks r)) (x : Opened w r (acted w (Asks r))) where
@@ -130,16 +132,13 @@ module _ (w : World) (conn : Conn) (h bytes : List ℕ) (n before : ℕ) (r : Re
       ∙ (ap (came_with conn bytes (before + r.length) m) opened_is
       ∙ ap (λ o. with_acted (commit_with (fed w1 x.d q) x.d (Asks r) o)) (fed_found w1 x.d first q first_found))
 
-  pub part_store : length (drop before bytes) < r.length → (came_turn w conn bytes).world.store ≡ w.store
-  part_store few = ap (λ t. t.world.store) (part_is few) ∙ fed_store w1 x.d (drop before bytes)
-
   pub rest_store : r.length ≤ length (drop before bytes) → ended.world.store ≡ (came_turn w conn bytes).world.store
   rest_store enough = ap (λ t. t.world.store) (sym (rest_is enough))
 
   pub first_there : find x.d w1.patches ≡ Some first
   first_there = first_found
 
-  pub draft_first : {U B : Type 0} (u : Ghosts U B) (b : B)
+  draft_first : {U B : Type 0} (u : Ghosts U B) (b : B)
       → DraftIs u (acted w (Asks r)).world (Some b) (acted w (Asks r)).draft → (u.number_of b ≡ x.d) × u.holds b first
   draft_first u b draft =
       let at : DraftIs u w1 (Some b) (Some x.d) = subst (λ a. DraftIs u a.world (Some b) a.draft) opened_is draft in
@@ -147,8 +146,39 @@ module _ (w : World) (conn : Conn) (h bytes : List ℕ) (n before : ℕ) (r : Re
       let e : at.1.0 ≡ first = cc in
       (at.0, subst (u.holds b) e at.1.2)
 
+-- a draft that is open is a patch's
+opens_case : {U B : Type 0} (u : Ghosts U B) (w : World) (r : Request) (b : B) → Leaves w r (acted w (Asks r))
+    → DraftIs u (acted w (Asks r)).world (Some b) (acted w (Asks r)).draft
+    → Opened w r (acted w (Asks r))
+opens_case u w r b (Nothing moves none idle) is = absurd (subst (DraftIs u (acted w (Asks r)).world (Some b)) none is)
+opens_case u w r b (Text g same none some stays) is =
+    absurd (subst (DraftIs u (acted w (Asks r)).world (Some b)) none is)
+opens_case u w r b (AsPatch x) is = x
+
+opens : {U B : Type 0} (u : Ghosts U B) (w : World) (r : Request) (b : B)
+    → DraftIs u (acted w (Asks r)).world (Some b) (acted w (Asks r)).draft → Opened w r (acted w (Asks r))
+opens u w r b is = opens_case u w r b (leaves w r) is
+
+pub begun : {U B : Type 0} (u : Ghosts U B) (w : World) (conn : Conn) (h bytes : List ℕ) (n before : ℕ) (r : Request)
+    → IsWhole w conn h bytes n before (Asks r) → (store : U) (old new : List ℕ) (b : OpenPatch B)
+    → ActedAs u store (Done.Opened b.draft) old new (acted w (Asks r)) → ReachedIs r.action r.length b.reached
+    → b.bare ≡ r.bare → b.closes ≡ r.closes
+    → ((number : ℕ) (up : Upload) → upload_of w.store number ≡ Some up → number < w.store.next) → Begun u w r b
+begun u w conn h bytes n before r is store old new b done reached bare closes below =
+    let x = opens u w r b.draft done.draft in
+    let f = draft_first w conn h bytes n before r is x u b.draft done.draft in
+    record {
+      x = x;
+      number = f.0;
+      holds = f.1;
+      reached = reached;
+      bare = bare;
+      closes = closes;
+      below = below x.number x.up x.there;
+    }
+
 -- the same under the draft's own number
-abbrev pub own_opened : (w : World) (r : Request) (a : Acted) (x : Opened w r a) (own : ℕ) → own ≡ x.d → Opened w r a
+abbrev own_opened : (w : World) (r : Request) (a : Acted) (x : Opened w r a) (own : ℕ) → own ≡ x.d → Opened w r a
 own_opened w r a x own e = record {
   d = own;
   number = x.number;
@@ -169,15 +199,12 @@ own_opened w r a x own e = record {
 
 module _ {U B : Type 0} (u : Ghosts U B) (w : World) (conn : Conn) (h bytes : List ℕ) (n before : ℕ) (r : Request)
     (is : IsWhole w conn h bytes n before (Asks r))
-    (x : Opened w r (acted w (Asks r))) (b : OpenPatch B) (number : u.number_of b.draft ≡ x.d)
-    (holds : u.holds b.draft (first_patch x.number r.length x.declare x.up))
-    (reached : ReachedIs r.action r.length b.reached) (bare : b.bare ≡ r.bare) (closes : b.closes ≡ r.closes)
-    (below : x.number < w.store.next) where
+    (b : OpenPatch B) (begins : Begun u w r b) where
   abbrev pub own : ℕ
   own = u.number_of b.draft
 
-  abbrev y : Opened w r (acted w (Asks r))
-  y = own_opened w r (acted w (Asks r)) x own number
+  abbrev x : Opened w r (acted w (Asks r))
+  x = own_opened w r (acted w (Asks r)) begins.x own begins.number
 
   abbrev pub p0 : Patch
   p0 = first_patch x.number r.length x.declare x.up
@@ -192,10 +219,10 @@ module _ {U B : Type 0} (u : Ghosts U B) (w : World) (conn : Conn) (h bytes : Li
   asked = record { head = take n (h ++ bytes); verdict = Asks r; body = [] }
 
   reached_is : b.reached ≡ x.offset + r.length
-  reached_is = subst (λ a. ReachedIs a r.length b.reached) x.action_is reached
+  reached_is = subst (λ a. ReachedIs a r.length b.reached) x.action_is begins.reached
 
   pub first_as : find own v.patches ≡ Some p0
-  first_as = first_there w conn h bytes n before r is y
+  first_as = first_there w conn h bytes n before r is x
 
   patches : PatchesAs u v b own asked r p0
   patches =
@@ -205,17 +232,20 @@ module _ {U B : Type 0} (u : Ghosts U B) (w : World) (conn : Conn) (h bytes : Li
       record {
         number = refl;
         found = first_as;
-        holds = holds;
+        holds = begins.holds;
         asks = refl;
         count = refl;
         body = refl;
         reached = omega arith;
         fits = omega arith;
-        below = below;
+        below = begins.below;
         grown = subst (GrewFrom p0) (sym x.there) (None, [], patched_nothing x.up);
-        bare = bare;
-        closes = closes;
+        bare = begins.bare;
+        closes = begins.closes;
       }
+
+  pub begun_shown : (store : U) → u.stands store (acted w (Asks r)).world → u.stands store v
+  begun_shown store shown = subst (u.stands store) x.world_is shown
 
   pub reached_whole : b.reached ≡ length x.up.accepted + r.length
   reached_whole = let l = x.length_is in let g = reached_is in omega arith
@@ -226,13 +256,18 @@ module _ {U B : Type 0} (u : Ghosts U B) (w : World) (conn : Conn) (h bytes : Li
       gone : without own ((own, p0) ∷ w.patches) ≡ w.patches
       gone = grind (arith, nat_tests)
 
-  module _ (store' : U) (old mid mid2 new : List ℕ) (k : Link B) (cleared : (bytes_of k.head) ≡ [])
-      (written : mid ≡ old ++ (acted w (Asks r)).bytes) where
-    part_case : (a : Result (Place B × code.Answer) Stop) → length q < r.length
-        → Parts u store' a (record k { left = r.length - length q; task = tasks.Idle }) b (before + length q)
+  module _ (store' : U) (old mid mid2 new : List ℕ) (head : HeadBuffer) (cleared : (bytes_of head) ≡ [])
+      (written : mid ≡ old ++ (acted w (Asks r)).bytes) (start : ℕ) (start_is : start ≡ length old) where
+    taken_back : mid2 ≡ mid → new ≡ take start mid2 → new ≡ old
+    taken_back same cut_is =
+        cut_is ∙ (ap (take start) (same ∙ written) ∙ (ap (λ i. take i (old ++ (acted w (Asks r)).bytes)) start_is
+        ∙ take-append_seam old (acted w (Asks r)).bytes))
+
+    part_case : (a : Result (Option (Link B) × code.Answer) Stop) → length q < r.length
+        → Parts u store' a head b (r.length - length q) (before + length q)
         (fed v own q) (fed_patch v own p0 q) (dropped v own)
-        → mid2 ≡ mid → OutIs a old mid2 new → Turned u store' a old new w None (came_turn w conn bytes)
-    part_case (Ok (place, a)) few (b', goes) same out =
+        → mid2 ≡ mid → BackTo a start mid2 new → Turned u store' a old new w None (came_turn w conn bytes)
+    part_case (Ok (link, a)) few (b', goes) same out =
         let within = head_within w conn h is.inside bytes n before (Asks r) is.judged is.before_is in
         let l : length q ≡ length bytes - before = length-drop before bytes in
         let body : drop n (h ++ bytes) ≡ q = drop_behind h bytes before n within.0 in
@@ -241,132 +276,83 @@ module _ {U B : Type 0} (u : Ghosts U B) (w : World) (conn : Conn) (h bytes : Li
         (Asks r) is.judged (omega arith)
         ∙ ap (λ z. InBody (record { head = take n (h ++ bytes); verdict = Asks r; body = z })) body in
         let count : before + length q ≡ length bytes = omega arith in
-        let now : TurnedAs u store' place a old new w None (part_opened w conn h bytes n before r is y) = record {
+        let now : TurnedAs u store' link a old new w None (part_opened w conn h bytes n before r is x) = record {
           shown = goes.shown;
-          here = part_here u v b asked r p0 patches store' place a
-              (record k { left = r.length - length q; task = tasks.Idle }) b' (before + length q) q
-              (conn.stream ++ bytes) goes (cleared, refl) here;
-          moves = both_moves w v (fed v own q) None (Some own) (Some own) (open_moves w own p0 y.free)
+          here = part_here u v b asked r p0 patches store' link a head b' (r.length - length q) (before + length q) q
+              (conn.stream ++ bytes) goes cleared (omega arith) refl here;
+          moves = both_moves w v (fed v own q) None (Some own) (Some own) (open_moves w own p0 x.free)
               (feed_moves v own p0 q first_as);
           taken = ap (λ z. z.taken) goes.answer_is ∙ count;
           closes = ap (λ z. z.closes) goes.answer_is;
           more = ap (λ z. z.more) goes.answer_is;
           bytes = out ∙ (same ∙ (written ∙ ap (λ z. old ++ z) (sym (append-nil (acted w (Asks r)).bytes))));
         } in
-        subst (TurnedAs u store' place a old new w None) (sym (part_is w conn h bytes n before r is y few)) now
-    part_case (Err stops.NoMemory) few shown same out = (subst (u.stands store') dropped_first shown, out)
-    part_case (Err stops.DiskFault) few z same out = out
+        subst (TurnedAs u store' link a old new w None) (sym (part_is w conn h bytes n before r is x few)) now
+    part_case (Err stops.NoMemory) few shown same out =
+        (subst (u.stands store') dropped_first shown, taken_back same out)
+    part_case (Err stops.DiskFault) few z same out = taken_back same out
 
-    rest_case : (a : Result (Place B × code.Answer) Stop) → r.length ≤ length q
-        → Replies u store' a mid mid2 (record k { left = 0; task = tasks.Idle }) (before + r.length)
+    rest_case : (a : Result (Option (Link B) × code.Answer) Stop) → r.length ≤ length q
+        → Replies u store' a mid mid2 head (before + r.length)
         (ended_by v own p0 (take r.length q) r) (dropped v own)
-        → OutIs a old mid2 new → Turned u store' a old new w None (came_turn w conn bytes)
-    rest_case (Ok (place, a)) enough answered out =
+        → BackTo a start mid2 new → Turned u store' a old new w None (came_turn w conn bytes)
+    rest_case (Ok (link, a)) enough answered out =
         let m = ended_by v own p0 (take r.length q) r in
         let t : length (take r.length q) ≡ r.length = length-take-le r.length q enough in
-        let s' = conn.stream ++ take (before + r.length) bytes in
         let body = front_body w conn h is.inside bytes n before (Asks r) is.judged is.before_is r.length in
         let all : length (drop n (h ++ take (before + r.length) bytes)) ≡ r.length = ap length body ∙ t in
         let ends = head_whole_rest (reader w) (steady (offers w.store.indexes)) conn.stream h is.inside.rest
         (take (before + r.length) bytes) n (Asks r)
         (front_judged w conn h is.inside bytes n before (Asks r) is.judged is.before_is r.length) all in
-        let last = rest_moves u v b asked r p0 patches (take r.length q) in
-        let moves = both_moves w v m.world None (Some own) None (open_moves w own p0 y.free) last in
-        let here : (cut (reader m.world) s').rest ≡ InHead [] = rest_same w m.world s' moves.grows.indexes ∙ ends in
-        let now : TurnedAs u store' place a old new w None (rest_opened w conn h bytes n before r is y) = record {
-          shown = answered.shown;
-          here = idle_here u m.world place (record k { left = 0; task = tasks.Idle }) m.closes s'
-              (InHead []) answered.place_is (cleared, refl) here;
-          moves = closed_moves m.world s' m.closes moves;
-          taken = ap (λ z. z.taken) answered.answer_is;
-          closes = ap (λ z. z.closes) answered.answer_is ∙ closes_is s' m.closes;
-          more = ap (λ z. z.more) answered.answer_is ∙ more_is s' m.closes;
-          bytes = out
-              ∙ (answered.bytes ∙ (ap (λ z. z ++ m.bytes) written ∙ append_assoc old (acted w (Asks r)).bytes m.bytes));
-        } in
-        subst (TurnedAs u store' place a old new w None) (sym (rest_is w conn h bytes n before r is y enough)) now
-      where
-        closed_moves : (w' : World) (s' : List ℕ) (c : Bool) → Moves w w' None None
-            → Moves w w' None (draft_at (if c then None else Some (plain s' None)))
-        closed_moves w' s' true moves = moves
-        closed_moves w' s' false moves = moves
+        let moves = both_moves w v m.world None (Some own) None (open_moves w own p0 x.free)
+        (rest_moves u v b asked r p0 patches (take r.length q)) in
+        subst (TurnedAs u store' link a old new w None) (sym (rest_is w conn h bytes n before r is x enough))
+        (answered_here u store' link a old new ((acted w (Asks r)).bytes ++ m.bytes) w m.world None head 0
+        (before + r.length) m.closes (conn.stream ++ take (before + r.length) bytes) (InHead []) answered.shown moves
+        answered.link_is (cleared, refl) ends answered.answer_is
+        (out ∙ (answered.bytes ∙ (ap (λ z. z ++ m.bytes) written ∙ append_assoc old (acted w (Asks r)).bytes m.bytes))))
+    rest_case (Err stops.NoMemory) enough (shown, same) out =
+        (subst (u.stands store') dropped_first shown, taken_back same out)
+    rest_case (Err stops.DiskFault) enough same out = taken_back same out
 
-        closes_is : (s' : List ℕ) (c : Bool) → c ≡ is_closed (if c then None else Some (plain s' None))
-        closes_is s' true = refl
-        closes_is s' false = refl
-
-        more_is : (s' : List ℕ) (c : Bool) → false ≡ has_text (if c then None else Some (plain s' None))
-        more_is s' true = refl
-        more_is s' false = refl
-    rest_case (Err stops.NoMemory) enough (shown, same) out = (subst (u.stands store') dropped_first shown, out)
-    rest_case (Err stops.DiskFault) enough z out = out
-
-    pub patch_opened : (a : Result (Place B × code.Answer) Stop) (z : List ℕ) → z ≡ q
-        → (length z < r.length → Parts u store' a (record k { left = r.length - length z; task = tasks.Idle }) b
+    pub patch_opened : (a : Result (Option (Link B) × code.Answer) Stop) (z : List ℕ) → z ≡ q
+        → (length z < r.length → Parts u store' a head b (r.length - length z)
         (before + length z) (fed v own z) (fed_patch v own p0 z) (dropped v own))
         → (length z < r.length → mid2 ≡ mid)
-        → (r.length ≤ length z → Replies u store' a mid mid2 (record k { left = 0; task = tasks.Idle })
+        → (r.length ≤ length z → Replies u store' a mid mid2 head
         (before + r.length) (ended_by v own p0 (take r.length z) r) (dropped v own))
-        → OutIs a old mid2 new → Turned u store' a old new w conn.draft (came_turn w conn bytes)
+        → BackTo a start mid2 new → Turned u store' a old new w conn.draft (came_turn w conn bytes)
     patch_opened a z e part same rest out =
         subst (λ d. Turned u store' a old new w d (came_turn w conn bytes)) (sym is.inside.draft)
         (elim (cases_lt (length z) r.length) [
           | inl few ↦
               part_case a (subst (λ y. length y < r.length) e few)
-              (subst (λ y. Parts u store' a (record k { left = r.length - length y; task = tasks.Idle }) b
+              (subst (λ y. Parts u store' a head b (r.length - length y)
               (before + length y) (fed v own y) (fed_patch v own p0 y) (dropped v own)) e (part few)) (same few) out
           | inr enough ↦
               rest_case a (subst (λ y. r.length ≤ length y) e enough)
-              (subst (λ y. Replies u store' a mid mid2 (record k { left = 0; task = tasks.Idle })
+              (subst (λ y. Replies u store' a mid mid2 head
               (before + r.length) (ended_by v own p0 (take r.length y) r) (dropped v own)) e (rest enough)) out
         ])
 
-    replies_err : (e : Stop) (taken : ℕ) (m : Acted) (k' : Link B) (gone : World)
-        → Replies u store' (Err e) mid mid2 k' taken m gone → mid2 ≡ mid
-    replies_err stops.NoMemory taken m k' gone (shown, same) = same
-    replies_err stops.DiskFault taken m k' gone same = same
-
-    -- what was written is taken back
-    pub taken_back : (e : Stop) (z : List ℕ) (start : ℕ) → (length z < r.length → mid2 ≡ mid)
-        → (r.length ≤ length z → Replies u store' (Err e) mid mid2 (record k { left = 0; task = tasks.Idle })
-        (before + r.length) (ended_by v own p0 (take r.length z) r) (dropped v own))
-        → start ≡ length old → new ≡ take start mid2 → new ≡ old
-    taken_back e z start same rest start_is cut_is =
-        let back : mid2 ≡ mid = elim (cases_lt (length z) r.length) [
-          | inl few ↦ same few
-          | inr enough ↦ replies_err e (before + r.length) (ended_by v own p0 (take r.length z) r)
-              (record k { left = 0; task = tasks.Idle }) (dropped v own) (rest enough)
-        ] in
-        cut_is ∙ (ap (take start) (back ∙ written) ∙ (ap (λ i. take i (old ++ (acted w (Asks r)).bytes)) start_is
-        ∙ take-append_seam old (acted w (Asks r)).bytes))
-
   -- what a crash may leave
+  begun_limits : {m0 m1 : ℕ} {l0 l1 : Option ℕ → ℕ → List Store → Type 0}
+      → Limits m0 m1 l0 l1 w.store (acted w (Asks r)).world.store → Limits m0 m1 l0 l1 w.store w.store
+  begun_limits head = limits_to (ap (λ y. y.store) x.world_is) head
+
   pub patch_limits : {m0 m1 m2 : ℕ} {l0 l1 l2 : Option ℕ → ℕ → List Store → Type 0} (z : List ℕ) → z ≡ q
       → Limits m0 m1 l0 l1 w.store (acted w (Asks r)).world.store
       → (length z < r.length → Limits m1 m2 l1 l2 w.store w.store)
       → (r.length ≤ length z → Limits m1 m2 l1 l2 w.store (ended_by v own p0 (take r.length z) r).world.store)
       → Limits m0 m2 l0 l2 w.store (came_turn w conn bytes).world.store
   patch_limits z e head part rest =
-      let first = limits_to (ap (λ y. y.store) x.world_is) head in
+      let first = begun_limits head in
       elim (cases_lt (length z) r.length) [
         | inl few ↦ still_limits (came_turn w conn bytes).world.store (first_then first (part few))
         | inr enough ↦
             first_then first (limits_to (ap (λ y. (ended_by v own p0 (take r.length y) r).world.store) e
-            ∙ rest_store w conn h bytes n before r is y (subst (λ y. r.length ≤ length y) e enough)) (rest enough))
+            ∙ rest_store w conn h bytes n before r is x (subst (λ y. r.length ≤ length y) e enough)) (rest enough))
       ]
-
--- a draft that is open is a patch's
-opens_case : {U B : Type 0} (u : Ghosts U B) (w : World) (r : Request) (b : B) → Leaves w r (acted w (Asks r))
-    → DraftIs u (acted w (Asks r)).world (Some b) (acted w (Asks r)).draft
-    → Opened w r (acted w (Asks r))
-opens_case u w r b (Nothing moves none idle) is = absurd (subst (DraftIs u (acted w (Asks r)).world (Some b)) none is)
-opens_case u w r b (Text g same none some stays) is =
-    absurd (subst (DraftIs u (acted w (Asks r)).world (Some b)) none is)
-opens_case u w r b (AsPatch x) is = x
-
-pub opens : {U B : Type 0} (u : Ghosts U B) (w : World) (r : Request) (b : B)
-    → DraftIs u (acted w (Asks r)).world (Some b) (acted w (Asks r)).draft → Opened w r (acted w (Asks r))
-opens u w r b is = opens_case u w r b (leaves w r) is
 
 pub slice_is : (before : ℕ) (bytes : List ℕ) → take (length bytes - before) (drop before bytes) ≡ drop before bytes
 slice_is before bytes =

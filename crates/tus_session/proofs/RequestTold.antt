@@ -17,21 +17,20 @@ use Rattle.enc_model.specs.Indexes.{offers}
 use Rattle.tus_request.proofs.Fronts.{steady}
 use Rattle.tus_request.specs.Answers.{Judged}
 use Rattle.tus_session.specs.Streams.{Moments, Rest, InHead, InBody, cut}
-use Rattle.tus_session.specs.Stands.{RestIs, LinkIs}
+use Rattle.tus_session.specs.Stands.{RestIs, IsGivingText}
 use Rattle.tus_session.specs.Turns.{Conn, Turn, reader, turn_of, came_with, body_step, came_turn}
 use Rattle.tus_session.specs.Heads.{IsWhole}
 use Rattle.tus_session.specs.Moves.{Moves}
 use Rattle.tus_session.specs.Turned.{TurnedAs}
-use Rattle.tus_session.specs.Bodies.{took}
+use Rattle.tus_session.specs.Bodies.{took, link_after}
 use Rattle.tus_session.specs.declared.answers.Answer as code
+use Rattle.tus_request.specs.declared.buffer.HeadBuffer.{HeadBuffer}
+use Rattle.tus_session.specs.declared.conns.Awaiting.TheVariants as awaits
 use Rattle.tus_session.specs.declared.conns.Link.{Link}
-use Rattle.tus_session.specs.declared.conns.Task.TheVariants as tasks
-use Rattle.tus_session.specs.declared.conns.Place.{Place}
-use Rattle.tus_session.specs.declared.conns.Place.TheVariants.{Closed, Open}
 use Rattle.tus_session.proofs.HeadTold.{no_patch_len}
 use Rattle.tus_session.proofs.HeadTurns.{part_turn_is, whole_turn_is, head_within, front_judged, front_body}
 use Rattle.tus_session.proofs.NewRests.{head_part_rest, head_whole_rest}
-use Rattle.tus_session.proofs.BodyTold.{rest_same}
+use Rattle.tus_session.proofs.Frames.{rest_same}
 use Rattle.tus_session.proofs.Opening.{still}
 use Rattle.tus_session.proofs.Limiting.{still_limits}
 use Rattle.tus_session.proofs.RequestLeaves.{Leaves, Nothing, Text, Patching, leaves}
@@ -96,40 +95,35 @@ module _ (w : World) (conn : Conn) (h bytes : List ℕ) (n before : ℕ) (r : Re
     no_giving v g None e is = absurd (cc)
     no_giving v g (Some x) e is = is
 
-    nothing_case : (store' : U) (place : Place B) (x : code.Answer) (c : Done B) (old new : List ℕ)
-        (k : Link B) (len : ℕ) → Leaves w r (acted w (Asks r))
+    nothing_case : (store' : U) (link : Option (Link B)) (x : code.Answer) (c : Done B) (old new : List ℕ)
+        (head : HeadBuffer) (len : ℕ) → Leaves w r (acted w (Asks r))
         → ActedAs u store' c old new (acted w (Asks r)) → draft_in c ≡ None → giving_in c ≡ None
         → len ≡ length (drop before bytes)
-        → place ≡ (if closes_in c then Closed else Open
-        (record k { left = r.length - min r.length len; task = tasks.Idle })) → (bytes_of k.head) ≡ []
+        → link ≡ link_after head (r.length - min r.length len) (closes_in c) → (bytes_of head) ≡ []
         → x ≡ took (before + min r.length len) (closes_in c)
-        → TurnedAs u store' place x old new w conn.draft (came_turn w conn bytes)
-    nothing_case store' place x c old new k len (Nothing moves none idle) as_is no_draft no_text len_is place_is head_is
-        answer_is =
-        let a = acted w (Asks r) in
-        no_patch_len u store' w conn h bytes n before (Asks r) is place x old new k len len_is as_is.stands moves none
-        idle
-        (place_is ∙ ap (λ b. if b then Closed else Open
-        (record k { left = r.length - min r.length len; task = tasks.Idle })) as_is.closes)
+        → TurnedAs u store' link x old new w conn.draft (came_turn w conn bytes)
+    nothing_case store' link x c old new head len (Nothing moves none idle) as_is no_draft no_text len_is link_is
+        head_is answer_is =
+        no_patch_len u store' w conn h bytes n before (Asks r) is link x old new head len len_is as_is.stands moves none
+        idle (link_is ∙ ap (link_after head (r.length - min r.length len)) as_is.closes)
         head_is (answer_is ∙ ap (took (before + min r.length len)) as_is.closes) as_is.bytes
-    nothing_case store' place x c old new k len (Text g same none some stays) as_is no_draft no_text len_is place_is
+    nothing_case store' link x c old new head len (Text g same none some stays) as_is no_draft no_text len_is link_is
         head_is answer_is =
         absurd (no_giving (acted w (Asks r)).world g (acted w (Asks r)).pending some
         (subst (λ o. GivingIs (acted w (Asks r)).world.store o (acted w (Asks r)).pending) no_text as_is.giving))
-    nothing_case store' place x c old new k len (Patching y) as_is no_draft no_text len_is place_is head_is answer_is =
+    nothing_case store' link x c old new head len (Patching y) as_is no_draft no_text len_is link_is head_is answer_is =
         absurd (absurd_draft (acted w (Asks r)).world y.d (acted w (Asks r)).draft y.draft_is
         (subst (λ o. DraftIs u (acted w (Asks r)).world o (acted w (Asks r)).draft) no_draft as_is.draft))
 
-    pub nothing_told : (store' : U) (place : Place B) (x : code.Answer) (c : Done B) (old new : List ℕ)
-        (k : Link B) (len : ℕ)
+    pub nothing_told : (store' : U) (link : Option (Link B)) (x : code.Answer) (c : Done B) (old new : List ℕ)
+        (head : HeadBuffer) (len : ℕ)
         → ActedAs u store' c old new (acted w (Asks r)) → draft_in c ≡ None → giving_in c ≡ None
         → len ≡ length (drop before bytes)
-        → place ≡ (if closes_in c then Closed else Open
-        (record k { left = r.length - min r.length len; task = tasks.Idle })) → (bytes_of k.head) ≡ []
+        → link ≡ link_after head (r.length - min r.length len) (closes_in c) → (bytes_of head) ≡ []
         → x ≡ took (before + min r.length len) (closes_in c)
-        → TurnedAs u store' place x old new w conn.draft (came_turn w conn bytes)
-    nothing_told store' place x c old new k len as_is no_draft no_text len_is place_is head_is answer_is =
-        nothing_case store' place x c old new k len (leaves w r) as_is no_draft no_text len_is place_is head_is
+        → TurnedAs u store' link x old new w conn.draft (came_turn w conn bytes)
+    nothing_told store' link x c old new head len as_is no_draft no_text len_is link_is head_is answer_is =
+        nothing_case store' link x c old new head len (leaves w r) as_is no_draft no_text len_is link_is head_is
         answer_is
 
 -- A TEXT IS LEFT: the call stops at the head's end
@@ -224,40 +218,40 @@ module _ (w : World) (conn : Conn) (h bytes : List ℕ) (n before : ℕ) (r : Re
       ]
 
   module _ {U B : Type 0} (u : Ghosts U B) where
-    text_case : (store' : U) (c : Done B) (g : given.Giving) (old new : List ℕ) (k : Link B)
+    abbrev text_link : HeadBuffer → given.Giving → Option (Link B)
+    text_link head g = Some (record { head = head; awaiting = awaits.Text g r.length })
+
+    abbrev text_answer : code.Answer
+    text_answer = record { taken = before; closes = false; more = true }
+
+    text_case : (store' : U) (c : Done B) (g : given.Giving) (old new : List ℕ) (head : HeadBuffer)
         → Leaves w r (acted w (Asks r))
         → ActedAs u store' c old new (acted w (Asks r)) → draft_in c ≡ None → giving_in c ≡ Some g
-        → (bytes_of k.head) ≡ []
-        → TurnedAs u store' (Open (record k { left = r.length; task = tasks.Text g })) (record {
-          taken = before;
-          closes = false;
-          more = true;
-        }) old new w conn.draft (came_turn w conn bytes)
-    text_case store' c g old new k (Nothing moves none idle) as_is no_draft text cleared =
+        → (bytes_of head) ≡ []
+        → TurnedAs u store' (text_link head g) text_answer old new w conn.draft (came_turn w conn bytes)
+    text_case store' c g old new head (Nothing moves none idle) as_is no_draft text cleared =
         absurd (subst (λ o. GivingIs (acted w (Asks r)).world.store o None) text
         (subst (GivingIs (acted w (Asks r)).world.store (giving_in c)) idle as_is.giving))
-    text_case store' c g old new k (Patching y) as_is no_draft text cleared =
+    text_case store' c g old new head (Patching y) as_is no_draft text cleared =
         absurd (subst (λ o. GivingIs (acted w (Asks r)).world.store o None) text
         (subst (GivingIs (acted w (Asks r)).world.store (giving_in c)) y.idle as_is.giving))
-    text_case store' c g old new k (Text h' same none some stays) as_is no_draft text cleared =
+    text_case store' c g old new head (Text h' same none some stays) as_is no_draft text cleared =
         let a = acted w (Asks r) in
         let s' = conn.stream ++ take before bytes in
-        let ends = head_end (bytes_of k.head) cleared in
+        let ends = head_end (bytes_of head) cleared in
         let indexes : a.world.store.indexes ≡ w.store.indexes = ap (λ x. x.store.indexes) same in
-        let rest_is : (cut (reader a.world) s').rest ≡ ends.0 = rest_same w a.world s' indexes ∙ ends.1 in
         let gives : GivingIs a.world.store (Some g) (Some h') =
         subst (λ o. GivingIs a.world.store o (Some h')) text
         (subst (GivingIs a.world.store (giving_in c)) some as_is.giving) in
-        let link : LinkIs u a.world (bytes_of k.head) r.length (tasks.Text g)
-        (record { stream = s'; draft = None; pending = Some h' }) = record {
-          kept = subst (RestIs (bytes_of k.head) r.length) (sym rest_is) ends.2;
-          does = gives;
+        let conn' : Conn = record { stream = s'; draft = None; pending = Some h' } in
+        let link : IsGivingText a.world conn' (bytes_of head) g r.length = record {
+          h = h';
+          rest = subst (RestIs (bytes_of head) r.length) (sym (rest_same w a.world s' indexes ∙ ends.1)) ends.2;
+          draft = refl;
+          pending = refl;
+          gives = gives;
         } in
-        let now : TurnedAs u store' (Open (record k { left = r.length; task = tasks.Text g })) (record {
-          taken = before;
-          closes = false;
-          more = true;
-        }) old new w None
+        let now : TurnedAs u store' (text_link head g) text_answer old new w None
         (text_turn a.world s' a.bytes h' before) = record {
           shown = as_is.stands;
           here = link;
@@ -267,22 +261,13 @@ module _ (w : World) (conn : Conn) (h bytes : List ℕ) (n before : ℕ) (r : Re
           more = refl;
           bytes = as_is.bytes;
         } in
-        subst (λ d. TurnedAs u store' (Open (record k { left = r.length; task = tasks.Text g }))
-        (record {
-          taken = before;
-          closes = false;
-          more = true;
-        }) old new w d (came_turn w conn bytes)) (sym is.inside.draft)
-        (subst (TurnedAs u store' (Open (record k { left = r.length; task = tasks.Text g }))
-        (record { taken = before; closes = false; more = true }) old new w None) (sym (text_is h' some none stays)) now)
+        subst (λ d. TurnedAs u store' (text_link head g) text_answer old new w d (came_turn w conn bytes))
+        (sym is.inside.draft)
+        (subst (TurnedAs u store' (text_link head g) text_answer old new w None) (sym (text_is h' some none stays)) now)
 
-    pub text_told : (store' : U) (c : Done B) (g : given.Giving) (old new : List ℕ) (k : Link B)
+    pub text_told : (store' : U) (c : Done B) (g : given.Giving) (old new : List ℕ) (head : HeadBuffer)
         → ActedAs u store' c old new (acted w (Asks r)) → draft_in c ≡ None → giving_in c ≡ Some g
-        → (bytes_of k.head) ≡ []
-        → TurnedAs u store' (Open (record k { left = r.length; task = tasks.Text g })) (record {
-          taken = before;
-          closes = false;
-          more = true;
-        }) old new w conn.draft (came_turn w conn bytes)
-    text_told store' c g old new k as_is no_draft text cleared =
-        text_case store' c g old new k (leaves w r) as_is no_draft text cleared
+        → (bytes_of head) ≡ []
+        → TurnedAs u store' (text_link head g) text_answer old new w conn.draft (came_turn w conn bytes)
+    text_told store' c g old new head as_is no_draft text cleared =
+        text_case store' c g old new head (leaves w r) as_is no_draft text cleared

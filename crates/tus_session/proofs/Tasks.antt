@@ -1,8 +1,8 @@
--- What a connection's task tells of its draft and its text.
+-- What an open patch comes to at its connection's end.
 use Rattle.std.proofs.Common.{◌≡◌, ◌⊎◌, inl, inr, ℕ, ◌<◌, List, length, Option, Some, None, refl, sym, ◌∙◌, ap, subst}
 use Rattle.std.proofs.Common.{arith, Result, Ok, Err}
 use Rattle.enc_model.specs.Indexes.{offers}
-use Rattle.tus_request.specs.Requests.{Request, body_length}
+use Rattle.tus_request.specs.Requests.{body_length}
 use Rattle.tus_request.proofs.Fronts.{steady}
 use Rattle.upload_rules.specs.Store.{Store, find}
 use Rattle.upload_rules.specs.World.{Patch, World}
@@ -10,71 +10,20 @@ use Rattle.upload_rules.specs.declared.errors.UploadRefusal.{UploadRefusal}
 use Rattle.upload_rules.specs.declared.uploads.Uploads.{Ghosts}
 use Rattle.upload_rules.specs.Answers.{Limits}
 use Rattle.upload_rules.specs.Calls.{dropped, committed_store, spent, commit_refusal, commit_outcome, outcome}
-use Rattle.tus_action.specs.Acts.{Giving}
-use Rattle.tus_action.specs.Serves.{IsGiving, Ends}
-use Rattle.tus_action.specs.declared.acts.Giving as given
-use Rattle.tus_session.specs.Streams.{Asked, Rest, InHead, InBody, cut}
+use Rattle.tus_action.specs.Serves.{Ends}
+use Rattle.tus_action.specs.declared.acts.Giving.{Giving}
+use Rattle.tus_session.specs.Streams.{Asked, InBody, cut}
 use Rattle.tus_session.specs.Turns.{Conn, reader, left_world, ended_on, ended_with, ended_world}
-use Rattle.tus_session.specs.Stands.{PatchesAs, TaskIs}
+use Rattle.tus_session.specs.Stands.{IsPatching, LinkIs}
 use Rattle.tus_session.specs.Turned.{EndedAs, Ended}
 use Rattle.tus_action.specs.declared.acts.Stop.{Stop}
 use Rattle.tus_action.specs.declared.acts.Stop.TheVariants as stops
 use Rattle.tus_action.specs.declared.bodies.OpenPatch.{OpenPatch}
-use Rattle.tus_session.specs.declared.conns.Task.{Task}
-use Rattle.tus_session.specs.declared.conns.Task.TheVariants as tasks
+use Rattle.tus_session.specs.declared.conns.Awaiting.{Awaiting}
+use Rattle.tus_session.specs.declared.conns.Awaiting.TheVariants as awaits
 use Rattle.tus_session.proofs.Unfinished.{left_body}
 use Rattle.tus_session.proofs.Opening.{still}
 use Rattle.tus_session.proofs.Moved.{spend_moves}
-
--- an open patch, with its request and its body
-pub record IsPatching {U B : Type 0} (u : Ghosts U B) (w : World) (rest : Rest) (b : OpenPatch B) (draft : Option ℕ)
-    (pending : Option Giving) : Type 0 where
-  pub d : ℕ
-  pub asked : Asked
-  pub r : Request
-  pub p : Patch
-  pub draft_is : draft ≡ Some d
-  pub idle : pending ≡ None
-  pub rest_is : rest ≡ InBody asked
-  pub patches : PatchesAs u w b d asked r p
-
--- a text that is still to be given
-pub record IsGivingText (w : World) (g : given.Giving) (draft : Option ℕ) (pending : Option Giving) : Type 0 where
-  pub h : Giving
-  pub draft_is : draft ≡ None
-  pub pending_is : pending ≡ Some h
-  pub gives : IsGiving w.store g h
-
-module _ {U B : Type 0} (u : Ghosts U B) where
-  pub idle_at : (w : World) (rest : Rest) (draft : Option ℕ) (pending : Option Giving)
-      → TaskIs u w rest tasks.Idle draft pending → (draft ≡ None) × (pending ≡ None)
-  idle_at w rest None None is = (refl, refl)
-  idle_at w rest None (Some h) is = absurd is
-  idle_at w rest (Some d) pending is = absurd is
-
-  pub patch_at : (w : World) (rest : Rest) (b : OpenPatch B) (draft : Option ℕ) (pending : Option Giving)
-      → TaskIs u w rest (tasks.Patch b) draft pending
-      → IsPatching u w rest b draft pending
-  patch_at w rest b None pending is = absurd is
-  patch_at w rest b (Some d) (Some h) is = absurd is
-  patch_at w (InHead h) b (Some d) None is = absurd is
-  patch_at w (InBody asked) b (Some d) None (r, p, is) = record {
-    d = d;
-    asked = asked;
-    r = r;
-    p = p;
-    draft_is = refl;
-    idle = refl;
-    rest_is = refl;
-    patches = is;
-  }
-
-  pub text_at : (w : World) (rest : Rest) (g : given.Giving) (draft : Option ℕ) (pending : Option Giving)
-      → TaskIs u w rest (tasks.Text g) draft pending
-      → IsGivingText w g draft pending
-  text_at w rest g None None is = absurd is
-  text_at w rest g None (Some h) is = record { h = h; draft_is = refl; pending_is = refl; gives = is }
-  text_at w rest g (Some d) pending is = absurd is
 
 -- a body under way wants bytes
 pub body_wants : (w : World) (s : List ℕ) (asked : Asked) → (cut (reader w) s).rest ≡ InBody asked
@@ -122,75 +71,55 @@ module _ {U B : Type 0} (u : Ghosts U B) where
       subst (EndedAs u store w None) (sym (ended_none w conn none)) now in
       subst (λ o. EndedAs u store w o (ended_world w conn)) (sym none) then
 
-  module _ (store : U) (w : World) (conn : Conn) (b : OpenPatch B)
-      (is : IsPatching u w (cut (reader w) conn.stream).rest b conn.draft conn.pending) where
-    -- the patch is spent
-    pub ends_patch : u.stands store (spent w (u.number_of b.draft) is.p (commit_refusal w (u.number_of b.draft) is.p))
-        → EndedAs u store w conn.draft (ended_world w conn)
-    ends_patch stands =
-        let d = is.d in
-        let p = is.p in
-        let done = spent w d p (commit_refusal w d p) in
-        let shown : u.stands store done =
-        subst (λ n. u.stands store (spent w n p (commit_refusal w n p))) is.patches.number stands in
-        let now : EndedAs u store w (Some d) done = record {
-          shown = shown;
-          moves = spend_moves w d p is.patches.grown;
-        } in
-        let then : EndedAs u store w (Some d) (ended_world w conn) =
-        subst (EndedAs u store w (Some d)) (sym (ended_is w conn d p is.draft_is is.patches.found)) now in
-        subst (λ o. EndedAs u store w o (ended_world w conn)) (sym is.draft_is) then
-
-    pub ends_left : u.stands store (dropped w (u.number_of b.draft)) → u.stands store (left_world w conn.draft)
-    ends_left stands =
-        let now : u.stands store (left_world w (Some is.d)) =
-        subst (λ n. u.stands store (dropped w n)) is.patches.number stands in
-        subst (λ o. u.stands store (left_world w o)) (sym is.draft_is) now
-
-    -- a cut body
-    pub ends_cut : (r : Result (Unit {0}) Stop)
-        → Ends u store r (dropped w (u.number_of b.draft))
-        (spent w (u.number_of b.draft) is.p (commit_refusal w (u.number_of b.draft) is.p))
-        → Ended u store r w conn.draft (ended_world w conn)
-    ends_cut (Ok x) stands = ends_patch stands
-    ends_cut (Err stops.NoMemory) stands = ends_left stands
-    ends_cut (Err stops.DiskFault) x = tt
-
+  module _ (w : World) (conn : Conn) (head : List ℕ) (b : OpenPatch B) (left : ℕ)
+      (is : IsPatching u w conn head b left) where
     -- the draft's patch under the draft's own number
     pub found_as : find (u.number_of b.draft) w.patches ≡ Some is.p
     found_as = ap (λ n. find n w.patches) is.patches.number ∙ is.patches.found
 
+    ended_as : ended_world w conn ≡ spent w is.d is.p (commit_refusal w is.d is.p)
+    ended_as = ended_is w conn is.d is.p is.draft is.patches.found
+
+    -- the patch is spent
+    ends_patch : (store : U) → u.stands store (spent w (u.number_of b.draft) is.p (commit_refusal w (u.number_of b.draft) is.p))
+        → EndedAs u store w conn.draft (ended_world w conn)
+    ends_patch store stands =
+        let done = spent w is.d is.p (commit_refusal w is.d is.p) in
+        let shown : u.stands store done =
+        subst (λ n. u.stands store (spent w n is.p (commit_refusal w n is.p))) is.patches.number stands in
+        let now : EndedAs u store w (Some is.d) done = record {
+          shown = shown;
+          moves = spend_moves w is.d is.p is.patches.grown;
+        } in
+        subst (λ o. EndedAs u store w o (ended_world w conn)) (sym is.draft)
+        (subst (EndedAs u store w (Some is.d)) (sym ended_as) now)
+
+    ends_left : (store : U) → u.stands store (dropped w (u.number_of b.draft)) → u.stands store (left_world w conn.draft)
+    ends_left store stands =
+        subst (λ o. u.stands store (left_world w o)) (sym is.draft)
+        (subst (λ n. u.stands store (dropped w n)) is.patches.number stands)
+
+    -- a cut body
+    pub ends_cut : (store : U) (r : Result (Unit {0}) Stop)
+        → Ends u store r (dropped w (u.number_of b.draft))
+        (spent w (u.number_of b.draft) is.p (commit_refusal w (u.number_of b.draft) is.p))
+        → Ended u store r w conn.draft (ended_world w conn)
+    ends_cut store (Ok x) stands = ends_patch store stands
+    ends_cut store (Err stops.NoMemory) stands = ends_left store stands
+    ends_cut store (Err stops.DiskFault) x = tt
+
     pub ends_store : commit_outcome w (u.number_of b.draft) is.p ≡ (ended_world w conn).store
     ends_store =
-        let d = is.d in
-        let p = is.p in
-        ap (λ n. commit_outcome w n p) is.patches.number
-        ∙ (sym (spent_store w d p (commit_refusal w d p))
-        ∙ ap (λ x. x.store) (sym (ended_is w conn d p is.draft_is is.patches.found)))
-
-module _ {U B : Type 0} (u : Ghosts U B) where
-  pub patching : (w : World) (rest : Rest) (task : Task B) (b : OpenPatch B) (draft : Option ℕ)
-      (pending : Option Giving)
-      → TaskIs u w rest task draft pending
-      → task ≡ tasks.Patch b → IsPatching u w rest b draft pending
-  patching w rest task b draft pending is e =
-      patch_at u w rest b draft pending (subst (λ t. TaskIs u w rest t draft pending) e is)
-
-  pub giving : (w : World) (rest : Rest) (task : Task B) (g : given.Giving) (draft : Option ℕ) (pending : Option Giving)
-      → TaskIs u w rest task draft pending
-      → task ≡ tasks.Text g → IsGivingText w g draft pending
-  giving w rest task g draft pending is e =
-      text_at u w rest g draft pending (subst (λ t. TaskIs u w rest t draft pending) e is)
-
-  pub idling : (w : World) (rest : Rest) (task : Task B) (draft : Option ℕ) (pending : Option Giving)
-      → TaskIs u w rest task draft pending
-      → task ≡ tasks.Idle → (draft ≡ None) × (pending ≡ None)
-  idling w rest task draft pending is e =
-      idle_at u w rest draft pending (subst (λ t. TaskIs u w rest t draft pending) e is)
+        ap (λ n. commit_outcome w n is.p) is.patches.number
+        ∙ (sym (spent_store w is.d is.p (commit_refusal w is.d is.p)) ∙ ap (λ x. x.store) (sym ended_as))
 
   -- no patch is open
-  pub no_draft : (w : World) (rest : Rest) (task : Task B) (draft : Option ℕ) (pending : Option Giving)
-      → TaskIs u w rest task draft pending
-      → (task ≡ tasks.Idle) ⊎ ((g : given.Giving) × (task ≡ tasks.Text g)) → draft ≡ None
-  no_draft w rest task draft pending is (inl e) = (idling w rest task draft pending is e).0
-  no_draft w rest task draft pending is (inr (g, e)) = (giving w rest task g draft pending is e).draft_is
+  pub no_draft : (w : World) (head : List ℕ) (awaiting : Awaiting B) (conn : Conn) → LinkIs u w head awaiting conn
+      → (awaiting ≡ awaits.Head) ⊎ (((n : ℕ) × (awaiting ≡ awaits.Skip n))
+      ⊎ ((g : Giving) × (n : ℕ) × (awaiting ≡ awaits.Text g n))) → conn.draft ≡ None
+  no_draft w head awaits.Head conn is how = is.draft
+  no_draft w head (awaits.Skip left) conn is how = is.draft
+  no_draft w head (awaits.Text g left) conn is how = is.draft
+  no_draft w head (awaits.Patch b left) conn is (inl e) = absurd (cc)
+  no_draft w head (awaits.Patch b left) conn is (inr (inl (n, e))) = absurd (cc)
+  no_draft w head (awaits.Patch b left) conn is (inr (inr (g, n, e))) = absurd (cc)

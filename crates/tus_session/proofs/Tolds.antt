@@ -15,8 +15,7 @@ use Rattle.tus_action.specs.declared.acts.Stop.{Stop}
 use Rattle.tus_action.specs.declared.acts.Stop.TheVariants as stops
 use Rattle.tus_session.specs.Told.{Follows, Told, Ends}
 use Rattle.tus_session.specs.declared.answers.Answer.{Answer}
-use Rattle.tus_session.specs.declared.conns.Place.{Place}
-use Rattle.tus_session.specs.declared.conns.Place.TheVariants.{Closed}
+use Rattle.tus_session.specs.declared.conns.Link.{Link}
 use Rattle.tus_session.specs.declared.errors.SessionError.TheVariants as errors
 use Rattle.tus_session.proofs.Moved.{left_moves}
 use Rattle.tus_session.specs.Places.{IsPut}
@@ -70,19 +69,19 @@ module _ {U B : Type 0} (u : Ghosts U B) where
   gave out new a t e f g = sym (ap (λ n. Gave t.bytes n a.closes a.more) e ∙ (ap (λ b. Gave t.bytes t.taken b a.more) f
       ∙ ap (λ b. Gave t.bytes t.taken (is_closed t.conn) b) g))
 
-  module _ (places all : List (Place B)) (store store' : U) (st : State) (e : Event) (conn : Conn)
+  module _ (places all : List (Option (Link B))) (store store' : U) (st : State) (e : Event) (conn : Conn)
       (stands : SessionStands u places store st) (on : IsOnOpen e) (is : st.conns (conn_in e) ≡ Some conn) where
     moves_at : (w' : World) (own' : Option ℕ) → Moves st.world w' conn.draft own'
         → Moves st.world w' (draft_at (st.conns (conn_in e))) own'
     moves_at w' own' moves = subst (λ o. Moves st.world w' (draft_at o) own') (sym is) moves
 
     -- the connection is gone, with its draft
-    lost : IsPut places all (conn_in e) Closed → u.stands store' (left_world st.world conn.draft)
+    lost : IsPut places all (conn_in e) None → u.stands store' (left_world st.world conn.draft)
         → Follows u all store' (step st e OutOfMemory).state (step st e OutOfMemory).outcome (Refused errors.NoMemory)
     lost is_put shown =
         let w' = left_world st.world conn.draft in
         let s : SessionStands u all store' (put st w' (conn_in e) None) =
-        in_place u places all store store' st w' (conn_in e) Closed None stands is_put
+        in_place u places all store store' st w' (conn_in e) None None stands is_put
         (moves_at w' None (left_moves st.world conn.draft)) shown tt in
         let x : Step = record { state = put st w' (conn_in e) None; outcome = Refused errors.NoMemory } in
         let f : Follows u all store' x.state x.outcome (Refused errors.NoMemory) =
@@ -90,7 +89,7 @@ module _ {U B : Type 0} (u : Ghosts U B) where
         subst (λ y. Follows u all store' y.state y.outcome (Refused errors.NoMemory))
         (sym (memory_is st e conn on is)) f
 
-    pub told : (next : Place B) (t : Turn) (a : Answer) (old new : List ℕ) → IsPut places all (conn_in e) next
+    pub told : (next : Option (Link B)) (t : Turn) (a : Answer) (old new : List ℕ) → IsPut places all (conn_in e) next
         → IsTurn st e conn t → TurnedAs u store' next a old new st.world conn.draft t
         → Told u all store' (Ok a) old new st e
     told next t a old new is_put is_turn turn =
@@ -107,46 +106,46 @@ module _ {U B : Type 0} (u : Ghosts U B) where
         )
 
     -- an error closes the connection
-    pub stopped : (t : Turn) (stop : Stop) (old new : List ℕ) → IsPut places all (conn_in e) Closed
+    pub stopped : (t : Turn) (stop : Stop) (old new : List ℕ) → IsPut places all (conn_in e) None
         → Turned u store' (Err stop) old new st.world conn.draft t
         → Told u all store' (Err (error_of stop)) old new st e
     stopped t stops.NoMemory old new is_put (shown, same) = (lost is_put shown, same)
     stopped t stops.DiskFault old new is_put same = (failed_is st e conn on is, same)
 
-    pub ends : IsPut places all (conn_in e) Closed
+    pub ends : IsPut places all (conn_in e) None
         → step st e Served ≡ record { state = put st (ended_world st.world conn) (conn_in e) None; outcome = Done }
         → EndedAs u store' st.world conn.draft (ended_world st.world conn) → Ends u all store' (Ok tt) st e
     ends is_put done turn =
         let w' = ended_world st.world conn in
         let s : SessionStands u all store' (put st w' (conn_in e) None) =
-        in_place u places all store store' st w' (conn_in e) Closed None stands is_put
+        in_place u places all store store' st w' (conn_in e) None None stands is_put
         (moves_at w' None turn.moves) turn.shown tt in
         let x : Step = record { state = put st w' (conn_in e) None; outcome = Done } in
         let f : Follows u all store' x.state x.outcome Done = record { stands = s; outcome = refl } in
         subst (λ y. Follows u all store' y.state y.outcome Done) (sym done) f
 
-    pub ends_stopped : (stop : Stop) → IsPut places all (conn_in e) Closed
+    pub ends_stopped : (stop : Stop) → IsPut places all (conn_in e) None
         → EndedBy u store' (Err stop) st.world conn.draft (ended_world st.world conn)
         → Ends u all store' (Err (error_of stop)) st e
     ends_stopped stops.NoMemory is_put shown = lost is_put shown
     ends_stopped stops.DiskFault is_put turn = failed_is st e conn on is
 
   -- no connection is open there
-  pub none_came : (places : List (Place B)) (store : U) (st : State) (c : ℕ) (bytes : List ℕ)
+  pub none_came : (places : List (Option (Link B))) (store : U) (st : State) (c : ℕ) (bytes : List ℕ)
       → SessionStands u places store st → st.conns c ≡ None
       → Follows u places store st (step st (Came c bytes) Served).outcome (Refused errors.Closed)
   unfolding step
   none_came places store st c bytes stands none =
       record { stands = stands; outcome = ap (λ o. (came_at st c bytes o).outcome) none }
 
-  pub none_more : (places : List (Place B)) (store : U) (st : State) (c : ℕ) → SessionStands u places store st
+  pub none_more : (places : List (Option (Link B))) (store : U) (st : State) (c : ℕ) → SessionStands u places store st
       → st.conns c ≡ None
       → Follows u places store st (step st (More c) Served).outcome (Refused errors.Closed)
   unfolding step
   none_more places store st c stands none =
       record { stands = stands; outcome = ap (λ o. (more_at st c o).outcome) none }
 
-  pub none_ended : (places : List (Place B)) (store : U) (st : State) (c : ℕ) → SessionStands u places store st
+  pub none_ended : (places : List (Option (Link B))) (store : U) (st : State) (c : ℕ) → SessionStands u places store st
       → st.conns c ≡ None
       → Follows u places store st (step st (Ended c) Served).outcome (Refused errors.Closed)
   unfolding step

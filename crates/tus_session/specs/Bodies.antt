@@ -1,17 +1,18 @@
--- What becomes of a patch whose body goes on, or ends.
-use Rattle.std.specs.Prelude.{◌≡◌, ◌++◌, ℕ, Bool, false, List, Result, Ok, Err, Some, if◌then◌else◌}
+-- What becomes of a body: a patch goes on or ends, or the body is dropped.
+use Rattle.std.specs.Prelude.{◌≡◌, ◌++◌, ℕ, zero, suc, Bool, false, List, take, Option, None, Some, Result, Ok, Err}
+use Rattle.std.specs.Prelude.{if◌then◌else◌}
 use Rattle.upload_rules.specs.Store.{find}
 use Rattle.upload_rules.specs.World.{World, Patch}
 use Rattle.upload_rules.specs.Calls.{commit_refusal}
 use Rattle.upload_rules.specs.declared.uploads.Uploads.{Ghosts}
 use Rattle.tus_request.specs.Requests.{Request}
+use Rattle.tus_request.specs.declared.buffer.HeadBuffer.{HeadBuffer}
 use Rattle.tus_action.specs.Acts.{Acted, fed, fed_patch, committed_as}
 use Rattle.tus_session.specs.declared.answers.Answer.{Answer}
 use Rattle.tus_action.specs.declared.bodies.OpenPatch.{OpenPatch}
+use Rattle.tus_session.specs.declared.conns.Awaiting.{Awaiting}
+use Rattle.tus_session.specs.declared.conns.Awaiting.TheVariants as awaits
 use Rattle.tus_session.specs.declared.conns.Link.{Link}
-use Rattle.tus_session.specs.declared.conns.Task.TheVariants as tasks
-use Rattle.tus_session.specs.declared.conns.Place.{Place}
-use Rattle.tus_session.specs.declared.conns.Place.TheVariants.{Closed, Open}
 use Rattle.tus_action.specs.declared.acts.Stop.{Stop}
 use Rattle.tus_action.specs.declared.acts.Stop.TheVariants.{NoMemory, DiskFault}
 
@@ -19,10 +20,19 @@ use Rattle.tus_action.specs.declared.acts.Stop.TheVariants.{NoMemory, DiskFault}
 abbrev pub took : ℕ → Bool → Answer
 took n closes = record { taken = n; closes = closes; more = false }
 
+-- a body of which so many bytes are to come is dropped
+abbrev pub dropping : {B : Type 0} → ℕ → Awaiting B
+dropping zero = awaits.Head
+dropping (suc n) = awaits.Skip (suc n)
+
+-- a connection with nothing open, after a reply that may close it
+abbrev pub link_after : {B : Type 0} → HeadBuffer → ℕ → Bool → Option (Link B)
+link_after head left closes = if closes then None else Some (record { head = head; awaiting = dropping left })
+
 -- the patch goes on: the same but for its draft
-pub record GoesOn {U B : Type 0} (u : Ghosts U B) (store : U) (place : Place B) (a : Answer) (k : Link B)
-    (b b' : OpenPatch B) (taken : ℕ) (w : World) (p : Patch) : Type 0 where
-  pub place_is : place ≡ Open (record k { task = tasks.Patch b' })
+pub record GoesOn {U B : Type 0} (u : Ghosts U B) (store : U) (link : Option (Link B)) (a : Answer) (head : HeadBuffer)
+    (b b' : OpenPatch B) (left taken : ℕ) (w : World) (p : Patch) : Type 0 where
+  pub link_is : link ≡ Some (record { head = head; awaiting = awaits.Patch b' left })
   pub answer_is : a ≡ took taken false
   pub number : u.number_of b'.draft ≡ u.number_of b.draft
   pub holds : u.holds b'.draft p
@@ -32,31 +42,37 @@ pub record GoesOn {U B : Type 0} (u : Ghosts U B) (store : U) (place : Place B) 
   pub bare : b'.bare ≡ b.bare
   pub closes : b'.closes ≡ b.closes
 
-abbrev pub GoesOnSome : {U B : Type 0} → Ghosts U B → U → Place B → Answer → Link B → OpenPatch B → ℕ → World → Patch
-    → Type 0
-GoesOnSome {U} {B} u store place a k b taken w p = (b' : OpenPatch B) × GoesOn u store place a k b b' taken w p
+abbrev pub GoesOnSome : {U B : Type 0} → Ghosts U B → U → Option (Link B) → Answer → HeadBuffer → OpenPatch B → ℕ → ℕ
+    → World → Patch → Type 0
+GoesOnSome {U} {B} u store link a head b left taken w p =
+    (b' : OpenPatch B) × GoesOn u store link a head b b' left taken w p
 
-abbrev pub Parts : {U B : Type 0} → Ghosts U B → U → Result (Place B × Answer) Stop → Link B → OpenPatch B → ℕ → World
-    → Patch → World → Type 0
-Parts u store (Ok (place, a)) k b taken w p gone = GoesOnSome u store place a k b taken w p
-Parts u store (Err NoMemory) k b taken w p gone = u.stands store gone
-Parts u store (Err DiskFault) k b taken w p gone = Unit {0}
+abbrev pub Parts : {U B : Type 0} → Ghosts U B → U → Result (Option (Link B) × Answer) Stop → HeadBuffer → OpenPatch B
+    → ℕ → ℕ → World → Patch → World → Type 0
+Parts u store (Ok (link, a)) head b left taken w p gone = GoesOnSome u store link a head b left taken w p
+Parts u store (Err NoMemory) head b left taken w p gone = u.stands store gone
+Parts u store (Err DiskFault) head b left taken w p gone = Unit {0}
 
 -- an answer was given, and nothing is open
-pub record Answered {U B : Type 0} (u : Ghosts U B) (store : U) (place : Place B) (a : Answer) (old new : List ℕ)
-    (k : Link B) (taken : ℕ) (m : Acted) : Type 0 where
+pub record Answered {U B : Type 0} (u : Ghosts U B) (store : U) (link : Option (Link B)) (a : Answer)
+    (old new : List ℕ) (head : HeadBuffer) (taken : ℕ) (m : Acted) : Type 0 where
   pub shown : u.stands store m.world
-  pub place_is : place ≡ (if m.closes then Closed else Open (record k { task = tasks.Idle }))
+  pub link_is : link ≡ link_after head 0 m.closes
   pub answer_is : a ≡ took taken m.closes
   pub bytes : new ≡ old ++ m.bytes
 
-abbrev pub Replies : {U B : Type 0} → Ghosts U B → U → Result (Place B × Answer) Stop → List ℕ → List ℕ → Link B → ℕ
-    → Acted → World → Type 0
-Replies u store (Ok (place, a)) old new k taken m gone = Answered u store place a old new k taken m
-Replies u store (Err NoMemory) old new k taken m gone = u.stands store gone × (new ≡ old)
-Replies u store (Err DiskFault) old new k taken m gone = new ≡ old
+abbrev pub Replies : {U B : Type 0} → Ghosts U B → U → Result (Option (Link B) × Answer) Stop → List ℕ → List ℕ
+    → HeadBuffer → ℕ → Acted → World → Type 0
+Replies u store (Ok (link, a)) old new head taken m gone = Answered u store link a old new head taken m
+Replies u store (Err NoMemory) old new head taken m gone = u.stands store gone × (new ≡ old)
+Replies u store (Err DiskFault) old new head taken m gone = new ≡ old
 
 -- the body's end, with the rest of the body
 abbrev pub ended_by : World → ℕ → Patch → List ℕ → Request → Acted
 ended_by w d p piece r = committed_as (fed w d piece) d (fed_patch w d p piece) r
     (commit_refusal (fed w d piece) d (fed_patch w d p piece))
+
+-- where a call stopped, what was written after so many bytes is taken back
+abbrev pub BackTo : {T : Type 0} → Result T Stop → ℕ → List ℕ → List ℕ → Type 0
+BackTo (Ok x) start old new = new ≡ old
+BackTo (Err e) start old new = new ≡ take start old

@@ -1,25 +1,23 @@
 -- The places of a session.
-use Rattle.std.specs.Prelude.{◌≡◌, ◌≢◌, ℕ, List, length, get_or, Some}
+use Rattle.std.specs.Prelude.{◌≡◌, ◌≢◌, ℕ, List, length, get_or, Option, Some, None}
 use Rattle.upload_rules.specs.declared.uploads.Uploads.{Ghosts}
 use Rattle.tus_request.specs.Buffers.{bytes_of}
 use Rattle.tus_session.specs.History.{State}
 use Rattle.tus_session.specs.Stands.{LinkIs}
 use Rattle.tus_session.specs.Turns.{Conn}
 use Rattle.tus_session.specs.declared.conns.Link.{Link}
-use Rattle.tus_session.specs.declared.conns.Place.{Place}
-use Rattle.tus_session.specs.declared.conns.Place.TheVariants.{Closed}
 use Rattle.tus_session.specs.declared.session.Session.{Session}
 
-abbrev pub places_of : {U B : Type 0} → Session U B → List (Place B)
-places_of s = s.places.items
+abbrev pub places_of : {U B : Type 0} → Session U B → List (Option (Link B))
+places_of s = s.links.items
 
 -- the list with another place there
-pub record IsPut {B : Type 0} (places all : List (Place B)) (k : ℕ) (next : Place B) : Type 0 where
+pub record IsPut {B : Type 0} (places all : List (Option (Link B))) (k : ℕ) (next : Option (Link B)) : Type 0 where
   pub count : length all ≡ length places
-  pub here : get_or all k Closed ≡ next
-  pub others : (j : ℕ) → j ≢ k → get_or all j Closed ≡ get_or places j Closed
+  pub here : get_or all k None ≡ next
+  pub others : (j : ℕ) → j ≢ k → get_or all j None ≡ get_or places j None
 
 -- the connection is open in the history, and is this
 abbrev pub IsOpen : {U B : Type 0} → Ghosts U B → State → ℕ → Link B → Type 0
 IsOpen u st c k =
-    (conn : Conn) × (st.conns c ≡ Some conn) × LinkIs u st.world (bytes_of k.head) k.left k.task conn
+    (conn : Conn) × (st.conns c ≡ Some conn) × LinkIs u st.world (bytes_of k.head) k.awaiting conn

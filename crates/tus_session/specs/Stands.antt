@@ -11,19 +11,15 @@ use Rattle.upload_rules.specs.Calls.{dropped}
 use Rattle.upload_rules.specs.declared.uploads.Uploads.{Ghosts}
 use Rattle.tus_action.specs.Acts.{Giving}
 use Rattle.tus_action.specs.Serves.{IsGiving}
+use Rattle.tus_action.specs.declared.acts.Giving as given
 use Rattle.tus_session.specs.Streams.{Asked, Rest, InHead, InBody, cut}
 use Rattle.tus_session.specs.Turns.{Conn, reader}
+use Rattle.tus_session.specs.Heads.{InsideHead}
 use Rattle.tus_session.specs.History.{State, most_open}
 use Rattle.tus_action.specs.declared.bodies.OpenPatch.{OpenPatch}
-use Rattle.tus_session.specs.declared.conns.Task.{Task}
-use Rattle.tus_session.specs.declared.conns.Task.TheVariants as tasks
-use Rattle.tus_session.specs.declared.conns.Place.{Place}
-use Rattle.tus_session.specs.declared.conns.Place.TheVariants.{Closed, Open}
-
--- an unfinished head is kept; of a body only how many bytes it still wants
-abbrev pub RestIs : List ℕ → ℕ → Rest → Type 0
-RestIs head left (InHead h) = (head ≡ h) × (left ≡ 0)
-RestIs head left (InBody r) = (head ≡ []) × (left ≡ body_length r.verdict - length r.body)
+use Rattle.tus_session.specs.declared.conns.Awaiting.{Awaiting}
+use Rattle.tus_session.specs.declared.conns.Awaiting.TheVariants as awaits
+use Rattle.tus_session.specs.declared.conns.Link.{Link}
 
 -- the request that a body belongs to, and the open patch that it is
 pub record PatchesAs {U B : Type 0} (u : Ghosts U B) (w : World) (b : OpenPatch B) (d : ℕ) (asked : Asked) (r : Request)
@@ -41,26 +37,55 @@ pub record PatchesAs {U B : Type 0} (u : Ghosts U B) (w : World) (b : OpenPatch 
   pub bare : b.bare ≡ r.bare
   pub closes : b.closes ≡ r.closes
 
-abbrev pub PatchIs : {U B : Type 0} → Ghosts U B → World → Rest → OpenPatch B → ℕ → Type 0
-PatchIs u w (InHead h) b d = ⊥
-PatchIs u w (InBody asked) b d = (r : Request) × (p : Patch) × PatchesAs u w b d asked r p
+-- the connection's bytes end in a body that wants so many more, at least one, and no head is kept
+pub record InsideBody (w : World) (conn : Conn) (head : List ℕ) (left : ℕ) (asked : Asked) : Type 0 where
+  pub rest : (cut (reader w) conn.stream).rest ≡ InBody asked
+  pub cleared : head ≡ []
+  pub some : 0 < left
+  pub wanted : left ≡ body_length asked.verdict - length asked.body
 
--- what is open: nothing, a patch, or a text
-abbrev pub TaskIs : {U B : Type 0} → Ghosts U B → World → Rest → Task B → Option ℕ → Option Giving → Type 0
-TaskIs u w rest tasks.Idle None None = Unit {0}
-TaskIs u w rest (tasks.Patch b) (Some d) None = PatchIs u w rest b d
-TaskIs u w rest (tasks.Text g) None (Some h) = IsGiving w.store g h
-TaskIs u w rest _ _ _ = ⊥
+-- a patch is open for it
+pub record IsPatching {U B : Type 0} (u : Ghosts U B) (w : World) (conn : Conn) (head : List ℕ) (b : OpenPatch B)
+    (left : ℕ) : Type 0 where
+  pub d : ℕ
+  pub asked : Asked
+  pub r : Request
+  pub p : Patch
+  pub inside : InsideBody w conn head left asked
+  pub draft : conn.draft ≡ Some d
+  pub pending : conn.pending ≡ None
+  pub patches : PatchesAs u w b d asked r p
+
+-- or nothing is open
+pub record IsSkipping (w : World) (conn : Conn) (head : List ℕ) (left : ℕ) : Type 0 where
+  pub asked : Asked
+  pub inside : InsideBody w conn head left asked
+  pub draft : conn.draft ≡ None
+  pub pending : conn.pending ≡ None
+
+-- an unfinished head is kept; of a body only how many bytes it still wants
+abbrev pub RestIs : List ℕ → ℕ → Rest → Type 0
+RestIs head left (InHead h) = (head ≡ h) × (left ≡ 0)
+RestIs head left (InBody r) = (head ≡ []) × (left ≡ body_length r.verdict - length r.body)
+
+-- a text is still to be given
+pub record IsGivingText (w : World) (conn : Conn) (head : List ℕ) (g : given.Giving) (left : ℕ) : Type 0 where
+  pub h : Giving
+  pub rest : RestIs head left (cut (reader w) conn.stream).rest
+  pub draft : conn.draft ≡ None
+  pub pending : conn.pending ≡ Some h
+  pub gives : IsGiving w.store g h
 
 -- a connection is the history's
-pub record LinkIs {U B : Type 0} (u : Ghosts U B) (w : World) (head : List ℕ) (left : ℕ) (task : Task B)
-    (conn : Conn) : Type 0 where
-  pub kept : RestIs head left (cut (reader w) conn.stream).rest
-  pub does : TaskIs u w (cut (reader w) conn.stream).rest task conn.draft conn.pending
+abbrev pub LinkIs : {U B : Type 0} → Ghosts U B → World → List ℕ → Awaiting B → Conn → Type 0
+LinkIs u w head awaits.Head conn = InsideHead w conn head
+LinkIs u w head (awaits.Patch b left) conn = IsPatching u w conn head b left
+LinkIs u w head (awaits.Skip left) conn = IsSkipping w conn head left
+LinkIs u w head (awaits.Text g left) conn = IsGivingText w conn head g left
 
-abbrev pub PlaceIs : {U B : Type 0} → Ghosts U B → World → Place B → Option Conn → Type 0
-PlaceIs u w Closed None = Unit {0}
-PlaceIs u w (Open k) (Some conn) = LinkIs u w (bytes_of k.head) k.left k.task conn
+abbrev pub PlaceIs : {U B : Type 0} → Ghosts U B → World → Option (Link B) → Option Conn → Type 0
+PlaceIs u w None None = Unit {0}
+PlaceIs u w (Some k) (Some conn) = LinkIs u w (bytes_of k.head) k.awaiting conn
 PlaceIs u w _ _ = ⊥
 
 abbrev pub draft_at : Option Conn → Option ℕ
@@ -68,18 +93,19 @@ draft_at None = None
 draft_at (Some conn) = conn.draft
 
 -- the store shows the history's world, each place is the history's, and no two connections have one draft
-pub record SessionStands {U B : Type 0} (u : Ghosts U B) (places : List (Place B)) (store : U) (st : State) : Type 0
+pub record SessionStands {U B : Type 0} (u : Ghosts U B) (places : List (Option (Link B))) (store : U) (st : State) : Type 0
   where
     pub count : length places ≡ most_open
     pub shown : u.stands store st.world
-    pub each : (c : ℕ) → PlaceIs u st.world (get_or places c Closed) (st.conns c)
+    pub each : (c : ℕ) → PlaceIs u st.world (get_or places c None) (st.conns c)
     pub apart : (c e d : ℕ) → draft_at (st.conns c) ≡ Some d → draft_at (st.conns e) ≡ Some d → c ≡ e
     pub unique : IsApart st.world.patches
     -- over a spool: the open patches are those of the connections, so that the blocks that are reserved are the needs
     pub owned : (d : ℕ) (p : Patch) → find d st.world.patches ≡ Some p → (c : ℕ) × (draft_at (st.conns c) ≡ Some d)
 
 -- the world without the draft that is open
-abbrev pub dropped_by : {U B : Type 0} → Ghosts U B → World → Task B → World
-dropped_by u w tasks.Idle = w
-dropped_by u w (tasks.Patch b) = dropped w (u.number_of b.draft)
-dropped_by u w (tasks.Text g) = w
+abbrev pub dropped_by : {U B : Type 0} → Ghosts U B → World → Awaiting B → World
+dropped_by u w awaits.Head = w
+dropped_by u w (awaits.Patch b left) = dropped w (u.number_of b.draft)
+dropped_by u w (awaits.Skip left) = w
+dropped_by u w (awaits.Text g left) = w

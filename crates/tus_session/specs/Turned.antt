@@ -7,26 +7,26 @@ use Rattle.tus_session.specs.History.{is_closed, has_text}
 use Rattle.tus_session.specs.Stands.{PlaceIs, draft_at}
 use Rattle.tus_session.specs.Moves.{Moves}
 use Rattle.tus_session.specs.declared.answers.Answer.{Answer}
-use Rattle.tus_session.specs.declared.conns.Place.{Place}
+use Rattle.tus_session.specs.declared.conns.Link.{Link}
 use Rattle.tus_action.specs.declared.acts.Stop.{Stop}
 use Rattle.tus_action.specs.declared.acts.Stop.TheVariants.{NoMemory, DiskFault}
 
 -- the turn's world, connection and bytes
-pub record TurnedAs {U B : Type 0} (u : Ghosts U B) (store : U) (place : Place B) (a : Answer) (old new : List ℕ)
-    (w : World) (own : Option ℕ) (t : Turn) : Type 0 where
+pub record TurnedAs {U B : Type 0} (u : Ghosts U B) (store : U) (link : Option (Link B)) (a : Answer)
+    (old new : List ℕ) (w : World) (own : Option ℕ) (t : Turn) : Type 0 where
   pub shown : u.stands store t.world
-  pub here : PlaceIs u t.world place t.conn
+  pub here : PlaceIs u t.world link t.conn
   pub moves : Moves w t.world own (draft_at t.conn)
   pub taken : a.taken ≡ t.taken
   pub closes : a.closes ≡ is_closed t.conn
   pub more : a.more ≡ has_text t.conn
   pub bytes : new ≡ old ++ t.bytes
 
--- the turn is done, and this is the connection's place after it; or memory was wanting, and the draft is gone; or the
+-- the turn is done, and this is the connection after it; or memory was wanting, and the draft is gone; or the
 -- device failed. An error closes the connection
-abbrev pub Turned : {U B : Type 0} → Ghosts U B → U → Result (Place B × Answer) Stop → List ℕ → List ℕ → World
+abbrev pub Turned : {U B : Type 0} → Ghosts U B → U → Result (Option (Link B) × Answer) Stop → List ℕ → List ℕ → World
     → Option ℕ → Turn → Type 0
-Turned u store (Ok (place, a)) old new w own t = TurnedAs u store place a old new w own t
+Turned u store (Ok (link, a)) old new w own t = TurnedAs u store link a old new w own t
 Turned u store (Err NoMemory) old new w own t = u.stands store (left_world w own) × (new ≡ old)
 Turned u store (Err DiskFault) old new w own t = new ≡ old
 

@@ -1,18 +1,18 @@
 //! A body under way: what came of it, and its end.
 ghost use Rattle.std.specs.Prelude.{◌≡◌, ◌+◌, ◌-◌, ◌<◌, ◌≤◌, ◌^◌, false, length};
-ghost use Rattle.std.specs.Prelude.{take, min, None, Some, IsErrOf, if◌then◌else◌};
+ghost use Rattle.std.specs.Prelude.{take, min, Some, IsErrOf};
 ghost use Rattle.upload_rules.specs.Store.{find};
 ghost use Rattle.upload_rules.specs.World.{World, Patch};
 ghost use Rattle.upload_rules.specs.Calls.{dropped};
 ghost use Rattle.upload_rules.specs.Answers.{Limits, Counts};
 ghost use Rattle.tus_request.specs.Requests.{Request};
 ghost use Rattle.tus_action.specs.Acts.{fed, fed_patch};
-ghost use Rattle.tus_session.specs.Bodies.{Parts, Replies, ended_by, took};
+ghost use Rattle.tus_session.specs.Bodies.{Parts, Replies, ended_by, link_after, took};
 ghost use Rattle.tus_request.specs.Replies.{longest_reply, GrowsBy};
 
 use crate::Answer;
-use crate::conns::{Link, Place, Task};
-use crate::turns::{place_of, waits};
+use crate::conns::{Awaiting, Link};
+use crate::turns::waits;
 use std::alloc::Global;
 use tus_action::{OpenPatch, Stop, feed, finish};
 use tus_request::HeadBuffer;
@@ -25,10 +25,9 @@ pub(crate) fn skip<B>(
     before: usize,
     behind: usize,
     closes: bool,
-) -> (Place<B>, Answer)
+) -> (Option<Link<B>>, Answer)
     requires { before + behind < 2 ^ 64 }
-    ensures place { result.0 ≡ (if closes then Place.Closed else Place.Open
-        (record { head = head; left = left - min left behind; task = Task.Idle })) }
+    ensures link { result.0 ≡ link_after head (left - min left behind) closes }
     ensures answer { result.1 ≡ took (before + min left behind) closes }
 {
     let count = left.min(behind as u64);
@@ -37,7 +36,7 @@ pub(crate) fn skip<B>(
         closes,
         more: false,
     };
-    (place_of(head, left - count, closes), answer)
+    (Link::after_reply(head, left - count, closes), answer)
 }
 
 // More of a patch's body came, but not its end.
@@ -48,14 +47,13 @@ fn go_on<U: Uploads>(
     left: u64,
     before: usize,
     bytes: &[u8],
-) -> Result<(Place<U::Draft>, Answer), Stop>
+) -> Result<(Option<Link<U::Draft>>, Answer), Stop>
     requires few { length bytes.now < left }
     requires fits { before + length bytes.now < 2 ^ 64 }
     ensures answer { (w : World) (p : Patch) → U.stands store.old w → find (U.number_of patch.draft) w.patches ≡ Some p
         → U.holds patch.draft p
         → length p.body + length bytes.now ≤ p.count
-        → Parts U.Uploads store.new result
-        (record { head = head; left = left - length bytes.now; task = Task.Idle }) patch (before + length bytes.now)
+        → Parts U.Uploads store.new result head patch (left - length bytes.now) (before + length bytes.now)
         (fed w (U.number_of patch.draft) bytes.now) (fed_patch w (U.number_of patch.draft) p bytes.now)
         (dropped w (U.number_of patch.draft)) }
     ensures crash { (w : World) (p : Patch) → U.stands store.old w → find (U.number_of patch.draft) w.patches ≡ Some p
@@ -65,12 +63,12 @@ fn go_on<U: Uploads>(
     ensures counts { Counts (IsErrOf result Stop.DiskFault) (U.failures store.old) (U.failures store.new) }
 {
     let patch = feed(store, patch, bytes)?;
-    let link = Link {
-        head,
-        left: left - bytes.len() as u64,
-        task: Task::Patch(patch),
-    };
-    Ok((Place::Open(link), waits(before + bytes.len(), false)))
+    let left = left - bytes.len() as u64;
+    let awaiting = Awaiting::Patch { patch, left };
+    Ok((
+        Some(Link { head, awaiting }),
+        waits(before + bytes.len(), false),
+    ))
 }
 
 // The rest of a patch's body came: it is committed, or refused, and answered.
@@ -82,14 +80,13 @@ fn last_of<U: Uploads>(
     before: usize,
     bytes: &[u8],
     out: &mut Vec<u8>,
-) -> Result<(Place<U::Draft>, Answer), Stop>
+) -> Result<(Option<Link<U::Draft>>, Answer), Stop>
     requires { before + length bytes.now < 2 ^ 64 }
     ensures answer { (w : World) (p : Patch) (r : Request) → U.stands store.old w
         → find (U.number_of patch.draft) w.patches ≡ Some p → U.holds patch.draft p
         → length p.body + length bytes.now ≡ p.count → patch.reached ≡ length p.began.accepted + p.count
         → patch.bare ≡ r.bare → patch.closes ≡ r.closes
-        → Replies U.Uploads store.new result out.old.items out.new.items
-        (record { head = head; left = 0; task = Task.Idle }) (before + length bytes.now)
+        → Replies U.Uploads store.new result out.old.items out.new.items head (before + length bytes.now)
         (ended_by w (U.number_of patch.draft) p bytes.now r) (dropped w (U.number_of patch.draft)) }
     ensures crash { (w : World) (p : Patch) (r : Request) → U.stands store.old w
         → find (U.number_of patch.draft) w.patches ≡ Some p → U.holds patch.draft p
@@ -112,7 +109,7 @@ fn last_of<U: Uploads>(
         closes,
         more: false,
     };
-    Ok((place_of(head, 0, closes), answer))
+    Ok((Link::after_reply(head, 0, closes), answer))
 }
 
 // What came of a patch's body: it goes on, or it is answered.
@@ -125,13 +122,12 @@ pub(crate) fn body_of<U: Uploads>(
     before: usize,
     bytes: &[u8],
     out: &mut Vec<u8>,
-) -> Result<(Place<U::Draft>, Answer), Stop>
+) -> Result<(Option<Link<U::Draft>>, Answer), Stop>
     requires { before + length bytes.now < 2 ^ 64 }
     ensures part { length bytes.now < left → (w : World) (p : Patch) → U.stands store.old w
         → find (U.number_of patch.draft) w.patches ≡ Some p → U.holds patch.draft p
         → length p.body + length bytes.now ≤ p.count
-        → Parts U.Uploads store.new result
-        (record { head = head; left = left - length bytes.now; task = Task.Idle }) patch (before + length bytes.now)
+        → Parts U.Uploads store.new result head patch (left - length bytes.now) (before + length bytes.now)
         (fed w (U.number_of patch.draft) bytes.now) (fed_patch w (U.number_of patch.draft) p bytes.now)
         (dropped w (U.number_of patch.draft)) }
     ensures part_out { length bytes.now < left → out.new.items ≡ out.old.items }
@@ -143,8 +139,7 @@ pub(crate) fn body_of<U: Uploads>(
         → find (U.number_of patch.draft) w.patches ≡ Some p → U.holds patch.draft p
         → length p.body + left ≡ p.count → patch.reached ≡ length p.began.accepted + p.count → patch.bare ≡ r.bare
         → patch.closes ≡ r.closes
-        → Replies U.Uploads store.new result out.old.items out.new.items
-        (record { head = head; left = 0; task = Task.Idle }) (before + left)
+        → Replies U.Uploads store.new result out.old.items out.new.items head (before + left)
         (ended_by w (U.number_of patch.draft) p (take left bytes.now) r) (dropped w (U.number_of patch.draft)) }
     ensures rest_crash { left ≤ length bytes.now → (w : World) (p : Patch) (r : Request) → U.stands store.old w
         → find (U.number_of patch.draft) w.patches ≡ Some p → U.holds patch.draft p

@@ -8,6 +8,7 @@ ghost use Rattle.tus_request.specs.Shown.{request_shown};
 ghost use Rattle.tus_request.specs.Buffers.{bytes_of};
 ghost use Rattle.tus_action.specs.Serves.{CanBeMade, CanBeRead};
 ghost use Rattle.tus_session.specs.Turns.{Conn, came_turn};
+ghost use Rattle.tus_session.specs.Bodies.{BackTo};
 ghost use Rattle.tus_session.specs.Stands.{LinkIs};
 ghost use Rattle.tus_session.specs.Turned.{Turned};
 ghost use Rattle.tus_session.specs.Heads.{InsideHead, IsWhole, IsSmall, ReachedIs};
@@ -15,8 +16,8 @@ ghost use Rattle.tus_session.specs.Turns.{GivesFew};
 
 use crate::Answer;
 use crate::bodies::{body_of, skip};
-use crate::conns::{Link, Place, Task};
-use crate::turns::{place_of, waits};
+use crate::conns::{Awaiting, Link};
+use crate::turns::waits;
 use std::alloc::Global;
 use tus_action::{Done, OpenPatch, PieceBuffer, Stop, act};
 use tus_request::replies::reply_refused;
@@ -44,7 +45,7 @@ fn request_of<U: Uploads>(
     bytes: &[u8],
     buffer: &mut PieceBuffer,
     out: &mut Vec<u8>,
-) -> Result<(Place<U::Draft>, Answer), Stop>
+) -> Result<(Option<Link<U::Draft>>, Answer), Stop>
     requires makeable { CanBeMade (request_shown request).action }
     requires usable { (w : World) → U.stands store.old w → CanBeRead w (request_shown request).action }
     requires small { IsSmall (request_shown request) }
@@ -80,24 +81,30 @@ fn request_of<U: Uploads>(
                 bare,
                 closes,
             };
-            match body_of(alloc, store, head, patch, length, before, behind, out) {
-                Ok(turned) => Ok(turned),
-                Err(stop) => {
-                    out.truncate(start);
-                    Err(stop)
-                }
-            }
+            let turned = body_of(alloc, store, head, patch, length, before, behind, out);
+            back_to(start, turned, out)
         }
         Done::Giving(giving) => {
-            let link = Link {
-                head,
+            let awaiting = Awaiting::Text {
+                giving,
                 left: length,
-                task: Task::Text(giving),
             };
-            Ok((Place::Open(link), waits(before, true)))
+            Ok((Some(Link { head, awaiting }), waits(before, true)))
         }
         Done::Replied { closes } => Ok(skip(head, length, before, behind.len(), closes)),
     }
+}
+
+// Where a call stopped, what was written after so many bytes is taken back.
+fn back_to<T>(start: usize, done: Result<T, Stop>, out: &mut Vec<u8>) -> Result<T, Stop>
+    ensures same { result ≡ done }
+    ensures back { BackTo done start out.old.items out.new.items }
+    ensures few { length out.new.items ≤ length out.old.items }
+{
+    if done.is_err() {
+        out.truncate(start);
+    }
+    done
 }
 
 // Bytes of a head came.
@@ -108,7 +115,7 @@ fn head_of<U: Uploads>(
     bytes: &[u8],
     buffer: &mut PieceBuffer,
     out: &mut Vec<u8>,
-) -> Result<(Place<U::Draft>, Answer), Stop>
+) -> Result<(Option<Link<U::Draft>>, Answer), Stop>
     ensures answer { (w : World) (conn : Conn) → U.stands store.old w → InsideHead w conn (bytes_of head)
         → Turned U.Uploads store.new result out.old.items out.new.items w conn.draft
         (came_turn w conn bytes.now) }
@@ -126,7 +133,10 @@ fn head_of<U: Uploads>(
     let had = head.len();
     let parsed = head.read(alloc, bytes, store.indexes())?;
     match parsed {
-        Parsed::More => Ok((place_of(head, 0, false), waits(bytes.len(), false))),
+        Parsed::More => {
+            let awaiting = Awaiting::Head;
+            Ok((Some(Link { head, awaiting }), waits(bytes.len(), false)))
+        }
         Parsed::Refused {
             taken,
             length,
@@ -155,34 +165,30 @@ pub(crate) fn came_of<U: Uploads>(
     bytes: &[u8],
     buffer: &mut PieceBuffer,
     out: &mut Vec<u8>,
-) -> Result<(Place<U::Draft>, Answer), Stop>
+) -> Result<(Option<Link<U::Draft>>, Answer), Stop>
     ensures answer { (w : World) (conn : Conn) → U.stands store.old w
-        → LinkIs U.Uploads w (bytes_of link.head) link.left link.task conn
+        → LinkIs U.Uploads w (bytes_of link.head) link.awaiting conn
         → Turned U.Uploads store.new result out.old.items out.new.items w conn.draft
         (came_turn w conn bytes.now) }
     ensures crash { (w : World) (conn : Conn) → U.stands store.old w
-        → LinkIs U.Uploads w (bytes_of link.head) link.left link.task conn
+        → LinkIs U.Uploads w (bytes_of link.head) link.awaiting conn
         → Limits (U.moment store.old) (U.moment store.new) (U.left_only store.old) (U.left_only store.new) w.store
         (came_turn w conn bytes.now).world.store }
     ensures unmade { (w : World) (conn : Conn) → U.stands store.old w
-        → LinkIs U.Uploads w (bytes_of link.head) link.left link.task conn → IsErrOf result Stop.NoMemory
+        → LinkIs U.Uploads w (bytes_of link.head) link.awaiting conn → IsErrOf result Stop.NoMemory
         → Limits (U.moment store.old) (U.moment store.new) (U.left_only store.old)
         (U.left_only store.new) w.store w.store }
     ensures counts { Counts (IsErrOf result Stop.DiskFault) (U.failures store.old) (U.failures store.new) }
     ensures few { GivesFew out.old.items out.new.items }
 {
-    let Link { head, left, task } = link;
-    match task {
-        Task::Text(giving) => {
-            let link = Link {
-                head,
-                left,
-                task: Task::Text(giving),
-            };
-            Ok((Place::Open(link), waits(0, true)))
+    let Link { head, awaiting } = link;
+    match awaiting {
+        Awaiting::Head => head_of(alloc, store, head, bytes, buffer, out),
+        Awaiting::Patch { patch, left } => body_of(alloc, store, head, patch, left, 0, bytes, out),
+        Awaiting::Skip { left } => Ok(skip(head, left, 0, bytes.len(), false)),
+        Awaiting::Text { giving, left } => {
+            let awaiting = Awaiting::Text { giving, left };
+            Ok((Some(Link { head, awaiting }), waits(0, true)))
         }
-        Task::Patch(patch) => body_of(alloc, store, head, patch, left, 0, bytes, out),
-        Task::Idle if left > 0 => Ok(skip(head, left, 0, bytes.len(), false)),
-        Task::Idle => head_of(alloc, store, head, bytes, buffer, out),
     }
 }

@@ -9,7 +9,7 @@ ghost use Rattle.upload_rules.specs.World.{at_rest};
 ghost use Rattle.upload_rules.specs.Answers.{Limits, Quiet, Counts};
 ghost use Rattle.tus_session.specs.Turns.{GivesFew};
 
-use crate::conns::{Link, Place, Task};
+use crate::conns::{Awaiting, Link};
 use crate::heads::came_of;
 use crate::turns::{drop_link, end_of, more_of};
 use crate::{Answer, SessionError};
@@ -22,11 +22,10 @@ use upload_rules::Uploads;
 /// How many connections may be open at once.
 pub const MOST_OPEN: usize = 16;
 
-/// Up to `MOST_OPEN` connections: of each an unfinished head, or how many bytes of a body are to come, and what its
-/// last head left open.
+/// Up to `MOST_OPEN` connections, each in its place: of each an unfinished head and what it waits for.
 pub struct Session<U: Uploads> {
     alloc: Global,
-    places: Vec<Place<U::Draft>>,
+    links: Vec<Option<Link<U::Draft>>>,
     // what the pieces of texts are read into
     buffer: Box<PieceBuffer>,
 }
@@ -38,16 +37,16 @@ impl<U: Uploads> Session<U> {
             → IfOk result (λ s. SessionStands U.Uploads (places_of s) store (beginning m blocks)) }
     {
         let buffer = Box::new(alloc, [0; PIECE])?;
-        let mut places = Vec::with_capacity(alloc, MOST_OPEN)?;
+        let mut links = Vec::with_capacity(alloc, MOST_OPEN)?;
         for _ in 0..MOST_OPEN {
-            match places.push(Place::Closed) {
+            match links.push(None) {
                 Ok(()) => {}
                 Err(_full) => unreachable!(),
             }
         }
         Ok(Session {
             alloc,
-            places,
+            links,
             buffer,
         })
     }
@@ -59,18 +58,14 @@ impl<U: Uploads> Session<U> {
         ensures no_device { IsErrOf result SessionError.DiskFault → ⊥ }
         ensures no_down { IsErrOf result SessionError.Down → ⊥ }
     {
-        if conn >= self.places.len() {
+        if conn >= self.links.len() || self.links[conn].is_some() {
             return Err(SessionError::TooMany);
         }
-        let Place::Closed = &self.places[conn] else {
-            return Err(SessionError::TooMany);
-        };
         let link = Link {
             head: HeadBuffer::new(self.alloc),
-            left: 0,
-            task: Task::Idle,
+            awaiting: Awaiting::Head,
         };
-        put_back(&mut self.places[conn], Place::Open(link));
+        put_back(&mut self.links[conn], Some(link));
         Ok(())
     }
 
@@ -107,7 +102,7 @@ impl<U: Uploads> Session<U> {
     {
         let link = self.take(conn)?;
         let (next, answer) = came_of(self.alloc, store, link, bytes, &mut self.buffer, out)?;
-        put_back(&mut self.places[conn], next);
+        put_back(&mut self.links[conn], next);
         Ok(answer)
     }
 
@@ -133,7 +128,7 @@ impl<U: Uploads> Session<U> {
     {
         let link = self.take(conn)?;
         let (next, answer) = more_of(store, link, &mut self.buffer, out)?;
-        put_back(&mut self.places[conn], next);
+        put_back(&mut self.links[conn], next);
         Ok(answer)
     }
 
@@ -164,19 +159,16 @@ impl<U: Uploads> Session<U> {
     fn take(&mut self, conn: usize) -> Result<Link<U::Draft>, SessionError>
         ensures open { (store : U) (st : State) → SessionStands U.Uploads (places_of self.old) store st
             → IfOk result (IsOpen U.Uploads st conn) }
-        ensures taken { OnOk result (IsPut (places_of self.old) (places_of self.new) conn Place.Closed) }
+        ensures taken { OnOk result (IsPut (places_of self.old) (places_of self.new) conn None) }
         ensures within { OnOk result (conn < length (places_of self.new)) }
         ensures closed { (store : U) (st : State) → SessionStands U.Uploads (places_of self.old) store st
             → OnErr result ((st.conns conn ≡ None) × SessionStands U.Uploads (places_of self.new) store st) }
         ensures refusal { IfErr result (λ e. e ≡ SessionError.Closed) }
     {
-        if conn >= self.places.len() {
+        if conn >= self.links.len() {
             return Err(SessionError::Closed);
         }
-        match mem::replace(&mut self.places[conn], Place::Closed) {
-            Place::Closed => Err(SessionError::Closed),
-            Place::Open(link) => Ok(link),
-        }
+        self.links[conn].take().ok_or(SessionError::Closed)
     }
 
     /// Ends the session: the drafts that are open are dropped.
@@ -189,26 +181,25 @@ impl<U: Uploads> Session<U> {
     {
         let Session {
             alloc: _,
-            mut places,
+            mut links,
             buffer: _,
         } = self;
-        while let Some(place) = places.pop() {
-            match place {
-                Place::Closed => {}
-                Place::Open(link) => drop_link(store, link),
+        while let Some(place) = links.pop() {
+            if let Some(link) = place {
+                drop_link(store, link);
             }
         }
-        places.destroy_empty();
+        links.destroy_empty();
     }
 }
 
 // Puts a connection in the place of a closed one.
-fn put_back<B>(slot: &mut Place<B>, next: Place<B>)
-    requires { slot.old ≡ Place.Closed }
-    ensures { slot.new ≡ next }
+fn put_back<B>(place: &mut Option<Link<B>>, next: Option<Link<B>>)
+    requires { place.old ≡ None }
+    ensures { place.new ≡ next }
 {
-    match mem::replace(slot, next) {
-        Place::Closed => {}
-        Place::Open(_link) => unreachable!(),
+    match mem::replace(place, next) {
+        None => {}
+        Some(_link) => unreachable!(),
     }
 }

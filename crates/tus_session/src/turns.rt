@@ -1,5 +1,5 @@
 //! A turn of one connection: the next piece of a text, and the connection's end.
-ghost use Rattle.std.specs.Prelude.{◌≡◌, false, IsErrOf, if◌then◌else◌, Ok};
+ghost use Rattle.std.specs.Prelude.{◌≡◌, false, IsErrOf, Ok};
 ghost use Rattle.upload_rules.specs.World.{World};
 ghost use Rattle.upload_rules.specs.Answers.{Limits, Quiet, Counts};
 ghost use Rattle.tus_request.specs.Buffers.{bytes_of};
@@ -9,9 +9,8 @@ ghost use Rattle.tus_session.specs.Turned.{Turned, Ended};
 ghost use Rattle.tus_session.specs.Turns.{GivesFew};
 
 use crate::Answer;
-use crate::conns::{Link, Place, Task};
+use crate::conns::{Awaiting, Link};
 use tus_action::{Given, OpenPatch, PieceBuffer, Stop, cut, give_more};
-use tus_request::HeadBuffer;
 use upload_rules::Uploads;
 
 // What is answered where the connection stays open and nothing was given.
@@ -32,31 +31,30 @@ pub(crate) fn more_of<U: Uploads>(
     link: Link<U::Draft>,
     buffer: &mut PieceBuffer,
     out: &mut Vec<u8>,
-) -> Result<(Place<U::Draft>, Answer), Stop>
+) -> Result<(Option<Link<U::Draft>>, Answer), Stop>
     ensures answer { (w : World) (conn : Conn) → U.stands store.old w
-        → LinkIs U.Uploads w (bytes_of link.head) link.left link.task conn
+        → LinkIs U.Uploads w (bytes_of link.head) link.awaiting conn
         → Turned U.Uploads store.new result out.old.items out.new.items w conn.draft (more_turn w conn) }
     ensures crash { Quiet (U.moment store.old) (U.moment store.new) (U.left_only store.old) (U.left_only store.new) }
     ensures counts { Counts (IsErrOf result Stop.DiskFault) (U.failures store.old) (U.failures store.new) }
     ensures few { GivesFew out.old.items out.new.items }
 {
-    let Link { head, left, task } = link;
-    let giving = match task {
-        Task::Text(giving) => giving,
-        task => return Ok((Place::Open(Link { head, left, task }), waits(0, false))),
+    let Link { head, awaiting } = link;
+    let (giving, left) = match awaiting {
+        Awaiting::Text { giving, left } => (giving, left),
+        awaiting => return Ok((Some(Link { head, awaiting }), waits(0, false))),
     };
     let given = give_more(store, giving, buffer, out)?;
     match given {
-        Given::Piece(rest) => {
-            let link = Link {
-                head,
-                left,
-                task: Task::Text(rest),
-            };
-            Ok((Place::Open(link), waits(0, true)))
+        Given::Piece(giving) => {
+            let awaiting = Awaiting::Text { giving, left };
+            Ok((Some(Link { head, awaiting }), waits(0, true)))
         }
-        Given::Last => Ok((place_of(head, left, giving.closes), gave(giving.closes))),
-        Given::Gone => Ok((Place::Closed, gave(true))),
+        Given::Last => {
+            let closes = giving.closes;
+            Ok((Link::after_reply(head, left, closes), gave(closes)))
+        }
+        Given::Gone => Ok((None, gave(true))),
     }
 }
 
@@ -74,65 +72,44 @@ fn gave(closes: bool) -> Answer
 // The connection ended: what came of an open patch is committed.
 pub(crate) fn end_of<U: Uploads>(store: &mut U, link: Link<U::Draft>) -> Result<(), Stop>
     ensures answer { (w : World) (conn : Conn) → U.stands store.old w
-        → LinkIs U.Uploads w (bytes_of link.head) link.left link.task conn
+        → LinkIs U.Uploads w (bytes_of link.head) link.awaiting conn
         → Ended U.Uploads store.new result w conn.draft (ended_world w conn) }
     ensures crash { (w : World) (conn : Conn) → U.stands store.old w
-        → LinkIs U.Uploads w (bytes_of link.head) link.left link.task conn
+        → LinkIs U.Uploads w (bytes_of link.head) link.awaiting conn
         → Limits (U.moment store.old) (U.moment store.new) (U.left_only store.old) (U.left_only store.new) w.store
         (ended_world w conn).store }
     ensures unmade { (w : World) (conn : Conn) → U.stands store.old w
-        → LinkIs U.Uploads w (bytes_of link.head) link.left link.task conn → IsErrOf result Stop.NoMemory
+        → LinkIs U.Uploads w (bytes_of link.head) link.awaiting conn → IsErrOf result Stop.NoMemory
         → Limits (U.moment store.old) (U.moment store.new) (U.left_only store.old)
         (U.left_only store.new) w.store w.store }
     ensures counts { Counts (IsErrOf result Stop.DiskFault) (U.failures store.old) (U.failures store.new) }
 {
-    let Link {
-        head: _,
-        left: _,
-        task,
-    } = link;
-    match task {
-        Task::Idle | Task::Text(_) => Ok(()),
-        Task::Patch(patch) => cut(store, patch),
+    let Link { head: _, awaiting } = link;
+    match awaiting {
+        Awaiting::Patch { patch, left: _ } => cut(store, patch),
+        Awaiting::Head | Awaiting::Skip { left: _ } | Awaiting::Text { giving: _, left: _ } => Ok(
+            (),
+        ),
     }
 }
 
 // The session ends: an open patch is dropped.
 pub(crate) fn drop_link<U: Uploads>(store: &mut U, link: Link<U::Draft>)
-    ensures kept { (w : World) → U.stands store.old w → U.stands store.new (dropped_by U.Uploads w link.task) }
+    ensures kept { (w : World) → U.stands store.old w → U.stands store.new (dropped_by U.Uploads w link.awaiting) }
     ensures crash { Quiet (U.moment store.old) (U.moment store.new) (U.left_only store.old) (U.left_only store.new) }
     ensures counts { U.failures store.new ≡ U.failures store.old }
 {
-    let Link {
-        head: _,
-        left: _,
-        task,
-    } = link;
-    match task {
-        Task::Idle | Task::Text(_) => {}
-        Task::Patch(
-            OpenPatch {
+    let Link { head: _, awaiting } = link;
+    match awaiting {
+        Awaiting::Patch { patch, left: _ } => {
+            let OpenPatch {
                 draft,
                 reached: _,
                 bare: _,
                 closes: _,
-            },
-        ) => store.drop_open(draft),
-    }
-}
-
-// A connection with nothing open, behind a call that may close it.
-pub(crate) fn place_of<B>(head: HeadBuffer, left: u64, closes: bool) -> Place<B>
-    ensures { result ≡ (if closes then Place.Closed else Place.Open
-        (record { head = head; left = left; task = Task.Idle })) }
-{
-    if closes {
-        Place::Closed
-    } else {
-        Place::Open(Link {
-            head,
-            left,
-            task: Task::Idle,
-        })
+            } = patch;
+            store.drop_open(draft);
+        }
+        Awaiting::Head | Awaiting::Skip { left: _ } | Awaiting::Text { giving: _, left: _ } => {}
     }
 }

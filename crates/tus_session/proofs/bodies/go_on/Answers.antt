@@ -6,7 +6,7 @@ returns-clause-answer g c w p stands found holds few =
     let fed = c.in_ok-patch.ensures.answer w p stands found holds few in (
       c.in_ok-patch.patch,
       record {
-        place_is = refl;
+        link_is = refl;
         answer_is = c.waits.ensures;
         number = fed.number;
         holds = fed.holds;

@@ -1,4 +1,4 @@
-use Rattle.std.proofs.Common.{◌≡◌, ◌≤◌, ◌+◌, length, ◌∙◌, arith}
+use Rattle.std.proofs.Common.{◌≤◌, ◌+◌, length, ◌∙◌, arith}
 use Rattle.std.proofs.lemmas.Result.{err_from_is_err_and}
 use Rattle.tus_action.specs.Acts.{fed, fed_patch}
 use Rattle.tus_session.proofs.Feeding.{drop_fed, reached_fed, answered_as, ended_store, fed_store, fed_found_as}
@@ -6,7 +6,6 @@ use Rattle.tus_session.proofs.Feeding.{stopped_as}
 use Rattle.tus_session.proofs.Stops.{same_stop}
 use Rattle.tus_session.proofs.Tasks.{limits_to}
 use Rattle.tus_session.proofs.Limiting.{quiet_then, limits_from, limits_both}
-use Rattle.tus_session.specs.declared.conns.Task.TheVariants.{Idle}
 use Rattle.tus_session.proofs.bodies.last_of.Goals as goal
 
 pub returns-in_err-finish-clause-answer : goal.returns-in_err-finish-clause-answer
@@ -35,11 +34,7 @@ returns-clause-answer g c w p r stands found holds all reached bare closes =
     let behind = reached_fed w d p c.args.bytes.now c.args.patch.reached all reached in
     let a = rw fed_is.number at (c.in_ok-finish.ensures.answer w1 p1 r fed_is.shown found1 fed_is.holds
     (fed_is.reached ∙ behind) (fed_is.bare ∙ bare) (fed_is.closes ∙ closes)) in
-    answered_as g.U.Uploads _ _ _ _ (record {
-      head = c.args.head;
-      left = 0;
-      task = Idle;
-    }) _ _ c.args.patch.closes a.0 closes c.place_of.ensures a.1
+    answered_as g.U.Uploads _ _ _ _ c.args.head _ _ c.args.patch.closes a.0 closes c.after_reply.ensures a.1
 
 pub returns-in_err-finish-clause-crash : goal.returns-in_err-finish-clause-crash
 returns-in_err-finish-clause-crash g c w p r stands found holds few =

@@ -1,7 +1,6 @@
 use Rattle.std.proofs.Common.{◌++◌, None, refl, arith}
 use Rattle.tus_request.specs.Buffers.{bytes_of}
 use Rattle.tus_request.specs.Requests.{Refusal, Refuses}
-use Rattle.tus_session.specs.declared.conns.Task.TheVariants.{Idle}
 use Rattle.tus_session.proofs.Verdicts.{small, makeable, usable}
 use Rattle.tus_session.proofs.HeadTold.{more_told, no_patch_len, slice_rest, judged_by, within_bytes, in_world}
 use Rattle.tus_session.proofs.Opening.{still}
@@ -61,10 +60,9 @@ returns-in-More-clause-answer g c w conn stands inside =
     let j = judged_by c.indexes.result.now (bytes_of c.args.head ++ c.args.bytes.now) _ _
     c.in_ok-parsed.ensures.function
     c.in-More.is in
-    more_told g.U.Uploads _ _ _ _ w conn (bytes_of c.args.head) c.args.bytes.now
-    (record { head = c.read.new.self; left = 0; task = Idle }) stands inside
-    (in_world w c.indexes.result.now _ _ (c.indexes.ensures w stands) j) c.place_of.ensures
-    (rw c.in-More.is at c.in_ok-parsed.ensures.rest) refl c.waits.ensures
+    more_told g.U.Uploads _ _ _ w conn (bytes_of c.args.head) c.args.bytes.now c.read.new.self stands inside
+    (in_world w c.indexes.result.now _ _ (c.indexes.ensures w stands) j)
+    (rw c.in-More.is at c.in_ok-parsed.ensures.rest) c.waits.ensures
 
 pub returns-in_ok-reply_refused-in-Refused-clause-answer : goal.returns-in_ok-reply_refused-in-Refused-clause-answer
 returns-in_ok-reply_refused-in-Refused-clause-answer g c w conn stands inside =
@@ -85,9 +83,9 @@ returns-in_ok-reply_refused-in-Refused-clause-answer g c w conn stands inside =
       judged = in_world w c.indexes.result.now _ _ (c.indexes.ensures w stands) j;
       before_is = omega (arith, c.len-had.ensures, c.saturating_sub-before.ensures);
     })
-    _ _ _ _ (record { head = c.read.new.self; left = 0; task = Idle }) _
+    _ _ _ _ c.read.new.self _
     (slice_rest c.saturating_sub-before.result c.args.bytes.now) stands
-    (still w None) refl refl c.skip.ensures.place
+    (still w None) refl refl c.skip.ensures.link
     (rw c.in-Refused.is at c.in_ok-parsed.ensures.rest) c.skip.ensures.answer
     c.in_ok-reply_refused-in-Refused.ensures.ok
 

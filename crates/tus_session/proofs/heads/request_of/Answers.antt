@@ -1,18 +1,16 @@
-use Rattle.std.proofs.Common.{◌≡◌, ◌+◌, ◌⊎◌, inl, inr, Option, None, Some, refl, sym, subst, arith}
+use Rattle.std.proofs.Common.{◌≡◌, ◌+◌, refl, arith}
 use Rattle.tus_action.specs.declared.bodies.OpenPatch.{OpenPatch}
-use Rattle.tus_session.specs.declared.conns.Link.{Link}
-use Rattle.tus_session.specs.declared.conns.Task.TheVariants.{Idle}
 use Rattle.tus_session.proofs.RequestTold.{head_limits, nothing_told, text_told}
 use Rattle.tus_session.proofs.HeadTold.{slice_rest}
 use Rattle.tus_session.proofs.Feeding.{head_stopped}
 use Rattle.std.proofs.lemmas.Result.{err_from_is_err_and}
-use Rattle.tus_session.proofs.PatchTold.{patch_opened, patch_limits, draft_first, opens, own_opened, slice_is}
-use Rattle.tus_session.proofs.PatchTold.{taken_back, reached_whole, first_as, OutIs, v, p0}
+use Rattle.tus_session.proofs.PatchTold.{begun, begun_shown, patch_opened, patch_limits, slice_is}
+use Rattle.tus_session.proofs.PatchTold.{reached_whole, first_as, v, p0}
 use Rattle.tus_request.specs.Requests.{Asks}
 use Rattle.tus_request.specs.Shown.{request_shown}
 use Rattle.tus_action.specs.Acts.{acted}
-use Rattle.tus_action.specs.Serves.{DraftIs, draft_in}
-use Rattle.tus_action.specs.declared.acts.Done.TheVariants.{Replied, Giving}
+use Rattle.tus_action.specs.Serves.{ActedAs}
+use Rattle.tus_action.specs.declared.acts.Done.TheVariants.{Replied, Opened, Giving}
 use Rattle.tus_session.proofs.heads.request_of.Goals as goal
 
 pub returns-in_err-done-clause-crash : goal.returns-in_err-done-clause-crash
@@ -37,11 +35,7 @@ pub returns-in-Replied-clause-answer : goal.returns-in-Replied-clause-answer
 returns-in-Replied-clause-answer g c w conn h n stands is =
     let done = rw c.in-Replied.is at (c.in_ok-done.ensures.answer w stands) in
     nothing_told w conn h c.args.bytes.now n c.args.before _ is g.U.Uploads _ _ _ (Replied c.in-Replied.closes) _ _
-    (record {
-      head = c.args.head;
-      left = 0;
-      task = Idle;
-    }) _ done refl refl (slice_rest c.args.before c.args.bytes.now) c.skip.ensures.place
+    c.args.head _ done refl refl (slice_rest c.args.before c.args.bytes.now) c.skip.ensures.link
     c.requires.cleared c.skip.ensures.answer
 
 pub returns-in-Giving-clause-answer : goal.returns-in-Giving-clause-answer
@@ -50,152 +44,60 @@ returns-in-Giving-clause-answer g c w conn h n stands is =
     rw c.waits.ensures
     (text_told w conn h c.args.bytes.now n c.args.before _ is g.U.Uploads _ (Giving c.in-Giving.giving)
     c.in-Giving.giving _ _
-    (record {
-      head = c.args.head;
-      left = 0;
-      task = Idle;
-    }) done refl refl c.requires.cleared)
+    c.args.head done refl refl c.requires.cleared)
 
-pub returns-in-Ok-clause-answer : goal.returns-in-Ok-clause-answer
-returns-in-Ok-clause-answer g c w conn h n stands is =
+pub returns-in-Opened-clause-answer : goal.returns-in-Opened-clause-answer
+returns-in-Opened-clause-answer g c w conn h n stands is =
     let U = g.U.Uploads in
     let r = request_shown c.args.request in
     let bytes = c.args.bytes.now in
-    let done = c.in_ok-done.ensures.answer w stands in
-    let draft = subst (λ a. DraftIs U (acted w (Asks r)).world (draft_in a) (acted w (Asks r)).draft) c.in-Opened.is
-    done.draft in
-    let x = opens U w r c.in-Opened.draft draft in
-    let below = g.met.U.Uploads.below c.args.store.now w x.number x.up stands x.there in
     let b : OpenPatch g.row.U-Draft.Denot = record {
       draft = c.in-Opened.draft;
       reached = c.reached_by-reached.result;
       bare = c.args.request.bare;
       closes = c.args.request.closes;
     } in
-    let f = draft_first w conn h bytes n c.args.before r is x U c.in-Opened.draft draft in
-    let reached = c.reached_by-reached.ensures c.requires.small in
-    let v0 = v U w conn h bytes n c.args.before r is x b f.0 f.1 reached refl refl below in
-    let p = p0 U w conn h bytes n c.args.before r is x b f.0 f.1 reached refl refl below in
-    let shown : U.stands c.act.new.store v0 =
-    subst (U.stands c.act.new.store)
-    (own_opened w r (acted w (Asks r)) x (U.number_of c.in-Opened.draft) f.0).world_is done.stands in
-    let found = first_as U w conn h bytes n c.args.before r is x b f.0 f.1 reached refl refl below in
-    let whole = reached_whole U w conn h bytes n c.args.before r is x b f.0 f.1 reached refl refl below in
-    let k : Link g.row.U-Draft.Denot = record { head = c.args.head; left = 0; task = Idle } in
+    let done : ActedAs U c.act.new.store (Opened c.in-Opened.draft) c.args.out.now.items c.act.new.out.items
+    (acted w (Asks r)) = rw c.in-Opened.is at (c.in_ok-done.ensures.answer w stands) in
+    let x = begun U w conn h bytes n c.args.before r is _ _ _ b done (c.reached_by-reached.ensures c.requires.small)
+    refl refl (λ n up there. g.met.U.Uploads.below c.args.store.now w n up stands there) in
+    let v0 = v U w conn h bytes n c.args.before r is b x in
+    let p = p0 U w conn h bytes n c.args.before r is b x in
+    let shown = begun_shown U w conn h bytes n c.args.before r is b x c.act.new.store done.stands in
+    let found = first_as U w conn h bytes n c.args.before r is b x in
+    let whole = reached_whole U w conn h bytes n c.args.before r is b x in
     let all : 0 + r.length ≡ r.length = omega arith in
-    rw c.in-Ok.is at
-    (patch_opened U w conn h bytes n c.args.before r is x b f.0 f.1 reached refl refl below c.body_of.new.store
-    c.args.out.now.items c.act.new.out.items c.body_of.new.out.items
-    c.body_of.new.out.items k c.requires.cleared done.bytes c.body_of.result _
+    rw c.back_to.ensures.same
+    (patch_opened U w conn h bytes n c.args.before r is b x c.body_of-turned.new.store
+    c.args.out.now.items c.act.new.out.items c.body_of-turned.new.out.items
+    c.back_to.new.out.items c.args.head c.requires.cleared done.bytes c.len-start.result
+    (omega (arith, c.len-start.ensures, c.args.out.now.ok.0)) c.body_of-turned.result _
     (slice_is c.args.before bytes)
-    (λ few. c.body_of.ensures.part few v0 p shown found f.1 (omega arith))
-    (λ few. c.body_of.ensures.part_out few)
-    (λ enough. c.body_of.ensures.rest enough v0 p r shown found f.1 all whole refl refl)
-    (subst (λ a. OutIs a c.args.out.now.items c.body_of.new.out.items c.body_of.new.out.items)
-    (sym c.in-Ok.is) refl))
+    (λ few. c.body_of-turned.ensures.part few v0 p shown found x.holds (omega arith))
+    (λ few. c.body_of-turned.ensures.part_out few)
+    (λ enough. c.body_of-turned.ensures.rest enough v0 p r shown found x.holds all whole refl refl)
+    c.back_to.ensures.back)
 
-pub returns-in-Ok-clause-crash : goal.returns-in-Ok-clause-crash
-returns-in-Ok-clause-crash g c w conn h n stands is =
+pub returns-in-Opened-clause-crash : goal.returns-in-Opened-clause-crash
+returns-in-Opened-clause-crash g c w conn h n stands is =
     let U = g.U.Uploads in
     let r = request_shown c.args.request in
     let bytes = c.args.bytes.now in
-    let done = c.in_ok-done.ensures.answer w stands in
-    let draft = subst (λ a. DraftIs U (acted w (Asks r)).world (draft_in a) (acted w (Asks r)).draft) c.in-Opened.is
-    done.draft in
-    let x = opens U w r c.in-Opened.draft draft in
-    let below = g.met.U.Uploads.below c.args.store.now w x.number x.up stands x.there in
     let b : OpenPatch g.row.U-Draft.Denot = record {
       draft = c.in-Opened.draft;
       reached = c.reached_by-reached.result;
       bare = c.args.request.bare;
       closes = c.args.request.closes;
     } in
-    let f = draft_first w conn h bytes n c.args.before r is x U c.in-Opened.draft draft in
-    let reached = c.reached_by-reached.ensures c.requires.small in
-    let v0 = v U w conn h bytes n c.args.before r is x b f.0 f.1 reached refl refl below in
-    let p = p0 U w conn h bytes n c.args.before r is x b f.0 f.1 reached refl refl below in
-    let shown : U.stands c.act.new.store v0 =
-    subst (U.stands c.act.new.store)
-    (own_opened w r (acted w (Asks r)) x (U.number_of c.in-Opened.draft) f.0).world_is done.stands in
-    let found = first_as U w conn h bytes n c.args.before r is x b f.0 f.1 reached refl refl below in
-    let whole = reached_whole U w conn h bytes n c.args.before r is x b f.0 f.1 reached refl refl below in
-    let k : Link g.row.U-Draft.Denot = record { head = c.args.head; left = 0; task = Idle } in
-    let all : 0 + r.length ≡ r.length = omega arith in
-    patch_limits U w conn h bytes n c.args.before r is x b f.0 f.1 reached refl refl below _
+    let done : ActedAs U c.act.new.store (Opened c.in-Opened.draft) c.args.out.now.items c.act.new.out.items
+    (acted w (Asks r)) = rw c.in-Opened.is at (c.in_ok-done.ensures.answer w stands) in
+    let x = begun U w conn h bytes n c.args.before r is _ _ _ b done (c.reached_by-reached.ensures c.requires.small)
+    refl refl (λ n up there. g.met.U.Uploads.below c.args.store.now w n up stands there) in
+    let v0 = v U w conn h bytes n c.args.before r is b x in
+    let p = p0 U w conn h bytes n c.args.before r is b x in
+    let shown = begun_shown U w conn h bytes n c.args.before r is b x c.act.new.store done.stands in
+    let found = first_as U w conn h bytes n c.args.before r is b x in
+    patch_limits U w conn h bytes n c.args.before r is b x _
     (slice_is c.args.before bytes) (c.act.ensures.crash w stands)
-    (λ few. c.body_of.ensures.part_crash few v0 p shown found f.1)
-    (λ enough. c.body_of.ensures.rest_crash enough v0 p r shown found f.1 (omega arith))
-
-pub returns-in-Err-clause-answer : goal.returns-in-Err-clause-answer
-returns-in-Err-clause-answer g c w conn h n stands is =
-    let U = g.U.Uploads in
-    let r = request_shown c.args.request in
-    let bytes = c.args.bytes.now in
-    let done = c.in_ok-done.ensures.answer w stands in
-    let draft = subst (λ a. DraftIs U (acted w (Asks r)).world (draft_in a) (acted w (Asks r)).draft) c.in-Opened.is
-    done.draft in
-    let x = opens U w r c.in-Opened.draft draft in
-    let below = g.met.U.Uploads.below c.args.store.now w x.number x.up stands x.there in
-    let b : OpenPatch g.row.U-Draft.Denot = record {
-      draft = c.in-Opened.draft;
-      reached = c.reached_by-reached.result;
-      bare = c.args.request.bare;
-      closes = c.args.request.closes;
-    } in
-    let f = draft_first w conn h bytes n c.args.before r is x U c.in-Opened.draft draft in
-    let reached = c.reached_by-reached.ensures c.requires.small in
-    let v0 = v U w conn h bytes n c.args.before r is x b f.0 f.1 reached refl refl below in
-    let p = p0 U w conn h bytes n c.args.before r is x b f.0 f.1 reached refl refl below in
-    let shown : U.stands c.act.new.store v0 =
-    subst (U.stands c.act.new.store)
-    (own_opened w r (acted w (Asks r)) x (U.number_of c.in-Opened.draft) f.0).world_is done.stands in
-    let found = first_as U w conn h bytes n c.args.before r is x b f.0 f.1 reached refl refl below in
-    let whole = reached_whole U w conn h bytes n c.args.before r is x b f.0 f.1 reached refl refl below in
-    let k : Link g.row.U-Draft.Denot = record { head = c.args.head; left = 0; task = Idle } in
-    let all : 0 + r.length ≡ r.length = omega arith in
-    rw c.in-Err.is at
-    (patch_opened U w conn h bytes n c.args.before r is x b f.0 f.1 reached refl refl below c.body_of.new.store
-    c.args.out.now.items c.act.new.out.items c.body_of.new.out.items
-    c.truncate.new.self.items k c.requires.cleared done.bytes c.body_of.result _ (slice_is c.args.before bytes)
-    (λ few. c.body_of.ensures.part few v0 p shown found f.1 (omega arith))
-    (λ few. c.body_of.ensures.part_out few)
-    (λ enough. c.body_of.ensures.rest enough v0 p r shown found f.1 all whole refl refl)
-    (subst (λ a. OutIs a c.args.out.now.items c.body_of.new.out.items c.truncate.new.self.items) (sym c.in-Err.is)
-    (taken_back U w conn h bytes n c.args.before r is x b f.0 f.1 reached refl refl below c.body_of.new.store
-    c.args.out.now.items c.act.new.out.items c.body_of.new.out.items
-    c.truncate.new.self.items k c.requires.cleared done.bytes c.in-Err.stop _ c.len-start.result
-    (λ few. c.body_of.ensures.part_out few)
-    (λ enough. rw c.in-Err.is at (c.body_of.ensures.rest enough v0 p r shown found f.1 all whole refl refl))
-    (omega (arith, c.len-start.ensures, c.args.out.now.ok.0)) c.truncate.ensures.items)))
-
-pub returns-in-Err-clause-crash : goal.returns-in-Err-clause-crash
-returns-in-Err-clause-crash g c w conn h n stands is =
-    let U = g.U.Uploads in
-    let r = request_shown c.args.request in
-    let bytes = c.args.bytes.now in
-    let done = c.in_ok-done.ensures.answer w stands in
-    let draft = subst (λ a. DraftIs U (acted w (Asks r)).world (draft_in a) (acted w (Asks r)).draft) c.in-Opened.is
-    done.draft in
-    let x = opens U w r c.in-Opened.draft draft in
-    let below = g.met.U.Uploads.below c.args.store.now w x.number x.up stands x.there in
-    let b : OpenPatch g.row.U-Draft.Denot = record {
-      draft = c.in-Opened.draft;
-      reached = c.reached_by-reached.result;
-      bare = c.args.request.bare;
-      closes = c.args.request.closes;
-    } in
-    let f = draft_first w conn h bytes n c.args.before r is x U c.in-Opened.draft draft in
-    let reached = c.reached_by-reached.ensures c.requires.small in
-    let v0 = v U w conn h bytes n c.args.before r is x b f.0 f.1 reached refl refl below in
-    let p = p0 U w conn h bytes n c.args.before r is x b f.0 f.1 reached refl refl below in
-    let shown : U.stands c.act.new.store v0 =
-    subst (U.stands c.act.new.store)
-    (own_opened w r (acted w (Asks r)) x (U.number_of c.in-Opened.draft) f.0).world_is done.stands in
-    let found = first_as U w conn h bytes n c.args.before r is x b f.0 f.1 reached refl refl below in
-    let whole = reached_whole U w conn h bytes n c.args.before r is x b f.0 f.1 reached refl refl below in
-    let k : Link g.row.U-Draft.Denot = record { head = c.args.head; left = 0; task = Idle } in
-    let all : 0 + r.length ≡ r.length = omega arith in
-    patch_limits U w conn h bytes n c.args.before r is x b f.0 f.1 reached refl refl below _
-    (slice_is c.args.before bytes) (c.act.ensures.crash w stands)
-    (λ few. c.body_of.ensures.part_crash few v0 p shown found f.1)
-    (λ enough. c.body_of.ensures.rest_crash enough v0 p r shown found f.1 (omega arith))
+    (λ few. c.body_of-turned.ensures.part_crash few v0 p shown found x.holds)
+    (λ enough. c.body_of-turned.ensures.rest_crash enough v0 p r shown found x.holds (omega arith))

@@ -1,24 +1,25 @@
-use Rattle.tus_session.proofs.Tasks.{patching, no_draft, ends_idle, ends_cut, ends_store, found_as}
-use Rattle.tus_session.proofs.Tasks.{limits_same, limits_to}
+use Rattle.tus_request.specs.Buffers.{bytes_of}
+use Rattle.tus_session.specs.Stands.{IsPatching}
+use Rattle.tus_session.proofs.Tasks.{no_draft, ends_idle, ends_cut, ends_store, found_as, limits_same, limits_to}
 use Rattle.tus_session.proofs.turns.end_of.Goals as goal
-
-pub returns-in-Idle-clause-answer : goal.returns-in-Idle-clause-answer
-returns-in-Idle-clause-answer g c w conn stands link =
-    ends_idle g.U.Uploads _ w conn stands (no_draft g.U.Uploads w _ _ conn.draft conn.pending link.does c.in-Idle.is)
-
-pub returns-in-Idle-clause-crash : goal.returns-in-Idle-clause-crash
-returns-in-Idle-clause-crash g c w conn stands link = limits_same _ _ _ _
 
 pub returns-in-Patch-clause-answer : goal.returns-in-Patch-clause-answer
 returns-in-Patch-clause-answer g c w conn stands link =
-    let is = patching g.U.Uploads w _ _ c.in-Patch.patch conn.draft conn.pending link.does c.in-Patch.is in
-    let found = found_as g.U.Uploads c.args.store.now w conn c.in-Patch.patch is in
-    ends_cut g.U.Uploads _ w conn c.in-Patch.patch is c.cut.result
-    (c.cut.ensures.answer w is.p stands found is.patches.holds)
+    let b = c.in-Patch.patch in
+    let is : IsPatching g.U.Uploads w conn (bytes_of c.args.link.head) b _ = rw c.in-Patch.is at link in
+    ends_cut g.U.Uploads w conn _ b _ is _ c.cut.result
+    (c.cut.ensures.answer w is.p stands (found_as g.U.Uploads w conn _ b _ is) is.patches.holds)
 
 pub returns-in-Patch-clause-crash : goal.returns-in-Patch-clause-crash
 returns-in-Patch-clause-crash g c w conn stands link =
-    let is = patching g.U.Uploads w _ _ c.in-Patch.patch conn.draft conn.pending link.does c.in-Patch.is in
-    let found = found_as g.U.Uploads c.args.store.now w conn c.in-Patch.patch is in
-    limits_to (ends_store g.U.Uploads c.args.store.now w conn c.in-Patch.patch is)
-    (c.cut.ensures.crash w is.p stands found is.patches.holds)
+    let b = c.in-Patch.patch in
+    let is : IsPatching g.U.Uploads w conn (bytes_of c.args.link.head) b _ = rw c.in-Patch.is at link in
+    limits_to (ends_store g.U.Uploads w conn _ b _ is)
+    (c.cut.ensures.crash w is.p stands (found_as g.U.Uploads w conn _ b _ is) is.patches.holds)
+
+pub returns-in-Head-clause-answer : goal.returns-in-Head-clause-answer
+returns-in-Head-clause-answer g c w conn stands link =
+    ends_idle g.U.Uploads _ w conn stands (no_draft g.U.Uploads w _ _ conn link c.in-Head.is)
+
+pub returns-in-Head-clause-crash : goal.returns-in-Head-clause-crash
+returns-in-Head-clause-crash g c w conn stands link = limits_same _ _ _ _

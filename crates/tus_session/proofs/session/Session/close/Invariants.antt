@@ -8,14 +8,14 @@ use Rattle.tus_session.proofs.session.Session.close.Given as goal
 
 abbrev pub invariant-loop-place : goal.invariant-loop-place
 invariant-loop-place g l = record {
-  kept : (st : State) → SessionStands g.U.Uploads l.fn.self.places.items l.fn.store st
-      → (v : World) × IsClosing g.U.Uploads st (length l.places.items) l.store v;
-  front : l.places.items ≡ take (length l.places.items) l.fn.self.places.items;
-  below : length l.places.items ≤ length l.fn.self.places.items;
+  kept : (st : State) → SessionStands g.U.Uploads l.fn.self.links.items l.fn.store st
+      → (v : World) × IsClosing g.U.Uploads st (length l.links.items) l.store v;
+  front : l.links.items ≡ take (length l.links.items) l.fn.self.links.items;
+  below : length l.links.items ≤ length l.fn.self.links.items;
   counts : g.U.Uploads.failures l.store ≡ g.U.Uploads.failures l.fn.store;
   crash : Quiet (g.U.Uploads.moment l.fn.store) (g.U.Uploads.moment l.store) (g.U.Uploads.left_only l.fn.store)
       (g.U.Uploads.left_only l.store);
 }
 
 abbrev pub decreases-loop-place : goal.decreases-loop-place
-decreases-loop-place g l = length l.places.items
+decreases-loop-place g l = length l.links.items
