@@ -8,7 +8,7 @@ use std::{fmt, io};
 /// Why a measurement ends before it is done.
 #[derive(Drop)]
 pub(crate) enum Fault {
-    /// A growth was refused.
+    /// Out of memory.
     NoMemory,
     /// A word is no label of an encoding, or one that has no encoder.
     Label,

@@ -35,7 +35,7 @@ impl<'a> Round<'a> {
         Round { from, to, indexes }
     }
 
-    // Transcodes the bytes behind what `out` holds.
+    // Transcodes the bytes after what `out` holds.
     fn transcode(&self, bytes: &[u8], out: &mut Vec<u8>) -> Result<(), Fault> {
         let mut transcoder = Transcoder::new(self.from, output_of(self.to), Mode::Html);
         for piece in bytes.chunks(PIECE) {

@@ -14,8 +14,8 @@ use Rattle.enc_model.specs.declared.Encoding.TheVariants as encodings
 use Rattle.enc_model.specs.declared.Mode.{Mode}
 use Rattle.enc_model.specs.declared.Mode.TheVariants.{Html, Fatal}
 use Rattle.enc_model.specs.Index.{Index}
-use Rattle.enc_model.specs.Encode.{Shift, InAscii, InRoman, InJis, Written, Wrote, Again, Lacks, Encoder, Coded, behind}
-use Rattle.enc_model.specs.Encode.{reference, coded, joined, all_codes, behind_written, settled, code_within}
+use Rattle.enc_model.specs.Encode.{Shift, InAscii, InRoman, InJis, Written, Wrote, Again, Lacks, Encoder, Coded, led_by}
+use Rattle.enc_model.specs.Encode.{reference, coded, joined, all_codes, after_written, settled, code_within}
 use Rattle.enc_model.specs.Encode.{plain_code, code_of, IsNoAgain, Tables, is_jis, shift_jis_encoder, euc_jp_encoder}
 use Rattle.enc_model.specs.Encode.{iso2022_encoder, single_encoder, utf8_bytes, utf8_encoder, encoder}
 use Rattle.enc_model.proofs.Coding.{ArePlain, reference_plain, coded_is}
@@ -118,7 +118,7 @@ within_final : (f : Encoder) (mode : Mode) (w : Written)
     code_within mode (all_codes (plain_code f)) w ≡ final mode w
 within_final f mode (Wrote b s) p = refl
 within_final f mode (Again b s) p = refl
-within_final f Html (Lacks b s d) p = ap (behind b) (plain_run f s p (reference d) (reference_plain d))
+within_final f Html (Lacks b s d) p = ap (led_by b) (plain_run f s p (reference d) (reference_plain d))
 within_final f Fatal (Lacks b s d) p = refl
 
 pub coded_one : (t : Tables) (e : Encoding) (mode : Mode) (s : Shift) (c : ℕ) →
@@ -129,16 +129,16 @@ coded_one t e mode s c =
     ∙ joined_end (code_of f mode s c)
     ∙ within_final f mode (settled f c (f s c)) (λ x l h. encoder_plain t e s c x l h)
 
--- bytes, and then what was written behind them
-pub final_behind : (mode : Mode) (x : List ℕ) (w : Written) → final mode (behind_written x w) ≡ behind x (final mode w)
-final_behind mode x (Wrote b s) = refl
-final_behind mode x (Again b s) = refl
-final_behind Html x (Lacks b s d) = ap (λ z. record {
+-- bytes, and then what was written led_by them
+pub final_after : (mode : Mode) (x : List ℕ) (w : Written) → final mode (after_written x w) ≡ led_by x (final mode w)
+final_after mode x (Wrote b s) = refl
+final_after mode x (Again b s) = refl
+final_after Html x (Lacks b s d) = ap (λ z. record {
   bytes = z;
   state = s;
   fault = None;
 }) (append_assoc x b (reference d))
-final_behind Fatal x (Lacks b s d) = refl
+final_after Fatal x (Lacks b s d) = refl
 
 settled_once : (f : Encoder) (s : Shift) (c : ℕ) (w : Written) → f s c ≡ w → IsNoAgain w → settled f c (f s c) ≡ w
 settled_once f s c (Wrote b z) e n = rw e refl
@@ -153,12 +153,12 @@ module _ (t : Tables) (to : Encoding) (mode : Mode) (s : Shift) (c : ℕ) where
 
   -- where it does
   pub coded_twice : (b : List ℕ) (z : Shift) (w : Written) → Again b z ≡ encoder t to s c → w ≡ encoder t to z c →
-      coded (encoder t to) mode s (c ∷ []) ≡ behind b (final mode w)
+      coded (encoder t to) mode s (c ∷ []) ≡ led_by b (final mode w)
   coded_twice b z w e h =
       coded_one t to mode s c
       ∙ ap (λ v. final mode (settled (encoder t to) c v)) (sym e)
-      ∙ final_behind mode b (encoder t to z c)
-      ∙ ap (λ v. behind b (final mode v)) (sym h)
+      ∙ final_after mode b (encoder t to z c)
+      ∙ ap (λ v. led_by b (final mode v)) (sym h)
 
 pub not_again : (w : CodeWritten) → ((b : Bytes) (s : ShiftState) → w ≡ code.Again b s → ⊥) → IsNoAgain (written_of w)
 not_again (code.Wrote b s) n = tt
@@ -247,8 +247,8 @@ text_run : (mode : Mode) (s : Shift) (cs : List ℕ) → all_codes (code_of utf8
 }
 text_run mode s [] = refl
 text_run mode s (c ∷ cs) =
-    ap (λ b. behind b (all_codes (code_of utf8_encoder mode) s cs)) (bytes_are c)
-    ∙ ap (behind (encode c)) (text_run mode s cs)
+    ap (λ b. led_by b (all_codes (code_of utf8_encoder mode) s cs)) (bytes_are c)
+    ∙ ap (led_by (encode c)) (text_run mode s cs)
 
 -- the encodings whose texts are in UTF-8
 pub utf8_texts : (t : Tables) (e : Encoding)

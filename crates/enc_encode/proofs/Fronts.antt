@@ -188,14 +188,14 @@ module _ (t : Tables) (e : EncoderState) {Z : Type 0} where
       subst (λ z. Kept (code_from t e (chars z)) old [] new kept (Ok s)) (sym (append-nil p.front) ∙ sym p.parts) p.code
   front_all text (b ∷ rest) old new kept s p l = absurd (grind (arith, nat_tests, l))
 
--- a text may be cut behind ASCII
+-- a text may be cut after ASCII
 pub own_cut : (to : Encoding) (s : Shift) (text lanes : List ℕ) (n : ℕ) → IsUtf8 text → IsOwnFront to s text lanes n
     → IsCharBoundary text n
 own_cut to s text lanes n u own =
     IsCharBoundary-from_take text n u (let few = own.few in let long = own.long in omega (arith, few, long))
     (ascii_utf8 (take n text) (front_ascii to s text lanes n own))
 
--- what is left behind a text's front is a text
+-- what is left after a text's front is a text
 pub left_text : (text front left : List ℕ) → IsUtf8 text → IsUtf8 front → text ≡ front ++ left → IsUtf8 left
 left_text text front left u v e =
     let n = length front in

@@ -18,7 +18,7 @@ grown_front old x y new p = record {
   out = p.out;
 }
 
--- behind the whole front
+-- after the whole front
 grown_more : (old x y mid new : List ℕ) → mid ≡ old ++ x → GrownByPrefix mid y new → GrownByPrefix old (x ++ y) new
 grown_more old x y mid new m p = record {
   front = x ++ p.front;
@@ -45,10 +45,10 @@ module _ {Z : Type 0} where
     full = let l = length-append x y in let f = p.full in omega (arith, l, f);
   }
 
-  -- refused behind a part
-  pub behind_part : {old : Vec ℕ Z} {x y : List ℕ} {mid new : Vec ℕ Z} → Appended old x mid → Stopped mid y new
+  -- refused after a part
+  pub after_part : {old : Vec ℕ Z} {x y : List ℕ} {mid new : Vec ℕ Z} → Appended old x mid → Stopped mid y new
       → Stopped old (x ++ y) new
-  behind_part {old} {x} {y} {mid} {new} p q = record {
+  after_part {old} {x} {y} {mid} {new} p q = record {
     items = grown_more old.items x y mid.items new.items p.items q.items;
     full =
         let l = length-append x y in let m =
@@ -67,7 +67,7 @@ module _ {Z : Type 0} where
   pub more : {X E : Type 0} {old : Vec ℕ Z} {x : List ℕ} (y : List ℕ) {mid : Vec ℕ Z} (new : Vec ℕ Z) (r : Result X E)
       → Appended old x mid → Grew mid y new r → Grew old (x ++ y) new r
   more y new (Ok w) p q = both p q
-  more y new (Err w) p q = behind_part p q
+  more y new (Err w) p q = after_part p q
 
   -- at the exit of a `?`
   pub exit : {X E : Type 0} {old : Vec ℕ Z} {x : List ℕ} {new : Vec ℕ Z} (Q : E → Type 0) (r : Result X E)

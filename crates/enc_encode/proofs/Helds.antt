@@ -1,9 +1,9 @@
--- Codes behind bytes that are held.
+-- Codes led_by bytes that are held.
 use Rattle.std.proofs.Common.{ℕ, ◌≡◌, List, [], ◌∷◌, ◌++◌, None, Vec, Result, Ok, Err, sym, ◌∙◌, ap, subst}
 use Rattle.std.proofs.Common.{append_assoc, append-nil, arith}
 use Rattle.enc_model.specs.declared.Encoding.{Encoding}
 use Rattle.enc_model.specs.Encode as encode
-use Rattle.enc_model.specs.Encode.{Tables, Coded, coded, encoder, behind}
+use Rattle.enc_model.specs.Encode.{Tables, Coded, coded, encoder, led_by}
 use Rattle.enc_encode.specs.declared.written.Bytes.{Bytes}
 use Rattle.enc_encode.specs.Code.{bytes_of}
 use Rattle.enc_encode.proofs.Codes.{coded_twice}
@@ -16,16 +16,16 @@ use Rattle.enc_encode.specs.Growth.{Appended, Stopped}
 use Rattle.enc_encode.specs.Held.{Passed, Kept}
 use Rattle.enc_encode.specs.Reasons.{Gave}
 use Rattle.enc_encode.specs.State.{shift_of, EncoderState, code_from}
-use Rattle.enc_encode.proofs.Growth.{front, both, behind_part}
+use Rattle.enc_encode.proofs.Growth.{front, both, after_part}
 
-parts_behind : (held a b front mid more kept : List ℕ) → held ++ a ≡ front ++ mid → mid ++ b ≡ more ++ kept
+parts_after : (held a b front mid more kept : List ℕ) → held ++ a ≡ front ++ mid → mid ++ b ≡ more ++ kept
     → held ++ (a ++ b) ≡ (front ++ more) ++ kept
-parts_behind held a b front mid more kept e f =
+parts_after held a b front mid more kept e f =
     sym (append_assoc held a b) ∙ ap (λ z. z ++ b) e ∙ append_assoc front mid b ∙ ap (λ z. front ++ z) f
     ∙ sym (append_assoc front more kept)
 
-whole_behind : (held a b front mid : List ℕ) → held ++ a ≡ front ++ mid → front ++ (mid ++ b) ≡ held ++ (a ++ b)
-whole_behind held a b front mid e = sym (append_assoc front mid b) ∙ ap (λ z. z ++ b) (sym e) ∙ append_assoc held a b
+whole_after : (held a b front mid : List ℕ) → held ++ a ≡ front ++ mid → front ++ (mid ++ b) ≡ held ++ (a ++ b)
+whole_after held a b front mid e = sym (append_assoc front mid b) ∙ ap (λ z. z ++ b) (sym e) ∙ append_assoc held a b
 
 module _ {Z : Type 0} where
   pub nothing_appended : (out : Vec ℕ Z) → Appended out [] out
@@ -39,7 +39,7 @@ module _ {Z : Type 0} where
       → Passed old held [] new kept
   none_held {held = held} kept e a = record { front = held; parts = ap (λ z. held ++ z) (sym e); appended = a }
 
-  -- more that is held behind the rest
+  -- more that is held led_by the rest
   pub held_more : {old : Vec ℕ Z} {held : List ℕ} {new : Vec ℕ Z} {mid : List ℕ} (bytes kept : List ℕ)
       → kept ≡ mid ++ bytes → Passed old held [] new mid → Passed old held bytes new kept
   held_more {held = held} {mid = mid} bytes kept e p = record {
@@ -49,25 +49,25 @@ module _ {Z : Type 0} where
     appended = p.appended;
   }
 
-  -- a code behind another
-  pub kept_behind : (a code : Coded) (old : Vec ℕ Z) (held : List ℕ) (mid : Vec ℕ Z) (kept : List ℕ) (new : Vec ℕ Z)
+  -- a code led_by another
+  pub kept_after : (a code : Coded) (old : Vec ℕ Z) (held : List ℕ) (mid : Vec ℕ Z) (kept : List ℕ) (new : Vec ℕ Z)
       (last : List ℕ) (r : Result ShiftState EncodeError) →
-      Passed old held a.bytes mid kept → Kept code mid kept new last r → Kept (behind a.bytes code) old held new last r
-  kept_behind a code old held mid kept new last (Ok next) p q = (
+      Passed old held a.bytes mid kept → Kept code mid kept new last r → Kept (led_by a.bytes code) old held new last r
+  kept_after a code old held mid kept new last (Ok next) p q = (
     q.0,
     q.1,
     record {
       front = p.front ++ q.2.front;
-      parts = parts_behind held a.bytes code.bytes p.front kept q.2.front last p.parts q.2.parts;
+      parts = parts_after held a.bytes code.bytes p.front kept q.2.front last p.parts q.2.parts;
       appended = both p.appended q.2.appended;
     },
   )
-  kept_behind a code old held mid kept new last (Err NoMemory) p q =
-      subst (λ z. Stopped old z new) (whole_behind held a.bytes code.bytes p.front kept p.parts)
-      (behind_part p.appended q)
-  kept_behind a code old held mid kept new last (Err (Unencodable c)) p q = (
+  kept_after a code old held mid kept new last (Err NoMemory) p q =
+      subst (λ z. Stopped old z new) (whole_after held a.bytes code.bytes p.front kept p.parts)
+      (after_part p.appended q)
+  kept_after a code old held mid kept new last (Err (Unencodable c)) p q = (
     q.0,
-    subst (λ z. Appended old z new) (whole_behind held a.bytes code.bytes p.front kept p.parts)
+    subst (λ z. Appended old z new) (whole_after held a.bytes code.bytes p.front kept p.parts)
         (both p.appended q.1),
   )
 
@@ -84,7 +84,7 @@ module _ {Z : Type 0} where
       appended = both p q.2;
     },
   )
-  kept_given code old held mid new (Err NoMemory) p q = behind_part p q
+  kept_given code old held mid new (Err NoMemory) p q = after_part p q
   kept_given code old held mid new (Err (Unencodable c)) p q = (q.0, both p q.1)
 
 module _ (t : Tables) (e : EncoderState) {Z : Type 0} where
@@ -95,7 +95,7 @@ module _ (t : Tables) (e : EncoderState) {Z : Type 0} where
   kept_then x y old mid kept new last s r p q =
       let a = code_from t e x in
       rw (coded_both (encoder t e.to) (encoder_steady t e.to) e.mode e.shift x y p.0, ← p.1)
-      (kept_behind a (coded (encoder t e.to) e.mode (shift_of s) y) old [] mid kept new last r p.2 q)
+      (kept_after a (coded (encoder t e.to) e.mode (shift_of s) y) old [] mid kept new last r p.2 q)
 
 -- the bytes that switch to another set of characters, and then those of a character
 pub twice_kept : {Z : Type 0} (t : Tables) (e : EncoderState) (to : Encoding) (s : ShiftState) (c : ℕ) (b : Bytes)
@@ -112,7 +112,7 @@ twice_kept t e to s c b between more next same again wrote old held mid kept new
     let first : Coded = record { bytes = bytes_of b; state = z; fault = None } in
     let twice = coded_twice t e.to e.mode (shift_of s) c (bytes_of b) z (encode.Wrote (bytes_of more) (shift_of next))
     (rw same at again) (rw same at wrote) in
-    subst (λ x. Kept x old held new last r) (sym twice) (kept_behind first code old held mid kept new last r p q)
+    subst (λ x. Kept x old held new last r) (sym twice) (kept_after first code old held mid kept new last r p q)
 
 pub kept_error : {Z : Type 0} (code : Coded) (old new : Vec ℕ Z) (kept : List ℕ) (d : EncodeError)
     → Kept code old [] new kept (Err d) → Gave code old new (Err d)
@@ -126,4 +126,4 @@ flushed code old mid new kept s p q = (p.0, p.1, subst (λ z. Appended old z new
 
 pub unflushed : {Z : Type 0} (code : Coded) (old mid new : Vec ℕ Z) (kept : List ℕ) (s : ShiftState)
     → Kept code old [] mid kept (Ok s) → Stopped mid kept new → Gave code old new (Err NoMemory)
-unflushed code old mid new kept s p q = subst (λ z. Stopped old z new) (sym p.2.parts) (behind_part p.2.appended q)
+unflushed code old mid new kept s p q = subst (λ z. Stopped old z new) (sym p.2.parts) (after_part p.2.appended q)

@@ -27,7 +27,7 @@ excluded_range : (coded (shift_jis_encoder twice) Html InAscii (0x7E8A ∷ [])).
 unfolding twice shift_jis_encoder coded coded_within pointer_where
 excluded_range = refl
 
--- windows-1252 has é at pointer 105, and in fatal mode refuses U+3042 behind it
+-- windows-1252 has é at pointer 105, and in fatal mode refuses U+3042 after it
 latin : Index
 latin = (0, 0x20AC) ∷ (105, 0xE9) ∷ []
 

@@ -111,7 +111,7 @@ module _ (gives : ℕ → List ℕ → Type 0) where
             (all_more gives (chars p.front) p.bytes q.c b p.given q.given);
       }
 
--- two more items behind the first ones
+-- two more items after the first ones
 pub take_two_set : (xs : List ℕ) (n a b : ℕ) → n + 1 < length xs
     → take (n + 2) (set (set xs n a) (n + 1) b) ≡ take n xs ++ a ∷ b ∷ []
 take_two_set xs n a b l =

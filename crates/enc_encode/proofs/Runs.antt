@@ -1,4 +1,4 @@
--- The codes of several characters, one behind the other.
+-- The codes of several characters, one after the other.
 use Rattle.std.proofs.Common.{ℕ, ◌≡◌, List, [], ◌++◌, Vec, Result, Ok, Err, Option, Some, None, refl, sym, append-nil}
 use Rattle.std.proofs.Common.{arith}
 use Rattle.enc_model.specs.Encode.{Tables, Shift, Coded, coded, coded_within, joined, encoder}
@@ -13,7 +13,7 @@ use Rattle.enc_model.specs.Transcode.{Refused}
 use Rattle.enc_encode.specs.Reasons.{Gave, Explains, reason_of}
 use Rattle.enc_encode.specs.State.{shift_of, EncoderState, coder, code_from}
 use Rattle.enc_encode.proofs.Growth.{front}
-use Rattle.enc_encode.proofs.Final.{gave_behind}
+use Rattle.enc_encode.proofs.Final.{gave_after}
 
 module _ (t : Tables) (e : EncoderState) where
   coded_nothing : code_from t e [] ≡ record { bytes = []; state = e.shift; fault = None }
@@ -40,7 +40,7 @@ module _ (t : Tables) (e : EncoderState) where
       let f = encoder t e.to in
       let a = code_from t e x in
       rw (coded_both f (encoder_steady t e.to) e.mode e.shift x y p.0, ← p.1)
-      (gave_behind a.bytes (coded f e.mode (shift_of s) y) new r p.2 q)
+      (gave_after a.bytes (coded f e.mode (shift_of s) y) new r p.2 q)
 
   stopped_more : {Z : Type 0} (old new : Vec ℕ Z) (r : Coded) (m : Shift → Coded) → Stopped old r.bytes new
       → Stopped old (joined r m).bytes new

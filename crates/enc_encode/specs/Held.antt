@@ -19,7 +19,7 @@ pub record Passed {Z : Type 0} (old : Vec ℕ Z) (held bytes : List ℕ) (new : 
   pub parts : held ++ bytes ≡ front ++ kept
   pub appended : Appended old front new
 
--- a code that goes behind bytes that are held: it is passed on; or memory is wanted; or all before the first fault is
+-- a code that goes after bytes that are held: it is passed on; or memory is wanted; or all before the first fault is
 -- appended
 abbrev pub Kept : {Z : Type 0} → Coded → Vec ℕ Z → List ℕ → Vec ℕ Z → List ℕ → Result ShiftState EncodeError → Type 0
 Kept code old held new kept (Ok next) =
@@ -27,7 +27,7 @@ Kept code old held new kept (Ok next) =
 Kept code old held new kept (Err NoMemory) = Stopped old (held ++ code.bytes) new
 Kept code old held new kept (Err (Unencodable c)) = (code.fault ≡ Some c) × Appended old (held ++ code.bytes) new
 
--- the code of a text's front went behind bytes that are held, and the rest is left
+-- the code of a text's front went after bytes that are held, and the rest is left
 pub record HeldFront {Z : Type 0} (code_of : List ℕ → Coded) (text rest : List ℕ) (old : Vec ℕ Z) (held : List ℕ)
     (new : Vec ℕ Z) (kept : List ℕ) (r : Result ShiftState EncodeError) : Type 0 where
   pub front : List ℕ

@@ -7,12 +7,12 @@ use Rattle.enc_encode.specs.declared.error.EncodeError.TheVariants.{NoMemory, Un
 use Rattle.enc_encode.specs.declared.shift.ShiftState.{ShiftState}
 use Rattle.enc_encode.specs.State.{shift_of}
 
--- none for want of memory, else the character that has no code
+-- none when out of memory, else the character that has no code
 abbrev pub reason_of : EncodeError → Option ℕ
 reason_of NoMemory = None
 reason_of (Unencodable c) = Some c
 
--- the whole code was appended and leads to this state; or a part of it, for want of memory; or what stands before the
+-- the whole code was appended and leads to this state; or a part of it, out of memory; or what stands before the
 -- first fault
 abbrev pub Gave : {Z : Type 0} → Coded → Vec ℕ Z → Vec ℕ Z → Result ShiftState EncodeError → Type 0
 Gave code old new (Ok next) = (code.fault ≡ None) × (shift_of next ≡ code.state) × Appended old code.bytes new

@@ -18,7 +18,7 @@ abbrev pub AllGiven : (ℕ → List ℕ → Type 0) → List ℕ → List ℕ �
 AllGiven gives [] bytes = bytes ≡ []
 AllGiven gives (c ∷ cs) bytes = (b more : List ℕ) × (bytes ≡ b ++ more) × gives c b × AllGiven gives cs more
 
--- the bytes of a text's front went behind those that are held, and the rest is left
+-- the bytes of a text's front went after those that are held, and the rest is left
 pub record RunFront (gives : ℕ → List ℕ → Type 0) (text rest held new : List ℕ) : Type 0 where
   pub front : List ℕ
   pub bytes : List ℕ

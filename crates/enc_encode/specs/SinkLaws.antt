@@ -18,9 +18,9 @@ use Rattle.enc_encode.specs.Sinks.{SinkState, Setting, setting_of, coder_of, cod
 room_front : (old : Vec ℕ Global) (x y : List ℕ) → NoRoom old x → NoRoom old (x ++ y)
 room_front old x y h = let l = length-append x y in omega (arith, l, h)
 
-room_behind : (old mid : Vec ℕ Global) (x y : List ℕ) → mid.items ≡ old.items ++ x → vec_capacity old ≤ vec_capacity mid
+room_after : (old mid : Vec ℕ Global) (x y : List ℕ) → mid.items ≡ old.items ++ x → vec_capacity old ≤ vec_capacity mid
     → NoRoom mid y → NoRoom old (x ++ y)
-room_behind old mid x y e c h =
+room_after old mid x y e c h =
     let l = length-append x y in let m =
     length-append old.items x in let i : length mid.items ≡ length (old.items ++ x) = ap length e in
     omega (arith, l, m, i, c, h)
@@ -53,7 +53,7 @@ later_memory a b x y e p q h =
           p.took.fault,
       ← p.took.state,
     )
-    (room_behind a.out b.out r.bytes (code_in g b.encoder.shift y).bytes p.took.out p.capacity (q h))
+    (room_after a.out b.out r.bytes (code_in g b.encoder.shift y).bytes p.took.out p.capacity (q h))
 
 pub encoder_sink : IsSink SinkTook SinkRefused
 encoder_sink = record {

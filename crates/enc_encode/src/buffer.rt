@@ -73,7 +73,7 @@ impl Buffer {
         }
     }
 
-    /// Puts some bytes behind the others.
+    /// Puts some bytes after the others.
     #[inline(always)]
     fn store<const N: usize>(&mut self, bytes: [u8; N])
         requires { length self.old + N ≤ ROOM }
@@ -84,7 +84,7 @@ impl Buffer {
         self.len = end;
     }
 
-    /// Puts the bytes of a character behind the others.
+    /// Puts the bytes of a character after the others.
     #[inline(always)]
     fn push(&mut self, bytes: Bytes)
         requires { length self.old + 5 ≤ ROOM }
@@ -110,7 +110,7 @@ impl Buffer {
         Ok(())
     }
 
-    /// Puts the first so many bytes of some lanes behind the others. All lanes are stored, so that nothing depends on
+    /// Puts the first so many bytes of some lanes after the others. All lanes are stored, so that nothing depends on
     /// how many.
     #[inline(always)]
     pub fn push_front(&mut self, lanes: [u8; LANES], count: usize)
@@ -123,7 +123,7 @@ impl Buffer {
         self.len += count;
     }
 
-    /// Puts the bytes of a text's front behind the others: of ASCII, and of characters of two bytes that a single-byte
+    /// Puts the bytes of a text's front after the others: of ASCII, and of characters of two bytes that a single-byte
     /// encoding has, as far as there is room. Gives the rest of the text. The length is a local of the loop, which a
     /// register can hold.
     #[inline(always)]
@@ -134,10 +134,10 @@ impl Buffer {
         let mut len = self.len;
         let mut rest = text;
         while len < ROOM {
-            let (behind, end) = put_run(&mut self.bytes, len, pointers, rest);
+            let (after, end) = put_run(&mut self.bytes, len, pointers, rest);
             let stops = end == len;
             len = end;
-            rest = behind;
+            rest = after;
             if stops {
                 break;
             }
@@ -147,7 +147,7 @@ impl Buffer {
         left
     }
 
-    /// Puts the bytes of characters at a text's front behind the others: as many as `pair` has one after the other, and
+    /// Puts the bytes of characters at a text's front after the others: as many as `pair` has one after the other, and
     /// as there is room for. Gives the rest of the text.
     #[inline(always)]
     pub fn push_pairs<'a>(
@@ -163,19 +163,19 @@ impl Buffer {
         let mut len = self.len;
         let mut rest = text;
         while len < ROOM - 1 {
-            let Some((lead, trail, behind)) = first_pair(set, to, shift, rest) else {
+            let Some((lead, trail, after)) = first_pair(set, to, shift, rest) else {
                 break;
             };
             self.bytes[len] = lead;
             self.bytes[len + 1] = trail;
             len += 2;
-            rest = behind;
+            rest = after;
         }
         self.len = len;
         rest
     }
 
-    /// Puts the bytes of characters at a text's front behind the others: those that a single-byte encoding has, by the
+    /// Puts the bytes of characters at a text's front after the others: those that a single-byte encoding has, by the
     /// table of its pointers, or else pairs. Gives the rest of the text.
     #[inline(always)]
     pub fn push_run<'a>(
@@ -210,7 +210,7 @@ impl Buffer {
         Ok(())
     }
 
-    /// Puts the bytes of a character behind the others, after it has seen to room.
+    /// Puts the bytes of a character after the others, after it has seen to room.
     #[inline(always)]
     pub fn hold(&mut self, bytes: Bytes, out: &mut Vec<u8>) -> Result<(), AllocError>
         ensures ok { OnOk result (Passed out.old self.old (bytes_of bytes) out.new self.new) }

@@ -228,7 +228,7 @@ impl Encoder {
         Ok(())
     }
 
-    /// Puts a character's code behind bytes that are held, or appends both, and gives the state that it leads to.
+    /// Puts a character's code after bytes that are held, or appends both, and gives the state that it leads to.
     #[inline(always)]
     fn hold(
         &self,
@@ -259,7 +259,7 @@ impl Encoder {
         self.encode(set, shift, c, out)
     }
 
-    /// Puts the code of a text's front behind bytes that are held, or appends both: of ASCII in lanes, or else of one
+    /// Puts the code of a text's front after bytes that are held, or appends both: of ASCII in lanes, or else of one
     /// character. Gives the state that it leads to, and the rest of the text.
     #[inline(always)]
     fn hold_front<'a>(
@@ -315,9 +315,9 @@ impl Encoder {
         let mut shift = self.shift;
         let mut rest = run;
         while !rest.is_empty() {
-            let (next, behind) = self.hold_front(to, set, shift, rest, &mut held, out)?;
+            let (next, after) = self.hold_front(to, set, shift, rest, &mut held, out)?;
             shift = next;
-            rest = held.push_run(to, set, singles, shift, behind);
+            rest = held.push_run(to, set, singles, shift, after);
         }
         held.flush(out)?;
         Ok(shift)

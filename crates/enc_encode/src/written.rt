@@ -37,7 +37,7 @@ impl Bytes {
 pub enum Written {
     /// the character's bytes
     Wrote(Bytes, ShiftState),
-    /// bytes behind which it wants the character again
+    /// bytes after which it wants the character again
     Again(Bytes, ShiftState),
     /// bytes, and then the error for this character
     Lacks(Bytes, ShiftState, char),

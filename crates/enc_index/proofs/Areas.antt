@@ -125,10 +125,10 @@ first_is q bound c pair index a e =
       | inr g ↦ (let same : pair.0 ≡ q = omega arith in (same, grind (arith, nat_tests, same, e)))
     ]
 
-behind_first : (q k : ℕ) (pair : ℕ × ℕ) (index : Index) → pair.0 ≡ q → code (pair ∷ index) (q + suc k) ≡ code index
+after_first : (q k : ℕ) (pair : ℕ × ℕ) (index : Index) → pair.0 ≡ q → code (pair ∷ index) (q + suc k) ≡ code index
     (suc q + k)
 unfolding code
-behind_first q k pair index e = let same : q + suc k ≡ suc q + k = omega arith in rw same (grind (arith, nat_tests, e))
+after_first q k pair index e = let same : q + suc k ≡ suc q + k = omega arith in rw same (grind (arith, nat_tests, e))
 
 -- the pairs of a table that has an index's code points
 dense : (q bound : ℕ) (entries : List (Option ℕ)) (index : Index) → bound ≡ q + length entries
@@ -152,7 +152,7 @@ dense q bound (Some c ∷ entries) (pair ∷ index) e a h =
     let parts = ascending q bound pair index a in
     let tail : ascends (suc q) bound index ≡ true = rw (← first.0) parts.rest in
     let rest = dense (suc q) bound entries index (omega arith) tail
-    (λ k l. h (suc k) (omega arith) ∙ behind_first q k pair index first.0) in
+    (λ k l. h (suc k) (omega arith) ∙ after_first q k pair index first.0) in
     ap (λ ps. (q, c) ∷ ps) rest ∙ ap (λ p. p ∷ index) (pair_is pair q c first.0 first.1)
 
 -- a file's table that was read from an area

@@ -3,25 +3,25 @@ use Rattle.std.proofs.Common.{◌≡◌, ℕ, ◌+◌, ◌-◌, ◌<◌, ◌≤�
 use Rattle.std.proofs.Common.{refl, arith, append_assoc}
 use Rattle.std.proofs.lemmas.Bool.Decides.{nat_tests}
 use Rattle.std.proofs.lemmas.List.{drop_more, drop_all, take_more, take_all, length-drop}
-use Rattle.enc_index.specs.Files.{before, behind, without_spaces}
+use Rattle.enc_index.specs.Files.{before, after, without_spaces}
 
 module _ (mark : ℕ) (bytes : List ℕ) (i : ℕ) (h : i < length bytes) where
   pub before_here : get_or bytes i 0 ≡ mark → before mark (drop i bytes) ≡ []
   unfolding before
   before_here e = rw (drop_more bytes i 0 h) (grind (arith, nat_tests, e))
 
-  pub behind_here : get_or bytes i 0 ≡ mark → behind mark (drop i bytes) ≡ Some (drop (i + 1) bytes)
-  unfolding behind
-  behind_here e = rw (drop_more bytes i 0 h) (grind (arith, nat_tests, e))
+  pub after_here : get_or bytes i 0 ≡ mark → after mark (drop i bytes) ≡ Some (drop (i + 1) bytes)
+  unfolding after
+  after_here e = rw (drop_more bytes i 0 h) (grind (arith, nat_tests, e))
 
   before_next : (get_or bytes i 0 ≡ mark → ⊥) → before mark (drop i bytes) ≡ get_or bytes i 0 ∷ before mark
       (drop (i + 1) bytes)
   unfolding before
   before_next e = rw (drop_more bytes i 0 h) (grind (arith, nat_tests, e))
 
-  pub behind_next : (get_or bytes i 0 ≡ mark → ⊥) → behind mark (drop i bytes) ≡ behind mark (drop (i + 1) bytes)
-  unfolding behind
-  behind_next e = rw (drop_more bytes i 0 h) (grind (arith, nat_tests, e))
+  pub after_next : (get_or bytes i 0 ≡ mark → ⊥) → after mark (drop i bytes) ≡ after mark (drop (i + 1) bytes)
+  unfolding after
+  after_next e = rw (drop_more bytes i 0 h) (grind (arith, nat_tests, e))
 
   pub front_next : (get_or bytes i 0 ≡ mark → ⊥) → take i bytes ++ before mark (drop i bytes) ≡ take (i + 1)
       bytes ++ before mark (drop (i + 1) bytes)
@@ -31,9 +31,9 @@ pub before_end : (mark : ℕ) (bytes : List ℕ) (i : ℕ) → length bytes ≤ 
 unfolding before
 before_end mark bytes i h = rw (drop_all i bytes h) refl
 
-pub behind_end : (mark : ℕ) (bytes : List ℕ) (i : ℕ) → length bytes ≤ i → behind mark (drop i bytes) ≡ None
-unfolding behind
-behind_end mark bytes i h = rw (drop_all i bytes h) refl
+pub after_end : (mark : ℕ) (bytes : List ℕ) (i : ℕ) → length bytes ≤ i → after mark (drop i bytes) ≡ None
+unfolding after
+after_end mark bytes i h = rw (drop_all i bytes h) refl
 
 pub spaces_here : (bytes : List ℕ) (i : ℕ) → i < length bytes → (get_or bytes i 0 ≡ 32 → ⊥)
     → without_spaces (drop i bytes) ≡ drop i bytes

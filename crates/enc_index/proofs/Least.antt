@@ -62,7 +62,7 @@ module _ (keeps : ℕ → Bool) (entries : List (Option ℕ)) (i j : ℕ) (next 
       → from i c ≡ cond (d == c) (Some i) (from j c)
   past_taken d e k c = rw (from_some entries i d h e, next) (taken d c _ k (least_below keeps c i j _ (omega arith)))
 
--- behind the last entry there is nothing
+-- after the last entry there is nothing
 pub from_nothing : (keeps : ℕ → Bool) (entries : List (Option ℕ)) (c : ℕ)
     → pointer_where keeps (pairs_from (length entries) (drop (length entries) entries)) c ≡ None
 unfolding pairs_from pointer_where

@@ -1,22 +1,22 @@
--- The first line of a text, and the lines behind it.
+-- The first line of a text, and the lines after it.
 use Rattle.std.proofs.Common.{◌≡◌, ℕ, suc, ◌+◌, ◌<◌, true, false, cond, List, [], ◌∷◌, length, Option, Some, None, Ok}
 use Rattle.std.proofs.Common.{Err, refl, ap, arith, ◌==◌}
-use Rattle.enc_index.specs.Files.{before, behind, pieces, onto, without_cr, without_crs, lines_of, with_line}
+use Rattle.enc_index.specs.Files.{before, after, pieces, onto, without_cr, without_crs, lines_of, with_line}
 use Rattle.enc_index.specs.Files.{with_lines}
 use Rattle.enc_model.specs.Index.{Index}
 use Rattle.enc_index.specs.declared.kind.ReadError.{ReadError}
 
-abbrev pieces_behind : Option (List ℕ) → List (List ℕ)
-pieces_behind None = []
-pieces_behind (Some rest) = pieces rest
+abbrev pieces_after : Option (List ℕ) → List (List ℕ)
+pieces_after None = []
+pieces_after (Some rest) = pieces rest
 
-pieces_cut : (bytes : List ℕ) → pieces bytes ≡ before 0x0A bytes ∷ pieces_behind (behind 0x0A bytes)
-unfolding pieces before behind
+pieces_cut : (bytes : List ℕ) → pieces bytes ≡ before 0x0A bytes ∷ pieces_after (after 0x0A bytes)
+unfolding pieces before after
 pieces_cut [] = refl
 pieces_cut (b ∷ bytes) =
     let rest = pieces_cut bytes in
     elim (b == 0x0A) as (λ t. cond t ([] ∷ pieces bytes) (onto b (pieces bytes)) ≡ cond t []
-    (b ∷ before 0x0A bytes) ∷ pieces_behind (cond t (Some bytes) (behind 0x0A bytes))) [
+    (b ∷ before 0x0A bytes) ∷ pieces_after (cond t (Some bytes) (after 0x0A bytes))) [
       | true ↦ refl
       | false ↦ ap
           (onto b) rest
@@ -27,21 +27,21 @@ first_of_more : (line : List ℕ) (rest : List ℕ) → without_crs (line ∷ pi
 unfolding without_crs
 first_of_more line rest = rw (pieces_cut rest) refl
 
-pub lines_next : (bytes rest : List ℕ) → behind 0x0A bytes ≡ Some rest → lines_of bytes ≡ without_cr
+pub lines_next : (bytes rest : List ℕ) → after 0x0A bytes ≡ Some rest → lines_of bytes ≡ without_cr
     (before 0x0A bytes) ∷ lines_of rest
 lines_next bytes rest e = rw (pieces_cut bytes, e) (first_of_more (before 0x0A bytes) rest)
 
-pub lines_last : (bytes : List ℕ) → behind 0x0A bytes ≡ None → lines_of bytes ≡ before 0x0A bytes ∷ []
+pub lines_last : (bytes : List ℕ) → after 0x0A bytes ≡ None → lines_of bytes ≡ before 0x0A bytes ∷ []
 unfolding without_crs
 lines_last bytes e = rw (pieces_cut bytes, e) refl
 
-pub behind_shorter : (mark : ℕ) (bytes rest : List ℕ) → behind mark bytes ≡ Some rest → length rest < length bytes
-unfolding behind
-behind_shorter mark [] rest e = absurd cc
-behind_shorter mark (b ∷ bytes) rest e =
-    elim (b == mark) as (λ t. cond t (Some bytes) (behind mark bytes) ≡ Some rest → length rest < suc (length bytes)) [
+pub after_shorter : (mark : ℕ) (bytes rest : List ℕ) → after mark bytes ≡ Some rest → length rest < length bytes
+unfolding after
+after_shorter mark [] rest e = absurd cc
+after_shorter mark (b ∷ bytes) rest e =
+    elim (b == mark) as (λ t. cond t (Some bytes) (after mark bytes) ≡ Some rest → length rest < suc (length bytes)) [
       | true ↦ λ h. (let same : bytes ≡ rest = cc in omega (arith, ap length same))
-      | false ↦ λ h. (let less = behind_shorter mark bytes rest h in omega arith)
+      | false ↦ λ h. (let less = after_shorter mark bytes rest h in omega arith)
     ] e
 
 -- LINE BY LINE

@@ -5,7 +5,7 @@ use Rattle.enc_index.specs.declared.kind.Kind.TheVariants.{Jis0208, Katakana}
 use Rattle.enc_index.specs.declared.kind.ReadError.TheVariants.{Line, Range, Twice}
 use Rattle.enc_model.specs.Indexes.{IndexSet, no_indexes}
 use Rattle.enc_index.specs.Area.{area_byte, entry_at}
-use Rattle.enc_index.specs.Files.{before, behind, pieces, without_crs, onward, without_spaces, pair_of, inserted}
+use Rattle.enc_index.specs.Files.{before, after, pieces, without_crs, onward, without_spaces, pair_of, inserted}
 use Rattle.enc_index.specs.Files.{with_line, with_lines, file_of}
 
 -- a line of two fields, with its LF
@@ -17,7 +17,7 @@ small = codes "# test" ++ 0x0A ∷ 0x0A ∷ [] ++ line (codes "  0") (codes "0x3
     (codes "FF0D") ++ line (codes "61") (codes "FF0D")
 
 accepted : file_of Jis0208 small ≡ Ok ((0, 0x3000) ∷ (60, 0xFF0D) ∷ (61, 0xFF0D) ∷ [])
-unfolding line small before behind pieces without_crs onward without_spaces pair_of code inserted with_line with_lines
+unfolding line small before after pieces without_crs onward without_spaces pair_of code inserted with_line with_lines
     file_of
 accepted = refl
 
@@ -26,38 +26,38 @@ unfolding pointer_where
 least = refl
 
 sixth_again : file_of Jis0208 (small ++ line (codes "60") (codes "3001")) ≡ Err (Twice 6)
-unfolding line small before behind pieces without_crs onward without_spaces pair_of code inserted with_line with_lines
+unfolding line small before after pieces without_crs onward without_spaces pair_of code inserted with_line with_lines
     file_of
 sixth_again = refl
 
 out_of_range : file_of Jis0208 (line (codes "11280") (codes "3001")) ≡ Err (Range 1)
-unfolding line before behind pieces without_crs onward without_spaces pair_of code inserted with_line with_lines file_of
+unfolding line before after pieces without_crs onward without_spaces pair_of code inserted with_line with_lines file_of
 out_of_range = refl
 
 surrogate : file_of Jis0208 (line (codes "0") (codes "D800")) ≡ Err (Range 1)
-unfolding line before behind pieces without_crs onward without_spaces pair_of code inserted with_line with_lines file_of
+unfolding line before after pieces without_crs onward without_spaces pair_of code inserted with_line with_lines file_of
 surrogate = refl
 
 too_great : file_of Jis0208 (line (codes "0") (codes "110000")) ≡ Err (Range 1)
-unfolding line before behind pieces without_crs onward without_spaces pair_of code inserted with_line with_lines file_of
+unfolding line before after pieces without_crs onward without_spaces pair_of code inserted with_line with_lines file_of
 too_great = refl
 
 no_tab : file_of Jis0208 (codes "x") ≡ Err (Line 1)
-unfolding line before behind pieces without_crs onward without_spaces pair_of code inserted with_line with_lines file_of
+unfolding line before after pieces without_crs onward without_spaces pair_of code inserted with_line with_lines file_of
 no_tab = refl
 
 seven_digits : file_of Jis0208 (line (codes "0000001") (codes "3001")) ≡ Err (Line 1)
-unfolding line before behind pieces without_crs onward without_spaces pair_of code inserted with_line with_lines file_of
+unfolding line before after pieces without_crs onward without_spaces pair_of code inserted with_line with_lines file_of
 seven_digits = refl
 
 no_digit : file_of Jis0208 (line (codes "0") (codes "0x")) ≡ Err (Line 1)
-unfolding line before behind pieces without_crs onward without_spaces pair_of code inserted with_line with_lines file_of
+unfolding line before after pieces without_crs onward without_spaces pair_of code inserted with_line with_lines file_of
 no_digit = refl
 
 -- CR LF, pointers out of order, and a third field
 crlf : file_of Katakana (codes "2" ++ 0x09 ∷ codes "30f2" ++ 0x09 ∷ codes "x" ++ 0x0D ∷ 0x0A ∷ 0x0D ∷ 0x0A ∷ codes
     "0" ++ 0x09 ∷ codes "3002" ++ 0x0D ∷ 0x0A ∷ []) ≡ Ok ((0, 0x3002) ∷ (2, 0x30F2) ∷ [])
-unfolding line before behind pieces without_crs onward without_spaces pair_of code inserted with_line with_lines file_of
+unfolding line before after pieces without_crs onward without_spaces pair_of code inserted with_line with_lines file_of
 crlf = refl
 
 -- AREAS
@@ -84,7 +84,7 @@ of_pointer_60 : bytes_at (272 ∷ 273 ∷ 274 ∷ 275 ∷ []) ≡ 0x00 ∷ 0x00 
 unfolding bytes_at one_file area_byte entry_at code
 of_pointer_60 = refl
 
--- the last byte of the last table, and the zeros behind it
+-- the last byte of the last table, and the zeros after it
 at_the_end : bytes_at (88427 ∷ 88428 ∷ 90111 ∷ []) ≡ 0xFF ∷ 0x00 ∷ 0x00 ∷ []
 unfolding bytes_at one_file area_byte entry_at code
 at_the_end = refl

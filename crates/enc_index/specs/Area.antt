@@ -50,7 +50,7 @@ pub record IsAreaOf (x : IndexSet) (area : List ℕ) : Type 0 where
   pub long : length area ≡ 90112
   pub bytes : (place : ℕ) → place < 90112 → slice_index area place ≡ area_byte x place
 
--- the set is given back, unless memory is refused
+-- the set is given back, unless it is out of memory
 abbrev pub Gives : Result IndexSet AreaError → IndexSet → Type 0
 Gives (Ok set) x = set ≡ x
 Gives (Err e) x = e ≡ NoMemory

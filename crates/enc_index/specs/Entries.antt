@@ -15,7 +15,7 @@ pairs_from p (Some c ∷ entries) = (p, c) ∷ pairs_from (suc p) entries
 abbrev pub entry : ℕ → Option ℕ
 entry p = if p == 0xFFFF then None else Some p
 
--- what a table by code point gives: at each code point its pointer, and none behind the table's end
+-- what a table by code point gives: at each code point its pointer, and none after the table's end
 abbrev pub found : List ℕ → ℕ → Option ℕ
 found pointers c = entry (slice_index_or pointers c 0xFFFF)
 

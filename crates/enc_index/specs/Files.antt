@@ -17,14 +17,14 @@ pointers_of Jis0212 = 8836
 pointers_of Katakana = 63
 pointers_of (Single e) = 128
 
--- the bytes before the first mark, and those behind it
+-- the bytes before the first mark, and those after it
 unfoldable pub before : ℕ → List ℕ → List ℕ
 before mark [] = []
 before mark (b ∷ bytes) = if b == mark then [] else b ∷ before mark bytes
 
-unfoldable pub behind : ℕ → List ℕ → Option (List ℕ)
-behind mark [] = None
-behind mark (b ∷ bytes) = if b == mark then Some bytes else behind mark bytes
+unfoldable pub after : ℕ → List ℕ → Option (List ℕ)
+after mark [] = None
+after mark (b ∷ bytes) = if b == mark then Some bytes else after mark bytes
 
 -- LINES
 
@@ -50,10 +50,10 @@ without_crs (line ∷ next ∷ lines) = without_cr line ∷ without_crs (next �
 abbrev pub lines_of : List ℕ → List (List ℕ)
 lines_of bytes = without_crs (pieces bytes)
 
--- the lines behind an LF
-abbrev pub lines_behind : Option (List ℕ) → List (List ℕ)
-lines_behind None = []
-lines_behind (Some rest) = lines_of rest
+-- the lines after an LF
+abbrev pub lines_after : Option (List ℕ) → List (List ℕ)
+lines_after None = []
+lines_after (Some rest) = lines_of rest
 
 -- empty lines and those that start with `#` say nothing
 abbrev pub is_dropped : List ℕ → Bool
@@ -98,7 +98,7 @@ next_point (Some rest) = point_of (before 0x09 rest)
 
 -- a line's first two fields; others don't matter
 unfoldable pub pair_of : List ℕ → Option (ℕ × ℕ)
-pair_of line = both (pointer_of (before 0x09 line)) (next_point (behind 0x09 line))
+pair_of line = both (pointer_of (before 0x09 line)) (next_point (after 0x09 line))
 
 -- PAIRS
 

@@ -27,7 +27,7 @@ pub record KindedIndex : Type 0 where
   pub kind : Kind
   pub pairs : Index
 
--- reading a file gives its pairs or its first bad line; want of memory may come in place of either
+-- reading a file gives its pairs or its first bad line; out of memory may come in place of either
 abbrev pub IsReading : Kind → List ℕ → Result KindedIndex ReadError → Type 0
 IsReading kind bytes (Ok index) = (index.kind ≡ kind) × (file_of kind bytes ≡ Ok index.pairs)
 IsReading kind bytes (Err NoMemory) = Unit {0}

@@ -185,7 +185,7 @@ impl IndexSet {
     ///
     /// # Errors
     ///
-    /// `Damaged` if it is no set's, `NoMemory` if memory is refused.
+    /// `Damaged` if it is no set's, `NoMemory` when out of memory.
     pub fn from_area(alloc: Global, area: &[u8]) -> Result<IndexSet, AreaError>
         ensures written { IfOk result (λ set. IsAreaOf set area.now) }
         ensures valid { IfOk result IsIndexSet }

@@ -3,16 +3,16 @@
 ghost use Rattle.std.specs.Prelude.{◌≡◌, ◌+◌, ◌<◌, ◌≤◌, ◌^◌, length, ◌∷◌, IfSome, Option, Some, Ok, Err};
 ghost use Rattle.std.specs.Prelude.{MatchResult, option_copied};
 ghost use Rattle.enc_index.specs.Entries.{pairs_from, AreScalars};
-ghost use Rattle.enc_index.specs.Files.{lines_behind, before, behind, without_cr, is_dropped, number, without_spaces};
+ghost use Rattle.enc_index.specs.Files.{lines_after, before, after, without_cr, is_dropped, number, without_spaces};
 ghost use Rattle.enc_index.specs.Files.{without_0x, pair_of, with_pair, with_line, with_lines, lines_of};
 
 use crate::kind::ReadError;
 
-/// The bytes before the first mark, and those behind it.
-#[tactic(auto, using(crate::proofs::Cuts::before_here, crate::proofs::Cuts::behind_here, crate::proofs::Cuts::front_next, crate::proofs::Cuts::behind_next, crate::proofs::Cuts::before_end, crate::proofs::Cuts::behind_end))]
+/// The bytes before the first mark, and those after it.
+#[tactic(auto, using(crate::proofs::Cuts::before_here, crate::proofs::Cuts::after_here, crate::proofs::Cuts::front_next, crate::proofs::Cuts::after_next, crate::proofs::Cuts::before_end, crate::proofs::Cuts::after_end))]
 fn cut(bytes: &[u8], mark: u8) -> (&[u8], Option<&[u8]>)
     ensures before { result.0.now ≡ before mark bytes.now }
-    ensures behind { option_copied result.1 ≡ behind mark bytes.now }
+    ensures after { option_copied result.1 ≡ after mark bytes.now }
 {
     for (place, byte) in bytes.iter().enumerate() {
         if *byte == mark {
@@ -142,10 +142,10 @@ fn read_line(codes: &mut [Option<char>], line_number: usize, line: &[u8]) -> Res
     }
 }
 
-/// A text's first line, and what is behind its LF.
-#[tactic(auto, using(crate::proofs::Lines::lines_next, crate::proofs::Lines::lines_last, crate::proofs::Lines::behind_shorter))]
+/// A text's first line, and what is after its LF.
+#[tactic(auto, using(crate::proofs::Lines::lines_next, crate::proofs::Lines::lines_last, crate::proofs::Lines::after_shorter))]
 fn next_line(text: &[u8]) -> (&[u8], Option<&[u8]>)
-    ensures lines { lines_of text.now ≡ result.0.now ∷ lines_behind (option_copied result.1) }
+    ensures lines { lines_of text.now ≡ result.0.now ∷ lines_after (option_copied result.1) }
     ensures shorter { IfSome (option_copied result.1) (λ rest. length rest < length text.now) }
 {
     let (line, rest) = cut(text, b'\n');
@@ -170,7 +170,7 @@ fn read_lines(codes: &mut [Option<char>], bytes: &[u8]) -> Result<(), ReadError>
         let (line, rest) = next_line(text);
         read_line(codes, line_number, line)?;
         match rest {
-            Some(behind) => text = behind,
+            Some(after) => text = after,
             None => return Ok(()),
         }
         line_number += 1;

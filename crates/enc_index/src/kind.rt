@@ -23,7 +23,7 @@ pub enum ReadError {
     Range(usize),
     /// the pointer was given before
     Twice(usize),
-    /// want of memory
+    /// out of memory
     NoMemory,
 }
 
@@ -42,7 +42,7 @@ impl From<AllocError> for ReadError {
 pub enum AreaError {
     /// no index set has this area
     Damaged,
-    /// want of memory
+    /// out of memory
     NoMemory,
 }
 

@@ -11,8 +11,8 @@ use Rattle.enc_model.specs.declared.Encoding.TheVariants as e
 -- without the ASCII whitespace at both ends: TAB, LF, FF, CR and SPACE
 unfoldable pub stripped : List ℕ → List ℕ
 stripped bytes =
-    let behind = drop (prefix_len is_ascii_whitespace bytes) bytes in
-    take (length behind - suffix_len is_ascii_whitespace behind) behind
+    let after = drop (prefix_len is_ascii_whitespace bytes) bytes in
+    take (length after - suffix_len is_ascii_whitespace after) after
 
 -- rows of one encoding
 abbrev pub rows : Encoding → List (List ℕ) → List (List ℕ × Encoding)

@@ -9,7 +9,7 @@ use Rattle.enc_model.proofs.Steps.{after_after, steps_are, steps_none, steps_con
 use Rattle.enc_laws.specs.Equations.{IsByAnswers}
 
 module _ {S : Type 0} (h : Handler S) where
-  -- the end's first answer, and on from behind what it restores
+  -- the end's first answer, and on from after what it restores
   abbrev first_of : (S → Run S) → Step S → Answer → Run S
   first_of go t a = elim a as (λ _. Run S) [
     | Finished ↦ record { text = []; state = t.state }
@@ -40,9 +40,9 @@ module _ {S : Type 0} (h : Handler S) where
   quiet_bytes (b ∷ r) s q = let t =
       h s (Some b) in rw (q.0, append-nil) (ap (after (said t.answer)) (quiet_bytes r t.state q.1))
 
-  behind_quiet : IsCalm h → (s : S) (r : List ℕ) → IsQuiet h s r →
+  after_quiet : IsCalm h → (s : S) (r : List ℕ) → IsQuiet h s r →
       steps h true s r ≡ after (all_bytes (quick h) s r).text (end_of h (all_bytes (quick h) s r).state)
-  behind_quiet calm s r q = steps_are h calm true s r ∙ ap (λ z. after z.text (end_of h z.state)) (quiet_bytes r s q)
+  after_quiet calm s r q = steps_are h calm true s r ∙ ap (λ z. after z.text (end_of h z.state)) (quiet_bytes r s q)
 
   end_case : IsCalm h → (t : Step S) (a : Answer) → EndsFrom 3 t a →
       ◌≡◌ {A = Run S} (first_of (end_to 3 h) t a) (elim a as (λ _. Run S) [
@@ -54,7 +54,7 @@ module _ {S : Type 0} (h : Handler S) where
       let r = all_bytes (quick h) t.state t.restored in
       ap (after (said t.answer ++ r.text)) (deeper 3 r.state e.2)
       ∙ sym (after_after (said t.answer) r.text (end_of h r.state))
-      ∙ ap (after (said t.answer)) (sym (behind_quiet calm t.state t.restored e.1))
+      ∙ ap (after (said t.answer)) (sym (after_quiet calm t.state t.restored e.1))
 
   pub by_answers : IsCalm h → IsByAnswers h
   by_answers calm = record {

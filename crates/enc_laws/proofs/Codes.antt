@@ -2,15 +2,15 @@
 use Rattle.std.proofs.Common.{ℕ, ◌≡◌, List, [], ◌∷◌, ◌++◌, None, refl, sym, ◌∙◌, ap}
 use Rattle.enc_model.specs.declared.Mode.{Mode}
 use Rattle.enc_model.specs.declared.Mode.TheVariants.{Html, Fatal}
-use Rattle.enc_model.specs.Encode.{Shift, Written, Wrote, Again, Lacks, Encoder, Coded, behind, went, reference}
-use Rattle.enc_model.specs.Encode.{coded_within, coded, joined, all_codes, behind_written, settled, code_within}
+use Rattle.enc_model.specs.Encode.{Shift, Written, Wrote, Again, Lacks, Encoder, Coded, led_by, went, reference}
+use Rattle.enc_model.specs.Encode.{coded_within, coded, joined, all_codes, after_written, settled, code_within}
 use Rattle.enc_model.specs.Encode.{plain_code, code_of, IsWrote, IsNoAgain, IsSteady}
-use Rattle.enc_model.proofs.Coding.{ArePlain, all_codes_append, coded_is, joined_behind, joined_more, code_behind}
+use Rattle.enc_model.proofs.Coding.{ArePlain, all_codes_append, coded_is, joined_after, joined_more, code_after}
 use Rattle.enc_model.proofs.Coding.{reference_plain}
 
 -- WHAT AN ENCODER GIVES
 
-settled_same : (f : Encoder) (c : ℕ) (x : List ℕ) (w : Written) → IsNoAgain (behind_written x w) → settled f c w ≡ w
+settled_same : (f : Encoder) (c : ℕ) (x : List ℕ) (w : Written) → IsNoAgain (after_written x w) → settled f c w ≡ w
 settled_same f c x (Wrote b s) n = refl
 settled_same f c x (Again b s) n = absurd n
 settled_same f c x (Lacks b s d) n = refl
@@ -47,20 +47,20 @@ module _ (f : Encoder) (steady : IsSteady f) (mode : Mode) where
     lacks_case Fatal b s d e = refl
     lacks_case Html b s d e =
         let ref = reference d in
-        joined_behind b (all_codes (plain_code f) s ref) rest
-        ∙ ap (λ z. behind b (joined z rest)) (sym (plain_codes ref s (reference_plain d)))
-        ∙ ap (behind b) (sym (all_codes_append (code_of f mode) s ref cs) ∙ sym (coded_is f steady mode s (ref ++ cs)))
+        joined_after b (all_codes (plain_code f) s ref) rest
+        ∙ ap (λ z. led_by b (joined z rest)) (sym (plain_codes ref s (reference_plain d)))
+        ∙ ap (led_by b) (sym (all_codes_append (code_of f mode) s ref cs) ∙ sym (coded_is f steady mode s (ref ++ cs)))
 
     more_case : (w : Written) → IsNoAgain (settled f c w) →
         joined (code_within mode (all_codes (plain_code f)) (settled f c w)) rest ≡ went mode (coded f mode) c cs w
-    more_case (Wrote b s) n = ap (behind b) (sym (coded_is f steady mode s cs))
+    more_case (Wrote b s) n = ap (led_by b) (sym (coded_is f steady mode s cs))
     more_case (Lacks b s d) n = lacks_case mode b s d refl
     more_case (Again b s) n =
         let go = all_codes (plain_code f) in
-        ap (λ z. joined z rest) (code_behind mode go b (f s c))
-        ∙ joined_behind b (code_within mode go (f s c)) rest
-        ∙ ap (λ z. behind b (joined (code_within mode go z) rest)) (sym (settled_same f c b (f s c) n))
-        ∙ ap (behind b) (sym (coded_is f steady mode s (c ∷ cs)))
+        ap (λ z. joined z rest) (code_after mode go b (f s c))
+        ∙ joined_after b (code_within mode go (f s c)) rest
+        ∙ ap (λ z. led_by b (joined (code_within mode go z) rest)) (sym (settled_same f c b (f s c) n))
+        ∙ ap (led_by b) (sym (coded_is f steady mode s (c ∷ cs)))
 
     pub more : (s : Shift) → coded f mode s (c ∷ cs) ≡ went mode (coded f mode) c cs (f s c)
     more s = coded_is f steady mode s (c ∷ cs) ∙ more_case (f s c) (steady.once s c)

@@ -8,7 +8,7 @@ use Rattle.enc_laws.specs.Subparts.{Ranges, fills, is_sequence, is_prefix, is_op
 use Rattle.enc_laws.specs.Subparts.{scalar_of, segment_scalar, segments_text}
 use Rattle.enc_laws.proofs.Leads.{Leading, LeadsNowhere, ascii, ascii_read, kind_of}
 use Rattle.enc_laws.proofs.Segments.{taken, taken_begins, taken_parts, segment_is}
-use Rattle.enc_laws.proofs.Reading.{read_is, value, behind, tail_whole, tail_stopped, tail_open, open_text, scalar_is}
+use Rattle.enc_laws.proofs.Reading.{read_is, value, beyond, tail_whole, tail_stopped, tail_open, open_text, scalar_is}
 use Rattle.enc_laws.proofs.Reading.{end_start}
 
 -- A SEGMENT, and what the decoder gives for it
@@ -43,7 +43,7 @@ module _ (b : ℕ) (ranges : Ranges) (s : Utf8) (l : Leading b ranges s) (ended 
   lead_read = read_is ended utf8_start b bytes _ l.read
 
   lead_whole : fills ranges (taken ranges bytes) ≡ true → Given ended (b ∷ bytes) (b ∷ taken ranges bytes)
-      (behind ranges bytes)
+      (beyond ranges bytes)
   lead_whole e =
       let t = taken ranges bytes in
       let sequence : is_sequence (b ∷ t) ≡ true = l.leads.sequence t ∙ e in
@@ -51,24 +51,24 @@ module _ (b : ℕ) (ranges : Ranges) (s : Utf8) (l : Leading b ranges s) (ended 
       ap (λ p. value p t) l.point ∙ sym (scalar_is b ranges t l.leads.few e) ∙ sym (scalar_whole (b ∷ t) sequence) in
       record {
         run = lead_read ∙ tail_whole ranges s ended bytes l.waits e ∙ ap
-            (λ c. after (c ∷ []) (steps utf8 ended utf8_start (behind ranges bytes))) scalar;
+            (λ c. after (c ∷ []) (steps utf8 ended utf8_start (beyond ranges bytes))) scalar;
         closed = λ r. not_open (is_prefix (b ∷ t)) (is_sequence (b ∷ t)) sequence;
       }
 
-  lead_stopped : (d : ℕ) (rest : List ℕ) → fills ranges (taken ranges bytes) ≡ false → behind ranges bytes ≡ d ∷ rest →
-      Given ended (b ∷ bytes) (b ∷ taken ranges bytes) (behind ranges bytes)
+  lead_stopped : (d : ℕ) (rest : List ℕ) → fills ranges (taken ranges bytes) ≡ false → beyond ranges bytes ≡ d ∷ rest →
+      Given ended (b ∷ bytes) (b ∷ taken ranges bytes) (beyond ranges bytes)
   lead_stopped d rest e more =
       let t = taken ranges bytes in
       let sequence : is_sequence (b ∷ t) ≡ false = l.leads.sequence t ∙ e in
       record {
         run = lead_read ∙ tail_stopped ranges s ended bytes d rest l.waits e more
-            ∙ ap (λ c. after (c ∷ []) (steps utf8 ended utf8_start (behind ranges bytes)))
+            ∙ ap (λ c. after (c ∷ []) (steps utf8 ended utf8_start (beyond ranges bytes)))
             (sym (scalar_part (b ∷ t) sequence));
         closed = λ r. absurd cc;
       }
 
-  lead_open : fills ranges (taken ranges bytes) ≡ false → behind ranges bytes ≡ [] →
-      Open ended (b ∷ bytes) (b ∷ taken ranges bytes) (behind ranges bytes)
+  lead_open : fills ranges (taken ranges bytes) ≡ false → beyond ranges bytes ≡ [] →
+      Open ended (b ∷ bytes) (b ∷ taken ranges bytes) (beyond ranges bytes)
   lead_open e none =
       let t = taken ranges bytes in
       record {
@@ -78,20 +78,20 @@ module _ (b : ℕ) (ranges : Ranges) (s : Utf8) (l : Leading b ranges s) (ended 
         text = ap (λ run. run.text) lead_read ∙ tail_open ranges s ended bytes l.waits e none;
       }
 
-  lead_case : Given ended (b ∷ bytes) (b ∷ taken ranges bytes) (behind ranges bytes) ⊎ Open ended (b ∷ bytes)
-      (b ∷ taken ranges bytes) (behind ranges bytes)
-  lead_case = go (fills ranges (taken ranges bytes)) refl (behind ranges bytes) refl
+  lead_case : Given ended (b ∷ bytes) (b ∷ taken ranges bytes) (beyond ranges bytes) ⊎ Open ended (b ∷ bytes)
+      (b ∷ taken ranges bytes) (beyond ranges bytes)
+  lead_case = go (fills ranges (taken ranges bytes)) refl (beyond ranges bytes) refl
     where
-      go : (x : Bool) → fills ranges (taken ranges bytes) ≡ x → (rest : List ℕ) → behind ranges bytes ≡ rest →
-          Given ended (b ∷ bytes) (b ∷ taken ranges bytes) (behind ranges bytes) ⊎ Open ended (b ∷ bytes)
-          (b ∷ taken ranges bytes) (behind ranges bytes)
+      go : (x : Bool) → fills ranges (taken ranges bytes) ≡ x → (rest : List ℕ) → beyond ranges bytes ≡ rest →
+          Given ended (b ∷ bytes) (b ∷ taken ranges bytes) (beyond ranges bytes) ⊎ Open ended (b ∷ bytes)
+          (b ∷ taken ranges bytes) (beyond ranges bytes)
       go true e rest r = inl (lead_whole e)
       go false e [] r = inr (lead_open e r)
       go false e (d ∷ rest) r = inl (lead_stopped d rest e r)
 
   pub lead_outcome : Outcome ended (b ∷ bytes) (segment (b ∷ bytes)) (drop (length (segment (b ∷ bytes))) (b ∷ bytes))
   lead_outcome =
-      let at : Outcome ended (b ∷ bytes) (b ∷ taken ranges bytes) (behind ranges bytes) =
+      let at : Outcome ended (b ∷ bytes) (b ∷ taken ranges bytes) (beyond ranges bytes) =
       record { some = omega arith; parts = ap (λ t. b ∷ t) (taken_parts ranges bytes); outcome = lead_case } in
       subst (λ z. Outcome ended (b ∷ bytes) z (drop (length z) (b ∷ bytes))) (sym (segment_is b ranges bytes l.leads))
       at

@@ -13,7 +13,7 @@ use Rattle.enc_index.specs.Scalars.{is_scalar}
 use Rattle.enc_index.specs.Files.{is_dropped, pair_of, inserted, unless_given, with_pair, with_line, with_lines}
 use Rattle.enc_index.specs.Files.{and_then}
 use Rattle.enc_laws.proofs.Leads.{both}
-use Rattle.enc_laws.specs.IndexFiles.{Give, IsInRange, GivesNew, AreGoodBehind, AreGood, Breaks, IsFirstBad}
+use Rattle.enc_laws.specs.IndexFiles.{Give, IsInRange, GivesNew, AreGoodAfter, AreGood, Breaks, IsFirstBad}
 
 -- MEMBERS
 
@@ -218,18 +218,18 @@ module _ (bound : ℕ) where
   -- ALL LINES
 
   -- a line of the rest is the first bad one
-  record BadBehind (front rest : List (List ℕ)) (e : ReadError) : Type 0 where
+  record BadAfter (front rest : List (List ℕ)) (e : ReadError) : Type 0 where
     mid : List (List ℕ)
     line : List ℕ
     back : List (List ℕ)
     parts : rest ≡ mid ++ line ∷ back
-    good : AreGoodBehind bound front mid
+    good : AreGoodAfter bound front mid
     kept : is_dropped line ≡ false
     breaks : Breaks bound (front ++ mid) line (suc (length (front ++ mid))) e
 
   abbrev Reads : List (List ℕ) → List (List ℕ) → Result Index ReadError → Type 0
-  Reads front rest (Ok index) = AreGoodBehind bound front rest × Holds (front ++ rest) index
-  Reads front rest (Err e) = BadBehind front rest e
+  Reads front rest (Ok index) = AreGoodAfter bound front rest × Holds (front ++ rest) index
+  Reads front rest (Err e) = BadAfter front rest e
 
   further : (front : List (List ℕ)) (line : List ℕ) (lines : List (List ℕ)) (r : Result Index ReadError) →
       (is_dropped line ≡ false → GivesNew bound front line) → Reads (front ++ line ∷ []) lines r
@@ -298,7 +298,7 @@ module _ (bound : ℕ) where
 
   -- a good file has no bad line
   good_line : (front mid : List (List ℕ)) (line : List ℕ) (back : List (List ℕ))
-      → AreGoodBehind bound front (mid ++ line ∷ back) →
+      → AreGoodAfter bound front (mid ++ line ∷ back) →
       is_dropped line ≡ false → GivesNew bound (front ++ mid) line
   good_line front [] line back g kept = subst (λ z. GivesNew bound z line) (sym (append-nil front)) (g.0 kept)
   good_line front (first ∷ mid) line back g kept =

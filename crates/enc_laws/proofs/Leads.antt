@@ -30,7 +30,7 @@ mark_of (r ∷ []) = 0xC0
 mark_of (r ∷ s ∷ []) = 0xE0
 mark_of (r ∷ s ∷ t ∷ ranges) = 0xF0
 
--- the decoder's state behind a lead
+-- the decoder's state after a lead
 pub record Leading (b : ℕ) (ranges : Ranges) (s : Utf8) : Type 0 where
   pub leads : Leads b ranges
   pub read : utf8 utf8_start (Some b) ≡ record { state = s; answer = Nothing; restored = [] }

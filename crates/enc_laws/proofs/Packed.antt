@@ -20,7 +20,7 @@ use Rattle.enc_model.specs.Japanese.{SingleState, introducer_byte}
 use Rattle.enc_model.specs.Encode.{Shift, InAscii, InRoman, InJis}
 use Rattle.enc_model.specs.Decode.{Decoding, OfUtf8, OfUtf16, OfShiftJis, OfEucJp, OfIso2022, OfSingle, undecided}
 use Rattle.enc_model.specs.Transcode.{Transcoder, Phase, Before, During, Over}
-use Rattle.enc_unicode.specs.Utf8State.{utf8_behind}
+use Rattle.enc_unicode.specs.Utf8State.{utf8_after}
 use Rattle.enc_stream.specs.StateBytes.{IsOwn, IsSingle, IsPhaseOf, IsReached, IsReachedIn, IsSound, encoding_of}
 use Rattle.enc_stream.specs.StateBytes.{encoding_number, mode_number, phase_number, shift_number, charset_number}
 use Rattle.enc_stream.specs.StateBytes.{flag_number, place_number, place_lead, utf16_bytes, counted, decoder_bytes}
@@ -93,7 +93,7 @@ place_back (Escape Paren) = refl
 
 -- A DECODER'S STATE, from the encoding in effect and the bytes
 
--- the kept bytes behind their count
+-- the kept bytes after their count
 abbrev kept_at : List ℕ → List ℕ
 kept_at bytes = take (get_or bytes 0 0) (drop 1 bytes)
 
@@ -126,7 +126,7 @@ utf16_back None (Some lead) rest = ap (λ z. record { byte = None; lead = Some z
 utf16_back (Some b) (Some lead) rest = ap (λ z. record { byte = Some b; lead = Some z }) (lead_back lead)
 
 abbrev decoding_at : Encoding → List ℕ → Decoding
-decoding_at Utf8 bytes = OfUtf8 (utf8_behind (kept_at bytes))
+decoding_at Utf8 bytes = OfUtf8 (utf8_after (kept_at bytes))
 decoding_at Utf16Be bytes = OfUtf16 true (utf16_at bytes)
 decoding_at Utf16Le bytes = OfUtf16 false (utf16_at bytes)
 decoding_at ShiftJis bytes = OfShiftJis (get_or bytes 0 0)
@@ -149,7 +149,7 @@ single_back _ bytes i = refl
 
 decoding_back : (d : Decoding) (rest : List ℕ) → IsOwn d → IsReached d → decoding_at (encoding_of d)
     (padded 11 (decoder_bytes d) ++ rest) ≡ d
-decoding_back (OfUtf8 s) rest o r = ap (λ z. OfUtf8 (utf8_behind z)) (kept_back s.kept rest r.1) ∙ ap OfUtf8 (sym r.0)
+decoding_back (OfUtf8 s) rest o r = ap (λ z. OfUtf8 (utf8_after z)) (kept_back s.kept rest r.1) ∙ ap OfUtf8 (sym r.0)
 decoding_back (OfUtf16 true s) rest o r = ap (OfUtf16 true) (utf16_back s.byte s.lead rest)
 decoding_back (OfUtf16 false s) rest o r = ap (OfUtf16 false) (utf16_back s.byte s.lead rest)
 decoding_back (OfShiftJis lead) rest o r = refl
@@ -181,10 +181,10 @@ phase_back from Over rest i r = refl
 
 -- THE STATE, from all its bytes
 
-behind_padded : (n : ℕ) (xs rest : List ℕ) → drop n (padded n xs ++ rest) ≡ rest
-behind_padded zero xs rest = refl
-behind_padded (suc n) [] rest = behind_padded n [] rest
-behind_padded (suc n) (x ∷ xs) rest = behind_padded n xs rest
+after_padded : (n : ℕ) (xs rest : List ℕ) → drop n (padded n xs ++ rest) ≡ rest
+after_padded zero xs rest = refl
+after_padded (suc n) [] rest = after_padded n [] rest
+after_padded (suc n) (x ∷ xs) rest = after_padded n xs rest
 
 abbrev state_at : List ℕ → Transcoder
 state_at bytes = record {
@@ -203,7 +203,7 @@ state_back s sound =
       encoding_back s.to,
       mode_back s.mode,
       phase_back s.from s.phase rest sound.fitting.phase sound.reached,
-      behind_padded 12 (phase_bytes s.phase) rest,
+      after_padded 12 (phase_bytes s.phase) rest,
       shift_back s.shift,
     ) refl
 

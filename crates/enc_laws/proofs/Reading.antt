@@ -1,4 +1,4 @@
--- How the decoder reads the bytes behind a lead.
+-- How the decoder reads the bytes beyond a lead.
 use Rattle.std.proofs.Common.{ℕ, suc, ◌+◌, ◌-◌, ◌*◌, ◌≤◌, ◌≡◌, Bool, true, false, List, [], ◌∷◌, ◌++◌, Some, None}
 use Rattle.std.proofs.Common.{length, drop, refl, sym, ◌∙◌, ap, arith, if◌then◌else◌}
 use Rattle.std.proofs.lemmas.Bool.Decides.{nat_tests}
@@ -73,10 +73,10 @@ unfolding steps steps_within utf8
 end_start true = refl
 end_start false = refl
 
--- THE REST OF A SEQUENCE: the bytes that fill its ranges, and those behind them
+-- THE REST OF A SEQUENCE: the bytes that fill its ranges, and those beyond them
 
-abbrev pub behind : Ranges → List ℕ → List ℕ
-behind ranges bytes = drop (length (taken ranges bytes)) bytes
+abbrev pub beyond : Ranges → List ℕ → List ℕ
+beyond ranges bytes = drop (length (taken ranges bytes)) bytes
 
 module _ (r : ℕ × ℕ) (ranges : Ranges) (s : Utf8) (c : ℕ) (bytes : List ℕ) (waits : Waits (r ∷ ranges) s) where
   read_on : within r.0 r.1 c ≡ true → within s.lower s.upper c ≡ true
@@ -86,11 +86,11 @@ module _ (r : ℕ × ℕ) (ranges : Ranges) (s : Utf8) (c : ℕ) (bytes : List �
       (steps utf8 ended utf8_start (c ∷ bytes))
   read_stops ended e = read_is ended s c bytes _ (read_bad s c (length ranges) waits.0 (rw (waits.1, waits.2) e))
 
-  behind_on : within r.0 r.1 c ≡ true → behind (r ∷ ranges) (c ∷ bytes) ≡ behind ranges bytes
-  behind_on e = ap (λ t. drop (length t) (c ∷ bytes)) (taken_on r ranges c bytes e)
+  beyond_on : within r.0 r.1 c ≡ true → beyond (r ∷ ranges) (c ∷ bytes) ≡ beyond ranges bytes
+  beyond_on e = ap (λ t. drop (length t) (c ∷ bytes)) (taken_on r ranges c bytes e)
 
-  behind_stops : within r.0 r.1 c ≡ false → behind (r ∷ ranges) (c ∷ bytes) ≡ c ∷ bytes
-  behind_stops e = ap (λ t. drop (length t) (c ∷ bytes)) (taken_stops r ranges c bytes e)
+  beyond_stops : within r.0 r.1 c ≡ false → beyond (r ∷ ranges) (c ∷ bytes) ≡ c ∷ bytes
+  beyond_stops e = ap (λ t. drop (length t) (c ∷ bytes)) (taken_stops r ranges c bytes e)
 
 next_of : Utf8 → ℕ → Utf8
 next_of s c = record {
@@ -116,7 +116,7 @@ module _ (r q : ℕ × ℕ) (ranges : Ranges) (s : Utf8) (c : ℕ) (waits : Wait
 pub tail_whole : (ranges : Ranges) (s : Utf8) (ended : Bool) (bytes : List ℕ) → Waits ranges s
     → fills ranges (taken ranges bytes) ≡ true →
     steps utf8 ended s bytes ≡ after (value s.point (taken ranges bytes) ∷ [])
-    (steps utf8 ended utf8_start (behind ranges bytes))
+    (steps utf8 ended utf8_start (beyond ranges bytes))
 unfolding next_of
 tail_whole [] s ended bytes w f = absurd w
 tail_whole (r ∷ ranges) s ended [] w f = absurd cc
@@ -124,7 +124,7 @@ tail_whole (r ∷ []) s ended (c ∷ bytes) w f = go (within r.0 r.1 c) refl
   where
     go : (x : Bool) → within r.0 r.1 c ≡ x →
         steps utf8 ended s (c ∷ bytes) ≡ after (value s.point (taken (r ∷ []) (c ∷ bytes)) ∷ [])
-        (steps utf8 ended utf8_start (behind (r ∷ []) (c ∷ bytes)))
+        (steps utf8 ended utf8_start (beyond (r ∷ []) (c ∷ bytes)))
     go true e =
         read_is ended s c bytes _ (read_last s c w.0 (read_on r [] s c bytes w e))
         ∙ ap (λ t. after (value s.point t ∷ []) (steps utf8 ended utf8_start (drop (length t) (c ∷ bytes))))
@@ -137,10 +137,10 @@ tail_whole (r ∷ q ∷ ranges) s ended (c ∷ bytes) w f =
         (fills (q ∷ ranges) (taken (q ∷ ranges) bytes) ≡ true →
         steps utf8 ended (next_of s c) bytes
         ≡ after (value (next_of s c).point (taken (q ∷ ranges) bytes) ∷ [])
-        (steps utf8 ended utf8_start (behind (q ∷ ranges) bytes))) →
+        (steps utf8 ended utf8_start (beyond (q ∷ ranges) bytes))) →
         steps utf8 ended s (c ∷ bytes)
         ≡ after (value s.point (taken (r ∷ q ∷ ranges) (c ∷ bytes)) ∷ [])
-        (steps utf8 ended utf8_start (behind (r ∷ q ∷ ranges) (c ∷ bytes)))
+        (steps utf8 ended utf8_start (beyond (r ∷ q ∷ ranges) (c ∷ bytes)))
     go true e ih =
         next_read r q ranges s c w ended bytes e
         ∙ ih (sym (fills_on r (q ∷ ranges) c bytes e) ∙ f)
@@ -151,37 +151,37 @@ tail_whole (r ∷ q ∷ ranges) s ended (c ∷ bytes) w f =
 -- where a byte stops it
 pub tail_stopped : (ranges : Ranges) (s : Utf8) (ended : Bool) (bytes : List ℕ) (d : ℕ) (rest : List ℕ) → Waits ranges s
     →
-    fills ranges (taken ranges bytes) ≡ false → behind ranges bytes ≡ d ∷ rest →
-    steps utf8 ended s bytes ≡ after (0xFFFD ∷ []) (steps utf8 ended utf8_start (behind ranges bytes))
+    fills ranges (taken ranges bytes) ≡ false → beyond ranges bytes ≡ d ∷ rest →
+    steps utf8 ended s bytes ≡ after (0xFFFD ∷ []) (steps utf8 ended utf8_start (beyond ranges bytes))
 unfolding next_of
 tail_stopped [] s ended bytes d rest w f b = absurd w
 tail_stopped (r ∷ ranges) s ended [] d rest w f b = absurd cc
 tail_stopped (r ∷ []) s ended (c ∷ bytes) d rest w f b = go (within r.0 r.1 c) refl
   where
     go : (x : Bool) → within r.0 r.1 c ≡ x →
-        steps utf8 ended s (c ∷ bytes) ≡ after (0xFFFD ∷ []) (steps utf8 ended utf8_start (behind (r ∷ []) (c ∷ bytes)))
+        steps utf8 ended s (c ∷ bytes) ≡ after (0xFFFD ∷ []) (steps utf8 ended utf8_start (beyond (r ∷ []) (c ∷ bytes)))
     go true e = absurd (let g = fills_on r [] c bytes e in cc)
     go false e =
         read_stops r [] s c bytes w ended e
-        ∙ ap (λ t. after (0xFFFD ∷ []) (steps utf8 ended utf8_start t)) (sym (behind_stops r [] s c bytes w e))
+        ∙ ap (λ t. after (0xFFFD ∷ []) (steps utf8 ended utf8_start t)) (sym (beyond_stops r [] s c bytes w e))
 tail_stopped (r ∷ q ∷ ranges) s ended (c ∷ bytes) d rest w f b =
     go (within r.0 r.1 c) refl
     (tail_stopped (q ∷ ranges) (next_of s c) ended bytes d rest (next_waits r q ranges s c w))
   where
     go : (x : Bool) → within r.0 r.1 c ≡ x →
-        (fills (q ∷ ranges) (taken (q ∷ ranges) bytes) ≡ false → behind (q ∷ ranges) bytes ≡ d ∷ rest →
+        (fills (q ∷ ranges) (taken (q ∷ ranges) bytes) ≡ false → beyond (q ∷ ranges) bytes ≡ d ∷ rest →
         steps utf8 ended (next_of s c) bytes ≡ after (0xFFFD ∷ [])
-        (steps utf8 ended utf8_start (behind (q ∷ ranges) bytes))) →
+        (steps utf8 ended utf8_start (beyond (q ∷ ranges) bytes))) →
         steps utf8 ended s (c ∷ bytes) ≡ after (0xFFFD ∷ [])
-        (steps utf8 ended utf8_start (behind (r ∷ q ∷ ranges) (c ∷ bytes)))
+        (steps utf8 ended utf8_start (beyond (r ∷ q ∷ ranges) (c ∷ bytes)))
     go true e ih =
         next_read r q ranges s c w ended bytes e
-        ∙ ih (sym (fills_on r (q ∷ ranges) c bytes e) ∙ f) (sym (behind_on r (q ∷ ranges) s c bytes w e) ∙ b)
-        ∙ ap (λ t. after (0xFFFD ∷ []) (steps utf8 ended utf8_start t)) (sym (behind_on r (q ∷ ranges) s c bytes w e))
+        ∙ ih (sym (fills_on r (q ∷ ranges) c bytes e) ∙ f) (sym (beyond_on r (q ∷ ranges) s c bytes w e) ∙ b)
+        ∙ ap (λ t. after (0xFFFD ∷ []) (steps utf8 ended utf8_start t)) (sym (beyond_on r (q ∷ ranges) s c bytes w e))
     go false e ih =
         read_stops r (q ∷ ranges) s c bytes w ended e
         ∙ ap (λ t. after (0xFFFD ∷ []) (steps utf8 ended utf8_start t))
-        (sym (behind_stops r (q ∷ ranges) s c bytes w e))
+        (sym (beyond_stops r (q ∷ ranges) s c bytes w e))
 
 -- one U+FFFD at the end, and nothing before
 abbrev pub open_text : Bool → List ℕ
@@ -189,7 +189,7 @@ open_text ended = if ended then 0xFFFD ∷ [] else []
 
 -- where the bytes run out
 pub tail_open : (ranges : Ranges) (s : Utf8) (ended : Bool) (bytes : List ℕ) → Waits ranges s →
-    fills ranges (taken ranges bytes) ≡ false → behind ranges bytes ≡ []
+    fills ranges (taken ranges bytes) ≡ false → beyond ranges bytes ≡ []
     → (steps utf8 ended s bytes).text ≡ open_text ended
 unfolding next_of
 tail_open [] s ended bytes w f b = absurd w
@@ -199,18 +199,18 @@ tail_open (r ∷ []) s ended (c ∷ bytes) w f b = go (within r.0 r.1 c) refl
   where
     go : (x : Bool) → within r.0 r.1 c ≡ x → (steps utf8 ended s (c ∷ bytes)).text ≡ open_text ended
     go true e = absurd (let g = fills_on r [] c bytes e in cc)
-    go false e = absurd (let g = behind_stops r [] s c bytes w e in cc)
+    go false e = absurd (let g = beyond_stops r [] s c bytes w e in cc)
 tail_open (r ∷ q ∷ ranges) s ended (c ∷ bytes) w f b =
     go (within r.0 r.1 c) refl (tail_open (q ∷ ranges) (next_of s c) ended bytes (next_waits r q ranges s c w))
   where
     go : (x : Bool) → within r.0 r.1 c ≡ x →
-        (fills (q ∷ ranges) (taken (q ∷ ranges) bytes) ≡ false → behind (q ∷ ranges) bytes ≡ []
+        (fills (q ∷ ranges) (taken (q ∷ ranges) bytes) ≡ false → beyond (q ∷ ranges) bytes ≡ []
         → (steps utf8 ended (next_of s c) bytes).text ≡ open_text ended) →
         (steps utf8 ended s (c ∷ bytes)).text ≡ open_text ended
     go true e ih =
         ap (λ run. run.text) (next_read r q ranges s c w ended bytes e)
-        ∙ ih (sym (fills_on r (q ∷ ranges) c bytes e) ∙ f) (sym (behind_on r (q ∷ ranges) s c bytes w e) ∙ b)
-    go false e ih = absurd (let g = behind_stops r (q ∷ ranges) s c bytes w e in cc)
+        ∙ ih (sym (fills_on r (q ∷ ranges) c bytes e) ∙ f) (sym (beyond_on r (q ∷ ranges) s c bytes w e) ∙ b)
+    go false e ih = absurd (let g = beyond_stops r (q ∷ ranges) s c bytes w e in cc)
 
 -- THE SCALAR VALUE of what fills the ranges
 pub scalar_is : (b : ℕ) (ranges : Ranges) (t : List ℕ) → length ranges ≤ 3 → fills ranges t ≡ true

@@ -1,6 +1,6 @@
--- What is written behind an unpacked state goes on from what was written before it was packed.
+-- What is written led_by an unpacked state goes on from what was written before it was packed.
 use Rattle.std.proofs.Common.{ℕ, ◌≡◌, true, false, List, ◌++◌, Some, None, refl, sym, ◌∙◌, ap, append_assoc, subst}
-use Rattle.enc_model.specs.Encode.{Tables, InAscii, Coded, behind, coded, encoder, ended_coded, encode}
+use Rattle.enc_model.specs.Encode.{Tables, InAscii, Coded, led_by, coded, encoder, ended_coded, encode}
 use Rattle.enc_model.specs.Decode.{decoded, decoded_text, text}
 use Rattle.enc_model.specs.Transcode.{Transcoder, phase_of, fed_end, so_far, IsAt, added, added_end, stepped}
 use Rattle.enc_model.proofs.Steady.{encoder_steady}
@@ -12,7 +12,7 @@ use Rattle.enc_laws.proofs.Packed.{same_state}
 pub same : (s later : Transcoder) → IsUnpackedFrom s later → later ≡ s
 same s later is = same_state s later is.packed is.sound is.bytes
 
--- THE TEXT OF A FAULT: what comes behind it doesn't matter.
+-- THE TEXT OF A FAULT: what comes led_by it doesn't matter.
 
 ended_fault : (r : Coded) (c : ℕ) → r.fault ≡ Some c → ended_coded r ≡ r
 ended_fault r c e = rw e refl
@@ -45,7 +45,7 @@ module _ (t : Tables) (s later : Transcoder) (a b : List ℕ) (here : IsAt t s a
   next ok = at_next t later a b at_later ok
 
   whole : (added t later b).fault ≡ None →
-      text t s.from s.to s.mode (a ++ b) true ≡ behind (so_far t later (a ++ b)).bytes (added_end t (stepped t later b))
+      text t s.from s.to s.mode (a ++ b) true ≡ led_by (so_far t later (a ++ b)).bytes (added_end t (stepped t later b))
   whole ok = text_later ∙ text_ended t (stepped t later b) (a ++ b) (next ok)
 
   pub bytes : (added t later b).fault ≡ None →

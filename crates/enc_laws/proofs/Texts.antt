@@ -86,16 +86,16 @@ module _ (x : IndexSet) (valid : IsIndexSet x) (ended : Bool) (bytes : List ℕ)
       sound_steps (single i) Always (single_reads i (place_scalars x (place_of e) valid)) (single_ends i) ended
       SingleState bytes tt all
 
--- what is behind a BOM is bytes too
+-- what is after a BOM is bytes too
 abbrev AreRead : Encoding × List ℕ → Type 0
 AreRead s = AreBytes s.1
 
 sniffed_bytes : (e : Encoding) (bytes : List ℕ) → AreBytes bytes → AreRead (sniffed e bytes)
 sniffed_bytes e bytes all =
-    let behind : (n : ℕ) → AreBytes (drop n bytes) = λ n. All-drop (λ b. b < 0x100) n bytes all in
-    branch AreRead (begins bom8 bytes) _ _ (λ h. behind 3)
-    (λ h. branch AreRead (begins bom_be bytes) _ _ (λ k. behind 2)
-    (λ k. branch AreRead (begins bom_le bytes) _ _ (λ m. behind 2) (λ m. all)))
+    let after : (n : ℕ) → AreBytes (drop n bytes) = λ n. All-drop (λ b. b < 0x100) n bytes all in
+    branch AreRead (begins bom8 bytes) _ _ (λ h. after 3)
+    (λ h. branch AreRead (begins bom_be bytes) _ _ (λ k. after 2)
+    (λ k. branch AreRead (begins bom_le bytes) _ _ (λ m. after 2) (λ m. all)))
 
 pub decode_scalars : (x : IndexSet) (e : Encoding) (bytes : List ℕ) (ended : Bool) → IsIndexSet x → AreBytes bytes
     → AreScalars (decode (tables x) e bytes ended)

@@ -26,16 +26,16 @@ pub record GivesNew (bound : ℕ) (front : List (List ℕ)) (line : List ℕ) : 
   pub fresh : (c : ℕ) → Give front pair.0 c → ⊥
 
 -- each line says nothing, or gives such a pair
-abbrev pub AreGoodBehind : ℕ → List (List ℕ) → List (List ℕ) → Type 0
-AreGoodBehind bound front [] = Unit {0}
-AreGoodBehind bound front (line ∷ lines) =
-    (is_dropped line ≡ false → GivesNew bound front line) × AreGoodBehind bound (front ++ line ∷ []) lines
+abbrev pub AreGoodAfter : ℕ → List (List ℕ) → List (List ℕ) → Type 0
+AreGoodAfter bound front [] = Unit {0}
+AreGoodAfter bound front (line ∷ lines) =
+    (is_dropped line ≡ false → GivesNew bound front line) × AreGoodAfter bound (front ++ line ∷ []) lines
 
 -- each line of a file that says something gives a pair in range, and no pointer comes twice
 abbrev pub AreGood : ℕ → List (List ℕ) → Type 0
-AreGood bound lines = AreGoodBehind bound [] lines
+AreGood bound lines = AreGoodAfter bound [] lines
 
--- what is wrong with the n-th line, behind these: no pair, one out of range, or one whose pointer was given before
+-- what is wrong with the n-th line, after these: no pair, one out of range, or one whose pointer was given before
 abbrev pub Breaks : ℕ → List (List ℕ) → List ℕ → ℕ → ReadError → Type 0
 Breaks bound front line n (Line m) = (m ≡ n) × (pair_of line ≡ None)
 Breaks bound front line n (Range m) = (m ≡ n) × (pair : ℕ × ℕ) × (pair_of line ≡ Some pair) × (IsInRange bound pair → ⊥)

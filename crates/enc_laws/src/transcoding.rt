@@ -15,7 +15,7 @@ pub fn text_ends()
         → (text t s.from s.to s.mode b true).fault ≡ (added_end t s).fault }
 {}
 
-/// A transcoder unpacked from another's state bytes is that transcoder. Fed on with b and ended it writes, behind what
+/// A transcoder unpacked from another's state bytes is that transcoder. Fed on with b and ended it writes, after what
 /// was written for a, the rest of the encoding of the decoding of a ++ b, wherever the cut lies: in a character, an
 /// escape or a BOM. Where b has a fault it is the text's, and the text stops there.
 pub fn fed_on_from_state_bytes()

@@ -34,7 +34,7 @@ impl Model for EucJpState {
     ghost invariant = { λ s. IsEucJpState s.lead s.flag };
 }
 
-/// What a lead and the byte behind it stand for.
+/// What a lead and the byte after it stand for.
 fn euc_jp_char(indexes: &IndexSet, flag: bool, lead: u8, b: u8) -> Option<char>
     ensures { result ≡ euc_jp_pair (tables indexes.now).jis0208 (tables indexes.now).jis0212 flag lead b }
 {

@@ -84,7 +84,7 @@ fn escape(lead: Introducer, b: u8) -> Option<Charset>
     }
 }
 
-/// The byte behind 1B.
+/// The byte after 1B.
 fn byte_of(lead: Introducer) -> u8
     ensures { result ≡ introducer_byte lead }
 {
@@ -138,7 +138,7 @@ impl Iso2022State {
         }
     }
 
-    /// A byte behind 1B and one more.
+    /// A byte after 1B and one more.
     fn escaped(&mut self, lead: Introducer, b: u8) -> (Answer, Restored)
         ensures answer { result.0 ≡ (iso2022_byte [] (Place.Escape lead) self.old.output self.old.flag b).answer }
         ensures restored { restored_bytes

@@ -44,7 +44,7 @@ fn shift_jis_pointer(lead: u8, b: u8) -> u32
     (lead as u32 - lead_offset) * 188 + b as u32 - offset
 }
 
-/// What a lead and the byte behind it stand for.
+/// What a lead and the byte after it stand for.
 fn shift_jis_char(indexes: &IndexSet, lead: u8, b: u8) -> Option<char>
     requires lead { IsShiftJisLead lead }
     ensures { result ≡ shift_jis_pair (tables indexes.now).jis0208 lead b }

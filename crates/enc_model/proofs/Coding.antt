@@ -5,32 +5,32 @@ use Rattle.std.proofs.Common.{◌%◌, ◌==◌, if◌then◌else◌}
 use Rattle.std.specs.Fmt.{decimal, digits, digits_onto, digit_glyph}
 use Rattle.enc_model.specs.declared.Mode.{Mode}
 use Rattle.enc_model.specs.declared.Mode.TheVariants.{Html, Fatal}
-use Rattle.enc_model.specs.Encode.{Shift, Written, Wrote, Again, Lacks, Encoder, Coded, behind, went, reference}
-use Rattle.enc_model.specs.Encode.{coded_within, coded, joined, all_codes, behind_written, settled, code_within}
+use Rattle.enc_model.specs.Encode.{Shift, Written, Wrote, Again, Lacks, Encoder, Coded, led_by, went, reference}
+use Rattle.enc_model.specs.Encode.{coded_within, coded, joined, all_codes, after_written, settled, code_within}
 use Rattle.enc_model.specs.Encode.{plain_code, code_of, IsWrote, IsNoAgain, IsSteady}
 
-behind_behind : (x y : List ℕ) (r : Coded) → behind x (behind y r) ≡ behind (x ++ y) r
-behind_behind x y r = simp append_assoc
+led_by_led_by : (x y : List ℕ) (r : Coded) → led_by x (led_by y r) ≡ led_by (x ++ y) r
+led_by_led_by x y r = simp append_assoc
 
-pub joined_behind : (x : List ℕ) (r : Coded) (m : Shift → Coded) → joined (behind x r) m ≡ behind x (joined r m)
-joined_behind x r m =
+pub joined_after : (x : List ℕ) (r : Coded) (m : Shift → Coded) → joined (led_by x r) m ≡ led_by x (joined r m)
+joined_after x r m =
     elim r.fault as (λ z.
-    elim z as (λ _. Coded) [ None ↦ behind (x ++ r.bytes) (m r.state) | Some d ↦ behind x r ]
-    ≡ behind x (elim z as (λ _. Coded) [ None ↦ behind r.bytes (m r.state) | Some d ↦ r ]))
-    [ None ↦ sym (behind_behind x r.bytes (m r.state)) | Some d ↦ refl ]
+    elim z as (λ _. Coded) [ None ↦ led_by (x ++ r.bytes) (m r.state) | Some d ↦ led_by x r ]
+    ≡ led_by x (elim z as (λ _. Coded) [ None ↦ led_by r.bytes (m r.state) | Some d ↦ r ]))
+    [ None ↦ sym (led_by_led_by x r.bytes (m r.state)) | Some d ↦ refl ]
 
 joined_joined : (r : Coded) (m n : Shift → Coded) → joined (joined r m) n ≡ joined r (λ s. joined (m s) n)
 joined_joined r m n = go r.fault refl
   where
     go : (z : Option ℕ) → r.fault ≡ z → joined (joined r m) n ≡ joined r (λ s. joined (m s) n)
-    go None e = rw e (joined_behind r.bytes (m r.state) n)
+    go None e = rw e (joined_after r.bytes (m r.state) n)
     go (Some d) e = rw e refl
 
 pub joined_more : (r : Coded) (m n : Shift → Coded) → ((s : Shift) → m s ≡ n s) → joined r m ≡ joined r n
 joined_more r m n e = go r.fault refl
   where
     go : (z : Option ℕ) → r.fault ≡ z → joined r m ≡ joined r n
-    go None h = rw h (ap (behind r.bytes) (e r.state))
+    go None h = rw h (ap (led_by r.bytes) (e r.state))
     go (Some d) h = rw h refl
 
 pub all_codes_append : (g : Shift → ℕ → Coded) (s : Shift) (a b : List ℕ) →
@@ -44,22 +44,22 @@ all_codes_append g s (c ∷ a) b =
 
 -- A CODE POINT'S OWN
 
-pub code_behind : (mode : Mode) (go : Shift → List ℕ → Coded) (x : List ℕ) (w : Written) →
-    code_within mode go (behind_written x w) ≡ behind x (code_within mode go w)
-code_behind mode go x (Wrote b s) = refl
-code_behind mode go x (Again b s) = refl
-code_behind Html go x (Lacks b s d) = sym (behind_behind x b (go s (reference d)))
-code_behind Fatal go x (Lacks b s d) = refl
+pub code_after : (mode : Mode) (go : Shift → List ℕ → Coded) (x : List ℕ) (w : Written) →
+    code_within mode go (after_written x w) ≡ led_by x (code_within mode go w)
+code_after mode go x (Wrote b s) = refl
+code_after mode go x (Again b s) = refl
+code_after Html go x (Lacks b s d) = sym (led_by_led_by x b (go s (reference d)))
+code_after Fatal go x (Lacks b s d) = refl
 
-no_again_behind : (x : List ℕ) (w : Written) → IsNoAgain (behind_written x w) → IsNoAgain w
-no_again_behind x (Wrote b s) n = tt
-no_again_behind x (Again b s) n = n
-no_again_behind x (Lacks b s d) n = tt
+no_again_after : (x : List ℕ) (w : Written) → IsNoAgain (after_written x w) → IsNoAgain w
+no_again_after x (Wrote b s) n = tt
+no_again_after x (Again b s) n = n
+no_again_after x (Lacks b s d) n = tt
 
-wrote_behind : (x : List ℕ) (w : Written) → IsWrote (behind_written x w) → IsWrote w
-wrote_behind x (Wrote b s) n = tt
-wrote_behind x (Again b s) n = n
-wrote_behind x (Lacks b s d) n = n
+wrote_after : (x : List ℕ) (w : Written) → IsWrote (after_written x w) → IsWrote w
+wrote_after x (Wrote b s) n = tt
+wrote_after x (Again b s) n = n
+wrote_after x (Lacks b s d) n = n
 
 -- characters that are never an error
 abbrev pub ArePlain : List ℕ → Type 0
@@ -109,7 +109,7 @@ module _ (f : Encoder) (steady : IsSteady f) (mode : Mode) where
   one_fault (Again b s) = refl
   one_fault (Lacks b s d) = refl
 
-  joined_none : (r : Coded) (m : Shift → Coded) → r.fault ≡ None → joined r m ≡ behind r.bytes (m r.state)
+  joined_none : (r : Coded) (m : Shift → Coded) → r.fault ≡ None → joined r m ≡ led_by r.bytes (m r.state)
   joined_none r m e = rw e refl
 
   plain_fault : (r : List ℕ) (s : Shift) → (all_codes (plain_code f) s r).fault ≡ None
@@ -123,44 +123,44 @@ module _ (f : Encoder) (steady : IsSteady f) (mode : Mode) where
   plain_wrote : (c : ℕ) (r cs : List ℕ) (front : List ℕ) (v : Written) (j : ℕ) (x : Coded) → IsWrote v →
       ((s : Shift) → ((m : ℕ) → j ≤ m + 2 * length r → coded_within m f mode (all_codes (plain_code f) s r).state
       cs ≡ x) →
-      coded_within j f mode s (r ++ cs) ≡ behind (all_codes (plain_code f) s r).bytes x) →
+      coded_within j f mode s (r ++ cs) ≡ led_by (all_codes (plain_code f) s r).bytes x) →
       ((m : ℕ) → j ≤ m + 2 * length r →
       coded_within m f mode (joined
-      (code_within Html (λ next z. record { bytes = []; state = next; fault = None }) (behind_written front v))
+      (code_within Html (λ next z. record { bytes = []; state = next; fault = None }) (after_written front v))
       (λ next. all_codes (plain_code f) next r)).state cs ≡ x) →
-      behind front (went mode (coded_within j f mode) c (r ++ cs) v)
-      ≡ behind (joined (code_within Html (λ next z. record { bytes = []; state = next; fault = None })
-      (behind_written front v)) (λ next. all_codes (plain_code f) next r)).bytes x
+      led_by front (went mode (coded_within j f mode) c (r ++ cs) v)
+      ≡ led_by (joined (code_within Html (λ next z. record { bytes = []; state = next; fault = None })
+      (after_written front v)) (λ next. all_codes (plain_code f) next r)).bytes x
   plain_wrote c r cs front (Wrote b s) j x w ih h =
       let rest = all_codes (plain_code f) s r in
-      behind_behind front b (coded_within j f mode s (r ++ cs)) ∙ ap (behind (front ++ b)) (ih s h)
-      ∙ behind_behind (front ++ b) rest.bytes x
+      led_by_led_by front b (coded_within j f mode s (r ++ cs)) ∙ ap (led_by (front ++ b)) (ih s h)
+      ∙ led_by_led_by (front ++ b) rest.bytes x
   plain_wrote c r cs front (Again b s) j x w ih h = absurd w
   plain_wrote c r cs front (Lacks b s d) j x w ih h = absurd w
 
   plain_case : (c : ℕ) (r cs : List ℕ) (w : Written) (i : ℕ) (x : Coded) → IsWrote (settled f c w) → 2 * length r ≤ i →
       ((j : ℕ) (s : Shift) → 2 * length r ≤ j
       → ((m : ℕ) → j ≤ m + 2 * length r → coded_within m f mode (all_codes (plain_code f) s r).state cs ≡ x) →
-      coded_within j f mode s (r ++ cs) ≡ behind (all_codes (plain_code f) s r).bytes x) →
+      coded_within j f mode s (r ++ cs) ≡ led_by (all_codes (plain_code f) s r).bytes x) →
       ((m : ℕ) → suc i ≤ m + 2 * length r + 1 →
       coded_within m f mode (joined
       (code_within Html (λ next z. record { bytes = []; state = next; fault = None }) (settled f c w))
       (λ next. all_codes (plain_code f) next r)).state cs ≡ x) →
       went mode (coded_within (suc i) f mode) c (r ++ cs) w
-      ≡ behind (joined (code_within Html (λ next z. record { bytes = []; state = next; fault = None }) (settled f c w))
+      ≡ led_by (joined (code_within Html (λ next z. record { bytes = []; state = next; fault = None }) (settled f c w))
       (λ next. all_codes (plain_code f) next r)).bytes x
   unfolding coded_within
   plain_case c r cs (Wrote b s) i x w l ih h =
       plain_wrote c r cs [] (Wrote b s) (suc i) x tt (λ s z. ih (suc i) s (omega arith) z)
       (λ m k. h m (omega (arith, k)))
   plain_case c r cs (Again b s) i x w l ih h =
-      plain_wrote c r cs b (f s c) i x (wrote_behind b (f s c) w) (λ s z. ih i s l z) (λ m k. h m (omega (arith, k)))
+      plain_wrote c r cs b (f s c) i x (wrote_after b (f s c) w) (λ s z. ih i s l z) (λ m k. h m (omega (arith, k)))
   plain_case c r cs (Lacks b s d) i x w l ih h = absurd w
 
   -- a run of them
   plain_run : (r : List ℕ) (s : Shift) (cs : List ℕ) (n : ℕ) (x : Coded) → ArePlain r → 2 * length r ≤ n →
       ((m : ℕ) → n ≤ m + 2 * length r → coded_within m f mode (all_codes (plain_code f) s r).state cs ≡ x) →
-      coded_within n f mode s (r ++ cs) ≡ behind (all_codes (plain_code f) s r).bytes x
+      coded_within n f mode s (r ++ cs) ≡ led_by (all_codes (plain_code f) s r).bytes x
   unfolding coded_within
   plain_run [] s cs n x p l h = h n (omega arith)
   plain_run (c ∷ r) s cs zero x p l h = absurd (omega arith)
@@ -185,15 +185,15 @@ module _ (f : Encoder) (steady : IsSteady f) (mode : Mode) where
       ((z : Shift) (m : ℕ) → 136 * length cs ≤ m → coded_within m f mode z cs ≡ all_codes (code_of f mode) z cs) →
       went mode (coded_within n f mode) c cs w
       ≡ joined (code_within mode (all_codes (plain_code f)) w) (λ next. all_codes (code_of f mode) next cs)
-  own_case c cs (Wrote b s) n a l ih = ap (behind b) (ih s n (omega arith))
+  own_case c cs (Wrote b s) n a l ih = ap (led_by b) (ih s n (omega arith))
   own_case c cs (Again b s) n a l ih = absurd a
   own_case c cs (Lacks b s d) n a l ih =
       elim mode as (λ y. went y (coded_within n f mode) c cs (Lacks b s d) ≡ joined
       (code_within y (all_codes (plain_code f)) (Lacks b s d)) (λ next. all_codes (code_of f mode) next cs)) [
         | Html ↦
             let r = all_codes (plain_code f) s (reference d) in
-            ap (behind b) (reference_run d s cs n l ih) ∙ sym
-            (joined_behind b r (λ next. all_codes (code_of f mode) next cs))
+            ap (led_by b) (reference_run d s cs n l ih) ∙ sym
+            (joined_after b r (λ next. all_codes (code_of f mode) next cs))
         | Fatal ↦ refl
       ]
 
@@ -209,9 +209,9 @@ module _ (f : Encoder) (steady : IsSteady f) (mode : Mode) where
   code_case c cs (Again b s) (suc i) a l ih =
       let w = f s c in
       let more = λ (next : Shift). all_codes (code_of f mode) next cs in
-      ap (behind b) (own_case c cs w i (no_again_behind b w a) (omega arith) ih)
-      ∙ sym (joined_behind b (code_within mode (all_codes (plain_code f)) w) more)
-      ∙ ap (λ r. joined r more) (sym (code_behind mode (all_codes (plain_code f)) b w))
+      ap (led_by b) (own_case c cs w i (no_again_after b w a) (omega arith) ih)
+      ∙ sym (joined_after b (code_within mode (all_codes (plain_code f)) w) more)
+      ∙ ap (λ r. joined r more) (sym (code_after mode (all_codes (plain_code f)) b w))
 
   main_run : (cs : List ℕ) (s : Shift) (n : ℕ) → 136 * length cs ≤ n → coded_within n f mode s cs ≡ all_codes
       (code_of f mode) s cs

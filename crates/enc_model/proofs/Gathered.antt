@@ -142,7 +142,7 @@ module _ {S : Type 0} (h : Handler S) (calm : IsCalm h) where
       → BatchRefused old (steps h false s bytes).text e new → ⊥
   no_refusal s bytes old new e room full = let z = steps_size s bytes in absurd (omega (arith, z, room, full))
 
-  -- and behind the text of the first of them room for that of the rest
+  -- and after the text of the first of them room for that of the rest
   pub room_left : (s : S) (bytes rest old new : List ℕ) (at : ℕ) → at ≤ length bytes
       → rest ≡ take (length bytes - at) (drop at bytes) →
       BatchTook old (steps h false s (take at bytes)).text new → length old + 12 * length bytes ≤ 3072

@@ -12,7 +12,7 @@ if_err (Ok v) e P i p = tt
 if_err (Err v) e P i p = rw i p
 
 module _ {S : Type 0} (h : Handler S) (calm : IsCalm h) where
-  -- a part more of what is left behind a place, taken or refused
+  -- a part more of what is left after a place, taken or refused
   pub part_taken : {A E : Type 0} (takes : A → List ℕ → A → Type 0) (refuses : A → List ℕ → E → A → Type 0)
       (sink : IsSink takes refuses)
       (s next : S) (piece rest : List ℕ) (i n : ℕ) (a m c : A) → rest ≡ take (length piece - i) (drop i piece) →
@@ -24,7 +24,7 @@ module _ {S : Type 0} (h : Handler S) (calm : IsCalm h) where
       (feed_more takes refuses sink h calm s next (take i piece) (take n (drop i piece)) a m c taken e t
       (subst (λ z. takes m (steps h false next (take n z)).text c) (is ∙ take_rest piece i) g))
 
-  -- the rest behind a place
+  -- the rest after a place
   pub rest_given : {A X E : Type 0} (takes : A → List ℕ → A → Type 0) (refuses : A → List ℕ → E → A → Type 0)
       (sink : IsSink takes refuses)
       (s next : S) (piece rest : List ℕ) (i : ℕ) (a m c : A) (res : Result X E)

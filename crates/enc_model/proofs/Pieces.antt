@@ -4,14 +4,14 @@ use Rattle.std.proofs.Common.{if◌then◌else◌}
 use Rattle.enc_model.specs.declared.Encoding.{Encoding}
 use Rattle.enc_model.specs.Encode.{Tables}
 use Rattle.enc_model.specs.Decode.{Decoding, OfUtf8, OfUtf16, OfShiftJis, OfEucJp, OfIso2022, OfSingle, run_as}
-use Rattle.enc_model.specs.Decode.{behind_run, decoding, decoding_start, sniffed, undecided, Held, Reading, decoded}
+use Rattle.enc_model.specs.Decode.{after_run, decoding, decoding_start, sniffed, undecided, Held, Reading, decoded}
 use Rattle.enc_model.specs.Decode.{advance, conclude}
 use Rattle.enc_model.proofs.Steps.{steps_append}
 use Rattle.enc_model.proofs.Calm.{utf8_calm, utf16_calm, single_calm, shift_jis_calm, euc_jp_calm, iso2022_calm}
 
 -- the law, whichever encoding it is
 pub decoding_append : (t : Tables) (ended : Bool) (s : Decoding) (b c : List ℕ) →
-    decoding t ended s (b ++ c) ≡ (let first = decoding t false s b in behind_run first.text
+    decoding t ended s (b ++ c) ≡ (let first = decoding t false s b in after_run first.text
     (decoding t ended first.state c))
 unfolding decoding
 decoding_append t ended (OfUtf8 s) b c = ap (run_as OfUtf8) (steps_append _ utf8_calm ended s b c)

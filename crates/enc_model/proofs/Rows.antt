@@ -95,11 +95,11 @@ unfolding steps steps_within code pointer_where utf8 utf16 single shift_jis euc_
     single_encoder encode shift_jis_encoder euc_jp_encoder iso2022_encoder decoding decoded decode text
 shift_jis_two_bytes = refl
 
-ascii_behind_a_bad_lead : (text rows ShiftJis Utf8 Html (0x82 ∷ 0xA0 ∷ 0x82 ∷ 0x20 ∷ [])
+ascii_after_a_bad_lead : (text rows ShiftJis Utf8 Html (0x82 ∷ 0xA0 ∷ 0x82 ∷ 0x20 ∷ [])
     true).bytes ≡ (0xE3 ∷ 0x81 ∷ 0x82 ∷ 0xEF ∷ 0xBF ∷ 0xBD ∷ 0x20 ∷ [])
 unfolding steps steps_within code pointer_where utf8 utf16 single shift_jis euc_jp iso2022 coded coded_within
     single_encoder encode shift_jis_encoder euc_jp_encoder iso2022_encoder decoding decoded decode text
-ascii_behind_a_bad_lead = refl
+ascii_after_a_bad_lead = refl
 
 user_defined : (text rows ShiftJis Utf8 Html (0xF0 ∷ 0x40 ∷ []) true).bytes ≡ (0xEE ∷ 0x80 ∷ 0x80 ∷ [])
 unfolding steps steps_within code pointer_where utf8 utf16 single shift_jis euc_jp iso2022 coded coded_within

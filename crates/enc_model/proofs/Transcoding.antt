@@ -4,7 +4,7 @@ use Rattle.std.proofs.Common.{append-nil, subst}
 use Rattle.enc_model.specs.declared.Encoding.{Encoding}
 use Rattle.enc_model.specs.declared.Mode.{Mode}
 use Rattle.enc_model.specs.Sink.{IsSink}
-use Rattle.enc_model.specs.Encode.{Tables, Shift, InAscii, Encoder, Coded, behind, coded, coded_within, encoder}
+use Rattle.enc_model.specs.Encode.{Tables, Shift, InAscii, Encoder, Coded, led_by, coded, coded_within, encoder}
 use Rattle.enc_model.specs.Encode.{IsSteady}
 use Rattle.enc_model.specs.Decode.{Decoded, Held, Reading, decoded, decoded_text, advance}
 use Rattle.enc_model.specs.Transcode.{Coder, Took, Refused, IsReason, phase_of, Transcoder, fed, added, so_far, IsAt}
@@ -24,7 +24,7 @@ coded_none f mode s = refl
 module _ (f : Encoder) (steady : IsSteady f) (mode : Mode) where
   -- without a fault in x, the code of x ++ y is that of x and then that of y
   pub coded_both : (s : Shift) (x y : List ℕ) → (coded f mode s x).fault ≡ None →
-      coded f mode s (x ++ y) ≡ (let r = coded f mode s x in behind r.bytes (coded f mode r.state y))
+      coded f mode s (x ++ y) ≡ (let r = coded f mode s x in led_by r.bytes (coded f mode r.state y))
   coded_both s x y e = coded_append f steady mode s x y ∙ rw e refl
 
   -- with one, it is that of x
@@ -38,28 +38,28 @@ module _ (f : Encoder) (steady : IsSteady f) (mode : Mode) where
       let e = coded_both a.state x y p.fault in
       let same : coded f mode b.state y ≡ coded f mode r.state y = ap (λ s. coded f mode s y) p.state in
       record {
-        fault = ap (λ z. z.fault) (e ∙ ap (behind r.bytes) (sym same)) ∙ q.fault;
-        state = q.state ∙ ap (λ z. z.state) (ap (behind r.bytes) same ∙ sym e);
+        fault = ap (λ z. z.fault) (e ∙ ap (led_by r.bytes) (sym same)) ∙ q.fault;
+        state = q.state ∙ ap (λ z. z.state) (ap (led_by r.bytes) same ∙ sym e);
         out = q.out ∙ ap (λ z. z ++ (coded f mode b.state y).bytes) p.out
             ∙ append_assoc a.out r.bytes (coded f mode b.state y).bytes
-            ∙ ap (λ z. a.out ++ z.bytes) (ap (behind r.bytes) same ∙ sym e);
+            ∙ ap (λ z. a.out ++ z.bytes) (ap (led_by r.bytes) same ∙ sym e);
       }
 
-  reason_behind : (w : Option ℕ) (x : List ℕ) (r : Coded) → IsReason w r → IsReason w (behind x r)
-  reason_behind None x r i = tt
-  reason_behind (Some c) x r i = i
+  reason_after : (w : Option ℕ) (x : List ℕ) (r : Coded) → IsReason w r → IsReason w (led_by x r)
+  reason_after None x r i = tt
+  reason_after (Some c) x r i = i
 
   refused_later : (a b c : Coder) (x y : List ℕ) (w : Option ℕ) → Took f mode a x b → Refused f mode b y w c
       → Refused f mode a (x ++ y) w c
   refused_later a b c x y w p q =
       let r = coded f mode a.state x in
-      let e = coded_both a.state x y p.fault ∙ ap (λ s. behind r.bytes (coded f mode s y)) (sym p.state) in
+      let e = coded_both a.state x y p.fault ∙ ap (λ s. led_by r.bytes (coded f mode s y)) (sym p.state) in
       record {
         front = r.bytes ++ q.front;
         rest = q.rest;
         parts = ap (λ z. z.bytes) e ∙ ap (λ z. r.bytes ++ z) q.parts ∙ sym (append_assoc r.bytes q.front q.rest);
         out = q.out ∙ ap (λ z. z ++ q.front) p.out ∙ append_assoc a.out r.bytes q.front;
-        reason = subst (λ z. IsReason w z) (sym e) (reason_behind w r.bytes (coded f mode b.state y) q.reason);
+        reason = subst (λ z. IsReason w z) (sym e) (reason_after w r.bytes (coded f mode b.state y) q.reason);
       }
 
   none_reason : (w : Option ℕ) (r z : Coded) → r.fault ≡ None → IsReason w r → IsReason w z
@@ -122,13 +122,13 @@ module _ (t : Tables) (s : Transcoder) (b c : List ℕ) (here : IsAt t s b) wher
       ∙ (fed_advance t s.from (decoded t s.from b false) c).1
       ∙ ap (λ p. decoded_text (decoded t s.from b false) ++ (fed t s.from p c).text) (sym here.phase)
 
-  whole : so_far t s (b ++ c) ≡ behind (so_far t s b).bytes (added t s c)
+  whole : so_far t s (b ++ c) ≡ led_by (so_far t s b).bytes (added t s c)
   whole =
       let f = encoder t s.to in
       ap (coded f s.mode InAscii) text_more
       ∙ coded_both f (encoder_steady t s.to) s.mode InAscii (decoded_text (decoded t s.from b false))
       (fed t s.from s.phase c).text here.fault
-      ∙ ap (λ z. behind (so_far t s b).bytes (coded f s.mode z (fed t s.from s.phase c).text)) (sym here.shift)
+      ∙ ap (λ z. led_by (so_far t s b).bytes (coded f s.mode z (fed t s.from s.phase c).text)) (sym here.shift)
 
   -- THE TEXT GROWS by what is added, with a fault or without.
   pub text_added : (so_far t s (b ++ c)).bytes ≡ (so_far t s b).bytes ++ (added t s c).bytes

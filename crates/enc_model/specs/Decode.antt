@@ -31,8 +31,8 @@ decoding_start e = OfSingle e SingleState
 abbrev pub run_as : {A B : Type 0} → (A → B) → Run A → Run B
 run_as f r = record { text = r.text; state = f r.state }
 
-abbrev pub behind_run : {S : Type 0} → List ℕ → Run S → Run S
-behind_run text r = record { text = text ++ r.text; state = r.state }
+abbrev pub after_run : {S : Type 0} → List ℕ → Run S → Run S
+after_run text r = record { text = text ++ r.text; state = r.state }
 
 -- the steps of whichever encoding it is
 unfoldable pub decoding : Tables → Bool → Decoding → List ℕ → Run Decoding
@@ -58,7 +58,7 @@ bom_be = 0xFE ∷ 0xFF ∷ []
 abbrev pub bom_le : List ℕ
 bom_le = 0xFF ∷ 0xFE ∷ []
 
--- the encoding in effect, and the bytes behind the BOM
+-- the encoding in effect, and the bytes after the BOM
 abbrev pub sniffed : Encoding → List ℕ → Encoding × List ℕ
 sniffed e b =
     if begins bom8 b then (encodings.Utf8, drop 3 b)
@@ -86,12 +86,12 @@ decoded t e b ended =
 -- one piece more, from where the bytes so far led
 unfoldable pub advance : Tables → Encoding → Decoded → List ℕ → Decoded
 advance t e (Held b) piece = decoded t e (b ++ piece) false
-advance t e (Reading r) piece = Reading (behind_run r.text (decoding t false r.state piece))
+advance t e (Reading r) piece = Reading (after_run r.text (decoding t false r.state piece))
 
 -- the end, from where the bytes so far led
 unfoldable pub conclude : Tables → Encoding → Decoded → Decoded
 conclude t e (Held b) = Reading (decoding t true (decoding_start e) b)
-conclude t e (Reading r) = Reading (behind_run r.text (decoding t true r.state []))
+conclude t e (Reading r) = Reading (after_run r.text (decoding t true r.state []))
 
 abbrev pub decoded_text : Decoded → List ℕ
 decoded_text (Held b) = []

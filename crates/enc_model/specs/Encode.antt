@@ -151,14 +151,14 @@ pub record Coded : Type 0 where
   pub state : Shift
   pub fault : Option ℕ
 
-abbrev pub behind : List ℕ → Coded → Coded
-behind bytes coded = record { bytes = bytes ++ coded.bytes; state = coded.state; fault = coded.fault }
+abbrev pub led_by : List ℕ → Coded → Coded
+led_by bytes coded = record { bytes = bytes ++ coded.bytes; state = coded.state; fault = coded.fault }
 
 -- on from what an encoder gave for c, before cs
 abbrev pub went : Mode → (Shift → List ℕ → Coded) → ℕ → List ℕ → Written → Coded
-went mode go c cs (Wrote bytes s) = behind bytes (go s cs)
-went mode go c cs (Again bytes s) = behind bytes (go s (c ∷ cs))
-went Html go c cs (Lacks bytes s d) = behind bytes (go s (reference d ++ cs))
+went mode go c cs (Wrote bytes s) = led_by bytes (go s cs)
+went mode go c cs (Again bytes s) = led_by bytes (go s (c ∷ cs))
+went Html go c cs (Lacks bytes s d) = led_by bytes (go s (reference d ++ cs))
 went Fatal go c cs (Lacks bytes s d) = record { bytes = bytes; state = s; fault = Some d }
 
 -- The encoder over the whole list, a reference's characters put in front; at most so many calls.
@@ -174,22 +174,22 @@ coded f mode s cs = coded_within (136 * length cs) f mode s cs
 
 -- THE SAME ONE BY ONE
 
--- behind what one code point gave, the others, where it gave no fault
+-- led_by what one code point gave, the others, where it gave no fault
 abbrev pub joined : Coded → (Shift → Coded) → Coded
-joined r more = elim r.fault as (λ _. Coded) [ None ↦ behind r.bytes (more r.state) | Some d ↦ r ]
+joined r more = elim r.fault as (λ _. Coded) [ None ↦ led_by r.bytes (more r.state) | Some d ↦ r ]
 
 abbrev pub all_codes : (Shift → ℕ → Coded) → Shift → List ℕ → Coded
 all_codes g s [] = record { bytes = []; state = s; fault = None }
 all_codes g s (c ∷ cs) = joined (g s c) (λ next. all_codes g next cs)
 
-abbrev pub behind_written : List ℕ → Written → Written
-behind_written front (Wrote bytes s) = Wrote (front ++ bytes) s
-behind_written front (Again bytes s) = Again (front ++ bytes) s
-behind_written front (Lacks bytes s d) = Lacks (front ++ bytes) s d
+abbrev pub after_written : List ℕ → Written → Written
+after_written front (Wrote bytes s) = Wrote (front ++ bytes) s
+after_written front (Again bytes s) = Again (front ++ bytes) s
+after_written front (Lacks bytes s d) = Lacks (front ++ bytes) s d
 
 -- what an encoder gives in the end, where it asks again once
 abbrev pub settled : Encoder → ℕ → Written → Written
-settled f c (Again bytes s) = behind_written bytes (f s c)
+settled f c (Again bytes s) = after_written bytes (f s c)
 settled f c (Wrote bytes s) = Wrote bytes s
 settled f c (Lacks bytes s d) = Lacks bytes s d
 
@@ -197,7 +197,7 @@ settled f c (Lacks bytes s d) = Lacks bytes s d
 abbrev pub code_within : Mode → (Shift → List ℕ → Coded) → Written → Coded
 code_within mode go (Wrote bytes s) = record { bytes = bytes; state = s; fault = None }
 code_within mode go (Again bytes s) = record { bytes = bytes; state = s; fault = None }
-code_within Html go (Lacks bytes s d) = behind bytes (go s (reference d))
+code_within Html go (Lacks bytes s d) = led_by bytes (go s (reference d))
 code_within Fatal go (Lacks bytes s d) = record { bytes = bytes; state = s; fault = Some d }
 
 -- a character that is never an error

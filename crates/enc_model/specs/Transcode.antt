@@ -18,7 +18,7 @@ pub record Took (f : Encoder) (mode : Mode) (old : Coder) (text : List ℕ) (new
   pub state : new.state ≡ (coded f mode old.state text).state
   pub out : new.out ≡ old.out ++ (coded f mode old.state text).bytes
 
--- none is for want of memory, a code point for the first that has no code
+-- none when out of memory, a code point for the first that has no code
 abbrev pub IsReason : Option ℕ → Coded → Type 0
 IsReason None r = Unit {0}
 IsReason (Some c) r = r.fault ≡ Some c

@@ -63,7 +63,7 @@ impl Model for Room {
     ghost invariant = { λ r. r.len ≤ 3072 };
 }
 
-/// Stores a character behind the first so many bytes, and says how many they are then.
+/// Stores a character after the first so many bytes, and says how many they are then.
 #[inline(always)]
 fn store_code(bytes: &mut [u8; ROOM], len: usize, code: &Utf8Char) -> usize
     requires { len + 4 ≤ ROOM }
@@ -77,7 +77,7 @@ fn store_code(bytes: &mut [u8; ROOM], len: usize, code: &Utf8Char) -> usize
     len + count as usize
 }
 
-/// Stores what bytes stand for behind the first so many bytes, and says how many they are then.
+/// Stores what bytes stand for after the first so many bytes, and says how many they are then.
 #[inline(always)]
 fn store_each(room: &mut [u8; ROOM], from: usize, chars: &[Utf8Char], bytes: &[u8]) -> usize
     requires text { is_utf8 (take from room.old) ≡ true }
@@ -95,7 +95,7 @@ fn store_each(room: &mut [u8; ROOM], from: usize, chars: &[Utf8Char], bytes: &[u
     len
 }
 
-/// Stores bytes behind the first so many.
+/// Stores bytes after the first so many.
 #[inline(always)]
 fn store_part(room: &mut [u8; ROOM], from: usize, part: &[u8])
     requires { from + length part.now ≤ ROOM }
@@ -105,7 +105,7 @@ fn store_part(room: &mut [u8; ROOM], from: usize, part: &[u8])
     room[from..end].copy_from_slice(part);
 }
 
-/// Stores the ASCII that these begin with behind the first so many bytes, and says how many they are then: 32 bytes are
+/// Stores the ASCII that these begin with after the first so many bytes, and says how many they are then: 32 bytes are
 /// stored, of which so many count.
 #[inline(always)]
 fn store_front(room: &mut [u8; ROOM], from: usize, bytes: &[u8], front: usize) -> usize
@@ -122,7 +122,7 @@ fn store_front(room: &mut [u8; ROOM], from: usize, bytes: &[u8], front: usize) -
     from + front
 }
 
-/// Stores what some of these stand for behind the first so many bytes: ASCII and the byte behind it, or else 32 bytes.
+/// Stores what some of these stand for after the first so many bytes: ASCII and the byte after it, or else 32 bytes.
 /// Says how many of these they are, and how many are stored then.
 #[inline(always)]
 fn store_some<F: AsciiFinder>(

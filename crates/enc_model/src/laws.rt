@@ -8,7 +8,7 @@ ghost use Rattle.enc_model.specs.Utf8.{utf8};
 ghost use Rattle.enc_model.specs.Utf16.{utf16};
 ghost use Rattle.enc_model.specs.Japanese.{single, shift_jis, euc_jp, iso2022};
 ghost use Rattle.enc_model.specs.Encode.{Tables};
-ghost use Rattle.enc_model.specs.Decode.{Decoding, decoding, behind_run, decoded, advance, conclude};
+ghost use Rattle.enc_model.specs.Decode.{Decoding, decoding, after_run, decoded, advance, conclude};
 ghost use Rattle.enc_model.specs.Transcode.{Transcoder, IsAt, stepped, added, so_far};
 
 /// A byte's answer, and then what it restores, put back in front.
@@ -24,7 +24,7 @@ pub fn restored_in_front()
 /// The steps over b ++ c are the steps over b, and then over c from the end state.
 pub fn in_any_cut()
     ensures { (t : Tables) (ended : Bool) (s : Decoding) (b c : List ℕ) →
-        decoding t ended s (b ++ c) ≡ behind_run (decoding t false s b).text
+        decoding t ended s (b ++ c) ≡ after_run (decoding t false s b).text
         (decoding t ended (decoding t false s b).state c) }
 {}
 

@@ -123,10 +123,10 @@ pub enum Introducer {
 pub enum Place {
     /// in a set of characters
     In(Charset),
-    /// behind this lead
+    /// after this lead
     Trail(u8),
-    /// behind 1B
+    /// after 1B
     EscapeStart,
-    /// behind 1B and this
+    /// after 1B and this
     Escape(Introducer),
 }

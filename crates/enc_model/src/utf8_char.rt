@@ -5,7 +5,7 @@ ghost use Rattle.std.specs.Char.{IsScalar};
 
 use std::marker::Model;
 
-/// A character in UTF-8, ready to be stored without a branch: its bytes with others behind them, and how many they are.
+/// A character in UTF-8, ready to be stored without a branch: its bytes with others after them, and how many they are.
 #[derive(Drop)]
 pub struct Utf8Char {
     bytes: [u8; 4],

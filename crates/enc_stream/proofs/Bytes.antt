@@ -50,11 +50,11 @@ twelve (a ∷ b ∷ c ∷ d ∷ []) h = refl
 twelve (a ∷ b ∷ c ∷ d ∷ e ∷ []) h = refl
 twelve (a ∷ b ∷ c ∷ d ∷ e ∷ f ∷ xs) h = absurd (omega (arith, h))
 
--- what stands behind them
-behind : (n : ℕ) (xs rest : List ℕ) (i : ℕ) → get_or (padded n xs ++ rest) (n + i) 0 ≡ get_or rest i 0
-behind zero xs rest i = grind arith
-behind (suc n) [] rest i = grind (arith, behind n [] rest i)
-behind (suc n) (x ∷ xs) rest i = grind (arith, behind n xs rest i)
+-- what stands after them
+after : (n : ℕ) (xs rest : List ℕ) (i : ℕ) → get_or (padded n xs ++ rest) (n + i) 0 ≡ get_or rest i 0
+after zero xs rest i = grind arith
+after (suc n) [] rest i = grind (arith, after n [] rest i)
+after (suc n) (x ∷ xs) rest i = grind (arith, after n xs rest i)
 
 -- THE BYTES OF A STATE, AND ITS PARTS
 
@@ -84,7 +84,7 @@ module _ (s : Transcoder) (bytes : List ℕ) (is : state_bytes s ≡ bytes) wher
   phase_there = ap (λ z. get_or z 3 0) is
 
   pub shift_there : shift_number s.shift ≡ get_or bytes 16 0
-  shift_there = sym (behind 12 (phase_bytes s.phase) (padded 16 (shift_number s.shift ∷ [])) 0)
+  shift_there = sym (after 12 (phase_bytes s.phase) (padded 16 (shift_number s.shift ∷ [])) 0)
       ∙ ap (λ z. get_or z 16 0) is
 
   pub kept_there : padded 5 (phase_bytes s.phase) ≡ get_or bytes 4 0 ∷ get_or bytes 5 0 ∷ get_or bytes 6 0 ∷ get_or

@@ -2,7 +2,7 @@
 use Rattle.std.proofs.Common.{ℕ, ◌≡◌, ◌≤◌, ◌<◌, ◌+◌, Bool, true, false, List, ◌++◌, Option, Some, None, length}
 use Rattle.std.proofs.Common.{length-append, arith, refl, sym, ◌∙◌, ap, append_assoc, subst, Vec, vec_capacity}
 use Rattle.enc_model.specs.declared.Encoding.{Encoding}
-use Rattle.enc_model.specs.Encode.{Tables, InAscii, Coded, behind, coded, encoder, ended_coded, encoder_end, encode}
+use Rattle.enc_model.specs.Encode.{Tables, InAscii, Coded, led_by, coded, encoder, ended_coded, encoder_end, encode}
 use Rattle.enc_model.specs.Decode.{undecided, decoded, decoded_text, conclude, decode, text}
 use Rattle.enc_model.specs.Transcode.{Transcoder, phase_of, fed_end, so_far, IsAt, added_end}
 use Rattle.enc_model.proofs.Steady.{encoder_steady}
@@ -13,10 +13,10 @@ use Rattle.enc_stream.specs.declared.error.TranscodeError.TheVariants.{NoMemory,
 use Rattle.enc_stream.specs.Standing.{Stops, IsStopped, IsWritten}
 
 -- what stands in front stays in front
-ended_behind : (x : List ℕ) (r : Coded) → ended_coded (behind x r) ≡ behind x (ended_coded r)
-ended_behind x r = go r.fault refl
+ended_after : (x : List ℕ) (r : Coded) → ended_coded (led_by x r) ≡ led_by x (ended_coded r)
+ended_after x r = go r.fault refl
   where
-    go : (f : Option ℕ) → r.fault ≡ f → ended_coded (behind x r) ≡ behind x (ended_coded r)
+    go : (f : Option ℕ) → r.fault ≡ f → ended_coded (led_by x r) ≡ led_by x (ended_coded r)
     go None e = rw e (ap (λ z. record { bytes = z; state = InAscii; fault = None })
         (append_assoc x r.bytes (encoder_end r.state)))
     go (Some c) e = rw e refl
@@ -37,7 +37,7 @@ decode_end t e b = go (undecided b) refl
 
 -- From where a transcoder stands, the text with the end is the text so far and what the end adds.
 pub text_ended : (t : Tables) (s : Transcoder) (b : List ℕ) → IsAt t s b
-    → text t s.from s.to s.mode b true ≡ behind (so_far t s b).bytes (added_end t s)
+    → text t s.from s.to s.mode b true ≡ led_by (so_far t s b).bytes (added_end t s)
 unfolding text encode
 text_ended t s b here =
     let f = encoder t s.to in
@@ -45,11 +45,11 @@ text_ended t s b here =
     let more = fed_end t s.from (phase_of (decoded t s.from b false)) in
     ap (λ z. ended_coded (coded f s.mode InAscii z)) (decode_end t s.from b)
     ∙ ap ended_coded (coded_both f (encoder_steady t s.to) s.mode InAscii so more here.fault)
-    ∙ ended_behind (so_far t s b).bytes (coded f s.mode (so_far t s b).state more)
-    ∙ ap (λ z. behind (so_far t s b).bytes (ended_coded (coded f s.mode z more))) (sym here.shift)
-    ∙ ap (λ z. behind (so_far t s b).bytes (ended_coded (coded f s.mode s.shift (fed_end t s.from z)))) (sym here.phase)
+    ∙ ended_after (so_far t s b).bytes (coded f s.mode (so_far t s b).state more)
+    ∙ ap (λ z. led_by (so_far t s b).bytes (ended_coded (coded f s.mode z more))) (sym here.shift)
+    ∙ ap (λ z. led_by (so_far t s b).bytes (ended_coded (coded f s.mode s.shift (fed_end t s.from z)))) (sym here.phase)
 
--- THE END'S BYTES, behind what was coded
+-- THE END'S BYTES, led_by what was coded
 
 ended_none : (r : Coded) → r.fault ≡ None → ended_coded r ≡ record {
   bytes = r.bytes ++ encoder_end r.state;
@@ -62,7 +62,7 @@ ended_fault : (r : Coded) (c : ℕ) → r.fault ≡ Some c → ended_coded r ≡
 ended_fault r c e = rw e refl
 
 module _ {Z : Type 0} (r : Coded) (old mid new : Vec ℕ Z) where
-  -- behind the code the bytes of the end were appended
+  -- led_by the code the bytes of the end were appended
   pub end_written : IsWritten r old mid → new.items ≡ mid.items ++ encoder_end r.state
       → IsWritten (ended_coded r) old new
   end_written p e =

@@ -92,7 +92,7 @@ leads t from to mode (During s) shift piece p q =
     (during_fits t from s piece p.0 p.1, coded_in_ascii t to mode shift (decoding t false s piece).text q)
 leads t from to mode Over shift piece p q = (tt, coded_nothing (encoder t to) mode shift ∙ q)
 
--- behind a piece they fit as before
+-- after a piece they fit as before
 pub stepped_fits : (t : Tables) (s : Transcoder) (piece : List ℕ) → IsFitting s → IsFitting (stepped t s piece)
 stepped_fits t s piece h =
     let l = leads t s.from s.to s.mode s.phase s.shift piece h.phase h.shift in

@@ -1,4 +1,4 @@
--- The text behind a piece and behind the end.
+-- The text after a piece and after the end.
 use Rattle.std.proofs.Common.{ℕ, ◌≡◌, true, List, ◌++◌, None, sym, ◌∙◌, ap, append_assoc}
 use Rattle.enc_model.specs.Encode.{Tables}
 use Rattle.enc_model.specs.Decode.{text}

@@ -10,18 +10,18 @@ use Rattle.enc_model.specs.Encode.{Tables, Shift, InAscii, Encoder, Written, Wro
 use Rattle.enc_model.specs.Encode.{coded_within, went, reference, encoder, shift_jis_encoder, euc_jp_encoder}
 use Rattle.enc_model.specs.Encode.{single_encoder}
 
-abbrev shift_behind : Written → Shift
-shift_behind (Wrote bytes s) = s
-shift_behind (Again bytes s) = s
-shift_behind (Lacks bytes s c) = s
+abbrev shift_after : Written → Shift
+shift_after (Wrote bytes s) = s
+shift_after (Again bytes s) = s
+shift_after (Lacks bytes s c) = s
 
 -- it leaves its state as it is
 abbrev IsStill : Encoder → Type 0
-IsStill f = (s : Shift) (c : ℕ) → shift_behind (f s c) ≡ s
+IsStill f = (s : Shift) (c : ℕ) → shift_after (f s c) ≡ s
 
 went_still : (mode : Mode) (go : Shift → List ℕ → Coded) (c : ℕ) (cs : List ℕ) (w : Written)
     → ((s : Shift) (cs : List ℕ) → (go s cs).state ≡ s) →
-    (went mode go c cs w).state ≡ shift_behind w
+    (went mode go c cs w).state ≡ shift_after w
 went_still mode go c cs (Wrote bytes s) h = h s cs
 went_still mode go c cs (Again bytes s) h = h s (c ∷ cs)
 went_still Html go c cs (Lacks bytes s d) h = h s (reference d ++ cs)

@@ -1,4 +1,4 @@
--- The bytes that may still become a BOM, and what a piece behind them makes of them.
+-- The bytes that may still become a BOM, and what a piece after them makes of them.
 use Rattle.std.specs.Prelude.{ℕ, ◌≡◌, ◌≤◌, true, false, List, [], ◌∷◌, ◌++◌, drop, length}
 use Rattle.enc_model.specs.declared.Encoding.{Encoding}
 use Rattle.enc_model.specs.declared.Encoding.TheVariants as encodings
@@ -16,7 +16,7 @@ held_bytes EfBb = 0xEF ∷ 0xBB ∷ []
 held_bytes Fe = 0xFE ∷ []
 held_bytes Ff = 0xFF ∷ []
 
--- with this byte behind them they are the BOM of this encoding
+-- with this byte after them they are the BOM of this encoding
 abbrev pub LacksOne : Held → ℕ → Encoding → Type 0
 LacksOne Nothing last e = ⊥
 LacksOne Ef last e = ⊥

@@ -28,15 +28,15 @@ abbrev pub start : Encoding → Encoding → Mode → Standing
 start from to mode = record
     { transcoder = record { from = from; to = to; mode = mode; phase = Before []; shift = InAscii }; spent = false }
 
--- behind a piece
+-- after a piece
 abbrev pub stepped_on : Tables → Standing → List ℕ → Standing
 stepped_on t s piece = record { transcoder = stepped t s.transcoder piece; spent = false }
 
--- behind the end
+-- after the end
 abbrev pub finished : Standing → Standing
 finished s = record { transcoder = record s.transcoder { phase = Over; shift = InAscii }; spent = false }
 
--- behind a refusal
+-- after a refusal
 abbrev pub spent_by : Standing → Standing
 spent_by s = record { transcoder = record s.transcoder { phase = Over }; spent = true }
 

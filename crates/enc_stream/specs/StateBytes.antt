@@ -21,7 +21,7 @@ use Rattle.enc_model.specs.Japanese.{introducer_byte}
 use Rattle.enc_model.specs.Encode.{Shift, InAscii, InRoman, InJis}
 use Rattle.enc_model.specs.Decode.{Decoding, OfUtf8, OfUtf16, OfShiftJis, OfEucJp, OfIso2022, OfSingle, undecided}
 use Rattle.enc_model.specs.Transcode.{Transcoder, Phase, Before, During, Over}
-use Rattle.enc_unicode.specs.Utf8State.{IsBehind}
+use Rattle.enc_unicode.specs.Utf8State.{IsAfter}
 use Rattle.lane_kernels.specs.Units.{IsCarried}
 use Rattle.enc_legacy.specs.ShiftJis.{IsShiftJisState}
 use Rattle.enc_legacy.specs.EucJpState.{IsEucJpState}
@@ -63,7 +63,7 @@ shift_number InAscii = 0
 shift_number InRoman = 1
 shift_number InJis = 2
 
--- before the BOM is decided, decoding, and behind the end
+-- before the BOM is decided, decoding, and after the end
 abbrev pub phase_number : Phase → ℕ
 phase_number (Before held) = 0
 phase_number (During s) = 1
@@ -132,7 +132,7 @@ phase_bytes (Before held) = counted held
 phase_bytes (During s) = encoding_number (encoding_of s) ∷ decoder_bytes s
 phase_bytes Over = []
 
--- the bytes, and zeros behind them, so many in all
+-- the bytes, and zeros after them, so many in all
 abbrev pub padded : ℕ → List ℕ → List ℕ
 padded zero bytes = []
 padded (suc n) [] = 0 ∷ padded n []
@@ -188,7 +188,7 @@ IsByte (Some b) = b < 256
 
 -- a decoder's state is one that it can be in
 abbrev pub IsReached : Decoding → Type 0
-IsReached (OfUtf8 s) = IsBehind s × (length s.kept ≤ 3)
+IsReached (OfUtf8 s) = IsAfter s × (length s.kept ≤ 3)
 IsReached (OfUtf16 big s) = IsByte s.byte × IsCarried s.lead
 IsReached (OfShiftJis lead) = IsShiftJisState lead
 IsReached (OfEucJp s) = IsEucJpState s.lead s.flag

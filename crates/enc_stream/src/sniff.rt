@@ -17,12 +17,12 @@ pub enum Held {
     Ff,
 }
 
-/// What held bytes and a piece behind them are.
+/// What held bytes and a piece after them are.
 #[derive(Clone, Copy, Debug, PartialEq, Eq)]
 pub enum Sniffed {
     /// A BOM may still come.
     Still(Held),
-    /// The BOM of this encoding, which ends behind so many bytes of the piece.
+    /// The BOM of this encoding, which ends after so many bytes of the piece.
     Bom(Encoding, usize),
     /// No BOM.
     Plain,
@@ -69,7 +69,7 @@ pub fn held_at(count: u8, first: u8, second: u8) -> Option<Held>
     }
 }
 
-/// Sniffs a piece behind no byte.
+/// Sniffs a piece after no byte.
 fn sniff_first(piece: &[u8]) -> Sniffed
     ensures { Sniffs Held.Nothing piece.now result }
 {
@@ -86,7 +86,7 @@ fn sniff_first(piece: &[u8]) -> Sniffed
     }
 }
 
-/// Sniffs a piece behind EF.
+/// Sniffs a piece after EF.
 fn sniff_second(piece: &[u8]) -> Sniffed
     ensures { Sniffs Held.Ef piece.now result }
 {
@@ -98,7 +98,7 @@ fn sniff_second(piece: &[u8]) -> Sniffed
     }
 }
 
-/// Sniffs a piece behind what a BOM lacks one byte of.
+/// Sniffs a piece after what a BOM lacks one byte of.
 fn sniff_last(held: Held, last: u8, encoding: Encoding, piece: &[u8]) -> Sniffed
     requires { LacksOne held last encoding }
     ensures { Sniffs held piece.now result }
@@ -110,7 +110,7 @@ fn sniff_last(held: Held, last: u8, encoding: Encoding, piece: &[u8]) -> Sniffed
     }
 }
 
-/// Sniffs a piece behind held bytes.
+/// Sniffs a piece after held bytes.
 pub fn sniff(held: Held, piece: &[u8]) -> Sniffed
     ensures { Sniffs held piece.now result }
 {

@@ -140,7 +140,7 @@ fn begin<S: Sink>(
     Ok(decoder)
 }
 
-/// Decodes held bytes that are no BOM, and a piece behind them.
+/// Decodes held bytes that are no BOM, and a piece after them.
 fn begin_plain<S: Sink>(
     from: Encoding,
     held: Held,
@@ -159,7 +159,7 @@ fn begin_plain<S: Sink>(
     Ok(decoder)
 }
 
-/// Sniffs a piece behind held bytes, and decodes what is no BOM.
+/// Sniffs a piece after held bytes, and decodes what is no BOM.
 fn decide<S: Sink>(
     from: Encoding,
     held: Held,

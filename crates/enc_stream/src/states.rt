@@ -34,10 +34,10 @@ pub fn utf8_at(bytes: [u8; 4]) -> Option<Utf8State>
 {
     let [count, first, second, third] = bytes;
     match count {
-        0 => Utf8State::behind(&[]),
-        1 => Utf8State::behind(&[first]),
-        2 => Utf8State::behind(&[first, second]),
-        3 => Utf8State::behind(&[first, second, third]),
+        0 => Utf8State::after(&[]),
+        1 => Utf8State::after(&[first]),
+        2 => Utf8State::after(&[first, second]),
+        3 => Utf8State::after(&[first, second, third]),
         _ => None,
     }
 }

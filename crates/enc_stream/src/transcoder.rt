@@ -106,7 +106,7 @@ impl Transcoder {
         }
     }
 
-    /// A transcoder behind the end of a text without bytes, as `new` and then `finish` make it.
+    /// A transcoder after the end of a text without bytes, as `new` and then `finish` make it.
     pub fn ended(from: Encoding, to: Encoding, mode: Mode) -> Self
         requires { IsOutput to }
         ensures { result ≡ finished (start from to mode) }
@@ -151,14 +151,14 @@ impl Transcoder {
         self.encoder.mode()
     }
 
-    /// Whether a refusal, `NoMemory` or `Unencodable`, spent it. Behind the end it is not spent.
+    /// Whether a refusal, `NoMemory` or `Unencodable`, spent it. After the end it is not spent.
     pub fn is_spent(&self) -> bool
         ensures { result ≡ self.now.spent }
     {
         matches!(self.stage, Stage::Spent)
     }
 
-    /// How far it has come. A spent one is told as behind the end.
+    /// How far it has come. A spent one is told as after the end.
     pub fn progress(&self) -> Progress
         ensures { result ≡ progress_of self.now.transcoder.phase }
     {
@@ -176,12 +176,12 @@ impl Transcoder {
     ///
     /// - 0, 1, 2: the numbers of the source encoding and the output encoding, 0 to 20 in the order of `Encoding`; the
     ///   mode, 0 for html and 1 for fatal.
-    /// - 3: 0 before a BOM is decided, 1 from then on, 2 behind the end.
+    /// - 3: 0 before a BOM is decided, 1 from then on, 2 after the end.
     /// - 4 on, before the BOM is decided: how many bytes are held, and these.
     /// - 4, from then on: the number of the encoding in effect. 5 on, its decoder's state. UTF-8: how many bytes are
     ///   kept, and these. UTF-16: 1 for a byte that is kept plus 2 for a lead surrogate; the byte; the lead, the higher
     ///   byte first. Shift_JIS: the lead or 0. EUC-JP: the lead or 0; 1 where it is one of jis0212. ISO-2022-JP: 0 to 3
-    ///   for the sets ASCII, Roman, katakana and jis0208, 4 behind a lead, 5 behind 1B and 6 behind one byte more; the
+    ///   for the sets ASCII, Roman, katakana and jis0208, 4 after a lead, 5 after 1B and 6 after one byte more; the
     ///   output state, 0 to 3; the byte that is kept or 0; the flag.
     /// - 16: the encoder's state, 0 for ASCII, 1 for Roman, 2 for jis0208.
     ///

@@ -15,7 +15,7 @@ use enc_index::IndexSet;
 use enc_model::Encoding;
 use std::mem;
 
-/// Decodes a piece, from any stage but the last two, and appends its code: the next stage, and the encoder behind it.
+/// Decodes a piece, from any stage but the last two, and appends its code: the next stage, and the encoder after it.
 #[tactic(auto, using(crate::proofs::Refusals::sink_wrote))]
 pub fn transcode(
     stage: Stage,
@@ -45,7 +45,7 @@ pub fn transcode(
     Ok((outcome?, encoder))
 }
 
-/// Decodes the end, from any stage but the last two, and appends its code: the encoder behind it.
+/// Decodes the end, from any stage but the last two, and appends its code: the encoder after it.
 #[tactic(auto, using(crate::proofs::Refusals::sink_wrote))]
 fn transcode_end(
     stage: Stage,
@@ -72,7 +72,7 @@ fn transcode_end(
     Ok(encoder)
 }
 
-/// Decodes the end, from any stage but the last two, and appends its code and the bytes of the end: the encoder behind
+/// Decodes the end, from any stage but the last two, and appends its code and the bytes of the end: the encoder after
 /// it.
 #[tactic(auto, using(crate::proofs::Ends::end_written, crate::proofs::Ends::stopped_before))]
 pub fn write_end(

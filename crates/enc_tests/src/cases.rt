@@ -26,7 +26,7 @@ pub fn bytes_of(rt: &impl Abort, alloc: Global, hex: &str) -> Vec<u8> {
     bytes
 }
 
-/// A line's first word, and what is behind it.
+/// A line's first word, and what is after it.
 pub fn word<'a>(rt: &impl Abort, line: &'a str) -> (&'a str, &'a str) {
     line.split_once(' ').expect(rt, "two words")
 }

@@ -8,7 +8,7 @@ use enc_stream::Transcoder;
 use std::alloc::Global;
 use std::process::Abort;
 
-/// The state bytes that begin with these, zeros behind them.
+/// The state bytes that begin with these, zeros after them.
 fn with_zeros(front: &[u8]) -> [u8; 32] {
     let mut bytes = [0; 32];
     for (place, byte) in bytes.iter_mut().zip(front.iter()) {
@@ -17,7 +17,7 @@ fn with_zeros(front: &[u8]) -> [u8; 32] {
     bytes
 }
 
-/// Packs behind a piece, and goes on from the bytes to the text of all.
+/// Packs after a piece, and goes on from the bytes to the text of all.
 fn goes_on(rt: &impl Abort, alloc: Global, set: &IndexSet, mut first: Transcoder, line: &str) {
     let (front, rest) = word(rt, line);
     let (state, rest) = word(rt, rest);
@@ -37,7 +37,7 @@ fn goes_on(rt: &impl Abort, alloc: Global, set: &IndexSet, mut first: Transcoder
     assert!(rt; next.pack()[3] == 2);
 }
 
-/// On each line two encodings, a piece, the state bytes behind it, another piece, and the text of both.
+/// On each line two encodings, a piece, the state bytes after it, another piece, and the text of both.
 const STATES: &str = "\
 UTF-8 UTF-8 EFBB 0000000002EFBB BF41 41
 UTF-8 UTF-8 F09F98 000000010003F09F98 80 F09F9880
@@ -56,7 +56,7 @@ fn all_go_on(rt: &impl Abort, alloc: Global, set: &IndexSet) {
 }
 
 #[test]
-fn state_bytes_behind_a_piece(rt: HostRuntime) {
+fn state_bytes_after_a_piece(rt: HostRuntime) {
     let set = few_pairs(&rt, rt.alloc());
     all_go_on(&rt, rt.alloc(), &set);
 }
@@ -72,7 +72,7 @@ fn state_bytes_of_no_state(rt: HostRuntime) {
         // held bytes that are no BOM's
         &[0, 0, 0, 0, 1, 0x41],
         &[0, 0, 0, 0, 3, 0xEF, 0xBB, 0xBF],
-        // something behind the end
+        // something after the end
         &[0, 0, 0, 2, 1],
         // an encoding in effect that is neither the source's nor a BOM's
         &[0, 0, 0, 1, 3],
@@ -88,7 +88,7 @@ fn state_bytes_of_no_state(rt: HostRuntime) {
         &[4, 0, 0, 1, 4, 0, 1],
         &[4, 0, 0, 1, 4, 0x8E, 1],
         &[4, 0, 0, 1, 4, 0x8F, 1],
-        // an output state that isn't the set, and a flag behind a lead
+        // an output state that isn't the set, and a flag after a lead
         &[5, 0, 0, 1, 5, 3, 0, 0, 0],
         &[5, 0, 0, 1, 5, 4, 3, 0x24, 1],
         // an encoder's state that UTF-8 lacks, and one before and after decoding, and one that is none

@@ -1,4 +1,4 @@
-//! Bytes in pieces, and the text behind them.
+//! Bytes in pieces, and the text after them.
 
 ghost use Rattle.std.specs.Prelude.{◌≤◌};
 
@@ -193,7 +193,7 @@ fn holds_among(
         let out = in_two(rt, alloc, &start, set, bytes.split_at(cut));
         assert!(rt;
             out == text,
-            "{line} behind {} letters, cut at {cut}",
+            "{line} after {} letters, cut at {cut}",
             letters.0
         );
     }
@@ -433,7 +433,7 @@ fn indexes_of_few_entries(rt: HostRuntime) {
     }
 }
 
-/// Checks a line of an encoding, another, and pieces, each with the text behind it.
+/// Checks a line of an encoding, another, and pieces, each with the text after it.
 fn gives_so_far(rt: &impl Abort, alloc: Global, set: &IndexSet, line: &str) {
     let (from, rest) = word(rt, line);
     let (to, pieces) = word(rt, rest);
@@ -452,7 +452,7 @@ fn gives_so_far(rt: &impl Abort, alloc: Global, set: &IndexSet, line: &str) {
 }
 
 #[test]
-fn text_behind_each_piece(rt: HostRuntime) {
+fn text_after_each_piece(rt: HostRuntime) {
     let set = few_pairs(&rt, rt.alloc());
     for line in [
         "UTF-8 UTF-8 EF= BB= BF41=41",
@@ -475,7 +475,7 @@ fn is_spent(rt: &impl Abort, set: &IndexSet, spent: &mut Transcoder, out: &mut V
 }
 
 #[test]
-fn spent_behind_a_refusal(rt: HostRuntime) {
+fn spent_after_a_refusal(rt: HostRuntime) {
     let set = IndexSet::new(rt.alloc()).expect(&rt, "memory");
     let mut out = Vec::new(rt.alloc());
     let mut fatal = Transcoder::new(Encoding::Utf8, Encoding::Windows1252, Mode::Fatal);
@@ -494,7 +494,7 @@ fn is_ended(rt: &impl Abort, set: &IndexSet, ended: &mut Transcoder, out: &mut V
 }
 
 #[test]
-fn done_behind_the_end(rt: HostRuntime) {
+fn done_after_the_end(rt: HostRuntime) {
     let set = IndexSet::new(rt.alloc()).expect(&rt, "memory");
     let mut out = Vec::new(rt.alloc());
     let mut html = Transcoder::new(Encoding::Utf8, Encoding::Windows1252, Mode::Html);

@@ -66,7 +66,7 @@ text_within_rest bytes text at inside is =
     let long = length-take (length bytes - at) (drop at bytes) in
     omega (arith, inside, short, long)
 
--- what is behind the texts at a piece's front, given or refused
+-- what is after the texts at a piece's front, given or refused
 pub rest_given : {A X E : Type 0} (takes : A → List ℕ → A → Type 0) (refuses : A → List ℕ → E → A → Type 0)
     (sink : IsSink takes refuses)
     (s next : Utf8) (piece rest : List ℕ) (n : ℕ) (a m c : A) (res : Result X E)

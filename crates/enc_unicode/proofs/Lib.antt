@@ -1,4 +1,4 @@
-pub mod Behind
+pub mod After
 pub mod Rows
 pub mod Advances
 pub mod Scalars

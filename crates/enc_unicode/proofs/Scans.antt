@@ -58,7 +58,7 @@ ascii_text bs n e = (
       (ascii_utf8 (take (prefix_len is_ascii bs) bs) (front_all bs)),
 )
 
--- a text, and one behind it
+-- a text, and one after it
 pub text_goes_on : (bs : List ℕ) (at n : ℕ) → IsUtf8 (take at bs) → IsUtf8 (take n (drop at bs))
     → IsUtf8 (take (at + n) bs)
 text_goes_on bs at n t u = subst IsUtf8 (sym (take-add at n bs)) (IsUtf8-append (take at bs) (take n (drop at bs)) t u)

@@ -4,8 +4,8 @@ use Rattle.enc_model.specs.Stream.{steps}
 use Rattle.enc_model.specs.Utf8.{Utf8, utf8, utf8_start}
 
 -- where the bytes lead from the start
-abbrev pub utf8_behind : List ℕ → Utf8
-utf8_behind bytes = (steps utf8 false utf8_start bytes).state
+abbrev pub utf8_after : List ℕ → Utf8
+utf8_after bytes = (steps utf8 false utf8_start bytes).state
 
 -- From low to high no surrogate begins, and no number is above the greatest: surrogates lie from here to there.
 abbrev pub Avoids : ℕ → ℕ → ℕ → ℕ → ℕ → Type 0
@@ -20,5 +20,5 @@ pub record IsUtf8State (needed lower upper point seen : ℕ) : Type 0 where
   pub three : needed ≡ 3 → Avoids 0 0x10 0x10F (point * 64 + (lower - 0x80)) (point * 64 + (upper - 0x80))
 
 -- a state is where the bytes that it keeps lead
-abbrev pub IsBehind : Utf8 → Type 0
-IsBehind s = s ≡ utf8_behind s.kept
+abbrev pub IsAfter : Utf8 → Type 0
+IsAfter s = s ≡ utf8_after s.kept

@@ -28,7 +28,7 @@ fn push_step(step: Step, batch: &mut Batch)
     }
 }
 
-/// Takes the character that a unit completes behind a carried lead or none.
+/// Takes the character that a unit completes after a carried lead or none.
 #[inline(always)]
 fn push_unit(carried: Option<u16>, unit: u16, batch: &mut Batch)
     requires carried { IsCarried carried }
@@ -42,7 +42,7 @@ fn push_unit(carried: Option<u16>, unit: u16, batch: &mut Batch)
     }
 }
 
-/// Takes the characters of units behind a carried lead or none.
+/// Takes the characters of units after a carried lead or none.
 ///
 /// Never inlined: its caller would else take each unit out of the lanes first, also where it isn't called.
 #[inline(never)]

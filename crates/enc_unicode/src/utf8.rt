@@ -2,7 +2,7 @@
 
 ghost use Rattle.std.specs.Prelude.{◌≡◌, ◌≢◌, IfSome, IfNone, IfOk, IfErr, OnOk, true, false, ◌<◌, ◌≤◌, ◌+◌, ◌*◌, []};
 ghost use Rattle.std.specs.Prelude.{◌∷◌, length, take, Some};
-ghost use Rattle.enc_unicode.specs.Utf8State.{IsUtf8State, IsBehind, utf8_behind};
+ghost use Rattle.enc_unicode.specs.Utf8State.{IsUtf8State, IsAfter, utf8_after};
 ghost use Rattle.enc_model.specs.Stream.{steps};
 ghost use Rattle.enc_model.specs.Sink.{Given};
 ghost use Rattle.enc_model.specs.Batches.{BatchTook};
@@ -41,7 +41,7 @@ impl Model for Utf8State {
     ghost view = { λ s. record
         { needed = s.needed; lower = s.lower; upper = s.upper; point = s.point; kept = take s.seen s.kept } };
 
-    ghost invariant = { λ s. IsUtf8State s.needed s.lower s.upper s.point s.seen × IsBehind
+    ghost invariant = { λ s. IsUtf8State s.needed s.lower s.upper s.point s.seen × IsAfter
         (record { needed = s.needed; lower = s.lower; upper = s.upper; point = s.point; kept = take s.seen s.kept }) };
 }
 
@@ -72,16 +72,16 @@ impl Utf8State {
     /// the one that they lead to from the start.
     pub fn kept(&self) -> &[u8]
         ensures bytes { result.now ≡ self.now.kept }
-        ensures behind { IsBehind self.now }
+        ensures after { IsAfter self.now }
         ensures few { length result.now ≤ 3 }
     {
         &self.kept[..self.seen as usize]
     }
 
     /// The state that these bytes lead to from the start, or None where it doesn't keep just them.
-    pub fn behind(bytes: &[u8]) -> Option<Self>
-        ensures some { IfSome result (λ s. (s ≡ utf8_behind bytes.now) × (s.kept ≡ bytes.now)) }
-        ensures none { IfNone result ((utf8_behind bytes.now).kept ≢ bytes.now) }
+    pub fn after(bytes: &[u8]) -> Option<Self>
+        ensures some { IfSome result (λ s. (s ≡ utf8_after bytes.now) × (s.kept ≡ bytes.now)) }
+        ensures none { IfNone result ((utf8_after bytes.now).kept ≢ bytes.now) }
     {
         let mut state = Self::new();
         match state.feed(bytes, &mut Nowhere) {
@@ -90,10 +90,10 @@ impl Utf8State {
         }
     }
 
-    /// A decoder that needs more bytes behind a lead.
+    /// A decoder that needs more bytes after a lead.
     fn needs(needed: u8, lower: u8, upper: u8, point: u32, lead: u8, seen: u8) -> Self
         requires valid { IsUtf8State needed lower upper point seen }
-        requires behind { IsBehind
+        requires after { IsAfter
             (record { needed = needed; lower = lower; upper = upper; point = point; kept = take seen (lead ∷ []) }) }
         requires few { seen ≤ 1 }
         ensures { result ≡ record

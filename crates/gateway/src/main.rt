@@ -95,7 +95,7 @@ fn no_words<'a>(rt: &HostRuntime, error: io::Error) -> Result<u8, Failure<'a>> {
     }
 }
 
-// Prints help, or what is wrong with the command line. Want of memory is no fault of the command line.
+// Prints help, or what is wrong with the command line. Out of memory is no fault of the command line.
 fn refuse<'a>(rt: &HostRuntime, error: Error) -> Result<u8, Failure<'a>> {
     if error.kind() == ErrorKind::OutOfMemory {
         return Err(Failure::from(Fault::NoMemory));

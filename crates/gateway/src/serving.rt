@@ -120,7 +120,7 @@ impl Telling {
     }
 }
 
-/// Serves the spool in a file until the program is ended, or the device fails. What is served and where is printed,
+/// Serves the spool in a file until the program is ended, or the disk fails. What is served and where is printed,
 /// unless it is to be quiet, and where other machines may reach it there is a warning on standard error.
 pub(crate) fn serve_up<'a>(
     rt: &HostRuntime,
@@ -206,7 +206,7 @@ fn serve_logged(
     served
 }
 
-// Serves until the device fails: serving that ended by itself goes on. The disk comes back.
+// Serves until the disk fails: serving that ended by itself goes on. The disk comes back.
 fn serve_on_and_on<L: OpenListener>(
     rt: &HostRuntime,
     alloc: Global,

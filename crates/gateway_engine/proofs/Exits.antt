@@ -48,7 +48,7 @@ script_is : (st : State) (marks : List Mark) (bytes : List ℕ) → the_script s
 unfolding the_script
 script_is st marks bytes = refl
 
--- the uploads are on the device
+-- the uploads are on the disk
 abbrev pub IsDurable : {U B : Type 0} → Ghosts U B → U → State → Type 0
 IsDurable u store st = (ms : List Store) → Among st.world.store ms → u.left_only store st.world.blocks (u.moment store)
     ms
@@ -140,7 +140,7 @@ module _ {U B C : Type 0} (u : Ghosts U B) (v : View C) (before store : U) (byte
   stopped (runs.Script n) p = rests_so p.0 (AtLine n) p.1 p.2
   stopped runs.Io p = stopped_so faults.Io p
 
--- THE RUN NEVER BEGAN: the script wasn't read, or memory was wanting
+-- THE RUN NEVER BEGAN: the script wasn't read, or it was out of memory
 module _ {U B : Type 0} (u : Ghosts U B) (store : U) (held : Option (List ℕ)) (st : State) (bytes : List ℕ)
     (stands : Rests u store st) (durable : IsDurable u store st) where
   all_follow : (past : List Marked) → IsFirst [] past

@@ -208,7 +208,7 @@ pub refused_on : {D U : Type 0} {a b v w : ℕ} (store : U) (d : D) (fault : Scr
 refused_on {a = a} {b = b} {v = v} {w = w} store d fault told is c =
     subst (λ f. CountsEither (HasRefusedOn (Err (d, f))) a b v w) (sym is) (same_refusal store d fault c)
 
--- a fault behind the opening is no refusal to open
+-- a fault after the opening is no refusal to open
 no_refusal : {D : Type 0} (d : D) (fault : ScriptFault) → refusal_in {D = D} (Err (d, run_fault fault)) ≡ None
 no_refusal d runs.NoMemory = refl
 no_refusal d runs.DiskFault = refl

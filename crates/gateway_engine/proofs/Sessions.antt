@@ -72,7 +72,7 @@ pub opened_refused : (st : State) (c : ℕ) → ManyStays st (step st (Opened c)
 unfolding step
 opened_refused st c = opened_stays st c (st.conns c)
 
--- the gateway is down where the device failed at the call, and nowhere else
+-- the gateway is down where the disk failed at the call, and nowhere else
 abbrev pub FallsBy : {T : Type 0} → Bool → Result T SessionError → Type 0
 FallsBy down result = (down ≡ true) ↔ IsErrOf result DiskFault
 
@@ -142,16 +142,16 @@ module _ {U B : Type 0} (u : Ghosts U B) (g : Gateway U B) (st : State) (e : Eve
   opens_does (Err Closed) up stays t = let f : Closed ≡ TooMany = (stays Closed t.outcome).0 in absurd (cc)
   opens_does (Err Down) up stays t = let f : Down ≡ TooMany = (stays Down t.outcome).0 in absurd (cc)
 
--- what images may show behind a call
+-- what images may show after a call
 module _ {before now : ℕ} {left_only left_only' : Option ℕ → ℕ → List Store → Type 0} {T : Type 0} (st : State)
     (e : Event) where
-  pub shown_behind : (result : Result T SessionError) → Limits before now left_only left_only' st.world.store
+  pub shown_after : (result : Result T SessionError) → Limits before now left_only left_only' st.world.store
       (step st e Served).state.world.store
       → (IsErrOf result NoMemory → Limits before now left_only left_only' st.world.store st.world.store)
       → Limits before now left_only left_only' st.world.store (shown_by st e (mark_of result))
-  shown_behind (Ok x) made unmade = made
-  shown_behind (Err NoMemory) made unmade = still_limits _ (unmade refl)
-  shown_behind (Err DiskFault) made unmade = made
-  shown_behind (Err TooMany) made unmade = made
-  shown_behind (Err Closed) made unmade = made
-  shown_behind (Err Down) made unmade = made
+  shown_after (Ok x) made unmade = made
+  shown_after (Err NoMemory) made unmade = still_limits _ (unmade refl)
+  shown_after (Err DiskFault) made unmade = made
+  shown_after (Err TooMany) made unmade = made
+  shown_after (Err Closed) made unmade = made
+  shown_after (Err Down) made unmade = made

@@ -15,7 +15,7 @@ use Rattle.gateway_engine.specs.declared.gateway.Gateway.{Gateway}
 abbrev pub store_of : {U B : Type 0} → Gateway U B → U
 store_of g = g.store
 
--- whether the device failed at a call of its session
+-- whether the disk failed at a call of its session
 abbrev pub is_down : {U B : Type 0} → Gateway U B → Bool
 is_down g = g.down
 

@@ -13,7 +13,7 @@ use Rattle.gateway_script.specs.declared.faults.ScriptFault.{ScriptFault}
 use Rattle.gateway_script.specs.declared.faults.ScriptFault.TheVariants.{DiskFault, Script, NoMemory, Io}
 
 -- From the uploads before to the uploads now. What a crash at any moment since the run began might have left shows the
--- uploads of the history behind all these events, all but the latest, and so on; and images of earlier moments show
+-- uploads of the history after all these events, all but the latest, and so on; and images of earlier moments show
 -- them, or what they showed
 pub record Shows {U B : Type 0} (u : Ghosts U B) (before now : U) (st : State) (past : List Marked) : Type 0 where
   pub since : u.left_only now st.world.blocks (u.moment before) (stores_of st past)
@@ -23,7 +23,7 @@ pub record Shows {U B : Type 0} (u : Ghosts U B) (before now : U) (st : State) (
 abbrev pub Rests : {U B : Type 0} → Ghosts U B → U → State → Type 0
 Rests u store st = u.stands store (at_rest st.world.store st.world.blocks)
 
--- The script ended so, by the marks of its calls, and this was written behind what was there: the output of all its
+-- The script ended so, by the marks of its calls, and this was written after what was there: the output of all its
 -- events.
 pub record EndedSo {U B : Type 0} (u : Ghosts U B) (before now : U) (st : State) (r : script.Result)
     (held front : Option (List ℕ)) (exit : Exit) : Type 0 where
@@ -39,13 +39,13 @@ pub record RestsSo {U B : Type 0} (u : Ghosts U B) (before now : U) (st : State)
   pub ended : EndedSo u before now st r held front exit
   pub rests : Rests u now r.run.state
 
--- the script ended at an event at which the device failed: images show the uploads behind it, or before it
+-- the script ended at an event at which the disk failed: images show the uploads after it, or before it
 pub record FailedSo {U B : Type 0} (u : Ghosts U B) (before now : U) (st : State) (r : script.Result)
     (held front : Option (List ℕ)) : Type 0 where
   pub ended : EndedSo u before now st r held front Faulted
   pub last : ShowsLast (u.moment now) (u.left_only now) st r.run.past
 
--- The run was broken off behind these events, the first of the script's. The store has the uploads of their history, no
+-- The run was broken off after these events, the first of the script's. The store has the uploads of their history, no
 -- draft open
 pub record StoppedSo {U B : Type 0} (u : Ghosts U B) (before now : U) (st : State) (r : script.Result)
     (held front : Option (List ℕ)) (fault : CallFault) : Type 0 where
@@ -57,7 +57,7 @@ pub record StoppedSo {U B : Type 0} (u : Ghosts U B) (before now : U) (st : Stat
   pub rests : Rests u now (history st past)
   pub shows : Shows u before now st past
 
--- behind a device's fault nothing is known of the store but its images
+-- after a disk fault nothing is known of the store but its images
 abbrev pub HasRun : {U B : Type 0} → Ghosts U B → U → Result U (U × ScriptFault) → Option (List ℕ) → Option (List ℕ)
     → State → List ℕ → Type 0
 HasRun u before (Ok store) held front st bytes =
@@ -71,7 +71,7 @@ HasRun u before (Err (store, NoMemory)) held front st bytes =
 HasRun u before (Err (store, Io)) held front st bytes =
     (marks : List Mark) × StoppedSo u before store st (the_script st marks bytes) held front calls.Io
 
--- the device failed
+-- the disk failed
 abbrev pub HasFailed : {U : Type 0} → Result U (U × ScriptFault) → Type 0
 HasFailed (Err (store, DiskFault)) = Unit {0}
 HasFailed result = ⊥

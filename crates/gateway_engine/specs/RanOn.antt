@@ -41,8 +41,8 @@ pub record LastsOver {D : Type 0} (disk : Ghosts D) (before now : D) (n : ℕ) (
 
 -- THE EXITS
 
--- The script ended so, by the marks of its calls, and this was written behind what was there: the output of all its
--- events. Images show the uploads behind all of them, all but the latest, and so on
+-- The script ended so, by the marks of its calls, and this was written after what was there: the output of all its
+-- events. Images show the uploads after all of them, all but the latest, and so on
 pub record EndedOn {D : Type 0} (disk : Ghosts D) (before now : D) (n : ℕ) (st : State) (r : script.Result)
     (held front : Option (List ℕ)) (exit : Exit) : Type 0 where
   pub exits : r.exit ≡ exit
@@ -57,14 +57,14 @@ pub record RestsOn {D : Type 0} (disk : Ghosts D) (before now : D) (n : ℕ) (st
   pub ended : EndedOn disk before now n st r held front exit
   pub shows : AllShow disk now n r.run.state.world.store
 
--- the script ended at an event at which the device failed, and the disk has the uploads behind all events, or behind
+-- the script ended at an event at which the disk failed, and the disk has the uploads after all events, or after
 -- all but this latest one
 pub record FailedOn {D : Type 0} (disk : Ghosts D) (before now : D) (n : ℕ) (st : State) (r : script.Result)
     (held front : Option (List ℕ)) : Type 0 where
   pub ended : EndedOn disk before now n st r held front Faulted
   pub shows : AllShowOne disk now n (last_stores st r.run.past)
 
--- The run was broken off behind these events, the first of the script's. The disk has the uploads of their history
+-- The run was broken off after these events, the first of the script's. The disk has the uploads of their history
 pub record StoppedOn {D : Type 0} (disk : Ghosts D) (before now : D) (n : ℕ) (st : State) (r : script.Result)
     (held front : Option (List ℕ)) (fault : CallFault) : Type 0 where
   pub past : List Marked
@@ -81,7 +81,7 @@ pub record UnopenedOn {D : Type 0} (disk : Ghosts D) (before now : D) (n : ℕ) 
   pub room : 4096 * all_pages n ≤ disk.size now
   pub lasts : Lasts disk before now (LeftOrShows disk before n m)
 
--- A disk of which a read shows uploads is opened, but for memory and the device
+-- A disk of which a read shows uploads is opened, but for memory and the disk
 abbrev pub HasRunOn : {D : Type 0} → Ghosts D → D → Result D (D × RunFault) → Option (List ℕ) → Option (List ℕ) → ℕ
     → State
     → List ℕ → Type 0
@@ -111,7 +111,7 @@ abbrev pub refusal_in : {D : Type 0} → Result D (D × RunFault) → Option Ope
 refusal_in (Err (d, Open fault)) = Some fault
 refusal_in result = None
 
--- the device failed
+-- the disk failed
 abbrev pub HasFailedOn : {D : Type 0} → Result D (D × RunFault) → Type 0
 HasFailedOn (Err (d, DiskFault)) = Unit {0}
 HasFailedOn (Err (d, Open opens.DiskFault)) = Unit {0}

@@ -10,9 +10,9 @@ use spool_image::OpenFault;
 pub enum RunFault {
     /// The disk wasn't opened as a spool: nothing was read or written.
     Open(OpenFault),
-    /// A growth was refused outside the calls of the connections.
+    /// Out of memory outside the calls of the connections.
     NoMemory,
-    /// The device failed.
+    /// The disk failed.
     DiskFault,
     /// The line of this number, counted from 1, is no line of a script, or it or the script is too long.
     Script(u64),

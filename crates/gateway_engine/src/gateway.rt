@@ -18,7 +18,7 @@ use upload_rules::Uploads;
 pub struct Gateway<U: Uploads> {
     session: Session<U>,
     store: U,
-    /// whether the device failed at a call
+    /// whether the disk failed at a call
     down: bool,
 }
 
@@ -71,7 +71,7 @@ impl<U: Uploads> Gateway<U> {
     }
 }
 
-// Whether the device failed at the call that answered so.
+// Whether the disk failed at the call that answered so.
 fn failed<T>(answer: &Result<T, SessionError>) -> bool
     ensures { IsTrue result ↔ IsErrOf answer.now SessionError.DiskFault }
 {

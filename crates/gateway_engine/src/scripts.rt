@@ -25,7 +25,7 @@ pub fn run_over<U: Uploads, R: CountedRead, W: CountedWrite>(
     writer: &mut W,
     store: U,
 ) -> Result<U, (U, ScriptFault)>
-    // What is written is the script's output, with a mark for each call that was refused for memory. Images show the
+    // What is written is the script's output, with a mark for each call that was out of memory. Images show the
     // uploads of its history.
     ensures output { (m : Store) (blocks : Option ℕ) → U.stands store (at_rest m blocks)
         → (script : List ℕ) × IsScript (R.remaining reader.old) script

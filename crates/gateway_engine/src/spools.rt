@@ -34,7 +34,7 @@ impl<D: Disk> Gateway<Spool<D>> {
         ensures honest { D.honest disk ↔ D.honest (disk_after result) }
         ensures counts { Counts (IsFault result) (D.failures disk) (D.failures (disk_after result)) }
 
-        // A disk of which a read shows uploads is opened, and no event came so far, or memory or the device refuses it.
+        // A disk of which a read shows uploads is opened, and no event came so far, or memory or the disk refuses it.
         ensures opened { (n : ℕ) (m : Store) → IsSpool D.Disk disk n m
             → OpensAs result (λ g. GatewayStands ⟦<Spool<D> as Uploads>⟧ g (beginning m (Some n))) }
 
@@ -45,7 +45,7 @@ impl<D: Disk> Gateway<Spool<D>> {
         ensures unwritten { D.honest disk → Unwritten D.Disk disk (disk_after result) }
         ensures same { D.honest disk → ReadsSame D.Disk disk (disk_after result) (IsFault result) }
 
-        // Behind an opening every image shows the uploads that a read showed.
+        // After an opening every image shows the uploads that a read showed.
         ensures shows { (n : ℕ) (m : Store) → IsSpool D.Disk disk n m
             → IfOk result (λ g. AllShow D.Disk (disk_in g) n m) }
         ensures up { IfOk result (λ g. is_down g ≡ false) }
@@ -76,7 +76,7 @@ impl<D: Disk> Gateway<Spool<D>> {
 /// Runs a script from `reader` over the spool on a disk, and writes to `writer` what its calls give. The disk is handed
 /// back.
 ///
-/// The script is read whole before its first line is run, and behind the opening of the spool.
+/// The script is read whole before its first line is run, and after the opening of the spool.
 ///
 /// Refused with `Open` where the disk isn't opened, then with `NoMemory` where a growth outside the calls was refused,
 /// `DiskFault`, `Script` of the first line that is none or too long, and `Io`. What was committed and written before

@@ -44,7 +44,7 @@ module _ {D : Type 0} (disk : Ghosts D) (n : ℕ) (m : Store) where
         (last.nothing_else t image (let a = first.later in omega (arith, le, a)) since);
   }
 
--- refused for memory or by the device, whatever was to be answered
+-- refused by the disk or out of memory, whatever was to be answered
 pub loads_err : {T U : Type 0} (e : OpenFault) (P : T → Type 0) (Q : U → Type 0) → LoadsAs {T = T} (Err e) P
     → LoadsAs {T = U} (Err e) Q
 loads_err NotASpool P Q is = is

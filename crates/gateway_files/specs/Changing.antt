@@ -16,7 +16,7 @@ pub record LimitsTo (moment moment' : ℕ) (left_only left_only' : Option ℕ �
   pub limits : (blocks : Option ℕ) (t : ℕ) (ms : List Store) → t ≤ moment → left_only blocks t ms → AllAmong stores ms
       → left_only' blocks t ms
 
--- why uploads aren't changed: for memory, for the writer or for the device
+-- why uploads aren't changed: for memory, for the writer or for the disk
 abbrev pub IsChangeFault : Fault → Type 0
 IsChangeFault f = (f ≡ NoMemory) ⊎ (f ≡ Io) ⊎ (f ≡ Device)
 

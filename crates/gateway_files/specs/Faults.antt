@@ -11,7 +11,7 @@ use Rattle.spool_kept.specs.declared.error.OpenFault.TheVariants as opens
 use Rattle.gateway_files.specs.declared.faults.Fault.{Fault}
 use Rattle.gateway_files.specs.declared.faults.Fault.TheVariants as faults
 
--- THE PROGRAM'S REFUSALS, each with its number and its name. A fault of the device is none
+-- THE PROGRAM'S REFUSALS, each with its number and its name. A disk fault is none
 abbrev pub refusal_of : Fault → Option (ℕ × List ℕ)
 refusal_of faults.NoMemory = Some (0, codes "NoMemory")
 refusal_of faults.Device = None
@@ -52,7 +52,7 @@ said (Some refusal) place = codes "refused: " ++ (decimal refusal.0 ++ (32 ∷ (
 abbrev pub line_of : Fault → List ℕ
 line_of fault = said (refusal_of fault) (place_of fault)
 
--- and its status: 3 for the device, 2 for each refusal
+-- and its status: 3 for the disk, 2 for each refusal
 abbrev pub status_of : Fault → ℕ
 status_of faults.Device = 3
 status_of fault = 2

@@ -14,7 +14,7 @@ ListRefusedFor size seen Device = Unit {0}
 ListRefusedFor size seen Io = Unit {0}
 ListRefusedFor size seen fault = ⊥
 
--- refused with this fault, or for memory or by the device
+-- refused with this fault, or for memory or by the disk
 abbrev pub RefusesListAs : {T : Type 0} → Result T Fault → Fault → Type 0
 RefusesListAs (Ok t) fault = ⊥
 RefusesListAs (Err f) fault = (f ≡ fault) ⊎ (f ≡ NoMemory) ⊎ (f ≡ Device)
@@ -23,7 +23,7 @@ RefusesListAs (Err f) fault = (f ≡ fault) ⊎ (f ≡ NoMemory) ⊎ (f ≡ Devi
 abbrev pub IsWriteFault : Fault → Type 0
 IsWriteFault f = (f ≡ NoMemory) ⊎ (f ≡ Io)
 
--- listed, or refused for memory, by the device or by the writer
+-- listed, or out of memory, or refused by the disk or the writer
 abbrev pub Lists : {T : Type 0} → Result T Fault → Type 0
 Lists (Ok t) = Unit {0}
 Lists (Err f) = IsWriteFault f ⊎ (f ≡ Device)

@@ -62,10 +62,10 @@ pub fn delete_on<D: Disk + Drop, W: Write>(
     ensures lasts { (n : ℕ) (m : Store) → IsSpool D.Disk disk n m
         → LeavesOne D.Disk disk result.0 n m (stages m numbers.now) }
 
-    // A spool's uploads are deleted, unless memory, the device or the writer refuses it.
+    // A spool's uploads are deleted, unless memory, the disk or the writer refuses it.
     ensures deletes { (n : ℕ) (m : Store) → IsSpool D.Disk disk n m → Changes result.1 }
 
-    // Each refusal has its reason, and each reason is answered so, unless memory or the device refuses it.
+    // Each refusal has its reason, and each reason is answered so, unless memory or the disk refuses it.
     ensures refused { D.honest disk → IfErr result.1 (ListRefusedFor (D.size disk) (D.seen disk)) }
     ensures not_a_spool { D.honest disk → IsNoSpool (D.size disk) (D.seen disk)
         → RefusesListAs result.1 Fault.NotASpool }

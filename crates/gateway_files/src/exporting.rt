@@ -75,10 +75,10 @@ pub fn export_on<D: Disk + Drop, F: Folder, W: Write>(
     ensures shows { (n : ℕ) (m : Store) → IsSpool D.Disk disk n m → IsOk result.1 → AllShow D.Disk result.0 n m }
     ensures lasts { (n : ℕ) (m : Store) → IsSpool D.Disk disk n m → LeavesOne D.Disk disk result.0 n m (m ∷ []) }
 
-    // A spool's texts are written, unless memory, the device, the folder or the writer refuses it.
+    // A spool's texts are written, unless memory, the disk, the folder or the writer refuses it.
     ensures exports { (n : ℕ) (m : Store) → IsSpool D.Disk disk n m → Changes result.1 }
 
-    // Each refusal has its reason, and each reason is answered so, unless memory or the device refuses it.
+    // Each refusal has its reason, and each reason is answered so, unless memory or the disk refuses it.
     ensures refused { D.honest disk → IfErr result.1 (ListRefusedFor (D.size disk) (D.seen disk)) }
     ensures not_a_spool { D.honest disk → IsNoSpool (D.size disk) (D.seen disk)
         → RefusesListAs result.1 Fault.NotASpool }

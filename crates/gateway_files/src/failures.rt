@@ -125,7 +125,7 @@ impl<'a> Failure<'a> {
         }
     }
 
-    /// Work on the spool at this path failed. Where it was for the device, the disk says why.
+    /// Work on the spool at this path failed. Where it was for the disk, the disk says why.
     pub fn on_spool(fault: Fault, path: &'a str, disk: &FileDisk) -> Self
         ensures { fault_in result ≡ fault }
     {
@@ -146,7 +146,7 @@ impl<'a> Failure<'a> {
         }
     }
 
-    /// The status that the program ends with: 3 for a fault of the device, 2 for a refusal.
+    /// The status that the program ends with: 3 for a disk fault, 2 for a refusal.
     pub fn status(&self) -> u8
         ensures { result ≡ status_of (fault_in self.now) }
     {

@@ -12,9 +12,9 @@ use std::{fmt, io};
 /// Why the program ends before its work is done.
 #[derive(Clone, Copy, Debug, PartialEq, Eq, Drop)]
 pub enum Fault {
-    /// A growth was refused.
+    /// Out of memory.
     NoMemory,
-    /// The device failed.
+    /// The disk failed.
     Device,
     /// The bytes of the file are none that are ever written to a spool.
     Damaged,
@@ -64,7 +64,7 @@ impl fmt::Display for Fault {
 }
 
 impl Fault {
-    /// The number and the name of the refusal. `None` for a fault of the device, which is none.
+    /// The number and the name of the refusal. `None` for a disk fault, which is none.
     pub fn refusal(self) -> Option<(u8, &'static str)>
         ensures { option_map row result ≡ refusal_of self }
     {
@@ -89,7 +89,7 @@ impl Fault {
         })
     }
 
-    /// The status that the program ends with: 3 for a fault of the device, 2 for a refusal.
+    /// The status that the program ends with: 3 for a disk fault, 2 for a refusal.
     pub fn status(self) -> u8
         ensures { result ≡ status_of self }
     {

@@ -64,10 +64,10 @@ pub fn list_on<D: Disk + Drop, W: Write>(
     ensures unwritten { D.honest disk → (NeedsReplay (D.size disk) (D.seen disk) → ⊥)
         → Lasts D.Disk disk result.0 (IsImage (D.seen disk) (D.loose disk)) }
 
-    // A spool is listed, unless memory, the device or the writer refuses it.
+    // A spool is listed, unless memory, the disk or the writer refuses it.
     ensures listed { (n : ℕ) (m : Store) → IsSpool D.Disk disk n m → Lists result.1 }
 
-    // Each refusal has its reason, and each reason is answered so, unless memory or the device refuses it.
+    // Each refusal has its reason, and each reason is answered so, unless memory or the disk refuses it.
     ensures refused { D.honest disk → IfErr result.1 (ListRefusedFor (D.size disk) (D.seen disk)) }
     ensures not_a_spool { D.honest disk → IsNoSpool (D.size disk) (D.seen disk)
         → RefusesListAs result.1 Fault.NotASpool }

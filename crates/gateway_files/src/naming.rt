@@ -9,7 +9,7 @@ ghost use Rattle.gateway_files.specs.Naming.{is_safe_name, pair, text_in};
 use base64::DecodeAllocError;
 use base64::engine::general_purpose::STANDARD;
 use std::alloc::{AllocError, Global};
-use tus_request::texts::{behind, front};
+use tus_request::texts::{after, front};
 
 // The most bytes of a name.
 const LONGEST: usize = 255;
@@ -19,7 +19,7 @@ pub fn given_name(alloc: Global, metadata: &[u8]) -> Result<Option<String>, Allo
     ensures { IfOk result (λ name. option_map string_bytes name ≡ given_name metadata.now) }
 {
     match named_part(metadata) {
-        Some(part) => text_in(alloc, front(behind(pair(part), b' '), b' ')),
+        Some(part) => text_in(alloc, front(after(pair(part), b' '), b' ')),
         None => Ok(None),
     }
 }

@@ -44,13 +44,13 @@ pub fn open_surveyed<D: Disk>(alloc: Global, disk: D) -> Result<(Spool<D>, Surve
     ensures honest { D.honest disk ↔ D.honest (disk_left result) }
     ensures counts { Counts (IsFault result) (D.failures disk) (D.failures (disk_left result)) }
 
-    // A spool is opened, unless memory or the device refuses it, and stands for its uploads. So many blocks are told.
+    // A spool is opened, unless memory or the disk refuses it, and stands for its uploads. So many blocks are told.
     ensures stands { (n : ℕ) (m : Store) → IsSpool D.Disk disk n m
         → OpensAs result (λ opened. SpoolStands opened.0 (at_rest m (Some n))) }
     ensures blocks { (n : ℕ) (m : Store) → IsSpool D.Disk disk n m → IfOk result (λ opened. opened.1.blocks ≡ n) }
 
     // What is opened is a sound spool, and it is what a read shows. Each refusal has its reason, and each reason is
-    // answered so, unless memory or the device refuses it.
+    // answered so, unless memory or the disk refuses it.
     ensures sound { D.honest disk → IfOk result (λ opened. OpensFrom (D.size disk) (D.seen disk) opened.0) }
     ensures refused { D.honest disk → IfErr result (λ e. RefusedFor (D.size disk) (D.seen disk) e.1) }
     ensures not_a_spool { D.honest disk → IsNoSpool (D.size disk) (D.seen disk)

@@ -46,7 +46,7 @@ pub(crate) struct Talk {
     since: Option<Duration>,
     /// requests whose heads came, without a reply so far
     waiting: VecDeque<Asked>,
-    /// whether one was let go for want of memory: then no later one is kept
+    /// whether one was let go when out of memory: then no later one is kept
     lost: bool,
     /// the reply under way
     told: Told,

@@ -3,7 +3,7 @@
 use clap::{Arg, ArgAction, Command, value_parser};
 use std::alloc::{AllocError, Global};
 
-/// What `--version` says behind the program's name.
+/// What `--version` says after the program's name.
 const VERSION: &str = "1.0.0, for spools of version 1 and 2";
 
 /// What `up` listens at where nothing else is said.
@@ -76,7 +76,7 @@ fn serve<'a>(alloc: Global) -> Result<Command<'a>, AllocError> {
         .help("It ends once so many connections were closed");
     let turns = option(alloc, "turns", "T")
         .value_parser(value_parser!(u64))
-        .help("It ends behind so many turns over the open connections");
+        .help("It ends after so many turns over the open connections");
     Command::new(alloc, "serve")
         .about("Serves connections over sockets")
         .after_help(

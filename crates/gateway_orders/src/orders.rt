@@ -68,7 +68,7 @@ pub struct Service<'a> {
     pub port: u16,
     /// It ends once so many connections were closed.
     pub connections: u64,
-    /// It ends behind so many turns.
+    /// It ends after so many turns.
     pub turns: u64,
 }
 

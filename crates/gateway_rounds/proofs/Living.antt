@@ -20,8 +20,8 @@ lives_on {D} disk chosen n d m [] [] mid after now next r t (same, is_same) roun
 )
 lives_on disk chosen n d m [] (u ∷ told) mid after now next r t lives round = absurd lives
 lives_on disk chosen n d m (q ∷ rounds) [] mid after now next r t lives round = absurd lives
-lives_on disk chosen n d m (q ∷ rounds) (u ∷ told) mid after now next r t (behind, store, first, lives) round =
-    (behind, store, first, lives_on disk chosen n behind store rounds told mid after now next r t lives round)
+lives_on disk chosen n d m (q ∷ rounds) (u ∷ told) mid after now next r t (later, store, first, lives) round =
+    (later, store, first, lives_on disk chosen n later store rounds told mid after now next r t lives round)
 
 -- the next element of two lists that agree from there on
 pub lives_next : {D C : Type 0} (disk : Ghosts D) (chosen : C → D → D → Type 0) (n : ℕ) (d : D) (m : List Store)

@@ -223,7 +223,7 @@ module _ {D : Type 0} (disk : Ghosts D) (given back : D) (n : ℕ) (before : Lis
     refused R (Script line) same has = at_line line has
     refused R Io same has = broken_off has
 
--- THE COUNTS of faults, and of growths that were refused
+-- THE COUNTS of faults, and of refused allocations
 pub counts_refused : {D : Type 0} (back : D) (fault : RunFault) (a b : ℕ)
     → Counts (HasFailedOn {D = D} (Err (back, fault))) a b
     → Counts (IsFault (Some fault)) a b
@@ -361,7 +361,7 @@ counts_told e x a b counts = record {
   nothing_else = λ less. err_some e x (counts.nothing_else less);
 }
 
--- what it leaves, by whether the device failed
+-- what it leaves, by whether the disk failed
 pub left_told : {D : Type 0} (disk : Ghosts D) (back : D) (n : ℕ) (m : Store) (before : List Store) (e : UpgradeError)
     → ((e ≡ upgrades.Open opens.DiskFault → ⊥) → AllShow disk back n m) → AllShowOne disk back n before
     → (left : List Store) × AllShowOne disk back n left × (left ≡ left_by_upgrade (Some e) m before)

@@ -8,7 +8,7 @@ use Rattle.spool_image.specs.declared.error.FormatError.TheVariants.{AlreadySpoo
 abbrev pub IsUnwritten : FormatError → Type 0
 IsUnwritten fault = IsRefusal {T = Unit {0}} (Err fault)
 
--- refused as a spool, or by the device
+-- refused as a spool, or by the disk
 abbrev pub RefusesSpool : {D : Type 0} → Result D (D × FormatError) → Type 0
 RefusesSpool (Ok d) = ⊥
 RefusesSpool (Err e) = (e.1 ≡ AlreadySpool) ⊎ (e.1 ≡ DiskFault)

@@ -34,7 +34,7 @@ pub record OpensWith {D : Type 0} (disk : Ghosts D) (given : D) (n : ℕ) (store
 
 -- THE EVENTS OF A RUN, of which the latest is first
 
--- The stores of which each image shows one after them. Where the device failed at the latest event, they have its change
+-- The stores of which each image shows one after them. Where the disk failed at the latest event, they have its change
 -- or they don't; where the disk wasn't opened, they are those of before
 abbrev pub left_by_run : Option RunFault → State → List Marked → List Store → List Store
 left_by_run (Some DiskFault) st past before = last_stores st past
@@ -46,7 +46,7 @@ pub record IsWhole (st : State) (r : script.Result) (past : List Marked) (out : 
   pub events : past ≡ r.run.past
   pub output : out ≡ output_of st past
 
--- How the run ended. An opening is refused for memory or by the device alone
+-- How the run ended. An opening is refused by memory or the disk alone
 abbrev pub EndsAs : Option RunFault → State → script.Result → List Marked → List ℕ → Type 0
 EndsAs None st r past out = (r.exit ≡ Ran) × IsWhole st r past out
 EndsAs (Some (Script line)) st r past out = (r.exit ≡ AtLine line) × IsWhole st r past out
@@ -57,7 +57,7 @@ EndsAs (Some (Open opens.NoMemory)) st r past out = past ≡ []
 EndsAs (Some (Open opens.DiskFault)) st r past out = past ≡ []
 EndsAs (Some (Open _)) st r past out = ⊥
 
--- the device failed
+-- the disk failed
 abbrev pub IsFault : Option RunFault → Type 0
 IsFault (Some DiskFault) = Unit {0}
 IsFault (Some (Open opens.DiskFault)) = Unit {0}
@@ -96,7 +96,7 @@ pub record IsRun {D : Type 0} (disk : Ghosts D) (n : ℕ) (given back : D) (befo
 
 -- AN UPGRADE
 
--- how it ended: it is refused for memory, by the device, or where the spool is of version 2
+-- how it ended: it is refused by memory, by the disk, or where the spool is of version 2
 abbrev pub UpgradeEnds : Option UpgradeError → Type 0
 UpgradeEnds None = Unit {0}
 UpgradeEnds (Some upgrades.AlreadyNew) = Unit {0}
@@ -110,7 +110,7 @@ UpgradeLeaves None image = IsNewest image
 UpgradeLeaves (Some upgrades.AlreadyNew) image = IsNewest image
 UpgradeLeaves (Some (upgrades.Open _)) image = Unit {0}
 
--- it changes no upload. Where the device failed, the images show one of the stores of before
+-- it changes no upload. Where the disk failed, the images show one of the stores of before
 abbrev pub left_by_upgrade : Option UpgradeError → Store → List Store → List Store
 left_by_upgrade (Some (upgrades.Open opens.DiskFault)) m before = before
 left_by_upgrade told m before = m ∷ []
@@ -128,7 +128,7 @@ pub record IsUpgrade {D : Type 0} (disk : Ghosts D) (n : ℕ) (given back : D) (
 -- THE END OF A ROUND
 
 -- The crash that was chosen left one of the images that it may leave, all of it synced, which shows one of the stores. It
--- is no failure of the device
+-- is no failure of the disk
 pub record Crashes {D C : Type 0} (disk : Ghosts D) (chosen : C → D → D → Type 0) (how : C) (back after : D)
     (left next : List Store) : Type 0 where
   pub is : chosen how back after

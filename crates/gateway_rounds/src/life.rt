@@ -23,7 +23,7 @@ use std::alloc::Global;
 /// # Errors
 ///
 /// As `format`, and the disk comes back. Then no round was begun. After it no round is left out, and none refuses to
-/// open the disk but for memory or by the device.
+/// open the disk but for memory or by the disk.
 pub fn endure<D: CrashDisk>(
     alloc: Global,
     disk: D,

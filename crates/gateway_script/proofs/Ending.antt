@@ -19,14 +19,14 @@ use Rattle.gateway_script.specs.declared.faults.CallFault.{CallFault}
 use Rattle.gateway_script.specs.declared.faults.CallFault.TheVariants as faults
 use Rattle.gateway_script.specs.declared.faults.ScriptFault.{ScriptFault}
 use Rattle.gateway_script.specs.declared.faults.ScriptFault.TheVariants as runs
-use Rattle.tus_request.specs.Reading.{behind}
+use Rattle.tus_request.specs.Reading.{after}
 use Rattle.gateway_script.specs.Faults.{script_fault}
 use Rattle.gateway_script.specs.Runs.{View, with_marks, IsAt, Reaches, Leads, run_past, script_past, Stops, Went}
 use Rattle.gateway_script.specs.Runs.{Refuses, CutOne, Ends, LineRan}
 use Rattle.gateway_script.proofs.Turns.{Falling, done_went, refused_went}
-use Rattle.gateway_script.proofs.Reaching.{reach_both, reach_none, stops_behind}
+use Rattle.gateway_script.proofs.Reaching.{reach_both, reach_none, stops_after}
 use Rattle.gateway_script.proofs.Passing.{passes_by, passes_on, passes_as, cut_adds, lines_add, first_same}
-use Rattle.gateway_script.proofs.Seen.{seen_behind, Leaves, OnDevice, history_same}
+use Rattle.gateway_script.proofs.Seen.{seen_after, Leaves, OnDevice, history_same}
 
 -- WHETHER A CONNECTION IS OPEN, BY WHAT ITS END IS ANSWERED
 closed_case : (st : State) (c : ℕ) (o : Option Conn) → (ended_at st c o).outcome ≡ Refused errors.Closed
@@ -108,7 +108,7 @@ or_true : (b : Bool) → (b || true) ≡ true
 or_true true = refl
 or_true false = refl
 
--- once the device failed nothing is cut
+-- once the disk failed nothing is cut
 pub cut_down : (k n : ℕ) (r : Run) → r.down ≡ true → cut_from k n r ≡ r
 unfolding cut_from
 cut_down zero n r down = refl
@@ -140,15 +140,15 @@ went_cut v (Err faults.Io) k n r is_open up p = cut_stops v faults.Io k n r is_o
 
 pub cut_done : {C : Type 0} (v : View C) (now : C) (k n : ℕ) (r : Run) → IsAt v r
     → Leaves v now r.state.world.store (shown_by r.state (Ended n) Served)
-    → Does (v.u.stands now) (Ok (tt {0})) r.state (Ended n) → CutOne (seen_behind v now v.held) (Ok (tt {0})) k n r
+    → Does (v.u.stands now) (Ok (tt {0})) r.state (Ended n) → CutOne (seen_after v now v.held) (Ok (tt {0})) k n r
 cut_done v now k n r at leaves does =
-    went_cut (seen_behind v now v.held) (Ok (tt {0})) k n r (ended_open r.state n does.answer) at.up
+    went_cut (seen_after v now v.held) (Ok (tt {0})) k n r (ended_open r.state n does.answer) at.up
     (done_went v now r (Ended n) at leaves does)
 
 pub cut_skipped : {C : Type 0} (v : View C) (now : C) (k n : ℕ) (r : Run) → IsAt v r
     → Leaves v now r.state.world.store (shown_by r.state (Ended n) Served)
     → Does (v.u.stands now) (Err errors.Closed) r.state (Ended n)
-    → CutOne (seen_behind v now v.held) (Ok (tt {0})) k n r
+    → CutOne (seen_after v now v.held) (Ok (tt {0})) k n r
 cut_skipped v now k n r at leaves does =
     let c = ended_closed r.state n does.answer in (
       r,
@@ -167,12 +167,12 @@ pub cut_refused : {C : Type 0} (v : View C) (now : C) (held : Option (List ℕ))
     → IsAt v r → OnDevice v r
     → Leaves v now r.state.world.store (shown_by r.state (Ended n) (mark_of {T = Unit {0}} (Err f)))
     → Does (v.u.stands now) (Err f) r.state (Ended n) → Falling v now f
-    → (f ≡ errors.Closed → ⊥) → Refuses v.held held result n f → CutOne (seen_behind v now held) result k n r
+    → (f ≡ errors.Closed → ⊥) → Refuses v.held held result n f → CutOne (seen_after v now held) result k n r
 cut_refused v now held k n r errors.NoMemory result at durable leaves does fell other refuses =
-    went_cut (seen_behind v now held) result k n r (ended_lost r.state n does.answer) at.up
+    went_cut (seen_after v now held) result k n r (ended_lost r.state n does.answer) at.up
     (refused_went v now held r (Ended n) errors.NoMemory result at durable leaves does fell refuses)
 cut_refused v now held k n r errors.DiskFault result at durable leaves does fell other refuses =
-    went_cut (seen_behind v now held) result k n r (ended_failed r.state n does.answer) at.up
+    went_cut (seen_after v now held) result k n r (ended_failed r.state n does.answer) at.up
     (refused_went v now held r (Ended n) errors.DiskFault result at durable leaves does fell refuses)
 cut_refused v now held k n r errors.TooMany result at durable leaves does fell other refuses =
     absurd (ended_many r.state n does.answer)
@@ -218,7 +218,7 @@ pub line_bad : {C : Type 0} (v : View C) (number start : ℕ) (line : List ℕ) 
 line_bad v number start line lines r at bad =
     (r, ([], λ rest. line_step number start line lines (with_marks r rest) false true at.up bad), at)
 
--- once the device failed no line is run
+-- once the disk failed no line is run
 pub lines_down : (number start : ℕ) (lines : List (List ℕ)) (r : Run) → r.down ≡ true
     → run_lines number start lines r ≡ ended_as r Faulted
 unfolding run_lines
@@ -258,7 +258,7 @@ line_breaks v fault number start line lines r o is up good p =
       p.2,
     )
 
--- memory was wanting before the line did anything
+-- it was out of memory before the line did anything
 pub line_wants : {C : Type 0} (v : View C) (number start : ℕ) (line : List ℕ) (lines : List (List ℕ)) (r : Run)
     → IsAt v r
     → LineRan v (Err runs.NoMemory) number start line lines r
@@ -301,58 +301,58 @@ or_neither a b e f = ap (λ x. x || b) e ∙ f
 
 -- THE LINES OF A SCRIPT, ONE AFTER ANOTHER
 onto_split : (b : ℕ) (bytes : List ℕ)
-    → (bytes ≡ []) ⊎ (script_lines bytes ≡ take_through 10 bytes ∷ script_lines (behind 10 bytes))
-    → onto_line b (script_lines bytes) ≡ (b ∷ take_through 10 bytes) ∷ script_lines (behind 10 bytes)
+    → (bytes ≡ []) ⊎ (script_lines bytes ≡ take_through 10 bytes ∷ script_lines (after 10 bytes))
+    → onto_line b (script_lines bytes) ≡ (b ∷ take_through 10 bytes) ∷ script_lines (after 10 bytes)
 onto_split b bytes (inl none) = ap (λ l. onto_line b (script_lines l)) none
-    ∙ sym (ap (λ l. (b ∷ take_through 10 l) ∷ script_lines (behind 10 l)) none)
+    ∙ sym (ap (λ l. (b ∷ take_through 10 l) ∷ script_lines (after 10 l)) none)
 onto_split b bytes (inr is) = ap (onto_line b) is
 
 split_case : (b : ℕ) (bytes : List ℕ) (t : Bool)
-    → (bytes ≡ []) ⊎ (script_lines bytes ≡ take_through 10 bytes ∷ script_lines (behind 10 bytes))
+    → (bytes ≡ []) ⊎ (script_lines bytes ≡ take_through 10 bytes ∷ script_lines (after 10 bytes))
     → (if t then (b ∷ []) ∷ script_lines bytes else onto_line b (script_lines bytes)) ≡
-    (if t then b ∷ [] else b ∷ take_through 10 bytes) ∷ script_lines (if t then bytes else behind 10 bytes)
+    (if t then b ∷ [] else b ∷ take_through 10 bytes) ∷ script_lines (if t then bytes else after 10 bytes)
 split_case b bytes true more = refl
 split_case b bytes false more = onto_split b bytes more
 
 none_or_split : (bytes : List ℕ)
-    → (bytes ≡ []) ⊎ (script_lines bytes ≡ take_through 10 bytes ∷ script_lines (behind 10 bytes))
+    → (bytes ≡ []) ⊎ (script_lines bytes ≡ take_through 10 bytes ∷ script_lines (after 10 bytes))
 none_or_split [] = inl refl
 none_or_split (b ∷ bytes) = inr (split_case b bytes (b == 10) (none_or_split bytes))
 
 -- the first line, and the others
 lines_split : (bytes : List ℕ) → (bytes ≡ [] → ⊥) → script_lines bytes ≡ take_through 10 bytes ∷ script_lines
-    (behind 10 bytes)
+    (after 10 bytes)
 lines_split bytes some = elim (none_or_split bytes) as (λ _. script_lines bytes ≡ take_through 10 bytes ∷ script_lines
-    (behind 10 bytes)) [ inl none ↦ absurd (some none) | inr is ↦ is ]
+    (after 10 bytes)) [ inl none ↦ absurd (some none) | inr is ↦ is ]
 
-both_case : (b : ℕ) (bytes : List ℕ) (t : Bool) → take_through 10 bytes ++ behind 10 bytes ≡ bytes
-    → (if t then b ∷ [] else b ∷ take_through 10 bytes) ++ (if t then bytes else behind 10 bytes) ≡ b ∷ bytes
+both_case : (b : ℕ) (bytes : List ℕ) (t : Bool) → take_through 10 bytes ++ after 10 bytes ≡ bytes
+    → (if t then b ∷ [] else b ∷ take_through 10 bytes) ++ (if t then bytes else after 10 bytes) ≡ b ∷ bytes
 both_case b bytes true is = refl
 both_case b bytes false is = ap (λ l. b ∷ l) is
 
--- a line and what is behind it are all that there was
-line_both : (bytes : List ℕ) → take_through 10 bytes ++ behind 10 bytes ≡ bytes
+-- a line and what is after it are all that there was
+line_both : (bytes : List ℕ) → take_through 10 bytes ++ after 10 bytes ≡ bytes
 line_both [] = refl
 line_both (b ∷ bytes) = both_case b bytes (b == 10) (line_both bytes)
 
--- the bytes in front of what is behind the first line
-pub line_front : (bytes : List ℕ) → take (length bytes - length (behind 10 bytes)) bytes ≡ take_through 10 bytes
+-- the bytes in front of what is after the first line
+pub line_front : (bytes : List ℕ) → take (length bytes - length (after 10 bytes)) bytes ≡ take_through 10 bytes
 line_front bytes =
-    let n : length (take_through 10 bytes) + length (behind 10 bytes) ≡ length bytes =
-    sym (length-append (take_through 10 bytes) (behind 10 bytes)) ∙ ap length (line_both bytes) in
-    let e : length bytes - length (behind 10 bytes) ≡ length (take_through 10 bytes) = omega arith in
+    let n : length (take_through 10 bytes) + length (after 10 bytes) ≡ length bytes =
+    sym (length-append (take_through 10 bytes) (after 10 bytes)) ∙ ap length (line_both bytes) in
+    let e : length bytes - length (after 10 bytes) ≡ length (take_through 10 bytes) = omega arith in
     ap (λ k. take k bytes) e ∙ (ap (take (length (take_through 10 bytes))) (sym (line_both bytes))
-    ∙ take-append_seam (take_through 10 bytes) (behind 10 bytes))
+    ∙ take-append_seam (take_through 10 bytes) (after 10 bytes))
 
-pub behind_size : (bytes : List ℕ) → length (behind 10 bytes) ≤ length bytes
-behind_size bytes =
-    let n : length (take_through 10 bytes) + length (behind 10 bytes) ≡ length bytes =
-    sym (length-append (take_through 10 bytes) (behind 10 bytes)) ∙ ap length (line_both bytes) in
+pub after_size : (bytes : List ℕ) → length (after 10 bytes) ≤ length bytes
+after_size bytes =
+    let n : length (take_through 10 bytes) + length (after 10 bytes) ≡ length bytes =
+    sym (length-append (take_through 10 bytes) (after 10 bytes)) ∙ ap length (line_both bytes) in
     omega arith
 
-line_behind : (bytes : List ℕ) → drop (length (take_through 10 bytes)) bytes ≡ behind 10 bytes
-line_behind bytes = ap (drop (length (take_through 10 bytes))) (sym (line_both bytes))
-    ∙ drop-append_seam (take_through 10 bytes) (behind 10 bytes)
+line_after : (bytes : List ℕ) → drop (length (take_through 10 bytes)) bytes ≡ after 10 bytes
+line_after bytes = ap (drop (length (take_through 10 bytes))) (sym (line_both bytes))
+    ∙ drop-append_seam (take_through 10 bytes) (after 10 bytes)
 
 some_case : (b : ℕ) (bytes : List ℕ) (t : Bool) → 0 < length (if t then b ∷ [] else b ∷ take_through 10 bytes)
 some_case b bytes true = omega arith
@@ -410,15 +410,15 @@ lines_stop v faults.DiskFault number start r p = (
 lines_stop v faults.NoMemory number start r p = end_breaks v faults.NoMemory number start r p
 lines_stop v faults.Io number start r p = end_breaks v faults.Io number start r p
 
--- behind some lines
-pub ends_behind : {C : Type 0} (v : View C) (result : Result (Unit {0}) ScriptFault) (f g : Run
+-- after some lines
+pub ends_after : {C : Type 0} (v : View C) (result : Result (Unit {0}) ScriptFault) (f g : Run
     → script.Result) (r s : Run)
     → Reaches f r g s → Ends v result g s → Ends v result f r
-ends_behind v (Ok x) f g r s p q = (q.0, reach_both f g (λ x. ended_as x Ran) r s q.0 p q.1, q.2)
-ends_behind v (Err runs.DiskFault) f g r s p q = (q.0, reach_both f g (λ x. ended_as x Faulted) r s q.0 p q.1, q.2)
-ends_behind v (Err (runs.Script n)) f g r s p q = (q.0, reach_both f g (λ x. ended_as x (AtLine n)) r s q.0 p q.1, q.2)
-ends_behind v (Err runs.NoMemory) f g r s p q = stops_behind v faults.NoMemory script_past f g r s p q
-ends_behind v (Err runs.Io) f g r s p q = stops_behind v faults.Io script_past f g r s p q
+ends_after v (Ok x) f g r s p q = (q.0, reach_both f g (λ x. ended_as x Ran) r s q.0 p q.1, q.2)
+ends_after v (Err runs.DiskFault) f g r s p q = (q.0, reach_both f g (λ x. ended_as x Faulted) r s q.0 p q.1, q.2)
+ends_after v (Err (runs.Script n)) f g r s p q = (q.0, reach_both f g (λ x. ended_as x (AtLine n)) r s q.0 p q.1, q.2)
+ends_after v (Err runs.NoMemory) f g r s p q = stops_after v faults.NoMemory script_past f g r s p q
+ends_after v (Err runs.Io) f g r s p q = stops_after v faults.Io script_past f g r s p q
 
 pub cut_fails : {C : Type 0} (v : View C) (fault : CallFault) (k n : ℕ) (r : Run) → CutOne v (Err fault) k n r
     → Went v (Err fault) (cut_from (suc k) n) r
@@ -429,27 +429,27 @@ cut_fails v faults.Io k n r p = p
 -- the fault of a line is that of its run
 pub line_fails : {C : Type 0} (v : View C) (fault : ScriptFault) (number start : ℕ) (bytes : List ℕ) (r : Run)
     → (bytes ≡ [] → ⊥)
-    → LineRan v (Err fault) number start (take_through 10 bytes) (script_lines (behind 10 bytes)) r
+    → LineRan v (Err fault) number start (take_through 10 bytes) (script_lines (after 10 bytes)) r
     → Ends v (Err fault) (run_lines number start (script_lines bytes)) r
 line_fails v fault number start bytes r some p =
     subst (λ l. Ends v (Err fault) (run_lines number start l) r) (sym (lines_split bytes some)) p
 
--- on to the lines behind one that ran
+-- on to the lines after one that ran
 pub lines_on : {C : Type 0} (v : View C) (number start : ℕ) (rest line more : List ℕ) (f : Run
     → script.Result) (r s : Run) → (rest ≡ [] → ⊥)
     → line ≡ take_through 10 rest → more ≡ drop (length line) rest
     → Reaches f r (run_lines number start (script_lines rest)) s
-    → LineRan v (Ok (tt {0})) number start line (script_lines (behind 10 rest)) s
+    → LineRan v (Ok (tt {0})) number start line (script_lines (after 10 rest)) s
     → (t : Run) × Reaches f r (run_lines (number + 1) (start + length line) (script_lines more)) t × IsAt v t
 lines_on v number start rest line more f r s some is_line is_more p q =
-    let lines : script_lines rest ≡ line ∷ script_lines (behind 10 rest) = lines_split rest some
-    ∙ ap (λ l. l ∷ script_lines (behind 10 rest)) (sym is_line) in
-    let first : Reaches f r (run_lines number start (line ∷ script_lines (behind 10 rest))) s =
+    let lines : script_lines rest ≡ line ∷ script_lines (after 10 rest) = lines_split rest some
+    ∙ ap (λ l. l ∷ script_lines (after 10 rest)) (sym is_line) in
+    let first : Reaches f r (run_lines number start (line ∷ script_lines (after 10 rest))) s =
     subst (λ l. Reaches f r (run_lines number start l) s) lines p in
-    let both : Reaches f r (run_lines (number + 1) (start + length line) (script_lines (behind 10 rest))) q.0 =
-    reach_both f (run_lines number start (line ∷ script_lines (behind 10 rest)))
-    (run_lines (number + 1) (start + length line) (script_lines (behind 10 rest))) r s q.0 first q.1 in
-    let others : more ≡ behind 10 rest = is_more ∙ (ap (λ l. drop (length l) rest) is_line ∙ line_behind rest) in (
+    let both : Reaches f r (run_lines (number + 1) (start + length line) (script_lines (after 10 rest))) q.0 =
+    reach_both f (run_lines number start (line ∷ script_lines (after 10 rest)))
+    (run_lines (number + 1) (start + length line) (script_lines (after 10 rest))) r s q.0 first q.1 in
+    let others : more ≡ after 10 rest = is_more ∙ (ap (λ l. drop (length l) rest) is_line ∙ line_after rest) in (
       q.0,
       subst (λ l. Reaches f r (run_lines (number + 1) (start + length line) (script_lines l)) q.0)
           (sym others) both,

@@ -112,9 +112,9 @@ pub passes_by : {X : Type 0} (past_of : X → List Marked) (f g : Run → X) (r 
 passes_by past_of f g r s p adds =
     (p.0, λ rest. subst (λ x. IsFirst s.past (past_of x)) (sym (p.1 rest)) (adds (with_marks s rest)))
 
-pub passes_behind : {X : Type 0} (past_of : X → List Marked) (f g : Run → X) (r s t : Run) → Reaches f r g s
+pub passes_after : {X : Type 0} (past_of : X → List Marked) (f g : Run → X) (r s t : Run) → Reaches f r g s
     → Passes past_of g s t → Passes past_of f r t
-passes_behind past_of f g r s t p q = (
+passes_after past_of f g r s t p q = (
   p.0 ++ q.0,
   λ rest. subst (λ x. IsFirst t.past (past_of x))
       (sym (ap (λ x. f (with_marks r x)) (append_assoc p.0 q.0 rest) ∙ p.1 (q.0 ++ rest))) (q.1 rest),

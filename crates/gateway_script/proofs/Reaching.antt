@@ -2,7 +2,7 @@
 use Rattle.std.proofs.Common.{◌≡◌, Bool, true, false, ℕ, zero, suc, List, [], ◌∷◌, ◌++◌, Option, Some, None, Result, Ok}
 use Rattle.std.proofs.Common.{Err, refl, sym, ap, ◌∙◌, append_assoc, drop, if◌then◌else◌}
 use Rattle.std.proofs.lemmas.Option.{same_Some}
-use Rattle.gateway_script.proofs.Passing.{passes_by, passes_behind, passes_on, after_adds, mores_adds, onward_adds}
+use Rattle.gateway_script.proofs.Passing.{passes_by, passes_after, passes_on, after_adds, mores_adds, onward_adds}
 use Rattle.gateway_script.proofs.Passing.{give_adds, given_adds}
 use Rattle.tus_session.specs.History.{Event, Marked, Came, More, Outcome, Gave, Refused}
 use Rattle.tus_session.specs.declared.answers.Answer.{Answer}
@@ -32,10 +32,10 @@ pub reach_call : {X : Type 0} (k : script.Called → X) (r s : Run) (n : ℕ) (e
     → Reaches (λ x. k (call x n e)) r (λ x. k (record { run = x; outcome = o })) s
 reach_call k r s n e o c = (c.0 ∷ [], λ rest. ap k (c.1 rest))
 
--- broken off behind some calls
-pub stops_behind : {C X : Type 0} (v : View C) (fault : CallFault) (past_of : X → List Marked) (f g : Run → X)
+-- broken off after some calls
+pub stops_after : {C X : Type 0} (v : View C) (fault : CallFault) (past_of : X → List Marked) (f g : Run → X)
     (r s : Run) → Reaches f r g s → Stops v fault past_of g s → Stops v fault past_of f r
-stops_behind v fault past_of f g r s p q = (q.0, passes_behind past_of f g r s q.0 p q.1, q.2)
+stops_after v fault past_of f g r s p q = (q.0, passes_after past_of f g r s q.0 p q.1, q.2)
 
 -- THE PIECES OF A TEXT
 
@@ -93,19 +93,19 @@ more_fails v faults.DiskFault n k r c = (c.0, reach_more k n r c.0 (Refused erro
 more_fails v faults.NoMemory n k r c = more_stops v faults.NoMemory n k r c.0 c.1 c.2 c.3
 more_fails v faults.Io n k r c = more_stops v faults.Io n k r c.0 c.1 c.2 c.3
 
--- behind some calls
-pub flow_behind : {C : Type 0} (v : View C) (result : Result Bool CallFault) (f g : Run → Flow) (r s : Run)
+-- after some calls
+pub flow_after : {C : Type 0} (v : View C) (result : Result Bool CallFault) (f g : Run → Flow) (r s : Run)
     → Reaches f r g s → Flowed v result g s → Flowed v result f r
-flow_behind v (Ok b) f g r s p q = (q.0, reach_both f g (λ x. flow x b) r s q.0 p q.1, q.2)
-flow_behind v (Err faults.DiskFault) f g r s p q = (q.0, reach_both f g (λ x. flow x false) r s q.0 p q.1, q.2)
-flow_behind v (Err faults.NoMemory) f g r s p q = stops_behind v faults.NoMemory flow_past f g r s p q
-flow_behind v (Err faults.Io) f g r s p q = stops_behind v faults.Io flow_past f g r s p q
+flow_after v (Ok b) f g r s p q = (q.0, reach_both f g (λ x. flow x b) r s q.0 p q.1, q.2)
+flow_after v (Err faults.DiskFault) f g r s p q = (q.0, reach_both f g (λ x. flow x false) r s q.0 p q.1, q.2)
+flow_after v (Err faults.NoMemory) f g r s p q = stops_after v faults.NoMemory flow_past f g r s p q
+flow_after v (Err faults.Io) f g r s p q = stops_after v faults.Io flow_past f g r s p q
 
 -- THE BYTES OF A LINE
 
--- behind a call that was served: the rest goes on behind what was taken, where the text that it left is given
-abbrev pub behind_answer : ℕ → ℕ → List ℕ → Answer → (Run → Flow) → Run → Run
-behind_answer k n bytes a f x = onward (give_within k n (drop a.taken bytes)) (f x)
+-- after a call that was served: the rest goes on after what was taken, where the text that it left is given
+abbrev pub after_answer : ℕ → ℕ → List ℕ → Answer → (Run → Flow) → Run → Run
+after_answer k n bytes a f x = onward (give_within k n (drop a.taken bytes)) (f x)
 
 give_step : (k n b : ℕ) (bytes : List ℕ) (r : Run) → give_within (suc k) n (b ∷ bytes) r ≡ given_after (give_within k n)
     n (b ∷ bytes) (call r n (Came n (b ∷ bytes)))
@@ -126,7 +126,7 @@ settled_flow a given n b false false e x = ap (flow x) (same_Some _ _ e)
 pub given_reaches : (k n : ℕ) (bytes : List ℕ) (r s : Run) (given : List ℕ) (a : Answer) → (bytes ≡ [] → ⊥)
     → Calls r n (Came n bytes) s (Gave given a.taken a.closes a.more)
     → Reaches (give_within (suc k) n bytes) r
-    (behind_answer k n bytes a
+    (after_answer k n bytes a
     (λ x. mores_after (mores most_calls n) (record { run = x; outcome = Gave given a.taken a.closes a.more }))) s
 given_reaches k n [] r s given a some c = absurd (some refl)
 given_reaches k n (b ∷ bytes) r s given a some c = (
@@ -145,7 +145,7 @@ refused_leads k n (b ∷ bytes) r s f some c = (
       ∙ ap (given_after (give_within k n) n (b ∷ bytes)) (c.1 rest),
 )
 
--- the line goes on behind an answer that settles it
+-- the line goes on after an answer that settles it
 pub flow_settled : {C : Type 0} (v : View C) (r : Run) (a : Answer) (given : List ℕ) (n : ℕ) (b : Bool)
     → Some b ≡ settles (Some a) → IsAt v r
     → Flowed v (Ok b) (λ x. mores_after (mores most_calls n)
@@ -169,11 +169,11 @@ pub flow_open : {C : Type 0} (v : View C) (r : Run) (a : Answer) (given : List �
     → Flowed v result (λ x. mores_after (mores most_calls n)
     (record { run = x; outcome = Gave given a.taken a.closes a.more })) r
 flow_open v r a given n result e f =
-    flow_behind v result (λ x. mores_after (mores most_calls n)
+    flow_after v result (λ x. mores_after (mores most_calls n)
     (record { run = x; outcome = Gave given a.taken a.closes a.more })) (mores most_calls n) r r
     ([], λ rest. open_flow a given n a.closes a.more e (with_marks r rest)) f
 
--- what a call with bytes and the text behind it did
+-- what a call with bytes and the text after it did
 module _ {C : Type 0} (v : View C) (k n : ℕ) (bytes : List ℕ) (r s : Run) (given : List ℕ) (a : Answer)
     (some : bytes ≡ [] → ⊥) (c : Calls r n (Came n bytes) s (Gave given a.taken a.closes a.more)) where
   abbrev rest_flow : Run → Flow
@@ -182,7 +182,7 @@ module _ {C : Type 0} (v : View C) (k n : ℕ) (bytes : List ℕ) (r s : Run) (g
   reaches : (t : Run) (b : Bool) → LeadsOn rest_flow s t b → Reaches (give_within (suc k) n bytes) r
       (λ x. onward (give_within k n (drop a.taken bytes)) (flow x b)) t
   reaches t b p =
-      reach_both (give_within (suc k) n bytes) (behind_answer k n bytes a rest_flow)
+      reach_both (give_within (suc k) n bytes) (after_answer k n bytes a rest_flow)
       (λ x. onward (give_within k n (drop a.taken bytes)) (flow x b)) r s t
       (given_reaches k n bytes r s given a some c)
       (reach_with (onward (give_within k n (drop a.taken bytes))) rest_flow (λ x. flow x b) s t p)
@@ -197,7 +197,7 @@ module _ {C : Type 0} (v : View C) (k n : ℕ) (bytes : List ℕ) (r s : Run) (g
   pub text_stops : (fault : CallFault) → Stops v fault flow_past rest_flow s
       → Stops v fault run_past (give_within (suc k) n bytes) r
   text_stops fault f =
-      stops_behind v fault run_past (give_within (suc k) n bytes) (behind_answer k n bytes a rest_flow) r s
+      stops_after v fault run_past (give_within (suc k) n bytes) (after_answer k n bytes a rest_flow) r s
       (given_reaches k n bytes r s given a some c) (
         f.0,
         passes_on flow_past run_past (onward (give_within k n (drop a.taken bytes))) rest_flow s f.0
@@ -211,9 +211,9 @@ came_stops : {C : Type 0} (v : View C) (fault : CallFault) (k n : ℕ) (bytes : 
     → Stops v fault run_past (give_within (suc k) n bytes) r
 came_stops v fault k n [] r s o some c at = absurd (some refl)
 came_stops v fault k n (b ∷ bytes) r s o some c at =
-    let behind : Run → Run = λ x. given_after (give_within k n) n (b ∷ bytes) (record { run = x; outcome = o }) in (
+    let after : Run → Run = λ x. given_after (give_within k n) n (b ∷ bytes) (record { run = x; outcome = o }) in (
       s,
-      passes_by run_past (give_within (suc k) n (b ∷ bytes)) behind r s (
+      passes_by run_past (give_within (suc k) n (b ∷ bytes)) after r s (
         c.0 ∷ [],
         λ rest. give_step k n b bytes (with_marks r (c.0 ∷ rest))
             ∙ ap (given_after (give_within k n) n (b ∷ bytes)) (c.1 rest),
@@ -232,7 +232,7 @@ pub came_refused : {C : Type 0} (v : View C) (k n : ℕ) (bytes : List ℕ) (r :
     → Called v (Ok None) n (Came n bytes) r → GivenOnce v (Ok None) k n bytes r
 came_refused v k n bytes r some c = (c.0, refused_leads k n bytes r c.0 c.1 some c.2, c.3)
 
--- the device failed while a text was given
+-- the disk failed while a text was given
 pub text_fails : {C : Type 0} (v : View C) (fault : CallFault) (k n : ℕ) (bytes : List ℕ) (r s : Run) (given : List ℕ)
     (a : Answer) → (bytes ≡ [] → ⊥)
     → Calls r n (Came n bytes) s (Gave given a.taken a.closes a.more)
@@ -245,13 +245,13 @@ text_fails v faults.NoMemory k n bytes r s given a some c f =
     text_stops v k n bytes r s given a some c faults.NoMemory f
 text_fails v faults.Io k n bytes r s given a some c f = text_stops v k n bytes r s given a some c faults.Io f
 
--- what went behind some calls
-pub went_behind : {C : Type 0} (v : View C) (result : Result (Unit {0}) CallFault) (f g : Run → Run) (r s : Run)
+-- what went after some calls
+pub went_after : {C : Type 0} (v : View C) (result : Result (Unit {0}) CallFault) (f g : Run → Run) (r s : Run)
     → Reaches f r g s → Went v result g s → Went v result f r
-went_behind v (Ok x) f g r s p q = (q.0, reach_both f g (λ x. x) r s q.0 p q.1, q.2)
-went_behind v (Err faults.DiskFault) f g r s p q = (q.0, reach_both f g (λ x. x) r s q.0 p q.1, q.2)
-went_behind v (Err faults.NoMemory) f g r s p q = stops_behind v faults.NoMemory run_past f g r s p q
-went_behind v (Err faults.Io) f g r s p q = stops_behind v faults.Io run_past f g r s p q
+went_after v (Ok x) f g r s p q = (q.0, reach_both f g (λ x. x) r s q.0 p q.1, q.2)
+went_after v (Err faults.DiskFault) f g r s p q = (q.0, reach_both f g (λ x. x) r s q.0 p q.1, q.2)
+went_after v (Err faults.NoMemory) f g r s p q = stops_after v faults.NoMemory run_past f g r s p q
+went_after v (Err faults.Io) f g r s p q = stops_after v faults.Io run_past f g r s p q
 
 pub once_fails : {C : Type 0} (v : View C) (fault : CallFault) (k n : ℕ) (bytes : List ℕ) (r : Run)
     → GivenOnce v (Err fault) k n bytes r → Went v (Err fault) (give_within (suc k) n bytes) r

@@ -1,4 +1,4 @@
--- What images may show behind one event more.
+-- What images may show after one event more.
 use Rattle.std.proofs.Common.{◌≡◌, ℕ, List, [], ◌∷◌, ◌++◌, Option, inl, inr, refl, sym, subst, ap, ◌∙◌, arith}
 use Rattle.upload_rules.specs.Store.{Store}
 use Rattle.upload_rules.specs.Answers.{Among, Limits}
@@ -39,21 +39,21 @@ module _ {m0 m1 m2 : ℕ} {l0 l1 l2 : Option ℕ → ℕ → List Store → Type
         b.limits n t ms (omega (arith, a.later)) (a.limits n t ms le left among) last last;
   }
 
--- the run seen behind a call
-abbrev pub seen_behind : {C : Type 0} → View C → C → Option (List ℕ) → View C
-seen_behind v now held = record v { now = now; held = held }
+-- the run seen after a call
+abbrev pub seen_after : {C : Type 0} → View C → C → Option (List ℕ) → View C
+seen_after v now held = record v { now = now; held = held }
 
--- what images may show behind a call with these two stores
+-- what images may show after a call with these two stores
 abbrev pub Leaves : {C : Type 0} → View C → C → Store → Store → Type 0
 Leaves v now before after =
     Limits (v.u.moment v.now) (v.u.moment now) (v.u.left_only v.now) (v.u.left_only now) before after
 
--- the uploads of a run are on the device
+-- the uploads of a run are on the disk
 abbrev pub OnDevice : {C : Type 0} → View C → Run → Type 0
 OnDevice v r = (ms : List Store) → Among r.state.world.store ms → v.u.left_only v.now r.state.world.blocks
     (v.u.moment v.now) ms
 
--- behind a call the latest uploads are those behind it and those before it
+-- after a call the latest uploads are those after it and those before it
 pub last_step : {m1 m2 : ℕ} {l1 l2 : Option ℕ → ℕ → List Store → Type 0} (st : State) (past : List Marked) (e : Event)
     (m : Mark)
     → ((ms : List Store) → Among (history st past).world.store ms → l1 (history st past).world.blocks m1 ms)
@@ -85,7 +85,7 @@ last_is v r e m is = ap (λ s. written (conn_in e) (step s e m).outcome) is.stat
 
 pub history_on : {C : Type 0} (v : View C) (now : C) (held : Option (List ℕ)) (r : Run) (e : Event) (m : Mark)
     → IsHistory v r
-    → Leaves v now r.state.world.store (shown_by r.state e m) → IsHistory (seen_behind v now held)
+    → Leaves v now r.state.world.store (shown_by r.state e m) → IsHistory (seen_after v now held)
     (stepped r (conn_in e) e m)
 history_on v now held r e m is leaves = record {
   state = ap (λ s. (step s e m).state) is.state;
@@ -97,7 +97,7 @@ history_on v now held r e m is leaves = record {
 
 -- no event was made
 pub history_same : {C : Type 0} (v : View C) (now : C) (held : Option (List ℕ)) (r : Run) → IsHistory v r
-    → Leaves v now r.state.world.store r.state.world.store → IsHistory (seen_behind v now held) r
+    → Leaves v now r.state.world.store r.state.world.store → IsHistory (seen_after v now held) r
 history_same v now held r is leaves = record {
   state = is.state;
   output = is.output;

@@ -1,4 +1,4 @@
--- A call, and the run behind it.
+-- A call, and the run after it.
 use Rattle.std.specs.Io.KnownBytes.{Appends}
 use Rattle.std.proofs.Common.{◌≡◌, Bool, true, false, ℕ, List, [], ◌∷◌, ◌++◌, Option, Some, None, Result, Ok, Err, inr}
 use Rattle.std.proofs.Common.{refl, sym}
@@ -17,7 +17,7 @@ use Rattle.gateway_script.specs.Runs.{View, with_marks, stepped, Calls, Called, 
 use Rattle.gateway_script.specs.Runs.{run_past, Went, Refuses, Tells}
 use Rattle.gateway_script.proofs.Outputs.{appends_both, appends_nothing}
 use Rattle.gateway_script.proofs.Passing.{passes_by, first_same}
-use Rattle.gateway_script.proofs.Seen.{seen_behind, Leaves, OnDevice, history_on, shows_last, last_is}
+use Rattle.gateway_script.proofs.Seen.{seen_after, Leaves, OnDevice, history_on, shows_last, last_is}
 
 -- a call is the step with its mark
 pub leads_call : (r : Run) (n : ℕ) (e : Event) (m : Mark) (rest : List Mark)
@@ -53,7 +53,7 @@ unless T errors.TooMany X other x = x
 unless T errors.Closed X other x = x
 unless T errors.Down X other x = x
 
--- the connections are down behind a fault of the device
+-- the connections are down after a disk fault
 abbrev pub Falling : {C : Type 0} → View C → C → SessionError → Type 0
 Falling v now f = f ≡ errors.DiskFault → v.u.down now ≡ true
 
@@ -61,13 +61,13 @@ pub falling : {T : Type 0} (was now : Bool) (f : SessionError) → Falls {T = T}
     → now ≡ true
 falling was now f falls is = falls.falls.1 (inr (ap Err is))
 
--- THE RUN BEHIND A CALL
+-- THE RUN AFTER A CALL
 module _ {C : Type 0} (v : View C) (now : C) (held : Option (List ℕ)) (r : Run) (e : Event) (m : Mark) (at : IsAt v r)
     (leaves : Leaves v now r.state.world.store (shown_by r.state e m)) where
   -- it is at its place
   stays_at : (outcome : Outcome) → v.u.stands now (step r.state e m).state → (step r.state e m).outcome ≡ outcome
       → is_fault outcome ≡ false
-      → Appends v.held held (written (conn_in e) outcome) → IsAt (seen_behind v now held) (stepped r (conn_in e) e m)
+      → Appends v.held held (written (conn_in e) outcome) → IsAt (seen_after v now held) (stepped r (conn_in e) e m)
   stays_at outcome stands is up appends = record {
     keeps = stands;
     wrote = appends_both v.front v.held held r.out (written (conn_in e) (step r.state e m).outcome) at.wrote
@@ -76,9 +76,9 @@ module _ {C : Type 0} (v : View C) (now : C) (held : Option (List ℕ)) (r : Run
     history = history_on v now held r e m at.history leaves;
   }
 
-  -- the device failed: nothing was written
+  -- the disk failed: nothing was written
   goes_down : OnDevice v r → held ≡ v.held → v.u.down now ≡ true → (step r.state e m).outcome ≡ Refused errors.DiskFault
-      → IsDown (seen_behind v now held) (stepped r (conn_in e) e m)
+      → IsDown (seen_after v now held) (stepped r (conn_in e) e m)
   goes_down durable same fell is = record {
     wrote = subst (λ h. Appends v.front h (r.out ++ written (conn_in e) (step r.state e m).outcome)) (sym same)
         (subst (Appends v.front v.held) (sym (ap (λ o. r.out ++ written (conn_in e) o) is ∙ append-nil r.out))
@@ -89,9 +89,9 @@ module _ {C : Type 0} (v : View C) (now : C) (held : Option (List ℕ)) (r : Run
     last = shows_last v now held r e m at.history durable leaves;
   }
 
-  -- memory was wanting for the reply: nothing was written
+  -- it was out of memory for the reply: nothing was written
   wants_memory : v.u.stands now (step r.state e m).state → held ≡ v.held
-      → IsStopped (seen_behind v now held) faults.NoMemory (stepped r (conn_in e) e m)
+      → IsStopped (seen_after v now held) faults.NoMemory (stepped r (conn_in e) e m)
   wants_memory stands same = record {
     keeps = stands;
     out = r.out;
@@ -103,7 +103,7 @@ module _ {C : Type 0} (v : View C) (now : C) (held : Option (List ℕ)) (r : Run
   -- a front part of the reply was written
   breaks_off : (outcome : Outcome) → v.u.stands now (step r.state e m).state → (step r.state e m).outcome ≡ outcome
       → AppendsPart v.held held (written (conn_in e) outcome)
-      → IsStopped (seen_behind v now held) faults.Io (stepped r (conn_in e) e m)
+      → IsStopped (seen_after v now held) faults.Io (stepped r (conn_in e) e m)
   breaks_off outcome stands is wrote = record {
     keeps = stands;
     out = r.out ++ wrote.0;
@@ -122,7 +122,7 @@ module _ {C : Type 0} (v : View C) (now : C) (held : Option (List ℕ)) (r : Run
 pub done_went : {C : Type 0} (v : View C) (now : C) (r : Run) (e : Event) → IsAt v r
     → Leaves v now r.state.world.store (shown_by r.state e Served)
     → Does (v.u.stands now) (Ok (tt {0})) r.state e
-    → Went (seen_behind v now v.held) (Ok (tt {0})) (λ x. (call x (conn_in e) e).run) r
+    → Went (seen_after v now v.held) (Ok (tt {0})) (λ x. (call x (conn_in e) e).run) r
 done_went v now r e at leaves does = (
   stepped r (conn_in e) e Served,
   leads r (conn_in e) e Served,
@@ -144,7 +144,7 @@ pub refused_went : {C : Type 0} (v : View C) (now : C) (held : Option (List ℕ)
     → IsAt v r → OnDevice v r → Leaves v now r.state.world.store (shown_by r.state e (mark_of {T = Unit {0}} (Err f)))
     → Does (v.u.stands now) (Err f) r.state e → Falling v now f
     → Refuses v.held held result (conn_in e) f
-    → Went (seen_behind v now held) result (λ x. (call x (conn_in e) e).run) r
+    → Went (seen_after v now held) result (λ x. (call x (conn_in e) e).run) r
 refused_went v now held r e f (Ok x) at durable leaves does fell refuses =
     let m : Mark = mark_of {T = Unit {0}} (Err f) in (
       stepped r (conn_in e) e m,
@@ -161,11 +161,11 @@ refused_went v now held r e f (Err faults.DiskFault) at durable leaves does fell
     )
 refused_went v now held r e f (Err faults.NoMemory) at durable leaves does fell refuses =
     let m : Mark = mark_of {T = Unit {0}} (Err f) in
-    stops_at (seen_behind v now held) faults.NoMemory r (conn_in e) e m (wants_memory v now held r e m at leaves
+    stops_at (seen_after v now held) faults.NoMemory r (conn_in e) e m (wants_memory v now held r e m at leaves
     (unless (Unit {0}) f _ refuses.1 does.keeps) refuses.0)
 refused_went v now held r e f (Err faults.Io) at durable leaves does fell refuses =
     let m : Mark = mark_of {T = Unit {0}} (Err f) in
-    stops_at (seen_behind v now held) faults.Io r (conn_in e) e m (breaks_off v now held r e m at leaves (Refused f)
+    stops_at (seen_after v now held) faults.Io r (conn_in e) e m (breaks_off v now held r e m at leaves (Refused f)
     (unless (Unit {0}) f _ refuses.1 does.keeps) does.answer refuses.0)
 
 -- A CALL THAT GIVES BYTES
@@ -176,7 +176,7 @@ module _ {C : Type 0} (v : View C) (now : C) (held : Option (List ℕ)) (r : Run
     bytes_are = gives.2
 
     pub told_called : Tells v.held held (Ok (tt {0})) (conn_in e) given a.closes
-        → Called (seen_behind v now held) (Ok (Some a)) (conn_in e) e r
+        → Called (seen_after v now held) (Ok (Some a)) (conn_in e) e r
     told_called tells = (
       stepped r (conn_in e) e Served,
       gives.0,
@@ -186,7 +186,7 @@ module _ {C : Type 0} (v : View C) (now : C) (held : Option (List ℕ)) (r : Run
     )
 
     pub tell_stopped : (fault : CallFault) → Tells v.held held (Err fault) (conn_in e) given a.closes
-        → Called (seen_behind v now held) (Err fault) (conn_in e) e r
+        → Called (seen_after v now held) (Err fault) (conn_in e) e r
     tell_stopped faults.DiskFault tells = absurd tells
     tell_stopped faults.NoMemory tells = (
       stepped r (conn_in e) e Served,
@@ -209,7 +209,7 @@ module _ {C : Type 0} (v : View C) (now : C) (held : Option (List ℕ)) (r : Run
       m = mark_of {T = Answer} (Err f)
 
       pub refused_called : Refuses v.held held (Ok (tt {0})) (conn_in e) f
-          → Called (seen_behind v now held) (Ok None) (conn_in e) e r
+          → Called (seen_after v now held) (Ok None) (conn_in e) e r
       refused_called refuses = (
         stepped r (conn_in e) e m,
         f,
@@ -220,7 +220,7 @@ module _ {C : Type 0} (v : View C) (now : C) (held : Option (List ℕ)) (r : Run
 
       pub refuse_stopped : OnDevice v r → Falling v now f → (fault : CallFault)
           → Refuses v.held held (Err fault) (conn_in e) f
-          → Called (seen_behind v now held) (Err fault) (conn_in e) e r
+          → Called (seen_after v now held) (Err fault) (conn_in e) e r
       refuse_stopped durable fell faults.DiskFault refuses =
           let is : (step r.state e m).outcome ≡ Refused errors.DiskFault = gives.1.answer ∙ ap Refused refuses.0 in (
             stepped r (conn_in e) e m,

@@ -8,7 +8,7 @@ use Rattle.tus_session.specs.declared.answers.Answer.{Answer}
 use Rattle.tus_session.specs.declared.errors.SessionError.{SessionError}
 use Rattle.tus_session.specs.declared.errors.SessionError.TheVariants.{NoMemory, DiskFault, Down}
 
--- how the call is marked: refused for memory, failed by the device, or served
+-- how the call is marked: out of memory, failed by the disk, or served
 abbrev pub mark_of : {T : Type 0} → Result T SessionError → Mark
 mark_of (Ok x) = Served
 mark_of (Err NoMemory) = OutOfMemory
@@ -24,7 +24,7 @@ abbrev pub told_done : Result (Unit {0}) SessionError → Outcome
 told_done (Ok x) = Done
 told_done (Err f) = Refused f
 
--- nothing is known of the connections once the device failed
+-- nothing is known of the connections once the disk failed
 abbrev pub UnlessFailed : {T : Type 0} → Result T SessionError → Type 0 → Type 0
 UnlessFailed (Err DiskFault) stands = Unit {0}
 UnlessFailed result stands = stands
@@ -35,7 +35,7 @@ pub record Keeps {T : Type 0} (stands : State → Type 0) (result : Result T Ses
   pub answer : now.outcome ≡ outcome
   pub keeps : UnlessFailed result (stands now.state)
 
--- what is put behind the output: the bytes that the call gives. A refusal leaves it as it was
+-- what is put after the output: the bytes that the call gives. A refusal leaves it as it was
 abbrev pub Adds : Result Answer SessionError → List ℕ → List ℕ → List ℕ → Type 0
 Adds (Ok a) bytes old new = new ≡ old ++ bytes
 Adds (Err f) bytes old new = new ≡ old
@@ -49,13 +49,13 @@ Gives stands result old new st e =
 abbrev pub Does : (State → Type 0) → Result (Unit {0}) SessionError → State → Event → Type 0
 Does stands result st e = Keeps stands result (told_done result) (step st e (mark_of result))
 
--- WHETHER THEY ARE DOWN, before a call and behind it. `Down` is answered exactly where they were. They are behind it
--- exactly where they were, or the device failed at it
+-- WHETHER THEY ARE DOWN, before a call and after it. `Down` is answered exactly where they were. They are after it
+-- exactly where they were, or the disk failed at it
 pub record Falls {T : Type 0} (was now : Bool) (result : Result T SessionError) : Type 0 where
   pub refused : IsErrOf result Down ↔ (was ≡ true)
   pub falls : (now ≡ true) ↔ ((was ≡ true) ⊎ IsErrOf result DiskFault)
 
--- the device isn't asked: its images are limited to what they were, and to no less
+-- the disk isn't asked: its images are limited to what they were, and to no less
 pub record Unasked (moment moment' : ℕ) (left_only left_only' : Option ℕ → ℕ → List Store → Type 0)
     (failures failures' : ℕ) : Type 0 where
   pub forth : Quiet moment moment' left_only left_only'

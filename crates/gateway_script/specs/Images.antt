@@ -7,18 +7,18 @@ use Rattle.gateway_script.specs.Script.{written}
 use Rattle.gateway_script.specs.declared.faults.CallFault.{CallFault}
 use Rattle.gateway_script.specs.declared.faults.CallFault.TheVariants.{NoMemory, DiskFault, Io}
 
--- THE UPLOADS behind an event. Where the device failed, those that the event would have made
+-- THE UPLOADS after an event. Where the disk failed, those that the event would have made
 abbrev pub shown_by : State → Event → Mark → Store
 shown_by st e Served = (step st e Served).state.world.store
 shown_by st e OutOfMemory = (step st e OutOfMemory).state.world.store
 shown_by st e Failed = (step st e Served).state.world.store
 
--- the uploads behind all events, behind all but the latest, and so on to those before the first
+-- the uploads after all events, after all but the latest, and so on to those before the first
 abbrev pub stores_of : State → List Marked → List Store
 stores_of st [] = st.world.store ∷ []
 stores_of st (e ∷ past) = shown_by (history st past) e.0 e.1 ∷ stores_of st past
 
--- the uploads behind all events, and behind all but the latest
+-- the uploads after all events, and after all but the latest
 abbrev pub last_stores : State → List Marked → List Store
 last_stores st [] = st.world.store ∷ []
 last_stores st (e ∷ past) = shown_by (history st past) e.0 e.1 ∷ (history st past).world.store ∷ []
@@ -28,7 +28,7 @@ abbrev pub last_blocks : State → List Marked → Option ℕ
 last_blocks st [] = st.world.blocks
 last_blocks st (e ∷ past) = (history st past).world.blocks
 
--- since some moment that isn't to come, images show the uploads behind all events, or behind all but the latest
+-- since some moment that isn't to come, images show the uploads after all events, or after all but the latest
 pub record ShowsLast (moment : ℕ) (left_only : Option ℕ → ℕ → List Store → Type 0) (st : State) (past : List Marked) :
     Type 0 where
   pub since : ℕ

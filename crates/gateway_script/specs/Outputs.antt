@@ -5,7 +5,7 @@ use Rattle.std.specs.Io.KnownBytes.{Appends}
 use Rattle.gateway_script.specs.declared.faults.CallFault.{CallFault}
 use Rattle.gateway_script.specs.declared.faults.CallFault.TheVariants.{Io}
 
--- a front part of the bytes was put behind what was there
+-- a front part of the bytes was put after what was there
 abbrev pub AppendsPart : Option (List ℕ) → Option (List ℕ) → List ℕ → Type 0
 AppendsPart old new bytes = (part : List ℕ) × (missing : List ℕ) × (bytes ≡ part ++ missing) × Appends old new part
 

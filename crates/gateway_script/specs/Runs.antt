@@ -42,7 +42,7 @@ pub record IsHistory {C : Type 0} (v : View C) (r : Run) : Type 0 where
   pub images : LimitsTo (v.u.moment v.before) (v.u.moment v.now) (v.u.left_only v.before) (v.u.left_only v.now)
       (stores_of v.st r.past)
 
--- the connections are where the run is, the writer holds what it wrote behind what was there before, and the device
+-- the connections are where the run is, the writer holds what it wrote after what was there before, and the disk
 -- hasn't failed
 pub record IsAt {C : Type 0} (v : View C) (r : Run) : Type 0 where
   pub keeps : v.u.stands v.now r.state
@@ -50,7 +50,7 @@ pub record IsAt {C : Type 0} (v : View C) (r : Run) : Type 0 where
   pub up : r.down ≡ false
   pub history : IsHistory v r
 
--- the device failed at the latest event, behind what the run wrote, and so the connections are down
+-- the disk failed at the latest event, after what the run wrote, and so the connections are down
 pub record IsDown {C : Type 0} (v : View C) (r : Run) : Type 0 where
   pub wrote : Appends v.front v.held r.out
   pub down : r.down ≡ true
@@ -58,7 +58,7 @@ pub record IsDown {C : Type 0} (v : View C) (r : Run) : Type 0 where
   pub history : IsHistory v r
   pub last : ShowsLast (v.u.moment v.now) (v.u.left_only v.now) v.st r.past
 
--- the writer failed or memory was wanting, and the connections are where the run is; what it gave last may not be
+-- the writer failed or it was out of memory, and the connections are where the run is; what it gave last may not be
 -- written
 pub record IsStopped {C : Type 0} (v : View C) (fault : CallFault) (r : Run) : Type 0 where
   pub keeps : v.u.stands v.now r.state
@@ -101,20 +101,20 @@ Went v (Ok x) f r = (s : Run) × Leads f r s × IsAt v s
 Went v (Err DiskFault) f r = (s : Run) × Leads f r s × IsDown v s
 Went v (Err e) f r = Stops v e run_past f r
 
--- the same of a part behind which the line goes on or doesn't
+-- the same of a part after which the line goes on or doesn't
 abbrev pub Flowed : {C : Type 0} → View C → Result Bool CallFault → (Run → Flow) → Run → Type 0
 Flowed v (Ok b) f r = (s : Run) × LeadsOn f r s b × IsAt v s
 Flowed v (Err DiskFault) f r = (s : Run) × LeadsOn f r s false × IsDown v s
 Flowed v (Err e) f r = Stops v e flow_past f r
 
--- a refusal is written; of the device's fault nothing
+-- a refusal is written; of the disk fault nothing
 abbrev pub Refuses : Option (List ℕ) → Option (List ℕ) → Result (Unit {0}) CallFault → ℕ → SessionError → Type 0
 Refuses old new (Ok x) n error = Appends old new (written_refusal n error) × (error ≡ errors.DiskFault → ⊥)
 Refuses old new (Err DiskFault) n error = (error ≡ errors.DiskFault) × (new ≡ old)
 Refuses old new (Err NoMemory) n error = (new ≡ old) × (error ≡ errors.DiskFault → ⊥)
 Refuses old new (Err Io) n error = AppendsPart old new (written_refusal n error) × (error ≡ errors.DiskFault → ⊥)
 
--- the run behind a call with this mark, whatever marks are to come
+-- the run after a call with this mark, whatever marks are to come
 abbrev pub stepped : Run → ℕ → Event → Mark → Run
 stepped r n e m =
     let t = step r.state e m in
@@ -131,7 +131,7 @@ abbrev pub Calls : Run → ℕ → Event → Run → Outcome → Type 0
 Calls r n e s outcome = (m : Mark) × ((rest : List Mark)
     → call (with_marks r (m ∷ rest)) n e ≡ record { run = with_marks s rest; outcome = outcome })
 
--- what a call that may give bytes did to a run: it was served, or refused, or the device failed, or what it gave wasn't
+-- what a call that may give bytes did to a run: it was served, or refused, or the disk failed, or what it gave wasn't
 -- written
 abbrev pub Called : {C : Type 0} → View C → Result (Option Answer) CallFault → ℕ → Event → Run → Type 0
 Called v (Ok (Some a)) n e r = (s : Run) × (bytes : List ℕ) × Calls r n e s (Gave bytes a.taken a.closes a.more)
@@ -147,7 +147,7 @@ Tells old new (Err DiskFault) n bytes closes = ⊥
 Tells old new (Err NoMemory) n bytes closes = new ≡ old
 Tells old new (Err Io) n bytes closes = AppendsPart old new (written_bytes n bytes ++ written_close n closes)
 
--- One call with bytes of a line, and what follows it: the rest goes on behind what was taken, or is dropped
+-- One call with bytes of a line, and what follows it: the rest goes on after what was taken, or is dropped
 abbrev pub GivenOnce : {C : Type 0} → View C → Result (Option ℕ) CallFault → ℕ → ℕ → List ℕ → Run → Type 0
 GivenOnce v (Ok (Some taken)) k n bytes r =
     (s : Run) × Reaches (give_within (suc k) n bytes) r (give_within k n (drop taken bytes)) s × IsAt v s
@@ -155,18 +155,18 @@ GivenOnce v (Ok None) k n bytes r = (s : Run) × Leads (give_within (suc k) n by
 GivenOnce v (Err DiskFault) k n bytes r = (s : Run) × Leads (give_within (suc k) n bytes) r s × IsDown v s
 GivenOnce v (Err e) k n bytes r = Stops v e run_past (give_within (suc k) n bytes) r
 
--- whether the line goes on behind an answer: not told where a text is still to be given
+-- whether the line goes on after an answer: not told where a text is still to be given
 abbrev pub settles : Option Answer → Option Bool
 settles None = Some false
 settles (Some a) = if a.closes then Some false else if a.more then None else Some true
 
--- one of the open connections that are cut at the script's end, with so many behind it
+-- one of the open connections that are cut at the script's end, with so many after it
 abbrev pub CutOne : {C : Type 0} → View C → Result (Unit {0}) CallFault → ℕ → ℕ → Run → Type 0
 CutOne v (Ok x) k n r = (s : Run) × Reaches (cut_from (suc k) n) r (cut_from k (n + 1)) s × IsAt v s
 CutOne v (Err DiskFault) k n r = (s : Run) × Leads (cut_from (suc k) n) r s × IsDown v s
 CutOne v (Err e) k n r = Stops v e run_past (cut_from (suc k) n) r
 
--- how the lines end: all of them ran, or the device failed, or a line is none, or the run was broken off
+-- how the lines end: all of them ran, or the disk failed, or a line is none, or the run was broken off
 abbrev pub Ends : {C : Type 0} → View C → Result (Unit {0}) ScriptFault → (Run → script.Result) → Run → Type 0
 Ends v (Ok x) f r = (s : Run) × Reaches f r (λ x. ended_as x Ran) s × IsAt v s
 Ends v (Err runs.DiskFault) f r = (s : Run) × Reaches f r (λ x. ended_as x Faulted) s × IsDown v s
@@ -174,7 +174,7 @@ Ends v (Err (runs.Script n)) f r = (s : Run) × Reaches f r (λ x. ended_as x (A
 Ends v (Err runs.NoMemory) f r = Stops v NoMemory script_past f r
 Ends v (Err runs.Io) f r = Stops v Io script_past f r
 
--- one line, with these behind it
+-- one line, with these after it
 abbrev pub LineRan : {C : Type 0} → View C → Result (Unit {0}) ScriptFault → ℕ → ℕ → List ℕ → List (List ℕ) → Run
     → Type 0
 LineRan v (Ok x) number start line lines r =

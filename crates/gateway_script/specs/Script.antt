@@ -4,7 +4,7 @@ use Rattle.std.specs.Prelude.{drop, slice_get, codes, bytes_eq, nat_lt, nat_le, 
 use Rattle.std.specs.Fmt.{decimal}
 use Rattle.hex.specs.Hex.{decode_of}
 use Rattle.tus_request.specs.Number.{number_of}
-use Rattle.tus_request.specs.Reading.{before, behind}
+use Rattle.tus_request.specs.Reading.{before, after}
 use Rattle.tus_request.specs.Value.{answered}
 use Rattle.tus_session.specs.declared.errors.SessionError.{SessionError}
 use Rattle.tus_session.specs.declared.errors.SessionError.TheVariants.{DiskFault}
@@ -59,23 +59,23 @@ abbrev pub order_of_word : List ℕ → List ℕ → Order
 order_of_word word rest =
     if bytes_eq word (codes "open") then order_with Open (conn_number rest)
     else if bytes_eq word (codes "cut") then order_with Hang (conn_number rest)
-    else if bytes_eq word (codes "say") then order_with (λ n. Give n (behind 32 rest ++ (13 ∷ 10 ∷ [])))
+    else if bytes_eq word (codes "say") then order_with (λ n. Give n (after 32 rest ++ (13 ∷ 10 ∷ [])))
     (conn_number (before 32 rest))
-    else if bytes_eq word (codes "came") then order_with (give_hex (hex_bytes (behind 32 rest)))
+    else if bytes_eq word (codes "came") then order_with (give_hex (hex_bytes (after 32 rest)))
     (conn_number (before 32 rest))
     else Bad
 
 -- empty lines and those that begin with `#` are skipped
 abbrev pub order_of : List ℕ → Order
 order_of [] = Skip
-order_of (b ∷ line) = if b == 35 then Skip else order_of_word (before 32 (b ∷ line)) (behind 32 (b ∷ line))
+order_of (b ∷ line) = if b == 35 then Skip else order_of_word (before 32 (b ∷ line)) (after 32 (b ∷ line))
 
 -- of a line without its LF, and without a CR before that
 abbrev pub order_in : List ℕ → Order
 order_in line = order_of (bared (before 10 line))
 
 -- A RUN: the history so far (its latest event first), the marks that are left, and what was written; and whether the
--- device failed
+-- disk failed
 pub record Run : Type 0 where
   pub state : State
   pub past : List Marked
@@ -187,7 +187,7 @@ unfoldable pub cut_from : ℕ → ℕ → Run → Run
 cut_from zero n r = r
 cut_from (suc k) n r = cut_next (cut_from k (n + 1)) r n (is_closed (r.state.conns n) || r.down)
 
--- how a script ends: well, at a line that is no order, or where the device failed
+-- how a script ends: well, at a line that is no order, or where the disk failed
 pub data Exit : Type 0 where
   Ran : Exit
   AtLine : ℕ → Exit

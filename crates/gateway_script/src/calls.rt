@@ -12,7 +12,7 @@ use crate::writing::{report, report_refusal, write_out};
 use std::alloc::Global;
 use tus_session::{Answer, SessionError};
 
-/// A refusal is written. The device's fault ends the run: `Down` is met only where the connections were down before it.
+/// A refusal is written. The disk fault ends the run: `Down` is met only where the connections were down before it.
 pub(crate) fn refused<W: CountedWrite>(
     alloc: Global,
     writer: &mut W,

@@ -11,26 +11,26 @@ use tus_session::{Answer, SessionError};
 
 /// Connections that keep the history of their events.
 ///
-/// Once a call was refused with `DiskFault` they are down: each further call is refused with `Down` at once, the device
+/// Once a call was refused with `DiskFault` they are down: each further call is refused with `Down` at once, the disk
 /// isn't asked, and `out` stays as it was.
 pub trait Connections {
     /// They are where the history is.
     ghost stands: { Self → State → Type 0 };
 
-    /// Counts what the device was asked.
+    /// Counts what the disk was asked.
     ghost moment: { Self → ℕ };
 
     /// What a crash at any moment since that one might have left shows one of these stores.
     ghost left_only: { Self → Option ℕ → ℕ → List Store → Type 0 };
 
-    /// How often the device failed.
+    /// How often the disk failed.
     ghost failures: { Self → ℕ };
 
-    /// Whether the device failed at one of their calls.
+    /// Whether the disk failed at one of their calls.
     ghost down: { Self → Bool };
 
     /// Opens a connection: refused with `TooMany` exactly where its number isn't below `MOST_OPEN`, or it is open. It
-    /// needs neither memory nor the device.
+    /// needs neither memory nor the disk.
     fn opened(&mut self, conn: usize) -> Result<(), SessionError>
         ensures does { (st : State) → stands self.old st → Does (stands self.new) result st (Opened conn) }
         ensures crash { Quiet (moment self.old) (moment self.new) (left_only self.old) (left_only self.new) }
@@ -39,7 +39,7 @@ pub trait Connections {
         ensures unasked { down self.old ≡ true → Unasked (moment self.old) (moment self.new) (left_only self.old)
             (left_only self.new) (failures self.old) (failures self.new) };
 
-    /// Bytes came: those of at most one request are taken, and what they are answered is put behind `out`, which a
+    /// Bytes came: those of at most one request are taken, and what they are answered is put after `out`, which a
     /// refusal leaves as it was. That is at most 69,632 bytes.
     ///
     /// Refused with `Closed` exactly where the connection isn't open, and else with `NoMemory` or `DiskFault`.
@@ -56,7 +56,7 @@ pub trait Connections {
         ensures unwritten { down self.old ≡ true → out.new.items ≡ out.old.items }
         ensures few { GivesFew out.old.items out.new.items };
 
-    /// The next piece of a text is put behind `out`, which a refusal leaves as it was: at most as many bytes as `came`
+    /// The next piece of a text is put after `out`, which a refusal leaves as it was: at most as many bytes as `came`
     /// gives. Refused as `came` is.
     fn more(&mut self, conn: usize, out: &mut Vec<u8>) -> Result<Answer, SessionError>
         ensures gives { (st : State) → stands self.old st
@@ -80,7 +80,7 @@ pub trait Connections {
         ensures unasked { down self.old ≡ true → Unasked (moment self.old) (moment self.new) (left_only self.old)
             (left_only self.new) (failures self.old) (failures self.new) };
 
-    /// Where connections are where a history is, its uploads are on the device.
+    /// Where connections are where a history is, its uploads are on the disk.
     ghost durable: { (core : Self) (st : State) (ms : List Store) → stands core st → Among st.world.store ms
         → left_only core st.world.blocks (moment core) ms };
 

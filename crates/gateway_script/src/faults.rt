@@ -8,9 +8,9 @@ use std::alloc::AllocError;
 /// Why a call of a script's line isn't done.
 #[derive(Clone, Copy, Debug, PartialEq, Eq, Drop)]
 pub enum CallFault {
-    /// A growth was refused outside the calls of the connections.
+    /// Out of memory outside the calls of the connections.
     NoMemory,
-    /// The device failed.
+    /// The disk failed.
     DiskFault,
     /// The writer refused.
     Io,
@@ -19,9 +19,9 @@ pub enum CallFault {
 /// Why a run over uploads ends before its script does.
 #[derive(Clone, Copy, Debug, PartialEq, Eq, Drop)]
 pub enum ScriptFault {
-    /// A growth was refused outside the calls of the connections.
+    /// Out of memory outside the calls of the connections.
     NoMemory,
-    /// The device failed.
+    /// The disk failed.
     DiskFault,
     /// The line of this number, counted from 1, is no line of a script, or it or the script is too long.
     Script(u64),

@@ -12,7 +12,7 @@ use crate::streams::CountedWrite;
 use std::alloc::Global;
 use tus_session::Answer;
 
-/// Whether the line goes on behind an answer, where no text is still to be given.
+/// Whether the line goes on after an answer, where no text is still to be given.
 fn goes_on(answer: Option<Answer>) -> Option<bool>
     ensures { result ≡ settles answer }
 {
@@ -49,7 +49,7 @@ fn give_text<C: Connections, W: CountedWrite>(
     Ok(true)
 }
 
-/// Whether the line's bytes go on behind an answer: a text that is still to be given is given.
+/// Whether the line's bytes go on after an answer: a text that is still to be given is given.
 fn go_on<C: Connections, W: CountedWrite>(
     alloc: Global,
     core: &mut C,
@@ -95,7 +95,7 @@ fn give_once<C: Connections, W: CountedWrite>(
     }
 }
 
-/// The bytes behind those that were taken.
+/// The bytes after those that were taken.
 fn untaken(bytes: &[u8], taken: usize) -> &[u8]
     ensures { result.now ≡ drop taken bytes.now }
 {

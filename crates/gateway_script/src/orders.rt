@@ -6,7 +6,7 @@ ghost use Rattle.gateway_script.specs.Shown.{order_shown, say_of, came_of};
 use hex::FromHexError;
 use std::alloc::{AllocError, Global};
 use tus_request::number::number;
-use tus_request::texts::{behind, front};
+use tus_request::texts::{after, front};
 
 /// What a line of a script asks for.
 #[derive(Drop)]
@@ -43,28 +43,28 @@ fn connection(text: &[u8]) -> Option<u64>
     number(text)
 }
 
-/// The rest of a line behind `say`: its text comes with CRLF behind.
+/// The rest of a line after `say`: its text comes with CRLF after.
 fn say(alloc: Global, rest: &[u8]) -> Result<Order, AllocError>
     ensures { IfOk result (λ o. order_shown o ≡ say_of rest.now) }
 {
     let Some(conn) = connection(front(rest, b' ')) else {
         return Ok(Order::Bad);
     };
-    let text = behind(rest, b' ');
+    let text = after(rest, b' ');
     let mut bytes = Vec::new(alloc);
     bytes.extend_from_slice(text)?;
     bytes.extend_from_slice(b"\r\n")?;
     Ok(Order::Give(conn as usize, bytes))
 }
 
-/// The rest of a line behind `came`: at least one byte in hex.
+/// The rest of a line after `came`: at least one byte in hex.
 fn came(alloc: Global, rest: &[u8]) -> Result<Order, AllocError>
     ensures { IfOk result (λ o. order_shown o ≡ came_of rest.now) }
 {
     let Some(conn) = connection(front(rest, b' ')) else {
         return Ok(Order::Bad);
     };
-    match hex::decode(alloc, behind(rest, b' ')) {
+    match hex::decode(alloc, after(rest, b' ')) {
         Ok(bytes) => Ok(if bytes.is_empty() {
             Order::Bad
         } else {
@@ -82,7 +82,7 @@ pub(crate) fn read_order(alloc: Global, line: &[u8]) -> Result<Order, AllocError
     let line = bare(line);
     match line.first() {
         None | Some(b'#') => Ok(Order::Skip),
-        Some(_) => read_word(alloc, front(line, b' '), behind(line, b' ')),
+        Some(_) => read_word(alloc, front(line, b' '), after(line, b' ')),
     }
 }
 

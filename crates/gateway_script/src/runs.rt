@@ -14,7 +14,7 @@ use crate::lines::give;
 use crate::orders::{Order, read_order};
 use crate::streams::CountedWrite;
 use std::alloc::Global;
-use tus_request::texts::{behind, front};
+use tus_request::texts::{after, front};
 use tus_session::{MOST_OPEN, SessionError};
 
 /// The most bytes of a line: a CR counts, the LF doesn't.
@@ -72,7 +72,7 @@ fn first_line(script: &[u8]) -> &[u8]
     ensures line { result.now ≡ take_through 10 script.now }
     ensures within { length result.now ≤ length script.now }
 {
-    let rest = behind(script, b'\n');
+    let rest = after(script, b'\n');
     &script[..script.len() - rest.len()]
 }
 

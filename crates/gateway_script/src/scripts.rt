@@ -19,7 +19,7 @@ const PIECE: usize = 8192;
 ///
 /// # Errors
 ///
-/// `NoMemory` where a growth is refused, and `Io` exactly where a read is.
+/// `NoMemory` when out of memory, and `Io` exactly where a read is.
 pub fn read_script<R: CountedRead>(alloc: Global, reader: &mut R) -> Result<Vec<u8>, ScriptFault>
     ensures ok { IfOk result (λ script. IsScript (R.remaining reader.old) script.items) }
     ensures most { IfOk result (λ script. vec_len script ≤ 1073741825) }

@@ -1,4 +1,4 @@
--- All places, behind events of one connection.
+-- All places, after events of one connection.
 use Rattle.std.proofs.Common.{◌≡◌, ◌<◌, ◌≤◌, inl, inr, ℕ, ◌+◌, List, [], ◌∷◌, length, set, get_or, Result, Ok, Err}
 use Rattle.std.proofs.Common.{refl, sym, ◌∙◌, ap, subst, arith, get_or-set_same, get_or-set_other}
 use Rattle.std.proofs.lemmas.Bool.{cases_eq, cases_lt}
@@ -18,7 +18,7 @@ use Rattle.gateway_serve.specs.declared.places.Place.{Place}
 use Rattle.gateway_serve.specs.declared.places.Place.TheVariants.{Free, Open}
 use Rattle.gateway_serve.specs.declared.links.Link.{Link}
 use Rattle.gateway_serve.specs.declared.reasons.Reason.TheVariants.{Over}
-use Rattle.gateway_serve.proofs.Behind.{followed}
+use Rattle.gateway_serve.proofs.After.{followed}
 use Rattle.gateway_serve.proofs.Steps.{opens_closed, unopened}
 use Rattle.gateway_serve.proofs.Talks.{talks_here, alone_step}
 use Rattle.gateway_serve.proofs.Freed.{loosely, others_stay, untold_place}

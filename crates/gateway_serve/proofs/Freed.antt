@@ -139,7 +139,7 @@ module _ (ended : List Seen) (st : State) (past : List Marked) (n : ℕ) where
       told_pairs l.socket.latest reason m (joint_of l) (if_whole reason l may) (not_closed reason (Open l) may)
       few is
 
-  -- THE PLACE BEHIND, as it is then
+  -- THE PLACE AFTER, as it is then
   pub told_place : {S : Type 0} (reason : Reason) (p p' : Place S) (ended' : List Seen)
       (answer : Result (Unit {0}) SessionError)
       → p' ≡ Free → ended' ≡ with_place n reason p ended → MayEnd reason p → PlaceWaits p → (p ≡ Free → ⊥)

@@ -11,8 +11,8 @@ use Rattle.tus_session.specs.declared.errors.SessionError.TheVariants.{NoMemory,
 use Rattle.gateway_script.specs.Connections.{mark_of, told, Adds}
 use Rattle.gateway_serve.specs.Conversations.{longer, latest, goes_on, conversations}
 use Rattle.gateway_serve.specs.Sockets.{Seen}
-use Rattle.gateway_serve.specs.Joined.{Joint, Joins, Writes, Reads, wrote, read, is_last, stage_by, stage_behind}
-use Rattle.gateway_serve.specs.Joined.{taken_behind}
+use Rattle.gateway_serve.specs.Joined.{Joint, Joins, Writes, Reads, wrote, read, is_last, stage_by, stage_after}
+use Rattle.gateway_serve.specs.Joined.{taken_after}
 use Rattle.gateway_serve.specs.declared.links.Stage.{Stage}
 use Rattle.gateway_serve.specs.declared.links.Stage.TheVariants as stages
 use Rattle.gateway_serve.proofs.Steps.{Shuts, came_shuts, came_lost, came_failed, more_shuts, more_lost, more_failed}
@@ -69,15 +69,15 @@ module _ (ended : List Seen) (st : State) (past : List Marked) (n : ℕ) where
   pub same_joins : (old new : Joint) → new ≡ old → Joins old ended st past n → Joins new ended st past n
   same_joins old new same is = subst (λ j. Joins j ended st past n) (sym same) is
 
-  -- AN ANSWER. The bytes that it gave are put behind the output, and those that were taken are taken from the input
+  -- AN ANSWER. The bytes that it gave are put after the output, and those that were taken are taken from the input
   abbrev pub answered : Joint → List ℕ → Result Answer SessionError → Joint
   answered j output answer =
       record {
         came = j.came;
         went = j.went;
-        input = drop (taken_behind answer) j.input;
+        input = drop (taken_after answer) j.input;
         output = output;
-        closed = is_last (stage_behind answer);
+        closed = is_last (stage_after answer);
       }
 
   abbrev pub kept : Joint → List ℕ → Joint
@@ -157,7 +157,7 @@ module _ (ended : List Seen) (st : State) (past : List Marked) (n : ℕ) where
       (λ e. came_shuts (history st past) n j.input (subst Shuts (sym same) (tt {0})))
   came_joins (Err DiskFault) bytes j output ok same adds is = absurd (ok refl)
 
-  -- the device failed
+  -- the disk failed
   came_fell : (answer : Result Answer SessionError) (bytes : List ℕ) (j : Joint) (output : List ℕ)
       → answer ≡ Err DiskFault
       → (step (history st past) (Came n j.input) (mark_of answer)).outcome ≡ told bytes answer
@@ -181,7 +181,7 @@ module _ (ended : List Seen) (st : State) (past : List Marked) (n : ℕ) where
     went = j.went;
     input = j.input;
     output = output;
-    closed = is_last (stage_behind answer);
+    closed = is_last (stage_after answer);
   }
 
   more_joins : (answer : Result Answer SessionError) (bytes : List ℕ) (j : Joint) (output : List ℕ)
@@ -228,12 +228,12 @@ module _ (ended : List Seen) (st : State) (past : List Marked) (n : ℕ) where
       (talks_here st past (More n) Failed ∙ ap (λ o. goes_on (More n) o (conversations st past n)) same) refl adds
       (λ e. more_failed (history st past) n ∙ is.shut e)
 
-  -- THE LINK BEHIND AN ANSWER, at the stage that follows it
+  -- THE LINK AFTER AN ANSWER, at the stage that follows it
   came_there : (answer : Result Answer SessionError) (bytes : List ℕ) (j : Joint) (input output : List ℕ)
       (stage : Stage) (taken : ℕ) → (answer ≡ Err DiskFault → ⊥)
       → (step (history st past) (Came n j.input) (mark_of answer)).outcome ≡ told bytes answer
       → Adds answer bytes j.output output
-      → stage ≡ stage_behind answer → taken ≡ taken_behind answer → input ≡ drop taken j.input → Joins j ended st past n
+      → stage ≡ stage_after answer → taken ≡ taken_after answer → input ≡ drop taken j.input → Joins j ended st past n
       → Joins (record { came = j.came; went = j.went; input = input; output = output; closed = is_last stage }) ended st
       ((Came n j.input, mark_of answer) ∷ past) n
   came_there answer bytes j input output stage taken ok same adds s k i is =
@@ -249,7 +249,7 @@ module _ (ended : List Seen) (st : State) (past : List Marked) (n : ℕ) where
         went = j.went;
         input = x;
         output = output;
-        closed = is_last (stage_behind answer);
+        closed = is_last (stage_after answer);
       }) ended st ((Came n j.input, mark_of answer) ∷ past) n)
       (sym (i ∙ ap (λ x. drop x j.input) k)) (came_joins answer bytes j output ok same adds is))
 
@@ -264,7 +264,7 @@ module _ (ended : List Seen) (st : State) (past : List Marked) (n : ℕ) where
       (stage : Stage) (taken : ℕ) → (answer ≡ Err DiskFault → ⊥)
       → piece ≡ j.input → (step (history st past) (Came n piece) (mark_of answer)).outcome ≡ told bytes answer
       → Adds answer bytes j.output output
-      → stage ≡ stage_behind answer → taken ≡ taken_behind answer → input ≡ drop taken j.input → Joins j ended st past n
+      → stage ≡ stage_after answer → taken ≡ taken_after answer → input ≡ drop taken j.input → Joins j ended st past n
       → Joins (record { came = j.came; went = j.went; input = input; output = output; closed = is_last stage }) ended st
       ((Came n piece, mark_of answer) ∷ past) n
   came_link answer bytes j piece input output stage taken ok whole same adds s k i is =
@@ -284,7 +284,7 @@ module _ (ended : List Seen) (st : State) (past : List Marked) (n : ℕ) where
       → (answer ≡ Err DiskFault → ⊥)
       → (step (history st past) (More n) (mark_of answer)).outcome ≡ told bytes answer
       → Adds answer bytes j.output output
-      → stage ≡ stage_behind answer → Joins j ended st past n
+      → stage ≡ stage_after answer → Joins j ended st past n
       → Joins (record { came = j.came; went = j.went; input = j.input; output = output; closed = is_last stage }) ended
       st ((More n, mark_of answer) ∷ past) n
   more_link answer bytes j output stage ok same adds s is =

@@ -1,5 +1,5 @@
 mod All
-mod Behind
+mod After
 mod Carries
 mod Freed
 mod Joints

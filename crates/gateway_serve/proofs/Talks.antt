@@ -1,4 +1,4 @@
--- The conversations behind one event more.
+-- The conversations after one event more.
 use Rattle.std.proofs.Common.{◌≡◌, ℕ, ◌==◌, List, ◌∷◌, refl, ◌∙◌}
 use Rattle.tus_session.specs.History.{State, Event, Mark, Marked, conn_in, step, history}
 use Rattle.gateway_serve.specs.Conversations.{goes_on, conversations}

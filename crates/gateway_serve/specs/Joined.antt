@@ -97,19 +97,19 @@ read bytes j = record { came = j.came ++ bytes; went = j.went; input = bytes; ou
 abbrev pub Reads : Joint → Joint → Type 0
 Reads old new = (new ≡ old) ⊎ ((old.input ≡ []) × ((bytes : List ℕ) × (new ≡ read bytes old) × (length bytes ≤ 4096)))
 
--- what follows an answer, once all is written. Behind a refusal the connection is closed, and nothing was taken
+-- what follows an answer, once all is written. After a refusal the connection is closed, and nothing was taken
 abbrev pub stage_by : Answer → Stage
 stage_by a = if a.closes then Closed else if a.more then Giving else Taking
 
-abbrev pub stage_behind : Result Answer SessionError → Stage
-stage_behind (Ok a) = stage_by a
-stage_behind (Err f) = Closed
+abbrev pub stage_after : Result Answer SessionError → Stage
+stage_after (Ok a) = stage_by a
+stage_after (Err f) = Closed
 
-abbrev pub taken_behind : Result Answer SessionError → ℕ
-taken_behind (Ok a) = a.taken
-taken_behind (Err f) = 0
+abbrev pub taken_after : Result Answer SessionError → ℕ
+taken_after (Ok a) = a.taken
+taken_after (Err f) = 0
 
--- behind the events of one connection the others are as they were
+-- after the events of one connection the others are as they were
 pub record Alone (st : State) (n : ℕ) (past now : List Marked) : Type 0 where
   pub talks : (k : ℕ) → (k ≡ n → ⊥) → conversations st now k ≡ conversations st past k
   pub conns : (k : ℕ) → (k ≡ n → ⊥) → (history st now).conns k ≡ (history st past).conns k
@@ -127,7 +127,7 @@ abbrev pub PlaceJoins : {S : Type 0} → Place S → List Seen → State → Lis
 PlaceJoins Free ended st past n = Pairs Served ended (conversations st past n) × IsBack st past n
 PlaceJoins (Open l) ended st past n = Joins (joint_of l) ended st past n
 
--- unless the device failed
+-- unless the disk failed
 abbrev pub PlaceFell : {S : Type 0} → Place S → List Seen → State → List Marked → ℕ → Type 0
 PlaceFell Free ended st past n = Pairs Served ended (conversations st past n)
 PlaceFell (Open l) ended st past n = Joins (joint_of l) ended st past n
@@ -199,7 +199,7 @@ GoesOn {C} c old new result places places' ended ended' =
     (before : C) (st : State) (past : List Marked) → WentOn c before old st past → AllJoin places ended st past
     → Serves c before new st result (AllJoin places' ended' st) (AllFell places' ended' st)
 
--- behind it all connections are ended, unless the device failed
+-- after it all connections are ended, unless the disk failed
 abbrev pub Ends : {C S T : Type 0} → Ghosts C → C → C → Result T DiskFault → List (Place S) → List (Place S) → List Seen
     → List Seen → Type 0
 Ends {C} c old new result places places' ended ended' =

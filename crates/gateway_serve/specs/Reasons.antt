@@ -76,6 +76,6 @@ AtMostOnce before ended = (n : ℕ) × EndedOnce before n ended
 abbrev pub EndsReasoned : List Seen → Type 0
 EndsReasoned ended = (before : List Seen) × AllReasoned before × AtMostOnce before ended
 
--- and behind a fault of the device the rest is let go
+-- and after a disk fault the rest is let go
 abbrev pub IsLeftReasoned : List Seen → Type 0
 IsLeftReasoned ended = (before : List Seen) × EndsReasoned before × AtMostOnce before ended

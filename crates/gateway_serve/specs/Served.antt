@@ -7,7 +7,7 @@ use Rattle.gateway_script.specs.declared.connections.Connections.{Ghosts}
 use Rattle.gateway_serve.specs.Conversations.{conversations}
 use Rattle.gateway_serve.specs.Sockets.{Seen, seen_of, Fits, Served, Pairs}
 
--- from the connections before these events to those now, images are limited to the uploads behind all of the events,
+-- from the connections before these events to those now, images are limited to the uploads after all of the events,
 -- all but the latest, and so on
 abbrev pub ImagesShow : {C : Type 0} → Ghosts C → C → C → State → List Marked → Type 0
 ImagesShow c before now st past = LimitsTo (c.moment before) (c.moment now) (c.left_only before) (c.left_only now)
@@ -18,14 +18,14 @@ pub record WentOn {C : Type 0} (c : Ghosts C) (before now : C) (st : State) (pas
   pub stands : c.stands now (history st past)
   pub images : ImagesShow c before now st past
 
--- these events came, and at the latest of them the device failed: the connections are down, and of them nothing is
--- known but their images, which now show the uploads behind all events, or behind all but this latest one
+-- these events came, and at the latest of them the disk failed: the connections are down, and of them nothing is
+-- known but their images, which now show the uploads after all events, or after all but this latest one
 pub record WentDown {C : Type 0} (c : Ghosts C) (before now : C) (st : State) (past : List Marked) : Type 0 where
   pub images : ImagesShow c before now st past
   pub last : ShowsLast (c.moment now) (c.left_only now) st past
   pub down : c.down now ≡ true
 
--- What a part of serving did: some events came, of which the one fact holds, or the other where the device failed at
+-- What a part of serving did: some events came, of which the one fact holds, or the other where the disk failed at
 -- the latest
 abbrev pub Serves : {C T : Type 0} → Ghosts C → C → C → State → Result T DiskFault → (List Marked → Type 0)
     → (List Marked → Type 0) → Type 0
@@ -41,6 +41,6 @@ IsBack st past n = (history st past).conns n ≡ st.conns n
 abbrev pub AllServed : List Seen → State → List Marked → Type 0
 AllServed seen st past = (n : ℕ) → Pairs Served (seen_of n seen) (conversations st past n) × IsBack st past n
 
--- the same of sockets that serving left when the device failed
+-- the same of sockets that serving left when the disk failed
 abbrev pub AllLeft : List Seen → State → List Marked → Type 0
 AllLeft seen st past = (n : ℕ) → Pairs Fits (seen_of n seen) (conversations st past n)

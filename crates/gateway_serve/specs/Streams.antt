@@ -58,7 +58,7 @@ module _ {S : Type 0} (remaining contents : S → Option (List ℕ)) where
   AllHad [] = Unit {0}
   AllHad (s ∷ ended) = Had s × AllHad ended
 
-  -- what a place and the sockets that ended have, behind what was done there
+  -- what a place and the sockets that ended have, after what was done there
   abbrev pub PlaceKeeps : Place S → Place S → List Seen → List Seen → Type 0
   PlaceKeeps p p' ended ended' = PlaceHas p → AllHad ended → PlaceHas p' × AllHad ended'
 

@@ -168,7 +168,7 @@ impl Output {
         }
     }
 
-    /// Gives the session bytes that came. What it gives goes behind what isn't written yet.
+    /// Gives the session bytes that came. What it gives goes after what isn't written yet.
     pub(crate) fn came<C: Connections>(
         &mut self,
         gateway: &mut C,
@@ -190,7 +190,7 @@ impl Output {
         gateway.came(conn, bytes, &mut self.bytes)
     }
 
-    /// Asks the session for the next piece of a text, which goes behind what isn't written yet.
+    /// Asks the session for the next piece of a text, which goes after what isn't written yet.
     pub(crate) fn more<C: Connections>(
         &mut self,
         gateway: &mut C,

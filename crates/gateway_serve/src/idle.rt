@@ -78,7 +78,7 @@ impl Watch {
         Watch { now, busy: now }
     }
 
-    /// Reads the clock behind a turn. Where no socket had anything to do for 200 microseconds it rests, for a 32nd of
+    /// Reads the clock after a turn. Where no socket had anything to do for 200 microseconds it rests, for a 32nd of
     /// the time since one had, at most 10 milliseconds: so a client waits at most a 32nd of its own silence longer.
     pub(crate) fn rest<T: Clock>(&mut self, clock: &T, was_busy: bool) {
         self.now = clock.monotonic().unwrap_or(self.now);

@@ -2,7 +2,7 @@
 ghost use Rattle.std.specs.Prelude.{◌≡◌, ◌≢◌, ◌⊎◌, ◌↔◌, IsErr, IsErrOf, IfOk, IfSome, IsTrue};
 ghost use Rattle.upload_rules.specs.Answers.{Counts};
 ghost use Rattle.gateway_serve.specs.Joined.{Goes, IsOver, Writes, Reads, joint_of, nothing_yet, with_link};
-ghost use Rattle.gateway_serve.specs.Joined.{stage_by, stage_behind, taken_behind, at_of};
+ghost use Rattle.gateway_serve.specs.Joined.{stage_by, stage_after, taken_after, at_of};
 ghost use Rattle.gateway_serve.specs.Waiting.{FewWait, HasRoom};
 ghost use Rattle.gateway_serve.specs.Bytes.{stream_of, latest_of};
 ghost use Rattle.gateway_serve.specs.Streams.{StaysOf, socket_of};
@@ -234,7 +234,7 @@ impl<S: Read + Write> Link<S> {
         match self.output.write(&mut self.socket) {
             Ok(0) => Left::Lost(Gone::Stuck),
             Ok(_) => Left::Open,
-            Err(error) => left_behind(&error),
+            Err(error) => left_after(&error),
         }
     }
 
@@ -247,7 +247,7 @@ impl<S: Read + Write> Link<S> {
         ensures unclosed { result ≢ Ok Left.Closed }
         ensures counts { Counts (IsErr result) (C.failures gateway.old) (C.failures gateway.new) }
     {
-        match next_behind(self.output.more(gateway, conn)) {
+        match next_after(self.output.more(gateway, conn)) {
             Ok(next) => {
                 self.stage = next.stage;
                 Ok(Left::Open)
@@ -292,7 +292,7 @@ impl<S: Read + Write> Link<S> {
         match self.input.read(&mut self.socket) {
             Ok(0) => Some(Left::Lost(Gone::Ended)),
             Ok(_) => None,
-            Err(error) => Some(left_behind(&error)),
+            Err(error) => Some(left_after(&error)),
         }
     }
 
@@ -340,7 +340,7 @@ impl<S: Read + Write> Link<S> {
     {
         let owed = self.output.left().len();
         let answer = self.output.came(gateway, conn, self.input.left());
-        match next_behind(answer) {
+        match next_after(answer) {
             Ok(next) => {
                 self.request = self.request_after(next.taken, owed, now);
                 self.stage = next.stage;
@@ -372,10 +372,10 @@ struct Next {
 }
 
 // A call that is refused closes the connection.
-fn next_behind(answer: Result<Answer, SessionError>) -> Result<Next, DiskFault>
+fn next_after(answer: Result<Answer, SessionError>) -> Result<Next, DiskFault>
     ensures fault { IsErr result ↔ IsErrOf answer SessionError.DiskFault }
-    ensures stage { IfOk result (λ next. next.stage ≡ stage_behind answer) }
-    ensures taken { IfOk result (λ next. next.taken ≡ taken_behind answer) }
+    ensures stage { IfOk result (λ next. next.stage ≡ stage_after answer) }
+    ensures taken { IfOk result (λ next. next.taken ≡ taken_after answer) }
 {
     match answer {
         Ok(answer) => Ok(Next {
@@ -395,7 +395,7 @@ fn next_behind(answer: Result<Answer, SessionError>) -> Result<Next, DiskFault>
     }
 }
 
-// What is done behind an answer, once all is written.
+// What is done after an answer, once all is written.
 fn stage_by(answer: Answer) -> Stage
     ensures { result ≡ stage_by answer }
 {
@@ -409,7 +409,7 @@ fn stage_by(answer: Answer) -> Stage
 }
 
 // What a failed read or write leaves of a connection: one that would have waited is tried again in the next turn.
-fn left_behind(error: &io::Error) -> Left
+fn left_after(error: &io::Error) -> Left
     ensures unclosed { result ≢ Left.Closed }
     ensures lost { IfLost result (λ gone. (gone ≡ Gone.Failed (error_kind error.now)) × IsFailure
         (error_kind error.now)) }

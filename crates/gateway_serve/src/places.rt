@@ -138,7 +138,7 @@ impl<S: Read + Write + Drop> Place<S> {
     }
 }
 
-/// What a call of the session comes to for serving, which goes on behind every refusal but the device's fault. So it
+/// What a call of the session comes to for serving, which goes on after every refusal but the disk fault. So it
 /// meets `Down` only at a gateway that it was given so.
 pub(crate) fn unless_failed(answer: Result<(), SessionError>) -> Result<(), DiskFault>
     ensures { IsErr result ↔ IsErrOf answer SessionError.DiskFault }

@@ -71,7 +71,7 @@ impl<S: Read + Write + OpenStream + Drop> Server<S> {
     }
 
     // Takes turns until so many connections were closed, at most so many turns. Then the open connections are ended,
-    // in order. Behind a fault of the device their sockets are let go.
+    // in order. After a disk fault their sockets are let go.
     fn serve<L: OpenListener<Stream = S>, C: Connections, T: Clock>(
         &mut self,
         clock: &T,
@@ -422,7 +422,7 @@ where
 /// turns, in at most 31 one after the other: so much later one is ended whose time is over. Where 65,536 bytes wait for
 /// a socket, nothing more is taken of it.
 ///
-/// The listener and its sockets are made not to wait; of a listener that can't be no connection is accepted. Behind
+/// The listener and its sockets are made not to wait; of a listener that can't be no connection is accepted. After
 /// turns in which no socket had anything to do it rests, at most 10 milliseconds.
 pub fn serve_on<L: OpenListener, C: Connections, T: Clock>(
     alloc: Global,
@@ -435,8 +435,8 @@ pub fn serve_on<L: OpenListener, C: Connections, T: Clock>(
 where
     L::Stream: Read + Write + OpenStream,
 
-    // It is where the history of some events is; behind a fault of the device only its images are known. They show
-    // the uploads behind these events.
+    // It is where the history of some events is; after a disk fault only its images are known. They show
+    // the uploads after these events.
     //
     // Each connection's sockets are one for each time that these events opened it, in order. The session took what
     // came from the socket, but for at most 4,096 bytes at its end, and what went to it is the prefix of what the
@@ -456,7 +456,7 @@ where
     // Each of them ended for the reason that it has: the session closed its connection; or the latest call of its
     // stream was a read that gave nothing, one that failed and not because it would have waited or was interrupted, or
     // a write that took nothing; or nothing came or went for as long as it may be idle at what it was at; or serving
-    // was over: at most one for each number of a connection, and where the device failed at most one more.
+    // was over: at most one for each number of a connection, and where the disk failed at most one more.
     ensures reasons { IsLeftReasoned result.ended.sockets }
 {
     let mut gateway = gateway;

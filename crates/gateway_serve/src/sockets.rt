@@ -31,7 +31,7 @@ impl Log {
         }
     }
 
-    // Puts bytes behind those that are there.
+    // Puts bytes after those that are there.
     fn add(&mut self, _bytes: &[u8])
         ensures { self.new.bytes ≡ self.old.bytes ++ _bytes.now }
     {}

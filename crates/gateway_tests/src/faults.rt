@@ -79,7 +79,7 @@ impl Story<'_> {
         assert!(rt; whole, "the run makes too many calls");
     }
 
-    /// From a call on all fail, and a crash of this kind comes. So it does in an opening behind it, at one of the
+    /// From a call on all fail, and a crash of this kind comes. So it does in an opening after it, at one of the
     /// calls that bring an open journal home or those around them. Whether the run came so far.
     fn stays_failed_at(&self, rt: &impl Abort, kind: Crash, call: u64) -> bool {
         let disk = FuseDisk::new(self.disk(rt), call);
@@ -124,7 +124,7 @@ fn stopped(rt: &impl Abort, alloc: Global, disk: MemoryDisk, calls: u64) -> Memo
     }
 }
 
-/// Whether a run was refused, which only the device did.
+/// Whether a run was refused, which only the disk did.
 fn is_device(rt: &impl Abort, fault: Option<RunFault>, call: u64) -> bool {
     match fault {
         Some(fault) => {
@@ -137,7 +137,7 @@ fn is_device(rt: &impl Abort, fault: Option<RunFault>, call: u64) -> bool {
     }
 }
 
-/// An upload of a spool comes behind others, if it is there.
+/// An upload of a spool comes after others, if it is there.
 fn put_upload_of(
     rt: &impl Abort,
     alloc: Global,

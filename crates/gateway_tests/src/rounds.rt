@@ -13,7 +13,7 @@ use std::process::Abort;
 #[derive(Drop)]
 struct Deeds {
     script: &'static [u8],
-    /// What there is to be written in turn, and what a HEAD of the upload is given behind it.
+    /// What there is to be written in turn, and what a HEAD of the upload is given after it.
     stages: &'static [(&'static [u8], &'static [u8])],
 }
 
@@ -100,14 +100,14 @@ fn check(rt: &impl Abort, deeds: &Deeds, written: &[u8], shown: &[u8]) -> bool {
     let mut left = written;
     let mut right = false;
     let mut whole = true;
-    for (reply, behind) in deeds.stages {
+    for (reply, after) in deeds.stages {
         match left.strip_prefix(reply) {
             Some(rest) => {
                 left = rest;
-                right = shown == *behind;
+                right = shown == *after;
             }
             None => {
-                right |= shown == *behind;
+                right |= shown == *after;
                 whole = false;
                 break;
             }

@@ -139,7 +139,7 @@ const NOT_ENCODED: &[Step] = &[
     ),
 ];
 
-/// Behind `ONE_WINNER`.
+/// After `ONE_WINNER`.
 const WINNER_SHOWN: &[Step] = &[
     Shown(1, 1, "Upload-Offset: 2\nUpload-Length: 5"),
     Text(1, "UTF-8", b"xy"),
@@ -264,7 +264,7 @@ const NO_HEADS: &[Step] = &[
     Told("x 2"),
 ];
 
-/// Behind `HELLO`: HEAD by another method.
+/// After `HELLO`: HEAD by another method.
 const OTHER_METHOD: &[Step] = &[
     Say(
         1,
@@ -358,14 +358,14 @@ const DELETED_MEANWHILE: &[Step] = &[
     Gone(1, 1),
 ];
 
-/// Behind `FULL_SPOOL`.
+/// After `FULL_SPOOL`.
 const FULL_SHOWN: &[Step] = &[
     Shown(1, 2, "Upload-Offset: 61440\nUpload-Length: 61441"),
     Text(1, "UTF-8", BLOCK),
     Text(2, "UTF-8", FIFTEEN_BLOCKS),
 ];
 
-// Of each script: what it shows, how many blocks its spool has, its index file, a story, and the steps behind that.
+// Of each script: what it shows, how many blocks its spool has, its index file, a story, and the steps after that.
 
 /// Texts.
 const TEXTS: &[(&str, u32, Files, &[Step], &[Step])] = &[

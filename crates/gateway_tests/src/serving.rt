@@ -95,7 +95,7 @@ fn is_told(rt: &impl Abort, alloc: Global, client: &mut TcpStream, wanted: &[u8]
     assert_eq!(rt; bytes.as_slice(), wanted);
 }
 
-/// Serves so many connections over the spool on a disk, in at most so many turns. The disk behind it, and whether it
+/// Serves so many connections over the spool on a disk, in at most so many turns. The disk after it, and whether it
 /// went well.
 fn served<D: Disk + Drop, T: Clock>(
     rt: &impl Abort,
@@ -156,9 +156,9 @@ fn cut_body_counts_up_to_the_cut_and_a_close_is_told(rt: HostRuntime) {
     is_told(&rt, alloc, &mut lost, MALFORMED);
 }
 
-/// A disk fails at the first call behind the opening of its spool.
+/// A disk fails at the first call after the opening of its spool.
 #[test]
-fn nothing_is_told_behind_a_fault_of_the_device(rt: HostRuntime) {
+fn nothing_is_told_after_a_fault_of_the_device(rt: HostRuntime) {
     let alloc = rt.alloc();
     let listener = listen(&rt);
     let mut client = client(&rt, &listener, POST);

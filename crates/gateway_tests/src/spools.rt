@@ -26,7 +26,7 @@ pub(crate) fn ran<D: Disk>(alloc: Global, talk: &Talk, disk: D) -> (D, Option<Ru
     }
 }
 
-/// A script is run over a disk and refused so, or not at all, and what is wanted is written. The disk behind it.
+/// A script is run over a disk and refused so, or not at all, and what is wanted is written. The disk after it.
 pub(crate) fn ends(
     rt: &impl Abort,
     alloc: Global,

@@ -40,7 +40,7 @@ pub(crate) const CUT_CHARACTER: &[Step] = &[
     Changed(&[(1, 4, Some(4), b"\xE3\x81\x82\xEF\xBF\xBD ")]),
 ];
 
-/// A text in Shift_JIS whose length is declared behind its last byte.
+/// A text in Shift_JIS whose length is declared after its last byte.
 pub(crate) const DECLARED_LAST: &[Step] = &[
     Open(1),
     Deferred(1, "from c2hpZnRfamlz"),

@@ -55,7 +55,7 @@ pub(crate) enum Step<'a> {
     Changed(&'a [(u64, u64, Option<u64>, &'a [u8])]),
 }
 
-/// The uploads behind a change, and how much was written when it was acknowledged.
+/// The uploads after a change, and how much was written when it was acknowledged.
 #[derive(Drop)]
 pub(crate) struct Stage {
     pub(crate) written: usize,
@@ -76,7 +76,7 @@ pub(crate) struct Talk {
 
 const MEMORY: &str = "memory for a talk";
 
-/// These bytes come behind the others.
+/// These bytes come after the others.
 fn put(rt: &impl Abort, to: &mut Vec<u8>, bytes: &[u8]) {
     to.extend_from_slice(bytes).expect(rt, MEMORY);
 }
@@ -114,7 +114,7 @@ impl Talk {
         talk
     }
 
-    /// These steps come behind the others.
+    /// These steps come after the others.
     pub(crate) fn go_on(&mut self, rt: &impl Abort, steps: &[Step]) {
         for step in steps.iter() {
             self.take(rt, *step);

@@ -59,7 +59,7 @@ length-units_of big n (a ∷ []) long = absurd (omega (arith, long))
 length-units_of big zero (a ∷ b ∷ xs) long = absurd (omega (arith, long))
 length-units_of big (suc n) (a ∷ b ∷ xs) long = ap suc (length-units_of big n xs (omega (arith, long)))
 
--- 64 bytes behind what is carried: the units are those of the first 64 of all
+-- 64 bytes after what is carried: the units are those of the first 64 of all
 module _ (bytes : List ℕ) (long : length bytes ≡ 64) where
   split_last : bytes ≡ take 63 bytes ++ get_or bytes 63 0 ∷ []
   split_last = sym (take_all 64 bytes (omega (arith, long))) ∙ take_more bytes 63 0 (omega (arith, long))

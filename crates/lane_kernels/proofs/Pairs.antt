@@ -1,4 +1,4 @@
--- The places right behind leads, as a mask: the leads' mask a place further, and the carried lead at the first place.
+-- The places right after leads, as a mask: the leads' mask a place further, and the carried lead at the first place.
 use Rattle.std.proofs.Common.{◌≡◌, ℕ, zero, suc, ◌+◌, ◌*◌, ◌%◌, ◌^◌, ◌<◌, ◌≤◌, Bool, true, false, not, List, [], ◌∷◌}
 use Rattle.std.proofs.Common.{map, length, take, get_or, refl, ap, subst, sym, ◌∙◌, arith, bit_or, Option, lit<}
 use Rattle.std.proofs.lemmas.List.{length-map, length-take-le, get_or-map, get_or-take, get_or_default, same_lists}
@@ -43,9 +43,9 @@ low_mask n a long =
     ap (λ m. m % 2 ^ n) whole.1 ∙ add-mul-mod_self_left (mask_l (take n a)) (2 ^ n) whole.0
     ∙ mask_l-mod (take n a) n (omega (arith, length-take-le n a long))
 
--- the places right behind leads
-abbrev pub behind_leads : Option ℕ → List ℕ → List Bool
-behind_leads carried units = take 32 (is_some carried ∷ map is_lead units)
+-- the places right after leads
+abbrev pub after_leads : Option ℕ → List ℕ → List Bool
+after_leads carried units = take 32 (is_some carried ∷ map is_lead units)
 
 bit_small : (b : Bool) → bool_byte b < 2 ^ 1
 bit_small true = lit< tt
@@ -55,10 +55,10 @@ added_front : (b : Bool) (leads : List Bool) → mask_l leads * 2 ^ 1 + bool_byt
 added_front true leads = omega arith
 added_front false leads = omega arith
 
-pub mask_behind : (carried : Option ℕ) (units : List ℕ) → length units ≡ 32 →
+pub mask_after : (carried : Option ℕ) (units : List ℕ) → length units ≡ 32 →
     bit_or (mask_l (map is_lead units) * 2 % 2 ^ 64) (bool_byte (is_some carried)) % 2 ^ 32 ≡ mask_l
-    (behind_leads carried units)
-mask_behind carried units long =
+    (after_leads carried units)
+mask_after carried units long =
     let leads = map is_lead units in
     let many : length leads ≡ 32 = length-map units is_lead ∙ long in
     let small = mask_l-lt leads in
@@ -74,11 +74,11 @@ module _ (carried : Option ℕ) (units : List ℕ) (long : length units ≡ 32) 
   trail_at : (k : ℕ) → k < 32 → get_or (map is_trail units) k false ≡ is_trail (get_or units k 0)
   trail_at k inside = get_or-map is_trail units k 0 false (omega (arith, inside, long))
 
-  lead_before : (k : ℕ) → suc k < 32 → get_or (behind_leads carried units) (suc k) false ≡ is_lead (get_or units k 0)
+  lead_before : (k : ℕ) → suc k < 32 → get_or (after_leads carried units) (suc k) false ≡ is_lead (get_or units k 0)
   lead_before k inside = get_or-take 32 (is_some carried ∷ map is_lead units) (suc k) false inside
       ∙ get_or-map is_lead units k 0 false (omega (arith, inside, long))
 
-  pub paired_from_lanes : map is_trail units ≡ behind_leads carried units → ArePaired carried units
+  pub paired_from_lanes : map is_trail units ≡ after_leads carried units → ArePaired carried units
   paired_from_lanes same = record {
     first = λ some. sym (trail_at 0 (lit< tt)) ∙ ap (λ l. get_or l 0 false) same;
     next = λ k inside.
@@ -89,26 +89,26 @@ module _ (carried : Option ℕ) (units : List ℕ) (long : length units ≡ 32) 
   }
 
   lanes_at : ArePaired carried units → (k : ℕ) → k < 32 → get_or (map is_trail units) k false ≡ get_or
-      (behind_leads carried units) k false
+      (after_leads carried units) k false
   lanes_at paired zero inside = trail_at 0 inside ∙ paired.first (omega (arith, long))
   lanes_at paired (suc k) inside =
       let up : suc k ≡ k + 1 = omega arith in
       trail_at (suc k) inside ∙ ap (λ i. is_trail (get_or units i 0)) up ∙ paired.next k (omega (arith, inside, long))
       ∙ sym (lead_before k inside)
 
-  pub behind_long : length (behind_leads carried units) ≡ 32
-  behind_long = length-take-le 32 (is_some carried ∷ map is_lead units) (omega (arith, length-map units is_lead, long))
+  pub after_long : length (after_leads carried units) ≡ 32
+  after_long = length-take-le 32 (is_some carried ∷ map is_lead units) (omega (arith, length-map units is_lead, long))
 
   at_place : ArePaired carried units → (k : ℕ) (d : Bool) → k < 32 → get_or (map is_trail units) k d ≡ get_or
-      (behind_leads carried units) k d
+      (after_leads carried units) k d
   at_place paired k d inside =
       get_or_default (map is_trail units) k d false (omega (arith, length-map units is_trail, long, inside))
       ∙ lanes_at paired k inside
-      ∙ get_or_default (behind_leads carried units) k false d (omega (arith, behind_long, inside))
+      ∙ get_or_default (after_leads carried units) k false d (omega (arith, after_long, inside))
 
-  pub lanes_from_paired : ArePaired carried units → map is_trail units ≡ behind_leads carried units
+  pub lanes_from_paired : ArePaired carried units → map is_trail units ≡ after_leads carried units
   lanes_from_paired paired =
-      same_lists _ _ (length-map units is_trail ∙ long ∙ sym behind_long)
+      same_lists _ _ (length-map units is_trail ∙ long ∙ sym after_long)
       (λ k d inside. at_place paired k d (omega (arith, length-map units is_trail, long, inside)))
 
 -- units without surrogates are paired where no lead is carried

@@ -12,22 +12,22 @@ use Rattle.lane_kernels.specs.Units.{ArePaired}
 use Rattle.lane_kernels.specs.Steps.{fault_text, scalar_text, unit_fault, unit_scalar, scalars_of}
 use Rattle.lane_kernels.proofs.Tails.{first_byte, second_byte}
 
--- faults and scalars of units, and the lead behind them
+-- faults and scalars of units, and the lead after them
 abbrev units_text : Option ℕ → List ℕ → List ℕ
 units_text carried [] = []
 units_text carried (unit ∷ units) =
     (fault_text (unit_fault carried unit) ++ scalar_text (unit_scalar carried unit)) ++ units_text (lead_of unit) units
 
-abbrev lead_behind : Option ℕ → List ℕ → Option ℕ
-lead_behind carried [] = carried
-lead_behind carried (unit ∷ units) = lead_behind (lead_of unit) units
+abbrev lead_after : Option ℕ → List ℕ → Option ℕ
+lead_after carried [] = carried
+lead_after carried (unit ∷ units) = lead_after (lead_of unit) units
 
 abbrev walked : Bool → Option ℕ → List ℕ → Run Utf16
 walked big lead bytes = record {
   text = units_text lead (units_of big bytes);
   state = record {
     byte = left_over bytes;
-    lead = lead_behind lead (units_of big bytes);
+    lead = lead_after lead (units_of big bytes);
   };
 }
 
@@ -83,13 +83,13 @@ only_scalars carried (unit ∷ units) paired =
     (no_fault carried unit (paired.first (omega arith)))
     (only_scalars (lead_of unit) units (next_paired carried unit units paired))
 
-last_behind : (carried : Option ℕ) (units : List ℕ) → 0 < length units → lead_behind carried units ≡ last_lead units
-last_behind carried [] some = absurd (omega (arith, some))
-last_behind carried (unit ∷ []) some = refl
-last_behind carried (unit ∷ next ∷ units) some =
+last_after : (carried : Option ℕ) (units : List ℕ) → 0 < length units → lead_after carried units ≡ last_lead units
+last_after carried [] some = absurd (omega (arith, some))
+last_after carried (unit ∷ []) some = refl
+last_after carried (unit ∷ next ∷ units) some =
     let up : suc (length units) ≡ suc (suc (length units)) - 1 = omega arith in
     let down : suc (length units) - 1 ≡ length units = omega arith in
-    last_behind (lead_of unit) (next ∷ units) (omega arith)
+    last_after (lead_of unit) (next ∷ units) (omega arith)
     ∙ ap (λ i. lead_of (get_or (next ∷ units) i 0)) down
     ∙ ap (λ i. lead_of (get_or (unit ∷ next ∷ units) i 0)) up
 
@@ -112,4 +112,4 @@ paired_decode big s bytes paired some =
         byte = left_over (with_carried s.byte bytes);
         lead = lead;
       };
-    }) (only_scalars s.lead units paired) (last_behind s.lead units some)
+    }) (only_scalars s.lead units paired) (last_after s.lead units some)

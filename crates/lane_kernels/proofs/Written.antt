@@ -46,7 +46,7 @@ written_chunk new old at n inside room =
     ∙ sym (append_assoc (take at new) more (drop (at + n) old))
     ∙ ap (λ z. z ++ drop (at + n) old) (take_chunk new at n)
 
--- what lies behind is the old list's
+-- what lies after is the old list's
 pub rest_kept : (new old : List ℕ) (at n : ℕ) → at ≤ length new → at ≤ n
     → drop n (take at new ++ drop at old) ≡ drop n old
 rest_kept new old at n inside further = drop-append-drop at old (take at new) n further (length-take-le at new inside)

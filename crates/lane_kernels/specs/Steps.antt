@@ -17,7 +17,7 @@ scalar_text (Some c) = c ∷ []
 abbrev pub step_text : Step → List ℕ
 step_text step = fault_text step.fault ++ scalar_text step.scalar
 
--- a unit behind what is carried as a lead: a fault is a trail without its lead, or a lead without its trail
+-- a unit after what is carried as a lead: a fault is a trail without its lead, or a lead without its trail
 abbrev pub unit_fault : Option ℕ → ℕ → Bool
 unit_fault None unit = is_trail unit
 unit_fault (Some lead) unit = not (is_trail unit)
@@ -30,7 +30,7 @@ pair_of (Some lead) trail = Some (0x10000 + (lead - 0xD800) * 0x400 + (trail - 0
 abbrev pub unit_scalar : Option ℕ → ℕ → Option ℕ
 unit_scalar carried unit = if is_lead unit then None else if is_trail unit then pair_of carried unit else Some unit
 
--- the scalars of units behind what is carried as a lead: one of each pair of surrogates, and one of each unit that is
+-- the scalars of units after what is carried as a lead: one of each pair of surrogates, and one of each unit that is
 -- none
 abbrev pub scalars_of : Option ℕ → List ℕ → List ℕ
 scalars_of carried [] = []

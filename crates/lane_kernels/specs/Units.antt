@@ -21,8 +21,8 @@ abbrev pub IsCarried : Option ℕ → Type 0
 IsCarried None = Unit {0}
 IsCarried (Some unit) = is_lead unit ≡ true
 
--- PAIRED UNITS, behind a carried lead or none: a unit is a trail just where a lead stands right in front of it. So each
--- trail stands right behind a lead, and each lead has a trail right behind it, but for a lead that is the last unit.
+-- PAIRED UNITS, after a carried lead or none: a unit is a trail just where a lead stands right in front of it. So each
+-- trail stands right after a lead, and each lead has a trail right after it, but for a lead that is the last unit.
 pub record ArePaired (carried : Option ℕ) (units : List ℕ) : Type 0 where
   -- in front of the first unit stands the carried lead
   pub first : 0 < length units → is_trail (slice_index units 0) ≡ is_some carried

@@ -11,7 +11,7 @@ ghost use Rattle.lane_kernels.specs.Units.{units_of, with_carried};
 ghost use Rattle.lane_kernels.specs.Steps.{step_text, unit_fault, unit_scalar};
 
 use crate::order::Order;
-use crate::units::{are_paired, lead_in, left_behind, paired, unit_in, units_behind};
+use crate::units::{are_paired, lead_in, left_after, paired, unit_in, units_after};
 use std::marker::Model;
 use std::simd::prelude::*;
 
@@ -74,7 +74,7 @@ impl Pairing {
     }
 
     /// Makes 32 units of the carried byte, where there is one, and the 64 bytes, and says whether they are paired
-    /// behind the carried lead. Where they are, a byte left over and a last lead are carried on; where they aren't,
+    /// after the carried lead. Where they are, a byte left over and a last lead are carried on; where they aren't,
     /// what is carried stays. The units are written in either case.
     pub fn block(&mut self, order: Order, bytes: &[u8; 64], units: &mut [u16; 32]) -> bool
         ensures units { units.new ≡ units_of (is_big order) (with_carried self.old.byte bytes.now) }
@@ -88,17 +88,17 @@ impl Pairing {
             }) }
         ensures kept { OnFalse result (self.new ≡ self.old) }
     {
-        let lanes = units_behind(order, self.odd, bytes);
+        let lanes = units_after(order, self.odd, bytes);
         *units = lanes.to_array();
         if !are_paired(self.lead, lanes) {
             return false;
         }
-        self.odd = left_behind(self.odd, bytes);
+        self.odd = left_after(self.odd, bytes);
         self.lead = lead_in(units[31]);
         true
     }
 
-    /// Takes a unit behind what is carried as a lead.
+    /// Takes a unit after what is carried as a lead.
     fn unit(&mut self, unit: u16) -> Step
         requires { self.old.byte ≡ None }
         ensures fault { result.fault ≡ unit_fault self.old.lead unit }

@@ -37,7 +37,7 @@ pub fn paired(lead: u16, trail: u16) -> char
     }
 }
 
-/// The first 64 of a byte and those behind it. It is rarely called, and kept apart so that its moves aren't mixed with
+/// The first 64 of a byte and those after it. It is rarely called, and kept apart so that its moves aren't mixed with
 /// plain loads.
 #[inline(never)]
 fn joined(first: u8, bytes: &[u8; 64]) -> [u8; 64]
@@ -48,8 +48,8 @@ fn joined(first: u8, bytes: &[u8; 64]) -> [u8; 64]
     joined
 }
 
-/// The byte that is left over of those behind what is carried.
-pub(crate) fn left_behind(odd: Option<u8>, bytes: &[u8; 64]) -> Option<u8>
+/// The byte that is left over of those after what is carried.
+pub(crate) fn left_after(odd: Option<u8>, bytes: &[u8; 64]) -> Option<u8>
     ensures { result ≡ left_over (with_carried odd bytes.now) }
 {
     match odd {
@@ -98,9 +98,9 @@ fn units_in(order: Order, bytes: u8x64) -> u16x32
     }
 }
 
-/// The units of the first 64 of the bytes behind what is carried.
+/// The units of the first 64 of the bytes after what is carried.
 #[inline(always)]
-pub(crate) fn units_behind(order: Order, odd: Option<u8>, bytes: &[u8; 64]) -> u16x32
+pub(crate) fn units_after(order: Order, odd: Option<u8>, bytes: &[u8; 64]) -> u16x32
     ensures { result ≡ units_of (is_big order) (take 64 (with_carried odd bytes.now)) }
 {
     match odd {
@@ -128,18 +128,18 @@ pub fn scalar_front(units: &[u16; 32]) -> usize
     )
 }
 
-/// Whether the units are paired, behind a carried lead or none: the trails are the places right behind leads.
+/// Whether the units are paired, after a carried lead or none: the trails are the places right after leads.
 #[inline(never)]
 fn surrogates_are_paired(carried: Option<u16>, units: u16x32) -> bool
     ensures { IsTrue result ↔ ArePaired carried units }
 {
     let leads = mask_within(units, 0xD800, 0xDBFF);
     let trails = mask_within(units, 0xDC00, 0xDFFF);
-    let behind_leads = (leads << 1) | carried.is_some() as u64;
-    trails == behind_leads % (1 << 32)
+    let after_leads = (leads << 1) | carried.is_some() as u64;
+    trails == after_leads % (1 << 32)
 }
 
-/// Whether the units are paired, behind a carried lead or none, seen at once where none is a surrogate.
+/// Whether the units are paired, after a carried lead or none, seen at once where none is a surrogate.
 #[inline(always)]
 pub(crate) fn are_paired(carried: Option<u16>, units: u16x32) -> bool
     ensures { IsTrue result ↔ ArePaired carried units }

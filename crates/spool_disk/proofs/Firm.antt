@@ -9,7 +9,7 @@ use Rattle.spool_disk.proofs.Span.{span_same}
 
 pub apart_at : (at n at' n' p : ℕ) → Apart at n at' n' → In at n p → In at' n' p → ⊥
 apart_at at n at' n' p (inl before) here there = omega (arith, here.below, there.from)
-apart_at at n at' n' p (inr behind) here there = omega (arith, here.from, there.below)
+apart_at at n at' n' p (inr after) here there = omega (arith, here.from, there.below)
 
 -- what was written stands there once it is synced
 pub written_firm : {seen mid seen' : ℕ → ℕ} {loose between loose' : ℕ → Type 0} {at : ℕ} {bytes : List ℕ}

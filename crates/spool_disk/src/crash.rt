@@ -1,4 +1,4 @@
-//! What a crash makes of bytes that were written and not synced, and disks that go on behind one.
+//! What a crash makes of bytes that were written and not synced, and disks that go on after one.
 ghost use Rattle.std.specs.Prelude.{◌≡◌, ◌↔◌, ℕ};
 ghost use Rattle.spool_disk.specs.Disk.{IsImage};
 
@@ -20,10 +20,10 @@ pub trait CrashDisk: Disk {
     /// What is chosen of a crash.
     type How;
 
-    /// What the choice says, from the disk before the crash to the disk behind it.
+    /// What the choice says, from the disk before the crash to the disk after it.
     ghost chosen: { Self.How → Self → Self → Type 0 };
 
-    /// The disk behind a crash. A crash is no call that fails.
+    /// The disk after a crash. A crash is no call that fails.
     fn restart(self, how: &Self::How) -> Self
         ensures size { Self.size result ≡ Self.size self }
         ensures honest { Self.honest self ↔ Self.honest result }

@@ -41,7 +41,7 @@ pub trait Disk {
     /// How many calls failed, or 2^64 - 1 where they were more.
     ghost failures: { Self → ℕ };
 
-    /// Which calls fail, as far as this kind of disk tells: whether one did, the disk before it and the disk behind it.
+    /// Which calls fail, as far as this kind of disk tells: whether one did, the disk before it and the disk after it.
     ghost tells: { Type 0 → Self → Self → Type 0 };
 
     /// The number of bytes.

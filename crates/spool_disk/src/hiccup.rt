@@ -12,7 +12,7 @@ const FILLED: usize = 65536;
 #[derive(Drop)]
 pub struct HiccupDisk<D> {
     inner: D,
-    // how many calls pass before the one that fails, None behind it
+    // how many calls pass before the one that fails, None after it
     wait: Option<u64>,
     fill: Option<u8>,
     missed: u64,
@@ -144,7 +144,7 @@ impl<D: Disk> Disk for HiccupDisk<D> {
 impl<D: CrashDisk> CrashDisk for HiccupDisk<D> {
     ghost use Rattle.spool_disk.specs.Hiccup.{within_of, wait_of, fill_of};
 
-    /// What is chosen of a crash of the disk within, and the call that fails behind it.
+    /// What is chosen of a crash of the disk within, and the call that fails after it.
     type How = (D::How, u64);
 
     ghost chosen = { λ how old new. D.chosen how.0 (within_of old)

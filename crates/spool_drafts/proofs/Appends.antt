@@ -26,7 +26,7 @@ pub some_of : (piece : List ℕ) (empty : Bool) → empty ≡ eqb (length piece)
 some_of [] empty is not = absurd (both_ways empty not is)
 some_of (b ∷ piece) empty is not = omega arith
 
--- the draft behind a piece
+-- the draft after a piece
 abbrev pub gone_on : SpoolDraft → Growth → NewText → ℕ → SpoolDraft
 gone_on d growth fresh count = record {
   number = d.number;

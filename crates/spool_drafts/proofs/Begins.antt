@@ -15,7 +15,7 @@ use Rattle.upload_rules.specs.Store.{Upload, text_of, text_with, is_complete}
 use Rattle.upload_rules.specs.Texts.{HoldsText}
 use Rattle.upload_rules.specs.World.{Patch, patch_text}
 use Rattle.upload_rules.specs.declared.records.Record.{Record}
-use Rattle.upload_rules.proofs.TextGrows.{text_behind}
+use Rattle.upload_rules.proofs.TextGrows.{text_after}
 use Rattle.spool_texts.specs.TextOn.{blocks_on, text_on}
 use Rattle.spool_texts.proofs.Shown.{length-blocks_on}
 use Rattle.spool_drafts.specs.Drafts.{Holds, open_text}
@@ -57,7 +57,7 @@ module _ (x : IndexSet) (u : Upload) (n count : ℕ) (declare : Option ℕ) wher
   no_longer : (patch_text x first false).fault ≡ None → length (patch_text x first false).bytes ≤ length (text_of x u)
   no_longer none = elim (cases_Bool (is_complete u)) [
     | inl whole ↦
-        let both = text_behind (tables x) u.from u.to u.mode (u.accepted ++ []) [] true
+        let both = text_after (tables x) u.from u.to u.mode (u.accepted ++ []) [] true
         (ap (λ r. r.fault) (sym first_text) ∙ none) in
         let at = ap (λ (b : List ℕ). length (text_with x (record u { accepted = [] }) b true).bytes)
         (append-nil (u.accepted ++ [])) in

@@ -26,7 +26,7 @@ pub begun_bytes : (seen seen' : ℕ → ℕ) (first : ℕ) (g h : Growth) (text 
 begun_bytes seen seen' first g h text none some empty is =
     ap (bytes_on seen' first h) some ∙ content_empty seen' first text _ empty is ∙ sym (ap (bytes_on seen first g) none)
 
--- the first bytes of a block, whatever is behind it
+-- the first bytes of a block, whatever is after it
 front_of : (seen : ℕ → ℕ) (first b n : ℕ) (rest : List ℕ) → n ≤ 4096 → text_on seen first (b ∷ rest) n ≡ text_on seen
     first (b ∷ []) n
 unfolding blocks_on

@@ -27,7 +27,7 @@ need_none : (t n : ℕ) → need_of t (n - t % 4096) ≡ 0 → n ≤ t % 4096
 need_none t n none = ⊎_elim (λ (lt : t % 4096 < n). omega (arith, lt, none, need_some t n lt))
     (λ (le : n ≤ t % 4096). le) (cases_lt (t % 4096) n)
 
--- the length of the text that ended: as it was where no block is listed, and behind its full blocks where some are
+-- the length of the text that ended: as it was where no block is listed, and after its full blocks where some are
 whole_is : (t n : ℕ) (list last : List ℕ) (whole : ℕ) → t % 4096 ≤ n → length list ≡ need_of t (n - t % 4096)
     → (length list ≡ 0 → whole ≡ t)
     → (0 < length list → whole ≡ 4096 * (t / 4096) + count_with list last)

@@ -8,7 +8,7 @@ use Rattle.enc_model.specs.Indexes.{IndexSet, tables}
 use Rattle.upload_rules.specs.Room.{need_of, wants, need}
 use Rattle.upload_rules.specs.Store.{Upload, text_of, text_with, is_complete}
 use Rattle.upload_rules.specs.World.{Patch, is_there, patch_text}
-use Rattle.upload_rules.proofs.TextGrows.{text_behind}
+use Rattle.upload_rules.proofs.TextGrows.{text_after}
 use Rattle.upload_rules.proofs.Transcoders.{stays_unencodable}
 use Rattle.spool_drafts.specs.Drafts.{open_text, with_piece}
 
@@ -39,14 +39,14 @@ unfolding text_of
 in_front x u bytes done still none =
     let at : u.accepted ++ [] ≡ u.accepted = append-nil u.accepted in
     let first : (text_with x u [] false).fault ≡ None = value_before x u [] bytes done none in
-    let both = text_behind (tables x) u.from u.to u.mode (u.accepted ++ []) bytes done first in
+    let both = text_after (tables x) u.from u.to u.mode (u.accepted ++ []) bytes done first in
     let same : (u.accepted ++ []) ++ bytes ≡ u.accepted ++ bytes = ap (λ (b : List ℕ). b ++ bytes) at in
     let grown = ap length (ap (λ (b : List ℕ). (text_with x (record u { accepted = [] }) b done).bytes) (sym same)
     ∙ both.1) in
     let own = ap (λ (b : Bool). length (text_with x u [] b).bytes) still in
     omega (arith, grown, own, length-append (text_with x u [] false).bytes both.0)
 
--- what a patch wants, by its text behind the full blocks of the committed one
+-- what a patch wants, by its text after the full blocks of the committed one
 pub wants_is : (x : IndexSet) (p : Patch) (done : Bool) → (patch_text x p done).fault ≡ None
     → wants x p done ≡ need_of (length (text_of x p.began))
     (length (open_text x p done) - length (text_of x p.began) % 4096)
@@ -77,7 +77,7 @@ need_fault x p done there = by_short p.short refl
     by_short true e = need_short x p done e
     by_short false e = need_roomy x p done e ∙ wants_nothing x p done there
 
--- the text behind the full blocks grows by what comes
+-- the text after the full blocks grows by what comes
 pub open_grows : (x : IndexSet) (p : Patch) (piece text : List ℕ) (done done' : Bool)
     → length (text_of x p.began) ≤ length (patch_text x p done).bytes
     → (text_with x p.began p.body done).bytes ++ text ≡ (text_with x p.began (p.body ++ piece) done').bytes

@@ -1,4 +1,4 @@
--- Where transcoding stands over an upload's bytes, told from behind them.
+-- Where transcoding stands over an upload's bytes, told from after them.
 use Rattle.std.proofs.Common.{◌≡◌, ℕ, Bool, false, List, [], ◌++◌, None, Ok, Err, Result, refl, sym, ◌∙◌}
 use Rattle.std.proofs.Common.{ap, subst, append_assoc, append-nil, Vec, Global}
 use Rattle.enc_model.specs.Indexes.{IndexSet, tables}
@@ -18,21 +18,21 @@ use Rattle.upload_rules.proofs.Transcoders.{without_fault}
 use Rattle.spool_drafts.specs.Fresh.{StandsAt, Adds, IsEmptied, text_in, FinishesAs}
 
 -- an upload with these bytes accepted, of a length that isn't known
-abbrev pub behind : Upload → List ℕ → Upload
-behind u bytes = record u { accepted = u.accepted ++ bytes; declared = None }
+abbrev pub after : Upload → List ℕ → Upload
+after u bytes = record u { accepted = u.accepted ++ bytes; declared = None }
 
-pub behind_open : (u : Upload) (bytes : List ℕ) → is_complete (behind u bytes) ≡ false
-behind_open u bytes = refl
+pub after_open : (u : Upload) (bytes : List ℕ) → is_complete (after u bytes) ≡ false
+after_open u bytes = refl
 
 module _ (x : IndexSet) (u : Upload) (bytes : List ℕ) where
   at_nil : (u.accepted ++ bytes) ++ [] ≡ u.accepted ++ bytes
   at_nil = append-nil (u.accepted ++ bytes)
 
-  same_text : (done : Bool) → text_with x (behind u bytes) [] done ≡ text_with x u bytes done
+  same_text : (done : Bool) → text_with x (after u bytes) [] done ≡ text_with x u bytes done
   same_text done = ap (λ (b : List ℕ). text_with x (record u { accepted = [] }) b done) at_nil
 
   pub holds_text : (f g : NewText) → is_complete u ≡ false → IsEmptied f g → StandsAt x u bytes f
-      → HoldsText x (behind u bytes) [] g
+      → HoldsText x (after u bytes) [] g
   holds_text (Growing t text) (Growing t' text') still same here = (
     record {
       unspent = ap (λ (s : Standing). s.spent) same.0 ∙ here.0.unspent;
@@ -42,8 +42,8 @@ module _ (x : IndexSet) (u : Upload) (bytes : List ℕ) where
       at = subst (λ (s : Standing). IsAt (tables x) s.transcoder ((u.accepted ++ bytes) ++ [])) (sym same.0)
           (subst (IsAt (tables x) t.transcoder) (sym at_nil) here.0.at);
     },
-    ap (λ (b : List ℕ). (text_with x (behind u bytes) [] false).bytes ++ b) same.1
-        ∙ append-nil (text_with x (behind u bytes) [] false).bytes,
+    ap (λ (b : List ℕ). (text_with x (after u bytes) [] false).bytes ++ b) same.1
+        ∙ append-nil (text_with x (after u bytes) [] false).bytes,
   )
   holds_text (Growing t text) Unencodable still same here = absurd same
   holds_text (Growing t text) Complete still same here = absurd same
@@ -55,11 +55,11 @@ module _ (x : IndexSet) (u : Upload) (bytes : List ℕ) where
   further : (piece : List ℕ) → (u.accepted ++ bytes) ++ piece ≡ u.accepted ++ (bytes ++ piece)
   further piece = append_assoc u.accepted bytes piece
 
-  longer_text : (piece : List ℕ) (done : Bool) → text_with x (behind u bytes) piece done ≡ text_with x u
+  longer_text : (piece : List ℕ) (done : Bool) → text_with x (after u bytes) piece done ≡ text_with x u
       (bytes ++ piece) done
   longer_text piece done = ap (λ (b : List ℕ). text_with x (record u { accepted = [] }) b done) (further piece)
 
-  pub stands_on : (piece : List ℕ) (f g : NewText) → HoldsText x (behind u bytes) piece f → IsEmptied f g
+  pub stands_on : (piece : List ℕ) (f g : NewText) → HoldsText x (after u bytes) piece f → IsEmptied f g
       → StandsAt x u (bytes ++ piece) g
   stands_on piece (Growing t text) (Growing t' text') held same = (
     record {
@@ -77,9 +77,9 @@ module _ (x : IndexSet) (u : Upload) (bytes : List ℕ) where
   stands_on piece Unencodable (Growing t text) held same = absurd same
   stands_on piece Unencodable Unencodable held same = ap (λ r. is_there r.fault) (sym (longer_text piece false)) ∙ held
   stands_on piece Unencodable Complete held same = absurd same
-  stands_on piece Complete g held same = let open_still = behind_open u bytes in absurd cc
+  stands_on piece Complete g held same = let open_still = after_open u bytes in absurd cc
 
-  pub adds_on : (piece : List ℕ) (f g : NewText) (text : List ℕ) → HoldsText x (behind u bytes) piece f → IsEmptied f g
+  pub adds_on : (piece : List ℕ) (f g : NewText) (text : List ℕ) → HoldsText x (after u bytes) piece f → IsEmptied f g
       → text ≡ text_in f → Adds x u bytes piece g text
   adds_on piece (Growing t scratch) (Growing t' scratch') text held same is =
       ap (λ (b : List ℕ). (text_with x u bytes false).bytes ++ b) is ∙ ap (λ r. r.bytes ++ scratch.items)
@@ -90,7 +90,7 @@ module _ (x : IndexSet) (u : Upload) (bytes : List ℕ) where
   adds_on piece Complete (Growing t scratch) text held same is = absurd same
 
   pub finishes : (done : Bool) (result : Result (List ℕ × Vec ℕ Global) UploadError)
-      → IsEnded x (behind u bytes) [] done result → FinishesAs x u bytes done result
+      → IsEnded x (after u bytes) [] done result → FinishesAs x u bytes done result
   unfolding state_with
   finishes done (Ok parts) ended = record {
     state_is = ended.state_is ∙ ap (λ (b : List ℕ). state_bytes (transcoder_over (tables x) u.from u.to u.mode b done))

@@ -59,23 +59,23 @@ fresh_of d = d.fresh
 abbrev pub IsPlaced : ℕ → SpoolDraft → Type 0
 IsPlaced blocks d = IsTailed blocks d.growth
 
--- It began behind a text of this length, at these state bytes: where bytes may come, the encodings and the mode are
+-- It began after a text of this length, at these state bytes: where bytes may come, the encodings and the mode are
 -- still those, and there are greater offsets.
-pub record IsBehind (len : ℕ) (state : List ℕ) (d : SpoolDraft) : Type 0 where
+pub record IsAfter (len : ℕ) (state : List ℕ) (d : SpoolDraft) : Type 0 where
   pub committed : committed_len_of d ≡ len
   pub goes_on : GoesOn state (fresh_of d)
   pub room : IsGrowing (fresh_of d) → offset_of d + 1 < 2 ^ 64
 
--- what its text ends in goes behind that text: on these blocks, or without any where nothing was added, and with the
+-- what its text ends in goes after that text: on these blocks, or without any where nothing was added, and with the
 -- same encodings
-pub record EndsBehind (len : ℕ) (state list : List ℕ) (e : DraftEnd) : Type 0 where
+pub record EndsAfter (len : ℕ) (state list : List ℕ) (e : DraftEnd) : Type 0 where
   pub same : SameEncodings state e.state
   pub nothing : length list ≡ 0 → e.text_len ≡ len
   pub blocks : 0 < length list → blocks_of e.text_len ≡ len / 4096 + length list
 
 -- THE DRAFT OF A PATCH
 
--- the patch's text behind the full blocks of the committed one
+-- the patch's text after the full blocks of the committed one
 abbrev pub open_text : IndexSet → Patch → Bool → List ℕ
 open_text x p done = drop (4096 * (length (text_of x p.began) / 4096)) (patch_text x p done).bytes
 
@@ -101,7 +101,7 @@ pub record Holds (x : IndexSet) (p : Patch) (d : SpoolDraft) : Type 0 where
   pub needs : length (list_of d) ≡ need x p false
   pub kept : IsKept x p d → HoldsLen d.growth (length (open_text x p false))
 
--- and its bytes are the patch's: behind the full blocks of the committed text
+-- and its bytes are the patch's: after the full blocks of the committed text
 abbrev pub Carries : IndexSet → (ℕ → ℕ) → ℕ → Patch → SpoolDraft → Type 0
 Carries x seen first p d = IsKept x p d → bytes_on seen first d.growth d.growth.on ≡ open_text x p false
 
@@ -122,7 +122,7 @@ abbrev pub IsLonger : IndexSet → Patch → SpoolDraft → SpoolDraft → Held 
 IsLonger x q old new blocks blocks' =
     Holds x q new ⊎ (Holds x (shortened q) new × RunsShort blocks blocks' (list_of old) (wants x q false))
 
--- the whole text is the draft's, behind the full blocks of the committed text
+-- the whole text is the draft's, after the full blocks of the committed text
 pub record IsWhole (x : IndexSet) (p : Patch) (done : Bool) (d : SpoolDraft) (e : DraftEnd) : Type 0 where
   pub state_is : e.state ≡ state_with x p.began p.body done
   pub sound : IsSound (transcoder_with x p.began p.body done)
@@ -131,7 +131,7 @@ pub record IsWhole (x : IndexSet) (p : Patch) (done : Bool) (d : SpoolDraft) (e 
   pub listed : length (list_of d) ≡ wants x p done
   pub len : e.text_len ≡ length (patch_text x p done).bytes
 
--- how the text ends, behind an upload that wasn't complete
+-- how the text ends, after an upload that wasn't complete
 abbrev pub EndsAs : IndexSet → Patch → Bool → SpoolDraft → SpoolDraft → Held → Held → Result DraftEnd UploadError
     → Type 0
 EndsAs x p done old new blocks blocks' (Ok e) = IsWhole x p done new e

@@ -9,7 +9,7 @@ use Rattle.spool_texts.specs.Drafts.{IsReserved, Takes, GivesBack}
 use Rattle.spool_texts.specs.Written.{WritesIn, aside_blocks}
 use Rattle.spool_journal.specs.Image.{area_end}
 
--- The draft reserved free blocks behind its list. It holds them all then, or gave them all back.
+-- The draft reserved free blocks after its list. It holds them all then, or gave them all back.
 pub record Regrasps (old new : Held) (list list' own : List ℕ) : Type 0 where
   pub held : Held
   pub takes : Takes old held list own

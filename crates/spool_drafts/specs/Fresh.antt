@@ -13,13 +13,13 @@ use Rattle.upload_rules.specs.World.{is_there}
 use Rattle.upload_rules.specs.declared.new_text.NewText.{NewText}
 use Rattle.upload_rules.specs.declared.new_text.NewText.TheVariants.{Growing, Unencodable, Complete}
 
--- transcoding stands behind the accepted bytes and these, and no text is kept
+-- transcoding stands after the accepted bytes and these, and no text is kept
 abbrev pub StandsAt : IndexSet → Upload → List ℕ → NewText → Type 0
 StandsAt x u bytes (Growing t text) = IsReading x u bytes t × (text.items ≡ [])
 StandsAt x u bytes Unencodable = is_there (text_with x u bytes false).fault ≡ true
 StandsAt x u bytes Complete = is_complete u ≡ true
 
--- a piece behind these bytes adds this to the text, where that has a value
+-- a piece after these bytes adds this to the text, where that has a value
 abbrev pub Adds : IndexSet → Upload → List ℕ → List ℕ → NewText → List ℕ → Type 0
 Adds x u bytes piece (Growing t scratch) text =
     (text_with x u bytes false).bytes ++ text ≡ (text_with x u (bytes ++ piece) false).bytes

@@ -1,4 +1,4 @@
--- The new text of a draft, with the committed text's bytes behind its last full block in front.
+-- The new text of a draft, with the committed text's bytes after its last full block in front.
 use Rattle.std.specs.Prelude.{◌≡◌, ◌⊎◌, ◌≤◌, ◌<◌, ◌*◌, ◌+◌, ◌-◌, ◌/◌, ◌%◌, ℕ, List, [], ◌∷◌, Option, None, Some, true}
 use Rattle.std.specs.Prelude.{false, length, get_or, replicate, Result, Ok, Err}
 use Rattle.upload_rules.specs.declared.errors.UploadError.{UploadError}

@@ -15,7 +15,7 @@ ghost use Rattle.upload_rules.specs.World.{Patch};
 ghost use Rattle.upload_rules.specs.declared.errors.UploadRefusal.{UploadRefusal as Refusal};
 ghost use Rattle.spool_drafts.specs.Effect.{Effect};
 ghost use Rattle.spool_drafts.specs.Growth.{list_on};
-ghost use Rattle.spool_drafts.specs.Drafts.{Holds, Carries, EndsAs, EndsBehind, IsBegun, IsBehind, IsLonger, IsPlaced};
+ghost use Rattle.spool_drafts.specs.Drafts.{Holds, Carries, EndsAs, EndsAfter, IsBegun, IsAfter, IsLonger, IsPlaced};
 ghost use Rattle.spool_drafts.specs.Drafts.{with_piece, open_text, number_of, offset_of, came_of, list_of};
 ghost use Rattle.spool_drafts.specs.Drafts.{declare_of, committed_len_of, fresh_of, tail_of};
 
@@ -56,7 +56,7 @@ pub struct DraftEnd {
 }
 
 impl SpoolDraft {
-    /// A draft of `count` bytes at an offset, which may declare the upload's length, behind the text that lies on the
+    /// A draft of `count` bytes at an offset, which may declare the upload's length, after the text that lies on the
     /// listed blocks, by ordinal: refused with `Offset`, `TooLarge`, `LengthSet`, `TooLong`. It takes no memory and no
     /// block.
     pub fn begin(
@@ -82,10 +82,10 @@ impl SpoolDraft {
         ensures placed { (blocks : ℕ) → AllBelow blocks list.now → IfOk result (λ d. IsPlaced blocks d) }
         ensures named { IfOk result
             (λ d. (number_of d ≡ upload.now.number) × (offset_of d ≡ upload.now.accepted) × (declare_of d ≡ declare)) }
-        ensures behind { IfOk result (IsBehind upload.now.text_len upload.now.state) }
+        ensures after { IfOk result (IsAfter upload.now.text_len upload.now.state) }
     {
         upload.admits(offset, count, declare)?;
-        let Some(fresh) = NewText::behind(alloc, upload) else {
+        let Some(fresh) = NewText::after(alloc, upload) else {
             return Err(UploadRefusal::NoSuch);
         };
         Ok(SpoolDraft {
@@ -94,7 +94,7 @@ impl SpoolDraft {
             came: 0,
             declare,
             fresh,
-            growth: Growth::behind(upload.text_len, list),
+            growth: Growth::after(upload.text_len, list),
             spare: Spare::new(alloc),
         })
     }
@@ -170,7 +170,7 @@ impl SpoolDraft {
         ensures same { (number_of self.new ≡ number_of self.old) × (offset_of self.new ≡ offset_of self.old)
             × (declare_of self.new ≡ declare_of self.old) × (committed_len_of self.new ≡ committed_len_of self.old)
             × (tail_of self.new ≡ tail_of self.old) }
-        ensures behind { (len : ℕ) (state : List ℕ) → IsBehind len state self.old → IsBehind len state self.new }
+        ensures after { (len : ℕ) (state : List ℕ) → IsAfter len state self.old → IsAfter len state self.new }
         ensures placed { IsPlaced layout.now self.new }
         ensures rows { blocks.new.rows ≡ blocks.old.rows }
         ensures reserved { IsReserved blocks.new (list_of self.new) }
@@ -240,10 +240,10 @@ impl SpoolDraft {
         ensures effect { Effect D.Disk (journal_pages layout.now) (list_of self.old) (list_of self.new) disk.old
             disk.new blocks.old blocks.new }
 
-        // What it ends in goes behind the text that it began behind, whatever the disk said.
-        ensures behind { (len : ℕ) (state : List ℕ) → IsState state → IsBehind len state self.old
-            → IfOk result (EndsBehind len state (list_of self.new)) }
-        ensures room { (len : ℕ) (state : List ℕ) → IsBehind len state self.old → IsOk result
+        // What it ends in goes after the text that it began after, whatever the disk said.
+        ensures after { (len : ℕ) (state : List ℕ) → IsState state → IsAfter len state self.old
+            → IfOk result (EndsAfter len state (list_of self.new)) }
+        ensures room { (len : ℕ) (state : List ℕ) → IsAfter len state self.old → IsOk result
             → offset_of self.old + 1 < 2 ^ 64 }
         ensures refusal { (e : Refusal) → IsErrOf result (UploadError.Refused e)
             → (e ≡ UploadRefusal.Unencodable) ⊎ (e ≡ UploadRefusal.Full) }
@@ -255,7 +255,7 @@ impl SpoolDraft {
         ensures lasts { D.honest disk.old
             → Lasts D.Disk disk.old disk.new (IsImage (D.seen disk.old) (D.loose disk.old)) }
 
-        // Behind an upload that wasn't complete: the text's end, and the bytes on the blocks, with those that are still
+        // After an upload that wasn't complete: the text's end, and the bytes on the blocks, with those that are still
         // to be written.
         ensures answer { (p : Patch) → Holds indexes.now p self.old → is_complete p.began ≡ false
             → EndsAs indexes.now p completes self.old self.new blocks.old blocks.new result }
@@ -294,7 +294,7 @@ impl SpoolDraft {
             × (committed_len_of self.new ≡ committed_len_of self.old) × (list_of self.new ≡ list_of self.old)
             × (fresh_of self.new ≡ fresh_of self.old) }
         ensures placed { (blocks : ℕ) → IsPlaced blocks self.old → IsPlaced blocks self.new }
-        ensures behind { (len : ℕ) (state : List ℕ) → IsBehind len state self.old → IsBehind len state self.new }
+        ensures after { (len : ℕ) (state : List ℕ) → IsAfter len state self.old → IsAfter len state self.new }
         ensures holds { (x : Indexes) (p : Patch) → Holds x p self.old → Holds x p self.new }
 
         // Where it has blocks, it carries what it carried.

@@ -10,7 +10,7 @@ use enc_index::IndexSet;
 use std::alloc::{AllocError, Global};
 use upload_rules::{NewText, UploadError, UploadRefusal};
 
-/// Where transcoding stands behind a piece more, and what the piece adds to the text, in the memory that is given.
+/// Where transcoding stands after a piece more, and what the piece adds to the text, in the memory that is given.
 pub(crate) fn read_on(
     alloc: Global,
     room: Vec<u8>,
@@ -31,7 +31,7 @@ pub(crate) fn read_on(
     Ok(split(alloc, next))
 }
 
-/// The state bytes behind the body, and what the end adds to the text where the patch completes the upload.
+/// The state bytes after the body, and what the end adds to the text where the patch completes the upload.
 pub(crate) fn finished(
     alloc: Global,
     fresh: &NewText,

@@ -18,7 +18,7 @@ use spool_texts::{DraftError, DraftText};
 use std::alloc::Global;
 use upload_rules::{UploadError, UploadRefusal};
 
-/// The new text of a draft behind the committed one of its upload.
+/// The new text of a draft after the committed one of its upload.
 #[derive(Drop)]
 pub(crate) struct Growth {
     /// The length of the committed text in bytes.
@@ -33,8 +33,8 @@ pub(crate) struct Growth {
 }
 
 impl Growth {
-    /// Nothing behind a text of this length on the listed blocks.
-    pub(crate) fn behind(text_len: u64, list: &[BlockNo]) -> Self
+    /// Nothing after a text of this length on the listed blocks.
+    pub(crate) fn after(text_len: u64, list: &[BlockNo]) -> Self
         requires long { text_len ≤ 4096 * length list.now }
         requires few { length list.now ≤ 65536 }
         ensures len { result.text_len ≡ text_len }
@@ -100,7 +100,7 @@ impl Growth {
         }
     }
 
-    /// Puts bytes behind, unless it is short of blocks. It runs short where no block is free for them, and gives all
+    /// Puts bytes after, unless it is short of blocks. It runs short where no block is free for them, and gives all
     /// back.
     pub(crate) fn put<D: Disk>(
         &mut self,
@@ -225,7 +225,7 @@ impl Growth {
                 self.give_back(blocks);
                 Err(UploadError::Refused(UploadRefusal::Full))
             }
-            // It makes no call of the device.
+            // It makes no call of the disk.
             Err(DraftError::NoMemory | DraftError::DiskFault) => Err(UploadError::NoMemory),
         }
     }
@@ -264,7 +264,7 @@ impl Growth {
         Ok(())
     }
 
-    // Puts bytes behind the begun text. It runs short where no block is free for them, and gives all back.
+    // Puts bytes after the begun text. It runs short where no block is free for them, and gives all back.
     fn put_more<D: Disk>(
         &mut self,
         disk: &mut D,
@@ -309,7 +309,7 @@ impl Growth {
     }
 }
 
-// The new text behind the committed one: the bytes on its last block are read, and without one zeros stand for them.
+// The new text after the committed one: the bytes on its last block are read, and without one zeros stand for them.
 fn begun<D: Disk>(
     alloc: Global,
     disk: &mut D,

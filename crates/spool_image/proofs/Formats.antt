@@ -23,7 +23,7 @@ pub front_kept : (seen : ℕ → ℕ) (loose : ℕ → Type 0) → KeepsFront se
 front_kept seen loose = record { same = λ p lt firm. refl; loosens = λ p lt l. l }
 
 module _ {seen seen' : ℕ → ℕ} {loose loose' : ℕ → Type 0} where
-  -- behind page 0 anything may be written
+  -- after page 0 anything may be written
   pub front_written : {at : ℕ} {bytes : List ℕ} {done : Type 0} → 4096 ≤ at
       → Writes at bytes done seen seen' loose loose' → KeepsFront seen seen' loose loose'
   front_written from writes = record {
@@ -73,7 +73,7 @@ read_then disk a b c n x lasts keeps then =
 pub lasts_none : {D : Type 0} (disk : Ghosts D) (d : D) (P : (ℕ → ℕ) → Type 0) → Lasts disk d d P
 lasts_none disk d P = record { later = omega arith; nothing_else = λ t image le left. inl left }
 
--- THE PAGES BEHIND IT, which are synced before page 0 is written
+-- THE PAGES AFTER IT, which are synced before page 0 is written
 
 pub fresh_image : {n end : ℕ} {x : IndexSet} {a b c : ℕ → ℕ} {lb lc : ℕ → Type 0} {done : Type 0} {bytes : List ℕ}
     → IsFreshTo n x end a → Still a b lb → Writes 0 bytes done b c lb lc → length bytes ≡ 4096 → (image : ℕ → ℕ)
@@ -97,5 +97,5 @@ fresh_image_synced fresh still writes again long image is =
 pub formats_to : (n : ℕ) (x : IndexSet) (image : ℕ → ℕ) → 16 ≤ n → n ≤ 65536 → IsIndexSet x
     → IsFreshTo n x (4096 * all_pages n) image → FormatsTo n x image
 formats_to n x image least most valid fresh = record {
-  shows = λ front. fresh_shows n x image (record { front = front; behind = fresh }) least most valid;
+  shows = λ front. fresh_shows n x image (record { front = front; after = fresh }) least most valid;
 }

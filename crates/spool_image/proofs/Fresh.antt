@@ -36,7 +36,7 @@ module _ (n : ℕ) (x : IndexSet) (p : ℕ) where
       let far : index_place n ≤ p = omega (arith, from) in
       rw (no p (index_place n) far, no p (state_place n) from)
 
--- behind the state page are zeros
+-- after the state page are zeros
 pub fresh_zeros : (n : ℕ) (x : IndexSet) (p : ℕ) → state_place n + 12 ≤ p → fresh_byte n x p ≡ 0
 fresh_zeros n x p from =
     fresh_state n x p (omega (arith, from))
@@ -50,17 +50,17 @@ pub fresh_more : {seen seen' : ℕ → ℕ} {loose loose' : ℕ → Type 0} {don
 fresh_more {seen = seen} {seen' = seen'} n x page bytes was writes done long here = record {
   each = λ p from below. elim (cases_lt p (4096 * page)) [
     | inl before ↦ writes.outside p (λ within. omega (arith, within.from, before)) ∙ was.each p from before
-    | inr behind ↦
-        let at : 4096 * page + (p - 4096 * page) ≡ p = omega (arith, behind) in
+    | inr after ↦
+        let at : 4096 * page + (p - 4096 * page) ≡ p = omega (arith, after) in
         let there : seen' (4096 * page + (p - 4096 * page)) ≡ get_or bytes (p - 4096 * page) 0 =
         span_at seen' (4096 * page) bytes (p - 4096 * page) (writes.inside done)
-        (omega (arith, long, below, behind)) in
-        let is = here (p - 4096 * page) (omega (arith, below, behind)) in
+        (omega (arith, long, below, after)) in
+        let is = here (p - 4096 * page) (omega (arith, below, after)) in
         subst (λ (q : ℕ). seen' q ≡ fresh_byte n x q) at (there ∙ is)
   ];
 }
 
--- behind a sync that succeeded the bytes are the same, and none is loose
+-- after a sync that succeeded the bytes are the same, and none is loose
 pub synced_still : {a b : ℕ → ℕ} {la lb : ℕ → Type 0} {synced : Type 0} → Syncs synced a b la lb → synced
     → Still a b lb
 synced_still syncs done = record { reads = syncs.same done; firm = syncs.firm done }
@@ -76,7 +76,7 @@ fresh_all {c = c} n x bytes first writes two second long is was = record {
       subst (λ (q : ℕ). c q ≡ get_or bytes i 0) at
       (span_at c 0 bytes i (writes.inside two) (omega (arith, long, lt))) in
       second.reads i ∙ there ∙ is i;
-  behind = record {
+  after = record {
     each = λ p from below. second.reads p ∙ writes.outside p (λ within. omega (arith, within.below, from, long))
         ∙ first.reads p ∙ was.each p from below;
   };
@@ -87,5 +87,5 @@ pub fresh_on : {n : ℕ} {x : IndexSet} {seen image : ℕ → ℕ} {loose : ℕ 
     → ((p : ℕ) → loose p → ⊥) → IsFresh n x seen → IsFresh n x image
 fresh_on is firm fresh = record {
   front = λ i lt. is.same i (firm i) ∙ fresh.front i lt;
-  behind = record { each = λ p from below. is.same p (firm p) ∙ fresh.behind.each p from below };
+  after = record { each = λ p from below. is.same p (firm p) ∙ fresh.after.each p from below };
 }

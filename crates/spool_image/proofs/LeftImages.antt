@@ -10,7 +10,7 @@ use Rattle.spool_image.specs.LeftOnly.{LeftOnly, ShowsOne, SpoolLeft}
 use Rattle.spool_kept.specs.Shows.{ImageShows}
 use Rattle.spool_kept.specs.Stored.{ShowsEither}
 
--- of a spool that has n blocks, and as many behind the call
+-- of a spool that has n blocks, and as many after the call
 module _ {D : Type 0} (disk : Ghosts D) (old new : D) (honest : disk.honest old ↔ disk.honest new)
     (long : disk.size new ≡ disk.size old)
     (n n' : ℕ) (size : n' ≡ n) where

@@ -46,7 +46,7 @@ fresh_view n x = record {
 module _ (n : ℕ) (x : IndexSet) (image : ℕ → ℕ) (fresh : IsFresh n x image) where
   zeros : (place size : ℕ) → state_place n + 12 ≤ place → place + size ≤ 4096 * all_pages n → Stands image place size []
   zeros place size from below = record {
-    each = λ i lt. fresh.behind.each (place + i) (omega (arith, from)) (omega (arith, below, lt))
+    each = λ i lt. fresh.after.each (place + i) (omega (arith, from)) (omega (arith, below, lt))
         ∙ fresh_zeros n x (place + i) (omega (arith, from));
   }
 
@@ -73,13 +73,13 @@ module _ (n : ℕ) (x : IndexSet) (image : ℕ → ℕ) (fresh : IsFresh n x ima
         };
         area = λ i lt.
             let at : index_place n + i - index_place n ≡ i = omega arith in
-            fresh.behind.each (index_place n + i) (omega arith) (omega (arith, lt, all))
+            fresh.after.each (index_place n + i) (omega arith) (omega (arith, lt, all))
             ∙ fresh_area n x (index_place n + i) (omega arith) (omega (arith, lt))
             ∙ ap (λ (p : ℕ). area_byte x p) at;
         state = record {
           each = λ i lt.
               let at : state_place n + i - state_place n ≡ i = omega arith in
-              fresh.behind.each (state_place n + i) (omega arith) (omega (arith, lt, all, j))
+              fresh.after.each (state_place n + i) (omega arith) (omega (arith, lt, all, j))
               ∙ fresh_state n x (state_place n + i) (omega arith) ∙ ap (λ (p : ℕ). byte_of (state_page Two 1) p) at;
         };
         slots = λ s lt. subst (λ (o : Option SlotRecord). Stands image (slot_place n s) 2048 (slot_bytes Two o))
@@ -108,7 +108,7 @@ module _ (n : ℕ) (x : IndexSet) (image : ℕ → ℕ) (fresh : IsFresh n x ima
   gate_shut : image 4096 ≡ 165 → ⊥
   gate_shut ajar =
       let zero_there : image 4096 ≡ 0 =
-      fresh.behind.each 4096 (omega arith) (omega (arith, all_is n)) ∙ fresh_front n x 4096 (omega arith) in
+      fresh.after.each 4096 (omega arith) (omega (arith, all_is n)) ∙ fresh_front n x 4096 (omega arith) in
       omega (arith, zero_there, ajar)
 
   fresh_is : IsViewOf image (fresh_view n x)

@@ -16,7 +16,7 @@ use Rattle.spool_image.specs.declared.error.UpgradeError.TheVariants.{Open, Alre
 use Rattle.spool_load.proofs.Opens.{view_says_blocks}
 use Rattle.spool_load.proofs.Refused.{known_stands, says_one, version_one, version_stands}
 
--- told with this fault, where each other reason would be this one, or for memory or by the device
+-- told with this fault, where each other reason would be this one, or for memory or by the disk
 told_as : (e fault : OpenFault) → (e ≡ NotASpool → e ≡ fault) → (e ≡ Version → e ≡ fault) → (e ≡ Damaged → e ≡ fault)
     → (e ≡ fault) ⊎ (e ≡ NoMemory) ⊎ (e ≡ DiskFault)
 told_as NotASpool fault no_spool version damaged = inl (no_spool refl)
@@ -93,7 +93,7 @@ module _ (size : ℕ) (seen : ℕ → ℕ) where
 
   -- THE SAME OF AN UPGRADE
 
-  -- it is refused so, or for memory or by the device
+  -- it is refused so, or for memory or by the disk
   abbrev pub Upgrades : UpgradeError → UpgradeError → Type 0
   Upgrades e error = (e ≡ error) ⊎ (e ≡ Open NoMemory) ⊎ (e ≡ Open DiskFault)
 

@@ -68,7 +68,7 @@ pub on_ok_both : {T E : Type 0} (A B : Type 0) (r : Result T E) → OnOk r A →
 on_ok_both A B (Ok t) a b = (a, b)
 on_ok_both A B (Err e) a b = tt
 
--- what holds before a refusal that changes nothing holds behind it
+-- what holds before a refusal that changes nothing holds after it
 pub untouched_on : {D T E : Type 0} (P : D → Type 0) (fault : E) (mid new : D) (r : Result T E) → P mid
     → IfErr r (λ e. (e ≡ fault → ⊥) → new ≡ mid) → IfErr r (λ e. (e ≡ fault → ⊥) → P new)
 untouched_on P fault mid new (Ok t) p same = tt
@@ -81,7 +81,7 @@ if_err (Err e) P Q told more = more e told
 pub other_err : {T E : Type 0} (r : Result T E) (e fault : E) → r ≡ Err e → (e ≡ fault → ⊥) → r ≡ Err fault → ⊥
 other_err r e fault is fine bad = fine (same_Some _ _ (ap result_err (sym is ∙ bad)))
 
--- what shows behind it
+-- what shows after it
 pub rests_show : {D : Type 0} (disk : Ghosts D) (d' : D) (n : ℕ) (m : Store) (v : View) → v.blocks ≡ n
     → disk.honest d' → 4096 * all_pages n ≤ disk.size d' → Rests v (disk.seen d') (disk.loose d')
     → ((image : ℕ → ℕ) → IsViewOf image v → ImageShows n image m) → AllShow disk d' n m
@@ -164,7 +164,7 @@ unfound_upgrade size seen Damaged why = (
 unfound_upgrade size seen NoMemory why = absurd why
 unfound_upgrade size seen DiskFault why = tt
 
--- a spool that a read shows is found, unless the device fails
+-- a spool that a read shows is found, unless the disk fails
 pub unfound_device : {T : Type 0} (size : ℕ) (seen : ℕ → ℕ) (e : OpenFault) (P : T → Type 0)
     → LoadsAs {T = T} (Err e) P → NotFoundFor size seen e → e ≡ DiskFault
 unfound_device size seen NotASpool P h why = absurd h
@@ -186,17 +186,17 @@ pub other_old : (version : Version) → (version ≡ Two → ⊥) → version �
 other_old One not = refl
 other_old Two not = absurd (not refl)
 
--- behind an upgrade each image shows the same, unless the device failed
-pub behind_shows : {D : Type 0} (disk : Ghosts D) (d' : D) (n : ℕ) (m : Store) (v : View)
+-- after an upgrade each image shows the same, unless the disk failed
+pub after_shows : {D : Type 0} (disk : Ghosts D) (d' : D) (n : ℕ) (m : Store) (v : View)
     (r : Result (Unit {0}) UpgradeError) → v.blocks ≡ n → disk.honest d' → 4096 * all_pages n ≤ disk.size d'
     → (r ≡ Err (Open DiskFault) → ⊥)
     → OnOk r (Rests (upgraded v) (disk.seen d') (disk.loose d'))
     → IfErr r (λ e. (e ≡ Open DiskFault → ⊥) → Rests v (disk.seen d') (disk.loose d'))
     → ((image : ℕ → ℕ) → IsViewOf image v → ImageShows n image m)
     → ((image : ℕ → ℕ) → IsViewOf image (upgraded v) → ImageShows n image m) → AllShow disk d' n m
-behind_shows disk d' n m v (Ok t) same honest room fine done stays old new =
+after_shows disk d' n m v (Ok t) same honest room fine done stays old new =
     rests_show disk d' n m (upgraded v) same honest room done new
-behind_shows disk d' n m v (Err e) same honest room fine done stays old new =
+after_shows disk d' n m v (Err e) same honest room fine done stays old new =
     rests_show disk d' n m v same honest room
     (stays (λ is. fine (subst (λ (x : UpgradeError). ◌≡◌ {A = Result (Unit {0}) UpgradeError} (Err e) (Err x)) is
     refl)))

@@ -6,7 +6,7 @@ use Rattle.spool_journal.specs.Image.{byte_of, all_pages}
 use Rattle.spool_pages.specs.View.{index_place, state_place, first_page, state_page}
 use Rattle.spool_pages.specs.declared.version.Version.TheVariants.{Two}
 
--- its bytes behind page 0: zeros, the index area, and the state page with zeros behind it
+-- its bytes after page 0: zeros, the index area, and the state page with zeros after it
 unfoldable pub fresh_byte : ℕ → IndexSet → ℕ → ℕ
 fresh_byte n x p =
     if nat_lt p (index_place n) then 0
@@ -25,4 +25,4 @@ pub record KeepsFront (seen seen' : ℕ → ℕ) (loose loose' : ℕ → Type 0)
 -- and all of its pages
 pub record IsFresh (n : ℕ) (x : IndexSet) (image : ℕ → ℕ) : Type 0 where
   pub front : (i : ℕ) → i < 4096 → image i ≡ byte_of (first_page n) i
-  pub behind : IsFreshTo n x (4096 * all_pages n) image
+  pub after : IsFreshTo n x (4096 * all_pages n) image

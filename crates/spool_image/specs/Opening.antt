@@ -25,13 +25,13 @@ abbrev pub refusal_of : {D S : Type 0} → Result S (D × OpenFault) → Option 
 refusal_of (Ok s) = None
 refusal_of (Err e) = Some e.1
 
--- refused with this fault, or for memory or by the device
+-- refused with this fault, or for memory or by the disk
 abbrev pub IsRefusedAs : Option OpenFault → OpenFault → Type 0
 IsRefusedAs None fault = ⊥
 IsRefusedAs (Some e) fault = (e ≡ fault) ⊎ (e ≡ NoMemory) ⊎ (e ≡ DiskFault)
 
 -- Of a disk of this size and these bytes: what is opened is a sound spool, each refusal has its reason, and each reason
--- is answered so, unless memory or the device refuses it
+-- is answered so, unless memory or the disk refuses it
 pub record OpensExactly (size : ℕ) (seen : ℕ → ℕ) (refusal : Option OpenFault) : Type 0 where
   pub sound : refusal ≡ None → HoldsSpool size seen
   pub refused : IfSome refusal (RefusedFor size seen)
@@ -47,7 +47,7 @@ abbrev pub Unwritten : {D : Type 0} → Ghosts D → D → D → Type 0
 Unwritten disk before after = (NeedsReplay (disk.size before) (disk.seen before) → ⊥)
     → Lasts disk before after (IsImage (disk.seen before) (disk.loose before))
 
--- and a read gives what it gave, unless the device failed
+-- and a read gives what it gave, unless the disk failed
 abbrev pub ReadsSame : {D : Type 0} → Ghosts D → D → D → Type 0 → Type 0
 ReadsSame disk before after failed = (NeedsReplay (disk.size before) (disk.seen before) → ⊥) → (failed → ⊥)
     → Keeps (disk.seen before) (disk.seen after) (disk.loose before) (disk.loose after)

@@ -35,17 +35,17 @@ abbrev pub disk_after : {D : Type 0} {disk : Ghosts D} → Result (Spool D disk)
 disk_after (Ok s) = s.disk
 disk_after (Err e) = e.0
 
--- refused by the device
+-- refused by the disk
 abbrev pub IsFault : {D S : Type 0} → Result S (D × OpenFault) → Type 0
 IsFault (Ok s) = ⊥
 IsFault (Err e) = e.1 ≡ DiskFault
 
--- opened, or refused for memory or by the device
+-- opened, or refused by the disk or out of memory
 abbrev pub OpensAs : {D S : Type 0} → Result S (D × OpenFault) → (S → Type 0) → Type 0
 OpensAs (Ok s) done = done s
 OpensAs {S = S} (Err e) done = LoadsAs {T = S} (Err e.1) done
 
--- refused with this fault, or for memory or by the device
+-- refused with this fault, or for memory or by the disk
 abbrev pub RefusesAs : {D S : Type 0} → Result S (D × OpenFault) → OpenFault → Type 0
 RefusesAs (Ok s) fault = ⊥
 RefusesAs (Err e) fault = (e.1 ≡ fault) ⊎ (e.1 ≡ NoMemory) ⊎ (e.1 ≡ DiskFault)

@@ -52,17 +52,17 @@ UpgradeRefusedFor size seen AlreadyNew = IsAlreadyNew size seen
 UpgradeRefusedFor size seen (Open Damaged) = IsOldDamaged size seen
 UpgradeRefusedFor size seen (Open fault) = RefusedFor size seen fault
 
--- refused with this error, or for memory or by the device
+-- refused with this error, or for memory or by the disk
 abbrev pub RefusesUpgradeAs : {T : Type 0} → Result T UpgradeError → UpgradeError → Type 0
 RefusesUpgradeAs (Ok t) error = ⊥
 RefusesUpgradeAs (Err e) error = (e ≡ error) ⊎ (e ≡ Open NoMemory) ⊎ (e ≡ Open DiskFault)
 
--- a spool of version 1 is brought to version 2 and one of version 2 refused, or each for memory or by the device
+-- a spool of version 1 is brought to version 2 and one of version 2 refused, or each for memory or by the disk
 abbrev pub UpgradesOf : {T : Type 0} → Version → Result T UpgradeError → Type 0
 UpgradesOf version (Ok t) = version ≡ One
 UpgradesOf version (Err e) =
     ((version ≡ Two) × (e ≡ AlreadyNew)) ⊎ (e ≡ Open NoMemory) ⊎ (e ≡ Open DiskFault)
 
--- refused for memory or by the device
+-- refused by the disk or out of memory
 abbrev pub IsLateRefusal : UpgradeError → Type 0
 IsLateRefusal e = (e ≡ Open NoMemory) ⊎ (e ≡ Open DiskFault)

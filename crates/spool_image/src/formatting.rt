@@ -17,7 +17,7 @@ use spool_disk::{Disk, DiskFault};
 use spool_journal::{Layout, PAGE};
 use spool_pages::{MAGIC, Version, blank_page, first_page, state_page};
 
-// A page behind page 0 of a spool without uploads.
+// A page after page 0 of a spool without uploads.
 fn fresh_page(layout: &Layout, indexes: &IndexSet, page: u32) -> [u8; PAGE]
     ensures bytes { (i : ℕ) → i < 4096 → get_or result i 0 ≡ fresh_byte layout.now indexes.now (4096 * page + i) }
     ensures valid { index_place layout.now ≤ 4096 * page → 4096 * page < state_place layout.now
@@ -37,7 +37,7 @@ fn fresh_page(layout: &Layout, indexes: &IndexSet, page: u32) -> [u8; PAGE]
     blank_page()
 }
 
-// Writes all pages behind page 0.
+// Writes all pages after page 0.
 fn write_pages<D: Disk>(disk: &mut D, layout: &Layout, indexes: &IndexSet) -> Result<(), DiskFault>
     requires { 4096 * all_pages layout.now ≤ D.size disk.old }
     ensures size { D.size disk.new ≡ D.size disk.old }
@@ -57,7 +57,7 @@ fn write_pages<D: Disk>(disk: &mut D, layout: &Layout, indexes: &IndexSet) -> Re
     Ok(())
 }
 
-// Writes page 0 behind the others, which are synced before.
+// Writes page 0 after the others, which are synced before.
 fn write_first<D: Disk>(disk: &mut D, layout: &Layout) -> Result<(), DiskFault>
     requires { 4096 * all_pages layout.now ≤ D.size disk.old }
     ensures size { D.size disk.new ≡ D.size disk.old }

@@ -10,8 +10,8 @@ ghost use Rattle.spool_image.specs.Texts.{HasText};
 use spool_disk::Disk;
 
 /// Where each image of a disk shows the same uploads, the disk may be opened, and so may any disk of its size that a
-/// crash left with one of these images. This holds behind `format`, behind an opening, and behind `into_disk`. Where
-/// all of such a disk is synced, as behind a crash, each of its images shows what a read does.
+/// crash left with one of these images. This holds after `format`, after an opening, and after `into_disk`. Where
+/// all of such a disk is synced, as after a crash, each of its images shows what a read does.
 pub fn images_open<D: Disk>()
     ensures now { (d : D) (n : ℕ) (m : Store) → AllShow D.Disk d n m → IsSpool D.Disk d n m }
     ensures crashed { (d left : D) (n : ℕ) (m : Store) → AllShow D.Disk d n m → D.honest left → D.size left ≡ D.size d

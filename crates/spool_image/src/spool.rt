@@ -52,13 +52,13 @@ impl<D: Disk> Spool<D> {
     /// where a byte that is to be 0 isn't, the index area is no set's, the next number is out of its range, a number
     /// comes twice or isn't below the next one, a length is out of its range, a state is none of a transcoder or its
     /// phase doesn't fit the counts, metadata isn't printable ASCII, a row's slot is free, or a slot's ordinals are not
-    /// those of its text, each once; `NoMemory` where a growth was refused, and `DiskFault` where the device failed.
+    /// those of its text, each once; `NoMemory` when out of memory, and `DiskFault` where the disk failed.
     pub fn open(alloc: Global, disk: D) -> Result<Spool<D>, (D, OpenFault)>
         ensures size { D.size (disk_after result) ≡ D.size disk }
         ensures honest { D.honest disk ↔ D.honest (disk_after result) }
         ensures counts { Counts (IsFault result) (D.failures disk) (D.failures (disk_after result)) }
 
-        // A disk of which a read shows uploads is opened, and what a read shows is kept, or memory or the device
+        // A disk of which a read shows uploads is opened, and what a read shows is kept, or memory or the disk
         // refuses it.
         ensures opened { D.honest disk → (v : View) → IsSound v → IsViewOf (D.seen disk) v
             → 4096 * all_pages v.blocks ≤ D.size disk → OpensAs result (λ s. Keeps s v) }
@@ -67,7 +67,7 @@ impl<D: Disk> Spool<D> {
         ensures sound { D.honest disk → IfOk result (OpensFrom (D.size disk) (D.seen disk)) }
         ensures refused { D.honest disk → IfErr result (λ e. RefusedFor (D.size disk) (D.seen disk) e.1) }
 
-        // And each reason is answered so, unless memory or the device refuses it: no two hold, and none of a sound
+        // And each reason is answered so, unless memory or the disk refuses it: no two hold, and none of a sound
         // spool.
         ensures not_a_spool { D.honest disk → IsNoSpool (D.size disk) (D.seen disk)
             → RefusesAs result OpenFault.NotASpool }

@@ -94,15 +94,15 @@ fn rewrite<D: Disk>(alloc: Global, disk: &mut D, kept: &Kept) -> Result<(), Upgr
 /// # Errors
 ///
 /// As `Spool::open`: `Open(NotASpool)`, then as `recover`, then `Open(Version)`; then `AlreadyNew` where the spool is
-/// of version 2; then `Open(Damaged)`. `Open(NoMemory)` where a growth was refused, and `Open(DiskFault)` where the
-/// device failed. Unless the device failed, nothing was changed then but by the recovery.
+/// of version 2; then `Open(Damaged)`. `Open(NoMemory)` when out of memory, and `Open(DiskFault)` where the
+/// disk failed. Unless the disk failed, nothing was changed then but by the recovery.
 pub fn upgrade<D: Disk>(alloc: Global, disk: &mut D) -> Result<(), UpgradeError>
     ensures size { D.size disk.new ≡ D.size disk.old }
     ensures honest { D.honest disk.old ↔ D.honest disk.new }
     ensures counts { Counts (result ≡ Err (UpgradeError.Open Fault.DiskFault)) (D.failures disk.old)
         (D.failures disk.new) }
 
-    // A spool that a read shows is brought to version 2 where it is of version 1, or memory or the device refuses it.
+    // A spool that a read shows is brought to version 2 where it is of version 1, or memory or the disk refuses it.
     ensures upgraded { D.honest disk.old → (v : View) → IsSound v → IsViewOf (D.seen disk.old) v
         → 4096 * all_pages v.blocks ≤ D.size disk.old → UpgradesOf v.version result }
 
@@ -111,7 +111,7 @@ pub fn upgrade<D: Disk>(alloc: Global, disk: &mut D) -> Result<(), UpgradeError>
     ensures sound { D.honest disk.old
         → OnOk result (UpgradedFrom (D.size disk.old) (D.seen disk.old) (D.seen disk.new) (D.loose disk.new)) }
 
-    // Each refusal has its reason, and each reason is answered so, unless memory or the device refuses it.
+    // Each refusal has its reason, and each reason is answered so, unless memory or the disk refuses it.
     ensures refused { D.honest disk.old → IfErr result (UpgradeRefusedFor (D.size disk.old) (D.seen disk.old)) }
     ensures not_a_spool { D.honest disk.old → IsNoSpool (D.size disk.old) (D.seen disk.old)
         → RefusesUpgradeAs result (UpgradeError.Open Fault.NotASpool) }
@@ -145,7 +145,7 @@ pub fn upgrade<D: Disk>(alloc: Global, disk: &mut D) -> Result<(), UpgradeError>
     ensures crash { (n : ℕ) (m : Store) → IsSpool D.Disk disk.old n m
         → Lasts D.Disk disk.old disk.new (LeftOrShows D.Disk disk.old n m) }
 
-    // And behind it every image shows them, unless the device failed.
+    // And after it every image shows them, unless the disk failed.
     ensures shows { (n : ℕ) (m : Store) → IsSpool D.Disk disk.old n m
         → (result ≡ Err (UpgradeError.Open Fault.DiskFault) → ⊥) → AllShow D.Disk disk.new n m }
 {

@@ -141,7 +141,7 @@ fn replay<D: Disk>(disk: &mut D, head: &[u8; PAGE], journal: u32) -> Result<(), 
     Ok(())
 }
 
-// Replays the journal behind the open gate, and closes it.
+// Replays the journal after the open gate, and closes it.
 fn replay_all<D: Disk>(disk: &mut D, head: &[u8; PAGE], journal: u32) -> Result<(), DiskFault>
     requires few { journal ≤ 385 }
     requires form { InForm journal (word (byte_of head.now) 0) (λ k. word (byte_of head.now) (4 + 4 * k)) }
@@ -206,7 +206,7 @@ pub fn recover<D: Disk>(disk: &mut D, layout: &Layout) -> Result<(), RecoverErro
     ensures idle { D.honest disk.old → OnOk result
         (Idle (journal_pages layout.now) (D.seen disk.new) (D.loose disk.new)) }
 
-    // It refuses exactly a journal head behind an open gate that is out of form.
+    // It refuses exactly a journal head after an open gate that is out of form.
     ensures form { D.honest disk.old → OnOk result
         (D.seen disk.old 4096 ≡ 165 → InForm (journal_pages layout.now) (count (D.seen disk.old))
         (number (D.seen disk.old))) }

@@ -134,7 +134,7 @@ module _ (h : Holding) (v : View) (m : Store) (kept : KeepsView h v) (shows : Sh
         → (u : Upload) → upload_of m k ≡ Some u → above n m.uploads ≡ Some (k, u)
     some_after k s lt e u there =
         let here : number_at h.order place ≡ k = ap (λ (p : NumberedSlot). p.number) e in
-        let more = is.behind place (omega arith) lt in
+        let more = is.after place (omega arith) lt in
         above_is m.uploads shows.rising n k u (omega (arith, more, here)) there (λ j w over f.
         let at = listed j w f in
         let inside = at.1 in

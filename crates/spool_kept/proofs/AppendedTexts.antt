@@ -1,4 +1,4 @@
--- The texts behind an append.
+-- The texts after an append.
 use Rattle.std.proofs.Common.{◌≡◌, inl, inr, ℕ, zero, suc, ◌+◌, ◌-◌, ◌*◌, ◌/◌, ◌%◌, ◌<◌, ◌≤◌, List, ◌++◌, Option, None}
 use Rattle.std.proofs.Common.{Some}
 use Rattle.std.proofs.Common.{length, get_or, take, drop, refl, sym, ◌∙◌, ap, subst, arith, length-append, length-take}

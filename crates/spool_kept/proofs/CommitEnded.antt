@@ -1,4 +1,4 @@
--- A draft whose text has ended: why it isn't put behind its upload's, and that it may be.
+-- A draft whose text has ended: why it isn't put after its upload's, and that it may be.
 use Rattle.std.proofs.Common.{Result, Err, IfOk, ◌≡◌, inl, inr, ℕ, ◌<◌, ◌≤◌, ◌+◌, ◌-◌, ◌*◌, ◌/◌, ◌^◌, Bool, true}
 use Rattle.std.proofs.Common.{false, List, Option, None, Some, length, get_or, set, min, refl, sym, ◌∙◌, ap, subst}
 use Rattle.std.proofs.Common.{arith}
@@ -10,7 +10,7 @@ use Rattle.spool_disk.specs.declared.disk.Disk.{Ghosts}
 use Rattle.spool_disk.specs.Views.{Lasts}
 use Rattle.spool_disk.proofs.Firm.{lasts_more}
 use Rattle.spool_journal.specs.Image.{journal_pages, text_page}
-use Rattle.spool_drafts.specs.Drafts.{EndsAs, EndsBehind, Holds, Carries, IsPlaced, IsWhole, committed_len_of, list_of}
+use Rattle.spool_drafts.specs.Drafts.{EndsAs, EndsAfter, Holds, Carries, IsPlaced, IsWhole, committed_len_of, list_of}
 use Rattle.spool_drafts.specs.Drafts.{tail_of, offset_of, came_of, declare_of, open_text}
 use Rattle.spool_drafts.specs.Effect.{Effect, RunsShort}
 use Rattle.spool_drafts.specs.declared.draft.DraftEnd.{DraftEnd}
@@ -51,9 +51,9 @@ pub only_blocks : (h : Holding) (blocks : Held) → blocks.rows ≡ h.blocks.row
     → OnlyReserves h (record h { blocks = blocks })
 only_blocks h blocks rows = record { same = refl; rows = rows }
 
--- the slot's upload may become what the text of a draft that is behind it ends in
+-- the slot's upload may become what the text of a draft that is after it ends in
 pub may : (h : Holding) (slot : ℕ) (declared : Option ℕ) (accepted : ℕ) (list : List ℕ) (end : DraftEnd)
-    (used : SlotRecord) → get_or h.slots slot None ≡ Some used → EndsBehind used.text_len used.state list end
+    (used : SlotRecord) → get_or h.slots slot None ≡ Some used → EndsAfter used.text_len used.state list end
     → MayExtend h (record {
       slot = slot;
       declared = declared;
@@ -69,7 +69,7 @@ may h slot declared accepted list end used there ends = record {
   blocks = ends.blocks;
 }
 
--- what the draft began behind is placed as it was
+-- what the draft began after is placed as it was
 pub placed_still : (n : ℕ) (o o' : SpoolDraft) → committed_len_of o' ≡ committed_len_of o → tail_of o' ≡ tail_of o
     → IsPlaced n o → IsPlaced n o'
 placed_still n o o' len tail is = record {

@@ -1,4 +1,4 @@
--- A draft's whole text behind its upload's.
+-- A draft's whole text after its upload's.
 use Rattle.std.proofs.Common.{◌≡◌, inl, inr, ℕ, ◌<◌, ◌≤◌, ◌+◌, ◌-◌, ◌*◌, ◌/◌, ◌%◌, ◌++◌, Bool, false, List, []}
 use Rattle.std.proofs.Common.{◌∷◌, Option, None, Some, length, drop, refl, sym, ◌∙◌, ap, subst, arith, length-append}
 use Rattle.std.proofs.Common.{length-drop}

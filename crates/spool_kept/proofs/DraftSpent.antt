@@ -193,7 +193,7 @@ module _ (w : World) (grown : IsGrown w) (n : ℕ) (u : Upload) (upload : upload
   shorter r grew = omega
       (arith, ap (λ (v : Upload). length v.accepted) grew.2, length-append r.began.accepted grew.1)
 
-  -- nothing can be put behind an upload that got longer or complete any more
+  -- nothing can be put after an upload that got longer or complete any more
   pub other_upload : (0 < length body) ⊎ (is_complete (patched u declare body) ≡ true) → (e : ℕ) (r : Patch)
       → find e w.patches ≡ Some r
       → IsStillOpen (record w.store { uploads = replaced n (patched u declare body) w.store.uploads }) r

@@ -130,7 +130,7 @@ module _ (old : List Row) (slot first : ℕ) (more : List ℕ) (new : List Row) 
         (keeps (get_or list i 0) slot i (owned i (omega (arith, before, low))) (λ same. before))
     | inr from ↦
         let at : first + (i - first) ≡ i = omega (arith, from) in
-        subst (λ (b : ℕ). Owns new b slot i) (sym (behind i from))
+        subst (λ (b : ℕ). Owns new b slot i) (sym (after i from))
         (subst (λ (k : ℕ). Owns new (get_or more (i - first) 0) slot k) at
         (hands.listed (i - first) (omega (arith, lt, from, all))))
   ]
@@ -145,8 +145,8 @@ module _ (old : List Row) (slot first : ℕ) (more : List ℕ) (new : List Row) 
       front i lt = get_or_append_left (take first list) more 0 i (omega (arith, short, lt))
           ∙ get_or-take first list i 0 lt
 
-      behind : (i : ℕ) → first ≤ i → get_or (take first list ++ more) i 0 ≡ get_or more (i - first) 0
-      behind i from = get_or-append_right (take first list) more first i 0 short from
+      after : (i : ℕ) → first ≤ i → get_or (take first list ++ more) i 0 ≡ get_or more (i - first) 0
+      after i from = get_or-append_right (take first list) more first i 0 short from
 
   pub listed_now : (list : List ℕ) → first ≤ length list → IsListed old slot list
       → IsListed new slot (take first list ++ more)
@@ -220,9 +220,9 @@ room_for rows slot first list more owned low no_owner below distinct =
     front : (i : ℕ) → i < length (take first list) → get_or (take first list ++ more) i 0 ≡ get_or (take first list) i 0
     front i lt = get_or_append_left (take first list) more 0 i lt
 
-    behind : (i : ℕ) → length (take first list) ≤ i → get_or (take first list ++ more) i 0 ≡ get_or more
+    after : (i : ℕ) → length (take first list) ≤ i → get_or (take first list ++ more) i 0 ≡ get_or more
         (i - length (take first list)) 0
-    behind i from = get_or-append_right (take first list) more (length (take first list)) i 0 refl from
+    after i from = get_or-append_right (take first list) more (length (take first list)) i 0 refl from
 
     apart : (i k : ℕ) → i < k → k < length (take first list ++ more) → get_or (take first list ++ more) i 0 ≢ get_or
         (take first list ++ more) k 0
@@ -235,10 +235,10 @@ room_for rows slot first list more owned low no_owner below distinct =
         | inr from ↦
             clash (no_owner (k - length (take first list))
             (omega (arith, inside, from, length-append (take first list) more)))
-            (ap (λ (b : ℕ). get_or rows b None) (sym (behind k from) ∙ sym same ∙ front i before) ∙ own i before)
+            (ap (λ (b : ℕ). get_or rows b None) (sym (after k from) ∙ sym same ∙ front i before) ∙ own i before)
       ]
       | inr from ↦
           distinct (i - length (take first list)) (k - length (take first list)) (omega (arith, lt, from))
           (omega (arith, inside, lt, from, length-append (take first list) more))
-          (sym (behind i from) ∙ same ∙ behind k (omega (arith, lt, from)))
+          (sym (after i from) ∙ same ∙ after k (omega (arith, lt, from)))
     ]

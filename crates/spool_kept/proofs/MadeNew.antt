@@ -105,7 +105,7 @@ module _ (h : Holding) (v : View) (m : Store) (new : New) (slot : ℕ) (r : Slot
         (ShowsEither h.layout m (outcome f m (created_store m new)))) (sym allowed)
         (lasts_more (lasts (created_view v slot r) (changes_new changes) (texts_new rests)) shows_either)
 
-    -- and the new one stands behind the change
+    -- and the new one stands after the change
     pub stored_new : (h' : Holding) → IsTakenIn h slot r h' → disk.honest after
         → ((v' : View) → Changes pages v v' → HasTexts (disk.seen before) v'
         → Rests v' (disk.seen after) (disk.loose after))

@@ -4,7 +4,7 @@ use Rattle.std.proofs.Common.{MatchOption}
 use Rattle.std.proofs.Common.{Result, Ok, Err, get_or, length, set, refl, sym, ◌∙◌, ap, subst, arith}
 use Rattle.std.proofs.lemmas.Bool.{both_ways, cases_eq, cases_lt}
 use Rattle.std.proofs.lemmas.Option.{same_Some}
-use Rattle.spool_drafts.specs.Drafts.{IsBehind, declare_of, number_of, offset_of}
+use Rattle.spool_drafts.specs.Drafts.{IsAfter, declare_of, number_of, offset_of}
 use Rattle.spool_drafts.specs.declared.draft.SpoolDraft.{SpoolDraft}
 use Rattle.spool_blocks.specs.Blocks.{Held}
 use Rattle.spool_pages.specs.View.{SlotRecord}
@@ -13,7 +13,7 @@ use Rattle.upload_rules.specs.Drafts.{draft_at}
 use Rattle.upload_rules.specs.Lengths.{is_length}
 use Rattle.upload_rules.specs.declared.errors.UploadRefusal.{UploadRefusal}
 use Rattle.upload_rules.specs.declared.records.Record.{Record}
-use Rattle.spool_kept.specs.Committing.{HasSameCount, IsBehindSlot}
+use Rattle.spool_kept.specs.Committing.{HasSameCount, IsAfterSlot}
 use Rattle.spool_kept.specs.Creating.{HasRoomAt, IsTakenIn}
 use Rattle.spool_kept.specs.Drafting.{DraftsFit, DraftsHold, EachDraft, IsKept, IsOfUpload, lists_at}
 use Rattle.spool_kept.specs.Extending.{Advances, IsLonger, OnlyDeclares, longer_record}
@@ -55,21 +55,21 @@ only_of h fits n (Some s) l = one_slot h fits n s l
 
 -- one that begins
 of_begun : (slots : List (Option SlotRecord)) (r : Record) (o : SpoolDraft) → IsKept slots r
-    → number_of o ≡ r.number → offset_of o ≡ r.accepted → IsBehind r.text_len r.state o → IsOfUpload slots o
-of_begun slots r o kept number offset behind = record {
+    → number_of o ≡ r.number → offset_of o ≡ r.accepted → IsAfter r.text_len r.state o → IsOfUpload slots o
+of_begun slots r o kept number offset after = record {
   grown = λ s q there is.
       omega (arith, offset, ap (λ (p : SlotRecord). p.accepted) (kept.only s q there (is ∙ number)));
-  behind = λ s q there is same open_still.
-      subst (λ (p : SlotRecord). IsBehind p.text_len p.state o) (sym (kept.only s q there (is ∙ number))) behind;
+  after = λ s q there is same open_still.
+      subst (λ (p : SlotRecord). IsAfter p.text_len p.state o) (sym (kept.only s q there (is ∙ number))) after;
 }
 
 pub begins_kept : (slots : List (Option SlotRecord)) (r : Record) (declare : Option ℕ)
     (result : Result SpoolDraft UploadRefusal)
     → IsKept slots r
     → IfOk result (λ o. (number_of o ≡ r.number) × (offset_of o ≡ r.accepted) × (declare_of o ≡ declare))
-    → IfOk result (IsBehind r.text_len r.state) → IfOk result (IsOfUpload slots)
-begins_kept slots r declare (Ok o) kept named behind = of_begun slots r o kept named.0 named.1 behind
-begins_kept slots r declare (Err e) kept named behind = tt
+    → IfOk result (IsAfter r.text_len r.state) → IfOk result (IsOfUpload slots)
+begins_kept slots r declare (Ok o) kept named after = of_begun slots r o kept named.0 named.1 after
+begins_kept slots r declare (Err e) kept named after = tt
 
 pub begins_below : (next number offset : ℕ) (declare : Option ℕ) (result : Result SpoolDraft UploadRefusal)
     → number < next
@@ -80,20 +80,20 @@ begins_below next number offset declare (Err e) lt named = tt
 
 -- the draft went on
 pub of_longer : (slots : List (Option SlotRecord)) (o o' : SpoolDraft) → number_of o' ≡ number_of o
-    → offset_of o' ≡ offset_of o → ((len : ℕ) (state : List ℕ) → IsBehind len state o → IsBehind len state o')
+    → offset_of o' ≡ offset_of o → ((len : ℕ) (state : List ℕ) → IsAfter len state o → IsAfter len state o')
     → IsOfUpload slots o → IsOfUpload slots o'
 of_longer slots o o' number offset on is = record {
   grown = λ s r there at. omega (arith, is.grown s r there (at ∙ number), offset);
-  behind = λ s r there at same open_still. on r.text_len r.state
-      (is.behind s r there (at ∙ number) (same ∙ offset) open_still);
+  after = λ s r there at same open_still. on r.text_len r.state
+      (is.after s r there (at ∙ number) (same ∙ offset) open_still);
 }
 
 -- its slot's record, with the count that the draft began at
-pub behind_slot : (slots : List (Option SlotRecord)) (o : SpoolDraft) (slot : ℕ) (has : HasSameCount slots o slot)
-    → is_length has.used.declared has.used.accepted ≡ false → IsOfUpload slots o → IsBehindSlot slots slot o
-behind_slot slots o slot has open_still is r there =
+pub after_slot : (slots : List (Option SlotRecord)) (o : SpoolDraft) (slot : ℕ) (has : HasSameCount slots o slot)
+    → is_length has.used.declared has.used.accepted ≡ false → IsOfUpload slots o → IsAfterSlot slots slot o
+after_slot slots o slot has open_still is r there =
     let same : has.used ≡ r = same_Some has.used r (sym has.there ∙ there) in
-    is.behind slot r there (ap (λ (q : SlotRecord). q.number) (sym same) ∙ has.number)
+    is.after slot r there (ap (λ (q : SlotRecord). q.number) (sym same) ∙ has.number)
     (ap (λ (q : SlotRecord). q.accepted) (sym same) ∙ has.count)
     (subst (λ (q : SlotRecord). is_length q.declared q.accepted ≡ false) same open_still)
 
@@ -103,25 +103,25 @@ module _ (slots : List (Option SlotRecord)) (longer : Longer) (used : SlotRecord
   inside : longer.slot < length slots
   inside = in_use slots longer.slot used there
 
-  -- with no fewer bytes, and behind which the draft is where it may still be put there
+  -- with no fewer bytes, and after which the draft is where it may still be put there
   of_changed : used.accepted ≤ longer.accepted
       → (used.number ≡ number_of o → longer.accepted ≡ offset_of o → is_length longer.declared longer.accepted ≡ false
-      → IsBehind longer.text_len longer.state o)
+      → IsAfter longer.text_len longer.state o)
       → IsOfUpload (set slots longer.slot (Some (longer_record used longer))) o
-  of_changed grows behind = record {
+  of_changed grows after = record {
     grown = λ s r e at. elim (slot_is slots longer.slot (longer_record used longer) s r inside e) [
       | inl now ↦
           let before = is.grown longer.slot used there (ap (λ (q : SlotRecord). q.number) (sym now.1) ∙ at) in
           omega (arith, before, grows, ap (λ (q : SlotRecord). q.accepted) now.1)
       | inr old ↦ is.grown s r old.1 at
     ];
-    behind = λ s r e at count open_still.
+    after = λ s r e at count open_still.
         elim (slot_is slots longer.slot (longer_record used longer) s r inside e) [
-          | inl now ↦ subst (λ (q : SlotRecord). IsBehind q.text_len q.state o) (sym now.1)
-              (behind (ap (λ (q : SlotRecord). q.number) (sym now.1) ∙ at)
+          | inl now ↦ subst (λ (q : SlotRecord). IsAfter q.text_len q.state o) (sym now.1)
+              (after (ap (λ (q : SlotRecord). q.number) (sym now.1) ∙ at)
               (ap (λ (q : SlotRecord). q.accepted) (sym now.1) ∙ count)
               (subst (λ (q : SlotRecord). is_length q.declared q.accepted ≡ false) now.1 open_still))
-          | inr old ↦ is.behind s r old.1 at count open_still
+          | inr old ↦ is.after s r old.1 at count open_still
         ];
   }
 
@@ -133,9 +133,9 @@ module _ (slots : List (Option SlotRecord)) (longer : Longer) (used : SlotRecord
 
   pub of_declared : OnlyDeclares used longer → IsOfUpload (set slots longer.slot (Some (longer_record used longer))) o
   of_declared only = of_changed (omega (arith, only.accepted)) (λ at count open_still.
-      subst (λ (n : ℕ). IsBehind n longer.state o) (sym only.text_len)
-      (subst (λ (state : List ℕ). IsBehind used.text_len state o) (sym only.state)
-      (is.behind longer.slot used there at (sym only.accepted ∙ count)
+      subst (λ (n : ℕ). IsAfter n longer.state o) (sym only.text_len)
+      (subst (λ (state : List ℕ). IsAfter used.text_len state o) (sym only.state)
+      (is.after longer.slot used there at (sym only.accepted ∙ count)
       (ap (λ (k : Option ℕ). is_length k used.accepted) only.unknown))))
 
 -- ALL DRAFTS
@@ -223,6 +223,6 @@ module _ (h h' : Holding) (slot : ℕ) (new : SlotRecord) (room : HasRoomAt h sl
         let was = was_there o (fit.below d o there) in
         record {
           grown = λ s r e at. is.grown s r (was s r e at) at;
-          behind = λ s r e at. is.behind s r (was s r e at) at;
+          after = λ s r e at. is.after s r (was s r e at) at;
         };
   }

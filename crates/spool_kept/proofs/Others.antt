@@ -9,7 +9,7 @@ abbrev AreAbove : {A : Type 0} → ℕ → List (ℕ × A) → Type 0
 AreAbove n [] = Unit {0}
 AreAbove n (x ∷ xs) = (n < x.0) × AreAbove n xs
 
--- and each is below those behind it
+-- and each is below those after it
 abbrev Ascends : {A : Type 0} → List (ℕ × A) → Type 0
 Ascends [] = Unit {0}
 Ascends (x ∷ xs) = AreAbove x.0 xs × Ascends xs

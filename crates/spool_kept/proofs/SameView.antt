@@ -16,7 +16,7 @@ use Rattle.spool_pages.specs.Fits.{FitsRow}
 use Rattle.spool_pages.specs.Rests.{Rests, Unowned}
 use Rattle.spool_pages.specs.View.{View, Says, Stands, magic, first_page, row_bytes, IsViewOf}
 use Rattle.spool_pages.proofs.Numbers.{four_at}
-use Rattle.spool_pages.proofs.RecordBytes.{stands_behind}
+use Rattle.spool_pages.proofs.RecordBytes.{stands_beyond}
 use Rattle.spool_pages.proofs.Resting.{rests_aside}
 use Rattle.spool_pages.proofs.RowBytes.{slot_at, ordinal_at, free_at}
 use Rattle.upload_rules.specs.Store.{Store}
@@ -63,7 +63,7 @@ module _ (f : ℕ → ℕ) (v v' : View) (sound : IsSound v) (sound' : IsSound v
   unfolding first_page
   number_at n stands =
       let front : Stands f 0 12 (first_page n) = record { each = λ i lt. stands.each i (omega (arith, lt)) } in
-      stands_behind magic (to_be_bytes w32 n) 8 4 refl (omega arith) front
+      stands_beyond magic (to_be_bytes w32 n) 8 4 refl (omega arith) front
 
   same_blocks : v.blocks ≡ v'.blocks
   same_blocks = one_number f 8 v.blocks v'.blocks (omega (arith, sound.most)) (omega (arith, sound'.most))

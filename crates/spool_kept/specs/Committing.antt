@@ -4,7 +4,7 @@ use Rattle.std.specs.Prelude.{[], get_or}
 use Rattle.spool_disk.specs.Disk.{IsImage, Keeps}
 use Rattle.spool_disk.specs.Views.{Lasts}
 use Rattle.spool_disk.specs.declared.disk.Disk.{Ghosts}
-use Rattle.spool_drafts.specs.Drafts.{IsBehind, came_of, declare_of, number_of, offset_of}
+use Rattle.spool_drafts.specs.Drafts.{IsAfter, came_of, declare_of, number_of, offset_of}
 use Rattle.spool_drafts.specs.declared.draft.SpoolDraft.{SpoolDraft}
 use Rattle.spool_pages.specs.View.{SlotRecord}
 use Rattle.upload_rules.specs.Calls.{length_refusal, text_stays, upload_refusal}
@@ -32,9 +32,9 @@ pub record HasOtherCount (slots : List (Option SlotRecord)) (o : SpoolDraft) : T
   pub used : IsUsedBy slots slot (number_of o)
   pub none : (s : ℕ) → HasSameCount slots o s → ⊥
 
--- the draft is behind the text of the slot's upload
-abbrev pub IsBehindSlot : List (Option SlotRecord) → ℕ → SpoolDraft → Type 0
-IsBehindSlot slots slot o = (r : SlotRecord) → get_or slots slot None ≡ Some r → IsBehind r.text_len r.state o
+-- the draft is after the text of the slot's upload
+abbrev pub IsAfterSlot : List (Option SlotRecord) → ℕ → SpoolDraft → Type 0
+IsAfterSlot slots slot o = (r : SlotRecord) → get_or slots slot None ≡ Some r → IsAfter r.text_len r.state o
 
 -- a slot has that count, and the draft's length or its bytes don't go with its length
 pub record HasOtherLength (slots : List (Option SlotRecord)) (o : SpoolDraft) (e : UploadRefusal) : Type 0 where

@@ -9,7 +9,7 @@ use Rattle.spool_journal.specs.Image.{text_page}
 use Rattle.spool_texts.specs.Drafts.{IsReserved}
 use Rattle.spool_texts.specs.Written.{NoneOf}
 use Rattle.spool_room.specs.Holdings.{IsInSome}
-use Rattle.spool_drafts.specs.Drafts.{Holds, Carries, IsBegun, IsBehind, IsPlaced, list_of, number_of, offset_of}
+use Rattle.spool_drafts.specs.Drafts.{Holds, Carries, IsBegun, IsAfter, IsPlaced, list_of, number_of, offset_of}
 use Rattle.spool_drafts.specs.Drafts.{tail_of}
 use Rattle.spool_drafts.specs.declared.draft.SpoolDraft.{SpoolDraft}
 use Rattle.upload_rules.specs.Apart.{IsApart}
@@ -50,12 +50,12 @@ pub record IsKept (slots : List (Option SlotRecord)) (r : Record) : Type 0 where
   pub only : (s : ℕ) (q : SlotRecord) → get_or slots s None ≡ Some q → q.number ≡ r.number → q ≡ said_of r
 
 -- Where the draft's upload is in a slot, it has as many bytes as when the draft began, or more. With as many, and while
--- it isn't complete, the draft is behind its text.
+-- it isn't complete, the draft is after its text.
 pub record IsOfUpload (slots : List (Option SlotRecord)) (o : SpoolDraft) : Type 0 where
   pub grown : (s : ℕ) (r : SlotRecord) → get_or slots s None ≡ Some r → r.number ≡ number_of o
       → offset_of o ≤ r.accepted
-  pub behind : (s : ℕ) (r : SlotRecord) → get_or slots s None ≡ Some r → r.number ≡ number_of o
-      → r.accepted ≡ offset_of o → is_length r.declared r.accepted ≡ false → IsBehind r.text_len r.state o
+  pub after : (s : ℕ) (r : SlotRecord) → get_or slots s None ≡ Some r → r.number ≡ number_of o
+      → r.accepted ≡ offset_of o → is_length r.declared r.accepted ≡ false → IsAfter r.text_len r.state o
 
 -- it is so with each open draft
 abbrev pub EachDraft : (SpoolDraft → Type 0) → List (Option SpoolDraft) → Type 0
@@ -89,7 +89,7 @@ IsStillOpen m p =
     × (is_complete (with_length p.began since) ≡ false)
 
 -- The draft is the patch's. Once another draft made the upload longer or complete, only its need matters: it can't put
--- anything behind the upload's text.
+-- anything after the upload's text.
 pub record DraftStands (x : IndexSet) (seen : ℕ → ℕ) (first : ℕ) (slots : List (Option SlotRecord)) (rows : List Row)
     (m : Store) (p : Patch) (o : SpoolDraft) : Type 0 where
   pub holds : Holds x p o
@@ -112,7 +112,7 @@ pub record StandsFor {D : Type 0} (disk : Ghosts D) (d : D) (h : Holding) (draft
   pub stored : Stored disk d h w.store
   pub stands : DraftsStand w.store.indexes (disk.seen d) (text_page h.layout) h.slots h.blocks w drafts
 
--- WHAT A DRAFT BEGINS BEHIND
+-- WHAT A DRAFT BEGINS AFTER
 
 -- a draft of the upload as it is, or the rules' refusal
 abbrev pub OpensFor : Store → ℕ → ℕ → ℕ → Option ℕ → (ℕ → ℕ) → ℕ → Option Upload → Result SpoolDraft UploadRefusal

@@ -67,7 +67,7 @@ pub record IsLonger (h : Holding) (used : SlotRecord) (longer : Longer) (more : 
   pub same : length more ≡ 0 → new.blocks ≡ h.blocks
   pub rows : 0 < length more → HandsOver h.blocks.rows longer.slot (used.text_len / 4096) more new.blocks.rows
 
--- with this length, where none was known, and these bytes the upload's text has these behind it, and the blocks hold
+-- with this length, where none was known, and these bytes the upload's text has these after it, and the blocks hold
 -- what is not on the old full ones
 pub record IsExtension (x : IndexSet) (u : Upload) (declare : Option ℕ) (bytes added : List ℕ) (longer : Longer)
     (more : List ℕ) (seen : ℕ → ℕ) (first : ℕ) : Type 0 where

@@ -55,7 +55,7 @@ AreDistinct slots =
 pub record IsPlaceFor (order : List NumberedSlot) (number place : ℕ) : Type 0 where
   pub within : place ≤ length order
   pub before : (k : ℕ) → k < place → number_at order k ≤ number
-  pub behind : (k : ℕ) → place ≤ k → k < length order → number < number_at order k
+  pub after : (k : ℕ) → place ≤ k → k < length order → number < number_at order k
 
 -- the number came to the others, with this slot
 pub record IsAdded (old : List NumberedSlot) (number slot : ℕ) (new : List NumberedSlot) : Type 0 where

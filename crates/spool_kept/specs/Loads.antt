@@ -3,7 +3,7 @@ use Rattle.std.specs.Prelude.{Result, Ok, Err}
 use Rattle.spool_kept.specs.declared.error.OpenFault.{OpenFault}
 use Rattle.spool_kept.specs.declared.error.OpenFault.TheVariants.{NotASpool, DiskFault, Damaged, Version, NoMemory}
 
--- it is done, or refused for memory or by the device
+-- it is done, or refused by the disk or out of memory
 abbrev pub LoadsAs : {T : Type 0} → Result T OpenFault → (T → Type 0) → Type 0
 LoadsAs (Ok t) done = done t
 LoadsAs (Err NoMemory) done = Unit {0}

@@ -14,14 +14,14 @@ use Rattle.spool_pages.specs.View.{SlotRecord, View, slot_at, IsViewOf}
 
 -- THE CHECKS
 
--- Behind the end exactly where the length is known and all its bytes were accepted. Before a byte order mark is decided
+-- After the end exactly where the length is known and all its bytes were accepted. Before a byte order mark is decided
 -- all accepted bytes are held, and from the first byte on it may be decided.
 abbrev pub FitsPhase : Phase → ℕ → Option ℕ → Type 0
 FitsPhase (Before held) accepted declared = (accepted ≡ length held) × (is_length declared accepted ≡ false)
 FitsPhase (During s) accepted declared = (1 ≤ accepted) × (is_length declared accepted ≡ false)
 FitsPhase Over accepted declared = is_length declared accepted ≡ true
 
--- the state bytes are those of a transcoder that may stand behind so many bytes
+-- the state bytes are those of a transcoder that may stand after so many bytes
 pub record HasState (r : SlotRecord) : Type 0 where
   pub transcoder : Transcoder
   pub sound : IsSoundState transcoder

@@ -3,7 +3,7 @@ use Rattle.std.specs.Prelude.{◌≡◌, ◌≢◌, ℕ, List, [], Option, None,
 use Rattle.enc_model.specs.Indexes.{IndexSet}
 use Rattle.spool_blocks.specs.Blocks.{Row}
 use Rattle.spool_blocks.specs.Chains.{Owns}
-use Rattle.spool_drafts.specs.Drafts.{Holds, IsBehind, IsPlaced, came_of, committed_len_of, declare_of}
+use Rattle.spool_drafts.specs.Drafts.{Holds, IsAfter, IsPlaced, came_of, committed_len_of, declare_of}
 use Rattle.spool_drafts.specs.Drafts.{fresh_of, list_of, number_of, offset_of, tail_of}
 use Rattle.spool_drafts.specs.declared.draft.SpoolDraft.{SpoolDraft}
 use Rattle.spool_pages.specs.Changes.{with_slot}
@@ -53,7 +53,7 @@ pub record ForgetsTail (number : ℕ) (old new : SpoolDraft) : Type 0 where
   pub same_list : list_of new ≡ list_of old
   pub same_state : fresh_of new ≡ fresh_of old
   pub placed : (n : ℕ) → IsPlaced n old → IsPlaced n new
-  pub behind : (len : ℕ) (state : List ℕ) → IsBehind len state old → IsBehind len state new
+  pub after : (len : ℕ) (state : List ℕ) → IsAfter len state old → IsAfter len state new
   pub holds : (x : IndexSet) (p : Patch) → Holds x p old → Holds x p new
 
 abbrev pub ForgetsOf : ℕ → Option SpoolDraft → Option SpoolDraft → Type 0

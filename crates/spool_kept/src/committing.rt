@@ -1,4 +1,4 @@
-//! The text of a draft is put behind its upload's.
+//! The text of a draft is put after its upload's.
 ghost use Rattle.std.specs.Prelude.{◌≡◌, ◌≤◌, ◌<◌, ◌*◌, ◌↔◌, ◌⊎◌, ℕ, false, List, [], Option, Some, None};
 ghost use Rattle.std.specs.Prelude.{get_or, slice_set, IsErrOf, IfOk};
 ghost use Rattle.spool_disk.specs.Disk.{Counts};
@@ -16,7 +16,7 @@ ghost use Rattle.upload_rules.specs.Lengths.{is_too_large};
 ghost use Rattle.upload_rules.specs.Store.{Store, find, patched_store};
 ghost use Rattle.upload_rules.specs.World.{Patch, World, reached};
 ghost use Rattle.upload_rules.specs.declared.errors.UploadRefusal.{UploadRefusal as Refusal};
-ghost use Rattle.spool_kept.specs.Committing.{Finds, HasOtherCount, IsBehindSlot, IsCommit, IsFound, MayDeclare};
+ghost use Rattle.spool_kept.specs.Committing.{Finds, HasOtherCount, IsAfterSlot, IsCommit, IsFound, MayDeclare};
 ghost use Rattle.spool_kept.specs.Committing.{OnlyRead, with_length_at};
 ghost use Rattle.spool_kept.specs.Drafting.{DraftsFit, OnlyReserves, StandsFor};
 ghost use Rattle.spool_kept.specs.Extending.{Advances, IsPending, MayExtend};
@@ -77,7 +77,7 @@ fn found_for(kept: &Kept, draft: &SpoolDraft) -> Result<Found, UploadRefusal>
     })
 }
 
-// Ends a draft's text behind its upload's, and answers what the upload becomes, and the bytes that are still to be
+// Ends a draft's text after its upload's, and answers what the upload becomes, and the bytes that are still to be
 // written: refused with `Unencodable`, `Full`, `NoMemory`, `DiskFault`. The blocks stay the draft's. Nothing is
 // written.
 fn ended<D: Disk>(
@@ -89,7 +89,7 @@ fn ended<D: Disk>(
 ) -> Result<(Longer, Vec<u8>), UploadError>
     requires room { 4096 * all_pages kept.old.layout ≤ D.size disk.old }
     requires found { IsFound kept.old.slots draft.old found }
-    requires behind { IsBehindSlot kept.old.slots found.slot draft.old }
+    requires after { IsAfterSlot kept.old.slots found.slot draft.old }
     requires goes { found.stays ≡ false }
     requires reserved { IsReserved kept.old.blocks (list_of draft.old) }
     requires placed { IsPlaced kept.old.layout draft.old }
@@ -145,9 +145,9 @@ fn ended<D: Disk>(
     Ok((longer, last))
 }
 
-// Puts a draft's text behind its upload's, which gets the length that was found, and answers the new offset. The draft
+// Puts a draft's text after its upload's, which gets the length that was found, and answers the new offset. The draft
 // is spent.
-fn put_behind<D: Disk>(
+fn append_to<D: Disk>(
     alloc: Global,
     disk: &mut D,
     kept: &mut Kept,
@@ -156,7 +156,7 @@ fn put_behind<D: Disk>(
 ) -> Result<u64, UploadError>
     requires room { 4096 * all_pages kept.old.layout ≤ D.size disk.old }
     requires found { IsFound kept.old.slots draft found }
-    requires behind { IsBehindSlot kept.old.slots found.slot draft }
+    requires after { IsAfterSlot kept.old.slots found.slot draft }
     requires goes { found.stays ≡ false }
     requires reserved { IsReserved kept.old.blocks (list_of draft) }
     requires placed { IsPlaced kept.old.layout draft }
@@ -248,9 +248,9 @@ fn set_length<D: Disk>(
     }
 }
 
-/// Puts the text of the draft of a number behind its upload's, gives that the length that the draft declares where it
+/// Puts the text of the draft of a number after its upload's, gives that the length that the draft declares where it
 /// had none, and answers the new offset: refused with `NoSuch`, `Offset`, `LengthSet`, `TooLong`, `Unencodable`,
-/// `Full`, `NoMemory`, `DiskFault`. The draft is spent in every case. After a fault of the device what is kept may be
+/// `Full`, `NoMemory`, `DiskFault`. The draft is spent in every case. After a disk fault what is kept may be
 /// ahead of the disk: the spool must be opened again.
 pub fn commit<D: Disk>(
     alloc: Global,
@@ -302,7 +302,7 @@ pub fn commit<D: Disk>(
         }
     };
     if !found.stays {
-        return put_behind(alloc, disk, kept, draft, found);
+        return append_to(alloc, disk, kept, draft, found);
     }
     let offset = draft.offset();
     draft.give_back(&mut kept.blocks);

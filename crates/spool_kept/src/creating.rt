@@ -85,7 +85,7 @@ impl Kept {
         )
     }
 
-    // Takes a new upload's record in. Where a growth is refused all is as it was.
+    // Takes a new upload's record in. When out of memory all is as it was.
     fn take_in(&mut self, slot: u32, record: KeptRecord) -> Result<(), AllocError>
         requires room { HasRoomAt self.old slot }
         requires number { «record».number ≡ self.old.next }
@@ -99,7 +99,7 @@ impl Kept {
         Ok(())
     }
 
-    // Takes a new upload's record in, and answers the pages that it makes. Where a growth is refused all is as it was.
+    // Takes a new upload's record in, and answers the pages that it makes. When out of memory all is as it was.
     fn prepare_new(
         &mut self,
         alloc: Global,
@@ -124,7 +124,7 @@ impl Kept {
 }
 
 /// Makes an upload without bytes, and answers its number: refused with `TooLarge`, `Slots`, `NoMemory`, `DiskFault`.
-/// Every growth comes before the first write. After a fault of the device what is kept is ahead of the disk: the spool
+/// Every growth comes before the first write. After a disk fault what is kept is ahead of the disk: the spool
 /// must be opened again.
 pub fn create<D: Disk>(
     alloc: Global,

@@ -20,7 +20,7 @@ pub enum OpenFault {
     Damaged,
     /// The spool has another version.
     Version,
-    /// A growth was refused.
+    /// Out of memory.
     NoMemory,
 }
 
@@ -66,7 +66,7 @@ impl Error for OpenFault {}
 pub enum CheckError {
     /// It is not what a spool may say.
     Damaged,
-    /// A growth was refused.
+    /// Out of memory.
     NoMemory,
 }
 

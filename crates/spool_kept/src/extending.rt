@@ -41,7 +41,7 @@ pub(crate) struct Longer {
 /// Why an upload gets no longer.
 #[derive(Clone, Copy, Debug, PartialEq, Eq)]
 pub(crate) enum ExtendError {
-    /// A growth was refused, and nothing has changed.
+    /// Out of memory, and nothing has changed.
     NoMemory,
     /// The disk failed in this call.
     DiskFault,
@@ -176,7 +176,7 @@ impl Kept {
 ///
 /// # Errors
 ///
-/// `NoMemory` where a growth was refused, and then nothing has changed. `DiskFault` where the device failed: then what
+/// `NoMemory` when out of memory, and then nothing has changed. `DiskFault` where the disk failed: then what
 /// is kept is ahead of the disk, and the spool has to be opened again.
 pub(crate) fn extend<D: Disk>(
     alloc: Global,
@@ -205,7 +205,7 @@ pub(crate) fn extend<D: Disk>(
         → IsPending D.Disk disk.old kept.old m n declare bytes longer.now more.now last.now
         → OnOk result (Stored D.Disk disk.new kept.new (patched_store m n declare bytes)) }
 
-    // A crash during it leaves the store before or behind it.
+    // A crash during it leaves the store before or after it.
     ensures crash { (m : Store) (n : ℕ) (declare : Option ℕ) (bytes : List ℕ)
         → IsPending D.Disk disk.old kept.old m n declare bytes longer.now more.now last.now
         → Lasts D.Disk disk.old disk.new (ShowsEither kept.old.layout m (patched_store m n declare bytes)) }
@@ -218,7 +218,7 @@ pub(crate) fn extend<D: Disk>(
     let mut pages = kept.change_pages(alloc, longer, more)?;
     kept.take_over(longer, more)?;
     fill_rows(&mut pages, &kept.layout, kept.blocks.rows());
-    // Behind the last growth the first write comes.
+    // After the last growth the first write comes.
     write_last(disk, &kept.layout, more, last)?;
     change(disk, &kept.layout, &pages)?;
     Ok(())

@@ -58,7 +58,7 @@ impl Kept {
     /// # Errors
     ///
     /// `Damaged` where a number comes twice, or a slot's ordinals are not those of its text, each once; `NoMemory`
-    /// where a growth was refused.
+    /// when out of memory.
     pub fn of(
         alloc: Global,
         layout: Layout,

@@ -115,7 +115,7 @@ fn checked_list(
     Ok(BlockList { blocks: list })
 }
 
-// The list of the next slot, behind those of the slots before it.
+// The list of the next slot, after those of the slots before it.
 fn push_list(
     alloc: Global,
     lists: &mut Vec<BlockList>,

@@ -91,7 +91,7 @@ impl Kept {
 }
 
 /// Takes the upload of a number away: refused with `NoSuch`, `NoMemory`, `DiskFault`. Its drafts keep their blocks, and
-/// forget its text. Every growth comes before the first write. After a fault of the device what is kept is ahead of the
+/// forget its text. Every growth comes before the first write. After a disk fault what is kept is ahead of the
 /// disk: the spool must be opened again.
 pub fn terminate<D: Disk>(
     alloc: Global,

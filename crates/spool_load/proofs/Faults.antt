@@ -10,7 +10,7 @@ use Rattle.spool_load.specs.Faults.{TellsNothing, load_fault}
 use Rattle.spool_load.specs.declared.error.LoadError.{LoadError}
 use Rattle.spool_load.specs.declared.error.LoadError.TheVariants.{DiskFault, Check}
 
--- the device failed in both
+-- the disk failed in both
 device_told : (e : LoadError) → load_fault e ≡ opens.DiskFault → e ≡ DiskFault
 device_told DiskFault is = refl
 device_told (Check Damaged) is = absurd (cc)

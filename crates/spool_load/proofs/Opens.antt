@@ -66,12 +66,12 @@ keeps_on first then = record {
   loosens = λ p l. first.loosens p (then.loosens p l);
 }
 
--- where no journal is to be replayed the gate is shut, also behind a read
+-- where no journal is to be replayed the gate is shut, also after a read
 pub gate_shut : {seen seen' : ℕ → ℕ} {loose loose' : ℕ → Type 0} {size n : ℕ} → Keeps seen seen' loose loose'
     → SaysBlocks size seen n → (NeedsReplay size seen → ⊥) → seen' 4096 ≡ 165 → ⊥
 gate_shut {n = n} keeps says none ajar = none (record { blocks = n; says = says; gate = sym (keeps.same 4096) ∙ ajar })
 
--- behind a recovery
+-- after a recovery
 pub settled_still : {j : ℕ} {bytes seen : ℕ → ℕ} {loose : ℕ → Type 0} → Settled j bytes seen loose
     → Still seen seen loose
 settled_still settled = record { reads = λ p. refl; firm = settled.firm }
@@ -106,7 +106,7 @@ pub keeps_image : {seen seen' image : ℕ → ℕ} {loose loose' : ℕ → Type 
     → IsImage seen' loose' image → IsImage seen loose image
 keeps_image keeps is = record { same = λ p firm. is.same p (λ l. firm (keeps.loosens p l)) ∙ keeps.same p }
 
--- A READ BEHIND A RECOVERY
+-- A READ AFTER A RECOVERY
 
 -- what was recovered says the view that was on the disk
 pub recovered_says : {was seen : ℕ → ℕ} {loose : ℕ → Type 0} (n : ℕ) (v : View) → n ≡ v.blocks

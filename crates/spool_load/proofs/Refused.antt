@@ -11,7 +11,7 @@ use Rattle.spool_pages.specs.View.{View, Stands, IsViewOf, magic, first_page, st
 use Rattle.spool_pages.specs.declared.version.Version.{Version as Known}
 use Rattle.spool_pages.specs.declared.version.Version.TheVariants.{One, Two}
 use Rattle.spool_pages.proofs.Numbers.{four_at}
-use Rattle.spool_pages.proofs.RecordBytes.{stands_front, stands_behind}
+use Rattle.spool_pages.proofs.RecordBytes.{stands_front, stands_beyond}
 use Rattle.spool_pages.proofs.Says.{says_same, some_journal}
 use Rattle.spool_kept.specs.declared.error.CheckError.TheVariants as checks
 use Rattle.spool_kept.specs.declared.error.OpenFault.{OpenFault}
@@ -46,7 +46,7 @@ number_stands size seen n says =
           let at : i ≡ 0 + i = omega arith in
           subst (λ (p : ℕ). seen p ≡ get_or (magic ++ to_be_bytes w32 n) i 0) at (says.front i lt);
     } in
-    stands_behind magic (to_be_bytes w32 n) 8 4 refl (omega arith) whole
+    stands_beyond magic (to_be_bytes w32 n) 8 4 refl (omega arith) whole
 
 -- a disk says one number of blocks
 pub says_one : (size : ℕ) (seen : ℕ → ℕ) (n m : ℕ) → SaysBlocks size seen n → SaysBlocks size seen m → n ≡ m
@@ -108,7 +108,7 @@ state_read bytes n place buf None read long here same fields rest unknown = λ k
   said = read_stands bytes place (state_place n) 0 4 buf _ read (omega (arith, long)) here known.said;
 })
 
--- BEHIND A RECOVERY
+-- AFTER A RECOVERY
 
 module _ (n : ℕ) (old seen : ℕ → ℕ) (loose : ℕ → Type 0) (settled : Settled (journal_pages n) (overlaid old) seen loose)
     (journal : HasJournal n old) where

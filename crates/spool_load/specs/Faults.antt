@@ -12,12 +12,12 @@ load_fault DiskFault = opens.DiskFault
 load_fault (Check Damaged) = opens.Damaged
 load_fault (Check NoMemory) = opens.NoMemory
 
--- for memory or by the device, whatever is on the disk
+-- for memory or by the disk, whatever is on the disk
 abbrev pub TellsNothing : LoadError → Type 0
 TellsNothing DiskFault = Unit {0}
 TellsNothing (Check e) = e ≡ NoMemory
 
--- it is read, or refused for memory or by the device
+-- it is read, or refused by the disk or out of memory
 abbrev pub Loads : {T : Type 0} → Result T LoadError → (T → Type 0) → Type 0
 Loads (Ok t) done = done t
 Loads (Err e) done = TellsNothing e

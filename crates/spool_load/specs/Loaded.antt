@@ -22,7 +22,7 @@ pub record FoundOn (size : ℕ) (seen : ℕ → ℕ) (found : Found) : Type 0 wh
   pub journal : HasJournal found.layout seen
   pub state : StandsFound (overlaid seen) found
 
--- this version and this next number were found, and zeros behind them
+-- this version and this next number were found, and zeros after them
 pub record SaysState (said : Version) (number : ℕ) (found : Found) : Type 0 where
   pub version : found.version ≡ said
   pub next : found.next ≡ number

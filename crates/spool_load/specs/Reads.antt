@@ -29,7 +29,7 @@ pub record SaysBlocks (size : ℕ) (seen : ℕ → ℕ) (blocks : ℕ) : Type 0 
   pub room : 4096 * all_pages blocks ≤ size
   pub front : (i : ℕ) → i < 12 → seen i ≡ get_or (first_page blocks) i 0
 
--- and behind it the gate is open: a journal is to be replayed
+-- and after it the gate is open: a journal is to be replayed
 pub record NeedsReplay (size : ℕ) (seen : ℕ → ℕ) : Type 0 where
   pub blocks : ℕ
   pub says : SaysBlocks size seen blocks
@@ -66,6 +66,6 @@ pub record StandSlots (bytes : ℕ → ℕ) (n : ℕ) (version : Version) (slots
       (slot_bytes version (get_or slots s None))
   pub fit : (s : ℕ) → FitsSlotOf (get_or slots s None)
 
--- the rows of the blocks below the end stand, and zeros behind the last one
+-- the rows of the blocks below the end stand, and zeros after the last one
 pub record StandRows (bytes : ℕ → ℕ) (n end : ℕ) (rows : List (Option (ℕ × ℕ))) : Type 0 where
   pub each : (b : ℕ) → b < end → Stands bytes (row_place n b) 8 (row_bytes (get_or rows b None))

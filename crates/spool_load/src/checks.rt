@@ -15,7 +15,7 @@ use spool_blocks::Row;
 use spool_kept::{KeptRecord, blocks_of, record_at};
 use upload_rules::{LENGTH_LIMIT, NUMBERS_END, Record, is_length};
 
-// Whether a transcoder may have come so far behind so many bytes: it has ended exactly where the length is known and
+// Whether a transcoder may have come so far after so many bytes: it has ended exactly where the length is known and
 // all its bytes were accepted, and before a byte order mark is decided all accepted bytes are held.
 fn fits_progress(progress: Progress, accepted: u64, declared: Option<u64>) -> bool
     ensures { (p : Phase) → progress_of p ≡ progress → IsTrue result ↔ FitsPhase p accepted declared }
@@ -27,7 +27,7 @@ fn fits_progress(progress: Progress, accepted: u64, declared: Option<u64>) -> bo
     }
 }
 
-// Whether the state is that of a transcoder that may stand behind so many bytes.
+// Whether the state is that of a transcoder that may stand after so many bytes.
 fn is_state_sound(record: &Record) -> bool
     ensures { IsTrue result ↔ HasState (said_of «record».now) }
 {

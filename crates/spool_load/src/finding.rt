@@ -18,7 +18,7 @@ use crate::reading::read_at;
 use spool_disk::{Disk, DiskFault};
 use spool_journal::{Layout, PAGE, recover};
 use spool_kept::OpenFault;
-use spool_pages::{Version, blocks_said, is_blank_behind_fields, state_place, version_and_next};
+use spool_pages::{Version, blocks_said, is_blank_after_fields, state_place, version_and_next};
 
 /// A spool that was found on a disk and made whole.
 #[derive(Drop)]
@@ -92,7 +92,7 @@ fn found_in(layout: Layout, page: &[u8; PAGE]) -> Option<Found>
         layout,
         version,
         next,
-        is_rest_blank: is_blank_behind_fields(page),
+        is_rest_blank: is_blank_after_fields(page),
     })
 }
 
@@ -145,14 +145,14 @@ fn restore<D: Disk>(disk: &mut D, layout: Layout) -> Result<Found, OpenFault>
 /// # Errors
 ///
 /// `NotASpool` where the first 12 bytes say none or the disk is shorter than its layout, then as `recover`, then
-/// `Version` where the state page says no version that is known; `DiskFault` where the device failed.
+/// `Version` where the state page says no version that is known; `DiskFault` where the disk failed.
 pub fn find<D: Disk>(disk: &mut D) -> Result<Found, OpenFault>
     ensures size { D.size disk.new ≡ D.size disk.old }
     ensures honest { D.honest disk.old ↔ D.honest disk.new }
     ensures counts { Counts (result ≡ Err OpenFault.DiskFault) (D.failures disk.old) (D.failures disk.new) }
     ensures room { IfOk result (λ found. 4096 * all_pages found.layout ≤ D.size disk.old) }
 
-    // What a read shows is found, or the device refuses it.
+    // What a read shows is found, or the disk refuses it.
     ensures said { D.honest disk.old → (v : View) → IsSound v → IsViewOf (D.seen disk.old) v
         → 4096 * all_pages v.blocks ≤ D.size disk.old → LoadsAs result (IsFoundOf v) }
 

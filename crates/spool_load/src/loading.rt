@@ -76,8 +76,8 @@ fn load_blocks<D: Disk>(
 ///
 /// # Errors
 ///
-/// `Check(Damaged)` where what is read is not what a spool may say; `Check(NoMemory)` where a growth was refused, and
-/// `DiskFault` where the device failed.
+/// `Check(Damaged)` where what is read is not what a spool may say; `Check(NoMemory)` when out of memory, and
+/// `DiskFault` where the disk failed.
 pub fn read<D: Disk>(alloc: Global, disk: &mut D, found: Found) -> Result<Kept, LoadError>
     requires { 4096 * all_pages found.layout ≤ D.size disk.old }
     ensures reads { OnlyReads D.Disk disk.old disk.new }
@@ -85,7 +85,7 @@ pub fn read<D: Disk>(alloc: Global, disk: &mut D, found: Found) -> Result<Kept, 
     ensures layout { IfOk result (λ kept. kept.layout ≡ found.layout) }
     ensures version { IfOk result (λ kept. kept.version ≡ found.version) }
 
-    // A sound spool is read, or memory or the device refuses it.
+    // A sound spool is read, or memory or the disk refuses it.
     ensures said { D.honest disk.old → (bytes : ℕ → ℕ) → Still bytes (D.seen disk.old) (D.loose disk.old)
         → (v : View) → IsSound v → IsFoundOf v found → Says bytes v → Loads result (λ kept. KeepsAlone kept v) }
 

@@ -25,14 +25,14 @@ use std::alloc::Global;
 ///
 /// `NotASpool` where the first 12 bytes say none or the disk is shorter than its layout, then as `recover`, then
 /// `Version` where the state page says no version that is known, then `Damaged` where what is read is not what a spool
-/// may say; `NoMemory` where a growth was refused, and `DiskFault` where the device failed.
+/// may say; `NoMemory` when out of memory, and `DiskFault` where the disk failed.
 pub fn load<D: Disk>(alloc: Global, disk: &mut D) -> Result<Kept, OpenFault>
     ensures size { D.size disk.new ≡ D.size disk.old }
     ensures honest { D.honest disk.old ↔ D.honest disk.new }
     ensures counts { Counts (result ≡ Err OpenFault.DiskFault) (D.failures disk.old) (D.failures disk.new) }
     ensures room { IfOk result (λ kept. 4096 * all_pages kept.layout ≤ D.size disk.old) }
 
-    // What a read shows is kept, or memory or the device refuses it.
+    // What a read shows is kept, or memory or the disk refuses it.
     ensures said { D.honest disk.old → (v : View) → IsSound v → IsViewOf (D.seen disk.old) v
         → 4096 * all_pages v.blocks ≤ D.size disk.old → LoadsAs result (λ kept. KeepsAlone kept v) }
 

@@ -21,7 +21,7 @@ use std::alloc::Global;
 fn put_row(rows: &mut [Row], block: usize, row: Row) -> Result<(), Damaged>
     ensures put { OnOk result (get_or rows.new block None ≡ row) }
     ensures others { (b : ℕ) → b ≢ block → get_or rows.new b None ≡ get_or rows.old b None }
-    ensures behind { OnErr result (length rows.old ≤ block) }
+    ensures after { OnErr result (length rows.old ≤ block) }
     ensures used { OnErr result (row ≢ None) }
 {
     if block < rows.len() {
@@ -33,7 +33,7 @@ fn put_row(rows: &mut [Row], block: usize, row: Row) -> Result<(), Damaged>
 }
 
 // Puts the rows of a page into their places, from one on. `Damaged` where an ordinal stands with no slot, or a row
-// isn't free behind the last place.
+// isn't free after the last place.
 fn fill(rows: &mut [Row], page: &[u8; PAGE], first: usize) -> Result<(), Damaged>
     requires { first ≤ 65536 }
     ensures said { (all : List (Option (ℕ × ℕ))) → length all ≡ length rows.old

@@ -16,7 +16,7 @@ use enc_index::{AreaError, IndexSet};
 use spool_disk::{Disk, DiskFault};
 use spool_journal::{Layout, PAGE};
 use spool_kept::CheckError;
-use spool_pages::{Damaged, index_place, is_blank_behind_fields};
+use spool_pages::{Damaged, index_place, is_blank_after_fields};
 use std::alloc::Global;
 
 /// Fills the buffer from a place on.
@@ -30,7 +30,7 @@ pub(crate) fn read_at<D: Disk>(disk: &mut D, place: u64, buf: &mut [u8]) -> Resu
     disk.read(place, buf)
 }
 
-/// Looks at what stands behind the fields of page 0.
+/// Looks at what stands after the fields of page 0.
 pub(crate) fn check_front<D: Disk>(disk: &mut D, layout: &Layout) -> Result<(), LoadError>
     requires { 4096 * all_pages layout.now ≤ D.size disk.old }
     ensures reads { OnlyReads D.Disk disk.old disk.new }
@@ -43,14 +43,14 @@ pub(crate) fn check_front<D: Disk>(disk: &mut D, layout: &Layout) -> Result<(), 
 {
     let mut page = [0; PAGE];
     read_at(disk, 0, &mut page)?;
-    if is_blank_behind_fields(&page) {
+    if is_blank_after_fields(&page) {
         Ok(())
     } else {
         Err(LoadError::from(Damaged))
     }
 }
 
-// A page of the index area behind the ones before it.
+// A page of the index area after the ones before it.
 fn push_area_page<D: Disk>(
     disk: &mut D,
     layout: &Layout,

@@ -65,7 +65,7 @@ fn load_slot<D: Disk>(
     Ok(kept_of(alloc, version, &bytes)?)
 }
 
-// The record of the next slot, behind those before it.
+// The record of the next slot, after those before it.
 fn push_slot<D: Disk>(
     alloc: Global,
     disk: &mut D,

@@ -1,4 +1,4 @@
--- Zeros behind what stands at the front of a page.
+-- Zeros after what stands at the front of a page.
 use Rattle.std.proofs.Common.{◌≡◌, ℕ, ◌+◌, ◌-◌, ◌<◌, ◌≤◌, List, [], length, get_or, take, drop}
 use Rattle.std.proofs.Common.{inl, inr, sym, ◌∙◌, subst, arith}
 use Rattle.std.proofs.Math.ListN.{get_or-eq_default, length-take}
@@ -27,7 +27,7 @@ module _ (bytes : List ℕ) (at end : ℕ) where
   blank_range blank = record { each = λ i below. sym (range_byte i below) ∙ blank.each i }
 
 module _ (page : List ℕ) (n m : ℕ) (all : n + m ≡ length page) where
-  -- a byte of the m bytes behind the first n
+  -- a byte of the m bytes after the first n
   rest_byte : (k : ℕ) → get_or (take m (drop n page)) k 0 ≡ get_or page (n + k) 0
   rest_byte k = elim (cases_lt k m) [
     | inl below ↦ get_or-take m (drop n page) k 0 below ∙ get_or-drop n page k 0

@@ -14,8 +14,8 @@ pub padded_more : (old new xs ys : List ℕ) (at : ℕ)
     → IsPadded new (xs ++ ys)
 padded_more old new xs ys at outside inside long was = record { each = at_place }
   where
-    behind : (i : ℕ) → length xs ≤ i → get_or new i 0 ≡ get_or (xs ++ ys) i 0
-    behind i from = elim (cases_lt i (at + length ys)) [
+    after : (i : ℕ) → length xs ≤ i → get_or new i 0 ≡ get_or (xs ++ ys) i 0
+    after i from = elim (cases_lt i (at + length ys)) [
       | inl below ↦
           let k : at + (i - at) ≡ i = omega (arith, long, from) in
           let same : i - length xs ≡ i - at = omega (arith, long) in
@@ -32,7 +32,7 @@ padded_more old new xs ys at outside inside long was = record { each = at_place 
     at_place i = elim (cases_lt i (length xs)) [
       | inl below ↦ outside i (λ within. omega (arith, within.from, long, below)) ∙ was.each i
           ∙ sym (get_or-append xs ys 0 i below)
-      | inr from ↦ behind i from
+      | inr from ↦ after i from
     ]
 
 pub padded_zeros : (n : ℕ) → IsPadded (replicate n 0) []

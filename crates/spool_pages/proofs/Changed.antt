@@ -17,7 +17,7 @@ is_neighbour s slot same ne = grind (arith, nat_tests)
 
 -- the page of two slots, given this one's and the one's beside it
 module _ (pages : List (ℕ × List ℕ)) (v : View) (slot : ℕ) (kept : Option SlotRecord) (bytes : List ℕ) where
-  -- a slot before the change and behind it, by the version
+  -- a slot before the change and after it, by the version
   abbrev was : ℕ → Version × Option SlotRecord
   was s = (v.version, slot_at v s)
 
@@ -38,9 +38,9 @@ module _ (pages : List (ℕ × List ℕ)) (v : View) (slot : ℕ) (kept : Option
       let there : page_in (record_number v.blocks s) pages ≡ Some bytes =
       subst (λ (k : ℕ). page_in (26 + journal_pages v.blocks + k) pages ≡ Some bytes) (sym same) here in
       let before : SaysSlot s bytes (was s) = subst (λ (t : ℕ). SaysSlot t bytes (was t)) (sym is) beside in
-      let behind : SaysSlot s bytes (now s) =
+      let after : SaysSlot s bytes (now s) =
       subst (λ (x : Option SlotRecord). SaysSlot s bytes (v.version, x)) (sym (stays s ne)) before in
-      subst (λ (o : Option (List ℕ)). Said o (SaysSlot s) (was s) (now s)) (sym there) behind)
+      subst (λ (o : Option (List ℕ)). Said o (SaysSlot s) (was s) (now s)) (sym there) after)
       (λ (apart : s / 2 ≡ slot / 2 → ⊥).
       subst (λ (o : Option (List ℕ)). Said o (SaysSlot s) (was s) (now s)) (sym (others s lt apart))
       (ap (λ (x : Option SlotRecord). (v.version, x)) (stays s ne)))
@@ -54,9 +54,9 @@ module _ (pages : List (ℕ × List ℕ)) (v : View) (slot : ℕ) (kept : Option
       at_slot =
           let new : slot_at (with_slot v slot kept) slot ≡ kept =
           get_or-set_same v.slots slot kept None (omega (arith, long, few)) in
-          let behind : SaysSlot slot bytes (now slot) =
+          let after : SaysSlot slot bytes (now slot) =
           subst (λ (x : Option SlotRecord). SaysSlot slot bytes (v.version, x)) (sym new) says in
-          subst (λ (o : Option (List ℕ)). Said o (SaysSlot slot) (was slot) (now slot)) (sym here) behind
+          subst (λ (o : Option (List ℕ)). Said o (SaysSlot slot) (was slot) (now slot)) (sym here) after
 
 -- what the slot beside it has, by the view's version
 pub said_beside : (v : View) {version : Version} {kept : Option SlotRecord} (slot : ℕ) (bytes : List ℕ)

@@ -28,10 +28,10 @@ in_front : (n : ℕ) (entry : ℕ × List ℕ) (pages : List (ℕ × List ℕ)) 
 unfolding page_in
 in_front n entry pages e = ap (λ (b : Bool). cond b (Some entry.1) (page_in n pages)) (yes entry.0 n e)
 
-behind : (n : ℕ) (entry : ℕ × List ℕ) (pages : List (ℕ × List ℕ)) → (entry.0 ≡ n → ⊥)
+after : (n : ℕ) (entry : ℕ × List ℕ) (pages : List (ℕ × List ℕ)) → (entry.0 ≡ n → ⊥)
     → page_in n (entry ∷ pages) ≡ page_in n pages
 unfolding page_in
-behind n entry pages e = ap (λ (b : Bool). cond b (Some entry.1) (page_in n pages)) (no entry.0 n e)
+after n entry pages e = ap (λ (b : Bool). cond b (Some entry.1) (page_in n pages)) (no entry.0 n e)
 
 page_none : (n : ℕ) (pages : List (ℕ × List ℕ)) → page_in n pages ≡ None → (k : ℕ) → k < length pages
     → page_number pages k ≡ n → ⊥
@@ -39,7 +39,7 @@ page_none n [] e k lt is = omega (arith, lt)
 page_none n (entry ∷ pages) e zero lt is = let front = in_front n entry pages is in cc
 page_none n (entry ∷ pages) e (suc k) lt is = elim (cases_eq entry.0 n) [
   | inl here ↦ let front = in_front n entry pages here in cc
-  | inr other ↦ page_none n pages (sym (behind n entry pages other) ∙ e) k (omega (arith, lt)) is
+  | inr other ↦ page_none n pages (sym (after n entry pages other) ∙ e) k (omega (arith, lt)) is
 ]
 
 page_some : (n : ℕ) (pages : List (ℕ × List ℕ)) (bytes : List ℕ) → page_in n pages ≡ Some bytes → PageAt n pages bytes
@@ -53,7 +53,7 @@ page_some n (entry ∷ pages) bytes e = elim (cases_eq entry.0 n) [
     bytes_are = some_is (sym (in_front n entry pages here) ∙ e);
   }
   | inr other ↦
-      let rest = page_some n pages bytes (sym (behind n entry pages other) ∙ e) in
+      let rest = page_some n pages bytes (sym (after n entry pages other) ∙ e) in
       record { at = suc rest.at; below = omega (arith, rest.below); number = rest.number; bytes_are = rest.bytes_are }
 ]
   where

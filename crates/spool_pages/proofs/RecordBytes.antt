@@ -94,9 +94,9 @@ stands_front xs ys k long fits stands =
           stands.each i (omega (arith, lt, fits)) ∙ get_or-append xs ys 0 i (omega (arith, lt, long));
     }
 
-pub stands_behind : {f : ℕ → ℕ} {place size : ℕ} (xs ys : List ℕ) (k m : ℕ) → length xs ≡ k → k + m ≤ size
+pub stands_beyond : {f : ℕ → ℕ} {place size : ℕ} (xs ys : List ℕ) (k m : ℕ) → length xs ≡ k → k + m ≤ size
     → Stands f place size (xs ++ ys) → Stands f (place + k) m ys
-stands_behind {f = f} {place = place} xs ys k m long fits stands = record {
+stands_beyond {f = f} {place = place} xs ys k m long fits stands = record {
   each = λ i lt.
       let at : place + (k + i) ≡ place + k + i = omega arith in
       let here : f (place + (k + i)) ≡ get_or (xs ++ ys) (k + i) 0 = stands.each (k + i) (omega (arith, lt, fits)) in
@@ -188,18 +188,18 @@ module _ (f : ℕ → ℕ) (version : Version) (r : SlotRecord) (size : length r
       let four = stands_front (four_of version r) _ 32 refl (omega arith) state in
       let three = stands_front (three_of version r) _ 24 refl (omega arith) four in
       let two = stands_front (two_of version r) _ 16 refl (omega arith) three in
-      let tag = stands_behind (room_end version r) _ 1602 1 (length-room_end version r size few) (omega arith) all in
+      let tag = stands_beyond (room_end version r) _ 1602 1 (length-room_end version r size few) (omega arith) all in
       record {
         number = stands_front (to_be_bytes w64 r.number) _ 8 refl (omega arith) two;
-        declared = stands_behind (to_be_bytes w64 r.number) _ 8 8 refl (omega arith) two;
-        accepted = stands_behind (two_of version r) _ 16 8 refl (omega arith) three;
-        text_len = stands_behind (three_of version r) _ 24 8 refl (omega arith) four;
-        state = stands_behind (four_of version r) _ 32 32 refl (omega arith) state;
-        metadata_len = stands_behind (state_end version r) _ 64 2 (length-state_end version r size) (omega arith) head;
-        metadata = stands_behind (head_of version r) _ 66 (length r.metadata) (length-head version r size) (omega arith)
+        declared = stands_beyond (to_be_bytes w64 r.number) _ 8 8 refl (omega arith) two;
+        accepted = stands_beyond (two_of version r) _ 16 8 refl (omega arith) three;
+        text_len = stands_beyond (three_of version r) _ 24 8 refl (omega arith) four;
+        state = stands_beyond (four_of version r) _ 32 32 refl (omega arith) state;
+        metadata_len = stands_beyond (state_end version r) _ 64 2 (length-state_end version r size) (omega arith) head;
+        metadata = stands_beyond (head_of version r) _ 66 (length r.metadata) (length-head version r size) (omega arith)
             metadata;
         room = subst (λ (place : ℕ). Stands f place (1536 - length r.metadata) []) at
-            (of_zeros (1536 - length r.metadata) (stands_behind (metadata_end version r) _ (66 + length r.metadata)
+            (of_zeros (1536 - length r.metadata) (stands_beyond (metadata_end version r) _ (66 + length r.metadata)
             (1536 - length r.metadata) long (omega (arith, few)) room));
         tag = tag.each 0 (omega arith);
       }

@@ -7,7 +7,7 @@ use Rattle.spool_journal.specs.Image.{byte_of}
 use Rattle.spool_pages.specs.Bytes.{IsPadded}
 use Rattle.spool_pages.specs.View.{Stands, row_bytes}
 use Rattle.spool_pages.proofs.Bytes.{padded_zeros}
-use Rattle.spool_pages.proofs.RecordBytes.{stands_front, stands_behind, stands_both}
+use Rattle.spool_pages.proofs.RecordBytes.{stands_front, stands_beyond, stands_both}
 
 pub owned_is : (slot ordinal : ℕ)
     → to_be_bytes w32 (slot + 1) ++ to_be_bytes w32 ordinal ≡ row_bytes (Some (slot, ordinal))
@@ -27,7 +27,7 @@ module _ (f : ℕ → ℕ) (at : ℕ) where
   pub ordinal_at : (slot ordinal : ℕ) → Stands f at 8 (row_bytes (Some (slot, ordinal)))
       → Stands f (at + 4) 4 (to_be_bytes w32 ordinal)
   unfolding row_bytes
-  ordinal_at slot ordinal stands = stands_behind (to_be_bytes w32 (slot + 1)) _ 4 4 refl (omega arith) stands
+  ordinal_at slot ordinal stands = stands_beyond (to_be_bytes w32 (slot + 1)) _ 4 4 refl (omega arith) stands
 
   pub free_at : Stands f at 8 (row_bytes None) → Stands f at 4 (to_be_bytes w32 0)
   unfolding row_bytes

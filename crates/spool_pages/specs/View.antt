@@ -34,7 +34,7 @@ pub record View : Type 0 where
 abbrev pub slot_at : View → ℕ → Option SlotRecord
 slot_at v s = get_or v.slots s None
 
--- AS BYTES, WITH ZEROS BEHIND THEM
+-- AS BYTES, WITH ZEROS AFTER THEM
 
 -- TUSSPOOL
 abbrev pub magic : List ℕ
@@ -56,7 +56,7 @@ length_number version (Some n) = n
 length_number One None = 0xFFFFFFFFFFFFFFFF
 length_number Two None = 0
 
--- and the byte behind the metadata's room: 1 for an unknown length in version 2
+-- and the byte after the metadata's room: 1 for an unknown length in version 2
 abbrev pub length_tag : Version → Option ℕ → ℕ
 length_tag version (Some n) = 0
 length_tag One None = 0
@@ -92,7 +92,7 @@ slot_place n s = state_place n + 4096 + 2048 * s
 abbrev pub row_place : ℕ → ℕ → ℕ
 row_place n b = state_place n + 4096 * 257 + 8 * b
 
--- from the place on these bytes stand, and zeros behind them up to the size
+-- from the place on these bytes stand, and zeros after them up to the size
 pub record Stands (image : ℕ → ℕ) (place size : ℕ) (bytes : List ℕ) : Type 0 where
   pub each : (i : ℕ) → i < size → image (place + i) ≡ byte_of bytes i
 
@@ -110,7 +110,7 @@ pub record Says (image : ℕ → ℕ) (v : View) : Type 0 where
   pub texts : (s : ℕ) (r : SlotRecord) → slot_at v s ≡ Some r → v.texts s ≡ text_shown image (text_page v.blocks) v.rows
       s r.text_len
 
--- Read plainly the image says this: behind an open gate, whose journal head is in form, the journal's pages lie over
+-- Read plainly the image says this: after an open gate, whose journal head is in form, the journal's pages lie over
 -- their places.
 pub record IsViewOf (image : ℕ → ℕ) (v : View) : Type 0 where
   pub form : image 4096 ≡ 165 → InForm (journal_pages v.blocks) (count image) (number image)

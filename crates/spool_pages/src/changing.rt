@@ -12,7 +12,7 @@ use spool_disk::{Disk, DiskFault};
 use spool_journal::{Layout, Pages, commit};
 
 /// Changes at least one page of a spool at rest, all of them or none, and syncs what was written before: so the new
-/// view's rows may own blocks that were written since the last sync. It takes no memory. An error is that the device
+/// view's rows may own blocks that were written since the last sync. It takes no memory. An error is that the disk
 /// failed.
 pub fn change<D: Disk>(disk: &mut D, layout: &Layout, pages: &Pages) -> Result<(), DiskFault>
     requires room { 4096 * all_pages layout.now ≤ D.size disk.old }

@@ -6,7 +6,7 @@ ghost use Rattle.spool_journal.specs.Image.{byte_of};
 ghost use Rattle.spool_pages.specs.Bytes.{IsPadded};
 ghost use Rattle.spool_pages.specs.View.{Stands};
 
-/// Puts bytes behind those that stand in a page.
+/// Puts bytes after those that stand in a page.
 pub(crate) fn put(page: &mut [u8], at: usize, bytes: &[u8])
     requires { at + length bytes.now ≤ length page.old }
     ensures outside { (p : ℕ) → (In at (length bytes.now) p → ⊥) → get_or page.new p 0 ≡ get_or page.old p 0 }

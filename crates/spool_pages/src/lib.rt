@@ -18,7 +18,7 @@ pub use changes::{fill_rows, pages_of_change, pages_of_new};
 pub use changing::change;
 pub use damaged::Damaged;
 pub use pages::{
-    MAGIC, blank_page, blocks_said, first_page, is_blank, is_blank_behind_fields, state_page,
+    MAGIC, blank_page, blocks_said, first_page, is_blank, is_blank_after_fields, state_page,
     version_and_next,
 };
 pub use places::{index_place, row_pages, rows_place, slot_place, state_place};

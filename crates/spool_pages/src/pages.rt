@@ -62,8 +62,8 @@ pub fn version_and_next(page: &[u8; PAGE]) -> Option<(Version, u64)>
     }
 }
 
-/// Whether there are only zeros behind the fields of page 0 or of the state page, its first 12 bytes.
-pub fn is_blank_behind_fields(page: &[u8; PAGE]) -> bool
+/// Whether there are only zeros after the fields of page 0 or of the state page, its first 12 bytes.
+pub fn is_blank_after_fields(page: &[u8; PAGE]) -> bool
     ensures first { (blocks : ℕ) → Stands (byte_of page.now) 0 12 (first_page blocks)
         → (IsTrue result ↔ Stands (byte_of page.now) 0 4096 (first_page blocks)) }
     ensures state { (version : Known) (next : ℕ) → Stands (byte_of page.now) 0 12 (state_page version next)

@@ -61,7 +61,7 @@ pub struct SlotRecord<'a> {
     pub accepted: u64,
     /// The length of the text.
     pub text_len: u64,
-    /// The transcoder's state behind the accepted bytes.
+    /// The transcoder's state after the accepted bytes.
     pub state: [u8; 32],
     /// The metadata as it was given.
     pub metadata: &'a [u8],

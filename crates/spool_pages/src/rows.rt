@@ -36,7 +36,7 @@ fn bytes_of(row: Row) -> [u8; 8]
     }
 }
 
-// The row of a block, none behind the last one.
+// The row of a block, none after the last one.
 fn row_of(rows: &[Row], block: usize) -> Row
     ensures { result ≡ get_or rows.now block None }
 {
@@ -70,7 +70,7 @@ pub fn row_at(page: &[u8], at: usize) -> Result<Row, Damaged>
     Ok(None)
 }
 
-/// A page of rows: 512 of them, with free ones behind the last.
+/// A page of rows: 512 of them, with free ones after the last.
 pub fn row_page(rows: &[Row], page: usize) -> [u8; PAGE]
     requires page { page < 128 }
     requires fits { (b : ℕ) → FitsRow (get_or rows.now b None) }

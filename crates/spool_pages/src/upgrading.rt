@@ -12,7 +12,7 @@ use spool_blocks::SLOTS;
 use spool_journal::{Layout, PAGE, Pages};
 use std::alloc::{AllocError, Global};
 
-// The page of a slot and the one behind it, in version 2.
+// The page of a slot and the one after it, in version 2.
 fn pair_page(slots: &[Option<SlotRecord<'_>>], slot: usize) -> [u8; PAGE]
     requires within { slot + 1 < length slots.now }
     requires metadata { (s : ℕ) → IfSome (get_or slots.now s None) (λ r. length r.metadata ≤ 1536) }

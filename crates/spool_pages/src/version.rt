@@ -8,7 +8,7 @@ ghost use Rattle.spool_pages.specs.declared.version.Version.{Version as Known};
 pub enum Version {
     /// By eight bytes FF.
     One,
-    /// By a byte behind the metadata's room, and zeros in the length's place.
+    /// By a byte after the metadata's room, and zeros in the length's place.
     Two,
 }
 

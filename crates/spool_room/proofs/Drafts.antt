@@ -13,7 +13,7 @@ use Rattle.upload_rules.specs.World.{Patch}
 use Rattle.upload_rules.specs.Apart.{IsApart}
 use Rattle.upload_rules.specs.Room.{need, needs_but}
 use Rattle.spool_room.specs.Holdings.{Reserves}
-use Rattle.spool_room.proofs.Numbers.{first_found, found_behind, is_other, found_later}
+use Rattle.spool_room.proofs.Numbers.{first_found, found_after, is_other, found_later}
 
 -- A LIST
 
@@ -130,11 +130,11 @@ module _ (x : IndexSet) (entry : ℕ × Patch) (patches : List (ℕ × Patch)) (
   later : (e : ℕ) (p : Patch) → find e patches ≡ Some p → find e (entry ∷ patches) ≡ Some p
   later e p there = found_later e p entry patches all.apart.0 there
 
-  behind : (b : ℕ) (needed : IsNeeded (entry ∷ patches) lists d b) → entry.0 ≢ needed.list → IsNeeded patches lists d b
-  behind b needed ne = record {
+  after : (b : ℕ) (needed : IsNeeded (entry ∷ patches) lists d b) → entry.0 ≢ needed.list → IsNeeded patches lists d b
+  after b needed ne = record {
     list = needed.list;
     patch = needed.patch;
-    there = sym (found_behind needed.list entry patches ne) ∙ needed.there;
+    there = sym (found_after needed.list entry patches ne) ∙ needed.there;
     other = needed.other;
     at = needed.at;
     below = needed.below;
@@ -147,7 +147,7 @@ module _ (x : IndexSet) (entry : ℕ × Patch) (patches : List (ℕ × Patch)) (
     apart = all.apart.1;
     reserved = λ e p ne there. all.reserved e p ne (later e p there);
     distinct = all.distinct;
-    all = λ b flagged. let needed = all.all b flagged in behind b needed (λ e. needed.other (sym e ∙ same));
+    all = λ b flagged. let needed = all.all b flagged in after b needed (λ e. needed.other (sym e ∙ same));
     needs = λ e p ne there. all.needs e p ne (later e p there);
   }
 
@@ -162,7 +162,7 @@ module _ (x : IndexSet) (entry : ℕ × Patch) (patches : List (ℕ × Patch)) (
     all = λ b flagged.
         let still = still_set b (lists entry.0) flags flagged in
         let needed = all.all b still.0 in
-        behind b needed (λ e. still.1 needed.at (subst (λ (k : ℕ). needed.at < length (lists k)) (sym e) needed.below)
+        after b needed (λ e. still.1 needed.at (subst (λ (k : ℕ). needed.at < length (lists k)) (sym e) needed.below)
         (ap (λ (k : ℕ). get_or (lists k) needed.at 0) e ∙ needed.here));
     needs = λ e p ne there. all.needs e p ne (later e p there);
   }

@@ -13,7 +13,7 @@ use Rattle.upload_rules.specs.World.{Patch, World}
 use Rattle.upload_rules.specs.Room.{blocks_of}
 use Rattle.spool_room.specs.Holdings.{IsInSome, OwnsTexts, Reserves, IsHeldBy, RuleHolds}
 use Rattle.spool_blocks.proofs.Links.{same_slot, same_ordinal}
-use Rattle.spool_room.proofs.Numbers.{found_behind}
+use Rattle.spool_room.proofs.Numbers.{found_after}
 use Rattle.spool_room.proofs.Rule.{rule_holds}
 
 abbrev held : Held
@@ -123,7 +123,7 @@ module _ (x : IndexSet) (u : Upload) (one : blocks_of (length (text_of x u)) ≡
   }
 
   only_draft : (e : ℕ) (q : Patch) → e ≢ 0 → find e ((0, p) ∷ []) ≡ Some q → ⊥
-  only_draft e q ne there = none_some (sym (found_behind e (0, p) [] (λ f. ne (sym f))) ∙ there)
+  only_draft e q ne there = none_some (sym (found_after e (0, p) [] (λ f. ne (sym f))) ∙ there)
     where
       none_some : {q : Patch} → None ≡ Some q → ⊥
       none_some e = cc

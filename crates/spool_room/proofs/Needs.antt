@@ -17,10 +17,10 @@ needs_none : (t : ℕ) → need_of t 0 ≡ 0
 needs_none t = refl
 
 needs_some : (t a : ℕ) → 1 ≤ a → need_of t a ≡ (t % 4096 + a + 4095) / 4096
-needs_some t a some = rw (ne_eqb a 0 (λ e. absurd (omega (arith, some, e)))) (behind t a)
+needs_some t a some = rw (ne_eqb a 0 (λ e. absurd (omega (arith, some, e)))) (after t a)
   where
-    behind : (t a : ℕ) → (t + a + 4095) / 4096 - t / 4096 ≡ (t % 4096 + a + 4095) / 4096
-    behind t a = omega arith
+    after : (t a : ℕ) → (t + a + 4095) / 4096 - t / 4096 ≡ (t % 4096 + a + 4095) / 4096
+    after t a = omega arith
 
 module _ (x : IndexSet) (p : Patch) (done : Bool) where
   pub wants_some : (patch_text x p done).fault ≡ None → 1 ≤ added x p done

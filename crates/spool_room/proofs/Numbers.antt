@@ -1,4 +1,4 @@
--- Entries by their numbers: the first one, and those behind it.
+-- Entries by their numbers: the first one, and those after it.
 use Rattle.std.proofs.Common.{◌≡◌, ◌≢◌, ℕ, suc, ◌<◌, List, [], ◌∷◌, length, slice_index, map, None, Some, refl, sym}
 use Rattle.std.proofs.Common.{◌∙◌, ap, arith, eq-eqb}
 use Rattle.std.proofs.lemmas.Bool.{ne_eqb}
@@ -10,11 +10,11 @@ module _ {A : Type 0} where
   pub first_found : (entry : ℕ × A) (entries : List (ℕ × A)) → find entry.0 (entry ∷ entries) ≡ Some entry.1
   first_found entry entries = rw (eq-eqb entry.0 entry.0 refl) refl
 
-  pub found_behind : (n : ℕ) (entry : ℕ × A) (entries : List (ℕ × A)) → entry.0 ≢ n
+  pub found_after : (n : ℕ) (entry : ℕ × A) (entries : List (ℕ × A)) → entry.0 ≢ n
       → find n (entry ∷ entries) ≡ find n entries
-  found_behind n entry entries ne = rw (ne_eqb entry.0 n ne) refl
+  found_after n entry entries ne = rw (ne_eqb entry.0 n ne) refl
 
-  -- what is behind has another number
+  -- what is after has another number
   pub is_other : (n : ℕ) (a : A) (entry : ℕ × A) (entries : List (ℕ × A)) → find entry.0 entries ≡ None
       → find n entries ≡ Some a → entry.0 ≢ n
   is_other n a entry entries none there e = none_some (sym none ∙ ap (λ (k : ℕ). find k entries) e ∙ there)
@@ -25,7 +25,7 @@ module _ {A : Type 0} where
   pub found_later : (n : ℕ) (a : A) (entry : ℕ × A) (entries : List (ℕ × A)) → find entry.0 entries ≡ None
       → find n entries ≡ Some a → find n (entry ∷ entries) ≡ Some a
   found_later n a entry entries none there =
-      found_behind n entry entries (is_other n a entry entries none there) ∙ there
+      found_after n entry entries (is_other n a entry entries none there) ∙ there
 
   -- NUMBERS THAT RISE
 
@@ -35,7 +35,7 @@ module _ {A : Type 0} where
   none_below n [] above = refl
   none_below n (entry ∷ entries) above =
       let first : n < entry.0 = above 0 (omega arith) in
-      found_behind n entry entries (λ e. absurd (omega (arith, first, e)))
+      found_after n entry entries (λ e. absurd (omega (arith, first, e)))
       ∙ none_below n entries (λ k lt. above (suc k) (omega (arith, lt)))
 
   pub rising_apart : (entries : List (ℕ × A)) → IsRising (map (λ (entry : ℕ × A). entry.0) entries) → IsApart entries

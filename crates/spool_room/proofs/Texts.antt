@@ -7,7 +7,7 @@ use Rattle.spool_blocks.proofs.Totals.{each_counted, none_owned, rows_without, o
 use Rattle.upload_rules.specs.Store.{Upload, find, text_of}
 use Rattle.upload_rules.specs.Room.{blocks_of, used}
 use Rattle.spool_room.specs.Holdings.{IsInUse, OwnsTexts}
-use Rattle.spool_room.proofs.Numbers.{first_found, found_behind, is_other, found_later}
+use Rattle.spool_room.proofs.Numbers.{first_found, found_after, is_other, found_later}
 
 -- one slot's blocks are nobody's any more, and another slot owns the same
 kept_each : (slot other n : ℕ) (rows : List Row) → other ≢ slot → OwnsOneEach rows other n
@@ -34,7 +34,7 @@ module _ (x : IndexSet) (entry : ℕ × Upload) (uploads : List (ℕ × Upload))
   in_use slot ne use_ = record {
     number = use_.number;
     upload = use_.upload;
-    there = sym (found_behind use_.number entry uploads (λ e. ne (sym use_.is ∙ ap slots (sym e)))) ∙ use_.there;
+    there = sym (found_after use_.number entry uploads (λ e. ne (sym use_.is ∙ ap slots (sym e)))) ∙ use_.there;
     is = use_.is;
   }
 

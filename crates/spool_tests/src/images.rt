@@ -201,7 +201,7 @@ fn uploads_are_told_of_and_read(rt: HostRuntime) {
 
 /// Bytes that damage the spool with the three uploads.
 const DAMAGED: [(u64, u8, OpenFault); 25] = [
-    // the gate opened; a byte behind the fields of page 0 and of the state page, and behind the index area's tables
+    // the gate opened; a byte after the fields of page 0 and of the state page, and after the index area's tables
     (4096, 0xA5, OpenFault::Damaged),
     (12, 1, OpenFault::Damaged),
     (283 * 4096 + 12, 1, OpenFault::Damaged),
@@ -212,25 +212,25 @@ const DAMAGED: [(u64, u8, OpenFault); 25] = [
     // more accepted than declared, and too much declared
     (286 * 4096 + 21, 1, OpenFault::Damaged),
     (286 * 4096 + 11, 1, OpenFault::Damaged),
-    // more accepted of an unknown length than there may be, and the end behind it
+    // more accepted of an unknown length than there may be, and the end after it
     (287 * 4096 + 23, 1, OpenFault::Damaged),
     (287 * 4096 + 35, 2, OpenFault::Damaged),
-    // a state without a transcoder, one decoding before the first byte, one behind the end, and one of no phase
+    // a state without a transcoder, one decoding before the first byte, one after the end, and one of no phase
     (284 * 4096 + 32, 21, OpenFault::Damaged),
     (284 * 4096 + 35, 1, OpenFault::Damaged),
     (284 * 4096 + 35, 2, OpenFault::Damaged),
     (284 * 4096 + 35, 3, OpenFault::Damaged),
-    // metadata that is too long, that is no text, and with a line's end; a byte behind it, and one in a free slot
+    // metadata that is too long, that is no text, and with a line's end; a byte after it, and one in a free slot
     (284 * 4096 + 64, 7, OpenFault::Damaged),
     (284 * 4096 + 66, 0xFF, OpenFault::Damaged),
     (284 * 4096 + 66, 0x0A, OpenFault::Damaged),
     (284 * 4096 + 70, 1, OpenFault::Damaged),
     (284 * 4096 + 2048 + 100, 1, OpenFault::Damaged),
-    // an ordinal twice, one behind the text, and one that is missing
+    // an ordinal twice, one after the text, and one that is missing
     (540 * 4096 + 8 * 9 + 7, 0, OpenFault::Damaged),
     (540 * 4096 + 8 * 9 + 7, 2, OpenFault::Damaged),
     (540 * 4096 + 8 * 3 + 3, 0, OpenFault::Damaged),
-    // a free row with an ordinal, a row of a free slot, and one behind the last
+    // a free row with an ordinal, a row of a free slot, and one after the last
     (540 * 4096 + 8 * 5 + 7, 1, OpenFault::Damaged),
     (540 * 4096 + 8 * 5 + 3, 2, OpenFault::Damaged),
     (540 * 4096 + 8 * 16 + 3, 1, OpenFault::Damaged),

@@ -61,7 +61,7 @@ fn calls_of_recovery(rt: &impl Abort, alloc: Global, bytes: &[u8]) -> u64 {
     all.saturating_sub(closed).saturating_add(3)
 }
 
-/// What an opening leaves that the device refuses.
+/// What an opening leaves that the disk refuses.
 fn refused<D: Disk>(rt: &impl Abort, alloc: Global, disk: D) -> D {
     match Spool::open(alloc, disk) {
         Ok(_spool) => panic!(rt; "it is opened"),
@@ -100,7 +100,7 @@ fn each_call_of_a_recovery_fails_once(rt: HostRuntime) {
     }
 }
 
-/// What an opening leaves that stops after so many calls, once the device crashed.
+/// What an opening leaves that stops after so many calls, once the disk crashed.
 fn stopped(
     rt: &impl Abort,
     alloc: Global,

@@ -3,7 +3,7 @@
 ghost use Rattle.std.specs.Prelude.{◌≡◌, ◌≤◌, ◌<◌, length};
 
 use spool_pages::{
-    Damaged, RECORD, SlotRecord, Version, blocks_said, first_page, is_blank_behind_fields, row_at,
+    Damaged, RECORD, SlotRecord, Version, blocks_said, first_page, is_blank_after_fields, row_at,
     row_page, state_page, version_and_next,
 };
 
@@ -103,10 +103,10 @@ fn bytes_that_nothing_writes_are_damaged(rt: HostRuntime) {
         for (at, byte, what) in [
             (7, 0, "no number"),
             (64, 6, "1,537 bytes of metadata"),
-            (67, 1, "behind the metadata"),
+            (67, 1, "after the metadata"),
             (1601, 1, "the last byte of the room"),
             (1602, 1, "the tag 1 and a length"),
-            (1603, 1, "behind the tag"),
+            (1603, 1, "after the tag"),
             (2047, 1, "the last byte"),
         ] {
             assert!(rt; is_damaged(version, bytes, at, byte), "{version:?}: {what}");
@@ -155,14 +155,14 @@ fn state_page_is_read_as_it_was_written(rt: HostRuntime) {
             version_and_next(&page) == Some((version, 7)),
             "{version:?}"
         );
-        assert!(rt; is_blank_behind_fields(&page), "{version:?}");
+        assert!(rt; is_blank_after_fields(&page), "{version:?}");
     }
     let mut page = state_page(Version::Two, 7);
     page[3] = 9;
     assert!(rt; version_and_next(&page).is_none(), "no such version");
     let mut page = state_page(Version::Two, 7);
     page[12] = 1;
-    assert!(rt; !is_blank_behind_fields(&page), "a byte behind the fields");
+    assert!(rt; !is_blank_after_fields(&page), "a byte after the fields");
 }
 
 #[test]

@@ -223,7 +223,7 @@ const OLD_ROWS: [(u64, u8, OpenFault, UpgradeError); 5] = [
         OpenFault::Damaged,
         UpgradeError::Open(OpenFault::Damaged),
     ),
-    // a byte behind the state page's fields
+    // a byte after the state page's fields
     (
         STATE + 12,
         1,
@@ -250,7 +250,7 @@ const NEW_ROWS: [(u64, u8, OpenFault, UpgradeError); 5] = [
     ),
     // an unknown length with a byte of a length
     (SECOND + 15, 1, OpenFault::Damaged, UpgradeError::AlreadyNew),
-    // bytes behind the tag and the state page's fields
+    // bytes after the tag and the state page's fields
     (
         SECOND + 1603,
         1,

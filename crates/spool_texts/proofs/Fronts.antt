@@ -114,7 +114,7 @@ image_but {seen = seen} {image = image} first list i lt is = record {
       ∙ is.same p firm;
 }
 
--- an image behind such writes
+-- an image after such writes
 pub image_in : {seen seen' image : ℕ → ℕ} {loose loose' : ℕ → Type 0} {first : ℕ} {blocks : List ℕ}
     → WritesIn first blocks seen seen' loose loose' → IsImage seen' loose' image
     → IsImageBut first blocks seen loose image

@@ -24,8 +24,8 @@ module _ (list : List ℕ) (reserved : List Bool) (k b : ℕ) (here : k < length
       → ((i : ℕ) → k < i → i < length list → get_or reserved (get_or list i 0) false ≡ false)
       → (i : ℕ) → k ≤ i → i < length list → get_or (slice_set reserved b false) (get_or list i 0) false ≡ false
   given_from was given i from lt = ⊎_elim
-      (λ (behind : k < i). get_or-set_other reserved b (get_or list i 0) false false
-      (λ e. distinct k i behind lt (sym (e ∙ is))) ∙ given i behind lt)
+      (λ (after : k < i). get_or-set_other reserved b (get_or list i 0) false false
+      (λ e. distinct k i after lt (sym (e ∙ is))) ∙ given i after lt)
       (λ (same : i ≤ k). get_or-set_at reserved b (get_or list i 0) false false
       (ap (λ (j : ℕ). get_or list j 0) (omega (arith, from, same)) ∙ sym is)
       (reserved_below reserved b (ap (λ (x : ℕ). get_or reserved x false) is ∙ was)))

@@ -50,9 +50,9 @@ pub one_more : (was seen seen' : ℕ → ℕ) (first full at to : ℕ) (list las
 one_more was seen seen' first full at to list last bytes le lt some to_is bytes_is before written =
     ap (λ (n : ℕ). text_on seen' first list n) total
     ∙ sym (text_take seen' first (at + 1) (4096 * at + length bytes) list (omega (arith, lt)) (omega (arith, size)))
-    ∙ ap (λ (n : ℕ). text_on seen' first (take (at + 1) list) (4096 * n + length bytes)) (sym behind)
+    ∙ ap (λ (n : ℕ). text_on seen' first (take (at + 1) list) (4096 * n + length bytes)) (sym after)
     ∙ written
-    ∙ ap (λ (n : ℕ). text_on seen first (take (at + 1) list) (4096 * n) ++ bytes) behind
+    ∙ ap (λ (n : ℕ). text_on seen first (take (at + 1) list) (4096 * n) ++ bytes) after
     ∙ ap (λ (xs : List ℕ). xs ++ bytes)
     (text_take seen first (at + 1) (4096 * at) list (omega (arith, lt)) (omega arith))
     ∙ ap (λ (n : ℕ). text_on seen first list n ++ bytes) done
@@ -78,8 +78,8 @@ one_more was seen seen' first full at to list last bytes le lt some to_is bytes_
     size : length bytes ≡ min 4096 (length last - 4096 * (at - full))
     size = omega (arith, ap length all, length-take 4096 (drop (4096 * (at - full)) last), rest_len)
 
-    behind : length (take (at + 1) list) - 1 ≡ at
-    behind = omega (arith, length-take (at + 1) list, lt)
+    after : length (take (at + 1) list) - 1 ≡ at
+    after = omega (arith, length-take (at + 1) list, lt)
 
     total : 4096 * full + min (length last) (4096 * (at + 1 - full)) ≡ 4096 * at + length bytes
     total = omega (arith, size, le, some)

@@ -27,7 +27,7 @@ run_below list blocks at count below follow some within =
     follow (count - 1) (omega (arith, some)) in
     omega (arith, last, below (at + (count - 1)) (omega (arith, some, within)), some)
 
--- a place behind `at` on blocks that follow one another
+-- a place after `at` on blocks that follow one another
 pub place_on : (list : List ℕ) (at count k : ℕ) → Follow list (at / 4096) count → at % 4096 + k < 4096 * count
     → 4096 * get_or list (at / 4096) 0 + (at % 4096 + k) ≡ 4096 * get_or list ((at + k) / 4096) 0 + (at + k) % 4096
 place_on list at count k follow lt =
@@ -76,9 +76,9 @@ mid_inside buf sub from size k lt le =
     ∙ ap (λ (i : ℕ). get_or (sub ++ drop size (drop from buf)) i 0) e
     ∙ get_or_append_left sub (drop size (drop from buf)) 0 k lt
 
-pub mid_behind : (buf sub : List ℕ) (from size k : ℕ) → from + size ≤ k → length sub ≡ size → from ≤ length buf
+pub mid_after : (buf sub : List ℕ) (from size k : ℕ) → from + size ≤ k → length sub ≡ size → from ≤ length buf
     → get_or (put_mid from size buf sub) k 0 ≡ get_or buf k 0
-mid_behind buf sub from size k le same fits =
+mid_after buf sub from size k le same fits =
     let front : length (take from buf) ≡ from = omega (arith, length-take from buf, fits) in
     let e : from + (size + (k - from - size)) ≡ k = omega (arith, le) in
     get_or-append_right (take from buf) (sub ++ drop size (drop from buf)) from k 0 front (omega (arith, le))
@@ -100,13 +100,13 @@ module _ {seen mid : ℕ → ℕ} {loose loose' : ℕ → Type 0} (first : ℕ) 
   bytes_on before k lt =
       ⊎_elim
       (λ (front : k < from). mid_before buf sub from (to - from) k front (omega (arith, upto, fits)) ∙ before k front)
-      (λ (behind : from ≤ k).
-      let e : from + (k - from) ≡ k = omega (arith, behind) in
-      let e' : at + from + (k - from) ≡ at + k = omega (arith, behind) in
+      (λ (after : from ≤ k).
+      let e : from + (k - from) ≡ k = omega (arith, after) in
+      let e' : at + from + (k - from) ≡ at + k = omega (arith, after) in
       subst (λ (i : ℕ). get_or (put_mid from (to - from) buf sub) i 0 ≡ byte_on seen first list (at + k)) e
-      (mid_inside buf sub from (to - from) (k - from) (omega (arith, lt, behind, piece.size, few))
+      (mid_inside buf sub from (to - from) (k - from) (omega (arith, lt, after, piece.size, few))
       (omega (arith, upto, fits))
-      ∙ piece.bytes (k - from) (omega (arith, lt, behind))
+      ∙ piece.bytes (k - from) (omega (arith, lt, after))
       ∙ keeps.same (4096 * (first + get_or list ((at + from + (k - from)) / 4096) 0) + (at + from + (k - from)) % 4096)
       ∙ ap (byte_on seen first list) e'))
       (cases_lt k from)
@@ -124,7 +124,7 @@ module _ {seen mid : ℕ → ℕ} {loose loose' : ℕ → Type 0} (first : ℕ) 
       ∙ get_or-drop from buf (k - from) 0
       ∙ ap (λ (i : ℕ). get_or buf i 0) e
       ∙ before k (omega (arith, le))))
-      (λ (behind : to ≤ k). mid_behind buf sub from (to - from) k (omega (arith, behind, upto)) sub_size
+      (λ (after : to ≤ k). mid_after buf sub from (to - from) k (omega (arith, after, upto)) sub_size
       (omega (arith, upto, fits)) ∙ before k (omega (arith, le)))
       (cases_lt k to)
 
@@ -143,12 +143,12 @@ byte_of_text seen first (b ∷ list) at lt =
     ∙ get_or-span seen (4096 * (first + b)) 4096 at here
     ∙ ap (λ (i : ℕ). seen (4096 * (first + b) + i)) rest
     ∙ ap (λ (i : ℕ). seen (4096 * (first + get_or (b ∷ list) i 0) + at % 4096)) quotient)
-    (λ (behind : 4096 ≤ at).
-    let quotient : suc ((at - 4096) / 4096) ≡ at / 4096 = omega (arith, behind) in
-    let rest : (at - 4096) % 4096 ≡ at % 4096 = omega (arith, behind) in
+    (λ (after : 4096 ≤ at).
+    let quotient : suc ((at - 4096) / 4096) ≡ at / 4096 = omega (arith, after) in
+    let rest : (at - 4096) % 4096 ≡ at % 4096 = omega (arith, after) in
     get_or-append_right (span seen (4096 * (first + b)) 4096) (blocks_on seen first list) 4096 at 0
-    (length-span seen (4096 * (first + b)) 4096) behind
-    ∙ byte_of_text seen first list (at - 4096) (omega (arith, lt, behind))
+    (length-span seen (4096 * (first + b)) 4096) after
+    ∙ byte_of_text seen first list (at - 4096) (omega (arith, lt, after))
     ∙ ap (λ (i : ℕ). seen (4096 * (first + get_or list ((at - 4096) / 4096) 0) + i)) rest
     ∙ ap (λ (i : ℕ). seen (4096 * (first + get_or (b ∷ list) i 0) + at % 4096)) quotient)
     (cases_lt at 4096)
@@ -169,10 +169,10 @@ all_read seen first list len at n old buf long is same bytes rest = record {
       ∙ sym (get_or-take n (drop at (text_on seen first list len)) k 0 inside)
       ∙ sym (get_or_append_left (take n (drop at (text_on seen first list len))) (drop n old) 0 k
       (omega (arith, inside, front))))
-      (λ (behind : n ≤ k).
-      let e : n + (k - n) ≡ k = omega (arith, behind) in
-      rest k behind
-      ∙ sym (get_or-append_right (take n (drop at (text_on seen first list len))) (drop n old) n k 0 front behind
+      (λ (after : n ≤ k).
+      let e : n + (k - n) ≡ k = omega (arith, after) in
+      rest k after
+      ∙ sym (get_or-append_right (take n (drop at (text_on seen first list len))) (drop n old) n k 0 front after
       ∙ get_or-drop n old (k - n) 0 ∙ ap (λ (i : ℕ). get_or old i 0) e))
       (cases_lt k n));
 }

@@ -53,8 +53,8 @@ few_more h list b reserved free =
     below : (i : ℕ) → i < length (list ++ b ∷ []) → get_or (list ++ b ∷ []) i 0 < length h.rows
     below i lt = ⊎_elim
         (λ (before : i < length list). omega (arith, front i before, reserved.below i before))
-        (λ (behind : length list ≤ i). omega
-        (arith, last i (omega (arith, lt, behind, length_push list b)), free.below))
+        (λ (after : length list ≤ i). omega
+        (arith, last i (omega (arith, lt, after, length_push list b)), free.below))
         (cases_lt i (length list))
 
     distinct : (i k : ℕ) → i < k → k < length (list ++ b ∷ []) → get_or (list ++ b ∷ []) i 0 ≢ get_or (list ++ b ∷ []) k
@@ -63,9 +63,9 @@ few_more h list b reserved free =
         let before : i < length list = omega (arith, lt, lt', length_push list b) in
         ⊎_elim
         (λ (inside : k < length list). reserved.distinct i k lt inside (sym (front i before) ∙ e ∙ front k inside))
-        (λ (behind : length list ≤ k).
+        (λ (after : length list ≤ k).
         let same : get_or list i 0 ≡ b =
-        sym (front i before) ∙ e ∙ last k (omega (arith, lt', behind, length_push list b)) in
+        sym (front i before) ∙ e ∙ last k (omega (arith, lt', after, length_push list b)) in
         let flag : get_or h.reserved b false ≡ true =
         subst (λ (n : ℕ). get_or h.reserved n false ≡ true) same (reserved.reserved i before) in
         both_ways (get_or h.reserved b false) free.not_reserved flag)
@@ -77,8 +77,8 @@ pub in_either : (P : ℕ → Type 0) (more more' : List ℕ) → ((i : ℕ) → 
     → P (get_or (more ++ more') i 0)
 in_either P more more' first second i lt = ⊎_elim
     (λ (inside : i < length more). subst P (sym (get_or_append_left more more' 0 i inside)) (first i inside))
-    (λ (behind : length more ≤ i). subst P (sym (get_or-append_right more more' (length more) i 0 refl behind))
-    (second (i - length more) (omega (arith, lt, behind, length-append more more'))))
+    (λ (after : length more ≤ i). subst P (sym (get_or-append_right more more' (length more) i 0 refl after))
+    (second (i - length more) (omega (arith, lt, after, length-append more more'))))
     (cases_lt i (length more))
 
 -- no block more

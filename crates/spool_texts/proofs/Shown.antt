@@ -98,11 +98,11 @@ shown image first rows slot len list listed size =
         (listed.owned i lt) (λ a e. listed.once a (get_or list i 0) i e (listed.owned i lt))
         ∙ ap (λ (b : ℕ). Some b) zero_more))
 
--- a text behind whole blocks
-pub take_behind : (n len : ℕ) (xs ys : List ℕ) → n ≡ length xs + len → take n (xs ++ ys) ≡ xs ++ take len ys
-take_behind n len [] ys size = let same : n ≡ len = omega (arith, size) in ap (λ (k : ℕ). take k ys) same
-take_behind zero len (x ∷ xs) ys size = absurd (omega (arith, size))
-take_behind (suc n) len (x ∷ xs) ys size = ap (λ (zs : List ℕ). x ∷ zs) (take_behind n len xs ys (omega (arith, size)))
+-- a text after whole blocks
+pub take_after : (n len : ℕ) (xs ys : List ℕ) → n ≡ length xs + len → take n (xs ++ ys) ≡ xs ++ take len ys
+take_after n len [] ys size = let same : n ≡ len = omega (arith, size) in ap (λ (k : ℕ). take k ys) same
+take_after zero len (x ∷ xs) ys size = absurd (omega (arith, size))
+take_after (suc n) len (x ∷ xs) ys size = ap (λ (zs : List ℕ). x ∷ zs) (take_after n len xs ys (omega (arith, size)))
 
 -- the text on the first n blocks
 pub text_front : (image : ℕ → ℕ) (first n : ℕ) (list : List ℕ) → n ≤ length list
@@ -124,7 +124,7 @@ pub text_joined : (image : ℕ → ℕ) (first n len : ℕ) (list more : List �
     first more len
 text_joined image first n len list more le =
     ap (λ (xs : List ℕ). take (4096 * n + len) xs) (blocks_on-append image first (take n list) more)
-    ∙ take_behind (4096 * n + len) len (blocks_on image first (take n list)) (blocks_on image first more)
+    ∙ take_after (4096 * n + len) len (blocks_on image first (take n list)) (blocks_on image first more)
     (omega (arith, size))
     ∙ ap (λ (xs : List ℕ). xs ++ take len (blocks_on image first more)) (sym (text_front image first n list le))
   where

@@ -12,7 +12,7 @@ counts_same counts to from = record {
   nothing_else = λ lt. to (counts.nothing_else lt);
 }
 
--- the bytes behind the last full block were read
+-- the bytes after the last full block were read
 pub tail_is : (text old given rest : List ℕ) (len n : ℕ) → length text ≡ len → length old ≡ len % 4096
     → IsRead text (len - len % 4096) n old given → take (len % 4096) (given ++ rest) ≡ drop (len - len % 4096) text
 tail_is text old given rest len n size old_size read =

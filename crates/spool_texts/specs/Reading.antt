@@ -1,7 +1,7 @@
 -- Reading a piece of a text.
 use Rattle.std.specs.Prelude.{◌≡◌, ℕ, ◌+◌, ◌-◌, ◌*◌, ◌/◌, ◌%◌, ◌<◌, ◌≤◌, List, ◌++◌, length, get_or, take, drop, min}
 
--- n bytes were read: the text's from `at` on, as many as there are and fit; what is behind them in the buffer stays
+-- n bytes were read: the text's from `at` on, as many as there are and fit; what is after them in the buffer stays
 pub record IsRead (text : List ℕ) (at n : ℕ) (old new : List ℕ) : Type 0 where
   pub count : n ≡ min (length text - at) (length old)
   pub bytes : new ≡ take n (drop at text) ++ drop n old
@@ -10,7 +10,7 @@ pub record IsRead (text : List ℕ) (at n : ℕ) (old new : List ℕ) : Type 0 w
 abbrev pub byte_on : (ℕ → ℕ) → ℕ → List ℕ → ℕ → ℕ
 byte_on seen first list at = seen (4096 * (first + get_or list (at / 4096) 0) + at % 4096)
 
--- the first n bytes are those of the listed blocks from `at` on; what is behind them in the buffer stays
+-- the first n bytes are those of the listed blocks from `at` on; what is after them in the buffer stays
 pub record IsPiece (seen : ℕ → ℕ) (first : ℕ) (list : List ℕ) (at n : ℕ) (old new : List ℕ) : Type 0 where
   pub size : length new ≡ length old
   pub bytes : (k : ℕ) → k < n → get_or new k 0 ≡ byte_on seen first list (at + k)

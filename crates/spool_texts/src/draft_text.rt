@@ -39,7 +39,7 @@ impl Model for DraftText {
 }
 
 impl DraftText {
-    /// No new text behind the one of this length on the listed blocks. The bytes on its last block, if that isn't full,
+    /// No new text after the one of this length on the listed blocks. The bytes on its last block, if that isn't full,
     /// are read and stay in memory: they go on a block of the draft's own with its first new byte.
     pub fn begin<D: Disk>(
         alloc: Global,
@@ -74,7 +74,7 @@ impl DraftText {
         })
     }
 
-    /// No new text behind one whose last bytes, so many behind its last full block, are nobody's any more: zeros stand
+    /// No new text after one whose last bytes, so many after its last full block, are nobody's any more: zeros stand
     /// for them. Nothing is read.
     pub fn blank(alloc: Global, len: usize) -> Result<Self, AllocError>
         requires { len < 4096 }
@@ -118,7 +118,7 @@ impl DraftText {
         PAGE as u64 * full as u64 + self.filled as u64
     }
 
-    /// Puts bytes behind. A block is reserved as its first byte comes, and written, without a sync, as its last one
+    /// Puts bytes after. A block is reserved as its first byte comes, and written, without a sync, as its last one
     /// does.
     pub fn put<D: Disk>(
         &mut self,
@@ -189,7 +189,7 @@ impl DraftText {
         self.blocks.reserve(more)
     }
 
-    // Puts as many bytes behind as the unfinished block has room for.
+    // Puts as many bytes after as the unfinished block has room for.
     fn put_some<D: Disk>(
         &mut self,
         disk: &mut D,
@@ -320,7 +320,7 @@ impl DraftText {
     }
 }
 
-// Reads the bytes of the text behind its last full block.
+// Reads the bytes of the text after its last full block.
 fn read_tail<D: Disk>(
     disk: &mut D,
     layout: &Layout,
@@ -416,7 +416,7 @@ pub fn write_last<D: Disk>(
     Ok(())
 }
 
-// Reserves a block, and puts it behind the others.
+// Reserves a block, and puts it after the others.
 fn take_block(list: &mut Vec<BlockNo>, blocks: &mut Blocks) -> Result<(), DraftError>
     requires space { vec_len list.old < vec_capacity list.old }
     requires few { length list.old.items ≤ 65536 }
@@ -437,7 +437,7 @@ fn take_block(list: &mut Vec<BlockNo>, blocks: &mut Blocks) -> Result<(), DraftE
     Ok(())
 }
 
-// Reserves blocks, and puts them behind the others, until there are so many.
+// Reserves blocks, and puts them after the others, until there are so many.
 fn take_blocks(list: &mut Vec<BlockNo>, blocks: &mut Blocks, count: usize) -> Result<(), DraftError>
     requires space { count ≤ vec_capacity list.old }
     requires fewer { length list.old.items ≤ count }
@@ -457,7 +457,7 @@ fn take_blocks(list: &mut Vec<BlockNo>, blocks: &mut Blocks, count: usize) -> Re
     Ok(())
 }
 
-// Puts as many bytes behind the first ones as there is room for.
+// Puts as many bytes after the first ones as there is room for.
 fn fill(page: &mut [u8], filled: usize, bytes: &[u8]) -> usize
     requires { filled ≤ length page.old }
     ensures count { result ≡ min (length bytes.now) (length page.old - filled) }

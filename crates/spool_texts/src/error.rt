@@ -9,7 +9,7 @@ use std::fmt;
 /// Why the text of a draft wasn't begun, or took no more bytes.
 #[derive(Clone, Copy, Debug, PartialEq, Eq)]
 pub enum DraftError {
-    /// A growth was refused.
+    /// Out of memory.
     NoMemory,
     /// The disk failed in this call.
     DiskFault,

@@ -154,7 +154,7 @@ refused_serves {B = B} u store gone m refusal e (Err stop) on_files bare closes 
     replies_as DiskFault Stops.NoMemory is = is
     replies_as DiskFault Stops.DiskFault is = is
 
--- refused for memory, by the call itself or behind its refusal: nothing was made
+-- out of memory, by the call itself or after its refusal: nothing was made
 pub nothing_made : {m0 m1 : ℕ} {l0 l1 : Option ℕ → ℕ → List Store → Type 0} {B T : Type 0} (before after : Store)
     (refusal : Option UploadRefusal) (e : UploadError)
     (result : Result B Stop) (on_files bare closes : Bool) (old new : List ℕ) (done : T → Type 0)

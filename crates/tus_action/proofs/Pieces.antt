@@ -12,7 +12,7 @@ use Rattle.upload_rules.specs.Records.{TellsOf, with_number}
 use Rattle.upload_rules.specs.declared.records.Record.{Record}
 use Rattle.upload_rules.specs.declared.uploads.Uploads.{Ghosts}
 use Rattle.tus_action.specs.Acts.{Giving, piece_of, pending_of, pending_after}
-use Rattle.tus_action.specs.Serves.{GivesAs, IsGiving, GivingIs, GivesPiece, IsGiven, Gives, giving_behind}
+use Rattle.tus_action.specs.Serves.{GivesAs, IsGiving, GivingIs, GivesPiece, IsGiven, Gives, giving_after}
 use Rattle.tus_action.specs.declared.acts.Giving as given
 use Rattle.tus_action.specs.declared.acts.Given.TheVariants.{Piece, Last}
 
@@ -68,10 +68,10 @@ pending_some : (number : ℕ) (left : List ℕ) (closes : Bool) (b : ℕ) → 0 
 pending_some number [] closes b some is = absurd (omega arith)
 pending_some number (x ∷ left) closes b some is = refl
 
--- behind a whole piece the rest of the text is left
-left_behind : (m : Store) (g : given.Giving) (h : Giving) (up : Upload) → GivesAs m g h up → g.given + 65536 < g.length
+-- after a whole piece the rest of the text is left
+left_after : (m : Store) (g : given.Giving) (h : Giving) (up : Upload) → GivesAs m g h up → g.given + 65536 < g.length
     → GivesAs m (record g { given = g.given + 65536 }) (record h { left = drop 65536 h.left }) up
-left_behind m g h up gives more =
+left_after m g h up gives more =
     let text : List ℕ = text_of m.indexes up in record {
       number = gives.number;
       found = gives.found;
@@ -81,11 +81,11 @@ left_behind m g h up gives more =
       closes = gives.closes;
     }
 
-behind_case : (m : Store) (g : given.Giving) (h : Giving) (up : Upload) → GivesAs m g h up → IsGiving m g h → (c : ℕ)
+after_case : (m : Store) (g : given.Giving) (h : Giving) (up : Upload) → GivesAs m g h up → IsGiving m g h → (c : ℕ)
     → c ≡ min (g.length - g.given) 65536 → (b : Bool) → nat_le g.length (g.given + c) ≡ b
     → GivingIs m (if b then None else Some
     (record { number = g.number; length = g.length; given = g.given + c; closes = g.closes })) (pending_after h)
-behind_case m g h up gives all c count true over =
+after_case m g h up gives all c count true over =
     let text : List ℕ = text_of m.indexes up in
     let le : g.length ≤ g.given + c = leb-true g.length (g.given + c) over in
     let some : g.given ≤ g.length = gives.some in
@@ -96,7 +96,7 @@ behind_case m g h up gives all c count true over =
     let ll : length h.left ≡ g.length - g.given = ap length gives.left ∙ (omega arith) in
     let none : drop 65536 h.left ≡ [] = drop_all 65536 h.left (omega arith) in
     subst (λ x. GivingIs m None (pending_of h.number x h.closes)) (sym none) (tt {0})
-behind_case m g h up gives all c count false under =
+after_case m g h up gives all c count false under =
     let text : List ℕ = text_of m.indexes up in
     let lt : g.given + c < g.length = leb-false g.length (g.given + c) under in
     let some : g.given ≤ g.length = gives.some in
@@ -113,17 +113,17 @@ behind_case m g h up gives all c count false under =
       number = all.number;
       below = all.below;
       closes = all.closes;
-      there = λ v found. left_behind m g h v (all.there v found) (omega (arith, c_is, lt));
+      there = λ v found. left_after m g h v (all.there v found) (omega (arith, c_is, lt));
     } in
     subst (λ x. GivingIs m (Some
     (record { number = g.number; length = g.length; given = g.given + c; closes = g.closes })) x) (sym pending)
     (subst (λ k. IsGiving m (record { number = g.number; length = g.length; given = g.given + k; closes = g.closes })
     (record h { left = drop 65536 h.left })) (sym c_is) rest)
 
--- what is left behind the piece
+-- what is left after the piece
 pub gives_on : (m : Store) (g : given.Giving) (h : Giving) (up : Upload) → GivesAs m g h up → IsGiving m g h → (c : ℕ)
-    → c ≡ min (g.length - g.given) 65536 → GivingIs m (giving_behind g c) (pending_after h)
-gives_on m g h up gives all c count = behind_case m g h up gives all c count (nat_le g.length (g.given + c)) refl
+    → c ≡ min (g.length - g.given) 65536 → GivingIs m (giving_after g c) (pending_after h)
+gives_on m g h up gives all c count = after_case m g h up gives all c count (nat_le g.length (g.given + c)) refl
 
 -- the upload that a record tells of
 pub told_there : (m : Store) (n k : ℕ) (r : Record) → n ≡ k → TellsOf m.indexes (with_number n (upload_of m n)) (Some r)

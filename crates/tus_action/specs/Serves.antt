@@ -72,16 +72,16 @@ pub record ActedAs {U B : Type 0} (u : Ghosts U B) (store : U) (a : code.Done B)
     pub closes : closes_in a ≡ m.closes
     pub bytes : new ≡ old ++ m.bytes
 
--- It is done as the rules say. Or memory was wanting, and the store stands for the world without what was begun, and
+-- It is done as the rules say. Or it was out of memory, and the store stands for the world without what was begun, and
 -- nothing was written.
--- Or the device failed, and nothing was written.
+-- Or the disk failed, and nothing was written.
 abbrev pub Serves : {U B : Type 0} → Ghosts U B → U → Result (code.Done B) Stop → List ℕ → List ℕ → World → Acted
     → Type 0
 Serves u store (Ok a) old new gone m = ActedAs u store a old new m
 Serves u store (Err NoMemory) old new gone m = u.stands store gone × (new ≡ old)
 Serves u store (Err DiskFault) old new gone m = new ≡ old
 
--- a body's bytes are taken: the draft goes on, or memory was wanting and it is gone, or the device failed
+-- a body's bytes are taken: the draft goes on, or it was out of memory and it is gone, or the disk failed
 abbrev pub FeedsDraft : {U B : Type 0} → Ghosts U B → U → Result B Stop → World → World → ℕ → Patch → Type 0
 FeedsDraft u store (Ok b) gone w d p =
     (u.number_of b ≡ d) × u.holds b p × (find d w.patches ≡ Some p) × u.stands store w
@@ -99,14 +99,14 @@ pub record Fed {U B : Type 0} (u : Ghosts U B) (store : U) (b b' : OpenPatch B) 
     pub bare : b'.bare ≡ b.bare
     pub closes : b'.closes ≡ b.closes
 
--- or memory was wanting and the draft is gone, or the device failed
+-- or it was out of memory and the draft is gone, or the disk failed
 abbrev pub Feeds : {U B : Type 0} → Ghosts U B → U → Result (OpenPatch B) Stop → World → World → OpenPatch B → Patch
     → Type 0
 Feeds u store (Ok b') gone w b p = Fed u store b b' w p
 Feeds u store (Err NoMemory) gone w b p = u.stands store gone
 Feeds u store (Err DiskFault) gone w b p = Unit {0}
 
--- a body's end is answered: committed or refused; or memory was wanting, and the patch is gone; or the device failed
+-- a body's end is answered: committed or refused; or it was out of memory, and the patch is gone; or the disk failed
 abbrev pub Finishes : {U : Type 0} {B : Type 0} → Ghosts U B → U → Result (Unit {0}) Stop → List ℕ → List ℕ → World
     → Acted → Type 0
 Finishes u store (Ok x) old new gone m = u.stands store m.world × (new ≡ old ++ m.bytes)
@@ -119,7 +119,7 @@ Ends u store (Ok x) gone w = u.stands store w
 Ends u store (Err NoMemory) gone w = u.stands store gone
 Ends u store (Err DiskFault) gone w = Unit {0}
 
--- the next piece is written; or the device failed, or memory was wanting, and nothing was written
+-- the next piece is written; or the disk failed, or it was out of memory, and nothing was written
 abbrev pub GivesPiece : {U B : Type 0} → Ghosts U B → U → Result (Option given.Giving) Stop → List ℕ → List ℕ → World
     → Giving → Type 0
 GivesPiece u store (Ok g) old new w h =
@@ -134,7 +134,7 @@ IsGiven m Last old new h (Some up) = (pending_after h ≡ None) × (new ≡ old 
 IsGiven m Gone old new h None = new ≡ old
 IsGiven m _ old new h _ = ⊥
 
--- as the uploads say. The device may fail, or memory be wanting, only where the upload is there, and then nothing was
+-- as the uploads say. The disk may fail, or memory run out, only where the upload is there, and then nothing was
 -- written
 abbrev pub Gives : {U B : Type 0} → Ghosts U B → U → Result Given Stop → List ℕ → List ℕ → World → Giving → Type 0
 Gives u store (Ok given) old new w h = u.stands store w × IsGiven w.store given old new h (upload_of w.store h.number)
@@ -168,9 +168,9 @@ pub record RepliesOnly {B : Type 0} (result : Result (code.Done B) Stop) (e : Up
   pub replies : RepliesTo result e on_files bare closes old new
   pub nothing : IfOk result (λ a. a ≡ done.Replied closes)
 
--- what is left of a text behind so many bytes more
-abbrev pub giving_behind : given.Giving → ℕ → Option given.Giving
-giving_behind g n =
+-- what is left of a text after so many bytes more
+abbrev pub giving_after : given.Giving → ℕ → Option given.Giving
+giving_after g n =
     if nat_le g.length (g.given + n) then None
     else Some (record { number = g.number; length = g.length; given = g.given + n; closes = g.closes })
 

@@ -1,7 +1,7 @@
-//! What a request does at its head, and what stays open behind it.
+//! What a request does at its head, and what stays open after it.
 ghost use Rattle.std.specs.Prelude.{◌≡◌};
 ghost use Rattle.tus_action.specs.Faults.{stop_of};
-ghost use Rattle.tus_action.specs.Serves.{replied_giving, giving_behind};
+ghost use Rattle.tus_action.specs.Serves.{replied_giving, giving_after};
 
 use std::alloc::AllocError;
 use upload_rules::UploadError;
@@ -9,9 +9,9 @@ use upload_rules::UploadError;
 /// Why a call gives no answer.
 #[derive(Clone, Copy, Debug, PartialEq, Eq, Drop)]
 pub enum Stop {
-    /// A growth was refused: nothing was changed.
+    /// Out of memory: nothing was changed.
     NoMemory,
-    /// The device failed: the store must be opened again.
+    /// The disk failed: the store must be opened again.
     DiskFault,
 }
 
@@ -20,7 +20,7 @@ impl From<AllocError> for Stop {
 
     ghost from_gives = { λ _ stop. stop ≡ Stop.NoMemory };
 
-    /// A growth was refused.
+    /// Out of memory.
     fn from(_error: AllocError) -> Self {
         Stop::NoMemory
     }
@@ -47,14 +47,14 @@ pub struct Giving {
     pub length: u64,
     /// How many were given.
     pub given: u64,
-    /// Whether the connection closes behind the last of them.
+    /// Whether the connection closes after the last of them.
     pub closes: bool,
 }
 
 /// What became of a text that more was asked of.
 #[derive(Clone, Copy, Debug, PartialEq, Eq, Drop)]
 pub enum Given {
-    /// A piece was given, and this is left behind it.
+    /// A piece was given, and this is left after it.
     Piece(Giving),
     /// The last piece was given.
     Last,
@@ -88,9 +88,9 @@ impl<B> Done<B> {
 }
 
 impl Giving {
-    /// What is left of the text behind so many bytes more.
-    pub(crate) fn behind(self, count: u64) -> Option<Giving>
-        ensures { result ≡ giving_behind self count }
+    /// What is left of the text after so many bytes more.
+    pub(crate) fn after(self, count: u64) -> Option<Giving>
+        ensures { result ≡ giving_after self count }
     {
         let given = self.given.saturating_add(count);
         if given >= self.length {

@@ -83,7 +83,7 @@ fn next_piece<U: Uploads>(
         Err(error) => return Err(Stop::from(error)),
     }
     match out.extend_from_slice(piece) {
-        Ok(()) => Ok(giving.behind(count as u64)),
+        Ok(()) => Ok(giving.after(count as u64)),
         Err(_) => Err(Stop::NoMemory),
     }
 }
@@ -112,7 +112,7 @@ pub fn give_more<U: Uploads>(
     }
 }
 
-/// Gives a text's first piece, behind the reply's head.
+/// Gives a text's first piece, after the reply's head.
 pub(crate) fn give_text<U: Uploads>(
     alloc: Global,
     store: &mut U,

@@ -21,7 +21,7 @@ use Rattle.tus_session.proofs.Cuts.{left, left_alone, moments_alone, taken_alone
 use Rattle.tus_session.proofs.Unfinished.{only_body, longer, bytes_came, body_ended, left_body, part_came, rest_came}
 use Rattle.tus_session.proofs.Unfinished.{part_taken, rest_taken, judged_as, head_part, head_whole, both_whole}
 use Rattle.tus_session.proofs.Unfinished.{whole_taken}
-use Rattle.tus_session.proofs.NewRests.{head_left, head_only, head_part_rest, body_part_rest, drop_behind}
+use Rattle.tus_session.proofs.NewRests.{head_left, head_only, head_part_rest, body_part_rest, drop_after}
 use Rattle.tus_session.proofs.HeadTurns.{head_within, front_judged, front_body}
 use Rattle.tus_session.proofs.RequestLeaves.{Leaves, Nothing, Text, Patching, leaves}
 
@@ -53,7 +53,7 @@ opened_first : (w : World) (v : Verdict) (d : ℕ) → (acted w v).draft ≡ Som
 opened_first w (Asks r) d e = leaves_first w r (acted w (Asks r)) d (leaves w r) e
 opened_first w (Refuses x) d e = absurd (none-some d e)
 
--- WHAT A CALL BRINGS, where a patch is open behind its head moment
+-- WHAT A CALL BRINGS, where a patch is open after its head moment
 pub record Brings (w : World) (k : Conn) (piece : List ℕ) (n : ℕ) (m : Moments) (d : ℕ) : Type 0 where
   pub patch : Patch
   pub found : find d (at_head w k.draft m.head).world.patches ≡ Some patch
@@ -224,7 +224,7 @@ module _ (w : World) (k : Conn) (holds : DraftHolds w k) where
           let here = front_judged w k h is_inside piece n before v judged refl m in
           let c : drop n (h ++ q) ≡ take m (drop before piece) =
           front_body w k h is_inside piece n before v judged refl m in
-          let b : drop n (h ++ piece) ≡ drop before piece = drop_behind h piece before n within.0 in
+          let b : drop n (h ++ piece) ≡ drop before piece = drop_after h piece before n within.0 in
           let l : length (drop n (h ++ piece)) ≡ length (drop before piece) = ap length b in
           let all : length (drop n (h ++ q)) ≡ m = ap length c ∙ length-take-le m (drop before piece) (omega arith) in
           let count : n + m - length h ≡ before + m = omega (arith, within.0) in

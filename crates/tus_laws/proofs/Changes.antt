@@ -142,7 +142,7 @@ came_none : (w : World) (k : Conn) (piece : List ℕ) (g : Giving) → k.pending
 unfolding came_turn
 came_none w k piece g e = ap (λ g. (came_on w k piece g).world) e
 
--- the world behind the last byte of a body
+-- the world after the last byte of a body
 pub came_spent : (w : World) (k : Conn) (piece : List ℕ) (v : World) (d : ℕ) (p : Patch) → BodyCame w k piece v d p
     → (came_turn w k piece).world ≡ spent v d p (commit_refusal v d p)
 came_spent w k piece v d p x =
@@ -291,7 +291,7 @@ served_changed st (Came c piece) = came_at_changed st c piece (st.conns c) refl
 served_changed st (More c) = more_at_changed st c (st.conns c)
 served_changed st (Ended c) = ended_at_changed st c (st.conns c) refl
 
--- the world behind a patch that is done
+-- the world after a patch that is done
 done_world_at : (st : State) (e : Event) (k : Conn) (v : World) (d : ℕ) (p : Patch) → IsDoneOn st e k v d p
     → (step st e Served).state.world ≡ spent v d p (commit_refusal v d p)
 unfolding step

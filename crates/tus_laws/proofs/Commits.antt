@@ -47,7 +47,7 @@ module _ (m : Store) (n : ℕ) (u : Upload) (there : upload_of m n ≡ Some u) w
     pub declared_is : patched_store m n (Some total) [] ≡ declared_store m n total
     declared_is = named [] ∙ (ap with_bytes (append-nil u.accepted) ∙ sym (ap (declared_at m n total) there))
 
-    -- a length, and behind it bytes
+    -- a length, and after it bytes
     pub both_is : (bytes : List ℕ)
         → patched_store m n (Some total) bytes ≡ appended_store (declared_store m n total) n bytes
     both_is bytes =

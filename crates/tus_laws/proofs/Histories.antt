@@ -67,7 +67,7 @@ changed_indexes st e after (Deleted n u there is) = ap (λ m. m.indexes) is
 same_indexes : (st : State) (e : Event) → (step st e Served).state.world.store.indexes ≡ st.world.store.indexes
 same_indexes st e = changed_indexes st e (step st e Served).state.world.store (served_changed st e)
 
--- behind an event
+-- after an event
 abbrev pub After : (ℕ → List ℕ) → ℕ → Rep → Step → Type 0
 After g c r x = Sound x.state × Sim x.state (more_given g c (bytes_of x.outcome)) r
 

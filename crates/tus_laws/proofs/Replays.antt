@@ -155,7 +155,7 @@ sim_same st g r c sim = record {
       (sym (append-nil (g e)) ∙ ap (λ b. g e ++ b) (sym (nothing_if [] (c == e))));
 }
 
--- a connection behind what was done
+-- a connection after what was done
 draft_of : (s : List ℕ) (w : World) (own : Option ℕ) (z : Acted) → Opens w own z → (b : Bool) → z.closes ≡ b
     → draft_at (if b then None else Some (record { stream = s; draft = z.draft; pending = z.pending })) ≡ z.draft
 draft_of s w own z opens true e = sym (opens.closed e).0

@@ -7,7 +7,7 @@ use Rattle.tus_request.proofs.Fronts.{steady}
 use Rattle.tus_request.specs.Requests.{body_length}
 use Rattle.tus_request.specs.Steady.{IsSteady}
 use Rattle.upload_rules.specs.World.{World}
-use Rattle.tus_session.specs.Streams.{Asked, Rest, InHead, InBody, Cut, behind_head, cut, rest_bytes, headed, heads_of}
+use Rattle.tus_session.specs.Streams.{Asked, Rest, InHead, InBody, Cut, after_head, cut, rest_bytes, headed, heads_of}
 use Rattle.tus_session.specs.Streams.{moments}
 use Rattle.tus_session.specs.Turns.{reader}
 use Rattle.tus_session.proofs.Cuts.{goes_on, left}
@@ -34,10 +34,10 @@ get_like (x ∷ xs) a ys zero r e like =
     let s : x ≡ r = same_Some x r e in (x, refl, ap (λ y. y.head) s, ap (λ y. y.verdict) s)
 get_like (x ∷ xs) a ys (suc i) r e like = get_like xs a ys i r e like
 
-first_behind : (go : List ℕ → Cut) (a : Asked) (body : List ℕ) (b : Bool)
-    → HasLike (heads_of (behind_head go a.head a.verdict body b)) 0 a
-first_behind go a body true = (record { head = a.head; verdict = a.verdict; body = body }, refl, refl, refl)
-first_behind go a body false =
+first_after : (go : List ℕ → Cut) (a : Asked) (body : List ℕ) (b : Bool)
+    → HasLike (heads_of (after_head go a.head a.verdict body b)) 0 a
+first_after go a body true = (record { head = a.head; verdict = a.verdict; body = body }, refl, refl, refl)
+first_after go a body false =
     (record { head = a.head; verdict = a.verdict; body = take (body_length a.verdict) body }, refl, refl, refl)
 
 module _ (w : World) where
@@ -65,12 +65,12 @@ module _ (w : World) where
       let b = left_body (reader w) is_steady s a is in
       let bytes : u ≡ a.head ++ a.body = ap rest_bytes is in
       let on : cut (reader w) ((a.head ++ a.body) ++ more)
-      ≡ behind_head (cut (reader w)) a.head a.verdict (a.body ++ more)
+      ≡ after_head (cut (reader w)) a.head a.verdict (a.body ++ more)
       (nat_lt (length (a.body ++ more)) (body_length a.verdict)) =
       ap (λ x. cut (reader w) (x ++ more)) (sym bytes) ∙ cut_more (reader w) is_steady u more b.0 a b.1 in
       get_like (cut (reader w) s).whole a (heads_of (cut (reader w) ((a.head ++ a.body) ++ more))) i r e
       (subst (λ x. HasLike (heads_of x) 0 a) (sym on)
-      (first_behind (cut (reader w)) a (a.body ++ more) (nat_lt (length (a.body ++ more)) (body_length a.verdict))))
+      (first_after (cut (reader w)) a (a.body ++ more) (nat_lt (length (a.body ++ more)) (body_length a.verdict))))
 
   heads_on : (s more : List ℕ)
       → heads_of (cut (reader w) (s ++ more))

@@ -48,8 +48,8 @@ leaves_open w r a (Patching y) = record {
   others = λ e p there ne.
       let q = first_patch y.number r.length y.declare y.up in
       let other : y.d ≡ e → ⊥ = λ is. none-some p (sym y.free ∙ (ap (λ n. find n w.patches) is ∙ there)) in
-      let behind : find e ((y.d, q) ∷ w.patches) ≡ find e w.patches = grind (arith, nat_tests) in
-      ap (λ v. find e v.patches) y.world_is ∙ (behind ∙ there);
+      let after : find e ((y.d, q) ∷ w.patches) ≡ find e w.patches = grind (arith, nat_tests) in
+      ap (λ v. find e v.patches) y.world_is ∙ (after ∙ there);
 }
 
 verdict_open : (w : World) (v : Verdict) → Opens w None (acted w v)

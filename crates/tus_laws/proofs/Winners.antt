@@ -38,9 +38,9 @@ module _ (start : State) (past between : List Marked) (e f : Event) (x : DonePat
   busy true = refl
   busy false = body
 
-  -- behind the first event the upload has what the first patch brought
-  put_behind : store_at start ((e, Served) ∷ past) ≡ patched_store m x.patch.number x.patch.declare x.patch.body
-  put_behind =
+  -- after the first event the upload has what the first patch brought
+  append_to : store_at start ((e, Served) ∷ past) ≡ patched_store m x.patch.number x.patch.declare x.patch.body
+  append_to =
       ap (λ w. w.store) (done_world (history start past) e x)
       ∙ ap (λ o. (spent x.world x.draft x.patch o).store) accepted
       ∙ ap (λ b. if b then x.world.store
@@ -49,9 +49,9 @@ module _ (start : State) (past between : List Marked) (e f : Event) (x : DonePat
       ∙ ap (λ s. patched_store s x.patch.number x.patch.declare x.patch.body)
       (done_uploads (history start past) e x)
 
-  behind : upload_of (store_at start ((e, Served) ∷ past)) x.patch.number ≡ Some put
-  behind =
-      ap (λ s. upload_of s x.patch.number) put_behind
+  after : upload_of (store_at start ((e, Served) ∷ past)) x.patch.number ≡ Some put
+  after =
+      ap (λ s. upload_of s x.patch.number) append_to
       ∙ put_there m x.patch.number x.patch.declare x.patch.body end.up end.there
 
   some_bytes : (bytes : List ℕ) → is_empty bytes ≡ false → (more : List ℕ)
@@ -70,7 +70,7 @@ module _ (start : State) (past between : List Marked) (e f : Event) (x : DonePat
       let there' : upload_of (store_at start (between ++ (e, Served) ∷ past)) x.patch.number ≡ Some u =
       ap (λ s. upload_of s x.patch.number) (sym (done_uploads (history start (between ++ (e, Served) ∷ past)) f y))
       ∙ (ap (upload_of y.world.store) same.number ∙ there) in
-      let grown = later_grows start ((e, Served) ∷ past) between above x.patch.number put u behind there' in
+      let grown = later_grows start ((e, Served) ∷ past) between above x.patch.number put u after there' in
       let count_is : length u.accepted ≡ length (patched put grown.0 grown.1).accepted =
       ap (λ v. length v.accepted) grown.2 in
       other_offset y.world y.draft y.patch u there

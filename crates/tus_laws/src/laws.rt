@@ -16,7 +16,7 @@ ghost use Rattle.tus_laws.specs.Patches.{DonePatch, IsAccepted, IsRefused, HasBo
 ghost use Rattle.tus_laws.specs.Cuts.{all_moments, given, still_to_give, AllSmooth};
 
 /// Of two PATCHes with bodies that aren't empty and that began at one offset of one upload at most one is accepted, and
-/// the other changes nothing: behind one that is accepted each later one is refused, with `Offset` while the upload is
+/// the other changes nothing: after one that is accepted each later one is refused, with `Offset` while the upload is
 /// there, and with `NoSuch` once it is gone. A PATCH began at the offset that it named. The history starts with a next
 /// number above those of its uploads, so that no upload gets the number of a deleted one.
 pub fn one_winner()
@@ -73,7 +73,7 @@ pub fn new_numbers()
         → (history start past).world.store.next ≤ (history start (later ++ past)).world.store.next }
 {}
 
-/// A call's moments are those of its stream, whatever comes behind it: with `i` whole requests before the call, the
+/// A call's moments are those of its stream, whatever comes after it: with `i` whole requests before the call, the
 /// request of its body moment is the stream's request number `i`; and likewise for the head, whose bytes and verdict
 /// stay, among the requests with whole heads.
 pub fn moments_of_streams()

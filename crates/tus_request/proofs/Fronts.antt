@@ -14,7 +14,7 @@ use Rattle.tus_request.specs.Checks.{no_head}
 use Rattle.tus_request.specs.Answers.{Answer, More, Judged, answer_with, whole_answer, answer_of}
 use Rattle.tus_request.specs.Steady.{IsSteady}
 
--- LINES WITH MORE BEHIND THEM
+-- LINES WITH MORE AFTER THEM
 
 abbrev Lines : Type 0
 Lines = List (List ℕ)
@@ -81,7 +81,7 @@ empty_has : (line : List ℕ) → is_empty_line line ≡ true → 0 < length lin
 empty_has [] e = absurd (cc)
 empty_has (b ∷ line) e = omega arith
 
--- what a line and the lines behind it give
+-- what a line and the lines after it give
 joined_fine : (line : List ℕ) (ls : Lines) (o : Option Lines) → ((x : Lines) → o ≡ Some x → Fine ls x) → (hs : Lines)
     → option_map (λ more. line ∷ more) o ≡ Some hs → Fine (line ∷ ls) hs
 joined_fine line ls None h hs e = absurd (cc)

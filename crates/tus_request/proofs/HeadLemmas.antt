@@ -114,7 +114,7 @@ field_text f is =
     append_assoc f.name (58 ∷ f.raw) (print_end f.end) in
     rw a (token_line f.name ((58 ∷ f.raw) ++ print_end f.end) is.name.0 is.name.1)
 
--- the field lines behind a line that isn't empty
+-- the field lines after a line that isn't empty
 field_lines : (fields : List Field) (len texts : ℕ) (rest : List ℕ) → All IsField fields
     → further len (suc texts) (extent_after (suc texts) (lines (flat_map print_field fields ++ rest)))
     ≡ further (len + length (flat_map print_field fields)) (suc (texts + length fields))

@@ -31,7 +31,7 @@ use Rattle.tus_request.specs.Reading.{request_of}
 use Rattle.tus_request.proofs.ReadingLemmas.{finds, found_reads}
 use Rattle.tus_request.proofs.HeadLemmas.{request_extent, same_token, whole_length}
 
--- a request head at the front of a whole head is all of it, and has as many fields as lines behind the first
+-- a request head at the front of a whole head is all of it, and has as many fields as lines after the first
 pub fills : (head more : List ℕ) (e : Extent) (h : RequestHead) (rest : List ℕ) → IsShortHeadOf head more e
     → ReadsRequest head h rest
     → (length h.fields ≤ 64) × (length (print_request h) ≡ length head) × (rest ≡ [])

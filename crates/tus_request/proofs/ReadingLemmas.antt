@@ -17,7 +17,7 @@ use Rattle.httparse.specs.Grammar.{is_token_byte, is_uri_byte, is_value_byte, Al
 use Rattle.httparse.specs.Grammar.{print_blank, print_version, Field, IsField, print_field, RequestHead, IsRequestHead}
 use Rattle.httparse.specs.Grammar.{print_request, is_token, IsToken, ReadsRequest}
 use Rattle.tus_request.specs.Lines.{lines, is_empty_line}
-use Rattle.tus_request.specs.Reading.{before, behind, text_of, end_of, field_of, fields_of, last_of, blank_of, filled}
+use Rattle.tus_request.specs.Reading.{before, after, text_of, end_of, field_of, fields_of, last_of, blank_of, filled}
 use Rattle.tus_request.specs.Reading.{head_with, guess, is_field, is_request_head, request_of}
 use Rattle.tus_request.proofs.HeadLemmas.{ended_line, field_line, field_text, end_is_empty, whole, request_line}
 use Rattle.tus_request.proofs.HeadLemmas.{request_line_no_feed, request_line_text, token_is_high}
@@ -41,10 +41,10 @@ before_mark : (mark : ℕ) (text rest : List ℕ) → Lacks mark text → (mark 
 before_mark mark [] rest none same = rw same
 before_mark mark (b ∷ text) rest none same = rw (none.0, before_mark mark text rest none.1 same)
 
-behind_mark : (mark : ℕ) (text rest : List ℕ) → Lacks mark text → (mark == mark) ≡ true
-    → behind mark (text ++ mark ∷ rest) ≡ rest
-behind_mark mark [] rest none same = rw same
-behind_mark mark (b ∷ text) rest none same = rw (none.0, behind_mark mark text rest none.1 same)
+after_mark : (mark : ℕ) (text rest : List ℕ) → Lacks mark text → (mark == mark) ≡ true
+    → after mark (text ++ mark ∷ rest) ≡ rest
+after_mark mark [] rest none same = rw same
+after_mark mark (b ∷ text) rest none same = rw (none.0, after_mark mark text rest none.1 same)
 
 -- no byte is a CR or a LF
 abbrev pub IsInline : List ℕ → Type 0
@@ -116,7 +116,7 @@ field_back f is =
     append_assoc f.name (58 ∷ f.raw) (print_end f.end) in
     let n = before_mark 58 f.name (f.raw ++ print_end f.end)
     (lacks_from 58 is_token_byte token_no_colon f.name is.name.1) refl in
-    let v = behind_mark 58 f.name (f.raw ++ print_end f.end)
+    let v = after_mark 58 f.name (f.raw ++ print_end f.end)
     (lacks_from 58 is_token_byte token_no_colon f.name is.name.1) refl in
     let i = inline_from is_value_byte value_inline f.raw is.raw in
     let e : end_of (print_field f) ≡ f.end = end_ended (f.name ++ 58 ∷ f.raw) f.end
@@ -231,11 +231,11 @@ guess_back h is =
     let lt = lacks_from 32 is_uri_byte uri_no_space h.target is.target.1 in
     let bm : before 32 (request_line h ++ print_end h.line_end) ≡ h.method =
     rw parts (before_mark 32 h.method (h.target ++ 32 ∷ (print_version h.minor ++ print_end h.line_end)) lm refl) in
-    let hm : behind 32 (request_line h ++ print_end h.line_end) ≡ h.target ++ 32 ∷ (print_version h.minor ++ print_end
+    let hm : after 32 (request_line h ++ print_end h.line_end) ≡ h.target ++ 32 ∷ (print_version h.minor ++ print_end
     h.line_end) =
-    rw parts (behind_mark 32 h.method (h.target ++ 32 ∷ (print_version h.minor ++ print_end h.line_end)) lm refl) in
+    rw parts (after_mark 32 h.method (h.target ++ 32 ∷ (print_version h.minor ++ print_end h.line_end)) lm refl) in
     let bt = before_mark 32 h.target (print_version h.minor ++ print_end h.line_end) lt refl in
-    let ht = behind_mark 32 h.target (print_version h.minor ++ print_end h.line_end) lt refl in
+    let ht = after_mark 32 h.target (print_version h.minor ++ print_end h.line_end) lt refl in
     let digit : 48 + h.minor - 48 ≡ h.minor = omega arith in
     let en : end_of (request_line h ++ print_end h.line_end) ≡ h.line_end =
     end_ended (request_line h) h.line_end (request_line_inline h is) in

@@ -1,4 +1,4 @@
--- What `first` answers on two rows: a word with a slash and a parameter behind it, and the word.
+-- What `first` answers on two rows: a word with a slash and a parameter after it, and the word.
 use Rattle.std.specs.Prelude.{◌≡◌, ℕ, ◌-◌, ◌<◌, ◌⊎◌, Bool, true, false, cond, ◌==◌, List, [], ◌∷◌, ◌++◌, length, Option}
 use Rattle.std.specs.Prelude.{Some, None, codes}
 use Rattle.std.proofs.Common.{arith, ap, ◌∙◌, refl, zero, suc, get_or, inl, inr}
@@ -47,23 +47,23 @@ module _ {K : Type 0} where
   skip_all rs [] = refl
   skip_all rs (b ∷ path) = skip_all rs path
 
-  -- a word with a slash and a parameter behind it, and the word
+  -- a word with a slash and a parameter after it, and the word
   abbrev pub both : List ℕ → K → K → RowsOf K
   both word f u = (word ++ 47 ∷ param_token ∷ [], u) ∷ (word, f) ∷ []
 
-  -- what stands behind the slash is a parameter where it is one segment
-  abbrev pub behind_slash : List ℕ → K → Option K
-  behind_slash [] u = None
-  behind_slash (c ∷ rest) u = cond (has_slash (c ∷ rest)) None (Some u)
+  -- what stands after the slash is a parameter where it is one segment
+  abbrev pub after_slash : List ℕ → K → Option K
+  after_slash [] u = None
+  after_slash (c ∷ rest) u = cond (has_slash (c ∷ rest)) None (Some u)
 
-  -- what stands behind the word decides
-  abbrev pub behind : List ℕ → K → K → Option K
-  behind [] f u = Some f
-  behind (b ∷ rest) f u = cond (47 == b) (behind_slash rest u) None
+  -- what stands after the word decides
+  abbrev pub after : List ℕ → K → K → Option K
+  after [] f u = Some f
+  after (b ∷ rest) f u = cond (47 == b) (after_slash rest u) None
 
   -- the path is the word, or begins with it and a slash
   abbrev pub found : List ℕ → List ℕ → K → K → Option K
-  found [] path f u = behind path f u
+  found [] path f u = after path f u
   found (x ∷ word) [] f u = None
   found (x ∷ word) (b ∷ path) f u = cond (x == b) (found word path f u) None
 
@@ -78,21 +78,21 @@ module _ {K : Type 0} where
       rw (k, skip_all (([], u) ∷ []) rest)
 
   pub first_param : (path : List ℕ) (u : K) → get_or path 0 0 < 256
-      → first ((param_token ∷ [], u) ∷ []) path ≡ behind_slash path u
+      → first ((param_token ∷ [], u) ∷ []) path ≡ after_slash path u
   unfolding matchit_on_literals
   first_param [] u low = refl
   first_param (c ∷ rest) u low =
       let e : (param_token == c) ≡ false = grind (arith, nat_tests) in
       rw (e, seek_nothing 0 rest) (one_param (has_slash (c ∷ rest)) (c ∷ rest) rest u refl)
 
-  pub first_behind : (path : List ℕ) (f u : K) → get_or path 1 0 < 256 → first (both [] f u) path ≡ behind path f u
+  pub first_after : (path : List ℕ) (f u : K) → get_or path 1 0 < 256 → first (both [] f u) path ≡ after path f u
   unfolding matchit_on_literals
-  first_behind [] f u low = refl
-  first_behind (b ∷ rest) f u low =
+  first_after [] f u low = refl
+  first_after (b ∷ rest) f u low =
       elim (true_or_false (47 == b)) [
         | inl e ↦ rw (e, first_param rest u low) (
-            ap (λ o. or_else (behind_slash rest u) o) (no_arm (has_slash (b ∷ rest)) (length (b ∷ rest)) rest)
-            ∙ or_none (behind_slash rest u)
+            ap (λ o. or_else (after_slash rest u) o) (no_arm (has_slash (b ∷ rest)) (length (b ∷ rest)) rest)
+            ∙ or_none (after_slash rest u)
             )
         | inr e ↦ rw (e, seek_nothing 0 rest) (no_arm (has_slash (b ∷ rest)) (length (b ∷ rest)) rest)
       ]
@@ -100,7 +100,7 @@ module _ {K : Type 0} where
   pub first_both : (word path : List ℕ) (f u : K) → IsPlain word → get_or path (suc (length word)) 0 < 256
       → first (both word f u) path ≡ found word path f u
   unfolding matchit_on_literals
-  first_both [] path f u plain low = first_behind path f u low
+  first_both [] path f u plain low = first_after path f u low
   first_both (x ∷ word) [] f u plain low = refl
   first_both (x ∷ word) (b ∷ path) f u plain low =
       elim (true_or_false (x == b)) [

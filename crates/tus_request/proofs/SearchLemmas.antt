@@ -7,7 +7,7 @@ use Rattle.std.proofs.lemmas.Bool.{eqb-true, ltb-true, lt-ltb, leb-false, lt-leb
 use Rattle.enc_model.specs.declared.Encoding.{Encoding}
 use Rattle.tus_request.specs.Lines.{lines, onto_first, is_empty_line, up_to_empty, head_lines, Extent, extent_of}
 use Rattle.tus_request.specs.Lines.{head_extent}
-use Rattle.tus_request.specs.Searches.{behind_text, behind_byte, behind_bytes, is_over}
+use Rattle.tus_request.specs.Searches.{after_text_byte, after_byte, after_bytes, is_over}
 use Rattle.tus_request.specs.Buffers.{is_judged}
 use Rattle.tus_request.specs.declared.faults.Fault.TheVariants.{HeadTooLong}
 use Rattle.tus_request.specs.Checks.{no_head}
@@ -39,7 +39,7 @@ sees StartCr ls = has (up_to_empty (onto_first 13 ls))
 sees Over ls = true
 
 -- A LF
-sees_lf : (s : Search) (ls : Lines) → sees s ((10 ∷ []) ∷ ls) ≡ sees (behind_byte s 10) ls
+sees_lf : (s : Search) (ls : Lines) → sees s ((10 ∷ []) ∷ ls) ≡ sees (after_byte s 10) ls
 unfolding sees has
 sees_lf Front ls = has_map (λ more. (10 ∷ []) ∷ more) (head_lines ls)
 sees_lf FrontCr ls = has_map (λ more. (13 ∷ 10 ∷ []) ∷ more) (head_lines ls)
@@ -49,7 +49,7 @@ sees_lf StartCr ls = refl
 sees_lf Over ls = refl
 
 -- A CR
-sees_cr : (s : Search) (ls : Lines) → sees s (onto_first 13 ls) ≡ sees (behind_byte s 13) ls
+sees_cr : (s : Search) (ls : Lines) → sees s (onto_first 13 ls) ≡ sees (after_byte s 13) ls
 unfolding sees has
 sees_cr Front ls = refl
 sees_cr FrontCr [] = refl
@@ -77,7 +77,7 @@ up_text : (line : List ℕ) (ls : Lines) → is_empty_line line ≡ false → ha
 up_text line ls e = rw e (has_map (λ more. line ∷ more) (up_to_empty ls))
 
 text_case : (s : Search) (b : ℕ) (ls : Lines) → (b == 10) ≡ false → (b == 13) ≡ false
-    → sees s (onto_first b ls) ≡ sees (behind_text s) ls
+    → sees s (onto_first b ls) ≡ sees (after_text_byte s) ls
 unfolding sees has
 text_case Front b [] e f = refl
 text_case Front b (line ∷ ls) e f = head_text (b ∷ line) ls (not_empty b line e f)
@@ -91,11 +91,11 @@ text_case StartCr b [] e f = refl
 text_case StartCr b (line ∷ ls) e f = up_text (13 ∷ b ∷ line) ls (not_empty_cr b line e)
 text_case Over b ls e f = refl
 
-becomes : (s : Search) (b : ℕ) → (b == 10) ≡ false → (b == 13) ≡ false → behind_byte s b ≡ behind_text s
+becomes : (s : Search) (b : ℕ) → (b == 10) ≡ false → (b == 13) ≡ false → after_byte s b ≡ after_text_byte s
 becomes s b e f = rw (e, f) refl
 
 sees_text : (s : Search) (b : ℕ) (ls : Lines) → (b == 10) ≡ false → (b == 13) ≡ false
-    → sees s (onto_first b ls) ≡ sees (behind_byte s b) ls
+    → sees s (onto_first b ls) ≡ sees (after_byte s b) ls
 sees_text s b ls e f = text_case s b ls e f ∙ ap (λ t. sees t ls) (sym (becomes s b e f))
 
 -- ANY BYTE
@@ -105,13 +105,13 @@ lines_feed bytes b c e = rw e refl
 
 step_case : (s : Search) (b : ℕ) (bytes : List ℕ) → ((b == 10) ≡ true) ⊎ ((b == 10) ≡ false)
     → ((b == 13) ≡ true) ⊎ ((b == 13) ≡ false)
-    → sees s (lines (b ∷ bytes)) ≡ sees (behind_byte s b) (lines bytes)
+    → sees s (lines (b ∷ bytes)) ≡ sees (after_byte s b) (lines bytes)
 step_case s b bytes (inl lf) other =
     let is : 10 ≡ b = sym (eqb-true b 10 lf) in
-    subst (λ c. sees s (lines (c ∷ bytes)) ≡ sees (behind_byte s c) (lines bytes)) is (sees_lf s (lines bytes))
+    subst (λ c. sees s (lines (c ∷ bytes)) ≡ sees (after_byte s c) (lines bytes)) is (sees_lf s (lines bytes))
 step_case s b bytes (inr no_lf) (inl cr) =
     let is : 13 ≡ b = sym (eqb-true b 13 cr) in
-    subst (λ c. sees s (lines (c ∷ bytes)) ≡ sees (behind_byte s c) (lines bytes)) is (sees_cr s (lines bytes))
+    subst (λ c. sees s (lines (c ∷ bytes)) ≡ sees (after_byte s c) (lines bytes)) is (sees_cr s (lines bytes))
 step_case s b bytes (inr no_lf) (inr no_cr) =
     ap (sees s) (lines_feed bytes b false no_lf) ∙ sees_text s b (lines bytes) no_lf no_cr
 
@@ -124,10 +124,10 @@ sees_none Start = refl
 sees_none StartCr = refl
 sees_none Over = refl
 
-sees_all : (s : Search) (bytes : List ℕ) → sees s (lines bytes) ≡ is_over (behind_bytes s bytes)
+sees_all : (s : Search) (bytes : List ℕ) → sees s (lines bytes) ≡ is_over (after_bytes s bytes)
 sees_all s [] = sees_none s
 sees_all s (b ∷ bytes) = step_case s b bytes (true_or_false (b == 10)) (true_or_false (b == 13))
-    ∙ sees_all (behind_byte s b) bytes
+    ∙ sees_all (after_byte s b) bytes
 
 has_none : {A B : Type 0} (f : A → B) (o : Option A) → has o ≡ false → option_map f o ≡ None
 unfolding has
@@ -140,17 +140,17 @@ has_some f None e = refl
 has_some f (Some x) e = absurd (cc)
 
 -- THE HEAD'S END
-no_end : (bytes : List ℕ) → is_over (behind_bytes Front bytes) ≡ false → head_extent bytes ≡ None
+no_end : (bytes : List ℕ) → is_over (after_bytes Front bytes) ≡ false → head_extent bytes ≡ None
 unfolding sees
 no_end bytes e = has_none extent_of (head_lines (lines bytes)) (sees_all Front bytes ∙ e)
 
-an_end : (bytes : List ℕ) → head_extent bytes ≡ None → is_over (behind_bytes Front bytes) ≡ false
+an_end : (bytes : List ℕ) → head_extent bytes ≡ None → is_over (after_bytes Front bytes) ≡ false
 unfolding sees
 an_end bytes e = sym (sees_all Front bytes) ∙ has_some extent_of (head_lines (lines bytes)) e
 
 module _ (offers : Encoding → Bool) where
   -- a head that isn't whole, and may become so
-  pub unended : (bytes : List ℕ) → length bytes < 8192 → is_over (behind_bytes Front bytes) ≡ false
+  pub unended : (bytes : List ℕ) → length bytes < 8192 → is_over (after_bytes Front bytes) ≡ false
       → answer_of offers bytes ≡ More
   unfolding answer_of
   unended bytes short e =
@@ -175,7 +175,7 @@ module _ (offers : Encoding → Bool) where
 
   -- only such a head isn't judged
   pub open_head : (bytes : List ℕ) → answer_of offers bytes ≡ More
-      → (length bytes < 8192) × (is_over (behind_bytes Front bytes) ≡ false)
+      → (length bytes < 8192) × (is_over (after_bytes Front bytes) ≡ false)
   unfolding answer_of
   open_head bytes is =
       let o = open_case bytes (head_extent (take 8192 bytes)) is in
@@ -188,7 +188,7 @@ module _ (offers : Encoding → Bool) where
 
   pub unjudged : (bytes : List ℕ) → is_judged bytes ≡ false → answer_of offers bytes ≡ More
   unjudged bytes e =
-      let n = neither (is_over (behind_bytes Front bytes)) (nat_le 8192 (length bytes)) e in
+      let n = neither (is_over (after_bytes Front bytes)) (nat_le 8192 (length bytes)) e in
       let short : length bytes < 8192 = leb-false 8192 (length bytes) n.1 in
       unended bytes short n.0
 
@@ -206,10 +206,10 @@ over_byte true d = refl
 over_byte false true = refl
 over_byte false false = refl
 
-pub over_stays : (bytes : List ℕ) → behind_bytes Over bytes ≡ Over
+pub over_stays : (bytes : List ℕ) → after_bytes Over bytes ≡ Over
 over_stays [] = refl
-over_stays (b ∷ bytes) = ap (λ s. behind_bytes s bytes) (over_byte (b == 10) (b == 13)) ∙ over_stays bytes
+over_stays (b ∷ bytes) = ap (λ s. after_bytes s bytes) (over_byte (b == 10) (b == 13)) ∙ over_stays bytes
 
-pub search_on : (s : Search) (xs ys : List ℕ) → behind_bytes s (xs ++ ys) ≡ behind_bytes (behind_bytes s xs) ys
+pub search_on : (s : Search) (xs ys : List ℕ) → after_bytes s (xs ++ ys) ≡ after_bytes (after_bytes s xs) ys
 search_on s [] ys = refl
-search_on s (b ∷ xs) ys = search_on (behind_byte s b) xs ys
+search_on s (b ∷ xs) ys = search_on (after_byte s b) xs ys

@@ -1,7 +1,7 @@
 -- The head that a buffer has.
 use Rattle.std.specs.Prelude.{ℕ, Bool, ◌||◌, List, [], length, nat_le}
 use Rattle.tus_request.specs.Answers.{Answer, More, Judged}
-use Rattle.tus_request.specs.Searches.{behind_bytes, is_over}
+use Rattle.tus_request.specs.Searches.{after_bytes, is_over}
 use Rattle.tus_request.specs.declared.search.Search.TheVariants.{Front}
 use Rattle.tus_request.specs.declared.buffer.HeadBuffer.{HeadBuffer}
 
@@ -15,4 +15,4 @@ unfinished (Judged n v) s = []
 
 -- the head's end has come, or as many bytes as a head may have
 abbrev pub is_judged : List ℕ → Bool
-is_judged bytes = is_over (behind_bytes Front bytes) || nat_le 8192 (length bytes)
+is_judged bytes = is_over (after_bytes Front bytes) || nat_le 8192 (length bytes)

@@ -6,7 +6,7 @@ use Rattle.enc_model.specs.declared.Encoding.{Encoding}
 use Rattle.enc_model.specs.declared.Mode.{Mode}
 use Rattle.enc_model.specs.declared.Mode.TheVariants.{Html, Fatal}
 use Rattle.enc_labels.specs.Labels.{encoding_of, output_of}
-use Rattle.tus_request.specs.Reading.{before, behind}
+use Rattle.tus_request.specs.Reading.{before, after}
 use Rattle.tus_request.specs.Texts.{parts, trimmed}
 use Rattle.tus_request.specs.Value.{value_of}
 
@@ -25,7 +25,7 @@ pair_with [] text = None
 pair_with (k ∷ key) text = option_map (λ value. (k ∷ key, value)) (pair_value text)
 
 abbrev pub pair_of : List ℕ → Option KeyValue
-pair_of part = pair_with (before 32 part) (behind 32 part)
+pair_of part = pair_with (before 32 part) (after 32 part)
 
 abbrev pub has_key : List ℕ → List KeyValue → Bool
 has_key key [] = false

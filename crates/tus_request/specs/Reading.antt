@@ -7,14 +7,14 @@ use Rattle.httparse.specs.Grammar.{LineEnd, crlf, lf, is_token, is_uri_byte, is_
 use Rattle.httparse.specs.Grammar.{print_request}
 use Rattle.tus_request.specs.Lines.{lines, is_empty_line}
 
--- what stands in front of a byte, and behind it
+-- what stands in front of a byte, and after it
 abbrev pub before : ℕ → List ℕ → List ℕ
 before mark [] = []
 before mark (b ∷ bytes) = if b == mark then [] else b ∷ before mark bytes
 
-abbrev pub behind : ℕ → List ℕ → List ℕ
-behind mark [] = []
-behind mark (b ∷ bytes) = if b == mark then bytes else behind mark bytes
+abbrev pub after : ℕ → List ℕ → List ℕ
+after mark [] = []
+after mark (b ∷ bytes) = if b == mark then bytes else after mark bytes
 
 -- a line without its end, and its end
 abbrev pub text_of : List ℕ → List ℕ
@@ -27,9 +27,9 @@ end_of (b ∷ line) = if is_empty_line (b ∷ line) then (if b == 13 then crlf e
 
 -- a field, from its line
 abbrev pub field_of : List ℕ → Field
-field_of line = record { name = before 58 line; raw = text_of (behind 58 line); end = end_of line }
+field_of line = record { name = before 58 line; raw = text_of (after 58 line); end = end_of line }
 
--- the field lines, and the end of the empty line behind them
+-- the field lines, and the end of the empty line after them
 abbrev pub fields_of : List (List ℕ) → List Field
 fields_of [] = []
 fields_of (line ∷ rest) = if is_empty_line line then [] else field_of line ∷ fields_of rest
@@ -60,8 +60,8 @@ head_with blank [] = record {
 head_with blank (line ∷ rest) = record {
   blank = blank;
   method = before 32 line;
-  target = before 32 (behind 32 line);
-  minor = get_or (behind 32 (behind 32 line)) 7 48 - 48;
+  target = before 32 (after 32 line);
+  minor = get_or (after 32 (after 32 line)) 7 48 - 48;
   line_end = end_of line;
   fields = fields_of rest;
   last = last_of rest;

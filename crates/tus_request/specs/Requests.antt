@@ -24,7 +24,7 @@ pub data Action : Type 0 where
   Delete : ℕ → Action
 
 -- a request that passed its checks: the bytes of its body, whether the request line says HEAD, whether it is a PATCH
--- that awaits 100 Continue, and whether the connection closes behind the reply, whatever it is
+-- that awaits 100 Continue, and whether the connection closes after the reply, whatever it is
 pub record Request : Type 0 where
   pub action : Action
   pub length : ℕ

@@ -3,36 +3,36 @@ use Rattle.std.specs.Prelude.{ℕ, Bool, true, false, List, [], ◌∷◌, if◌
 use Rattle.tus_request.specs.declared.search.Search.{Search}
 use Rattle.tus_request.specs.declared.search.Search.TheVariants.{Front, FrontCr, Text, Start, StartCr, Over}
 
--- behind a LF
-abbrev pub behind_lf : Search → Search
-behind_lf Front = Front
-behind_lf FrontCr = Front
-behind_lf Text = Start
-behind_lf Start = Over
-behind_lf StartCr = Over
-behind_lf Over = Over
+-- after a LF
+abbrev pub after_lf : Search → Search
+after_lf Front = Front
+after_lf FrontCr = Front
+after_lf Text = Start
+after_lf Start = Over
+after_lf StartCr = Over
+after_lf Over = Over
 
--- behind a CR
-abbrev pub behind_cr : Search → Search
-behind_cr Front = FrontCr
-behind_cr FrontCr = Text
-behind_cr Text = Text
-behind_cr Start = StartCr
-behind_cr StartCr = Text
-behind_cr Over = Over
+-- after a CR
+abbrev pub after_cr : Search → Search
+after_cr Front = FrontCr
+after_cr FrontCr = Text
+after_cr Text = Text
+after_cr Start = StartCr
+after_cr StartCr = Text
+after_cr Over = Over
 
--- behind any other byte
-abbrev pub behind_text : Search → Search
-behind_text Over = Over
-behind_text _ = Text
+-- after any other byte
+abbrev pub after_text_byte : Search → Search
+after_text_byte Over = Over
+after_text_byte _ = Text
 
-abbrev pub behind_byte : Search → ℕ → Search
-behind_byte s b = if b == 10 then behind_lf s else if b == 13 then behind_cr s else behind_text s
+abbrev pub after_byte : Search → ℕ → Search
+after_byte s b = if b == 10 then after_lf s else if b == 13 then after_cr s else after_text_byte s
 
--- behind bytes
-abbrev pub behind_bytes : Search → List ℕ → Search
-behind_bytes s [] = s
-behind_bytes s (b ∷ bytes) = behind_bytes (behind_byte s b) bytes
+-- after bytes
+abbrev pub after_bytes : Search → List ℕ → Search
+after_bytes s [] = s
+after_bytes s (b ∷ bytes) = after_bytes (after_byte s b) bytes
 
 abbrev pub is_over : Search → Bool
 is_over Over = true

@@ -2,7 +2,7 @@
 ghost use Rattle.std.specs.Prelude.{◌≡◌, ◌++◌, ◌≤◌, [], length, take, vec_len, is_ok, IfOk, if◌then◌else◌};
 ghost use Rattle.enc_model.specs.Indexes.{offers};
 ghost use Rattle.tus_request.specs.Answers.{answer_of};
-ghost use Rattle.tus_request.specs.Searches.{behind_bytes};
+ghost use Rattle.tus_request.specs.Searches.{after_bytes};
 ghost use Rattle.tus_request.specs.declared.search.Search.TheVariants.{Front};
 ghost use Rattle.tus_request.specs.Shown.{answer_shown};
 
@@ -16,10 +16,10 @@ use std::alloc::{AllocError, Global};
 #[derive(Drop)]
 pub struct HeadBuffer {
     bytes: Vec<u8>,
-    // where the search for the head's end stands behind these bytes
+    // where the search for the head's end stands after these bytes
     search: Search,
     ghost short: { vec_len bytes ≤ 8192 },
-    ghost searched: { search ≡ behind_bytes Front bytes.items },
+    ghost searched: { search ≡ after_bytes Front bytes.items },
 }
 
 impl HeadBuffer {
@@ -42,7 +42,7 @@ impl HeadBuffer {
         self.bytes.len()
     }
 
-    /// Reads the head with a piece of the stream behind it, as `parse` reads both in one. What can't belong to a head
+    /// Reads the head with a piece of the stream after it, as `parse` reads both in one. What can't belong to a head
     /// isn't copied, and only the piece is looked through for the head's end.
     /// Where the head isn't whole yet, the piece is kept; where it is, or can't become one, no head is under way any
     /// more.
@@ -85,7 +85,7 @@ impl HeadBuffer {
         self.search = Search::Front;
     }
 
-    /// Puts behind the head what it may need of the piece.
+    /// Puts after the head what it may need of the piece.
     fn fill(&mut self, piece: &[u8]) -> Result<(), AllocError>
         ensures { bytes_of self.new ≡ (if is_ok result then take 8192
             (bytes_of self.old ++ piece.now) else bytes_of self.old) }
@@ -93,7 +93,7 @@ impl HeadBuffer {
         let room = MAX_HEAD - self.bytes.len();
         let front = &piece[..piece.len().min(room)];
         self.bytes.extend_from_slice(front)?;
-        self.search = self.search.behind(front);
+        self.search = self.search.after(front);
         Ok(())
     }
 }

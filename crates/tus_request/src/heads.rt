@@ -16,7 +16,7 @@ use enc_index::IndexSet;
 use httparse::{Request, Status};
 use std::alloc::{AllocError, Global};
 
-// The most bytes of a head, and the most lines behind its request line.
+// The most bytes of a head, and the most lines after its request line.
 pub(crate) const MAX_HEAD: usize = 8192;
 
 const MAX_LINES: usize = 64;
@@ -25,7 +25,7 @@ const MAX_LINES: usize = 64;
 ///
 /// The answer is a function of the bytes and of what the index set offers, and it is the one that the grammar of
 /// request heads (RFC 9112, sections 2 to 5, as `httparse` reads it by default) gives.
-/// A head has at most 8,192 bytes and 64 lines behind its request line, and ends with the first empty line behind a
+/// A head has at most 8,192 bytes and 64 lines after its request line, and ends with the first empty line after a
 /// line that isn't empty. While it isn't whole, it is only looked through for its end.
 ///
 /// # Errors

@@ -7,7 +7,7 @@ ghost use Rattle.tus_request.specs.Metadata.{is_plain, pair_value, pair_of, has_
 ghost use Rattle.tus_request.specs.Metadata.{metadata_of, setting, mode_of, choice_of};
 ghost use Rattle.tus_request.specs.Pairs.{pair_shown, choice_shown, bytes_shown, pairs_shown};
 
-use crate::texts::{behind, front, trimmed};
+use crate::texts::{after, front, trimmed};
 use base64::DecodeAllocError;
 use base64::engine::general_purpose::STANDARD;
 use enc_labels::{encoding_of, output_of};
@@ -62,7 +62,7 @@ fn read_pair<'m>(alloc: Global, part: &'m [u8]) -> Result<Option<Pair<'m>>, Allo
     if key.is_empty() {
         return Ok(None);
     }
-    let value = pair_value(alloc, behind(part, b' '))?;
+    let value = pair_value(alloc, after(part, b' '))?;
     Ok(value.map(|value| Pair { key, value }))
 }
 

@@ -24,7 +24,7 @@ pub const LONGEST_REPLY: usize = 2048;
 ///
 /// # Errors
 ///
-/// `AllocError` if memory is refused.
+/// `AllocError` when out of memory.
 pub fn reply_options(
     alloc: Global,
     _bare: bool,
@@ -48,7 +48,7 @@ pub fn reply_options(
 ///
 /// # Errors
 ///
-/// `AllocError` if memory is refused.
+/// `AllocError` when out of memory.
 pub fn reply_created(
     alloc: Global,
     number: u64,
@@ -74,7 +74,7 @@ pub fn reply_created(
 ///
 /// # Errors
 ///
-/// `AllocError` if memory is refused.
+/// `AllocError` when out of memory.
 pub fn reply_head(
     alloc: Global,
     offset: u64,
@@ -106,7 +106,7 @@ pub fn reply_head(
 ///
 /// # Errors
 ///
-/// `AllocError` if memory is refused.
+/// `AllocError` when out of memory.
 pub fn reply_patched(
     alloc: Global,
     offset: u64,
@@ -131,7 +131,7 @@ pub fn reply_patched(
 ///
 /// # Errors
 ///
-/// `AllocError` if memory is refused.
+/// `AllocError` when out of memory.
 pub fn reply_deleted(
     alloc: Global,
     _bare: bool,
@@ -155,7 +155,7 @@ pub fn reply_deleted(
 ///
 /// # Errors
 ///
-/// `AllocError` if memory is refused.
+/// `AllocError` when out of memory.
 pub fn reply_text(
     alloc: Global,
     to: Encoding,
@@ -181,7 +181,7 @@ pub fn reply_text(
 ///
 /// # Errors
 ///
-/// `AllocError` if memory is refused.
+/// `AllocError` when out of memory.
 pub fn reply_refused(
     alloc: Global,
     fault: Fault,
@@ -207,7 +207,7 @@ pub fn reply_refused(
 ///
 /// # Errors
 ///
-/// `AllocError` if memory is refused: only where `out` has no room.
+/// `AllocError` when out of memory: only where `out` has no room.
 pub fn reply_continue(out: &mut Vec<u8>) -> Result<(), AllocError>
     ensures ok { OnOk result (out.new.items ≡ out.old.items ++ reply_continue) }
     ensures err { OnErr result (out.new.items ≡ out.old.items) }

@@ -49,7 +49,7 @@ pub struct Request {
     pub bare: bool,
     /// Whether it is a PATCH that awaits `100 Continue`.
     pub expects: bool,
-    /// Whether the connection closes behind the reply, whatever it is.
+    /// Whether the connection closes after the reply, whatever it is.
     pub closes: bool,
 }
 
@@ -77,7 +77,7 @@ pub enum Parsed {
         on_files: bool,
         /// Whether the request line says HEAD.
         bare: bool,
-        /// Whether the connection closes behind the reply.
+        /// Whether the connection closes after the reply.
         closes: bool,
     },
 }

@@ -1,21 +1,21 @@
 //! The search for a head's end, byte by byte.
 ghost use Rattle.std.specs.Prelude.{◌≡◌};
-ghost use Rattle.tus_request.specs.Searches.{behind_byte, behind_bytes, is_over};
+ghost use Rattle.tus_request.specs.Searches.{after_byte, after_bytes, is_over};
 
-/// Where the search stands behind the bytes that it has seen.
+/// Where the search stands after the bytes that it has seen.
 #[derive(Clone, Copy, Drop)]
 pub(crate) enum Search {
-    /// At the start of a line, behind empty ones or none.
+    /// At the start of a line, after empty ones or none.
     Front,
-    /// Behind a CR that stands there.
+    /// After a CR that stands there.
     FrontCr,
     /// In a line that isn't empty.
     Text,
-    /// At the start of a line, behind one that isn't empty.
+    /// At the start of a line, after one that isn't empty.
     Start,
-    /// Behind a CR that stands there.
+    /// After a CR that stands there.
     StartCr,
-    /// Behind the empty line that ends the head.
+    /// After the empty line that ends the head.
     Over,
 }
 
@@ -27,9 +27,9 @@ impl Search {
         matches!(self, Search::Over)
     }
 
-    /// Behind one byte more.
-    fn behind_byte(self, byte: u8) -> Self
-        ensures { result ≡ behind_byte self byte }
+    /// After one byte more.
+    fn after_byte(self, byte: u8) -> Self
+        ensures { result ≡ after_byte self byte }
     {
         match (self, byte) {
             (Search::Over, _) | (Search::Start | Search::StartCr, b'\n') => Search::Over,
@@ -41,16 +41,16 @@ impl Search {
         }
     }
 
-    /// Behind more bytes, of which those behind the head aren't looked at.
-    pub(crate) fn behind(self, bytes: &[u8]) -> Self
-        ensures { result ≡ behind_bytes self bytes.now }
+    /// After more bytes, of which those after the head aren't looked at.
+    pub(crate) fn after(self, bytes: &[u8]) -> Self
+        ensures { result ≡ after_bytes self bytes.now }
     {
         let mut search = self;
         for byte in bytes {
             if search.is_over() {
                 return search;
             }
-            search = search.behind_byte(*byte);
+            search = search.after_byte(*byte);
         }
         search
     }

@@ -1,7 +1,7 @@
 //! Parts of header values.
 ghost use Rattle.std.specs.Prelude.{◌≡◌, ◌==◌};
 ghost use Rattle.std.specs.List.{position};
-ghost use Rattle.tus_request.specs.Reading.{before, behind};
+ghost use Rattle.tus_request.specs.Reading.{before, after};
 ghost use Rattle.tus_request.specs.Texts.{any_case, skipped, trimmed, lists_word};
 
 /// Whether a text is a word, in any case.
@@ -28,9 +28,9 @@ pub fn front(text: &[u8], mark: u8) -> &[u8]
     }
 }
 
-/// The bytes behind the first of a mark, or none.
-pub fn behind(text: &[u8], mark: u8) -> &[u8]
-    ensures { result.now ≡ behind mark text.now }
+/// The bytes after the first of a mark, or none.
+pub fn after(text: &[u8], mark: u8) -> &[u8]
+    ensures { result.now ≡ after mark text.now }
 {
     match place_of(text, mark) {
         Some(at) => &text[at + 1..],

@@ -1,5 +1,6 @@
 -- From what a body comes to, to the turn's answer.
-use Rattle.std.proofs.Common.{ℕ, zero, suc, ◌+◌, ◌-◌, ◌<◌, ◌≤◌, ◌≡◌, inl, inr, Bool, true, false, List, [], ◌∷◌, ◌++◌, Option}
+use Rattle.std.proofs.Common.{ℕ, zero, suc, ◌+◌, ◌-◌, ◌<◌, ◌≤◌, ◌≡◌, inl, inr, Bool, true, false, List, [], ◌∷◌, ◌++◌}
+use Rattle.std.proofs.Common.{Option}
 use Rattle.std.proofs.Common.{Some, None, Result, Ok, Err, length, take, refl, sym, ◌∙◌, ap, subst, arith, append-nil}
 use Rattle.std.proofs.Common.{min, if◌then◌else◌}
 use Rattle.std.proofs.lemmas.Bool.{cases_lt}
@@ -396,7 +397,8 @@ module _ {U B : Type 0} (u : Ghosts U B) (store : U) (w : World) (conn : Conn) (
       → a ≡ took (0 + min left (length bytes)) false
       → TurnedAs u store link a out out w conn.draft (came_turn w conn bytes)
   skip_told link a out bytes e f =
-      subst (λ x. TurnedAs u store link a out out w x.draft (came_turn w x bytes)) (conn_is conn None is.draft is.pending)
+      subst (λ x. TurnedAs u store link a out out w x.draft (came_turn w x bytes)) (conn_is conn None is.draft
+          is.pending)
       (dropped_told link a out bytes e f)
 
 pub text_turn_is : (w : World) (conn : Conn) (bytes : List ℕ) (h : Giving) → conn.pending ≡ Some h

@@ -151,9 +151,9 @@ module _ {U B : Type 0} (u : Ghosts U B) where
       }) = subst (λ m. u.stands store (record { store = m; patches = []; blocks = v.blocks })) is.uploads a in
       subst (λ n. u.stands store (record { store = st.world.store; patches = []; blocks = n })) is.blocks b
 
-get_seam : {A : Type 0} (front behind : List A) (x other : A) → get_or (front ++ x ∷ behind) (length front) other ≡ x
-get_seam [] behind x other = refl
-get_seam (y ∷ front) behind x other = get_seam front behind x other
+get_seam : {A : Type 0} (front after : List A) (x other : A) → get_or (front ++ x ∷ after) (length front) other ≡ x
+get_seam [] after x other = refl
+get_seam (y ∷ front) after x other = get_seam front after x other
 
 -- the last of the first places is taken off
 pub record Popped {B : Type 0} (all old new : List (Option (Link B))) (x : Option (Link B)) : Type 0 where

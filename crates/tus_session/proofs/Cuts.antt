@@ -8,7 +8,7 @@ use Rattle.std.proofs.Math.Seq.{take-append_seam}
 use Rattle.tus_request.specs.Requests.{Verdict, body_length}
 use Rattle.tus_request.specs.Steady.{IsSteady}
 use Rattle.tus_request.specs.Answers.{Answer, More, Judged}
-use Rattle.tus_session.specs.Streams.{Asked, Rest, Cut, Reader, onto, behind_head, by_answer, cut_within, cut}
+use Rattle.tus_session.specs.Streams.{Asked, Rest, Cut, Reader, onto, after_head, by_answer, cut_within, cut}
 use Rattle.tus_session.specs.Streams.{rest_bytes, span, headed, heads_of, taken_to, taken_of, taken, Moments}
 use Rattle.tus_session.specs.Streams.{moments_of, moments, rest_body, body_of}
 
@@ -19,7 +19,7 @@ after_whole rs c = record { whole = rs ++ c.whole; rest = c.rest }
 -- two cuts that agree on shorter streams
 head_same : (f g : List ℕ → Cut) (head : List ℕ) (v : Verdict) (rest : List ℕ) (b : Bool)
     → f (drop (body_length v) rest) ≡ g (drop (body_length v) rest)
-    → behind_head f head v rest b ≡ behind_head g head v rest b
+    → after_head f head v rest b ≡ after_head g head v rest b
 head_same f g head v rest true e = refl
 head_same f g head v rest false e = ap (onto (record { head = head; verdict = v; body = take (body_length v) rest })) e
 
@@ -58,28 +58,28 @@ abbrev pub GoesOn : Reader → List ℕ → List ℕ → Cut → Type 0
 GoesOn answer p s c = cut answer (s ++ p) ≡ after_whole c.whole (cut answer (rest_bytes c.rest ++ p))
 
 body_there : (f : List ℕ → Cut) (head : List ℕ) (v : Verdict) (rest p : List ℕ) → body_length v ≤ length rest
-    → behind_head f head v (rest ++ p) (nat_lt (length (rest ++ p)) (body_length v))
+    → after_head f head v (rest ++ p) (nat_lt (length (rest ++ p)) (body_length v))
     ≡ onto (record { head = head; verdict = v; body = take (body_length v) rest }) (f (drop (body_length v) rest ++ p))
 body_there f head v rest p fits =
     let n : length (rest ++ p) ≡ length rest + length p = length-append rest p in
-    ap (behind_head f head v (rest ++ p)) (le-ltb (length (rest ++ p)) (body_length v) (omega arith))
+    ap (after_head f head v (rest ++ p)) (le-ltb (length (rest ++ p)) (body_length v) (omega arith))
     ∙ (ap (λ x. onto (record { head = head; verdict = v; body = x }) (f (drop (body_length v) (rest ++ p))))
     (take-append-le (body_length v) rest p fits)
     ∙ ap (λ x. onto (record { head = head; verdict = v; body = take (body_length v) rest }) (f x))
     (drop-append-le (body_length v) rest p fits))
 
 pub head_there : (f : List ℕ → Cut) (n : ℕ) (v : Verdict) (s p : List ℕ) → n ≤ length s
-    → by_answer f (s ++ p) (Judged n v) ≡ behind_head f (take n s) v (drop n s ++ p)
+    → by_answer f (s ++ p) (Judged n v) ≡ after_head f (take n s) v (drop n s ++ p)
     (nat_lt (length (drop n s ++ p)) (body_length v))
 head_there f n v s p within =
-    ap (λ x. behind_head f x v (drop n (s ++ p)) (nat_lt (length (drop n (s ++ p))) (body_length v)))
+    ap (λ x. after_head f x v (drop n (s ++ p)) (nat_lt (length (drop n (s ++ p))) (body_length v)))
     (take-append-le n s p within)
-    ∙ ap (λ x. behind_head f (take n s) v x (nat_lt (length x) (body_length v))) (drop-append-le n s p within)
+    ∙ ap (λ x. after_head f (take n s) v x (nat_lt (length x) (body_length v))) (drop-append-le n s p within)
 
 on_body : (answer : Reader) → IsSteady answer → (s p : List ℕ) (n : ℕ) (v : Verdict) → answer s ≡ Judged n v
     → ((t : List ℕ) → length t < length s → GoesOn answer p t (cut answer t))
     → (b : Bool) → nat_lt (length (drop n s)) (body_length v) ≡ b → GoesOn answer p s
-    (behind_head (cut answer) (take n s) v (drop n s) b)
+    (after_head (cut answer) (take n s) v (drop n s) b)
 on_body answer steady s p n v e goes true under = ap (λ x. cut answer (x ++ p)) (sym (take-append-drop n s))
 on_body answer steady s p n v e goes false there =
     let within = steady.within s n v e in
@@ -115,7 +115,7 @@ Covers s c = span c.whole + length (rest_bytes c.rest) ≡ length s
 cover_body : (answer : Reader) → IsSteady answer → (s : List ℕ) (n : ℕ) (v : Verdict) → n ≤ length s → 0 < n
     → ((t : List ℕ) → length t < length s → Covers t (cut answer t))
     → (b : Bool) → nat_lt (length (drop n s)) (body_length v) ≡ b → Covers s
-    (behind_head (cut answer) (take n s) v (drop n s) b)
+    (after_head (cut answer) (take n s) v (drop n s) b)
 cover_body answer steady s n v within some covers true under = let e : length (take n s ++ drop n s) ≡ length s =
     ap length (take-append-drop n s) in omega arith
 cover_body answer steady s n v within some covers false there =
@@ -176,15 +176,15 @@ left_alone answer steady s =
 
 -- MOMENTS FROM WHAT IS LEFT ALONE
 
-get_behind : {A : Type 0} (xs ys : List A) (i : ℕ) → slice_get (xs ++ ys) (length xs + i) ≡ slice_get ys i
-get_behind [] ys i = let e : 0 + i ≡ i = omega arith in ap (slice_get ys) e
-get_behind (x ∷ xs) ys i =
+get_after : {A : Type 0} (xs ys : List A) (i : ℕ) → slice_get (xs ++ ys) (length xs + i) ≡ slice_get ys i
+get_after [] ys i = let e : 0 + i ≡ i = omega arith in ap (slice_get ys) e
+get_after (x ∷ xs) ys i =
     let e : suc (length xs) + i ≡ suc (length xs + i) = omega arith in
-    ap (slice_get (x ∷ (xs ++ ys))) e ∙ get_behind xs ys i
+    ap (slice_get (x ∷ (xs ++ ys))) e ∙ get_after xs ys i
 
-get_first_behind : {A : Type 0} (xs ys : List A) → slice_get (xs ++ ys) (length xs) ≡ slice_get ys 0
-get_first_behind xs ys =
-    let e : length xs ≡ length xs + 0 = omega arith in ap (slice_get (xs ++ ys)) e ∙ get_behind xs ys 0
+get_first_after : {A : Type 0} (xs ys : List A) → slice_get (xs ++ ys) (length xs) ≡ slice_get ys 0
+get_first_after xs ys =
+    let e : length xs ≡ length xs + 0 = omega arith in ap (slice_get (xs ++ ys)) e ∙ get_after xs ys 0
 
 abbrev IsMoments : Moments → Moments → Type 0
 IsMoments m n = m ≡ n
@@ -199,19 +199,19 @@ three {h} {h'} {b} {b'} {c} {c'} e f g =
     }) e ∙ (ap (λ x. record { head = h'; body = x; came = c }) f
     ∙ ap (λ x. record { head = h'; body = b'; came = x }) g)
 
--- behind whole requests, the moments are those without them
-moments_behind : (ws : List Asked) (r : Rest) (d : Cut)
+-- after whole requests, the moments are those without them
+moments_after : (ws : List Asked) (r : Rest) (d : Cut)
     → moments_of (record { whole = ws; rest = r }) (after_whole ws d) ≡ moments_of (record { whole = []; rest = r }) d
-moments_behind ws r d =
+moments_after ws r d =
     let heads : (ws ++ d.whole) ++ headed d.rest ≡ ws ++ heads_of d = append_assoc ws d.whole (headed d.rest) in
     let h : slice_get ((ws ++ d.whole) ++ headed d.rest) (length (ws ++ headed r)) ≡ slice_get (heads_of d)
     (length (headed r)) =
     ap (λ x. slice_get x (length (ws ++ headed r))) heads
-    ∙ (ap (slice_get (ws ++ heads_of d)) (length-append ws (headed r)) ∙ get_behind ws (heads_of d)
+    ∙ (ap (slice_get (ws ++ heads_of d)) (length-append ws (headed r)) ∙ get_after ws (heads_of d)
     (length (headed r))) in
-    let b : slice_get (ws ++ d.whole) (length ws) ≡ slice_get d.whole 0 = get_first_behind ws d.whole in
+    let b : slice_get (ws ++ d.whole) (length ws) ≡ slice_get d.whole 0 = get_first_after ws d.whole in
     let c : slice_get ((ws ++ d.whole) ++ headed d.rest) (length ws) ≡ slice_get (heads_of d) 0 =
-    ap (λ x. slice_get x (length ws)) heads ∙ get_first_behind ws (heads_of d) in
+    ap (λ x. slice_get x (length ws)) heads ∙ get_first_after ws (heads_of d) in
     three h b (ap (λ x. drop (length (rest_body r)) (body_of x)) c)
 
 -- the unfinished part of a stream
@@ -225,7 +225,7 @@ moments_alone answer steady s q =
     let c = cut answer s in
     let u = left answer s in
     ap (moments_of c) (goes_on answer steady s q)
-    ∙ (moments_behind c.whole c.rest (cut answer (u ++ q))
+    ∙ (moments_after c.whole c.rest (cut answer (u ++ q))
     ∙ ap (λ x. moments_of x (cut answer (u ++ q))) (sym (left_alone answer steady s)))
 
 -- how much is taken, by what is left alone
@@ -237,13 +237,13 @@ by_end ws s u p d covers (Some r) =
     let e : span (take (length ws) (ws ++ d.whole)) ≡ span ws = ap span front in
     omega arith
 
-taken_behind : (ws : List Asked) (r : Rest) (s u p : List ℕ) (d : Cut) → span ws + length u ≡ length s
+taken_after : (ws : List Asked) (r : Rest) (s u p : List ℕ) (d : Cut) → span ws + length u ≡ length s
     → taken_of s p (record {
       whole = ws;
       rest = r;
     }) (after_whole ws d) ≡ taken_of u p (record { whole = []; rest = r }) d
-taken_behind ws r s u p d covers =
-    ap (taken_to s p (after_whole ws d) (length ws)) (get_first_behind ws d.whole)
+taken_after ws r s u p d covers =
+    ap (taken_to s p (after_whole ws d) (length ws)) (get_first_after ws d.whole)
     ∙ by_end ws s u p d covers (slice_get d.whole 0)
 
 pub taken_alone : (answer : Reader) → IsSteady answer → (s p : List ℕ) → taken answer s p ≡ taken answer (left answer s)
@@ -253,5 +253,5 @@ taken_alone answer steady s p =
     let c = cut answer s in
     let u = left answer s in
     ap (taken_of s p c) (goes_on answer steady s p)
-    ∙ (taken_behind c.whole c.rest s u p (cut answer (u ++ p)) (covers answer steady s)
+    ∙ (taken_after c.whole c.rest s u p (cut answer (u ++ p)) (covers answer steady s)
     ∙ ap (λ x. taken_of u p x (cut answer (u ++ p))) (sym (left_alone answer steady s)))

@@ -68,7 +68,7 @@ drop_fed w d p (b ∷ piece) found =
     ap (λ o. dropped (appended_at w d (b ∷ piece) o) d) found
     ∙ ap (λ ps. record w { patches = ps }) (without_replaced d (longer w d p (b ∷ piece)) w.patches)
 
--- the offset behind the whole body
+-- the offset after the whole body
 pub reached_fed : (w : World) (d : ℕ) (p : Patch) (piece : List ℕ) (n : ℕ) → length p.body + length piece ≡ p.count
     → n ≡ length p.began.accepted + p.count
     → n ≡ reached (fed_patch w d p piece)
@@ -79,7 +79,7 @@ reached_fed w d p piece n all e =
     ap length (fed_body w d p piece) ∙ length-append p.body piece in
     omega arith
 
--- the store behind the body's end
+-- the store after the body's end
 pub ended_store : (w : World) (d : ℕ) (p : Patch) (piece : List ℕ) (r : Request)
     → commit_outcome (fed w d piece) d (fed_patch w d p piece) ≡ (ended_by w d p piece r).world.store
 ended_store w d p piece r =
@@ -99,7 +99,7 @@ module _ {U B : Type 0} (u : Ghosts U B) where
     bytes = bytes;
   }
 
-  -- the draft's patch, behind more of its body
+  -- the draft's patch, after more of its body
   pub fed_found_as : (w : World) (d : ℕ) (p : Patch) (q : List ℕ) (b : B) → u.number_of b ≡ d
       → find d (fed w d q).patches ≡ Some (fed_patch w d p q)
       → find (u.number_of b) (fed w d q).patches ≡ Some (fed_patch w d p q)

@@ -26,7 +26,7 @@ use Rattle.tus_session.specs.declared.conns.Link.{Link}
 use Rattle.tus_session.proofs.BodyTold.{plain, answered_here}
 use Rattle.tus_session.proofs.HeadTurns.{more_turn_is, head_within, front_judged, front_body, part_turn_is}
 use Rattle.tus_session.proofs.HeadTurns.{whole_turn_is}
-use Rattle.tus_session.proofs.NewRests.{head_more_rest, head_part_rest, head_whole_rest, drop_behind}
+use Rattle.tus_session.proofs.NewRests.{head_more_rest, head_part_rest, head_whole_rest, drop_after}
 use Rattle.tus_session.proofs.Opening.{still}
 use Rattle.tus_session.proofs.Unfinished.{judged_as}
 
@@ -83,39 +83,39 @@ module _ {U B : Type 0} (u : Ghosts U B) where
 
   module _ (store' : U) (w : World) (conn : Conn) (h bytes : List ℕ) (n before : ℕ) (v : Verdict)
       (is : IsWhole w conn h bytes n before v) where
-    abbrev behind : List ℕ
-    behind = drop before bytes
+    abbrev after : List ℕ
+    after = drop before bytes
 
     -- what the head did is all: the rest of the body is dropped
     pub no_patch_told : (link : Option (Link B)) (x : code.Answer) (old new : List ℕ) (head : HeadBuffer)
         → u.stands store' (acted w v).world → Moves w (acted w v).world None None
         → (acted w v).draft ≡ None → (acted w v).pending ≡ None
-        → link ≡ link_after head (body_length v - min (body_length v) (length behind)) (acted w v).closes
+        → link ≡ link_after head (body_length v - min (body_length v) (length after)) (acted w v).closes
         → (bytes_of head) ≡ []
-        → x ≡ took (before + min (body_length v) (length behind)) (acted w v).closes → new ≡ old ++ (acted w v).bytes
+        → x ≡ took (before + min (body_length v) (length after)) (acted w v).closes → new ≡ old ++ (acted w v).bytes
         → TurnedAs u store' link x old new w conn.draft (came_turn w conn bytes)
     no_patch_told link x old new head shown moves none idle link_is head_is answer_is bytes_are =
         let a = acted w v in
         let m = body_length v in
-        let left = m - min m (length behind) in
+        let left = m - min m (length after) in
         let within = head_within w conn h is.inside bytes n before v is.judged is.before_is in
-        let l : length behind ≡ length bytes - before = length-drop before bytes in
+        let l : length after ≡ length bytes - before = length-drop before bytes in
         subst (λ d. TurnedAs u store' link x old new w d (came_turn w conn bytes)) (sym is.inside.draft)
-        (elim (cases_lt (length behind) m) as (λ _. TurnedAs u store' link x old new w None (came_turn w conn bytes)) [
+        (elim (cases_lt (length after) m) as (λ _. TurnedAs u store' link x old new w None (came_turn w conn bytes)) [
           | inl few ↦
               let t : take (length bytes) bytes ≡ bytes = take_all (length bytes) bytes (omega arith) in
               let turn : came_turn w conn bytes ≡ answered_turn a (conn.stream ++ bytes) (length bytes) =
               part_turn_is w conn h is.inside bytes n before v is.judged is.before_is few
               ∙ (came_plain conn bytes (length bytes)
-              (record { head = Some (judged_as (h ++ bytes) n v); body = None; came = behind }) a idle none
+              (record { head = Some (judged_as (h ++ bytes) n v); body = None; came = after }) a idle none
               ∙ (turn_plain conn bytes (length bytes) a idle none ∙ ap
               (λ q. answered_turn a (conn.stream ++ q) (length bytes)) t)) in
-              let b : drop n (h ++ bytes) ≡ behind = drop_behind h bytes before n within.0 in
-              let lb : length (drop n (h ++ bytes)) ≡ length behind = ap length b in
+              let b : drop n (h ++ bytes) ≡ after = drop_after h bytes before n within.0 in
+              let lb : length (drop n (h ++ bytes)) ≡ length after = ap length b in
               let here = head_part_rest (reader w) (is_steady w) conn.stream h is.inside.rest bytes n v is.judged
               (omega arith) in
               let left_is : left ≡ m - length (drop n (h ++ bytes)) = omega arith in
-              let count : before + min m (length behind) ≡ length bytes = omega arith in
+              let count : before + min m (length after) ≡ length bytes = omega arith in
               let now = answered_here u store' link x old new a.bytes w a.world None head left (length bytes) a.closes
               (conn.stream ++ bytes) (InBody (judged_as (h ++ bytes) n v)) shown moves link_is (head_is, left_is) here
               (answer_is ∙ ap (λ i. took i a.closes) count) bytes_are in
@@ -128,15 +128,15 @@ module _ {U B : Type 0} (u : Ghosts U B) where
               (record {
                 head = Some (judged_as (h ++ q) n v);
                 body = Some (judged_as (h ++ q) n v);
-                came = take m behind;
+                came = take m after;
               }) a idle none ∙ turn_plain conn bytes (before + m) a idle none) in
-              let b : drop n (h ++ q) ≡ take m behind =
+              let b : drop n (h ++ q) ≡ take m after =
               front_body w conn h is.inside bytes n before v is.judged is.before_is m in
-              let all : length (drop n (h ++ q)) ≡ m = ap length b ∙ length-take-le m behind enough in
+              let all : length (drop n (h ++ q)) ≡ m = ap length b ∙ length-take-le m after enough in
               let here = head_whole_rest (reader w) (is_steady w) conn.stream h is.inside.rest q n v
               (front_judged w conn h is.inside bytes n before v is.judged is.before_is m) all in
               let left_is : left ≡ 0 = omega arith in
-              let count : before + min m (length behind) ≡ before + m = omega arith in
+              let count : before + min m (length after) ≡ before + m = omega arith in
               let now = answered_here u store' link x old new a.bytes w a.world None head left (before + m) a.closes
               (conn.stream ++ q) (InHead []) shown moves link_is (head_is, left_is) here
               (answer_is ∙ ap (λ i. took i a.closes) count) bytes_are in

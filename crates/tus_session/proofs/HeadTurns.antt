@@ -14,7 +14,7 @@ use Rattle.tus_session.specs.Turns.{Conn, at_head, turn_of, came_with, came_at, 
 use Rattle.tus_session.specs.Heads.{InsideHead}
 use Rattle.tus_session.proofs.Cuts.{left, moments_alone, taken_alone}
 use Rattle.tus_session.proofs.Unfinished.{judged_as, head_part, head_whole, both_whole, whole_taken, head_new}
-use Rattle.tus_session.proofs.NewRests.{head_left, head_only, drop_behind, take_behind}
+use Rattle.tus_session.proofs.NewRests.{head_left, head_only, drop_after, take_after}
 
 take_front : (b m n : ℕ) (xs : List ℕ) → n ≡ b + m → take b (take n xs) ≡ take b xs
 take_front zero m n xs e = refl
@@ -77,7 +77,7 @@ module _ (w : World) (conn : Conn) (h : List ℕ) (inside : InsideHead w conn h)
     -- a front of the bytes with the whole head says as much
     pub front_judged : (m : ℕ) → reader w (h ++ take (before + m) bytes) ≡ Judged n v
     front_judged m =
-        let a : take n (h ++ bytes) ≡ h ++ take before bytes = take_behind h bytes before n head_within.0 in
+        let a : take n (h ++ bytes) ≡ h ++ take before bytes = take_after h bytes before n head_within.0 in
         let b : reader w (h ++ take before bytes) ≡ Judged n v =
         ap (reader w) (sym a) ∙ is_steady.own (h ++ bytes) n v judged in
         let c : take (before + m) bytes ≡ take before bytes ++ drop before (take (before + m) bytes) =
@@ -87,7 +87,7 @@ module _ (w : World) (conn : Conn) (h : List ℕ) (inside : InsideHead w conn h)
         ∙ is_steady.keeps (h ++ take before bytes) (drop before (take (before + m) bytes)) n v b)
 
     pub front_body : (m : ℕ) → drop n (h ++ take (before + m) bytes) ≡ take m (drop before bytes)
-    front_body m = drop_behind h (take (before + m) bytes) before n head_within.0 ∙ drop-take before m bytes
+    front_body m = drop_after h (take (before + m) bytes) before n head_within.0 ∙ drop-take before m bytes
 
     -- fewer bytes of the body than it wants
     pub part_turn_is : length (drop before bytes) < body_length v
@@ -98,7 +98,7 @@ module _ (w : World) (conn : Conn) (h : List ℕ) (inside : InsideHead w conn h)
         }) (acted w v)
     part_turn_is few =
         let only = head_only (reader w) is_steady conn.stream h inside.rest in
-        let b : drop n (h ++ bytes) ≡ drop before bytes = drop_behind h bytes before n head_within.0 in
+        let b : drop n (h ++ bytes) ≡ drop before bytes = drop_after h bytes before n head_within.0 in
         let few' : length (drop n (h ++ bytes)) < body_length v =
         let l : length (drop n (h ++ bytes)) ≡ length (drop before bytes) = ap length b in omega arith in
         let p = head_whole (reader w) is_steady h bytes n v only judged few' in
@@ -130,7 +130,7 @@ module _ (w : World) (conn : Conn) (h : List ℕ) (inside : InsideHead w conn h)
         let only = head_only (reader w) is_steady conn.stream h inside.rest in
         let m = body_length v in
         let q = take (before + m) bytes in
-        let b : drop n (h ++ bytes) ≡ drop before bytes = drop_behind h bytes before n head_within.0 in
+        let b : drop n (h ++ bytes) ≡ drop before bytes = drop_after h bytes before n head_within.0 in
         let l : length (drop n (h ++ bytes)) ≡ length (drop before bytes) = ap length b in
         let here = head_within.0 in
         let t : taken (reader w) h bytes ≡ before + m =

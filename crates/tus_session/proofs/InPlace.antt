@@ -1,4 +1,4 @@
--- A connection in its place again, behind an event.
+-- A connection in its place again, after an event.
 use Rattle.std.proofs.Common.{◌≡◌, ◌≢◌, inl, inr, ℕ, ◌<◌, ◌≤◌, List, length, get_or, slice_set}
 use Rattle.std.proofs.Common.{Option, Some, None, refl, sym, ◌∙◌, ap, subst, arith, get_or-set_same, get_or-set_other}
 use Rattle.std.proofs.Common.{length-set}
@@ -23,7 +23,8 @@ pub conns_else : (conns : ℕ → Option Conn) (k j : ℕ) (conn : Option Conn) 
 conns_else conns k j conn ne = grind (arith, nat_tests)
 
 module _ {U B : Type 0} (u : Ghosts U B) where
-  module _ (places all : List (Option (Link B))) (store store' : U) (st : State) (w' : World) (k : ℕ) (next : Option (Link B))
+  module _ (places all : List (Option (Link B))) (store store' : U) (st : State) (w' : World) (k : ℕ) (next : Option
+      (Link B))
       (conn' : Option Conn)
       (stands : SessionStands u places store st) (is_put : IsPut places all k next)
       (moves : Moves st.world w' (draft_at (st.conns k)) (draft_at conn')) (shown : u.stands store' w')
@@ -119,7 +120,8 @@ module _ {U B : Type 0} (u : Ghosts U B) where
   place_at places store st k x stands lt e =
       subst (λ y. PlaceIs u st.world y (st.conns k)) (sym (e ∙ get_or-any places k x None lt)) (stands.each k)
     where
-      get_or-any : (xs : List (Option (Link B))) (i : ℕ) (a b : Option (Link B)) → i < length xs → get_or xs i a ≡ get_or xs i b
+      get_or-any : (xs : List (Option (Link B))) (i : ℕ) (a b : Option (Link B)) → i < length xs → get_or xs i a ≡
+          get_or xs i b
       get_or-any xs i a b lt = grind (arith, common_steps)
 
   closed_none : (w : World) (conn : Option Conn) → PlaceIs u w None conn → conn ≡ None

@@ -155,8 +155,8 @@ with_patch w d p = record w { patches = (d, p) ∷ w.patches }
 find_first : (d : ℕ) (p : Patch) (patches : Patches) → find d ((d, p) ∷ patches) ≡ Some p
 find_first d p patches = grind (arith, nat_tests)
 
-find_behind : (d e : ℕ) (p : Patch) (patches : Patches) → (d ≡ e → ⊥) → find e ((d, p) ∷ patches) ≡ find e patches
-find_behind d e p patches ne = grind (arith, nat_tests)
+find_after : (d e : ℕ) (p : Patch) (patches : Patches) → (d ≡ e → ⊥) → find e ((d, p) ∷ patches) ≡ find e patches
+find_after d e p patches ne = grind (arith, nat_tests)
 
 -- a patch is opened under a number that none has
 pub open_moves : (w : World) (d : ℕ) (p : Patch) → find d w.patches ≡ None → Moves w (with_patch w d p) None (Some d)
@@ -164,11 +164,11 @@ open_moves w d p free = record {
   grows = same_grows w.store;
   others = λ e q ne found. elim (cases_eq d e) [
     | inl is ↦ let x : None ≡ Some q = sym free ∙ (ap (λ n. find n w.patches) is ∙ found) in absurd (cc)
-    | inr ne' ↦ find_behind d e p w.patches ne' ∙ found
+    | inr ne' ↦ find_after d e p w.patches ne' ∙ found
   ];
   back = λ e q apart found. elim (cases_eq d e) [
     | inl is ↦ inl (ap Some is)
-    | inr ne ↦ inr (λ h. absurd (cc), (q, sym (find_behind d e p w.patches ne) ∙ found))
+    | inr ne ↦ inr (λ h. absurd (cc), (q, sym (find_after d e p w.patches ne) ∙ found))
   ];
   fresh = λ e h. let x : d ≡ e = cc in inr (ap (λ n. find n w.patches) (sym x) ∙ free);
   unique = λ h. (free, h);
@@ -325,9 +325,9 @@ not_empty : (body : List ℕ) → is_empty body ≡ false → 0 < length body
 not_empty [] e = absurd (cc)
 not_empty (b ∷ body) e = omega arith
 
-none_behind : (xs ys : List ℕ) → length (xs ++ ys) ≡ length xs → ys ≡ []
-none_behind xs [] e = refl
-none_behind xs (y ∷ ys) e =
+none_after : (xs ys : List ℕ) → length (xs ++ ys) ≡ length xs → ys ≡ []
+none_after xs [] e = refl
+none_after xs (y ∷ ys) e =
     let n : length (xs ++ y ∷ ys) ≡ length xs + length (y ∷ ys) = length-append xs (y ∷ ys) in
     absurd (omega arith)
 
@@ -416,7 +416,7 @@ module _ (w : World) (d : ℕ) (p : Patch) (grown : GrewFrom p (upload_of w.stor
       let l : length (p.began.accepted ++ grew.1) ≡ length p.began.accepted =
       sym (ap (λ x. length x.accepted) grew.2) ∙ fit.count in
       let same : p.began.accepted ++ grew.1 ≡ p.began.accepted =
-      ap (λ z. p.began.accepted ++ z) (none_behind p.began.accepted grew.1 l) ∙ append-nil p.began.accepted in
+      ap (λ z. p.began.accepted ++ z) (none_after p.began.accepted grew.1 l) ∙ append-nil p.began.accepted in
       ap (λ x. (text_with m.indexes x p.body done).fault) grew.2
       ∙ (ap (λ z. (text_with m.indexes (record p.began { accepted = z }) p.body done).fault) same ∙ value)
 

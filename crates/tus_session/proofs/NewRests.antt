@@ -1,4 +1,4 @@
--- What is left of a stream behind an event.
+-- What is left of a stream after an event.
 use Rattle.std.proofs.Common.{ℕ, zero, suc, ◌+◌, ◌<◌, ◌≡◌, List, [], ◌∷◌, ◌++◌, length, take, drop, subst, ◌∙◌, ap}
 use Rattle.std.proofs.Common.{arith, nat_lt}
 use Rattle.std.proofs.lemmas.List.{drop_all, length-append}
@@ -6,7 +6,7 @@ use Rattle.std.proofs.lemmas.Bool.{le-ltb, lt-ltb}
 use Rattle.tus_request.specs.Requests.{Verdict, body_length}
 use Rattle.tus_request.specs.Steady.{IsSteady}
 use Rattle.tus_request.specs.Answers.{More, Judged}
-use Rattle.tus_session.specs.Streams.{Asked, InHead, InBody, Reader, behind_head, by_answer, cut}
+use Rattle.tus_session.specs.Streams.{Asked, InHead, InBody, Reader, after_head, by_answer, cut}
 use Rattle.tus_session.proofs.Cuts.{cut_steps, goes_on, left, left_alone}
 use Rattle.tus_session.proofs.Unfinished.{left_body, longer, cut_more, empty_cut, judged_as, only_head}
 
@@ -24,15 +24,15 @@ module _ (answer : Reader) (steady : IsSteady answer) where
       let l : length (r.body ++ q) ≡ length r.body + length q = length-append r.body q in
       rest_on s q ∙ ap (λ c. c.rest)
       (cut_more answer steady u q b.0 r b.1
-      ∙ ap (behind_head (cut answer) r.head r.verdict (r.body ++ q))
+      ∙ ap (after_head (cut answer) r.head r.verdict (r.body ++ q))
       (lt-ltb (length (r.body ++ q)) (body_length r.verdict) (omega arith)))
 
   whole_rest : (head : List ℕ) (v : Verdict) (rest : List ℕ) → length rest ≡ body_length v
-      → (behind_head (cut answer) head v rest (nat_lt (length rest) (body_length v))).rest ≡ InHead []
+      → (after_head (cut answer) head v rest (nat_lt (length rest) (body_length v))).rest ≡ InHead []
   whole_rest head v rest all =
       let m = body_length v in
       let d : drop m rest ≡ [] = drop_all m rest (omega arith) in
-      ap (λ b. (behind_head (cut answer) head v rest b).rest) (le-ltb (length rest) m (omega arith))
+      ap (λ b. (after_head (cut answer) head v rest b).rest) (le-ltb (length rest) m (omega arith))
       ∙ (ap (λ x. (cut answer x).rest) d ∙ ap (λ c. c.rest) (empty_cut answer steady))
 
   -- its last bytes
@@ -68,7 +68,7 @@ module _ (answer : Reader) (steady : IsSteady answer) where
         → (cut answer (s ++ p)).rest ≡ InBody (judged_as (h ++ p) n v)
     head_part_rest p n v e few =
         head_on p ∙ ap (λ c. c.rest) (cut_steps answer steady (h ++ p) ∙ (ap (by_answer (cut answer) (h ++ p)) e
-        ∙ ap (behind_head (cut answer) (take n (h ++ p)) v (drop n (h ++ p)))
+        ∙ ap (after_head (cut answer) (take n (h ++ p)) v (drop n (h ++ p)))
         (lt-ltb (length (drop n (h ++ p))) (body_length v) few)))
 
     -- both are whole
@@ -79,12 +79,12 @@ module _ (answer : Reader) (steady : IsSteady answer) where
         head_on p ∙ (ap (λ c. c.rest) (cut_steps answer steady (h ++ p) ∙ ap (by_answer (cut answer) (h ++ p)) e)
         ∙ whole_rest (take n (h ++ p)) v (drop n (h ++ p)) all)
 
-pub drop_behind : {A : Type 0} (h bytes : List A) (b n : ℕ) → n ≡ length h + b → drop n (h ++ bytes) ≡ drop b bytes
-drop_behind [] bytes b n e = let x : n ≡ b = omega arith in ap (λ k. drop k bytes) x
-drop_behind (x ∷ h) bytes b zero e = absurd (omega arith)
-drop_behind (x ∷ h) bytes b (suc n) e = drop_behind h bytes b n (omega arith)
+pub drop_after : {A : Type 0} (h bytes : List A) (b n : ℕ) → n ≡ length h + b → drop n (h ++ bytes) ≡ drop b bytes
+drop_after [] bytes b n e = let x : n ≡ b = omega arith in ap (λ k. drop k bytes) x
+drop_after (x ∷ h) bytes b zero e = absurd (omega arith)
+drop_after (x ∷ h) bytes b (suc n) e = drop_after h bytes b n (omega arith)
 
-pub take_behind : {A : Type 0} (h bytes : List A) (b n : ℕ) → n ≡ length h + b → take n (h ++ bytes) ≡ h ++ take b bytes
-take_behind [] bytes b n e = let x : n ≡ b = omega arith in ap (λ k. take k bytes) x
-take_behind (x ∷ h) bytes b zero e = absurd (omega arith)
-take_behind (x ∷ h) bytes b (suc n) e = ap (λ ys. x ∷ ys) (take_behind h bytes b n (omega arith))
+pub take_after : {A : Type 0} (h bytes : List A) (b n : ℕ) → n ≡ length h + b → take n (h ++ bytes) ≡ h ++ take b bytes
+take_after [] bytes b n e = let x : n ≡ b = omega arith in ap (λ k. take k bytes) x
+take_after (x ∷ h) bytes b zero e = absurd (omega arith)
+take_after (x ∷ h) bytes b (suc n) e = ap (λ ys. x ∷ ys) (take_after h bytes b n (omega arith))

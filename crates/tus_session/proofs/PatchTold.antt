@@ -32,7 +32,7 @@ use Rattle.tus_session.proofs.BodyTold.{plain, answered_here, part_here, rest_mo
 use Rattle.tus_session.proofs.Growth.{patched_nothing}
 use Rattle.tus_session.proofs.HeadTurns.{part_turn_is, whole_turn_is, head_within, front_judged, front_body}
 use Rattle.tus_session.proofs.Moved.{open_moves, feed_moves, both_moves}
-use Rattle.tus_session.proofs.NewRests.{head_part_rest, head_whole_rest, drop_behind}
+use Rattle.tus_session.proofs.NewRests.{head_part_rest, head_whole_rest, drop_after}
 use Rattle.std.proofs.Math.Seq.{take-append_seam}
 use Rattle.tus_request.specs.Buffers.{bytes_of}
 use Rattle.upload_rules.specs.Answers.{Limits}
@@ -270,7 +270,7 @@ module _ {U B : Type 0} (u : Ghosts U B) (w : World) (conn : Conn) (h bytes : Li
     part_case (Ok (link, a)) few (b', goes) same out =
         let within = head_within w conn h is.inside bytes n before (Asks r) is.judged is.before_is in
         let l : length q ≡ length bytes - before = length-drop before bytes in
-        let body : drop n (h ++ bytes) ≡ q = drop_behind h bytes before n within.0 in
+        let body : drop n (h ++ bytes) ≡ q = drop_after h bytes before n within.0 in
         let lb : length (drop n (h ++ bytes)) ≡ length q = ap length body in
         let here = head_part_rest (reader w) (steady (offers w.store.indexes)) conn.stream h is.inside.rest bytes n
         (Asks r) is.judged (omega arith)

@@ -1,4 +1,4 @@
--- What a request leaves open behind its head: nothing, a text, or a patch.
+-- What a request leaves open after its head: nothing, a text, or a patch.
 use Rattle.std.proofs.Common.{ℕ, ◌+◌, ◌≤◌, ◌≡◌, ◌==◌, Bool, true, false, List, [], ◌∷◌, Option, Some, None, length}
 use Rattle.std.proofs.Common.{drop, refl, ap, if◌then◌else◌}
 use Rattle.std.proofs.lemmas.Bool.{eqb-true}

@@ -45,7 +45,7 @@ module _ {A B : Type 0} where
       → IsErrOf {T = B} (Err stop) stops.NoMemory
   no_memory stop e is f = no_memory_of stop (ap Err (sym is) ∙ f)
 
-  -- a call that stopped for want of memory, where its caller does
+  -- a call that stopped out of memory, where its caller does
   pub same_stop : (r : Result A Stop) (e stop : Stop) → r ≡ Err e → e ≡ stop → IsErrOf r stops.NoMemory
       → IsErrOf {T = B} (Err stop) stops.NoMemory
   same_stop r stops.NoMemory stops.NoMemory is same f = refl

@@ -81,7 +81,8 @@ module _ {U B : Type 0} (u : Ghosts U B) where
     ended_as = ended_is w conn is.d is.p is.draft is.patches.found
 
     -- the patch is spent
-    ends_patch : (store : U) → u.stands store (spent w (u.number_of b.draft) is.p (commit_refusal w (u.number_of b.draft) is.p))
+    ends_patch : (store : U) → u.stands store (spent w (u.number_of b.draft) is.p (commit_refusal w (u.number_of
+        b.draft) is.p))
         → EndedAs u store w conn.draft (ended_world w conn)
     ends_patch store stands =
         let done = spent w is.d is.p (commit_refusal w is.d is.p) in
@@ -94,7 +95,8 @@ module _ {U B : Type 0} (u : Ghosts U B) where
         subst (λ o. EndedAs u store w o (ended_world w conn)) (sym is.draft)
         (subst (EndedAs u store w (Some is.d)) (sym ended_as) now)
 
-    ends_left : (store : U) → u.stands store (dropped w (u.number_of b.draft)) → u.stands store (left_world w conn.draft)
+    ends_left : (store : U) → u.stands store (dropped w (u.number_of b.draft)) → u.stands store (left_world w
+        conn.draft)
     ends_left store stands =
         subst (λ o. u.stands store (left_world w o)) (sym is.draft)
         (subst (λ n. u.stands store (dropped w n)) is.patches.number stands)

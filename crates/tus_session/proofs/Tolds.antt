@@ -36,7 +36,7 @@ pub more_is : (st : State) (c : ℕ) (conn : Conn) → st.conns c ≡ Some conn
 unfolding step
 more_is st c conn e = record { conn_is = e; step_is = ap (more_at st c) e }
 
--- an event on a connection that is open already: for want of memory it is closed
+-- an event on a connection that is open already: out of memory it is closed
 abbrev pub IsOnOpen : Event → Type 0
 IsOnOpen (Opened c) = ⊥
 IsOnOpen (Came c piece) = Unit {0}

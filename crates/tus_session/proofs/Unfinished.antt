@@ -7,7 +7,7 @@ use Rattle.std.proofs.Math.Seq.{drop-append_seam}
 use Rattle.tus_request.specs.Requests.{Verdict, body_length}
 use Rattle.tus_request.specs.Steady.{IsSteady}
 use Rattle.tus_request.specs.Answers.{Answer, More, Judged}
-use Rattle.tus_session.specs.Streams.{Asked, InHead, InBody, Cut, Reader, onto, behind_head, by_answer, cut, size}
+use Rattle.tus_session.specs.Streams.{Asked, InHead, InBody, Cut, Reader, onto, after_head, by_answer, cut, size}
 use Rattle.tus_session.specs.Streams.{Moments, moments_of, moments, taken_of, taken}
 use Rattle.tus_session.proofs.Cuts.{cut_steps, left, left_alone, head_there}
 
@@ -31,7 +31,7 @@ abbrev pub only_body : Asked → Cut
 only_body r = record { whole = []; rest = InBody r }
 
 body_case : (answer : Reader) (u : List ℕ) (r : Asked) (n : ℕ) (v : Verdict) → answer u ≡ Judged n v → (b : Bool)
-    → nat_lt (length (drop n u)) (body_length v) ≡ b → only_body r ≡ behind_head (cut answer) (take n u) v (drop n u) b
+    → nat_lt (length (drop n u)) (body_length v) ≡ b → only_body r ≡ after_head (cut answer) (take n u) v (drop n u) b
     → (m : ℕ) × IsBody answer u m r
 unfolding whole_of rest_of
 body_case answer u r n v e true under q =
@@ -69,15 +69,15 @@ left_body answer steady s r e =
 
 -- the cut with more of the body
 pub cut_more : (answer : Reader) → IsSteady answer → (u q : List ℕ) (n : ℕ) (r : Asked) → IsBody answer u n r
-    → cut answer (u ++ q) ≡ behind_head (cut answer) r.head r.verdict (r.body ++ q)
+    → cut answer (u ++ q) ≡ after_head (cut answer) r.head r.verdict (r.body ++ q)
     (nat_lt (length (r.body ++ q)) (body_length r.verdict))
 cut_more answer steady u q n r is =
     let v = r.verdict in
     cut_steps answer steady (u ++ q)
     ∙ (ap (by_answer (cut answer) (u ++ q)) (steady.keeps u q n v is.judged)
     ∙ (head_there (cut answer) n v u q (steady.within u n v is.judged)
-    ∙ (ap (λ x. behind_head (cut answer) x v (drop n u ++ q) (nat_lt (length (drop n u ++ q)) (body_length v))) is.head
-    ∙ ap (λ x. behind_head (cut answer) r.head v (x ++ q) (nat_lt (length (x ++ q)) (body_length v))) is.body)))
+    ∙ (ap (λ x. after_head (cut answer) x v (drop n u ++ q) (nat_lt (length (drop n u ++ q)) (body_length v))) is.head
+    ∙ ap (λ x. after_head (cut answer) r.head v (x ++ q) (nat_lt (length (x ++ q)) (body_length v))) is.body)))
 
 abbrev pub longer : Asked → List ℕ → Asked
 longer r q = record r { body = r.body ++ q }
@@ -97,7 +97,7 @@ part_came answer steady u q n r is only few =
     let l : length (r.body ++ q) ≡ length r.body + length q = length-append r.body q in
     let e : cut answer (u ++ q) ≡ only_body (longer r q) =
     cut_more answer steady u q n r is
-    ∙ ap (behind_head (cut answer) r.head r.verdict (r.body ++ q))
+    ∙ ap (after_head (cut answer) r.head r.verdict (r.body ++ q))
     (lt-ltb (length (r.body ++ q)) (body_length r.verdict) (omega arith)) in
     ap (λ c. moments_of c (cut answer (u ++ q))) only
     ∙ (ap (moments_of (only_body r)) e ∙ ap (λ x. record { head = None; body = None; came = x })
@@ -126,7 +126,7 @@ rest_came answer steady u q n r is only all =
     let d : drop m (r.body ++ q) ≡ [] = drop_all m (r.body ++ q) (omega arith) in
     let e : cut answer (u ++ q) ≡ record { whole = longer r q ∷ []; rest = InHead [] } =
     cut_more answer steady u q n r is
-    ∙ (ap (behind_head (cut answer) r.head r.verdict (r.body ++ q)) (le-ltb (length (r.body ++ q)) m (omega arith))
+    ∙ (ap (after_head (cut answer) r.head r.verdict (r.body ++ q)) (le-ltb (length (r.body ++ q)) m (omega arith))
     ∙ (ap (λ x. onto (record { head = r.head; verdict = r.verdict; body = x }) (cut answer (drop m (r.body ++ q)))) t
     ∙ (ap (λ x. onto (longer r q) (cut answer x)) d ∙ ap (onto (longer r q)) (empty_cut answer steady)))) in
     ap (λ c. moments_of c (cut answer (u ++ q))) only
@@ -142,7 +142,7 @@ part_taken answer steady u p n r is only few =
     let l : length (r.body ++ p) ≡ length r.body + length p = length-append r.body p in
     let e : cut answer (u ++ p) ≡ only_body (longer r p) =
     cut_more answer steady u p n r is
-    ∙ ap (behind_head (cut answer) r.head r.verdict (r.body ++ p))
+    ∙ ap (after_head (cut answer) r.head r.verdict (r.body ++ p))
     (lt-ltb (length (r.body ++ p)) (body_length r.verdict) (omega arith)) in
     ap (λ c. taken_of u p c (cut answer (u ++ p))) only ∙ ap (taken_of u p (only_body r)) e
 
@@ -161,7 +161,7 @@ rest_taken answer steady u p n r is only enough =
     let b : length (drop n u) ≡ length r.body = ap length is.body in
     let e : cut answer (u ++ p) ≡ onto s (cut answer (drop m (r.body ++ p))) =
     cut_more answer steady u p n r is
-    ∙ ap (behind_head (cut answer) r.head r.verdict (r.body ++ p)) (le-ltb (length (r.body ++ p)) m (omega arith)) in
+    ∙ ap (after_head (cut answer) r.head r.verdict (r.body ++ p)) (le-ltb (length (r.body ++ p)) m (omega arith)) in
     let k : 0 + size s - length u ≡ m - length r.body = omega arith in
     ap (λ c. taken_of u p c (cut answer (u ++ p))) only ∙ (ap (taken_of u p (only_body r)) e ∙ k)
 
@@ -197,7 +197,7 @@ unfolding moments taken
 head_whole answer steady h q n v only e few =
     let f : cut answer (h ++ q) ≡ only_body (judged_as (h ++ q) n v) =
     cut_steps answer steady (h ++ q) ∙ (ap (by_answer (cut answer) (h ++ q)) e
-    ∙ ap (behind_head (cut answer) (take n (h ++ q)) v (drop n (h ++ q)))
+    ∙ ap (after_head (cut answer) (take n (h ++ q)) v (drop n (h ++ q)))
     (lt-ltb (length (drop n (h ++ q))) (body_length v) few)) in (
       ap (λ c. moments_of c (cut answer (h ++ q))) only ∙ ap (moments_of (only_head h)) f,
       ap (λ c. taken_of h q c (cut answer (h ++ q))) only ∙ ap (taken_of h q (only_head h)) f,
@@ -219,7 +219,7 @@ both_whole answer steady h q n v only e all =
     let r = judged_as (h ++ q) n v in
     let f : cut answer (h ++ q) ≡ record { whole = r ∷ []; rest = InHead [] } =
     cut_steps answer steady (h ++ q) ∙ (ap (by_answer (cut answer) (h ++ q)) e
-    ∙ (ap (behind_head (cut answer) (take n (h ++ q)) v rest) (le-ltb (length rest) m (omega arith))
+    ∙ (ap (after_head (cut answer) (take n (h ++ q)) v rest) (le-ltb (length rest) m (omega arith))
     ∙ (ap (λ x. onto (record { head = take n (h ++ q); verdict = v; body = x }) (cut answer (drop m rest)))
     (take_all m rest (omega arith))
     ∙ (ap (λ x. onto r (cut answer x)) (drop_all m rest (omega arith)) ∙ ap (onto r) (empty_cut answer steady))))) in
@@ -237,14 +237,14 @@ whole_taken answer steady h p n v only e enough =
     let b : length (take m (drop n (h ++ p))) ≡ m = length-take-le m (drop n (h ++ p)) enough in
     let f : cut answer (h ++ p) ≡ onto s (cut answer (drop m (drop n (h ++ p)))) =
     cut_steps answer steady (h ++ p) ∙ (ap (by_answer (cut answer) (h ++ p)) e
-    ∙ ap (behind_head (cut answer) (take n (h ++ p)) v (drop n (h ++ p)))
+    ∙ ap (after_head (cut answer) (take n (h ++ p)) v (drop n (h ++ p)))
     (le-ltb (length (drop n (h ++ p))) m enough)) in
     let k : 0 + size s - length h ≡ n + m - length h = omega arith in
     ap (λ c. taken_of h p c (cut answer (h ++ p))) only ∙ (ap (taken_of h p (only_head h)) f ∙ k)
 
 -- THE HEAD'S LAST BYTE comes in the event that makes the head whole
 no_answer_case : (answer : Reader) (h : List ℕ) (n : ℕ) (v : Verdict) (b : Bool)
-    → only_head h ≡ behind_head (cut answer) (take n h) v (drop n h) b → ⊥
+    → only_head h ≡ after_head (cut answer) (take n h) v (drop n h) b → ⊥
 unfolding is_body whole_of
 no_answer_case answer h n v true q = let x : false ≡ true = ap is_body q in absurd (cc)
 no_answer_case answer h n v false q =

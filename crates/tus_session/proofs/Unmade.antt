@@ -27,7 +27,7 @@ failed_uploads : (st : State) (c : ℕ) (o : Option Conn) → (failed_at st c o)
 failed_uploads st c None = refl
 failed_uploads st c (Some k) = refl
 
--- an event that is refused for memory, or at which the device fails, makes nothing
+-- an event that is out of memory, or at which the disk fails, makes nothing
 pub memory_same : (st : State) (e : Event) → (step st e OutOfMemory).state.world.store ≡ st.world.store
 unfolding step
 memory_same st (Opened c) = opened_uploads st c (st.conns c)

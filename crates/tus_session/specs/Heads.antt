@@ -31,7 +31,7 @@ pub record IsSmall (r : Request) : Type 0 where
   pub count : r.length < 10 ^ 18
   pub offset : OffsetFits r.action
 
--- the offset behind the body
+-- the offset after the body
 abbrev pub ReachedIs : Action → ℕ → ℕ → Type 0
 ReachedIs Options count reached = Unit {0}
 ReachedIs (Create c) count reached = Unit {0}

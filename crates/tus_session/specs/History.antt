@@ -90,7 +90,7 @@ served st (Came c piece) = came_at st c piece (st.conns c)
 served st (More c) = more_at st c (st.conns c)
 served st (Ended c) = ended_at st c (st.conns c)
 
--- a connection that isn't open is refused before memory is asked for, or the device
+-- a connection that isn't open is refused before memory is asked for, or the disk
 abbrev pub lost_at : State → ℕ → Option Conn → Step
 lost_at st c None = kept st Closed
 lost_at st c (Some k) = record { state = put st (left_world st.world k.draft) c None; outcome = Refused NoMemory }
@@ -99,7 +99,7 @@ abbrev pub failed_at : State → ℕ → Option Conn → Step
 failed_at st c None = kept st Closed
 failed_at st c (Some k) = kept st DiskFault
 
--- an event at which memory was wanting makes no change, closes its connection and leaves all others. Opening asks for
+-- an event at which it was out of memory makes no change, closes its connection and leaves all others. Opening asks for
 -- no memory
 abbrev pub lost : State → Event → Step
 lost st (Opened c) = opened_at st c (st.conns c)
@@ -107,7 +107,7 @@ lost st (Came c piece) = lost_at st c (st.conns c)
 lost st (More c) = lost_at st c (st.conns c)
 lost st (Ended c) = lost_at st c (st.conns c)
 
--- an event at which the device failed. Opening doesn't ask it
+-- an event at which the disk failed. Opening doesn't ask it
 abbrev pub failed : State → Event → Step
 failed st (Opened c) = opened_at st c (st.conns c)
 failed st (Came c piece) = failed_at st c (st.conns c)

@@ -4,7 +4,7 @@ use Rattle.upload_rules.specs.Store.{Upload, Store, upload_of, text_of, patched,
 use Rattle.upload_rules.specs.World.{Patch, World}
 use Rattle.upload_rules.specs.Apart.{IsApart}
 
--- the upload that was there has bytes behind it or none, and so has its text; its length may have become known
+-- the upload that was there has bytes after it or none, and so has its text; its length may have become known
 pub record Longer (m m' : Store) (up up' : Upload) : Type 0 where
   pub declare : Option ℕ
   pub bytes : List ℕ

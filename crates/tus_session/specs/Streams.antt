@@ -27,18 +27,18 @@ Reader = List ℕ → Answer
 abbrev pub onto : Asked → Cut → Cut
 onto r c = record { whole = r ∷ c.whole; rest = c.rest }
 
--- behind a head, either the rest is part of its body, or the body is there and the cut goes on
-abbrev pub behind_head : (List ℕ → Cut) → List ℕ → Verdict → List ℕ → Bool → Cut
-behind_head go head v rest true = record {
+-- after a head, either the rest is part of its body, or the body is there and the cut goes on
+abbrev pub after_head : (List ℕ → Cut) → List ℕ → Verdict → List ℕ → Bool → Cut
+after_head go head v rest true = record {
   whole = [];
   rest = InBody (record { head = head; verdict = v; body = rest });
 }
-behind_head go head v rest false =
+after_head go head v rest false =
     onto (record { head = head; verdict = v; body = take (body_length v) rest }) (go (drop (body_length v) rest))
 
 abbrev pub by_answer : (List ℕ → Cut) → List ℕ → Answer → Cut
 by_answer go s More = record { whole = []; rest = InHead s }
-by_answer go s (Judged n v) = behind_head go (take n s) v (drop n s) (nat_lt (length (drop n s)) (body_length v))
+by_answer go s (Judged n v) = after_head go (take n s) v (drop n s) (nat_lt (length (drop n s)) (body_length v))
 
 -- at most so many requests
 abbrev pub cut_within : Reader → ℕ → List ℕ → Cut

@@ -8,15 +8,16 @@ use Rattle.tus_session.specs.declared.conns.Link.{Link}
 use Rattle.tus_session.specs.declared.errors.SessionError.{SessionError}
 use Rattle.tus_session.specs.declared.errors.SessionError.TheVariants.{NoMemory, DiskFault}
 
--- the session is where the history is behind the event, and the history answers so
+-- the session is where the history is after the event, and the history answers so
 pub record Follows {U B : Type 0} (u : Ghosts U B) (places : List (Option (Link B))) (store : U) (now : State)
     (answered given : Outcome) : Type 0 where
   pub stands : SessionStands u places store now
   pub outcome : answered ≡ given
 
--- What became of an event that gives bytes: served; refused for memory, and its connection closed; or refused, and
--- nothing changed. After a device's fault only the bytes are as they were. The refusals of a connection go before both
-abbrev pub Told : {U B : Type 0} → Ghosts U B → List (Option (Link B)) → U → Result Answer SessionError → List ℕ → List ℕ
+-- What became of an event that gives bytes: served; out of memory, and its connection closed; or refused, and
+-- nothing changed. After a disk fault only the bytes are as they were. The refusals of a connection go before both
+abbrev pub Told : {U B : Type 0} → Ghosts U B → List (Option (Link B)) → U → Result Answer SessionError → List ℕ →
+    List ℕ
     → State → Event → Type 0
 Told u places store (Ok a) old new st e =
     (bytes : List ℕ) × Follows u places store (step st e Served).state (step st e Served).outcome
@@ -29,7 +30,8 @@ Told u places store (Err f) old new st e =
     Follows u places store st (step st e Served).outcome (Refused f) × (new ≡ old)
 
 -- the same of an event that gives none
-abbrev pub Ends : {U B : Type 0} → Ghosts U B → List (Option (Link B)) → U → Result (Unit {0}) SessionError → State → Event
+abbrev pub Ends : {U B : Type 0} → Ghosts U B → List (Option (Link B)) → U → Result (Unit {0}) SessionError → State →
+    Event
     → Type 0
 Ends u places store (Ok x) st e = Follows u places store (step st e Served).state (step st e Served).outcome Done
 Ends u places store (Err NoMemory) st e =
@@ -38,7 +40,8 @@ Ends u places store (Err DiskFault) st e = (step st e Failed).outcome ≡ Refuse
 Ends u places store (Err f) st e = Follows u places store st (step st e Served).outcome (Refused f)
 
 -- a connection is opened, or nothing changed
-abbrev pub Opens : {U B : Type 0} → Ghosts U B → List (Option (Link B)) → U → Result (Unit {0}) SessionError → State → Event
+abbrev pub Opens : {U B : Type 0} → Ghosts U B → List (Option (Link B)) → U → Result (Unit {0}) SessionError → State →
+    Event
     → Type 0
 Opens u places store (Ok x) st e = Follows u places store (step st e Served).state (step st e Served).outcome Done
 Opens u places store (Err f) st e = Follows u places store st (step st e Served).outcome (Refused f)

@@ -22,8 +22,8 @@ pub record TurnedAs {U B : Type 0} (u : Ghosts U B) (store : U) (link : Option (
   pub more : a.more ≡ has_text t.conn
   pub bytes : new ≡ old ++ t.bytes
 
--- the turn is done, and this is the connection after it; or memory was wanting, and the draft is gone; or the
--- device failed. An error closes the connection
+-- the turn is done, and this is the connection after it; or it was out of memory, and the draft is gone; or the
+-- disk failed. An error closes the connection
 abbrev pub Turned : {U B : Type 0} → Ghosts U B → U → Result (Option (Link B) × Answer) Stop → List ℕ → List ℕ → World
     → Option ℕ → Turn → Type 0
 Turned u store (Ok (link, a)) old new w own t = TurnedAs u store link a old new w own t

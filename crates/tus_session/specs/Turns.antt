@@ -57,7 +57,7 @@ turn_of k piece n a = record {
 }
 
 -- the head moment first. Where it leaves a text pending, the call stops at the head's end, which the body's bytes came
--- behind
+-- after
 abbrev pub came_with : Conn → List ℕ → ℕ → Moments → Acted → Turn
 came_with k piece n m a =
     elim (is_pending a.pending) [

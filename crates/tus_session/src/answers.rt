@@ -5,7 +5,7 @@
 pub struct Answer {
     /// How many of the bytes were taken: those of at most one request.
     pub taken: usize,
-    /// Whether the connection was closed, behind the bytes that were given.
+    /// Whether the connection was closed, after the bytes that were given.
     pub closes: bool,
     /// Whether a text is still to be given, by `more`.
     pub more: bool,

@@ -23,14 +23,14 @@ pub(crate) fn skip<B>(
     head: HeadBuffer,
     left: u64,
     before: usize,
-    behind: usize,
+    after: usize,
     closes: bool,
 ) -> (Option<Link<B>>, Answer)
-    requires { before + behind < 2 ^ 64 }
-    ensures link { result.0 ≡ link_after head (left - min left behind) closes }
-    ensures answer { result.1 ≡ took (before + min left behind) closes }
+    requires { before + after < 2 ^ 64 }
+    ensures link { result.0 ≡ link_after head (left - min left after) closes }
+    ensures answer { result.1 ≡ took (before + min left after) closes }
 {
-    let count = left.min(behind as u64);
+    let count = left.min(after as u64);
     let answer = Answer {
         taken: before + count as usize,
         closes,

@@ -7,15 +7,15 @@ use tus_action::Stop;
 /// Why a call of a session gives no answer.
 #[derive(Clone, Copy, Debug, PartialEq, Eq, Drop)]
 pub enum SessionError {
-    /// A growth was refused: nothing was committed, and the connection is closed.
+    /// Out of memory: nothing was committed, and the connection is closed.
     NoMemory,
-    /// The device failed: the store must be opened again.
+    /// The disk failed: the store must be opened again.
     DiskFault,
     /// The connection's number isn't below `MOST_OPEN`, or it is open.
     TooMany,
     /// The connection isn't open.
     Closed,
-    /// The device failed in an earlier call: the store must be opened again. A session alone never answers it.
+    /// The disk failed in an earlier call: the store must be opened again. A session alone never answers it.
     Down,
 }
 

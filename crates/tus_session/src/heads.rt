@@ -24,7 +24,7 @@ use tus_request::replies::reply_refused;
 use tus_request::{Action, HeadBuffer, Parsed, Request};
 use upload_rules::Uploads;
 
-// The offset behind the body that a PATCH asks for.
+// The offset after the body that a PATCH asks for.
 fn reached_by(request: &Request) -> u64
     ensures { IsSmall (request_shown request.now)
         → ReachedIs (request_shown request.now).action request.now.length result }
@@ -70,7 +70,7 @@ fn request_of<U: Uploads>(
     let bare = request.bare;
     let closes = request.closes;
     let reached = reached_by(&request);
-    let behind = &bytes[before..];
+    let after = &bytes[before..];
     let start = out.len();
     let done = act(alloc, store, request, buffer, out)?;
     match done {
@@ -81,7 +81,7 @@ fn request_of<U: Uploads>(
                 bare,
                 closes,
             };
-            let turned = body_of(alloc, store, head, patch, length, before, behind, out);
+            let turned = body_of(alloc, store, head, patch, length, before, after, out);
             back_to(start, turned, out)
         }
         Done::Giving(giving) => {
@@ -91,7 +91,7 @@ fn request_of<U: Uploads>(
             };
             Ok((Some(Link { head, awaiting }), waits(before, true)))
         }
-        Done::Replied { closes } => Ok(skip(head, length, before, behind.len(), closes)),
+        Done::Replied { closes } => Ok(skip(head, length, before, after.len(), closes)),
     }
 }
 
@@ -146,9 +146,9 @@ fn head_of<U: Uploads>(
             closes,
         } => {
             let before = taken.saturating_sub(had);
-            let behind = &bytes[before..];
+            let after = &bytes[before..];
             reply_refused(alloc, fault, on_files, bare, closes, out)?;
-            Ok(skip(head, length, before, behind.len(), closes))
+            Ok(skip(head, length, before, after.len(), closes))
         }
         Parsed::Head { taken, request } => {
             let before = taken.saturating_sub(had);

@@ -58,7 +58,7 @@ pub(crate) fn more_of<U: Uploads>(
     }
 }
 
-// What is answered behind the last piece of a text.
+// What is answered after the last piece of a text.
 fn gave(closes: bool) -> Answer
     ensures { result ≡ record { taken = 0; closes = closes; more = false } }
 {

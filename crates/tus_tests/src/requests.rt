@@ -53,7 +53,7 @@ fn all_refused(
     }
 }
 
-/// Heads, how many bytes stand behind each, and the requests that they are.
+/// Heads, how many bytes stand after each, and the requests that they are.
 const ACCEPTED: [(&str, usize, &str); 12] = [
     // A length, and a field's name in any case.
     (
@@ -85,7 +85,7 @@ const ACCEPTED: [(&str, usize, &str); 12] = [
         0,
         "Patch { number: 1, offset: 0, declare: Some(5) }, length: 0, bare: false, expects: false, closes: false",
     ),
-    // An append with bytes behind its head.
+    // An append with bytes after its head.
     (
         "PATCH /files/17 HTTP/1.1\r\nTus-Resumable: 1.0.0\r\nUpload-Offset: 2\r\n\
           Content-Type: Application/Offset+Octet-Stream;x\r\nContent-Length: 3\r\n\
@@ -143,9 +143,9 @@ const ACCEPTED: [(&str, usize, &str); 12] = [
 
 #[test]
 fn requests_that_are_accepted(rt: HostRuntime) {
-    for (head, behind, request) in ACCEPTED {
+    for (head, after, request) in ACCEPTED {
         let answer = parsed(&rt, rt.alloc(), head.as_bytes());
-        let want = accepted(&rt, rt.alloc(), head.len().saturating_sub(behind), request);
+        let want = accepted(&rt, rt.alloc(), head.len().saturating_sub(after), request);
         assert_eq!(rt;
             shown(&rt, rt.alloc(), &answer).as_str(),
             want.as_str(),
@@ -228,7 +228,7 @@ const ELSEWHERE: [(&str, Fault); 12] = [
     ),
 ];
 
-/// Heads behind which nobody knows where the next one begins.
+/// Heads after which nobody knows where the next one begins.
 const CLOSING: [(&str, Fault); 9] = [
     ("BAD\r\n\r\n", Fault::Malformed),
     ("GET /files/\x001 HTTP/1.1\r\n\r\n", Fault::Malformed),
@@ -357,7 +357,7 @@ fn heads_as_long_as_may_be(rt: HostRuntime) {
     );
 }
 
-/// A GET with so many lines behind its first.
+/// A GET with so many lines after its first.
 fn lined(rt: &impl Abort, alloc: Global, lines: usize) -> Vec<u8> {
     let mut head = Vec::new(alloc);
     head.extend_from_slice(b"GET /files/1 HTTP/1.1\n")

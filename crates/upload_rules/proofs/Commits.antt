@@ -1,4 +1,4 @@
--- A body behind its upload's bytes.
+-- A body after its upload's bytes.
 use Rattle.std.proofs.Common.{◌≡◌, ℕ, ◌+◌, ◌<◌, ◌≤◌, ◌^◌, Bool, true, false, List, [], ◌++◌, length, Option, Some}
 use Rattle.std.proofs.Common.{None, Result, Ok, Err, OnErr, refl, sym, ◌∙◌, ap, subst, arith, append-nil}
 use Rattle.std.proofs.Common.{length-append}
@@ -35,7 +35,7 @@ pub complete_patched : (u : Upload) (declare : Option ℕ) (bytes : List ℕ) �
     (length u.accepted + length bytes)
 complete_patched u declare bytes = ap (is_length (known_or u.declared declare)) (length-append u.accepted bytes)
 
--- its text, where transcoding stands behind it, and the state
+-- its text, where transcoding stands after it, and the state
 pub whole_patched : (x : IndexSet) (u : Upload) (declare : Option ℕ) (bytes : List ℕ)
     → text_with x (patched u declare bytes) [] (is_complete (patched u declare bytes)) ≡ text_with x u bytes
     (is_complete (patched u declare bytes))
@@ -123,7 +123,7 @@ module _ (x : IndexSet) (next : ℕ) (p : Patch) (o : OpenAppend) (stands : Appe
       abbrev u : Upload
       u = with_length p.began length_since
 
-      -- why the patch isn't put behind
+      -- why the patch isn't put after
       pub not_put : (e : UploadError) (done : Bool) → IsEnded x u p.body done (Err e) → IsPut x p u done s (Err e)
       not_put NoMemory done ended = kept
       not_put DiskFault done ended = absurd ended

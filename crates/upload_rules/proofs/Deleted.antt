@@ -54,7 +54,7 @@ record MovedFrom (ns : List ℕ) (i k : ℕ) : Type 0 where
   inside : from < length ns
   same : slice_index (remove ns i) k ≡ slice_index ns from
   before : k < i → from ≡ k
-  behind : i ≤ k → from ≡ k + 1
+  after : i ≤ k → from ≡ k + 1
 
 moved_from : (ns : List ℕ) (i k : ℕ) → i < length ns → k < length (remove ns i) → MovedFrom ns i k
 moved_from ns i k lt inside =
@@ -65,14 +65,14 @@ moved_from ns i k lt inside =
         inside = omega arith;
         same = get_or-remove_below ns i 0 k below lt;
         before = λ l. refl;
-        behind = λ le. absurd (omega arith);
+        after = λ le. absurd (omega arith);
       }
       | inr above ↦ record {
         from = k + 1;
         inside = omega arith;
         same = get_or-remove_above ns i 0 k above lt;
         before = λ l. absurd (omega arith);
-        behind = λ le. refl;
+        after = λ le. refl;
       }
     ]
 
@@ -87,9 +87,9 @@ rising_removed ns i lt rising a b less inside =
   where
     in_order : (a < i) ⊎ (i ≤ a) → (b < i) ⊎ (i ≤ b) → (f : MovedFrom ns i a) → (s : MovedFrom ns i b) → f.from < s.from
     in_order (inl l) (inl m) f s = let e = f.before l in let g = s.before m in omega (arith, e, g, less)
-    in_order (inl l) (inr m) f s = let e = f.before l in let g = s.behind m in omega (arith, e, g, less)
+    in_order (inl l) (inr m) f s = let e = f.before l in let g = s.after m in omega (arith, e, g, less)
     in_order (inr l) (inl m) f s = absurd (omega (arith, l, m, less))
-    in_order (inr l) (inr m) f s = let e = f.behind l in let g = s.behind m in omega (arith, e, g, less)
+    in_order (inr l) (inr m) f s = let e = f.after l in let g = s.after m in omega (arith, e, g, less)
 
 below_removed : (ns : List ℕ) (i top : ℕ) → i < length ns → IsBelow ns top → IsBelow (remove ns i) top
 below_removed ns i top lt below k inside =

@@ -4,7 +4,7 @@ use Rattle.std.proofs.Common.{append_assoc, append-nil}
 use Rattle.enc_model.specs.Indexes.{IndexSet, tables}
 use Rattle.enc_model.specs.Decode.{text}
 use Rattle.upload_rules.specs.Store.{Upload, text_of, text_with, patched, is_complete}
-use Rattle.upload_rules.proofs.TextGrows.{text_behind, fault_stays}
+use Rattle.upload_rules.proofs.TextGrows.{text_after, fault_stays}
 use Rattle.upload_rules.proofs.Commits.{text_patched, text_of_is}
 
 pub text_in_front : (x : IndexSet) (u : Upload) (declare : Option ℕ) (bytes : List ℕ) → is_complete u ≡ false
@@ -13,7 +13,7 @@ pub text_in_front : (x : IndexSet) (u : Upload) (declare : Option ℕ) (bytes : 
 text_in_front x u declare bytes incomplete value =
     let nil = append-nil u.accepted in
     let done = is_complete (patched u declare bytes) in
-    let grown = text_behind (tables x) u.from u.to u.mode u.accepted bytes done
+    let grown = text_after (tables x) u.from u.to u.mode u.accepted bytes done
     (ap (λ b. (text (tables x) u.from u.to u.mode b false).fault) (sym nil) ∙ value) in (
       grown.0,
       text_patched x u declare bytes ∙ grown.1

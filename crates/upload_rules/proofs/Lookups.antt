@@ -41,7 +41,7 @@ module _ (t : Table) (w : World) (stands : TableStands t w) (n : ℕ) where
       → TellsOf w.store.indexes (above n w.store.uploads) (Some s.record)
   following place s parts lt is =
       let u = next_found w.store.indexes n w.store.uploads t.slots.items place s stands.slots lt parts.before
-      (parts.behind place (omega arith) (omega (arith, lt, count_of t.slots.items))) is in
+      (parts.after place (omega arith) (omega (arith, lt, count_of t.slots.items))) is in
       subst (λ o. TellsOf w.store.indexes o (Some s.record)) (sym u.1) u.2.tells
 
   pub none_following : (place : ℕ) (r : Option Record) → IsDivided (numbers t.slots.items) n place

@@ -60,7 +60,7 @@ module _ (t : Table) (w : World) (stands : TableStands t w) where
         (b.0, subst (IsBegun holds n count declare) (sym there) (any (first_patch n count declare u)), b.1),
       )
 
-  -- as it was, where a growth was refused
+  -- as it was, when out of memory
   pub not_created : (v : Vec Slot Global) → v.items ≡ t.slots.items → TableStands (record t { slots = v }) w
   not_created v same = record {
     indexes = stands.indexes;

@@ -44,7 +44,7 @@ divided slots n place within point = record {
       let d = slot_there slots k inside in
       let p = leb-true (number_of (get_or slots k d)) n (point.0 k d (omega arith) lt) in
       omega (arith, p, number_at slots k d inside));
-  behind = λ k le lt. (
+  after = λ k le lt. (
       let inside : k < length slots = omega (arith, count_of slots) in
       let d = slot_there slots k inside in
       let p = leb-false (number_of (get_or slots k d)) n (point.1 k d le inside) in
@@ -62,7 +62,7 @@ module _ (ns : List ℕ) (n : ℕ) (rising : IsRising ns) where
 
   pub nowhere : (end : ℕ) → IsDivided ns n end → ((place : ℕ) → place + 1 ≡ end → slice_index ns place ≡ n → ⊥)
       → IsNowhere ns n
-  nowhere zero parts other k lt same = let b = parts.behind k (omega arith) lt in omega (arith, b, same)
+  nowhere zero parts other k lt same = let b = parts.after k (omega arith) lt in omega (arith, b, same)
   nowhere (suc place) parts other k lt same =
       elim (cases_order k place) [
         | inl here ↦ other place (omega arith) (ap (slice_index ns) (sym here) ∙ same)
@@ -71,7 +71,7 @@ module _ (ns : List ℕ) (n : ℕ) (rising : IsRising ns) where
               let r = rising k place below (let w = parts.within in omega (arith, w)) in
               let b = parts.before place (omega arith) in
               omega (arith, r, b, same))
-          | inr above ↦ (let b = parts.behind k (omega arith) lt in omega (arith, b, same))
+          | inr above ↦ (let b = parts.after k (omega arith) lt in omega (arith, b, same))
         ]
       ]
 

@@ -357,7 +357,7 @@ module _ (t : Table) (w : World) (stands : TableStands t w) (d : ℕ) (p : Patch
               inside : place < length t.slots.items
               inside = let l = first.within in omega (arith, l, count_of t.slots.items)
 
-              -- want of memory may come in place of these
+              -- out of memory may come in place of these
               late : IsLate (commit_refusal w d p)
               late = subst IsLate refused (late_text w d p)
 

@@ -1,10 +1,10 @@
--- The text of more bytes: what a prefix of them comes to, and more behind it.
+-- The text of more bytes: what a prefix of them comes to, and more led_by it.
 use Rattle.std.proofs.Common.{◌≡◌, ℕ, Bool, true, false, List, ◌++◌, Option, Some, None, refl, sym, ◌∙◌, ap, subst}
 use Rattle.std.proofs.Common.{append_assoc, inl, inr}
 use Rattle.std.proofs.lemmas.Bool.{cases_Bool}
 use Rattle.enc_model.specs.declared.Encoding.{Encoding}
 use Rattle.enc_model.specs.declared.Mode.{Mode}
-use Rattle.enc_model.specs.Encode.{Tables, Shift, InAscii, Encoder, Coded, behind, coded, encoder, encode, encoder_end}
+use Rattle.enc_model.specs.Encode.{Tables, Shift, InAscii, Encoder, Coded, led_by, coded, encoder, encode, encoder_end}
 use Rattle.enc_model.specs.Encode.{ended_coded}
 use Rattle.enc_model.specs.Stream.{Run}
 use Rattle.enc_model.specs.Decode.{Decoded, Held, Reading, Decoding, decoded, decoded_text, decode, advance, conclude}
@@ -57,14 +57,14 @@ unfolding decode
 decode_open t e b done = refl
 
 -- what is decoded of more bytes has what is decoded of these in front
-pub decode_behind : (t : Tables) (e : Encoding) (b c : List ℕ) (done : Bool)
+pub decode_after : (t : Tables) (e : Encoding) (b c : List ℕ) (done : Bool)
     → (more : List ℕ) × (decode t e (b ++ c) done ≡ decode t e b false ++ more)
-decode_behind t e b c false = (
+decode_after t e b c false = (
   (fed t e (phase_of (decoded t e b false)) c).text,
   decode_open t e (b ++ c) false ∙ decode_more t e b c
       ∙ ap (λ z. z ++ (fed t e (phase_of (decoded t e b false)) c).text) (sym (decode_open t e b false)),
 )
-decode_behind t e b c true =
+decode_after t e b c true =
     let x = decoded_text (decoded t e b false) in
     let y = (fed t e (phase_of (decoded t e b false)) c).text in
     let z = fed_end t e (phase_of (decoded t e (b ++ c) false)) in (
@@ -75,21 +75,21 @@ decode_behind t e b c true =
 
 -- ENCODING
 
-ended_behind_of : (front bytes : List ℕ) (s : Shift) (fault : Option ℕ) → let r : Coded = record {
+ended_after_of : (front bytes : List ℕ) (s : Shift) (fault : Option ℕ) → let r : Coded = record {
   bytes = bytes;
   state = s;
   fault = fault;
 } in
-    ended_coded (behind front r) ≡ behind front (ended_coded r)
-ended_behind_of front bytes s None = ap (λ z. record {
+    ended_coded (led_by front r) ≡ led_by front (ended_coded r)
+ended_after_of front bytes s None = ap (λ z. record {
   bytes = z;
   state = InAscii;
   fault = None;
 }) (append_assoc front bytes (encoder_end s))
-ended_behind_of front bytes s (Some c) = refl
+ended_after_of front bytes s (Some c) = refl
 
-pub ended_behind : (front : List ℕ) (r : Coded) → ended_coded (behind front r) ≡ behind front (ended_coded r)
-ended_behind front r = ended_behind_of front r.bytes r.state r.fault
+pub ended_after : (front : List ℕ) (r : Coded) → ended_coded (led_by front r) ≡ led_by front (ended_coded r)
+ended_after front r = ended_after_of front r.bytes r.state r.fault
 
 ended_fault_of : (bytes : List ℕ) (s : Shift) (fault : Option ℕ)
     → (ended_coded (record { bytes = bytes; state = s; fault = fault })).fault ≡ fault
@@ -123,7 +123,7 @@ module _ (t : Tables) (from to : Encoding) (mode : Mode) where
   pub fault_stays : (b c : List ℕ) (done : Bool) (d : ℕ) → (text t from to mode b false).fault ≡ Some d
       → (text t from to mode (b ++ c) done).fault ≡ Some d
   fault_stays b c done d h =
-      let both = decode_behind t from b c done in
+      let both = decode_after t from b c done in
       let first : (coded f mode InAscii (decode t from b false)).fault ≡ Some d = sym (fault_of b false) ∙ h in
       fault_of (b ++ c) done
       ∙ ap (λ z. (coded f mode InAscii z).fault) both.1
@@ -131,26 +131,26 @@ module _ (t : Tables) (from to : Encoding) (mode : Mode) where
       ∙ first
 
   grown_of : (b c : List ℕ) (done : Bool) → (text t from to mode b false).fault ≡ None
-      → (more : Coded) × (coded f mode InAscii (decode t from (b ++ c) done) ≡ behind
+      → (more : Coded) × (coded f mode InAscii (decode t from (b ++ c) done) ≡ led_by
       (text t from to mode b false).bytes more)
   grown_of b c done h =
-      let both = decode_behind t from b c done in
+      let both = decode_after t from b c done in
       let r = coded f mode InAscii (decode t from b false) in
       let first : r.fault ≡ None = sym (fault_of b false) ∙ h in
       let more = coded f mode r.state both.0 in (
         more,
         ap (coded f mode InAscii) both.1 ∙ coded_both f (encoder_steady t to) mode InAscii (decode t from b false)
             both.0 first
-            ∙ ap (λ z. behind z.bytes more) (sym (text_open b)),
+            ∙ ap (λ z. led_by z.bytes more) (sym (text_open b)),
       )
 
   -- the text of more bytes has the text of these in front
-  pub text_behind : (b c : List ℕ) (done : Bool) → (text t from to mode b false).fault ≡ None
+  pub text_after : (b c : List ℕ) (done : Bool) → (text t from to mode b false).fault ≡ None
       → (more : List ℕ) × ((text t from to mode (b ++ c) done).bytes ≡ (text t from to mode b false).bytes ++ more)
-  text_behind b c false h = let g = grown_of b c false h in (g.0.bytes, ap (λ r. r.bytes) (text_open (b ++ c) ∙ g.1))
-  text_behind b c true h =
+  text_after b c false h = let g = grown_of b c false h in (g.0.bytes, ap (λ r. r.bytes) (text_open (b ++ c) ∙ g.1))
+  text_after b c true h =
       let g = grown_of b c true h in (
         (ended_coded g.0).bytes,
         ap (λ r. r.bytes)
-            (text_done (b ++ c) ∙ ap ended_coded g.1 ∙ ended_behind (text t from to mode b false).bytes g.0),
+            (text_done (b ++ c) ∙ ap ended_coded g.1 ∙ ended_after (text t from to mode b false).bytes g.0),
       )

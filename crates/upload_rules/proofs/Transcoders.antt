@@ -4,7 +4,7 @@ use Rattle.std.proofs.Common.{append_assoc, append-nil, Vec, Global}
 use Rattle.enc_model.specs.declared.Encoding.{Encoding}
 use Rattle.enc_model.specs.declared.Mode.{Mode}
 use Rattle.enc_model.specs.Indexes.{IndexSet, tables}
-use Rattle.enc_model.specs.Encode.{Tables, InAscii, Coded, behind, coded, encoder, ended_coded}
+use Rattle.enc_model.specs.Encode.{Tables, InAscii, Coded, led_by, coded, encoder, ended_coded}
 use Rattle.enc_model.specs.Decode.{decoded, decoded_text, decode, text}
 use Rattle.enc_model.specs.Transcode.{fed_end, phase_of, Transcoder, IsAt, stepped, added, added_end, so_far}
 use Rattle.enc_model.proofs.Steady.{encoder_steady}
@@ -17,7 +17,7 @@ use Rattle.upload_rules.specs.Store.{Upload, text_with}
 use Rattle.upload_rules.specs.World.{is_there}
 use Rattle.upload_rules.specs.States.{transcoder_over, transcoder_with, state_with}
 use Rattle.upload_rules.specs.Texts.{IsReading, IsRest, IsWhole}
-use Rattle.upload_rules.proofs.TextGrows.{decode_end, ended_behind, text_open, text_done, fault_stays}
+use Rattle.upload_rules.proofs.TextGrows.{decode_end, ended_after, text_open, text_done, fault_stays}
 
 -- the text that a transcoder of these encodings stands at
 so_far_open : (t : Tables) (s : Transcoder) (b : List ℕ) → so_far t s b ≡ text t s.from s.to s.mode b false
@@ -25,7 +25,7 @@ unfolding decode
 so_far_open t s b = sym (text_open t s.from s.to s.mode b)
 
 -- the text with the end
-end_added : (t : Tables) (s : Transcoder) (b : List ℕ) → IsAt t s b → text t s.from s.to s.mode b true ≡ behind
+end_added : (t : Tables) (s : Transcoder) (b : List ℕ) → IsAt t s b → text t s.from s.to s.mode b true ≡ led_by
     (so_far t s b).bytes (added_end t s)
 unfolding decode
 end_added t s b here =
@@ -37,8 +37,8 @@ end_added t s b here =
     text_done t s.from s.to s.mode b
     ∙ ap (λ z. ended_coded (coded f s.mode InAscii z)) all
     ∙ ap ended_coded (coded_both f (encoder_steady t s.to) s.mode InAscii d e here.fault)
-    ∙ ap (λ z. ended_coded (behind (so_far t s b).bytes (coded f s.mode z e))) (sym here.shift)
-    ∙ ended_behind (so_far t s b).bytes (coded f s.mode s.shift e)
+    ∙ ap (λ z. ended_coded (led_by (so_far t s b).bytes (coded f s.mode z e))) (sym here.shift)
+    ∙ ended_after (so_far t s b).bytes (coded f s.mode s.shift e)
 
 over : (t : Tables) (s : Transcoder) (from to : Encoding) (mode : Mode) (b : List ℕ) → s.from ≡ from → s.to ≡ to
     → s.mode ≡ mode
@@ -83,10 +83,10 @@ module _ (x : IndexSet) (u : Upload) (bytes : List ℕ) (t : Standing) (here : I
       ∙ same_text ((u.accepted ++ bytes) ++ piece) false
       ∙ ap (λ b. text (tables x) u.from u.to u.mode b false) (append_assoc u.accepted bytes piece)
 
-  stands_ended : text_with x u bytes true ≡ behind (text_with x u bytes false).bytes (added_end (tables x) t.transcoder)
+  stands_ended : text_with x u bytes true ≡ led_by (text_with x u bytes false).bytes (added_end (tables x) t.transcoder)
   stands_ended =
       sym (same_text (u.accepted ++ bytes) true) ∙ end_added (tables x) t.transcoder (u.accepted ++ bytes) here.at
-      ∙ ap (λ r. behind r.bytes (added_end (tables x) t.transcoder)) stands_at
+      ∙ ap (λ r. led_by r.bytes (added_end (tables x) t.transcoder)) stands_at
 
   pub without_fault : (text_with x u bytes false).fault ≡ None
   without_fault = sym (ap (λ r. r.fault) stands_at) ∙ here.at.fault

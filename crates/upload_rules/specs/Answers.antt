@@ -8,14 +8,14 @@ use Rattle.upload_rules.specs.Store.{Upload, Store}
 use Rattle.upload_rules.specs.World.{Patch}
 use Rattle.upload_rules.specs.Calls.{first_patch}
 
--- want of memory and the device's fault may come in place of these; the other refusals are found before either
+-- out of memory and the disk fault may come in place of these; the other refusals are found before either
 abbrev pub IsLate : Option UploadRefusal → Type 0
 IsLate None = Unit {0}
 IsLate (Some Unencodable) = Unit {0}
 IsLate (Some Full) = Unit {0}
 IsLate (Some e) = ⊥
 
--- The answer is the refusal that the rules give, where they give one. Else the call is done, or memory or the device
+-- The answer is the refusal that the rules give, where they give one. Else the call is done, or memory or the disk
 -- refused it.
 abbrev pub Answers : {T : Type 0} → Option UploadRefusal → Result T UploadError → (T → Type 0) → Type 0 → Type 0
 Answers refusal (Ok t) done same = (refusal ≡ None) × done t
@@ -47,7 +47,7 @@ pub record Quiet (moment moment' : ℕ) (left_only left_only' : Option ℕ → �
   pub keeps : (blocks : Option ℕ) (t : ℕ) (ms : List Store) → t ≤ moment → left_only blocks t ms
       → left_only' blocks t ms
 
--- the device's failures are counted, up to the greatest u64
+-- the disk's failures are counted, up to the greatest u64
 pub record Counts (failed : Type 0) (before now : ℕ) : Type 0 where
   pub later : before ≤ now
   pub counted : failed → (before < now) ⊎ (2 ^ 64 ≤ before + 1)

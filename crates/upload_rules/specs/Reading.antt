@@ -13,7 +13,7 @@ abbrev pub text_at : Store → Option Upload → List ℕ
 text_at m None = []
 text_at m (Some u) = text_of m.indexes u
 
--- n bytes were read: the text's from `at` on, as many as there are and fit; what is behind them in the buffer stays
+-- n bytes were read: the text's from `at` on, as many as there are and fit; what is after them in the buffer stays
 pub record IsRead (text : List ℕ) (at n : ℕ) (old new : List ℕ) : Type 0 where
   pub count : n ≡ min (length text - at) (length old)
   pub bytes : new ≡ take n (drop at text) ++ drop n old

@@ -24,7 +24,7 @@ IsBelow ns top = (k : ℕ) → k < length ns → slice_index ns k < top
 pub record IsDivided (ns : List ℕ) (n place : ℕ) : Type 0 where
   pub within : place ≤ length ns
   pub before : (k : ℕ) → k < place → slice_index ns k ≤ n
-  pub behind : (k : ℕ) → place ≤ k → k < length ns → n < slice_index ns k
+  pub after : (k : ℕ) → place ≤ k → k < length ns → n < slice_index ns k
 
 -- the number is at this place first
 pub record IsFirstAt (ns : List ℕ) (n place : ℕ) : Type 0 where

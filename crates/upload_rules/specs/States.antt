@@ -28,7 +28,7 @@ transcoder_with x u bytes done = transcoder_over (tables x) u.from u.to u.mode (
 unfoldable pub state_with : IndexSet → Upload → List ℕ → Bool → List ℕ
 state_with x u bytes done = state_bytes (transcoder_with x u bytes done)
 
--- the state of an upload: behind the end exactly where it is complete
+-- the state of an upload: after the end exactly where it is complete
 abbrev pub state_of : IndexSet → Upload → List ℕ
 state_of x u = state_with x u [] (is_complete u)
 

@@ -100,7 +100,7 @@ abbrev pub patched_at : Store → ℕ → Option ℕ → List ℕ → Option Upl
 patched_at m n declare bytes None = m
 patched_at m n declare bytes (Some u) = record m { uploads = replaced n (patched u declare bytes) m.uploads }
 
--- `declare`, which gives an upload of unknown length one, and behind it `append`, which puts bytes at the upload's end:
+-- `declare`, which gives an upload of unknown length one, and after it `append`, which puts bytes at the upload's end:
 -- each where the patch brings it
 abbrev pub patched_store : Store → ℕ → Option ℕ → List ℕ → Store
 patched_store m n declare bytes = patched_at m n declare bytes (upload_of m n)

@@ -22,7 +22,7 @@ pub record IsReading (x : IndexSet) (u : Upload) (bytes : List ℕ) (t : Standin
   pub mode : t.transcoder.mode ≡ u.mode
   pub at : IsAt (tables x) t.transcoder (u.accepted ++ bytes)
 
--- behind the text of the accepted bytes these are what further bytes come to, the end among them or not
+-- after the text of the accepted bytes these are what further bytes come to, the end among them or not
 abbrev pub IsRest : IndexSet → Upload → List ℕ → Bool → List ℕ → Type 0
 IsRest x u bytes done text = (text_with x u [] false).bytes ++ text ≡ (text_with x u bytes done).bytes
 

@@ -32,7 +32,7 @@ pub(crate) struct OpenAppend {
 }
 
 impl OpenAppend {
-    /// With a piece more of its body; as it was, where a growth is refused.
+    /// With a piece more of its body; as it was, when out of memory.
     pub(crate) fn feed(&mut self, indexes: &IndexSet, piece: &[u8]) -> Result<(), AllocError>
         ensures ok { (next : ℕ) (p : Patch) → AppendStands indexes.now next p self.old
             → length p.body + length piece.now ≤ p.count
@@ -55,9 +55,9 @@ impl OpenAppend {
         self.came == 0 && !is_new(known, self.declare)
     }
 
-    /// Puts the new text behind the slot's, whose length is then `declared`, and answers the new count of accepted
+    /// Puts the new text after the slot's, whose length is then `declared`, and answers the new count of accepted
     /// bytes.
-    pub(crate) fn put_behind(
+    pub(crate) fn append_to(
         self,
         slot: &mut Slot,
         declared: Option<u64>,

@@ -24,9 +24,9 @@ pub enum UploadRefusal {
 /// Why a call on uploads gives no answer.
 #[derive(Clone, Copy, Debug, PartialEq, Eq, Drop)]
 pub enum UploadError {
-    /// A growth was refused.
+    /// Out of memory.
     NoMemory,
-    /// The device failed in this call; the store must be opened again.
+    /// The disk failed in this call; the store must be opened again.
     DiskFault,
     /// The rules refuse the call.
     Refused(UploadRefusal),

@@ -16,7 +16,7 @@ use std::alloc::{AllocError, Global};
 /// What an append adds to its upload's text.
 #[derive(Drop)]
 pub enum NewText {
-    /// These bytes, and where transcoding stands behind them.
+    /// These bytes, and where transcoding stands after them.
     Growing {
         /// Where transcoding stands.
         transcoder: Transcoder,
@@ -37,7 +37,7 @@ impl NewText {
 
     /// What an append to the upload of a record adds at first: nothing. None where the state bytes are those of no
     /// state.
-    pub fn behind(alloc: Global, upload: &Record) -> Option<Self>
+    pub fn after(alloc: Global, upload: &Record) -> Option<Self>
         ensures holds { (x : Indexes) (n : ℕ) (u : Upload) → Tells x n upload.now u
             → (text_with x u [] (is_complete u)).fault ≡ None
             → IsSound (transcoder_with x u [] (is_complete u)) → MatchOption result ⊥ (HoldsText x u []) }
@@ -56,7 +56,7 @@ impl NewText {
         })
     }
 
-    /// With a piece more; as it was, where a growth is refused.
+    /// With a piece more; as it was, when out of memory.
     pub fn with(self, indexes: &IndexSet, piece: &[u8]) -> (Self, Result<(), AllocError>)
         ensures ok { (u : Upload) (bytes : List ℕ) → HoldsText indexes.now u bytes self
             → OnOk result.1 (HoldsText indexes.now u (bytes ++ piece.now) result.0) }
@@ -92,7 +92,7 @@ impl NewText {
         }
     }
 
-    /// The state bytes behind the accepted bytes, and the new text, with the bytes of the end where these complete the
+    /// The state bytes after the accepted bytes, and the new text, with the bytes of the end where these complete the
     /// upload.
     pub fn ended(
         self,

@@ -30,7 +30,7 @@ pub struct Record {
     pub to: Encoding,
     /// What is done with a character that `to` lacks.
     pub mode: Mode,
-    /// Where transcoding stands over the accepted bytes, as `Transcoder::pack` writes it: behind the end where all are
+    /// Where transcoding stands over the accepted bytes, as `Transcoder::pack` writes it: after the end where all are
     /// accepted.
     pub state: [u8; 32],
     /// The metadata as it was given: bytes 20 to 7E.

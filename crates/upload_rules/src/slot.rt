@@ -34,7 +34,7 @@ impl Slot {
         }
     }
 
-    /// The text with these bytes behind it; and the length, the count of accepted bytes and the state that are said.
+    /// The text with these bytes after it; and the length, the count of accepted bytes and the state that are said.
     pub(crate) fn grow(
         &mut self,
         text: &[u8],

@@ -13,7 +13,7 @@ use std::alloc::Global;
 /// How many uploads there may be.
 const SLOT_COUNT: usize = 512;
 
-/// Behind the last number: the greatest next number.
+/// After the last number: the greatest next number.
 pub const NUMBERS_END: u64 = 1_000_000_000_000_000_000;
 
 /// Uploads in memory: without a device, and without a limit of room.
@@ -76,7 +76,7 @@ impl Table {
             return Err(UploadRefusal::NoSuch);
         };
         slot.record.admits(offset, count, declare)?;
-        let Some(text) = NewText::behind(self.alloc, &slot.record) else {
+        let Some(text) = NewText::after(self.alloc, &slot.record) else {
             return Err(UploadRefusal::NoSuch);
         };
         Ok(OpenAppend {
@@ -200,7 +200,7 @@ impl Uploads for Table {
         if append.is_idle(known) {
             return Ok(append.offset);
         }
-        append.put_behind(&mut self.slots[place], declared, &self.indexes)
+        append.append_to(&mut self.slots[place], declared, &self.indexes)
     }
 
     fn drop_open(&mut self, draft: TableDraft) {

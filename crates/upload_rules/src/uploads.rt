@@ -27,14 +27,14 @@ pub trait Uploads {
     /// What the draft itself knows of its patch.
     ghost holds: { Self.Draft → Patch → Type 0 };
 
-    /// Counts what the device was asked.
+    /// Counts what the disk was asked.
     ghost moment: { Self → ℕ };
 
     /// What a crash at any moment since that one might have left shows one of these stores, and so many blocks, as in
     /// a world.
     ghost left_only: { Self → Option ℕ → ℕ → List Store → Type 0 };
 
-    /// How often the device failed.
+    /// How often the disk failed.
     ghost failures: { Self → ℕ };
 
     /// The upload of a number.
@@ -118,7 +118,7 @@ pub trait Uploads {
             → Quiet (moment self.old) (moment self.new) (left_only self.old) (left_only self.new) }
         ensures counts { Counts (IsErrOf result UploadError.DiskFault) (failures self.old) (failures self.new) };
 
-    /// Puts a draft's text behind its upload's, gives the upload the length that the draft declares where it had none,
+    /// Puts a draft's text after its upload's, gives the upload the length that the draft declares where it had none,
     /// and answers the new offset: refused with `NoSuch`, `Offset`, `LengthSet`, `TooLong`, `Unencodable`, `Full`,
     /// `NoMemory`, `DiskFault`. The draft is spent in every case.
     fn commit(&mut self, draft: Self::Draft) -> Result<u64, UploadError>
@@ -156,7 +156,7 @@ pub trait Uploads {
     ghost below: { (store : Self) (w : World) (number : ℕ) (u : Upload) → stands store w
         → upload_of w.store number ≡ Some u → number < w.store.next };
 
-    /// A store that stands for a world is on the device.
+    /// A store that stands for a world is on the disk.
     ghost durable: { (store : Self) (w : World) (ms : List Store) → stands store w → Among w.store ms
         → left_only store w.blocks (moment store) ms };
 }

@@ -1,7 +1,7 @@
 use Rattle.std.proofs.lemmas.Result.{err_from_is_err_and}
 use Rattle.enc_encode.specs.Code.{bytes_of}
 use Rattle.enc_encode.specs.State.{shift_of}
-use Rattle.enc_encode.proofs.Growth.{behind_part}
+use Rattle.enc_encode.proofs.Growth.{after_part}
 use Rattle.enc_encode.proofs.Final.{lacks_front}
 use Rattle.enc_encode.proofs.written_out.write_out.Goals as goal
 
@@ -17,5 +17,5 @@ returns-in_err-append_reference-in-Html c =
     let r = c.from_residual-in_err-append_reference-in-Html in
     let p = err_from_is_err_and r.result r.ensures.1 in
     rw (c.in-Lacks.is, c.in-Html.is, p.1, p.2)
-    (behind_part (rw c.as_slice.ensures at c.in_ok-append-in-Lacks.ensures)
+    (after_part (rw c.as_slice.ensures at c.in_ok-append-in-Lacks.ensures)
     c.in_err-append_reference-in-Html.ensures)

@@ -4,7 +4,7 @@ use Rattle.gateway_script.specs.Script.{give_within}
 use Rattle.gateway_script.specs.Runs.{view, Reaches, GivenOnce}
 use Rattle.gateway_script.proofs.Counting.{uncounted}
 use Rattle.gateway_script.proofs.Outputs.{some_list, no_list}
-use Rattle.gateway_script.proofs.Reaching.{reach_both, went_behind, once_fails, give_none, give_stop}
+use Rattle.gateway_script.proofs.Reaching.{reach_both, went_after, once_fails, give_none, give_stop}
 use Rattle.gateway_script.proofs.lines.give.Goals as goal
 
 pub returns-in_err-taken-clause-does : goal.returns-in_err-taken-clause-does
@@ -18,7 +18,7 @@ returns-in_err-taken-clause-does g c = λ before st r front at.
     (g.W.CountedWrite.contents c.give_once.new.writer) front in
     let p = err_from_is_err_and c.from_residual.result c.from_residual.ensures.1 in
     let fault = c.in_err-taken.field-0.0 in
-    rw (p.1, p.2) (went_behind v (Err fault) (give_within (length c.args.bytes.now) n c.args.bytes.now)
+    rw (p.1, p.2) (went_after v (Err fault) (give_within (length c.args.bytes.now) n c.args.bytes.now)
     (give_within (suc k) n rest) r i.0
     (subst (λ k. Reaches (give_within (length c.args.bytes.now) n c.args.bytes.now) r (give_within k n rest) i.0) step
     i.1)

@@ -4,7 +4,7 @@ use Rattle.gateway_script.specs.Script.{Run, flow, mores, most_calls}
 use Rattle.gateway_script.specs.Runs.{view, Reaches}
 use Rattle.gateway_script.proofs.Counting.{uncounted}
 use Rattle.gateway_script.proofs.Reaching.{reach_none, reach_both, no_mores, most_is, more_says, more_fails}
-use Rattle.gateway_script.proofs.Reaching.{flow_behind, MoreSays}
+use Rattle.gateway_script.proofs.Reaching.{flow_after, MoreSays}
 use Rattle.gateway_script.proofs.lines.give_text.Goals as goal
 
 pub loop-left-init : goal.loop-left-init
@@ -28,7 +28,7 @@ returns-in_err-answer-clause-does g c = λ before st r front at.
     let v = view g.C.Connections before c.more.new.core st (g.W.CountedWrite.contents c.more.new.writer) front in
     let p = err_from_is_err_and c.from_residual.result c.from_residual.ensures.1 in
     let fault = c.in_err-answer.field-0.0 in
-    rw (p.1, p.2) (flow_behind v (Err fault) (mores most_calls n) (mores (suc (c.loop-left.left - 1)) n) r s
+    rw (p.1, p.2) (flow_after v (Err fault) (mores most_calls n) (mores (suc (c.loop-left.left - 1)) n) r s
     (subst (λ k. Reaches (mores most_calls n) r (mores k n) s) step i.1)
     (more_fails v fault n (c.loop-left.left - 1) s (c.in_err-answer.ensures.does before st s front i.2)))
 

@@ -3,7 +3,7 @@ use Rattle.std.proofs.lemmas.Result.{err_from_is_err_and}
 use Rattle.gateway_script.specs.Script.{cut_from}
 use Rattle.gateway_script.specs.Runs.{view, Reaches, CutOne}
 use Rattle.gateway_script.proofs.Counting.{uncounted}
-use Rattle.gateway_script.proofs.Reaching.{reach_both, went_behind}
+use Rattle.gateway_script.proofs.Reaching.{reach_both, went_after}
 use Rattle.gateway_script.proofs.Ending.{cut_none, cut_fails}
 use Rattle.gateway_script.proofs.runs.cut_all.Goals as goal
 use Rattle.tus_session.specs.History.{most_open}
@@ -18,7 +18,7 @@ returns-in_err-cut_open-clause-does g c = λ before st r front at.
     (g.W.CountedWrite.contents c.cut_open.new.writer) front in
     let p = err_from_is_err_and c.from_residual.result c.from_residual.ensures.1 in
     let fault = c.in_err-cut_open.field-0.0 in
-    rw (p.1, p.2) (went_behind v (Err fault) (cut_from most_open 0) (cut_from (suc k) n) r i.0
+    rw (p.1, p.2) (went_after v (Err fault) (cut_from most_open 0) (cut_from (suc k) n) r i.0
     (subst (λ k. Reaches (cut_from most_open 0) r (cut_from k n) i.0) step i.1)
     (cut_fails v fault k n i.0 (c.in_err-cut_open.ensures.does before st i.0 front k i.2)))
 

@@ -4,12 +4,12 @@ use Rattle.std.specs.Io.BufRead.{take_through}
 use Rattle.std.proofs.lemmas.List.{take_rest}
 use Rattle.std.proofs.lemmas.Result.{err_from_is_err_and}
 use Rattle.gateway_script.specs.Faults.{script_fault}
-use Rattle.tus_request.specs.Reading.{behind}
+use Rattle.tus_request.specs.Reading.{after}
 use Rattle.gateway_script.specs.Script.{run_lines, script_lines}
 use Rattle.gateway_script.specs.Runs.{view, Reaches, LineRan}
 use Rattle.gateway_script.proofs.Counting.{uncounted}
 use Rattle.gateway_script.proofs.Outputs.{some_list, no_list}
-use Rattle.gateway_script.proofs.Ending.{ends_behind, line_fails, lines_on, line_some, lines_end, lines_stop}
+use Rattle.gateway_script.proofs.Ending.{ends_after, line_fails, lines_on, line_some, lines_end, lines_stop}
 use Rattle.gateway_script.proofs.runs.run_script.Goals as goal
 
 pub returns-in_err-run_line-clause-does : goal.returns-in_err-run_line-clause-does
@@ -21,12 +21,12 @@ returns-in_err-run_line-clause-does g c = λ before st r front at.
     (g.W.CountedWrite.contents c.run_line.new.writer) front in
     let p = err_from_is_err_and c.from_residual.result c.from_residual.ensures.1 in
     let fault = c.in_err-run_line.field-0.0 in
-    rw (p.1, p.2) (ends_behind v (Err fault) (run_lines 1 0 (script_lines c.args.script.now))
+    rw (p.1, p.2) (ends_after v (Err fault) (run_lines 1 0 (script_lines c.args.script.now))
     (run_lines c.loop-rest.number c.loop-rest.start (script_lines rest)) r i.0 i.1
     (line_fails v fault c.loop-rest.number c.loop-rest.start rest i.0 some
-    (subst (λ l. LineRan v (Err fault) c.loop-rest.number c.loop-rest.start l (script_lines (behind 10 rest)) i.0)
+    (subst (λ l. LineRan v (Err fault) c.loop-rest.number c.loop-rest.start l (script_lines (after 10 rest)) i.0)
     c.first_line-line.ensures.line
-    (c.in_err-run_line.ensures.does before st i.0 front (script_lines (behind 10 rest)) i.2))))
+    (c.in_err-run_line.ensures.does before st i.0 front (script_lines (after 10 rest)) i.2))))
 
 pub loop-rest-smaller : goal.loop-rest-smaller
 loop-rest-smaller g c =
@@ -59,8 +59,8 @@ loop-rest-preserved g c =
           let number : ℕ = c.loop-rest.number in
           let v = view g.C.Connections before c.run_line.new.core st
           (g.W.CountedWrite.contents c.run_line.new.writer) front in
-          let p : LineRan v (Ok (tt {0})) number start line (script_lines (behind 10 rest)) i.0 =
-          c.in_ok-run_line.ensures.does before st i.0 front (script_lines (behind 10 rest)) i.2 in
+          let p : LineRan v (Ok (tt {0})) number start line (script_lines (after 10 rest)) i.0 =
+          c.in_ok-run_line.ensures.does before st i.0 front (script_lines (after 10 rest)) i.2 in
           lines_on v number start rest line _ (run_lines 1 0 (script_lines c.args.script.now)) r i.0 some is
           (take_rest rest (length line)) i.1 p,
     )
@@ -71,7 +71,7 @@ returns-clause-does g c = λ before st r front at.
     let rest = c.loop-rest.rest.now in
     let none : rest ≡ [] = no_list _ rest c.is_empty.ensures c.loop-rest-test.false in
     let v = view g.C.Connections before c.cut_all.new.core st (g.W.CountedWrite.contents c.cut_all.new.writer) front in
-    ends_behind v (Ok (tt {0})) (run_lines 1 0 (script_lines c.args.script.now))
+    ends_after v (Ok (tt {0})) (run_lines 1 0 (script_lines c.args.script.now))
     (run_lines c.loop-rest.number c.loop-rest.start []) r i.0
     (subst (λ l. Reaches (run_lines 1 0 (script_lines c.args.script.now)) r
     (run_lines c.loop-rest.number c.loop-rest.start (script_lines l)) i.0) none i.1)
@@ -85,7 +85,7 @@ returns-in_err-cut_all-clause-does g c = λ before st r front at.
     let v = view g.C.Connections before c.cut_all.new.core st (g.W.CountedWrite.contents c.cut_all.new.writer) front in
     let p = err_from_is_err_and c.from_residual-in_err-cut_all.result c.from_residual-in_err-cut_all.ensures.1 in
     let fault = c.in_err-cut_all.field-0.0 in
-    rw (p.1, p.2) (ends_behind v (Err (script_fault fault)) (run_lines 1 0 (script_lines c.args.script.now))
+    rw (p.1, p.2) (ends_after v (Err (script_fault fault)) (run_lines 1 0 (script_lines c.args.script.now))
     (run_lines c.loop-rest.number c.loop-rest.start []) r i.0
     (subst (λ l. Reaches (run_lines 1 0 (script_lines c.args.script.now)) r
     (run_lines c.loop-rest.number c.loop-rest.start (script_lines l)) i.0) none i.1)

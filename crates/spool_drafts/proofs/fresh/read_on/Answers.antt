@@ -1,21 +1,21 @@
 use Rattle.std.proofs.Common.{[], OnOk, subst}
 use Rattle.upload_rules.specs.Texts.{HoldsText}
-use Rattle.spool_drafts.proofs.Standings.{adds_on, behind, goes_emptied, growing_emptied, holds_text, stands_on}
+use Rattle.spool_drafts.proofs.Standings.{adds_on, after, goes_emptied, growing_emptied, holds_text, stands_on}
 use Rattle.spool_drafts.proofs.fresh.read_on.Goals as goal
 
 pub returns-clause-stands : goal.returns-clause-stands
 returns-clause-stands c u bytes still here =
     let x = c.args.indexes.now in
-    let held = subst (λ r. OnOk r (HoldsText x (behind u bytes) c.args.piece.now c.with-next.result.0))
-    c.in_ok-outcome.was (c.with-next.ensures.ok (behind u bytes) []
+    let held = subst (λ r. OnOk r (HoldsText x (after u bytes) c.args.piece.now c.with-next.result.0))
+    c.in_ok-outcome.was (c.with-next.ensures.ok (after u bytes) []
     (holds_text x u bytes _ _ still c.without_text.ensures here)) in
     stands_on x u bytes c.args.piece.now _ _ held c.split.ensures.same
 
 pub returns-clause-adds : goal.returns-clause-adds
 returns-clause-adds c u bytes still here =
     let x = c.args.indexes.now in
-    let held = subst (λ r. OnOk r (HoldsText x (behind u bytes) c.args.piece.now c.with-next.result.0))
-    c.in_ok-outcome.was (c.with-next.ensures.ok (behind u bytes) []
+    let held = subst (λ r. OnOk r (HoldsText x (after u bytes) c.args.piece.now c.with-next.result.0))
+    c.in_ok-outcome.was (c.with-next.ensures.ok (after u bytes) []
     (holds_text x u bytes _ _ still c.without_text.ensures here)) in
     adds_on x u bytes c.args.piece.now _ _ _ held c.split.ensures.same c.split.ensures.text
 

@@ -41,7 +41,7 @@ loop-page-preserved g c =
           lasts_on (inv.crash honest) (lasts_call (c.write_at.ensures.time (inv.honest honest)) (front_image keeps));
       valid = λ past. elim (cases_lt (4096 * c.loop-page.page) (state_place c.args.layout.now)) [
         | inl before ↦ c.fresh_page.ensures.valid (omega (arith, past)) before
-        | inr behind ↦ inv.valid behind
+        | inr after ↦ inv.valid after
       ];
     }
 

@@ -10,7 +10,7 @@ use Rattle.spool_image.specs.declared.error.UpgradeError.TheVariants.{Open}
 use Rattle.spool_image.proofs.Opens.{reads_shows, view_room}
 use Rattle.spool_image.proofs.Refused.{opened_is_known, opened_is_old, opened_is_spool, opened_is_whole}
 use Rattle.spool_image.proofs.Refused.{upgrade_damaged, upgrade_new, upgrade_no_spool, upgrade_version}
-use Rattle.spool_image.proofs.Upgraded.{behind_shows, commit_over, crash_shown, if_err, on_ok_both, on_ok_more}
+use Rattle.spool_image.proofs.Upgraded.{after_shows, commit_over, crash_shown, if_err, on_ok_both, on_ok_more}
 use Rattle.spool_image.proofs.Upgraded.{other_err, refused_late}
 use Rattle.spool_image.proofs.Upgraded.{rests_show, settled_rests, untouched_on, upgraded_view_shows}
 use Rattle.spool_image.proofs.Upgraded.{upgrades_late, view_shows}
@@ -150,7 +150,7 @@ returns-clause-shows g c n m is fine =
     let wide = subst (λ (size : ℕ). 4096 * all_pages n ≤ size) (sym size) is.room in
     let was = g.D.Disk.seen c.args.disk.now in
     let back = c.rewrite.new.disk in
-    behind_shows g.D.Disk back n m v c.rewrite.result is.shows.blocks (c.rewrite.ensures.honest.0 mid) wide fine
+    after_shows g.D.Disk back n m v c.rewrite.result is.shows.blocks (c.rewrite.ensures.honest.0 mid) wide fine
     (c.rewrite.ensures.done mid v keeps rests)
     (untouched_on (λ d. Rests v (g.D.Disk.seen d) (g.D.Disk.loose d)) (Open DiskFault) c.load_old.new.disk back
     c.rewrite.result rests c.rewrite.ensures.untouched)

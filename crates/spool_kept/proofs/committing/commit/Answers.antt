@@ -21,10 +21,10 @@ use Rattle.spool_kept.specs.Stored.{ShowsEither}
 use Rattle.spool_kept.proofs.CommitHead as head
 use Rattle.spool_kept.proofs.CommitSpent as spent
 use Rattle.spool_kept.proofs.Drafted.{drops, reserves_only}
-use Rattle.spool_kept.proofs.OfUploads.{behind_slot, fits_dropped}
+use Rattle.spool_kept.proofs.OfUploads.{after_slot, fits_dropped}
 use Rattle.spool_kept.proofs.committing.commit.Given.{Over}
 use Rattle.spool_kept.proofs.committing.commit.Goals as goal
-use Rattle.spool_kept.proofs.committing.commit.Goals.{After-give_back, After-put_behind}
+use Rattle.spool_kept.proofs.committing.commit.Goals.{After-give_back, After-append_to}
 
 not_true : (b : Bool) → not b ≡ true → b ≡ false
 not_true true is = absurd cc
@@ -34,13 +34,13 @@ not_false : (b : Bool) → not b ≡ false → b ≡ true
 not_false true is = refl
 not_false false is = absurd cc
 
-pub put_behind-requires-clause-placed : goal.put_behind-requires-clause-placed
-put_behind-requires-clause-placed g c = c.requires.fits.blocks.placed c.args.number c.in-Some.draft
+pub append_to-requires-clause-placed : goal.append_to-requires-clause-placed
+append_to-requires-clause-placed g c = c.requires.fits.blocks.placed c.args.number c.in-Some.draft
     (sym c.in-Some.ensures.taken)
 
-pub put_behind-requires-clause-behind : goal.put_behind-requires-clause-behind
-put_behind-requires-clause-behind g c =
-    behind_slot c.args.kept.now.slots c.in-Some.draft c.in-Ok.found.slot c.in-Ok.ensures.same
+pub append_to-requires-clause-after : goal.append_to-requires-clause-after
+append_to-requires-clause-after g c =
+    after_slot c.args.kept.now.slots c.in-Some.draft c.in-Ok.found.slot c.in-Ok.ensures.same
     (head.found_open c.args.kept.now.slots c.in-Some.draft c.in-Ok.found c.in-Ok.ensures (not_true c.in-Ok.found.stays
     c.if-not-found.true)) (c.requires.fits.uploads c.args.number c.in-Some.draft (sym c.in-Some.ensures.taken))
 
@@ -96,16 +96,16 @@ returns-then-found-clause-offset g c o here =
 pub returns-then-not-found-clause-no_such : goal.returns-then-not-found-clause-no_such
 returns-then-not-found-clause-no_such g c o here =
     let is = same_Some c.in-Some.draft o (c.in-Some.ensures.taken ∙ here) in
-    (done_exactly c.args.kept.now.slots c.in-Some.draft o c.in-Ok.found.slot c.put_behind.result is
-    c.in-Ok.ensures.same c.put_behind.ensures.refusal).0
+    (done_exactly c.args.kept.now.slots c.in-Some.draft o c.in-Ok.found.slot c.append_to.result is
+    c.in-Ok.ensures.same c.append_to.ensures.refusal).0
 
 pub returns-then-not-found-clause-offset : goal.returns-then-not-found-clause-offset
 returns-then-not-found-clause-offset g c o here =
     let is = same_Some c.in-Some.draft o (c.in-Some.ensures.taken ∙ here) in
-    (done_exactly c.args.kept.now.slots c.in-Some.draft o c.in-Ok.found.slot c.put_behind.result is
-    c.in-Ok.ensures.same c.put_behind.ensures.refusal).1
+    (done_exactly c.args.kept.now.slots c.in-Some.draft o c.in-Ok.found.slot c.append_to.result is
+    c.in-Ok.ensures.same c.append_to.ensures.refusal).1
 
--- WITHOUT A CALL OF THE DEVICE
+-- WITHOUT A CALL OF THE DISK
 
 pub returns-in-Err-clause-fits : goal.returns-in-Err-clause-fits
 returns-in-Err-clause-fits g c =
@@ -232,9 +232,9 @@ returns-then-found-clause-crash g c w p s there =
     (ShowsEither c.kept.inside.layout w.store m)) (sym outcome)
     (c.set_length.ensures.crash w.store p.number left.stored used small))
 
--- BEHIND THE UPLOAD'S TEXT
+-- AFTER THE UPLOAD'S TEXT
 
-is_commit : (g : Over) (c : After-put_behind g) (w : World) (p : Patch)
+is_commit : (g : Over) (c : After-append_to g) (w : World) (p : Patch)
     → StandsFor g.D.Disk c.args.disk.now c.args.kept.now c.args.drafts.now.items w
     → find c.args.number w.patches ≡ Some p
     → IsCommit g.D.Disk c.args.disk.now c.args.kept.now c.args.drafts.now.items c.args.number c.in-Some.draft w p
@@ -245,17 +245,17 @@ is_commit g c w p s there =
 
 pub returns-then-not-found-clause-answer : goal.returns-then-not-found-clause-answer
 returns-then-not-found-clause-answer g c w p s there =
-    subst (λ (left : List (Option SpoolDraft)). Answers (commit_refusal w c.args.number p) c.put_behind.result
-    (λ n. (n ≡ reached p) × StandsFor g.D.Disk c.put_behind.new.disk c.put_behind.new.kept left
+    subst (λ (left : List (Option SpoolDraft)). Answers (commit_refusal w c.args.number p) c.append_to.result
+    (λ n. (n ≡ reached p) × StandsFor g.D.Disk c.append_to.new.disk c.append_to.new.kept left
     (committed w c.args.number p))
-    (StandsFor g.D.Disk c.put_behind.new.disk c.put_behind.new.kept left (dropped w c.args.number)))
+    (StandsFor g.D.Disk c.append_to.new.disk c.append_to.new.kept left (dropped w c.args.number)))
     (sym c.taken.ensures.after)
-    (c.put_behind.ensures.answer c.args.drafts.now.items c.args.number w p (is_commit g c w p s there))
+    (c.append_to.ensures.answer c.args.drafts.now.items c.args.number w p (is_commit g c w p s there))
 
 pub returns-then-not-found-clause-crash : goal.returns-then-not-found-clause-crash
 returns-then-not-found-clause-crash g c w p s there =
-    c.put_behind.ensures.crash c.args.drafts.now.items c.args.number w p (is_commit g c w p s there)
+    c.append_to.ensures.crash c.args.drafts.now.items c.args.number w p (is_commit g c w p s there)
 
 pub returns-then-not-found-clause-unmade : goal.returns-then-not-found-clause-unmade
 returns-then-not-found-clause-unmade g c w p s there short =
-    c.put_behind.ensures.unmade c.args.drafts.now.items c.args.number w p (is_commit g c w p s there) short
+    c.append_to.ensures.unmade c.args.drafts.now.items c.args.number w p (is_commit g c w p s there) short

@@ -128,5 +128,5 @@ returns-clause-may g c =
     let there = ap (λ (h : Holding). get_or h.slots c.args.found.slot None) c.kept.view_is ∙ has.there in
     lemmas.may _ c.args.found.slot c.args.found.declared c.saturating_add-accepted.result (list_of c.end.new.self) _
     has.used there
-    (c.in_ok-state.ensures.behind has.used.text_len has.used.state c.requires.found.state
-    (c.requires.behind has.used has.there))
+    (c.in_ok-state.ensures.after has.used.text_len has.used.state c.requires.found.state
+    (c.requires.after has.used has.there))

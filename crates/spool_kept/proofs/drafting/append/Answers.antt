@@ -52,7 +52,7 @@ returns-clause-fits g c =
       uploads = each_changed (IsOfUpload c.kept.inside.slots.items) before c.put_back.new.drafts.items c.args.number
           (Some new) changed fit.uploads
           (λ a e. subst (IsOfUpload c.kept.inside.slots.items) (same_Some new a e)
-          (of_longer c.kept.inside.slots.items c.in-Some.draft new same.0 same.1 c.append-answer.ensures.behind
+          (of_longer c.kept.inside.slots.items c.in-Some.draft new same.0 same.1 c.append-answer.ensures.after
           (fit.uploads c.args.number c.in-Some.draft here)));
     }
 

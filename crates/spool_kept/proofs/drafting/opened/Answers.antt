@@ -18,7 +18,7 @@ returns-clause-below c =
 
 pub returns-clause-of_upload : goal.returns-clause-of_upload
 returns-clause-of_upload c = begins_kept c.args.kept.now.slots c.in-Some.found.upload.now c.args.declare c.begin.result
-    c.in-Some.ensures.kept c.begin.ensures.named c.begin.ensures.behind
+    c.in-Some.ensures.kept c.begin.ensures.named c.begin.ensures.after
 
 pub returns-clause-opened : goal.returns-clause-opened
 returns-clause-opened c v m bytes kept shows says =

@@ -8,7 +8,7 @@ use Rattle.spool_kept.proofs.Unlisted.{without_number}
 use Rattle.spool_kept.proofs.terminating.take_number.Goals as goal
 use Rattle.spool_kept.proofs.terminating.take_number.Goals.{After-places_to-place}
 
--- the numbers up to it end behind a place
+-- the numbers up to it end after a place
 some_place : (order : List NumberedSlot) (n place : ℕ) → Rises order → IsPlaceFor order n place
     → (s : ℕ) × Lists order n s → 1 ≤ place
 some_place order n place rises is listed =

@@ -6,7 +6,8 @@ use Rattle.spool_journal.specs.declared.error.RecoverError.TheVariants as recove
 use Rattle.spool_kept.specs.Faults.{fault_of}
 use Rattle.spool_kept.specs.Loads.{LoadsAs}
 use Rattle.spool_kept.specs.declared.error.OpenFault.{OpenFault}
-use Rattle.spool_load.proofs.Opens.{if_ok, read_lasts, read_same, read_settled, read_unwritten, settled_still, settled_says}
+use Rattle.spool_load.proofs.Opens.{if_ok, read_lasts, read_same, read_settled, read_unwritten, settled_still}
+use Rattle.spool_load.proofs.Opens.{settled_says}
 use Rattle.spool_load.proofs.Opens.{still_as}
 use Rattle.spool_load.specs.Refusals.{RefusedAt}
 use Rattle.spool_load.specs.Loaded.{FoundOn, IsFoundOf}
@@ -77,7 +78,8 @@ returns-clause-found g c honest says =
     let now = g.D.Disk.seen c.recover.new.disk in
     let size = g.D.Disk.size c.args.disk.now in
     subst (λ (r : Result Found OpenFault). IfOk r (FoundOn size was)) (sym c.ok_or.ensures.value)
-    (restored c.args.layout was now (g.D.Disk.loose c.recover.new.disk) settled (c.in_ok-recover.ensures.form honest) size
+    (restored c.args.layout was now (g.D.Disk.loose c.recover.new.disk) settled (c.in_ok-recover.ensures.form honest)
+        size
     c.in_ok-load_state.field-0 c.in_ok-load_state.ensures.layout says
     (c.in_ok-load_state.ensures.found (c.recover.ensures.honest.0 honest) now (settled_still settled)))
 

@@ -52,6 +52,6 @@ returns-in_err-put_row-clause-said c all long fits stands was =
     same_ok _ c.in_ok-row_at.field-0 _ c.in_ok-row_at.was
     (c.row_at.ensures.said (get_or all (c.args.first + k) None) (fits (c.args.first + k)) (stands k (search rules)))
     in
-    let behind : length c.loop-k.rows ≤ c.args.first + k = c.in_err-put_row.ensures.behind in
+    let after : length c.loop-k.rows ≤ c.args.first + k = c.in_err-put_row.ensures.after in
     let same : length c.loop-k.rows ≡ length all = search rules in
-    absurd (c.in_err-put_row.ensures.used (is ∙ get_or-eq_default all None (omega (arith, behind, same))))
+    absurd (c.in_err-put_row.ensures.used (is ∙ get_or-eq_default all None (omega (arith, after, same))))

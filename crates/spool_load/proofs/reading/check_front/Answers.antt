@@ -17,23 +17,23 @@ front_stands bytes n front =
 pub read_at-requires : goal.read_at-requires
 read_at-requires g c = omega (arith, all_is c.args.layout.now, some_journal c.args.layout.now, c.requires)
 
-pub returns-else-is_blank_behind_fields-clause-said : goal.returns-else-is_blank_behind_fields-clause-said
-returns-else-is_blank_behind_fields-clause-said g c honest bytes still n stands =
+pub returns-else-is_blank_after_fields-clause-said : goal.returns-else-is_blank_after_fields-clause-said
+returns-else-is_blank_after_fields-clause-said g c honest bytes still n stands =
     let read = c.in_ok-read_at.ensures.bytes honest bytes still in
     let wide : length c.read_at.new.buf ≡ 4096 = search rules in
     let whole =
     read_stands bytes 0 0 0 4096 c.read_at.new.buf (first_page n) read (omega (arith, wide)) (omega arith) stands in
     let blank =
-    (c.is_blank_behind_fields.ensures.first n
+    (c.is_blank_after_fields.ensures.first n
     (stands_part (byte_of c.read_at.new.buf) 0 4096 12 (first_page n) (omega arith) whole)).1 whole in
-    absurd (false≢true (sym c.if-is_blank_behind_fields.false ∙ blank))
+    absurd (false≢true (sym c.if-is_blank_after_fields.false ∙ blank))
 
-pub returns-then-is_blank_behind_fields-clause-sound : goal.returns-then-is_blank_behind_fields-clause-sound
-returns-then-is_blank_behind_fields-clause-sound g c honest bytes still n front =
+pub returns-then-is_blank_after_fields-clause-sound : goal.returns-then-is_blank_after_fields-clause-sound
+returns-then-is_blank_after_fields-clause-sound g c honest bytes still n front =
     let read = c.in_ok-read_at.ensures.bytes honest bytes still in
     let wide : length c.read_at.new.buf ≡ 4096 = search rules in
     let here =
     read_stands bytes 0 0 0 12 c.read_at.new.buf (first_page n) read (omega (arith, wide)) (omega arith)
     (front_stands bytes n front) in
-    let whole = (c.is_blank_behind_fields.ensures.first n here).0 c.if-is_blank_behind_fields.true in
+    let whole = (c.is_blank_after_fields.ensures.first n here).0 c.if-is_blank_after_fields.true in
     read_back bytes 0 0 0 4096 c.read_at.new.buf (first_page n) read (omega (arith, wide)) (omega arith) whole

@@ -10,7 +10,7 @@ use Rattle.std.proofs.lemmas.Slice.Eq.{starts_is}
 use Rattle.std.proofs.lemmas.List.{get_or-append-add, get_or-take, ext_get_or}
 use Rattle.spool_journal.specs.Image.{byte_of}
 use Rattle.spool_pages.specs.View.{Stands, magic, first_page}
-use Rattle.spool_pages.proofs.RecordBytes.{stands_behind}
+use Rattle.spool_pages.proofs.RecordBytes.{stands_beyond}
 use Rattle.spool_pages.proofs.pages.blocks_said.Goals as goal
 
 module _ (front : List ℕ) (blocks : ℕ) (long : length front ≡ 12)
@@ -32,7 +32,7 @@ module _ (front : List ℕ) (blocks : ℕ) (long : length front ≡ 12)
 
   number_at : Stands (byte_of front) 8 4 (to_be_bytes w32 blocks)
   unfolding first_page
-  number_at = stands_behind magic (to_be_bytes w32 blocks) 8 4 refl (omega arith) whole
+  number_at = stands_beyond magic (to_be_bytes w32 blocks) 8 4 refl (omega arith) whole
 
   begins : starts_with eqb front magic ≡ true
   begins = subst (λ (xs : List ℕ). pointwise eqb magic xs ≡ true) (sym taken) refl

@@ -5,7 +5,7 @@ use Rattle.spool_pages.specs.Bytes.{IsPadded}
 use Rattle.spool_pages.specs.View.{Stands, state_page, version_number}
 use Rattle.spool_pages.specs.declared.version.Version.{Version}
 use Rattle.spool_pages.specs.declared.version.Version.TheVariants.{One, Two}
-use Rattle.spool_pages.proofs.RecordBytes.{padded_stands, stands_both, stands_front, stands_behind}
+use Rattle.spool_pages.proofs.RecordBytes.{padded_stands, stands_both, stands_front, stands_beyond}
 use Rattle.spool_pages.proofs.pages.version_and_next.Goals as goal
 
 module _ (page : List ℕ) (version : Version) (next : ℕ) (padded : IsPadded page (state_page version next)) where
@@ -16,7 +16,7 @@ module _ (page : List ℕ) (version : Version) (next : ℕ) (padded : IsPadded p
 
   next_at : Stands (byte_of page) 4 8 (to_be_bytes w64 next)
   unfolding state_page
-  next_at = stands_behind (to_be_bytes w32 (version_number version)) (to_be_bytes w64 next) 4 8 refl (omega arith)
+  next_at = stands_beyond (to_be_bytes w32 (version_number version)) (to_be_bytes w64 next) 4 8 refl (omega arith)
       (padded_stands 12 padded)
 
 small : (version : Version) → version_number version < 2 ^ 32

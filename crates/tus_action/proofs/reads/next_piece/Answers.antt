@@ -16,7 +16,7 @@ returns-in-Ok-extend_from_slice-clause-answer g c = λ w h up stands gives there
     let piece = given_piece w.store c.args.giving h up (gives.there up there) n _ _ c.read_text.new.buf count room a.1.0
     in (
       a.1.1,
-      subst (λ x. GivingIs w.store x (pending_after h)) (sym c.behind.ensures)
+      subst (λ x. GivingIs w.store x (pending_after h)) (sym c.after.ensures)
           (gives_on w.store c.args.giving h up (gives.there up there) gives n count),
       c.in-Ok-extend_from_slice.ensures.items ∙ ap (λ x. c.args.out.now.items ++ x) piece,
     )

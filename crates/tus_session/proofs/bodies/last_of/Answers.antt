@@ -16,10 +16,10 @@ returns-in_err-finish-clause-answer g c w p r stands found holds all reached bar
     let w1 = fed w d c.args.bytes.now in
     let p1 = fed_patch w d p c.args.bytes.now in
     let found1 = fed_found_as g.U.Uploads w d p c.args.bytes.now c.in_ok-fed.fed.draft fed_is.number fed_is.found in
-    let behind = reached_fed w d p c.args.bytes.now c.args.patch.reached all reached in
+    let after = reached_fed w d p c.args.bytes.now c.args.patch.reached all reached in
     let stopped = err_from_is_err_and c.from_residual-in_err-finish.result c.from_residual-in_err-finish.ensures.1 in
     let a = rw fed_is.number at (c.in_err-finish.ensures.answer w1 p1 r fed_is.shown found1 fed_is.holds
-    (fed_is.reached ∙ behind) (fed_is.bare ∙ bare) (fed_is.closes ∙ closes)) in
+    (fed_is.reached ∙ after) (fed_is.bare ∙ bare) (fed_is.closes ∙ closes)) in
     rw (stopped.1, stopped.2) (stopped_as g.U.Uploads _ c.in_err-finish.field-0.0 _ _ _ _ _ _ _ _
     (drop_fed w d p c.args.bytes.now found) a)
 
@@ -31,9 +31,9 @@ returns-clause-answer g c w p r stands found holds all reached bare closes =
     let w1 = fed w d c.args.bytes.now in
     let p1 = fed_patch w d p c.args.bytes.now in
     let found1 = fed_found_as g.U.Uploads w d p c.args.bytes.now c.in_ok-fed.fed.draft fed_is.number fed_is.found in
-    let behind = reached_fed w d p c.args.bytes.now c.args.patch.reached all reached in
+    let after = reached_fed w d p c.args.bytes.now c.args.patch.reached all reached in
     let a = rw fed_is.number at (c.in_ok-finish.ensures.answer w1 p1 r fed_is.shown found1 fed_is.holds
-    (fed_is.reached ∙ behind) (fed_is.bare ∙ bare) (fed_is.closes ∙ closes)) in
+    (fed_is.reached ∙ after) (fed_is.bare ∙ bare) (fed_is.closes ∙ closes)) in
     answered_as g.U.Uploads _ _ _ _ c.args.head _ _ c.args.patch.closes a.0 closes c.after_reply.ensures a.1
 
 pub returns-in_err-finish-clause-crash : goal.returns-in_err-finish-clause-crash

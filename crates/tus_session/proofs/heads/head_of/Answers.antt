@@ -6,16 +6,16 @@ use Rattle.tus_session.proofs.HeadTold.{more_told, no_patch_len, slice_rest, jud
 use Rattle.tus_session.proofs.Opening.{still}
 use Rattle.tus_session.proofs.heads.head_of.Goals as goal
 
-pub slice_bounds-behind-count : goal.slice_bounds-behind-count
-slice_bounds-behind-count g c =
+pub slice_bounds-after-count : goal.slice_bounds-after-count
+slice_bounds-after-count g c =
     let j = judged_by c.indexes.result.now (bytes_of c.args.head ++ c.args.bytes.now) _ _
     c.in_ok-parsed.ensures.function
     c.in-Refused.is in
     let w = within_bytes c.indexes.result.now (bytes_of c.args.head) c.args.bytes.now c.in-Refused.taken _ j in
     omega (arith, w, c.len-had.ensures, c.saturating_sub-before.ensures)
 
-pub slice_bounds-behind-start : goal.slice_bounds-behind-start
-slice_bounds-behind-start g c =
+pub slice_bounds-after-start : goal.slice_bounds-after-start
+slice_bounds-after-start g c =
     let j = judged_by c.indexes.result.now (bytes_of c.args.head ++ c.args.bytes.now) _ _
     c.in_ok-parsed.ensures.function
     c.in-Refused.is in

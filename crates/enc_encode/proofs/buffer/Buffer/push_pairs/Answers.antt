@@ -15,7 +15,7 @@ loop-len-init c = (
 pub loop-len-preserved : goal.loop-len-preserved
 loop-len-preserved c =
     let rest = c.loop-len.rest.now in
-    let left = c.in-Some.behind.now in
+    let left = c.in-Some.after.now in
     let first = c.in-Some.ensures in
     let v = c.loop-len.invariant in
     let test = c.loop-len-test.true in

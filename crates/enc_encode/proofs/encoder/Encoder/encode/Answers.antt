@@ -5,7 +5,7 @@ use Rattle.enc_model.specs.Indexes.{tables}
 use Rattle.enc_encode.specs.Code.{bytes_of, written_of, final}
 use Rattle.enc_encode.specs.State.{shift_of}
 use Rattle.enc_encode.proofs.Growth.{front}
-use Rattle.enc_encode.proofs.Final.{gave_behind}
+use Rattle.enc_encode.proofs.Final.{gave_after}
 use Rattle.enc_encode.proofs.Codes.{coded_once, coded_twice, not_again}
 use Rattle.enc_encode.proofs.encoder.Encoder.encode.Goals as goal
 
@@ -26,7 +26,7 @@ returns-in_ok-append-in-Again c =
     (shift_of c.in-Again.next) (written_of c.written-in-Again.result)
     c.in-Again.ensures c.written-in-Again.ensures in
     rw (← c.self.view_is, e)
-    (gave_behind (bytes_of c.in-Again.bytes) (final i.mode (written_of c.written-in-Again.result)) c.write_out.new.out
+    (gave_after (bytes_of c.in-Again.bytes) (final i.mode (written_of c.written-in-Again.result)) c.write_out.new.out
     c.write_out.result
     (rw c.as_slice.ensures at c.in_ok-append-in-Again.ensures) c.write_out.ensures)
 

@@ -37,19 +37,19 @@ loop-rest-preserved c =
     let run = c.args.run.now in
     let old = c.args.out.now in
     let rest = c.loop-rest.rest.now in
-    let behind = c.in_ok-next.behind.now in
+    let after = c.in_ok-next.after.now in
     let next = c.in_ok-next.next in
     let more = c.in_ok-next.ensures.ok in
     let new = c.hold_front.new in
     let left = c.push_run-rest.result.now in
     let kept = c.push_run-rest.new.self in
     let runs = c.push_run-rest.ensures in
-    let text = left_text rest more.front behind c.loop-rest.invariant.0 more.own more.parts in
-    let by_front = front_then t e run rest behind old c.loop-rest.out c.loop-rest.held new.out new.held
+    let text = left_text rest more.front after c.loop-rest.invariant.0 more.own more.parts in
+    let by_front = front_then t e run rest after old c.loop-rest.out c.loop-rest.held new.out new.held
     c.loop-rest.shift (Ok next) c.loop-rest.invariant.1 more in
-    let by_run = run_held t e behind left next new.out new.held kept (rw c.requires.same at runs) in (
-      left_text behind runs.front left text runs.own runs.parts,
-      front_then t e run behind left old new.out new.held new.out kept next (Ok next) by_front by_run,
+    let by_run = run_held t e after left next new.out new.held kept (rw c.requires.same at runs) in (
+      left_text after runs.front left text runs.own runs.parts,
+      front_then t e run after left old new.out new.held new.out kept next (Ok next) by_front by_run,
     )
 
 pub returns-in_err-flush : goal.returns-in_err-flush

@@ -5,7 +5,7 @@ use Rattle.enc_encode.specs.Code.{bytes_of, written_of, final}
 use Rattle.enc_encode.specs.State.{EncoderState, shift_of}
 use Rattle.enc_encode.specs.Reasons.{Gave}
 use Rattle.enc_encode.proofs.Growth.{front}
-use Rattle.enc_encode.proofs.Final.{gave_behind}
+use Rattle.enc_encode.proofs.Final.{gave_after}
 use Rattle.enc_encode.proofs.Codes.{coded_once, coded_twice, not_again}
 use Rattle.enc_encode.proofs.encoder.Encoder.encode_iso2022_ascii.Goals as goal
 
@@ -27,7 +27,7 @@ returns-in_ok-append-in-Again c t =
     (rw c.requires.to (c.in-Again.ensures t.jis0208 t.katakana))
     (rw c.requires.to (c.iso2022_ascii-in-Again.ensures t.jis0208 t.katakana)) in
     rw code
-    (gave_behind bytes (final e.mode w) c.write_out.new.out c.write_out.result
+    (gave_after bytes (final e.mode w) c.write_out.new.out c.write_out.result
     (rw c.as_slice.ensures at c.in_ok-append-in-Again.ensures)
     (subst (λ m. Gave (final m w) c.append.new.out c.write_out.new.out c.write_out.result)
     (ap (λ (z : EncoderState). z.mode) c.self.view_is) c.write_out.ensures))

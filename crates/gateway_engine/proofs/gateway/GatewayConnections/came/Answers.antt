@@ -1,5 +1,5 @@
 use Rattle.tus_session.specs.History.{Came}
-use Rattle.gateway_engine.proofs.Sessions.{told_gives, came_refused, shown_behind}
+use Rattle.gateway_engine.proofs.Sessions.{told_gives, came_refused, shown_after}
 use Rattle.gateway_engine.proofs.gateway.GatewayConnections.came.Goals as goal
 
 pub returns-clause-gives : goal.returns-clause-gives
@@ -11,6 +11,6 @@ returns-clause-gives g c = λ st stands.
 
 pub returns-clause-crash : goal.returns-clause-crash
 returns-clause-crash g c = λ st stands.
-    shown_behind st (Came c.args.conn c.args.bytes.now) c.came-answer.result
+    shown_after st (Came c.args.conn c.args.bytes.now) c.came-answer.result
     (c.came-answer.ensures.crash st stands.session)
     (λ none_left. c.came-answer.ensures.unmade st stands.session none_left)

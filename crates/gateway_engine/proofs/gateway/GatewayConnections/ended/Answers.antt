@@ -1,5 +1,5 @@
 use Rattle.tus_session.specs.History.{Ended}
-use Rattle.gateway_engine.proofs.Sessions.{ends_does, ended_refused, shown_behind}
+use Rattle.gateway_engine.proofs.Sessions.{ends_does, ended_refused, shown_after}
 use Rattle.gateway_engine.proofs.gateway.GatewayConnections.ended.Goals as goal
 
 pub returns-clause-does : goal.returns-clause-does
@@ -9,5 +9,5 @@ returns-clause-does g c = λ st stands.
 
 pub returns-clause-crash : goal.returns-clause-crash
 returns-clause-crash g c = λ st stands.
-    shown_behind st (Ended c.args.conn) c.ended-answer.result (c.ended-answer.ensures.crash st stands.session)
+    shown_after st (Ended c.args.conn) c.ended-answer.result (c.ended-answer.ensures.crash st stands.session)
     (λ none_left. c.ended-answer.ensures.unmade st stands.session none_left)

@@ -31,7 +31,7 @@ returns-clause-crash g c =
     (record {
       later = quiet.later;
       keeps = λ blocks t ms le left.
-          let behind = quiet.keeps blocks t ms le left in
-          let size : size_of s ≡ n = same_size n (size_of s) (sym left.0 ∙ behind.0) in
-          subst (λ (k : ℕ). SpoolLeft g.D.Disk (disk_of s) k blocks t ms) size behind;
+          let after = quiet.keeps blocks t ms le left in
+          let size : size_of s ≡ n = same_size n (size_of s) (sym left.0 ∙ after.0) in
+          subst (λ (k : ℕ). SpoolLeft g.D.Disk (disk_of s) k blocks t ms) size after;
     })

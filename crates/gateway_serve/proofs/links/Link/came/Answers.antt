@@ -2,7 +2,7 @@ use Rattle.std.proofs.Common.{ℕ, List, Result, Ok, Err}
 use Rattle.spool_disk.specs.declared.disk.DiskFault.{DiskFault}
 use Rattle.tus_session.specs.History.{Came, Marked}
 use Rattle.gateway_serve.specs.Joined.{Alone, Joins, joint_of}
-use Rattle.gateway_serve.proofs.Behind.{served}
+use Rattle.gateway_serve.proofs.After.{served}
 use Rattle.gateway_serve.proofs.Talks.{alone_step}
 use Rattle.gateway_serve.proofs.Joints.{came_link, came_down}
 use Rattle.gateway_serve.proofs.links.Link.came.Goals as goal

@@ -3,7 +3,7 @@ use Rattle.spool_disk.specs.declared.disk.DiskFault.{DiskFault}
 use Rattle.tus_session.specs.History.{Marked}
 use Rattle.gateway_script.proofs.Counting.{uncounted}
 use Rattle.gateway_serve.specs.Joined.{Joins, joint_of}
-use Rattle.gateway_serve.proofs.Behind.{alone_behind}
+use Rattle.gateway_serve.proofs.After.{alone_after}
 use Rattle.gateway_serve.proofs.links.Link.give.Goals as goal
 
 pub returns-in-Err-clause-serves : goal.returns-in-Err-clause-serves
@@ -12,7 +12,7 @@ returns-in-Err-clause-serves g c = λ before st past ended went joins.
     let s = c.loop-calls.invariant.1 before st past ended went joins in
     let told : Result (Unit {0}) DiskFault = Err c.in-Err.fault in
     let Joined : List Marked → Type 0 = λ now. Joins (joint_of c.came.new.self) ended st now n in
-    alone_behind g.C.Connections before c.came.new.gateway st n past s.0 Joined Joined told s.2.0
+    alone_after g.C.Connections before c.came.new.gateway st n past s.0 Joined Joined told s.2.0
     (c.in-Err.ensures.serves before st s.0 ended s.1 s.2.1)
 
 pub loop-calls-preserved : goal.loop-calls-preserved
@@ -23,7 +23,7 @@ loop-calls-preserved g c = (
       let s = c.loop-calls.invariant.1 before st past ended went joins in
       let told : Result (Unit {0}) DiskFault = Ok tt in
       let Joined : List Marked → Type 0 = λ now. Joins (joint_of c.came.new.self) ended st now n in
-      alone_behind g.C.Connections before c.came.new.gateway st n past s.0 Joined Joined told s.2.0
+      alone_after g.C.Connections before c.came.new.gateway st n past s.0 Joined Joined told s.2.0
       (c.in-Ok.ensures.serves before st s.0 ended s.1 s.2.1),
   c.in-Ok.ensures.socket ∙ c.loop-calls.invariant.2,
 )

@@ -3,7 +3,7 @@ use Rattle.spool_disk.specs.declared.disk.DiskFault.{DiskFault}
 use Rattle.tus_session.specs.History.{More, Marked}
 use Rattle.tus_session.proofs.Limiting.{quiet_limits}
 use Rattle.gateway_serve.specs.Joined.{Alone, Joins, joint_of}
-use Rattle.gateway_serve.proofs.Behind.{served}
+use Rattle.gateway_serve.proofs.After.{served}
 use Rattle.gateway_serve.proofs.Talks.{alone_step}
 use Rattle.gateway_serve.proofs.Joints.{more_link, more_fell}
 use Rattle.gateway_serve.proofs.links.Link.more.Goals as goal

@@ -20,4 +20,4 @@ returns-in-Err-clause-stream g c =
 
 pub returns-in-Err-clause-lost : goal.returns-in-Err-clause-lost
 returns-in-Err-clause-lost g c =
-    failed_lost c.left_behind.result _ _ c.in-Err.ensures.latest c.left_behind.ensures.lost
+    failed_lost c.left_after.result _ _ c.in-Err.ensures.latest c.left_after.ensures.lost

@@ -3,7 +3,7 @@ use Rattle.tus_session.specs.History.{Ended, Marked}
 use Rattle.gateway_serve.specs.Joined.{Alone, PlaceJoins, PlaceFell}
 use Rattle.gateway_serve.specs.Sockets.{seen_of}
 use Rattle.gateway_serve.specs.declared.places.Place.TheVariants.{Free}
-use Rattle.gateway_serve.proofs.Behind.{served}
+use Rattle.gateway_serve.proofs.After.{served}
 use Rattle.gateway_serve.proofs.Talks.{alone_step}
 use Rattle.gateway_serve.proofs.Freed.{told_place, fallen_place}
 use Rattle.gateway_serve.proofs.places.Place.end.Goals as goal

@@ -4,7 +4,7 @@ use Rattle.tus_session.specs.History.{Opened}
 use Rattle.tus_session.specs.declared.errors.SessionError.{SessionError}
 use Rattle.tus_session.proofs.Limiting.{quiet_limits}
 use Rattle.gateway_serve.specs.Joined.{AllJoin, AllFell, places_of, ended_of}
-use Rattle.gateway_serve.proofs.Behind.{GoesOn, served}
+use Rattle.gateway_serve.proofs.After.{GoesOn, served}
 use Rattle.gateway_serve.proofs.All.{same_join, all_opened, all_unopened, all_fall}
 use Rattle.gateway_serve.proofs.serving.Server.accept.Goals as goal
 

@@ -19,29 +19,29 @@ last_of units long = ap (λ n. lead_of (get_or units (n - 1) 0)) (sym long)
 pub returns-then-not-are_paired-clause-units : goal.returns-then-not-are_paired-clause-units
 returns-then-not-are_paired-clause-units c =
     made c.args.bytes.now (is_big c.args.order) c.self.inside.odd c.args.self.now _ c.told-bytes
-    (ap (λ s. s.byte) c.self.view_is) c.units_behind-lanes.ensures
+    (ap (λ s. s.byte) c.self.view_is) c.units_after-lanes.ensures
 
 pub returns-then-not-are_paired-clause-paired : goal.returns-then-not-are_paired-clause-paired
 returns-then-not-are_paired-clause-paired c =
     let units = made c.args.bytes.now (is_big c.args.order) c.self.inside.odd c.args.self.now _ c.told-bytes
-    (ap (λ s. s.byte) c.self.view_is) c.units_behind-lanes.ensures in (
+    (ap (λ s. s.byte) c.self.view_is) c.units_after-lanes.ensures in (
       λ never. absurd (true≢false (sym never)),
       λ paired. sym c.if-not-are_paired.true ∙ c.are_paired.ensures.1
-          (subst (λ lead. ArePaired lead c.units_behind-lanes.result) (sym (ap (λ s. s.lead) c.self.view_is))
+          (subst (λ lead. ArePaired lead c.units_after-lanes.result) (sym (ap (λ s. s.lead) c.self.view_is))
           (subst (ArePaired c.args.self.now.lead) (sym units) paired)),
     )
 
 pub returns-clause-units : goal.returns-clause-units
 returns-clause-units c =
     made c.args.bytes.now (is_big c.args.order) c.self.inside.odd c.args.self.now _ c.told-bytes
-    (ap (λ s. s.byte) c.self.view_is) c.units_behind-lanes.ensures
+    (ap (λ s. s.byte) c.self.view_is) c.units_after-lanes.ensures
 
 pub returns-clause-paired : goal.returns-clause-paired
 returns-clause-paired c =
     let units = made c.args.bytes.now (is_big c.args.order) c.self.inside.odd c.args.self.now _ c.told-bytes
-    (ap (λ s. s.byte) c.self.view_is) c.units_behind-lanes.ensures in (
+    (ap (λ s. s.byte) c.self.view_is) c.units_after-lanes.ensures in (
       λ yes. subst (ArePaired c.args.self.now.lead) units
-          (subst (λ lead. ArePaired lead c.units_behind-lanes.result) (ap (λ s. s.lead) c.self.view_is)
+          (subst (λ lead. ArePaired lead c.units_after-lanes.result) (ap (λ s. s.lead) c.self.view_is)
           (c.are_paired.ensures.0 c.if-not-are_paired.false)),
       λ paired. refl,
     )
@@ -51,10 +51,10 @@ returns-clause-carried c =
     let big = is_big c.args.order in
     let bytes = c.args.bytes.now in
     let units = made bytes big c.self.inside.odd c.args.self.now _ c.told-bytes (ap (λ s. s.byte) c.self.view_is)
-    c.units_behind-lanes.ensures in
-    let long = ap length c.units_behind-lanes.ensures ∙ length-units_of big 32 _
+    c.units_after-lanes.ensures in
+    let long = ap length c.units_after-lanes.ensures ∙ length-units_of big 32 _
     (joined_long bytes c.told-bytes c.self.inside.odd) in
     ap₂ (λ byte lead. record { byte = byte; lead = lead })
-    (c.left_behind-self-inside.ensures ∙ ap (λ byte. left_over (with_carried byte bytes))
+    (c.left_after-self-inside.ensures ∙ ap (λ byte. left_over (with_carried byte bytes))
     (ap (λ s. s.byte) c.self.view_is))
-    (c.lead_in-self-inside.ensures.value ∙ last_of c.units_behind-lanes.result long ∙ ap last_lead units)
+    (c.lead_in-self-inside.ensures.value ∙ last_of c.units_after-lanes.result long ∙ ap last_lead units)

@@ -2,7 +2,7 @@ use Rattle.std.proofs.Common.{rules, ◌≡◌, ◌+◌, ◌*◌, ◌++◌, ℕ,
 use Rattle.std.proofs.Common.{subst}
 use Rattle.std.proofs.lemmas.Bool.{cases_Bool, both_ways}
 use Rattle.spool_journal.specs.Image.{text_page}
-use Rattle.spool_drafts.specs.Drafts.{IsBehind, IsLonger, with_piece, list_of, open_text}
+use Rattle.spool_drafts.specs.Drafts.{IsAfter, IsLonger, with_piece, list_of, open_text}
 use Rattle.spool_drafts.specs.Fresh.{StandsAt}
 use Rattle.spool_drafts.specs.Growth.{bytes_on, GrowsTo}
 use Rattle.spool_drafts.specs.declared.draft.SpoolDraft.{SpoolDraft}
@@ -72,7 +72,7 @@ returns-in_err-put g c = record {
   no_refusal = search rules;
   nothing = search rules;
   same = search rules;
-  behind = search rules;
+  after = search rules;
   placed = search rules;
   rows = search rules;
   reserved = search rules;
@@ -84,9 +84,9 @@ returns-in_err-put g c = record {
   content_on = search rules;
 }
 
-pub returns-clause-behind : goal.returns-clause-behind
-returns-clause-behind g c len state is =
-    subst (IsBehind len state) (sym c.go_on-2.ensures) record {
+pub returns-clause-after : goal.returns-clause-after
+returns-clause-after g c len state is =
+    subst (IsAfter len state) (sym c.go_on-2.ensures) record {
       committed = c.put.ensures.same.0 ∙ is.committed;
       goes_on = c.in-Ok.ensures.goes_on state is.goes_on;
       room = λ growing. is.room (c.in-Ok.ensures.growing growing);

@@ -30,7 +30,7 @@ module _ (bytes : List ℕ) (version : Version) (r : SlotRecord) (fits : FitsSlo
       ∙ eight_are bytes 0 0 (omega arith) (no_number bytes blank) in
       omega (arith, fits.some, zero)
 
-  -- zeros in the rest of the metadata's room, and behind the tag
+  -- zeros in the rest of the metadata's room, and after the tag
   room_blank : (end : ℕ) → end ≡ 66 + length r.metadata → IsPadded (slice_range bytes end 1602) []
   room_blank end is =
       let size : 1536 - length r.metadata ≡ 1602 - end = omega (arith, is) in

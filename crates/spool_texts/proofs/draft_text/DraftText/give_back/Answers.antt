@@ -22,7 +22,7 @@ loop-given-preserved c =
       todo = λ i lt. now (get_or list i 0) ∙ still_reserved list reserved k b here is distinct i (omega (arith, lt))
           (inv.todo i (omega (arith, lt)));
       given = λ i from lt. now (get_or list i 0) ∙ given_from list reserved k b here is distinct
-          (inv.todo k (omega (arith, here))) (λ j behind lt. inv.given j (omega (arith, behind)) lt) i
+          (inv.todo k (omega (arith, here))) (λ j after lt. inv.given j (omega (arith, after)) lt) i
           (omega (arith, from)) lt;
       others = λ other absent. now other ∙ others_same list reserved k b here is distinct other absent
           ∙ inv.others other absent;

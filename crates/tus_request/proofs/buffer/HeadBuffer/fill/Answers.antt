@@ -1,5 +1,5 @@
 use Rattle.std.proofs.Common.{◌-◌, List, ℕ, min, length, take, sym, ◌∙◌, ap, arith}
-use Rattle.tus_request.specs.Searches.{behind_bytes}
+use Rattle.tus_request.specs.Searches.{after_bytes}
 use Rattle.tus_request.specs.declared.search.Search.TheVariants.{Front}
 use Rattle.tus_request.proofs.Limits.{filled}
 use Rattle.tus_request.proofs.SearchLemmas.{search_on}
@@ -9,9 +9,9 @@ pub invariant_of-self-2-clause-searched : goal.invariant_of-self-2-clause-search
 invariant_of-self-2-clause-searched c =
     let old : List ℕ = c.args.self.now.bytes.items in
     let front = take c.min.result c.args.piece.now in
-    c.behind-self.ensures
-    ∙ (ap (λ s. behind_bytes s front) c.args.self.now.searched
-    ∙ (sym (search_on Front old front) ∙ ap (behind_bytes Front) (sym c.in_ok-extend_from_slice.ensures.items)))
+    c.after-self.ensures
+    ∙ (ap (λ s. after_bytes s front) c.args.self.now.searched
+    ∙ (sym (search_on Front old front) ∙ ap (after_bytes Front) (sym c.in_ok-extend_from_slice.ensures.items)))
 
 pub returns : goal.returns
 returns c =

@@ -17,5 +17,5 @@ pub returns : goal.returns
 returns c = λ w stands.
     let room = c.in_ok-admits.ensures.room refl in
     opens c.args.self.now w stands c.args.number c.args.offset c.args.count c.args.declare
-    (upload_of w.store c.args.number) c.in-Some.slot.now c.in-Some-behind.text refl (c.in-Some.ensures w stands) room.0
-    room.1 room.2 c.in_ok-admits.ensures.rules c.in-Some-behind.ensures.holds
+    (upload_of w.store c.args.number) c.in-Some.slot.now c.in-Some-after.text refl (c.in-Some.ensures w stands) room.0
+    room.1 room.2 c.in_ok-admits.ensures.rules c.in-Some-after.ensures.holds

@@ -79,10 +79,10 @@ returns-clause-answer c = λ w p stands there holds.
     same_slot t.slots.items place c.index_mut.result.now s
     (subst (λ (l : List Slot). place < length l) c.deref.ensures.value c.in-Some-place_of.ensures.within)
     c.index_mut.ensures.value c.index.ensures in
-    let new : Slot = c.put_behind.new.slot in
-    let r : Result ℕ UploadError = c.put_behind.result in
+    let new : Slot = c.append_to.new.slot in
+    let r : Result ℕ UploadError = c.append_to.result in
     let done = is_length c.in-Ok.declared (reached p) in
-    let put = c.put_behind.ensures.put w.store.next p up.0
+    let put = c.append_to.ensures.put w.store.next p up.0
     (subst (λ y. AppendStands y w.store.next p o) (sym stands.indexes) append)
     (as_before t w stands d p there v gone o taken place s first c.index.ensures same) unfinished known
     (subst (λ y. SlotStands y p.number up.0 c.index_mut.result.now) (sym stands.indexes)

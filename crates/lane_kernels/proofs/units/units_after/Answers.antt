@@ -2,8 +2,8 @@ use Rattle.std.proofs.Common.{take, ap, sym, ◌∙◌, arith}
 use Rattle.std.proofs.lemmas.List.{take_all}
 use Rattle.lane_kernels.specs.Orders.{is_big}
 use Rattle.lane_kernels.specs.Units.{units_of, with_carried}
-use Rattle.lane_kernels.proofs.units.units_behind.Goals as goal
-use Rattle.lane_kernels.proofs.units.units_behind.Goals.{in-None, in-Some}
+use Rattle.lane_kernels.proofs.units.units_after.Goals as goal
+use Rattle.lane_kernels.proofs.units.units_after.Goals.{in-None, in-Some}
 
 pub returns : goal.returns
 returns c =

@@ -1,7 +1,7 @@
 use Rattle.std.proofs.Common.{sym, ◌∙◌, ◌+◌, drop, arith}
 use Rattle.std.proofs.lemmas.List.{take_all, length-drop}
 use Rattle.tus_request.proofs.TextLemmas.{cut_some, cut_none}
-use Rattle.tus_request.proofs.texts.behind.Goals as goal
+use Rattle.tus_request.proofs.texts.after.Goals as goal
 
 pub returns-in-Some : goal.returns-in-Some
 returns-in-Some c =

@@ -21,7 +21,7 @@ use Rattle.spool_kept.proofs.CommitFits.{fits_given, fits_handed}
 use Rattle.spool_kept.proofs.CommitRefusals.{late, store_changed}
 use Rattle.spool_kept.proofs.CommitSpent as spent
 use Rattle.spool_kept.proofs.Drafted.{reserves_only}
-use Rattle.spool_kept.proofs.committing.put_behind.Goals as goal
+use Rattle.spool_kept.proofs.committing.append_to.Goals as goal
 
 -- THE DRAFTS THAT ARE LEFT
 

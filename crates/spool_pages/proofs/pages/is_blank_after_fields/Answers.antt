@@ -4,7 +4,7 @@ use Rattle.spool_pages.specs.Bytes.{IsPadded}
 use Rattle.spool_pages.specs.View.{Stands, first_page, state_page}
 use Rattle.spool_pages.proofs.Blank.{with_blank_rest, blank_rest, padded_of_stands}
 use Rattle.spool_pages.proofs.RecordBytes.{padded_stands}
-use Rattle.spool_pages.proofs.pages.is_blank_behind_fields.Goals as goal
+use Rattle.spool_pages.proofs.pages.is_blank_after_fields.Goals as goal
 
 module _ (page fields : List ℕ) (full : length page ≡ 4096) (long : length fields ≡ 12)
     (blank : Type 0) (exact : blank ↔ IsPadded (take 4084 (drop 12 page)) []) where

@@ -6,15 +6,15 @@ use Rattle.enc_model.specs.Stream.{steps, all_bytes, quick}
 use Rattle.enc_model.specs.Utf8.{Utf8, utf8, utf8_start, utf8_first}
 use Rattle.enc_model.proofs.Calm.{utf8_calm}
 use Rattle.enc_model.proofs.Steps.{steps_none, steps_one, steps_append}
-use Rattle.enc_unicode.specs.Utf8State.{utf8_behind, IsBehind}
+use Rattle.enc_unicode.specs.Utf8State.{utf8_after, IsAfter}
 
-pub behind_none : utf8_start ≡ utf8_behind []
-behind_none = ap (λ run. run.state) (sym (steps_none utf8 utf8_start))
+pub after_none : utf8_start ≡ utf8_after []
+after_none = ap (λ run. run.state) (sym (steps_none utf8 utf8_start))
 
 -- one byte more, which isn't read again
-pub behind_more : (s : Utf8) (b : ℕ) → s ≡ utf8_behind s.kept → (utf8 s (Some b)).restored ≡ [] →
-    (utf8 s (Some b)).state ≡ utf8_behind (s.kept ++ b ∷ [])
-behind_more s b is none =
+pub after_more : (s : Utf8) (b : ℕ) → s ≡ utf8_after s.kept → (utf8 s (Some b)).restored ≡ [] →
+    (utf8 s (Some b)).state ≡ utf8_after (s.kept ++ b ∷ [])
+after_more s b is none =
     let t = utf8 s (Some b) in
     ap (λ again. (all_bytes (quick utf8) t.state again).state) (sym none)
     ∙ ap (λ run. run.state) (sym (steps_one utf8 utf8_calm s b))
@@ -25,13 +25,13 @@ first_keeps : (b : ℕ) → (utf8_first b).restored ≡ []
 first_keeps b = grind (arith, common_steps)
 
 -- the first byte
-pub behind_first : (b : ℕ) → (utf8_first b).state ≡ utf8_behind (b ∷ [])
+pub after_first : (b : ℕ) → (utf8_first b).state ≡ utf8_after (b ∷ [])
 unfolding utf8
-behind_first b = behind_more utf8_start b behind_none (first_keeps b)
+after_first b = after_more utf8_start b after_none (first_keeps b)
 
 -- a state that is where the first byte leads
-pub behind_lead : (b : ℕ) (s : Utf8) → s.kept ≡ b ∷ [] → s ≡ (utf8_first b).state → IsBehind s
-behind_lead b s kept is = is ∙ behind_first b ∙ ap utf8_behind (sym kept)
+pub after_lead : (b : ℕ) (s : Utf8) → s.kept ≡ b ∷ [] → s ≡ (utf8_first b).state → IsAfter s
+after_lead b s kept is = is ∙ after_first b ∙ ap utf8_after (sym kept)
 
 goes_on : (s : Utf8) (b : ℕ) → (s.needed ≡ 0 → ⊥) → (s.needed ≡ 1 → ⊥) → s.lower ≤ b → b ≤ s.upper →
     utf8 s (Some b)
@@ -50,17 +50,17 @@ unfolding utf8
 goes_on s b some more low high = grind (arith, common_steps)
 
 -- one byte more, where more than one is needed
-pub behind_next : (s : Utf8) (b : ℕ) (kept : List ℕ) → IsBehind s → (s.needed ≡ 0 → ⊥) → (s.needed ≡ 1 → ⊥)
+pub after_next : (s : Utf8) (b : ℕ) (kept : List ℕ) → IsAfter s → (s.needed ≡ 0 → ⊥) → (s.needed ≡ 1 → ⊥)
     → s.lower ≤ b → b ≤ s.upper →
     kept ≡ s.kept ++ b ∷ [] →
-    IsBehind (record {
+    IsAfter (record {
       needed = s.needed - 1;
       lower = 0x80;
       upper = 0xBF;
       point = s.point * 64 + (b - 0x80);
       kept = kept;
     })
-behind_next s b kept is some more low high more_kept =
+after_next s b kept is some more low high more_kept =
     let e = goes_on s b some more low high in
     let next : Utf8 = record {
       needed = s.needed - 1;
@@ -69,8 +69,8 @@ behind_next s b kept is some more low high more_kept =
       point = s.point * 64 + (b - 0x80);
       kept = s.kept ++ b ∷ [];
     } in
-    let here : IsBehind next = sym (ap (λ t. t.state) e) ∙ behind_more s b is (ap (λ t. t.restored) e) in
-    subst (λ z. IsBehind (record {
+    let here : IsAfter next = sym (ap (λ t. t.state) e) ∙ after_more s b is (ap (λ t. t.restored) e) in
+    subst (λ z. IsAfter (record {
       needed = s.needed - 1;
       lower = 0x80;
       upper = 0xBF;

@@ -6,7 +6,7 @@ use Rattle.upload_rules.specs.Store.{Upload, with_length, is_complete}
 use Rattle.upload_rules.specs.Slots.{SlotStands}
 use Rattle.upload_rules.specs.Appends.{IsPut}
 use Rattle.upload_rules.proofs.Commits.{not_put, put_there, reaches, holds_with_length, complete_patched}
-use Rattle.upload_rules.proofs.appends.OpenAppend.put_behind.Goals as goal
+use Rattle.upload_rules.proofs.appends.OpenAppend.append_to.Goals as goal
 
 pub returns-in_err-state-clause-put : goal.returns-in_err-state-clause-put
 returns-in_err-state-clause-put c = λ next p u stands since open_still length_is kept.

@@ -8,7 +8,7 @@ use Rattle.upload_rules.specs.Lengths.{is_length}
 use Rattle.upload_rules.specs.Store.{text_with, is_complete}
 use Rattle.upload_rules.specs.States.{transcoder_with, state_with}
 use Rattle.upload_rules.proofs.Transcoders.{reads}
-use Rattle.upload_rules.proofs.new_text.NewText.behind.Goals as goal
+use Rattle.upload_rules.proofs.new_text.NewText.after.Goals as goal
 
 pub returns-in_err-unpack-clause-holds : goal.returns-in_err-unpack-clause-holds
 unfolding state_with

@@ -1,7 +1,7 @@
 use Rattle.std.proofs.Common.{ap, sym, ◌∙◌}
 use Rattle.lane_kernels.specs.Units.{with_carried, left_over}
 use Rattle.lane_kernels.proofs.Made.{left_of_none, left_of_one}
-use Rattle.lane_kernels.proofs.units.left_behind.Goals as goal
+use Rattle.lane_kernels.proofs.units.left_after.Goals as goal
 
 pub returns-in-None : goal.returns-in-None
 returns-in-None c = sym (left_of_none c.args.bytes.now c.told-bytes) ∙ ap

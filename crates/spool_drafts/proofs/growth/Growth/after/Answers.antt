@@ -2,8 +2,8 @@ use Rattle.std.proofs.Common.{◌≡◌, ◌*◌, ◌/◌, ◌%◌, ◌++◌, �
 use Rattle.spool_texts.specs.TextOn.{text_on}
 use Rattle.spool_drafts.specs.Growth.{front_on}
 use Rattle.spool_drafts.proofs.Contents.{tail_on, no_tail_on}
-use Rattle.spool_drafts.proofs.growth.Growth.behind.Goals as goal
-use Rattle.spool_drafts.proofs.growth.Growth.behind.Goals.{then-text_len-eq0, else-text_len-eq0}
+use Rattle.spool_drafts.proofs.growth.Growth.after.Goals as goal
+use Rattle.spool_drafts.proofs.growth.Growth.after.Goals.{then-text_len-eq0, else-text_len-eq0}
 
 pub returns-clause-bytes : goal.returns-clause-bytes
 returns-clause-bytes c seen first =

@@ -1,4 +1,4 @@
--- What serving did, behind one call of the session more.
+-- What serving did, after one call of the session more.
 use Rattle.std.proofs.Common.{◌≡◌, ◌↔◌, ℕ, false, true, List, ◌∷◌, Result, Ok, Err, inr, refl}
 use Rattle.std.specs.Prelude.{IsErr, IsErrOf}
 use Rattle.spool_disk.specs.declared.disk.DiskFault.{DiskFault}
@@ -15,7 +15,7 @@ use Rattle.gateway_serve.specs.Served.{WentOn, Serves}
 use Rattle.gateway_serve.specs.Joined.{Alone}
 use Rattle.gateway_serve.proofs.Talks.{alone_then}
 
--- serving goes on behind every answer but the device's fault
+-- serving goes on after every answer but the disk fault
 abbrev pub GoesOn : {T U : Type 0} → Result T SessionError → Result U DiskFault → Type 0
 GoesOn answer told = IsErr told ↔ IsErrOf answer errors.DiskFault
 
@@ -26,12 +26,12 @@ module _ {C : Type 0} (c : Ghosts C) (before old now : C) (st : State) (past : L
     (w : WentOn c before old st past)
     (durable : (ms : List Store) → Among (history st past).world.store ms
     → c.left_only old (history st past).world.blocks (c.moment old) ms) where
-  -- what images may show behind a call that answered so
+  -- what images may show after a call that answered so
   abbrev pub Leaves : {T : Type 0} → Result T SessionError → Type 0
   Leaves answer = Limits (c.moment old) (c.moment now) (c.left_only old) (c.left_only now) (history st past).world.store
       (shown_by (history st past) e (mark_of answer))
 
-  -- where the connections are behind it
+  -- where the connections are after it
   abbrev pub Keeps : {T : Type 0} → Result T SessionError → Type 0
   Keeps answer = UnlessFailed answer (c.stands now (step (history st past) e (mark_of answer)).state)
 
@@ -92,7 +92,7 @@ module _ {C : Type 0} (c : Ghosts C) (before old now : C) (st : State) (past : L
       down refl,
     )
 
--- what holds of the events behind a part of serving, from what it says of them
+-- what holds of the events after a part of serving, from what it says of them
 pub followed : {C T : Type 0} (c : Ghosts C) (before now : C) (st : State) (On Down On' Down' : List Marked
     → Type 0) (told : Result T DiskFault) → Serves c before now st told On Down
     → ((past : List Marked) → On past → On' past) → ((past : List Marked) → Down past → Down' past)
@@ -100,12 +100,12 @@ pub followed : {C T : Type 0} (c : Ghosts C) (before now : C) (st : State) (On D
 followed c before now st On Down On' Down' (Ok x) s on down = (s.0, s.1, on s.0 s.2)
 followed c before now st On Down On' Down' (Err y) s on down = (s.0, s.1, s.2, down _ s.3)
 
--- of one connection alone, behind others of its events
-pub alone_behind : {C T : Type 0} (c : Ghosts C) (before now : C) (st : State) (n : ℕ) (past mid : List Marked)
+-- of one connection alone, after others of its events
+pub alone_after : {C T : Type 0} (c : Ghosts C) (before now : C) (st : State) (n : ℕ) (past mid : List Marked)
     (On Down : List Marked → Type 0) (told : Result T DiskFault) → Alone st n past mid
     → Serves c before now st told (λ p. Alone st n mid p × On p) (λ p. Alone st n mid p × Down p)
     → Serves c before now st told (λ p. Alone st n past p × On p) (λ p. Alone st n past p × Down p)
-alone_behind c before now st n past mid On Down told first s =
+alone_after c before now st n past mid On Down told first s =
     followed c before now st (λ p. Alone st n mid p × On p) (λ p. Alone st n mid p × Down p) (λ p. Alone st n past p
     × On p) (λ p. Alone st n past p × Down p) told s (λ p x. (alone_then first x.0, x.1))
     (λ p x. (alone_then first x.0, x.1))
