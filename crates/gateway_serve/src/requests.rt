@@ -63,16 +63,23 @@ impl Request {
         }
     }
 
-    /// More of it came. The speed of the body is measured from the head's end on.
+    /// More of it came. The bytes of a body are counted, and not looked at.
     pub(crate) fn add(&mut self, bytes: &[u8], now: Duration) {
-        let had_head = self.has_head();
-        for byte in bytes {
-            self.head = self.head.after(*byte);
-        }
-        if self.has_head() && !had_head {
-            self.measure_from(now);
+        if !self.has_head() {
+            self.look_for_end(bytes, now);
         }
         self.brought = self.brought.saturating_add(bytes.len() as u64);
+    }
+
+    // Looks for the head's end, from which on the speed of the body is measured.
+    fn look_for_end(&mut self, bytes: &[u8], now: Duration) {
+        for byte in bytes {
+            self.head = self.head.after(*byte);
+            if self.has_head() {
+                self.measure_from(now);
+                break;
+            }
+        }
     }
 
     /// Measures the speed of the body anew, where it was measured for ten seconds.
