@@ -26,7 +26,8 @@ use Rattle.upload_rules.specs.Store.{Store}
 use Rattle.tus_session.specs.History.{State, Mark, Marked, beginning, history}
 use Rattle.gateway_script.specs.Script as script
 use Rattle.gateway_script.specs.Script.{script as the_script, Exit}
-use Rattle.gateway_script.specs.Images.{IsFirst, output_of, last_output, last_stores, WroteMost}
+use Rattle.tus_session.specs.Images.{last_stores}
+use Rattle.gateway_script.specs.Outputs.{IsFirst, output_of, last_output, WroteMost}
 use Rattle.gateway_script.specs.declared.faults.CallFault.TheVariants as calls
 use Rattle.gateway_engine.specs.Ran.{CountsEither}
 use Rattle.gateway_engine.specs.RanOn.{AllShowOne, HasFailedOn, HasRefusedOn, EndedOn, Unopened, UnopenedOn, HasRunOn}

@@ -15,7 +15,8 @@ use Rattle.upload_rules.specs.Store.{Store, Upload, upload_of}
 use Rattle.tus_session.specs.History.{State, Mark, Marked, beginning, history}
 use Rattle.gateway_script.specs.Script as script
 use Rattle.gateway_script.specs.Script.{script as the_script, Ran, AtLine, Faulted}
-use Rattle.gateway_script.specs.Images.{IsFirst, output_of, last_stores, WroteMost}
+use Rattle.tus_session.specs.Images.{last_stores}
+use Rattle.gateway_script.specs.Outputs.{IsFirst, output_of, WroteMost}
 use Rattle.gateway_script.specs.declared.faults.CallFault.TheVariants as calls
 use Rattle.gateway_engine.specs.RanOn.{AllShowOne}
 use Rattle.gateway_engine.specs.declared.faults.RunFault.{RunFault}
