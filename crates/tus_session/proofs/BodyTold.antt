@@ -398,7 +398,7 @@ module _ {U B : Type 0} (u : Ghosts U B) (store : U) (w : World) (conn : Conn) (
       → TurnedAs u store link a out out w conn.draft (came_turn w conn bytes)
   skip_told link a out bytes e f =
       subst (λ x. TurnedAs u store link a out out w x.draft (came_turn w x bytes)) (conn_is conn None is.draft
-          is.pending)
+      is.pending)
       (dropped_told link a out bytes e f)
 
 pub text_turn_is : (w : World) (conn : Conn) (bytes : List ℕ) (h : Giving) → conn.pending ≡ Some h

@@ -132,8 +132,12 @@ module _ {U B : Type 0} (u : Ghosts U B) where
     none_turned old new closes (Some h) given e = absurd given
     none_turned old new closes None given e =
         subst (λ d. TurnedAs u store (link_after head left closes) (gave closes false) old new w d
-        (record { world = w; conn = given_up (record conn { draft = d }) closes None; bytes = piece_of is.h; taken = 0
-            }))
+        (record {
+          world = w;
+          conn = given_up (record conn { draft = d }) closes None;
+          bytes = piece_of is.h;
+          taken = 0;
+        }))
         (sym is.draft)
         (answered_here u store (link_after head left closes) (gave closes false) old new (piece_of is.h) w w None head
         left 0 closes conn.stream (cut (reader w) conn.stream).rest stands (still w None) refl is.rest refl refl e)
