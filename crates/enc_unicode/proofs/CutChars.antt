@@ -60,7 +60,7 @@ char_cut lead n x ts ys is l a e =
 pub one_cut : (bytes : List ℕ) (n t : ℕ) → IsLead (get_or bytes 0 0) n → t < n → 1 + t < length bytes
     → ((k : ℕ) → k < t → IsTrail (get_or (take (length bytes - 1) (drop 1 bytes)) k 0))
     → within 0x80 0xBF (get_or (take (length bytes - 1) (drop 1 bytes)) t 0) ≡ false → AreCut bytes (1 + t) (0xFFFD ∷
-        [])
+    [])
 one_cut [] n t is l inside trails end k some = absurd (omega (arith, inside))
 one_cut (lead ∷ rest) n t is l inside trails end zero some = absurd (omega (arith, some))
 one_cut (lead ∷ rest) n t is l inside trails end (suc k) some =

@@ -22,5 +22,5 @@ returns-clause-found g c honest bytes still =
     let wide : length c.read_at.new.buf ≡ 4096 = search rules in
     let here : state_place c.args.layout ≡ c.state_place.result + 0 = omega (arith, c.state_place.ensures) in
     state_read bytes c.args.layout _ c.read_at.new.buf c.found_in.result (c.in_ok-read_at.ensures.bytes honest bytes
-        still)
+    still)
     wide here c.found_in.ensures.layout c.found_in.ensures.fields c.found_in.ensures.rest c.found_in.ensures.unknown

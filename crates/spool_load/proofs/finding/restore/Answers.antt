@@ -79,7 +79,7 @@ returns-clause-found g c honest says =
     let size = g.D.Disk.size c.args.disk.now in
     subst (λ (r : Result Found OpenFault). IfOk r (FoundOn size was)) (sym c.ok_or.ensures.value)
     (restored c.args.layout was now (g.D.Disk.loose c.recover.new.disk) settled (c.in_ok-recover.ensures.form honest)
-        size
+    size
     c.in_ok-load_state.field-0 c.in_ok-load_state.ensures.layout says
     (c.in_ok-load_state.ensures.found (c.recover.ensures.honest.0 honest) now (settled_still settled)))
 
