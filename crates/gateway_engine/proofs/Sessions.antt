@@ -15,7 +15,7 @@ use Rattle.tus_session.specs.Stands.{SessionStands}
 use Rattle.tus_session.specs.Told as told
 use Rattle.tus_session.specs.Told.{Told, Opens}
 use Rattle.tus_session.specs.declared.answers.Answer.{Answer}
-use Rattle.tus_session.specs.declared.conns.Place.{Place}
+use Rattle.tus_session.specs.declared.conns.Link.{Link}
 use Rattle.tus_session.specs.declared.errors.SessionError.{SessionError}
 use Rattle.tus_session.specs.declared.errors.SessionError.TheVariants.{NoMemory, DiskFault, TooMany, Closed, Down}
 use Rattle.tus_session.proofs.Limiting.{still_limits}
@@ -78,7 +78,7 @@ FallsBy down result = (down ≡ true) ↔ IsErrOf result DiskFault
 
 -- HOW A CALL OF THE SESSION LEAVES THE GATEWAY
 module _ {U B : Type 0} (u : Ghosts U B) (g : Gateway U B) (st : State) (e : Event) where
-  abbrev places : List (Place B)
+  abbrev places : List (Option (Link B))
   places = places_of g.session
 
   abbrev stands : State → Type 0
