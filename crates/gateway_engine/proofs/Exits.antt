@@ -7,13 +7,14 @@ use Rattle.std.specs.Io.KnownBytes.{Appends}
 use Rattle.upload_rules.specs.Store.{Store}
 use Rattle.upload_rules.specs.Answers.{Among, Quiet, Counts}
 use Rattle.upload_rules.specs.declared.uploads.Uploads.{Ghosts}
-use Rattle.gateway_script.proofs.Seen.{first_store, all_themselves}
+use Rattle.tus_session.proofs.Images.{first_store, all_themselves}
 use Rattle.tus_session.specs.History.{State, Mark, Marked}
+use Rattle.tus_session.specs.Images.{stores_of, last_stores, last_blocks, ShowsLast, LimitsTo}
 use Rattle.gateway_script.proofs.Outputs.{appends_nothing}
 use Rattle.gateway_script.specs.Script as script
 use Rattle.gateway_script.specs.Script.{script as the_script, Run, run_lines, script_lines, run_from, ended_as, Exit}
 use Rattle.gateway_script.specs.Script.{Ran, AtLine, Faulted}
-use Rattle.gateway_script.specs.Images.{IsFirst, stores_of, last_stores, last_blocks, ShowsLast, LimitsTo}
+use Rattle.gateway_script.specs.Outputs.{IsFirst}
 use Rattle.gateway_script.specs.Runs.{View, with_marks, IsHistory, IsAt, IsDown, Reaches, Stops, script_past, Ends}
 use Rattle.gateway_script.specs.Script.{IsScript}
 use Rattle.gateway_engine.specs.Ran.{Shows, Rests, EndedSo, RestsSo, FailedSo, StoppedSo, HasRun, HasFailed}

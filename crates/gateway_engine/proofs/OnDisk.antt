@@ -16,8 +16,8 @@ use Rattle.upload_rules.specs.Store.{Store}
 use Rattle.upload_rules.specs.World.{Patch, World}
 use Rattle.upload_rules.specs.declared.uploads.Uploads as uploads
 use Rattle.tus_session.specs.History.{State, Marked, beginning, history}
+use Rattle.tus_session.specs.Images.{AllAmong, stores_of, last_stores}
 use Rattle.gateway_engine.specs.Faults.{run_fault}
-use Rattle.gateway_script.specs.Images.{AllAmong, stores_of, last_stores}
 use Rattle.gateway_script.specs.Script as script
 use Rattle.gateway_script.specs.Script.{Exit, Faulted}
 use Rattle.gateway_engine.specs.Ran.{Shows, Rests, EndedSo, RestsSo, FailedSo, StoppedSo, HasRun}

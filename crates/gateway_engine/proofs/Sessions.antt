@@ -19,8 +19,8 @@ use Rattle.tus_session.specs.declared.conns.Link.{Link}
 use Rattle.tus_session.specs.declared.errors.SessionError.{SessionError}
 use Rattle.tus_session.specs.declared.errors.SessionError.TheVariants.{NoMemory, DiskFault, TooMany, Closed, Down}
 use Rattle.tus_session.proofs.Limiting.{still_limits}
-use Rattle.gateway_script.specs.Connections.{Gives, Does, mark_of}
-use Rattle.gateway_script.specs.Images.{shown_by}
+use Rattle.tus_session.specs.Connections.{Gives, Does, mark_of}
+use Rattle.tus_session.specs.Images.{shown_by}
 use Rattle.gateway_engine.specs.Gateways.{GatewayStands, is_down}
 use Rattle.gateway_engine.specs.declared.gateway.Gateway.{Gateway}
 

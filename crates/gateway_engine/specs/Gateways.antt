@@ -8,7 +8,7 @@ use Rattle.upload_rules.specs.declared.uploads.Uploads.{Ghosts}
 use Rattle.tus_session.specs.History.{State}
 use Rattle.tus_session.specs.Places.{places_of}
 use Rattle.tus_session.specs.Stands.{SessionStands}
-use Rattle.gateway_script.specs.declared.connections.Connections as connections
+use Rattle.tus_session.specs.declared.connections.Connections as connections
 use Rattle.gateway_engine.specs.declared.gateway.Gateway.{Gateway}
 
 -- the uploads that it has

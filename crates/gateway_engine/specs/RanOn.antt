@@ -10,9 +10,10 @@ use Rattle.spool_kept.specs.declared.error.OpenFault.{OpenFault}
 use Rattle.spool_kept.specs.declared.error.OpenFault.TheVariants as opens
 use Rattle.upload_rules.specs.Store.{Store}
 use Rattle.tus_session.specs.History.{State, Mark, Marked, history}
+use Rattle.tus_session.specs.Images.{AllAmong, stores_of, last_stores}
 use Rattle.gateway_script.specs.Script as script
 use Rattle.gateway_script.specs.Script.{script as the_script, Exit, Ran, AtLine, Faulted}
-use Rattle.gateway_script.specs.Images.{AllAmong, IsFirst, output_of, stores_of, last_stores, WroteMost}
+use Rattle.gateway_script.specs.Outputs.{IsFirst, output_of, WroteMost}
 use Rattle.gateway_script.specs.declared.faults.CallFault.{CallFault}
 use Rattle.gateway_script.specs.declared.faults.CallFault.TheVariants as calls
 use Rattle.gateway_engine.specs.declared.faults.RunFault.{RunFault}

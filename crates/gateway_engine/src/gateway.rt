@@ -6,9 +6,8 @@ ghost use Rattle.upload_rules.specs.Answers.{Quiet};
 ghost use Rattle.tus_session.specs.History.{State, beginning};
 ghost use Rattle.gateway_engine.specs.Gateways.{GatewayStands, store_of, is_down};
 
-use gateway_script::Connections;
 use std::alloc::{AllocError, Global};
-use tus_session::{Answer, Session, SessionError};
+use tus_session::{Answer, Connections, Session, SessionError};
 use upload_rules::Uploads;
 
 /// A session, and the store of uploads that all its calls are given.

@@ -8,8 +8,7 @@ mod spools;
 
 pub use faults::RunFault;
 pub use gateway::Gateway;
-pub use gateway_script::{
-    CallFault, Connections, Counted, CountedRead, CountedWrite, Refused, ScriptFault,
-};
+pub use gateway_script::{CallFault, Counted, CountedRead, CountedWrite, Refused, ScriptFault};
 pub use scripts::run_over;
 pub use spools::run;
+pub use tus_session::Connections;

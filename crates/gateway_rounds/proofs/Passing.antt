@@ -24,16 +24,17 @@ use Rattle.spool_pages.specs.View.{View}
 use Rattle.spool_pages.specs.declared.version.Version.TheVariants.{Two}
 use Rattle.upload_rules.specs.Store.{Store}
 use Rattle.tus_session.specs.History.{State, Mark, Marked, beginning, history}
+use Rattle.tus_session.specs.Images.{last_stores}
 use Rattle.gateway_script.specs.Script as script
 use Rattle.gateway_script.specs.Script.{script as the_script, Exit}
-use Rattle.gateway_script.specs.Images.{IsFirst, output_of, last_output, last_stores, WroteMost}
+use Rattle.gateway_script.specs.Outputs.{IsFirst, output_of, last_output, WroteMost}
 use Rattle.gateway_script.specs.declared.faults.CallFault.TheVariants as calls
 use Rattle.gateway_engine.specs.Ran.{CountsEither}
 use Rattle.gateway_engine.specs.RanOn.{AllShowOne, HasFailedOn, HasRefusedOn, EndedOn, Unopened, UnopenedOn, HasRunOn}
 use Rattle.gateway_engine.specs.declared.faults.RunFault.{RunFault}
 use Rattle.gateway_engine.specs.declared.faults.RunFault.TheVariants.{Open, NoMemory, DiskFault, Script, Io}
-use Rattle.gateway_rounds.specs.Rounds.{OpensWith, Crashes, IsFault, left_by_run, left_by_upgrade, IsWhole, EndsAs, Passes}
-use Rattle.gateway_rounds.specs.Rounds.{UpgradeEnds, UpgradeLeaves}
+use Rattle.gateway_rounds.specs.Rounds.{OpensWith, Crashes, IsFault, left_by_run, left_by_upgrade, IsWhole, EndsAs}
+use Rattle.gateway_rounds.specs.Rounds.{Passes, UpgradeEnds, UpgradeLeaves}
 
 -- WHAT WAS WRITTEN
 

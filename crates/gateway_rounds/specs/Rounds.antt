@@ -1,5 +1,5 @@
--- The rounds of a disk's life. In each it is opened and a script is run over it, or it is brought to version 2, and then
--- it crashes, or it goes on as it is.
+-- The rounds of a disk's life. In each it is opened and a script is run over it, or it is brought to version 2, and
+-- then it crashes, or it goes on as it is.
 use Rattle.std.specs.Prelude.{◌≡◌, ℕ, List, [], ◌∷◌, ◌++◌, Option, Some, None, take}
 use Rattle.spool_disk.specs.Disk.{Counts, IsImage}
 use Rattle.spool_disk.specs.declared.disk.Disk.{Ghosts}
@@ -13,9 +13,10 @@ use Rattle.spool_kept.specs.declared.error.OpenFault.TheVariants as opens
 use Rattle.upload_rules.specs.Answers.{Among}
 use Rattle.upload_rules.specs.Store.{Store, Upload, upload_of}
 use Rattle.tus_session.specs.History.{State, Mark, Marked, beginning, history}
+use Rattle.tus_session.specs.Images.{last_stores}
 use Rattle.gateway_script.specs.Script as script
 use Rattle.gateway_script.specs.Script.{script as the_script, Ran, AtLine, Faulted}
-use Rattle.gateway_script.specs.Images.{IsFirst, output_of, last_stores, WroteMost}
+use Rattle.gateway_script.specs.Outputs.{IsFirst, output_of, WroteMost}
 use Rattle.gateway_script.specs.declared.faults.CallFault.TheVariants as calls
 use Rattle.gateway_engine.specs.RanOn.{AllShowOne}
 use Rattle.gateway_engine.specs.declared.faults.RunFault.{RunFault}
@@ -81,8 +82,8 @@ pub record Passes (n : ℕ) (m : Store) (bytes : List ℕ) (fault : Option RunFa
 abbrev pub read_of : List ℕ → List ℕ
 read_of bytes = take 1073741825 bytes
 
--- A run as it was told, from a disk to the disk that came back. It ends with `Io` exactly where what it wrote was refused
--- to grow
+-- A run as it was told, from a disk to the disk that came back. It ends with `Io` exactly where what it wrote was
+-- refused to grow
 pub record IsRun {D : Type 0} (disk : Ghosts D) (n : ℕ) (given back : D) (before left : List Store)
     (run told : RunOf) : Type 0 where
   pub script : told.script ≡ run.script
@@ -127,8 +128,8 @@ pub record IsUpgrade {D : Type 0} (disk : Ghosts D) (n : ℕ) (given back : D) (
 
 -- THE END OF A ROUND
 
--- The crash that was chosen left one of the images that it may leave, all of it synced, which shows one of the stores. It
--- is no failure of the disk
+-- The crash that was chosen left one of the images that it may leave, all of it synced, which shows one of the stores.
+-- It is no failure of the disk
 pub record Crashes {D C : Type 0} (disk : Ghosts D) (chosen : C → D → D → Type 0) (how : C) (back after : D)
     (left next : List Store) : Type 0 where
   pub is : chosen how back after

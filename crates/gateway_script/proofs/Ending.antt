@@ -10,8 +10,8 @@ use Rattle.tus_session.specs.History.{failed_at, is_closed}
 use Rattle.tus_session.specs.Turns.{Conn}
 use Rattle.tus_session.specs.declared.errors.SessionError.{SessionError}
 use Rattle.tus_session.specs.declared.errors.SessionError.TheVariants as errors
-use Rattle.gateway_script.specs.Connections.{Does, mark_of}
-use Rattle.gateway_script.specs.Images.{shown_by}
+use Rattle.tus_session.specs.Connections.{Does, mark_of}
+use Rattle.tus_session.specs.Images.{shown_by}
 use Rattle.gateway_script.specs.Script as script
 use Rattle.gateway_script.specs.Script.{Run, call, Order, obeyed, order_in, is_long, is_bad, cut_next, cut_from}
 use Rattle.gateway_script.specs.Script.{run_lines, script_lines, onto_line, ended_as, finished, Ran, Faulted, AtLine}

@@ -1,7 +1,6 @@
 pub mod Outputs
 pub mod Taking
 pub mod Passing
-pub mod Counting
 pub mod Seen
 pub mod Turns
 pub mod Reaching

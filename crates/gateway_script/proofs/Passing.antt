@@ -8,7 +8,7 @@ use Rattle.gateway_script.specs.Script as script
 use Rattle.gateway_script.specs.Script.{Run, Flow, flow, call, next_mark, mores, mores_after, most_calls, onward}
 use Rattle.gateway_script.specs.Script.{given_after, give_within, Order, Skip, Open, Give, Hang, Bad, obeyed, order_in}
 use Rattle.gateway_script.specs.Script.{is_long, is_bad, cut_next, cut_from, run_lines, ended_as, Faulted, AtLine}
-use Rattle.gateway_script.specs.Images.{IsFirst}
+use Rattle.gateway_script.specs.Outputs.{IsFirst}
 use Rattle.gateway_script.specs.Runs.{with_marks, Reaches, Passes}
 
 pub first_same : (a : List Marked) → IsFirst a a

@@ -7,10 +7,10 @@ use Rattle.tus_session.specs.History.{Event, Mark, Served, Outcome, Gave, Done, 
 use Rattle.tus_session.specs.declared.answers.Answer.{Answer}
 use Rattle.tus_session.specs.declared.errors.SessionError.{SessionError}
 use Rattle.tus_session.specs.declared.errors.SessionError.TheVariants as errors
+use Rattle.tus_session.specs.Connections.{Falls, mark_of, Gives, Does, UnlessFailed}
+use Rattle.tus_session.specs.Images.{shown_by}
 use Rattle.gateway_script.specs.declared.faults.CallFault.{CallFault}
 use Rattle.gateway_script.specs.declared.faults.CallFault.TheVariants as faults
-use Rattle.gateway_script.specs.Connections.{Falls, mark_of, Gives, Does, UnlessFailed}
-use Rattle.gateway_script.specs.Images.{shown_by}
 use Rattle.gateway_script.specs.Outputs.{AppendsPart}
 use Rattle.gateway_script.specs.Script.{Run, call, is_fault, written}
 use Rattle.gateway_script.specs.Runs.{View, with_marks, stepped, Calls, Called, IsAt, IsDown, IsStopped, Leads, Stops}

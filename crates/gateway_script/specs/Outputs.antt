@@ -1,9 +1,34 @@
--- Parts of what a run writes.
-use Rattle.std.specs.Prelude.{◌≡◌, ℕ, List, [], ◌∷◌, ◌++◌, codes, Option, Result, Ok, Err}
+-- What is written of a list of events, and parts of it. Of each list the latest event is first.
+use Rattle.std.specs.Prelude.{◌≡◌, ◌⊎◌, ℕ, List, [], ◌∷◌, ◌++◌, drop, codes, Option, Result, Ok, Err}
 use Rattle.std.specs.Fmt.{decimal}
 use Rattle.std.specs.Io.KnownBytes.{Appends}
+use Rattle.tus_session.specs.History.{State, Marked, step, history, conn_in}
+use Rattle.gateway_script.specs.Script.{written}
 use Rattle.gateway_script.specs.declared.faults.CallFault.{CallFault}
-use Rattle.gateway_script.specs.declared.faults.CallFault.TheVariants.{Io}
+use Rattle.gateway_script.specs.declared.faults.CallFault.TheVariants.{NoMemory, DiskFault, Io}
+
+-- THE OUTPUT of the latest event
+abbrev pub last_output : State → List Marked → List ℕ
+last_output st [] = []
+last_output st (e ∷ past) = written (conn_in e.0) (step (history st past) e.0 e.1).outcome
+
+-- the output of all events
+abbrev pub output_of : State → List Marked → List ℕ
+output_of st [] = []
+output_of st (e ∷ past) = output_of st past ++ last_output st (e ∷ past)
+
+-- these are the first of all events
+abbrev pub IsFirst : List Marked → List Marked → Type 0
+IsFirst first all = (later : List Marked) × (all ≡ later ++ first)
+
+-- What was written of these events by a run that was broken off: all, but nothing of the latest where memory was
+-- wanting, or of the latest a front part, where the writer failed
+abbrev pub WroteMost : CallFault → State → List Marked → List ℕ → Type 0
+WroteMost NoMemory st past out = (out ≡ output_of st past) ⊎ (out ≡ output_of st (drop 1 past))
+WroteMost Io st past out =
+    (part : List ℕ) × (missing : List ℕ) × (last_output st past ≡ part ++ missing) × (out ≡ output_of st
+    (drop 1 past) ++ part)
+WroteMost DiskFault st past out = ⊥
 
 -- a front part of the bytes was put after what was there
 abbrev pub AppendsPart : Option (List ℕ) → Option (List ℕ) → List ℕ → Type 0

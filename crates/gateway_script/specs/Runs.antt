@@ -6,12 +6,12 @@ use Rattle.tus_session.specs.declared.answers.Answer.{Answer}
 use Rattle.std.specs.Io.KnownBytes.{Appends}
 use Rattle.tus_session.specs.declared.errors.SessionError.{SessionError}
 use Rattle.tus_session.specs.declared.errors.SessionError.TheVariants as errors
+use Rattle.tus_session.specs.Images.{stores_of, ShowsLast, LimitsTo}
+use Rattle.tus_session.specs.declared.connections.Connections.{Ghosts}
 use Rattle.gateway_script.specs.Script as script
 use Rattle.gateway_script.specs.Script.{Run, Flow, flow, call, give_within, cut_from, run_lines, ended_as, Ran, Faulted}
 use Rattle.gateway_script.specs.Script.{AtLine, is_fault, written, written_bytes, written_close, written_refusal}
-use Rattle.gateway_script.specs.Outputs.{AppendsPart}
-use Rattle.gateway_script.specs.Images.{IsFirst, output_of, stores_of, ShowsLast, LimitsTo, WroteMost}
-use Rattle.gateway_script.specs.declared.connections.Connections.{Ghosts}
+use Rattle.gateway_script.specs.Outputs.{IsFirst, output_of, WroteMost, AppendsPart}
 use Rattle.gateway_script.specs.declared.faults.CallFault.{CallFault}
 use Rattle.gateway_script.specs.declared.faults.CallFault.TheVariants.{DiskFault, NoMemory, Io}
 use Rattle.gateway_script.specs.declared.faults.ScriptFault.{ScriptFault}

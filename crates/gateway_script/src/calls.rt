@@ -5,12 +5,11 @@ ghost use Rattle.tus_session.specs.History.{State, Opened, Came, More, Ended};
 ghost use Rattle.gateway_script.specs.Script.{Run, call};
 ghost use Rattle.gateway_script.specs.Runs.{view, IsAt, Went, Refuses, Called, Tells};
 
-use crate::connections::Connections;
 use crate::faults::CallFault;
 use crate::streams::CountedWrite;
 use crate::writing::{report, report_refusal, write_out};
 use std::alloc::Global;
-use tus_session::{Answer, SessionError};
+use tus_session::{Answer, Connections, SessionError};
 
 /// A refusal is written. The disk fault ends the run: `Down` is met only where the connections were down before it.
 pub(crate) fn refused<W: CountedWrite>(

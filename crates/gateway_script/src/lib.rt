@@ -2,7 +2,6 @@
 #![tactic(auto)]
 
 mod calls;
-mod connections;
 mod faults;
 mod lines;
 mod orders;
@@ -11,7 +10,6 @@ mod scripts;
 mod streams;
 mod writing;
 
-pub use connections::Connections;
 pub use faults::{CallFault, ScriptFault};
 pub use runs::run_script;
 pub use scripts::read_script;

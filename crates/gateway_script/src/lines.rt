@@ -6,11 +6,10 @@ ghost use Rattle.gateway_script.specs.Script.{Run, mores, mores_after, most_call
 ghost use Rattle.gateway_script.specs.Runs.{view, IsAt, Went, Flowed, GivenOnce, settles};
 
 use crate::calls::{came, more};
-use crate::connections::Connections;
 use crate::faults::CallFault;
 use crate::streams::CountedWrite;
 use std::alloc::Global;
-use tus_session::Answer;
+use tus_session::{Answer, Connections};
 
 /// Whether the line goes on after an answer, where no text is still to be given.
 fn goes_on(answer: Option<Answer>) -> Option<bool>

@@ -8,14 +8,13 @@ ghost use Rattle.gateway_script.specs.Shown.{order_shown};
 ghost use Rattle.gateway_script.specs.Runs.{view, IsAt, Went, CutOne, LineRan, Ends};
 
 use crate::calls::{cut, open, refused};
-use crate::connections::Connections;
 use crate::faults::{CallFault, ScriptFault};
 use crate::lines::give;
 use crate::orders::{Order, read_order};
 use crate::streams::CountedWrite;
 use std::alloc::Global;
 use tus_request::texts::{after, front};
-use tus_session::{MOST_OPEN, SessionError};
+use tus_session::{Connections, MOST_OPEN, SessionError};
 
 /// The most bytes of a line: a CR counts, the LF doesn't.
 const MAX_LINE: usize = 65536;

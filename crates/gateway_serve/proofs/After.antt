@@ -7,10 +7,10 @@ use Rattle.upload_rules.specs.Store.{Store}
 use Rattle.tus_session.specs.History.{State, Event, Marked, Served, OutOfMemory, Failed, step, history}
 use Rattle.tus_session.specs.declared.errors.SessionError.{SessionError}
 use Rattle.tus_session.specs.declared.errors.SessionError.TheVariants as errors
-use Rattle.gateway_script.specs.Connections.{Falls, mark_of, UnlessFailed}
-use Rattle.gateway_script.specs.Images.{shown_by}
-use Rattle.gateway_script.specs.declared.connections.Connections.{Ghosts}
-use Rattle.gateway_script.proofs.Seen.{limits_step, last_step}
+use Rattle.tus_session.specs.Connections.{Falls, mark_of, UnlessFailed}
+use Rattle.tus_session.specs.Images.{shown_by}
+use Rattle.tus_session.specs.declared.connections.Connections.{Ghosts}
+use Rattle.tus_session.proofs.Images.{limits_step, last_step}
 use Rattle.gateway_serve.specs.Served.{WentOn, Serves}
 use Rattle.gateway_serve.specs.Joined.{Alone}
 use Rattle.gateway_serve.proofs.Talks.{alone_then}

@@ -6,8 +6,8 @@ use Rattle.std.proofs.lemmas.List.{get_or_default, get_or_past}
 use Rattle.spool_disk.specs.declared.disk.DiskFault.{DiskFault}
 use Rattle.tus_session.specs.History.{State, Opened, Done, Refused, Marked, history, step}
 use Rattle.tus_session.specs.declared.errors.SessionError.{SessionError}
-use Rattle.gateway_script.specs.Connections.{mark_of, told_done}
-use Rattle.gateway_script.specs.declared.connections.Connections.{Ghosts}
+use Rattle.tus_session.specs.Connections.{mark_of, told_done}
+use Rattle.tus_session.specs.declared.connections.Connections.{Ghosts}
 use Rattle.gateway_serve.specs.Conversations.{begun, goes_on, conversations}
 use Rattle.gateway_serve.specs.Sockets as sockets
 use Rattle.gateway_serve.specs.Sockets.{Seen, Pairs, seen_of}

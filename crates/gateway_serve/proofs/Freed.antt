@@ -5,7 +5,7 @@ use Rattle.std.proofs.Common.{append-nil}
 use Rattle.tus_session.specs.History.{State, Ended, Mark, Marked, history}
 use Rattle.tus_session.specs.declared.errors.SessionError.{SessionError}
 use Rattle.tus_session.specs.declared.errors.SessionError.TheVariants.{NoMemory, DiskFault, TooMany, Closed, Down}
-use Rattle.gateway_script.specs.Connections.{mark_of}
+use Rattle.tus_session.specs.Connections.{mark_of}
 use Rattle.gateway_serve.specs.Conversations.{Conversation, hung_up, conversations}
 use Rattle.gateway_serve.specs.Conversations.{latest as latest_by}
 use Rattle.gateway_serve.specs.Sockets as sockets

@@ -8,7 +8,7 @@ use Rattle.tus_session.specs.History.{history, step}
 use Rattle.tus_session.specs.declared.answers.Answer.{Answer}
 use Rattle.tus_session.specs.declared.errors.SessionError.{SessionError}
 use Rattle.tus_session.specs.declared.errors.SessionError.TheVariants.{NoMemory, DiskFault, TooMany, Closed, Down}
-use Rattle.gateway_script.specs.Connections.{mark_of, told, Adds}
+use Rattle.tus_session.specs.Connections.{mark_of, told, Adds}
 use Rattle.gateway_serve.specs.Conversations.{longer, latest, goes_on, conversations}
 use Rattle.gateway_serve.specs.Sockets.{Seen}
 use Rattle.gateway_serve.specs.Joined.{Joint, Joins, Writes, Reads, wrote, read, is_last, stage_by, stage_after}

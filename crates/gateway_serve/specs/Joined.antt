@@ -5,7 +5,7 @@ use Rattle.spool_disk.specs.declared.disk.DiskFault.{DiskFault}
 use Rattle.tus_session.specs.History.{State, Marked, history}
 use Rattle.tus_session.specs.declared.answers.Answer.{Answer}
 use Rattle.tus_session.specs.declared.errors.SessionError.{SessionError}
-use Rattle.gateway_script.specs.declared.connections.Connections.{Ghosts}
+use Rattle.tus_session.specs.declared.connections.Connections.{Ghosts}
 use Rattle.gateway_serve.specs.Conversations.{Conversation, conversations}
 use Rattle.gateway_serve.specs.Sockets.{Seen, seen_of, IsQuietly, Served, Pairs}
 use Rattle.gateway_serve.specs.Bytes.{came_of, went_of, seen}

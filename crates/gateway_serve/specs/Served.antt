@@ -2,8 +2,8 @@
 use Rattle.std.specs.Prelude.{◌≡◌, ℕ, true, List, ◌∷◌, Result, Ok, Err}
 use Rattle.spool_disk.specs.declared.disk.DiskFault.{DiskFault}
 use Rattle.tus_session.specs.History.{State, Event, Marked, Failed, history}
-use Rattle.gateway_script.specs.Images.{stores_of, ShowsLast, LimitsTo}
-use Rattle.gateway_script.specs.declared.connections.Connections.{Ghosts}
+use Rattle.tus_session.specs.Images.{stores_of, ShowsLast, LimitsTo}
+use Rattle.tus_session.specs.declared.connections.Connections.{Ghosts}
 use Rattle.gateway_serve.specs.Conversations.{conversations}
 use Rattle.gateway_serve.specs.Sockets.{Seen, seen_of, Fits, Served, Pairs}
 

@@ -4,18 +4,17 @@ ghost use Rattle.std.specs.Prelude.{◌↔◌, IfOk, OnErr, IsErrOf, IsTrue, vec
 ghost use Rattle.std.specs.Io.KnownBytes.{Consumes, Appends, Keeps, IsAtEnd};
 ghost use Rattle.upload_rules.specs.Answers.{Limits, Quiet, Counts};
 ghost use Rattle.tus_session.specs.History.{State, Came, More};
-ghost use Rattle.gateway_script.specs.Connections.{Gives, Falls, mark_of};
-ghost use Rattle.gateway_script.specs.Images.{shown_by};
+ghost use Rattle.tus_session.specs.Connections.{Gives, Falls, mark_of};
+ghost use Rattle.tus_session.specs.Images.{shown_by};
 ghost use Rattle.gateway_serve.specs.Bytes.{came_of, went_of, stream_of, latest_of};
 ghost use Rattle.gateway_serve.specs.Gone.{after_read, after_write};
 ghost use Rattle.gateway_serve.specs.Waiting.{FewWait, HasRoom};
 
 use crate::sockets::Socket;
-use gateway_script::Connections;
 use std::alloc::Global;
 use std::io::{self, Read, Write};
 use std::marker::Model;
-use tus_session::{Answer, SessionError};
+use tus_session::{Answer, Connections, SessionError};
 
 /// The most bytes that are read at once.
 pub(crate) const PIECE: usize = 4096;

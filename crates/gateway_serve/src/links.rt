@@ -18,12 +18,11 @@ use crate::reasons::{Gone, Reason};
 use crate::requests::Request;
 use crate::sockets::{Ended, Socket, Untouched};
 use crate::stays::{At, Stay};
-use gateway_script::Connections;
 use spool_disk::DiskFault;
 use std::alloc::Global;
 use std::io::{self, ErrorKind, Read, Write};
 use std::time::Duration;
-use tus_session::{Answer, SessionError};
+use tus_session::{Answer, Connections, SessionError};
 
 /// What a client gets that waits with the body of its request. Each reply is longer.
 const CONTINUE: &[u8] = b"HTTP/1.1 100 Continue\r\n\r\n";

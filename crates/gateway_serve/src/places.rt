@@ -10,12 +10,11 @@ use crate::idle::Tick;
 use crate::links::{Left, Link};
 use crate::reasons::Reason;
 use crate::sockets::{Ended, Untouched};
-use gateway_script::Connections;
 use spool_disk::DiskFault;
 use std::alloc::Global;
 use std::io::{Read, Write};
 use std::time::Duration;
-use tus_session::SessionError;
+use tus_session::{Connections, SessionError};
 
 /// A place for a connection, whose number it has.
 #[derive(Drop)]

@@ -13,13 +13,12 @@ use crate::idle::{Pace, Tick, Watch};
 use crate::places::{Place, Turned, unless_failed};
 use crate::reasons::Reason;
 use crate::sockets::{Ended, Untouched};
-use gateway_script::Connections;
 use spool_disk::DiskFault;
 use std::alloc::Global;
 use std::io::{Read, Write};
 use std::net::{OpenListener, OpenStream};
 use std::time::{Clock, Duration};
-use tus_session::MOST_OPEN;
+use tus_session::{Connections, MOST_OPEN};
 
 /// What serving came to.
 pub struct Outcome<C> {

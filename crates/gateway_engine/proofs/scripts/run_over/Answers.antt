@@ -1,13 +1,13 @@
 use Rattle.std.proofs.Common.{[], Ok, Err, inl, refl, sym, subst}
 use Rattle.upload_rules.specs.World.{at_rest}
 use Rattle.tus_session.specs.History.{beginning}
+use Rattle.tus_session.specs.Images.{stores_of}
+use Rattle.tus_session.proofs.Counting.{uncounted}
 use Rattle.gateway_script.specs.Script.{run_lines, script_lines, run_from}
 use Rattle.gateway_engine.specs.Gateways.{store_of, as_connections}
-use Rattle.gateway_script.specs.Images.{stores_of}
 use Rattle.gateway_script.specs.Runs.{view, IsAt, Ends}
 use Rattle.gateway_engine.specs.Ran.{HasRun}
 use Rattle.gateway_script.specs.declared.faults.ScriptFault.TheVariants as runs
-use Rattle.gateway_script.proofs.Counting.{uncounted}
 use Rattle.gateway_engine.proofs.Exits.{begins, ran, stopped, unbegun, some_script, shows_since, shows_through}
 use Rattle.gateway_engine.proofs.Exits.{last_through}
 use Rattle.gateway_engine.proofs.Exits.{counts_nothing, reader_counts, none_counts, writer_counts}

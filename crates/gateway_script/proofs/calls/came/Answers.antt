@@ -1,7 +1,7 @@
 use Rattle.std.proofs.Common.{[], ◌≡◌, subst, List, ℕ, Ok, Err}
 use Rattle.std.proofs.lemmas.Result.{err_from_is_err_and}
 use Rattle.tus_session.specs.History.{Came}
-use Rattle.gateway_script.specs.Connections.{Gives}
+use Rattle.tus_session.specs.Connections.{Gives}
 use Rattle.gateway_script.specs.Runs.{view, Tells}
 use Rattle.gateway_script.proofs.Turns.{falling, told_called, tell_stopped, refused_called, refuse_stopped}
 use Rattle.gateway_script.proofs.calls.came.Goals as goal

@@ -2,7 +2,7 @@ use Rattle.std.proofs.Common.{[], ◌≡◌, subst, List, ℕ, Ok, Err}
 use Rattle.std.proofs.lemmas.Result.{err_from_is_err_and}
 use Rattle.tus_session.specs.History.{More}
 use Rattle.tus_session.proofs.Limiting.{quiet_limits}
-use Rattle.gateway_script.specs.Connections.{Gives}
+use Rattle.tus_session.specs.Connections.{Gives}
 use Rattle.gateway_script.specs.Runs.{view, Tells}
 use Rattle.gateway_script.proofs.Turns.{falling, told_called, tell_stopped, refused_called, refuse_stopped}
 use Rattle.gateway_script.proofs.calls.more.Goals as goal

@@ -1,8 +1,8 @@
 use Rattle.std.proofs.Common.{◌≡◌, ◌-◌, suc, ℕ, [], length, subst, sym, ◌∙◌, arith, Some, None, Ok, Err}
 use Rattle.std.proofs.lemmas.Result.{err_from_is_err_and}
+use Rattle.tus_session.proofs.Counting.{uncounted}
 use Rattle.gateway_script.specs.Script.{give_within}
 use Rattle.gateway_script.specs.Runs.{view, Reaches, GivenOnce}
-use Rattle.gateway_script.proofs.Counting.{uncounted}
 use Rattle.gateway_script.proofs.Outputs.{some_list, no_list}
 use Rattle.gateway_script.proofs.Reaching.{reach_both, went_after, once_fails, give_none, give_stop}
 use Rattle.gateway_script.proofs.lines.give.Goals as goal

@@ -1,8 +1,8 @@
 use Rattle.std.proofs.Common.{◌≡◌, ◌-◌, suc, ℕ, refl, subst, sym, ◌∙◌, arith, Some, None, Err, true}
 use Rattle.std.proofs.lemmas.Result.{err_from_is_err_and}
+use Rattle.tus_session.proofs.Counting.{uncounted}
 use Rattle.gateway_script.specs.Script.{Run, flow, mores, most_calls}
 use Rattle.gateway_script.specs.Runs.{view, Reaches}
-use Rattle.gateway_script.proofs.Counting.{uncounted}
 use Rattle.gateway_script.proofs.Reaching.{reach_none, reach_both, no_mores, most_is, more_says, more_fails}
 use Rattle.gateway_script.proofs.Reaching.{flow_after, MoreSays}
 use Rattle.gateway_script.proofs.lines.give_text.Goals as goal

@@ -1,8 +1,8 @@
 use Rattle.std.proofs.Common.{◌≡◌, ◌+◌, ◌-◌, suc, ℕ, arith, Ok, Err, subst, ◌∙◌}
 use Rattle.std.proofs.lemmas.Result.{err_from_is_err_and}
+use Rattle.tus_session.proofs.Counting.{uncounted}
 use Rattle.gateway_script.specs.Script.{cut_from}
 use Rattle.gateway_script.specs.Runs.{view, Reaches, CutOne}
-use Rattle.gateway_script.proofs.Counting.{uncounted}
 use Rattle.gateway_script.proofs.Reaching.{reach_both, went_after}
 use Rattle.gateway_script.proofs.Ending.{cut_none, cut_fails}
 use Rattle.gateway_script.proofs.runs.cut_all.Goals as goal

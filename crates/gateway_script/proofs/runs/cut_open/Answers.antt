@@ -1,7 +1,7 @@
 use Rattle.std.proofs.Common.{Err, subst}
 use Rattle.tus_session.specs.History.{Ended}
-use Rattle.gateway_script.specs.Connections.{Does, mark_of}
-use Rattle.gateway_script.specs.Images.{shown_by}
+use Rattle.tus_session.specs.Connections.{Does, mark_of}
+use Rattle.tus_session.specs.Images.{shown_by}
 use Rattle.gateway_script.specs.Runs.{view}
 use Rattle.gateway_script.proofs.Seen.{Leaves}
 use Rattle.gateway_script.proofs.Turns.{falling}

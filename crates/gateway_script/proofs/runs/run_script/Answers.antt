@@ -3,11 +3,11 @@ use Rattle.std.proofs.Common.{sym, ◌∙◌}
 use Rattle.std.specs.Io.BufRead.{take_through}
 use Rattle.std.proofs.lemmas.List.{take_rest}
 use Rattle.std.proofs.lemmas.Result.{err_from_is_err_and}
+use Rattle.tus_session.proofs.Counting.{uncounted}
 use Rattle.gateway_script.specs.Faults.{script_fault}
 use Rattle.tus_request.specs.Reading.{after}
 use Rattle.gateway_script.specs.Script.{run_lines, script_lines}
 use Rattle.gateway_script.specs.Runs.{view, Reaches, LineRan}
-use Rattle.gateway_script.proofs.Counting.{uncounted}
 use Rattle.gateway_script.proofs.Outputs.{some_list, no_list}
 use Rattle.gateway_script.proofs.Ending.{ends_after, line_fails, lines_on, line_some, lines_end, lines_stop}
 use Rattle.gateway_script.proofs.runs.run_script.Goals as goal

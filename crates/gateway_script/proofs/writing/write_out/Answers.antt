@@ -1,6 +1,6 @@
 use Rattle.std.proofs.Common.{◌∙◌}
 use Rattle.std.proofs.lemmas.List.{take_rest}
-use Rattle.gateway_script.proofs.Counting.{uncounted}
+use Rattle.tus_session.proofs.Counting.{uncounted}
 use Rattle.gateway_script.proofs.Outputs.{wrote_more}
 use Rattle.gateway_script.proofs.writing.write_out.Goals as goal
 

@@ -1,6 +1,6 @@
 use Rattle.std.proofs.Common.{◌+◌, ◌<◌, ◌≤◌, get_or, length, Result, Ok, Err, ◌∙◌, refl, arith}
 use Rattle.spool_disk.specs.declared.disk.DiskFault.{DiskFault}
-use Rattle.gateway_script.proofs.Counting.{uncounted}
+use Rattle.tus_session.proofs.Counting.{uncounted}
 use Rattle.gateway_serve.specs.Reasons.{none}
 use Rattle.gateway_serve.proofs.All.{among_all, all_served, free_before}
 use Rattle.gateway_serve.proofs.Carries.{among_keep}

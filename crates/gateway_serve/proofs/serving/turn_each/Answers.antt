@@ -1,8 +1,8 @@
 use Rattle.std.proofs.Common.{◌<◌, length, Result, Ok, Err, ◌∙◌, sym, subst, arith}
 use Rattle.std.proofs.lemmas.List.{set-get_or}
 use Rattle.spool_disk.specs.declared.disk.DiskFault.{DiskFault}
+use Rattle.tus_session.proofs.Counting.{uncounted}
 use Rattle.gateway_serve.specs.declared.places.Turned.{Turned}
-use Rattle.gateway_script.proofs.Counting.{uncounted}
 use Rattle.gateway_serve.specs.Joined.{AllJoin}
 use Rattle.gateway_serve.proofs.All.{among_all}
 use Rattle.gateway_serve.proofs.Carries.{among_keep}

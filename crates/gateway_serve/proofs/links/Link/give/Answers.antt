@@ -1,7 +1,7 @@
 use Rattle.std.proofs.Common.{List, Result, Ok, Err, ◌∙◌}
 use Rattle.spool_disk.specs.declared.disk.DiskFault.{DiskFault}
 use Rattle.tus_session.specs.History.{Marked}
-use Rattle.gateway_script.proofs.Counting.{uncounted}
+use Rattle.tus_session.proofs.Counting.{uncounted}
 use Rattle.gateway_serve.specs.Joined.{Joins, joint_of}
 use Rattle.gateway_serve.proofs.After.{alone_after}
 use Rattle.gateway_serve.proofs.links.Link.give.Goals as goal

@@ -1,13 +1,13 @@
-//! Connections, as a script drives them.
+//! Connections, as a script or sockets drive them.
 ghost use Rattle.std.specs.Prelude.{◌≡◌, ℕ, Bool, true, false, List, IsErrOf, Option};
 ghost use Rattle.upload_rules.specs.Store.{Store};
 ghost use Rattle.upload_rules.specs.Answers.{Among, Limits, Quiet, Counts};
 ghost use Rattle.tus_session.specs.History.{State, Opened, Came, More, Ended};
 ghost use Rattle.tus_session.specs.Turns.{GivesFew};
-ghost use Rattle.gateway_script.specs.Connections.{Gives, Does, Falls, Unasked, mark_of};
-ghost use Rattle.gateway_script.specs.Images.{shown_by};
+ghost use Rattle.tus_session.specs.Connections.{Gives, Does, Falls, Unasked, mark_of};
+ghost use Rattle.tus_session.specs.Images.{shown_by};
 
-use tus_session::{Answer, SessionError};
+use crate::{Answer, SessionError};
 
 /// Connections that keep the history of their events.
 ///

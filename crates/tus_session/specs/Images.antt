@@ -1,11 +1,8 @@
--- What a list of events gives, and what images may show of it. Of each list the latest event is first.
-use Rattle.std.specs.Prelude.{◌≡◌, ◌≤◌, ◌⊎◌, ℕ, List, [], ◌∷◌, ◌++◌, drop, Option}
+-- What images may show of a list of events. Of each list the latest event is first.
+use Rattle.std.specs.Prelude.{◌≤◌, ℕ, List, [], ◌∷◌, Option}
 use Rattle.upload_rules.specs.Store.{Store}
 use Rattle.upload_rules.specs.Answers.{Among}
-use Rattle.tus_session.specs.History.{State, Event, Mark, Marked, Served, OutOfMemory, Failed, step, history, conn_in}
-use Rattle.gateway_script.specs.Script.{written}
-use Rattle.gateway_script.specs.declared.faults.CallFault.{CallFault}
-use Rattle.gateway_script.specs.declared.faults.CallFault.TheVariants.{NoMemory, DiskFault, Io}
+use Rattle.tus_session.specs.History.{State, Event, Mark, Marked, Served, OutOfMemory, Failed, step, history}
 
 -- THE UPLOADS after an event. Where the disk failed, those that the event would have made
 abbrev pub shown_by : State → Event → Mark → Store
@@ -45,26 +42,3 @@ pub record LimitsTo (moment moment' : ℕ) (left_only left_only' : Option ℕ �
   pub later : moment ≤ moment'
   pub limits : (blocks : Option ℕ) (t : ℕ) (ms : List Store) → t ≤ moment → left_only blocks t ms → AllAmong stores ms
       → left_only' blocks t ms
-
--- THE OUTPUT of the latest event
-abbrev pub last_output : State → List Marked → List ℕ
-last_output st [] = []
-last_output st (e ∷ past) = written (conn_in e.0) (step (history st past) e.0 e.1).outcome
-
--- the output of all events
-abbrev pub output_of : State → List Marked → List ℕ
-output_of st [] = []
-output_of st (e ∷ past) = output_of st past ++ last_output st (e ∷ past)
-
--- these are the first of all events
-abbrev pub IsFirst : List Marked → List Marked → Type 0
-IsFirst first all = (later : List Marked) × (all ≡ later ++ first)
-
--- What was written of these events by a run that was broken off: all, but nothing of the latest where memory was
--- wanting, or of the latest a front part, where the writer failed
-abbrev pub WroteMost : CallFault → State → List Marked → List ℕ → Type 0
-WroteMost NoMemory st past out = (out ≡ output_of st past) ⊎ (out ≡ output_of st (drop 1 past))
-WroteMost Io st past out =
-    (part : List ℕ) × (missing : List ℕ) × (last_output st past ≡ part ++ missing) × (out ≡ output_of st
-    (drop 1 past) ++ part)
-WroteMost DiskFault st past out = ⊥

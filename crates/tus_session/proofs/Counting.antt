@@ -1,5 +1,5 @@
--- The disk's failures, over one call after another.
-use Rattle.std.proofs.Common.{◌≡◌, inl, inr, ℕ, subst, arith}
+-- Counted failures, over one call after another.
+use Rattle.std.proofs.Common.{◌≡◌, inl, inr, ℕ, arith}
 use Rattle.std.proofs.lemmas.Bool.{cases_lt}
 use Rattle.upload_rules.specs.Answers.{Counts}
 
@@ -8,7 +8,3 @@ pub uncounted : {failed : Type 0} {a b : ℕ} → (failed → ⊥) → Counts fa
 uncounted {a = a} {b = b} never counts =
     elim (cases_lt a b) as (λ _. b ≡ a)
     [ inl less ↦ absurd (never (counts.nothing_else less)) | inr most ↦ omega (arith, counts.later) ]
-
--- after calls that weren't counted
-pub counts_after : {failed : Type 0} {a b c : ℕ} → b ≡ a → Counts failed b c → Counts failed a c
-counts_after {failed} {a} {b} {c} same counts = subst (λ n. Counts failed n c) same counts
