@@ -200,7 +200,7 @@ fn uploads_are_told_of_and_read(rt: HostRuntime) {
 }
 
 /// Bytes that damage the spool with the three uploads.
-const DAMAGED: [(u64, u8, OpenFault); 25] = [
+const DAMAGED: [(u64, u8, OpenFault); 31] = [
     // the gate opened; a byte after the fields of page 0 and of the state page, and after the index area's tables
     (4096, 0xA5, OpenFault::Damaged),
     (12, 1, OpenFault::Damaged),
@@ -220,11 +220,19 @@ const DAMAGED: [(u64, u8, OpenFault); 25] = [
     (284 * 4096 + 35, 1, OpenFault::Damaged),
     (284 * 4096 + 35, 2, OpenFault::Damaged),
     (284 * 4096 + 35, 3, OpenFault::Damaged),
-    // metadata that is too long, that is no text, and with a line's end; a byte after it, and one in a free slot
+    // no number; the tag of an unknown length with a length, no tag, and an unknown length with a byte of one
+    (284 * 4096 + 7, 0, OpenFault::Damaged),
+    (284 * 4096 + 1602, 1, OpenFault::Damaged),
+    (287 * 4096 + 1602, 2, OpenFault::Damaged),
+    (287 * 4096 + 15, 1, OpenFault::Damaged),
+    // metadata that is too long, that is no text, and with a line's end; bytes after it and after the tag, and one in a
+    // free slot
     (284 * 4096 + 64, 7, OpenFault::Damaged),
     (284 * 4096 + 66, 0xFF, OpenFault::Damaged),
     (284 * 4096 + 66, 0x0A, OpenFault::Damaged),
     (284 * 4096 + 70, 1, OpenFault::Damaged),
+    (284 * 4096 + 1603, 1, OpenFault::Damaged),
+    (284 * 4096 + 2047, 1, OpenFault::Damaged),
     (284 * 4096 + 2048 + 100, 1, OpenFault::Damaged),
     // an ordinal twice, one after the text, and one that is missing
     (540 * 4096 + 8 * 9 + 7, 0, OpenFault::Damaged),

@@ -1,6 +1,6 @@
 //! Records, rows and other pages as bytes.
 
-ghost use Rattle.std.specs.Prelude.{◌≡◌, ◌≤◌, ◌<◌, length};
+ghost use Rattle.std.specs.Prelude.{◌≡◌, ◌≤◌, length};
 
 use spool_pages::{
     Damaged, RECORD, SlotRecord, Version, blocks_said, first_page, is_blank_after_fields, row_at,
@@ -86,54 +86,6 @@ fn unknown_length_is_said_as_the_version_says(rt: HostRuntime) {
     }
 }
 
-/// Whether a slot whose bytes are these but for one is damaged.
-fn is_damaged(version: Version, mut bytes: [u8; RECORD], at: usize, byte: u8) -> bool
-    requires { at < 2048 }
-{
-    bytes[at] = byte;
-    matches!(SlotRecord::from_bytes(version, &bytes), Err(Damaged))
-}
-
-#[test]
-fn bytes_that_nothing_writes_are_damaged(rt: HostRuntime) {
-    for version in [Version::One, Version::Two] {
-        assert!(rt; is_damaged(version, [0; RECORD], 2047, 1), "a free slot");
-        let bytes = seventh(b"n").to_bytes(version);
-        assert!(rt; !is_damaged(version, bytes, 66, b'm'), "other metadata");
-        for (at, byte, what) in [
-            (7, 0, "no number"),
-            (64, 6, "1,537 bytes of metadata"),
-            (67, 1, "after the metadata"),
-            (1601, 1, "the last byte of the room"),
-            (1602, 1, "the tag 1 and a length"),
-            (1603, 1, "after the tag"),
-            (2047, 1, "the last byte"),
-        ] {
-            assert!(rt; is_damaged(version, bytes, at, byte), "{version:?}: {what}");
-        }
-    }
-    assert!(rt; row_at(&[0, 0, 0, 0, 0, 0, 0, 1], 0) == Err(Damaged));
-}
-
-#[test]
-fn lengths_that_nothing_writes_are_damaged(rt: HostRuntime) {
-    let mut record = seventh(b"n");
-    record.declared = None;
-    let old = record.to_bytes(Version::One);
-    let new = record.to_bytes(Version::Two);
-    assert!(rt; !is_damaged(Version::Two, new, 1602, 0), "the length 0");
-    for (version, bytes, at, byte, what) in [
-        (Version::Two, new, 1602, 2, "no such tag"),
-        (Version::Two, new, 15, 1, "the tag 1 and a length"),
-        (Version::One, old, 1602, 1, "eight FF and a tag"),
-        // as the other version says an unknown length
-        (Version::Two, old, 1602, 0, "eight FF in version 2"),
-        (Version::One, new, 1602, 1, "the tag 1 in version 1"),
-    ] {
-        assert!(rt; is_damaged(version, bytes, at, byte), "{what}");
-    }
-}
-
 #[test]
 fn rows_are_read_as_they_were_written(rt: HostRuntime) {
     let page = row_page(&[None, Some((511, 65535))], 0);
@@ -141,6 +93,7 @@ fn rows_are_read_as_they_were_written(rt: HostRuntime) {
     for (at, row) in [(0, None), (8, Some((511, 65535))), (4088, None)] {
         assert!(rt; row_at(&page, at) == Ok(row), "at {at}");
     }
+    assert!(rt; row_at(&[0, 0, 0, 0, 0, 0, 0, 1], 0) == Err(Damaged));
 }
 
 #[test]
