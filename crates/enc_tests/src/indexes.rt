@@ -90,54 +90,6 @@ fn area_there_and_back(rt: HostRuntime) {
         .ok()
         .expect(&rt, "a set");
     is_small(&rt, rt.alloc(), &set, &area);
-}
-
-fn is_damaged(rt: &impl Abort, alloc: Global, area: &[u8], what: &str) {
-    let refused = IndexSet::from_area(alloc, area);
-    assert!(rt; matches!(&refused, Err(AreaError::Damaged)), "{what}");
-}
-
-#[test]
-fn areas_of_no_set(rt: HostRuntime) {
-    let mut area = small_area(&rt, rt.alloc());
-    assert!(rt; area.len() == 90112);
-    // the 18 flags, 14 zeros, the entries of jis0208, jis0212, katakana and the single-byte encodings, 1,684 zeros
-    for (at, bytes, what) in [
-        (0, [2, 0, 0, 0], "the flag 2"),
-        (0, [1, 0, 0, 2], "the flag 2 of a file that isn't set"),
-        (18, [0, 0, 0, 1], "a byte after the flags"),
-        (52, [0, 0, 0xD8, 0], "a surrogate"),
-        (52, [0, 0x11, 0, 0], "no code point"),
-        (
-            45152,
-            [0, 0, 0x4E, 0x02],
-            "an entry of jis0212, which isn't set",
-        ),
-        (
-            80496,
-            [0, 0, 0x30, 0x02],
-            "an entry of katakana, which isn't set",
-        ),
-        (
-            80748,
-            [0, 0, 0x20, 0xAC],
-            "an entry of IBM866, which isn't set",
-        ),
-        (88428, [1, 0, 0, 0], "a byte after the entries"),
-        (90108, [0, 0, 0, 1], "the last byte"),
-    ] {
-        assert!(rt; area.len() == 90112 && at <= 90108);
-        let mut before = [0; 4];
-        before.copy_from_slice(&area[at..at + 4]);
-        area[at..at + 4].copy_from_slice(&bytes);
-        is_damaged(&rt, rt.alloc(), &area, what);
-        area[at..at + 4].copy_from_slice(&before);
-    }
-    let _last = area.pop();
-    is_damaged(&rt, rt.alloc(), &area, "a byte too few");
-    is_damaged(&rt, rt.alloc(), &[], "nothing");
-    area.push(0).expect(&rt, "memory");
-    assert!(rt; IndexSet::from_area(rt.alloc(), &area).is_ok());
-    area.push(0).expect(&rt, "memory");
-    is_damaged(&rt, rt.alloc(), &area, "a byte too many");
+    let short = IndexSet::from_area(rt.alloc(), &area[1..]);
+    assert!(rt; matches!(&short, Err(AreaError::Damaged)));
 }

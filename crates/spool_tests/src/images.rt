@@ -153,13 +153,22 @@ fn refuse_all(rt: &impl Abort, alloc: Global, disk: MemoryDisk, rows: &[(u64, u8
     assert_eq!(rt; fault, None);
 }
 
-/// Bytes that damage a spool without uploads: an open gate with a count of 0, another version, a next number of 0, a
-/// flag of the index area, a record without a number below the next, a block of a free slot, and no spool.
-const DAMAGED_EMPTY: [(u64, u8, OpenFault); 7] = [
+/// Bytes that damage a spool without uploads: an open gate with a count of 0, another version, a next number of 0, flags
+/// of the index area, a byte after them, an entry of each of four files that aren't there and a byte after the last, a
+/// record without a number below the next, a block of a free slot, and no spool.
+const DAMAGED_EMPTY: [(u64, u8, OpenFault); 15] = [
     (4096, 0xA5, OpenFault::Damaged),
     (283 * 4096 + 3, 9, OpenFault::Version),
     (283 * 4096 + 11, 0, OpenFault::Damaged),
     (261 * 4096, 2, OpenFault::Damaged),
+    (261 * 4096 + 17, 2, OpenFault::Damaged),
+    (261 * 4096 + 18, 1, OpenFault::Damaged),
+    (261 * 4096 + 34, 0x30, OpenFault::Damaged),
+    (261 * 4096 + 45154, 0x4E, OpenFault::Damaged),
+    (261 * 4096 + 80498, 0x30, OpenFault::Damaged),
+    (261 * 4096 + 80750, 0x20, OpenFault::Damaged),
+    (261 * 4096 + 88428, 1, OpenFault::Damaged),
+    (261 * 4096 + 90111, 1, OpenFault::Damaged),
     (284 * 4096 + 7, 1, OpenFault::Damaged),
     (540 * 4096 + 3, 1, OpenFault::Damaged),
     (0, 0, OpenFault::NotASpool),

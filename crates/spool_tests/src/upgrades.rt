@@ -100,15 +100,6 @@ fn upgraded_spool_has_its_uploads_and_goes_on(rt: HostRuntime) {
     );
 }
 
-#[test]
-fn spool_of_version_1_stays_so(rt: HostRuntime) {
-    let mut spool = opened(&rt, rt.alloc(), old_spool(&rt, rt.alloc()));
-    assert!(rt; are_there(&mut spool));
-    assert_eq!(rt; patched(&mut spool, 2, 2, b"c"), Ok(3));
-    let mut disk = spool.into_disk();
-    assert_eq!(rt; form_of(&rt, &mut disk), OLD);
-}
-
 /// Upgrades on a disk that stops after so many calls and crashes in this way then: what the upgrade answers, and the
 /// disk, on which the three uploads are there.
 fn upgraded_within(
