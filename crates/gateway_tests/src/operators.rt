@@ -64,88 +64,104 @@ fn uploads_are_deleted_by_their_numbers(rt: HostRuntime) {
     }
 }
 
-/// The labels of two encodings and a mode, what they ask for, bytes so many times, and what an upload of them is stored
-/// as.
+/// Labels and modes, and what they ask for.
+static LABELS: [(&str, &str, &str, Option<Conversion>); 5] = [
+    (
+        " Latin1",
+        "utf-16",
+        "fatal",
+        Some(Conversion {
+            from: Encoding::Windows1252,
+            to: Encoding::Utf8,
+            mode: Mode::Fatal,
+        }),
+    ),
+    (
+        "sjis",
+        "koi8",
+        "html",
+        Some(Conversion {
+            from: Encoding::ShiftJis,
+            to: Encoding::Koi8R,
+            mode: Mode::Html,
+        }),
+    ),
+    ("klingon", "utf-8", "html", None),
+    ("utf-8", "big5", "html", None),
+    ("utf-8", "utf-8", "strict", None),
+];
+
+#[test]
+fn labels_ask_for_a_conversion(rt: HostRuntime) {
+    for (from, to, mode, conversion) in LABELS.iter() {
+        assert_eq!(rt;
+            conversion_of(from, to, mode),
+            *conversion,
+            "{from} {to} {mode}"
+        );
+    }
+}
+
+/// A conversion, bytes so many times, and what an upload of them is stored as.
 struct Input {
-    asked: (&'static str, &'static str, &'static str),
-    conversion: Option<Conversion>,
+    conversion: Conversion,
     bytes: &'static [u8],
     times: usize,
     text: Result<&'static [u8], Fault>,
 }
 
-/// UTF-8 as it comes.
-const PLAIN: Conversion = Conversion {
-    from: Encoding::Utf8,
-    to: Encoding::Utf8,
-    mode: Mode::Fatal,
-};
-
-/// UTF-16LE after its mark, a fault of UTF-8, a character that the encoding written lacks in both modes, characters of
-/// which one lies over the first 4,096 bytes, and labels of no conversion.
-static INPUTS: [Input; 8] = [
+/// UTF-16LE after its mark, a fault of UTF-8, a character that the encoding written lacks in both modes, and characters
+/// of which one lies over the first 4,096 bytes.
+static INPUTS: [Input; 5] = [
     Input {
-        asked: ("utf-8", "unicode-1-1-utf-8", "fatal"),
-        conversion: Some(PLAIN),
+        conversion: Conversion {
+            from: Encoding::Utf8,
+            to: Encoding::Utf8,
+            mode: Mode::Fatal,
+        },
         bytes: b"\xFF\xFEa\0b\0\x53\x30",
         times: 1,
         text: Ok(b"ab\xE3\x81\x93"),
     },
     Input {
-        asked: ("UTF8", "utf-8", "fatal"),
-        conversion: Some(PLAIN),
+        conversion: Conversion {
+            from: Encoding::Utf8,
+            to: Encoding::Utf8,
+            mode: Mode::Fatal,
+        },
         bytes: b"a\xFFb\xE3\x81",
         times: 1,
         text: Ok(b"a\xEF\xBF\xBDb\xEF\xBF\xBD"),
     },
     Input {
-        asked: ("utf-8", " Latin1", "html"),
-        conversion: Some(Conversion {
+        conversion: Conversion {
+            from: Encoding::Utf8,
             to: Encoding::Windows1252,
             mode: Mode::Html,
-            ..PLAIN
-        }),
+        },
         bytes: b"a\xE3\x81\x93",
         times: 1,
         text: Ok(b"a&#12371;"),
     },
     Input {
-        asked: ("utf-8", "latin1", "fatal"),
-        conversion: Some(Conversion {
+        conversion: Conversion {
+            from: Encoding::Utf8,
             to: Encoding::Windows1252,
-            ..PLAIN
-        }),
+            mode: Mode::Fatal,
+        },
         bytes: b"a\xE3\x81\x93",
         times: 1,
         text: Err(Fault::Unencodable),
     },
     Input {
-        asked: ("utf-8", "utf-16", "fatal"),
-        conversion: Some(PLAIN),
+        conversion: Conversion {
+            from: Encoding::Utf8,
+            to: Encoding::Utf8,
+            mode: Mode::Fatal,
+        },
         bytes: b"\xE3\x81\x82",
         times: 1400,
         text: Ok(b"\xE3\x81\x82"),
-    },
-    Input {
-        asked: ("klingon", "utf-8", "html"),
-        conversion: None,
-        bytes: b"",
-        times: 0,
-        text: Ok(b""),
-    },
-    Input {
-        asked: ("utf-8", "big5", "html"),
-        conversion: None,
-        bytes: b"",
-        times: 0,
-        text: Ok(b""),
-    },
-    Input {
-        asked: ("utf-8", "utf-8", "strict"),
-        conversion: None,
-        bytes: b"",
-        times: 0,
-        text: Ok(b""),
     },
 ];
 
@@ -163,19 +179,17 @@ fn input_is_written_as_it_would_be_stored(rt: HostRuntime) {
     let alloc = rt.alloc();
     let set = IndexSet::new(alloc).expect(&rt, "memory for a set");
     for input in INPUTS.iter() {
-        let (from, to, mode) = input.asked;
-        let conversion = conversion_of(from, to, mode);
-        assert_eq!(rt; conversion, input.conversion, "{from} {to} {mode}");
-        let Some(conversion) = conversion else {
-            continue;
-        };
         let bytes = repeated(&rt, alloc, input.bytes, input.times);
         let mut written = Vec::new(alloc);
         let mut reader = bytes.as_slice();
-        let ended = text_on(alloc, &set, conversion, &mut reader, &mut written);
-        assert!(rt; ended.err() == input.text.err());
-        if let Ok(text) = input.text {
-            assert!(rt; written == repeated(&rt, alloc, text, input.times));
+        match (
+            text_on(alloc, &set, input.conversion, &mut reader, &mut written),
+            input.text,
+        ) {
+            (Ok(()), Ok(text)) => {
+                assert!(rt; written == repeated(&rt, alloc, text, input.times));
+            }
+            (ended, text) => assert!(rt; ended.err() == text.err()),
         }
     }
 }
